@@ -1,0 +1,33 @@
+//! The types that every layer names: names, kinds, calls, entries, steps, lists, and the step counter.
+#![tactic(auto)]
+
+mod answer;
+mod body;
+mod call;
+mod catalog;
+mod entry;
+mod limits;
+mod member;
+mod name;
+mod sequence;
+mod status;
+mod step;
+mod steps;
+mod text;
+
+pub use answer::{Answer, OutOfMemory};
+pub use body::{Body, Parts, Pattern};
+pub use call::{Call, Kind, Kinds, Method, Style};
+pub use catalog::Catalog;
+pub use entry::{Committed, CommittedTx, Item, Items, LocalEntry, Mark, Ops, SharedEntry};
+pub use limits::{
+    LONGEST_LINE, MOST_BODY_NODES, MOST_BYTES, MOST_DEPTH, MOST_LINES, MOST_OBJECTS, MOST_STEPS,
+    MOST_TRANSACTIONS,
+};
+pub use member::Member;
+pub use name::Name;
+pub use sequence::Sequence;
+pub use status::Status;
+pub use step::{Rule, Step, rule_of};
+pub use steps::Steps;
+pub use text::{Text, Words};

@@ -1,0 +1,82 @@
+ghost use Rattle.std.specs.Prelude.{◌≡◌};
+ghost use Rattle.pp_core.specs.Steps.{rule_of};
+
+use crate::body::Body;
+use crate::name::Name;
+
+/// A step of the machine: what one transaction does at once.
+#[derive(Drop)]
+pub enum Step<O> {
+    Begin {
+        tx: Name,
+        thread: Name,
+        body: Option<Body>,
+    },
+    App {
+        tx: Name,
+        id: u32,
+        op: O,
+    },
+    Unapp {
+        tx: Name,
+        id: u32,
+    },
+    Push {
+        tx: Name,
+        id: u32,
+    },
+    Unpush {
+        tx: Name,
+        id: u32,
+    },
+    Pull {
+        tx: Name,
+        id: u32,
+    },
+    Unpull {
+        tx: Name,
+        id: u32,
+    },
+    Cmt {
+        tx: Name,
+    },
+    Quit {
+        tx: Name,
+    },
+    Note {
+        tx: Name,
+    },
+}
+
+/// The rule that a step follows.
+#[derive(Clone, Copy, Debug, PartialEq, Eq)]
+pub enum Rule {
+    Begin,
+    App,
+    Unapp,
+    Push,
+    Unpush,
+    Pull,
+    Unpull,
+    Cmt,
+    Quit,
+    Note,
+}
+
+/// The rule of a step.
+pub fn rule_of<O>(step: &Step<O>) -> Rule
+    ensures { result ≡ rule_of step.now }
+{
+    match step {
+        Step::Begin { .. } => Rule::Begin,
+        Step::App { .. } => Rule::App,
+        Step::Unapp { .. } => Rule::Unapp,
+        Step::Push { .. } => Rule::Push,
+        Step::Unpush { .. } => Rule::Unpush,
+        Step::Pull { .. } => Rule::Pull,
+        Step::Unpull { .. } => Rule::Unpull,
+        Step::Cmt { .. } => Rule::Cmt,
+        Step::Quit { .. } => Rule::Quit,
+        Step::Note { .. } => Rule::Note,
+    }
+}

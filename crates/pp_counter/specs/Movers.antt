@@ -1,0 +1,32 @@
+-- Which operations of a counter may change places, by a table.
+use Rattle.std.specs.Prelude.{pos, ◌+ℤ◌, ℕ, Bool, List, [], ◌∷◌}
+use Rattle.pp_table.specs.declared.table.Condition.{Condition}
+use Rattle.pp_table.specs.declared.table.Condition.TheVariants.{Always, Chain, FirstStill, SecondStill}
+use Rattle.pp_table.specs.declared.table.Figures.{Figures}
+use Rattle.pp_table.specs.Table.{condition_holds, entry}
+use Rattle.pp_counter.specs.declared.op.CounterOp.{CounterOp}
+use Rattle.pp_counter.specs.declared.op.CounterOp.TheVariants.{Add, Get, FetchAdd}
+
+-- the row and the column of an operation
+abbrev pub form_of : CounterOp → ℕ
+form_of (Add by) = 0
+form_of (Get value) = 1
+form_of (FetchAdd by was) = 2
+
+-- the number that it finds and the one that it leaves, where it tells them, and what it adds
+abbrev pub figures_of : CounterOp → Figures
+figures_of (Add by) = record { from = pos 0; to = pos 0; shift = by }
+figures_of (Get value) = record { from = value; to = value; shift = pos 0 }
+figures_of (FetchAdd by was) = record { from = was; to = was +ℤ by; shift = by }
+
+-- a row for each first operation, and a column for each second
+abbrev pub counter_table : List (List Condition)
+counter_table =
+    (Always ∷ FirstStill ∷ FirstStill ∷ [])
+    ∷ (SecondStill ∷ Chain ∷ Chain ∷ [])
+    ∷ (SecondStill ∷ Chain ∷ Chain ∷ [])
+    ∷ []
+
+-- whether the table lets the first change places with the second behind it
+abbrev pub may_swap : CounterOp → CounterOp → Bool
+may_swap a b = condition_holds (entry counter_table (form_of a) (form_of b)) (figures_of a) (figures_of b)

@@ -1,0 +1,57 @@
+-- The laws of a counter.
+use Rattle.std.proofs.Common.{◌≡◌, ℤ, pos, ◌+ℤ◌, ◌-ℤ◌, Bool, List, [], ◌∷◌, ◌↔◌, ◌&&◌, refl, sym, ◌∙◌, ap, arith}
+use Rattle.std.proofs.Math.Bool.{and-true}
+use Rattle.std.proofs.lemmas.Int.{ints}
+use Rattle.pp_spec.specs.Numbers.{in_range, has_ranged_arguments, is_ranged_answer}
+use Rattle.pp_spec.specs.Object.{AllowedFrom, IsLawful, IsPlaced}
+use Rattle.pp_counter.specs.declared.op.CounterOp.{CounterOp}
+use Rattle.pp_counter.specs.declared.op.CounterOp.TheVariants.{Add, Get, FetchAdd}
+use Rattle.pp_counter.specs.Operations.{shift_of, call_of, given_by, recorded_by, is_ranged, place_of}
+use Rattle.pp_counter.specs.Movers.{may_swap}
+use Rattle.pp_counter.specs.Count.{counter, SameAt}
+use Rattle.pp_counter.specs.laws.Legal.{told, legal_where_told, same_given}
+use Rattle.pp_counter.specs.laws.Swapping.{refuting_exact, refuting_by}
+
+sum_back : (n x : ℤ) → (n +ℤ x) -ℤ x ≡ n
+sum_back n x = omega (arith, ints)
+
+-- Numbers after which the same lists are allowed are one: each is read by `Get`.
+numbers_told_apart : (n m : ℤ) → ((k : List CounterOp) → AllowedFrom counter n k ↔ AllowedFrom counter m k) → n ≡ m
+numbers_told_apart n m same = sym (told (Get n) m ((same (Get n ∷ [])).0 (legal_where_told (Get n) n refl, tt)).0)
+
+-- An operation is ranged where its argument and its recorded result are.
+numbers : (op : CounterOp) → is_ranged op ≡ (has_ranged_arguments (call_of op) && is_ranged_answer (recorded_by op))
+numbers (Add by) = sym (and-true (in_range by && in_range (pos 0)) ∙ and-true (in_range by))
+numbers (Get value) = refl
+numbers (FetchAdd by was) = sym (ap (λ (b : Bool). b && in_range was) (and-true (in_range by)))
+
+-- The laws of a counter.
+pub counter_lawful : IsLawful counter
+counter_lawful = record {
+  start_shape = λ shape. refl;
+  start_is_state = λ shape. tt;
+  next_shape = λ n op h. refl;
+  next_is_state = λ n op h k. tt;
+  taken_back = λ n op h k. sum_back n (shift_of op);
+  told_apart = λ n m h k e same. numbers_told_apart n m same;
+  one_answer = λ n a b e h k. sym h.1 ∙ same_given n a b e ∙ k.1;
+  ranged_numbers = numbers;
+  unrefuted = refuting_exact;
+  refuted = λ a b. refuting_by a b (may_swap a b) refl;
+}
+
+-- The laws of places, of which there is one.
+pub counter_placed : IsPlaced counter place_of SameAt
+counter_placed = record {
+  same = λ p n h. refl;
+  turned = λ p n m h e. sym (h e);
+  joined = λ p l n m h k e. h e ∙ k e;
+  everywhere = λ n m e same. same 0 refl;
+  apart = λ a b different. absurd (different refl);
+  gives_there = λ n m a same. ap (λ (k : ℤ). given_by k a) (same refl);
+  kept_there = λ n m a same. refl;
+  next_there = λ n m a same e. ap (λ (k : ℤ). k +ℤ shift_of a) (same refl);
+  back_there = λ n m a u same e. ap (λ (k : ℤ). k -ℤ shift_of a) (same refl);
+  next_elsewhere = λ n a p other e. absurd (other e);
+  back_elsewhere = λ n a u p other e. absurd (other e);
+}

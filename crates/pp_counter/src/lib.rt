@@ -1,0 +1,10 @@
+//! The counter: a whole number, at first 0.
+#![tactic(auto)]
+
+mod contexts;
+mod count;
+mod movers;
+mod op;
+
+pub use count::Count;
+pub use op::CounterOp;

@@ -1,0 +1,44 @@
+-- Sources and sinks in memory, as contracts see them.
+use Rattle.std.specs.Prelude.{ℕ, List, ◌++◌, length, drop, min, max, Option, Some, None, slice_get}
+use Rattle.pp_io.specs.Faults.{counted}
+
+-- the bytes that are left, how many bytes each call gives at most, the numbers of the calls that fail, and how many calls were made and failed
+pub record SourceInMemory : Type 0 where
+  pub left : List ℕ
+  pub pieces : List ℕ
+  pub failing : List ℕ
+  pub calls : ℕ
+  pub faults : ℕ
+
+-- the most bytes of a piece, one at least; where there is none, as many as fit
+abbrev pub most_of : Option ℕ → ℕ → ℕ
+most_of None room = room
+most_of (Some most) room = max most 1
+
+-- how many bytes the next call gives
+abbrev pub given_by : SourceInMemory → ℕ → ℕ
+given_by source room = min (min room (most_of (slice_get source.pieces source.calls) room)) (length source.left)
+
+-- after a call that gave so many bytes
+abbrev pub after_read : SourceInMemory → ℕ → SourceInMemory
+after_read source n = record source { left = drop n source.left; calls = counted source.calls }
+
+-- after a call that failed
+abbrev pub after_failed_read : SourceInMemory → SourceInMemory
+after_failed_read source = record source { calls = counted source.calls; faults = counted source.faults }
+
+-- the bytes that were taken, how many a call takes at most, the numbers of the calls that fail, and how many calls were made and failed
+pub record SinkInMemory : Type 0 where
+  pub held : List ℕ
+  pub most : ℕ
+  pub failing : List ℕ
+  pub calls : ℕ
+  pub faults : ℕ
+
+-- after a call that took these bytes
+abbrev pub after_write : SinkInMemory → List ℕ → SinkInMemory
+after_write sink bytes = record sink { held = sink.held ++ bytes; calls = counted sink.calls }
+
+-- after a call that failed
+abbrev pub after_failed_write : SinkInMemory → SinkInMemory
+after_failed_write sink = record sink { calls = counted sink.calls; faults = counted sink.faults }

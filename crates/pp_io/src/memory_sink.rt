@@ -1,0 +1,110 @@
+//! A sink in memory, with calls that fail.
+ghost use Rattle.std.specs.Prelude.{◌≡◌, ◌<◌, ◌≤◌, ℕ, Some, [], Ok, Err, length, take, min, max, Contains, IfOk, OnErr, IsErrOf, IsTrue, ◌↔◌};
+ghost use Rattle.std.specs.Io.KnownBytes.{WriteAppends, Keeps};
+ghost use Rattle.pp_io.specs.Faults.{HasRisen};
+ghost use Rattle.pp_io.specs.Memory.{after_write, after_failed_write};
+ghost use Rattle.pp_io.specs.declared.sink.SinkFault.TheVariants.{Failed, OutOfMemory};
+
+use crate::memory_source::is_among;
+use crate::sink::{Sink, SinkFault};
+use std::alloc::Global;
+use std::marker::Model;
+
+/// Keeps what it takes, at most so many bytes a call. The calls whose numbers, from 0, are in `failing`
+/// fail.
+#[derive(Drop)]
+pub struct MemorySink {
+    held: Vec<u8>,
+    most: usize,
+    failing: Vec<u64>,
+    calls: u64,
+    faults: u64,
+}
+
+impl Model for MemorySink {
+    ghost use Rattle.std.specs.Prelude.{◌<◌};
+    ghost use Rattle.pp_io.specs.Memory.{SinkInMemory};
+
+    ghost Value = { SinkInMemory };
+
+    ghost view = { λ s. record { held = s.held.items; most = s.most; failing = s.failing.items; calls = s.calls; faults = s.faults } };
+
+    ghost invariant = { λ s. 0 < s.most };
+}
+
+impl MemorySink {
+    /// A sink that has taken nothing. It takes one byte a call at least.
+    pub fn new(alloc: Global, most: usize, failing: Vec<u64>) -> MemorySink
+        ensures { result ≡ record { held = []; most = max most 1; failing = failing.items; calls = 0; faults = 0 } }
+    {
+        MemorySink {
+            held: Vec::new(alloc),
+            most: most.max(1),
+            failing,
+            calls: 0,
+            faults: 0,
+        }
+    }
+
+    /// The bytes that were taken.
+    pub fn held(&self) -> &[u8]
+        ensures { result.now ≡ self.now.held }
+    {
+        &self.held
+    }
+
+    /// Counts a call, and answers whether it fails.
+    fn fails(&mut self) -> bool
+        ensures fails { IsTrue result ↔ Contains self.old.failing self.old.calls }
+        ensures failed { IsTrue result → self.new ≡ after_failed_write self.old }
+        ensures passed { ¬ IsTrue result → self.new ≡ after_write self.old [] }
+        ensures count { self.old.faults ≤ self.new.faults }
+    {
+        let call = self.calls;
+        self.calls = call.saturating_add(1);
+        let fails = is_among(&self.failing, call);
+        if fails {
+            self.faults = self.faults.saturating_add(1);
+        }
+        fails
+    }
+}
+
+impl Sink for MemorySink {
+    ghost held = { λ s. Some s.held };
+
+    ghost faults = { λ s. s.faults };
+
+    fn write(&mut self, bytes: &[u8]) -> Result<usize, SinkFault>
+        ensures bound { IfOk result (λ n. n ≤ length bytes.now) }
+        ensures bytes { WriteAppends (Some self.old.held) (Some self.new.held) result bytes.now }
+        ensures count { self.old.faults ≤ self.new.faults }
+        ensures nothing { IfOk result (λ n. n ≡ 0 → 0 < length bytes.now → HasRisen self.old.faults self.new.faults) }
+        ensures failed { IsErrOf result Failed → HasRisen self.old.faults self.new.faults }
+        ensures fails { Contains self.old.failing self.old.calls → (result ≡ Err Failed) × (self.new ≡ after_failed_write self.old) }
+        ensures takes { ¬ Contains self.old.failing self.old.calls → IfOk result (λ n. (n ≡ min (length bytes.now) self.old.most) × (self.new ≡ after_write self.old (take n bytes.now))) }
+        ensures memory { ¬ Contains self.old.failing self.old.calls → OnErr result ((result ≡ Err OutOfMemory) × (self.new ≡ after_write self.old [])) }
+    {
+        if self.fails() {
+            return Err(SinkFault::Failed);
+        }
+        let n = bytes.len().min(self.most);
+        match self.held.extend_from_slice(&bytes[..n]) {
+            Ok(()) => Ok(n),
+            Err(_) => Err(SinkFault::OutOfMemory),
+        }
+    }
+
+    fn flush(&mut self) -> Result<(), SinkFault>
+        ensures bytes { Keeps (Some self.old.held) (Some self.new.held) }
+        ensures count { self.old.faults ≤ self.new.faults }
+        ensures failed { IsErrOf result Failed → HasRisen self.old.faults self.new.faults }
+        ensures fails { Contains self.old.failing self.old.calls → (result ≡ Err Failed) × (self.new ≡ after_failed_write self.old) }
+        ensures passes { ¬ Contains self.old.failing self.old.calls → (result ≡ Ok tt) × (self.new ≡ after_write self.old []) }
+    {
+        if self.fails() {
+            return Err(SinkFault::Failed);
+        }
+        Ok(())
+    }
+}

@@ -1,0 +1,121 @@
+//! The first line of a run.
+ghost use Rattle.std.specs.Prelude.{◌≡◌, ◌≤◌, ◌<◌, [], length, suc, IfOk};
+ghost use Rattle.serde_json.specs.View.{view, items_view};
+ghost use Rattle.pp_core.specs.Catalogs.{place_of};
+ghost use Rattle.pp_json.specs.Reading.{Gives};
+ghost use Rattle.pp_json.specs.Headers.{style_from, kind_from, object_in, with_object, objects_in, catalog_of, header_of};
+ghost use Rattle.pp_json.specs.Later.{IsBuilt};
+
+use crate::fault::RecordFault;
+use crate::later::is_built;
+use crate::members::{array_in, name_in, object_on, text_in, whole_in};
+use pp_core::{Catalog, Kind, MOST_OBJECTS, Member, Name, Style};
+use serde_json::Value;
+use std::alloc::Global;
+
+/// What the first line of a run says: how the run was recorded, and over which objects.
+#[derive(Drop)]
+pub struct Header {
+    pub style: Style,
+    pub catalog: Catalog,
+}
+
+#[tactic(auto, unfolding(crate::specs::Headers::style_from))]
+fn style_named(word: &str) -> Option<Style>
+    ensures { result ≡ style_from word.now }
+{
+    match word {
+        "rules" => Some(Style::Rules),
+        "boosted" => Some(Style::Boosted),
+        "optimistic" => Some(Style::Optimistic),
+        "hardware" => Some(Style::Hardware),
+        "dependent" => Some(Style::Dependent),
+        _ => None,
+    }
+}
+
+#[tactic(auto, unfolding(crate::specs::Headers::kind_from))]
+fn kind_named(word: &str) -> Option<Kind>
+    ensures { result ≡ kind_from word.now }
+{
+    match word {
+        "mem" => Some(Kind::Memory),
+        "set" => Some(Kind::KeySet),
+        "map" => Some(Kind::KeyMap),
+        "counter" => Some(Kind::Counter),
+        "queue" => Some(Kind::Queue),
+        _ => None,
+    }
+}
+
+#[tactic(auto, unfolding(crate::specs::Headers::object_in))]
+fn object_behind(before: &Catalog, value: &Value) -> Result<(Name, Kind), RecordFault>
+    ensures reads { Gives (λ x. x) result (object_in before.now (view value.now)) }
+    ensures new { IfOk result (λ object. place_of object.0 before.now ≡ None) }
+{
+    if !value.is_object() {
+        return Err(RecordFault::WrongType(Member::Objects));
+    }
+    let name = name_in(value, Member::Name)?;
+    if before.place(&name).is_some() {
+        return Err(RecordFault::RepeatedObject);
+    }
+    let word = text_in(value, Member::Kind)?;
+    let kind = kind_named(word).ok_or(RecordFault::UnknownKind)?;
+    Ok((name, kind))
+}
+
+#[tactic(auto, unfolding(crate::specs::Headers::with_object))]
+fn with_object(mut catalog: Catalog, value: &Value) -> Result<Catalog, RecordFault>
+    requires { length catalog < 256 }
+    ensures reads { Gives (λ c. c) result (with_object catalog (view value.now)) }
+    ensures one_more { IfOk result (λ c. length c ≡ suc (length catalog)) }
+{
+    let (name, kind) = object_behind(&catalog, value)?;
+    let _ = catalog.add(name, kind)?;
+    Ok(catalog)
+}
+
+#[tactic(auto, using(crate::proofs::Objects::goes_on, crate::proofs::Objects::stops, crate::proofs::Objects::ends))]
+fn objects_among(alloc: Global, values: &[Value]) -> Result<Catalog, RecordFault>
+    requires { length values.now ≤ 256 }
+    ensures { Gives (λ c. c) result (objects_in [] (items_view values.now)) }
+{
+    let mut catalog = Catalog::new(alloc);
+    for value in values {
+        catalog = with_object(catalog, value)?;
+    }
+    Ok(catalog)
+}
+
+#[tactic(auto, unfolding(crate::specs::Headers::catalog_of), using(crate::proofs::Objects::count_view))]
+fn catalog_in(alloc: Global, value: &Value) -> Result<Catalog, RecordFault>
+    ensures { Gives (λ c. c) result (catalog_of (view value.now)) }
+{
+    let values = array_in(value, Member::Objects)?;
+    if values.len() > MOST_OBJECTS {
+        return Err(RecordFault::TooManyObjects);
+    }
+    objects_among(alloc, values)
+}
+
+/// Reads the first line of a run. Of several faults it answers the one that is tested first, and
+/// `NotYet` only where there is no other.
+#[tactic(auto, unfolding(crate::specs::Headers::header_of))]
+pub fn read_header(alloc: Global, line: &[u8]) -> Result<Header, RecordFault>
+    ensures reads { Gives (λ h. h) result (header_of line.now) }
+    ensures built { IfOk result IsBuilt }
+{
+    let value = object_on(alloc, line)?;
+    let run = whole_in(&value, Member::Run)?;
+    if run != 1 {
+        return Err(RecordFault::OutOfRange(Member::Run));
+    }
+    let word = text_in(&value, Member::Style)?;
+    let style = style_named(word).ok_or(RecordFault::UnknownStyle)?;
+    let catalog = catalog_in(alloc, &value)?;
+    if !is_built(style, &catalog) {
+        return Err(RecordFault::NotYet);
+    }
+    Ok(Header { style, catalog })
+}

@@ -1,0 +1,114 @@
+//! The lines behind the header.
+ghost use Rattle.std.specs.Prelude.{◌≡◌, ◌≤◌, IfOk, IfSome};
+ghost use Rattle.serde_json.specs.View.{view};
+ghost use Rattle.pp_json.specs.Reading.{Gives};
+ghost use Rattle.pp_json.specs.Records.{id_from, id_of, begin_of, app_of, push_of, cmt_of, step_of, record_of, IsReadable};
+
+use crate::call::op_in;
+use crate::fault::RecordFault;
+use crate::header::Header;
+use crate::later::has_body;
+use crate::members::{name_in, object_on, text_in, whole_in};
+use crate::step_name::{StepName, step_named};
+use pp_core::{Catalog, Member, Step};
+use pp_counter::CounterOp;
+use serde_json::Value;
+use std::alloc::Global;
+
+#[tactic(auto, unfolding(crate::specs::Records::id_from))]
+fn id_that_is(n: i128) -> Option<u32>
+    ensures id { result ≡ id_from n }
+    ensures small { IfSome result (λ id. id ≤ 999_999_999) }
+{
+    if 0 <= n && n <= 999_999_999 {
+        Some(n as u32)
+    } else {
+        None
+    }
+}
+
+#[tactic(auto, unfolding(crate::specs::Records::id_of))]
+fn id_in(value: &Value) -> Result<u32, RecordFault>
+    ensures reads { Gives (λ n. n) result (id_of (view value.now)) }
+    ensures small { IfOk result (λ id. id ≤ 999_999_999) }
+{
+    let n = whole_in(value, Member::Id)?;
+    id_that_is(n).ok_or(RecordFault::OutOfRange(Member::Id))
+}
+
+#[tactic(auto, unfolding(crate::specs::Records::begin_of))]
+fn begin_in(value: &Value) -> Result<Step<CounterOp>, RecordFault>
+    ensures reads { Gives (λ s. s) result (begin_of (view value.now)) }
+    ensures readable { IfOk result IsReadable }
+{
+    let tx = name_in(value, Member::Tx)?;
+    let thread = name_in(value, Member::Thread)?;
+    if has_body(value) {
+        return Err(RecordFault::NotYet);
+    }
+    Ok(Step::Begin {
+        tx,
+        thread,
+        body: None,
+    })
+}
+
+#[tactic(auto, unfolding(crate::specs::Records::app_of))]
+fn app_in(catalog: &Catalog, value: &Value) -> Result<Step<CounterOp>, RecordFault>
+    ensures reads { Gives (λ s. s) result (app_of catalog.now (view value.now)) }
+    ensures readable { IfOk result IsReadable }
+{
+    let tx = name_in(value, Member::Tx)?;
+    let id = id_in(value)?;
+    let op = op_in(catalog, value)?;
+    Ok(Step::App { tx, id, op })
+}
+
+#[tactic(auto, unfolding(crate::specs::Records::push_of))]
+fn push_in(value: &Value) -> Result<Step<CounterOp>, RecordFault>
+    ensures reads { Gives (λ s. s) result (push_of (view value.now)) }
+    ensures readable { IfOk result IsReadable }
+{
+    let tx = name_in(value, Member::Tx)?;
+    let id = id_in(value)?;
+    Ok(Step::Push { tx, id })
+}
+
+#[tactic(auto, unfolding(crate::specs::Records::cmt_of))]
+fn cmt_in(value: &Value) -> Result<Step<CounterOp>, RecordFault>
+    ensures reads { Gives (λ s. s) result (cmt_of (view value.now)) }
+    ensures readable { IfOk result IsReadable }
+{
+    let tx = name_in(value, Member::Tx)?;
+    Ok(Step::Cmt { tx })
+}
+
+fn step_in(catalog: &Catalog, name: StepName, value: &Value) -> Result<Step<CounterOp>, RecordFault>
+    ensures reads { Gives (λ s. s) result (step_of catalog.now name (view value.now)) }
+    ensures readable { IfOk result IsReadable }
+{
+    match name {
+        StepName::Begin => begin_in(value),
+        StepName::App => app_in(catalog, value),
+        StepName::Push => push_in(value),
+        StepName::Cmt => cmt_in(value),
+        _ => Err(RecordFault::NotYet),
+    }
+}
+
+/// Reads a line behind the header. Of several faults it answers the one that is tested first: the
+/// members are tested in the order in which the step lists them, and not in that of the line.
+#[tactic(auto, unfolding(crate::specs::Records::record_of))]
+pub fn read_record(
+    alloc: Global,
+    header: &Header,
+    line: &[u8],
+) -> Result<Step<CounterOp>, RecordFault>
+    ensures reads { Gives (λ s. s) result (record_of header.now line.now) }
+    ensures readable { IfOk result IsReadable }
+{
+    let value = object_on(alloc, line)?;
+    let word = text_in(&value, Member::Step)?;
+    let name = step_named(header.style, word).ok_or(RecordFault::UnknownStep)?;
+    step_in(&header.catalog, name, &value)
+}

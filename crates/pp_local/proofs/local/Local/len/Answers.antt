@@ -1,0 +1,7 @@
+use Rattle.std.proofs.Common.{subst}
+use Rattle.pp_model.specs.Config.{item}
+use Rattle.pp_log.specs.Logs.{HaveDistinctIds}
+use Rattle.pp_local.proofs.local.Local.len.Goals as goal
+
+pub returns-clause-distinct : goal.returns-clause-distinct
+returns-clause-distinct g c = subst (λ z. HaveDistinctIds item z.1) c.self.view_is c.len.ensures.distinct

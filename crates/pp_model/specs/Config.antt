@@ -1,0 +1,175 @@
+-- A configuration of the machine, and the steps.
+use Rattle.std.specs.Prelude.{ℕ, ◌==◌, Bool, true, false, cond, not, ◌&&◌, List, [], ◌∷◌, ◌++◌, map, filter, find, Option, None, Some}
+use Rattle.pp_model.specs.Body.{Body}
+use Rattle.pp_model.specs.Names.{Name, ◌=ⁿ◌}
+pub use Rattle.pp_core.specs.declared.entry.Mark.{Mark}
+pub use Rattle.pp_core.specs.declared.entry.Mark.TheVariants.{Unpushed, Pushed, Pulled}
+pub use Rattle.pp_core.specs.declared.entry.LocalEntry.{LocalEntry}
+pub use Rattle.pp_core.specs.declared.entry.SharedEntry.{SharedEntry}
+pub use Rattle.pp_core.specs.declared.entry.CommittedTx.{CommittedTx}
+pub use Rattle.pp_core.specs.declared.step.Step.{Step}
+pub use Rattle.pp_core.specs.declared.step.Step.TheVariants.{Begin, App, Unapp, Push, Unpush, Pull, Unpull, Cmt, Quit, Note}
+use Rattle.pp_model.specs.Object.{Item}
+
+abbrev pub is_own : Mark → Bool
+is_own Unpushed = true
+is_own Pushed = true
+is_own Pulled = false
+
+-- An open transaction.
+pub record Tx (Op : Type 0) : Type 0 where
+  pub name : Name
+  pub thread : Name
+  pub body : Option Body
+  pub local : List (LocalEntry Op)
+
+pub record Config (Op : Type 0) : Type 0 where
+  -- begun so far
+  pub names : List Name
+  -- applied so far
+  pub ids : List ℕ
+  pub opened : List (Tx Op)
+  pub shared : List (SharedEntry Op)
+  -- in commit order
+  pub finished : List (CommittedTx Op)
+
+-- What a header gives: the transaction that stands committed before the first step, if there is one.
+pub record Start (Op : Type 0) : Type 0 where
+  pub tx : Name
+  pub items : List (Item Op)
+
+abbrev pub item : {Op : Type 0} → LocalEntry Op → Item Op
+item e = record { id = e.id; op = e.op }
+
+abbrev pub shared_item : {Op : Type 0} → SharedEntry Op → Item Op
+shared_item g = record { id = g.id; op = g.op }
+
+abbrev pub own : {Op : Type 0} → List (LocalEntry Op) → List (LocalEntry Op)
+own l = filter (λ e. is_own e.mark) l
+
+abbrev pub own_items : {Op : Type 0} → List (LocalEntry Op) → List (Item Op)
+own_items l = map item (own l)
+
+abbrev pub local_ops : {Op : Type 0} → List (LocalEntry Op) → List Op
+local_ops l = map (λ e. e.op) l
+
+abbrev pub shared_ops : {Op : Type 0} → List (SharedEntry Op) → List Op
+shared_ops l = map (λ g. g.op) l
+
+-- the item p of t, as it stands in the shared log
+abbrev pub posted : {Op : Type 0} → Name → Bool → Item Op → SharedEntry Op
+posted t b p = record { id = p.id; owner = t; committed = b; op = p.op }
+
+-- the open transaction of this name
+abbrev pub tx : {Op : Type 0} → Name → List (Tx Op) → Option (Tx Op)
+tx t xs = find (λ x. x.name =ⁿ t) xs
+
+-- f at the transaction t, and all others as they were
+abbrev pub on : {Op : Type 0} → Name → (Tx Op → Tx Op) → List (Tx Op) → List (Tx Op)
+on t f xs = map (λ x. cond (x.name =ⁿ t) (f x) x) xs
+
+-- the transaction with f at its local log
+abbrev pub relog : {Op : Type 0} → (List (LocalEntry Op) → List (LocalEntry Op)) → Tx Op → Tx Op
+relog f x = record { name = x.name; thread = x.thread; body = x.body; local = f x.local }
+
+-- f at the local log of t
+abbrev pub on_log : {Op : Type 0} → Name → (List (LocalEntry Op) → List (LocalEntry Op)) → List (Tx Op) → List (Tx Op)
+on_log t f xs = on t (relog f) xs
+
+abbrev pub without_tx : {Op : Type 0} → Name → List (Tx Op) → List (Tx Op)
+without_tx t xs = filter (λ x. not (x.name =ⁿ t)) xs
+
+abbrev pub marked : {Op : Type 0} → ℕ → Mark → List (LocalEntry Op) → List (LocalEntry Op)
+marked id m l = map (λ e. cond (e.id == id) (record { id = e.id; owner = e.owner; mark = m; op = e.op }) e) l
+
+abbrev pub without_local : {Op : Type 0} → ℕ → List (LocalEntry Op) → List (LocalEntry Op)
+without_local id l = filter (λ e. not (e.id == id)) l
+
+abbrev pub without_shared : {Op : Type 0} → ℕ → List (SharedEntry Op) → List (SharedEntry Op)
+without_shared id l = filter (λ g. not (g.id == id)) l
+
+abbrev pub all_committed : {Op : Type 0} → Name → List (SharedEntry Op) → List (SharedEntry Op)
+all_committed t l = map (λ g. cond (g.owner =ⁿ t) (record { id = g.id; owner = g.owner; committed = true; op = g.op }) g) l
+
+abbrev pub uncommitted : {Op : Type 0} → List (SharedEntry Op) → List (SharedEntry Op)
+uncommitted l = filter (λ g. not g.committed) l
+
+abbrev pub only_committed : {Op : Type 0} → List (SharedEntry Op) → List (SharedEntry Op)
+only_committed l = filter (λ g. g.committed) l
+
+abbrev pub but_last : {A : Type 0} → List A → List A
+but_last [] = []
+but_last (x ∷ []) = []
+but_last (x ∷ y ∷ l) = x ∷ but_last (y ∷ l)
+
+abbrev pub last : {A : Type 0} → List A → Option A
+last [] = None
+last (x ∷ []) = Some x
+last (x ∷ y ∷ l) = last (y ∷ l)
+
+-- the entry of this id and mark, and the entry of this id in G that another transaction owns
+abbrev pub is_mark : Mark → Mark → Bool
+is_mark Unpushed Unpushed = true
+is_mark Pushed Pushed = true
+is_mark Pulled Pulled = true
+is_mark _ _ = false
+
+abbrev pub at_mark : {Op : Type 0} → ℕ → Mark → List (LocalEntry Op) → Option (LocalEntry Op)
+at_mark id m l = find (λ e. (e.id == id) && is_mark e.mark m) l
+
+abbrev pub of_other : {Op : Type 0} → Name → ℕ → List (SharedEntry Op) → Option (SharedEntry Op)
+of_other t id l = find (λ g. (g.id == id) && not (g.owner =ⁿ t)) l
+
+-- the configuration before the first step
+abbrev pub first : {Op : Type 0} → Option (Start Op) → Config Op
+first None = record { names = []; ids = []; opened = []; shared = []; finished = [] }
+first (Some z) =
+    record {
+      names = z.tx ∷ [];
+      ids = map (λ p. p.id) z.items;
+      opened = [];
+      shared = map (posted z.tx true) z.items;
+      finished = record { name = z.tx; entries = z.items } ∷ [];
+    }
+
+-- the effect of a step
+abbrev pub pushed : {Op : Type 0} → Config Op → Name → ℕ → Option (LocalEntry Op) → Config Op
+pushed c t id None = c
+pushed c t id (Some e) = record c { opened = on_log t (marked id Pushed) c.opened; shared = c.shared ++ posted t false (item e) ∷ [] }
+
+abbrev pub pulled : {Op : Type 0} → Config Op → Name → ℕ → Option (SharedEntry Op) → Config Op
+pulled c t id None = c
+pulled c t id (Some g) = record c { opened = on_log t (λ l. l ++ record { id = g.id; owner = g.owner; mark = Pulled; op = g.op } ∷ []) c.opened }
+
+abbrev pub committed : {Op : Type 0} → Config Op → Name → Option (Tx Op) → Config Op
+committed c t None = c
+committed c t (Some x) =
+    record c {
+      opened = without_tx t c.opened;
+      shared = all_committed t c.shared;
+      finished = c.finished ++ record { name = t; entries = own_items x.local } ∷ [];
+    }
+
+abbrev pub entry_of : {Op : Type 0} → ℕ → Mark → Option (Tx Op) → Option (LocalEntry Op)
+entry_of id m None = None
+entry_of id m (Some x) = at_mark id m x.local
+
+abbrev pub then : {Op : Type 0} → Config Op → Step Op → Config Op
+then c (Begin t p b) = record c { names = t ∷ c.names; opened = c.opened ++ record { name = t; thread = p; body = b; local = [] } ∷ [] }
+then c (App t id op) =
+    record c { ids = id ∷ c.ids; opened = on_log t (λ l. l ++ record { id = id; owner = t; mark = Unpushed; op = op } ∷ []) c.opened }
+then c (Unapp t id) = record c { opened = on_log t but_last c.opened }
+then c (Push t id) = pushed c t id (entry_of id Unpushed (tx t c.opened))
+then c (Unpush t id) = record c { opened = on_log t (marked id Unpushed) c.opened; shared = without_shared id c.shared }
+then c (Pull t id) = pulled c t id (of_other t id c.shared)
+then c (Unpull t id) = record c { opened = on_log t (without_local id) c.opened }
+then c (Cmt t) = committed c t (tx t c.opened)
+then c (Quit t) = record c { opened = without_tx t c.opened }
+then c (Note t) = c
+
+abbrev pub after_from : {Op : Type 0} → Config Op → List (Step Op) → Config Op
+after_from c [] = c
+after_from c (s ∷ ss) = after_from (then c s) ss
+
+abbrev pub after : {Op : Type 0} → Option (Start Op) → List (Step Op) → Config Op
+after h steps = after_from (first h) steps

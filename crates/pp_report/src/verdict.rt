@@ -1,0 +1,53 @@
+ghost use Rattle.std.specs.Prelude.{◌≡◌, ◌++◌, codes, IfOk, OnOk};
+ghost use Rattle.std.specs.Fmt.{decimal};
+ghost use Rattle.pp_report.specs.Reports.{rejected_text, fault_text};
+
+use crate::cause::Cause;
+use crate::words::{rule_word, write_cause};
+use pp_core::{OutOfMemory, Rule, Text};
+use pp_text::write_number;
+use std::alloc::Global;
+
+/// Adds where the failed step stands.
+fn write_place(text: &mut Text, step: u32, line: u32) -> Result<(), OutOfMemory>
+    ensures { OnOk result (text.new ≡ text.old ++ codes "rejected step " ++ decimal step ++ codes " line " ++ decimal line) }
+{
+    text.append(b"rejected step ")?;
+    write_number(text, u64::from(step))?;
+    text.append(b" line ")?;
+    write_number(text, u64::from(line))
+}
+
+/// The report of a rejected run: the criterion of this number of the rule fails at a step, which
+/// the record of a line gave.
+pub fn rejected(
+    alloc: Global,
+    step: u32,
+    line: u32,
+    rule: Rule,
+    criterion: u8,
+) -> Result<Text, OutOfMemory>
+    ensures { IfOk result (λ text. text ≡ rejected_text step line rule criterion) }
+{
+    let mut text = Text::new(alloc);
+    write_place(&mut text, step, line)?;
+    text.append(b" ")?;
+    text.append(rule_word(rule))?;
+    text.append(b" ")?;
+    write_number(&mut text, u64::from(criterion))?;
+    text.append(b"\n")?;
+    Ok(text)
+}
+
+/// The report of an input with a fault at a line.
+pub fn fault(alloc: Global, line: u32, cause: &Cause) -> Result<Text, OutOfMemory>
+    ensures { IfOk result (λ text. text ≡ fault_text line cause.now) }
+{
+    let mut text = Text::new(alloc);
+    text.append(b"fault line ")?;
+    write_number(&mut text, u64::from(line))?;
+    text.append(b" ")?;
+    write_cause(&mut text, *cause)?;
+    text.append(b"\n")?;
+    Ok(text)
+}

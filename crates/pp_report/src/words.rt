@@ -1,0 +1,85 @@
+ghost use Rattle.std.specs.Prelude.{◌≡◌, ◌++◌, OnOk};
+ghost use Rattle.pp_report.specs.Words.{rule_bytes, member_bytes, with_member, cause_bytes};
+
+use crate::cause::Cause;
+use pp_core::{Member, OutOfMemory, Rule, Text};
+
+/// The name of a rule.
+pub(crate) fn rule_word(rule: Rule) -> &'static [u8]
+    ensures { result.now ≡ rule_bytes rule }
+{
+    match rule {
+        Rule::Begin => b"BEGIN",
+        Rule::App => b"APP",
+        Rule::Unapp => b"UNAPP",
+        Rule::Push => b"PUSH",
+        Rule::Unpush => b"UNPUSH",
+        Rule::Pull => b"PULL",
+        Rule::Unpull => b"UNPULL",
+        Rule::Cmt => b"CMT",
+        Rule::Quit => b"QUIT",
+        Rule::Note => b"NOTE",
+    }
+}
+
+/// The name of a member.
+fn member_word(member: Member) -> &'static [u8]
+    ensures { result.now ≡ member_bytes member }
+{
+    match member {
+        Member::Run => b"run",
+        Member::Style => b"style",
+        Member::Objects => b"objects",
+        Member::Name => b"name",
+        Member::Kind => b"kind",
+        Member::Step => b"step",
+        Member::Tx => b"tx",
+        Member::Thread => b"thread",
+        Member::Id => b"id",
+        Member::On => b"on",
+        Member::Call => b"call",
+        Member::Args => b"args",
+        Member::Answer => b"result",
+        Member::Source => b"source",
+    }
+}
+
+/// Adds the name of a cause that has a member.
+fn write_with_member(text: &mut Text, name: &[u8], member: Member) -> Result<(), OutOfMemory>
+    ensures { OnOk result (text.new ≡ text.old ++ with_member name.now member) }
+{
+    text.append(name)?;
+    text.append(b"(")?;
+    text.append(member_word(member))?;
+    text.append(b")")
+}
+
+/// Adds the name of a cause.
+pub(crate) fn write_cause(text: &mut Text, cause: Cause) -> Result<(), OutOfMemory>
+    ensures { OnOk result (text.new ≡ text.old ++ cause_bytes cause) }
+{
+    match cause {
+        Cause::NotJson => text.append(b"NotJson"),
+        Cause::NotObject => text.append(b"NotObject"),
+        Cause::Missing(member) => write_with_member(text, b"Missing", member),
+        Cause::WrongType(member) => write_with_member(text, b"WrongType", member),
+        Cause::OutOfRange(member) => write_with_member(text, b"OutOfRange", member),
+        Cause::BadName(member) => write_with_member(text, b"BadName", member),
+        Cause::UnknownStyle => text.append(b"UnknownStyle"),
+        Cause::UnknownKind => text.append(b"UnknownKind"),
+        Cause::RepeatedObject => text.append(b"RepeatedObject"),
+        Cause::TooManyObjects => text.append(b"TooManyObjects"),
+        Cause::UnknownObject => text.append(b"UnknownObject"),
+        Cause::UnknownCall => text.append(b"UnknownCall"),
+        Cause::UnknownStep => text.append(b"UnknownStep"),
+        Cause::BodyBad => text.append(b"BodyBad"),
+        Cause::BodyTooLarge => text.append(b"BodyTooLarge"),
+        Cause::NotYet => text.append(b"NotYet"),
+        Cause::LineTooLong => text.append(b"LineTooLong"),
+        Cause::TooManyLines => text.append(b"TooManyLines"),
+        Cause::TooLong => text.append(b"TooLong"),
+        Cause::NoHeader => text.append(b"NoHeader"),
+        Cause::TooManyTransactions => text.append(b"TooManyTransactions"),
+        Cause::TooManySteps => text.append(b"TooManySteps"),
+    }
+}

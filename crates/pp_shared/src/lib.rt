@@ -1,0 +1,8 @@
+//! The shared log of a run.
+#![tactic(auto)]
+
+mod shared;
+
+pub use pp_core::SharedEntry;
+pub use pp_past::Removed;
+pub use shared::Shared;

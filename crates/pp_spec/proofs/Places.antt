@@ -1,0 +1,84 @@
+-- What the laws of a kind say of lists of operations.
+use Rattle.std.proofs.Common.{◌≡◌, ℕ, IsTrue, List, [], ◌∷◌, ◌++◌, ◌↔◌, refl, sym, ◌∙◌, ap, subst, append_assoc, append-nil}
+use Rattle.pp_spec.specs.Object.{Object, IsLegal, AllowedFrom, state_from, IsAllowed, state_after, IsLawful, IsPlaced, AllElsewhere, Swaps, FitNowhere}
+use Rattle.pp_spec.proofs.Lists.{state-append, allowed-first, allowed-second, allowed-append, allowed_is_state, last_is_legal}
+
+module _ {Shape State Op Undo : Type 0} (o : Object Shape State Op Undo) (laws : IsLawful o) where
+  -- an allowed list keeps the shape
+  pub shape_stays : (s : State) (x : List Op) → AllowedFrom o s x → o.shape (state_from o s x) ≡ o.shape s
+  shape_stays s [] h = refl
+  shape_stays s (a ∷ x) h = shape_stays (o.next s a) x h.1 ∙ laws.next_shape s a h.0
+
+  pub reached_shape : (sh : Shape) (x : List Op) → IsAllowed o sh x → o.shape (state_after o sh x) ≡ sh
+  reached_shape sh x h = shape_stays (o.start sh) x h ∙ laws.start_shape sh
+
+  pub reached_is_state : (sh : Shape) (x : List Op) → IsAllowed o sh x → o.IsState (state_after o sh x)
+  reached_is_state sh x h = allowed_is_state o (o.start sh) x laws.next_is_state (laws.start_is_state sh) h
+
+  -- operations that no shape has together never follow one another
+  pub unfitting_swap : (a b : Op) → FitNowhere o a b → Swaps o a b
+  unfitting_swap a b never sh =
+      record {
+        always = λ before after k.
+            let first = allowed-first o (o.start sh) before (a ∷ b ∷ after) k in
+            let second = allowed-second o (o.start sh) before (a ∷ b ∷ after) k in
+            let e = reached_shape sh before first in
+            let next = laws.next_shape (state_after o sh before) a second.0 ∙ e in
+            absurd (never sh (subst (λ (t : Shape). IsTrue (o.fits t a)) e second.0.0) (subst (λ (t : Shape). IsTrue (o.fits t b)) next second.1.0.0));
+      }
+
+  -- lists after which the same lists are allowed lead to one state
+  pub same_state : (sh : Shape) (x y : List Op) → IsAllowed o sh x → IsAllowed o sh y → ((k : List Op) → IsAllowed o sh (x ++ k) ↔ IsAllowed o sh (y ++ k)) → state_after o sh x ≡ state_after o sh y
+  same_state sh x y h k same =
+      laws.told_apart (state_after o sh x) (state_after o sh y) (reached_is_state sh x h) (reached_is_state sh y k)
+      (reached_shape sh x h ∙ sym (reached_shape sh y k))
+      (λ l. (
+        (λ f. allowed-second o (o.start sh) y l ((same l).0 (allowed-append o (o.start sh) x l h f))),
+        (λ f. allowed-second o (o.start sh) x l ((same l).1 (allowed-append o (o.start sh) y l k f))),
+      ))
+
+module _ {Shape State Op Undo : Type 0} (o : Object Shape State Op Undo) (place_of : Op → ℕ) (SameAt : ℕ → State → State → Type 0) (laws : IsLawful o) (places : IsPlaced o place_of SameAt) where
+  -- an operation moves behind operations of other places, and back
+  pub moved_back : (sh : Shape) (x y k : List Op) (a : Op) → AllElsewhere place_of (place_of a) y → IsAllowed o sh (x ++ (a ∷ (y ++ k))) → IsAllowed o sh (x ++ (y ++ (a ∷ k)))
+  moved_back sh x [] k a e h = h
+  moved_back sh x (b ∷ y) k a e h =
+      let swapped = (places.apart a b e.0 sh).always x (y ++ k) h in
+      let P : List Op → Type 0 = IsAllowed o sh in
+      let later = moved_back sh (x ++ b ∷ []) y k a e.1 (subst P (sym (append_assoc x (b ∷ []) (a ∷ (y ++ k)))) swapped) in
+      subst P (append_assoc x (b ∷ []) (y ++ (a ∷ k))) later
+
+  pub moved_front : (sh : Shape) (x y k : List Op) (a : Op) → AllElsewhere place_of (place_of a) y → IsAllowed o sh (x ++ (y ++ (a ∷ k))) → IsAllowed o sh (x ++ (a ∷ (y ++ k)))
+  moved_front sh x [] k a e h = h
+  moved_front sh x (b ∷ y) k a e h =
+      let P : List Op → Type 0 = IsAllowed o sh in
+      let later = moved_front sh (x ++ b ∷ []) y k a e.1 (subst P (sym (append_assoc x (b ∷ []) (y ++ (a ∷ k)))) h) in
+      (places.apart b a (λ p. e.0 (sym p)) sh).always x (y ++ k) (subst P (append_assoc x (b ∷ []) (a ∷ (y ++ k))) later)
+
+  -- operations of other places leave a place as it was
+  pub stays_at : (p : ℕ) (s : State) (y : List Op) → AllElsewhere place_of p y → SameAt p s (state_from o s y)
+  stays_at p s [] e = places.same p s
+  stays_at p s (b ∷ y) e = places.joined p s (o.next s b) (state_from o (o.next s b) y) (places.next_elsewhere s b p e.0) (stays_at p (o.next s b) y e.1)
+
+  -- the state of a log is one that its operation left, with those of other places before it
+  pub left_last : (sh : Shape) (x y : List Op) (a : Op) → AllElsewhere place_of (place_of a) y → IsAllowed o sh (x ++ (a ∷ y)) → state_after o sh (x ++ (a ∷ y)) ≡ o.next (state_after o sh (x ++ y)) a
+  left_last sh x y a e h =
+      let P : List Op → Type 0 = IsAllowed o sh in
+      let nil = append-nil y in
+      let turned = moved_back sh x y [] a e (subst (λ (z : List Op). P (x ++ (a ∷ z))) (sym nil) h) in
+      same_state o laws sh (x ++ (a ∷ y)) (x ++ (y ++ (a ∷ []))) h turned
+      (λ k. (
+        (λ f. subst P (sym (append_assoc x (y ++ (a ∷ [])) k) ∙ refl) (subst (λ (z : List Op). P (x ++ z)) (sym (append_assoc y (a ∷ []) k)) (moved_back sh x y k a e (subst P (append_assoc x (a ∷ y) k) f)))),
+        (λ f. subst P (sym (append_assoc x (a ∷ y) k)) (moved_front sh x y k a e (subst (λ (z : List Op). P (x ++ z)) (append_assoc y (a ∷ []) k) (subst P (append_assoc x (y ++ (a ∷ [])) k) f)))),
+      ))
+      ∙ (ap (state_after o sh) (sym (append_assoc x y (a ∷ []))) ∙ state-append o (o.start sh) (x ++ y) (a ∷ []))
+
+  -- so it may be undone there, with the value that was kept when it was applied
+  pub may_be_undone : (sh : Shape) (x y : List Op) (a : Op) → AllElsewhere place_of (place_of a) y → IsAllowed o sh (x ++ (a ∷ y)) → IsLegal o (state_after o sh (x ++ y)) a × (o.kept (state_after o sh x) a ≡ o.kept (state_after o sh (x ++ y)) a)
+  may_be_undone sh x y a e h =
+      let P : List Op → Type 0 = IsAllowed o sh in
+      let turned = moved_back sh x y [] a e (subst (λ (z : List Op). P (x ++ (a ∷ z))) (sym (append-nil y)) h) in
+      let last = last_is_legal o sh (state_after o sh (x ++ y)) (x ++ y) a refl (subst P (sym (append_assoc x y (a ∷ []))) turned) in (
+        last,
+        places.kept_there (state_after o sh x) (state_after o sh (x ++ y)) a
+            (subst (λ (t : State). SameAt (place_of a) (state_after o sh x) t) (sym (state-append o (o.start sh) x y)) (stays_at (place_of a) (state_after o sh x) y e)),
+      )

@@ -1,0 +1,11 @@
+//! What a kind of object promises: its calls, and the laws that they obey.
+#![tactic(auto)]
+
+mod range;
+mod spec;
+
+pub use range::{GREATEST_NUMBER, in_range};
+pub use spec::{
+    Applied, Context, Placed, Spec, commuting_operations_swap, other_places_swap,
+    undone_behind_others, unfitting_operations_swap,
+};

@@ -1,0 +1,86 @@
+ghost use Rattle.std.specs.Prelude.{◌≡◌, ◌<◌};
+ghost use Rattle.pp_table.specs.Table.{condition_holds, entry};
+
+/// When a pair of operations may change places, by their figures.
+#[derive(Clone, Copy, Debug, PartialEq, Eq)]
+pub enum Condition {
+    /// Always.
+    Always,
+    /// Never.
+    Never,
+    /// Where both lead to one number.
+    Equal,
+    /// Where the first does not lead to the number that the second starts from.
+    Unequal,
+    /// Where the first does not lead to the number that the second starts from, or neither leads
+    /// away from that number.
+    Chain,
+    /// Where the first shifts nothing.
+    FirstStill,
+    /// Where the second shifts nothing.
+    SecondStill,
+}
+
+/// The numbers of an operation that a condition reads. One that an operation does not have is 0.
+#[derive(Clone, Copy, Debug, PartialEq, Eq)]
+pub struct Figures {
+    /// The number that it starts from.
+    pub from: i128,
+    /// The number that it leads to.
+    pub to: i128,
+    /// What it adds.
+    pub shift: i128,
+}
+
+impl Condition {
+    /// Whether it holds of the figures of a first and a second operation.
+    pub fn holds(self, x: &Figures, y: &Figures) -> bool
+        ensures { result ≡ condition_holds self x.now y.now }
+    {
+        match self {
+            Condition::Always => true,
+            Condition::Never => false,
+            Condition::Equal => x.to == y.to,
+            Condition::Unequal => x.to != y.from,
+            Condition::Chain => {
+                x.to != y.from || x.from == x.to && x.to == y.from && y.from == y.to
+            }
+            Condition::FirstStill => x.shift == 0,
+            Condition::SecondStill => y.shift == 0,
+        }
+    }
+}
+
+/// A condition for each pair of forms of operations, with a row for each form of the first and a
+/// column for each form of the second.
+#[derive(Clone, Copy, Debug)]
+pub struct MoverTable<const N: usize> {
+    pub rows: [[Condition; N]; N],
+}
+
+impl<const N: usize> MoverTable<N> {
+    /// The table with these rows.
+    pub fn new(rows: [[Condition; N]; N]) -> Self
+        ensures { result.rows ≡ rows.entry }
+    {
+        MoverTable { rows }
+    }
+
+    /// The entry of a pair of forms.
+    pub fn condition(&self, a: usize, b: usize) -> Condition
+        requires row { a < N }
+        requires column { b < N }
+        ensures { result ≡ entry self.now.rows a b }
+    {
+        self.rows[a][b]
+    }
+
+    /// Whether the entry of a pair of forms holds of these figures.
+    pub fn holds(&self, a: usize, x: &Figures, b: usize, y: &Figures) -> bool
+        requires row { a < N }
+        requires column { b < N }
+        ensures { result ≡ condition_holds (entry self.now.rows a b) x.now y.now }
+    {
+        self.condition(a, b).holds(x, y)
+    }
+}

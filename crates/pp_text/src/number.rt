@@ -1,0 +1,24 @@
+ghost use Rattle.std.specs.Prelude.{◌≡◌, ◌++◌, OnOk, OnErr};
+ghost use Rattle.std.specs.Fmt.{decimal, signed_decimal};
+
+use itoa::Buffer;
+use pp_core::{OutOfMemory, Text};
+
+/// Adds a number in decimal digits. The only error is that memory was refused.
+pub fn write_number(text: &mut Text, number: u64) -> Result<(), OutOfMemory>
+    ensures ok { OnOk result (text.new ≡ text.old ++ decimal number) }
+    ensures err { OnErr result (text.new ≡ text.old) }
+{
+    let mut buffer = Buffer::new();
+    text.append(buffer.format(number).as_bytes())
+}
+
+/// Adds an integer in decimal digits, with a `-` where it is negative. The only error is that memory was
+/// refused.
+pub fn write_integer(text: &mut Text, integer: i128) -> Result<(), OutOfMemory>
+    ensures ok { OnOk result (text.new ≡ text.old ++ signed_decimal integer) }
+    ensures err { OnErr result (text.new ≡ text.old) }
+{
+    let mut buffer = Buffer::new();
+    text.append(buffer.format(integer).as_bytes())
+}
