@@ -1,0 +1,10 @@
+//! The map: numbers at keys, at first none.
+#![tactic(auto)]
+
+mod contexts;
+mod key_map;
+mod movers;
+mod op;
+
+pub use key_map::KeyMap;
+pub use op::MapOp;

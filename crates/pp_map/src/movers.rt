@@ -1,0 +1,94 @@
+ghost use Rattle.std.specs.Prelude.{◌≡◌};
+ghost use Rattle.pp_map.specs.Movers.{figure_of, figures_of, form_by, form_of, map_table, may_swap};
+
+use crate::op::MapOp;
+use pp_table::Condition::{Always, Chain, Never, Unequal};
+use pp_table::{Figures, MoverTable};
+
+/// One of two forms, by whether there was a value.
+fn form_by(found: Option<i64>, absent: usize, present: usize) -> usize
+    ensures { result ≡ form_by found absent present }
+{
+    match found {
+        None => absent,
+        Some(_) => present,
+    }
+}
+
+/// The row and the column of an operation's form.
+fn form(op: &MapOp) -> usize
+    ensures { result ≡ form_of op.now }
+{
+    match *op {
+        MapOp::Put {
+            key: _,
+            value: _,
+            was,
+        } => form_by(was, 0, 1),
+        MapOp::Get { key: _, found } => form_by(found, 2, 3),
+        MapOp::Remove { key: _, was } => form_by(was, 4, 5),
+    }
+}
+
+/// A value as a number that a condition reads.
+fn figure(found: Option<i64>) -> i128
+    ensures { result ≡ figure_of found }
+{
+    match found {
+        None => 0,
+        Some(value) => i128::from(value),
+    }
+}
+
+/// The numbers of an operation that a condition reads.
+fn figures(op: &MapOp) -> Figures
+    ensures { result ≡ figures_of op.now }
+{
+    let to = match *op {
+        MapOp::Put {
+            key: _,
+            value,
+            was: _,
+        } => i128::from(value),
+        MapOp::Get { key: _, found } => figure(found),
+        MapOp::Remove { key: _, was: _ } => 0,
+    };
+    Figures {
+        from: figure(op.found()),
+        to,
+        shift: 0,
+    }
+}
+
+/// A condition for each pair of forms: a row for the first operation, a column for the second.
+/// Each call has two, by whether it found no value or one.
+fn mover_table() -> MoverTable<6>
+    ensures { result.rows ≡ map_table }
+{
+    let put_new = [Always, Unequal, Always, Unequal, Always, Unequal];
+    let put_over = [Always, Chain, Always, Chain, Always, Unequal];
+    let get_none = [Never, Always, Always, Always, Always, Always];
+    let get_one = [Always, Chain, Always, Chain, Always, Unequal];
+    let remove_none = [Never, Always, Always, Always, Always, Always];
+    let remove_one = [Never, Always, Never, Always, Never, Always];
+    MoverTable::new([
+        put_new,
+        put_over,
+        get_none,
+        get_one,
+        remove_none,
+        remove_one,
+    ])
+}
+
+/// Whether two operations may change places: those on different keys always, and others by the
+/// table.
+pub fn may_swap(a: &MapOp, b: &MapOp) -> bool
+    ensures { result ≡ may_swap a.now b.now }
+{
+    if a.key() == b.key() {
+        mover_table().holds(form(a), &figures(a), form(b), &figures(b))
+    } else {
+        true
+    }
+}

@@ -1,0 +1,119 @@
+ghost use Rattle.std.specs.Prelude.{◌≡◌};
+ghost use Rattle.pp_map.specs.Operations.{answer_of, key_of, found_by, call_of, recorded_by, is_ranged_value, is_ranged};
+
+use pp_core::{Answer, Call, Method};
+use pp_spec::in_range;
+
+/// An operation on a map, with its recorded result: what it found at its key.
+#[derive(Clone, Copy, Debug, PartialEq, Eq)]
+pub enum MapOp {
+    /// Sets the value at a key.
+    Put {
+        key: i64,
+        value: i64,
+        was: Option<i64>,
+    },
+    /// Reads the value at a key.
+    Get {
+        key: i64,
+        found: Option<i64>,
+    },
+    /// Takes the value at a key out.
+    Remove {
+        key: i64,
+        was: Option<i64>,
+    },
+}
+
+/// The result of an operation that found this.
+pub fn answer_of(found: Option<i64>) -> Answer
+    ensures { result ≡ answer_of found }
+{
+    match found {
+        None => Answer::None,
+        Some(value) => Answer::Number(i128::from(value)),
+    }
+}
+
+/// Whether a value, if there is one, may stand in a record.
+fn value_ranged(found: Option<i64>) -> bool
+    ensures { result ≡ is_ranged_value found }
+{
+    match found {
+        None => true,
+        Some(value) => in_range(value),
+    }
+}
+
+impl MapOp {
+    /// Its key.
+    pub fn key(&self) -> i64
+        ensures { result ≡ key_of self.now }
+    {
+        match *self {
+            MapOp::Put {
+                key,
+                value: _,
+                was: _,
+            } => key,
+            MapOp::Get { key, found: _ } => key,
+            MapOp::Remove { key, was: _ } => key,
+        }
+    }
+
+    /// The value that it found at its key, by its recorded result.
+    pub fn found(&self) -> Option<i64>
+        ensures { result ≡ found_by self.now }
+    {
+        match *self {
+            MapOp::Put {
+                key: _,
+                value: _,
+                was,
+            } => was,
+            MapOp::Get { key: _, found } => found,
+            MapOp::Remove { key: _, was } => was,
+        }
+    }
+
+    /// Whether all its numbers may stand in a record.
+    pub fn ranged(&self) -> bool
+        ensures { result ≡ is_ranged self.now }
+    {
+        match *self {
+            MapOp::Put { key, value, was } => {
+                in_range(key) && in_range(value) && value_ranged(was)
+            }
+            MapOp::Get { key, found } => in_range(key) && value_ranged(found),
+            MapOp::Remove { key, was } => in_range(key) && value_ranged(was),
+        }
+    }
+
+    /// Its call, at the object 0.
+    pub fn call(&self) -> Call
+        ensures { result ≡ call_of self.now }
+    {
+        let (method, second) = match *self {
+            MapOp::Put {
+                key: _,
+                value,
+                was: _,
+            } => (Method::Put, value),
+            MapOp::Get { key: _, found: _ } => (Method::Get, 0),
+            MapOp::Remove { key: _, was: _ } => (Method::Remove, 0),
+        };
+        Call {
+            object: 0,
+            method,
+            first: self.key(),
+            second,
+        }
+    }
+
+    /// The result that it records.
+    pub fn recorded(&self) -> Answer
+        ensures { result ≡ recorded_by self.now }
+    {
+        answer_of(self.found())
+    }
+}

@@ -1,0 +1,39 @@
+-- What a memory means.
+use Rattle.std.specs.Prelude.{ℤ, true}
+use Rattle.std.specs.Ordering.{int_eq, int_cmp}
+use Rattle.std.specs.FinMap.{FinMap, empty}
+use Rattle.pp_spec.specs.Object.{Object}
+use Rattle.pp_keyed.specs.Keys.{Keys}
+use Rattle.pp_mem.specs.declared.op.MemOp.{MemOp}
+use Rattle.pp_mem.specs.declared.op.MemOp.TheVariants.{Read}
+use Rattle.pp_mem.specs.Values.{value_at, HasNoZero}
+use Rattle.pp_mem.specs.Operations.{address_of, found_by, left_by, call_of, recorded_by, given_by, memory_after, kept_by, memory_before, is_ranged}
+use Rattle.pp_mem.specs.Contexts.{refuting_lists}
+
+-- numbers at addresses, at first 0 everywhere, which operations read and write
+abbrev pub memory : Object (Unit {0}) (FinMap int_cmp ℤ) MemOp ℤ
+memory = record {
+  IsState = HasNoZero;
+  start = λ shape. empty;
+  shape = λ m. tt;
+  fits = λ shape op. true;
+  ranged = is_ranged;
+  call = call_of;
+  recorded = recorded_by;
+  gives = given_by;
+  next = memory_after;
+  kept = kept_by;
+  back = memory_before;
+  refuting = refuting_lists;
+}
+
+-- it keeps a number at each address
+abbrev pub addresses : Keys (FinMap int_cmp ℤ) MemOp ℤ
+addresses = record {
+  cell = value_at;
+  alike = int_eq;
+  key = address_of;
+  found = found_by;
+  left = left_by;
+  read = Read;
+}

@@ -1,0 +1,35 @@
+-- Which operations of a memory may change places, by a table.
+use Rattle.std.specs.Prelude.{pos, ℕ, Bool, true, if◌then◌else◌, List, [], ◌∷◌}
+use Rattle.std.specs.Ordering.{int_eq}
+use Rattle.pp_table.specs.declared.table.Condition.{Condition}
+use Rattle.pp_table.specs.declared.table.Condition.TheVariants.{Always, Equal, Unequal}
+use Rattle.pp_table.specs.declared.table.Figures.{Figures}
+use Rattle.pp_table.specs.Table.{condition_holds, entry}
+use Rattle.pp_mem.specs.declared.op.MemOp.{MemOp}
+use Rattle.pp_mem.specs.declared.op.MemOp.TheVariants.{Read, Write}
+use Rattle.pp_mem.specs.Operations.{address_of}
+
+-- the row and the column of an operation
+abbrev pub form_of : MemOp → ℕ
+form_of (Read a v) = 0
+form_of (Write a v) = 1
+
+-- the number that it finds, where it tells, and the one that it leaves
+abbrev pub figures_of : MemOp → Figures
+figures_of (Read a v) = record { from = v; to = v; shift = pos 0 }
+figures_of (Write a v) = record { from = pos 0; to = v; shift = pos 0 }
+
+-- a row for each first operation, and a column for each second
+abbrev pub memory_table : List (List Condition)
+memory_table =
+    (Always ∷ Equal ∷ [])
+    ∷ (Unequal ∷ Equal ∷ [])
+    ∷ []
+
+-- whether the table lets two operations on one address change places
+abbrev pub may_swap_there : MemOp → MemOp → Bool
+may_swap_there a b = condition_holds (entry memory_table (form_of a) (form_of b)) (figures_of a) (figures_of b)
+
+-- those on different addresses always may
+abbrev pub may_swap : MemOp → MemOp → Bool
+may_swap a b = if int_eq (address_of a) (address_of b) then may_swap_there a b else true

@@ -1,0 +1,12 @@
+//! The memory: a whole number at each address, at first 0.
+#![tactic(auto)]
+
+mod contexts;
+mod mem;
+mod memory;
+mod movers;
+mod op;
+
+pub use mem::Mem;
+pub use memory::Memory;
+pub use op::MemOp;

@@ -1,0 +1,106 @@
+ghost use Rattle.pp_mem.specs.Memories.{memory};
+ghost use Rattle.pp_mem.specs.laws.Lawful.{memory_lawful};
+
+use crate::contexts::lists_round;
+use crate::memory::Memory;
+use crate::movers::may_swap;
+use crate::op::MemOp;
+use pp_core::{Answer, OutOfMemory, Steps};
+use pp_spec::{Applied, Context, Spec};
+use std::alloc::Global;
+use std::sync::ledger::Ledger;
+
+/// Memories. What a write keeps is the number that it covers.
+#[derive(Drop)]
+pub struct Mem;
+
+impl Spec for Mem {
+    type Shape = ();
+
+    type State = Memory;
+
+    type Op = MemOp;
+
+    type Undo = i64;
+
+    ghost object = { memory };
+
+    fn empty(alloc: Global, _shape: &()) -> Result<Memory, OutOfMemory> {
+        Ok(Memory::new(alloc))
+    }
+
+    fn fits(_shape: &(), _op: &MemOp) -> bool {
+        true
+    }
+
+    fn ranged(op: &MemOp) -> bool {
+        op.ranged()
+    }
+
+    fn recorded(op: &MemOp) -> Answer {
+        op.recorded()
+    }
+
+    fn gives(state: &Memory, op: &MemOp) -> Answer {
+        match *op {
+            MemOp::Read { at, value: _ } => Answer::Number(i128::from(state.value_at(at))),
+            MemOp::Write { at: _, value: _ } => Answer::None,
+        }
+    }
+
+    fn legal(state: &Memory, op: &MemOp) -> bool {
+        match *op {
+            MemOp::Read { at, value } => state.value_at(at) == value,
+            MemOp::Write { at: _, value: _ } => true,
+        }
+    }
+
+    fn apply<L: Ledger>(
+        state: &mut Memory,
+        op: &MemOp,
+        steps: &mut Steps<L>,
+    ) -> Result<Applied<i64>, OutOfMemory> {
+        steps.tick();
+        match *op {
+            MemOp::Read { at, value } => {
+                if state.value_at(at) == value {
+                    Ok(Applied::Done(0))
+                } else {
+                    Ok(Applied::Differs)
+                }
+            }
+            MemOp::Write { at, value } => {
+                let was = state.value_at(at);
+                state.write(at, value)?;
+                Ok(Applied::Done(was))
+            }
+        }
+    }
+
+    fn undo<L: Ledger>(
+        state: &mut Memory,
+        op: &MemOp,
+        undo: i64,
+        steps: &mut Steps<L>,
+    ) -> Result<(), OutOfMemory> {
+        steps.tick();
+        match *op {
+            MemOp::Read { at: _, value: _ } => Ok(()),
+            MemOp::Write { at, value: _ } => state.write(at, undo),
+        }
+    }
+
+    fn swaps(a: &MemOp, b: &MemOp) -> bool {
+        may_swap(a, b)
+    }
+
+    fn context(alloc: Global, a: &MemOp, b: &MemOp) -> Result<Option<Context<MemOp>>, OutOfMemory> {
+        if may_swap(a, b) {
+            return Ok(None);
+        }
+        let lists = lists_round(alloc, a, b)?;
+        Ok(Some(lists))
+    }
+
+    ghost lawful = { memory_lawful };
+}

@@ -1,0 +1,55 @@
+ghost use Rattle.std.specs.Prelude.{◌≡◌};
+ghost use Rattle.pp_mem.specs.Movers.{figures_of, form_of, memory_table, may_swap};
+
+use crate::op::MemOp;
+use pp_table::Condition::{Always, Equal, Unequal};
+use pp_table::{Figures, MoverTable};
+
+/// The row and the column of an operation's form.
+fn form(op: &MemOp) -> usize
+    ensures { result ≡ form_of op.now }
+{
+    match op {
+        MemOp::Read { at: _, value: _ } => 0,
+        MemOp::Write { at: _, value: _ } => 1,
+    }
+}
+
+/// The numbers of an operation that a condition reads.
+fn figures(op: &MemOp) -> Figures
+    ensures { result ≡ figures_of op.now }
+{
+    match *op {
+        MemOp::Read { at: _, value } => Figures {
+            from: i128::from(value),
+            to: i128::from(value),
+            shift: 0,
+        },
+        MemOp::Write { at: _, value } => Figures {
+            from: 0,
+            to: i128::from(value),
+            shift: 0,
+        },
+    }
+}
+
+/// A condition for each pair of forms: a row for the first operation, a column for the second.
+fn mover_table() -> MoverTable<2>
+    ensures { result.rows ≡ memory_table }
+{
+    let read = [Always, Equal];
+    let write = [Unequal, Equal];
+    MoverTable::new([read, write])
+}
+
+/// Whether two operations may change places: always at different addresses, and by the table at
+/// one.
+pub fn may_swap(a: &MemOp, b: &MemOp) -> bool
+    ensures { result ≡ may_swap a.now b.now }
+{
+    if a.address() == b.address() {
+        mover_table().holds(form(a), &figures(a), form(b), &figures(b))
+    } else {
+        true
+    }
+}

@@ -1,0 +1,50 @@
+ghost use Rattle.std.specs.Prelude.{◌≡◌};
+ghost use Rattle.pp_queue.specs.Movers.{figures_of, form_of, queue_table, may_swap};
+
+use crate::op::QueueOp;
+use pp_table::Condition::{Always, Equal, Never, Unequal};
+use pp_table::{Figures, MoverTable};
+
+/// The row and the column of an operation's form.
+fn form(op: &QueueOp) -> usize
+    ensures { result ≡ form_of op.now }
+{
+    match *op {
+        QueueOp::Enq { value: _ } => 0,
+        QueueOp::Deq { value: Some(_) } => 1,
+        QueueOp::Deq { value: None } => 2,
+    }
+}
+
+/// The numbers of an operation that a condition reads.
+fn figures(op: &QueueOp) -> Figures
+    ensures { result ≡ figures_of op.now }
+{
+    let item = match *op {
+        QueueOp::Enq { value } => value,
+        QueueOp::Deq { value: Some(item) } => item,
+        QueueOp::Deq { value: None } => 0,
+    };
+    Figures {
+        from: i128::from(item),
+        to: i128::from(item),
+        shift: 0,
+    }
+}
+
+/// A condition for each pair of forms: a row for the first operation, a column for the second.
+fn mover_table() -> MoverTable<3>
+    ensures { result.rows ≡ queue_table }
+{
+    let enq = [Equal, Unequal, Always];
+    let deq = [Always, Equal, Never];
+    let empty = [Never, Always, Always];
+    MoverTable::new([enq, deq, empty])
+}
+
+/// Whether two operations may change places, by the table.
+pub fn may_swap(a: &QueueOp, b: &QueueOp) -> bool
+    ensures { result ≡ may_swap a.now b.now }
+{
+    mover_table().holds(form(a), &figures(a), form(b), &figures(b))
+}

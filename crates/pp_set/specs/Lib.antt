@@ -1,0 +1,6 @@
+pub mod Keys
+pub mod Operations
+pub mod Movers
+pub mod Contexts
+pub mod Sets
+pub mod laws

@@ -1,0 +1,3 @@
+pub mod Bits
+pub mod Acting
+pub mod Lawful

@@ -1,0 +1,12 @@
+//! The set: keys that are in it or not, at first none.
+#![tactic(auto)]
+
+mod contexts;
+mod members;
+mod movers;
+mod op;
+mod set;
+
+pub use members::Members;
+pub use op::SetOp;
+pub use set::KeySet;
