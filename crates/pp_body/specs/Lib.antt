@@ -1,0 +1,5 @@
+pub mod Moves
+pub mod Patterns
+pub mod Plain
+pub mod Positions
+pub mod Walks

@@ -1,0 +1,9 @@
+//! Walks: which calls of a transaction follow its body.
+#![tactic(auto)]
+
+mod matching;
+mod moving;
+mod position;
+mod walk;
+
+pub use walk::Walk;

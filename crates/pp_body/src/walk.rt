@@ -1,0 +1,123 @@
+ghost use Rattle.std.specs.Prelude.{◌≡◌, ◌≤◌, ◌↔◌, ◌∷◌, ◌++◌, [], List, None, true, false, IsTrue, IsOk, IfOk};
+ghost use Rattle.pp_core.specs.Trees.{tree, nodes, IsWithinLimits};
+ghost use Rattle.pp_model.specs.Body.{Call, Begins, IsWord};
+ghost use Rattle.pp_body.specs.Positions.{reaches, shift};
+ghost use Rattle.pp_body.specs.Walks.{last_state, HasTaken, MayTake, MayGoBack};
+
+use crate::moving::shift;
+use crate::position::reaches;
+use pp_core::{Body, Call, OutOfMemory};
+use std::alloc::Global;
+use std::marker::Model;
+
+/// The calls that a transaction made so far, against its body.
+///
+/// It keeps one set of positions in the body for each call. With no body it keeps nothing.
+#[derive(Drop)]
+pub struct Walk {
+    body: Option<Body>,
+    reached: Vec<u64>,
+}
+
+impl Model for Walk {
+    ghost use Rattle.pp_core.specs.Trees.{IsWithinLimits};
+    ghost use Rattle.pp_body.specs.Walks.{Walked, walked_code};
+
+    ghost Value = { Walked };
+
+    ghost coded = { walked_code };
+
+    ghost view = { λ w. record { body = w.body; reached = w.reached.items } };
+
+    ghost invariant = { λ w. IsWithinLimits w.body };
+}
+
+/// The last set, and whether it is the start.
+fn last_state_of(reached: &[u64]) -> (u64, bool)
+    ensures { result ≡ last_state 0 true reached.now }
+{
+    match reached {
+        [] => (0, true),
+        [.., last] => (*last, false),
+    }
+}
+
+/// Whether some word of the body goes on by the call.
+fn goes_on(body: &Body, reached: &[u64], call: &Call) -> bool
+    requires { nodes (tree body.now) ≤ 64 }
+    ensures { let last = last_state 0 true reached.now in result ≡ reaches true (tree body.now) 0 (shift (tree body.now) 0 last.0 last.1 call.now) false }
+{
+    let (set, entered) = last_state_of(reached);
+    let next = shift(body, set, entered, call);
+    reaches(true, body, 0, next, false).0
+}
+
+/// Whether some word of the body ends here.
+fn is_at_end(body: &Body, reached: &[u64]) -> bool
+    requires { nodes (tree body.now) ≤ 64 }
+    ensures { let last = last_state 0 true reached.now in result ≡ reaches false (tree body.now) 0 last.0 last.1 }
+{
+    let (set, entered) = last_state_of(reached);
+    reaches(false, body, 0, set, entered).0
+}
+
+impl Walk {
+    /// A walk that has taken no call.
+    pub fn start(alloc: Global, body: Option<Body>) -> Result<Walk, OutOfMemory>
+        requires { IsWithinLimits body }
+        ensures body { IfOk result (λ w. w.body ≡ body) }
+        ensures taken { IfOk result (λ w. HasTaken w []) }
+        ensures free { IsOk result }
+    {
+        Ok(Walk {
+            body,
+            reached: Vec::new(alloc),
+        })
+    }
+
+    /// Whether the calls taken, followed by this one, begin a word of the body.
+    pub fn can(&self, call: &Call) -> bool
+        ensures { (taken : List Call) → HasTaken self.now taken → IsTrue result ↔ Begins self.now.body (taken ++ call.now ∷ []) }
+    {
+        match &self.body {
+            None => true,
+            Some(body) => goes_on(body, &self.reached, call),
+        }
+    }
+
+    /// Takes a call that may come next. The only error is that memory was refused, which the walk does not outlive.
+    pub fn take(self, call: Call) -> Result<Walk, OutOfMemory>
+        requires { MayTake self call }
+        ensures body { IfOk result (λ w. w.body ≡ self.body) }
+        ensures taken { IfOk result (λ w. (taken : List Call) → HasTaken self taken → HasTaken w (taken ++ call ∷ [])) }
+        ensures free { self.body ≡ None → IsOk result }
+    {
+        let Walk { body, mut reached } = self;
+        if let Some(body) = &body {
+            let (set, entered) = last_state_of(&reached);
+            reached.push(shift(body, set, entered, &call))?;
+        }
+        Ok(Walk { body, reached })
+    }
+
+    /// Gives the last call back.
+    pub fn back(self) -> Walk
+        requires { MayGoBack self }
+        ensures body { result.body ≡ self.body }
+        ensures taken { (taken : List Call) (last : Call) → HasTaken self (taken ++ last ∷ []) → HasTaken result taken }
+    {
+        let Walk { body, mut reached } = self;
+        let _ = reached.pop();
+        Walk { body, reached }
+    }
+
+    /// Whether the calls taken are a word of the body.
+    pub fn complete(&self) -> bool
+        ensures { (taken : List Call) → HasTaken self.now taken → IsTrue result ↔ IsWord self.now.body taken }
+    {
+        match &self.body {
+            None => true,
+            Some(body) => is_at_end(body, &self.reached),
+        }
+    }
+}
