@@ -1,0 +1,7 @@
+pub mod Verdicts
+pub mod Scanning
+pub mod Covering
+pub mod Examining
+pub mod Fitting
+pub mod Concluding
+pub mod Sent

@@ -1,0 +1,259 @@
+-- What tests, places and lookups say of a list.
+use Rattle.std.proofs.Common.{◌≡◌, Bor, is_some, ◌==◌, ◌↔◌, IsTrue, ℕ, zero, suc, ◌<◌, ◌≤◌, ◌+◌, Bool, true, false, cond, not, ◌||◌, ◌&&◌, List, [], ◌∷◌, ◌++◌, map, take, length, get_or, Option, Some, None, IfNone, option_map, position, nat_lt, find, slice_get, reverse, refl, sym, ◌∙◌, ap, subst, arith, inl, inr}
+use Rattle.std.specs.List.{list_any, list_all, position_or_len}
+use Rattle.std.proofs.lemmas.Bool.{ltb-false, ltb-true, eqb-true, eq-eqb}
+use Rattle.std.proofs.lemmas.List.{reverse-append}
+use Rattle.std.proofs.lemmas.List.Folds.{find_at}
+use Rattle.std.proofs.lemmas.List.Quantifiers.{position-Some}
+use Rattle.std.proofs.lemmas.Option.{slice_get_past}
+use Rattle.std.specs.Option.{option_copied}
+use Rattle.pp_core.specs.declared.entry.LocalEntry.{LocalEntry}
+use Rattle.pp_model.specs.Lists.{In, Before}
+use Rattle.pp_model.proofs.Lists.{in_cases, in_left, in_right}
+use Rattle.pp_model.proofs.Logs.{found}
+use Rattle.pp_rules.specs.Finding.{HoldsAtPlace, HoldEverywhere}
+
+-- places and elements
+pub in_at : {X : Type 0} (x : X) (xs : List X) → In x xs → (k : ℕ) × (k < length xs) × ((d : X) → get_or xs k d ≡ x)
+in_at x [] h = elim h [ ]
+in_at x (y ∷ ys) (inl e) = (zero, omega arith, λ d. sym e)
+in_at x (y ∷ ys) (inr j) = let r = in_at x ys j in (suc r.0, omega arith, r.2)
+
+pub at_in : {X : Type 0} (xs : List X) (k : ℕ) (d : X) → k < length xs → In (get_or xs k d) xs
+at_in [] k d h = absurd (omega arith)
+at_in (y ∷ ys) zero d h = inl refl
+at_in (y ∷ ys) (suc k) d h = inr (at_in ys k d (omega arith))
+
+pub everywhere : {X : Type 0} (P : X → Type 0) (xs : List X) → HoldEverywhere P xs → (x : X) → In x xs → P x
+everywhere P xs h x i = let r = in_at x xs i in subst P (r.2 x) (h r.0 x (omega arith) r.1)
+
+pub somewhere : {X : Type 0} (P : X → Type 0) (xs : List X) (i : ℕ) → HoldsAtPlace P xs i → (x : X) × In x xs × P x
+somewhere P [] i h = absurd (let k = h.0 in omega arith)
+somewhere P (y ∷ ys) i h = (get_or (y ∷ ys) i y, at_in (y ∷ ys) i y h.0, h.1 y)
+
+-- the first place of a test
+place_is : (n m i : ℕ) (b : Bool) → cond b (Some n) None ≡ Some i → n ≡ i
+place_is n m i true e = cc
+place_is n m i false e = absurd (cc)
+
+place_past : (n m : ℕ) (b : Bool) → nat_lt n m ≡ b → cond b (Some n) None ≡ None → m ≤ n
+place_past n m true e k = absurd (cc)
+place_past n m false e k = ltb-false n m e
+
+pub place_find : {X : Type 0} (p : X → Bool) (xs : List X) (i : ℕ) → position p xs ≡ Some i → find p xs ≡ slice_get xs i
+place_find p xs i h = find_at p xs ∙ ap (slice_get xs) (place_is (position_or_len p xs) (length xs) i (nat_lt (position_or_len p xs) (length xs)) h)
+
+pub place_none : {X : Type 0} (p : X → Bool) (xs : List X) → position p xs ≡ None → find p xs ≡ None
+place_none p xs h = find_at p xs ∙ slice_get_past xs (position_or_len p xs) (place_past (position_or_len p xs) (length xs) (nat_lt (position_or_len p xs) (length xs)) refl h)
+
+pub there_within : {X : Type 0} (xs : List X) (i : ℕ) → i < length xs → slice_get xs i ≡ None → ⊥
+there_within [] i h e = absurd (omega arith)
+there_within (y ∷ ys) zero h e = absurd (cc)
+there_within (y ∷ ys) (suc i) h e = there_within ys i (omega arith) e
+
+pub place_there : {X : Type 0} (p : X → Bool) (xs : List X) (i : ℕ) → position p xs ≡ Some i → slice_get xs i ≡ None → ⊥
+place_there p [] i h e = absurd (cc)
+place_there p (y ∷ ys) i h e = there_within (y ∷ ys) i (position-Some p (y ∷ ys) i y h).0 e
+
+pub place_found : {X : Type 0} (p : X → Bool) (xs : List X) (i : ℕ) (x : X) → position p xs ≡ Some i → slice_get xs i ≡ Some x → find p xs ≡ Some x
+place_found p xs i x h e = place_find p xs i h ∙ e
+
+pub if_none : {X : Type 0} (r : Option X) (P : Type 0) → P → IfNone r P
+if_none None P p = p
+if_none (Some x) P p = tt
+
+-- what is found by a key, and then has to pass another test
+some_same : {X : Type 0} (x y : X) → Some x ≡ Some y → x ≡ y
+some_same x y e = cc
+
+found_both : {X : Type 0} (p q : X → Bool) (y x : X) (ys : List X) → q x ≡ true → (find p ys ≡ Some x → find (λ z. p z && q z) ys ≡ Some x) →
+    (b : Bool) → p y ≡ b → cond b (Some y) (find p ys) ≡ Some x → cond (b && q y) (Some y) (find (λ z. p z && q z) ys) ≡ Some x
+found_both {X} p q y x ys t f true e h = let k = some_same y x h in ap (λ (c : Bool). cond c (Some y) (find (λ z. p z && q z) ys)) (ap q k ∙ t) ∙ ap (λ (z : X). Some z) k
+found_both p q y x ys t f false e h = f h
+
+pub find_both : {X : Type 0} (p q : X → Bool) (xs : List X) (x : X) → find p xs ≡ Some x → q x ≡ true → find (λ z. p z && q z) xs ≡ Some x
+find_both p q [] x h t = absurd (cc)
+find_both p q (y ∷ ys) x h t = found_both p q y x ys t (λ k. find_both p q ys x k t) (p y) refl h
+
+neither : {X : Type 0} (p q : X → Bool) (y : X) (ys : List X) → (find p ys ≡ None → find (λ z. p z && q z) ys ≡ None) → (b : Bool) → cond b (Some y) (find p ys) ≡ None → cond (b && q y) (Some y) (find (λ z. p z && q z) ys) ≡ None
+neither p q y ys f true h = absurd (cc)
+neither p q y ys f false h = f h
+
+pub find_neither : {X : Type 0} (p q : X → Bool) (xs : List X) → find p xs ≡ None → find (λ z. p z && q z) xs ≡ None
+find_neither p q [] h = refl
+find_neither p q (y ∷ ys) h = neither p q y ys (λ k. find_neither p q ys k) (p y) h
+
+no_other : {X : Type 0} (p q : X → Bool) (ys : List X) → ((z : X) → In z ys → p z ≡ false) → find (λ z. p z && q z) ys ≡ None
+no_other p q [] n = refl
+no_other {X} p q (y ∷ ys) n = ap (λ (b : Bool). cond (b && q y) (Some y) (find (λ z. p z && q z) ys)) (n y (inl refl)) ∙ no_other p q ys (λ z i. n z (inr i))
+
+is_not_true : (b : Bool) → (b ≡ true → ⊥) → b ≡ false
+is_not_true true n = absurd (n refl)
+is_not_true false n = refl
+
+found_one : {X : Type 0} (p q : X → Bool) (y x : X) (ys : List X) → q x ≡ false → (p y ≡ true → (z : X) → In z ys → p z ≡ false) → (find p ys ≡ Some x → find (λ z. p z && q z) ys ≡ None) →
+    (b : Bool) → p y ≡ b → cond b (Some y) (find p ys) ≡ Some x → cond (b && q y) (Some y) (find (λ z. p z && q z) ys) ≡ None
+found_one {X} p q y x ys t d f true e h = ap (λ (c : Bool). cond c (Some y) (find (λ z. p z && q z) ys)) (ap q (some_same y x h) ∙ t) ∙ no_other p q ys (d e)
+found_one p q y x ys t d f false e h = f h
+
+pub find_one : {X : Type 0} (p q : X → Bool) (xs : List X) (x : X) → ((y z : X) → Before y z xs → p y ≡ true → p z ≡ true → ⊥) → find p xs ≡ Some x → q x ≡ false → find (λ z. p z && q z) xs ≡ None
+find_one p q [] x d h t = refl
+find_one p q (y ∷ ys) x d h t = found_one p q y x ys t (λ e z i. is_not_true (p z) (d y z (inl (refl, i)) e)) (λ k. find_one p q ys x (λ u v b. d u v (inr b)) k t) (p y) refl h
+
+-- options
+pub mapped_some : {X Y : Type 0} (f : X → Y) (o : Option X) (y : Y) → Some y ≡ option_map f o → (x : X) × (o ≡ Some x) × (f x ≡ y)
+mapped_some f None y e = absurd (cc)
+mapped_some f (Some x) y e = (x, refl, some_same (f x) y (sym e))
+
+pub mapped_none : {X Y : Type 0} (f : X → Y) (o : Option X) → None ≡ option_map f o → o ≡ None
+mapped_none f None e = refl
+mapped_none f (Some x) e = absurd (cc)
+
+map_cond : {X Y : Type 0} (f : X → Y) (x : X) (r : Option X) (b : Bool) → cond b (Some (f x)) (option_map f r) ≡ option_map f (cond b (Some x) r)
+map_cond f x r true = refl
+map_cond f x r false = refl
+
+pub find_map : {X Y : Type 0} (f : X → Y) (p : Y → Bool) (xs : List X) → find p (map f xs) ≡ option_map f (find (λ x. p (f x)) xs)
+find_map f p [] = refl
+find_map {X} {Y} f p (x ∷ xs) = ap (λ (r : Option Y). cond (p (f x)) (Some (f x)) r) (find_map f p xs) ∙ map_cond f x (find (λ y. p (f y)) xs) (p (f x))
+
+-- no place where nothing passes
+prefix_all : {X : Type 0} (p : X → Bool) (xs : List X) → ((x : X) → In x xs → p x ≡ false) → position_or_len p xs ≡ length xs
+prefix_all p [] n = refl
+prefix_all p (x ∷ xs) n = let e = prefix_all p xs (λ y i. n y (inr i)) in let k : cond (not (p x)) (1 + position_or_len p xs) 0 ≡ 1 + position_or_len p xs = ap (λ (b : Bool). cond (not b) (1 + position_or_len p xs) 0) (n x (inl refl)) in k ∙ omega (arith, e)
+
+not_below : (n : ℕ) (b : Bool) → nat_lt n n ≡ b → b ≡ false
+not_below n true h = let k = ltb-true n n h in absurd (omega (arith, k))
+not_below n false h = refl
+
+pub place_nowhere : {X : Type 0} (p : X → Bool) (xs : List X) → ((x : X) → In x xs → p x ≡ false) → position p xs ≡ None
+place_nowhere p xs n =
+    let e = prefix_all p xs n in
+    ap (λ (k : ℕ). cond (nat_lt k (length xs)) (Some k) None) e ∙ ap (λ (b : Bool). cond b (Some (length xs)) None) (not_below (length xs) (nat_lt (length xs) (length xs)) refl)
+
+pub find_nowhere : {X : Type 0} (p : X → Bool) (xs : List X) → find p xs ≡ None → (x : X) → In x xs → p x ≡ false
+find_nowhere p [] h x i = elim i [ ]
+find_nowhere {X} p (y ∷ ys) h x i = go (p y) refl h i (λ k j. find_nowhere p ys k x j)
+  where
+    go : (b : Bool) → p y ≡ b → cond b (Some y) (find p ys) ≡ None → In x (y ∷ ys) → (find p ys ≡ None → In x ys → p x ≡ false) → p x ≡ false
+    go true e k j f = absurd (cc)
+    go false e k (inl j) f = ap p j ∙ e
+    go false e k (inr j) f = f k j
+
+-- tests of some and of all
+pub any_in : {X : Type 0} (p : X → Bool) (xs : List X) → list_any p xs ≡ true → (x : X) × In x xs × (p x ≡ true)
+any_in p [] h = absurd (cc)
+any_in {X} p (y ∷ ys) h = go (p y) refl h (λ k. any_in p ys k)
+  where
+    go : (b : Bool) → p y ≡ b → (b || list_any p ys) ≡ true → (list_any p ys ≡ true → (x : X) × In x ys × (p x ≡ true)) → (x : X) × In x (y ∷ ys) × (p x ≡ true)
+    go true e k f = (y, inl refl, e)
+    go false e k f = let r = f k in (r.0, inr r.1, r.2)
+
+or_false : (a b : Bool) → (a || b) ≡ false → (a ≡ false) × (b ≡ false)
+or_false true b e = absurd (cc)
+or_false false b e = (refl, e)
+
+and_true : (a b : Bool) → (a && b) ≡ true → (a ≡ true) × (b ≡ true)
+and_true true b e = (refl, e)
+and_true false b e = absurd (cc)
+
+pub none_in : {X : Type 0} (p : X → Bool) (xs : List X) → list_any p xs ≡ false → (x : X) → In x xs → p x ≡ false
+none_in p [] h x i = elim i [ ]
+none_in p (y ∷ ys) h x (inl e) = ap p e ∙ (or_false (p y) (list_any p ys) h).0
+none_in p (y ∷ ys) h x (inr j) = none_in p ys (or_false (p y) (list_any p ys) h).1 x j
+
+pub all_in : {X : Type 0} (p : X → Bool) (xs : List X) → list_all p xs ≡ true → (x : X) → In x xs → p x ≡ true
+all_in p [] h x i = elim i [ ]
+all_in p (y ∷ ys) h x (inl e) = ap p e ∙ (and_true (p y) (list_all p ys) h).0
+all_in p (y ∷ ys) h x (inr j) = all_in p ys (and_true (p y) (list_all p ys) h).1 x j
+
+pub not_all_in : {X : Type 0} (p : X → Bool) (xs : List X) → list_all p xs ≡ false → (x : X) × In x xs × (p x ≡ false)
+not_all_in p [] h = absurd (cc)
+not_all_in {X} p (y ∷ ys) h = go (p y) refl h (λ k. not_all_in p ys k)
+  where
+    go : (b : Bool) → p y ≡ b → (b && list_all p ys) ≡ false → (list_all p ys ≡ false → (x : X) × In x ys × (p x ≡ false)) → (x : X) × In x (y ∷ ys) × (p x ≡ false)
+    go false e k f = (y, inl refl, e)
+    go true e k f = let r = f k in (r.0, inr r.1, r.2)
+
+-- a list turned round
+pub reverse_more : {X : Type 0} (xs : List X) (x : X) → reverse (xs ++ x ∷ []) ≡ x ∷ reverse xs
+reverse_more xs x = reverse-append xs (x ∷ [])
+
+pub from_reverse : {X : Type 0} (x : X) (xs : List X) → In x (reverse xs) → In x xs
+from_reverse x [] h = h
+from_reverse {X} x (y ∷ ys) h = elim (in_cases x (reverse ys) (y ∷ []) (subst (λ (w : List X). In x w) (reverse-append (y ∷ []) ys) h)) [
+  | inl j ↦ inr (from_reverse x ys j)
+  | inr (inl e) ↦ inl e
+  | inr (inr j) ↦ absurd j
+]
+
+pub in_reverse : {X : Type 0} (x : X) (xs : List X) → In x xs → In x (reverse xs)
+in_reverse x [] h = h
+in_reverse {X} x (y ∷ ys) (inl e) = subst (λ (w : List X). In x w) (sym (reverse-append (y ∷ []) ys)) (in_right x (reverse ys) (y ∷ []) (inl e))
+in_reverse {X} x (y ∷ ys) (inr j) = subst (λ (w : List X). In x w) (sym (reverse-append (y ∷ []) ys)) (in_left x (reverse ys) (y ∷ []) (in_reverse x ys j))
+
+-- what stands at a place, and before it
+pub slice_in : {X : Type 0} (xs : List X) (i : ℕ) (x : X) → slice_get xs i ≡ Some x → In x xs
+slice_in [] i x h = absurd (cc)
+slice_in {X} (y ∷ ys) zero x h = inl (sym (some_same y x h))
+slice_in (y ∷ ys) (suc i) x h = inr (slice_in ys i x h)
+
+pub slice_within : {X : Type 0} (xs : List X) (i : ℕ) (x : X) → slice_get xs i ≡ Some x → i < length xs
+slice_within [] i x h = absurd (cc)
+slice_within (y ∷ ys) zero x h = omega arith
+slice_within (y ∷ ys) (suc i) x h = let k = slice_within ys i x h in omega (arith, k)
+
+pub before_here : {X : Type 0} (xs : List X) (i : ℕ) (x a : X) → slice_get xs i ≡ Some x → In a (take i xs) → Before a x xs
+before_here [] i x a h j = absurd (cc)
+before_here (y ∷ ys) zero x a h j = elim j [ ]
+before_here (y ∷ ys) (suc i) x a h (inl e) = inl (e, slice_in ys i x h)
+before_here (y ∷ ys) (suc i) x a h (inr j) = inr (before_here ys i x a h j)
+
+in_second : {X : Type 0} (x a : X) (ys : List X) → Before a x ys → In x ys
+in_second x a [] b = elim b [ ]
+in_second x a (z ∷ zs) (inl k) = inr k.1
+in_second x a (z ∷ zs) (inr k) = inr (in_second x a zs k)
+
+pub here_before : {X K : Type 0} (f : X → K) (xs : List X) → ((p q : X) → Before p q xs → f p ≡ f q → ⊥) → (i : ℕ) (x a : X) → slice_get xs i ≡ Some x → Before a x xs → In a (take i xs)
+here_before f [] d i x a h b = elim b [ ]
+here_before f (y ∷ ys) d zero x a h (inl k) = absurd (d y x (inl (refl, k.1)) (ap f (some_same y x h)))
+here_before f (y ∷ ys) d zero x a h (inr b) = absurd (d y x (inl (refl, in_second x a ys b)) (ap f (some_same y x h)))
+here_before f (y ∷ ys) d (suc i) x a h (inl k) = inl k.0
+here_before f (y ∷ ys) d (suc i) x a h (inr b) = inr (here_before f ys (λ p q w. d p q (inr w)) i x a h b)
+
+pub in_taken : {X : Type 0} (i : ℕ) (a : X) (xs : List X) → In a (take i xs) → In a xs
+in_taken zero a xs h = elim h [ ]
+in_taken (suc i) a [] h = elim h [ ]
+in_taken (suc i) a (y ∷ ys) (inl e) = inl e
+in_taken (suc i) a (y ∷ ys) (inr h) = inr (in_taken i a ys h)
+
+-- a place that is found by a key
+pub place_in : {X : Type 0} (p : X → Bool) (xs : List X) (i : ℕ) → position p xs ≡ Some i → (x : X) × In x xs × (p x ≡ true)
+place_in {X} p xs i h = go (slice_get xs i) refl
+  where
+    go : (r : Option X) → slice_get xs i ≡ r → (x : X) × In x xs × (p x ≡ true)
+    go None e = absurd (place_there p xs i h e)
+    go (Some x) e = let k = found p xs x (place_found p xs i x h e) in (x, k.0, k.1)
+
+-- what a decided test says
+pub decided : (b : Bool) (P : Type 0) → IsTrue b ↔ P → b ≡ true → P
+decided b P h e = h.0 e
+
+pub decided_not : (b : Bool) (P : Type 0) → IsTrue b ↔ P → b ≡ false → P → ⊥
+decided_not b P h e p = let k : true ≡ false = sym (h.1 p) ∙ e in cc
+
+pub not_empty : {A : Type 0} (l ds : List A) → ds ≡ l → (length ds == 0) ≡ false → l ≡ [] → ⊥
+not_empty {A} l ds e h k = let z : true ≡ false = sym (ap (λ (z : List A). length z == 0) (e ∙ k)) ∙ h in cc
+
+pub is_empty : {A : Type 0} (l ds : List A) → ds ≡ l → (length ds == 0) ≡ true → l ≡ []
+is_empty [] ds e h = refl
+is_empty {A} (y ∷ l) ds e h = let n : length (y ∷ l) ≡ 0 = ap length (sym e) ∙ eqb-true (length ds) 0 h in absurd (omega (arith, n))
+
+pub some_copied : {X : Type 0} (r : Option (Bor X)) → is_some r ≡ is_some (option_copied r)
+some_copied None = refl
+some_copied (Some x) = refl
+
+pub not_placed : {Op : Type 0} (l : List (LocalEntry Op)) (id : ℕ) → position (λ e. e.id == id) l ≡ None → (a : LocalEntry Op) → In a l → a.id ≡ id → ⊥
+not_placed {Op} l id h a i e =
+    let n = find_nowhere (λ (z : LocalEntry Op). z.id == id) l (place_none (λ (z : LocalEntry Op). z.id == id) l h) a i in
+    let z : true ≡ false = sym (eq-eqb a.id id e) ∙ n in cc

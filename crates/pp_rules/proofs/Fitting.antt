@@ -1,0 +1,56 @@
+-- Operations of an allowed list fit its shape, and lists of ranged operations.
+use Rattle.std.proofs.Common.{◌≡◌, IsTrue, List, [], ◌∷◌, ◌++◌, refl, ap, sym, ◌∙◌, subst, inl, inr}
+use Rattle.pp_core.specs.declared.entry.CommittedTx.{CommittedTx}
+use Rattle.pp_core.specs.declared.entry.LocalEntry.{LocalEntry}
+use Rattle.pp_model.specs.Config.{local_ops, own_items}
+use Rattle.pp_model.specs.Lists.{In}
+use Rattle.pp_model.specs.Sound.{serial_items, serial_ops}
+use Rattle.pp_model.proofs.Lists.{in_map, from_map, in_cases}
+use Rattle.pp_model.proofs.Logs.{from_own}
+use Rattle.pp_model.specs.Config.{Config, shared_ops, uncommitted}
+use Rattle.pp_model.specs.Sound.{Sound}
+use Rattle.pp_model.proofs.Serial.{allowed_front, from_serial, ordered, serial_law, to_serial}
+use Rattle.std.proofs.lemmas.List.{append-nil}
+use Rattle.pp_spec.specs.Object.{Object, AllowedFrom, AllRanged, IsAllowed, IsLawful, rules_of}
+
+module _ {Shape State Op Undo : Type 0} (o : Object Shape State Op Undo) where
+  fits_from : IsLawful o → (shape : Shape) (s : State) (l : List Op) → o.shape s ≡ shape → AllowedFrom o s l → (a : Op) → In a l → IsTrue (o.fits shape a)
+  fits_from laws shape s [] e h a i = elim i [ ]
+  fits_from laws shape s (b ∷ l) e h a (inl j) = subst (λ (x : Op). IsTrue (o.fits shape x)) (sym j) (subst (λ (k : Shape). IsTrue (o.fits k b)) e h.0.0)
+  fits_from laws shape s (b ∷ l) e h a (inr j) = fits_from laws shape (o.next s b) l (laws.next_shape s b h.0 ∙ e) h.1 a j
+
+  -- each operation of an allowed list fits
+  pub fits_in : IsLawful o → (shape : Shape) (l : List Op) → IsAllowed o shape l → (a : Op) → In a l → IsTrue (o.fits shape a)
+  fits_in laws shape l h a i = fits_from laws shape (o.start shape) l (laws.start_shape shape) h a i
+
+  pub ranged_in : (l : List Op) → AllRanged o l → (a : Op) → In a l → IsTrue (o.ranged a)
+  ranged_in [] h a i = elim i [ ]
+  ranged_in (b ∷ l) h a (inl e) = subst (λ (z : Op). IsTrue (o.ranged z)) (sym e) h.0
+  ranged_in (b ∷ l) h a (inr i) = ranged_in l h.1 a i
+
+  pub in_ranged : (l : List Op) → ((a : Op) → In a l → IsTrue (o.ranged a)) → AllRanged o l
+  in_ranged [] h = tt
+  in_ranged (b ∷ l) h = (h b (inl refl), in_ranged l (λ a i. h a (inr i)))
+
+  pub ranged_more : (l : List Op) (a : Op) → AllRanged o l → IsTrue (o.ranged a) → AllRanged o (l ++ a ∷ [])
+  ranged_more [] a h r = (r, tt)
+  ranged_more (b ∷ l) a h r = (h.0, ranged_more l a h.1 r)
+
+  -- with the own operations of a ranged log behind it, a ranged serial list stays ranged
+  pub serial_more : (D : List (CommittedTx Op)) (d : CommittedTx Op) (l : List (LocalEntry Op)) → AllRanged o (serial_ops D) → AllRanged o (local_ops l) → d.entries ≡ own_items l → AllRanged o (serial_ops (D ++ d ∷ []))
+  serial_more D d l h r e = in_ranged (serial_ops (D ++ d ∷ [])) (λ a i.
+      let p = from_map (λ q. q.op) a (serial_items (D ++ d ∷ [])) i in
+      let s = from_serial (D ++ d ∷ []) p.0 p.1 in
+      elim (in_cases s.0 D (d ∷ []) s.1) [
+        | inl j ↦ ranged_in (serial_ops D) h a (subst (λ (z : Op). In z (serial_ops D)) (sym p.2) (in_map (λ q. q.op) p.0 (serial_items D) (to_serial D s.0 p.0 j s.2)))
+        | inr (inl j) ↦
+            let w = from_own l p.0 (subst (λ z. In p.0 z) (ap (λ (z : CommittedTx Op). z.entries) j ∙ e) s.2) in
+            ranged_in (local_ops l) r a (subst (λ (z : Op). In z (local_ops l)) (sym (p.2 ∙ ap (λ q. q.op) w.3)) (in_map (λ q. q.op) w.0 l w.1))
+        | inr (inr j) ↦ absurd j
+      ])
+
+  -- the operations of the committed transactions are allowed
+  pub serial_allowed : (shape : Shape) (c : Config Op) → Sound (rules_of o shape) c → IsAllowed o shape (serial_ops c.finished)
+  serial_allowed shape c s =
+      allowed_front (rules_of o shape) (o.start shape) (serial_ops c.finished) (shared_ops (uncommitted c.shared) ++ [])
+      (serial_law (rules_of o shape) c.shared c.finished [] (ordered (rules_of o shape) c s) (subst (λ (z : List Op). IsAllowed o shape z) (sym (append-nil (shared_ops c.shared))) s.shared_allowed))

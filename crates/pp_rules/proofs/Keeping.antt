@@ -1,0 +1,380 @@
+-- What each machine keeps holds after each step.
+use Rattle.std.proofs.Common.{◌≡◌, ◌≢◌, ◌==◌, ℕ, ◌<◌, ◌+◌, IsTrue, Bool, true, false, cond, List, [], ◌∷◌, ◌++◌, map, filter, length, Some, None, position, slice_get, refl, sym, ◌∙◌, ap, subst, arith, inl, inr}
+use Rattle.std.proofs.lemmas.List.{length_push, length-map}
+use Rattle.std.proofs.lemmas.Bool.{eqb-true}
+use Rattle.pp_core.specs.declared.entry.CommittedTx.{CommittedTx}
+use Rattle.pp_core.specs.declared.entry.LocalEntry.{LocalEntry}
+use Rattle.pp_core.specs.declared.entry.SharedEntry.{SharedEntry}
+use Rattle.pp_model.specs.Config.{Config, Tx, Step, Begin, App, Push, Pull, Cmt, Quit, Note, Unpushed, Pushed, Pulled, all_committed, at_mark, item, local_ops, marked, of_other, own_items, posted, shared_ops, then, tx}
+use Rattle.pp_model.specs.Lists.{In}
+use Rattle.pp_model.specs.Names.{Name, ◌=ⁿ◌}
+use Rattle.pp_model.specs.Rules.{Fails}
+use Rattle.pp_model.specs.Sound.{Sound, serial_ops}
+use Rattle.pp_model.proofs.Begin.{empty_sound}
+use Rattle.pp_model.proofs.Keeps.{step_keeps}
+use Rattle.pp_model.proofs.Lists.{before_across, from_filter, from_map, in_cases, in_map}
+use Rattle.pp_model.proofs.Logs.{found_mark, found_other, found_tx}
+use Rattle.pp_model.proofs.Names.{names_tell}
+use Rattle.pp_model.proofs.Steps.{there_holds}
+use Rattle.pp_spec.specs.Object.{Object, AllRanged, IsAllowed, rules_of}
+use Rattle.pp_rules.specs.Machines.{Holds, IsFine, Seen, config_of, stepped, tx_of}
+use Rattle.pp_rules.specs.Transactions.{HasOwn, is_begun, is_busy, Open, Takes, Txs, open_at, open_of, relogged, with_log, with_open, without_open}
+use Rattle.pp_rules.proofs.Acting.{after_begin, after_app, after_pull, after_push, after_cmt, after_quit}
+use Rattle.pp_rules.proofs.Finding.{place_nowhere, slice_in, slice_within}
+use Rattle.pp_rules.proofs.Fitting.{ranged_in, ranged_more, serial_allowed, serial_more}
+use Rattle.pp_rules.proofs.Opened.{HasLog, begun_in, busy_in, opened, used_in}
+use Rattle.indexmap.specs.IndexSet.{insert_key}
+use Rattle.std.specs.List.{list_any}
+
+some_inj : {X : Type 0} (x y : X) → Some x ≡ Some y → x ≡ y
+some_inj x y e = cc
+
+not_equal : (b : Bool) → (b ≡ true → ⊥) → b ≡ false
+not_equal true n = absurd (n refl)
+not_equal false n = refl
+
+same_ops : {Op : Type 0} (e : LocalEntry Op) (b : Bool) → (cond b (record { id = e.id; owner = e.owner; mark = Pushed; op = e.op }) e).op ≡ e.op
+same_ops e true = refl
+same_ops e false = refl
+
+marked_ops : {Op : Type 0} (id : ℕ) (l : List (LocalEntry Op)) → local_ops (marked id Pushed l) ≡ local_ops l
+marked_ops id [] = refl
+marked_ops {Op} id (e ∷ l) =
+    ap (λ (z : Op). z ∷ local_ops (marked id Pushed l)) (same_ops e (e.id == id)) ∙ ap (λ (z : List Op). e.op ∷ z) (marked_ops id l)
+
+committed_op : {Op : Type 0} (g : SharedEntry Op) (b : Bool) → (cond b (record { id = g.id; owner = g.owner; committed = true; op = g.op }) g).op ≡ g.op
+committed_op g true = refl
+committed_op g false = refl
+
+committed_ops : {Op : Type 0} (t : Name) (l : List (SharedEntry Op)) → shared_ops (all_committed t l) ≡ shared_ops l
+committed_ops t [] = refl
+committed_ops {Op} t (g ∷ l) =
+    ap (λ (z : Op). z ∷ shared_ops (all_committed t l)) (committed_op g (g.owner =ⁿ t)) ∙ ap (λ (z : List Op). g.op ∷ z) (committed_ops t l)
+
+ops_more : {Op : Type 0} (l : List (LocalEntry Op)) (e : LocalEntry Op) → local_ops (l ++ e ∷ []) ≡ local_ops l ++ e.op ∷ []
+ops_more [] e = refl
+ops_more {Op} (x ∷ l) e = ap (λ (z : List Op). x.op ∷ z) (ops_more l e)
+
+posts_more : {Op : Type 0} (l : List (SharedEntry Op)) (g : SharedEntry Op) → shared_ops (l ++ g ∷ []) ≡ shared_ops l ++ g.op ∷ []
+posts_more [] g = refl
+posts_more {Op} (x ∷ l) g = ap (λ (z : List Op). x.op ∷ z) (posts_more l g)
+
+module _ {Shape State Op Undo : Type 0} (o : Object Shape State Op Undo) (shape : Shape) (n : ℕ) where
+  -- one step later an open transaction is as fine
+  later : (x : Open Shape Op) → IsFine o shape n x → IsFine o shape (n + 1) x
+  later x h = record { body = h.body; same_shape = h.same_shape; short = (let s = h.short in omega (arith, s)); ranged = h.ranged }
+
+module _ {Shape State Op Undo : Type 0} (o : Object Shape State Op Undo) (shape : Shape) (n : ℕ) (l : List (Open Shape Op)) (fine : (x : Open Shape Op) → In x l → IsFine o shape n x) where
+  fine_later : (x : Open Shape Op) → In x l → IsFine o shape (n + 1) x
+  fine_later x i = later o shape n x (fine x i)
+
+  fine_more : (y : Open Shape Op) → IsFine o shape (n + 1) y → (x : Open Shape Op) → In x (l ++ y ∷ []) → IsFine o shape (n + 1) x
+  fine_more y h x i = elim (in_cases x l (y ∷ []) i) [
+    | inl j ↦ fine_later x j
+    | inr (inl e) ↦ subst (IsFine o shape (n + 1)) (sym e) h
+    | inr (inr j) ↦ absurd j
+  ]
+
+  fine_log : (t : Name) (h : List (LocalEntry Op) → List (LocalEntry Op)) → ((x : Open Shape Op) → In x l → x.name ≡ t → IsFine o shape (n + 1) (relogged h x)) →
+      (y : Open Shape Op) → In y (map (λ x. cond (x.name =ⁿ t) (relogged h x) x) l) → IsFine o shape (n + 1) y
+  fine_log t h f y i =
+      let m = from_map (λ x. cond (x.name =ⁿ t) (relogged h x) x) y l i in
+      elim (names_tell (m.0).name t) [
+        | inl r ↦ subst (IsFine o shape (n + 1)) (sym (m.2 ∙ ap (λ (b : Bool). cond b (relogged h m.0) m.0) r.0)) (f m.0 m.1 r.1)
+        | inr r ↦ subst (IsFine o shape (n + 1)) (sym (m.2 ∙ ap (λ (b : Bool). cond b (relogged h m.0) m.0) r.0)) (fine_later m.0 m.1)
+      ]
+
+  pub fine_left : (test : Open Shape Op → Bool) (x : Open Shape Op) → In x (filter test l) → IsFine o shape (n + 1) x
+  fine_left test x i = fine_later x (from_filter test x l i).0
+
+  fine_entry : (e : LocalEntry Op) → IsTrue (o.ranged e.op) → (x : Open Shape Op) → In x l → IsFine o shape (n + 1) (relogged (λ k. k ++ e ∷ []) x)
+  fine_entry e r x i =
+      let h = fine x i in
+      record {
+        body = h.body;
+        same_shape = h.same_shape;
+        short = (let s = h.short in let k = length_push x.local.1 e in omega (arith, s, k));
+        ranged = subst (AllRanged o) (sym (ops_more x.local.1 e)) (ranged_more o (local_ops x.local.1) e.op h.ranged r);
+      }
+
+  fine_mark : (id : ℕ) (x : Open Shape Op) → In x l → IsFine o shape (n + 1) (relogged (marked id Pushed) x)
+  fine_mark id x i =
+      let h = fine x i in
+      record {
+        body = h.body;
+        same_shape = h.same_shape;
+        short = (let s = h.short in let k : length (marked id Pushed x.local.1) ≡ length x.local.1 = length-map x.local.1 _ in omega (arith, s, k));
+        ranged = subst (AllRanged o) (sym (marked_ops id x.local.1)) h.ranged;
+      }
+
+-- a machine, and what is seen of it
+module _ {Shape State Op Undo : Type 0} (o : Object Shape State Op Undo) (shape : Shape) (v : Txs Shape Op) (ids : List ℕ) (G : Shape × List (SharedEntry Op)) (F : List (CommittedTx Op)) (n : ℕ) (w : Seen Shape Op)
+    (same : ◌≡◌ {A = Seen Shape Op} (record { shape = shape; config = config_of v ids G.1 F; count = n }) w) (h : Holds o shape v ids G F n) where
+  lower : (s : Step Op) (k : ℕ) → Fails (rules_of o w.shape) w.config s k → Fails (rules_of o shape) (config_of v ids G.1 F) s k
+  lower s k f = subst (λ (z : Seen Shape Op). Fails (rules_of o z.shape) z.config s k) (sym same) f
+
+  sound_then : (s : Step Op) → Fails (rules_of o w.shape) w.config s 0 → Sound (rules_of o shape) (then (config_of v ids G.1 F) s)
+  sound_then s f = step_keeps (rules_of o shape) (config_of v ids G.1 F) s h.sound (lower s 0 f)
+
+  sound_as : (s : Step Op) (c : Config Op) → Fails (rules_of o w.shape) w.config s 0 → c ≡ then (config_of v ids G.1 F) s → Sound (rules_of o shape) c
+  sound_as s c f e = subst (λ (z : Config Op). Sound (rules_of o shape) z) (sym e) (sound_then s f)
+
+  seen_as : (s : Step Op) (c : Config Op) → c ≡ then (config_of v ids G.1 F) s → ◌≡◌ {A = Seen Shape Op} (record { shape = shape; config = c; count = n + 1 }) (stepped w s)
+  seen_as s c e = ap (λ (z : Config Op). record { shape = shape; config = z; count = n + 1 }) e ∙ ap (λ (z : Seen Shape Op). stepped z s) same
+
+  -- BEGIN
+  begin_is : (t p : Name) (u : Txs Shape Op) → u ≡ with_open (open_of t p None (shape, [])) v → config_of u ids G.1 F ≡ then (config_of v ids G.1 F) (Begin t p None)
+  begin_is t p u e = ap (λ (z : Txs Shape Op). config_of z ids G.1 F) e ∙ after_begin v ids G.1 F t p (shape, []) refl
+
+  pub seen_begin : (t p : Name) (u : Txs Shape Op) → u ≡ with_open (open_of t p None (shape, [])) v → ◌≡◌ {A = Seen Shape Op} (record { shape = shape; config = config_of u ids G.1 F; count = n + 1 }) (stepped w (Begin t p None))
+  seen_begin t p u e = seen_as (Begin t p None) (config_of u ids G.1 F) (begin_is t p u e)
+
+  pub holds_begin : (t p : Name) (u : Txs Shape Op) → Fails (rules_of o w.shape) w.config (Begin t p None) 0 → u ≡ with_open (open_of t p None (shape, [])) v → Holds o shape u ids G F (n + 1)
+  holds_begin t p u f e = record {
+    sound = sound_as (Begin t p None) (config_of u ids G.1 F) f (begin_is t p u e);
+    fine = subst (λ (z : Txs Shape Op). (x : Open Shape Op) → In x z.opened → IsFine o shape (n + 1) x) (sym e)
+        (fine_more o shape n v.opened h.fine (open_of t p None (shape, [])) (record { body = refl; same_shape = refl; short = omega arith; ranged = tt }));
+    shared_shape = h.shared_shape;
+    shared_short = (let s = h.shared_short in omega (arith, s));
+    shared_ranged = h.shared_ranged;
+    serial_ranged = h.serial_ranged;
+  }
+
+  pub begin_free : (t p : Name) → Fails (rules_of o w.shape) w.config (Begin t p None) 0 → is_begun v t ≡ false
+  begin_free t p f = not_equal (is_begun v t) (λ k. (lower (Begin t p None) 0 f).0 (begun_in v t (sym k)))
+
+  pub begin_idle : (t p : Name) → Fails (rules_of o w.shape) w.config (Begin t p None) 0 → is_busy v p ≡ false
+  begin_idle t p f = not_equal (is_busy v p) (λ k. let x = busy_in v p (sym k) in (lower (Begin t p None) 0 f).1.0 x.0 x.1 x.2)
+
+  -- APP
+  pub ids_more : (t : Name) (id : ℕ) (op : Op) (js ks : List ℕ) → Fails (rules_of o w.shape) w.config (App t id op) 0 → js ≡ ids → ks ≡ insert_key (λ a b. a == b) js id → ks ≡ ids ++ id ∷ []
+  ids_more t id op js ks f e i =
+      let k = there_holds (tx t (map tx_of v.opened)) _ (lower (App t id op) 0 f) in
+      let u : list_any (λ j. id == j) ids ≡ false = not_equal (list_any (λ j. id == j) ids) (λ m. k.2.0 (used_in ids id (sym m))) in
+      i ∙ ap (λ (z : List ℕ). insert_key (λ a b. a == b) z id) e ∙ ap (λ (b : Bool). cond b ids (ids ++ id ∷ [])) u
+
+  app_is : (t : Name) (id : ℕ) (op : Op) (u : Txs Shape Op) (js : List ℕ) → u ≡ with_log t (λ l. l ++ record { id = id; owner = t; mark = Unpushed; op = op } ∷ []) v → js ≡ ids ++ id ∷ [] → config_of u js G.1 F ≡ then (config_of v ids G.1 F) (App t id op)
+  app_is t id op u js e i =
+      ap (λ (z : Txs Shape Op). config_of z js G.1 F) e
+      ∙ ap (λ (z : List ℕ). config_of (with_log t (λ l. l ++ record { id = id; owner = t; mark = Unpushed; op = op } ∷ []) v) z G.1 F) i
+      ∙ after_app v ids G.1 F t id op
+
+  pub seen_app : (t : Name) (id : ℕ) (op : Op) (u : Txs Shape Op) (js : List ℕ) → u ≡ with_log t (λ l. l ++ record { id = id; owner = t; mark = Unpushed; op = op } ∷ []) v → js ≡ ids ++ id ∷ [] →
+      ◌≡◌ {A = Seen Shape Op} (record { shape = shape; config = config_of u js G.1 F; count = n + 1 }) (stepped w (App t id op))
+  seen_app t id op u js e i = seen_as (App t id op) (config_of u js G.1 F) (app_is t id op u js e i)
+
+  fine_after : (t : Name) (k : List (LocalEntry Op) → List (LocalEntry Op)) (u : Txs Shape Op) → u ≡ with_log t k v → ((x : Open Shape Op) → In x v.opened → IsFine o shape (n + 1) (relogged k x)) → (x : Open Shape Op) → In x u.opened → IsFine o shape (n + 1) x
+  fine_after t k u e f = subst (λ (z : Txs Shape Op). (x : Open Shape Op) → In x z.opened → IsFine o shape (n + 1) x) (sym e) (fine_log o shape n v.opened h.fine t k (λ x i same. f x i))
+
+  pub holds_app : (t : Name) (id : ℕ) (op : Op) (u : Txs Shape Op) (js : List ℕ) → Fails (rules_of o w.shape) w.config (App t id op) 0 → IsTrue (o.ranged op) → u ≡ with_log t (λ l. l ++ record { id = id; owner = t; mark = Unpushed; op = op } ∷ []) v → js ≡ ids ++ id ∷ [] → Holds o shape u js G F (n + 1)
+  holds_app t id op u js f r e i = record {
+    sound = sound_as (App t id op) (config_of u js G.1 F) f (app_is t id op u js e i);
+    fine = fine_after t (λ l. l ++ record { id = id; owner = t; mark = Unpushed; op = op } ∷ []) u e (fine_entry o shape n v.opened h.fine (record { id = id; owner = t; mark = Unpushed; op = op }) r);
+    shared_shape = h.shared_shape;
+    shared_short = (let s = h.shared_short in omega (arith, s));
+    shared_ranged = h.shared_ranged;
+    serial_ranged = h.serial_ranged;
+  }
+
+  -- the local log takes an entry
+  takes : (t : Name) (x : Tx Op) (e : LocalEntry Op) → tx t (map tx_of v.opened) ≡ Some x → IsAllowed o shape (local_ops x.local ++ e.op ∷ []) → IsTrue (o.ranged e.op) → ((a : LocalEntry Op) → In a x.local → a.id ≢ e.id) → n < 200_000 →
+      (y : Open Shape Op) × (open_at t v.opened ≡ Some y) × Takes o y.local e
+  takes t x e q a r d few =
+      let y = opened o shape v ids G F n h t x q in
+      let fine = y.3 in
+      let local : (tx_of y.0).local ≡ x.local = ap (λ (z : Tx Op). z.local) y.2 in (
+        y.0,
+        y.1,
+        record {
+          allowed = subst (λ (z : Shape). IsAllowed o z (local_ops (y.0).local.1 ++ e.op ∷ [])) (sym fine.same_shape) (subst (λ (z : List (LocalEntry Op)). IsAllowed o shape (local_ops z ++ e.op ∷ [])) (sym local) a);
+          ranged = r;
+          new = place_nowhere (λ z. z.id == e.id) (y.0).local.1 (λ z i. not_equal (z.id == e.id) (λ k. d z (subst (λ (l : List (LocalEntry Op)). In z l) local i) (eqb-true z.id e.id k)));
+          few = (let s = fine.short in omega (arith, s, few));
+        },
+      )
+
+  pub takes_app : (t : Name) (id : ℕ) (op : Op) → Fails (rules_of o w.shape) w.config (App t id op) 0 → IsTrue (o.ranged op) → w.count < 200_000 →
+      (y : Open Shape Op) × (open_at t v.opened ≡ Some y) × Takes o y.local (record { id = id; owner = t; mark = Unpushed; op = op })
+  takes_app t id op f r few =
+      let k = there_holds (tx t (map tx_of v.opened)) _ (lower (App t id op) 0 f) in
+      let i = (found_tx t (map tx_of v.opened) k.0 k.1).0 in
+      takes t k.0 (record { id = id; owner = t; mark = Unpushed; op = op }) k.1 k.2.1.1.0 r (λ a j e. k.2.0 (subst (λ (z : ℕ). In z (config_of v ids G.1 F).ids) e (h.sound.local_used k.0 i a j))) (subst (λ (z : ℕ). z < 200_000) (sym (ap (λ (z : Seen Shape Op). z.count) same)) few)
+
+  -- PULL
+  pull_is : (t : Name) (id : ℕ) (g : SharedEntry Op) (u : Txs Shape Op) → of_other t id G.1 ≡ Some g → u ≡ with_log t (λ l. l ++ record { id = g.id; owner = g.owner; mark = Pulled; op = g.op } ∷ []) v → config_of u ids G.1 F ≡ then (config_of v ids G.1 F) (Pull t id)
+  pull_is t id g u q e = ap (λ (z : Txs Shape Op). config_of z ids G.1 F) e ∙ after_pull v ids G.1 F t id g q
+
+  pub seen_pull : (t : Name) (id : ℕ) (g : SharedEntry Op) (u : Txs Shape Op) → of_other t id G.1 ≡ Some g → u ≡ with_log t (λ l. l ++ record { id = g.id; owner = g.owner; mark = Pulled; op = g.op } ∷ []) v →
+      ◌≡◌ {A = Seen Shape Op} (record { shape = shape; config = config_of u ids G.1 F; count = n + 1 }) (stepped w (Pull t id))
+  seen_pull t id g u q e = seen_as (Pull t id) (config_of u ids G.1 F) (pull_is t id g u q e)
+
+  post_ranged : (g : SharedEntry Op) → In g G.1 → IsTrue (o.ranged g.op)
+  post_ranged g i = ranged_in o (shared_ops G.1) h.shared_ranged g.op (in_map (λ (z : SharedEntry Op). z.op) g G.1 i)
+
+  pub holds_pull : (t : Name) (id : ℕ) (g : SharedEntry Op) (u : Txs Shape Op) → Fails (rules_of o w.shape) w.config (Pull t id) 0 → of_other t id G.1 ≡ Some g → u ≡ with_log t (λ l. l ++ record { id = g.id; owner = g.owner; mark = Pulled; op = g.op } ∷ []) v → Holds o shape u ids G F (n + 1)
+  holds_pull t id g u f q e = record {
+    sound = sound_as (Pull t id) (config_of u ids G.1 F) f (pull_is t id g u q e);
+    fine = fine_after t (λ l. l ++ record { id = g.id; owner = g.owner; mark = Pulled; op = g.op } ∷ []) u e (fine_entry o shape n v.opened h.fine (record { id = g.id; owner = g.owner; mark = Pulled; op = g.op }) (post_ranged g (found_other t id G.1 g q).0));
+    shared_shape = h.shared_shape;
+    shared_short = (let s = h.shared_short in omega (arith, s));
+    shared_ranged = h.shared_ranged;
+    serial_ranged = h.serial_ranged;
+  }
+
+  pub takes_pull : (t : Name) (id : ℕ) (g : SharedEntry Op) → Fails (rules_of o w.shape) w.config (Pull t id) 0 → of_other t id G.1 ≡ Some g → w.count < 200_000 →
+      (y : Open Shape Op) × (open_at t v.opened ≡ Some y) × Takes o y.local (record { id = g.id; owner = g.owner; mark = Pulled; op = g.op })
+  takes_pull t id g f q few =
+      let k = there_holds (tx t (map tx_of v.opened)) _ (lower (Pull t id) 0 f) in
+      let m = there_holds (of_other t id G.1) _ k.2 in
+      let e = some_inj m.0 g (sym m.1 ∙ q) in
+      let i = found_other t id G.1 g q in
+      takes t k.0 (record { id = g.id; owner = g.owner; mark = Pulled; op = g.op }) k.1 (subst (λ (z : SharedEntry Op). IsAllowed o shape (local_ops (k.0).local ++ z.op ∷ [])) e m.2.1.0) (post_ranged g i.0) (λ a j d. m.2.0 a j (d ∙ i.1))
+      (subst (λ (z : ℕ). z < 200_000) (sym (ap (λ (z : Seen Shape Op). z.count) same)) few)
+
+  pub pull_finds : (t : Name) (id : ℕ) → Fails (rules_of o w.shape) w.config (Pull t id) 0 → of_other t id G.1 ≡ None → ⊥
+  pull_finds t id f e =
+      let k = there_holds (tx t (map tx_of v.opened)) _ (lower (Pull t id) 0 f) in
+      let m = there_holds (of_other t id G.1) _ k.2 in
+      let z : Some m.0 ≡ None = sym m.1 ∙ e in cc
+
+  -- PUSH
+  pub push_finds : (t : Name) (id : ℕ) → Fails (rules_of o w.shape) w.config (Push t id) 0 → (l : Shape × List (LocalEntry Op)) → HasLog o shape v ids G F n h t l → at_mark id Unpushed l.1 ≡ None → ⊥
+  push_finds t id f l r e =
+      let k = there_holds (tx t (map tx_of v.opened)) _ (lower (Push t id) 0 f) in
+      let m = there_holds (at_mark id Unpushed (k.0).local) _ k.2 in
+      let z : Some m.0 ≡ None = sym m.1 ∙ ap (λ (y : Tx Op). at_mark id Unpushed y.local) (some_inj k.0 _ (sym k.1 ∙ r.is)) ∙ e in cc
+
+  pub push_allowed : (t : Name) (id : ℕ) → Fails (rules_of o w.shape) w.config (Push t id) 0 → (l : Shape × List (LocalEntry Op)) → HasLog o shape v ids G F n h t l → (p : LocalEntry Op) → at_mark id Unpushed l.1 ≡ Some p →
+      IsAllowed o G.0 (shared_ops G.1 ++ p.op ∷ [])
+  push_allowed t id f l r p q =
+      let k = there_holds (tx t (map tx_of v.opened)) _ (lower (Push t id) 0 f) in
+      let m = there_holds (at_mark id Unpushed (k.0).local) _ k.2 in
+      let z : Some m.0 ≡ Some p = sym m.1 ∙ ap (λ (y : Tx Op). at_mark id Unpushed y.local) (some_inj k.0 _ (sym k.1 ∙ r.is)) ∙ q in
+      subst (λ (s : Shape). IsAllowed o s (shared_ops G.1 ++ p.op ∷ [])) (sym h.shared_shape) (subst (λ (y : LocalEntry Op). IsAllowed o shape (shared_ops G.1 ++ y.op ∷ [])) (some_inj m.0 p z) m.2.1.1.0)
+
+  pub entry_ranged : (t : Name) (l : Shape × List (LocalEntry Op)) → HasLog o shape v ids G F n h t l → (p : LocalEntry Op) (i : ℕ) → slice_get l.1 i ≡ Some p → IsTrue (o.ranged p.op)
+  entry_ranged t l r p i q = ranged_in o (local_ops l.1) (r.fine).ranged p.op (in_map (λ (z : LocalEntry Op). z.op) p l.1 (slice_in l.1 i p q))
+
+  pub push_new : (t : Name) (id : ℕ) → Fails (rules_of o w.shape) w.config (Push t id) 0 → (l : Shape × List (LocalEntry Op)) → HasLog o shape v ids G F n h t l → (p : LocalEntry Op) → at_mark id Unpushed l.1 ≡ Some p → position (λ g. g.id == p.id) G.1 ≡ None
+  push_new t id f l r p q =
+      let s = subst (λ (c : Config Op). Sound (rules_of o shape) c) (sym (after_push v ids G.1 F t id _ p r.is q)) (sound_then (Push t id) f) in
+      place_nowhere (λ g. g.id == p.id) G.1 (λ g i. not_equal (g.id == p.id) (λ k. s.shared_ids g (posted t false (item p)) (before_across g (posted t false (item p)) G.1 (posted t false (item p) ∷ []) i (inl refl)) (eqb-true g.id p.id k)))
+
+  push_is : (t : Name) (id : ℕ) (l : Shape × List (LocalEntry Op)) → HasLog o shape v ids G F n h t l → (p : LocalEntry Op) → at_mark id Unpushed l.1 ≡ Some p → (u : Txs Shape Op) (H : List (SharedEntry Op)) → u ≡ with_log t (marked p.id Pushed) v → H ≡ G.1 ++ posted t false (item p) ∷ [] →
+      config_of u ids H F ≡ then (config_of v ids G.1 F) (Push t id)
+  push_is t id l r p q u H e k =
+      ap (λ (z : Txs Shape Op). config_of z ids H F) (e ∙ ap (λ (z : ℕ). with_log t (marked z Pushed) v) (found_mark id Unpushed l.1 p q).1)
+      ∙ ap (λ (z : List (SharedEntry Op)). config_of (with_log t (marked id Pushed) v) ids z F) k
+      ∙ after_push v ids G.1 F t id _ p r.is q
+
+  pub seen_push : (t : Name) (id : ℕ) (l : Shape × List (LocalEntry Op)) → HasLog o shape v ids G F n h t l → (p : LocalEntry Op) → at_mark id Unpushed l.1 ≡ Some p → (u : Txs Shape Op) (H : Shape × List (SharedEntry Op)) → u ≡ with_log t (marked p.id Pushed) v → H ≡ (G.0, G.1 ++ posted t false (item p) ∷ []) →
+      ◌≡◌ {A = Seen Shape Op} (record { shape = shape; config = config_of u ids H.1 F; count = n + 1 }) (stepped w (Push t id))
+  seen_push t id l r p q u H e k = seen_as (Push t id) (config_of u ids H.1 F) (push_is t id l r p q u H.1 e (ap (λ (z : Shape × List (SharedEntry Op)). z.1) k))
+
+  pub holds_push : (t : Name) (id : ℕ) → Fails (rules_of o w.shape) w.config (Push t id) 0 → (l : Shape × List (LocalEntry Op)) → HasLog o shape v ids G F n h t l → (p : LocalEntry Op) (i : ℕ) → at_mark id Unpushed l.1 ≡ Some p → slice_get l.1 i ≡ Some p →
+      (u : Txs Shape Op) (H : Shape × List (SharedEntry Op)) → u ≡ with_log t (marked p.id Pushed) v → H ≡ (G.0, G.1 ++ posted t false (item p) ∷ []) → Holds o shape u ids H F (n + 1)
+  holds_push t id f l r p i q at u H e k =
+      let posts : H.1 ≡ G.1 ++ posted t false (item p) ∷ [] = ap (λ (z : Shape × List (SharedEntry Op)). z.1) k in
+      record {
+        sound = sound_as (Push t id) (config_of u ids H.1 F) f (push_is t id l r p q u H.1 e posts);
+        fine = fine_after t (marked p.id Pushed) u e (fine_mark o shape n v.opened h.fine p.id);
+        shared_shape = ap (λ (z : Shape × List (SharedEntry Op)). z.0) k ∙ h.shared_shape;
+        shared_short = (let s = h.shared_short in let m = ap length posts ∙ length_push G.1 (posted t false (item p)) in omega (arith, s, m));
+        shared_ranged = subst (AllRanged o) (sym (ap shared_ops posts ∙ posts_more G.1 (posted t false (item p)))) (ranged_more o (shared_ops G.1) p.op h.shared_ranged (entry_ranged t l r p i at));
+        serial_ranged = h.serial_ranged;
+      }
+
+  pub owns : (t : Name) (id : ℕ) (l : Shape × List (LocalEntry Op)) → HasLog o shape v ids G F n h t l → (p : LocalEntry Op) (i : ℕ) → at_mark id Unpushed l.1 ≡ Some p → slice_get l.1 i ≡ Some p → (y : Open Shape Op) × (open_at t v.opened ≡ Some y) × HasOwn y.local.1 i
+  owns t id l r p i q at =
+      (open_of t r.thread None l, r.at, record { within = slice_within l.1 i p at; entry = p; here = at; own = λ e. let z : Unpushed ≡ Pulled = sym (found_mark id Unpushed l.1 p q).2 ∙ e in cc })
+
+  -- CMT
+  pub cmt_opens : (t : Name) → Fails (rules_of o w.shape) w.config (Cmt t) 0 → tx t (map tx_of v.opened) ≡ None → ⊥
+  cmt_opens t f e =
+      let k = there_holds (tx t (map tx_of v.opened)) _ (lower (Cmt t) 0 f) in
+      let z : Some k.0 ≡ None = sym k.1 ∙ e in cc
+
+  pub push_opens : (t : Name) (id : ℕ) → Fails (rules_of o w.shape) w.config (Push t id) 0 → tx t (map tx_of v.opened) ≡ None → ⊥
+  push_opens t id f e =
+      let k = there_holds (tx t (map tx_of v.opened)) _ (lower (Push t id) 0 f) in
+      let z : Some k.0 ≡ None = sym k.1 ∙ e in cc
+
+  cmt_is : (t : Name) (l : Shape × List (LocalEntry Op)) → HasLog o shape v ids G F n h t l → (u : Txs Shape Op) (H : List (SharedEntry Op)) (D : List (CommittedTx Op)) → u ≡ without_open t v → H ≡ all_committed t G.1 → D ≡ F ++ record { name = t; entries = own_items l.1 } ∷ [] →
+      config_of u ids H D ≡ then (config_of v ids G.1 F) (Cmt t)
+  cmt_is t l r u H D e k d =
+      ap (λ (z : Txs Shape Op). config_of z ids H D) e
+      ∙ ap (λ (z : List (SharedEntry Op)). config_of (without_open t v) ids z D) k
+      ∙ ap (λ (z : List (CommittedTx Op)). config_of (without_open t v) ids (all_committed t G.1) z) d
+      ∙ after_cmt v ids G.1 F t _ r.is
+
+  pub seen_cmt : (t : Name) (l : Shape × List (LocalEntry Op)) → HasLog o shape v ids G F n h t l → (u : Txs Shape Op) (H : Shape × List (SharedEntry Op)) (D : List (CommittedTx Op)) → u ≡ without_open t v → H ≡ (G.0, all_committed t G.1) → D ≡ F ++ record { name = t; entries = own_items l.1 } ∷ [] →
+      ◌≡◌ {A = Seen Shape Op} (record { shape = shape; config = config_of u ids H.1 D; count = n + 1 }) (stepped w (Cmt t))
+  seen_cmt t l r u H D e k d = seen_as (Cmt t) (config_of u ids H.1 D) (cmt_is t l r u H.1 D e (ap (λ (z : Shape × List (SharedEntry Op)). z.1) k) d)
+
+  fine_without : (t : Name) (u : Txs Shape Op) → u ≡ without_open t v → (x : Open Shape Op) → In x u.opened → IsFine o shape (n + 1) x
+  fine_without t u e = subst (λ (z : Txs Shape Op). (x : Open Shape Op) → In x z.opened → IsFine o shape (n + 1) x) (sym e) (fine_left o shape n v.opened h.fine _)
+
+  pub holds_cmt : (t : Name) → Fails (rules_of o w.shape) w.config (Cmt t) 0 → (l : Shape × List (LocalEntry Op)) → HasLog o shape v ids G F n h t l → (u : Txs Shape Op) (H : Shape × List (SharedEntry Op)) (D : List (CommittedTx Op)) →
+      u ≡ without_open t v → H ≡ (G.0, all_committed t G.1) → D ≡ F ++ record { name = t; entries = own_items l.1 } ∷ [] → Holds o shape u ids H D (n + 1)
+  holds_cmt t f l r u H D e k d =
+      let posts : H.1 ≡ all_committed t G.1 = ap (λ (z : Shape × List (SharedEntry Op)). z.1) k in
+      record {
+        sound = sound_as (Cmt t) (config_of u ids H.1 D) f (cmt_is t l r u H.1 D e posts d);
+        fine = fine_without t u e;
+        shared_shape = ap (λ (z : Shape × List (SharedEntry Op)). z.0) k ∙ h.shared_shape;
+        shared_short = (let s = h.shared_short in let m : length H.1 ≡ length G.1 = ap length posts ∙ length-map G.1 _ in omega (arith, s, m));
+        shared_ranged = subst (AllRanged o) (sym (ap shared_ops posts ∙ committed_ops t G.1)) h.shared_ranged;
+        serial_ranged = subst (λ (z : List (CommittedTx Op)). AllRanged o (serial_ops z)) (sym d) (serial_more o F (record { name = t; entries = own_items l.1 }) l.1 h.serial_ranged (r.fine).ranged refl);
+      }
+
+  -- QUIT
+  quit_is : (t : Name) (u : Txs Shape Op) → u ≡ without_open t v → config_of u ids G.1 F ≡ then (config_of v ids G.1 F) (Quit t)
+  quit_is t u e = ap (λ (z : Txs Shape Op). config_of z ids G.1 F) e ∙ after_quit v ids G.1 F t
+
+  pub seen_quit : (t : Name) (u : Txs Shape Op) → u ≡ without_open t v → ◌≡◌ {A = Seen Shape Op} (record { shape = shape; config = config_of u ids G.1 F; count = n + 1 }) (stepped w (Quit t))
+  seen_quit t u e = seen_as (Quit t) (config_of u ids G.1 F) (quit_is t u e)
+
+  pub holds_quit : (t : Name) (u : Txs Shape Op) → Fails (rules_of o w.shape) w.config (Quit t) 0 → u ≡ without_open t v → Holds o shape u ids G F (n + 1)
+  holds_quit t u f e = record {
+    sound = sound_as (Quit t) (config_of u ids G.1 F) f (quit_is t u e);
+    fine = fine_without t u e;
+    shared_shape = h.shared_shape;
+    shared_short = (let s = h.shared_short in omega (arith, s));
+    shared_ranged = h.shared_ranged;
+    serial_ranged = h.serial_ranged;
+  }
+
+  -- NOTE
+  pub seen_note : (t : Name) → ◌≡◌ {A = Seen Shape Op} (record { shape = shape; config = config_of v ids G.1 F; count = n + 1 }) (stepped w (Note t))
+  seen_note t = seen_as (Note t) (config_of v ids G.1 F) refl
+
+  pub holds_note : Holds o shape v ids G F (n + 1)
+  holds_note = record {
+    sound = h.sound;
+    fine = fine_later o shape n v.opened h.fine;
+    shared_shape = h.shared_shape;
+    shared_short = (let s = h.shared_short in omega (arith, s));
+    shared_ranged = h.shared_ranged;
+    serial_ranged = h.serial_ranged;
+  }
+
+-- a machine with no transaction
+pub start_holds : {Shape State Op Undo : Type 0} (o : Object Shape State Op Undo) (shape : Shape) (v : Txs Shape Op) (ids : List ℕ) (G : Shape × List (SharedEntry Op)) (F : List (CommittedTx Op)) →
+    v ≡ record { names = []; opened = [] } → ids ≡ [] → G ≡ (shape, []) → F ≡ [] → Holds o shape v ids G F 0
+start_holds {Shape} {State} {Op} o shape v ids G F a b c d =
+    subst (λ (z : Txs Shape Op). Holds o shape z ids G F 0) (sym a)
+    (subst (λ (z : List ℕ). Holds o shape (record { names = []; opened = [] }) z G F 0) (sym b)
+    (subst (λ (z : Shape × List (SharedEntry Op)). Holds o shape (record { names = []; opened = [] }) [] z F 0) (sym c)
+    (subst (λ (z : List (CommittedTx Op)). Holds o shape (record { names = []; opened = [] }) [] (shape, []) z 0) (sym d)
+    (record { sound = empty_sound (rules_of o shape); fine = λ x i. absurd i; shared_shape = refl; shared_short = omega arith; shared_ranged = tt; serial_ranged = tt }))))
+
+-- what is seen of a machine is sound
+module _ {Shape State Op Undo : Type 0} (o : Object Shape State Op Undo) (v w : Seen Shape Op) (same : v ≡ w) where
+  pub seen_sound : Sound (rules_of o v.shape) v.config → Sound (rules_of o w.shape) w.config
+  seen_sound s = subst (λ (z : Seen Shape Op). Sound (rules_of o z.shape) z.config) same s
+
+  pub seen_allowed : Sound (rules_of o v.shape) v.config → IsAllowed o w.shape (serial_ops w.config.finished)
+  seen_allowed s = serial_allowed o w.shape w.config (seen_sound s)
+
+  pub seen_ranged : AllRanged o (serial_ops v.config.finished) → AllRanged o (serial_ops w.config.finished)
+  seen_ranged s = subst (λ (z : Seen Shape Op). AllRanged o (serial_ops z.config.finished)) same s

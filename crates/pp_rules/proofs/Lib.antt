@@ -1,0 +1,10 @@
+pub mod Acting
+pub mod Finding
+pub mod Fitting
+pub mod Judging
+pub mod Keeping
+pub mod Looking
+pub mod Opened
+pub mod Slots
+pub mod Swapping
+pub mod Testing

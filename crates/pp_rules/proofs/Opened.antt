@@ -1,0 +1,115 @@
+-- The open transactions of a machine, as they stand in its configuration.
+use Rattle.std.proofs.Common.{IsTrue, ◌≡◌, ◌≢◌, ◌==◌, ℕ, true, false, List, map, reverse, Option, Some, None, is_some, option_map, refl, sym, ap, subst, ◌∙◌}
+use Rattle.std.specs.List.{list_any}
+use Rattle.std.proofs.lemmas.Bool.{eqb-true, eq-eqb}
+use Rattle.pp_core.specs.declared.entry.CommittedTx.{CommittedTx}
+use Rattle.pp_core.specs.declared.entry.LocalEntry.{LocalEntry}
+use Rattle.pp_core.specs.declared.entry.SharedEntry.{SharedEntry}
+use Rattle.pp_model.specs.Config.{Tx, tx, local_ops, shared_ops}
+use Rattle.pp_model.specs.Lists.{In}
+use Rattle.pp_model.specs.Names.{Name, ◌=ⁿ◌}
+use Rattle.pp_model.proofs.Lists.{in_map, from_map}
+use Rattle.pp_model.proofs.Logs.{found, found_tx}
+use Rattle.pp_model.proofs.Names.{eq-names, names-true}
+use Rattle.pp_spec.specs.Object.{Object, IsLawful}
+use Rattle.pp_rules.specs.Machines.{Holds, IsFine, tx_of}
+use Rattle.pp_rules.specs.Transactions.{Open, Txs, is_begun, is_busy, open_at, open_of, threads_of}
+use Rattle.pp_rules.specs.Finding.{AreDistinct}
+use Rattle.pp_rules.proofs.Fitting.{fits_in}
+use Rattle.pp_rules.proofs.Finding.{any_in, none_in, find_map, from_reverse, in_reverse, mapped_some, mapped_none}
+
+some_inj : {X : Type 0} (x y : X) → Some x ≡ Some y → x ≡ y
+some_inj x y e = cc
+
+-- names, threads and ids
+pub begun_in : {Shape Op : Type 0} (v : Txs Shape Op) (t : Name) → true ≡ is_begun v t → In t (reverse v.names)
+begun_in v t e =
+    let r = any_in (λ (n : Name). n =ⁿ t) v.names (sym e) in
+    in_reverse t v.names (subst (λ (n : Name). In n v.names) (names-true r.0 t r.2) r.1)
+
+pub not_begun : {Shape Op : Type 0} (v : Txs Shape Op) (t : Name) → false ≡ is_begun v t → In t (reverse v.names) → ⊥
+not_begun v t e i =
+    let k = none_in (λ (n : Name). n =ⁿ t) v.names (sym e) t (from_reverse t v.names i) in
+    let z : true ≡ false = sym (eq-names t t refl) ∙ k in cc
+
+pub used_in : (l : List ℕ) (id : ℕ) → true ≡ list_any (λ i. id == i) l → In id (reverse l)
+used_in l id e =
+    let r = any_in (λ (i : ℕ). id == i) l (sym e) in
+    in_reverse id l (subst (λ (i : ℕ). In i l) (sym (eqb-true id r.0 r.2)) r.1)
+
+pub not_used : (l : List ℕ) (id : ℕ) → false ≡ list_any (λ i. id == i) l → In id (reverse l) → ⊥
+not_used l id e i =
+    let k = none_in (λ (i : ℕ). id == i) l (sym e) id (from_reverse id l i) in
+    let z : true ≡ false = sym (eq-eqb id id refl) ∙ k in cc
+
+pub busy_in : {Shape Op : Type 0} (v : Txs Shape Op) (p : Name) → true ≡ is_busy v p → (x : Tx Op) × In x (map tx_of v.opened) × (x.thread ≡ p)
+busy_in v p e =
+    let r = any_in (λ (q : Name). q =ⁿ p) (threads_of v.opened) (sym e) in
+    let m = from_map (λ x. x.thread) r.0 v.opened r.1 in
+    (tx_of m.0, in_map tx_of m.0 v.opened m.1, sym m.2 ∙ names-true r.0 p r.2)
+
+pub not_busy : {Shape Op : Type 0} (v : Txs Shape Op) (p : Name) → false ≡ is_busy v p → (x : Tx Op) → In x (map tx_of v.opened) → x.thread ≢ p
+not_busy {Shape} {Op} v p e x i n =
+    let m = from_map tx_of x v.opened i in
+    let k = none_in (λ (q : Name). q =ⁿ p) (threads_of v.opened) (sym e) (m.0).thread (in_map (λ x. x.thread) m.0 v.opened m.1) in
+    let z : true ≡ false = sym (eq-names (m.0).thread p (sym (ap (λ (w : Tx Op). w.thread) m.2) ∙ n)) ∙ k in cc
+
+module _ {Shape State Op Undo : Type 0} (o : Object Shape State Op Undo) (shape : Shape) (v : Txs Shape Op) (ids : List ℕ) (G : Shape × List (SharedEntry Op)) (F : List (CommittedTx Op)) (n : ℕ) (h : Holds o shape v ids G F n) where
+  -- the open transaction t, with this local log
+  pub record HasLog (t : Name) (l : Shape × List (LocalEntry Op)) : Type 0 where
+    pub thread : Name
+    pub is : tx t (map tx_of v.opened) ≡ Some (record { name = t; thread = thread; body = None; local = l.1 })
+    pub at : open_at t v.opened ≡ Some (open_of t thread None l)
+    pub fine : IsFine o shape n (open_of t thread None l)
+
+  open_is : (x : Open Shape Op) (t : Name) (l : Shape × List (LocalEntry Op)) → x.name ≡ t → x.body ≡ None → x.local ≡ l → x ≡ open_of t x.thread None l
+  open_is x t l a b c = λ i. record { name = a i; thread = x.thread; body = b i; local = c i }
+
+  tx_is : (t : Name) → tx t (map tx_of v.opened) ≡ option_map tx_of (open_at t v.opened)
+  tx_is t = find_map tx_of (λ x. x.name =ⁿ t) v.opened
+
+  pub logged : (t : Name) (l : Shape × List (LocalEntry Op)) → Some l ≡ option_map (λ x. x.local) (open_at t v.opened) → HasLog t l
+  logged t l e =
+      let r = mapped_some (λ x. x.local) (open_at t v.opened) l e in
+      let k = found (λ (x : Open Shape Op). x.name =ⁿ t) v.opened r.0 r.1 in
+      let fine = h.fine r.0 k.0 in
+      let same = open_is r.0 t l (names-true (r.0).name t k.1) fine.body r.2 in
+      let at : open_at t v.opened ≡ Some (open_of t (r.0).thread None l) = r.1 ∙ ap (λ (x : Open Shape Op). Some x) same in
+      record { thread = (r.0).thread; is = tx_is t ∙ ap (option_map tx_of) at; at = at; fine = subst (IsFine o shape n) same fine }
+
+  pub unlogged : (t : Name) → None ≡ option_map (λ x. x.local) (open_at t v.opened) → tx t (map tx_of v.opened) ≡ None
+  unlogged t e = tx_is t ∙ ap (option_map tx_of) (mapped_none (λ x. x.local) (open_at t v.opened) e)
+
+  -- the transaction of the configuration, as it is kept
+  pub opened : (t : Name) (x : Tx Op) → tx t (map tx_of v.opened) ≡ Some x → (y : Open Shape Op) × (open_at t v.opened ≡ Some y) × (tx_of y ≡ x) × IsFine o shape n y × (y.name ≡ t) × In y v.opened
+  opened t x e =
+      let r = mapped_some tx_of (open_at t v.opened) x (sym e ∙ tx_is t) in
+      let k = found (λ (x : Open Shape Op). x.name =ⁿ t) v.opened r.0 r.1 in
+      (r.0, r.1, r.2, h.fine r.0 k.0, names-true (r.0).name t k.1, k.0)
+
+  local_of : (x : Option (Open Shape Op)) → ((y : Open Shape Op) → x ≡ Some y → y.local.0 ≡ shape) → option_map (λ x. x.local) x ≡ option_map (λ x. (shape, x.local)) (option_map tx_of x)
+  local_of None f = refl
+  local_of (Some y) f = ap (λ (s : Shape). Some (s, y.local.1)) (f y refl)
+
+  pub local_seen : (t : Name) → option_map (λ x. x.local) (open_at t v.opened) ≡ option_map (λ x. (shape, x.local)) (tx t (map tx_of v.opened))
+  local_seen t =
+      local_of (open_at t v.opened) (λ y e. (h.fine y (found (λ (x : Open Shape Op). x.name =ⁿ t) v.opened y e).0).same_shape)
+      ∙ ap (option_map (λ x. (shape, x.local))) (sym (tx_is t))
+
+  some_mapped : {X Y : Type 0} (f : X → Y) (x : Option X) → is_some (option_map f x) ≡ is_some x
+  some_mapped f None = refl
+  some_mapped f (Some x) = refl
+
+  pub open_seen : (t : Name) → is_some (option_map (λ x. x.local) (open_at t v.opened)) ≡ is_some (tx t (map tx_of v.opened))
+  open_seen t = some_mapped (λ x. x.local) (open_at t v.opened) ∙ sym (some_mapped tx_of (open_at t v.opened)) ∙ ap is_some (sym (tx_is t))
+
+  -- what the log of an open transaction keeps
+  pub fits_local : IsLawful o → (t : Name) (l : Shape × List (LocalEntry Op)) → HasLog t l → (p : LocalEntry Op) → In p l.1 → IsTrue (o.fits shape p.op)
+  fits_local laws t l r p i =
+      fits_in o laws shape (local_ops l.1) (h.sound.local_allowed (record { name = t; thread = r.thread; body = None; local = l.1 }) (found_tx t (map tx_of v.opened) _ r.is).0) p.op (in_map (λ (z : LocalEntry Op). z.op) p l.1 i)
+
+  pub distinct : (t : Name) (l : Shape × List (LocalEntry Op)) → HasLog t l → AreDistinct l.1
+  distinct t l r = h.sound.local_ids (record { name = t; thread = r.thread; body = None; local = l.1 }) (found_tx t (map tx_of v.opened) _ r.is).0
+
+  pub fits_shared : IsLawful o → (u : SharedEntry Op) → In u G.1 → IsTrue (o.fits shape u.op)
+  fits_shared laws u i = fits_in o laws shape (shared_ops G.1) h.sound.shared_allowed u.op (in_map (λ (z : SharedEntry Op). z.op) u G.1 i)

@@ -1,0 +1,55 @@
+use Rattle.std.proofs.Common.{◌++◌, ◌∷◌, [], ◌==◌, sym, subst, IsTrue}
+use Rattle.std.proofs.lemmas.Bool.{eqb-true}
+use Rattle.pp_model.specs.Config.{local_ops}
+use Rattle.pp_model.proofs.Logs.{found_other}
+use Rattle.pp_spec.specs.Object.{IsAllowed}
+use Rattle.pp_rules.proofs.Finding.{decided, decided_not, place_in, not_placed}
+use Rattle.pp_rules.proofs.Judging.{pull_1, pull_2, pull_3, pull_4, pull_5, pull_0}
+use Rattle.pp_rules.proofs.Opened.{fits_local, fits_shared, logged, unlogged}
+use Rattle.pp_rules.proofs.Swapping.{own_before, not_before}
+use Rattle.pp_rules.proofs.machine.Machine.judge_pull.Goals as goal
+
+pub returns-in_default : goal.returns-in_default
+returns-in_default g c =
+    pull_1 g.S.Spec.object _ _ c.self.view_is c.args.tx.now c.args.id (unlogged g.S.Spec.object c.self.inside.shape c.self.inside.transactions c.self.inside.ids.keys c.self.inside.shared c.self.inside.committed c.self.inside.count c.self.invariant c.args.tx.now c.in_default.ensures)
+
+pub returns-in_default-other_at : goal.returns-in_default-other_at
+returns-in_default-other_at g c =
+    let r = logged g.S.Spec.object c.self.inside.shape c.self.inside.transactions c.self.inside.ids.keys c.self.inside.shared c.self.inside.committed c.self.inside.count c.self.invariant c.args.tx.now c.in-Some.local.now c.in-Some.ensures in
+    pull_2 g.S.Spec.object _ _ c.self.view_is c.args.tx.now c.args.id _ r.is (sym c.in_default-other_at.ensures)
+
+pub returns-in-Some-find : goal.returns-in-Some-find
+returns-in-Some-find g c =
+    let r = logged g.S.Spec.object c.self.inside.shape c.self.inside.transactions c.self.inside.ids.keys c.self.inside.shared c.self.inside.committed c.self.inside.count c.self.invariant c.args.tx.now c.in-Some.local.now c.in-Some.ensures in
+    let a = place_in (λ e. e.id == c.args.id) c.in-Some.local.now.1 c.in-Some-find._there (sym c.in-Some-find.ensures) in
+    pull_3 g.S.Spec.object _ _ c.self.view_is c.args.tx.now c.args.id _ c.in-Some-other_at.post a.0 r.is (sym c.in-Some-other_at.ensures) a.1 (eqb-true (a.0).id c.args.id a.2)
+
+pub legal-requires : goal.legal-requires
+legal-requires g c =
+    let r = logged g.S.Spec.object c.self.inside.shape c.self.inside.transactions c.self.inside.ids.keys c.self.inside.shared c.self.inside.committed c.self.inside.count c.self.invariant c.args.tx.now c.in-Some.local.now c.in-Some.ensures in
+    let p = c.in-Some-other_at.post in
+    subst (λ sh. IsTrue (g.S.Spec.object.fits sh p.op)) (sym (r.fine).same_shape) (fits_shared g.S.Spec.object c.self.inside.shape c.self.inside.transactions c.self.inside.ids.keys c.self.inside.shared c.self.inside.committed c.self.inside.count c.self.invariant g.met.S.Spec.lawful p (found_other c.args.tx.now c.args.id _ _ (sym c.in-Some-other_at.ensures)).0)
+
+pub returns-then-not-legal : goal.returns-then-not-legal
+returns-then-not-legal g c =
+    let r = logged g.S.Spec.object c.self.inside.shape c.self.inside.transactions c.self.inside.ids.keys c.self.inside.shared c.self.inside.committed c.self.inside.count c.self.invariant c.args.tx.now c.in-Some.local.now c.in-Some.ensures in
+    let p = c.in-Some-other_at.post in
+    pull_4 g.S.Spec.object _ _ c.self.view_is c.args.tx.now c.args.id _ p r.is (sym c.in-Some-other_at.ensures) (not_placed c.in-Some.local.now.1 c.args.id (sym c.in_default-find.ensures))
+    (λ k. decided_not c.legal.result _ c.legal.ensures c.if-not-legal.true (subst (λ sh. IsAllowed g.S.Spec.object sh (local_ops c.in-Some.local.now.1 ++ p.op ∷ [])) (sym (r.fine).same_shape) k))
+
+pub returns-in-Some-first_not_before : goal.returns-in-Some-first_not_before
+returns-in-Some-first_not_before g c =
+    let r = logged g.S.Spec.object c.self.inside.shape c.self.inside.transactions c.self.inside.ids.keys c.self.inside.shared c.self.inside.committed c.self.inside.count c.self.invariant c.args.tx.now c.in-Some.local.now c.in-Some.ensures in
+    let p = c.in-Some-other_at.post in
+    let fit = fits_local g.S.Spec.object c.self.inside.shape c.self.inside.transactions c.self.inside.ids.keys c.self.inside.shared c.self.inside.committed c.self.inside.count c.self.invariant g.met.S.Spec.lawful c.args.tx.now c.in-Some.local.now r in
+    let q = not_before g.S.Spec.object c.self.inside.shape c.in-Some.local.now.1 c.in-Some-first_not_before._held p.op c.entries.result.now fit (fits_shared g.S.Spec.object c.self.inside.shape c.self.inside.transactions c.self.inside.ids.keys c.self.inside.shared c.self.inside.committed c.self.inside.count c.self.invariant g.met.S.Spec.lawful p (found_other c.args.tx.now c.args.id _ _ (sym c.in-Some-other_at.ensures)).0) c.entries.ensures c.in-Some-first_not_before.ensures in
+    pull_5 g.S.Spec.object _ _ c.self.view_is c.args.tx.now c.args.id _ p q.0 r.is (sym c.in-Some-other_at.ensures) (not_placed c.in-Some.local.now.1 c.args.id (sym c.in_default-find.ensures))
+    (subst (λ sh. IsAllowed g.S.Spec.object sh (local_ops c.in-Some.local.now.1 ++ p.op ∷ [])) (r.fine).same_shape (decided c.legal.result _ c.legal.ensures c.if-not-legal.false)) q.1 q.2 q.3
+
+pub returns : goal.returns
+returns g c =
+    let r = logged g.S.Spec.object c.self.inside.shape c.self.inside.transactions c.self.inside.ids.keys c.self.inside.shared c.self.inside.committed c.self.inside.count c.self.invariant c.args.tx.now c.in-Some.local.now c.in-Some.ensures in
+    let p = c.in-Some-other_at.post in
+    pull_0 g.S.Spec.object _ _ c.self.view_is c.args.tx.now c.args.id _ p r.is (sym c.in-Some-other_at.ensures) (not_placed c.in-Some.local.now.1 c.args.id (sym c.in_default-find.ensures))
+    (subst (λ sh. IsAllowed g.S.Spec.object sh (local_ops c.in-Some.local.now.1 ++ p.op ∷ [])) (r.fine).same_shape (decided c.legal.result _ c.legal.ensures c.if-not-legal.false))
+    (own_before g.S.Spec.object c.self.inside.shape c.in-Some.local.now.1 p.op c.entries.result.now c.entries.ensures c.in_default-first_not_before.ensures)

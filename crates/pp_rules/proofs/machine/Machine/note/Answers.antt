@@ -1,0 +1,8 @@
+use Rattle.pp_rules.proofs.Keeping.{holds_note, seen_note}
+use Rattle.pp_rules.proofs.machine.Machine.note.Goals as goal
+
+pub invariant_of-self : goal.invariant_of-self
+invariant_of-self g c = holds_note g.S.Spec.object c.self.inside.shape c.self.inside.transactions c.self.inside.ids.keys c.self.inside.shared c.self.inside.committed c.self.inside.count _ c.self.view_is c.self.invariant
+
+pub returns : goal.returns
+returns g c = seen_note g.S.Spec.object c.self.inside.shape c.self.inside.transactions c.self.inside.ids.keys c.self.inside.shared c.self.inside.committed c.self.inside.count _ c.self.view_is c.self.invariant c.args.tx.now

@@ -1,0 +1,4 @@
+pub mod Finding
+pub mod Machines
+pub mod Stepping
+pub mod Transactions

@@ -1,0 +1,45 @@
+-- What a step answers.
+use Rattle.std.specs.Prelude.{◌≡◌, ◌<◌, ◌+◌, ℕ, IsTrue, None}
+use Rattle.pp_core.specs.declared.step.Step.{Step}
+use Rattle.pp_model.specs.Config.{Begin, App, Unapp, Push, Unpush, Pull, Unpull, Cmt, Quit, Note}
+use Rattle.pp_model.specs.Rules.{Fails}
+use Rattle.pp_spec.specs.Object.{Object, rules_of}
+use Rattle.pp_rules.specs.declared.machine.Outcome.{Outcome}
+use Rattle.pp_rules.specs.declared.machine.Outcome.TheVariants.{Done, False}
+use Rattle.pp_rules.specs.Machines.{Seen, stepped}
+
+-- The steps that the machine can do so far, without bodies, with operations of the shape.
+abbrev pub IsAsked : {Shape State Op Undo : Type 0} → Object Shape State Op Undo → Shape → Step Op → Type 0
+IsAsked o shape (Begin t p b) = b ≡ None
+IsAsked o shape (App t id op) = IsTrue (o.fits shape op) × IsTrue (o.ranged op)
+IsAsked o shape (Unapp t id) = ⊥
+IsAsked o shape (Push t id) = Unit {0}
+IsAsked o shape (Unpush t id) = ⊥
+IsAsked o shape (Pull t id) = Unit {0}
+IsAsked o shape (Unpull t id) = ⊥
+IsAsked o shape (Cmt t) = Unit {0}
+IsAsked o shape (Quit t) = Unit {0}
+IsAsked o shape (Note t) = Unit {0}
+
+-- Done comes with the effect where each criterion holds, and False with the number of the first false one where the machine is as it was.
+abbrev pub Stepped : {Shape State Op Undo : Type 0} → Object Shape State Op Undo → Seen Shape Op → Step Op → Outcome → Seen Shape Op → Type 0
+Stepped o old step Done new = Fails (rules_of o old.shape) old.config step 0 × (new ≡ stepped old step)
+Stepped o old step (False n) new = Fails (rules_of o old.shape) old.config step n × (0 < n) × (new ≡ old)
+
+-- How many operations a step that is done applies.
+abbrev pub ticks : {Op : Type 0} → Step Op → ℕ
+ticks (App t id op) = 1
+ticks (Push t id) = 1
+ticks (Pull t id) = 1
+ticks _ = 0
+
+-- A step that is done costs exactly that, and one that is not done nothing.
+abbrev pub Costs : {Op : Type 0} → Step Op → Outcome → ℕ → ℕ → Type 0
+Costs step Done old new = new ≡ old + ticks step
+Costs step (False n) old new = new ≡ old
+
+-- The step needs no memory.
+abbrev pub NeedsNoMemory : {Op : Type 0} → Step Op → Type 0
+NeedsNoMemory (Quit t) = Unit {0}
+NeedsNoMemory (Note t) = Unit {0}
+NeedsNoMemory _ = ⊥

@@ -1,0 +1,135 @@
+ghost use Rattle.std.specs.Prelude.{◌≡◌, ◌==◌, ◌&&◌, ◌||◌, not, IsTrue, false, Some, None, slice_get, option_map, MatchOption, IfOk, IfSome};
+ghost use Rattle.std.specs.List.{list_all};
+ghost use Rattle.pp_model.specs.Config.{is_mark, is_own, own_items, at_mark, of_other};
+ghost use Rattle.pp_rules.specs.Finding.{HoldsBack, LetsPass, StandsFirst, GoesBehind, HoldsAtPlace, HoldEverywhere, AreDistinct, HaveOwnIds, stands_committed};
+
+use pp_core::{Item, Items, LocalEntry, Mark, Name, OutOfMemory, SharedEntry};
+use pp_local::Local;
+use pp_shared::Shared;
+use pp_spec::{Placed, Spec};
+use std::alloc::Global;
+
+/// Whether two marks are one.
+fn is_mark(mark: Mark, other: Mark) -> bool
+    ensures { result ≡ is_mark mark other }
+{
+    mark == other
+}
+
+/// Whether an entry of this mark is own.
+fn is_own(mark: Mark) -> bool
+    ensures { result ≡ is_own mark }
+{
+    mark != Mark::Pulled
+}
+
+/// The entry of this id and mark, with its place.
+pub fn marked_at<S: Placed>(
+    local: &Local<S>,
+    id: u32,
+    mark: Mark,
+) -> Option<(usize, LocalEntry<S::Op>)>
+    requires { AreDistinct local.now.1 }
+    ensures entry { option_map (λ r. r.1) result ≡ at_mark id mark local.now.1 }
+    ensures place { IfSome result (λ r. slice_get local.now.1 r.0 ≡ Some r.1) }
+{
+    let i = local.find(id)?;
+    let entry = local.entry(i)?;
+    if is_mark(entry.mark, mark) {
+        Some((i, *entry))
+    } else {
+        None
+    }
+}
+
+/// The entry of this id that another owns.
+pub fn other_at<S: Placed>(shared: &Shared<S>, owner: &Name, id: u32) -> Option<SharedEntry<S::Op>>
+    requires { HaveOwnIds shared.now.1 }
+    ensures { result ≡ of_other owner.now id shared.now.1 }
+{
+    let i = shared.find(id)?;
+    let entry = shared.entry(i)?;
+    if entry.owner.same(owner) {
+        None
+    } else {
+        Some(*entry)
+    }
+}
+
+/// Whether no own entry is unpushed.
+pub fn all_pushed<O: Copy>(entries: &[LocalEntry<O>]) -> bool
+    ensures { result ≡ list_all (λ e. not (is_mark e.mark Mark.Unpushed)) entries.now }
+{
+    entries
+        .iter()
+        .all(|entry| !is_mark(entry.mark, Mark::Unpushed))
+}
+
+/// Whether the entry of this id stands committed.
+fn stands_committed<S: Placed>(shared: &Shared<S>, id: u32) -> bool
+    ensures { result ≡ stands_committed id shared.now.1 }
+{
+    let Some(i) = shared.find(id) else {
+        return false;
+    };
+    let Some(entry) = shared.entry(i) else {
+        return false;
+    };
+    entry.committed
+}
+
+/// Whether each pulled entry stands committed.
+pub fn all_stand<S: Placed>(entries: &[LocalEntry<S::Op>], shared: &Shared<S>) -> bool
+    ensures { result ≡ list_all (λ e. not (is_mark e.mark Mark.Pulled) || stands_committed e.id shared.now.1) entries.now }
+{
+    entries.iter().all(|entry| !is_mark(entry.mark, Mark::Pulled)
+        || stands_committed(shared, entry.id))
+}
+
+/// Whether this is an own unpushed entry that the operation may not come before.
+fn holds_back<S: Spec>(entry: &LocalEntry<S::Op>, op: &S::Op) -> bool
+    ensures held { IsTrue result → HoldsBack S.object op.now entry.now }
+    ensures free { result ≡ false → LetsPass S.object op.now entry.now }
+{
+    is_mark(entry.mark, Mark::Unpushed) && !S::swaps(op, &entry.op)
+}
+
+/// The place of the first own unpushed entry that holds the operation back.
+pub fn first_holding_back<S: Spec>(before: &[LocalEntry<S::Op>], op: &S::Op) -> Option<usize>
+    ensures { MatchOption result (HoldEverywhere (LetsPass S.object op.now) before.now) (HoldsAtPlace (HoldsBack S.object op.now) before.now) }
+{
+    before.iter().position(|entry| holds_back::<S>(entry, op))
+}
+
+/// Whether this is an own entry that may not come behind the operation.
+fn stands_first<S: Spec>(entry: &LocalEntry<S::Op>, op: &S::Op) -> bool
+    ensures held { IsTrue result → StandsFirst S.object op.now entry.now }
+    ensures free { result ≡ false → GoesBehind S.object op.now entry.now }
+{
+    is_own(entry.mark) && !S::swaps(&entry.op, op)
+}
+
+/// The place of the first own entry that may not come behind the operation.
+pub fn first_not_before<S: Spec>(entries: &[LocalEntry<S::Op>], op: &S::Op) -> Option<usize>
+    ensures { MatchOption result (HoldEverywhere (GoesBehind S.object op.now) entries.now) (HoldsAtPlace (StandsFirst S.object op.now) entries.now) }
+{
+    entries
+        .iter()
+        .position(|entry| stands_first::<S>(entry, op))
+}
+
+/// The own entries.
+pub fn own_items<O: Copy>(alloc: Global, entries: &[LocalEntry<O>]) -> Result<Items<O>, OutOfMemory>
+    ensures { IfOk result (λ items. items ≡ own_items entries.now) }
+{
+    let mut items = Items::new(alloc);
+    for entry in entries {
+        if is_own(entry.mark) {
+            items.push(Item {
+                id: entry.id,
+                op: entry.op,
+            })?;
+        }
+    }
+    Ok(items)
+}

@@ -1,0 +1,8 @@
+//! The machine: its steps, their criteria and their effects.
+#![tactic(auto)]
+
+mod find;
+mod machine;
+mod transactions;
+
+pub use machine::{Machine, Outcome};

@@ -1,0 +1,206 @@
+ghost use Rattle.std.specs.Prelude.{◌≡◌, ◌≢◌, ◌+◌, ◌≤◌, IsSome, OnOk, OnErr, IfSome, None, Some, [], ◌∷◌, ◌++◌, false, option_map, slice_get};
+ghost use Rattle.std.specs.Map.{lookup};
+ghost use Rattle.std.specs.Option.{option_copied};
+ghost use Rattle.std.specs.Str.{bytes_eq};
+ghost use Rattle.pp_core.specs.declared.entry.LocalEntry.{LocalEntry};
+ghost use Rattle.pp_core.specs.declared.entry.Mark.TheVariants.{Pulled};
+ghost use Rattle.pp_model.specs.Config.{marked};
+ghost use Rattle.pp_rules.specs.Transactions.{Open, is_begun, is_busy, open_at, open_of, with_open, without_open, with_log, Takes, HasOwn};
+
+use indexmap::{IndexMap, IndexSet};
+use pp_core::{Body, LocalEntry, Mark, Name, OutOfMemory, Steps};
+use pp_local::Local;
+use pp_spec::Placed;
+use std::alloc::Global;
+use std::marker::Model;
+use std::sync::ledger::Ledger;
+
+/// An open transaction, with its local log.
+#[derive(Drop)]
+pub struct OpenTx<T> {
+    pub thread: Name,
+    pub body: Option<Body>,
+    pub local: T,
+}
+
+/// The transactions of a run: the names begun, and those that are open.
+#[derive(Drop)]
+pub struct Transactions<S: Placed> {
+    slots: IndexMap<Name, Option<OpenTx<Local<S>>>>,
+    threads: IndexSet<Name>,
+}
+
+impl<S: Placed> Model for Transactions<S> {
+    ghost use Rattle.pp_rules.specs.Transactions.{Txs, filled, open_of, threads_of, Kept};
+    ghost use Rattle.pp_core.specs.contracts.body.Body as body_e;
+    ghost use Rattle.std.specs.Coded.{codes};
+    ghost use Rattle.std.specs.Map.{keys_of};
+
+    ghost Value = { Txs S.Shape S.Op };
+
+    ghost coded = { Prim.hlevel (codes, body_e.the_row.coded, S.Shape.code, S.Op.code) };
+
+    ghost view = { λ a. record { names = keys_of a.slots.entries; opened = filled (λ n t. open_of n t.thread t.body t.local) a.slots.entries } };
+
+    ghost invariant = { λ a. Kept (keys_of a.slots.entries) a.threads.keys (threads_of (filled (λ n t. open_of n t.thread t.body t.local) a.slots.entries)) };
+}
+
+/// Gives a name that has no slot one that holds the transaction.
+fn put<T: Drop>(
+    slots: &mut IndexMap<Name, Option<OpenTx<T>>>,
+    tx: &Name,
+    begun: OpenTx<T>,
+) -> Result<(), OutOfMemory>
+    requires { lookup (bytes_eq tx.now) slots.old.entries ≡ None }
+    ensures ok { OnOk result (slots.new.entries ≡ slots.old.entries ++ (tx.now, Some begun) ∷ []) }
+    ensures err { OnErr result (slots.new.entries ≡ slots.old.entries) }
+{
+    slots.insert(*tx, Some(begun))?;
+    Ok(())
+}
+
+/// Empties a slot, and gives the thread of the transaction in it.
+fn empty<T: Drop>(slot: &mut Option<OpenTx<T>>) -> Option<Name>
+    ensures thread { result ≡ option_map (λ t. t.thread) slot.old }
+    ensures emptied { slot.new ≡ None }
+{
+    let open = slot.take()?;
+    Some(open.thread)
+}
+
+/// Adds an entry to the local log in a slot.
+fn append_in<S: Placed, L: Ledger>(
+    slot: &mut Option<OpenTx<Local<S>>>,
+    entry: LocalEntry<S::Op>,
+    steps: &mut Steps<L>,
+) -> Result<(), OutOfMemory>
+    requires held { IsSome slot.old }
+    requires takes { IfSome slot.old (λ t. Takes S.object t.local entry) }
+    ensures ok { OnOk result (slot.new ≡ option_map (λ t. record { thread = t.thread; body = t.body; local = (t.local.0, t.local.1 ++ entry ∷ []) }) slot.old) }
+    ensures err { OnErr result (slot.new ≡ slot.old) }
+    ensures cost { OnOk result (steps.new ≡ steps.old + 1) }
+    ensures bound { steps.new ≤ steps.old + 1 }
+{
+    match slot {
+        Some(open) => open.local.append(entry, steps),
+        None => unreachable!(),
+    }
+}
+
+/// Marks an entry of the local log in a slot.
+fn mark_in<S: Placed>(slot: &mut Option<OpenTx<Local<S>>>, i: usize, mark: Mark)
+    requires held { IsSome slot.old }
+    requires own { IfSome slot.old (λ t. HasOwn t.local.1 i) }
+    requires to_own { mark ≢ Pulled }
+    ensures { (e : LocalEntry S.Op) → IfSome slot.old (λ t. slice_get t.local.1 i ≡ Some e) → slot.new ≡ option_map (λ t. record { thread = t.thread; body = t.body; local = (t.local.0, marked e.id mark t.local.1) }) slot.old }
+{
+    match slot {
+        Some(open) => open.local.mark(i, mark),
+        None => unreachable!(),
+    }
+}
+
+impl<S: Placed> Transactions<S> {
+    /// No transaction.
+    pub fn new(alloc: Global) -> Self
+        ensures { result ≡ record { names = []; opened = [] } }
+    {
+        Transactions {
+            slots: IndexMap::new(alloc),
+            threads: IndexSet::new(alloc),
+        }
+    }
+
+    /// Whether the name was begun.
+    pub fn is_begun(&self, tx: &Name) -> bool
+        ensures { result ≡ is_begun self.now tx.now }
+    {
+        self.slots.contains_key(tx)
+    }
+
+    /// Whether an open transaction has this thread.
+    pub fn is_busy(&self, thread: &Name) -> bool
+        ensures { result ≡ is_busy self.now thread.now }
+    {
+        self.threads.contains(thread)
+    }
+
+    /// The local log of an open transaction.
+    pub fn local(&self, tx: &Name) -> Option<&Local<S>>
+        ensures { option_copied result ≡ option_map (λ x. x.local) (open_at tx.now self.now.opened) }
+    {
+        let slot = self.slots.get(tx)?;
+        let open = slot.as_ref()?;
+        Some(&open.local)
+    }
+
+    /// Opens a transaction with an empty log. After a refusal of memory the transactions are as they were.
+    pub fn begin(
+        &mut self,
+        alloc: Global,
+        shape: &S::Shape,
+        tx: &Name,
+        thread: &Name,
+    ) -> Result<(), OutOfMemory>
+        requires new { is_begun self.old tx.now ≡ false }
+        requires idle { is_busy self.old thread.now ≡ false }
+        ensures ok { OnOk result (self.new ≡ with_open (open_of tx.now thread.now None (shape.now, [])) self.old) }
+        ensures err { OnErr result (self.new ≡ self.old) }
+    {
+        let local = Local::new(alloc, shape)?;
+        self.threads.reserve(1)?;
+        let begun = OpenTx {
+            thread: *thread,
+            body: None,
+            local,
+        };
+        put(&mut self.slots, tx, begun)?;
+        let Ok(_added) = self.threads.insert(*thread) else {
+            unreachable!()
+        };
+        Ok(())
+    }
+
+    /// Ends an open transaction.
+    pub fn end(&mut self, tx: &Name)
+        ensures { self.new ≡ without_open tx.now self.old }
+    {
+        let Some(slot) = self.slots.get_mut(tx) else {
+            return;
+        };
+        if let Some(thread) = empty(slot) {
+            self.threads.swap_remove(&thread);
+        }
+    }
+
+    /// Adds an entry to a local log.
+    pub fn append<L: Ledger>(
+        &mut self,
+        tx: &Name,
+        entry: LocalEntry<S::Op>,
+        steps: &mut Steps<L>,
+    ) -> Result<(), OutOfMemory>
+        requires taken { (x : Open S.Shape S.Op) × (open_at tx.now self.old.opened ≡ Some x) × Takes S.object x.local entry }
+        ensures ok { OnOk result (self.new ≡ with_log tx.now (λ l. l ++ entry ∷ []) self.old) }
+        ensures err { OnErr result (self.new ≡ self.old) }
+        ensures cost { OnOk result (steps.new ≡ steps.old + 1) }
+        ensures bound { steps.new ≤ steps.old + 1 }
+    {
+        let Some(slot) = self.slots.get_mut(tx) else {
+            unreachable!()
+        };
+        append_in(slot, entry, steps)
+    }
+
+    /// Marks an entry of a local log.
+    pub fn mark(&mut self, tx: &Name, i: usize, mark: Mark)
+        requires own { (x : Open S.Shape S.Op) × (open_at tx.now self.old.opened ≡ Some x) × HasOwn x.local.1 i }
+        requires to_own { mark ≢ Pulled }
+        ensures { (x : Open S.Shape S.Op) (e : LocalEntry S.Op) → open_at tx.now self.old.opened ≡ Some x → slice_get x.local.1 i ≡ Some e → self.new ≡ with_log tx.now (marked e.id mark) self.old }
+    {
+        let Some(slot) = self.slots.get_mut(tx) else {
+            unreachable!()
+        };
+        mark_in(slot, i, mark);
+    }
+}
