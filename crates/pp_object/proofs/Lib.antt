@@ -1,0 +1,4 @@
+pub mod Alone
+pub mod There
+pub mod Items
+pub mod Made

@@ -1,0 +1,5 @@
+pub mod One
+pub mod Objects
+pub mod Calls
+pub mod Pieces
+pub mod laws

@@ -1,0 +1,153 @@
+-- What one object means, of whatever kind: what its kind means.
+use Rattle.std.specs.Prelude.{ℤ, Bool, true, false, List, map, Option, Some, None, pos, Result, Ok, Err}
+use Rattle.pp_core.specs.declared.answer.OutOfMemory.{OutOfMemory}
+use Rattle.pp_spec.specs.declared.spec.Applied.{Applied}
+use Rattle.pp_spec.specs.declared.spec.Applied.TheVariants.{Done, Differs}
+use Rattle.pp_core.specs.declared.answer.Answer.{Answer}
+use Rattle.pp_core.specs.declared.answer.Answer.TheVariants.{None as NoAnswer}
+use Rattle.pp_core.specs.declared.call.Call.{Call}
+use Rattle.pp_core.specs.declared.call.Kind.{Kind}
+use Rattle.pp_core.specs.declared.call.Kind.TheVariants as kinds
+use Rattle.pp_spec.specs.Object.{Object}
+use Rattle.pp_mem.specs.Memories.{memory}
+use Rattle.pp_set.specs.Sets.{key_set}
+use Rattle.pp_map.specs.KeyMap.{key_map}
+use Rattle.pp_counter.specs.Count.{counter}
+use Rattle.pp_queue.specs.Fifo.{fifo}
+use Rattle.pp_object.specs.declared.act.Act.{Act}
+use Rattle.pp_object.specs.declared.act.Act.TheVariants.{Memory, KeySet, KeyMap, Counter, Queue}
+use Rattle.pp_object.specs.declared.states.ObjectState.{ObjectState}
+use Rattle.pp_object.specs.declared.states.ObjectState.TheVariants as states
+use Rattle.pp_object.specs.declared.states.Undo.{Undo}
+use Rattle.pp_object.specs.declared.states.Undo.TheVariants.{Covered, Nothing}
+
+-- it is the state of some run of its kind
+abbrev pub IsState : ObjectState → Type 0
+IsState (states.Memory s) = memory.IsState s
+IsState (states.KeySet s) = key_set.IsState s
+IsState (states.KeyMap s) = key_map.IsState s
+IsState (states.Counter s) = counter.IsState s
+IsState (states.Queue s) = fifo.IsState s
+
+-- the state from which an object of a kind begins
+abbrev pub empty_of : Kind → ObjectState
+empty_of kinds.Memory = states.Memory (memory.start tt)
+empty_of kinds.KeySet = states.KeySet (key_set.start tt)
+empty_of kinds.KeyMap = states.KeyMap (key_map.start tt)
+empty_of kinds.Counter = states.Counter (counter.start tt)
+empty_of kinds.Queue = states.Queue (fifo.start tt)
+
+-- the kind of the object that has this state
+abbrev pub kind_of : ObjectState → Kind
+kind_of (states.Memory s) = kinds.Memory
+kind_of (states.KeySet s) = kinds.KeySet
+kind_of (states.KeyMap s) = kinds.KeyMap
+kind_of (states.Counter s) = kinds.Counter
+kind_of (states.Queue s) = kinds.Queue
+
+-- it is an act on objects of this kind
+abbrev pub fits : Kind → Act → Bool
+fits kinds.Memory (Memory a) = true
+fits kinds.KeySet (KeySet a) = true
+fits kinds.KeyMap (KeyMap a) = true
+fits kinds.Counter (Counter a) = true
+fits kinds.Queue (Queue a) = true
+fits kind act = false
+
+-- all its numbers lie in the range of records
+abbrev pub is_ranged : Act → Bool
+is_ranged (Memory a) = memory.ranged a
+is_ranged (KeySet a) = key_set.ranged a
+is_ranged (KeyMap a) = key_map.ranged a
+is_ranged (Counter a) = counter.ranged a
+is_ranged (Queue a) = fifo.ranged a
+
+-- its method and its arguments, at the object 0
+abbrev pub call_of : Act → Call
+call_of (Memory a) = memory.call a
+call_of (KeySet a) = key_set.call a
+call_of (KeyMap a) = key_map.call a
+call_of (Counter a) = counter.call a
+call_of (Queue a) = fifo.call a
+
+-- the result that it records
+abbrev pub recorded_by : Act → Answer
+recorded_by (Memory a) = memory.recorded a
+recorded_by (KeySet a) = key_set.recorded a
+recorded_by (KeyMap a) = key_map.recorded a
+recorded_by (Counter a) = counter.recorded a
+recorded_by (Queue a) = fifo.recorded a
+
+-- the result that an object gives for an act of its kind
+abbrev pub given_by : ObjectState → Act → Answer
+given_by (states.Memory s) (Memory a) = memory.gives s a
+given_by (states.KeySet s) (KeySet a) = key_set.gives s a
+given_by (states.KeyMap s) (KeyMap a) = key_map.gives s a
+given_by (states.Counter s) (Counter a) = counter.gives s a
+given_by (states.Queue s) (Queue a) = fifo.gives s a
+given_by s a = NoAnswer
+
+-- the state afterwards
+abbrev pub state_after : ObjectState → Act → ObjectState
+state_after (states.Memory s) (Memory a) = states.Memory (memory.next s a)
+state_after (states.KeySet s) (KeySet a) = states.KeySet (key_set.next s a)
+state_after (states.KeyMap s) (KeyMap a) = states.KeyMap (key_map.next s a)
+state_after (states.Counter s) (Counter a) = states.Counter (counter.next s a)
+state_after (states.Queue s) (Queue a) = states.Queue (fifo.next s a)
+state_after s a = s
+
+-- what is kept to take it back: a memory's number, and else nothing
+abbrev pub kept_by : ObjectState → Act → Undo
+kept_by (states.Memory s) (Memory a) = Covered (memory.kept s a)
+kept_by s a = Nothing
+
+-- the number that was kept
+abbrev pub covered_by : Undo → ℤ
+covered_by (Covered number) = number
+covered_by Nothing = pos 0
+
+-- the state that this brings back
+abbrev pub state_before : ObjectState → Act → Undo → ObjectState
+state_before (states.Memory s) (Memory a) undo = states.Memory (memory.back s a (covered_by undo))
+state_before (states.KeySet s) (KeySet a) undo = states.KeySet (key_set.back s a tt)
+state_before (states.KeyMap s) (KeyMap a) undo = states.KeyMap (key_map.back s a tt)
+state_before (states.Counter s) (Counter a) undo = states.Counter (counter.back s a tt)
+state_before (states.Queue s) (Queue a) undo = states.Queue (fifo.back s a tt)
+state_before s a undo = s
+
+-- lists of a kind's operations, as lists of acts
+abbrev pub both_as : {A B : Type 0} → (A → B) → Option (List A × List A) → Option (List B × List B)
+both_as f None = None
+both_as f (Some lists) = Some (map f lists.0, map f lists.1)
+
+-- acts before and after a pair that may not change places
+abbrev pub refuting_lists : Act → Act → Option (List Act × List Act)
+refuting_lists (Memory a) (Memory b) = both_as Memory (memory.refuting a b)
+refuting_lists (KeySet a) (KeySet b) = both_as KeySet (key_set.refuting a b)
+refuting_lists (KeyMap a) (KeyMap b) = both_as KeyMap (key_map.refuting a b)
+refuting_lists (Counter a) (Counter b) = both_as Counter (counter.refuting a b)
+refuting_lists (Queue a) (Queue b) = both_as Queue (fifo.refuting a b)
+refuting_lists a b = None
+
+-- what `apply` did, with what is kept among what all kinds keep
+abbrev pub kept_as : {U : Type 0} → (U → Undo) → Result (Applied U) OutOfMemory → Result (Applied Undo) OutOfMemory
+kept_as f (Ok (Done undo)) = Ok (Done (f undo))
+kept_as f (Ok Differs) = Ok Differs
+kept_as f (Err refused) = Err refused
+
+-- an object of any kind
+abbrev pub one : Object Kind ObjectState Act Undo
+one = record {
+  IsState = IsState;
+  start = empty_of;
+  shape = kind_of;
+  fits = fits;
+  ranged = is_ranged;
+  call = call_of;
+  recorded = recorded_by;
+  gives = given_by;
+  next = state_after;
+  kept = kept_by;
+  back = state_before;
+  refuting = refuting_lists;
+}

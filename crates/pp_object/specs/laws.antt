@@ -1,0 +1,9 @@
+pub mod Among
+pub mod Lists
+pub mod Acts
+pub mod Five
+pub mod One
+pub mod Reached
+pub mod Elements
+pub mod Places
+pub mod Objects

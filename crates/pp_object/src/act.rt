@@ -1,0 +1,68 @@
+ghost use Rattle.std.specs.Prelude.{◌≡◌};
+ghost use Rattle.pp_object.specs.One.{is_ranged, recorded_by, call_of};
+
+use pp_core::{Answer, Call};
+use pp_counter::CounterOp;
+use pp_map::MapOp;
+use pp_mem::MemOp;
+use pp_queue::QueueOp;
+use pp_set::SetOp;
+
+/// A call on an object of some kind, with its recorded result.
+#[derive(Clone, Copy, Debug, PartialEq, Eq)]
+pub enum Act {
+    Memory(MemOp),
+    KeySet(SetOp),
+    KeyMap(MapOp),
+    Counter(CounterOp),
+    Queue(QueueOp),
+}
+
+/// An operation of a run: the place of its object, and what is done there.
+#[derive(Clone, Copy, Debug, PartialEq, Eq)]
+pub struct Op {
+    /// The place of the object in the catalog.
+    pub object: u16,
+    pub act: Act,
+}
+
+impl Act {
+    /// Whether all its numbers may stand in a record.
+    pub fn ranged(&self) -> bool
+        ensures { result ≡ is_ranged self.now }
+    {
+        match self {
+            Act::Memory(op) => op.ranged(),
+            Act::KeySet(op) => op.ranged(),
+            Act::KeyMap(op) => op.ranged(),
+            Act::Counter(op) => op.ranged(),
+            Act::Queue(op) => op.ranged(),
+        }
+    }
+
+    /// The result that it records.
+    pub fn recorded(&self) -> Answer
+        ensures { result ≡ recorded_by self.now }
+    {
+        match self {
+            Act::Memory(op) => op.recorded(),
+            Act::KeySet(op) => op.recorded(),
+            Act::KeyMap(op) => op.recorded(),
+            Act::Counter(op) => op.recorded(),
+            Act::Queue(op) => op.recorded(),
+        }
+    }
+
+    /// Its call, at the object 0.
+    pub fn call(&self) -> Call
+        ensures { result ≡ call_of self.now }
+    {
+        match self {
+            Act::Memory(op) => op.call(),
+            Act::KeySet(op) => op.call(),
+            Act::KeyMap(op) => op.call(),
+            Act::Counter(op) => op.call(),
+            Act::Queue(op) => op.call(),
+        }
+    }
+}

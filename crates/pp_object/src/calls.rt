@@ -1,0 +1,249 @@
+ghost use Rattle.std.specs.Prelude.{◌≡◌, ◌≢◌, IsTrue, IfSome, None, negsuc, pos, ◌≤ℤ◌};
+ghost use Rattle.pp_spec.specs.Numbers.{is_ranged_answer};
+ghost use Rattle.pp_object.specs.Calls.{word_of, methods_of, HasMethod, first_named, arity_of, act_made, memory_act, set_act, map_act, counter_act, queue_act, value_of, op_made, IsOpOf};
+
+use crate::act::{Act, Op};
+use pp_core::{Answer, Call, Kind, Method};
+use pp_counter::CounterOp;
+use pp_map::MapOp;
+use pp_mem::MemOp;
+use pp_queue::QueueOp;
+use pp_set::SetOp;
+use pp_spec::GREATEST_NUMBER;
+
+/// The method that a kind's objects have under this word.
+pub fn method_of(kind: Kind, word: &[u8]) -> Option<Method>
+    ensures value { result ≡ first_named (methods_of kind) word.now }
+    ensures found { IfSome result (λ method. HasMethod kind method × (word_of method ≡ word.now)) }
+    ensures none { result ≡ None → (method : Method) → HasMethod kind method → word_of method ≢ word.now }
+{
+    match kind {
+        Kind::Memory => memory_method(word),
+        Kind::KeySet => set_method(word),
+        Kind::KeyMap => map_method(word),
+        Kind::Counter => counter_method(word),
+        Kind::Queue => queue_method(word),
+    }
+}
+
+fn memory_method(word: &[u8]) -> Option<Method>
+    ensures { result ≡ first_named (methods_of Kind.Memory) word.now }
+{
+    if word == b"read".as_slice() {
+        Some(Method::Read)
+    } else if word == b"write".as_slice() {
+        Some(Method::Write)
+    } else {
+        None
+    }
+}
+
+fn set_method(word: &[u8]) -> Option<Method>
+    ensures { result ≡ first_named (methods_of Kind.KeySet) word.now }
+{
+    if word == b"add".as_slice() {
+        Some(Method::Add)
+    } else if word == b"remove".as_slice() {
+        Some(Method::Remove)
+    } else if word == b"contains".as_slice() {
+        Some(Method::Contains)
+    } else {
+        None
+    }
+}
+
+fn map_method(word: &[u8]) -> Option<Method>
+    ensures { result ≡ first_named (methods_of Kind.KeyMap) word.now }
+{
+    if word == b"put".as_slice() {
+        Some(Method::Put)
+    } else if word == b"get".as_slice() {
+        Some(Method::Get)
+    } else if word == b"remove".as_slice() {
+        Some(Method::Remove)
+    } else {
+        None
+    }
+}
+
+fn counter_method(word: &[u8]) -> Option<Method>
+    ensures { result ≡ first_named (methods_of Kind.Counter) word.now }
+{
+    if word == b"add".as_slice() {
+        Some(Method::Add)
+    } else if word == b"get".as_slice() {
+        Some(Method::Get)
+    } else if word == b"fetch_add".as_slice() {
+        Some(Method::FetchAdd)
+    } else {
+        None
+    }
+}
+
+fn queue_method(word: &[u8]) -> Option<Method>
+    ensures { result ≡ first_named (methods_of Kind.Queue) word.now }
+{
+    if word == b"enq".as_slice() {
+        Some(Method::Enq)
+    } else if word == b"deq".as_slice() {
+        Some(Method::Deq)
+    } else {
+        None
+    }
+}
+
+/// How many arguments a call of this method has.
+pub fn arity(kind: Kind, method: Method) -> usize
+    requires { HasMethod kind method }
+    ensures { result ≡ arity_of kind method }
+{
+    match method {
+        Method::Write | Method::Put => 2,
+        Method::Deq => 0,
+        Method::Get => match kind {
+            Kind::Counter => 0,
+            _ => 1,
+        },
+        _ => 1,
+    }
+}
+
+/// Whether its number, if it is one, may stand in a record.
+fn answer_ranged(answer: &Answer) -> bool
+    ensures { result ≡ is_ranged_answer answer.now }
+{
+    match *answer {
+        Answer::Number(number) => {
+            let greatest = i128::from(GREATEST_NUMBER);
+            -greatest <= number && number <= greatest
+        }
+        _ => true,
+    }
+}
+
+fn memory_act(call: &Call, answer: &Answer) -> Option<Act>
+    requires { IsTrue (is_ranged_answer answer.now) }
+    ensures { result ≡ memory_act call.now.method call.now.first call.now.second answer.now }
+{
+    match (call.method, *answer) {
+        (Method::Read, Answer::Number(value)) => Some(Act::Memory(MemOp::Read {
+            at: call.first,
+            value: value as i64,
+        })),
+        (Method::Write, Answer::None) => Some(Act::Memory(MemOp::Write {
+            at: call.first,
+            value: call.second,
+        })),
+        _ => None,
+    }
+}
+
+fn set_act(call: &Call, answer: &Answer) -> Option<Act>
+    ensures { result ≡ set_act call.now.method call.now.first answer.now }
+{
+    let key = call.first;
+    match (call.method, *answer) {
+        (Method::Add, Answer::Truth(changed)) => Some(Act::KeySet(SetOp::Add { key, changed })),
+        (Method::Remove, Answer::Truth(changed)) => {
+            Some(Act::KeySet(SetOp::Remove { key, changed }))
+        }
+        (Method::Contains, Answer::Truth(present)) => {
+            Some(Act::KeySet(SetOp::Contains { key, present }))
+        }
+        _ => None,
+    }
+}
+
+/// The value that a call found, if its result is one.
+fn found(answer: &Answer) -> Option<Option<i64>>
+    requires { IsTrue (is_ranged_answer answer.now) }
+    ensures { result ≡ value_of answer.now }
+{
+    match *answer {
+        Answer::None => Some(None),
+        Answer::Number(value) => Some(Some(value as i64)),
+        Answer::Truth(_) => None,
+    }
+}
+
+fn map_act(call: &Call, answer: &Answer) -> Option<Act>
+    requires { IsTrue (is_ranged_answer answer.now) }
+    ensures { result ≡ map_act call.now.method call.now.first call.now.second answer.now }
+{
+    let key = call.first;
+    let found = found(answer)?;
+    match call.method {
+        Method::Put => Some(Act::KeyMap(MapOp::Put {
+            key,
+            value: call.second,
+            was: found,
+        })),
+        Method::Get => Some(Act::KeyMap(MapOp::Get { key, found })),
+        Method::Remove => Some(Act::KeyMap(MapOp::Remove { key, was: found })),
+        _ => None,
+    }
+}
+
+fn counter_act(call: &Call, answer: &Answer) -> Option<Act>
+    requires { IsTrue (is_ranged_answer answer.now) }
+    ensures { result ≡ counter_act call.now.method call.now.first answer.now }
+{
+    let by = call.first;
+    match (call.method, *answer) {
+        (Method::Add, Answer::None) => Some(Act::Counter(CounterOp::Add { by })),
+        (Method::Get, Answer::Number(value)) => Some(Act::Counter(CounterOp::Get {
+            value: value as i64,
+        })),
+        (Method::FetchAdd, Answer::Number(was)) => Some(Act::Counter(CounterOp::FetchAdd {
+            by,
+            was: was as i64,
+        })),
+        _ => None,
+    }
+}
+
+fn queue_act(call: &Call, answer: &Answer) -> Option<Act>
+    requires { IsTrue (is_ranged_answer answer.now) }
+    ensures { result ≡ queue_act call.now.method call.now.first answer.now }
+{
+    match (call.method, *answer) {
+        (Method::Enq, Answer::None) => Some(Act::Queue(QueueOp::Enq { value: call.first })),
+        (Method::Deq, Answer::None) => Some(Act::Queue(QueueOp::Deq { value: None })),
+        (Method::Deq, Answer::Number(value)) => Some(Act::Queue(QueueOp::Deq {
+            value: Some(value as i64),
+        })),
+        _ => None,
+    }
+}
+
+fn act_made(kind: Kind, call: &Call, answer: &Answer) -> Option<Act>
+    requires { IsTrue (is_ranged_answer answer.now) }
+    ensures { result ≡ act_made kind call.now answer.now }
+{
+    match kind {
+        Kind::Memory => memory_act(call, answer),
+        Kind::KeySet => set_act(call, answer),
+        Kind::KeyMap => map_act(call, answer),
+        Kind::Counter => counter_act(call, answer),
+        Kind::Queue => queue_act(call, answer),
+    }
+}
+
+/// The operation of a call on an object of the kind, with its result, if there is one. Arguments
+/// that the method does not have do not count.
+pub fn make_op(kind: Kind, call: &Call, answer: &Answer) -> Option<Op>
+    ensures value { result ≡ op_made kind call.now answer.now }
+    ensures made { IfSome result (IsOpOf kind call.now answer.now) }
+{
+    if !answer_ranged(answer) {
+        return None;
+    }
+    let act = act_made(kind, call, answer)?;
+    if !act.ranged() {
+        return None;
+    }
+    Some(Op {
+        object: call.object,
+        act,
+    })
+}

@@ -1,0 +1,17 @@
+//! The objects of a run: one state for each of any kinds, and operations that name the place of theirs.
+#![tactic(auto)]
+
+mod act;
+mod acts;
+mod calls;
+mod objects;
+mod one;
+mod pieces;
+mod states;
+
+pub use act::{Act, Op};
+pub use calls::{arity, make_op, method_of};
+pub use objects::Objects;
+pub use one::OneObject;
+pub use pieces::{Piece, Pieces, show};
+pub use states::{ObjectState, ObjectStates, Undo};

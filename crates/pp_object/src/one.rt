@@ -1,0 +1,185 @@
+ghost use Rattle.std.specs.Prelude.{◌≡◌, ◌↔◌, IsTrue};
+ghost use Rattle.pp_spec.specs.Object.{Swaps};
+ghost use Rattle.pp_object.specs.One.{one, kept_as};
+ghost use Rattle.pp_object.specs.declared.states.Undo.TheVariants.{Covered, Nothing};
+ghost use Rattle.pp_object.specs.laws.One.{one_lawful};
+
+use crate::act::Act;
+use crate::acts::context_of;
+use crate::states::{ObjectState, Undo};
+use pp_core::{Answer, Kind, OutOfMemory, Steps};
+use pp_counter::Count;
+use pp_map::KeyMap;
+use pp_mem::Mem;
+use pp_queue::Fifo;
+use pp_set::KeySet;
+use pp_spec::{Applied, Context, Spec};
+use std::alloc::Global;
+use std::sync::ledger::Ledger;
+
+/// One object of any kind.
+#[derive(Drop)]
+pub struct OneObject;
+
+/// What `apply` of a memory did.
+fn covered(applied: Result<Applied<i64>, OutOfMemory>) -> Result<Applied<Undo>, OutOfMemory>
+    ensures { result ≡ kept_as Covered applied }
+{
+    match applied {
+        Ok(Applied::Done(number)) => Ok(Applied::Done(Undo::Covered(number))),
+        Ok(Applied::Differs) => Ok(Applied::Differs),
+        Err(refused) => Err(refused),
+    }
+}
+
+/// What `apply` of any other kind did.
+fn uncovered(applied: Result<Applied<()>, OutOfMemory>) -> Result<Applied<Undo>, OutOfMemory>
+    ensures { result ≡ kept_as (λ u. Nothing) applied }
+{
+    match applied {
+        Ok(Applied::Done(())) => Ok(Applied::Done(Undo::Nothing)),
+        Ok(Applied::Differs) => Ok(Applied::Differs),
+        Err(refused) => Err(refused),
+    }
+}
+
+/// Whether two acts may change places. Those that no object has together always may.
+fn may_swap(a: &Act, b: &Act) -> bool
+    ensures { IsTrue result ↔ Swaps one a.now b.now }
+{
+    match (a, b) {
+        (Act::Memory(a), Act::Memory(b)) => Mem::swaps(a, b),
+        (Act::KeySet(a), Act::KeySet(b)) => KeySet::swaps(a, b),
+        (Act::KeyMap(a), Act::KeyMap(b)) => KeyMap::swaps(a, b),
+        (Act::Counter(a), Act::Counter(b)) => Count::swaps(a, b),
+        (Act::Queue(a), Act::Queue(b)) => Fifo::swaps(a, b),
+        _ => true,
+    }
+}
+
+impl Spec for OneObject {
+    type Shape = Kind;
+
+    type State = ObjectState;
+
+    type Op = Act;
+
+    type Undo = Undo;
+
+    ghost object = { one };
+
+    fn empty(alloc: Global, shape: &Kind) -> Result<ObjectState, OutOfMemory> {
+        match shape {
+            Kind::Memory => Ok(ObjectState::Memory(Mem::empty(alloc, &())?)),
+            Kind::KeySet => Ok(ObjectState::KeySet(KeySet::empty(alloc, &())?)),
+            Kind::KeyMap => Ok(ObjectState::KeyMap(KeyMap::empty(alloc, &())?)),
+            Kind::Counter => Ok(ObjectState::Counter(Count::empty(alloc, &())?)),
+            Kind::Queue => Ok(ObjectState::Queue(Fifo::empty(alloc, &())?)),
+        }
+    }
+
+    fn fits(shape: &Kind, op: &Act) -> bool {
+        match (shape, op) {
+            (Kind::Memory, Act::Memory(_)) => true,
+            (Kind::KeySet, Act::KeySet(_)) => true,
+            (Kind::KeyMap, Act::KeyMap(_)) => true,
+            (Kind::Counter, Act::Counter(_)) => true,
+            (Kind::Queue, Act::Queue(_)) => true,
+            _ => false,
+        }
+    }
+
+    fn ranged(op: &Act) -> bool {
+        op.ranged()
+    }
+
+    fn recorded(op: &Act) -> Answer {
+        op.recorded()
+    }
+
+    fn gives(state: &ObjectState, op: &Act) -> Answer {
+        match (state, op) {
+            (ObjectState::Memory(state), Act::Memory(op)) => Mem::gives(state, op),
+            (ObjectState::KeySet(state), Act::KeySet(op)) => KeySet::gives(state, op),
+            (ObjectState::KeyMap(state), Act::KeyMap(op)) => KeyMap::gives(state, op),
+            (ObjectState::Counter(state), Act::Counter(op)) => Count::gives(state, op),
+            (ObjectState::Queue(state), Act::Queue(op)) => Fifo::gives(state, op),
+            _ => Answer::None,
+        }
+    }
+
+    fn legal(state: &ObjectState, op: &Act) -> bool {
+        match (state, op) {
+            (ObjectState::Memory(state), Act::Memory(op)) => Mem::legal(state, op),
+            (ObjectState::KeySet(state), Act::KeySet(op)) => KeySet::legal(state, op),
+            (ObjectState::KeyMap(state), Act::KeyMap(op)) => KeyMap::legal(state, op),
+            (ObjectState::Counter(state), Act::Counter(op)) => Count::legal(state, op),
+            (ObjectState::Queue(state), Act::Queue(op)) => Fifo::legal(state, op),
+            _ => false,
+        }
+    }
+
+    fn apply<L: Ledger>(
+        state: &mut ObjectState,
+        op: &Act,
+        steps: &mut Steps<L>,
+    ) -> Result<Applied<Undo>, OutOfMemory> {
+        match (state, op) {
+            (ObjectState::Memory(state), Act::Memory(op)) => covered(Mem::apply(state, op, steps)),
+            (ObjectState::KeySet(state), Act::KeySet(op)) => {
+                uncovered(KeySet::apply(state, op, steps))
+            }
+            (ObjectState::KeyMap(state), Act::KeyMap(op)) => {
+                uncovered(KeyMap::apply(state, op, steps))
+            }
+            (ObjectState::Counter(state), Act::Counter(op)) => {
+                uncovered(Count::apply(state, op, steps))
+            }
+            (ObjectState::Queue(state), Act::Queue(op)) => {
+                uncovered(Fifo::apply(state, op, steps))
+            }
+            _ => {
+                steps.tick();
+                Ok(Applied::Differs)
+            }
+        }
+    }
+
+    fn undo<L: Ledger>(
+        state: &mut ObjectState,
+        op: &Act,
+        undo: Undo,
+        steps: &mut Steps<L>,
+    ) -> Result<(), OutOfMemory> {
+        match (state, op) {
+            (ObjectState::Memory(state), Act::Memory(op)) => {
+                Mem::undo(state, op, undo.covered(), steps)
+            }
+            (ObjectState::KeySet(state), Act::KeySet(op)) => KeySet::undo(state, op, (), steps),
+            (ObjectState::KeyMap(state), Act::KeyMap(op)) => KeyMap::undo(state, op, (), steps),
+            (ObjectState::Counter(state), Act::Counter(op)) => Count::undo(state, op, (), steps),
+            (ObjectState::Queue(state), Act::Queue(op)) => Fifo::undo(state, op, (), steps),
+            _ => {
+                steps.tick();
+                Ok(())
+            }
+        }
+    }
+
+    fn swaps(a: &Act, b: &Act) -> bool {
+        may_swap(a, b)
+    }
+
+    fn context(alloc: Global, a: &Act, b: &Act) -> Result<Option<Context<Act>>, OutOfMemory> {
+        match (a, b) {
+            (Act::Memory(a), Act::Memory(b)) => context_of(alloc, Mem::context(alloc, a, b)?),
+            (Act::KeySet(a), Act::KeySet(b)) => context_of(alloc, KeySet::context(alloc, a, b)?),
+            (Act::KeyMap(a), Act::KeyMap(b)) => context_of(alloc, KeyMap::context(alloc, a, b)?),
+            (Act::Counter(a), Act::Counter(b)) => context_of(alloc, Count::context(alloc, a, b)?),
+            (Act::Queue(a), Act::Queue(b)) => context_of(alloc, Fifo::context(alloc, a, b)?),
+            _ => Ok(None),
+        }
+    }
+
+    ghost lawful = { one_lawful };
+}

@@ -1,0 +1,95 @@
+ghost use Rattle.std.specs.Prelude.{◌≡◌, ◌<◌, ◌++◌, length, map, slice_get, option_to_list, IfOk, OnOk};
+ghost use Rattle.pp_object.specs.Pieces.{alone, at_key, pieces_of, pieces_at};
+
+use crate::states::{ObjectState, ObjectStates};
+use pp_core::{OutOfMemory, Sequence};
+use pp_queue::Queue;
+use std::alloc::Global;
+
+/// What is shown of an object: a number, and its key where it stands at one.
+#[derive(Clone, Copy, Debug, PartialEq, Eq)]
+pub struct Piece {
+    pub key: Option<i64>,
+    pub value: i128,
+}
+
+/// All that is shown of an object.
+pub type Pieces = Sequence<Piece>;
+
+fn numbers_at_keys(alloc: Global, pairs: &Sequence<(i64, i64)>) -> Result<Pieces, OutOfMemory>
+    ensures { IfOk result (λ pieces. pieces ≡ map at_key pairs.now) }
+{
+    let mut pieces = Pieces::new(alloc);
+    for pair in pairs.as_slice() {
+        pieces.push(Piece {
+            key: Some(pair.0),
+            value: i128::from(pair.1),
+        })?;
+    }
+    Ok(pieces)
+}
+
+fn numbers(alloc: Global, numbers: &Sequence<i64>) -> Result<Pieces, OutOfMemory>
+    ensures { IfOk result (λ pieces. pieces ≡ map alone numbers.now) }
+{
+    let mut pieces = Pieces::new(alloc);
+    for number in numbers.as_slice() {
+        pieces.push(Piece {
+            key: None,
+            value: i128::from(*number),
+        })?;
+    }
+    Ok(pieces)
+}
+
+/// Adds the item of a queue at a place, if there is one.
+fn add_item(items: &mut Sequence<i64>, queue: &Queue, place: usize) -> Result<(), OutOfMemory>
+    ensures { OnOk result (items.new ≡ items.old ++ option_to_list (slice_get queue.now place)) }
+{
+    match queue.get(place) {
+        Some(item) => items.push(item),
+        None => Ok(()),
+    }
+}
+
+/// The items of a queue, from front to back.
+#[tactic(auto, using(crate::proofs::Items::taken))]
+fn items(alloc: Global, queue: &Queue) -> Result<Sequence<i64>, OutOfMemory>
+    ensures { IfOk result (λ items. items ≡ queue.now) }
+{
+    let mut items = Sequence::new(alloc);
+    for place in 0..queue.len() {
+        add_item(&mut items, queue, place)?;
+    }
+    Ok(items)
+}
+
+fn show_state(alloc: Global, state: &ObjectState) -> Result<Pieces, OutOfMemory>
+    ensures { IfOk result (λ pieces. pieces ≡ pieces_of state.now) }
+{
+    match state {
+        ObjectState::Memory(memory) => numbers_at_keys(alloc, &memory.pairs(alloc)?),
+        ObjectState::KeySet(keys) => numbers(alloc, &keys.keys(alloc)?),
+        ObjectState::KeyMap(values) => numbers_at_keys(alloc, &values.pairs(alloc)?),
+        ObjectState::Counter(number) => {
+            let mut pieces = Pieces::new(alloc);
+            pieces.push(Piece {
+                key: None,
+                value: *number,
+            })?;
+            Ok(pieces)
+        }
+        ObjectState::Queue(queue) => numbers(alloc, &items(alloc, queue)?),
+    }
+}
+
+/// What the state of an object shows. The only error is that memory was refused.
+pub fn show(alloc: Global, states: &ObjectStates, object: u16) -> Result<Pieces, OutOfMemory>
+    requires { object < length states.now }
+    ensures { IfOk result (λ pieces. pieces ≡ pieces_at states.now object) }
+{
+    match states.get(object) {
+        Some(state) => show_state(alloc, state),
+        None => Ok(Pieces::new(alloc)),
+    }
+}

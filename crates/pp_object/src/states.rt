@@ -1,0 +1,76 @@
+ghost use Rattle.std.specs.Prelude.{◌≡◌, length, slice_get};
+ghost use Rattle.std.specs.Option.{option_copied};
+ghost use Rattle.pp_object.specs.One.{covered_by};
+
+use pp_keyed::Cells;
+use pp_mem::Memory;
+use pp_queue::Queue;
+use pp_set::Members;
+use std::marker::Model;
+
+/// The state of one object.
+#[derive(Drop)]
+pub enum ObjectState {
+    Memory(Memory),
+    KeySet(Members),
+    KeyMap(Cells),
+    Counter(i128),
+    Queue(Queue),
+}
+
+/// What takes an operation back, beside the operation.
+#[derive(Drop)]
+pub enum Undo {
+    /// The number that a write covered.
+    Covered(i64),
+    /// The operation says it all.
+    Nothing,
+}
+
+impl Undo {
+    /// The number that a write covered, or 0.
+    pub fn covered(&self) -> i64
+        ensures { result ≡ covered_by self.now }
+    {
+        match *self {
+            Undo::Covered(number) => number,
+            Undo::Nothing => 0,
+        }
+    }
+}
+
+/// The states of the objects, in the catalog's order. Contracts see it as their list.
+#[derive(Drop)]
+pub struct ObjectStates {
+    pub(crate) states: Vec<ObjectState>,
+}
+
+impl Model for ObjectStates {
+    ghost use Rattle.std.specs.Prelude.{List};
+    ghost use Rattle.pp_object.specs.declared.states.ObjectState.{ObjectState};
+
+    ghost Value = { List ObjectState };
+
+    ghost use Rattle.pp_object.specs.contracts.states.ObjectState as state;
+    ghost use Rattle.std.specs.Coded.{coded_list};
+
+    ghost coded = { coded_list state.the_row.coded };
+
+    ghost view = { λ s. s.states.items };
+}
+
+impl ObjectStates {
+    /// How many objects there are.
+    pub fn len(&self) -> usize
+        ensures { result ≡ length self.now }
+    {
+        self.states.len()
+    }
+
+    /// The state of the object at a place, if there is one.
+    pub fn get(&self, object: u16) -> Option<&ObjectState>
+        ensures { option_copied result ≡ slice_get self.now object }
+    {
+        self.states.get(usize::from(object))
+    }
+}
