@@ -1,4 +1,4 @@
-ghost use Rattle.std.specs.Prelude.{◌≡◌, ◌≤◌, ◌↔◌, ◌∷◌, ◌++◌, [], List, None, true, false, IsTrue, IsOk, IfOk};
+ghost use Rattle.std.specs.Prelude.{◌≡◌, ◌≤◌, ◌↔◌, ◌∷◌, ◌++◌, [], List, None, true, false, IsTrue, IsOk, IfOk, OnOk, OnErr};
 ghost use Rattle.pp_core.specs.Trees.{tree, nodes, IsWithinLimits};
 ghost use Rattle.pp_model.specs.Body.{Call, Begins, IsWord};
 ghost use Rattle.pp_body.specs.Positions.{reaches, shift};
@@ -85,30 +85,49 @@ impl Walk {
         }
     }
 
-    /// Takes a call that may come next. The only error is that memory was refused, which the walk does not outlive.
-    pub fn take(self, call: Call) -> Result<Walk, OutOfMemory>
+    /// Takes a call that may come next. The only error is that memory was refused, and the walk is then as it was.
+    pub fn follow(&mut self, call: &Call) -> Result<(), OutOfMemory>
+        requires { MayTake self.old call.now }
+        ensures body { OnOk result (self.new.body ≡ self.old.body) }
+        ensures taken { OnOk result ((taken : List Call) → HasTaken self.old taken → HasTaken self.new (taken ++ call.now ∷ [])) }
+        ensures err { OnErr result (self.new ≡ self.old) }
+        ensures free { self.old.body ≡ None → IsOk result }
+    {
+        if let Some(body) = &self.body {
+            let (set, entered) = last_state_of(&self.reached);
+            self.reached.push(shift(body, set, entered, call))?;
+        }
+        Ok(())
+    }
+
+    /// Gives the last call back. It takes no memory.
+    pub fn retreat(&mut self)
+        requires { MayGoBack self.old }
+        ensures body { self.new.body ≡ self.old.body }
+        ensures taken { (taken : List Call) (last : Call) → HasTaken self.old (taken ++ last ∷ []) → HasTaken self.new taken }
+    {
+        let _ = self.reached.pop();
+    }
+
+    /// The same as `follow`, of a walk that is given up: it does not outlive a refusal of memory.
+    pub fn take(mut self, call: Call) -> Result<Walk, OutOfMemory>
         requires { MayTake self call }
         ensures body { IfOk result (λ w. w.body ≡ self.body) }
         ensures taken { IfOk result (λ w. (taken : List Call) → HasTaken self taken → HasTaken w (taken ++ call ∷ [])) }
         ensures free { self.body ≡ None → IsOk result }
     {
-        let Walk { body, mut reached } = self;
-        if let Some(body) = &body {
-            let (set, entered) = last_state_of(&reached);
-            reached.push(shift(body, set, entered, &call))?;
-        }
-        Ok(Walk { body, reached })
+        self.follow(&call)?;
+        Ok(self)
     }
 
-    /// Gives the last call back.
-    pub fn back(self) -> Walk
+    /// The same as `retreat`, of a walk that is given up.
+    pub fn back(mut self) -> Walk
         requires { MayGoBack self }
         ensures body { result.body ≡ self.body }
         ensures taken { (taken : List Call) (last : Call) → HasTaken self (taken ++ last ∷ []) → HasTaken result taken }
     {
-        let Walk { body, mut reached } = self;
-        let _ = reached.pop();
-        Walk { body, reached }
+        self.retreat();
+        self
     }
 
     /// Whether the calls taken are a word of the body.

@@ -4,6 +4,7 @@ ghost use Rattle.pp_cli.specs.declared.progress.Progress.TheVariants.{Running, S
 ghost use Rattle.pp_cli.specs.declared.progress.Stop.TheVariants.{OutOfMemory as NoMemory};
 ghost use Rattle.pp_cli.specs.Scans.{Scanned, is_begin, scan_line};
 ghost use Rattle.pp_cli.specs.Progresses.{Covers, IfFault, IsRefused, StepTaken, is_too_many, lines_of, skipped, with_line, with_record};
+ghost use Rattle.pp_body.specs.Plain.{plain_step};
 ghost use Rattle.pp_core.specs.Steps.{rule_of};
 ghost use Rattle.pp_io.specs.Lines.{blank};
 ghost use Rattle.pp_json.specs.Headers.{header_of};
@@ -36,7 +37,7 @@ fn stop_at(line: u32, fault: RecordFault) -> Stop
 
 /// Whether a step begins a transaction.
 fn is_begin(step: &Step<CounterOp>) -> bool
-    ensures { result ≡ is_begin step.now }
+    ensures { result ≡ is_begin (plain_step step.now) }
 {
     match step {
         Step::Begin { .. } => true,
@@ -57,7 +58,7 @@ fn with_line(mut tally: Tally) -> Tally
 fn with_record(mut tally: Tally, step: &Step<CounterOp>) -> Tally
     requires lines { tally.lines < 200_001 }
     requires begins { tally.begins < tally.lines }
-    ensures { result ≡ with_record tally step.now }
+    ensures { result ≡ with_record tally (plain_step step.now) }
 {
     tally.lines += 1;
     if is_begin(step) {
@@ -98,9 +99,9 @@ fn take_header(alloc: Global, line: &Line) -> Result<Progress, Stop>
 
 /// The step of a line behind the header.
 fn read_step(alloc: Global, tally: &Tally, line: &Line) -> Result<Step<CounterOp>, Stop>
-    ensures read { IfOk result (λ step. record_of tally.now.header line.now.text ≡ Ok step) }
+    ensures read { IfOk result (λ step. record_of tally.now.header line.now.text ≡ Ok (plain_step step)) }
     ensures readable { IfOk result IsReadable }
-    ensures few { IfOk result (λ step. is_too_many tally.now step ≡ false) }
+    ensures few { IfOk result (λ step. is_too_many tally.now (plain_step step) ≡ false) }
     ensures err { IfErr result (λ stop. IfFault stop (λ at cause. (at ≡ line.now.number) × IsRefused tally.now (record_of tally.now.header line.now.text) cause)) }
 {
     let step = match read_record(alloc, &tally.header, line.text.bytes()) {
@@ -123,7 +124,7 @@ fn take_step<L: Ledger>(
 ) -> Result<Progress, Stop>
     requires readable { IsReadable step.now }
     requires few { machine.count < 200_000 }
-    ensures ok { IfOk result (λ next. StepTaken tally machine step.now line next) }
+    ensures ok { IfOk result (λ next. StepTaken tally machine (plain_step step.now) line next) }
     ensures err { IfErr result (λ stop. stop ≡ NoMemory) }
 {
     match machine.advance(step, steps)? {

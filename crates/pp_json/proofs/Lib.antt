@@ -1,3 +1,4 @@
 pub mod Values
 pub mod Texts
 pub mod Objects
+pub mod Parts

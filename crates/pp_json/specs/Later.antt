@@ -1,7 +1,5 @@
 -- What a line may ask for, and is not built yet.
-use Rattle.std.specs.Prelude.{◌≡◌, [], ◌∷◌, map, codes, Bool, true, false, is_none, Option, Some, None}
-use Rattle.serde_json.specs.Data.{Data}
-use Rattle.serde_json.specs.Find.{get, as_null}
+use Rattle.std.specs.Prelude.{◌≡◌, [], ◌∷◌, map, Bool, true, false}
 use Rattle.pp_core.specs.Catalogs.{Objects}
 use Rattle.pp_core.specs.declared.call.Kind.{Kind}
 use Rattle.pp_core.specs.declared.call.Kind.TheVariants as kinds
@@ -24,15 +22,6 @@ is_one_counter (object ∷ more ∷ objects) = false
 abbrev pub is_built : Style → Objects → Bool
 is_built styles.Rules objects = is_one_counter objects
 is_built _ objects = false
-
--- a value that is there, and is not null
-abbrev pub is_given : Option Data → Bool
-is_given None = false
-is_given (Some value) = is_none (as_null value)
-
--- the record gives a body
-unfoldable pub has_body : Data → Bool
-has_body value = is_given (get (codes "body") value)
 
 -- The header of a run that can be judged: style rules, and exactly one object, a counter.
 pub record IsBuilt (header : Header) : Type 0 where

@@ -4,4 +4,6 @@ pub mod Later
 pub mod Headers
 pub mod StepNames
 pub mod Calls
+pub mod Patterns
+pub mod Bodies
 pub mod Records

@@ -1,10 +1,12 @@
 -- The lines behind the header.
-use Rattle.std.specs.Prelude.{◌≡◌, ◌≤◌, ℕ, ℤ, pos, negsuc, List, nat_le, IsTrue, Option, Some, None, ok_or, Result, Ok, Err, if◌then◌else◌}
+use Rattle.std.specs.Prelude.{◌≤◌, ℕ, ℤ, pos, negsuc, List, nat_le, IsTrue, Option, Some, None, option_map, ok_or, Result, Ok, Err, if◌then◌else◌}
 use Rattle.serde_json.specs.Data.{Data}
 use Rattle.pp_core.specs.Catalogs.{Objects}
+use Rattle.pp_core.specs.Trees.{IsWithinLimits}
 use Rattle.pp_core.specs.declared.member.Member.TheVariants as members
 use Rattle.pp_core.specs.declared.step.Step.{Step}
 use Rattle.pp_core.specs.declared.step.Step.TheVariants as steps
+use Rattle.pp_body.specs.Plain.{with_tree}
 use Rattle.pp_counter.specs.Operations.{is_ranged}
 use Rattle.pp_counter.specs.declared.op.CounterOp.{CounterOp}
 use Rattle.pp_json.specs.declared.header.Header.{Header}
@@ -12,11 +14,11 @@ use Rattle.pp_json.specs.declared.step_name.StepName.{StepName}
 use Rattle.pp_json.specs.declared.step_name.StepName.TheVariants as names
 use Rattle.pp_json.specs.declared.fault.RecordFault.{RecordFault}
 use Rattle.pp_json.specs.declared.fault.RecordFault.TheVariants.{OutOfRange, UnknownStep, NotYet}
-use Rattle.pp_json.specs.Reading.{◌>>=◌, fault_if}
+use Rattle.pp_json.specs.Reading.{◌>>=◌}
 use Rattle.pp_json.specs.Members.{object_of, text_of, name_of, whole_of}
 use Rattle.pp_json.specs.StepNames.{step_from}
 use Rattle.pp_json.specs.Calls.{op_of}
-use Rattle.pp_json.specs.Later.{has_body}
+use Rattle.pp_json.specs.Bodies.{body_of_begin}
 
 -- an id, 0 to 999,999,999
 unfoldable pub id_from : ℤ → Option ℕ
@@ -29,13 +31,13 @@ id_of value = do
   n ← whole_of members.Id value
   ok_or (id_from n) (OutOfRange members.Id)
 
--- a begin, with no body
-unfoldable pub begin_of : Data → Result (Step CounterOp) RecordFault
-begin_of value = do
+-- a begin, with the body that it gives
+unfoldable pub begin_of : Objects → Data → Result (Step CounterOp) RecordFault
+begin_of objects value = do
   tx ← name_of members.Tx value
   thread ← name_of members.Thread value
-  built ← fault_if (has_body value) NotYet
-  Ok (steps.Begin tx thread None)
+  body ← body_of_begin objects value
+  Ok (steps.Begin tx thread (option_map with_tree body))
 
 -- an operation that is called
 unfoldable pub app_of : Objects → Data → Result (Step CounterOp) RecordFault
@@ -60,7 +62,7 @@ cmt_of value = do
 
 -- the step of this name, where it is built
 abbrev pub step_of : Objects → StepName → Data → Result (Step CounterOp) RecordFault
-step_of objects names.Begin value = begin_of value
+step_of objects names.Begin value = begin_of objects value
 step_of objects names.App value = app_of objects value
 step_of objects names.Push value = push_of value
 step_of objects names.Cmt value = cmt_of value
@@ -74,9 +76,9 @@ record_of header line = do
   name ← ok_or (step_from header.style word) UnknownStep
   step_of header.catalog name value
 
--- What a step that was read keeps to: it is one of the four that are built, its id lies in the range of ids, its numbers in that of records, and it has no body.
+-- What a step that was read keeps to: it is one of the four that are built, its id lies in the range of ids, its numbers in that of records, and its body is within the limits.
 abbrev pub IsReadable : Step CounterOp → Type 0
-IsReadable (steps.Begin tx thread body) = body ≡ None
+IsReadable (steps.Begin tx thread body) = IsWithinLimits body
 IsReadable (steps.App tx id op) = (id ≤ 999_999_999) × IsTrue (is_ranged op)
 IsReadable (steps.Push tx id) = id ≤ 999_999_999
 IsReadable (steps.Cmt tx) = Unit {0}

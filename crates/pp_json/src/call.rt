@@ -13,7 +13,7 @@ use pp_counter::CounterOp;
 use pp_spec::GREATEST_NUMBER;
 use serde_json::Value;
 
-fn is_in_range(n: i128) -> bool
+pub(crate) fn is_in_range(n: i128) -> bool
     ensures value { result ≡ in_range n }
     ensures low { IsTrue result → negsuc 999_999_999_999_999_999 ≤ℤ n }
     ensures high { IsTrue result → n ≤ℤ pos 1_000_000_000_000_000_000 }
@@ -46,7 +46,7 @@ fn counter_method(word: &str) -> Option<Method>
     }
 }
 
-fn method_named(kind: Kind, word: &str) -> Option<Method>
+pub(crate) fn method_named(kind: Kind, word: &str) -> Option<Method>
     ensures { result ≡ method_from kind word.now }
 {
     match kind {
@@ -55,7 +55,7 @@ fn method_named(kind: Kind, word: &str) -> Option<Method>
     }
 }
 
-fn arity_of(method: Method) -> usize
+pub(crate) fn arity_of(method: Method) -> usize
     ensures { result ≡ arity method }
 {
     match method {

@@ -2,7 +2,7 @@ ghost use Rattle.std.specs.Prelude.{◌≡◌};
 ghost use Rattle.pp_json.specs.declared.fault.RecordFault.TheVariants.{OutOfMemory};
 
 use pp_core::{Member, OutOfMemory};
-use std::alloc::{AllocError, AllocFailed};
+use std::alloc::AllocFailed;
 use thiserror::Error;
 
 /// The first thing that is wrong with a line.
@@ -49,6 +49,14 @@ impl From<OutOfMemory> for RecordFault {
     ghost from_gives = { λ _ e. e ≡ OutOfMemory };
 
     fn from(_refused: OutOfMemory) -> RecordFault {
+        RecordFault::OutOfMemory
+    }
+}
+
+impl<T: Drop> From<AllocFailed<T>> for RecordFault {
+    ghost from_gives = { λ _ e. e ≡ OutOfMemory };
+
+    fn from(_refused: AllocFailed<T>) -> RecordFault {
         RecordFault::OutOfMemory
     }
 }

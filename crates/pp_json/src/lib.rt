@@ -1,11 +1,13 @@
 //! Reading the lines of a run: the header, and the records behind it.
 #![tactic(auto)]
 
+mod body;
 mod call;
 mod fault;
 mod header;
 mod later;
 mod members;
+mod pattern;
 mod record;
 mod step_name;
 

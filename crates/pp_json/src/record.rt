@@ -1,13 +1,14 @@
 //! The lines behind the header.
 ghost use Rattle.std.specs.Prelude.{◌≡◌, ◌≤◌, IfOk, IfSome};
 ghost use Rattle.serde_json.specs.View.{view};
+ghost use Rattle.pp_body.specs.Plain.{plain_step};
 ghost use Rattle.pp_json.specs.Reading.{Gives};
 ghost use Rattle.pp_json.specs.Records.{id_from, id_of, begin_of, app_of, push_of, cmt_of, step_of, record_of, IsReadable};
 
+use crate::body::begin_body;
 use crate::call::op_in;
 use crate::fault::RecordFault;
 use crate::header::Header;
-use crate::later::has_body;
 use crate::members::{name_in, object_on, text_in, whole_in};
 use crate::step_name::{StepName, step_named};
 use pp_core::{Catalog, Member, Step};
@@ -37,25 +38,19 @@ fn id_in(value: &Value) -> Result<u32, RecordFault>
 }
 
 #[tactic(auto, unfolding(crate::specs::Records::begin_of))]
-fn begin_in(value: &Value) -> Result<Step<CounterOp>, RecordFault>
-    ensures reads { Gives (λ s. s) result (begin_of (view value.now)) }
+fn begin_in(alloc: Global, catalog: &Catalog, value: &Value) -> Result<Step<CounterOp>, RecordFault>
+    ensures reads { Gives plain_step result (begin_of catalog.now (view value.now)) }
     ensures readable { IfOk result IsReadable }
 {
     let tx = name_in(value, Member::Tx)?;
     let thread = name_in(value, Member::Thread)?;
-    if has_body(value) {
-        return Err(RecordFault::NotYet);
-    }
-    Ok(Step::Begin {
-        tx,
-        thread,
-        body: None,
-    })
+    let body = begin_body(alloc, catalog, value)?;
+    Ok(Step::Begin { tx, thread, body })
 }
 
 #[tactic(auto, unfolding(crate::specs::Records::app_of))]
 fn app_in(catalog: &Catalog, value: &Value) -> Result<Step<CounterOp>, RecordFault>
-    ensures reads { Gives (λ s. s) result (app_of catalog.now (view value.now)) }
+    ensures reads { Gives plain_step result (app_of catalog.now (view value.now)) }
     ensures readable { IfOk result IsReadable }
 {
     let tx = name_in(value, Member::Tx)?;
@@ -66,7 +61,7 @@ fn app_in(catalog: &Catalog, value: &Value) -> Result<Step<CounterOp>, RecordFau
 
 #[tactic(auto, unfolding(crate::specs::Records::push_of))]
 fn push_in(value: &Value) -> Result<Step<CounterOp>, RecordFault>
-    ensures reads { Gives (λ s. s) result (push_of (view value.now)) }
+    ensures reads { Gives plain_step result (push_of (view value.now)) }
     ensures readable { IfOk result IsReadable }
 {
     let tx = name_in(value, Member::Tx)?;
@@ -76,19 +71,24 @@ fn push_in(value: &Value) -> Result<Step<CounterOp>, RecordFault>
 
 #[tactic(auto, unfolding(crate::specs::Records::cmt_of))]
 fn cmt_in(value: &Value) -> Result<Step<CounterOp>, RecordFault>
-    ensures reads { Gives (λ s. s) result (cmt_of (view value.now)) }
+    ensures reads { Gives plain_step result (cmt_of (view value.now)) }
     ensures readable { IfOk result IsReadable }
 {
     let tx = name_in(value, Member::Tx)?;
     Ok(Step::Cmt { tx })
 }
 
-fn step_in(catalog: &Catalog, name: StepName, value: &Value) -> Result<Step<CounterOp>, RecordFault>
-    ensures reads { Gives (λ s. s) result (step_of catalog.now name (view value.now)) }
+fn step_in(
+    alloc: Global,
+    catalog: &Catalog,
+    name: StepName,
+    value: &Value,
+) -> Result<Step<CounterOp>, RecordFault>
+    ensures reads { Gives plain_step result (step_of catalog.now name (view value.now)) }
     ensures readable { IfOk result IsReadable }
 {
     match name {
-        StepName::Begin => begin_in(value),
+        StepName::Begin => begin_in(alloc, catalog, value),
         StepName::App => app_in(catalog, value),
         StepName::Push => push_in(value),
         StepName::Cmt => cmt_in(value),
@@ -104,11 +104,11 @@ pub fn read_record(
     header: &Header,
     line: &[u8],
 ) -> Result<Step<CounterOp>, RecordFault>
-    ensures reads { Gives (λ s. s) result (record_of header.now line.now) }
+    ensures reads { Gives plain_step result (record_of header.now line.now) }
     ensures readable { IfOk result IsReadable }
 {
     let value = object_on(alloc, line)?;
     let word = text_in(&value, Member::Step)?;
     let name = step_named(header.style, word).ok_or(RecordFault::UnknownStep)?;
-    step_in(&header.catalog, name, &value)
+    step_in(alloc, &header.catalog, name, &value)
 }

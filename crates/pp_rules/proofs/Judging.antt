@@ -1,13 +1,14 @@
 -- The number of the first false criterion, by what the tests of the machine say.
 use Rattle.std.proofs.Common.{◌≡◌, ◌≢◌, ℕ, suc, true, false, List, [], ◌∷◌, ◌++◌, Option, Some, None, refl, sym, subst}
-use Rattle.pp_model.specs.Config.{Step, Begin, App, Push, Pull, Cmt, Quit, Note, of_other, Tx, tx, LocalEntry, SharedEntry, local_ops, shared_ops, own_items, is_own, Unpushed, Pushed, Pulled, at_mark}
+use Rattle.pp_model.specs.Config.{Step, Begin, App, Push, Pull, Cmt, Quit, Note, of_other, Tx, tx, LocalEntry, SharedEntry, local_ops, shared_ops, is_own, Unpushed, Pushed, Pulled, at_mark}
 use Rattle.pp_model.specs.Lists.{In, Before}
-use Rattle.pp_model.specs.Body.{Body, Begins, IsWord}
+use Rattle.pp_model.specs.Body.{Body, IsWord}
 use Rattle.pp_model.specs.Names.{Name}
 use Rattle.pp_model.specs.Object as model
 use Rattle.pp_spec.specs.Object.{Object, IsAllowed, rules_of}
 use Rattle.pp_rules.specs.Machines.{Seen}
-use Rattle.pp_model.specs.Rules.{Fails, FirstFalse, there, calls}
+use Rattle.pp_model.specs.Rules.{Fails, FirstFalse, there}
+use Rattle.pp_rules.specs.Courses.{MayFollow, own_calls}
 
 pub there_1 : {A : Type 0} (o : Option A) (f : A → List (Type 0)) → o ≡ None → FirstFalse (there o f) 1
 there_1 {A} o f e = subst (λ (w : Option A). FirstFalse (there w f) 1) (sym e) (λ z. z)
@@ -22,23 +23,20 @@ module _ {Shape State Op Undo : Type 0} (o : Object Shape State Op Undo) (v w : 
   lift : (s : Step Op) (n : ℕ) → Fails (rules_of o v.shape) v.config s n → Fails (rules_of o w.shape) w.config s n
   lift s n h = subst (λ (z : Seen Shape Op). Fails (rules_of o z.shape) z.config s n) same h
 
-  begins_none : (x : Tx Op) (op : Op) → x.body ≡ None → Begins x.body (calls (rules_of o v.shape) (own_items x.local) ++ o.call op ∷ [])
-  begins_none x op b = ([], subst (λ w. IsWord w ((calls (rules_of o v.shape) (own_items x.local) ++ o.call op ∷ []) ++ [])) (sym b) tt)
-
-  word_none : (x : Tx Op) → x.body ≡ None → IsWord x.body (calls (rules_of o v.shape) (own_items x.local))
-  word_none x b = subst (λ w. IsWord w (calls (rules_of o v.shape) (own_items x.local))) (sym b) tt
-
   pub app_1 : (t : Name) (id : ℕ) (op : Op) → tx t v.config.opened ≡ None → Fails (rules_of o w.shape) w.config (App t id op) 1
   app_1 t id op e = lift (App t id op) 1 (there_1 (tx t v.config.opened) _ e)
 
   pub app_2 : (t : Name) (id : ℕ) (op : Op) (x : Tx Op) → tx t v.config.opened ≡ Some x → In id v.config.ids → Fails (rules_of o w.shape) w.config (App t id op) 2
   app_2 t id op x e i = lift (App t id op) 2 (there_more (tx t v.config.opened) _ x 0 e (λ n. n i))
 
-  pub app_4 : (t : Name) (id : ℕ) (op : Op) (x : Tx Op) → tx t v.config.opened ≡ Some x → (In id v.config.ids → ⊥) → x.body ≡ None → (IsAllowed o v.shape (local_ops x.local ++ op ∷ []) → ⊥) → Fails (rules_of o w.shape) w.config (App t id op) 4
-  app_4 t id op x e n b k = lift (App t id op) 4 (there_more (tx t v.config.opened) _ x 2 e (n, (begins_none x op b, k)))
+  pub app_3 : (t : Name) (id : ℕ) (op : Op) (x : Tx Op) → tx t v.config.opened ≡ Some x → (In id v.config.ids → ⊥) → (MayFollow o x.body x.local op → ⊥) → Fails (rules_of o w.shape) w.config (App t id op) 3
+  app_3 t id op x e n b = lift (App t id op) 3 (there_more (tx t v.config.opened) _ x 1 e (n, b))
 
-  pub app_0 : (t : Name) (id : ℕ) (op : Op) (x : Tx Op) → tx t v.config.opened ≡ Some x → (In id v.config.ids → ⊥) → x.body ≡ None → IsAllowed o v.shape (local_ops x.local ++ op ∷ []) → Fails (rules_of o w.shape) w.config (App t id op) 0
-  app_0 t id op x e n b k = lift (App t id op) 0 (there_0 (tx t v.config.opened) _ x e (n, (begins_none x op b, (k, refl))))
+  pub app_4 : (t : Name) (id : ℕ) (op : Op) (x : Tx Op) → tx t v.config.opened ≡ Some x → (In id v.config.ids → ⊥) → MayFollow o x.body x.local op → (IsAllowed o v.shape (local_ops x.local ++ op ∷ []) → ⊥) → Fails (rules_of o w.shape) w.config (App t id op) 4
+  app_4 t id op x e n b k = lift (App t id op) 4 (there_more (tx t v.config.opened) _ x 2 e (n, (b, k)))
+
+  pub app_0 : (t : Name) (id : ℕ) (op : Op) (x : Tx Op) → tx t v.config.opened ≡ Some x → (In id v.config.ids → ⊥) → MayFollow o x.body x.local op → IsAllowed o v.shape (local_ops x.local ++ op ∷ []) → Fails (rules_of o w.shape) w.config (App t id op) 0
+  app_0 t id op x e n b k = lift (App t id op) 0 (there_0 (tx t v.config.opened) _ x e (n, (b, (k, refl))))
 
   pub push_1 : (t : Name) (id : ℕ) → tx t v.config.opened ≡ None → Fails (rules_of o w.shape) w.config (Push t id) 1
   push_1 t id e = lift (Push t id) 1 (there_1 (tx t v.config.opened) _ e)
@@ -71,8 +69,14 @@ module _ {Shape State Op Undo : Type 0} (o : Object Shape State Op Undo) (v w : 
   pub cmt_1 : (t : Name) → tx t v.config.opened ≡ None → Fails (rules_of o w.shape) w.config (Cmt t) 1
   cmt_1 t e = lift (Cmt t) 1 (there_1 (tx t v.config.opened) _ e)
 
-  pub cmt_3 : (t : Name) (x : Tx Op) (p : LocalEntry Op) → tx t v.config.opened ≡ Some x → x.body ≡ None → In p x.local → is_own p.mark ≡ true → (p.mark ≡ Pushed → ⊥) → Fails (rules_of o w.shape) w.config (Cmt t) 3
-  cmt_3 t x p e b i m n = lift (Cmt t) 3 (there_more (tx t v.config.opened) _ x 1 e (word_none x b, (λ all. n (all p i m))))
+  abbrev pub IsComplete : Tx Op → Type 0
+  IsComplete x = IsWord x.body (own_calls o x.local)
+
+  pub cmt_2 : (t : Name) (x : Tx Op) → tx t v.config.opened ≡ Some x → (IsComplete x → ⊥) → Fails (rules_of o w.shape) w.config (Cmt t) 2
+  cmt_2 t x e n = lift (Cmt t) 2 (there_more (tx t v.config.opened) _ x 0 e n)
+
+  pub cmt_3 : (t : Name) (x : Tx Op) (p : LocalEntry Op) → tx t v.config.opened ≡ Some x → IsComplete x → In p x.local → is_own p.mark ≡ true → (p.mark ≡ Pushed → ⊥) → Fails (rules_of o w.shape) w.config (Cmt t) 3
+  cmt_3 t x p e b i m n = lift (Cmt t) 3 (there_more (tx t v.config.opened) _ x 1 e (b, (λ all. n (all p i m))))
 
   abbrev pub AllPushed : Tx Op → Type 0
   AllPushed x = (p : LocalEntry Op) → In p x.local → is_own p.mark ≡ true → p.mark ≡ Pushed
@@ -80,11 +84,11 @@ module _ {Shape State Op Undo : Type 0} (o : Object Shape State Op Undo) (v w : 
   abbrev pub StandsCommitted : ℕ → Type 0
   StandsCommitted id = (g : SharedEntry Op) × In g v.config.shared × (g.id ≡ id) × (g.committed ≡ true)
 
-  pub cmt_4 : (t : Name) (x : Tx Op) (p : LocalEntry Op) → tx t v.config.opened ≡ Some x → x.body ≡ None → AllPushed x → In p x.local → p.mark ≡ Pulled → (StandsCommitted p.id → ⊥) → Fails (rules_of o w.shape) w.config (Cmt t) 4
-  cmt_4 t x p e b all i m n = lift (Cmt t) 4 (there_more (tx t v.config.opened) _ x 2 e (word_none x b, (all, (λ h. n (h p i m)))))
+  pub cmt_4 : (t : Name) (x : Tx Op) (p : LocalEntry Op) → tx t v.config.opened ≡ Some x → IsComplete x → AllPushed x → In p x.local → p.mark ≡ Pulled → (StandsCommitted p.id → ⊥) → Fails (rules_of o w.shape) w.config (Cmt t) 4
+  cmt_4 t x p e b all i m n = lift (Cmt t) 4 (there_more (tx t v.config.opened) _ x 2 e (b, (all, (λ h. n (h p i m)))))
 
-  pub cmt_0 : (t : Name) (x : Tx Op) → tx t v.config.opened ≡ Some x → x.body ≡ None → AllPushed x → ((p : LocalEntry Op) → In p x.local → p.mark ≡ Pulled → StandsCommitted p.id) → Fails (rules_of o w.shape) w.config (Cmt t) 0
-  cmt_0 t x e b all h = lift (Cmt t) 0 (there_0 (tx t v.config.opened) _ x e (word_none x b, (all, (h, refl))))
+  pub cmt_0 : (t : Name) (x : Tx Op) → tx t v.config.opened ≡ Some x → IsComplete x → AllPushed x → ((p : LocalEntry Op) → In p x.local → p.mark ≡ Pulled → StandsCommitted p.id) → Fails (rules_of o w.shape) w.config (Cmt t) 0
+  cmt_0 t x e b all h = lift (Cmt t) 0 (there_0 (tx t v.config.opened) _ x e (b, (all, (h, refl))))
 
   pub begin_1 : (t p : Name) (b : Option Body) → In t v.config.names → Fails (rules_of o w.shape) w.config (Begin t p b) 1
   begin_1 t p b i = lift (Begin t p b) 1 (λ n. n i)

@@ -1,10 +1,11 @@
 -- What each machine keeps holds after each step.
-use Rattle.std.proofs.Common.{◌≡◌, ◌≢◌, ◌==◌, ℕ, ◌<◌, ◌+◌, IsTrue, Bool, true, false, cond, List, [], ◌∷◌, ◌++◌, map, filter, length, Some, None, position, slice_get, refl, sym, ◌∙◌, ap, subst, arith, inl, inr}
+use Rattle.std.proofs.Common.{◌≡◌, ◌≢◌, ◌==◌, ℕ, ◌<◌, ◌+◌, IsTrue, Bool, true, false, cond, List, [], ◌∷◌, ◌++◌, map, filter, length, Option, Some, None, position, slice_get, refl, sym, ◌∙◌, ap, subst, arith, inl, inr}
 use Rattle.std.proofs.lemmas.List.{length_push, length-map}
 use Rattle.std.proofs.lemmas.Bool.{eqb-true}
 use Rattle.pp_core.specs.declared.entry.CommittedTx.{CommittedTx}
 use Rattle.pp_core.specs.declared.entry.LocalEntry.{LocalEntry}
 use Rattle.pp_core.specs.declared.entry.SharedEntry.{SharedEntry}
+use Rattle.pp_model.specs.Body.{Body}
 use Rattle.pp_model.specs.Config.{Config, Tx, Step, Begin, App, Push, Pull, Cmt, Quit, Note, Unpushed, Pushed, Pulled, all_committed, at_mark, item, local_ops, marked, of_other, own_items, posted, shared_ops, then, tx}
 use Rattle.pp_model.specs.Lists.{In}
 use Rattle.pp_model.specs.Names.{Name, ◌=ⁿ◌}
@@ -17,6 +18,7 @@ use Rattle.pp_model.proofs.Logs.{found_mark, found_other, found_tx}
 use Rattle.pp_model.proofs.Names.{names_tell}
 use Rattle.pp_model.proofs.Steps.{there_holds}
 use Rattle.pp_spec.specs.Object.{Object, AllRanged, IsAllowed, rules_of}
+use Rattle.pp_rules.specs.Courses.{FollowsIfOwn}
 use Rattle.pp_rules.specs.Machines.{Holds, IsFine, Seen, config_of, stepped, tx_of}
 use Rattle.pp_rules.specs.Transactions.{HasOwn, is_begun, is_busy, Open, Takes, Txs, open_at, open_of, relogged, with_log, with_open, without_open}
 use Rattle.pp_rules.proofs.Acting.{after_begin, after_app, after_pull, after_push, after_cmt, after_quit}
@@ -62,7 +64,7 @@ posts_more {Op} (x ∷ l) g = ap (λ (z : List Op). x.op ∷ z) (posts_more l g)
 module _ {Shape State Op Undo : Type 0} (o : Object Shape State Op Undo) (shape : Shape) (n : ℕ) where
   -- one step later an open transaction is as fine
   later : (x : Open Shape Op) → IsFine o shape n x → IsFine o shape (n + 1) x
-  later x h = record { body = h.body; same_shape = h.same_shape; short = (let s = h.short in omega (arith, s)); ranged = h.ranged }
+  later x h = record { same_shape = h.same_shape; short = (let s = h.short in omega (arith, s)); ranged = h.ranged }
 
 module _ {Shape State Op Undo : Type 0} (o : Object Shape State Op Undo) (shape : Shape) (n : ℕ) (l : List (Open Shape Op)) (fine : (x : Open Shape Op) → In x l → IsFine o shape n x) where
   fine_later : (x : Open Shape Op) → In x l → IsFine o shape (n + 1) x
@@ -91,7 +93,6 @@ module _ {Shape State Op Undo : Type 0} (o : Object Shape State Op Undo) (shape 
   fine_entry e r x i =
       let h = fine x i in
       record {
-        body = h.body;
         same_shape = h.same_shape;
         short = (let s = h.short in let k = length_push x.local.1 e in omega (arith, s, k));
         ranged = subst (AllRanged o) (sym (ops_more x.local.1 e)) (ranged_more o (local_ops x.local.1) e.op h.ranged r);
@@ -101,7 +102,6 @@ module _ {Shape State Op Undo : Type 0} (o : Object Shape State Op Undo) (shape 
   fine_mark id x i =
       let h = fine x i in
       record {
-        body = h.body;
         same_shape = h.same_shape;
         short = (let s = h.short in let k : length (marked id Pushed x.local.1) ≡ length x.local.1 = length-map x.local.1 _ in omega (arith, s, k));
         ranged = subst (AllRanged o) (sym (marked_ops id x.local.1)) h.ranged;
@@ -123,28 +123,28 @@ module _ {Shape State Op Undo : Type 0} (o : Object Shape State Op Undo) (shape 
   seen_as s c e = ap (λ (z : Config Op). record { shape = shape; config = z; count = n + 1 }) e ∙ ap (λ (z : Seen Shape Op). stepped z s) same
 
   -- BEGIN
-  begin_is : (t p : Name) (u : Txs Shape Op) → u ≡ with_open (open_of t p None (shape, [])) v → config_of u ids G.1 F ≡ then (config_of v ids G.1 F) (Begin t p None)
-  begin_is t p u e = ap (λ (z : Txs Shape Op). config_of z ids G.1 F) e ∙ after_begin v ids G.1 F t p (shape, []) refl
+  begin_is : (t p : Name) (b : Option Body) (u : Txs Shape Op) → u ≡ with_open (open_of t p b (shape, [])) v → config_of u ids G.1 F ≡ then (config_of v ids G.1 F) (Begin t p b)
+  begin_is t p b u e = ap (λ (z : Txs Shape Op). config_of z ids G.1 F) e ∙ after_begin v ids G.1 F t p b (shape, []) refl
 
-  pub seen_begin : (t p : Name) (u : Txs Shape Op) → u ≡ with_open (open_of t p None (shape, [])) v → ◌≡◌ {A = Seen Shape Op} (record { shape = shape; config = config_of u ids G.1 F; count = n + 1 }) (stepped w (Begin t p None))
-  seen_begin t p u e = seen_as (Begin t p None) (config_of u ids G.1 F) (begin_is t p u e)
+  pub seen_begin : (t p : Name) (b : Option Body) (u : Txs Shape Op) → u ≡ with_open (open_of t p b (shape, [])) v → ◌≡◌ {A = Seen Shape Op} (record { shape = shape; config = config_of u ids G.1 F; count = n + 1 }) (stepped w (Begin t p b))
+  seen_begin t p b u e = seen_as (Begin t p b) (config_of u ids G.1 F) (begin_is t p b u e)
 
-  pub holds_begin : (t p : Name) (u : Txs Shape Op) → Fails (rules_of o w.shape) w.config (Begin t p None) 0 → u ≡ with_open (open_of t p None (shape, [])) v → Holds o shape u ids G F (n + 1)
-  holds_begin t p u f e = record {
-    sound = sound_as (Begin t p None) (config_of u ids G.1 F) f (begin_is t p u e);
+  pub holds_begin : (t p : Name) (b : Option Body) (u : Txs Shape Op) → Fails (rules_of o w.shape) w.config (Begin t p b) 0 → u ≡ with_open (open_of t p b (shape, [])) v → Holds o shape u ids G F (n + 1)
+  holds_begin t p b u f e = record {
+    sound = sound_as (Begin t p b) (config_of u ids G.1 F) f (begin_is t p b u e);
     fine = subst (λ (z : Txs Shape Op). (x : Open Shape Op) → In x z.opened → IsFine o shape (n + 1) x) (sym e)
-        (fine_more o shape n v.opened h.fine (open_of t p None (shape, [])) (record { body = refl; same_shape = refl; short = omega arith; ranged = tt }));
+        (fine_more o shape n v.opened h.fine (open_of t p b (shape, [])) (record { same_shape = refl; short = omega arith; ranged = tt }));
     shared_shape = h.shared_shape;
     shared_short = (let s = h.shared_short in omega (arith, s));
     shared_ranged = h.shared_ranged;
     serial_ranged = h.serial_ranged;
   }
 
-  pub begin_free : (t p : Name) → Fails (rules_of o w.shape) w.config (Begin t p None) 0 → is_begun v t ≡ false
-  begin_free t p f = not_equal (is_begun v t) (λ k. (lower (Begin t p None) 0 f).0 (begun_in v t (sym k)))
+  pub begin_free : (t p : Name) (b : Option Body) → Fails (rules_of o w.shape) w.config (Begin t p b) 0 → is_begun v t ≡ false
+  begin_free t p b f = not_equal (is_begun v t) (λ k. (lower (Begin t p b) 0 f).0 (begun_in v t (sym k)))
 
-  pub begin_idle : (t p : Name) → Fails (rules_of o w.shape) w.config (Begin t p None) 0 → is_busy v p ≡ false
-  begin_idle t p f = not_equal (is_busy v p) (λ k. let x = busy_in v p (sym k) in (lower (Begin t p None) 0 f).1.0 x.0 x.1 x.2)
+  pub begin_idle : (t p : Name) (b : Option Body) → Fails (rules_of o w.shape) w.config (Begin t p b) 0 → is_busy v p ≡ false
+  begin_idle t p b f = not_equal (is_busy v p) (λ k. let x = busy_in v p (sym k) in (lower (Begin t p b) 0 f).1.0 x.0 x.1 x.2)
 
   -- APP
   pub ids_more : (t : Name) (id : ℕ) (op : Op) (js ks : List ℕ) → Fails (rules_of o w.shape) w.config (App t id op) 0 → js ≡ ids → ks ≡ insert_key (λ a b. a == b) js id → ks ≡ ids ++ id ∷ []
@@ -178,8 +178,8 @@ module _ {Shape State Op Undo : Type 0} (o : Object Shape State Op Undo) (shape 
 
   -- the local log takes an entry
   takes : (t : Name) (x : Tx Op) (e : LocalEntry Op) → tx t (map tx_of v.opened) ≡ Some x → IsAllowed o shape (local_ops x.local ++ e.op ∷ []) → IsTrue (o.ranged e.op) → ((a : LocalEntry Op) → In a x.local → a.id ≢ e.id) → n < 200_000 →
-      (y : Open Shape Op) × (open_at t v.opened ≡ Some y) × Takes o y.local e
-  takes t x e q a r d few =
+      FollowsIfOwn o x.body x.local e → (y : Open Shape Op) × (open_at t v.opened ≡ Some y) × Takes o y.local e × FollowsIfOwn o y.body y.local.1 e
+  takes t x e q a r d few follows =
       let y = opened o shape v ids G F n h t x q in
       let fine = y.3 in
       let local : (tx_of y.0).local ≡ x.local = ap (λ (z : Tx Op). z.local) y.2 in (
@@ -191,14 +191,15 @@ module _ {Shape State Op Undo : Type 0} (o : Object Shape State Op Undo) (shape 
           new = place_nowhere (λ z. z.id == e.id) (y.0).local.1 (λ z i. not_equal (z.id == e.id) (λ k. d z (subst (λ (l : List (LocalEntry Op)). In z l) local i) (eqb-true z.id e.id k)));
           few = (let s = fine.short in omega (arith, s, few));
         },
+        subst (λ (z : Tx Op). FollowsIfOwn o z.body z.local e) (sym y.2) follows,
       )
 
   pub takes_app : (t : Name) (id : ℕ) (op : Op) → Fails (rules_of o w.shape) w.config (App t id op) 0 → IsTrue (o.ranged op) → w.count < 200_000 →
-      (y : Open Shape Op) × (open_at t v.opened ≡ Some y) × Takes o y.local (record { id = id; owner = t; mark = Unpushed; op = op })
+      (y : Open Shape Op) × (open_at t v.opened ≡ Some y) × Takes o y.local (record { id = id; owner = t; mark = Unpushed; op = op }) × FollowsIfOwn o y.body y.local.1 (record { id = id; owner = t; mark = Unpushed; op = op })
   takes_app t id op f r few =
       let k = there_holds (tx t (map tx_of v.opened)) _ (lower (App t id op) 0 f) in
       let i = (found_tx t (map tx_of v.opened) k.0 k.1).0 in
-      takes t k.0 (record { id = id; owner = t; mark = Unpushed; op = op }) k.1 k.2.1.1.0 r (λ a j e. k.2.0 (subst (λ (z : ℕ). In z (config_of v ids G.1 F).ids) e (h.sound.local_used k.0 i a j))) (subst (λ (z : ℕ). z < 200_000) (sym (ap (λ (z : Seen Shape Op). z.count) same)) few)
+      takes t k.0 (record { id = id; owner = t; mark = Unpushed; op = op }) k.1 k.2.1.1.0 r (λ a j e. k.2.0 (subst (λ (z : ℕ). In z (config_of v ids G.1 F).ids) e (h.sound.local_used k.0 i a j))) (subst (λ (z : ℕ). z < 200_000) (sym (ap (λ (z : Seen Shape Op). z.count) same)) few) (λ own. k.2.1.0)
 
   -- PULL
   pull_is : (t : Name) (id : ℕ) (g : SharedEntry Op) (u : Txs Shape Op) → of_other t id G.1 ≡ Some g → u ≡ with_log t (λ l. l ++ record { id = g.id; owner = g.owner; mark = Pulled; op = g.op } ∷ []) v → config_of u ids G.1 F ≡ then (config_of v ids G.1 F) (Pull t id)
@@ -222,14 +223,14 @@ module _ {Shape State Op Undo : Type 0} (o : Object Shape State Op Undo) (shape 
   }
 
   pub takes_pull : (t : Name) (id : ℕ) (g : SharedEntry Op) → Fails (rules_of o w.shape) w.config (Pull t id) 0 → of_other t id G.1 ≡ Some g → w.count < 200_000 →
-      (y : Open Shape Op) × (open_at t v.opened ≡ Some y) × Takes o y.local (record { id = g.id; owner = g.owner; mark = Pulled; op = g.op })
+      (y : Open Shape Op) × (open_at t v.opened ≡ Some y) × Takes o y.local (record { id = g.id; owner = g.owner; mark = Pulled; op = g.op }) × FollowsIfOwn o y.body y.local.1 (record { id = g.id; owner = g.owner; mark = Pulled; op = g.op })
   takes_pull t id g f q few =
       let k = there_holds (tx t (map tx_of v.opened)) _ (lower (Pull t id) 0 f) in
       let m = there_holds (of_other t id G.1) _ k.2 in
       let e = some_inj m.0 g (sym m.1 ∙ q) in
       let i = found_other t id G.1 g q in
       takes t k.0 (record { id = g.id; owner = g.owner; mark = Pulled; op = g.op }) k.1 (subst (λ (z : SharedEntry Op). IsAllowed o shape (local_ops (k.0).local ++ z.op ∷ [])) e m.2.1.0) (post_ranged g i.0) (λ a j d. m.2.0 a j (d ∙ i.1))
-      (subst (λ (z : ℕ). z < 200_000) (sym (ap (λ (z : Seen Shape Op). z.count) same)) few)
+      (subst (λ (z : ℕ). z < 200_000) (sym (ap (λ (z : Seen Shape Op). z.count) same)) few) (λ own. absurd (cc))
 
   pub pull_finds : (t : Name) (id : ℕ) → Fails (rules_of o w.shape) w.config (Pull t id) 0 → of_other t id G.1 ≡ None → ⊥
   pull_finds t id f e =
@@ -286,7 +287,7 @@ module _ {Shape State Op Undo : Type 0} (o : Object Shape State Op Undo) (shape 
 
   pub owns : (t : Name) (id : ℕ) (l : Shape × List (LocalEntry Op)) → HasLog o shape v ids G F n h t l → (p : LocalEntry Op) (i : ℕ) → at_mark id Unpushed l.1 ≡ Some p → slice_get l.1 i ≡ Some p → (y : Open Shape Op) × (open_at t v.opened ≡ Some y) × HasOwn y.local.1 i
   owns t id l r p i q at =
-      (open_of t r.thread None l, r.at, record { within = slice_within l.1 i p at; entry = p; here = at; own = λ e. let z : Unpushed ≡ Pulled = sym (found_mark id Unpushed l.1 p q).2 ∙ e in cc })
+      (open_of t r.thread r.body l, r.at, record { within = slice_within l.1 i p at; entry = p; here = at; own = λ e. let z : Unpushed ≡ Pulled = sym (found_mark id Unpushed l.1 p q).2 ∙ e in cc })
 
   -- CMT
   pub cmt_opens : (t : Name) → Fails (rules_of o w.shape) w.config (Cmt t) 0 → tx t (map tx_of v.opened) ≡ None → ⊥

@@ -1,4 +1,5 @@
 pub mod Acting
+pub mod Courses
 pub mod Finding
 pub mod Fitting
 pub mod Judging

@@ -1,19 +1,21 @@
 -- The open transactions of a machine, as they stand in its configuration.
-use Rattle.std.proofs.Common.{IsTrue, ◌≡◌, ◌≢◌, ◌==◌, ℕ, true, false, List, map, reverse, Option, Some, None, is_some, option_map, refl, sym, ap, subst, ◌∙◌}
+use Rattle.std.proofs.Common.{IsTrue, ◌≡◌, ◌≢◌, ◌==◌, ℕ, true, false, List, [], ◌∷◌, ◌++◌, map, reverse, Option, Some, None, is_some, option_map, refl, sym, ap, subst, ◌∙◌}
 use Rattle.std.specs.List.{list_any}
 use Rattle.std.proofs.lemmas.Bool.{eqb-true, eq-eqb}
 use Rattle.pp_core.specs.declared.entry.CommittedTx.{CommittedTx}
 use Rattle.pp_core.specs.declared.entry.LocalEntry.{LocalEntry}
 use Rattle.pp_core.specs.declared.entry.SharedEntry.{SharedEntry}
+use Rattle.pp_model.specs.Body.{Body}
 use Rattle.pp_model.specs.Config.{Tx, tx, local_ops, shared_ops}
 use Rattle.pp_model.specs.Lists.{In}
 use Rattle.pp_model.specs.Names.{Name, ◌=ⁿ◌}
 use Rattle.pp_model.proofs.Lists.{in_map, from_map}
 use Rattle.pp_model.proofs.Logs.{found, found_tx}
 use Rattle.pp_model.proofs.Names.{eq-names, names-true}
-use Rattle.pp_spec.specs.Object.{Object, IsLawful}
+use Rattle.pp_spec.specs.Object.{Object, IsAllowed, IsLawful}
 use Rattle.pp_rules.specs.Machines.{Holds, IsFine, tx_of}
-use Rattle.pp_rules.specs.Transactions.{Open, Txs, is_begun, is_busy, open_at, open_of, threads_of}
+use Rattle.pp_rules.specs.Courses.{Guided}
+use Rattle.pp_rules.specs.Transactions.{Open, Txs, course_of, is_begun, is_busy, open_at, open_of, threads_of}
 use Rattle.pp_rules.specs.Finding.{AreDistinct}
 use Rattle.pp_rules.proofs.Fitting.{fits_in}
 use Rattle.pp_rules.proofs.Finding.{any_in, none_in, find_map, from_reverse, in_reverse, mapped_some, mapped_none}
@@ -54,31 +56,57 @@ not_busy {Shape} {Op} v p e x i n =
     let k = none_in (λ (q : Name). q =ⁿ p) (threads_of v.opened) (sym e) (m.0).thread (in_map (λ x. x.thread) m.0 v.opened m.1) in
     let z : true ≡ false = sym (eq-names (m.0).thread p (sym (ap (λ (w : Tx Op). w.thread) m.2) ∙ n)) ∙ k in cc
 
+-- the log that a course lends
+module _ {Shape State Op Undo : Type 0} (o : Object Shape State Op Undo) (shape : Shape) (l m : Shape × List (LocalEntry Op)) (op : Op) (same : m ≡ l) (here : l.0 ≡ shape) where
+  pub allowed_here : IsAllowed o m.0 (local_ops m.1 ++ op ∷ []) → IsAllowed o shape (local_ops l.1 ++ op ∷ [])
+  allowed_here h = subst (λ (s : Shape). IsAllowed o s (local_ops l.1 ++ op ∷ [])) here (subst (λ (z : Shape × List (LocalEntry Op)). IsAllowed o z.0 (local_ops z.1 ++ op ∷ [])) same h)
+
+  pub allowed_there : IsAllowed o shape (local_ops l.1 ++ op ∷ []) → IsAllowed o m.0 (local_ops m.1 ++ op ∷ [])
+  allowed_there h = subst (λ (z : Shape × List (LocalEntry Op)). IsAllowed o z.0 (local_ops z.1 ++ op ∷ [])) (sym same) (subst (λ (s : Shape). IsAllowed o s (local_ops l.1 ++ op ∷ [])) (sym here) h)
+
 module _ {Shape State Op Undo : Type 0} (o : Object Shape State Op Undo) (shape : Shape) (v : Txs Shape Op) (ids : List ℕ) (G : Shape × List (SharedEntry Op)) (F : List (CommittedTx Op)) (n : ℕ) (h : Holds o shape v ids G F n) where
   -- the open transaction t, with this local log
   pub record HasLog (t : Name) (l : Shape × List (LocalEntry Op)) : Type 0 where
     pub thread : Name
-    pub is : tx t (map tx_of v.opened) ≡ Some (record { name = t; thread = thread; body = None; local = l.1 })
-    pub at : open_at t v.opened ≡ Some (open_of t thread None l)
-    pub fine : IsFine o shape n (open_of t thread None l)
+    pub body : Option Body
+    pub is : tx t (map tx_of v.opened) ≡ Some (record { name = t; thread = thread; body = body; local = l.1 })
+    pub at : open_at t v.opened ≡ Some (open_of t thread body l)
+    pub fine : IsFine o shape n (open_of t thread body l)
 
-  open_is : (x : Open Shape Op) (t : Name) (l : Shape × List (LocalEntry Op)) → x.name ≡ t → x.body ≡ None → x.local ≡ l → x ≡ open_of t x.thread None l
-  open_is x t l a b c = λ i. record { name = a i; thread = x.thread; body = b i; local = c i }
+  -- the same, with this body
+  pub record HasCourse (t : Name) (k : Guided Shape Op) : Type 0 where
+    pub log : HasLog t k.local
+    pub body_is : log.body ≡ k.body
+
+  open_is : (x : Open Shape Op) (t : Name) (l : Shape × List (LocalEntry Op)) → x.name ≡ t → x.local ≡ l → x ≡ open_of t x.thread x.body l
+  open_is x t l a c = λ i. record { name = a i; thread = x.thread; body = x.body; local = c i }
 
   tx_is : (t : Name) → tx t (map tx_of v.opened) ≡ option_map tx_of (open_at t v.opened)
   tx_is t = find_map tx_of (λ x. x.name =ⁿ t) v.opened
 
+  log_of : (t : Name) (l : Shape × List (LocalEntry Op)) (x : Open Shape Op) → open_at t v.opened ≡ Some x → x.local ≡ l → (r : HasLog t l) × (r.body ≡ x.body)
+  log_of t l x e m =
+      let k = found (λ (x : Open Shape Op). x.name =ⁿ t) v.opened x e in
+      let same = open_is x t l (names-true x.name t k.1) m in
+      let at : open_at t v.opened ≡ Some (open_of t x.thread x.body l) = e ∙ ap (λ (x : Open Shape Op). Some x) same in
+      (record { thread = x.thread; body = x.body; is = tx_is t ∙ ap (option_map tx_of) at; at = at; fine = subst (IsFine o shape n) same (h.fine x k.0) }, refl)
+
   pub logged : (t : Name) (l : Shape × List (LocalEntry Op)) → Some l ≡ option_map (λ x. x.local) (open_at t v.opened) → HasLog t l
   logged t l e =
       let r = mapped_some (λ x. x.local) (open_at t v.opened) l e in
-      let k = found (λ (x : Open Shape Op). x.name =ⁿ t) v.opened r.0 r.1 in
-      let fine = h.fine r.0 k.0 in
-      let same = open_is r.0 t l (names-true (r.0).name t k.1) fine.body r.2 in
-      let at : open_at t v.opened ≡ Some (open_of t (r.0).thread None l) = r.1 ∙ ap (λ (x : Open Shape Op). Some x) same in
-      record { thread = (r.0).thread; is = tx_is t ∙ ap (option_map tx_of) at; at = at; fine = subst (IsFine o shape n) same fine }
+      (log_of t l r.0 r.1 r.2).0
+
+  pub coursed : (t : Name) (k : Guided Shape Op) → Some k ≡ option_map course_of (open_at t v.opened) → HasCourse t k
+  coursed t k e =
+      let r = mapped_some course_of (open_at t v.opened) k e in
+      let q = log_of t k.local r.0 r.1 (ap (λ (z : Guided Shape Op). z.local) r.2) in
+      record { log = q.0; body_is = q.1 ∙ ap (λ (z : Guided Shape Op). z.body) r.2 }
 
   pub unlogged : (t : Name) → None ≡ option_map (λ x. x.local) (open_at t v.opened) → tx t (map tx_of v.opened) ≡ None
   unlogged t e = tx_is t ∙ ap (option_map tx_of) (mapped_none (λ x. x.local) (open_at t v.opened) e)
+
+  pub uncoursed : (t : Name) → None ≡ option_map course_of (open_at t v.opened) → tx t (map tx_of v.opened) ≡ None
+  uncoursed t e = tx_is t ∙ ap (option_map tx_of) (mapped_none course_of (open_at t v.opened) e)
 
   -- the transaction of the configuration, as it is kept
   pub opened : (t : Name) (x : Tx Op) → tx t (map tx_of v.opened) ≡ Some x → (y : Open Shape Op) × (open_at t v.opened ≡ Some y) × (tx_of y ≡ x) × IsFine o shape n y × (y.name ≡ t) × In y v.opened
@@ -106,10 +134,10 @@ module _ {Shape State Op Undo : Type 0} (o : Object Shape State Op Undo) (shape 
   -- what the log of an open transaction keeps
   pub fits_local : IsLawful o → (t : Name) (l : Shape × List (LocalEntry Op)) → HasLog t l → (p : LocalEntry Op) → In p l.1 → IsTrue (o.fits shape p.op)
   fits_local laws t l r p i =
-      fits_in o laws shape (local_ops l.1) (h.sound.local_allowed (record { name = t; thread = r.thread; body = None; local = l.1 }) (found_tx t (map tx_of v.opened) _ r.is).0) p.op (in_map (λ (z : LocalEntry Op). z.op) p l.1 i)
+      fits_in o laws shape (local_ops l.1) (h.sound.local_allowed (record { name = t; thread = r.thread; body = r.body; local = l.1 }) (found_tx t (map tx_of v.opened) _ r.is).0) p.op (in_map (λ (z : LocalEntry Op). z.op) p l.1 i)
 
   pub distinct : (t : Name) (l : Shape × List (LocalEntry Op)) → HasLog t l → AreDistinct l.1
-  distinct t l r = h.sound.local_ids (record { name = t; thread = r.thread; body = None; local = l.1 }) (found_tx t (map tx_of v.opened) _ r.is).0
+  distinct t l r = h.sound.local_ids (record { name = t; thread = r.thread; body = r.body; local = l.1 }) (found_tx t (map tx_of v.opened) _ r.is).0
 
   pub fits_shared : IsLawful o → (u : SharedEntry Op) → In u G.1 → IsTrue (o.fits shape u.op)
   fits_shared laws u i = fits_in o laws shape (shared_ops G.1) h.sound.shared_allowed u.op (in_map (λ (z : SharedEntry Op). z.op) u G.1 i)

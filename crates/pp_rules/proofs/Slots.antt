@@ -322,6 +322,11 @@ module _ {A Shape Op : Type 0} (f : Name → A → Open Shape Op) (named : (n : 
   none_of None h = refl
   none_of (Some x) h = absurd (cc)
 
+  pub kept_none : (es : List (Name × Option A)) (ts : List Name) → es ≡ [] → ts ≡ [] → Kept (keys_of es) ts (threads_of (filled f es))
+  kept_none es ts e h =
+      subst (λ (z : List (Name × Option A)). Kept (keys_of z) ts (threads_of (filled f z))) (sym e)
+      (subst (λ (z : List Name). Kept [] z []) (sym h) (record { names_apart = λ s t b. absurd b; busy_apart = λ s t b. absurd b; threads_are = λ p. refl }))
+
   -- the same of the transactions as they are seen
   module _ (es : List (Name × Option A)) (ts : List Name) (v : Txs Shape Op) (same : ◌≡◌ {A = Txs Shape Op} (record { names = keys_of es; opened = filled f es }) v) (kept : Kept (keys_of es) ts (threads_of (filled f es))) (t : Name) where
     pub never : lookup (λ n. t =ⁿ n) es ≡ None → (x : Open Shape Op) → open_at t v.opened ≡ Some x → ⊥

@@ -1,3 +1,4 @@
+pub mod Courses
 pub mod Finding
 pub mod Machines
 pub mod Stepping

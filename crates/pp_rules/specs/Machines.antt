@@ -1,5 +1,5 @@
 -- What contracts see of a machine, and what each machine keeps.
-use Rattle.std.specs.Prelude.{◌≡◌, ◌+◌, ◌≤◌, ℕ, List, None, length, map, reverse}
+use Rattle.std.specs.Prelude.{◌≡◌, ◌+◌, ◌≤◌, ℕ, List, length, map, reverse}
 use Rattle.pp_core.specs.declared.entry.CommittedTx.{CommittedTx}
 use Rattle.pp_core.specs.declared.entry.SharedEntry.{SharedEntry}
 use Rattle.pp_model.specs.Config.{Config, Step, Tx, local_ops, shared_ops, then}
@@ -26,9 +26,8 @@ tx_of x = record { name = x.name; thread = x.thread; body = x.body; local = x.lo
 abbrev pub config_of : {Shape Op : Type 0} → Txs Shape Op → List ℕ → List (SharedEntry Op) → List (CommittedTx Op) → Config Op
 config_of v ids shared done = record { names = reverse v.names; ids = reverse ids; opened = map tx_of v.opened; shared = shared; finished = done }
 
--- An open transaction without a body, whose log is of the shape, no longer than the count, and ranged.
+-- An open transaction, whose log is of the shape, no longer than the count, and ranged.
 pub record IsFine {Shape State Op Undo : Type 0} (o : Object Shape State Op Undo) (shape : Shape) (count : ℕ) (x : Open Shape Op) : Type 0 where
-  pub body : x.body ≡ None
   pub same_shape : x.local.0 ≡ shape
   pub short : length x.local.1 ≤ count
   pub ranged : AllRanged o (local_ops x.local.1)

@@ -1,5 +1,6 @@
 -- What a step answers.
-use Rattle.std.specs.Prelude.{◌≡◌, ◌<◌, ◌+◌, ℕ, IsTrue, None}
+use Rattle.std.specs.Prelude.{◌≡◌, ◌<◌, ◌+◌, ℕ, IsTrue}
+use Rattle.pp_core.specs.Trees.{IsWithinLimits}
 use Rattle.pp_core.specs.declared.step.Step.{Step}
 use Rattle.pp_model.specs.Config.{Begin, App, Unapp, Push, Unpush, Pull, Unpull, Cmt, Quit, Note}
 use Rattle.pp_model.specs.Rules.{Fails}
@@ -8,9 +9,9 @@ use Rattle.pp_rules.specs.declared.machine.Outcome.{Outcome}
 use Rattle.pp_rules.specs.declared.machine.Outcome.TheVariants.{Done, False}
 use Rattle.pp_rules.specs.Machines.{Seen, stepped}
 
--- The steps that the machine can do so far, without bodies, with operations of the shape.
+-- The steps that the machine can do so far, with bodies within the limits, and operations of the shape.
 abbrev pub IsAsked : {Shape State Op Undo : Type 0} → Object Shape State Op Undo → Shape → Step Op → Type 0
-IsAsked o shape (Begin t p b) = b ≡ None
+IsAsked o shape (Begin t p b) = IsWithinLimits b
 IsAsked o shape (App t id op) = IsTrue (o.fits shape op) × IsTrue (o.ranged op)
 IsAsked o shape (Unapp t id) = ⊥
 IsAsked o shape (Push t id) = Unit {0}

@@ -8,6 +8,7 @@ use Rattle.pp_model.specs.Config.{local_ops}
 use Rattle.pp_model.specs.Lists.{Before}
 use Rattle.pp_model.specs.Names.{Name, ◌=ⁿ◌}
 use Rattle.pp_spec.specs.Object.{Object, IsAllowed}
+use Rattle.pp_rules.specs.Courses.{Guided}
 
 -- An open transaction, with its local log and the log's shape.
 pub record Open (Shape Op : Type 0) : Type 0 where
@@ -24,6 +25,10 @@ pub record Txs (Shape Op : Type 0) : Type 0 where
 -- the open transaction of this name
 abbrev pub open_at : {Shape Op : Type 0} → Name → List (Open Shape Op) → Option (Open Shape Op)
 open_at t l = find (λ x. x.name =ⁿ t) l
+
+-- its body, and its local log
+abbrev pub course_of : {Shape Op : Type 0} → Open Shape Op → Guided Shape Op
+course_of x = record { body = x.body; local = x.local }
 
 -- whether the name was begun
 abbrev pub is_begun : {Shape Op : Type 0} → Txs Shape Op → Name → Bool

@@ -17,7 +17,7 @@ fn is_mark(mark: Mark, other: Mark) -> bool
 }
 
 /// Whether an entry of this mark is own.
-fn is_own(mark: Mark) -> bool
+pub fn is_own(mark: Mark) -> bool
     ensures { result ≡ is_own mark }
 {
     mark != Mark::Pulled

@@ -1,6 +1,8 @@
 ghost use Rattle.std.specs.Prelude.{◌≡◌, ◌+◌, ◌<◌, ◌≤◌, IfOk, IsOk, OnErr, OnOk, IsTrue, Option, None, is_some, option_map, length};
 ghost use Rattle.std.specs.Option.{option_copied};
-ghost use Rattle.pp_core.specs.declared.body.Body.{Body};
+ghost use Rattle.pp_core.specs.declared.body.Body.{Body as BodyOf};
+ghost use Rattle.pp_core.specs.Trees.{IsWithinLimits};
+ghost use Rattle.pp_body.specs.Plain.{plain_body, plain_step};
 ghost use Rattle.pp_model.specs.Config.{first, tx as open_tx};
 ghost use Rattle.pp_model.specs.Rules.{Fails};
 ghost use Rattle.pp_model.specs.Sound.{Sound, serial_ops};
@@ -14,7 +16,7 @@ use crate::find::{
 use crate::transactions::{OpenTx, Transactions};
 use indexmap::IndexSet;
 use pp_core::{
-    Committed, CommittedTx, LocalEntry, Mark, Name, OutOfMemory, SharedEntry, Step, Steps,
+    Body, Committed, CommittedTx, LocalEntry, Mark, Name, OutOfMemory, SharedEntry, Step, Steps,
 };
 use pp_local::Local;
 use pp_shared::Shared;
@@ -116,7 +118,7 @@ impl<S: Placed> Machine<S> {
 
     /// The number of the first false criterion of BEGIN, or 0.
     fn judge_begin(&self, tx: &Name, thread: &Name) -> u8
-        ensures { (body : Option Body) → Fails (rules_of S.object self.now.shape) self.now.config (Step.Begin tx.now thread.now body) result }
+        ensures { (body : Option BodyOf) → Fails (rules_of S.object self.now.shape) self.now.config (Step.Begin tx.now thread.now body) result }
     {
         if self.transactions.is_begun(tx) {
             return 1;
@@ -132,13 +134,16 @@ impl<S: Placed> Machine<S> {
         requires { IsTrue (S.object.fits self.now.shape op.now) }
         ensures { Fails (rules_of S.object self.now.shape) self.now.config (Step.App tx.now id op.now) result }
     {
-        let Some(local) = self.transactions.local(tx) else {
+        let Some(course) = self.transactions.course(tx) else {
             return 1;
         };
         if self.ids.contains(&id) {
             return 2;
         }
-        if !local.legal(op) {
+        if !course.can(op) {
+            return 3;
+        }
+        if !course.local().legal(op) {
             return 4;
         }
         0
@@ -193,10 +198,13 @@ impl<S: Placed> Machine<S> {
     fn judge_cmt(&self, tx: &Name) -> u8
         ensures { Fails (rules_of S.object self.now.shape) self.now.config (Step.Cmt tx.now) result }
     {
-        let Some(local) = self.transactions.local(tx) else {
+        let Some(course) = self.transactions.course(tx) else {
             return 1;
         };
-        let entries = local.entries();
+        if !course.complete() {
+            return 2;
+        }
+        let entries = course.local().entries();
         if !all_pushed(entries) {
             return 3;
         }
@@ -230,14 +238,15 @@ impl<S: Placed> Machine<S> {
     }
 
     /// Does BEGIN, whose criteria hold.
-    fn begin(&mut self, tx: &Name, thread: &Name) -> Result<(), OutOfMemory>
-        requires holds { Fails (rules_of S.object self.old.shape) self.old.config (Step.Begin tx.now thread.now None) 0 }
+    fn begin(&mut self, tx: &Name, thread: &Name, body: &Option<Body>) -> Result<(), OutOfMemory>
+        requires holds { Fails (rules_of S.object self.old.shape) self.old.config (Step.Begin tx.now thread.now (plain_body body.now)) 0 }
+        requires within { IsWithinLimits body.now }
         requires few { self.old.count < 200_000 }
-        ensures ok { OnOk result (self.new ≡ stepped self.old (Step.Begin tx.now thread.now None)) }
+        ensures ok { OnOk result (self.new ≡ stepped self.old (Step.Begin tx.now thread.now (plain_body body.now))) }
         ensures err { OnErr result (self.new ≡ self.old) }
     {
         self.transactions
-            .begin(self.alloc, &self.shape, tx, thread)?;
+            .begin(self.alloc, &self.shape, tx, thread, body)?;
         self.count += 1;
         Ok(())
     }
@@ -373,7 +382,7 @@ impl<S: Placed> Machine<S> {
     /// The number of the first false criterion of a step, or 0.
     fn judge(&self, step: &Step<S::Op>) -> u8
         requires { IsAsked S.object self.now.shape step.now }
-        ensures { Fails (rules_of S.object self.now.shape) self.now.config step.now result }
+        ensures { Fails (rules_of S.object self.now.shape) self.now.config (plain_step step.now) result }
     {
         match step {
             Step::Begin {
@@ -398,20 +407,16 @@ impl<S: Placed> Machine<S> {
         steps: &mut Steps<L>,
     ) -> Result<(), OutOfMemory>
         requires asked { IsAsked S.object self.old.shape step.now }
-        requires holds { Fails (rules_of S.object self.old.shape) self.old.config step.now 0 }
+        requires holds { Fails (rules_of S.object self.old.shape) self.old.config (plain_step step.now) 0 }
         requires few { self.old.count < 200_000 }
-        ensures ok { OnOk result (self.new ≡ stepped self.old step.now) }
+        ensures ok { OnOk result (self.new ≡ stepped self.old (plain_step step.now)) }
         ensures err { OnErr result (self.new ≡ self.old) }
         ensures cost { OnOk result (steps.new ≡ steps.old + ticks step.now) }
         ensures bound { steps.new ≤ steps.old + ticks step.now }
         ensures sure { NeedsNoMemory step.now → IsOk result }
     {
         match step {
-            Step::Begin {
-                tx,
-                thread,
-                body: _,
-            } => self.begin(tx, thread),
+            Step::Begin { tx, thread, body } => self.begin(tx, thread, body),
             Step::App { tx, id, op } => self.app(tx, *id, op, steps),
             Step::Push { tx, id } => self.push(tx, *id, steps),
             Step::Pull { tx, id } => self.pull(tx, *id, steps),
@@ -437,7 +442,7 @@ impl<S: Placed> Machine<S> {
     ) -> Result<Outcome, OutOfMemory>
         requires asked { IsAsked S.object self.old.shape step.now }
         requires few { self.old.count < 200_000 }
-        ensures effect { IfOk result (λ outcome. Stepped S.object self.old step.now outcome self.new) }
+        ensures effect { IfOk result (λ outcome. Stepped S.object self.old (plain_step step.now) outcome self.new) }
         ensures err { OnErr result (self.new ≡ self.old) }
         ensures cost { IfOk result (λ outcome. Costs step.now outcome steps.old steps.new) }
         ensures bound { steps.new ≤ steps.old + ticks step.now }
@@ -459,7 +464,7 @@ impl<S: Placed> Machine<S> {
     ) -> Result<(Self, Outcome), OutOfMemory>
         requires asked { IsAsked S.object self.shape step.now }
         requires few { self.count < 200_000 }
-        ensures effect { IfOk result (λ r. Stepped S.object self step.now r.1 r.0) }
+        ensures effect { IfOk result (λ r. Stepped S.object self (plain_step step.now) r.1 r.0) }
         ensures one_more { IfOk result (λ r. r.0.count ≤ self.count + 1) }
         ensures cost { IfOk result (λ r. Costs step.now r.1 steps.old steps.new) }
         ensures bound { steps.new ≤ steps.old + ticks step.now }

@@ -5,8 +5,12 @@ ghost use Rattle.std.specs.Str.{bytes_eq};
 ghost use Rattle.pp_core.specs.declared.entry.LocalEntry.{LocalEntry};
 ghost use Rattle.pp_core.specs.declared.entry.Mark.TheVariants.{Pulled};
 ghost use Rattle.pp_model.specs.Config.{marked};
-ghost use Rattle.pp_rules.specs.Transactions.{Open, is_begun, is_busy, open_at, open_of, with_open, without_open, with_log, Takes, HasOwn};
+ghost use Rattle.pp_core.specs.Trees.{IsWithinLimits};
+ghost use Rattle.pp_body.specs.Plain.{plain_body};
+ghost use Rattle.pp_rules.specs.Courses.{FollowsIfOwn};
+ghost use Rattle.pp_rules.specs.Transactions.{Open, course_of, is_begun, is_busy, open_at, open_of, with_open, without_open, with_log, Takes, HasOwn};
 
+use crate::course::Course;
 use indexmap::{IndexMap, IndexSet};
 use pp_core::{Body, LocalEntry, Mark, Name, OutOfMemory, Steps};
 use pp_local::Local;
@@ -15,18 +19,17 @@ use std::alloc::Global;
 use std::marker::Model;
 use std::sync::ledger::Ledger;
 
-/// An open transaction, with its local log.
+/// An open transaction, with its course.
 #[derive(Drop)]
 pub struct OpenTx<T> {
     pub thread: Name,
-    pub body: Option<Body>,
-    pub local: T,
+    pub course: T,
 }
 
 /// The transactions of a run: the names begun, and those that are open.
 #[derive(Drop)]
 pub struct Transactions<S: Placed> {
-    slots: IndexMap<Name, Option<OpenTx<Local<S>>>>,
+    slots: IndexMap<Name, Option<OpenTx<Course<S>>>>,
     threads: IndexSet<Name>,
 }
 
@@ -40,9 +43,9 @@ impl<S: Placed> Model for Transactions<S> {
 
     ghost coded = { Prim.hlevel (codes, body_e.the_row.coded, S.Shape.code, S.Op.code) };
 
-    ghost view = { λ a. record { names = keys_of a.slots.entries; opened = filled (λ n t. open_of n t.thread t.body t.local) a.slots.entries } };
+    ghost view = { λ a. record { names = keys_of a.slots.entries; opened = filled (λ n t. open_of n t.thread t.course.body t.course.local) a.slots.entries } };
 
-    ghost invariant = { λ a. Kept (keys_of a.slots.entries) a.threads.keys (threads_of (filled (λ n t. open_of n t.thread t.body t.local) a.slots.entries)) };
+    ghost invariant = { λ a. Kept (keys_of a.slots.entries) a.threads.keys (threads_of (filled (λ n t. open_of n t.thread t.course.body t.course.local) a.slots.entries)) };
 }
 
 /// Gives a name that has no slot one that holds the transaction.
@@ -70,32 +73,33 @@ fn empty<T: Drop>(slot: &mut Option<OpenTx<T>>) -> Option<Name>
 
 /// Adds an entry to the local log in a slot.
 fn append_in<S: Placed, L: Ledger>(
-    slot: &mut Option<OpenTx<Local<S>>>,
+    slot: &mut Option<OpenTx<Course<S>>>,
     entry: LocalEntry<S::Op>,
     steps: &mut Steps<L>,
 ) -> Result<(), OutOfMemory>
     requires held { IsSome slot.old }
-    requires takes { IfSome slot.old (λ t. Takes S.object t.local entry) }
-    ensures ok { OnOk result (slot.new ≡ option_map (λ t. record { thread = t.thread; body = t.body; local = (t.local.0, t.local.1 ++ entry ∷ []) }) slot.old) }
+    requires takes { IfSome slot.old (λ t. Takes S.object t.course.local entry) }
+    requires follows { IfSome slot.old (λ t. FollowsIfOwn S.object t.course.body t.course.local.1 entry) }
+    ensures ok { OnOk result (slot.new ≡ option_map (λ t. record { thread = t.thread; course = record { body = t.course.body; local = (t.course.local.0, t.course.local.1 ++ entry ∷ []) } }) slot.old) }
     ensures err { OnErr result (slot.new ≡ slot.old) }
     ensures cost { OnOk result (steps.new ≡ steps.old + 1) }
     ensures bound { steps.new ≤ steps.old + 1 }
 {
     match slot {
-        Some(open) => open.local.append(entry, steps),
+        Some(open) => open.course.append(entry, steps),
         None => unreachable!(),
     }
 }
 
 /// Marks an entry of the local log in a slot.
-fn mark_in<S: Placed>(slot: &mut Option<OpenTx<Local<S>>>, i: usize, mark: Mark)
+fn mark_in<S: Placed>(slot: &mut Option<OpenTx<Course<S>>>, i: usize, mark: Mark)
     requires held { IsSome slot.old }
-    requires own { IfSome slot.old (λ t. HasOwn t.local.1 i) }
+    requires own { IfSome slot.old (λ t. HasOwn t.course.local.1 i) }
     requires to_own { mark ≢ Pulled }
-    ensures { (e : LocalEntry S.Op) → IfSome slot.old (λ t. slice_get t.local.1 i ≡ Some e) → slot.new ≡ option_map (λ t. record { thread = t.thread; body = t.body; local = (t.local.0, marked e.id mark t.local.1) }) slot.old }
+    ensures { (e : LocalEntry S.Op) → IfSome slot.old (λ t. slice_get t.course.local.1 i ≡ Some e) → slot.new ≡ option_map (λ t. record { thread = t.thread; course = record { body = t.course.body; local = (t.course.local.0, marked e.id mark t.course.local.1) } }) slot.old }
 {
     match slot {
-        Some(open) => open.local.mark(i, mark),
+        Some(open) => open.course.mark(i, mark),
         None => unreachable!(),
     }
 }
@@ -131,7 +135,16 @@ impl<S: Placed> Transactions<S> {
     {
         let slot = self.slots.get(tx)?;
         let open = slot.as_ref()?;
-        Some(&open.local)
+        Some(open.course.local())
+    }
+
+    /// The course of an open transaction.
+    pub fn course(&self, tx: &Name) -> Option<&Course<S>>
+        ensures { option_copied result ≡ option_map course_of (open_at tx.now self.now.opened) }
+    {
+        let slot = self.slots.get(tx)?;
+        let open = slot.as_ref()?;
+        Some(&open.course)
     }
 
     /// Opens a transaction with an empty log. After a refusal of memory the transactions are as they were.
@@ -141,18 +154,19 @@ impl<S: Placed> Transactions<S> {
         shape: &S::Shape,
         tx: &Name,
         thread: &Name,
+        body: &Option<Body>,
     ) -> Result<(), OutOfMemory>
         requires new { is_begun self.old tx.now ≡ false }
         requires idle { is_busy self.old thread.now ≡ false }
-        ensures ok { OnOk result (self.new ≡ with_open (open_of tx.now thread.now None (shape.now, [])) self.old) }
+        requires within { IsWithinLimits body.now }
+        ensures ok { OnOk result (self.new ≡ with_open (open_of tx.now thread.now (plain_body body.now) (shape.now, [])) self.old) }
         ensures err { OnErr result (self.new ≡ self.old) }
     {
-        let local = Local::new(alloc, shape)?;
+        let course = Course::start(alloc, shape, body)?;
         self.threads.reserve(1)?;
         let begun = OpenTx {
             thread: *thread,
-            body: None,
-            local,
+            course,
         };
         put(&mut self.slots, tx, begun)?;
         let Ok(_added) = self.threads.insert(*thread) else {
@@ -180,7 +194,7 @@ impl<S: Placed> Transactions<S> {
         entry: LocalEntry<S::Op>,
         steps: &mut Steps<L>,
     ) -> Result<(), OutOfMemory>
-        requires taken { (x : Open S.Shape S.Op) × (open_at tx.now self.old.opened ≡ Some x) × Takes S.object x.local entry }
+        requires taken { (x : Open S.Shape S.Op) × (open_at tx.now self.old.opened ≡ Some x) × Takes S.object x.local entry × FollowsIfOwn S.object x.body x.local.1 entry }
         ensures ok { OnOk result (self.new ≡ with_log tx.now (λ l. l ++ entry ∷ []) self.old) }
         ensures err { OnErr result (self.new ≡ self.old) }
         ensures cost { OnOk result (steps.new ≡ steps.old + 1) }

@@ -1,7 +1,7 @@
 use Rattle.std.proofs.Common.{◌≡◌, ◌++◌, ◌∷◌, [], length, vec_len, sym, subst, rules}
 use Rattle.pp_body.specs.Walks.{Walked, HasTaken}
 use Rattle.pp_body.proofs.Tracks.{went_back, none_empty}
-use Rattle.pp_body.proofs.walk.Walk.back.Goals as goal
+use Rattle.pp_body.proofs.walk.Walk.retreat.Goals as goal
 
 pub returns-clause-taken : goal.returns-clause-taken
 returns-clause-taken c taken last known =

@@ -1,0 +1,92 @@
+-- The own calls of a local log, as it grows and as its entries are marked.
+use Rattle.std.proofs.Common.{◌≡◌, ◌≢◌, ◌↔◌, IsTrue, ℕ, Bool, true, false, cond, List, [], ◌∷◌, ◌++◌, map, Some, slice_get, refl, sym, ap, subst, ◌∙◌, inl, inr}
+use Rattle.std.proofs.lemmas.List.{map-append}
+use Rattle.pp_core.specs.Trees.{IsWithin, tree}
+use Rattle.pp_core.specs.declared.entry.LocalEntry.{LocalEntry}
+use Rattle.pp_model.specs.Body.{Body, Call, Begins, IsWord}
+use Rattle.pp_model.specs.Config.{Mark, Unpushed, Pushed, Pulled, is_own, item, marked, own, own_items}
+use Rattle.pp_model.specs.Lists.{In}
+use Rattle.pp_model.specs.Object.{Item}
+use Rattle.pp_model.proofs.Lists.{by_key}
+use Rattle.pp_model.proofs.Push.{mark_cases, remark}
+use Rattle.pp_model.proofs.Steps.{own_items-append}
+use Rattle.pp_spec.specs.Object.{Object}
+use Rattle.pp_body.specs.Plain.{plain_body, same_begins, same_word, with_tree}
+use Rattle.pp_body.specs.Walks.{Walked, HasTaken}
+use Rattle.pp_rules.specs.Courses.{Guided, MayFollow, own_calls}
+use Rattle.pp_rules.specs.Finding.{AreDistinct}
+use Rattle.pp_rules.specs.Transactions.{HasOwn, Takes}
+use Rattle.pp_rules.proofs.Finding.{slice_in}
+
+pub own_mark : (m : Mark) → m ≢ Pulled → is_own m ≡ true
+own_mark Unpushed n = refl
+own_mark Pushed n = refl
+own_mark Pulled n = absurd (n refl)
+
+own_of : {Op : Type 0} (e : LocalEntry Op) (b : Bool) → is_own e.mark ≡ b → own_items (e ∷ []) ≡ map item (cond b (e ∷ []) [])
+own_of e b h = ap (λ (z : Bool). map item (cond z (e ∷ []) [])) h
+
+map_cond : {Op : Type 0} (b : Bool) (e : LocalEntry Op) (w : List (LocalEntry Op)) → map item (cond b (e ∷ w) w) ≡ cond b (item e ∷ map item w) (map item w)
+map_cond true e w = refl
+map_cond false e w = refl
+
+-- the own items stay where the entries of this id are own and stay so
+own_marked : {Op : Type 0} (id : ℕ) (m : Mark) → is_own m ≡ true → (l : List (LocalEntry Op)) → ((e : LocalEntry Op) → In e l → e.id ≡ id → is_own e.mark ≡ true) → own_items (marked id m l) ≡ own_items l
+own_marked id m k [] h = refl
+own_marked {Op} id m k (e ∷ l) h = elim (mark_cases id m e) [
+  | inl r ↦ ap (λ (w : LocalEntry Op). own_items (w ∷ marked id m l)) r.1
+      ∙ ap (λ (b : Bool). map item (cond b (remark m e ∷ own (marked id m l)) (own (marked id m l)))) k
+      ∙ ap (λ (w : List (Item Op)). item e ∷ w) (own_marked id m k l (λ a i. h a (inr i)))
+      ∙ ap (λ (b : Bool). map item (cond b (e ∷ own l) (own l))) (sym (h e (inl refl) r.0))
+  | inr r ↦ ap (λ (w : LocalEntry Op). own_items (w ∷ marked id m l)) r.1
+      ∙ map_cond (is_own e.mark) e (own (marked id m l))
+      ∙ ap (λ (w : List (Item Op)). cond (is_own e.mark) (item e ∷ w) w) (own_marked id m k l (λ a i. h a (inr i)))
+      ∙ sym (map_cond (is_own e.mark) e (own l))
+]
+
+module _ {Shape State Op Undo : Type 0} (o : Object Shape State Op Undo) where
+  calls_of : List (Item Op) → List Call
+  calls_of l = map (λ p. o.call p.op) l
+
+  pub calls_own : (l : List (LocalEntry Op)) (e : LocalEntry Op) → is_own e.mark ≡ true → own_calls o (l ++ e ∷ []) ≡ own_calls o l ++ o.call e.op ∷ []
+  calls_own l e h =
+      ap (map (λ (p : Item Op). o.call p.op)) (own_items-append l (e ∷ []) ∙ ap (λ (w : List (Item Op)). own_items l ++ w) (own_of e true h))
+      ∙ map-append (λ (p : Item Op). o.call p.op) (own_items l) (item e ∷ [])
+
+  pub calls_marked : (l : List (LocalEntry Op)) (i : ℕ) (e : LocalEntry Op) (m : Mark) → AreDistinct l → slice_get l i ≡ Some e → e.mark ≢ Pulled → m ≢ Pulled → own_calls o (marked e.id m l) ≡ own_calls o l
+  calls_marked l i e m d h own to =
+      ap (map (λ (p : Item Op). o.call p.op)) (own_marked e.id m (own_mark m to) l (λ a j s.
+      ap (λ (z : LocalEntry Op). is_own z.mark) (by_key (λ (z : LocalEntry Op). z.id) l d a e j (slice_in l i e h) s) ∙ own_mark e.mark own))
+
+-- bodies with the same plain data
+pub same_plain : (b c : Body) → tree b ≡ tree c → plain_body (Some b) ≡ plain_body (Some c)
+same_plain b c e = ap (λ t. Some (with_tree t)) e
+
+pub same_within : (b c : Body) → tree b ≡ tree c → IsWithin (tree c) → IsWithin (tree b)
+same_within b c e h = subst IsWithin (sym e) h
+
+-- the course as it is seen
+module _ {Shape State Op Undo : Type 0} (o : Object Shape State Op Undo) (w : Walked) (log : Shape × List (LocalEntry Op)) (v : Guided Shape Op) (same : ◌≡◌ {A = Guided Shape Op} (record { body = plain_body w.body; local = log }) v) (taken : HasTaken w (own_calls o log.1)) where
+  pub can_is : (r : Bool) (call : Call) (op : Op) → call ≡ o.call op → ((calls : List Call) → HasTaken w calls → IsTrue r ↔ Begins w.body (calls ++ call ∷ [])) → IsTrue r ↔ MayFollow o v.body v.local.1 op
+  can_is r call op e known =
+      let k = known (own_calls o log.1) taken in
+      let begins = same_begins w.body (own_calls o log.1 ++ call ∷ []) in
+      subst (λ (z : Guided Shape Op). IsTrue r ↔ MayFollow o z.body z.local.1 op) same
+      (subst (λ (z : Call). IsTrue r ↔ Begins (plain_body w.body) (own_calls o log.1 ++ z ∷ [])) e (λ h. begins.1 (k.0 h), λ h. k.1 (begins.0 h)))
+
+  pub complete_is : (r : Bool) → ((calls : List Call) → HasTaken w calls → IsTrue r ↔ IsWord w.body calls) → IsTrue r ↔ IsWord v.body (own_calls o v.local.1)
+  complete_is r known =
+      let k = known (own_calls o log.1) taken in
+      let word = same_word w.body (own_calls o log.1) in
+      subst (λ (z : Guided Shape Op). IsTrue r ↔ IsWord z.body (own_calls o z.local.1)) same (λ h. word.1 (k.0 h), λ h. k.1 (word.0 h))
+
+  pub may_follow : (op : Op) → MayFollow o v.body v.local.1 op → MayFollow o w.body log.1 op
+  may_follow op h = (same_begins w.body (own_calls o log.1 ++ o.call op ∷ [])).0 (subst (λ (z : Guided Shape Op). MayFollow o z.body z.local.1 op) (sym same) h)
+
+  pub takes_still : (e : LocalEntry Op) → Takes o v.local e → Takes o log e
+  takes_still e h = subst (λ (z : Guided Shape Op). Takes o z.local e) (sym same) h
+
+  pub mark_kept : (new : Shape × List (LocalEntry Op)) (i : ℕ) (m : Mark) → AreDistinct log.1 → m ≢ Pulled → HasOwn v.local.1 i → ((e : LocalEntry Op) → slice_get log.1 i ≡ Some e → new ≡ (log.0, marked e.id m log.1)) → HasTaken w (own_calls o new.1)
+  mark_kept new i m d to h is =
+      let own = subst (λ (z : Guided Shape Op). HasOwn z.local.1 i) (sym same) h in
+      subst (λ (z : List Call). HasTaken w z) (sym (ap (λ (z : Shape × List (LocalEntry Op)). own_calls o z.1) (is own.entry own.here) ∙ calls_marked o log.1 i own.entry m d own.here own.own to)) taken

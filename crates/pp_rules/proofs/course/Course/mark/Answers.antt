@@ -1,0 +1,5 @@
+use Rattle.pp_rules.proofs.Courses.{mark_kept}
+use Rattle.pp_rules.proofs.course.Course.mark.Goals as goal
+
+pub invariant_of-self : goal.invariant_of-self
+invariant_of-self g c = mark_kept g.S.Spec.object c.self.inside.walked.walk c.self.inside.walked.log _ c.self.view_is c.self.invariant c.mark.new.self c.args.i c.args.mark c.len-distinct.ensures.distinct c.requires.to_own c.requires.own c.mark.ensures

@@ -1,0 +1,150 @@
+ghost use Rattle.std.specs.Prelude.{◌≡◌, ◌≢◌, ◌+◌, ◌≤◌, ◌↔◌, ◌++◌, ◌∷◌, [], Some, true, slice_get, IsTrue, IfOk, OnOk, OnErr};
+ghost use Rattle.pp_core.specs.declared.entry.LocalEntry.{LocalEntry};
+ghost use Rattle.pp_core.specs.declared.entry.Mark.TheVariants.{Pulled};
+ghost use Rattle.pp_core.specs.Trees.{IsWithinLimits};
+ghost use Rattle.pp_model.specs.Body.{Begins, IsWord};
+ghost use Rattle.pp_model.specs.Config.{is_own, marked};
+ghost use Rattle.pp_body.specs.Plain.{plain_body};
+ghost use Rattle.pp_body.specs.Walks.{HasTaken};
+ghost use Rattle.pp_rules.specs.Courses.{own_calls, FollowsIfOwn, MayFollow};
+ghost use Rattle.pp_rules.specs.Transactions.{Takes, HasOwn};
+
+use crate::find::is_own;
+use pp_body::Walk;
+use pp_core::{Body, LocalEntry, Mark, OutOfMemory, Steps};
+use pp_local::Local;
+use pp_spec::Placed;
+use std::alloc::Global;
+use std::marker::Model;
+use std::sync::ledger::Ledger;
+
+/// A log, and the walk of its own calls.
+#[derive(Drop)]
+struct Walked<T> {
+    walk: Walk,
+    log: T,
+}
+
+/// The local log of an open transaction, and how far its own calls have come in its body.
+#[derive(Drop)]
+pub struct Course<S: Placed> {
+    walked: Walked<Local<S>>,
+}
+
+impl<S: Placed> Model for Course<S> {
+    ghost use Rattle.pp_core.specs.contracts.body.Body as body_e;
+    ghost use Rattle.std.specs.Coded.{codes};
+    ghost use Rattle.pp_body.specs.Plain.{plain_body};
+    ghost use Rattle.pp_body.specs.Walks.{HasTaken};
+    ghost use Rattle.pp_rules.specs.Courses.{Guided, own_calls};
+
+    ghost Value = { Guided S.Shape S.Op };
+
+    ghost coded = { Prim.hlevel (codes, body_e.the_row.coded, S.Shape.code, S.Op.code) };
+
+    ghost view = { λ a. record { body = plain_body a.walked.walk.body; local = a.walked.log } };
+
+    ghost invariant = { λ a. HasTaken a.walked.walk (own_calls S.object a.walked.log.1) };
+}
+
+/// An equal body.
+fn copied(body: &Option<Body>, alloc: Global) -> Result<Option<Body>, OutOfMemory>
+    ensures same { IfOk result (λ b. plain_body b ≡ plain_body body.now) }
+    ensures within { IsWithinLimits body.now → IfOk result (λ b. IsWithinLimits b) }
+{
+    match body {
+        None => Ok(None),
+        Some(body) => Ok(Some(body.copy(alloc)?)),
+    }
+}
+
+/// Adds an own entry at the end of a local log, and its call to the walk.
+fn append_own<S: Placed, L: Ledger>(
+    walked: &mut Walked<Local<S>>,
+    entry: LocalEntry<S::Op>,
+    steps: &mut Steps<L>,
+) -> Result<(), OutOfMemory>
+    requires own { is_own entry.mark ≡ true }
+    requires takes { Takes S.object walked.old.log entry }
+    requires taken { HasTaken walked.old.walk (own_calls S.object walked.old.log.1) }
+    requires follows { MayFollow S.object walked.old.walk.body walked.old.log.1 entry.op }
+    ensures ok { OnOk result (walked.new.log ≡ (walked.old.log.0, walked.old.log.1 ++ entry ∷ [])) }
+    ensures err { OnErr result (walked.new.log ≡ walked.old.log) }
+    ensures body { walked.new.walk.body ≡ walked.old.walk.body }
+    ensures taken { HasTaken walked.new.walk (own_calls S.object walked.new.log.1) }
+    ensures cost { OnOk result (steps.new ≡ steps.old + 1) }
+    ensures bound { steps.new ≤ steps.old + 1 }
+{
+    walked.walk.follow(&S::call(&entry.op))?;
+    let appended = walked.log.append(entry, steps);
+    if appended.is_err() {
+        walked.walk.retreat();
+    }
+    appended
+}
+
+impl<S: Placed> Course<S> {
+    /// The course of a transaction that begins.
+    pub fn start(alloc: Global, shape: &S::Shape, body: &Option<Body>) -> Result<Self, OutOfMemory>
+        requires { IsWithinLimits body.now }
+        ensures { IfOk result (λ course. course ≡ record { body = plain_body body.now; local = (shape.now, []) }) }
+    {
+        let body = copied(body, alloc)?;
+        let walk = Walk::start(alloc, body)?;
+        let log = Local::new(alloc, shape)?;
+        Ok(Course {
+            walked: Walked { walk, log },
+        })
+    }
+
+    /// The local log.
+    pub fn local(&self) -> &Local<S>
+        ensures { result.now ≡ self.now.local }
+    {
+        &self.walked.log
+    }
+
+    /// Whether the call of the operation may follow the own calls.
+    pub fn can(&self, op: &S::Op) -> bool
+        ensures { IsTrue result ↔ MayFollow S.object self.now.body self.now.local.1 op.now }
+    {
+        self.walked.walk.can(&S::call(op))
+    }
+
+    /// Whether the own calls are a word of the body.
+    pub fn complete(&self) -> bool
+        ensures { IsTrue result ↔ IsWord self.now.body (own_calls S.object self.now.local.1) }
+    {
+        self.walked.walk.complete()
+    }
+
+    /// Adds an entry at the end of the local log. After a refusal of memory the course is as it was.
+    pub fn append<L: Ledger>(
+        &mut self,
+        entry: LocalEntry<S::Op>,
+        steps: &mut Steps<L>,
+    ) -> Result<(), OutOfMemory>
+        requires takes { Takes S.object self.old.local entry }
+        requires follows { FollowsIfOwn S.object self.old.body self.old.local.1 entry }
+        ensures ok { OnOk result (self.new ≡ record { body = self.old.body; local = (self.old.local.0, self.old.local.1 ++ entry ∷ []) }) }
+        ensures err { OnErr result (self.new ≡ self.old) }
+        ensures cost { OnOk result (steps.new ≡ steps.old + 1) }
+        ensures bound { steps.new ≤ steps.old + 1 }
+    {
+        if is_own(entry.mark) {
+            append_own(&mut self.walked, entry, steps)
+        } else {
+            self.walked.log.append(entry, steps)
+        }
+    }
+
+    /// Marks an own entry of the local log.
+    pub fn mark(&mut self, i: usize, mark: Mark)
+        requires own { HasOwn self.old.local.1 i }
+        requires to_own { mark ≢ Pulled }
+        ensures { (e : LocalEntry S.Op) → slice_get self.old.local.1 i ≡ Some e → self.new ≡ record { body = self.old.body; local = (self.old.local.0, marked e.id mark self.old.local.1) } }
+    {
+        let _distinct = self.walked.log.len();
+        self.walked.log.mark(i, mark);
+    }
+}
