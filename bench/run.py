@@ -3,8 +3,9 @@
 
     python3 bench/run.py crates/pp_cli/out/pp_cli
 
-The runs are of one counter. Each of N transactions begins, adds three numbers, publishes them and commits, one after another: eight
-lines each. The third run is the first with a failing step put first, so that its other lines are only read.
+Each of N transactions begins, calls an object three times, publishes its calls and commits, one after another: eight lines each. The
+object is a counter, to which numbers are added, or a map with 10,000 keys, at which values are put. The run `only read` is the first with
+a failing step put first, so that its other lines are only read.
 """
 import json
 import os
@@ -14,28 +15,55 @@ import sys
 import tempfile
 import time
 
-HEADER = {"run": 1, "style": "rules", "objects": [{"name": "c", "kind": "counter"}]}
+KEYS = 10_000
 
 
 def record(**members):
     return json.dumps(members, separators=(",", ":")) + "\n"
 
 
-def transactions(count):
+def additions():
+    """Calls of a counter: call, arguments, result."""
+    while True:
+        for by in range(1, 4):
+            yield "add", [by], None
+
+
+def puts():
+    """Calls of a map with 10,000 keys. The keys come in an order that is not theirs."""
+    values = {}
+    place = 0
+    while True:
+        key = place * 7_919 % KEYS
+        yield "put", [key, place], values.get(key)
+        values[key] = place
+        place += 1
+
+
+OBJECTS = {"counter": additions, "map": puts}
+
+
+def lines(kind, count, first=()):
+    yield record(run=1, style="rules", objects=[{"name": "o", "kind": kind}])
+    yield from first
+    calls = OBJECTS[kind]()
     for k in range(1, count + 1):
         tx = f"t{k}"
         yield record(step="begin", tx=tx, thread="p1")
         for i in range(1, 4):
-            yield record(step="app", tx=tx, id=10 * k + i, on="c", call="add", args=[i], result=None)
+            call, args, result = next(calls)
+            yield record(step="app", tx=tx, id=10 * k + i, on="o", call=call, args=args, result=result)
         for i in range(1, 4):
             yield record(step="push", tx=tx, id=10 * k + i)
         yield record(step="cmt", tx=tx)
 
 
-def write(path, lines):
-    with open(path, "w") as out:
-        out.write(json.dumps(HEADER, separators=(",", ":")) + "\n")
-        out.writelines(lines)
+RUNS = {
+    "counter, whole": lambda: lines("counter", 19_999),
+    "counter, half": lambda: lines("counter", 9_999),
+    "counter, only read": lambda: lines("counter", 19_999, [record(step="cmt", tx="none")]),
+    "map, whole": lambda: lines("map", 19_999),
+}
 
 
 def seconds(command, path, times=3):
@@ -51,20 +79,20 @@ def seconds(command, path, times=3):
 
 def main():
     program = os.path.abspath(sys.argv[1])
+    times = {}
     with tempfile.TemporaryDirectory() as folder:
-        runs = {}
-        for name, count, first in [("whole", 19_999, []), ("half", 9_999, []), ("only read", 19_999, [record(step="cmt", tx="none")])]:
+        for name, run in RUNS.items():
             path = os.path.join(folder, name.replace(" ", "_"))
-            write(path, [*first, *transactions(count)])
-            runs[name] = path
-        times = {name: seconds([program, "certify"], path) for name, path in runs.items()}
-        for name, path in runs.items():
+            with open(path, "w") as out:
+                out.writelines(run())
+            times[name] = seconds([program, "certify"], path)
             line = f"certify {name}: {times[name]:.2f} s"
             if shutil.which("jq"):
                 line += f", jq {seconds(['jq', '-c', '.'], path):.2f} s"
             print(line)
-        print(f"whole to half: {times['whole'] / times['half']:.2f}")
-        print(f"whole to only read: {times['whole'] / times['only read']:.2f}")
+    for one, other in [("counter, half", "whole to half"), ("counter, only read", "whole to only read")]:
+        print(f"{other}: {times['counter, whole'] / times[one]:.2f}")
+    print(f"map to counter: {times['map, whole'] / times['counter, whole']:.2f}")
 
 
 if __name__ == "__main__":

@@ -1,15 +1,14 @@
 -- What an examination concludes.
-use Rattle.std.specs.Prelude.{◌≡◌, ℕ, ℤ, ◌+◌, List, [], ◌∷◌, length, map, Option, None, Some}
+use Rattle.std.specs.Prelude.{◌≡◌, ℕ, ◌+◌, List, [], ◌∷◌, length, map, Option, None, Some}
 use Rattle.std.proofs.Common.{refl, sym, ap, ◌∙◌, subst}
-use Rattle.pp_core.specs.declared.call.Kind.TheVariants.{Counter}
+use Rattle.pp_core.specs.declared.call.Kind.{Kind}
 use Rattle.pp_core.specs.declared.entry.CommittedTx.{CommittedTx}
 use Rattle.pp_core.specs.declared.status.Status.{Status}
 use Rattle.pp_core.specs.declared.status.Status.TheVariants as statuses
-use Rattle.pp_core.specs.Catalogs.{Objects}
-use Rattle.pp_counter.specs.Count.{counter}
-use Rattle.pp_counter.specs.declared.op.CounterOp.{CounterOp}
+use Rattle.pp_object.specs.Objects.{kinds_of, objects}
+use Rattle.pp_object.specs.declared.act.Op.{Op}
+use Rattle.pp_object.specs.declared.states.ObjectState.{ObjectState}
 use Rattle.pp_json.specs.declared.header.Header.{Header}
-use Rattle.pp_json.specs.Later.{IsBuilt}
 use Rattle.pp_model.specs.Config.{first}
 use Rattle.pp_model.specs.Lists.{joined}
 use Rattle.pp_model.specs.Object.{Item, ops, state}
@@ -27,8 +26,7 @@ use Rattle.pp_report.specs.declared.cause.Cause.{Cause}
 use Rattle.pp_report.specs.declared.cause.Cause.TheVariants.{NoHeader}
 use Rattle.pp_rules.specs.Machines.{Seen}
 use Rattle.pp_spec.specs.Object.{state_after}
-use Rattle.pp_text.specs.Texts.{IsCounter}
-use Rattle.pp_cli.specs.Objects.{object}
+use Rattle.pp_cli.specs.Objects.{object_of}
 use Rattle.pp_cli.specs.Certified.{IsDecided}
 use Rattle.pp_cli.specs.Inputs.{limit_fault, no_header, scan}
 use Rattle.pp_cli.specs.Outputs.{IsOutput, IsReport, IsReportOf, IsRunReport, IsScanReport}
@@ -44,45 +42,38 @@ use Rattle.pp_cli.proofs.Examining.{leads_sound}
 use Rattle.pp_cli.specs.Scans.{Numbered, Recorded, Scanned, scan_lines, steps_of}
 use Rattle.pp_cli.specs.declared.progress.Tally.{Tally}
 
--- the one object of a built header is a counter
-one_counter : (objects : Objects) → map (λ entry. entry.1) objects ≡ Counter ∷ [] → IsCounter objects 0
-one_counter [] h = absurd (cc)
-one_counter (entry ∷ objects) h = let e : entry.1 ≡ Counter = cc in ap (λ k. Some k) e
-
-pub built_counter : (header : Header) → IsBuilt header → IsCounter header.catalog 0
-built_counter header built = one_counter header.catalog built.kinds
-
 -- the committed transactions of an accepted run are its attempts
-module _ (sc : Scanned) (tally : Tally) (machine : Seen (Unit {0}) CounterOp) (r : IsRunning sc tally machine) where
-  pub is_simulated : Simulated object None (steps_of sc)
-  is_simulated = simulated object None (steps_of sc) refl r.runs
+module _ (sc : Scanned) (tally : Tally) (machine : Seen (List Kind) Op) (r : IsRunning sc tally machine) where
+  pub is_simulated : Simulated (object_of tally.header) None (steps_of sc)
+  is_simulated = simulated (object_of tally.header) None (steps_of sc) refl r.runs
 
   pub committed_are : machine.config.finished ≡ map finished_of (attempts None (steps_of sc))
   committed_are = ap (λ c. c.finished) r.config ∙ is_simulated.done
 
-entries_of : (as' : List (Attempt CounterOp)) → map (λ d. d.entries) (map finished_of as') ≡ map (λ a. a.items) as'
+entries_of : (as' : List (Attempt Op)) → map (λ d. d.entries) (map finished_of as') ≡ map (λ a. a.items) as'
 entries_of [] = refl
 entries_of (a ∷ as') = ap (λ l. a.items ∷ l) (entries_of as')
 
-pub serial_is : (as' : List (Attempt CounterOp)) → serial_ops (map finished_of as') ≡ serial as'
-serial_is as' = ap (λ (ls : List (List (Item CounterOp))). ops (joined ls)) (entries_of as')
+pub serial_is : (as' : List (Attempt Op)) → serial_ops (map finished_of as') ≡ serial as'
+serial_is as' = ap (λ (ls : List (List (Item Op))). ops (joined ls)) (entries_of as')
 
 -- the report of an accepted run
-pub report_is : (sc : Scanned) (tally : Tally) (machine : Seen (Unit {0}) CounterOp) (count : ℕ) (D : List (CommittedTx CounterOp)) (n : ℤ) (text : List ℕ) → IsRunning sc tally machine → count ≡ machine.count → D ≡ machine.config.finished
-    → n ≡ state_after counter tt (serial_ops D) → text ≡ accepted_text tally.header.catalog count D n → IsReportOf tally.header sc.records Accepted statuses.Accepted text
-report_is sc tally machine count D n text r count_is D_is state_is text_is =
+pub report_is : (sc : Scanned) (tally : Tally) (machine : Seen (List Kind) Op) (count : ℕ) (D : List (CommittedTx Op)) (states : List ObjectState) (text : List ℕ) → IsRunning sc tally machine → count ≡ machine.count → D ≡ machine.config.finished
+    → states ≡ state_after objects (kinds_of tally.header.catalog) (serial_ops D) → text ≡ accepted_text tally.header.catalog count D states → IsReportOf tally.header sc.records Accepted statuses.Accepted text
+report_is sc tally machine count D states text r count_is D_is state_is text_is =
     let as' = attempts None (steps_of sc) in
+    let catalog = tally.header.catalog in
+    let kinds = kinds_of catalog in
     let committed : D ≡ map finished_of as' = D_is ∙ committed_are sc tally machine r in
-    let same : n ≡ state object (serial as') =
-    state_is ∙ ap (λ E. state_after counter tt (serial_ops E)) committed ∙ ap (λ k. state_after counter tt k) (serial_is as') in
-    let objects = tally.header.catalog in
-    (refl, text_is ∙ ap (λ k. accepted_text objects k D n) (count_is ∙ r.count) ∙ ap (λ E. accepted_text objects (length sc.records) E n) committed ∙ ap (accepted_text objects (length sc.records) (map finished_of as')) same)
+    let same : states ≡ state (object_of tally.header) (serial as') =
+    state_is ∙ ap (λ E. state_after objects kinds (serial_ops E)) committed ∙ ap (λ k. state_after objects kinds k) (serial_is as') in
+    (refl, text_is ∙ ap (λ k. accepted_text catalog k D states) (count_is ∙ r.count) ∙ ap (λ E. accepted_text catalog (length sc.records) E states) committed ∙ ap (accepted_text catalog (length sc.records) (map finished_of as')) same)
 
 -- it is the report of the run
-pub run_accepted : (sc : Scanned) (tally : Tally) (machine : Seen (Unit {0}) CounterOp) (status : Status) (text : List ℕ) → IsRunning sc tally machine → IsReportOf tally.header sc.records Accepted status text
+pub run_accepted : (sc : Scanned) (tally : Tally) (machine : Seen (List Kind) Op) (status : Status) (text : List ℕ) → IsRunning sc tally machine → IsReportOf tally.header sc.records Accepted status text
     → IsRunReport sc.header sc.records status text
 run_accepted sc tally machine status text r report =
-    subst (λ h. IsRunReport h sc.records status text) (sym r.follows.header) (Accepted, (accepted_iff object None (steps_of sc)).1 (refl, r.runs), report)
+    subst (λ h. IsRunReport h sc.records status text) (sym r.follows.header) (Accepted, (accepted_iff (object_of tally.header) None (steps_of sc)).1 (refl, r.runs), report)
 
 pub run_rejected : (sc : Scanned) (tally : Tally) (rejection : Rejection) (status : Status) (text : List ℕ) → IsRejected sc tally rejection → IsReportOf tally.header sc.records (Rejected rejection.step rejection.criterion) status text
     → IsRunReport sc.header sc.records status text
@@ -119,20 +110,22 @@ decided (Some header) records status text (Accepted, v, r) = subst IsDecided (sy
 decided (Some header) records status text (Rejected i n, v, r) = subst IsDecided (sym r.0) tt
 
 -- the steps of an accepted input
-accepted_run : (h : Option Header) (records : List Recorded) (text : List ℕ) → IsRunReport h records statuses.Accepted text → RunsFrom object (first None) (map (λ r. r.step) records)
+accepted_run : (h : Option Header) (records : List Recorded) (text : List ℕ) → IsRunReport h records statuses.Accepted text → (header : Header) × (h ≡ Some header) × RunsFrom (object_of header) (first None) (map (λ r. r.step) records)
 accepted_run None records text r = absurd r
-accepted_run (Some header) records text (Accepted, v, r) = ((accepted_iff object None (map (λ r. r.step) records)).0 v).1
+accepted_run (Some header) records text (Accepted, v, r) = (header, refl, ((accepted_iff (object_of header) None (map (λ r. r.step) records)).0 v).1)
 accepted_run (Some header) records text (Rejected i n, v, r) = absurd (let e : statuses.Accepted ≡ statuses.Rejected = r.0 in cc)
 
-accepted_scan : (f : Option (ℕ × Cause)) (sc : Scanned) (text : List ℕ) → IsScanReport f sc statuses.Accepted text → RunsFrom object (first None) (steps_of sc)
+accepted_scan : (f : Option (ℕ × Cause)) (sc : Scanned) (text : List ℕ) → IsScanReport f sc statuses.Accepted text → (header : Header) × (sc.header ≡ Some header) × RunsFrom (object_of header) (first None) (steps_of sc)
 accepted_scan (Some fault) sc text r = absurd (let e : statuses.Accepted ≡ statuses.InputFault = r.0 in cc)
 accepted_scan None sc text r = accepted_run sc.header sc.records text r
 
-pub accepted_runs : (bytes : List ℕ) (text : List ℕ) → IsReport bytes statuses.Accepted text → RunsFrom object (first None) (steps_of (scan bytes))
+pub accepted_runs : (bytes : List ℕ) (text : List ℕ) → IsReport bytes statuses.Accepted text → (header : Header) × ((scan bytes).header ≡ Some header) × RunsFrom (object_of header) (first None) (steps_of (scan bytes))
 accepted_runs bytes text r = accepted_scan (scan bytes).fault (scan bytes) text r
 
-pub accepted_simulated : (bytes : List ℕ) (text : List ℕ) → IsReport bytes statuses.Accepted text → Simulated object None (steps_of (scan bytes))
-accepted_simulated bytes text r = simulated object None (steps_of (scan bytes)) refl (accepted_runs bytes text r)
+pub accepted_simulated : (bytes : List ℕ) (text : List ℕ) → IsReport bytes statuses.Accepted text → (header : Header) × ((scan bytes).header ≡ Some header) × Simulated (object_of header) None (steps_of (scan bytes))
+accepted_simulated bytes text r =
+    let run = accepted_runs bytes text r in
+    (run.0, run.1, simulated (object_of run.0) None (steps_of (scan bytes)) refl run.2)
 
 -- ---- an input has one report
 
@@ -148,7 +141,7 @@ one_of header records (Rejected i n) s s' t t' a b =
 one_run : (h : Option Header) (records : List Recorded) (s s' : Status) (t t' : List ℕ) → IsRunReport h records s t → IsRunReport h records s' t' → t ≡ t'
 one_run None records s s' t t' a b = absurd a
 one_run (Some header) records s s' t t' a b =
-    let same : a.0 ≡ b.0 = one_verdict object None (map (λ r. r.step) records) a.0 b.0 a.1 b.1 in
+    let same : a.0 ≡ b.0 = one_verdict (object_of header) None (map (λ r. r.step) records) a.0 b.0 a.1 b.1 in
     one_of header records b.0 s s' t t' (subst (λ v. IsReportOf header records v s t) same a.2) b.2
 
 one_scan : (f : Option (ℕ × Cause)) (sc : Scanned) (s s' : Status) (t t' : List ℕ) → IsScanReport f sc s t → IsScanReport f sc s' t' → t ≡ t'

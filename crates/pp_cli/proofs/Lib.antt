@@ -3,5 +3,6 @@ pub mod Scanning
 pub mod Covering
 pub mod Examining
 pub mod Fitting
+pub mod Naming
 pub mod Concluding
 pub mod Sent

@@ -2,7 +2,7 @@
 use Rattle.std.specs.Prelude.{◌≡◌, ℕ, ◌==◌, ◌&&◌, ◌||◌, true, false, List, [], ◌∷◌, ◌++◌, fold, is_some, cond, Option, None, Some, Result, Ok}
 use Rattle.std.proofs.Common.{refl, ap, ◌∙◌}
 use Rattle.pp_core.specs.declared.step.Step.{Step}
-use Rattle.pp_counter.specs.declared.op.CounterOp.{CounterOp}
+use Rattle.pp_object.specs.declared.act.Op.{Op}
 use Rattle.pp_io.specs.Lines.{blank}
 use Rattle.pp_json.specs.declared.header.Header.{Header}
 use Rattle.pp_json.specs.declared.fault.RecordFault.{RecordFault}
@@ -46,15 +46,15 @@ pub scan_header : (sc : Scanned) (line : Numbered) (r : Result Header RecordFaul
 scan_header sc line r sound none is read = scan_other sc line sound is ∙ rw (none, read) refl
 
 -- a record
-pub scan_record : (sc : Scanned) (header : Header) (line : Numbered) (r : Result (Step CounterOp) RecordFault) → sc.fault ≡ None → sc.header ≡ Some header → blank line.1 ≡ false → record_of header line.1 ≡ r → scan_line sc line ≡ with_record sc line.0 r
+pub scan_record : (sc : Scanned) (header : Header) (line : Numbered) (r : Result (Step Op) RecordFault) → sc.fault ≡ None → sc.header ≡ Some header → blank line.1 ≡ false → record_of header line.1 ≡ r → scan_line sc line ≡ with_record sc line.0 r
 scan_record sc header line r sound there is read = scan_other sc line sound is ∙ rw (there, read) refl
 
 -- a record that is one step more
-abbrev pub one_more : Scanned → ℕ → Step CounterOp → Scanned
+abbrev pub one_more : Scanned → ℕ → Step Op → Scanned
 one_more sc line step = record sc { records = sc.records ++ record { line = line; step = step } ∷ [] }
 
-pub with_step : (sc : Scanned) (line : ℕ) (step : Step CounterOp) → (is_begin step && begins sc.records == 20_000) ≡ false → with_record sc line (Ok step) ≡ one_more sc line step
+pub with_step : (sc : Scanned) (line : ℕ) (step : Step Op) → (is_begin step && begins sc.records == 20_000) ≡ false → with_record sc line (Ok step) ≡ one_more sc line step
 with_step sc line step few = rw few refl
 
-pub too_many : (sc : Scanned) (line : ℕ) (step : Step CounterOp) → (is_begin step && begins sc.records == 20_000) ≡ true → (with_record sc line (Ok step)).fault ≡ Some (line, TooManyTransactions)
+pub too_many : (sc : Scanned) (line : ℕ) (step : Step Op) → (is_begin step && begins sc.records == 20_000) ≡ true → (with_record sc line (Ok step)).fault ≡ Some (line, TooManyTransactions)
 too_many sc line step many = rw many refl

@@ -12,14 +12,14 @@ use Rattle.pp_report.specs.declared.cause.Cause.{Cause}
 use Rattle.pp_cli.specs.declared.words.Command.{Command}
 use Rattle.pp_cli.specs.declared.words.Command.TheVariants.{Certify}
 use Rattle.pp_cli.specs.Inputs.{scan}
-use Rattle.pp_cli.specs.Objects.{object}
+use Rattle.pp_cli.specs.Objects.{object_of}
 use Rattle.pp_cli.specs.Scans.{Recorded, Scanned}
 
 -- The report of a verdict. Accepted: the committed transactions, each with its own operations, and the state that they lead to one after another.
 abbrev pub IsReportOf : Header → List Recorded → Verdict → Status → List ℕ → Type 0
 IsReportOf header records Accepted status text =
     let steps = map (λ r. r.step) records in
-    (status ≡ statuses.Accepted) × (text ≡ accepted_text header.catalog (length records) (map finished_of (attempts None steps)) (state object (serial (attempts None steps))))
+    (status ≡ statuses.Accepted) × (text ≡ accepted_text header.catalog (length records) (map finished_of (attempts None steps)) (state (object_of header) (serial (attempts None steps))))
 IsReportOf header records (Rejected i n) status text =
     (status ≡ statuses.Rejected) × ((r : Recorded) × (slice_get records (i - 1) ≡ Some r) × (text ≡ rejected_text i r.line (rule_of r.step) n))
 
@@ -27,7 +27,7 @@ IsReportOf header records (Rejected i n) status text =
 abbrev pub IsRunReport : Option Header → List Recorded → Status → List ℕ → Type 0
 IsRunReport None records status text = ⊥
 IsRunReport (Some header) records status text =
-    (v : Verdict) × IsVerdict object None (map (λ r. r.step) records) v × IsReportOf header records v status text
+    (v : Verdict) × IsVerdict (object_of header) None (map (λ r. r.step) records) v × IsReportOf header records v status text
 
 -- the fault, where there is one, and else the report of the run
 abbrev pub IsScanReport : Option (ℕ × Cause) → Scanned → Status → List ℕ → Type 0

@@ -1,23 +1,25 @@
 -- Where the examination of a run stands after some of its lines.
 use Rattle.std.specs.Prelude.{◌≡◌, ℕ, ◌+◌, ◌-◌, ◌<◌, Bool, true, ◌==◌, ◌&&◌, ◌⊎◌, List, length, slice_get, if◌then◌else◌, None, Some, Result, Ok, Err}
+use Rattle.pp_core.specs.declared.call.Kind.{Kind}
 use Rattle.pp_core.specs.declared.step.Step.{Step}
 use Rattle.pp_core.specs.Steps.{rule_of}
-use Rattle.pp_counter.specs.declared.op.CounterOp.{CounterOp}
+use Rattle.pp_object.specs.declared.act.Op.{Op}
+use Rattle.pp_object.specs.Objects.{kinds_of, objects}
 use Rattle.pp_json.specs.declared.fault.RecordFault.{RecordFault}
-use Rattle.pp_json.specs.Later.{IsBuilt}
 use Rattle.pp_model.specs.Config.{after, first}
 use Rattle.pp_model.specs.Rules.{Fails, IsVerdict, Rejected, RunsFrom}
 use Rattle.pp_report.specs.Causes.{cause_of}
 use Rattle.pp_report.specs.declared.cause.Cause.{Cause}
 use Rattle.pp_report.specs.declared.cause.Cause.TheVariants.{TooManyTransactions}
 use Rattle.pp_rules.specs.Machines.{Seen, stepped}
+use Rattle.pp_spec.specs.Object.{rules_of}
 use Rattle.pp_cli.specs.declared.progress.Progress.{Progress}
 use Rattle.pp_cli.specs.declared.progress.Progress.TheVariants.{Waiting, Running, Stopped}
 use Rattle.pp_cli.specs.declared.progress.Rejection.{Rejection}
 use Rattle.pp_cli.specs.declared.progress.Tally.{Tally}
 use Rattle.pp_cli.specs.declared.progress.Stop.{Stop}
 use Rattle.pp_cli.specs.declared.progress.Stop.TheVariants.{Fault, OutOfMemory}
-use Rattle.pp_cli.specs.Objects.{object}
+use Rattle.pp_cli.specs.Objects.{object_of}
 use Rattle.pp_cli.specs.Scans.{Recorded, Scanned, nothing, begins, is_begin, steps_of}
 
 -- how many lines were taken
@@ -31,7 +33,7 @@ abbrev pub with_line : Tally → Tally
 with_line tally = record tally { lines = tally.lines + 1 }
 
 -- one record more
-abbrev pub with_record : Tally → Step CounterOp → Tally
+abbrev pub with_record : Tally → Step Op → Tally
 with_record tally step = record tally { lines = tally.lines + 1; begins = if is_begin step then tally.begins + 1 else tally.begins }
 
 -- one blank line more
@@ -44,14 +46,14 @@ skipped (Stopped tally rejection) = Stopped (with_line tally) rejection
 pub record IsTallied (sc : Scanned) (tally : Tally) : Type 0 where
   pub header : sc.header ≡ Some tally.header
   pub sound : sc.fault ≡ None
-  pub built : IsBuilt tally.header
   pub begun : tally.begins ≡ begins sc.records
   pub fewer : length sc.records < tally.lines
 
 -- each step so far meets its criteria, and the machine is where they lead
-pub record IsRunning (sc : Scanned) (tally : Tally) (machine : Seen (Unit {0}) CounterOp) : Type 0 where
+pub record IsRunning (sc : Scanned) (tally : Tally) (machine : Seen (List Kind) Op) : Type 0 where
   pub follows : IsTallied sc tally
-  pub runs : RunsFrom object (first None) (steps_of sc)
+  pub shape : machine.shape ≡ kinds_of tally.header.catalog
+  pub runs : RunsFrom (object_of tally.header) (first None) (steps_of sc)
   pub config : machine.config ≡ after None (steps_of sc)
   pub count : machine.count ≡ length sc.records
 
@@ -63,7 +65,7 @@ IsPlaced records rejection =
 -- the verdict is this rejection, whatever follows
 pub record IsRejected (sc : Scanned) (tally : Tally) (rejection : Rejection) : Type 0 where
   pub follows : IsTallied sc tally
-  pub verdict : IsVerdict object None (steps_of sc) (Rejected rejection.step rejection.criterion)
+  pub verdict : IsVerdict (object_of tally.header) None (steps_of sc) (Rejected rejection.step rejection.criterion)
   pub place : IsPlaced sc.records rejection
 
 -- the lines so far, which are scanned so, lead to here
@@ -78,17 +80,17 @@ IfFault (Fault line cause) P = P line cause
 IfFault OutOfMemory P = Unit {0}
 
 -- a record that may not begin another transaction
-abbrev pub is_too_many : Tally → Step CounterOp → Bool
+abbrev pub is_too_many : Tally → Step Op → Bool
 is_too_many tally step = is_begin step && tally.begins == 20_000
 
 -- why a record is not taken: it can not be read, or it begins too many transactions
-abbrev pub IsRefused : Tally → Result (Step CounterOp) RecordFault → Cause → Type 0
+abbrev pub IsRefused : Tally → Result (Step Op) RecordFault → Cause → Type 0
 IsRefused tally (Err fault) cause = cause_of fault ≡ Ok cause
 IsRefused tally (Ok step) cause = (is_too_many tally step ≡ true) × (cause ≡ TooManyTransactions)
 
 -- a step is taken: it meets its criteria, or it is the first that does not
-abbrev pub StepTaken : Tally → Seen (Unit {0}) CounterOp → Step CounterOp → ℕ → Progress → Type 0
+abbrev pub StepTaken : Tally → Seen (List Kind) Op → Step Op → ℕ → Progress → Type 0
 StepTaken tally machine step line next =
-    (Fails object machine.config step 0 × (next ≡ Running tally (stepped machine step)))
-    ⊎ ((n : ℕ) × (0 < n) × Fails object machine.config step n
+    (Fails (rules_of objects machine.shape) machine.config step 0 × (next ≡ Running tally (stepped machine step)))
+    ⊎ ((n : ℕ) × (0 < n) × Fails (rules_of objects machine.shape) machine.config step n
     × (next ≡ Stopped tally (record { step = machine.count + 1; line = line; rule = rule_of step; criterion = n })))

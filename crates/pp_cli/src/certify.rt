@@ -18,8 +18,8 @@ ghost use Rattle.pp_cli.specs.Scans.{Scanned};
 use crate::examine::{Ending, examine};
 use crate::progress::{Progress, Rejection, Stop, Tally};
 use pp_core::{OutOfMemory, Status, Steps, Text};
-use pp_counter::Count;
 use pp_io::Source;
+use pp_object::Objects;
 use pp_report::{Cause, accepted, fault, rejected};
 use pp_rules::Machine;
 use pp_serial::serial;
@@ -39,17 +39,19 @@ pub enum Failure {
 fn report_accepted<L: Ledger>(
     alloc: Global,
     tally: &Tally,
-    machine: &Machine<Count>,
+    machine: &Machine<Objects>,
     steps: &mut Steps<L>,
 ) -> Result<(Status, Text), OutOfMemory>
     requires running { (sc : Scanned) × IsRunning sc tally.now machine.now }
     requires few { tally.now.lines ≤ 200_001 }
     ensures { IfOk result (λ r. (sc : Scanned) → IsRunning sc tally.now machine.now → IsReportOf tally.now.header sc.records Accepted r.0 r.1) }
 {
+    let catalog = &tally.header.catalog;
+    let kinds = catalog.kinds(alloc)?;
     let count = machine.count();
     let committed = machine.committed();
-    let (_list, state) = serial::<Count, L>(alloc, &(), committed, steps)?;
-    let text = accepted(alloc, &tally.header.catalog, count, committed, &state)?;
+    let (_list, states) = serial::<Objects, L>(alloc, &kinds, committed, steps)?;
+    let text = accepted(alloc, catalog, count, committed, &states)?;
     Ok((Status::Accepted, text))
 }
 

@@ -3,8 +3,8 @@ ghost use Rattle.std.specs.Prelude.{◌≡◌};
 ghost use Rattle.pp_cli.specs.declared.progress.Stop.TheVariants.{OutOfMemory as NoMemory};
 
 use pp_core::{OutOfMemory, Rule};
-use pp_counter::Count;
 use pp_json::Header;
+use pp_object::Objects;
 use pp_report::Cause;
 use pp_rules::Machine;
 use std::alloc::AllocError;
@@ -32,7 +32,7 @@ pub enum Progress {
     /// Only blank lines, so many.
     Waiting(u32),
     /// A header, and records whose steps meet their criteria.
-    Running(Tally, Machine<Count>),
+    Running(Tally, Machine<Objects>),
     /// A header, and records of which one is rejected: those behind it are only read.
     Stopped(Tally, Rejection),
 }

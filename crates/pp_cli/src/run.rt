@@ -4,6 +4,7 @@ ghost use Rattle.std.specs.Io.KnownBytes.{Appends, Consumes, IsAtEnd, Keeps};
 ghost use Rattle.pp_core.specs.declared.status.Status.{Status as StatusOf};
 ghost use Rattle.pp_core.specs.declared.status.Status.TheVariants as statuses;
 ghost use Rattle.pp_io.specs.Faults.{HasRisen};
+ghost use Rattle.pp_json.specs.declared.header.Header.{Header as HeaderOf};
 ghost use Rattle.pp_model.specs.Serial.{Simulated, attempts};
 ghost use Rattle.pp_model.specs.Alone.{alone};
 ghost use Rattle.pp_model.specs.Config.{first};
@@ -11,7 +12,7 @@ ghost use Rattle.pp_model.specs.Rules.{RunsFrom};
 ghost use Rattle.pp_cli.specs.declared.write.WriteError.TheVariants.{WriteFault};
 ghost use Rattle.pp_cli.specs.Certified.{IsDecided, IsPrinted, IsUnwritten};
 ghost use Rattle.pp_cli.specs.Inputs.{early_fault, scan};
-ghost use Rattle.pp_cli.specs.Objects.{object};
+ghost use Rattle.pp_cli.specs.Objects.{object_of};
 ghost use Rattle.pp_cli.specs.Outputs.{IsOutput};
 ghost use Rattle.pp_cli.specs.Scans.{steps_of};
 ghost use Rattle.pp_cli.specs.Words.{command_of};
@@ -70,8 +71,8 @@ pub fn run<S: Source, K: Sink, L: Ledger>(
     ensures complete { ¬ HasRisen (S.faults source.old) (S.faults source.new) → ¬ HasRisen (K.faults sink.old) (K.faults sink.new) → (result ≡ statuses.OutOfMemory) ⊎ IsPrinted result }
 
     // An accepted run is simulated by its committed transactions, one after another in commit order.
-    ensures simulated { result ≡ statuses.Accepted → (bytes : List ℕ) → S.left source.old ≡ Some bytes → Simulated object None (steps_of (scan bytes)) }
-    ensures alone { result ≡ statuses.Accepted → (bytes : List ℕ) → S.left source.old ≡ Some bytes → RunsFrom object (first None) (alone None (steps_of (scan bytes))) × (attempts None (alone None (steps_of (scan bytes))) ≡ attempts None (steps_of (scan bytes))) }
+    ensures simulated { result ≡ statuses.Accepted → (bytes : List ℕ) → S.left source.old ≡ Some bytes → (header : HeaderOf) × ((scan bytes).header ≡ Some header) × Simulated (object_of header) None (steps_of (scan bytes)) }
+    ensures alone { result ≡ statuses.Accepted → (bytes : List ℕ) → S.left source.old ≡ Some bytes → (header : HeaderOf) × ((scan bytes).header ≡ Some header) × RunsFrom (object_of header) (first None) (alone None (steps_of (scan bytes))) × (attempts None (alone None (steps_of (scan bytes))) ≡ attempts None (steps_of (scan bytes))) }
 {
     let Some(Command::Certify) = read_words(words) else {
         return Status::BadWords;

@@ -8,18 +8,18 @@ ghost use Rattle.pp_body.specs.Plain.{plain_step};
 ghost use Rattle.pp_core.specs.Steps.{rule_of};
 ghost use Rattle.pp_io.specs.Lines.{blank};
 ghost use Rattle.pp_json.specs.Headers.{header_of};
-ghost use Rattle.pp_json.specs.Later.{IsBuilt};
 ghost use Rattle.pp_json.specs.Records.{IsReadable, record_of};
 ghost use Rattle.pp_json.specs.declared.header.Header.{Header as HeaderOf};
 ghost use Rattle.pp_json.specs.declared.fault.RecordFault.{RecordFault as FaultOf};
 ghost use Rattle.pp_model.specs.Config.{first};
+ghost use Rattle.pp_object.specs.Objects.{kinds_of};
 ghost use Rattle.pp_report.specs.Causes.{cause_of};
 
 use crate::progress::{Progress, Rejection, Stop, Tally};
 use pp_core::{MOST_TRANSACTIONS, OutOfMemory, Step, Steps, rule_of};
-use pp_counter::{Count, CounterOp};
 use pp_io::{Line, is_blank};
 use pp_json::{RecordFault, read_header, read_record};
+use pp_object::{Objects, Op};
 use pp_report::{Cause, cause_of};
 use pp_rules::{Machine, Outcome};
 use std::alloc::Global;
@@ -36,7 +36,7 @@ fn stop_at(line: u32, fault: RecordFault) -> Stop
 }
 
 /// Whether a step begins a transaction.
-fn is_begin(step: &Step<CounterOp>) -> bool
+fn is_begin(step: &Step<Op>) -> bool
     ensures { result ≡ is_begin (plain_step step.now) }
 {
     match step {
@@ -55,7 +55,7 @@ fn with_line(mut tally: Tally) -> Tally
 }
 
 /// One record more.
-fn with_record(mut tally: Tally, step: &Step<CounterOp>) -> Tally
+fn with_record(mut tally: Tally, step: &Step<Op>) -> Tally
     requires lines { tally.lines < 200_001 }
     requires begins { tally.begins < tally.lines }
     ensures { result ≡ with_record tally (plain_step step.now) }
@@ -81,14 +81,14 @@ fn skip_line(progress: Progress) -> Progress
 
 /// The line that is the header.
 fn take_header(alloc: Global, line: &Line) -> Result<Progress, Stop>
-    ensures ok { IfOk result (λ next. (header : HeaderOf) × (header_of line.now.text ≡ Ok header) × IsBuilt header × (next ≡ Running (record { header = header; lines = line.now.number; begins = 0 }) (record { shape = tt; config = first None; count = 0 }))) }
+    ensures ok { IfOk result (λ next. (header : HeaderOf) × (header_of line.now.text ≡ Ok header) × (next ≡ Running (record { header = header; lines = line.now.number; begins = 0 }) (record { shape = kinds_of header.catalog; config = first None; count = 0 }))) }
     ensures err { IfErr result (λ stop. IfFault stop (λ at cause. (at ≡ line.now.number) × ((fault : FaultOf) × (header_of line.now.text ≡ Err fault) × (cause_of fault ≡ Ok cause)))) }
 {
     let header = match read_header(alloc, line.text.bytes()) {
         Ok(header) => header,
         Err(fault) => return Err(stop_at(line.number, fault)),
     };
-    let machine = Machine::new(alloc, ())?;
+    let machine = Machine::new(alloc, header.catalog.kinds(alloc)?)?;
     let tally = Tally {
         header,
         lines: line.number,
@@ -98,9 +98,9 @@ fn take_header(alloc: Global, line: &Line) -> Result<Progress, Stop>
 }
 
 /// The step of a line behind the header.
-fn read_step(alloc: Global, tally: &Tally, line: &Line) -> Result<Step<CounterOp>, Stop>
+fn read_step(alloc: Global, tally: &Tally, line: &Line) -> Result<Step<Op>, Stop>
     ensures read { IfOk result (λ step. record_of tally.now.header line.now.text ≡ Ok (plain_step step)) }
-    ensures readable { IfOk result IsReadable }
+    ensures readable { IfOk result (IsReadable tally.now.header.catalog) }
     ensures few { IfOk result (λ step. is_too_many tally.now (plain_step step) ≡ false) }
     ensures err { IfErr result (λ stop. IfFault stop (λ at cause. (at ≡ line.now.number) × IsRefused tally.now (record_of tally.now.header line.now.text) cause)) }
 {
@@ -117,12 +117,13 @@ fn read_step(alloc: Global, tally: &Tally, line: &Line) -> Result<Step<CounterOp
 /// A step of a run that is not rejected so far.
 fn take_step<L: Ledger>(
     tally: Tally,
-    mut machine: Machine<Count>,
-    step: &Step<CounterOp>,
+    mut machine: Machine<Objects>,
+    step: &Step<Op>,
     line: u32,
     steps: &mut Steps<L>,
 ) -> Result<Progress, Stop>
-    requires readable { IsReadable step.now }
+    requires shape { machine.shape ≡ kinds_of tally.header.catalog }
+    requires readable { IsReadable tally.header.catalog step.now }
     requires few { machine.count < 200_000 }
     ensures ok { IfOk result (λ next. StepTaken tally machine (plain_step step.now) line next) }
     ensures err { IfErr result (λ stop. stop ≡ NoMemory) }
@@ -145,7 +146,7 @@ fn take_step<L: Ledger>(
 fn take_record<L: Ledger>(
     alloc: Global,
     tally: Tally,
-    machine: Machine<Count>,
+    machine: Machine<Objects>,
     line: &Line,
     steps: &mut Steps<L>,
 ) -> Result<Progress, Stop>

@@ -1,4 +1,4 @@
-ghost use Rattle.std.specs.Prelude.{◌≡◌, ◌<◌, [], ◌∷◌, ◌++◌, length, map, slice_get, is_none, if◌then◌else◌, Some, IfOk, IfSome, OnErr};
+ghost use Rattle.std.specs.Prelude.{◌≡◌, ◌<◌, ◌≤◌, [], ◌∷◌, ◌++◌, length, map, slice_get, is_none, if◌then◌else◌, Some, IfOk, IfSome, OnErr};
 
 use crate::answer::OutOfMemory;
 use crate::call::{Kind, Kinds};
@@ -40,7 +40,8 @@ impl Catalog {
 
     /// How many objects there are.
     pub fn len(&self) -> usize
-        ensures { result ≡ length self.now }
+        ensures len { result ≡ length self.now }
+        ensures few { result ≤ 256 }
     {
         self.objects.len()
     }

@@ -2,3 +2,4 @@ pub mod Values
 pub mod Texts
 pub mod Objects
 pub mod Parts
+pub mod Calls

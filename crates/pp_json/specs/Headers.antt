@@ -79,5 +79,5 @@ header_of line = do
   word ← text_of members.Style value
   style ← ok_or (style_from word) UnknownStyle
   catalog ← catalog_of value
-  built ← fault_if (not (is_built style catalog)) NotYet
+  built ← fault_if (not (is_built style)) NotYet
   Ok (record { style = style; catalog = catalog })

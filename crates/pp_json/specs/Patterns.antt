@@ -2,16 +2,17 @@
 use Rattle.std.specs.Prelude.{ℕ, ◌==◌, ℤ, pos, List, codes, not, Option, Some, None, ok_or, option_and_then, Result, Ok}
 use Rattle.serde_json.specs.Data.{Data, null}
 use Rattle.serde_json.specs.Find.{get, at, as_str, as_array, as_number, as_integer}
-use Rattle.pp_core.specs.Catalogs.{Objects, place_of}
+use Rattle.pp_core.specs.Catalogs.{Objects}
+use Rattle.pp_core.specs.declared.call.Kind.{Kind}
 use Rattle.pp_core.specs.declared.call.Method.{Method}
 use Rattle.pp_core.specs.declared.body.Pattern.{Pattern}
 use Rattle.pp_spec.specs.Numbers.{in_range}
+use Rattle.pp_object.specs.Calls.{methods_of, first_named, arity_of}
 use Rattle.pp_json.specs.declared.fault.RecordFault.{RecordFault}
 use Rattle.pp_json.specs.declared.fault.RecordFault.TheVariants.{BodyBad}
 use Rattle.pp_json.specs.Reading.{◌>>=◌, fault_if}
-use Rattle.pp_json.specs.Members.{name_from}
 use Rattle.pp_json.specs.Headers.{count}
-use Rattle.pp_json.specs.Calls.{method_from, arity, kind_at}
+use Rattle.pp_json.specs.Calls.{object_named}
 
 -- a whole number in -10^18 to 10^18, or null for any number
 unfoldable pub wanted : Data → Result (Option ℤ) RecordFault
@@ -34,22 +35,28 @@ wanted_at i list = wanted_or_none (at i list)
 unfoldable pub body_text : List ℕ → Data → Result (List ℕ) RecordFault
 body_text key value = ok_or (option_and_then as_str (get key value)) BodyBad
 
--- the object, and the call of its kind
-unfoldable pub target_of : Objects → Data → Result (ℕ × Method) RecordFault
+-- the object with its kind, and the call of that kind
+unfoldable pub target_of : Objects → Data → Result (ℕ × Kind × Method) RecordFault
 target_of objects value = do
   on ← body_text (codes "on") value
-  object ← ok_or (option_and_then (λ name. place_of name objects) (name_from on)) BodyBad
+  object ← ok_or (object_named objects on) BodyBad
   word ← body_text (codes "call") value
-  method ← ok_or (option_and_then (λ kind. method_from kind word) (kind_at object objects)) BodyBad
-  Ok (object, method)
+  method ← ok_or (first_named (methods_of object.1) word) BodyBad
+  Ok (object.0, object.1, method)
 
--- the pattern, which has as many elements in `args` as the call has arguments
+-- what is wanted of the two arguments, in an array that has as many elements as the call has arguments
+unfoldable pub wanted_of : Kind → Method → Data → Result (Option ℤ × Option ℤ) RecordFault
+wanted_of kind method value = do
+  list ← ok_or (get (codes "args") value) BodyBad
+  values ← ok_or (as_array list) BodyBad
+  exact ← fault_if (not (count values == arity_of kind method)) BodyBad
+  first ← wanted_at 0 list
+  second ← wanted_at 1 list
+  Ok (first, second)
+
+-- the pattern
 unfoldable pub pattern_of : Objects → Data → Result Pattern RecordFault
 pattern_of objects value = do
   target ← target_of objects value
-  list ← ok_or (get (codes "args") value) BodyBad
-  values ← ok_or (as_array list) BodyBad
-  exact ← fault_if (not (count values == arity target.1)) BodyBad
-  first ← wanted_at 0 list
-  second ← wanted_at 1 list
-  Ok (record { object = target.0; method = target.1; first = first; second = second })
+  arguments ← wanted_of target.1 target.2 value
+  Ok (record { object = target.0; method = target.2; first = arguments.0; second = arguments.1 })

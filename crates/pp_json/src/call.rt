@@ -1,18 +1,20 @@
 //! The calls of objects, with their arguments and results.
-ghost use Rattle.std.specs.Prelude.{◌≡◌, IsTrue, pos, negsuc, ◌≤ℤ◌, IfOk};
+ghost use Rattle.std.specs.Prelude.{◌≡◌, ℤ, IsTrue, pos, negsuc, ◌≤ℤ◌, IfOk, IfSome, Some, slice_get};
 ghost use Rattle.serde_json.specs.View.{view};
-ghost use Rattle.pp_spec.specs.Numbers.{in_range};
-ghost use Rattle.pp_counter.specs.Operations.{is_ranged};
+ghost use Rattle.pp_spec.specs.Numbers.{in_range, is_ranged_answer};
+ghost use Rattle.pp_object.specs.Objects.{objects, kinds_of};
+ghost use Rattle.pp_object.specs.Calls.{HasMethod, methods_of, first_named, has_form, op_made, IsCallOf, IsOpOf};
 ghost use Rattle.pp_json.specs.Reading.{Gives};
-ghost use Rattle.pp_json.specs.Calls.{number_of, counter_method, method_from, arity, kind_of, method_of, argument, argument_of, op_with, op_of};
+ghost use Rattle.pp_json.specs.Calls.{number_of, object_named, object_called, method_of, argument, arguments_of, number_answer, answer_in, op_of};
 
 use crate::fault::RecordFault;
 use crate::members::{member_in, name_with, text_in, whole_number};
-use pp_core::{Catalog, Kind, Member, Method};
-use pp_counter::CounterOp;
+use pp_core::{Answer, Call, Catalog, Kind, Member, Method};
+use pp_object::{Form, Op, answer_form, arity, make_op, method_of};
 use pp_spec::GREATEST_NUMBER;
 use serde_json::Value;
 
+/// Whether a number may stand in a record.
 pub(crate) fn is_in_range(n: i128) -> bool
     ensures value { result ≡ in_range n }
     ensures low { IsTrue result → negsuc 999_999_999_999_999_999 ≤ℤ n }
@@ -34,52 +36,40 @@ fn number_that_is(value: &Value, member: Member) -> Result<i64, RecordFault>
     Ok(n as i64)
 }
 
-#[tactic(auto, unfolding(crate::specs::Calls::counter_method))]
-fn counter_method(word: &str) -> Option<Method>
-    ensures { result ≡ counter_method word.now }
+/// The place and the kind of the object that a text names.
+#[tactic(auto, unfolding(crate::specs::Calls::object_named))]
+pub(crate) fn object_named(catalog: &Catalog, text: &str) -> Option<(u16, Kind)>
+    ensures value { result ≡ object_named catalog.now text.now }
+    ensures there { IfSome result (λ object. slice_get (kinds_of catalog.now) object.0 ≡ Some object.1) }
 {
-    match word {
-        "add" => Some(Method::Add),
-        "get" => Some(Method::Get),
-        "fetch_add" => Some(Method::FetchAdd),
-        _ => None,
-    }
+    let name = name_with(text)?;
+    let place = catalog.place(&name)?;
+    let (_, kind) = catalog.at(place)?;
+    Some((place, kind))
 }
 
-pub(crate) fn method_named(kind: Kind, word: &str) -> Option<Method>
-    ensures { result ≡ method_from kind word.now }
-{
-    match kind {
-        Kind::Counter => counter_method(word),
-        _ => None,
-    }
-}
-
-pub(crate) fn arity_of(method: Method) -> usize
-    ensures { result ≡ arity method }
-{
-    match method {
-        Method::Add | Method::FetchAdd => 1,
-        _ => 0,
-    }
-}
-
-#[tactic(auto, unfolding(crate::specs::Calls::kind_of))]
-fn kind_in(catalog: &Catalog, value: &Value) -> Result<Kind, RecordFault>
-    ensures { Gives (λ k. k) result (kind_of catalog.now (view value.now)) }
+#[tactic(auto, unfolding(crate::specs::Calls::object_called))]
+fn object_in(catalog: &Catalog, value: &Value) -> Result<(u16, Kind), RecordFault>
+    ensures reads { Gives (λ object. object) result (object_called catalog.now (view value.now)) }
+    ensures there { IfOk result (λ object. slice_get (kinds_of catalog.now) object.0 ≡ Some object.1) }
 {
     let on = text_in(value, Member::On)?;
-    let object = name_with(on).and_then(|name| catalog.place(&name));
-    let object = object.ok_or(RecordFault::UnknownObject)?;
-    let kind = catalog.at(object).map(|entry| entry.1);
-    kind.ok_or(RecordFault::UnknownObject)
+    object_named(catalog, on).ok_or(RecordFault::UnknownObject)
+}
+
+/// The method that a kind's objects have under this word.
+pub(crate) fn method_named(kind: Kind, word: &str) -> Option<Method>
+    ensures value { result ≡ first_named (methods_of kind) word.now }
+    ensures found { IfSome result (HasMethod kind) }
+{
+    method_of(kind, word.as_bytes())
 }
 
 #[tactic(auto, unfolding(crate::specs::Calls::method_of))]
-fn method_in(catalog: &Catalog, value: &Value) -> Result<Method, RecordFault>
-    ensures { Gives (λ m. m) result (method_of catalog.now (view value.now)) }
+fn method_in(kind: Kind, value: &Value) -> Result<Method, RecordFault>
+    ensures reads { Gives (λ m. m) result (method_of kind (view value.now)) }
+    ensures found { IfOk result (HasMethod kind) }
 {
-    let kind = kind_in(catalog, value)?;
     let word = text_in(value, Member::Call)?;
     method_named(kind, word).ok_or(RecordFault::UnknownCall)
 }
@@ -95,52 +85,81 @@ fn argument_among(list: &Value, i: usize) -> Result<i64, RecordFault>
     }
 }
 
-#[tactic(auto, unfolding(crate::specs::Calls::argument_of), using(crate::proofs::Objects::count_view))]
-fn argument_in(method: Method, value: &Value) -> Result<i64, RecordFault>
-    ensures reads { Gives (λ n. n) result (argument_of method (view value.now)) }
-    ensures ranged { IfOk result (λ n. IsTrue (in_range n)) }
+#[tactic(auto, unfolding(crate::specs::Calls::arguments_of), using(crate::proofs::Objects::count_view))]
+fn arguments_in(kind: Kind, method: Method, value: &Value) -> Result<(i64, i64), RecordFault>
+    requires { HasMethod kind method }
+    ensures reads { Gives (λ both. both) result (arguments_of kind method (view value.now)) }
+    ensures first { IfOk result (λ both. IsTrue (in_range both.0)) }
+    ensures second { IfOk result (λ both. IsTrue (in_range both.1)) }
 {
     let list = member_in(value, Member::Args)?;
     let values = list.as_array().ok_or(RecordFault::WrongType(Member::Args))?;
-    if values.len() != arity_of(method) {
+    if values.len() != arity(kind, method) {
         return Err(RecordFault::WrongType(Member::Args));
     }
-    argument_among(list, 0)
+    let first = argument_among(list, 0)?;
+    let second = argument_among(list, 1)?;
+    Ok((first, second))
 }
 
-#[tactic(auto, unfolding(crate::specs::Calls::op_with))]
-fn op_with(method: Method, by: i64, answer: &Value) -> Result<CounterOp, RecordFault>
-    requires { IsTrue (in_range by) }
-    ensures reads { Gives (λ op. op) result (op_with method by (view answer.now)) }
-    ensures ranged { IfOk result (λ op. IsTrue (is_ranged op)) }
+#[tactic(auto, unfolding(crate::specs::Calls::number_answer))]
+fn number_answer(value: &Value) -> Result<Answer, RecordFault>
+    ensures reads { Gives (λ answer. answer) result (number_answer (view value.now)) }
+    ensures formed { IfOk result (λ answer. (n : ℤ) × (answer ≡ Answer.Number n) × IsTrue (in_range n)) }
 {
-    match method {
-        Method::Add => {
-            if !answer.is_null() {
-                return Err(RecordFault::WrongType(Member::Answer));
-            }
-            Ok(CounterOp::Add { by })
-        }
-        Method::Get => {
-            let value = number_that_is(answer, Member::Answer)?;
-            Ok(CounterOp::Get { value })
-        }
-        Method::FetchAdd => {
-            let was = number_that_is(answer, Member::Answer)?;
-            Ok(CounterOp::FetchAdd { by, was })
-        }
-        _ => Err(RecordFault::UnknownCall),
+    let n = number_that_is(value, Member::Answer)?;
+    Ok(Answer::Number(i128::from(n)))
+}
+
+#[tactic(auto, unfolding(crate::specs::Calls::answer_in))]
+fn answer_in(form: Form, value: &Value) -> Result<Answer, RecordFault>
+    ensures reads { Gives (λ answer. answer) result (answer_in form (view value.now)) }
+    ensures formed { IfOk result (λ answer. IsTrue (has_form form answer)) }
+    ensures ranged { IfOk result (λ answer. IsTrue (is_ranged_answer answer)) }
+{
+    let wrong_type = RecordFault::WrongType(Member::Answer);
+    match form {
+        Form::Nothing if value.is_null() => Ok(Answer::None),
+        Form::Nothing => Err(wrong_type),
+        Form::Number => number_answer(value),
+        Form::Truth => match value.as_bool() {
+            Some(truth) => Ok(Answer::Truth(truth)),
+            None => Err(wrong_type),
+        },
+        Form::Found if value.is_null() => Ok(Answer::None),
+        Form::Found => number_answer(value),
     }
+}
+
+/// The operation of a call, which its object's kind has, with a result of the form that the call gives.
+fn op_with(kind: Kind, call: &Call, answer: &Answer) -> Op
+    requires { IsCallOf kind call.now answer.now }
+    ensures made { op_made kind call.now answer.now ≡ Some result }
+    ensures call { IsOpOf kind call.now answer.now result }
+{
+    let Some(op) = make_op(kind, call, answer) else {
+        unreachable!()
+    };
+    op
 }
 
 /// The operation of a record, which is a call of an object of the catalog.
-#[tactic(auto, unfolding(crate::specs::Calls::op_of))]
-pub(crate) fn op_in(catalog: &Catalog, value: &Value) -> Result<CounterOp, RecordFault>
+#[tactic(auto, unfolding(crate::specs::Calls::op_of), using(crate::proofs::Calls::fits_there, crate::proofs::Calls::is_call))]
+pub(crate) fn op_in(catalog: &Catalog, value: &Value) -> Result<Op, RecordFault>
     ensures reads { Gives (λ op. op) result (op_of catalog.now (view value.now)) }
-    ensures ranged { IfOk result (λ op. IsTrue (is_ranged op)) }
+    ensures fits { IfOk result (λ op. IsTrue (objects.fits (kinds_of catalog.now) op)) }
+    ensures ranged { IfOk result (λ op. IsTrue (objects.ranged op)) }
 {
-    let method = method_in(catalog, value)?;
-    let by = argument_in(method, value)?;
-    let answer = member_in(value, Member::Answer)?;
-    op_with(method, by, answer)
+    let (object, kind) = object_in(catalog, value)?;
+    let method = method_in(kind, value)?;
+    let (first, second) = arguments_in(kind, method, value)?;
+    let result = member_in(value, Member::Answer)?;
+    let answer = answer_in(answer_form(kind, method), result)?;
+    let call = Call {
+        object,
+        method,
+        first,
+        second,
+    };
+    Ok(op_with(kind, &call, &answer))
 }

@@ -114,7 +114,7 @@ pub fn read_header(alloc: Global, line: &[u8]) -> Result<Header, RecordFault>
     let word = text_in(&value, Member::Style)?;
     let style = style_named(word).ok_or(RecordFault::UnknownStyle)?;
     let catalog = catalog_in(alloc, &value)?;
-    if !is_built(style, &catalog) {
+    if !is_built(style) {
         return Err(RecordFault::NotYet);
     }
     Ok(Header { style, catalog })

@@ -1,13 +1,14 @@
 //! Patterns of calls, as they stand in a body.
-ghost use Rattle.std.specs.Prelude.{◌≡◌};
+ghost use Rattle.std.specs.Prelude.{◌≡◌, IfOk};
 ghost use Rattle.serde_json.specs.View.{view};
+ghost use Rattle.pp_object.specs.Calls.{HasMethod};
 ghost use Rattle.pp_json.specs.Reading.{Gives};
-ghost use Rattle.pp_json.specs.Patterns.{wanted, wanted_at, body_text, target_of, pattern_of};
+ghost use Rattle.pp_json.specs.Patterns.{wanted, wanted_at, wanted_of, body_text, target_of, pattern_of};
 
-use crate::call::{arity_of, is_in_range, method_named};
+use crate::call::{is_in_range, method_named, object_named};
 use crate::fault::RecordFault;
-use crate::members::name_with;
-use pp_core::{Catalog, Method, Pattern};
+use pp_core::{Catalog, Kind, Method, Pattern};
+use pp_object::arity;
 use serde_json::Value;
 
 /// A number, or None for any number.
@@ -44,33 +45,46 @@ fn body_text_in<'v>(value: &'v Value, key: &str) -> Result<&'v str, RecordFault>
     found.ok_or(RecordFault::BodyBad)
 }
 
+/// The object with its kind, and the call of that kind.
 #[tactic(auto, unfolding(crate::specs::Patterns::target_of))]
-fn target_in(catalog: &Catalog, value: &Value) -> Result<(u16, Method), RecordFault>
-    ensures { Gives (λ target. target) result (target_of catalog.now (view value.now)) }
+fn target_in(catalog: &Catalog, value: &Value) -> Result<(u16, Kind, Method), RecordFault>
+    ensures reads { Gives (λ target. target) result (target_of catalog.now (view value.now)) }
+    ensures found { IfOk result (λ target. HasMethod target.1 target.2) }
 {
     let on = body_text_in(value, "on")?;
-    let object = name_with(on).and_then(|name| catalog.place(&name));
-    let object = object.ok_or(RecordFault::BodyBad)?;
+    let (object, kind) = object_named(catalog, on).ok_or(RecordFault::BodyBad)?;
     let word = body_text_in(value, "call")?;
-    let kind = catalog.at(object).map(|entry| entry.1);
-    let method = kind.and_then(|kind| method_named(kind, word));
-    let method = method.ok_or(RecordFault::BodyBad)?;
-    Ok((object, method))
+    let method = method_named(kind, word).ok_or(RecordFault::BodyBad)?;
+    Ok((object, kind, method))
 }
 
-/// The pattern that a value is.
-#[tactic(auto, unfolding(crate::specs::Patterns::pattern_of), using(crate::proofs::Objects::count_view))]
-pub(crate) fn pattern_in(catalog: &Catalog, value: &Value) -> Result<Pattern, RecordFault>
-    ensures { Gives (λ pattern. pattern) result (pattern_of catalog.now (view value.now)) }
+/// What is wanted of the two arguments.
+#[tactic(auto, unfolding(crate::specs::Patterns::wanted_of), using(crate::proofs::Objects::count_view))]
+fn wanted_in(
+    kind: Kind,
+    method: Method,
+    value: &Value,
+) -> Result<(Option<i64>, Option<i64>), RecordFault>
+    requires { HasMethod kind method }
+    ensures { Gives (λ both. both) result (wanted_of kind method (view value.now)) }
 {
-    let (object, method) = target_in(catalog, value)?;
     let list = value.get("args").ok_or(RecordFault::BodyBad)?;
     let values = list.as_array().ok_or(RecordFault::BodyBad)?;
-    if values.len() != arity_of(method) {
+    if values.len() != arity(kind, method) {
         return Err(RecordFault::BodyBad);
     }
     let first = wanted_among(list, 0)?;
     let second = wanted_among(list, 1)?;
+    Ok((first, second))
+}
+
+/// The pattern that a value is.
+#[tactic(auto, unfolding(crate::specs::Patterns::pattern_of))]
+pub(crate) fn pattern_in(catalog: &Catalog, value: &Value) -> Result<Pattern, RecordFault>
+    ensures { Gives (λ pattern. pattern) result (pattern_of catalog.now (view value.now)) }
+{
+    let (object, kind, method) = target_in(catalog, value)?;
+    let (first, second) = wanted_in(kind, method, value)?;
     Ok(Pattern {
         object,
         method,

@@ -1,6 +1,7 @@
 //! The lines behind the header.
 ghost use Rattle.std.specs.Prelude.{◌≡◌, ◌≤◌, IfOk, IfSome};
 ghost use Rattle.serde_json.specs.View.{view};
+ghost use Rattle.pp_core.specs.Catalogs.{Objects};
 ghost use Rattle.pp_body.specs.Plain.{plain_step};
 ghost use Rattle.pp_json.specs.Reading.{Gives};
 ghost use Rattle.pp_json.specs.Records.{id_from, id_of, begin_of, app_of, push_of, cmt_of, step_of, record_of, IsReadable};
@@ -12,7 +13,7 @@ use crate::header::Header;
 use crate::members::{name_in, object_on, text_in, whole_in};
 use crate::step_name::{StepName, step_named};
 use pp_core::{Catalog, Member, Step};
-use pp_counter::CounterOp;
+use pp_object::Op;
 use serde_json::Value;
 use std::alloc::Global;
 
@@ -38,9 +39,9 @@ fn id_in(value: &Value) -> Result<u32, RecordFault>
 }
 
 #[tactic(auto, unfolding(crate::specs::Records::begin_of))]
-fn begin_in(alloc: Global, catalog: &Catalog, value: &Value) -> Result<Step<CounterOp>, RecordFault>
+fn begin_in(alloc: Global, catalog: &Catalog, value: &Value) -> Result<Step<Op>, RecordFault>
     ensures reads { Gives plain_step result (begin_of catalog.now (view value.now)) }
-    ensures readable { IfOk result IsReadable }
+    ensures readable { IfOk result (IsReadable catalog.now) }
 {
     let tx = name_in(value, Member::Tx)?;
     let thread = name_in(value, Member::Thread)?;
@@ -49,9 +50,9 @@ fn begin_in(alloc: Global, catalog: &Catalog, value: &Value) -> Result<Step<Coun
 }
 
 #[tactic(auto, unfolding(crate::specs::Records::app_of))]
-fn app_in(catalog: &Catalog, value: &Value) -> Result<Step<CounterOp>, RecordFault>
+fn app_in(catalog: &Catalog, value: &Value) -> Result<Step<Op>, RecordFault>
     ensures reads { Gives plain_step result (app_of catalog.now (view value.now)) }
-    ensures readable { IfOk result IsReadable }
+    ensures readable { IfOk result (IsReadable catalog.now) }
 {
     let tx = name_in(value, Member::Tx)?;
     let id = id_in(value)?;
@@ -60,9 +61,9 @@ fn app_in(catalog: &Catalog, value: &Value) -> Result<Step<CounterOp>, RecordFau
 }
 
 #[tactic(auto, unfolding(crate::specs::Records::push_of))]
-fn push_in(value: &Value) -> Result<Step<CounterOp>, RecordFault>
+fn push_in(value: &Value) -> Result<Step<Op>, RecordFault>
     ensures reads { Gives plain_step result (push_of (view value.now)) }
-    ensures readable { IfOk result IsReadable }
+    ensures readable { (catalog : Objects) → IfOk result (IsReadable catalog) }
 {
     let tx = name_in(value, Member::Tx)?;
     let id = id_in(value)?;
@@ -70,9 +71,9 @@ fn push_in(value: &Value) -> Result<Step<CounterOp>, RecordFault>
 }
 
 #[tactic(auto, unfolding(crate::specs::Records::cmt_of))]
-fn cmt_in(value: &Value) -> Result<Step<CounterOp>, RecordFault>
+fn cmt_in(value: &Value) -> Result<Step<Op>, RecordFault>
     ensures reads { Gives plain_step result (cmt_of (view value.now)) }
-    ensures readable { IfOk result IsReadable }
+    ensures readable { (catalog : Objects) → IfOk result (IsReadable catalog) }
 {
     let tx = name_in(value, Member::Tx)?;
     Ok(Step::Cmt { tx })
@@ -83,9 +84,9 @@ fn step_in(
     catalog: &Catalog,
     name: StepName,
     value: &Value,
-) -> Result<Step<CounterOp>, RecordFault>
+) -> Result<Step<Op>, RecordFault>
     ensures reads { Gives plain_step result (step_of catalog.now name (view value.now)) }
-    ensures readable { IfOk result IsReadable }
+    ensures readable { IfOk result (IsReadable catalog.now) }
 {
     match name {
         StepName::Begin => begin_in(alloc, catalog, value),
@@ -99,13 +100,9 @@ fn step_in(
 /// Reads a line behind the header. Of several faults it answers the one that is tested first: the
 /// members are tested in the order in which the step lists them, and not in that of the line.
 #[tactic(auto, unfolding(crate::specs::Records::record_of))]
-pub fn read_record(
-    alloc: Global,
-    header: &Header,
-    line: &[u8],
-) -> Result<Step<CounterOp>, RecordFault>
+pub fn read_record(alloc: Global, header: &Header, line: &[u8]) -> Result<Step<Op>, RecordFault>
     ensures reads { Gives plain_step result (record_of header.now line.now) }
-    ensures readable { IfOk result IsReadable }
+    ensures readable { IfOk result (IsReadable header.now.catalog) }
 {
     let value = object_on(alloc, line)?;
     let word = text_in(&value, Member::Step)?;

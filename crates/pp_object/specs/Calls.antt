@@ -1,5 +1,5 @@
 -- The calls of the kinds: their words, their arguments, and the operations that records make of them.
-use Rattle.std.specs.Prelude.{◌≡◌, ℕ, ℤ, pos, nat_lt, IsTrue, if◌then◌else◌, List, [], ◌∷◌, codes, Option, Some, None, option_and_then}
+use Rattle.std.specs.Prelude.{◌≡◌, ℕ, ℤ, pos, nat_lt, Bool, true, false, IsTrue, if◌then◌else◌, List, [], ◌∷◌, codes, Option, Some, None, option_and_then}
 use Rattle.std.specs.Str.{bytes_eq}
 use Rattle.pp_core.specs.declared.answer.Answer.{Answer}
 use Rattle.pp_core.specs.declared.answer.Answer.TheVariants as answers
@@ -9,7 +9,7 @@ use Rattle.pp_core.specs.declared.call.Kind.TheVariants as kinds
 use Rattle.pp_core.specs.declared.call.Method.{Method}
 use Rattle.pp_core.specs.declared.call.Method.TheVariants as methods
 use Rattle.pp_model.specs.Lists.{In}
-use Rattle.pp_spec.specs.Numbers.{is_ranged_answer}
+use Rattle.pp_spec.specs.Numbers.{has_ranged_arguments, is_ranged_answer}
 use Rattle.pp_mem.specs.declared.op.MemOp.TheVariants as mem
 use Rattle.pp_set.specs.declared.op.SetOp.TheVariants as set
 use Rattle.pp_map.specs.declared.op.MapOp.TheVariants as map
@@ -18,6 +18,8 @@ use Rattle.pp_queue.specs.declared.op.QueueOp.TheVariants as queues
 use Rattle.pp_object.specs.declared.act.Act.{Act}
 use Rattle.pp_object.specs.declared.act.Act.TheVariants.{Memory, KeySet, KeyMap, Counter, Queue}
 use Rattle.pp_object.specs.declared.act.Op.{Op}
+use Rattle.pp_object.specs.declared.form.Form.{Form}
+use Rattle.pp_object.specs.declared.form.Form.TheVariants as forms
 use Rattle.pp_object.specs.One.{is_ranged, fits}
 use Rattle.pp_object.specs.Objects.{objects, act_at}
 
@@ -65,9 +67,41 @@ arity_of kind methods.FetchAdd = 1
 arity_of kind methods.Enq = 1
 arity_of kind methods.Deq = 0
 
+-- the form of the results of a method
+abbrev pub form_of : Kind → Method → Form
+form_of kind methods.Read = forms.Number
+form_of kind methods.Write = forms.Nothing
+form_of kinds.Counter methods.Add = forms.Nothing
+form_of kind methods.Add = forms.Truth
+form_of kinds.KeyMap methods.Remove = forms.Found
+form_of kind methods.Remove = forms.Truth
+form_of kind methods.Contains = forms.Truth
+form_of kind methods.Put = forms.Found
+form_of kinds.Counter methods.Get = forms.Number
+form_of kind methods.Get = forms.Found
+form_of kind methods.FetchAdd = forms.Number
+form_of kind methods.Enq = forms.Nothing
+form_of kind methods.Deq = forms.Found
+
+-- the result is of the form
+abbrev pub has_form : Form → Answer → Bool
+has_form forms.Nothing answers.None = true
+has_form forms.Number (answers.Number n) = true
+has_form forms.Truth (answers.Truth t) = true
+has_form forms.Found answers.None = true
+has_form forms.Found (answers.Number n) = true
+has_form form answer = false
+
 -- the call with 0 for each argument that it does not have
 abbrev pub with_used : Kind → Call → Call
 with_used kind c = record c { first = if nat_lt 0 (arity_of kind c.method) then c.first else pos 0; second = if nat_lt 1 (arity_of kind c.method) then c.second else pos 0 }
+
+-- objects of the kind have the method, the result is of its form, and all numbers lie in the range of records
+pub record IsCallOf (kind : Kind) (c : Call) (answer : Answer) : Type 0 where
+  pub method : HasMethod kind c.method
+  pub form : IsTrue (has_form (form_of kind c.method) answer)
+  pub arguments : IsTrue (has_ranged_arguments (with_used kind c))
+  pub ranged : IsTrue (is_ranged_answer answer)
 
 -- the operation is this call on an object of the kind, with this result, and its numbers lie in the range of records
 pub record IsOpOf (kind : Kind) (c : Call) (answer : Answer) (op : Op) : Type 0 where

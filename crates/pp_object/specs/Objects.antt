@@ -1,6 +1,7 @@
 -- What the objects of a run mean: at each place one object, of which an operation knows the place.
 use Rattle.std.specs.Prelude.{◌≡◌, ℕ, Bool, false, nat_eq, if◌then◌else◌, List, map, slice_set, Option, Some, None, option_map}
 use Rattle.std.specs.List.{slice_get}
+use Rattle.pp_core.specs.Catalogs as catalogs
 use Rattle.pp_core.specs.declared.answer.Answer.{Answer}
 use Rattle.pp_core.specs.declared.answer.Answer.TheVariants.{None as NoAnswer}
 use Rattle.pp_core.specs.declared.call.Kind.{Kind}
@@ -55,6 +56,10 @@ many o = record {
 -- the objects of a run, of any kinds
 abbrev pub objects : Object (List Kind) (List ObjectState) Op Undo
 objects = many one
+
+-- the kinds of the objects of a catalog
+abbrev pub kinds_of : catalogs.Objects → List Kind
+kinds_of catalog = map (λ entry. entry.1) catalog
 
 -- the place of an operation's object
 abbrev pub place_of : Op → ℕ

@@ -54,6 +54,14 @@ fits kinds.Counter (Counter a) = true
 fits kinds.Queue (Queue a) = true
 fits kind act = false
 
+-- the kind of the objects that it is an act on
+abbrev pub kind_for : Act → Kind
+kind_for (Memory a) = kinds.Memory
+kind_for (KeySet a) = kinds.KeySet
+kind_for (KeyMap a) = kinds.KeyMap
+kind_for (Counter a) = kinds.Counter
+kind_for (Queue a) = kinds.Queue
+
 -- all its numbers lie in the range of records
 abbrev pub is_ranged : Act → Bool
 is_ranged (Memory a) = memory.ranged a

@@ -1,7 +1,9 @@
 ghost use Rattle.std.specs.Prelude.{◌≡◌};
-ghost use Rattle.pp_object.specs.One.{is_ranged, recorded_by, call_of};
+ghost use Rattle.pp_object.specs.Calls.{arity_of};
+ghost use Rattle.pp_object.specs.One.{is_ranged, kind_for, recorded_by, call_of};
 
-use pp_core::{Answer, Call};
+use crate::calls::arity;
+use pp_core::{Answer, Call, Kind};
 use pp_counter::CounterOp;
 use pp_map::MapOp;
 use pp_mem::MemOp;
@@ -27,6 +29,27 @@ pub struct Op {
 }
 
 impl Act {
+    /// The kind of the objects that it is an act on.
+    pub fn kind(&self) -> Kind
+        ensures { result ≡ kind_for self.now }
+    {
+        match self {
+            Act::Memory(_) => Kind::Memory,
+            Act::KeySet(_) => Kind::KeySet,
+            Act::KeyMap(_) => Kind::KeyMap,
+            Act::Counter(_) => Kind::Counter,
+            Act::Queue(_) => Kind::Queue,
+        }
+    }
+
+    /// How many arguments its call has.
+    #[tactic(auto, using(crate::proofs::Made::has_method))]
+    pub fn arity(&self) -> usize
+        ensures { result ≡ arity_of (kind_for self.now) (call_of self.now).method }
+    {
+        arity(self.kind(), self.call().method)
+    }
+
     /// Whether all its numbers may stand in a record.
     pub fn ranged(&self) -> bool
         ensures { result ≡ is_ranged self.now }

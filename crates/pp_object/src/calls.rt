@@ -1,6 +1,6 @@
-ghost use Rattle.std.specs.Prelude.{◌≡◌, ◌≢◌, IsTrue, IfSome, None, negsuc, pos, ◌≤ℤ◌};
+ghost use Rattle.std.specs.Prelude.{◌≡◌, ◌≢◌, ◌↔◌, IsTrue, IsSome, IfSome, None, negsuc, pos, ◌≤ℤ◌};
 ghost use Rattle.pp_spec.specs.Numbers.{is_ranged_answer};
-ghost use Rattle.pp_object.specs.Calls.{word_of, methods_of, HasMethod, first_named, arity_of, act_made, memory_act, set_act, map_act, counter_act, queue_act, value_of, op_made, IsOpOf};
+ghost use Rattle.pp_object.specs.Calls.{word_of, methods_of, HasMethod, first_named, arity_of, act_made, memory_act, set_act, map_act, counter_act, queue_act, value_of, op_made, IsCallOf, IsOpOf};
 
 use crate::act::{Act, Op};
 use pp_core::{Answer, Call, Kind, Method};
@@ -10,6 +10,24 @@ use pp_mem::MemOp;
 use pp_queue::QueueOp;
 use pp_set::SetOp;
 use pp_spec::GREATEST_NUMBER;
+
+/// The word of a method in records.
+pub fn method_word(method: Method) -> &'static [u8]
+    ensures { result.now ≡ word_of method }
+{
+    match method {
+        Method::Read => b"read",
+        Method::Write => b"write",
+        Method::Add => b"add",
+        Method::Remove => b"remove",
+        Method::Contains => b"contains",
+        Method::Put => b"put",
+        Method::Get => b"get",
+        Method::FetchAdd => b"fetch_add",
+        Method::Enq => b"enq",
+        Method::Deq => b"deq",
+    }
+}
 
 /// The method that a kind's objects have under this word.
 pub fn method_of(kind: Kind, word: &[u8]) -> Option<Method>
@@ -229,11 +247,8 @@ fn act_made(kind: Kind, call: &Call, answer: &Answer) -> Option<Act>
     }
 }
 
-/// The operation of a call on an object of the kind, with its result, if there is one. Arguments
-/// that the method does not have do not count.
-pub fn make_op(kind: Kind, call: &Call, answer: &Answer) -> Option<Op>
-    ensures value { result ≡ op_made kind call.now answer.now }
-    ensures made { IfSome result (IsOpOf kind call.now answer.now) }
+fn op_made(kind: Kind, call: &Call, answer: &Answer) -> Option<Op>
+    ensures { result ≡ op_made kind call.now answer.now }
 {
     if !answer_ranged(answer) {
         return None;
@@ -246,4 +261,14 @@ pub fn make_op(kind: Kind, call: &Call, answer: &Answer) -> Option<Op>
         object: call.object,
         act,
     })
+}
+
+/// The operation of a call on an object of the kind, with its result, if there is one. Arguments
+/// that the method does not have do not count.
+pub fn make_op(kind: Kind, call: &Call, answer: &Answer) -> Option<Op>
+    ensures value { result ≡ op_made kind call.now answer.now }
+    ensures some { IsSome result ↔ IsCallOf kind call.now answer.now }
+    ensures made { IfSome result (IsOpOf kind call.now answer.now) }
+{
+    op_made(kind, call, answer)
 }

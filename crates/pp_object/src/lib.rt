@@ -4,13 +4,15 @@
 mod act;
 mod acts;
 mod calls;
+mod form;
 mod objects;
 mod one;
 mod pieces;
 mod states;
 
 pub use act::{Act, Op};
-pub use calls::{arity, make_op, method_of};
+pub use calls::{arity, make_op, method_of, method_word};
+pub use form::{Form, answer_form};
 pub use objects::Objects;
 pub use one::OneObject;
 pub use pieces::{Piece, Pieces, show};

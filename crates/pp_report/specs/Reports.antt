@@ -1,13 +1,15 @@
 -- The report of a run, line by line.
-use Rattle.std.specs.Prelude.{ℕ, ℤ, List, ◌++◌, length, codes}
+use Rattle.std.specs.Prelude.{ℕ, List, ◌++◌, length, codes}
 use Rattle.std.specs.Fmt.{decimal}
-use Rattle.std.specs.List.{flat_map}
+use Rattle.std.specs.List.{flat_map, range_with_len}
 use Rattle.pp_core.specs.Catalogs.{Objects}
 use Rattle.pp_core.specs.declared.entry.CommittedTx.{CommittedTx}
 use Rattle.pp_core.specs.declared.entry.Item.{Item}
 use Rattle.pp_core.specs.declared.step.Rule.{Rule}
-use Rattle.pp_counter.specs.declared.op.CounterOp.{CounterOp}
-use Rattle.pp_text.specs.Texts.{op_bytes, state_bytes}
+use Rattle.pp_model.specs.Lists.{Each}
+use Rattle.pp_object.specs.declared.act.Op.{Op}
+use Rattle.pp_object.specs.declared.states.ObjectState.{ObjectState}
+use Rattle.pp_text.specs.Texts.{IsNamed, op_bytes, state_bytes}
 use Rattle.pp_report.specs.declared.cause.Cause.{Cause}
 use Rattle.pp_report.specs.Words.{rule_bytes, cause_bytes}
 
@@ -20,17 +22,33 @@ abbrev pub accepted_line : ℕ → ℕ → List ℕ
 accepted_line steps count = line (codes "accepted steps " ++ decimal steps ++ codes " committed " ++ decimal count)
 
 -- the line of an operation
-abbrev pub op_line : Objects → Item CounterOp → List ℕ
-op_line objects entry = line (codes "op " ++ decimal entry.id ++ codes " " ++ op_bytes objects entry.op)
+abbrev pub op_line : Objects → Item Op → List ℕ
+op_line catalog entry = line (codes "op " ++ decimal entry.id ++ codes " " ++ op_bytes catalog entry.op)
 
 -- the lines of a committed transaction
-abbrev pub tx_lines : Objects → CommittedTx CounterOp → List ℕ
-tx_lines objects tx = line (codes "tx " ++ tx.name) ++ flat_map (op_line objects) tx.entries
+abbrev pub tx_lines : Objects → CommittedTx Op → List ℕ
+tx_lines catalog tx = line (codes "tx " ++ tx.name) ++ flat_map (op_line catalog) tx.entries
 
--- the report of an accepted run of one counter
-abbrev pub accepted_text : Objects → ℕ → List (CommittedTx CounterOp) → ℤ → List ℕ
-accepted_text objects steps committed state =
-    accepted_line steps (length committed) ++ flat_map (tx_lines objects) committed ++ line (state_bytes objects state 0)
+-- the line of the state of the object at a place
+abbrev pub state_line : Objects → List ObjectState → ℕ → List ℕ
+state_line catalog states place = line (state_bytes catalog states place)
+
+-- the lines of the states of all objects, in their order
+abbrev pub state_lines : Objects → List ObjectState → List ℕ
+state_lines catalog states = flat_map (state_line catalog states) (range_with_len 0 (length catalog))
+
+-- the objects that these operations name are in the catalog, with the kinds of their acts
+abbrev pub EachNamed : Objects → List (Item Op) → Type 0
+EachNamed catalog entries = Each (λ entry. IsNamed catalog entry.op) entries
+
+-- the same of the operations of committed transactions
+abbrev pub AreNamed : Objects → List (CommittedTx Op) → Type 0
+AreNamed catalog committed = Each (λ tx. EachNamed catalog tx.entries) committed
+
+-- the report of an accepted run
+abbrev pub accepted_text : Objects → ℕ → List (CommittedTx Op) → List ObjectState → List ℕ
+accepted_text catalog steps committed states =
+    accepted_line steps (length committed) ++ flat_map (tx_lines catalog) committed ++ state_lines catalog states
 
 -- the report of a rejected run
 abbrev pub rejected_text : ℕ → ℕ → Rule → ℕ → List ℕ

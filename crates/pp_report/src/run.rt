@@ -1,10 +1,10 @@
-ghost use Rattle.std.specs.Prelude.{◌≡◌, ◌++◌, IfOk, OnOk};
+ghost use Rattle.std.specs.Prelude.{◌≡◌, ◌<◌, ◌++◌, length, IfOk, OnOk};
 ghost use Rattle.std.specs.List.{flat_map};
-ghost use Rattle.pp_text.specs.Texts.{IsCounter};
-ghost use Rattle.pp_report.specs.Reports.{accepted_line, op_line, tx_lines, accepted_text};
+ghost use Rattle.pp_text.specs.Texts.{IsNamed, AreStatesOf};
+ghost use Rattle.pp_report.specs.Reports.{accepted_line, op_line, tx_lines, state_line, state_lines, EachNamed, AreNamed, accepted_text};
 
 use pp_core::{Catalog, Committed, CommittedTx, Item, OutOfMemory, Text};
-use pp_counter::CounterOp;
+use pp_object::{ObjectStates, Op};
 use pp_text::{write_number, write_op, write_state};
 use std::alloc::Global;
 
@@ -20,12 +20,8 @@ fn write_counts(text: &mut Text, steps: u32, committed: usize) -> Result<(), Out
 }
 
 /// Adds the line of an operation.
-fn write_entry(
-    text: &mut Text,
-    catalog: &Catalog,
-    entry: &Item<CounterOp>,
-) -> Result<(), OutOfMemory>
-    requires { IsCounter catalog.now 0 }
+fn write_entry(text: &mut Text, catalog: &Catalog, entry: &Item<Op>) -> Result<(), OutOfMemory>
+    requires { IsNamed catalog.now entry.now.op }
     ensures { OnOk result (text.new ≡ text.old ++ op_line catalog.now entry.now) }
 {
     text.append(b"op ")?;
@@ -39,9 +35,9 @@ fn write_entry(
 fn write_entries(
     text: &mut Text,
     catalog: &Catalog,
-    entries: &[Item<CounterOp>],
+    entries: &[Item<Op>],
 ) -> Result<(), OutOfMemory>
-    requires { IsCounter catalog.now 0 }
+    requires { EachNamed catalog.now entries.now }
     ensures { OnOk result (text.new ≡ text.old ++ flat_map (op_line catalog.now) entries.now) }
 {
     for entry in entries {
@@ -54,9 +50,9 @@ fn write_entries(
 fn write_transaction(
     text: &mut Text,
     catalog: &Catalog,
-    transaction: &CommittedTx<CounterOp>,
+    transaction: &CommittedTx<Op>,
 ) -> Result<(), OutOfMemory>
-    requires { IsCounter catalog.now 0 }
+    requires { EachNamed catalog.now transaction.now.entries }
     ensures { OnOk result (text.new ≡ text.old ++ tx_lines catalog.now transaction.now) }
 {
     text.append(b"tx ")?;
@@ -69,9 +65,9 @@ fn write_transaction(
 fn write_transactions(
     text: &mut Text,
     catalog: &Catalog,
-    committed: &[CommittedTx<CounterOp>],
+    committed: &[CommittedTx<Op>],
 ) -> Result<(), OutOfMemory>
-    requires { IsCounter catalog.now 0 }
+    requires { AreNamed catalog.now committed.now }
     ensures { OnOk result (text.new ≡ text.old ++ flat_map (tx_lines catalog.now) committed.now) }
 {
     for transaction in committed {
@@ -80,22 +76,55 @@ fn write_transactions(
     Ok(())
 }
 
-/// The report of an accepted run of this many steps, with the state after its committed operations.
-/// The only error is that memory was refused.
+/// Adds the line of the state of an object.
+fn write_state_line(
+    alloc: Global,
+    text: &mut Text,
+    catalog: &Catalog,
+    states: &ObjectStates,
+    object: u16,
+) -> Result<(), OutOfMemory>
+    requires named { object < length catalog.now }
+    requires states { AreStatesOf catalog.now states.now }
+    ensures { OnOk result (text.new ≡ text.old ++ state_line catalog.now states.now object) }
+{
+    write_state(alloc, text, catalog, states, object)?;
+    text.append(b"\n")
+}
+
+/// Adds the lines of the states of all objects.
+fn write_states(
+    alloc: Global,
+    text: &mut Text,
+    catalog: &Catalog,
+    states: &ObjectStates,
+) -> Result<(), OutOfMemory>
+    requires { AreStatesOf catalog.now states.now }
+    ensures { OnOk result (text.new ≡ text.old ++ state_lines catalog.now states.now) }
+{
+    let count = catalog.len() as u16;
+    for object in 0..count {
+        write_state_line(alloc, text, catalog, states, object)?;
+    }
+    Ok(())
+}
+
+/// The report of an accepted run of this many steps, with the states of the objects after its
+/// committed operations. The only error is that memory was refused.
 pub fn accepted(
     alloc: Global,
     catalog: &Catalog,
     count: u32,
-    committed: &Committed<CounterOp>,
-    state: &i128,
+    committed: &Committed<Op>,
+    states: &ObjectStates,
 ) -> Result<Text, OutOfMemory>
-    requires { IsCounter catalog.now 0 }
-    ensures { IfOk result (λ text. text ≡ accepted_text catalog.now count committed.now state.now) }
+    requires named { AreNamed catalog.now committed.now }
+    requires states { AreStatesOf catalog.now states.now }
+    ensures { IfOk result (λ text. text ≡ accepted_text catalog.now count committed.now states.now) }
 {
     let mut text = Text::new(alloc);
     write_counts(&mut text, count, committed.len())?;
     write_transactions(&mut text, catalog, committed.as_slice())?;
-    write_state(&mut text, catalog, state, 0)?;
-    text.append(b"\n")?;
+    write_states(alloc, &mut text, catalog, states)?;
     Ok(text)
 }

@@ -1,25 +1,31 @@
 -- The texts of results, operations and states.
-use Rattle.std.specs.Prelude.{◌≡◌, ℕ, ℤ, true, false, List, [], ◌++◌, Some, option_map, unwrap_or, slice_get, codes}
+use Rattle.std.specs.Prelude.{◌≡◌, ℕ, ℤ, zero, suc, true, false, IsTrue, List, [], ◌++◌, Option, Some, None, option_map, unwrap_or, slice_get, codes}
 use Rattle.std.specs.Fmt.{signed_decimal}
+use Rattle.std.specs.List.{flat_map}
 use Rattle.pp_core.specs.Catalogs.{Objects}
 use Rattle.pp_core.specs.declared.answer.Answer.{Answer}
 use Rattle.pp_core.specs.declared.answer.Answer.TheVariants.{None as NoAnswer, Number, Truth}
-use Rattle.pp_core.specs.declared.call.Kind.TheVariants.{Counter}
-use Rattle.pp_counter.specs.declared.op.CounterOp.{CounterOp}
-use Rattle.pp_counter.specs.declared.op.CounterOp.TheVariants.{Add, Get, FetchAdd}
-use Rattle.pp_counter.specs.Operations.{recorded_by}
+use Rattle.pp_core.specs.declared.call.Call.{Call}
+use Rattle.pp_object.specs.declared.act.Act.{Act}
+use Rattle.pp_object.specs.declared.act.Op.{Op}
+use Rattle.pp_object.specs.declared.pieces.Piece.{Piece}
+use Rattle.pp_object.specs.declared.states.ObjectState.{ObjectState}
+use Rattle.pp_object.specs.Calls.{word_of, arity_of}
+use Rattle.pp_object.specs.Objects.{objects, kinds_of}
+use Rattle.pp_object.specs.One.{kind_for, call_of, recorded_by}
+use Rattle.pp_object.specs.Pieces.{pieces_at}
 
--- the object at this place is a counter
-abbrev pub IsCounter : Objects → ℕ → Type 0
-IsCounter objects place = option_map (λ entry. entry.1) (slice_get objects place) ≡ Some Counter
+-- the object that an operation names is in the catalog, with the kind of its act
+abbrev pub IsNamed : Objects → Op → Type 0
+IsNamed catalog op = IsTrue (objects.fits (kinds_of catalog) op)
 
--- the object that an operation names is in the catalog with its kind: it is the one counter, at place 0
-abbrev pub IsNamed : Objects → CounterOp → Type 0
-IsNamed objects op = IsCounter objects 0
+-- the states are those of the objects of the catalog, in their order
+abbrev pub AreStatesOf : Objects → List ObjectState → Type 0
+AreStatesOf catalog states = objects.shape states ≡ kinds_of catalog
 
 -- the name of the object at this place
 abbrev pub name_at : Objects → ℕ → List ℕ
-name_at objects place = unwrap_or (option_map (λ entry. entry.0) (slice_get objects place)) []
+name_at catalog place = unwrap_or (option_map (λ entry. entry.0) (slice_get catalog place)) []
 
 -- a result, as `none`, `true` or `-5`
 abbrev pub answer_bytes : Answer → List ℕ
@@ -28,16 +34,33 @@ answer_bytes (Number n) = signed_decimal n
 answer_bytes (Truth true) = codes "true"
 answer_bytes (Truth false) = codes "false"
 
--- a call with its arguments, as `add(2)` or `get()`
-abbrev pub call_bytes : CounterOp → List ℕ
-call_bytes (Add by) = codes "add(" ++ signed_decimal by ++ codes ")"
-call_bytes (Get value) = codes "get()"
-call_bytes (FetchAdd by was) = codes "fetch_add(" ++ signed_decimal by ++ codes ")"
+-- as many arguments of a call as it has, separated by commas
+abbrev pub arguments_bytes : ℕ → Call → List ℕ
+arguments_bytes zero call = []
+arguments_bytes (suc zero) call = signed_decimal call.first
+arguments_bytes (suc (suc more)) call = signed_decimal call.first ++ codes "," ++ signed_decimal call.second
 
--- an operation, as `c.fetch_add(2)=5`
-abbrev pub op_bytes : Objects → CounterOp → List ℕ
-op_bytes objects op = name_at objects 0 ++ codes "." ++ call_bytes op ++ codes "=" ++ answer_bytes (recorded_by op)
+-- how many arguments an act has
+abbrev pub arity_in : Act → ℕ
+arity_in act = arity_of (kind_for act) (call_of act).method
 
--- the state of an object, as `state c 2`, without a line end
-abbrev pub state_bytes : Objects → ℤ → ℕ → List ℕ
-state_bytes objects value object = codes "state " ++ name_at objects object ++ codes " " ++ signed_decimal value
+-- a call with its arguments, as `write(0,5)` or `get()`
+abbrev pub call_bytes : Act → List ℕ
+call_bytes act = word_of (call_of act).method ++ codes "(" ++ arguments_bytes (arity_in act) (call_of act) ++ codes ")"
+
+-- an operation, as `m.write(0,5)=none`
+abbrev pub op_bytes : Objects → Op → List ℕ
+op_bytes catalog op = name_at catalog op.object ++ codes "." ++ call_bytes op.act ++ codes "=" ++ answer_bytes (recorded_by op.act)
+
+-- the key of a number that is shown, as `0=`, where it has one
+abbrev pub key_bytes : Option ℤ → List ℕ
+key_bytes None = []
+key_bytes (Some key) = signed_decimal key ++ codes "="
+
+-- a number that is shown, as ` 0=5` or ` 7`
+abbrev pub piece_bytes : Piece → List ℕ
+piece_bytes piece = codes " " ++ key_bytes piece.key ++ signed_decimal piece.value
+
+-- the state of an object, as `state c 2` or `state m 0=5 3=-1`, without a line end
+abbrev pub state_bytes : Objects → List ObjectState → ℕ → List ℕ
+state_bytes catalog states place = codes "state " ++ name_at catalog place ++ flat_map piece_bytes (pieces_at states place)

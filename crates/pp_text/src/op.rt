@@ -1,16 +1,15 @@
-ghost use Rattle.std.specs.Prelude.{◌≡◌, ◌++◌, codes, IfOk, OnOk};
-ghost use Rattle.std.specs.Fmt.{signed_decimal};
-ghost use Rattle.pp_text.specs.Texts.{IsNamed, IsCounter, name_at, call_bytes, op_bytes};
+ghost use Rattle.std.specs.Prelude.{◌≡◌, ◌<◌, ◌++◌, length, IfOk, OnOk};
+ghost use Rattle.pp_text.specs.Texts.{IsNamed, name_at, arguments_bytes, call_bytes, op_bytes};
 
 use crate::answer::write_answer;
 use crate::number::write_integer;
-use pp_core::{Catalog, Name, OutOfMemory, Text};
-use pp_counter::CounterOp;
+use pp_core::{Call, Catalog, Name, OutOfMemory, Text};
+use pp_object::{Act, Op, method_word};
 use std::alloc::Global;
 
-/// The name of a counter of the catalog.
+/// The name of an object of the catalog.
 pub(crate) fn name_at(catalog: &Catalog, object: u16) -> Name
-    requires { IsCounter catalog.now object }
+    requires { object < length catalog.now }
     ensures { result ≡ name_at catalog.now object }
 {
     match catalog.at(object) {
@@ -19,41 +18,47 @@ pub(crate) fn name_at(catalog: &Catalog, object: u16) -> Name
     }
 }
 
-/// Adds a call of one argument.
-fn write_with_argument(text: &mut Text, opened: &[u8], argument: i64) -> Result<(), OutOfMemory>
-    ensures { OnOk result (text.new ≡ text.old ++ opened.now ++ signed_decimal argument ++ codes ")") }
+/// Adds the arguments of a call that has so many.
+fn write_arguments(text: &mut Text, count: usize, call: &Call) -> Result<(), OutOfMemory>
+    ensures { OnOk result (text.new ≡ text.old ++ arguments_bytes count call.now) }
 {
-    text.append(opened)?;
-    write_integer(text, i128::from(argument))?;
-    text.append(b")")
-}
-
-/// Adds the call of an operation with its arguments.
-fn write_call(text: &mut Text, op: &CounterOp) -> Result<(), OutOfMemory>
-    ensures { OnOk result (text.new ≡ text.old ++ call_bytes op.now) }
-{
-    match *op {
-        CounterOp::Add { by } => write_with_argument(text, b"add(", by),
-        CounterOp::Get { value: _ } => text.append(b"get()"),
-        CounterOp::FetchAdd { by, was: _ } => write_with_argument(text, b"fetch_add(", by),
+    match count {
+        0 => Ok(()),
+        1 => write_integer(text, i128::from(call.first)),
+        _ => {
+            write_integer(text, i128::from(call.first))?;
+            text.append(b",")?;
+            write_integer(text, i128::from(call.second))
+        }
     }
 }
 
+/// Adds the call of an operation with its arguments.
+fn write_call(text: &mut Text, act: &Act) -> Result<(), OutOfMemory>
+    ensures { OnOk result (text.new ≡ text.old ++ call_bytes act.now) }
+{
+    let call = act.call();
+    text.append(method_word(call.method))?;
+    text.append(b"(")?;
+    write_arguments(text, act.arity(), &call)?;
+    text.append(b")")
+}
+
 /// Adds an operation. After a refusal the text may end with a part of it.
-pub fn write_op(text: &mut Text, catalog: &Catalog, op: &CounterOp) -> Result<(), OutOfMemory>
+pub fn write_op(text: &mut Text, catalog: &Catalog, op: &Op) -> Result<(), OutOfMemory>
     requires { IsNamed catalog.now op.now }
     ensures { OnOk result (text.new ≡ text.old ++ op_bytes catalog.now op.now) }
 {
-    let name = name_at(catalog, 0);
+    let name = name_at(catalog, op.object);
     text.append(name.text())?;
     text.append(b".")?;
-    write_call(text, op)?;
+    write_call(text, &op.act)?;
     text.append(b"=")?;
-    write_answer(text, &op.recorded())
+    write_answer(text, &op.act.recorded())
 }
 
 /// An operation with its result, as `c.fetch_add(2)=5`. The only error is that memory was refused.
-pub fn op_text(alloc: Global, catalog: &Catalog, op: &CounterOp) -> Result<Text, OutOfMemory>
+pub fn op_text(alloc: Global, catalog: &Catalog, op: &Op) -> Result<Text, OutOfMemory>
     requires { IsNamed catalog.now op.now }
     ensures { IfOk result (λ text. text ≡ op_bytes catalog.now op.now) }
 {

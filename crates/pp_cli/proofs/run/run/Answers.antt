@@ -1,6 +1,6 @@
 use Rattle.std.proofs.Common.{◌≡◌, None, Some, refl, rules, subst, ◌∙◌}
 use Rattle.pp_model.proofs.Alone.{alone_attempts, alone_law}
-use Rattle.pp_cli.specs.Objects.{object}
+use Rattle.pp_cli.specs.Objects.{object_of}
 use Rattle.pp_cli.specs.Inputs.{scan}
 use Rattle.pp_cli.specs.Outputs.{IsOutput, IsReport}
 use Rattle.pp_cli.specs.Scans.{steps_of}
@@ -17,7 +17,8 @@ returns-in-Ok-send-clause-simulated g c = λ accepted bytes is.
 pub returns-in-Ok-send-clause-alone : goal.returns-in-Ok-send-clause-alone
 returns-in-Ok-send-clause-alone g c = λ accepted bytes is.
     let runs = accepted_runs bytes c.in-Ok.report.1 (subst (λ s. IsReport bytes s c.in-Ok.report.1) accepted (c.in-Ok.ensures.report bytes is)) in
-    (alone_law object None (steps_of (scan bytes)) refl runs, alone_attempts object None (steps_of (scan bytes)) refl runs)
+    let object = object_of runs.0 in
+    (runs.0, runs.1, alone_law object None (steps_of (scan bytes)) refl runs.2, alone_attempts object None (steps_of (scan bytes)) refl runs.2)
 
 pub returns-in-Err-WriteFault-clause-front : goal.returns-in-Err-WriteFault-clause-front
 returns-in-Err-WriteFault-clause-front g c = λ unwritten bytes is status text output.

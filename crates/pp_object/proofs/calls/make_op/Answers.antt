@@ -1,14 +1,18 @@
-use Rattle.std.proofs.Common.{◌≡◌, true, Some, rules}
-use Rattle.pp_object.specs.One.{is_ranged}
-use Rattle.pp_object.specs.Calls.{act_made}
-use Rattle.pp_object.proofs.Made.{is_made}
+use Rattle.std.proofs.Common.{◌↔◌, IsSome, IfSome, sym, subst}
+use Rattle.pp_object.specs.Calls.{IsCallOf, IsOpOf}
+use Rattle.pp_object.proofs.Made.{called_exactly, made_is}
 use Rattle.pp_object.proofs.calls.make_op.Goals as goal
+
+pub returns-clause-some : goal.returns-clause-some
+returns-clause-some c =
+    let kind = c.args.kind in
+    let call = c.args.call.now in
+    let answer = c.args.answer.now in
+    subst (λ r. IsSome r ↔ IsCallOf kind call answer) (sym c.op_made.ensures) (called_exactly kind call answer)
 
 pub returns-clause-made : goal.returns-clause-made
 returns-clause-made c =
-    let e = c.act_made.ensures in
-    let r = c.ranged.ensures in
-    let t = c.if-not-ranged.false in
-    let act : act_made c.args.kind c.args.call.now c.args.answer.now ≡ Some c.in_ok-act.act = search (rules, e, c.in_ok-act.was, c.in_ok-act.is) in
-    let ranged : is_ranged c.in_ok-act.act ≡ true = search (rules, r, t) in
-    is_made c.args.kind c.args.call.now c.args.answer.now c.in_ok-act.act act ranged
+    let kind = c.args.kind in
+    let call = c.args.call.now in
+    let answer = c.args.answer.now in
+    subst (λ r. IfSome r (IsOpOf kind call answer)) (sym c.op_made.ensures) (made_is kind call answer)

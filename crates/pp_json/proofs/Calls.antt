@@ -1,0 +1,37 @@
+-- What the tests before the last leave of a record's call.
+use Rattle.std.proofs.Common.{◌≡◌, ◌&&◌, ℤ, pos, Bool, true, false, cond, IsTrue, List, nat_lt, Some, refl, ap}
+use Rattle.std.specs.List.{slice_get}
+use Rattle.pp_core.specs.declared.answer.Answer.{Answer}
+use Rattle.pp_core.specs.declared.call.Call.{Call}
+use Rattle.pp_core.specs.declared.call.Kind.{Kind}
+use Rattle.pp_spec.specs.Numbers.{in_range, is_ranged_answer}
+use Rattle.pp_object.specs.declared.act.Op.{Op}
+use Rattle.pp_object.specs.Objects.{objects}
+use Rattle.pp_object.specs.Calls.{HasMethod, form_of, has_form, arity_of, IsCallOf, IsOpOf}
+
+-- A number in range, or 0 in its place, is in range.
+used_ranged : (used : Bool) (n : ℤ) → IsTrue (in_range n) → IsTrue (in_range (cond used n (pos 0)))
+used_ranged true n near = near
+used_ranged false n near = refl
+
+both : (a b : Bool) → IsTrue a → IsTrue b → IsTrue (a && b)
+both true true h k = refl
+both true false h k = k
+both false b h k = h
+
+-- A call that passed the tests before the last makes an operation.
+pub is_call : (kind : Kind) (c : Call) (answer : Answer) → HasMethod kind c.method → IsTrue (has_form (form_of kind c.method) answer)
+    → IsTrue (in_range c.first) → IsTrue (in_range c.second) → IsTrue (is_ranged_answer answer) → IsCallOf kind c answer
+is_call kind c answer method form first second ranged = record {
+  method = method;
+  form = form;
+  arguments = both _ _ (used_ranged (nat_lt 0 (arity_of kind c.method)) c.first first) (used_ranged (nat_lt 1 (arity_of kind c.method)) c.second second);
+  ranged = ranged;
+}
+
+-- The operation of a call on the object that stands at its place fits there.
+pub fits_there : (kinds : List Kind) (kind : Kind) (c : Call) (answer : Answer) (op : Op)
+    → slice_get kinds c.object ≡ Some kind → IsOpOf kind c answer op → IsTrue (objects.fits kinds op)
+fits_there kinds kind c answer op there call =
+    let same : op.object ≡ c.object = ap (λ (x : Call). x.object) call.call in
+    rw (same, there) call.fits_kind

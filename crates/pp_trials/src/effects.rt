@@ -1,0 +1,109 @@
+//! Operations that take effect and are taken back.
+ghost use Rattle.std.specs.Prelude.{◌≡◌, ◌<◌};
+
+use crate::calls::{HERE, adds, enqueues, increases, puts, writes};
+use pp_core::{Kinds, Steps};
+use pp_counter::CounterOp;
+use pp_map::MapOp;
+use pp_mem::MemOp;
+use pp_object::{Act, ObjectStates, Objects, Op, Piece, show};
+use pp_queue::QueueOp;
+use pp_set::SetOp;
+use pp_spec::{Applied, Spec};
+use std::alloc::Global;
+use std::process::Abort;
+use std::sync::ledger::{Blank, Ledger};
+use std::test::Fail;
+
+/// An operation, and what is shown of its object before it and after it.
+pub struct Effect {
+    pub op: Op,
+    pub before: &'static [Piece],
+    pub after: &'static [Piece],
+}
+
+/// An operation of each kind.
+pub const EFFECTS: [Effect; 5] = [
+    Effect {
+        op: writes!(7, 5),
+        before: &[],
+        after: &[Piece {
+            key: Some(7),
+            value: 5,
+        }],
+    },
+    Effect {
+        op: adds!(4, true),
+        before: &[],
+        after: &[Piece {
+            key: None,
+            value: 4,
+        }],
+    },
+    Effect {
+        op: puts!(1, 70, None),
+        before: &[],
+        after: &[Piece {
+            key: Some(1),
+            value: 70,
+        }],
+    },
+    Effect {
+        op: increases!(-2),
+        before: &[Piece {
+            key: None,
+            value: 0,
+        }],
+        after: &[Piece {
+            key: None,
+            value: -2,
+        }],
+    },
+    Effect {
+        op: enqueues!(5),
+        before: &[],
+        after: &[Piece {
+            key: None,
+            value: 5,
+        }],
+    },
+];
+
+/// Tries what is shown of the object `HERE`.
+fn try_shown(
+    rt: &impl Abort,
+    alloc: Global,
+    states: &ObjectStates,
+    pieces: &[Piece],
+) -> Result<(), Fail> {
+    assert!(rt; usize::from(HERE) < states.len());
+    assert_eq!(rt; show(alloc, states, HERE)?.as_slice(), pieces);
+    Ok(())
+}
+
+/// Applies an operation to objects of its kind, and takes it back.
+pub fn try_effect<L: Ledger>(
+    rt: &impl Abort,
+    alloc: Global,
+    effect: &Effect,
+    blank: Blank,
+) -> Result<(), Fail>
+    requires name { blank.name ≡ L.name }
+    requires parts { blank.parts ≡ L.parts }
+    requires some { 0 < L.parts }
+{
+    let Effect { op, before, after } = effect;
+    let mut steps = Steps::<L>::new(blank);
+    let kinds = Kinds::from(vec![in alloc; op.act.kind(); 4]?);
+    assert!(rt; Objects::fits(&kinds, op) && Objects::ranged(op), "{op:?}");
+    let mut states = Objects::empty(alloc, &kinds)?;
+    try_shown(rt, alloc, &states, before)?;
+    match Objects::apply(&mut states, op, &mut steps)? {
+        Applied::Done(undo) => {
+            try_shown(rt, alloc, &states, after)?;
+            Objects::undo(&mut states, op, undo, &mut steps)?;
+            try_shown(rt, alloc, &states, before)
+        }
+        Applied::Differs => Err(Fail::from("another result")),
+    }
+}

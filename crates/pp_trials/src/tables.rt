@@ -1,0 +1,279 @@
+//! The pairs of operations that are tried.
+use crate::calls::{
+    HERE, adds, contains, counts, dequeues, enqueues, fetches, gets, increases, puts, reads,
+    removes, takes, writes,
+};
+use crate::pairs::{Pair, stay, swap};
+use pp_counter::CounterOp;
+use pp_map::MapOp;
+use pp_mem::MemOp;
+use pp_object::{Act, Op};
+use pp_queue::QueueOp;
+use pp_set::SetOp;
+
+/// The greatest number of a record.
+const MOST: i64 = 1_000_000_000_000_000_000;
+
+/// Each pair of a read and a write at one address, and a pair at two.
+const MEMORY: [Pair; 10] = [
+    // a read, and then a read or a write
+    swap!(reads!(0, 5), reads!(0, 5)),
+    swap!(reads!(0, 5), writes!(0, 5)),
+    stay!(reads!(0, 5), writes!(0, 6), [writes!(0, 5)], []),
+    // a write, and then a read or a write
+    swap!(writes!(0, 5), reads!(0, 6)),
+    stay!(writes!(0, 5), reads!(0, 5), [writes!(0, 0)], []),
+    stay!(writes!(0, 0), reads!(0, 0), [writes!(0, 1)], []),
+    swap!(writes!(0, 5), writes!(0, 5)),
+    stay!(writes!(0, 5), writes!(0, 6), [], [reads!(0, 6)]),
+    // at two addresses
+    swap!(writes!(0, 5), reads!(1, 5)),
+    swap!(writes!(0, 5), writes!(1, 6)),
+];
+
+/// Each pair of two of the six forms at one key, which are the three calls with either result, and
+/// a pair at two keys.
+const KEY_SET: [Pair; 37] = [
+    // an addition of a key that was not in
+    swap!(adds!(4, true), adds!(4, true)),
+    stay!(adds!(4, true), adds!(4, false), [], []),
+    stay!(adds!(4, true), removes!(4, true), [], []),
+    swap!(adds!(4, true), removes!(4, false)),
+    stay!(adds!(4, true), contains!(4, true), [], []),
+    swap!(adds!(4, true), contains!(4, false)),
+    // an addition of a key that was in
+    swap!(adds!(4, false), adds!(4, true)),
+    swap!(adds!(4, false), adds!(4, false)),
+    stay!(adds!(4, false), removes!(4, true), [adds!(4, true)], []),
+    swap!(adds!(4, false), removes!(4, false)),
+    swap!(adds!(4, false), contains!(4, true)),
+    swap!(adds!(4, false), contains!(4, false)),
+    // a removal of a key that was in
+    stay!(removes!(4, true), adds!(4, true), [adds!(4, true)], []),
+    swap!(removes!(4, true), adds!(4, false)),
+    swap!(removes!(4, true), removes!(4, true)),
+    stay!(removes!(4, true), removes!(4, false), [adds!(4, true)], []),
+    swap!(removes!(4, true), contains!(4, true)),
+    stay!(removes!(4, true), contains!(4, false), [adds!(4, true)], []),
+    // a removal of a key that was not in
+    stay!(removes!(4, false), adds!(4, true), [], []),
+    swap!(removes!(4, false), adds!(4, false)),
+    swap!(removes!(4, false), removes!(4, true)),
+    swap!(removes!(4, false), removes!(4, false)),
+    swap!(removes!(4, false), contains!(4, true)),
+    swap!(removes!(4, false), contains!(4, false)),
+    // a question for a key that is in
+    swap!(contains!(4, true), adds!(4, true)),
+    swap!(contains!(4, true), adds!(4, false)),
+    stay!(contains!(4, true), removes!(4, true), [adds!(4, true)], []),
+    swap!(contains!(4, true), removes!(4, false)),
+    swap!(contains!(4, true), contains!(4, true)),
+    swap!(contains!(4, true), contains!(4, false)),
+    // a question for a key that is not in
+    stay!(contains!(4, false), adds!(4, true), [], []),
+    swap!(contains!(4, false), adds!(4, false)),
+    swap!(contains!(4, false), removes!(4, true)),
+    swap!(contains!(4, false), removes!(4, false)),
+    swap!(contains!(4, false), contains!(4, true)),
+    swap!(contains!(4, false), contains!(4, false)),
+    // at two keys
+    swap!(adds!(4, true), contains!(5, true)),
+];
+
+/// Each pair of two of the six forms at one key, which are the three calls on a key that is absent
+/// or present, and a pair at two keys.
+const KEY_MAP: [Pair; 49] = [
+    // a put on an absent key
+    swap!(puts!(1, 5, None), puts!(1, 6, None)),
+    swap!(puts!(1, 5, None), puts!(1, 7, Some(6))),
+    stay!(puts!(1, 5, None), puts!(1, 7, Some(5)), [], []),
+    swap!(puts!(1, 5, None), gets!(1, None)),
+    swap!(puts!(1, 5, None), gets!(1, Some(6))),
+    stay!(puts!(1, 5, None), gets!(1, Some(5)), [], []),
+    swap!(puts!(1, 5, None), takes!(1, None)),
+    swap!(puts!(1, 5, None), takes!(1, Some(6))),
+    stay!(puts!(1, 5, None), takes!(1, Some(5)), [], []),
+    // a put on a present key
+    swap!(puts!(1, 6, Some(5)), puts!(1, 7, None)),
+    swap!(puts!(1, 6, Some(5)), puts!(1, 8, Some(7))),
+    swap!(puts!(1, 6, Some(6)), puts!(1, 6, Some(6))),
+    stay!(
+        puts!(1, 6, Some(5)),
+        puts!(1, 7, Some(6)),
+        [puts!(1, 5, None)],
+        []
+    ),
+    stay!(
+        puts!(1, 6, Some(6)),
+        puts!(1, 7, Some(6)),
+        [puts!(1, 6, None)],
+        []
+    ),
+    swap!(puts!(1, 6, Some(5)), gets!(1, None)),
+    swap!(puts!(1, 6, Some(5)), gets!(1, Some(7))),
+    swap!(puts!(1, 6, Some(6)), gets!(1, Some(6))),
+    stay!(
+        puts!(1, 6, Some(5)),
+        gets!(1, Some(6)),
+        [puts!(1, 5, None)],
+        []
+    ),
+    swap!(puts!(1, 6, Some(5)), takes!(1, None)),
+    swap!(puts!(1, 6, Some(5)), takes!(1, Some(7))),
+    stay!(
+        puts!(1, 6, Some(5)),
+        takes!(1, Some(6)),
+        [puts!(1, 5, None)],
+        []
+    ),
+    // a get that finds nothing
+    stay!(gets!(1, None), puts!(1, 5, None), [], []),
+    swap!(gets!(1, None), puts!(1, 6, Some(5))),
+    swap!(gets!(1, None), gets!(1, None)),
+    swap!(gets!(1, None), gets!(1, Some(5))),
+    swap!(gets!(1, None), takes!(1, None)),
+    swap!(gets!(1, None), takes!(1, Some(5))),
+    // a get that finds a value
+    swap!(gets!(1, Some(5)), puts!(1, 6, None)),
+    swap!(gets!(1, Some(5)), puts!(1, 7, Some(6))),
+    swap!(gets!(1, Some(5)), puts!(1, 5, Some(5))),
+    stay!(
+        gets!(1, Some(5)),
+        puts!(1, 6, Some(5)),
+        [puts!(1, 5, None)],
+        []
+    ),
+    swap!(gets!(1, Some(5)), gets!(1, None)),
+    swap!(gets!(1, Some(5)), gets!(1, Some(5))),
+    swap!(gets!(1, Some(5)), takes!(1, None)),
+    swap!(gets!(1, Some(5)), takes!(1, Some(6))),
+    stay!(
+        gets!(1, Some(5)),
+        takes!(1, Some(5)),
+        [puts!(1, 5, None)],
+        []
+    ),
+    // a removal of an absent key
+    stay!(takes!(1, None), puts!(1, 5, None), [], []),
+    swap!(takes!(1, None), puts!(1, 6, Some(5))),
+    swap!(takes!(1, None), gets!(1, None)),
+    swap!(takes!(1, None), gets!(1, Some(5))),
+    swap!(takes!(1, None), takes!(1, None)),
+    swap!(takes!(1, None), takes!(1, Some(5))),
+    // a removal of a present key
+    stay!(
+        takes!(1, Some(5)),
+        puts!(1, 6, None),
+        [puts!(1, 5, None)],
+        []
+    ),
+    swap!(takes!(1, Some(5)), puts!(1, 6, Some(5))),
+    stay!(takes!(1, Some(5)), gets!(1, None), [puts!(1, 5, None)], []),
+    swap!(takes!(1, Some(5)), gets!(1, Some(5))),
+    stay!(takes!(1, Some(5)), takes!(1, None), [puts!(1, 5, None)], []),
+    swap!(takes!(1, Some(5)), takes!(1, Some(5))),
+    // at two keys
+    swap!(puts!(1, 5, None), gets!(2, Some(5))),
+];
+
+/// Each pair of an addition, a reading and an addition that reads.
+const COUNTER: [Pair; 26] = [
+    // an addition
+    swap!(increases!(2), increases!(3)),
+    swap!(increases!(0), counts!(5)),
+    stay!(increases!(2), counts!(5), [increases!(3)], []),
+    stay!(increases!(5), counts!(5), [], []),
+    stay!(
+        increases!(-1),
+        counts!(MOST),
+        [increases!(MOST), increases!(1)],
+        []
+    ),
+    stay!(
+        increases!(MOST),
+        counts!(-MOST),
+        [increases!(-MOST), increases!(-MOST)],
+        []
+    ),
+    swap!(increases!(0), fetches!(3, 5)),
+    stay!(increases!(2), fetches!(3, 5), [increases!(3)], []),
+    stay!(
+        increases!(1),
+        fetches!(3, -MOST),
+        [increases!(-MOST), increases!(-1)],
+        []
+    ),
+    // a reading
+    swap!(counts!(5), increases!(0)),
+    stay!(counts!(5), increases!(2), [increases!(5)], []),
+    stay!(counts!(0), increases!(2), [], []),
+    swap!(counts!(5), counts!(5)),
+    swap!(counts!(5), counts!(6)),
+    swap!(counts!(5), fetches!(2, 6)),
+    swap!(counts!(5), fetches!(0, 5)),
+    stay!(counts!(5), fetches!(2, 5), [increases!(5)], []),
+    // an addition that reads
+    swap!(fetches!(2, 5), increases!(0)),
+    stay!(fetches!(2, 5), increases!(3), [increases!(5)], []),
+    swap!(fetches!(2, 5), counts!(6)),
+    swap!(fetches!(0, 5), counts!(5)),
+    stay!(fetches!(2, 5), counts!(7), [increases!(5)], []),
+    swap!(fetches!(2, 5), fetches!(3, 6)),
+    swap!(fetches!(0, 5), fetches!(0, 5)),
+    stay!(fetches!(2, 5), fetches!(3, 7), [increases!(5)], []),
+    stay!(fetches!(2, 0), fetches!(-2, 2), [], []),
+];
+
+/// Each pair of an enqueue, a dequeue of an item and a dequeue that finds none.
+const QUEUE: [Pair; 12] = [
+    // an enqueue
+    swap!(enqueues!(5), enqueues!(5)),
+    stay!(enqueues!(5), enqueues!(6), [], [dequeues!(Some(5))]),
+    swap!(enqueues!(5), dequeues!(Some(6))),
+    stay!(enqueues!(5), dequeues!(Some(5)), [], []),
+    swap!(enqueues!(5), dequeues!(None)),
+    // a dequeue of an item
+    swap!(dequeues!(Some(5)), enqueues!(5)),
+    swap!(dequeues!(Some(5)), dequeues!(Some(5))),
+    stay!(
+        dequeues!(Some(5)),
+        dequeues!(Some(6)),
+        [enqueues!(5), enqueues!(6)],
+        []
+    ),
+    stay!(dequeues!(Some(5)), dequeues!(None), [enqueues!(5)], []),
+    // a dequeue that finds none
+    stay!(dequeues!(None), enqueues!(5), [], []),
+    swap!(dequeues!(None), dequeues!(Some(5))),
+    swap!(dequeues!(None), dequeues!(None)),
+];
+
+/// The pairs of each kind: every cell of its table, and some at other numbers.
+pub const CELLS: [&[Pair]; 5] = [&MEMORY, &KEY_SET, &KEY_MAP, &COUNTER, &QUEUE];
+
+/// Calls whose answers were worked out by hand.
+pub const WORKED: [Pair; 8] = [
+    stay!(reads!(0, 5), writes!(0, 6), [writes!(0, 5)], []),
+    swap!(writes!(0, 5), reads!(0, 6)),
+    stay!(adds!(4, true), contains!(4, true), [], []),
+    stay!(
+        increases!(-MOST),
+        counts!(MOST),
+        [increases!(MOST), increases!(MOST)],
+        []
+    ),
+    stay!(fetches!(2, 5), counts!(7), [increases!(5)], []),
+    swap!(fetches!(2, 5), counts!(6)),
+    stay!(
+        dequeues!(Some(3)),
+        dequeues!(Some(4)),
+        [enqueues!(3), enqueues!(4)],
+        []
+    ),
+    stay!(
+        puts!(1, 70, Some(100)),
+        gets!(1, Some(70)),
+        [puts!(1, 100, None)],
+        []
+    ),
+];
