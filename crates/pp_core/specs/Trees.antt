@@ -63,9 +63,9 @@ abbrev mutual
 abbrev pub IsWithin : Tree → Type 0
 IsWithin b = (nodes b ≤ 64) × (depth b ≤ 16)
 
-abbrev pub IsWithinLimits : Option Body → Type 0
+abbrev pub IsWithinLimits : Option Tree → Type 0
 IsWithinLimits None = Unit {0}
-IsWithinLimits (Some b) = IsWithin (tree b)
+IsWithinLimits (Some b) = IsWithin b
 
 -- the same as a test
 unfoldable pub is_within : Tree → Bool

@@ -1,5 +1,5 @@
 ghost use Rattle.std.specs.Prelude.{◌≡◌};
-ghost use Rattle.pp_core.specs.Steps.{rule_of};
+ghost use Rattle.pp_core.specs.Steps.{meaning, rule_of};
 
 use crate::body::Body;
 use crate::name::Name;
@@ -65,7 +65,7 @@ pub enum Rule {
 
 /// The rule of a step.
 pub fn rule_of<O>(step: &Step<O>) -> Rule
-    ensures { result ≡ rule_of step.now }
+    ensures { result ≡ rule_of (meaning step.now) }
 {
     match step {
         Step::Begin { .. } => Rule::Begin,

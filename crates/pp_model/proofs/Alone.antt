@@ -6,7 +6,7 @@ use Rattle.std.proofs.lemmas.Bool.Decides.{eqb_tells}
 use Rattle.std.proofs.lemmas.Bool.{eqb-true, eq-eqb}
 use mathlib.Core.Logic.{inl, inr}
 use Rattle.pp_model.specs.Lists.{In, Before, joined}
-use Rattle.pp_model.specs.Body.{Call, Body, IsWord, Begins}
+use Rattle.pp_model.specs.Body.{Call, Tree, IsWord, Begins}
 use Rattle.pp_model.specs.Object.{Object, Allowed, Item, ops}
 use Rattle.pp_model.specs.Config.{after, Mark, Unpushed, Pushed, Pulled, is_own, is_mark, LocalEntry, SharedEntry, Tx, CommittedTx, Config, Start, Step, App, Push, Pull, Cmt, item, shared_item, own, own_items, local_ops, shared_ops, posted, tx, then, pushed, pulled, committed, entry_of, at_mark, of_other, on_log, marked, all_committed, first}
 use Rattle.pp_model.specs.Rules.{calls, FirstFalse, there, Fails, StartFails, RunsFrom}
@@ -53,17 +53,17 @@ push_entry t q = record { id = q.id; owner = t; mark = Pushed; op = q.op }
 abbrev pub busy : {Op : Type 0} → List Name → List ℕ → Tx Op → List (SharedEntry Op) → List (CommittedTx Op) → Config Op
 busy N I x G F = record { names = N; ids = I; opened = x ∷ []; shared = G; finished = F }
 
-abbrev pub the_tx : {Op : Type 0} → Name → Name → Option Body → List (LocalEntry Op) → Tx Op
+abbrev pub the_tx : {Op : Type 0} → Name → Name → Option Tree → List (LocalEntry Op) → Tx Op
 the_tx t p b l = record { name = t; thread = p; body = b; local = l }
 
-tx_one : {Op : Type 0} (t p : Name) (b : Option Body) (l : List (LocalEntry Op)) → tx t (the_tx t p b l ∷ []) ≡ Some (the_tx t p b l)
+tx_one : {Op : Type 0} (t p : Name) (b : Option Tree) (l : List (LocalEntry Op)) → tx t (the_tx t p b l ∷ []) ≡ Some (the_tx t p b l)
 tx_one {Op} t p b l = ap (λ (z : Bool). cond z (Some (the_tx t p b l)) None) (eq-names t t refl)
 
-on_one : {Op : Type 0} (t p : Name) (b : Option Body) (l : List (LocalEntry Op)) (f : List (LocalEntry Op) → List (LocalEntry Op)) → on_log t f (the_tx t p b l ∷ []) ≡ the_tx t p b (f l) ∷ []
+on_one : {Op : Type 0} (t p : Name) (b : Option Tree) (l : List (LocalEntry Op)) (f : List (LocalEntry Op) → List (LocalEntry Op)) → on_log t f (the_tx t p b l ∷ []) ≡ the_tx t p b (f l) ∷ []
 on_one {Op} t p b l f = ap (λ (w : Tx Op). w ∷ []) (at_tx t f (the_tx t p b l) refl)
 
 -- what a transaction alone meets: its own items A after the committed entries G
-pub record Meets {Op State : Type 0} (O : Object Op State) (t : Name) (b : Option Body) (I : List ℕ) (G : List (SharedEntry Op)) (A : List (Item Op)) : Type 0 where
+pub record Meets {Op State : Type 0} (O : Object Op State) (t : Name) (b : Option Tree) (I : List ℕ) (G : List (SharedEntry Op)) (A : List (Item Op)) : Type 0 where
   pub settled : (g : SharedEntry Op) → In g G → g.committed ≡ true
   pub others : (g : SharedEntry Op) → In g G → g.owner ≢ t
   pub distinct : (g h : SharedEntry Op) → Before g h G → g.id ≢ h.id
@@ -78,7 +78,7 @@ pull_ops [] = refl
 pull_ops {Op} (g ∷ G) = ap (λ (w : List Op). g.op ∷ w) (pull_ops G)
 
 -- it pulls all entries
-pulls : {Op State : Type 0} (O : Object Op State) (t p : Name) (b : Option Body) (N : List Name) (I : List ℕ) (F : List (CommittedTx Op)) (G : List (SharedEntry Op)) (A : List (Item Op)) → Meets O t b I G A →
+pulls : {Op State : Type 0} (O : Object Op State) (t p : Name) (b : Option Tree) (N : List Name) (I : List ℕ) (F : List (CommittedTx Op)) (G : List (SharedEntry Op)) (A : List (Item Op)) → Meets O t b I G A →
     (H K : List (SharedEntry Op)) → G ≡ K ++ H → (rest : List (Step Op)) →
     RunsFrom O (busy N I (the_tx t p b (map pull_entry G)) G F) rest →
     RunsFrom O (busy N I (the_tx t p b (map pull_entry K)) G F) (map (λ g. Pull t g.id) H ++ rest)
@@ -173,7 +173,7 @@ marked_other {Op} id m (e ∷ l) h =
     ap (λ (w : LocalEntry Op). w ∷ marked id m l) (elim (mark_cases id m e) [ inl r ↦ absurd (h e (inl refl) r.0) | inr r ↦ r.1 ]) ∙ ap (λ (w : List (LocalEntry Op)). e ∷ w) (marked_other id m l (λ a i. h a (inr i)))
 
 -- it applies and pushes its own items
-owns : {Op State : Type 0} (O : Object Op State) (t p : Name) (b : Option Body) (N : List Name) (I : List ℕ) (F : List (CommittedTx Op)) (G : List (SharedEntry Op)) (A : List (Item Op)) → Meets O t b I G A →
+owns : {Op State : Type 0} (O : Object Op State) (t p : Name) (b : Option Tree) (N : List Name) (I : List ℕ) (F : List (CommittedTx Op)) (G : List (SharedEntry Op)) (A : List (Item Op)) → Meets O t b I G A →
     (B K : List (Item Op)) → A ≡ K ++ B → (J : List ℕ) → ((q : Item Op) → In q B → In q.id J → ⊥) → (rest : List (Step Op)) →
     RunsFrom O (busy N (ids_after B J) (the_tx t p b (log_of t G A)) (shared_of t G A) F) rest →
     RunsFrom O (busy N J (the_tx t p b (log_of t G K)) (shared_of t G K) F) (own_steps t B ++ rest)
@@ -287,7 +287,7 @@ committed_own t [] = refl
 committed_own {Op} t (q ∷ A) =
     ap (λ (z : Bool). cond z (posted t true q) (posted t false q) ∷ all_committed t (map (posted t false) A)) (eq-names t t refl) ∙ ap (λ (w : List (SharedEntry Op)). posted t true q ∷ w) (committed_own t A)
 
-commits : {Op State : Type 0} (O : Object Op State) (t p : Name) (b : Option Body) (N : List Name) (I J : List ℕ) (F : List (CommittedTx Op)) (G : List (SharedEntry Op)) (A : List (Item Op)) → Meets O t b I G A → (rest : List (Step Op)) →
+commits : {Op State : Type 0} (O : Object Op State) (t p : Name) (b : Option Tree) (N : List Name) (I J : List ℕ) (F : List (CommittedTx Op)) (G : List (SharedEntry Op)) (A : List (Item Op)) → Meets O t b I G A → (rest : List (Step Op)) →
     RunsFrom O (idle N J (G ++ map (posted t true) A) (F ++ record { name = t; entries = A } ∷ [])) rest →
     RunsFrom O (busy N J (the_tx t p b (log_of t G A)) (shared_of t G A) F) (Cmt t ∷ rest)
 commits {Op} O t p b N I J F G A m rest r =

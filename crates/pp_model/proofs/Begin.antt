@@ -3,7 +3,7 @@ use Rattle.std.specs.Prelude.{◌≡◌, ◌≢◌, ◌⊎◌, ℕ, Bool, true, 
 use Rattle.std.proofs.Common.{refl, sym, ap, subst, ◌∙◌}
 use mathlib.Core.Logic.{inl, inr}
 use Rattle.pp_model.specs.Lists.{In, Before}
-use Rattle.pp_model.specs.Body.{Body, Begins}
+use Rattle.pp_model.specs.Body.{Tree, Begins}
 use Rattle.pp_model.specs.Object.{Object, Allowed, Swaps, Item, ops, HasDistinctIds}
 use Rattle.pp_model.specs.Config.{Pushed, Pulled, is_own, LocalEntry, SharedEntry, Tx, CommittedTx, Config, Start, Begin, Quit, item, own_items, local_ops, shared_ops, posted, tx, then, without_tx, first}
 use Rattle.pp_model.specs.Rules.{calls, Fails, StartFails}
@@ -25,7 +25,7 @@ before_added xs x y z i = elim (before_cases y z xs (x ∷ []) i) [
   | inr (inr j) ↦ elim j.1 [ inl e ↦ inr (j.0, e) | inr k ↦ absurd k ]
 ]
 
-pub begin_keeps : {Op State : Type 0} (O : Object Op State) (c : Config Op) → Sound O c → (t p : Name) (b : Option Body) → Fails O c (Begin t p b) 0 → Sound O (then c (Begin t p b))
+pub begin_keeps : {Op State : Type 0} (O : Object Op State) (c : Config Op) → Sound O c → (t p : Name) (b : Option Tree) → Fails O c (Begin t p b) 0 → Sound O (then c (Begin t p b))
 begin_keeps {Op} O c s t p b h =
     record {
       marks = each_added c.opened new (λ (w : Tx Op). (e : LocalEntry Op) → In e w.local → OwnedAsMarked w.name e) s.marks (λ e i. absurd i);

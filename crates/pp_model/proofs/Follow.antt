@@ -5,7 +5,7 @@ use Rattle.std.proofs.lemmas.List.{map-append, append-nil}
 use Rattle.std.proofs.lemmas.Bool.{eq-eqb}
 use mathlib.Core.Logic.{inl, inr}
 use Rattle.pp_model.specs.Lists.{In, Before}
-use Rattle.pp_model.specs.Body.{Body, IsWord}
+use Rattle.pp_model.specs.Body.{Tree, IsWord}
 use Rattle.pp_model.specs.Object.{Object, Item}
 use Rattle.pp_model.specs.Config.{Mark, Unpushed, Pushed, Pulled, is_own, LocalEntry, SharedEntry, Tx, CommittedTx, Config, Start, Step, Begin, App, Unapp, Push, Unpush, Pull, Unpull, Cmt, Quit, Note, item, own, own_items, tx, then, pushed, pulled, committed, entry_of, at_mark, of_other, on_log, marked, without_local, without_tx, but_last, last}
 use Rattle.pp_model.specs.Rules.{calls, Fails}
@@ -102,7 +102,7 @@ at_commit {Op} O h ss c t s r f x ix nx word =
       words = λ b i. elim (in_cases b (attempts h ss) (attempt_of (ss ++ a ∷ []) t ∷ []) (subst (λ (w : List (Attempt Op)). In b w) same i)) [
         | inl j ↦ r.words b j
         | inr (inl j) ↦ subst (λ (w : Attempt Op). IsWord w.body (calls O w.items)) (sym j)
-            (subst (λ (w : List (Item Op)). IsWord (first_body (bodies_of t (ss ++ a ∷ []))) (calls O w)) own (subst (λ (w : Option Body). IsWord w (calls O (own_items x.local))) (sym body) word))
+            (subst (λ (w : List (Item Op)). IsWord (first_body (bodies_of t (ss ++ a ∷ []))) (calls O w)) own (subst (λ (w : Option Tree). IsWord w (calls O (own_items x.local))) (sym body) word))
         | inr (inr j) ↦ absurd j
       ];
       fresh_list = λ u n. own_quiet u ss a refl refl ∙ r.fresh_list u n;
@@ -212,7 +212,7 @@ follow {Op} O h ss c (Begin t p b) s r f =
     (sym (own_quiet t ss a refl refl ∙ r.fresh_list t f.0)))
     (each_added c.opened new (λ (w : Tx Op). bodies_of w.name (ss ++ a ∷ []) ≡ w.body ∷ [])
     (λ w i. bodies_quiet w.name ss a (quiet_bodies w.name a (λ e. f.0 (subst (λ (z : Name). In z c.names) (sym e) (s.open_known w i)))) ∙ r.bodies w i)
-    (bodies-append t ss (a ∷ []) ∙ ap (λ (w : List (Option Body)). w ++ bodies_of t (a ∷ [])) (r.fresh_bodies t f.0) ∙ ap (λ (z : Bool). cond z (b ∷ []) []) (eq-names t t refl)))
+    (bodies-append t ss (a ∷ []) ∙ ap (λ (w : List (Option Tree)). w ++ bodies_of t (a ∷ [])) (r.fresh_bodies t f.0) ∙ ap (λ (z : Bool). cond z (b ∷ []) []) (eq-names t t refl)))
     (same_drops O h ss c a r (λ u. refl))
 follow {Op} O h ss c (Quit t) s r f =
     let a : Step Op = Quit t in

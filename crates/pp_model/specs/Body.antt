@@ -1,8 +1,7 @@
 -- The words of a body: the lists of calls that it allows.
 use Rattle.std.specs.Prelude.{◌≡◌, ◌⊎◌, ℕ, ℤ, List, [], ◌∷◌, ◌++◌, Option, None, Some}
-pub use Rattle.pp_core.specs.Trees.{Tree, Trees, Skip, One, Seq, Alt, Star, NoPart, Part, tree}
+pub use Rattle.pp_core.specs.Trees.{Tree, Trees, Skip, One, Seq, Alt, Star, NoPart, Part}
 use Rattle.pp_model.specs.Lists.{Each, joined}
-pub use Rattle.pp_core.specs.declared.body.Body.{Body}
 pub use Rattle.pp_core.specs.declared.body.Pattern.{Pattern}
 pub use Rattle.pp_core.specs.declared.call.Call.{Call}
 
@@ -34,9 +33,9 @@ abbrev mutual
   WordOfSome (Part b bs) w = Word b w ⊎ WordOfSome bs w
 
 -- With no body each list of calls is a word.
-abbrev pub IsWord : Option Body → List Call → Type 0
+abbrev pub IsWord : Option Tree → List Call → Type 0
 IsWord None w = Unit {0}
-IsWord (Some b) w = Word (tree b) w
+IsWord (Some b) w = Word b w
 
-abbrev pub Begins : Option Body → List Call → Type 0
+abbrev pub Begins : Option Tree → List Call → Type 0
 Begins b w = (v : List Call) × IsWord b (w ++ v)

@@ -1,14 +1,13 @@
 -- A configuration of the machine, and the steps.
 use Rattle.std.specs.Prelude.{ℕ, ◌==◌, Bool, true, false, cond, not, ◌&&◌, List, [], ◌∷◌, ◌++◌, map, filter, find, Option, None, Some}
-use Rattle.pp_model.specs.Body.{Body}
+use Rattle.pp_model.specs.Body.{Tree}
 use Rattle.pp_model.specs.Names.{Name, ◌=ⁿ◌}
 pub use Rattle.pp_core.specs.declared.entry.Mark.{Mark}
 pub use Rattle.pp_core.specs.declared.entry.Mark.TheVariants.{Unpushed, Pushed, Pulled}
 pub use Rattle.pp_core.specs.declared.entry.LocalEntry.{LocalEntry}
 pub use Rattle.pp_core.specs.declared.entry.SharedEntry.{SharedEntry}
 pub use Rattle.pp_core.specs.declared.entry.CommittedTx.{CommittedTx}
-pub use Rattle.pp_core.specs.declared.step.Step.{Step}
-pub use Rattle.pp_core.specs.declared.step.Step.TheVariants.{Begin, App, Unapp, Push, Unpush, Pull, Unpull, Cmt, Quit, Note}
+pub use Rattle.pp_core.specs.Steps.{Step, Begin, App, Unapp, Push, Unpush, Pull, Unpull, Cmt, Quit, Note}
 use Rattle.pp_model.specs.Object.{Item}
 
 abbrev pub is_own : Mark → Bool
@@ -20,7 +19,7 @@ is_own Pulled = false
 pub record Tx (Op : Type 0) : Type 0 where
   pub name : Name
   pub thread : Name
-  pub body : Option Body
+  pub body : Option Tree
   pub local : List (LocalEntry Op)
 
 pub record Config (Op : Type 0) : Type 0 where

@@ -1,7 +1,7 @@
 -- The serial run, read off the steps, and the atomic machine.
 use Rattle.std.specs.Prelude.{◌≡◌, ℕ, ◌==◌, Bool, false, cond, not, ◌||◌, List, [], ◌∷◌, ◌++◌, map, filter, Option, None, Some}
 use Rattle.pp_model.specs.Lists.{joined}
-use Rattle.pp_model.specs.Body.{Body, IsWord}
+use Rattle.pp_model.specs.Body.{Tree, IsWord}
 use Rattle.pp_model.specs.Object.{Object, Allowed, AllowedFrom, Item, ops, state, state_from, TellsStates}
 use Rattle.pp_model.specs.Config.{CommittedTx, Start, Step, Begin, App, Unapp, Cmt, shared_ops, uncommitted, only_committed, first, after}
 use Rattle.pp_model.specs.Rules.{calls, StartFails, RunsFrom}
@@ -28,12 +28,12 @@ abbrev pub own_of : {Op : Type 0} → Name → List (Step Op) → List (Item Op)
 own_of t ss = filter (λ p. not (has_id p.id (dropped t ss))) (applied t ss)
 
 -- the bodies in t's BEGIN steps, of which there is one at most in an accepted run
-abbrev pub bodies_of : {Op : Type 0} → Name → List (Step Op) → List (Option Body)
+abbrev pub bodies_of : {Op : Type 0} → Name → List (Step Op) → List (Option Tree)
 bodies_of t [] = []
 bodies_of t (Begin u p b ∷ ss) = cond (u =ⁿ t) (b ∷ bodies_of t ss) (bodies_of t ss)
 bodies_of t (_ ∷ ss) = bodies_of t ss
 
-abbrev pub first_body : List (Option Body) → Option Body
+abbrev pub first_body : List (Option Tree) → Option Tree
 first_body [] = None
 first_body (b ∷ bs) = b
 
@@ -45,7 +45,7 @@ committers (_ ∷ ss) = committers ss
 
 pub record Attempt (Op : Type 0) : Type 0 where
   pub name : Name
-  pub body : Option Body
+  pub body : Option Tree
   pub items : List (Item Op)
 
 abbrev pub attempt_of : {Op : Type 0} → List (Step Op) → Name → Attempt Op
@@ -62,7 +62,7 @@ abbrev pub serial : {Op : Type 0} → List (Attempt Op) → List Op
 serial as' = ops (joined (map (λ a. a.items) as'))
 
 -- The atomic machine: one step is one whole transaction.
-abbrev pub Atomic : {Op State : Type 0} → Object Op State → State → Option Body → List (Item Op) → State → Type 0
+abbrev pub Atomic : {Op State : Type 0} → Object Op State → State → Option Tree → List (Item Op) → State → Type 0
 Atomic O s b w s2 = IsWord b (calls O w) × AllowedFrom O s (ops w) × (s2 ≡ state_from O s (ops w))
 
 abbrev pub AtomicRun : {Op State : Type 0} → Object Op State → State → List (Attempt Op) → State → Type 0
