@@ -1,7 +1,7 @@
 -- The last set tells which words may follow.
 use Rattle.std.proofs.Common.{◌≡◌, ◌<◌, ℕ, suc, ◌+◌, ◌-◌, Bool, true, false, List, [], ◌∷◌, ◌++◌, length, get_or, Option, Some, None, IsNone, IsSome, zero, IsTrue, ◌↔◌, length-append, refl, ap, sym, subst, ◌∙◌, inl, inr, arith, append_assoc}
-use Rattle.pp_model.specs.Body.{Tree, Trees, Skip, One, Seq, Alt, Star, NoPart, Part, Word, IsWord, Begins, Body, Call}
-use Rattle.pp_core.specs.Trees.{tree, nodes}
+use Rattle.pp_model.specs.Body.{Tree, Trees, Skip, One, Seq, Alt, Star, NoPart, Part, Word, IsWord, Begins, Call}
+use Rattle.pp_core.specs.Trees.{nodes}
 use Rattle.pp_body.specs.Positions.{reaches, shift, Rest, RestInTurn, RestOfSome}
 use Rattle.pp_body.specs.Walks.{IsTracked, sets_after, last_state}
 use Rattle.std.specs.Option.{option_to_list}
@@ -96,35 +96,35 @@ last_is set m (t ∷ (u ∷ ts)) d lt =
     last_is t false (u ∷ ts) d (omega arith) ∙ ap (λ (n : ℕ). (get_or (t ∷ (u ∷ ts)) n d, false)) next
 
 -- a walk's answers
-pub can_iff : (o : Option Body) (b : Body) (reached given : List ℕ) (c : Call) (r : Bool) (taken : List Call) → o ≡ Some b → given ≡ reached
-    → r ≡ reaches true (tree b) 0 (shift (tree b) 0 (last_state 0 true given).0 (last_state 0 true given).1 c) false
+pub can_iff : (o : Option Tree) (b : Tree) (reached given : List ℕ) (c : Call) (r : Bool) (taken : List Call) → o ≡ Some b → given ≡ reached
+    → r ≡ reaches true b 0 (shift b 0 (last_state 0 true given).0 (last_state 0 true given).1 c) false
     → IsTracked o taken reached → IsTrue r ↔ Begins o (taken ++ c ∷ [])
 can_iff o b reached given c r taken some same is tracked =
-    let known = subst (λ (x : Option Body). IsTracked x taken reached) some tracked in
-    let value = is ∙ ap (λ (ts : List ℕ). reaches true (tree b) 0 (shift (tree b) 0 (last_state 0 true ts).0 (last_state 0 true ts).1 c) false) (same ∙ known) in
-    subst (λ (x : Option Body). IsTrue r ↔ Begins x (taken ++ c ∷ [])) (sym some)
-    (λ h. can_begins (tree b) taken c (sym value ∙ h), λ h. value ∙ begins_can (tree b) taken c h)
+    let known = subst (λ (x : Option Tree). IsTracked x taken reached) some tracked in
+    let value = is ∙ ap (λ (ts : List ℕ). reaches true b 0 (shift b 0 (last_state 0 true ts).0 (last_state 0 true ts).1 c) false) (same ∙ known) in
+    subst (λ (x : Option Tree). IsTrue r ↔ Begins x (taken ++ c ∷ [])) (sym some)
+    (λ h. can_begins b taken c (sym value ∙ h), λ h. value ∙ begins_can b taken c h)
 
-pub complete_iff : (o : Option Body) (b : Body) (reached given : List ℕ) (r : Bool) (taken : List Call) → o ≡ Some b → given ≡ reached
-    → r ≡ reaches false (tree b) 0 (last_state 0 true given).0 (last_state 0 true given).1
+pub complete_iff : (o : Option Tree) (b : Tree) (reached given : List ℕ) (r : Bool) (taken : List Call) → o ≡ Some b → given ≡ reached
+    → r ≡ reaches false b 0 (last_state 0 true given).0 (last_state 0 true given).1
     → IsTracked o taken reached → IsTrue r ↔ IsWord o taken
 complete_iff o b reached given r taken some same is tracked =
-    let known = subst (λ (x : Option Body). IsTracked x taken reached) some tracked in
-    let value = is ∙ ap (λ (ts : List ℕ). reaches false (tree b) 0 (last_state 0 true ts).0 (last_state 0 true ts).1) (same ∙ known) in
-    subst (λ (x : Option Body). IsTrue r ↔ IsWord x taken) (sym some)
-    (λ h. complete_is_word (tree b) taken (sym value ∙ h), λ h. value ∙ word_is_complete (tree b) taken h)
+    let known = subst (λ (x : Option Tree). IsTracked x taken reached) some tracked in
+    let value = is ∙ ap (λ (ts : List ℕ). reaches false b 0 (last_state 0 true ts).0 (last_state 0 true ts).1) (same ∙ known) in
+    subst (λ (x : Option Tree). IsTrue r ↔ IsWord x taken) (sym some)
+    (λ h. complete_is_word b taken (sym value ∙ h), λ h. value ∙ word_is_complete b taken h)
 
-pub took : (o : Option Body) (b : Body) (reached pushed more given : List ℕ) (last : ℕ × Bool) (s : ℕ) (c : Call) (taken : List Call) → o ≡ Some b
-    → more ≡ pushed → pushed ≡ reached ++ s ∷ [] → given ≡ reached → last ≡ last_state 0 true given → s ≡ shift (tree b) 0 last.0 last.1 c
+pub took : (o : Option Tree) (b : Tree) (reached pushed more given : List ℕ) (last : ℕ × Bool) (s : ℕ) (c : Call) (taken : List Call) → o ≡ Some b
+    → more ≡ pushed → pushed ≡ reached ++ s ∷ [] → given ≡ reached → last ≡ last_state 0 true given → s ≡ shift b 0 last.0 last.1 c
     → IsTracked o taken reached → IsTracked o (taken ++ c ∷ []) more
 took o b reached pushed more given last s c taken some put e same last_is_it is tracked =
-    let known = subst (λ (x : Option Body). IsTracked x taken reached) some tracked in
-    let set_is = is ∙ ap (λ (x : ℕ × Bool). shift (tree b) 0 x.0 x.1 c) (last_is_it ∙ ap (λ (ts : List ℕ). last_state 0 true ts) (same ∙ known)) in
-    let all = put ∙ e ∙ ap (λ (x : ℕ). reached ++ x ∷ []) set_is ∙ ap (λ (ts : List ℕ). ts ++ shift (tree b) 0 (state (tree b) 0 true taken).0 (state (tree b) 0 true taken).1 c ∷ []) known in
-    subst (λ (x : Option Body). IsTracked x (taken ++ c ∷ []) more) (sym some) (all ∙ sym (sets_after_more (tree b) 0 true taken c))
+    let known = subst (λ (x : Option Tree). IsTracked x taken reached) some tracked in
+    let set_is = is ∙ ap (λ (x : ℕ × Bool). shift b 0 x.0 x.1 c) (last_is_it ∙ ap (λ (ts : List ℕ). last_state 0 true ts) (same ∙ known)) in
+    let all = put ∙ e ∙ ap (λ (x : ℕ). reached ++ x ∷ []) set_is ∙ ap (λ (ts : List ℕ). ts ++ shift b 0 (state b 0 true taken).0 (state b 0 true taken).1 c ∷ []) known in
+    subst (λ (x : Option Tree). IsTracked x (taken ++ c ∷ []) more) (sym some) (all ∙ sym (sets_after_more b 0 true taken c))
 
-pub untracked : (o : Option Body) (taken : List Call) (reached : List ℕ) → o ≡ None → IsTracked o taken reached
-untracked o taken reached e = subst (λ (x : Option Body). IsTracked x taken reached) (sym e) tt
+pub untracked : (o : Option Tree) (taken : List Call) (reached : List ℕ) → o ≡ None → IsTracked o taken reached
+untracked o taken reached e = subst (λ (x : Option Tree). IsTracked x taken reached) (sym e) tt
 
 -- the last set taken away
 back_from : (b : Tree) (taken : List Call) (c : Call) (reached less : List ℕ) (s : Option ℕ) → reached ≡ less ++ option_to_list s → (IsNone s → length reached ≡ 0)
@@ -136,10 +136,10 @@ back_from b taken c reached less (Some s) e none known =
     let all = sym e ∙ known ∙ sets_after_more b 0 true taken c in
     (same_from_push less (sets_after b 0 true taken) s (shift b 0 (state b 0 true taken).0 (state b 0 true taken).1 c) all).0
 
-pub went_back : (o : Option Body) (taken : List Call) (c : Call) (reached less : List ℕ) (s : Option ℕ) → reached ≡ less ++ option_to_list s → (IsNone s → length reached ≡ 0)
+pub went_back : (o : Option Tree) (taken : List Call) (c : Call) (reached less : List ℕ) (s : Option ℕ) → reached ≡ less ++ option_to_list s → (IsNone s → length reached ≡ 0)
     → IsTracked o (taken ++ c ∷ []) reached → IsTracked o taken less
 went_back None taken c reached less s e none known = tt
-went_back (Some b) taken c reached less s e none known = back_from (tree b) taken c reached less s e none known
+went_back (Some b) taken c reached less s e none known = back_from b taken c reached less s e none known
 
 zero_from : (m : ℕ) → (0 < m → ⊥) → m ≡ 0
 zero_from zero h = refl

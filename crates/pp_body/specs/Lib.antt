@@ -1,5 +1,4 @@
 pub mod Moves
 pub mod Patterns
-pub mod Plain
 pub mod Positions
 pub mod Walks

@@ -1,20 +1,20 @@
 -- The calls that a walk has taken.
 use Rattle.std.specs.Prelude.{◌≡◌, ℕ, Bool, true, false, Option, None, Some, List, [], ◌∷◌, ◌++◌, refl}
 use Rattle.std.specs.Coded.{Coded, code_by, coded×, coded_ℕ, coded_list, coded_option}
-use Rattle.pp_core.specs.contracts.body.Body.{the_row}
-use Rattle.pp_core.specs.Trees.{Tree, tree}
-use Rattle.pp_model.specs.Body.{Body, Call, Begins}
+use Rattle.pp_core.specs.TreeCodes.{tree_code}
+use Rattle.pp_core.specs.Trees.{Tree}
+use Rattle.pp_model.specs.Body.{Call, Begins}
 use Rattle.pp_body.specs.Positions.{shift}
 
--- A body, and the positions reached behind each call that was taken.
+-- The tree of a body, and the positions reached behind each call that was taken.
 pub record Walked : Type 0 where
-  pub body : Option Body
+  pub body : Option Tree
   pub reached : List ℕ
 
 -- it is stored as the pair of its fields
 abbrev pub walked_code : Coded Walked
 walked_code =
-    code_by (Option Body × List ℕ) (coded× (coded_option the_row.coded) (coded_list coded_ℕ)) (λ w. (w.body, w.reached)) (λ p. record { body = p.0; reached = p.1 }) (λ _. refl)
+    code_by (Option Tree × List ℕ) (coded× (coded_option tree_code) (coded_list coded_ℕ)) (λ w. (w.body, w.reached)) (λ p. record { body = p.0; reached = p.1 }) (λ _. refl)
 
 -- the positions reached behind each of the calls
 abbrev pub sets_after : Tree → ℕ → Bool → List Call → List ℕ
@@ -27,9 +27,9 @@ last_state set entered [] = (set, entered)
 last_state set entered (t ∷ ts) = last_state t false ts
 
 -- what a walk over the body keeps of these calls
-abbrev pub IsTracked : Option Body → List Call → List ℕ → Type 0
+abbrev pub IsTracked : Option Tree → List Call → List ℕ → Type 0
 IsTracked None taken reached = Unit {0}
-IsTracked (Some b) taken reached = reached ≡ sets_after (tree b) 0 true taken
+IsTracked (Some b) taken reached = reached ≡ sets_after b 0 true taken
 
 -- These calls were taken, in this order. With no body nothing is kept of them.
 abbrev pub HasTaken : Walked → List Call → Type 0

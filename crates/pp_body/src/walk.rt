@@ -1,4 +1,4 @@
-ghost use Rattle.std.specs.Prelude.{◌≡◌, ◌≤◌, ◌↔◌, ◌∷◌, ◌++◌, [], List, None, true, false, IsTrue, IsOk, IfOk, OnOk, OnErr};
+ghost use Rattle.std.specs.Prelude.{◌≡◌, ◌≤◌, ◌↔◌, ◌∷◌, ◌++◌, [], List, None, option_map, true, false, IsTrue, IsOk, IfOk, OnOk, OnErr};
 ghost use Rattle.pp_core.specs.Trees.{tree, nodes, IsWithinLimits};
 ghost use Rattle.pp_model.specs.Body.{Call, Begins, IsWord};
 ghost use Rattle.pp_body.specs.Positions.{reaches, shift};
@@ -20,16 +20,17 @@ pub struct Walk {
 }
 
 impl Model for Walk {
-    ghost use Rattle.pp_core.specs.Trees.{IsWithinLimits};
+    ghost use Rattle.std.specs.Prelude.{option_map};
+    ghost use Rattle.pp_core.specs.Trees.{IsWithinLimits, tree};
     ghost use Rattle.pp_body.specs.Walks.{Walked, walked_code};
 
     ghost Value = { Walked };
 
     ghost coded = { walked_code };
 
-    ghost view = { λ w. record { body = w.body; reached = w.reached.items } };
+    ghost view = { λ w. record { body = option_map tree w.body; reached = w.reached.items } };
 
-    ghost invariant = { λ w. IsWithinLimits w.body };
+    ghost invariant = { λ w. IsWithinLimits (option_map tree w.body) };
 }
 
 /// The last set, and whether it is the start.
@@ -64,8 +65,8 @@ fn is_at_end(body: &Body, reached: &[u64]) -> bool
 impl Walk {
     /// A walk that has taken no call.
     pub fn start(alloc: Global, body: Option<Body>) -> Result<Walk, OutOfMemory>
-        requires { IsWithinLimits body }
-        ensures body { IfOk result (λ w. w.body ≡ body) }
+        requires { IsWithinLimits (option_map tree body) }
+        ensures body { IfOk result (λ w. w.body ≡ option_map tree body) }
         ensures taken { IfOk result (λ w. HasTaken w []) }
         ensures free { IsOk result }
     {

@@ -1,10 +1,11 @@
-use Rattle.std.proofs.Common.{ap, sym, ◌∙◌}
+use Rattle.std.proofs.Common.{ap, option_map, sym, ◌∙◌}
+use Rattle.pp_core.specs.Trees.{tree}
 use Rattle.pp_body.specs.Walks.{Walked}
 use Rattle.pp_body.proofs.Tracks.{can_iff}
 use Rattle.pp_body.proofs.walk.Walk.can.Goals as goal
 
 pub returns-in-Some : goal.returns-in-Some
 returns-in-Some c taken known =
-    let some = ap (λ (w : Walked). w.body) (sym c.self.view_is) ∙ c.in-Some.is in
+    let some = ap (λ (w : Walked). w.body) (sym c.self.view_is) ∙ ap (option_map tree) c.in-Some.is in
     let reached = c.deref.ensures.value ∙ ap (λ (w : Walked). w.reached) c.self.view_is in
-    can_iff c.args.self.now.body c.in-Some.body c.args.self.now.reached c.deref.result.now c.args.call.now c.goes_on.result taken some reached c.goes_on.ensures known
+    can_iff c.args.self.now.body (tree c.in-Some.body) c.args.self.now.reached c.deref.result.now c.args.call.now c.goes_on.result taken some reached c.goes_on.ensures known
