@@ -4,7 +4,7 @@ use Rattle.std.proofs.lemmas.List.{map-append}
 use Rattle.pp_core.specs.declared.entry.CommittedTx.{CommittedTx}
 use Rattle.pp_core.specs.declared.entry.LocalEntry.{LocalEntry}
 use Rattle.pp_core.specs.declared.entry.SharedEntry.{SharedEntry}
-use Rattle.pp_model.specs.Body.{Body}
+use Rattle.pp_model.specs.Body.{Tree}
 use Rattle.pp_model.specs.Config.{Tx, Begin, App, Push, Pull, Cmt, Quit, Unpushed, Pushed, Pulled, all_committed, at_mark, committed, entry_of, item, marked, of_other, on_log, own_items, posted, pulled, pushed, relog, then, tx, without_tx}
 use Rattle.pp_model.specs.Names.{Name, ◌=ⁿ◌}
 use Rattle.pp_rules.specs.Machines.{config_of, tx_of}
@@ -33,7 +33,7 @@ module _ {Shape Op : Type 0} where
       ∙ ap (λ (z : List (Tx Op)). cond (not (x.name =ⁿ t)) (tx_of x ∷ z) z) (left t l)
 
   module _ (v : Txs Shape Op) (ids : List ℕ) (G : List (SharedEntry Op)) (F : List (CommittedTx Op)) (t : Name) where
-    pub after_begin : (p : Name) (b : Option Body) (l : Shape × List (LocalEntry Op)) → l.1 ≡ [] → config_of (with_open (open_of t p b l) v) ids G F ≡ then (config_of v ids G F) (Begin t p b)
+    pub after_begin : (p : Name) (b : Option Tree) (l : Shape × List (LocalEntry Op)) → l.1 ≡ [] → config_of (with_open (open_of t p b l) v) ids G F ≡ then (config_of v ids G F) (Begin t p b)
     after_begin p b l e =
         ap (λ (z : List Name). record { names = z; ids = reverse ids; opened = map tx_of (v.opened ++ open_of t p b l ∷ []); shared = G; finished = F }) (reverse_more v.names t)
         ∙ ap (λ (z : List (Tx Op)). record { names = t ∷ reverse v.names; ids = reverse ids; opened = z; shared = G; finished = F })

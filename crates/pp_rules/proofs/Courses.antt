@@ -1,9 +1,8 @@
 -- The own calls of a local log, as it grows and as its entries are marked.
 use Rattle.std.proofs.Common.{◌≡◌, ◌≢◌, ◌↔◌, IsTrue, ℕ, Bool, true, false, cond, List, [], ◌∷◌, ◌++◌, map, Some, slice_get, refl, sym, ap, subst, ◌∙◌, inl, inr}
 use Rattle.std.proofs.lemmas.List.{map-append}
-use Rattle.pp_core.specs.Trees.{IsWithin, tree}
 use Rattle.pp_core.specs.declared.entry.LocalEntry.{LocalEntry}
-use Rattle.pp_model.specs.Body.{Body, Call, Begins, IsWord}
+use Rattle.pp_model.specs.Body.{Call, Begins, IsWord}
 use Rattle.pp_model.specs.Config.{Mark, Unpushed, Pushed, Pulled, is_own, item, marked, own, own_items}
 use Rattle.pp_model.specs.Lists.{In}
 use Rattle.pp_model.specs.Object.{Item}
@@ -11,7 +10,6 @@ use Rattle.pp_model.proofs.Lists.{by_key}
 use Rattle.pp_model.proofs.Push.{mark_cases, remark}
 use Rattle.pp_model.proofs.Steps.{own_items-append}
 use Rattle.pp_spec.specs.Object.{Object}
-use Rattle.pp_body.specs.Plain.{plain_body, same_begins, same_word, with_tree}
 use Rattle.pp_body.specs.Walks.{Walked, HasTaken}
 use Rattle.pp_rules.specs.Courses.{Guided, MayFollow, own_calls}
 use Rattle.pp_rules.specs.Finding.{AreDistinct}
@@ -58,30 +56,18 @@ module _ {Shape State Op Undo : Type 0} (o : Object Shape State Op Undo) where
       ap (map (λ (p : Item Op). o.call p.op)) (own_marked e.id m (own_mark m to) l (λ a j s.
       ap (λ (z : LocalEntry Op). is_own z.mark) (by_key (λ (z : LocalEntry Op). z.id) l d a e j (slice_in l i e h) s) ∙ own_mark e.mark own))
 
--- bodies with the same plain data
-pub same_plain : (b c : Body) → tree b ≡ tree c → plain_body (Some b) ≡ plain_body (Some c)
-same_plain b c e = ap (λ t. Some (with_tree t)) e
-
-pub same_within : (b c : Body) → tree b ≡ tree c → IsWithin (tree c) → IsWithin (tree b)
-same_within b c e h = subst IsWithin (sym e) h
-
 -- the course as it is seen
-module _ {Shape State Op Undo : Type 0} (o : Object Shape State Op Undo) (w : Walked) (log : Shape × List (LocalEntry Op)) (v : Guided Shape Op) (same : ◌≡◌ {A = Guided Shape Op} (record { body = plain_body w.body; local = log }) v) (taken : HasTaken w (own_calls o log.1)) where
+module _ {Shape State Op Undo : Type 0} (o : Object Shape State Op Undo) (w : Walked) (log : Shape × List (LocalEntry Op)) (v : Guided Shape Op) (same : ◌≡◌ {A = Guided Shape Op} (record { body = w.body; local = log }) v) (taken : HasTaken w (own_calls o log.1)) where
   pub can_is : (r : Bool) (call : Call) (op : Op) → call ≡ o.call op → ((calls : List Call) → HasTaken w calls → IsTrue r ↔ Begins w.body (calls ++ call ∷ [])) → IsTrue r ↔ MayFollow o v.body v.local.1 op
   can_is r call op e known =
-      let k = known (own_calls o log.1) taken in
-      let begins = same_begins w.body (own_calls o log.1 ++ call ∷ []) in
       subst (λ (z : Guided Shape Op). IsTrue r ↔ MayFollow o z.body z.local.1 op) same
-      (subst (λ (z : Call). IsTrue r ↔ Begins (plain_body w.body) (own_calls o log.1 ++ z ∷ [])) e (λ h. begins.1 (k.0 h), λ h. k.1 (begins.0 h)))
+      (subst (λ (z : Call). IsTrue r ↔ Begins w.body (own_calls o log.1 ++ z ∷ [])) e (known (own_calls o log.1) taken))
 
   pub complete_is : (r : Bool) → ((calls : List Call) → HasTaken w calls → IsTrue r ↔ IsWord w.body calls) → IsTrue r ↔ IsWord v.body (own_calls o v.local.1)
-  complete_is r known =
-      let k = known (own_calls o log.1) taken in
-      let word = same_word w.body (own_calls o log.1) in
-      subst (λ (z : Guided Shape Op). IsTrue r ↔ IsWord z.body (own_calls o z.local.1)) same (λ h. word.1 (k.0 h), λ h. k.1 (word.0 h))
+  complete_is r known = subst (λ (z : Guided Shape Op). IsTrue r ↔ IsWord z.body (own_calls o z.local.1)) same (known (own_calls o log.1) taken)
 
   pub may_follow : (op : Op) → MayFollow o v.body v.local.1 op → MayFollow o w.body log.1 op
-  may_follow op h = (same_begins w.body (own_calls o log.1 ++ o.call op ∷ [])).0 (subst (λ (z : Guided Shape Op). MayFollow o z.body z.local.1 op) (sym same) h)
+  may_follow op h = subst (λ (z : Guided Shape Op). MayFollow o z.body z.local.1 op) (sym same) h
 
   pub takes_still : (e : LocalEntry Op) → Takes o v.local e → Takes o log e
   takes_still e h = subst (λ (z : Guided Shape Op). Takes o z.local e) (sym same) h

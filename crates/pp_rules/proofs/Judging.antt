@@ -2,7 +2,7 @@
 use Rattle.std.proofs.Common.{◌≡◌, ◌≢◌, ℕ, suc, true, false, List, [], ◌∷◌, ◌++◌, Option, Some, None, refl, sym, subst}
 use Rattle.pp_model.specs.Config.{Step, Begin, App, Push, Pull, Cmt, Quit, Note, of_other, Tx, tx, LocalEntry, SharedEntry, local_ops, shared_ops, is_own, Unpushed, Pushed, Pulled, at_mark}
 use Rattle.pp_model.specs.Lists.{In, Before}
-use Rattle.pp_model.specs.Body.{Body, IsWord}
+use Rattle.pp_model.specs.Body.{Tree, IsWord}
 use Rattle.pp_model.specs.Names.{Name}
 use Rattle.pp_model.specs.Object as model
 use Rattle.pp_spec.specs.Object.{Object, IsAllowed, rules_of}
@@ -90,13 +90,13 @@ module _ {Shape State Op Undo : Type 0} (o : Object Shape State Op Undo) (v w : 
   pub cmt_0 : (t : Name) (x : Tx Op) → tx t v.config.opened ≡ Some x → IsComplete x → AllPushed x → ((p : LocalEntry Op) → In p x.local → p.mark ≡ Pulled → StandsCommitted p.id) → Fails (rules_of o w.shape) w.config (Cmt t) 0
   cmt_0 t x e b all h = lift (Cmt t) 0 (there_0 (tx t v.config.opened) _ x e (b, (all, (h, refl))))
 
-  pub begin_1 : (t p : Name) (b : Option Body) → In t v.config.names → Fails (rules_of o w.shape) w.config (Begin t p b) 1
+  pub begin_1 : (t p : Name) (b : Option Tree) → In t v.config.names → Fails (rules_of o w.shape) w.config (Begin t p b) 1
   begin_1 t p b i = lift (Begin t p b) 1 (λ n. n i)
 
-  pub begin_2 : (t p : Name) (b : Option Body) → (In t v.config.names → ⊥) → (x : Tx Op) → In x v.config.opened → x.thread ≡ p → Fails (rules_of o w.shape) w.config (Begin t p b) 2
+  pub begin_2 : (t p : Name) (b : Option Tree) → (In t v.config.names → ⊥) → (x : Tx Op) → In x v.config.opened → x.thread ≡ p → Fails (rules_of o w.shape) w.config (Begin t p b) 2
   begin_2 t p b n x i e = lift (Begin t p b) 2 (n, λ h. h x i e)
 
-  pub begin_0 : (t p : Name) (b : Option Body) → (In t v.config.names → ⊥) → ((x : Tx Op) → In x v.config.opened → x.thread ≢ p) → Fails (rules_of o w.shape) w.config (Begin t p b) 0
+  pub begin_0 : (t p : Name) (b : Option Tree) → (In t v.config.names → ⊥) → ((x : Tx Op) → In x v.config.opened → x.thread ≢ p) → Fails (rules_of o w.shape) w.config (Begin t p b) 0
   begin_0 t p b n h = lift (Begin t p b) 0 (n, (h, refl))
 
   pub quit_1 : (t : Name) → tx t v.config.opened ≡ None → Fails (rules_of o w.shape) w.config (Quit t) 1

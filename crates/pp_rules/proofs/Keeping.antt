@@ -5,7 +5,7 @@ use Rattle.std.proofs.lemmas.Bool.{eqb-true}
 use Rattle.pp_core.specs.declared.entry.CommittedTx.{CommittedTx}
 use Rattle.pp_core.specs.declared.entry.LocalEntry.{LocalEntry}
 use Rattle.pp_core.specs.declared.entry.SharedEntry.{SharedEntry}
-use Rattle.pp_model.specs.Body.{Body}
+use Rattle.pp_model.specs.Body.{Tree}
 use Rattle.pp_model.specs.Config.{Config, Tx, Step, Begin, App, Push, Pull, Cmt, Quit, Note, Unpushed, Pushed, Pulled, all_committed, at_mark, item, local_ops, marked, of_other, own_items, posted, shared_ops, then, tx}
 use Rattle.pp_model.specs.Lists.{In}
 use Rattle.pp_model.specs.Names.{Name, ◌=ⁿ◌}
@@ -123,13 +123,13 @@ module _ {Shape State Op Undo : Type 0} (o : Object Shape State Op Undo) (shape 
   seen_as s c e = ap (λ (z : Config Op). record { shape = shape; config = z; count = n + 1 }) e ∙ ap (λ (z : Seen Shape Op). stepped z s) same
 
   -- BEGIN
-  begin_is : (t p : Name) (b : Option Body) (u : Txs Shape Op) → u ≡ with_open (open_of t p b (shape, [])) v → config_of u ids G.1 F ≡ then (config_of v ids G.1 F) (Begin t p b)
+  begin_is : (t p : Name) (b : Option Tree) (u : Txs Shape Op) → u ≡ with_open (open_of t p b (shape, [])) v → config_of u ids G.1 F ≡ then (config_of v ids G.1 F) (Begin t p b)
   begin_is t p b u e = ap (λ (z : Txs Shape Op). config_of z ids G.1 F) e ∙ after_begin v ids G.1 F t p b (shape, []) refl
 
-  pub seen_begin : (t p : Name) (b : Option Body) (u : Txs Shape Op) → u ≡ with_open (open_of t p b (shape, [])) v → ◌≡◌ {A = Seen Shape Op} (record { shape = shape; config = config_of u ids G.1 F; count = n + 1 }) (stepped w (Begin t p b))
+  pub seen_begin : (t p : Name) (b : Option Tree) (u : Txs Shape Op) → u ≡ with_open (open_of t p b (shape, [])) v → ◌≡◌ {A = Seen Shape Op} (record { shape = shape; config = config_of u ids G.1 F; count = n + 1 }) (stepped w (Begin t p b))
   seen_begin t p b u e = seen_as (Begin t p b) (config_of u ids G.1 F) (begin_is t p b u e)
 
-  pub holds_begin : (t p : Name) (b : Option Body) (u : Txs Shape Op) → Fails (rules_of o w.shape) w.config (Begin t p b) 0 → u ≡ with_open (open_of t p b (shape, [])) v → Holds o shape u ids G F (n + 1)
+  pub holds_begin : (t p : Name) (b : Option Tree) (u : Txs Shape Op) → Fails (rules_of o w.shape) w.config (Begin t p b) 0 → u ≡ with_open (open_of t p b (shape, [])) v → Holds o shape u ids G F (n + 1)
   holds_begin t p b u f e = record {
     sound = sound_as (Begin t p b) (config_of u ids G.1 F) f (begin_is t p b u e);
     fine = subst (λ (z : Txs Shape Op). (x : Open Shape Op) → In x z.opened → IsFine o shape (n + 1) x) (sym e)
@@ -140,10 +140,10 @@ module _ {Shape State Op Undo : Type 0} (o : Object Shape State Op Undo) (shape 
     serial_ranged = h.serial_ranged;
   }
 
-  pub begin_free : (t p : Name) (b : Option Body) → Fails (rules_of o w.shape) w.config (Begin t p b) 0 → is_begun v t ≡ false
+  pub begin_free : (t p : Name) (b : Option Tree) → Fails (rules_of o w.shape) w.config (Begin t p b) 0 → is_begun v t ≡ false
   begin_free t p b f = not_equal (is_begun v t) (λ k. (lower (Begin t p b) 0 f).0 (begun_in v t (sym k)))
 
-  pub begin_idle : (t p : Name) (b : Option Body) → Fails (rules_of o w.shape) w.config (Begin t p b) 0 → is_busy v p ≡ false
+  pub begin_idle : (t p : Name) (b : Option Tree) → Fails (rules_of o w.shape) w.config (Begin t p b) 0 → is_busy v p ≡ false
   begin_idle t p b f = not_equal (is_busy v p) (λ k. let x = busy_in v p (sym k) in (lower (Begin t p b) 0 f).1.0 x.0 x.1 x.2)
 
   -- APP

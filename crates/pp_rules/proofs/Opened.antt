@@ -5,7 +5,7 @@ use Rattle.std.proofs.lemmas.Bool.{eqb-true, eq-eqb}
 use Rattle.pp_core.specs.declared.entry.CommittedTx.{CommittedTx}
 use Rattle.pp_core.specs.declared.entry.LocalEntry.{LocalEntry}
 use Rattle.pp_core.specs.declared.entry.SharedEntry.{SharedEntry}
-use Rattle.pp_model.specs.Body.{Body}
+use Rattle.pp_model.specs.Body.{Tree}
 use Rattle.pp_model.specs.Config.{Tx, tx, local_ops, shared_ops}
 use Rattle.pp_model.specs.Lists.{In}
 use Rattle.pp_model.specs.Names.{Name, ◌=ⁿ◌}
@@ -68,7 +68,7 @@ module _ {Shape State Op Undo : Type 0} (o : Object Shape State Op Undo) (shape 
   -- the open transaction t, with this local log
   pub record HasLog (t : Name) (l : Shape × List (LocalEntry Op)) : Type 0 where
     pub thread : Name
-    pub body : Option Body
+    pub body : Option Tree
     pub is : tx t (map tx_of v.opened) ≡ Some (record { name = t; thread = thread; body = body; local = l.1 })
     pub at : open_at t v.opened ≡ Some (open_of t thread body l)
     pub fine : IsFine o shape n (open_of t thread body l)

@@ -1,8 +1,7 @@
 -- What a step answers.
 use Rattle.std.specs.Prelude.{◌≡◌, ◌<◌, ◌+◌, ℕ, IsTrue}
 use Rattle.pp_core.specs.Trees.{IsWithinLimits}
-use Rattle.pp_core.specs.declared.step.Step.{Step}
-use Rattle.pp_model.specs.Config.{Begin, App, Unapp, Push, Unpush, Pull, Unpull, Cmt, Quit, Note}
+use Rattle.pp_core.specs.Steps.{Step, Begin, App, Unapp, Push, Unpush, Pull, Unpull, Cmt, Quit, Note}
 use Rattle.pp_model.specs.Rules.{Fails}
 use Rattle.pp_spec.specs.Object.{Object, rules_of}
 use Rattle.pp_rules.specs.declared.machine.Outcome.{Outcome}

@@ -1,7 +1,7 @@
 -- What contracts see of the transactions of a run.
 use Rattle.std.specs.Prelude.{◌≡◌, ◌≢◌, ℕ, Bool, not, cond, List, [], ◌∷◌, ◌++◌, map, filter, find, Option, None, Some, length, IsTrue, ◌<◌, ◌==◌, position, slice_get}
 use Rattle.std.specs.List.{list_any}
-use Rattle.pp_core.specs.declared.body.Body.{Body}
+use Rattle.pp_core.specs.Trees.{Tree}
 use Rattle.pp_core.specs.declared.entry.LocalEntry.{LocalEntry}
 use Rattle.pp_core.specs.declared.entry.Mark.TheVariants.{Pulled}
 use Rattle.pp_model.specs.Config.{local_ops}
@@ -14,7 +14,7 @@ use Rattle.pp_rules.specs.Courses.{Guided}
 pub record Open (Shape Op : Type 0) : Type 0 where
   pub name : Name
   pub thread : Name
-  pub body : Option Body
+  pub body : Option Tree
   pub local : Shape × List (LocalEntry Op)
 
 -- The names begun, in their order, and the open transactions.
@@ -64,7 +64,7 @@ filled f [] = []
 filled f ((n, None) ∷ es) = filled f es
 filled f ((n, Some x) ∷ es) = f n x ∷ filled f es
 
-abbrev pub open_of : {Shape Op : Type 0} → Name → Name → Option Body → Shape × List (LocalEntry Op) → Open Shape Op
+abbrev pub open_of : {Shape Op : Type 0} → Name → Name → Option Tree → Shape × List (LocalEntry Op) → Open Shape Op
 open_of n p b l = record { name = n; thread = p; body = b; local = l }
 
 -- What the transactions keep: names told apart, and the set of the threads that are busy, told apart too.

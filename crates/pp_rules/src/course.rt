@@ -1,10 +1,9 @@
-ghost use Rattle.std.specs.Prelude.{◌≡◌, ◌≢◌, ◌+◌, ◌≤◌, ◌↔◌, ◌++◌, ◌∷◌, [], Some, true, slice_get, IsTrue, IfOk, OnOk, OnErr};
+ghost use Rattle.std.specs.Prelude.{◌≡◌, ◌≢◌, ◌+◌, ◌≤◌, ◌↔◌, ◌++◌, ◌∷◌, [], Some, true, option_map, slice_get, IsTrue, IfOk, OnOk, OnErr};
 ghost use Rattle.pp_core.specs.declared.entry.LocalEntry.{LocalEntry};
 ghost use Rattle.pp_core.specs.declared.entry.Mark.TheVariants.{Pulled};
-ghost use Rattle.pp_core.specs.Trees.{IsWithinLimits};
+ghost use Rattle.pp_core.specs.Trees.{IsWithinLimits, tree};
 ghost use Rattle.pp_model.specs.Body.{Begins, IsWord};
 ghost use Rattle.pp_model.specs.Config.{is_own, marked};
-ghost use Rattle.pp_body.specs.Plain.{plain_body};
 ghost use Rattle.pp_body.specs.Walks.{HasTaken};
 ghost use Rattle.pp_rules.specs.Courses.{own_calls, FollowsIfOwn, MayFollow};
 ghost use Rattle.pp_rules.specs.Transactions.{Takes, HasOwn};
@@ -32,25 +31,23 @@ pub struct Course<S: Placed> {
 }
 
 impl<S: Placed> Model for Course<S> {
-    ghost use Rattle.pp_core.specs.contracts.body.Body as body_e;
+    ghost use Rattle.pp_core.specs.TreeCodes.{tree_code};
     ghost use Rattle.std.specs.Coded.{codes};
-    ghost use Rattle.pp_body.specs.Plain.{plain_body};
     ghost use Rattle.pp_body.specs.Walks.{HasTaken};
     ghost use Rattle.pp_rules.specs.Courses.{Guided, own_calls};
 
     ghost Value = { Guided S.Shape S.Op };
 
-    ghost coded = { Prim.hlevel (codes, body_e.the_row.coded, S.Shape.code, S.Op.code) };
+    ghost coded = { Prim.hlevel (codes, tree_code, S.Shape.code, S.Op.code) };
 
-    ghost view = { λ a. record { body = plain_body a.walked.walk.body; local = a.walked.log } };
+    ghost view = { λ a. record { body = a.walked.walk.body; local = a.walked.log } };
 
     ghost invariant = { λ a. HasTaken a.walked.walk (own_calls S.object a.walked.log.1) };
 }
 
 /// An equal body.
 fn copied(body: &Option<Body>, alloc: Global) -> Result<Option<Body>, OutOfMemory>
-    ensures same { IfOk result (λ b. plain_body b ≡ plain_body body.now) }
-    ensures within { IsWithinLimits body.now → IfOk result (λ b. IsWithinLimits b) }
+    ensures { IfOk result (λ b. option_map tree b ≡ option_map tree body.now) }
 {
     match body {
         None => Ok(None),
@@ -86,8 +83,8 @@ fn append_own<S: Placed, L: Ledger>(
 impl<S: Placed> Course<S> {
     /// The course of a transaction that begins.
     pub fn start(alloc: Global, shape: &S::Shape, body: &Option<Body>) -> Result<Self, OutOfMemory>
-        requires { IsWithinLimits body.now }
-        ensures { IfOk result (λ course. course ≡ record { body = plain_body body.now; local = (shape.now, []) }) }
+        requires { IsWithinLimits (option_map tree body.now) }
+        ensures { IfOk result (λ course. course ≡ record { body = option_map tree body.now; local = (shape.now, []) }) }
     {
         let body = copied(body, alloc)?;
         let walk = Walk::start(alloc, body)?;

@@ -1,10 +1,9 @@
 ghost use Rattle.std.specs.Prelude.{◌≡◌, ◌+◌, ◌<◌, ◌≤◌, IfOk, IsOk, OnErr, OnOk, IsTrue, Option, None, is_some, option_map, length};
 ghost use Rattle.std.specs.Option.{option_copied};
-ghost use Rattle.pp_core.specs.declared.body.Body.{Body as BodyOf};
-ghost use Rattle.pp_core.specs.Trees.{IsWithinLimits};
-ghost use Rattle.pp_body.specs.Plain.{plain_body, plain_step};
+ghost use Rattle.pp_core.specs.Trees.{IsWithinLimits, Tree, tree};
 ghost use Rattle.pp_model.specs.Config.{first, tx as open_tx};
 ghost use Rattle.pp_model.specs.Rules.{Fails};
+ghost use Rattle.pp_core.specs.Steps.{Begin, App, Push, Pull, Cmt, Quit, Note, meaning};
 ghost use Rattle.pp_model.specs.Sound.{Sound, serial_ops};
 ghost use Rattle.pp_spec.specs.Object.{AllRanged, IsAllowed, rules_of};
 ghost use Rattle.pp_rules.specs.Machines.{stepped};
@@ -48,12 +47,12 @@ pub struct Machine<S: Placed> {
 
 impl<S: Placed> Model for Machine<S> {
     ghost use Rattle.pp_rules.specs.Machines.{Seen, Holds, config_of};
-    ghost use Rattle.pp_core.specs.contracts.body.Body as body_e;
+    ghost use Rattle.pp_core.specs.TreeCodes.{tree_code};
     ghost use Rattle.std.specs.Coded.{codes};
 
     ghost Value = { Seen S.Shape S.Op };
 
-    ghost coded = { Prim.hlevel (codes, body_e.the_row.coded, S.Shape.code, S.Op.code) };
+    ghost coded = { Prim.hlevel (codes, tree_code, S.Shape.code, S.Op.code) };
 
     ghost view = { λ a. record { shape = a.shape; config = config_of a.transactions a.ids.keys a.shared.1 a.committed; count = a.count } };
 
@@ -118,7 +117,7 @@ impl<S: Placed> Machine<S> {
 
     /// The number of the first false criterion of BEGIN, or 0.
     fn judge_begin(&self, tx: &Name, thread: &Name) -> u8
-        ensures { (body : Option BodyOf) → Fails (rules_of S.object self.now.shape) self.now.config (Step.Begin tx.now thread.now body) result }
+        ensures { (body : Option Tree) → Fails (rules_of S.object self.now.shape) self.now.config (Begin tx.now thread.now body) result }
     {
         if self.transactions.is_begun(tx) {
             return 1;
@@ -132,7 +131,7 @@ impl<S: Placed> Machine<S> {
     /// The number of the first false criterion of APP, or 0.
     fn judge_app(&self, tx: &Name, id: u32, op: &S::Op) -> u8
         requires { IsTrue (S.object.fits self.now.shape op.now) }
-        ensures { Fails (rules_of S.object self.now.shape) self.now.config (Step.App tx.now id op.now) result }
+        ensures { Fails (rules_of S.object self.now.shape) self.now.config (App tx.now id op.now) result }
     {
         let Some(course) = self.transactions.course(tx) else {
             return 1;
@@ -151,7 +150,7 @@ impl<S: Placed> Machine<S> {
 
     /// The number of the first false criterion of PUSH, or 0.
     fn judge_push(&self, tx: &Name, id: u32) -> u8
-        ensures { Fails (rules_of S.object self.now.shape) self.now.config (Step.Push tx.now id) result }
+        ensures { Fails (rules_of S.object self.now.shape) self.now.config (Push tx.now id) result }
     {
         let Some(local) = self.transactions.local(tx) else {
             return 1;
@@ -174,7 +173,7 @@ impl<S: Placed> Machine<S> {
 
     /// The number of the first false criterion of PULL, or 0.
     fn judge_pull(&self, tx: &Name, id: u32) -> u8
-        ensures { Fails (rules_of S.object self.now.shape) self.now.config (Step.Pull tx.now id) result }
+        ensures { Fails (rules_of S.object self.now.shape) self.now.config (Pull tx.now id) result }
     {
         let Some(local) = self.transactions.local(tx) else {
             return 1;
@@ -196,7 +195,7 @@ impl<S: Placed> Machine<S> {
 
     /// The number of the first false criterion of CMT, or 0.
     fn judge_cmt(&self, tx: &Name) -> u8
-        ensures { Fails (rules_of S.object self.now.shape) self.now.config (Step.Cmt tx.now) result }
+        ensures { Fails (rules_of S.object self.now.shape) self.now.config (Cmt tx.now) result }
     {
         let Some(course) = self.transactions.course(tx) else {
             return 1;
@@ -216,7 +215,7 @@ impl<S: Placed> Machine<S> {
 
     /// The number of the first false criterion of QUIT, or 0.
     fn judge_quit(&self, tx: &Name) -> u8
-        ensures { Fails (rules_of S.object self.now.shape) self.now.config (Step.Quit tx.now) result }
+        ensures { Fails (rules_of S.object self.now.shape) self.now.config (Quit tx.now) result }
     {
         let Some(local) = self.transactions.local(tx) else {
             return 1;
@@ -229,7 +228,7 @@ impl<S: Placed> Machine<S> {
 
     /// The number of the first false criterion of NOTE, or 0.
     fn judge_note(&self, tx: &Name) -> u8
-        ensures { Fails (rules_of S.object self.now.shape) self.now.config (Step.Note tx.now) result }
+        ensures { Fails (rules_of S.object self.now.shape) self.now.config (Note tx.now) result }
     {
         let Some(_local) = self.transactions.local(tx) else {
             return 1;
@@ -239,10 +238,10 @@ impl<S: Placed> Machine<S> {
 
     /// Does BEGIN, whose criteria hold.
     fn begin(&mut self, tx: &Name, thread: &Name, body: &Option<Body>) -> Result<(), OutOfMemory>
-        requires holds { Fails (rules_of S.object self.old.shape) self.old.config (Step.Begin tx.now thread.now (plain_body body.now)) 0 }
-        requires within { IsWithinLimits body.now }
+        requires holds { Fails (rules_of S.object self.old.shape) self.old.config (Begin tx.now thread.now (option_map tree body.now)) 0 }
+        requires within { IsWithinLimits (option_map tree body.now) }
         requires few { self.old.count < 200_000 }
-        ensures ok { OnOk result (self.new ≡ stepped self.old (Step.Begin tx.now thread.now (plain_body body.now))) }
+        ensures ok { OnOk result (self.new ≡ stepped self.old (Begin tx.now thread.now (option_map tree body.now))) }
         ensures err { OnErr result (self.new ≡ self.old) }
     {
         self.transactions
@@ -259,10 +258,10 @@ impl<S: Placed> Machine<S> {
         op: &S::Op,
         steps: &mut Steps<L>,
     ) -> Result<(), OutOfMemory>
-        requires holds { Fails (rules_of S.object self.old.shape) self.old.config (Step.App tx.now id op.now) 0 }
+        requires holds { Fails (rules_of S.object self.old.shape) self.old.config (App tx.now id op.now) 0 }
         requires few { self.old.count < 200_000 }
         requires ranged { IsTrue (S.object.ranged op.now) }
-        ensures ok { OnOk result (self.new ≡ stepped self.old (Step.App tx.now id op.now)) }
+        ensures ok { OnOk result (self.new ≡ stepped self.old (App tx.now id op.now)) }
         ensures err { OnErr result (self.new ≡ self.old) }
         ensures cost { OnOk result (steps.new ≡ steps.old + 1) }
         ensures bound { steps.new ≤ steps.old + 1 }
@@ -289,9 +288,9 @@ impl<S: Placed> Machine<S> {
         id: u32,
         steps: &mut Steps<L>,
     ) -> Result<(), OutOfMemory>
-        requires holds { Fails (rules_of S.object self.old.shape) self.old.config (Step.Push tx.now id) 0 }
+        requires holds { Fails (rules_of S.object self.old.shape) self.old.config (Push tx.now id) 0 }
         requires few { self.old.count < 200_000 }
-        ensures ok { OnOk result (self.new ≡ stepped self.old (Step.Push tx.now id)) }
+        ensures ok { OnOk result (self.new ≡ stepped self.old (Push tx.now id)) }
         ensures err { OnErr result (self.new ≡ self.old) }
         ensures cost { OnOk result (steps.new ≡ steps.old + 1) }
         ensures bound { steps.new ≤ steps.old + 1 }
@@ -321,9 +320,9 @@ impl<S: Placed> Machine<S> {
         id: u32,
         steps: &mut Steps<L>,
     ) -> Result<(), OutOfMemory>
-        requires holds { Fails (rules_of S.object self.old.shape) self.old.config (Step.Pull tx.now id) 0 }
+        requires holds { Fails (rules_of S.object self.old.shape) self.old.config (Pull tx.now id) 0 }
         requires few { self.old.count < 200_000 }
-        ensures ok { OnOk result (self.new ≡ stepped self.old (Step.Pull tx.now id)) }
+        ensures ok { OnOk result (self.new ≡ stepped self.old (Pull tx.now id)) }
         ensures err { OnErr result (self.new ≡ self.old) }
         ensures cost { OnOk result (steps.new ≡ steps.old + 1) }
         ensures bound { steps.new ≤ steps.old + 1 }
@@ -344,9 +343,9 @@ impl<S: Placed> Machine<S> {
 
     /// Does CMT, whose criteria hold.
     fn commit(&mut self, tx: &Name) -> Result<(), OutOfMemory>
-        requires holds { Fails (rules_of S.object self.old.shape) self.old.config (Step.Cmt tx.now) 0 }
+        requires holds { Fails (rules_of S.object self.old.shape) self.old.config (Cmt tx.now) 0 }
         requires few { self.old.count < 200_000 }
-        ensures ok { OnOk result (self.new ≡ stepped self.old (Step.Cmt tx.now)) }
+        ensures ok { OnOk result (self.new ≡ stepped self.old (Cmt tx.now)) }
         ensures err { OnErr result (self.new ≡ self.old) }
     {
         let Some(local) = self.transactions.local(tx) else {
@@ -362,9 +361,9 @@ impl<S: Placed> Machine<S> {
 
     /// Does QUIT, whose criteria hold.
     fn quit(&mut self, tx: &Name)
-        requires holds { Fails (rules_of S.object self.old.shape) self.old.config (Step.Quit tx.now) 0 }
+        requires holds { Fails (rules_of S.object self.old.shape) self.old.config (Quit tx.now) 0 }
         requires few { self.old.count < 200_000 }
-        ensures { self.new ≡ stepped self.old (Step.Quit tx.now) }
+        ensures { self.new ≡ stepped self.old (Quit tx.now) }
     {
         self.transactions.end(tx);
         self.count += 1;
@@ -373,7 +372,7 @@ impl<S: Placed> Machine<S> {
     /// Does NOTE, whose criteria hold.
     fn note(&mut self, tx: &Name)
         requires few { self.old.count < 200_000 }
-        ensures { self.new ≡ stepped self.old (Step.Note tx.now) }
+        ensures { self.new ≡ stepped self.old (Note tx.now) }
     {
         let _noted = tx;
         self.count += 1;
@@ -381,8 +380,8 @@ impl<S: Placed> Machine<S> {
 
     /// The number of the first false criterion of a step, or 0.
     fn judge(&self, step: &Step<S::Op>) -> u8
-        requires { IsAsked S.object self.now.shape step.now }
-        ensures { Fails (rules_of S.object self.now.shape) self.now.config (plain_step step.now) result }
+        requires { IsAsked S.object self.now.shape (meaning step.now) }
+        ensures { Fails (rules_of S.object self.now.shape) self.now.config (meaning step.now) result }
     {
         match step {
             Step::Begin {
@@ -406,14 +405,14 @@ impl<S: Placed> Machine<S> {
         step: &Step<S::Op>,
         steps: &mut Steps<L>,
     ) -> Result<(), OutOfMemory>
-        requires asked { IsAsked S.object self.old.shape step.now }
-        requires holds { Fails (rules_of S.object self.old.shape) self.old.config (plain_step step.now) 0 }
+        requires asked { IsAsked S.object self.old.shape (meaning step.now) }
+        requires holds { Fails (rules_of S.object self.old.shape) self.old.config (meaning step.now) 0 }
         requires few { self.old.count < 200_000 }
-        ensures ok { OnOk result (self.new ≡ stepped self.old (plain_step step.now)) }
+        ensures ok { OnOk result (self.new ≡ stepped self.old (meaning step.now)) }
         ensures err { OnErr result (self.new ≡ self.old) }
-        ensures cost { OnOk result (steps.new ≡ steps.old + ticks step.now) }
-        ensures bound { steps.new ≤ steps.old + ticks step.now }
-        ensures sure { NeedsNoMemory step.now → IsOk result }
+        ensures cost { OnOk result (steps.new ≡ steps.old + ticks (meaning step.now)) }
+        ensures bound { steps.new ≤ steps.old + ticks (meaning step.now) }
+        ensures sure { NeedsNoMemory (meaning step.now) → IsOk result }
     {
         match step {
             Step::Begin { tx, thread, body } => self.begin(tx, thread, body),
@@ -440,13 +439,13 @@ impl<S: Placed> Machine<S> {
         step: &Step<S::Op>,
         steps: &mut Steps<L>,
     ) -> Result<Outcome, OutOfMemory>
-        requires asked { IsAsked S.object self.old.shape step.now }
+        requires asked { IsAsked S.object self.old.shape (meaning step.now) }
         requires few { self.old.count < 200_000 }
-        ensures effect { IfOk result (λ outcome. Stepped S.object self.old (plain_step step.now) outcome self.new) }
+        ensures effect { IfOk result (λ outcome. Stepped S.object self.old (meaning step.now) outcome self.new) }
         ensures err { OnErr result (self.new ≡ self.old) }
-        ensures cost { IfOk result (λ outcome. Costs step.now outcome steps.old steps.new) }
-        ensures bound { steps.new ≤ steps.old + ticks step.now }
-        ensures sure { NeedsNoMemory step.now → IsOk result }
+        ensures cost { IfOk result (λ outcome. Costs (meaning step.now) outcome steps.old steps.new) }
+        ensures bound { steps.new ≤ steps.old + ticks (meaning step.now) }
+        ensures sure { NeedsNoMemory (meaning step.now) → IsOk result }
     {
         let criterion = self.judge(step);
         if criterion > 0 {
@@ -462,13 +461,13 @@ impl<S: Placed> Machine<S> {
         step: &Step<S::Op>,
         steps: &mut Steps<L>,
     ) -> Result<(Self, Outcome), OutOfMemory>
-        requires asked { IsAsked S.object self.shape step.now }
+        requires asked { IsAsked S.object self.shape (meaning step.now) }
         requires few { self.count < 200_000 }
-        ensures effect { IfOk result (λ r. Stepped S.object self (plain_step step.now) r.1 r.0) }
+        ensures effect { IfOk result (λ r. Stepped S.object self (meaning step.now) r.1 r.0) }
         ensures one_more { IfOk result (λ r. r.0.count ≤ self.count + 1) }
-        ensures cost { IfOk result (λ r. Costs step.now r.1 steps.old steps.new) }
-        ensures bound { steps.new ≤ steps.old + ticks step.now }
-        ensures sure { NeedsNoMemory step.now → IsOk result }
+        ensures cost { IfOk result (λ r. Costs (meaning step.now) r.1 steps.old steps.new) }
+        ensures bound { steps.new ≤ steps.old + ticks (meaning step.now) }
+        ensures sure { NeedsNoMemory (meaning step.now) → IsOk result }
     {
         let outcome = self.advance(step, steps)?;
         Ok((self, outcome))

@@ -5,8 +5,7 @@ ghost use Rattle.std.specs.Str.{bytes_eq};
 ghost use Rattle.pp_core.specs.declared.entry.LocalEntry.{LocalEntry};
 ghost use Rattle.pp_core.specs.declared.entry.Mark.TheVariants.{Pulled};
 ghost use Rattle.pp_model.specs.Config.{marked};
-ghost use Rattle.pp_core.specs.Trees.{IsWithinLimits};
-ghost use Rattle.pp_body.specs.Plain.{plain_body};
+ghost use Rattle.pp_core.specs.Trees.{IsWithinLimits, tree};
 ghost use Rattle.pp_rules.specs.Courses.{FollowsIfOwn};
 ghost use Rattle.pp_rules.specs.Transactions.{Open, course_of, is_begun, is_busy, open_at, open_of, with_open, without_open, with_log, Takes, HasOwn};
 
@@ -35,13 +34,13 @@ pub struct Transactions<S: Placed> {
 
 impl<S: Placed> Model for Transactions<S> {
     ghost use Rattle.pp_rules.specs.Transactions.{Txs, filled, open_of, threads_of, Kept};
-    ghost use Rattle.pp_core.specs.contracts.body.Body as body_e;
+    ghost use Rattle.pp_core.specs.TreeCodes.{tree_code};
     ghost use Rattle.std.specs.Coded.{codes};
     ghost use Rattle.std.specs.Map.{keys_of};
 
     ghost Value = { Txs S.Shape S.Op };
 
-    ghost coded = { Prim.hlevel (codes, body_e.the_row.coded, S.Shape.code, S.Op.code) };
+    ghost coded = { Prim.hlevel (codes, tree_code, S.Shape.code, S.Op.code) };
 
     ghost view = { λ a. record { names = keys_of a.slots.entries; opened = filled (λ n t. open_of n t.thread t.course.body t.course.local) a.slots.entries } };
 
@@ -158,8 +157,8 @@ impl<S: Placed> Transactions<S> {
     ) -> Result<(), OutOfMemory>
         requires new { is_begun self.old tx.now ≡ false }
         requires idle { is_busy self.old thread.now ≡ false }
-        requires within { IsWithinLimits body.now }
-        ensures ok { OnOk result (self.new ≡ with_open (open_of tx.now thread.now (plain_body body.now) (shape.now, [])) self.old) }
+        requires within { IsWithinLimits (option_map tree body.now) }
+        ensures ok { OnOk result (self.new ≡ with_open (open_of tx.now thread.now (option_map tree body.now) (shape.now, [])) self.old) }
         ensures err { OnErr result (self.new ≡ self.old) }
     {
         let course = Course::start(alloc, shape, body)?;

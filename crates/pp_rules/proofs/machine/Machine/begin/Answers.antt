@@ -1,14 +1,15 @@
-use Rattle.pp_body.specs.Plain.{plain_body}
+use Rattle.std.proofs.Common.{option_map}
+use Rattle.pp_core.specs.Trees.{tree}
 use Rattle.pp_rules.proofs.Keeping.{begin_free, begin_idle, holds_begin, seen_begin}
 use Rattle.pp_rules.proofs.machine.Machine.begin.Goals as goal
 
 pub begin-requires-clause-new : goal.begin-requires-clause-new
 begin-requires-clause-new g c =
-    begin_free g.S.Spec.object c.self.inside.shape c.self.inside.transactions c.self.inside.ids.keys c.self.inside.shared c.self.inside.committed c.self.inside.count _ c.self.view_is c.self.invariant c.args.tx.now c.args.thread.now (plain_body c.args.body.now) c.requires.holds
+    begin_free g.S.Spec.object c.self.inside.shape c.self.inside.transactions c.self.inside.ids.keys c.self.inside.shared c.self.inside.committed c.self.inside.count _ c.self.view_is c.self.invariant c.args.tx.now c.args.thread.now (option_map tree c.args.body.now) c.requires.holds
 
 pub begin-requires-clause-idle : goal.begin-requires-clause-idle
 begin-requires-clause-idle g c =
-    begin_idle g.S.Spec.object c.self.inside.shape c.self.inside.transactions c.self.inside.ids.keys c.self.inside.shared c.self.inside.committed c.self.inside.count _ c.self.view_is c.self.invariant c.args.tx.now c.args.thread.now (plain_body c.args.body.now) c.requires.holds
+    begin_idle g.S.Spec.object c.self.inside.shape c.self.inside.transactions c.self.inside.ids.keys c.self.inside.shared c.self.inside.committed c.self.inside.count _ c.self.view_is c.self.invariant c.args.tx.now c.args.thread.now (option_map tree c.args.body.now) c.requires.holds
 
 pub invariant_of-self-2 : goal.invariant_of-self-2
 invariant_of-self-2 g c =
