@@ -1,12 +1,10 @@
 -- The lines behind the header.
-use Rattle.std.specs.Prelude.{◌≤◌, ℕ, ℤ, pos, negsuc, List, nat_le, IsTrue, Option, Some, None, option_map, ok_or, Result, Ok, Err, if◌then◌else◌}
+use Rattle.std.specs.Prelude.{◌≤◌, ℕ, ℤ, pos, negsuc, List, nat_le, IsTrue, Option, Some, None, ok_or, Result, Ok, Err, if◌then◌else◌}
 use Rattle.serde_json.specs.Data.{Data}
 use Rattle.pp_core.specs.Catalogs.{Objects}
 use Rattle.pp_core.specs.Trees.{IsWithinLimits}
 use Rattle.pp_core.specs.declared.member.Member.TheVariants as members
-use Rattle.pp_core.specs.declared.step.Step.{Step}
-use Rattle.pp_core.specs.declared.step.Step.TheVariants as steps
-use Rattle.pp_body.specs.Plain.{with_tree}
+use Rattle.pp_core.specs.Steps.{Step, Begin, App, Push, Cmt}
 use Rattle.pp_object.specs.Objects.{objects, kinds_of}
 use Rattle.pp_object.specs.declared.act.Op.{Op}
 use Rattle.pp_json.specs.declared.header.Header.{Header}
@@ -37,7 +35,7 @@ begin_of catalog value = do
   tx ← name_of members.Tx value
   thread ← name_of members.Thread value
   body ← body_of_begin catalog value
-  Ok (steps.Begin tx thread (option_map with_tree body))
+  Ok (Begin tx thread body)
 
 -- an operation that is called
 unfoldable pub app_of : Objects → Data → Result (Step Op) RecordFault
@@ -45,20 +43,20 @@ app_of catalog value = do
   tx ← name_of members.Tx value
   id ← id_of value
   op ← op_of catalog value
-  Ok (steps.App tx id op)
+  Ok (App tx id op)
 
 -- an operation that is pushed
 unfoldable pub push_of : Data → Result (Step Op) RecordFault
 push_of value = do
   tx ← name_of members.Tx value
   id ← id_of value
-  Ok (steps.Push tx id)
+  Ok (Push tx id)
 
 -- a commit
 unfoldable pub cmt_of : Data → Result (Step Op) RecordFault
 cmt_of value = do
   tx ← name_of members.Tx value
-  Ok (steps.Cmt tx)
+  Ok (Cmt tx)
 
 -- the step of this name, where it is built
 abbrev pub step_of : Objects → StepName → Data → Result (Step Op) RecordFault
@@ -78,8 +76,8 @@ record_of header line = do
 
 -- What a step that was read keeps to: it is one of the four that are built, its id lies in the range of ids, its operation is one on an object of the run, with numbers in the range of records, and its body is within the limits.
 abbrev pub IsReadable : Objects → Step Op → Type 0
-IsReadable catalog (steps.Begin tx thread body) = IsWithinLimits body
-IsReadable catalog (steps.App tx id op) = (id ≤ 999_999_999) × IsTrue (objects.fits (kinds_of catalog) op) × IsTrue (objects.ranged op)
-IsReadable catalog (steps.Push tx id) = id ≤ 999_999_999
-IsReadable catalog (steps.Cmt tx) = Unit {0}
+IsReadable catalog (Begin tx thread body) = IsWithinLimits body
+IsReadable catalog (App tx id op) = (id ≤ 999_999_999) × IsTrue (objects.fits (kinds_of catalog) op) × IsTrue (objects.ranged op)
+IsReadable catalog (Push tx id) = id ≤ 999_999_999
+IsReadable catalog (Cmt tx) = Unit {0}
 IsReadable catalog _ = ⊥

@@ -124,7 +124,7 @@ pub(crate) fn begin_body(
     begin: &Value,
 ) -> Result<Option<Body>, RecordFault>
     ensures reads { Gives (option_map tree) result (body_of_begin catalog.now (view begin.now)) }
-    ensures within { IfOk result (λ b. IsWithinLimits b) }
+    ensures within { IfOk result (λ b. IsWithinLimits (option_map tree b)) }
 {
     match begin.get("body") {
         None => Ok(None),

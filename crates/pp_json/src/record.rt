@@ -2,7 +2,7 @@
 ghost use Rattle.std.specs.Prelude.{◌≡◌, ◌≤◌, IfOk, IfSome};
 ghost use Rattle.serde_json.specs.View.{view};
 ghost use Rattle.pp_core.specs.Catalogs.{Objects};
-ghost use Rattle.pp_body.specs.Plain.{plain_step};
+ghost use Rattle.pp_core.specs.Steps.{meaning};
 ghost use Rattle.pp_json.specs.Reading.{Gives};
 ghost use Rattle.pp_json.specs.Records.{id_from, id_of, begin_of, app_of, push_of, cmt_of, step_of, record_of, IsReadable};
 
@@ -40,8 +40,8 @@ fn id_in(value: &Value) -> Result<u32, RecordFault>
 
 #[tactic(auto, unfolding(crate::specs::Records::begin_of))]
 fn begin_in(alloc: Global, catalog: &Catalog, value: &Value) -> Result<Step<Op>, RecordFault>
-    ensures reads { Gives plain_step result (begin_of catalog.now (view value.now)) }
-    ensures readable { IfOk result (IsReadable catalog.now) }
+    ensures reads { Gives meaning result (begin_of catalog.now (view value.now)) }
+    ensures readable { IfOk result (λ step. IsReadable catalog.now (meaning step)) }
 {
     let tx = name_in(value, Member::Tx)?;
     let thread = name_in(value, Member::Thread)?;
@@ -51,8 +51,8 @@ fn begin_in(alloc: Global, catalog: &Catalog, value: &Value) -> Result<Step<Op>,
 
 #[tactic(auto, unfolding(crate::specs::Records::app_of))]
 fn app_in(catalog: &Catalog, value: &Value) -> Result<Step<Op>, RecordFault>
-    ensures reads { Gives plain_step result (app_of catalog.now (view value.now)) }
-    ensures readable { IfOk result (IsReadable catalog.now) }
+    ensures reads { Gives meaning result (app_of catalog.now (view value.now)) }
+    ensures readable { IfOk result (λ step. IsReadable catalog.now (meaning step)) }
 {
     let tx = name_in(value, Member::Tx)?;
     let id = id_in(value)?;
@@ -62,8 +62,8 @@ fn app_in(catalog: &Catalog, value: &Value) -> Result<Step<Op>, RecordFault>
 
 #[tactic(auto, unfolding(crate::specs::Records::push_of))]
 fn push_in(value: &Value) -> Result<Step<Op>, RecordFault>
-    ensures reads { Gives plain_step result (push_of (view value.now)) }
-    ensures readable { (catalog : Objects) → IfOk result (IsReadable catalog) }
+    ensures reads { Gives meaning result (push_of (view value.now)) }
+    ensures readable { (catalog : Objects) → IfOk result (λ step. IsReadable catalog (meaning step)) }
 {
     let tx = name_in(value, Member::Tx)?;
     let id = id_in(value)?;
@@ -72,8 +72,8 @@ fn push_in(value: &Value) -> Result<Step<Op>, RecordFault>
 
 #[tactic(auto, unfolding(crate::specs::Records::cmt_of))]
 fn cmt_in(value: &Value) -> Result<Step<Op>, RecordFault>
-    ensures reads { Gives plain_step result (cmt_of (view value.now)) }
-    ensures readable { (catalog : Objects) → IfOk result (IsReadable catalog) }
+    ensures reads { Gives meaning result (cmt_of (view value.now)) }
+    ensures readable { (catalog : Objects) → IfOk result (λ step. IsReadable catalog (meaning step)) }
 {
     let tx = name_in(value, Member::Tx)?;
     Ok(Step::Cmt { tx })
@@ -85,8 +85,8 @@ fn step_in(
     name: StepName,
     value: &Value,
 ) -> Result<Step<Op>, RecordFault>
-    ensures reads { Gives plain_step result (step_of catalog.now name (view value.now)) }
-    ensures readable { IfOk result (IsReadable catalog.now) }
+    ensures reads { Gives meaning result (step_of catalog.now name (view value.now)) }
+    ensures readable { IfOk result (λ step. IsReadable catalog.now (meaning step)) }
 {
     match name {
         StepName::Begin => begin_in(alloc, catalog, value),
@@ -101,8 +101,8 @@ fn step_in(
 /// members are tested in the order in which the step lists them, and not in that of the line.
 #[tactic(auto, unfolding(crate::specs::Records::record_of))]
 pub fn read_record(alloc: Global, header: &Header, line: &[u8]) -> Result<Step<Op>, RecordFault>
-    ensures reads { Gives plain_step result (record_of header.now line.now) }
-    ensures readable { IfOk result (IsReadable header.now.catalog) }
+    ensures reads { Gives meaning result (record_of header.now line.now) }
+    ensures readable { IfOk result (λ step. IsReadable header.now.catalog (meaning step)) }
 {
     let value = object_on(alloc, line)?;
     let word = text_in(&value, Member::Step)?;
