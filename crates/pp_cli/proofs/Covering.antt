@@ -7,8 +7,7 @@ use Rattle.std.proofs.lemmas.Option.{get_or_from_slice_get, slice_get-get_or, sl
 use Rattle.std.proofs.Math.Seq.{get_or-append_seam}
 use mathlib.Core.Logic.{inl, inr}
 use Rattle.pp_core.specs.declared.call.Kind.{Kind}
-use Rattle.pp_core.specs.declared.step.Step.{Step}
-use Rattle.pp_core.specs.Steps.{rule_of}
+use Rattle.pp_core.specs.Steps.{Step, rule_of}
 use Rattle.pp_object.specs.declared.act.Op.{Op}
 use Rattle.pp_object.specs.Objects.{kinds_of, objects}
 use Rattle.pp_io.specs.Lines.{blank}

@@ -1,7 +1,7 @@
 -- What one line more makes of a scan.
 use Rattle.std.specs.Prelude.{◌≡◌, ℕ, ◌==◌, ◌&&◌, ◌||◌, true, false, List, [], ◌∷◌, ◌++◌, fold, is_some, cond, Option, None, Some, Result, Ok}
 use Rattle.std.proofs.Common.{refl, ap, ◌∙◌}
-use Rattle.pp_core.specs.declared.step.Step.{Step}
+use Rattle.pp_core.specs.Steps.{Step}
 use Rattle.pp_object.specs.declared.act.Op.{Op}
 use Rattle.pp_io.specs.Lines.{blank}
 use Rattle.pp_json.specs.declared.header.Header.{Header}

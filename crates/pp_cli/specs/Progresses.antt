@@ -1,8 +1,7 @@
 -- Where the examination of a run stands after some of its lines.
 use Rattle.std.specs.Prelude.{◌≡◌, ℕ, ◌+◌, ◌-◌, ◌<◌, Bool, true, ◌==◌, ◌&&◌, ◌⊎◌, List, length, slice_get, if◌then◌else◌, None, Some, Result, Ok, Err}
 use Rattle.pp_core.specs.declared.call.Kind.{Kind}
-use Rattle.pp_core.specs.declared.step.Step.{Step}
-use Rattle.pp_core.specs.Steps.{rule_of}
+use Rattle.pp_core.specs.Steps.{Step, rule_of}
 use Rattle.pp_object.specs.declared.act.Op.{Op}
 use Rattle.pp_object.specs.Objects.{kinds_of, objects}
 use Rattle.pp_json.specs.declared.fault.RecordFault.{RecordFault}

@@ -4,8 +4,7 @@ ghost use Rattle.pp_cli.specs.declared.progress.Progress.TheVariants.{Running, S
 ghost use Rattle.pp_cli.specs.declared.progress.Stop.TheVariants.{OutOfMemory as NoMemory};
 ghost use Rattle.pp_cli.specs.Scans.{Scanned, is_begin, scan_line};
 ghost use Rattle.pp_cli.specs.Progresses.{Covers, IfFault, IsRefused, StepTaken, is_too_many, lines_of, skipped, with_line, with_record};
-ghost use Rattle.pp_body.specs.Plain.{plain_step};
-ghost use Rattle.pp_core.specs.Steps.{rule_of};
+ghost use Rattle.pp_core.specs.Steps.{meaning, rule_of};
 ghost use Rattle.pp_io.specs.Lines.{blank};
 ghost use Rattle.pp_json.specs.Headers.{header_of};
 ghost use Rattle.pp_json.specs.Records.{IsReadable, record_of};
@@ -37,7 +36,7 @@ fn stop_at(line: u32, fault: RecordFault) -> Stop
 
 /// Whether a step begins a transaction.
 fn is_begin(step: &Step<Op>) -> bool
-    ensures { result ≡ is_begin (plain_step step.now) }
+    ensures { result ≡ is_begin (meaning step.now) }
 {
     match step {
         Step::Begin { .. } => true,
@@ -58,7 +57,7 @@ fn with_line(mut tally: Tally) -> Tally
 fn with_record(mut tally: Tally, step: &Step<Op>) -> Tally
     requires lines { tally.lines < 200_001 }
     requires begins { tally.begins < tally.lines }
-    ensures { result ≡ with_record tally (plain_step step.now) }
+    ensures { result ≡ with_record tally (meaning step.now) }
 {
     tally.lines += 1;
     if is_begin(step) {
@@ -99,9 +98,9 @@ fn take_header(alloc: Global, line: &Line) -> Result<Progress, Stop>
 
 /// The step of a line behind the header.
 fn read_step(alloc: Global, tally: &Tally, line: &Line) -> Result<Step<Op>, Stop>
-    ensures read { IfOk result (λ step. record_of tally.now.header line.now.text ≡ Ok (plain_step step)) }
-    ensures readable { IfOk result (IsReadable tally.now.header.catalog) }
-    ensures few { IfOk result (λ step. is_too_many tally.now (plain_step step) ≡ false) }
+    ensures read { IfOk result (λ step. record_of tally.now.header line.now.text ≡ Ok (meaning step)) }
+    ensures readable { IfOk result (λ step. IsReadable tally.now.header.catalog (meaning step)) }
+    ensures few { IfOk result (λ step. is_too_many tally.now (meaning step) ≡ false) }
     ensures err { IfErr result (λ stop. IfFault stop (λ at cause. (at ≡ line.now.number) × IsRefused tally.now (record_of tally.now.header line.now.text) cause)) }
 {
     let step = match read_record(alloc, &tally.header, line.text.bytes()) {
@@ -123,9 +122,9 @@ fn take_step<L: Ledger>(
     steps: &mut Steps<L>,
 ) -> Result<Progress, Stop>
     requires shape { machine.shape ≡ kinds_of tally.header.catalog }
-    requires readable { IsReadable tally.header.catalog step.now }
+    requires readable { IsReadable tally.header.catalog (meaning step.now) }
     requires few { machine.count < 200_000 }
-    ensures ok { IfOk result (λ next. StepTaken tally machine (plain_step step.now) line next) }
+    ensures ok { IfOk result (λ next. StepTaken tally machine (meaning step.now) line next) }
     ensures err { IfErr result (λ stop. stop ≡ NoMemory) }
 {
     match machine.advance(step, steps)? {

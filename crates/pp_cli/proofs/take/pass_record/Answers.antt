@@ -1,5 +1,5 @@
 use Rattle.std.proofs.Common.{subst, sym}
-use Rattle.pp_body.specs.Plain.{plain_step}
+use Rattle.pp_core.specs.Steps.{meaning}
 use Rattle.pp_cli.specs.Progresses.{IsRejected}
 use Rattle.pp_cli.specs.Scans.{Numbered, scan_line}
 use Rattle.pp_cli.proofs.Covering.{cover_stopped, few_begins}
@@ -12,4 +12,4 @@ pub returns-clause-ok : goal.returns-clause-ok
 returns-clause-ok c = λ sc covers.
     let line : Numbered = (c.args.line.now.number, c.args.line.now.text) in
     subst (λ t. IsRejected (scan_line sc line) t c.args.rejection) (sym c.with_record.ensures)
-    (cover_stopped sc c.args.tally c.args.rejection line (plain_step c.in_ok-step.step) covers c.requires.other c.in_ok-step.ensures.read c.in_ok-step.ensures.few)
+    (cover_stopped sc c.args.tally c.args.rejection line (meaning c.in_ok-step.step) covers c.requires.other c.in_ok-step.ensures.read c.in_ok-step.ensures.few)
