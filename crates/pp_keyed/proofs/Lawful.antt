@@ -59,16 +59,16 @@ module _ {State Op Undo Cell : Type 0} (o : Object (Unit {0}) State Op Undo) (k 
     (λ h. shown.by_table a b ∙ ap (λ (t : Bool). if t then None else Some (lists a b)) ((swaps_exact a b).1 h)),
   )
 
-  -- States after which the same lists are allowed are one: each key is read.
-  told_apart : (s t : State) → o.IsState s → o.IsState t → ((l : List Op) → AllowedFrom o s l ↔ AllowedFrom o t l) → s ≡ t
-  told_apart s t is it same =
+  -- Each key is read, so no other state allows what one allows.
+  told_apart : (s t : State) → o.IsState s → o.IsState t → ((l : List Op) → AllowedFrom o s l → AllowedFrom o t l) → s ≡ t
+  told_apart s t is it also =
       acts.one_state s t is it
       (λ q.
       let c = k.cell s q in
       let r = k.read q c in
       let Here : State → ℤ → Type 0 = λ u p. k.cell u p ≡ c in
       let finds : Finds (k.found r) (k.cell s (k.key r)) = subst (λ (f : Option Cell). Finds f (k.cell s (k.key r))) (sym (acts.read_found q c)) (subst (Here s) (sym (acts.read_key q c)) refl) in
-      let there = (acts.legal t r).0 ((same (r ∷ [])).0 ((acts.legal s r).1 finds, tt)).0 in
+      let there = (acts.legal t r).0 (also (r ∷ []) ((acts.legal s r).1 finds, tt)).0 in
       sym (subst (Here t) (acts.read_key q c) (subst (λ (f : Option Cell). Finds f (k.cell t (k.key r))) (acts.read_found q c) there)))
 
   taken_back : (s : State) (a : Op) → o.IsState s → IsLegal o s a → o.back (o.next s a) a (o.kept s a) ≡ s
@@ -81,7 +81,7 @@ module _ {State Op Undo Cell : Type 0} (o : Object (Unit {0}) State Op Undo) (k 
     next_shape = λ s a h. refl;
     next_is_state = acts.next_is_state;
     taken_back = taken_back;
-    told_apart = λ s t h g e same. told_apart s t h g same;
+    told_apart = λ s t h g e also. told_apart s t h g also;
     one_answer = λ s a b e h g. sym h.1 ∙ acts.one_given s a b e ∙ g.1;
     ranged_numbers = acts.ranged_numbers;
     unrefuted = unrefuted;

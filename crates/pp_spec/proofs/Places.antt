@@ -1,5 +1,5 @@
 -- What the laws of a kind say of lists of operations.
-use Rattle.std.proofs.Common.{◌≡◌, ℕ, IsTrue, List, [], ◌∷◌, ◌++◌, ◌↔◌, refl, sym, ◌∙◌, ap, subst, append_assoc, append-nil}
+use Rattle.std.proofs.Common.{◌≡◌, ℕ, IsTrue, List, [], ◌∷◌, ◌++◌, refl, sym, ◌∙◌, ap, subst, append_assoc, append-nil}
 use Rattle.pp_spec.specs.Object.{Object, IsLegal, AllowedFrom, state_from, IsAllowed, state_after, IsLawful, IsPlaced, AllElsewhere, Swaps, FitNowhere}
 use Rattle.pp_spec.proofs.Lists.{state-append, allowed-first, allowed-second, allowed-append, allowed_is_state, last_is_legal}
 
@@ -27,18 +27,16 @@ module _ {Shape State Op Undo : Type 0} (o : Object Shape State Op Undo) (laws :
             absurd (never sh (subst (λ (t : Shape). IsTrue (o.fits t a)) e second.0.0) (subst (λ (t : Shape). IsTrue (o.fits t b)) next second.1.0.0));
       }
 
-  -- lists after which the same lists are allowed lead to one state
-  pub same_state : (sh : Shape) (x y : List Op) → IsAllowed o sh x → IsAllowed o sh y → ((k : List Op) → IsAllowed o sh (x ++ k) ↔ IsAllowed o sh (y ++ k)) → state_after o sh x ≡ state_after o sh y
-  same_state sh x y h k same =
+  -- two lists lead to one state where the first is allowed, and all that is allowed after it is allowed after the second
+  pub same_state : (sh : Shape) (x y : List Op) → IsAllowed o sh x → ((k : List Op) → IsAllowed o sh (x ++ k) → IsAllowed o sh (y ++ k)) → state_after o sh x ≡ state_after o sh y
+  same_state sh x y h also =
+      let k : IsAllowed o sh y = allowed-first o (o.start sh) y [] (also [] (allowed-append o (o.start sh) x [] h tt)) in
       laws.told_apart (state_after o sh x) (state_after o sh y) (reached_is_state sh x h) (reached_is_state sh y k)
       (reached_shape sh x h ∙ sym (reached_shape sh y k))
-      (λ l. (
-        (λ f. allowed-second o (o.start sh) y l ((same l).0 (allowed-append o (o.start sh) x l h f))),
-        (λ f. allowed-second o (o.start sh) x l ((same l).1 (allowed-append o (o.start sh) y l k f))),
-      ))
+      (λ l f. allowed-second o (o.start sh) y l (also l (allowed-append o (o.start sh) x l h f)))
 
 module _ {Shape State Op Undo : Type 0} (o : Object Shape State Op Undo) (place_of : Op → ℕ) (SameAt : ℕ → State → State → Type 0) (laws : IsLawful o) (places : IsPlaced o place_of SameAt) where
-  -- an operation moves behind operations of other places, and back
+  -- an operation moves behind operations of other places
   pub moved_back : (sh : Shape) (x y k : List Op) (a : Op) → AllElsewhere place_of (place_of a) y → IsAllowed o sh (x ++ (a ∷ (y ++ k))) → IsAllowed o sh (x ++ (y ++ (a ∷ k)))
   moved_back sh x [] k a e h = h
   moved_back sh x (b ∷ y) k a e h =
@@ -46,13 +44,6 @@ module _ {Shape State Op Undo : Type 0} (o : Object Shape State Op Undo) (place_
       let P : List Op → Type 0 = IsAllowed o sh in
       let later = moved_back sh (x ++ b ∷ []) y k a e.1 (subst P (sym (append_assoc x (b ∷ []) (a ∷ (y ++ k)))) swapped) in
       subst P (append_assoc x (b ∷ []) (y ++ (a ∷ k))) later
-
-  pub moved_front : (sh : Shape) (x y k : List Op) (a : Op) → AllElsewhere place_of (place_of a) y → IsAllowed o sh (x ++ (y ++ (a ∷ k))) → IsAllowed o sh (x ++ (a ∷ (y ++ k)))
-  moved_front sh x [] k a e h = h
-  moved_front sh x (b ∷ y) k a e h =
-      let P : List Op → Type 0 = IsAllowed o sh in
-      let later = moved_front sh (x ++ b ∷ []) y k a e.1 (subst P (sym (append_assoc x (b ∷ []) (y ++ (a ∷ k)))) h) in
-      (places.apart b a (λ p. e.0 (sym p)) sh).always x (y ++ k) (subst P (append_assoc x (b ∷ []) (a ∷ (y ++ k))) later)
 
   -- operations of other places leave a place as it was
   pub stays_at : (p : ℕ) (s : State) (y : List Op) → AllElsewhere place_of p y → SameAt p s (state_from o s y)
@@ -63,13 +54,8 @@ module _ {Shape State Op Undo : Type 0} (o : Object Shape State Op Undo) (place_
   pub left_last : (sh : Shape) (x y : List Op) (a : Op) → AllElsewhere place_of (place_of a) y → IsAllowed o sh (x ++ (a ∷ y)) → state_after o sh (x ++ (a ∷ y)) ≡ o.next (state_after o sh (x ++ y)) a
   left_last sh x y a e h =
       let P : List Op → Type 0 = IsAllowed o sh in
-      let nil = append-nil y in
-      let turned = moved_back sh x y [] a e (subst (λ (z : List Op). P (x ++ (a ∷ z))) (sym nil) h) in
-      same_state o laws sh (x ++ (a ∷ y)) (x ++ (y ++ (a ∷ []))) h turned
-      (λ k. (
-        (λ f. subst P (sym (append_assoc x (y ++ (a ∷ [])) k) ∙ refl) (subst (λ (z : List Op). P (x ++ z)) (sym (append_assoc y (a ∷ []) k)) (moved_back sh x y k a e (subst P (append_assoc x (a ∷ y) k) f)))),
-        (λ f. subst P (sym (append_assoc x (a ∷ y) k)) (moved_front sh x y k a e (subst (λ (z : List Op). P (x ++ z)) (append_assoc y (a ∷ []) k) (subst P (append_assoc x (y ++ (a ∷ [])) k) f)))),
-      ))
+      same_state o laws sh (x ++ (a ∷ y)) (x ++ (y ++ (a ∷ []))) h
+      (λ k f. subst P (sym (append_assoc x (y ++ (a ∷ [])) k)) (subst (λ (z : List Op). P (x ++ z)) (sym (append_assoc y (a ∷ []) k)) (moved_back sh x y k a e (subst P (append_assoc x (a ∷ y) k) f))))
       ∙ (ap (state_after o sh) (sym (append_assoc x y (a ∷ []))) ∙ state-append o (o.start sh) (x ++ y) (a ∷ []))
 
   -- so it may be undone there, with the value that was kept when it was applied

@@ -117,8 +117,8 @@ pub record IsLawful {Shape State Op Undo : Type 0} (o : Object Shape State Op Un
   pub next_is_state : (s : State) (op : Op) → o.IsState s → IsLegal o s op → o.IsState (o.next s op)
   -- what is taken back was as if it had not been
   pub taken_back : (s : State) (op : Op) → o.IsState s → IsLegal o s op → o.back (o.next s op) op (o.kept s op) ≡ s
-  -- states of one shape after which the same lists are allowed are one
-  pub told_apart : (s t : State) → o.IsState s → o.IsState t → o.shape s ≡ o.shape t → ((k : List Op) → AllowedFrom o s k ↔ AllowedFrom o t k) → s ≡ t
+  -- states of one shape are one where each list that is allowed after the first is allowed after the second
+  pub told_apart : (s t : State) → o.IsState s → o.IsState t → o.shape s ≡ o.shape t → ((k : List Op) → AllowedFrom o s k → AllowedFrom o t k) → s ≡ t
   -- operations of one call that are legal in one state record one result
   pub one_answer : (s : State) (a b : Op) → o.call a ≡ o.call b → IsLegal o s a → IsLegal o s b → o.recorded a ≡ o.recorded b
   -- an operation is ranged exactly where its arguments and its recorded result are

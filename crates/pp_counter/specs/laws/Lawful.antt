@@ -1,5 +1,5 @@
 -- The laws of a counter.
-use Rattle.std.proofs.Common.{◌≡◌, ℤ, pos, ◌+ℤ◌, ◌-ℤ◌, Bool, List, [], ◌∷◌, ◌↔◌, ◌&&◌, refl, sym, ◌∙◌, ap, arith}
+use Rattle.std.proofs.Common.{◌≡◌, ℤ, pos, ◌+ℤ◌, ◌-ℤ◌, Bool, List, [], ◌∷◌, ◌&&◌, refl, sym, ◌∙◌, ap, arith}
 use Rattle.std.proofs.Math.Bool.{and-true}
 use Rattle.std.proofs.lemmas.Int.{ints}
 use Rattle.pp_spec.specs.Numbers.{in_range, has_ranged_arguments, is_ranged_answer}
@@ -15,9 +15,9 @@ use Rattle.pp_counter.specs.laws.Swapping.{refuting_exact, refuting_by}
 sum_back : (n x : ℤ) → (n +ℤ x) -ℤ x ≡ n
 sum_back n x = omega (arith, ints)
 
--- Numbers after which the same lists are allowed are one: each is read by `Get`.
-numbers_told_apart : (n m : ℤ) → ((k : List CounterOp) → AllowedFrom counter n k ↔ AllowedFrom counter m k) → n ≡ m
-numbers_told_apart n m same = sym (told (Get n) m ((same (Get n ∷ [])).0 (legal_where_told (Get n) n refl, tt)).0)
+-- Each number is read by `Get`, so no other one allows what it allows.
+numbers_told_apart : (n m : ℤ) → ((k : List CounterOp) → AllowedFrom counter n k → AllowedFrom counter m k) → n ≡ m
+numbers_told_apart n m also = sym (told (Get n) m (also (Get n ∷ []) (legal_where_told (Get n) n refl, tt)).0)
 
 -- An operation is ranged where its argument and its recorded result are.
 numbers : (op : CounterOp) → is_ranged op ≡ (has_ranged_arguments (call_of op) && is_ranged_answer (recorded_by op))
@@ -33,7 +33,7 @@ counter_lawful = record {
   next_shape = λ n op h. refl;
   next_is_state = λ n op h k. tt;
   taken_back = λ n op h k. sum_back n (shift_of op);
-  told_apart = λ n m h k e same. numbers_told_apart n m same;
+  told_apart = λ n m h k e also. numbers_told_apart n m also;
   one_answer = λ n a b e h k. sym h.1 ∙ same_given n a b e ∙ k.1;
   ranged_numbers = numbers;
   unrefuted = refuting_exact;

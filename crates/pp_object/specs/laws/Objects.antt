@@ -51,22 +51,19 @@ module _ (o : Object Kind ObjectState Act Undo) (laws : IsLawful o) (no_place : 
       ∙ set_own ss x.object t.0 t.1
 
   -- states of one shape with another object at a place are told apart there
-  told_by : (ss ts : List ObjectState) (p : ℕ) (s t : Option ObjectState) → (many o).IsState ss → (many o).IsState ts → ((l : List Op) → AllowedFrom (many o) ss l ↔ AllowedFrom (many o) ts l) → slice_get ss p ≡ s → slice_get ts p ≡ t → option_map o.shape s ≡ option_map o.shape t → s ≡ t
-  told_by ss ts p None None i j same e f h = refl
-  told_by ss ts p None (Some t) i j same e f h = absurd (cc)
-  told_by ss ts p (Some s) None i j same e f h = absurd (cc)
-  told_by ss ts p (Some s) (Some t) i j same e f h =
+  told_by : (ss ts : List ObjectState) (p : ℕ) (s t : Option ObjectState) → (many o).IsState ss → (many o).IsState ts → ((l : List Op) → AllowedFrom (many o) ss l → AllowedFrom (many o) ts l) → slice_get ss p ≡ s → slice_get ts p ≡ t → option_map o.shape s ≡ option_map o.shape t → s ≡ t
+  told_by ss ts p None None i j also e f h = refl
+  told_by ss ts p None (Some t) i j also e f h = absurd (cc)
+  told_by ss ts p (Some s) None i j also e f h = absurd (cc)
+  told_by ss ts p (Some s) (Some t) i j also e f h =
       ap Some
       (laws.told_apart s t (i p s e) (j p t f) (same_some (o.shape s) (o.shape t) h)
-      (λ l. (
-        (λ g. allowed_alone o laws p l ts t f ((same (map (act_at p) l)).0 (allowed_at o laws p l ss s e g))),
-        (λ g. allowed_alone o laws p l ss s e ((same (map (act_at p) l)).1 (allowed_at o laws p l ts t f g))),
-      )))
+      (λ l g. allowed_alone o laws p l ts t f (also (map (act_at p) l) (allowed_at o laws p l ss s e g))))
 
-  told_apart : (ss ts : List ObjectState) → (many o).IsState ss → (many o).IsState ts → map o.shape ss ≡ map o.shape ts → ((l : List Op) → AllowedFrom (many o) ss l ↔ AllowedFrom (many o) ts l) → ss ≡ ts
-  told_apart ss ts i j e same =
+  told_apart : (ss ts : List ObjectState) → (many o).IsState ss → (many o).IsState ts → map o.shape ss ≡ map o.shape ts → ((l : List Op) → AllowedFrom (many o) ss l → AllowedFrom (many o) ts l) → ss ≡ ts
+  told_apart ss ts i j e also =
       same_list ss ts
-      (λ p. told_by ss ts p (slice_get ss p) (slice_get ts p) i j same refl refl (sym (slice_get-map o.shape ss p) ∙ ap (λ (l : List Kind). slice_get l p) e ∙ slice_get-map o.shape ts p))
+      (λ p. told_by ss ts p (slice_get ss p) (slice_get ts p) i j also refl refl (sym (slice_get-map o.shape ss p) ∙ ap (λ (l : List Kind). slice_get l p) e ∙ slice_get-map o.shape ts p))
 
   one_answer : (ss : List ObjectState) (a b : Op) → (many o).call a ≡ (many o).call b → IsLegal (many o) ss a → IsLegal (many o) ss b → o.recorded a.act ≡ o.recorded b.act
   one_answer ss a b e h k =

@@ -46,19 +46,17 @@ taken_back =
     ∙ ap (λ (u : k.Undos). k.state (k.object.back (k.object.next t a) a u)) (k.one_undo (k.object.kept t a))
     ∙ ap k.state (k.lawful.taken_back t a (k.from_state t i) h))
 
-told_apart_in : (k : KindAmong) (s t : k.States) → one.IsState (k.state s) → one.IsState (k.state t) → ((l : List Act) → AllowedFrom one (k.state s) l ↔ AllowedFrom one (k.state t) l) → k.state s ≡ k.state t
-told_apart_in k s t i j same =
-    ap k.state
-    (k.lawful.told_apart s t (k.from_state s i) (k.from_state t j) refl
-    (λ l. ((λ f. allowed_out k t l ((same (map k.act l)).0 (allowed_in k s l f))), (λ f. allowed_out k s l ((same (map k.act l)).1 (allowed_in k t l f))))))
+told_apart_in : (k : KindAmong) (s t : k.States) → one.IsState (k.state s) → one.IsState (k.state t) → ((l : List Act) → AllowedFrom one (k.state s) l → AllowedFrom one (k.state t) l) → k.state s ≡ k.state t
+told_apart_in k s t i j also =
+    ap k.state (k.lawful.told_apart s t (k.from_state s i) (k.from_state t j) refl (λ l f. allowed_out k t l (also (map k.act l) (allowed_in k s l f))))
 
-told_apart : (s t : ObjectState) → one.IsState s → one.IsState t → one.shape s ≡ one.shape t → ((l : List Act) → AllowedFrom one s l ↔ AllowedFrom one t l) → s ≡ t
+told_apart : (s t : ObjectState) → one.IsState s → one.IsState t → one.shape s ≡ one.shape t → ((l : List Act) → AllowedFrom one s l → AllowedFrom one t l) → s ≡ t
 told_apart =
-    each_state (λ s. (t : ObjectState) → one.IsState s → one.IsState t → one.shape s ≡ one.shape t → ((l : List Act) → AllowedFrom one s l ↔ AllowedFrom one t l) → s ≡ t)
-    (λ k s t i j e same.
+    each_state (λ s. (t : ObjectState) → one.IsState s → one.IsState t → one.shape s ≡ one.shape t → ((l : List Act) → AllowedFrom one s l → AllowedFrom one t l) → s ≡ t)
+    (λ k s t i j e also.
     let u = k.its_state t (sym e ∙ k.has_kind s) in
-    let P : ObjectState → Type 0 = λ v. one.IsState v → ((l : List Act) → AllowedFrom one (k.state s) l ↔ AllowedFrom one v l) → k.state s ≡ v in
-    subst P (sym u.1) (told_apart_in k s u.0 i) j same)
+    let P : ObjectState → Type 0 = λ v. one.IsState v → ((l : List Act) → AllowedFrom one (k.state s) l → AllowedFrom one v l) → k.state s ≡ v in
+    subst P (sym u.1) (told_apart_in k s u.0 i) j also)
 
 one_answer : (s : ObjectState) (a : Act) → IsLegal one s a → (b : Act) → one.call a ≡ one.call b → IsLegal one s b → one.recorded a ≡ one.recorded b
 one_answer =
