@@ -6,6 +6,7 @@ use Rattle.pp_core.specs.declared.entry.CommittedTx.{CommittedTx}
 use Rattle.pp_core.specs.declared.status.Status.{Status}
 use Rattle.pp_core.specs.declared.status.Status.TheVariants as statuses
 use Rattle.pp_object.specs.Objects.{kinds_of, objects}
+use Rattle.pp_object.specs.laws.Objects.{objects_lawful}
 use Rattle.pp_object.specs.declared.act.Op.{Op}
 use Rattle.pp_object.specs.declared.states.ObjectState.{ObjectState}
 use Rattle.pp_json.specs.declared.header.Header.{Header}
@@ -20,12 +21,13 @@ use Rattle.pp_core.specs.Steps.{rule_of}
 use Rattle.std.specs.Option.{option_or}
 use Rattle.pp_model.specs.Serial.{Attempt, Simulated, attempts, finished_of, serial}
 use Rattle.pp_model.specs.Sound.{serial_ops}
-use Rattle.pp_model.proofs.Simulate.{simulated}
+use Rattle.pp_model.proofs.Simulate.{finished_are, simulated}
 use Rattle.pp_report.specs.Reports.{accepted_text, fault_text, rejected_text}
 use Rattle.pp_report.specs.declared.cause.Cause.{Cause}
 use Rattle.pp_report.specs.declared.cause.Cause.TheVariants.{NoHeader}
 use Rattle.pp_rules.specs.Machines.{Seen}
 use Rattle.pp_spec.specs.Object.{state_after}
+use Rattle.pp_spec.proofs.Places.{tells_states}
 use Rattle.pp_cli.specs.Objects.{object_of}
 use Rattle.pp_cli.specs.Certified.{IsDecided}
 use Rattle.pp_cli.specs.Inputs.{limit_fault, no_header, scan}
@@ -44,11 +46,8 @@ use Rattle.pp_cli.specs.declared.progress.Tally.{Tally}
 
 -- the committed transactions of an accepted run are its attempts
 module _ (sc : Scanned) (tally : Tally) (machine : Seen (List Kind) Op) (r : IsRunning sc tally machine) where
-  pub is_simulated : Simulated (object_of tally.header) None (steps_of sc)
-  is_simulated = simulated (object_of tally.header) None (steps_of sc) refl r.runs
-
   pub committed_are : machine.config.finished ≡ map finished_of (attempts None (steps_of sc))
-  committed_are = ap (λ c. c.finished) r.config ∙ is_simulated.done
+  committed_are = ap (λ c. c.finished) r.config ∙ finished_are (object_of tally.header) None (steps_of sc) refl r.runs
 
 entries_of : (as' : List (Attempt Op)) → map (λ d. d.entries) (map finished_of as') ≡ map (λ a. a.items) as'
 entries_of [] = refl
@@ -125,7 +124,7 @@ accepted_runs bytes text r = accepted_scan (scan bytes).fault (scan bytes) text 
 pub accepted_simulated : (bytes : List ℕ) (text : List ℕ) → IsReport bytes statuses.Accepted text → (header : Header) × ((scan bytes).header ≡ Some header) × Simulated (object_of header) None (steps_of (scan bytes))
 accepted_simulated bytes text r =
     let run = accepted_runs bytes text r in
-    (run.0, run.1, simulated (object_of run.0) None (steps_of (scan bytes)) refl run.2)
+    (run.0, run.1, simulated (object_of run.0) None (steps_of (scan bytes)) refl run.2 (tells_states objects objects_lawful (kinds_of run.0.catalog)))
 
 -- ---- an input has one report
 

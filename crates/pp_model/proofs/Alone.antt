@@ -21,7 +21,7 @@ use Rattle.pp_model.proofs.Serial.{allowed_front}
 use Rattle.pp_model.proofs.SameAttempts.{same_attempts}
 use Rattle.pp_model.proofs.Begin.{start_sound}
 use Rattle.pp_model.proofs.Keeps.{run_keeps}
-use Rattle.pp_model.proofs.Simulate.{simulated, all_words}
+use Rattle.pp_model.proofs.Simulate.{finished_are, serial_allowed, all_words}
 use Rattle.pp_model.specs.Names.{Name, ◌=ⁿ◌}
 use Rattle.pp_model.proofs.Names.{eq-names, names_not, names_tell}
 
@@ -509,12 +509,10 @@ alone_from {Op} O (Some z) thread l c s e al w f =
 
 pub alone_law : {Op State : Type 0} (O : Object Op State) (h : Option (Start Op)) (ss : List (Step Op)) → StartFails O h 0 → RunsFrom O (first h) ss → RunsFrom O (first h) (alone h ss)
 alone_law {Op} O h ss f r =
-    let k = simulated O h ss f r in
-    alone_from O h (λ t. first_thread (threads_of t ss)) (map (attempt_of ss) (committers ss)) (after h ss) (run_keeps O ss (first h) (start_sound O h f) r) k.done k.allowed (all_words O h ss f r) f
+    alone_from O h (λ t. first_thread (threads_of t ss)) (map (attempt_of ss) (committers ss)) (after h ss) (run_keeps O ss (first h) (start_sound O h f) r) (finished_are O h ss f r) (serial_allowed O h ss f r) (all_words O h ss f r) f
 
 pub alone_attempts : {Op State : Type 0} (O : Object Op State) (h : Option (Start Op)) (ss : List (Step Op)) → StartFails O h 0 → RunsFrom O (first h) ss → attempts h (alone h ss) ≡ attempts h ss
 alone_attempts {Op} O h ss f r =
-    let k = simulated O h ss f r in
     let l = map (attempt_of ss) (committers ss) in
     same_attempts h (λ t. first_thread (threads_of t ss)) (joined (map (λ (a : Attempt Op). a.items) (given h))) l
-    (λ a b i. unlike_in O (after h ss) (run_keeps O ss (first h) (start_sound O h f) r) (given h ++ l) k.done a b (before_right a b (given h) l i))
+    (λ a b i. unlike_in O (after h ss) (run_keeps O ss (first h) (start_sound O h f) r) (given h ++ l) (finished_are O h ss f r) a b (before_right a b (given h) l i))

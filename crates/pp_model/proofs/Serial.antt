@@ -4,9 +4,9 @@ use Rattle.std.proofs.Common.{refl, sym, ap, subst, ◌∙◌, append_assoc}
 use Rattle.std.proofs.lemmas.List.{map-append, append-nil}
 use mathlib.Core.Logic.{inl, inr}
 use Rattle.pp_model.specs.Lists.{In, Before}
-use Rattle.pp_model.specs.Object.{Object, AllowedFrom, Allowed, Swaps, Item, ops, Reorders, TellsStates, state, state_from}
+use Rattle.pp_model.specs.Object.{Object, AllowedFrom, Allowed, Swaps, Item, ops, Reorders, TellsStates, state_from}
 use Rattle.pp_model.specs.Config.{LocalEntry, SharedEntry, CommittedTx, Config, item, is_own, own, own_items, shared_item, shared_ops, posted, uncommitted, only_committed}
-use Rattle.pp_model.specs.Sound.{Sound, Stands, KeepsOrder, CommittedAfter, serial_items, serial_ops}
+use Rattle.pp_model.specs.Sound.{Sound, Stands, KeepsOrder, CommittedAfter, HasSerialState, MayRunSerially, serial_items, serial_ops}
 use Rattle.pp_model.proofs.Lists.{in_left, in_right, in_cases, before_cases, before_in_first, before_in_second, in_map, from_map, before_from_map, in_filter, from_filter, before_from_filter, from_joined, in_joined, before_from_joined, by_key, not_both}
 use Rattle.pp_model.proofs.Permute.{permuted}
 use Rattle.pp_model.proofs.Parted.{parted}
@@ -197,6 +197,9 @@ serial_law {Op} O G D k o h =
     let h3 : Allowed O ((serial_ops D ++ shared_ops (uncommitted G)) ++ k) = subst (λ (w : List Op). Allowed O (w ++ k)) e1 h2 in
     subst (λ (w : List Op). Allowed O w) (append_assoc (serial_ops D) (shared_ops (uncommitted G)) k) h3
 
+pub may_run_serially : {Op State : Type 0} (O : Object Op State) (c : Config Op) → Sound O c → MayRunSerially O c
+may_run_serially O c s k h = serial_law O c.shared c.finished k (ordered O c s) h
+
 -- the committed entries may be put before the uncommitted ones
 pub committed_first : {Op State : Type 0} (O : Object Op State) (G : List (SharedEntry Op)) (D : List (CommittedTx Op)) → Ordered O G D →
     Reorders O (items G) (items (only_committed G) ++ items (uncommitted G))
@@ -204,10 +207,6 @@ committed_first {Op} O G D o = parted O shared_item (λ (g : SharedEntry Op). g.
     (λ e. let f = o.from h (before_in_second g h G i) n in o.alone g (before_in_first g h G i) m f.0 f.1 (e ∙ ap (λ (w : SharedEntry Op). w.owner) f.4)) m)
 
 -- a list is allowed in two parts
-pub allowed_join : {Op State : Type 0} (O : Object Op State) (s : State) (l k : List Op) → AllowedFrom O s l → AllowedFrom O (state_from O s l) k → AllowedFrom O s (l ++ k)
-allowed_join O s [] k a b = b
-allowed_join O s (x ∷ l) k a b = (a.0, allowed_join O (O.next s x) l k a.1 b)
-
 pub allowed_front : {Op State : Type 0} (O : Object Op State) (s : State) (l k : List Op) → AllowedFrom O s (l ++ k) → AllowedFrom O s l
 allowed_front O s [] k a = tt
 allowed_front O s (x ∷ l) k a = (a.0, allowed_front O (O.next s x) l k a.1)
@@ -233,11 +232,7 @@ committed_allowed {Op} O c s =
     let h3 : Allowed O (ops (items (only_committed G)) ++ ops (items (uncommitted G))) = subst (λ (w : List Op). Allowed O w) (append-nil (ops y) ∙ map-append (λ (w : Item Op). w.op) (items (only_committed G)) (items (uncommitted G))) h2 in
     subst (λ (w : List Op). Allowed O w) (ops_items (only_committed G)) (allowed_front O O.start (ops (items (only_committed G))) (ops (items (uncommitted G))) h3)
 
-pub same_state : {Op State : Type 0} (O : Object Op State) → TellsStates O → (c : Config Op) → Sound O c →
-    state O (shared_ops (only_committed c.shared)) ≡ state O (serial_ops c.finished)
-same_state {Op} O t c s = t (state O (shared_ops (only_committed c.shared))) (state O (serial_ops c.finished)) (λ l a.
-    let C = only_committed c.shared in
-    let h1 : Allowed O (shared_ops C ++ l) = allowed_join O O.start (shared_ops C) l (committed_allowed O c s) a in
-    let h2 = serial_law O C c.finished l (ordered_committed O c.shared c.finished (ordered O c s)) h1 in
-    let h3 : Allowed O (serial_ops c.finished ++ l) = subst (λ (w : List (SharedEntry Op)). Allowed O (serial_ops c.finished ++ (shared_ops w ++ l))) (none_uncommitted c.shared) h2 in
-    allowed_back O O.start (serial_ops c.finished) l h3)
+pub same_state : {Op State : Type 0} (O : Object Op State) → TellsStates O → (c : Config Op) → Sound O c → HasSerialState O c
+same_state {Op} O tells c s = tells (shared_ops (only_committed c.shared)) (serial_ops c.finished) (committed_allowed O c s) (λ k h.
+    let turned = serial_law O (only_committed c.shared) c.finished k (ordered_committed O c.shared c.finished (ordered O c s)) h in
+    subst (λ (w : List (SharedEntry Op)). Allowed O (serial_ops c.finished ++ (shared_ops w ++ k))) (none_uncommitted c.shared) turned)

@@ -5,7 +5,7 @@ use Rattle.std.proofs.lemmas.List.{map-append, append-nil}
 use mathlib.Core.Logic.{inl, inr}
 use Rattle.pp_model.specs.Lists.{In, joined}
 use Rattle.pp_model.specs.Body.{IsWord}
-use Rattle.pp_model.specs.Object.{Object, Allowed, AllowedFrom, Item, ops, state, state_from}
+use Rattle.pp_model.specs.Object.{Object, Allowed, AllowedFrom, Item, ops, state, state_from, TellsStates}
 use Rattle.pp_model.specs.Config.{CommittedTx, Config, Start, Step, then, first, after, after_from, shared_ops, uncommitted}
 use Rattle.pp_model.specs.Rules.{calls, StartFails, RunsFrom}
 use Rattle.pp_model.specs.Sound.{Sound, serial_items, serial_ops}
@@ -55,34 +55,34 @@ atomically {Op} {State} O (a ∷ l) s w h =
           (atomically O l m (λ b i. w b (inr i)) (allowed_back O s (ops a.items) (serial l) h1)),
     )
 
-pub simulated : {Op State : Type 0} (O : Object Op State) (h : Option (Start Op)) (ss : List (Step Op)) → StartFails O h 0 → RunsFrom O (first h) ss → Simulated O h ss
-simulated {Op} {State} O h ss f r =
-    record {
-      done = t.done;
-      onto = onto;
-      allowed = allowed;
-      atomic = atomically O (attempts h ss) O.start t.words allowed;
-      same_state = λ z. same_state O z c sound ∙ ap (λ (w : List Op). state O w) same;
-    }
-  where
-    c : Config Op
-    c = after h ss
+module _ {Op State : Type 0} (O : Object Op State) (h : Option (Start Op)) (ss : List (Step Op)) (f : StartFails O h 0) (r : RunsFrom O (first h) ss) where
+  sound : Sound O (after h ss)
+  sound = run_keeps O ss (first h) (start_sound O h f) r
 
-    sound : Sound O (after h ss)
-    sound = run_keeps O ss (first h) (start_sound O h f) r
+  traced : Traced O h ss (after h ss)
+  traced = run_traced O h ss [] (first h) (start_sound O h f) (start_traced O h) r
 
-    t : Traced O h ss (after h ss)
-    t = run_traced O h ss [] (first h) (start_sound O h f) (start_traced O h) r
+  pub finished_are : (after h ss).finished ≡ map finished_of (attempts h ss)
+  finished_are = traced.done
 
-    same : serial_ops (after h ss).finished ≡ serial (attempts h ss)
-    same = ap (λ (w : List (CommittedTx Op)). serial_ops w) t.done ∙ ap (λ (w : List (Item Op)). ops w) (same_items (attempts h ss))
+  pub all_words : (a : Attempt Op) → In a (attempts h ss) → IsWord a.body (calls O a.items)
+  all_words = traced.words
 
-    onto : (k : List Op) → Allowed O (shared_ops (after h ss).shared ++ k) → Allowed O (serial (attempts h ss) ++ (shared_ops (uncommitted (after h ss).shared) ++ k))
-    onto k a = subst (λ (w : List Op). Allowed O (w ++ (shared_ops (uncommitted (after h ss).shared) ++ k))) same (serial_law O (after h ss).shared (after h ss).finished k (ordered O (after h ss) sound) a)
+  serial_is : serial_ops (after h ss).finished ≡ serial (attempts h ss)
+  serial_is = ap (λ (w : List (CommittedTx Op)). serial_ops w) finished_are ∙ ap (λ (w : List (Item Op)). ops w) (same_items (attempts h ss))
 
-    allowed : Allowed O (serial (attempts h ss))
-    allowed = allowed_front O O.start (serial (attempts h ss)) (shared_ops (uncommitted (after h ss).shared) ++ [])
-        (onto [] (subst (λ (w : List Op). Allowed O w) (sym (append-nil (shared_ops (after h ss).shared))) (sound).shared_allowed))
+  serial_onto : (k : List Op) → Allowed O (shared_ops (after h ss).shared ++ k) → Allowed O (serial (attempts h ss) ++ (shared_ops (uncommitted (after h ss).shared) ++ k))
+  serial_onto k a = subst (λ (w : List Op). Allowed O (w ++ (shared_ops (uncommitted (after h ss).shared) ++ k))) serial_is (serial_law O (after h ss).shared (after h ss).finished k (ordered O (after h ss) sound) a)
 
-pub all_words : {Op State : Type 0} (O : Object Op State) (h : Option (Start Op)) (ss : List (Step Op)) → StartFails O h 0 → RunsFrom O (first h) ss → (a : Attempt Op) → In a (attempts h ss) → IsWord a.body (calls O a.items)
-all_words O h ss f r = (run_traced O h ss [] (first h) (start_sound O h f) (start_traced O h) r).words
+  pub serial_allowed : Allowed O (serial (attempts h ss))
+  serial_allowed = allowed_front O O.start (serial (attempts h ss)) (shared_ops (uncommitted (after h ss).shared) ++ [])
+      (serial_onto [] (subst (λ (w : List Op). Allowed O w) (sym (append-nil (shared_ops (after h ss).shared))) sound.shared_allowed))
+
+  pub simulated : TellsStates O → Simulated O h ss
+  simulated tells = record {
+    done = finished_are;
+    onto = serial_onto;
+    allowed = serial_allowed;
+    atomic = atomically O (attempts h ss) O.start all_words serial_allowed;
+    same_state = same_state O tells (after h ss) sound ∙ ap (λ (w : List Op). state O w) serial_is;
+  }

@@ -2,7 +2,7 @@
 use Rattle.std.specs.Prelude.{◌≡◌, ℕ, ◌==◌, Bool, false, cond, not, ◌||◌, List, [], ◌∷◌, ◌++◌, map, filter, Option, None, Some}
 use Rattle.pp_model.specs.Lists.{joined}
 use Rattle.pp_model.specs.Body.{Tree, IsWord}
-use Rattle.pp_model.specs.Object.{Object, Allowed, AllowedFrom, Item, ops, state, state_from, TellsStates}
+use Rattle.pp_model.specs.Object.{Object, Allowed, AllowedFrom, Item, ops, state, state_from}
 use Rattle.pp_model.specs.Config.{CommittedTx, Start, Step, Begin, App, Unapp, Cmt, shared_ops, uncommitted, only_committed, first, after}
 use Rattle.pp_model.specs.Rules.{calls, StartFails, RunsFrom}
 use Rattle.pp_model.specs.Names.{Name, ◌=ⁿ◌}
@@ -78,7 +78,7 @@ pub record Simulated {Op State : Type 0} (O : Object Op State) (h : Option (Star
   pub onto : (k : List Op) → Allowed O (shared_ops (after h ss).shared ++ k) → Allowed O (serial (attempts h ss) ++ (shared_ops (uncommitted (after h ss).shared) ++ k))
   pub allowed : Allowed O (serial (attempts h ss))
   pub atomic : AtomicRun O O.start (attempts h ss) (state O (serial (attempts h ss)))
-  pub same_state : TellsStates O → state O (shared_ops (only_committed (after h ss).shared)) ≡ state O (serial (attempts h ss))
+  pub same_state : state O (shared_ops (only_committed (after h ss).shared)) ≡ state O (serial (attempts h ss))
 
 abbrev pub SimulationLaw : {Op State : Type 0} → Object Op State → Type 0
 SimulationLaw {Op} O = (h : Option (Start Op)) (ss : List (Step Op)) → StartFails O h 0 → RunsFrom O (first h) ss → Simulated O h ss

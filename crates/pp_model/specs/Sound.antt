@@ -2,7 +2,7 @@
 use Rattle.std.specs.Prelude.{◌≡◌, ◌≢◌, ◌⊎◌, ℕ, true, false, List, [], ◌++◌, map, Option}
 use Rattle.pp_model.specs.Lists.{In, Before, joined}
 use Rattle.pp_model.specs.Body.{Begins}
-use Rattle.pp_model.specs.Object.{Object, Allowed, Swaps, Item, ops, TellsStates, state}
+use Rattle.pp_model.specs.Object.{Object, Allowed, Swaps, Item, ops, state}
 use Rattle.pp_model.specs.Config.{Pushed, Pulled, is_own, LocalEntry, SharedEntry, Tx, CommittedTx, Config, item, own_items, local_ops, shared_ops, posted, uncommitted, only_committed, Start, Step, then, first}
 use Rattle.pp_model.specs.Rules.{calls, Fails, StartFails}
 use Rattle.pp_model.specs.Names.{Name}
@@ -83,11 +83,15 @@ abbrev pub serial_ops : {Op : Type 0} → List (CommittedTx Op) → List Op
 serial_ops D = ops (serial_items D)
 
 -- What is allowed after the shared log is allowed after the serial run and the uncommitted entries.
+abbrev pub MayRunSerially : {Op State : Type 0} → Object Op State → Config Op → Type 0
+MayRunSerially {Op} O c = (k : List Op) → Allowed O (shared_ops c.shared ++ k) → Allowed O (serial_ops c.finished ++ (shared_ops (uncommitted c.shared) ++ k))
+
 abbrev pub SerialLaw : {Op State : Type 0} → Object Op State → Type 0
-SerialLaw {Op} O = (c : Config Op) (k : List Op) → Sound O c →
-    Allowed O (shared_ops c.shared ++ k) → Allowed O (serial_ops c.finished ++ (shared_ops (uncommitted c.shared) ++ k))
+SerialLaw {Op} O = (c : Config Op) → Sound O c → MayRunSerially O c
 
 -- The committed entries, in the order of the shared log, lead to the state of the serial run.
+abbrev pub HasSerialState : {Op State : Type 0} → Object Op State → Config Op → Type 0
+HasSerialState O c = state O (shared_ops (only_committed c.shared)) ≡ state O (serial_ops c.finished)
+
 abbrev pub SameStateLaw : {Op State : Type 0} → Object Op State → Type 0
-SameStateLaw {Op} O = TellsStates O → (c : Config Op) → Sound O c →
-    state O (shared_ops (only_committed c.shared)) ≡ state O (serial_ops c.finished)
+SameStateLaw {Op} O = (c : Config Op) → Sound O c → HasSerialState O c

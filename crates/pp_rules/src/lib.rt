@@ -3,7 +3,12 @@
 
 mod course;
 mod find;
+mod laws;
 mod machine;
 mod transactions;
 
+pub use laws::{
+    alone_law, kept_law, same_state_law, serial_law, simulation_law, verdict_law, views_law,
+    written_law,
+};
 pub use machine::{Machine, Outcome};

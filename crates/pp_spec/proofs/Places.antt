@@ -1,6 +1,7 @@
 -- What the laws of a kind say of lists of operations.
 use Rattle.std.proofs.Common.{◌≡◌, ℕ, IsTrue, List, [], ◌∷◌, ◌++◌, refl, sym, ◌∙◌, ap, subst, append_assoc, append-nil}
-use Rattle.pp_spec.specs.Object.{Object, IsLegal, AllowedFrom, state_from, IsAllowed, state_after, IsLawful, IsPlaced, AllElsewhere, Swaps, FitNowhere}
+use Rattle.pp_spec.specs.Object.{Object, IsLegal, AllowedFrom, state_from, IsAllowed, state_after, IsLawful, IsPlaced, AllElsewhere, Swaps, FitNowhere, rules_of}
+use Rattle.pp_model.specs.Object.{TellsStates}
 use Rattle.pp_spec.proofs.Lists.{state-append, allowed-first, allowed-second, allowed-append, allowed_is_state, last_is_legal}
 
 module _ {Shape State Op Undo : Type 0} (o : Object Shape State Op Undo) (laws : IsLawful o) where
@@ -28,8 +29,8 @@ module _ {Shape State Op Undo : Type 0} (o : Object Shape State Op Undo) (laws :
       }
 
   -- two lists lead to one state where the first is allowed, and all that is allowed after it is allowed after the second
-  pub same_state : (sh : Shape) (x y : List Op) → IsAllowed o sh x → ((k : List Op) → IsAllowed o sh (x ++ k) → IsAllowed o sh (y ++ k)) → state_after o sh x ≡ state_after o sh y
-  same_state sh x y h also =
+  pub tells_states : (sh : Shape) → TellsStates (rules_of o sh)
+  tells_states sh x y h also =
       let k : IsAllowed o sh y = allowed-first o (o.start sh) y [] (also [] (allowed-append o (o.start sh) x [] h tt)) in
       laws.told_apart (state_after o sh x) (state_after o sh y) (reached_is_state sh x h) (reached_is_state sh y k)
       (reached_shape sh x h ∙ sym (reached_shape sh y k))
@@ -54,7 +55,7 @@ module _ {Shape State Op Undo : Type 0} (o : Object Shape State Op Undo) (place_
   pub left_last : (sh : Shape) (x y : List Op) (a : Op) → AllElsewhere place_of (place_of a) y → IsAllowed o sh (x ++ (a ∷ y)) → state_after o sh (x ++ (a ∷ y)) ≡ o.next (state_after o sh (x ++ y)) a
   left_last sh x y a e h =
       let P : List Op → Type 0 = IsAllowed o sh in
-      same_state o laws sh (x ++ (a ∷ y)) (x ++ (y ++ (a ∷ []))) h
+      tells_states o laws sh (x ++ (a ∷ y)) (x ++ (y ++ (a ∷ []))) h
       (λ k f. subst P (sym (append_assoc x (y ++ (a ∷ [])) k)) (subst (λ (z : List Op). P (x ++ z)) (sym (append_assoc y (a ∷ []) k)) (moved_back sh x y k a e (subst P (append_assoc x (a ∷ y) k) f))))
       ∙ (ap (state_after o sh) (sym (append_assoc x y (a ∷ []))) ∙ state-append o (o.start sh) (x ++ y) (a ∷ []))
 

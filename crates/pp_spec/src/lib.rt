@@ -6,6 +6,6 @@ mod spec;
 
 pub use range::{GREATEST_NUMBER, in_range};
 pub use spec::{
-    Applied, Context, Placed, Spec, commuting_operations_swap, other_places_swap,
-    undone_behind_others, unfitting_operations_swap,
+    Applied, Context, Placed, Spec, commuting_operations_swap, futures_tell_states,
+    other_places_swap, undone_behind_others, unfitting_operations_swap,
 };

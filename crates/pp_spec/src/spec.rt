@@ -1,5 +1,6 @@
 ghost use Rattle.std.specs.Prelude.{◌≡◌, ◌≢◌, ◌+◌, ℕ, false, IsTrue, IfOk, OnOk, OnErr, ◌↔◌, List, ◌∷◌, ◌++◌, option_map};
-ghost use Rattle.pp_spec.specs.Object.{Object, IsAllowed, Swaps, SwapsNowhere, FitNowhere, Commutes, IsReached, IsLawful, IsPlaced, AllElsewhere, state_after};
+ghost use Rattle.pp_model.specs.Object.{TellsStates};
+ghost use Rattle.pp_spec.specs.Object.{Object, IsAllowed, Swaps, SwapsNowhere, FitNowhere, Commutes, IsReached, IsLawful, IsPlaced, AllElsewhere, rules_of, state_after};
 ghost use Rattle.pp_spec.specs.Calls.{Applies, WasApplied};
 
 use pp_core::{Answer, Call, Ops, OutOfMemory, Steps};
@@ -134,6 +135,11 @@ pub trait Placed: Spec {
 /// Operations that commute in each state that is reached swap.
 pub fn commuting_operations_swap<S: Spec>()
     ensures { (a b : S.Op) → Commutes S.object a b → Swaps S.object a b }
+{}
+
+/// Two lists lead to one state where the first is allowed, and all that is allowed after it is allowed after the second.
+pub fn futures_tell_states<S: Spec>()
+    ensures { (shape : S.Shape) → TellsStates (rules_of S.object shape) }
 {}
 
 /// Operations that no shape fits together swap.
