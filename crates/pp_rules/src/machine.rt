@@ -1,10 +1,12 @@
 ghost use Rattle.std.specs.Prelude.{◌≡◌, ◌+◌, ◌<◌, ◌≤◌, IfOk, IsOk, OnErr, OnOk, IsTrue, Option, None, is_some, option_map, length};
 ghost use Rattle.std.specs.Option.{option_copied};
 ghost use Rattle.pp_core.specs.Trees.{IsWithinLimits, Tree, tree};
+ghost use Rattle.pp_model.specs.AsWritten.{AsWritten};
 ghost use Rattle.pp_model.specs.Config.{first, tx as open_tx};
+ghost use Rattle.pp_model.specs.Laws.{HasViews};
 ghost use Rattle.pp_model.specs.Rules.{Fails};
 ghost use Rattle.pp_core.specs.Steps.{Begin, App, Push, Pull, Cmt, Quit, Note, meaning};
-ghost use Rattle.pp_model.specs.Sound.{Sound, serial_ops};
+ghost use Rattle.pp_model.specs.Sound.{HasSerialState, MayRunSerially, Sound, serial_ops};
 ghost use Rattle.pp_spec.specs.Object.{AllRanged, IsAllowed, rules_of};
 ghost use Rattle.pp_rules.specs.Machines.{stepped};
 ghost use Rattle.pp_rules.specs.Stepping.{Costs, IsAsked, NeedsNoMemory, Stepped, ticks};
@@ -76,11 +78,14 @@ impl<S: Placed> Machine<S> {
         })
     }
 
-    /// How many steps were done. The configuration of each machine is sound.
+    /// How many steps were done. The configuration of each machine is sound, and the local log of
+    /// each open transaction is allowed with what it pulled put before its own.
     pub fn count(&self) -> u32
         ensures count { result ≡ self.now.count }
         ensures short { length self.now.config.shared ≤ self.now.count }
         ensures sound { Sound (rules_of S.object self.now.shape) self.now.config }
+        ensures written { AsWritten (rules_of S.object self.now.shape) self.now.config }
+        ensures views { HasViews (rules_of S.object self.now.shape) self.now.config }
     {
         self.count
     }
@@ -106,11 +111,14 @@ impl<S: Placed> Machine<S> {
         self.transactions.local(tx)
     }
 
-    /// The committed transactions, in commit order. Their operations, joined, are allowed.
+    /// The committed transactions, in commit order. Their operations, joined, are allowed, may be put
+    /// for the committed entries of the shared log, and lead to the state of those.
     pub fn committed(&self) -> &Committed<S::Op>
         ensures finished { result.now ≡ self.now.config.finished }
         ensures allowed { IsAllowed S.object self.now.shape (serial_ops self.now.config.finished) }
         ensures ranged { AllRanged S.object (serial_ops self.now.config.finished) }
+        ensures serial { MayRunSerially (rules_of S.object self.now.shape) self.now.config }
+        ensures state { HasSerialState (rules_of S.object self.now.shape) self.now.config }
     {
         &self.committed
     }
