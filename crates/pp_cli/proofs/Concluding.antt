@@ -128,27 +128,27 @@ accepted_simulated bytes text r =
 
 -- ---- an input has one report
 
-one_of : (header : Header) (records : List Recorded) (v : Verdict) (s s' : Status) (t t' : List ℕ) → IsReportOf header records v s t → IsReportOf header records v s' t' → t ≡ t'
-one_of header records Accepted s s' t t' a b = a.1 ∙ sym b.1
+one_of : (header : Header) (records : List Recorded) (v : Verdict) (s s' : Status) (t t' : List ℕ) → IsReportOf header records v s t → IsReportOf header records v s' t' → (s ≡ s') × (t ≡ t')
+one_of header records Accepted s s' t t' a b = (a.0 ∙ sym b.0, a.1 ∙ sym b.1)
 one_of header records (Rejected i n) s s' t t' a b =
     let same : a.1.0 ≡ b.1.0 = same_some (sym a.1.1 ∙ b.1.1) in
-    a.1.2 ∙ ap (λ (r : Recorded). rejected_text i r.line (rule_of r.step) n) same ∙ sym b.1.2
+    (a.0 ∙ sym b.0, a.1.2 ∙ ap (λ (r : Recorded). rejected_text i r.line (rule_of r.step) n) same ∙ sym b.1.2)
   where
     same_some : {A : Type 0} {x y : A} → Some x ≡ Some y → x ≡ y
     same_some e = cc
 
-one_run : (h : Option Header) (records : List Recorded) (s s' : Status) (t t' : List ℕ) → IsRunReport h records s t → IsRunReport h records s' t' → t ≡ t'
+one_run : (h : Option Header) (records : List Recorded) (s s' : Status) (t t' : List ℕ) → IsRunReport h records s t → IsRunReport h records s' t' → (s ≡ s') × (t ≡ t')
 one_run None records s s' t t' a b = absurd a
 one_run (Some header) records s s' t t' a b =
     let same : a.0 ≡ b.0 = one_verdict (object_of header) None (map (λ r. r.step) records) a.0 b.0 a.1 b.1 in
     one_of header records b.0 s s' t t' (subst (λ v. IsReportOf header records v s t) same a.2) b.2
 
-one_scan : (f : Option (ℕ × Cause)) (sc : Scanned) (s s' : Status) (t t' : List ℕ) → IsScanReport f sc s t → IsScanReport f sc s' t' → t ≡ t'
-one_scan (Some fault) sc s s' t t' a b = a.1 ∙ sym b.1
+one_scan : (f : Option (ℕ × Cause)) (sc : Scanned) (s s' : Status) (t t' : List ℕ) → IsScanReport f sc s t → IsScanReport f sc s' t' → (s ≡ s') × (t ≡ t')
+one_scan (Some fault) sc s s' t t' a b = (a.0 ∙ sym b.0, a.1 ∙ sym b.1)
 one_scan None sc s s' t t' a b = one_run sc.header sc.records s s' t t' a b
 
-pub one_output : (command : Option Command) (bytes : List ℕ) (s s' : Status) (t t' : List ℕ) → IsOutput command bytes s t → IsOutput command bytes s' t' → t ≡ t'
-one_output None bytes s s' t t' a b = a.1 ∙ sym b.1
+pub one_output : (command : Option Command) (bytes : List ℕ) (s s' : Status) (t t' : List ℕ) → IsOutput command bytes s t → IsOutput command bytes s' t' → (s ≡ s') × (t ≡ t')
+one_output None bytes s s' t t' a b = (a.0 ∙ sym b.0, a.1 ∙ sym b.1)
 one_output (Some Certify) bytes s s' t t' a b = one_scan (scan bytes).fault (scan bytes) s s' t t' a b
 
 -- an input without a header

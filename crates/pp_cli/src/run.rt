@@ -54,6 +54,9 @@ pub fn run<S: Source, K: Sink, L: Ledger>(
     // What is printed is the output that the words and the input define.
     ensures output { IsPrinted result → (bytes : List ℕ) → S.left source.old ≡ Some bytes → (text : List ℕ) × IsOutput (command_of words.now) bytes result text × Appends (K.held sink.old) (K.held sink.new) text }
 
+    // And the words and the input define no other one.
+    ensures only { IsPrinted result → (bytes : List ℕ) → S.left source.old ≡ Some bytes → (status : StatusOf) (text : List ℕ) → IsOutput (command_of words.now) bytes status text → (status ≡ result) × Appends (K.held sink.old) (K.held sink.new) text }
+
     // Words that are no command touch nothing.
     ensures bad_words { (result ≡ statuses.BadWords) ↔ (command_of words.now ≡ None) }
     ensures source_untouched { result ≡ statuses.BadWords → source.new ≡ source.old }
