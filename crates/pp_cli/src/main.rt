@@ -3,21 +3,14 @@
 
 ghost use Rattle.std.specs.Prelude.{◌≡◌};
 
-mod certify;
 mod edge;
-mod examine;
-mod progress;
-mod run;
-mod take;
 #[cfg(test)]
 mod tests;
-mod words;
-mod write;
 
 use crate::edge::{StdSink, StdSource};
-use crate::run::run;
 use pp_core::{OutOfMemory, Status, Steps, Words};
 use pp_io::{Sink, Source};
+use pp_run::run;
 use std::alloc::Global;
 use std::env::Args;
 use std::marker::Brand;

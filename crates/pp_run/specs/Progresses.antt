@@ -1,0 +1,95 @@
+-- Where the examination of a run stands after some of its lines.
+use Rattle.std.specs.Prelude.{◌≡◌, ℕ, ◌+◌, ◌-◌, ◌<◌, Bool, true, ◌==◌, ◌&&◌, ◌⊎◌, List, length, slice_get, if◌then◌else◌, None, Some, Result, Ok, Err}
+use Rattle.pp_core.specs.declared.call.Kind.{Kind}
+use Rattle.pp_core.specs.Steps.{Step, rule_of}
+use Rattle.pp_object.specs.declared.act.Op.{Op}
+use Rattle.pp_object.specs.Objects.{kinds_of, objects}
+use Rattle.pp_json.specs.declared.fault.RecordFault.{RecordFault}
+use Rattle.pp_model.specs.Config.{after, first}
+use Rattle.pp_model.specs.Rules.{Fails, IsVerdict, Rejected, RunsFrom}
+use Rattle.pp_report.specs.Causes.{cause_of}
+use Rattle.pp_report.specs.declared.cause.Cause.{Cause}
+use Rattle.pp_report.specs.declared.cause.Cause.TheVariants.{TooManyTransactions}
+use Rattle.pp_rules.specs.Machines.{Seen, stepped}
+use Rattle.pp_spec.specs.Object.{rules_of}
+use Rattle.pp_run.specs.declared.progress.Progress.{Progress}
+use Rattle.pp_run.specs.declared.progress.Progress.TheVariants.{Waiting, Running, Stopped}
+use Rattle.pp_run.specs.declared.progress.Rejection.{Rejection}
+use Rattle.pp_run.specs.declared.progress.Tally.{Tally}
+use Rattle.pp_run.specs.declared.progress.Stop.{Stop}
+use Rattle.pp_run.specs.declared.progress.Stop.TheVariants.{Fault, OutOfMemory}
+use Rattle.pp_run.specs.Objects.{object_of}
+use Rattle.pp_run.specs.Scans.{Recorded, Scanned, nothing, begins, is_begin, steps_of}
+
+-- how many lines were taken
+abbrev pub lines_of : Progress → ℕ
+lines_of (Waiting lines) = lines
+lines_of (Running tally machine) = tally.lines
+lines_of (Stopped tally rejection) = tally.lines
+
+-- one line more
+abbrev pub with_line : Tally → Tally
+with_line tally = record tally { lines = tally.lines + 1 }
+
+-- one record more
+abbrev pub with_record : Tally → Step Op → Tally
+with_record tally step = record tally { lines = tally.lines + 1; begins = if is_begin step then tally.begins + 1 else tally.begins }
+
+-- one blank line more
+abbrev pub skipped : Progress → Progress
+skipped (Waiting lines) = Waiting (lines + 1)
+skipped (Running tally machine) = Running (with_line tally) machine
+skipped (Stopped tally rejection) = Stopped (with_line tally) rejection
+
+-- the lines are a header and records, with no fault, and these are their counts
+pub record IsTallied (sc : Scanned) (tally : Tally) : Type 0 where
+  pub header : sc.header ≡ Some tally.header
+  pub sound : sc.fault ≡ None
+  pub begun : tally.begins ≡ begins sc.records
+  pub fewer : length sc.records < tally.lines
+
+-- each step so far meets its criteria, and the machine is where they lead
+pub record IsRunning (sc : Scanned) (tally : Tally) (machine : Seen (List Kind) Op) : Type 0 where
+  pub follows : IsTallied sc tally
+  pub shape : machine.shape ≡ kinds_of tally.header.catalog
+  pub runs : RunsFrom (object_of tally.header) (first None) (steps_of sc)
+  pub config : machine.config ≡ after None (steps_of sc)
+  pub count : machine.count ≡ length sc.records
+
+-- the record of the step with this number, from 1, stands on this line and follows this rule
+abbrev pub IsPlaced : List Recorded → Rejection → Type 0
+IsPlaced records rejection =
+    (r : Recorded) × (slice_get records (rejection.step - 1) ≡ Some r) × (r.line ≡ rejection.line) × (rule_of r.step ≡ rejection.rule)
+
+-- the verdict is this rejection, whatever follows
+pub record IsRejected (sc : Scanned) (tally : Tally) (rejection : Rejection) : Type 0 where
+  pub follows : IsTallied sc tally
+  pub verdict : IsVerdict (object_of tally.header) None (steps_of sc) (Rejected rejection.step rejection.criterion)
+  pub place : IsPlaced sc.records rejection
+
+-- the lines so far, which are scanned so, lead to here
+abbrev pub Covers : Scanned → Progress → Type 0
+Covers sc (Waiting lines) = sc ≡ nothing
+Covers sc (Running tally machine) = IsRunning sc tally machine
+Covers sc (Stopped tally rejection) = IsRejected sc tally rejection
+
+-- the fault, if it is one of the input
+abbrev pub IfFault : Stop → (ℕ → Cause → Type 0) → Type 0
+IfFault (Fault line cause) P = P line cause
+IfFault OutOfMemory P = Unit {0}
+
+-- a record that may not begin another transaction
+abbrev pub is_too_many : Tally → Step Op → Bool
+is_too_many tally step = is_begin step && tally.begins == 20_000
+
+-- why a record is not taken: it can not be read, or it begins too many transactions
+abbrev pub IsRefused : Tally → Result (Step Op) RecordFault → Cause → Type 0
+IsRefused tally (Err fault) cause = cause_of fault ≡ Ok cause
+IsRefused tally (Ok step) cause = (is_too_many tally step ≡ true) × (cause ≡ TooManyTransactions)
+
+-- a step is taken: it meets its criteria, or it is the first that does not
+abbrev pub StepTaken : Tally → Seen (List Kind) Op → Step Op → ℕ → Progress → Type 0
+StepTaken tally machine step line next =
+    (Fails (rules_of objects machine.shape) machine.config step 0 × (next ≡ Running tally (stepped machine step)))
+    ⊎ ((n : ℕ) × (0 < n) × Fails (rules_of objects machine.shape) machine.config step n
+    × (next ≡ Stopped tally (record { step = machine.count + 1; line = line; rule = rule_of step; criterion = n })))

@@ -1,0 +1,12 @@
+//! A whole run of the program: from its words and its input to its status and what it writes.
+#![tactic(auto)]
+
+mod certify;
+mod examine;
+mod progress;
+mod take;
+mod whole;
+mod words;
+mod write;
+
+pub use whole::run;

@@ -1,0 +1,211 @@
+//! Taking the lines of a run, one after another.
+ghost use Rattle.std.specs.Prelude.{◌≡◌, ◌≤◌, ◌<◌, ◌+◌, false, ◌&&◌, ◌==◌, IfOk, IfErr, Some, None, Ok, Err};
+ghost use Rattle.pp_run.specs.declared.progress.Progress.TheVariants.{Running, Stopped};
+ghost use Rattle.pp_run.specs.declared.progress.Stop.TheVariants.{OutOfMemory as NoMemory};
+ghost use Rattle.pp_run.specs.Scans.{Scanned, is_begin, scan_line};
+ghost use Rattle.pp_run.specs.Progresses.{Covers, IfFault, IsRefused, StepTaken, is_too_many, lines_of, skipped, with_line, with_record};
+ghost use Rattle.pp_core.specs.Steps.{meaning, rule_of};
+ghost use Rattle.pp_io.specs.Lines.{blank};
+ghost use Rattle.pp_json.specs.Headers.{header_of};
+ghost use Rattle.pp_json.specs.Records.{IsReadable, record_of};
+ghost use Rattle.pp_json.specs.declared.header.Header.{Header as HeaderOf};
+ghost use Rattle.pp_json.specs.declared.fault.RecordFault.{RecordFault as FaultOf};
+ghost use Rattle.pp_model.specs.Config.{first};
+ghost use Rattle.pp_object.specs.Objects.{kinds_of};
+ghost use Rattle.pp_report.specs.Causes.{cause_of};
+
+use crate::progress::{Progress, Rejection, Stop, Tally};
+use pp_core::{MOST_TRANSACTIONS, OutOfMemory, Step, Steps, rule_of};
+use pp_io::{Line, is_blank};
+use pp_json::{RecordFault, read_header, read_record};
+use pp_object::{Objects, Op};
+use pp_report::{Cause, cause_of};
+use pp_rules::{Machine, Outcome};
+use std::alloc::Global;
+use std::sync::ledger::Ledger;
+
+/// How an examination ends at a line that can not be read.
+fn stop_at(line: u32, fault: RecordFault) -> Stop
+    ensures { IfFault result (λ at cause. (at ≡ line) × (cause_of fault ≡ Ok cause)) }
+{
+    match cause_of(fault) {
+        Ok(cause) => Stop::Fault(line, cause),
+        Err(OutOfMemory) => Stop::OutOfMemory,
+    }
+}
+
+/// Whether a step begins a transaction.
+fn is_begin(step: &Step<Op>) -> bool
+    ensures { result ≡ is_begin (meaning step.now) }
+{
+    match step {
+        Step::Begin { .. } => true,
+        _ => false,
+    }
+}
+
+/// One line more.
+fn with_line(mut tally: Tally) -> Tally
+    requires { tally.lines < 200_001 }
+    ensures { result ≡ with_line tally }
+{
+    tally.lines += 1;
+    tally
+}
+
+/// One record more.
+fn with_record(mut tally: Tally, step: &Step<Op>) -> Tally
+    requires lines { tally.lines < 200_001 }
+    requires begins { tally.begins < tally.lines }
+    ensures { result ≡ with_record tally (meaning step.now) }
+{
+    tally.lines += 1;
+    if is_begin(step) {
+        tally.begins += 1;
+    }
+    tally
+}
+
+/// One blank line more.
+fn skip_line(progress: Progress) -> Progress
+    requires { lines_of progress < 200_001 }
+    ensures { result ≡ skipped progress }
+{
+    match progress {
+        Progress::Waiting(lines) => Progress::Waiting(lines + 1),
+        Progress::Running(tally, machine) => Progress::Running(with_line(tally), machine),
+        Progress::Stopped(tally, rejection) => Progress::Stopped(with_line(tally), rejection),
+    }
+}
+
+/// The line that is the header.
+fn take_header(alloc: Global, line: &Line) -> Result<Progress, Stop>
+    ensures ok { IfOk result (λ next. (header : HeaderOf) × (header_of line.now.text ≡ Ok header) × (next ≡ Running (record { header = header; lines = line.now.number; begins = 0 }) (record { shape = kinds_of header.catalog; config = first None; count = 0 }))) }
+    ensures err { IfErr result (λ stop. IfFault stop (λ at cause. (at ≡ line.now.number) × ((fault : FaultOf) × (header_of line.now.text ≡ Err fault) × (cause_of fault ≡ Ok cause)))) }
+{
+    let header = match read_header(alloc, line.text.bytes()) {
+        Ok(header) => header,
+        Err(fault) => return Err(stop_at(line.number, fault)),
+    };
+    let machine = Machine::new(alloc, header.catalog.kinds(alloc)?)?;
+    let tally = Tally {
+        header,
+        lines: line.number,
+        begins: 0,
+    };
+    Ok(Progress::Running(tally, machine))
+}
+
+/// The step of a line behind the header.
+fn read_step(alloc: Global, tally: &Tally, line: &Line) -> Result<Step<Op>, Stop>
+    ensures read { IfOk result (λ step. record_of tally.now.header line.now.text ≡ Ok (meaning step)) }
+    ensures readable { IfOk result (λ step. IsReadable tally.now.header.catalog (meaning step)) }
+    ensures few { IfOk result (λ step. is_too_many tally.now (meaning step) ≡ false) }
+    ensures err { IfErr result (λ stop. IfFault stop (λ at cause. (at ≡ line.now.number) × IsRefused tally.now (record_of tally.now.header line.now.text) cause)) }
+{
+    let step = match read_record(alloc, &tally.header, line.text.bytes()) {
+        Ok(step) => step,
+        Err(fault) => return Err(stop_at(line.number, fault)),
+    };
+    if is_begin(&step) && tally.begins == MOST_TRANSACTIONS {
+        return Err(Stop::Fault(line.number, Cause::TooManyTransactions));
+    }
+    Ok(step)
+}
+
+/// A step of a run that is not rejected so far.
+fn take_step<L: Ledger>(
+    tally: Tally,
+    mut machine: Machine<Objects>,
+    step: &Step<Op>,
+    line: u32,
+    steps: &mut Steps<L>,
+) -> Result<Progress, Stop>
+    requires shape { machine.shape ≡ kinds_of tally.header.catalog }
+    requires readable { IsReadable tally.header.catalog (meaning step.now) }
+    requires few { machine.count < 200_000 }
+    ensures ok { IfOk result (λ next. StepTaken tally machine (meaning step.now) line next) }
+    ensures err { IfErr result (λ stop. stop ≡ NoMemory) }
+{
+    match machine.advance(step, steps)? {
+        Outcome::Done => Ok(Progress::Running(tally, machine)),
+        Outcome::False { criterion } => {
+            let rejection = Rejection {
+                step: machine.count() + 1,
+                line,
+                rule: rule_of(step),
+                criterion,
+            };
+            Ok(Progress::Stopped(tally, rejection))
+        }
+    }
+}
+
+/// A record of a run that is not rejected so far.
+fn take_record<L: Ledger>(
+    alloc: Global,
+    tally: Tally,
+    machine: Machine<Objects>,
+    line: &Line,
+    steps: &mut Steps<L>,
+) -> Result<Progress, Stop>
+    requires next { line.now.number ≡ tally.lines + 1 }
+    requires few { line.now.number ≤ 200_001 }
+    requires covers { (sc : Scanned) × Covers sc (Running tally machine) }
+    requires other { blank line.now.text ≡ false }
+    ensures lines { IfOk result (λ next. lines_of next ≡ line.now.number) }
+    ensures ok { IfOk result (λ next. (sc : Scanned) → Covers sc (Running tally machine) → Covers (scan_line sc (line.now.number, line.now.text)) next) }
+    ensures fault { IfErr result (λ stop. IfFault stop (λ at cause. (sc : Scanned) → Covers sc (Running tally machine) → (scan_line sc (line.now.number, line.now.text)).fault ≡ Some (at, cause))) }
+{
+    let step = read_step(alloc, &tally, line)?;
+    take_step(
+        with_record(tally, &step),
+        machine,
+        &step,
+        line.number,
+        steps,
+    )
+}
+
+/// A record of a run that is rejected: it is only read.
+fn pass_record(
+    alloc: Global,
+    tally: Tally,
+    rejection: Rejection,
+    line: &Line,
+) -> Result<Progress, Stop>
+    requires next { line.now.number ≡ tally.lines + 1 }
+    requires few { line.now.number ≤ 200_001 }
+    requires covers { (sc : Scanned) × Covers sc (Stopped tally rejection) }
+    requires other { blank line.now.text ≡ false }
+    ensures lines { IfOk result (λ next. lines_of next ≡ line.now.number) }
+    ensures ok { IfOk result (λ next. (sc : Scanned) → Covers sc (Stopped tally rejection) → Covers (scan_line sc (line.now.number, line.now.text)) next) }
+    ensures fault { IfErr result (λ stop. IfFault stop (λ at cause. (sc : Scanned) → Covers sc (Stopped tally rejection) → (scan_line sc (line.now.number, line.now.text)).fault ≡ Some (at, cause))) }
+{
+    let step = read_step(alloc, &tally, line)?;
+    Ok(Progress::Stopped(with_record(tally, &step), rejection))
+}
+
+/// Takes the next line.
+pub fn take_line<L: Ledger>(
+    alloc: Global,
+    progress: Progress,
+    line: &Line,
+    steps: &mut Steps<L>,
+) -> Result<Progress, Stop>
+    requires next { line.now.number ≡ lines_of progress + 1 }
+    requires few { line.now.number ≤ 200_001 }
+    requires covers { (sc : Scanned) × Covers sc progress }
+    ensures lines { IfOk result (λ next. lines_of next ≡ line.now.number) }
+    ensures ok { IfOk result (λ next. (sc : Scanned) → Covers sc progress → Covers (scan_line sc (line.now.number, line.now.text)) next) }
+    ensures fault { IfErr result (λ stop. IfFault stop (λ at cause. (sc : Scanned) → Covers sc progress → (scan_line sc (line.now.number, line.now.text)).fault ≡ Some (at, cause))) }
+{
+    if is_blank(line.text.bytes()) {
+        return Ok(skip_line(progress));
+    }
+    match progress {
+        Progress::Waiting(_) => take_header(alloc, line),
+        Progress::Running(tally, machine) => take_record(alloc, tally, machine, line, steps),
+        Progress::Stopped(tally, rejection) => pass_record(alloc, tally, rejection, line),
+    }
+}

@@ -1,0 +1,93 @@
+//! The whole of a command: from its words and its input to its status and what it writes.
+ghost use Rattle.std.specs.Prelude.{◌≡◌, ◌≤◌, ◌↔◌, ◌⊎◌, ℕ, List, None, Some, OnOk, OnErr, IsErrOf};
+ghost use Rattle.std.specs.Io.KnownBytes.{Appends, Consumes, IsAtEnd, Keeps};
+ghost use Rattle.pp_core.specs.declared.status.Status.{Status as StatusOf};
+ghost use Rattle.pp_core.specs.declared.status.Status.TheVariants as statuses;
+ghost use Rattle.pp_io.specs.Faults.{HasRisen};
+ghost use Rattle.pp_json.specs.declared.header.Header.{Header as HeaderOf};
+ghost use Rattle.pp_model.specs.Serial.{Simulated, attempts};
+ghost use Rattle.pp_model.specs.Alone.{alone};
+ghost use Rattle.pp_model.specs.Config.{first};
+ghost use Rattle.pp_model.specs.Rules.{RunsFrom};
+ghost use Rattle.pp_run.specs.declared.write.WriteError.TheVariants.{WriteFault};
+ghost use Rattle.pp_run.specs.Certified.{IsDecided, IsPrinted, IsUnwritten};
+ghost use Rattle.pp_run.specs.Inputs.{early_fault, scan};
+ghost use Rattle.pp_run.specs.Objects.{object_of};
+ghost use Rattle.pp_run.specs.Outputs.{IsOutput};
+ghost use Rattle.pp_run.specs.Scans.{steps_of};
+ghost use Rattle.pp_run.specs.Words.{command_of};
+ghost use Rattle.pp_run.specs.Writing.{AppendsFront};
+
+use crate::certify::{Failure, certify};
+use crate::words::{Command, read_words};
+use crate::write::{WriteError, write_all};
+use pp_core::{Status, Steps, Words};
+use pp_io::{Sink, SinkFault, Source};
+use std::alloc::Global;
+use std::sync::ledger::Ledger;
+
+/// Writes all of an output, and sends it on.
+fn send<K: Sink>(sink: &mut K, bytes: &[u8]) -> Result<(), WriteError>
+    ensures ok { OnOk result (Appends (K.held sink.old) (K.held sink.new) bytes.now) }
+    ensures err { OnErr result (AppendsFront (K.held sink.old) (K.held sink.new) bytes.now) }
+    ensures count { K.faults sink.old ≤ K.faults sink.new }
+    ensures write_fault { IsErrOf result WriteFault → HasRisen (K.faults sink.old) (K.faults sink.new) }
+{
+    write_all(sink, bytes)?;
+    match sink.flush() {
+        Ok(()) => Ok(()),
+        Err(SinkFault::Failed) => Err(WriteError::WriteFault),
+        Err(SinkFault::OutOfMemory) => Err(WriteError::Memory),
+    }
+}
+
+/// Does a command: reads the source where the command has an input, and writes its output to the sink.
+///
+/// The source is read in pieces of at most 65,536 bytes, and nothing is written before the output is whole.
+pub fn run<S: Source, K: Sink, L: Ledger>(
+    alloc: Global,
+    words: &Words,
+    source: &mut S,
+    sink: &mut K,
+    steps: &mut Steps<L>,
+) -> Status
+    // What is printed is the output that the words and the input define.
+    ensures output { IsPrinted result → (bytes : List ℕ) → S.left source.old ≡ Some bytes → (text : List ℕ) × IsOutput (command_of words.now) bytes result text × Appends (K.held sink.old) (K.held sink.new) text }
+
+    // And the words and the input define no other one.
+    ensures only { IsPrinted result → (bytes : List ℕ) → S.left source.old ≡ Some bytes → (status : StatusOf) (text : List ℕ) → IsOutput (command_of words.now) bytes status text → (status ≡ result) × Appends (K.held sink.old) (K.held sink.new) text }
+
+    // Words that are no command touch nothing.
+    ensures bad_words { (result ≡ statuses.BadWords) ↔ (command_of words.now ≡ None) }
+    ensures source_untouched { result ≡ statuses.BadWords → source.new ≡ source.old }
+    ensures sink_untouched { result ≡ statuses.BadWords → sink.new ≡ sink.old }
+
+    // A verdict is given on the whole input.
+    ensures end { IsDecided result → IsAtEnd (S.left source.new) }
+
+    // A failed read or write is told only where one failed, and no fault in what was read is hidden.
+    ensures read_fault { result ≡ statuses.ReadFault → HasRisen (S.faults source.old) (S.faults source.new) × Keeps (K.held sink.old) (K.held sink.new) × ((bytes : List ℕ) × Consumes (S.left source.old) (S.left source.new) bytes × (early_fault bytes ≡ None)) }
+    ensures write_fault { result ≡ statuses.WriteFault → HasRisen (K.faults sink.old) (K.faults sink.new) }
+    ensures front { IsUnwritten result → (bytes : List ℕ) → S.left source.old ≡ Some bytes → (status : StatusOf) (text : List ℕ) → IsOutput (command_of words.now) bytes status text → AppendsFront (K.held sink.old) (K.held sink.new) text }
+
+    // Where nothing failed, the status is the defined one, unless memory was refused.
+    ensures complete { ¬ HasRisen (S.faults source.old) (S.faults source.new) → ¬ HasRisen (K.faults sink.old) (K.faults sink.new) → (result ≡ statuses.OutOfMemory) ⊎ IsPrinted result }
+
+    // An accepted run is simulated by its committed transactions, one after another in commit order.
+    ensures simulated { result ≡ statuses.Accepted → (bytes : List ℕ) → S.left source.old ≡ Some bytes → (header : HeaderOf) × ((scan bytes).header ≡ Some header) × Simulated (object_of header) None (steps_of (scan bytes)) }
+    ensures alone { result ≡ statuses.Accepted → (bytes : List ℕ) → S.left source.old ≡ Some bytes → (header : HeaderOf) × ((scan bytes).header ≡ Some header) × RunsFrom (object_of header) (first None) (alone None (steps_of (scan bytes))) × (attempts None (alone None (steps_of (scan bytes))) ≡ attempts None (steps_of (scan bytes))) }
+{
+    let Some(Command::Certify) = read_words(words) else {
+        return Status::BadWords;
+    };
+    let (status, text) = match certify(alloc, source, steps) {
+        Ok(report) => report,
+        Err(Failure::ReadFault) => return Status::ReadFault,
+        Err(Failure::OutOfMemory) => return Status::OutOfMemory,
+    };
+    match send(sink, text.bytes()) {
+        Ok(()) => status,
+        Err(WriteError::WriteFault) => Status::WriteFault,
+        Err(WriteError::Memory) => Status::OutOfMemory,
+    }
+}

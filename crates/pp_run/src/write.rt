@@ -1,0 +1,36 @@
+//! Writing all of an output.
+ghost use Rattle.std.specs.Prelude.{◌≤◌, OnOk, OnErr, IsErrOf};
+ghost use Rattle.std.specs.Io.KnownBytes.{Appends};
+ghost use Rattle.pp_io.specs.Faults.{HasRisen};
+ghost use Rattle.pp_run.specs.Writing.{AppendsFront};
+ghost use Rattle.pp_run.specs.declared.write.WriteError.TheVariants.{WriteFault};
+
+use pp_io::{Sink, SinkFault};
+
+/// Why an output was not written whole.
+#[derive(Clone, Copy, Debug, PartialEq, Eq)]
+pub enum WriteError {
+    /// Memory was refused.
+    Memory,
+    /// A write failed, or took nothing.
+    WriteFault,
+}
+
+/// Writes all of these bytes. What was written when a write fails is a front of them.
+pub fn write_all<K: Sink>(sink: &mut K, bytes: &[u8]) -> Result<(), WriteError>
+    ensures ok { OnOk result (Appends (K.held sink.old) (K.held sink.new) bytes.now) }
+    ensures err { OnErr result (AppendsFront (K.held sink.old) (K.held sink.new) bytes.now) }
+    ensures count { K.faults sink.old ≤ K.faults sink.new }
+    ensures write_fault { IsErrOf result WriteFault → HasRisen (K.faults sink.old) (K.faults sink.new) }
+{
+    let mut at = 0;
+    while at < bytes.len() {
+        match sink.write(&bytes[at..]) {
+            Ok(0) => return Err(WriteError::WriteFault),
+            Ok(n) => at += n,
+            Err(SinkFault::Failed) => return Err(WriteError::WriteFault),
+            Err(SinkFault::OutOfMemory) => return Err(WriteError::Memory),
+        }
+    }
+    Ok(())
+}
