@@ -26,12 +26,18 @@ abbrev pub Stepped : {Shape State Op Undo : Type 0} → Object Shape State Op Un
 Stepped o old step Done new = Fails (rules_of o old.shape) old.config step 0 × (new ≡ stepped old step)
 Stepped o old step (False n) new = Fails (rules_of o old.shape) old.config step n × (0 < n) × (new ≡ old)
 
--- How many operations a step that is done applies.
+-- How many operations a step that is done applies or takes back. What an UNPUSH or an UNPULL costs lies in the log and not in the step: these two are never asked so far, and stand here with 0.
 abbrev pub ticks : {Op : Type 0} → Step Op → ℕ
+ticks (Begin t p b) = 0
 ticks (App t id op) = 1
+ticks (Unapp t id) = 1
 ticks (Push t id) = 1
+ticks (Unpush t id) = 0
 ticks (Pull t id) = 1
-ticks _ = 0
+ticks (Unpull t id) = 0
+ticks (Cmt t) = 0
+ticks (Quit t) = 0
+ticks (Note t) = 0
 
 -- A step that is done costs exactly that, and one that is not done nothing.
 abbrev pub Costs : {Op : Type 0} → Step Op → Outcome → ℕ → ℕ → Type 0
