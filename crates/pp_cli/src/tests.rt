@@ -40,7 +40,7 @@ const ADDED: &[u8] = br#"{"run":1,"style":"rules","objects":[{"name":"c","kind":
 {"step":"push","tx":"t1","id":1}
 {"step":"cmt","tx":"t1"}"#;
 
-const ROWS: [Row; 16] = [
+const ROWS: [Row; 23] = [
     Row {
         input: b"",
         status: Status::InputFault,
@@ -101,7 +101,7 @@ state c 0
     },
     Row {
         input: br#"{"run":1,"style":"rules","objects":[{"name":"c","kind":"counter"}]}
-{"step":"quit","tx":"t1"}
+{"step":"unapp","tx":"t1","id":1}
 "#,
         status: Status::InputFault,
         report: br#"fault line 2 NotYet
@@ -232,6 +232,123 @@ state c 3
 "#,
         status: Status::InputFault,
         report: br#"fault line 2 BodyBad
+"#,
+    },
+    Row {
+        input: br#"{"run":1,"style":"rules","objects":[{"name":"q","kind":"queue"}]}
+{"step":"begin","tx":"t0","thread":"p0"}
+{"step":"app","tx":"t0","id":1,"on":"q","call":"enq","args":[3],"result":null}
+{"step":"push","tx":"t0","id":1}
+{"step":"cmt","tx":"t0"}
+{"step":"begin","tx":"t1","thread":"p1"}
+{"step":"app","tx":"t1","id":2,"on":"q","call":"enq","args":[4],"result":null}
+{"step":"push","tx":"t1","id":2}
+{"step":"begin","tx":"t2","thread":"p2"}
+{"step":"pull","tx":"t2","id":1}
+{"step":"app","tx":"t2","id":3,"on":"q","call":"deq","args":[],"result":3}
+{"step":"push","tx":"t2","id":3}
+{"step":"cmt","tx":"t2"}
+{"step":"cmt","tx":"t1"}
+"#,
+        status: Status::Accepted,
+        report: br#"accepted steps 13 committed 3
+tx t0
+op 1 q.enq(3)=none
+tx t2
+op 3 q.deq()=3
+tx t1
+op 2 q.enq(4)=none
+state q 4
+"#,
+    },
+    Row {
+        input: br#"{"run":1,"style":"rules","objects":[{"name":"q","kind":"queue"}]}
+{"step":"begin","tx":"t0","thread":"p0"}
+{"step":"app","tx":"t0","id":1,"on":"q","call":"enq","args":[3],"result":null}
+{"step":"push","tx":"t0","id":1}
+{"step":"cmt","tx":"t0"}
+{"step":"begin","tx":"t1","thread":"p1"}
+{"step":"pull","tx":"t1","id":1}
+{"step":"app","tx":"t1","id":2,"on":"q","call":"deq","args":[],"result":3}
+{"step":"push","tx":"t1","id":2}
+{"step":"begin","tx":"t2","thread":"p2"}
+{"step":"app","tx":"t2","id":3,"on":"q","call":"enq","args":[3],"result":null}
+{"step":"push","tx":"t2","id":3}
+{"step":"cmt","tx":"t2"}
+{"step":"cmt","tx":"t1"}
+"#,
+        status: Status::Accepted,
+        report: br#"accepted steps 13 committed 3
+tx t0
+op 1 q.enq(3)=none
+tx t2
+op 3 q.enq(3)=none
+tx t1
+op 2 q.deq()=3
+state q 3
+"#,
+    },
+    Row {
+        input: br#"{"run":1,"style":"rules","objects":[{"name":"c","kind":"counter"}]}
+{"step":"begin","tx":"t1","thread":"p1"}
+{"step":"app","tx":"t1","id":1,"on":"c","call":"add","args":[1],"result":null}
+{"step":"push","tx":"t1","id":1}
+{"step":"begin","tx":"t2","thread":"p2"}
+{"step":"pull","tx":"t2","id":1}
+{"step":"cmt","tx":"t2"}
+"#,
+        status: Status::Rejected,
+        report: br#"rejected step 6 line 7 CMT 4
+"#,
+    },
+    Row {
+        input: br#"{"run":1,"style":"rules","objects":[{"name":"m","kind":"mem"}]}
+{"step":"begin","tx":"t0","thread":"p0"}
+{"step":"app","tx":"t0","id":1,"on":"m","call":"write","args":[0,6],"result":null}
+{"step":"push","tx":"t0","id":1}
+{"step":"cmt","tx":"t0"}
+{"step":"begin","tx":"t1","thread":"p1"}
+{"step":"app","tx":"t1","id":2,"on":"m","call":"write","args":[0,5],"result":null}
+{"step":"push","tx":"t1","id":2}
+{"step":"begin","tx":"t2","thread":"p2"}
+{"step":"pull","tx":"t2","id":1}
+{"step":"app","tx":"t2","id":3,"on":"m","call":"read","args":[0],"result":6}
+{"step":"push","tx":"t2","id":3}
+"#,
+        status: Status::Rejected,
+        report: br#"rejected step 11 line 12 PUSH 5
+"#,
+    },
+    Row {
+        input: br#"{"run":1,"style":"rules","objects":[{"name":"c","kind":"counter"}]}
+{"step":"begin","tx":"t0","thread":"p0"}
+{"step":"app","tx":"t0","id":1,"on":"c","call":"add","args":[1],"result":null}
+{"step":"push","tx":"t0","id":1}
+{"step":"cmt","tx":"t0"}
+{"step":"begin","tx":"t1","thread":"p1"}
+{"step":"pull","tx":"t1","id":1}
+{"step":"pull","tx":"t1","id":1}
+"#,
+        status: Status::Rejected,
+        report: br#"rejected step 7 line 8 PULL 3
+"#,
+    },
+    Row {
+        input: br#"{"run":1,"style":"rules","objects":[{"name":"c","kind":"counter"}]}
+{"step":"begin","tx":"t1","thread":"p1"}
+{"step":"app","tx":"t1","id":1,"on":"c","call":"add","args":[1],"result":null}
+{"step":"quit","tx":"t1"}
+"#,
+        status: Status::Rejected,
+        report: br#"rejected step 3 line 4 QUIT 2
+"#,
+    },
+    Row {
+        input: br#"{"run":1,"style":"rules","objects":[{"name":"c","kind":"counter"}]}
+{"step":"note","tx":"t1"}
+"#,
+        status: Status::Rejected,
+        report: br#"rejected step 1 line 2 NOTE 1
 "#,
     },
 ];

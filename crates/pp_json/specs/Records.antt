@@ -4,7 +4,7 @@ use Rattle.serde_json.specs.Data.{Data}
 use Rattle.pp_core.specs.Catalogs.{Objects}
 use Rattle.pp_core.specs.Trees.{IsWithinLimits}
 use Rattle.pp_core.specs.declared.member.Member.TheVariants as members
-use Rattle.pp_core.specs.Steps.{Step, Begin, App, Push, Cmt}
+use Rattle.pp_core.specs.Steps.{Step, Begin, App, Unapp, Push, Unpush, Pull, Unpull, Cmt, Quit, Note}
 use Rattle.pp_object.specs.Objects.{objects, kinds_of}
 use Rattle.pp_object.specs.declared.act.Op.{Op}
 use Rattle.pp_json.specs.declared.header.Header.{Header}
@@ -52,18 +52,40 @@ push_of value = do
   id ← id_of value
   Ok (Push tx id)
 
+-- an operation that is pulled
+unfoldable pub pull_of : Data → Result (Step Op) RecordFault
+pull_of value = do
+  tx ← name_of members.Tx value
+  id ← id_of value
+  Ok (Pull tx id)
+
 -- a commit
 unfoldable pub cmt_of : Data → Result (Step Op) RecordFault
 cmt_of value = do
   tx ← name_of members.Tx value
   Ok (Cmt tx)
 
+-- a transaction that ends with nothing done
+unfoldable pub quit_of : Data → Result (Step Op) RecordFault
+quit_of value = do
+  tx ← name_of members.Tx value
+  Ok (Quit tx)
+
+-- a step that does nothing
+unfoldable pub note_of : Data → Result (Step Op) RecordFault
+note_of value = do
+  tx ← name_of members.Tx value
+  Ok (Note tx)
+
 -- the step of this name, where it is built
 abbrev pub step_of : Objects → StepName → Data → Result (Step Op) RecordFault
 step_of catalog names.Begin value = begin_of catalog value
 step_of catalog names.App value = app_of catalog value
 step_of catalog names.Push value = push_of value
+step_of catalog names.Pull value = pull_of value
 step_of catalog names.Cmt value = cmt_of value
+step_of catalog names.Quit value = quit_of value
+step_of catalog names.Note value = note_of value
 step_of catalog _ value = Err NotYet
 
 -- the step that a line is
@@ -74,10 +96,15 @@ record_of header line = do
   name ← ok_or (step_from header.style word) UnknownStep
   step_of header.catalog name value
 
--- What a step that was read keeps to: it is one of the four that are built, its id lies in the range of ids, its operation is one on an object of the run, with numbers in the range of records, and its body is within the limits.
+-- What a step that was read keeps to: it is one of the seven that are built, its id lies in the range of ids, its operation is one on an object of the run, with numbers in the range of records, and its body is within the limits.
 abbrev pub IsReadable : Objects → Step Op → Type 0
 IsReadable catalog (Begin tx thread body) = IsWithinLimits body
 IsReadable catalog (App tx id op) = (id ≤ 999_999_999) × IsTrue (objects.fits (kinds_of catalog) op) × IsTrue (objects.ranged op)
+IsReadable catalog (Unapp tx id) = ⊥
 IsReadable catalog (Push tx id) = id ≤ 999_999_999
+IsReadable catalog (Unpush tx id) = ⊥
+IsReadable catalog (Pull tx id) = id ≤ 999_999_999
+IsReadable catalog (Unpull tx id) = ⊥
 IsReadable catalog (Cmt tx) = Unit {0}
-IsReadable catalog _ = ⊥
+IsReadable catalog (Quit tx) = Unit {0}
+IsReadable catalog (Note tx) = Unit {0}

@@ -4,7 +4,7 @@ ghost use Rattle.serde_json.specs.View.{view};
 ghost use Rattle.pp_core.specs.Catalogs.{Objects};
 ghost use Rattle.pp_core.specs.Steps.{meaning};
 ghost use Rattle.pp_json.specs.Reading.{Gives};
-ghost use Rattle.pp_json.specs.Records.{id_from, id_of, begin_of, app_of, push_of, cmt_of, step_of, record_of, IsReadable};
+ghost use Rattle.pp_json.specs.Records.{id_from, id_of, begin_of, app_of, push_of, pull_of, cmt_of, quit_of, note_of, step_of, record_of, IsReadable};
 
 use crate::body::begin_body;
 use crate::call::op_in;
@@ -70,6 +70,16 @@ fn push_in(value: &Value) -> Result<Step<Op>, RecordFault>
     Ok(Step::Push { tx, id })
 }
 
+#[tactic(auto, unfolding(crate::specs::Records::pull_of))]
+fn pull_in(value: &Value) -> Result<Step<Op>, RecordFault>
+    ensures reads { Gives meaning result (pull_of (view value.now)) }
+    ensures readable { (catalog : Objects) → IfOk result (λ step. IsReadable catalog (meaning step)) }
+{
+    let tx = name_in(value, Member::Tx)?;
+    let id = id_in(value)?;
+    Ok(Step::Pull { tx, id })
+}
+
 #[tactic(auto, unfolding(crate::specs::Records::cmt_of))]
 fn cmt_in(value: &Value) -> Result<Step<Op>, RecordFault>
     ensures reads { Gives meaning result (cmt_of (view value.now)) }
@@ -77,6 +87,24 @@ fn cmt_in(value: &Value) -> Result<Step<Op>, RecordFault>
 {
     let tx = name_in(value, Member::Tx)?;
     Ok(Step::Cmt { tx })
+}
+
+#[tactic(auto, unfolding(crate::specs::Records::quit_of))]
+fn quit_in(value: &Value) -> Result<Step<Op>, RecordFault>
+    ensures reads { Gives meaning result (quit_of (view value.now)) }
+    ensures readable { (catalog : Objects) → IfOk result (λ step. IsReadable catalog (meaning step)) }
+{
+    let tx = name_in(value, Member::Tx)?;
+    Ok(Step::Quit { tx })
+}
+
+#[tactic(auto, unfolding(crate::specs::Records::note_of))]
+fn note_in(value: &Value) -> Result<Step<Op>, RecordFault>
+    ensures reads { Gives meaning result (note_of (view value.now)) }
+    ensures readable { (catalog : Objects) → IfOk result (λ step. IsReadable catalog (meaning step)) }
+{
+    let tx = name_in(value, Member::Tx)?;
+    Ok(Step::Note { tx })
 }
 
 fn step_in(
@@ -92,7 +120,10 @@ fn step_in(
         StepName::Begin => begin_in(alloc, catalog, value),
         StepName::App => app_in(catalog, value),
         StepName::Push => push_in(value),
+        StepName::Pull => pull_in(value),
         StepName::Cmt => cmt_in(value),
+        StepName::Quit => quit_in(value),
+        StepName::Note => note_in(value),
         _ => Err(RecordFault::NotYet),
     }
 }
