@@ -8,7 +8,7 @@ ghost use Rattle.pp_past.specs.Pasts.{removal_steps};
 ghost use Rattle.pp_log.specs.Logs.{RemovesEntry, HaveDistinctIds, from_place};
 
 use pp_core::{Answer, LocalEntry, Mark, OutOfMemory, Steps};
-use pp_log::Log;
+use pp_log::{LocalSide, Log};
 use pp_past::Removed;
 use pp_spec::Placed;
 use std::alloc::Global;
@@ -19,7 +19,7 @@ use std::sync::ledger::Ledger;
 /// Contracts see the objects of the run, and the entries in order.
 #[derive(Drop)]
 pub struct Local<S: Placed> {
-    log: Log<S, LocalEntry<S::Op>>,
+    log: Log<S, LocalSide>,
 }
 
 impl<S: Placed> Model for Local<S> {

@@ -1,8 +1,8 @@
 //! A log of entries, each with an id and an operation, which keeps the state that its operations lead to.
 #![tactic(auto)]
 
-mod entry;
 mod log;
+mod sides;
 
-pub use entry::Entry;
 pub use log::Log;
+pub use sides::{LocalSide, SharedSide, Side};

@@ -440,9 +440,9 @@ impl<S: Placed> Machine<S> {
         }
     }
 
-    /// Does a step where each of its criteria holds, and else leaves the machine as it was. The only error is that memory was
-    /// refused, and the machine is then as it was too.
-    pub fn advance<L: Ledger>(
+    /// Does a step where each of its criteria holds, and else leaves the machine as it was. After a refusal of memory it is as
+    /// it was too.
+    fn advance<L: Ledger>(
         &mut self,
         step: &Step<S::Op>,
         steps: &mut Steps<L>,
@@ -463,7 +463,8 @@ impl<S: Placed> Machine<S> {
         Ok(Outcome::Done)
     }
 
-    /// The same, of a machine that is given up: on the only error, that memory was refused, it is lost.
+    /// Does a step where each of its criteria holds, and else gives the machine back as it was. The only error is that memory
+    /// was refused, and the machine is then lost.
     pub fn step<L: Ledger>(
         mut self,
         step: &Step<S::Op>,

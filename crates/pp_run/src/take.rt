@@ -116,7 +116,7 @@ fn read_step(alloc: Global, tally: &Tally, line: &Line) -> Result<Step<Op>, Stop
 /// A step of a run that is not rejected so far.
 fn take_step<L: Ledger>(
     tally: Tally,
-    mut machine: Machine<Objects>,
+    machine: Machine<Objects>,
     step: &Step<Op>,
     line: u32,
     steps: &mut Steps<L>,
@@ -127,11 +127,13 @@ fn take_step<L: Ledger>(
     ensures ok { IfOk result (λ next. StepTaken tally machine (meaning step.now) line next) }
     ensures err { IfErr result (λ stop. stop ≡ NoMemory) }
 {
-    match machine.advance(step, steps)? {
+    let number = machine.count() + 1;
+    let (machine, outcome) = machine.step(step, steps)?;
+    match outcome {
         Outcome::Done => Ok(Progress::Running(tally, machine)),
         Outcome::False { criterion } => {
             let rejection = Rejection {
-                step: machine.count() + 1,
+                step: number,
                 line,
                 rule: rule_of(step),
                 criterion,

@@ -10,7 +10,7 @@ ghost use Rattle.pp_log.specs.Logs.{RemovesEntry, HaveDistinctIds, from_place};
 ghost use Rattle.pp_shared.specs.Blocking.{IsSettled, Blocks, GivesWay, IsFirstBlocking};
 
 use pp_core::{Answer, Name, OutOfMemory, SharedEntry, Steps};
-use pp_log::Log;
+use pp_log::{Log, SharedSide};
 use pp_past::Removed;
 use pp_spec::{Placed, Spec};
 use std::alloc::Global;
@@ -21,7 +21,7 @@ use std::sync::ledger::Ledger;
 /// of the run, and the entries in order.
 #[derive(Drop)]
 pub struct Shared<S: Placed> {
-    log: Log<S, SharedEntry<S::Op>>,
+    log: Log<S, SharedSide>,
     /// All entries before this position are committed.
     settled: usize,
 }
@@ -50,7 +50,7 @@ fn is_open<O: Copy>(owner: &Name, entry: &SharedEntry<O>) -> bool
 }
 
 /// Commits the entries of an owner. All entries before the position are committed.
-fn commit_from<S: Placed>(log: &mut Log<S, SharedEntry<S::Op>>, from: usize, owner: &Name)
+fn commit_from<S: Placed>(log: &mut Log<S, SharedSide>, from: usize, owner: &Name)
     requires { IsSettled log.old.1 from }
     ensures { log.new ≡ (log.old.0, all_committed owner.now log.old.1) }
 {

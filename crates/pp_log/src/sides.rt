@@ -1,0 +1,51 @@
+ghost use Rattle.std.specs.Prelude.{◌≡◌};
+ghost use Rattle.pp_core.specs.declared.entry.Item.{Item as ItemOf};
+ghost use Rattle.pp_model.specs.Config.{item, shared_item};
+
+use pp_core::{Item, LocalEntry, SharedEntry};
+
+/// Whose log it is. It says what an entry is, of which a log knows the id and the operation alone.
+pub trait Side<O: Copy> {
+    /// An entry of the log.
+    type Entry: Copy;
+
+    ghost item_of: { Self.Entry → ItemOf O };
+
+    /// The id of an entry with its operation.
+    fn item(entry: &Self::Entry) -> Item<O>
+        ensures { result ≡ item_of entry.now };
+}
+
+/// The side of a transaction, with its own log.
+#[derive(Drop)]
+pub struct LocalSide;
+
+/// The side of the log that all transactions share.
+#[derive(Drop)]
+pub struct SharedSide;
+
+impl<O: Copy> Side<O> for LocalSide {
+    type Entry = LocalEntry<O>;
+
+    ghost item_of = { item };
+
+    fn item(entry: &LocalEntry<O>) -> Item<O> {
+        Item {
+            id: entry.id,
+            op: entry.op,
+        }
+    }
+}
+
+impl<O: Copy> Side<O> for SharedSide {
+    type Entry = SharedEntry<O>;
+
+    ghost item_of = { shared_item };
+
+    fn item(entry: &SharedEntry<O>) -> Item<O> {
+        Item {
+            id: entry.id,
+            op: entry.op,
+        }
+    }
+}
