@@ -3,7 +3,7 @@ use Rattle.std.specs.Prelude.{◌≡◌, ◌≢◌, Bool, List, map, true, false
 use Rattle.std.proofs.Common.{refl, sym, ap, subst, ◌∙◌}
 use mathlib.Core.Logic.{inl, inr}
 use Rattle.pp_model.specs.AsWritten.{AsWritten, StandsFor}
-use Rattle.pp_model.specs.Config.{Config, CommittedTx, LocalEntry, SharedEntry, Tx, is_own, item, shared_item, own_items, posted}
+use Rattle.pp_model.specs.Config.{Config, CommittedTx, LocalEntry, SharedEntry, Tx, is_own, item, shared_item, own_items, as_shared}
 use Rattle.pp_model.specs.Lists.{Before, In, joined}
 use Rattle.pp_model.specs.Object.{Item, Object}
 use Rattle.pp_model.specs.Sound.{OwnedAsMarked, Owns, Sound, serial_items}
@@ -55,40 +55,40 @@ owned_one {Op} O c s t u p q i j e = go i j (s.one_owner t u p q i j e)
     go (inl a) (inr b) n = absurd (s.apart a.0 b.0 a.1 b.1 (a.2 ∙ n ∙ sym b.2))
     go (inr a) (inl b) n = absurd (s.apart b.0 a.0 b.1 a.1 (b.2 ∙ sym n ∙ sym a.2))
     go (inr a) (inr b) n =
-        let same : a.0 ≡ b.0 = by_key (λ (w : CommittedTx Op). w.name) c.finished s.done_names a.0 b.0 a.1 b.1 (a.2 ∙ n ∙ sym b.2) in
+        let same : a.0 ≡ b.0 = by_key (λ (w : CommittedTx Op). w.name) c.done s.done_names a.0 b.0 a.1 b.1 (a.2 ∙ n ∙ sym b.2) in
         by_key (λ (w : Item Op). w.id) (a.0).entries (s.done_ids a.0 a.1) p q a.3 (subst (λ (w : CommittedTx Op). In q w.entries) (sym same) b.3) e
 
 pub as_written : {Op State : Type 0} (O : Object Op State) (c : Config Op) → Sound O c → AsWritten O c
 as_written {Op} O c s =
     record {
       marks = s.marks;
-      names = λ t u i e. elim (before_cases t u (map (λ (x : Tx Op). x.name) c.opened) (map (λ (d : CommittedTx Op). d.name) c.finished) i) [
+      names = λ t u i e. elim (before_cases t u (map (λ (x : Tx Op). x.name) c.opened) (map (λ (d : CommittedTx Op). d.name) c.done) i) [
         | inl j ↦ let m = before_from_map (λ (x : Tx Op). x.name) t u c.opened j in s.open_names m.0 m.1 m.2 (sym m.3 ∙ e ∙ m.4)
-        | inr (inl j) ↦ let m = before_from_map (λ (d : CommittedTx Op). d.name) t u c.finished j in s.done_names m.0 m.1 m.2 (sym m.3 ∙ e ∙ m.4)
-        | inr (inr j) ↦ let m = from_map (λ (x : Tx Op). x.name) t c.opened j.0 in let n = from_map (λ (d : CommittedTx Op). d.name) u c.finished j.1 in s.apart m.0 n.0 m.1 n.1 (sym m.2 ∙ e ∙ n.2)
+        | inr (inl j) ↦ let m = before_from_map (λ (d : CommittedTx Op). d.name) t u c.done j in s.done_names m.0 m.1 m.2 (sym m.3 ∙ e ∙ m.4)
+        | inr (inr j) ↦ let m = from_map (λ (x : Tx Op). x.name) t c.opened j.0 in let n = from_map (λ (d : CommittedTx Op). d.name) u c.done j.1 in s.apart m.0 n.0 m.1 n.1 (sym m.2 ∙ e ∙ n.2)
       ];
-      names_begun = λ t i. elim (in_cases t (map (λ (x : Tx Op). x.name) c.opened) (map (λ (d : CommittedTx Op). d.name) c.finished) i) [
+      names_begun = λ t i. elim (in_cases t (map (λ (x : Tx Op). x.name) c.opened) (map (λ (d : CommittedTx Op). d.name) c.done) i) [
         | inl j ↦ let m = from_map (λ (x : Tx Op). x.name) t c.opened j in subst (λ (w : Name). In w c.names) (sym m.2) (s.open_known m.0 m.1)
-        | inr j ↦ let m = from_map (λ (d : CommittedTx Op). d.name) t c.finished j in subst (λ (w : Name). In w c.names) (sym m.2) (s.done_known m.0 m.1)
+        | inr j ↦ let m = from_map (λ (d : CommittedTx Op). d.name) t c.done j in subst (λ (w : Name). In w c.names) (sym m.2) (s.done_known m.0 m.1)
       ];
       done_ids = λ i j k e.
-          let m = before_from_map (λ (p : Item Op). p.id) i j (serial_items c.finished) k in
+          let m = before_from_map (λ (p : Item Op). p.id) i j (serial_items c.done) k in
           let n : (m.0).id ≡ (m.1).id = sym m.3 ∙ e ∙ m.4 in
-          elim (before_from_serial c.finished m.0 m.1 m.2) [
+          elim (before_from_serial c.done m.0 m.1 m.2) [
             | inl r ↦ s.done_ids r.0 r.1 m.0 m.1 r.2 n
-            | inr r ↦ s.done_names r.0 r.1 r.2 (s.one_owner (r.0).name (r.1).name m.0 m.1 (inr (r.0, before_in_first r.0 r.1 c.finished r.2, refl, r.3)) (inr (r.1, before_in_second r.0 r.1 c.finished r.2, refl, r.4)) n)
+            | inr r ↦ s.done_names r.0 r.1 r.2 (s.one_owner (r.0).name (r.1).name m.0 m.1 (inr (r.0, before_in_first r.0 r.1 c.done r.2, refl, r.3)) (inr (r.1, before_in_second r.0 r.1 c.done r.2, refl, r.4)) n)
           ];
       shared_ids = λ i j k e. let m = before_from_map (λ (g : SharedEntry Op). g.id) i j c.shared k in s.shared_ids m.0 m.1 m.2 (sym m.3 ∙ e ∙ m.4);
       local_ids = λ x ix i j k e. let m = before_from_map (λ (g : LocalEntry Op). g.id) i j x.local k in s.local_ids x ix m.0 m.1 m.2 (sym m.3 ∙ e ∙ m.4);
       done_used = λ i k.
-          let m = from_map (λ (p : Item Op). p.id) i (serial_items c.finished) k in
-          let r = from_serial c.finished m.0 m.1 in
+          let m = from_map (λ (p : Item Op). p.id) i (serial_items c.done) k in
+          let r = from_serial c.done m.0 m.1 in
           subst (λ (w : ℕ). In w c.ids) (sym m.2) (s.done_used r.0 r.1 m.0 r.2);
       shared_used = λ i k. let m = from_map (λ (g : SharedEntry Op). g.id) i c.shared k in subst (λ (w : ℕ). In w c.ids) (sym m.2) (shared_used O c s m.0 m.1);
       local_used = λ x ix i k. let m = from_map (λ (g : LocalEntry Op). g.id) i x.local k in subst (λ (w : ℕ). In w c.ids) (sym m.2) (s.local_used x ix m.0 m.1);
       one = λ t u p q i j e. (s.one_owner t u p q (stands_owned O c s t p i) (stands_owned O c s u q j) e, owned_one O c s t u p q (stands_owned O c s t p i) (stands_owned O c s u q j) e);
       pushed = λ x ix p. (
-        (λ h. (posted x.name false (item h.0), s.pushed_stand x ix h.0 h.1 h.3, refl, refl, h.4)),
+        (λ h. (as_shared x.name false (item h.0), s.pushed_stand x ix h.0 h.1 h.3, refl, refl, h.4)),
         (λ h. let r = s.uncommitted_from h.0 h.1 h.2 in
             let same : r.0 ≡ x = by_key (λ (w : Tx Op). w.name) c.opened s.open_names r.0 x r.1 ix (ap (λ (w : SharedEntry Op). w.owner) (sym r.5) ∙ h.3) in
             let here : In r.2 x.local = subst (λ (w : Tx Op). In r.2 w.local) same r.3 in
@@ -96,8 +96,8 @@ as_written {Op} O c s =
       );
       owned_open = λ g i u. let r = s.uncommitted_from g i u in (r.0, r.1, ap (λ (w : SharedEntry Op). w.owner) (sym r.5));
       done = λ p. (
-        (λ h. let r = s.committed_from h.0 h.1 h.2 in to_serial c.finished r.0 p r.1 (subst (λ (w : Item Op). In w (r.0).entries) (ap shared_item (sym r.4) ∙ h.3) r.3)),
-        (λ h. let r = from_serial c.finished p h in (posted (r.0).name true p, s.done_stand r.0 r.1 p r.2, refl, refl)),
+        (λ h. let r = s.committed_from h.0 h.1 h.2 in to_serial c.done r.0 p r.1 (subst (λ (w : Item Op). In w (r.0).entries) (ap shared_item (sym r.4) ∙ h.3) r.3)),
+        (λ h. let r = from_serial c.done p h in (as_shared (r.0).name true p, s.done_stand r.0 r.1 p r.2, refl, refl)),
       );
       shared_allowed = s.shared_allowed;
       local_allowed = s.local_allowed;
@@ -114,22 +114,22 @@ from_written {Op} O c s =
     record {
       marks = s.marks;
       open_names = λ x y i e. s.names x.name y.name (before_left x.name y.name on dn (before_map (λ (x : Tx Op). x.name) x y c.opened i)) e;
-      done_names = λ x y i e. s.names x.name y.name (before_right x.name y.name on dn (before_map (λ (d : CommittedTx Op). d.name) x y c.finished i)) e;
-      apart = λ x d i j e. s.names x.name d.name (before_across x.name d.name on dn (in_map (λ (x : Tx Op). x.name) x c.opened i) (in_map (λ (d : CommittedTx Op). d.name) d c.finished j)) e;
+      done_names = λ x y i e. s.names x.name y.name (before_right x.name y.name on dn (before_map (λ (d : CommittedTx Op). d.name) x y c.done i)) e;
+      apart = λ x d i j e. s.names x.name d.name (before_across x.name d.name on dn (in_map (λ (x : Tx Op). x.name) x c.opened i) (in_map (λ (d : CommittedTx Op). d.name) d c.done j)) e;
       open_known = λ x i. s.names_begun x.name (in_left x.name on dn (in_map (λ (x : Tx Op). x.name) x c.opened i));
-      done_known = λ d i. s.names_begun d.name (in_right d.name on dn (in_map (λ (d : CommittedTx Op). d.name) d c.finished i));
+      done_known = λ d i. s.names_begun d.name (in_right d.name on dn (in_map (λ (d : CommittedTx Op). d.name) d c.done i));
       local_ids = λ x ix e f i. s.local_ids x ix e.id f.id (before_map (λ (e : LocalEntry Op). e.id) e f x.local i);
       shared_ids = ids;
-      done_ids = λ d i p q j e. s.done_ids p.id q.id (before_map (λ (p : Item Op). p.id) p q (serial_items c.finished)
-          (before_joined p q d.entries (map (λ (d : CommittedTx Op). d.entries) c.finished) (in_map (λ (d : CommittedTx Op). d.entries) d c.finished i) j)) e;
+      done_ids = λ d i p q j e. s.done_ids p.id q.id (before_map (λ (p : Item Op). p.id) p q (serial_items c.done)
+          (before_joined p q d.entries (map (λ (d : CommittedTx Op). d.entries) c.done) (in_map (λ (d : CommittedTx Op). d.entries) d c.done i) j)) e;
       local_used = λ x ix e i. s.local_used x ix e.id (in_map (λ (e : LocalEntry Op). e.id) e x.local i);
-      done_used = λ d i p j. s.done_used p.id (in_map (λ (p : Item Op). p.id) p (serial_items c.finished) (to_serial c.finished d p i j));
+      done_used = λ d i p j. s.done_used p.id (in_map (λ (p : Item Op). p.id) p (serial_items c.done) (to_serial c.done d p i j));
       one_owner = λ t u p q i j e. (s.one t u p q (owned_stands t p i) (owned_stands u q j) e).0;
       pushed_stand = λ x ix e i m.
           let h = (s.pushed x ix (item e)).0 (e, i, own_marked x.name e (s.marks x ix e i) (ap is_own m), m, refl) in
           subst (λ (w : SharedEntry Op). In w c.shared) (entry h.0 false x.name (item e) h.2 h.3 h.4) h.1;
       done_stand = λ d i p j.
-          let h = (s.done p).1 (to_serial c.finished d p i j) in
+          let h = (s.done p).1 (to_serial c.done d p i j) in
           let o = s.one (h.0).owner d.name p p (inr (inl (h.0, h.1, refl, h.3))) (inr (inr (d, i, refl, j))) refl in
           subst (λ (w : SharedEntry Op). In w c.shared) (entry h.0 true d.name p h.2 o.0 h.3) h.1;
       uncommitted_from = λ g i u.
@@ -138,7 +138,7 @@ from_written {Op} O c s =
           (x.0, x.1, h.0, h.1, h.3, entry g false (x.0).name (item h.0) u (sym x.2) (sym h.4));
       committed_from = λ g i u.
           let h = (s.done (shared_item g)).0 (g, i, u, refl) in
-          let d = from_serial c.finished (shared_item g) h in
+          let d = from_serial c.done (shared_item g) h in
           let o = s.one g.owner (d.0).name (shared_item g) (shared_item g) (inr (inl (g, i, refl, refl))) (inr (inr (d.0, d.1, refl, d.2))) refl in
           (d.0, d.1, shared_item g, d.2, entry g true (d.0).name (shared_item g) u o.0 refl);
       shared_allowed = s.shared_allowed;
@@ -155,16 +155,16 @@ from_written {Op} O c s =
     on = map (λ (x : Tx Op). x.name) c.opened
 
     dn : List Name
-    dn = map (λ (d : CommittedTx Op). d.name) c.finished
+    dn = map (λ (d : CommittedTx Op). d.name) c.done
 
     ids : (g h : SharedEntry Op) → Before g h c.shared → g.id ≢ h.id
     ids g h i = s.shared_ids g.id h.id (before_map (λ (g : SharedEntry Op). g.id) g h c.shared i)
 
-    entry : (g : SharedEntry Op) (b : Bool) (t : Name) (p : Item Op) → g.committed ≡ b → g.owner ≡ t → shared_item g ≡ p → g ≡ posted t b p
+    entry : (g : SharedEntry Op) (b : Bool) (t : Name) (p : Item Op) → g.committed ≡ b → g.owner ≡ t → shared_item g ≡ p → g ≡ as_shared t b p
     entry g b t p x y z =
         ap (λ (w : Bool). record { id = g.id; owner = g.owner; committed = w; op = g.op }) x
         ∙ ap (λ (w : Name). record { id = g.id; owner = w; committed = b; op = g.op }) y
-        ∙ ap (λ (w : Item Op). posted t b w) z
+        ∙ ap (λ (w : Item Op). as_shared t b w) z
 
     owned_stands : (t : Name) (p : Item Op) → Owns c t p → StandsFor c t p
     owned_stands t p (inl h) =

@@ -1,15 +1,14 @@
 -- The steps BEGIN, QUIT and NOTE keep a configuration sound, and the start is sound.
-use Rattle.std.specs.Prelude.{◌≡◌, ◌≢◌, ◌⊎◌, ℕ, Bool, true, false, not, ◌==◌, List, [], ◌∷◌, ◌++◌, map, Option, Some, None}
+use Rattle.std.specs.Prelude.{◌≡◌, ◌≢◌, ◌⊎◌, Bool, true, false, not, List, [], ◌∷◌, ◌++◌, map, Option, Some, None}
 use Rattle.std.proofs.Common.{refl, sym, ap, subst, ◌∙◌}
 use mathlib.Core.Logic.{inl, inr}
 use Rattle.pp_model.specs.Lists.{In, Before}
 use Rattle.pp_model.specs.Body.{Tree, Begins}
 use Rattle.pp_model.specs.Object.{Object, Allowed, Swaps, Item, ops, HasDistinctIds}
-use Rattle.pp_model.specs.Config.{Pushed, Pulled, is_own, LocalEntry, SharedEntry, Tx, CommittedTx, Config, Start, Begin, Quit, item, own_items, local_ops, shared_ops, posted, tx, then, without_tx, first}
-use Rattle.pp_model.specs.Rules.{calls, Fails, StartFails}
+use Rattle.pp_model.specs.Config.{Pushed, Pulled, is_own, LocalEntry, SharedEntry, Tx, CommittedTx, Config, Start, Begin, Quit, item, own_items, local_ops, shared_ops, as_shared, tx, then, without_tx, first}
+use Rattle.pp_model.specs.Rules.{calls, Meets, StartMeets}
 use Rattle.pp_model.specs.Sound.{Sound, Stands, StandsBefore, KeepsOrder, Owns, OwnedAsMarked}
 use Rattle.pp_model.proofs.Lists.{by_key, not_both, before_in_first, before_in_second, in_left, in_cases, before_cases, in_map, from_map, before_from_map, in_filter, from_filter, before_from_filter}
-use Rattle.pp_model.proofs.Logs.{eqb_not}
 use Rattle.pp_model.proofs.Steps.{there_holds, only_one}
 use Rattle.pp_model.specs.Names.{Name, ◌=ⁿ◌}
 use Rattle.pp_model.proofs.Names.{names_not}
@@ -25,7 +24,7 @@ before_added xs x y z i = elim (before_cases y z xs (x ∷ []) i) [
   | inr (inr j) ↦ elim j.1 [ inl e ↦ inr (j.0, e) | inr k ↦ absurd k ]
 ]
 
-pub begin_keeps : {Op State : Type 0} (O : Object Op State) (c : Config Op) → Sound O c → (t p : Name) (b : Option Tree) → Fails O c (Begin t p b) 0 → Sound O (then c (Begin t p b))
+pub begin_keeps : {Op State : Type 0} (O : Object Op State) (c : Config Op) → Sound O c → (t p : Name) (b : Option Tree) → Meets O c (Begin t p b) → Sound O (then c (Begin t p b))
 begin_keeps {Op} O c s t p b h =
     record {
       marks = each_added c.opened new (λ (w : Tx Op). (e : LocalEntry Op) → In e w.local → OwnedAsMarked w.name e) s.marks (λ e i. absurd i);
@@ -44,7 +43,7 @@ begin_keeps {Op} O c s t p b h =
       local_used = each_added c.opened new (λ (w : Tx Op). (e : LocalEntry Op) → In e w.local → In e.id c.ids) s.local_used (λ e i. absurd i);
       done_used = s.done_used;
       one_owner = λ u v q r i j. s.one_owner u v q r (old u q i) (old v r j);
-      pushed_stand = each_added c.opened new (λ (w : Tx Op). (e : LocalEntry Op) → In e w.local → e.mark ≡ Pushed → In (posted w.name false (item e)) c.shared) s.pushed_stand (λ e i. absurd i);
+      pushed_stand = each_added c.opened new (λ (w : Tx Op). (e : LocalEntry Op) → In e w.local → e.mark ≡ Pushed → In (as_shared w.name false (item e)) c.shared) s.pushed_stand (λ e i. absurd i);
       done_stand = s.done_stand;
       uncommitted_from = λ g i u. let r = s.uncommitted_from g i u in (r.0, in_left r.0 c.opened (new ∷ []) r.1, r.2, r.3, r.4, r.5);
       committed_from = s.committed_from;
@@ -65,7 +64,7 @@ begin_keeps {Op} O c s t p b h =
     old u q (inr i) = inr i
     old u q (inl i) = each_added c.opened new (λ (w : Tx Op). w.name ≡ u → In q (own_items w.local) → Owns c u q) (λ y k m n. inl (y, k, m, n)) (λ m n. absurd n) i.0 i.1 i.2 i.3
 
-pub quit_keeps : {Op State : Type 0} (O : Object Op State) (c : Config Op) → Sound O c → (t : Name) → Fails O c (Quit t) 0 → Sound O (then c (Quit t))
+pub quit_keeps : {Op State : Type 0} (O : Object Op State) (c : Config Op) → Sound O c → (t : Name) → Meets O c (Quit t) → Sound O (then c (Quit t))
 quit_keeps {Op} O c s t h =
     record {
       marks = λ x i. s.marks x (was x i);
@@ -139,7 +138,7 @@ empty_sound {Op} O =
       begun = λ x i. absurd i;
     }
 
-ops_posted : {Op : Type 0} (t : Name) (l : List (Item Op)) → shared_ops (map (posted t true) l) ≡ ops l
+ops_posted : {Op : Type 0} (t : Name) (l : List (Item Op)) → shared_ops (map (as_shared t true) l) ≡ ops l
 ops_posted t [] = refl
 ops_posted {Op} t (p ∷ l) = ap (λ (w : List Op). p.op ∷ w) (ops_posted t l)
 
@@ -159,7 +158,7 @@ given_sound {Op} O z distinct allowed =
       done_used = λ d i p j. in_map (λ (w : Item Op). w.id) p z.items (subst (λ (w : CommittedTx Op). In p w.entries) (is d i) j);
       one_owner = λ t u p q i j e. name t p i ∙ sym (name u q j);
       pushed_stand = λ x i. absurd i;
-      done_stand = λ d i p j. subst (λ (w : CommittedTx Op). In (posted w.name true p) (map put z.items)) (sym (is d i)) (in_map put p z.items (subst (λ (w : CommittedTx Op). In p w.entries) (is d i) j));
+      done_stand = λ d i p j. subst (λ (w : CommittedTx Op). In (as_shared w.name true p) (map put z.items)) (sym (is d i)) (in_map put p z.items (subst (λ (w : CommittedTx Op). In p w.entries) (is d i) j));
       uncommitted_from = λ g i e. let m = from_map put g z.items i in absurd (let u : true ≡ false = ap (λ (w : SharedEntry Op). w.committed) (sym m.2) ∙ e in cc);
       committed_from = λ g i e. let m = from_map put g z.items i in (record { name = z.tx; entries = z.items }, inl refl, m.0, m.1, m.2);
       shared_allowed = subst (λ (w : List Op). Allowed O w) (sym (ops_posted z.tx z.items)) allowed;
@@ -173,7 +172,7 @@ given_sound {Op} O z distinct allowed =
     }
   where
     put : Item Op → SharedEntry Op
-    put p = posted z.tx true p
+    put p = as_shared z.tx true p
 
     the : CommittedTx Op
     the = record { name = z.tx; entries = z.items }
@@ -203,6 +202,6 @@ given_sound {Op} O z distinct allowed =
         let ea : m.1 ≡ a = by_key (λ (w : Item Op). w.id) z.items distinct m.1 a (before_in_second m.0 m.1 z.items m.2) (before_in_first a b z.items i) (ap (λ (w : SharedEntry Op). w.id) (sym m.4) ∙ n.4) in
         not_both (λ (w : Item Op). w.id) z.items distinct a b i (subst (λ (w : Item Op). Before w a z.items) eb (subst (λ (w : Item Op). Before m.0 w z.items) ea m.2))
 
-pub start_sound : {Op State : Type 0} (O : Object Op State) (h : Option (Start Op)) → StartFails O h 0 → Sound O (first h)
+pub start_sound : {Op State : Type 0} (O : Object Op State) (h : Option (Start Op)) → StartMeets O h → Sound O (first h)
 start_sound O None h = empty_sound O
 start_sound O (Some z) h = given_sound O z h.0 h.1.0

@@ -7,8 +7,8 @@ use mathlib.Core.Logic.{inl, inr}
 use Rattle.pp_model.specs.Lists.{In, Before}
 use Rattle.pp_model.specs.Body.{Begins}
 use Rattle.pp_model.specs.Object.{Object, Allowed, Swaps, Item}
-use Rattle.pp_model.specs.Config.{Mark, Unpushed, Pushed, Pulled, is_own, LocalEntry, SharedEntry, Tx, CommittedTx, Config, Push, item, own, own_items, local_ops, shared_ops, posted, tx, then, pushed, entry_of, at_mark, on_log, relog, marked, without_shared}
-use Rattle.pp_model.specs.Rules.{calls, Fails}
+use Rattle.pp_model.specs.Config.{Mark, Unpushed, Pushed, Pulled, is_own, LocalEntry, SharedEntry, Tx, CommittedTx, Config, Push, item, own, own_items, local_ops, shared_ops, as_shared, tx, then, push_effect, entry_of, at_mark, on_log, relog, set_mark, without_shared}
+use Rattle.pp_model.specs.Rules.{calls, Meets}
 use Rattle.pp_model.specs.Sound.{Sound, Stands, StandsBefore, KeepsOrder, Owns, OwnedAsMarked}
 use Rattle.pp_model.proofs.Lists.{by_key, before_in_first, before_in_second, in_left, in_right, in_cases, in_map, from_map, before_from_map, in_filter, from_filter, before_from_filter}
 use Rattle.pp_model.proofs.Logs.{found_tx, found_mark, eqb_not, in_own, before_from_own, on_each, on_before, in_on_same, in_on_other}
@@ -36,20 +36,20 @@ mark_keeps_id {Op} id m e = elim (mark_cases id m e) [ inl r ↦ ap (λ (w : Loc
 mark_keeps_op : {Op : Type 0} (id : ℕ) (m : Mark) (e : LocalEntry Op) → (mark_at id m e).op ≡ e.op
 mark_keeps_op {Op} id m e = elim (mark_cases id m e) [ inl r ↦ ap (λ (w : LocalEntry Op). w.op) r.1 | inr r ↦ ap (λ (w : LocalEntry Op). w.op) r.1 ]
 
-ops_marked : {Op : Type 0} (id : ℕ) (m : Mark) (l : List (LocalEntry Op)) → local_ops (marked id m l) ≡ local_ops l
+ops_marked : {Op : Type 0} (id : ℕ) (m : Mark) (l : List (LocalEntry Op)) → local_ops (set_mark id m l) ≡ local_ops l
 ops_marked id m [] = refl
-ops_marked {Op} id m (e ∷ l) = ap (λ (o : Op). o ∷ local_ops (marked id m l)) (mark_keeps_op id m e) ∙ ap (λ (w : List Op). e.op ∷ w) (ops_marked id m l)
+ops_marked {Op} id m (e ∷ l) = ap (λ (o : Op). o ∷ local_ops (set_mark id m l)) (mark_keeps_op id m e) ∙ ap (λ (w : List Op). e.op ∷ w) (ops_marked id m l)
 
 -- the own items stay, where the entry of this id is own and stays so
-own_marked : {Op : Type 0} (id : ℕ) (m : Mark) → is_own m ≡ true → (l : List (LocalEntry Op)) → ((e : LocalEntry Op) → In e l → e.id ≡ id → is_own e.mark ≡ true) → own_items (marked id m l) ≡ own_items l
+own_marked : {Op : Type 0} (id : ℕ) (m : Mark) → is_own m ≡ true → (l : List (LocalEntry Op)) → ((e : LocalEntry Op) → In e l → e.id ≡ id → is_own e.mark ≡ true) → own_items (set_mark id m l) ≡ own_items l
 own_marked id m k [] h = refl
 own_marked {Op} id m k (e ∷ l) h = elim (mark_cases id m e) [
-  | inl r ↦ ap (λ (w : LocalEntry Op). own_items (w ∷ marked id m l)) r.1
-      ∙ ap (λ (b : Bool). map item (cond b (remark m e ∷ own (marked id m l)) (own (marked id m l)))) k
+  | inl r ↦ ap (λ (w : LocalEntry Op). own_items (w ∷ set_mark id m l)) r.1
+      ∙ ap (λ (b : Bool). map item (cond b (remark m e ∷ own (set_mark id m l)) (own (set_mark id m l)))) k
       ∙ ap (λ (w : List (Item Op)). item e ∷ w) (own_marked id m k l (λ a i. h a (inr i)))
       ∙ ap (λ (b : Bool). map item (cond b (e ∷ own l) (own l))) (sym (h e (inl refl) r.0))
-  | inr r ↦ ap (λ (w : LocalEntry Op). own_items (w ∷ marked id m l)) r.1
-      ∙ map_cond (is_own e.mark) e (own (marked id m l))
+  | inr r ↦ ap (λ (w : LocalEntry Op). own_items (w ∷ set_mark id m l)) r.1
+      ∙ map_cond (is_own e.mark) e (own (set_mark id m l))
       ∙ ap (λ (w : List (Item Op)). cond (is_own e.mark) (item e ∷ w) w) (own_marked id m k l (λ a i. h a (inr i)))
       ∙ sym (map_cond (is_own e.mark) e (own l))
 ]
@@ -68,7 +68,7 @@ pub record Remarked {Op State : Type 0} (O : Object Op State) (c : Config Op) (f
   pub pulled : (a p : LocalEntry Op) → Before a p (f x.local) → is_own a.mark ≡ true → p.mark ≡ Pulled → Swaps O a.op p.op
 
 pub remarked : {Op State : Type 0} (O : Object Op State) (c : Config Op) → Sound O c → (id : ℕ) (m : Mark) → is_own m ≡ true →
-    (x : Tx Op) → In x c.opened → ((e : LocalEntry Op) → In e x.local → e.id ≡ id → is_own e.mark ≡ true) → Remarked O c (marked id m) x
+    (x : Tx Op) → In x c.opened → ((e : LocalEntry Op) → In e x.local → e.id ≡ id → is_own e.mark ≡ true) → Remarked O c (set_mark id m) x
 remarked {Op} O c s id m k x i h =
     record {
       marks = λ a j. let r = from_map (mark_at id m) a x.local j in elim (mark_cases id m r.0) [
@@ -181,14 +181,14 @@ pub elsewhere : {Op State : Type 0} (O : Object Op State) (c : Config Op) → So
 elsewhere O c s x i e j o y k n p q z = n (s.one_owner y.name x.name p (item e) (inl (y, k, refl, q)) (inl (x, i, refl, in_own x.local e j o)) z)
 
 pub not_done : {Op State : Type 0} (O : Object Op State) (c : Config Op) → Sound O c → (x : Tx Op) → In x c.opened → (e : LocalEntry Op) → In e x.local → is_own e.mark ≡ true →
-    (d : CommittedTx Op) → In d c.finished → (p : Item Op) → In p d.entries → p.id ≢ e.id
+    (d : CommittedTx Op) → In d c.done → (p : Item Op) → In p d.entries → p.id ≢ e.id
 not_done O c s x i e j o d k p q z = s.apart x d i k (s.one_owner x.name d.name (item e) p (inl (x, i, refl, in_own x.local e j o)) (inr (d, k, refl, q)) (sym z))
 
 pub pushed_keeps : {Op State : Type 0} (O : Object Op State) (c : Config Op) → Sound O c → (t : Name) (id : ℕ) (x : Tx Op) → In x c.opened → x.name ≡ t →
     (e : LocalEntry Op) → In e x.local → e.id ≡ id → e.mark ≡ Unpushed →
     ((a : LocalEntry Op) → Before a e x.local → a.mark ≡ Unpushed → Swaps O e.op a.op) →
     ((u : SharedEntry Op) → In u c.shared → u.committed ≡ false → u.owner ≢ t → Swaps O u.op e.op) →
-    Allowed O (shared_ops c.shared ++ e.op ∷ []) → Sound O (pushed c t id (Some e))
+    Allowed O (shared_ops c.shared ++ e.op ∷ []) → Sound O (push_effect c t id (Some e))
 pushed_keeps {Op} O c s t id x ix nx e ie ne me before others allowed =
     record {
       marks = on_each t f c.opened (λ (w : Tx Op). (a : LocalEntry Op) → In a w.local → OwnedAsMarked w.name a) (λ w k n. (same w k n).marks) (λ w k n. s.marks w k);
@@ -206,14 +206,14 @@ pushed_keeps {Op} O c s t id x ix nx e ie ne me before others allowed =
       local_used = on_each t f c.opened (λ (w : Tx Op). (a : LocalEntry Op) → In a w.local → In a.id c.ids) (λ w k n. (same w k n).used) (λ w k n. s.local_used w k);
       done_used = s.done_used;
       one_owner = λ u v p q i j. s.one_owner u v p q (old u p i) (old v q j);
-      pushed_stand = on_each t f c.opened (λ (w : Tx Op). (a : LocalEntry Op) → In a w.local → a.mark ≡ Pushed → In (posted w.name false (item a)) (c.shared ++ g ∷ []))
+      pushed_stand = on_each t f c.opened (λ (w : Tx Op). (a : LocalEntry Op) → In a w.local → a.mark ≡ Pushed → In (as_shared w.name false (item a)) (c.shared ++ g ∷ []))
           (λ w k n a i m. let r = from_map (mark_at id Pushed) a w.local i in elim (mark_cases id Pushed r.0) [
-            | inl q ↦ in_right (posted w.name false (item a)) c.shared (g ∷ []) (inl (
-                ap (λ (z : Name). posted z false (item a)) n ∙ ap (λ (z : LocalEntry Op). posted t false (item z)) (r.2 ∙ q.1) ∙ ap (λ (z : LocalEntry Op). posted t false (item z)) (the_entry w k n r.0 r.1 q.0)))
-            | inr q ↦ in_left (posted w.name false (item a)) c.shared (g ∷ []) (s.pushed_stand w k a (subst (λ (z : LocalEntry Op). In z w.local) (sym (r.2 ∙ q.1)) r.1) m)
+            | inl q ↦ in_right (as_shared w.name false (item a)) c.shared (g ∷ []) (inl (
+                ap (λ (z : Name). as_shared z false (item a)) n ∙ ap (λ (z : LocalEntry Op). as_shared t false (item z)) (r.2 ∙ q.1) ∙ ap (λ (z : LocalEntry Op). as_shared t false (item z)) (the_entry w k n r.0 r.1 q.0)))
+            | inr q ↦ in_left (as_shared w.name false (item a)) c.shared (g ∷ []) (s.pushed_stand w k a (subst (λ (z : LocalEntry Op). In z w.local) (sym (r.2 ∙ q.1)) r.1) m)
           ])
-          (λ w k n a i m. in_left (posted w.name false (item a)) c.shared (g ∷ []) (s.pushed_stand w k a i m));
-      done_stand = λ d i p j. in_left (posted d.name true p) c.shared (g ∷ []) (s.done_stand d i p j);
+          (λ w k n a i m. in_left (as_shared w.name false (item a)) c.shared (g ∷ []) (s.pushed_stand w k a i m));
+      done_stand = λ d i p j. in_left (as_shared d.name true p) c.shared (g ∷ []) (s.done_stand d i p j);
       uncommitted_from = λ h i u. elim (in_cases h c.shared (g ∷ []) i) [
         | inl j ↦ let r = s.uncommitted_from h j u in from h r.0 r.1 r.2 r.3 r.4 r.5 (name_or_not (r.0).name t)
         | inr (inl j) ↦ (
@@ -222,7 +222,7 @@ pushed_keeps {Op} O c s t id x ix nx e ie ne me before others allowed =
           mark_at id Pushed e,
           in_map (mark_at id Pushed) e x.local ie,
           ap (λ (w : LocalEntry Op). w.mark) at_e,
-          j ∙ ap (λ (w : Name). posted w false (item e)) (sym nx) ∙ ap (λ (w : LocalEntry Op). posted x.name false (item w)) (sym at_e),
+          j ∙ ap (λ (w : Name). as_shared w false (item e)) (sym nx) ∙ ap (λ (w : LocalEntry Op). as_shared x.name false (item w)) (sym at_e),
         )
         | inr (inr j) ↦ absurd j
       ];
@@ -253,10 +253,10 @@ pushed_keeps {Op} O c s t id x ix nx e ie ne me before others allowed =
     }
   where
     f : List (LocalEntry Op) → List (LocalEntry Op)
-    f = marked id Pushed
+    f = set_mark id Pushed
 
     g : SharedEntry Op
-    g = posted t false (item e)
+    g = as_shared t false (item e)
 
     own_e : is_own e.mark ≡ true
     own_e = ap is_own me
@@ -273,23 +273,23 @@ pushed_keeps {Op} O c s t id x ix nx e ie ne me before others allowed =
     the_entry : (w : Tx Op) → In w c.opened → w.name ≡ t → (a : LocalEntry Op) → In a w.local → a.id ≡ id → a ≡ e
     the_entry w k n a i z = by_key (λ (b : LocalEntry Op). b.id) x.local (s.local_ids x ix) a e (subst (λ (b : Tx Op). In a b.local) (is_x w k n) i) ie (z ∙ sym ne)
 
-    same : (w : Tx Op) → In w c.opened → w.name ≡ t → Remarked O c (marked id Pushed) w
+    same : (w : Tx Op) → In w c.opened → w.name ≡ t → Remarked O c (set_mark id Pushed) w
     same w k n = remarked O c s id Pushed refl w k (λ a i z. ap (λ (b : LocalEntry Op). is_own b.mark) (the_entry w k n a i z) ∙ own_e)
 
-    old : (u : Name) (p : Item Op) → Owns (pushed c t id (Some e)) u p → Owns c u p
+    old : (u : Name) (p : Item Op) → Owns (push_effect c t id (Some e)) u p → Owns c u p
     old u p (inr i) = inr i
     old u p (inl i) = on_each t f c.opened (λ (w : Tx Op). w.name ≡ u → In p (own_items w.local) → Owns c u p)
         (λ w k n m j. inl (w, k, m, subst (λ (z : List (Item Op)). In p z) (same w k n).same_own j)) (λ w k n m j. inl (w, k, m, j)) i.0 i.1 i.2 i.3
 
-    from : (h : SharedEntry Op) (y : Tx Op) → In y c.opened → (a : LocalEntry Op) → In a y.local → a.mark ≡ Pushed → h ≡ posted y.name false (item a) → (y.name ≡ t) ⊎ (y.name ≢ t) →
-        (y : Tx Op) × In y (on_log t f c.opened) × (a : LocalEntry Op) × In a y.local × (a.mark ≡ Pushed) × (h ≡ posted y.name false (item a))
+    from : (h : SharedEntry Op) (y : Tx Op) → In y c.opened → (a : LocalEntry Op) → In a y.local → a.mark ≡ Pushed → h ≡ as_shared y.name false (item a) → (y.name ≡ t) ⊎ (y.name ≢ t) →
+        (y : Tx Op) × In y (on_log t f c.opened) × (a : LocalEntry Op) × In a y.local × (a.mark ≡ Pushed) × (h ≡ as_shared y.name false (item a))
     from h y i a j m k (inr n) = (y, in_on_other t f y c.opened i n, a, j, m, k)
     from h y i a j m k (inl n) =
         let still : mark_at id Pushed a ≡ a = elim (mark_cases id Pushed a) [
           | inl r ↦ r.1 ∙ ap (λ (w : Mark). record { id = a.id; owner = a.owner; mark = w; op = a.op }) (sym m)
           | inr r ↦ r.1
         ] in
-        (relog f y, in_on_same t f y c.opened i n, a, subst (λ (w : LocalEntry Op). In w (marked id Pushed y.local)) still (in_map (mark_at id Pushed) a y.local j), m, k)
+        (relog f y, in_on_same t f y c.opened i n, a, subst (λ (w : LocalEntry Op). In w (set_mark id Pushed y.local)) still (in_map (mark_at id Pushed) a y.local j), m, k)
 
     mine : (a b : Item Op) → Before a b (own_items x.local) → b.id ≡ e.id → (Stands a.id c.shared → ⊥) → Swaps O b.op a.op
     mine a b i z n =
@@ -301,15 +301,15 @@ pushed_keeps {Op} O c s t id x ix nx e ie ne me before others allowed =
       where
         unpushed : (a : LocalEntry Op) → In a x.local → is_own a.mark ≡ true → (Stands a.id c.shared → ⊥) → (m : Mark) → a.mark ≡ m → a.mark ≡ Unpushed
         unpushed a i o n Unpushed q = q
-        unpushed a i o n Pushed q = absurd (n (posted x.name false (item a), s.pushed_stand x ix a i q, refl))
+        unpushed a i o n Pushed q = absurd (n (as_shared x.name false (item a), s.pushed_stand x ix a i q, refl))
         unpushed a i o n Pulled q = absurd (let z : false ≡ true = ap is_own (sym q) ∙ o in cc)
 
-pub push_keeps : {Op State : Type 0} (O : Object Op State) (c : Config Op) → Sound O c → (t : Name) (id : ℕ) → Fails O c (Push t id) 0 → Sound O (then c (Push t id))
+pub push_keeps : {Op State : Type 0} (O : Object Op State) (c : Config Op) → Sound O c → (t : Name) (id : ℕ) → Meets O c (Push t id) → Sound O (then c (Push t id))
 push_keeps {Op} O c s t id h =
     let r = there_holds (tx t c.opened) _ h in
     let k = there_holds (at_mark id Unpushed (r.0).local) _ r.2 in
     let f = found_tx t c.opened r.0 r.1 in
     let q = found_mark id Unpushed (r.0).local k.0 k.1 in
-    subst (λ (w : Option (Tx Op)). Sound O (pushed c t id (entry_of id Unpushed w))) (sym r.1)
-    (subst (λ (w : Option (LocalEntry Op)). Sound O (pushed c t id w)) (sym k.1)
+    subst (λ (w : Option (Tx Op)). Sound O (push_effect c t id (entry_of id Unpushed w))) (sym r.1)
+    (subst (λ (w : Option (LocalEntry Op)). Sound O (push_effect c t id w)) (sym k.1)
     (pushed_keeps O c s t id r.0 f.0 f.1 k.0 q.0 q.1 q.2 k.2.0 k.2.1.0 k.2.1.1.0))

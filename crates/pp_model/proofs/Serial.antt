@@ -5,7 +5,7 @@ use Rattle.std.proofs.lemmas.List.{map-append, append-nil}
 use mathlib.Core.Logic.{inl, inr}
 use Rattle.pp_model.specs.Lists.{In, Before}
 use Rattle.pp_model.specs.Object.{Object, AllowedFrom, Allowed, Swaps, Item, ops, Reorders, TellsStates, state_from}
-use Rattle.pp_model.specs.Config.{LocalEntry, SharedEntry, CommittedTx, Config, item, is_own, own, own_items, shared_item, shared_ops, posted, uncommitted, only_committed}
+use Rattle.pp_model.specs.Config.{SharedEntry, CommittedTx, Config, shared_item, shared_ops, as_shared, uncommitted, only_committed}
 use Rattle.pp_model.specs.Sound.{Sound, Stands, KeepsOrder, CommittedAfter, HasSerialState, MayRunSerially, serial_items, serial_ops}
 use Rattle.pp_model.proofs.Lists.{in_left, in_right, in_cases, before_cases, before_in_first, before_in_second, in_map, from_map, before_from_map, in_filter, from_filter, before_from_filter, from_joined, in_joined, before_from_joined, by_key, not_both}
 use Rattle.pp_model.proofs.Permute.{permuted}
@@ -17,8 +17,8 @@ pub record Ordered {Op State : Type 0} (O : Object Op State) (G : List (SharedEn
   pub names : (d e : CommittedTx Op) → Before d e D → d.name ≢ e.name
   pub within : (d : CommittedTx Op) → In d D → (p q : Item Op) → Before p q d.entries → p.id ≢ q.id
   pub across : (d e : CommittedTx Op) (p q : Item Op) → In d D → In e D → In p d.entries → In q e.entries → p.id ≡ q.id → d.name ≡ e.name
-  pub stand : (d : CommittedTx Op) → In d D → (p : Item Op) → In p d.entries → In (posted d.name true p) G
-  pub from : (g : SharedEntry Op) → In g G → g.committed ≡ true → (d : CommittedTx Op) × In d D × (p : Item Op) × In p d.entries × (g ≡ posted d.name true p)
+  pub stand : (d : CommittedTx Op) → In d D → (p : Item Op) → In p d.entries → In (as_shared d.name true p) G
+  pub from : (g : SharedEntry Op) → In g G → g.committed ≡ true → (d : CommittedTx Op) × In d D × (p : Item Op) × In p d.entries × (g ≡ as_shared d.name true p)
   pub alone : (g : SharedEntry Op) → In g G → g.committed ≡ false → (d : CommittedTx Op) → In d D → g.owner ≢ d.name
   pub early : (g h : SharedEntry Op) → Before g h G → g.owner ≢ h.owner → g.committed ≡ false → Swaps O g.op h.op
   pub late : (g h : SharedEntry Op) → Before g h G → g.owner ≢ h.owner → g.committed ≡ true → h.committed ≡ true → CommittedAfter D g.owner h.owner → Swaps O g.op h.op
@@ -79,7 +79,7 @@ reorders {Op} O G D o =
       ];
       into = λ p i. let m = from_map shared_item p G i in subst (λ (w : Item Op). In w (target G D)) (sym m.2) (put m.0 m.1 (m.0).committed refl);
       back = λ p i. elim (in_cases p (serial_items D) (items (uncommitted G)) i) [
-        | inl j ↦ let r = from_serial D p j in in_map shared_item (posted (r.0).name true p) G (o.stand r.0 r.1 p r.2)
+        | inl j ↦ let r = from_serial D p j in in_map shared_item (as_shared (r.0).name true p) G (o.stand r.0 r.1 p r.2)
         | inr j ↦ let r = from_uncommitted G p j in subst (λ (w : Item Op). In w (items G)) (sym r.3) (in_map shared_item r.0 G r.1)
       ];
       turned = λ p q i j.
@@ -88,14 +88,14 @@ reorders {Op} O G D o =
           (turn m.0 m.1 m.2 (subst (λ (w : Item Op). Before w (shared_item m.0) (target G D)) m.4 (subst (λ (w : Item Op). Before q w (target G D)) m.3 j))));
     }
   where
-    serial_entry : (d : CommittedTx Op) (g : SharedEntry Op) → In d D → In (shared_item g) d.entries → In g G → g ≡ posted d.name true (shared_item g)
-    serial_entry d g i j k = by_key (λ (w : SharedEntry Op). w.id) G o.ids g (posted d.name true (shared_item g)) k (o.stand d i (shared_item g) j) refl
+    serial_entry : (d : CommittedTx Op) (g : SharedEntry Op) → In d D → In (shared_item g) d.entries → In g G → g ≡ as_shared d.name true (shared_item g)
+    serial_entry d g i j k = by_key (λ (w : SharedEntry Op). w.id) G o.ids g (as_shared d.name true (shared_item g)) k (o.stand d i (shared_item g) j) refl
 
     two_places : (p q : Item Op) → In p (serial_items D) → In q (items (uncommitted G)) → p.id ≡ q.id → ⊥
     two_places p q i j e =
         let r = from_serial D p i in
         let u = from_uncommitted G q j in
-        let same : posted (r.0).name true p ≡ u.0 = by_key (λ (w : SharedEntry Op). w.id) G o.ids (posted (r.0).name true p) u.0 (o.stand r.0 r.1 p r.2) u.1 (e ∙ ap (λ (w : Item Op). w.id) u.3) in
+        let same : as_shared (r.0).name true p ≡ u.0 = by_key (λ (w : SharedEntry Op). w.id) G o.ids (as_shared (r.0).name true p) u.0 (o.stand r.0 r.1 p r.2) u.1 (e ∙ ap (λ (w : Item Op). w.id) u.3) in
         let t : true ≡ false = ap (λ (w : SharedEntry Op). w.committed) same ∙ u.2 in
         cc
 
@@ -137,13 +137,7 @@ reorders {Op} O G D o =
             let eg = key g m.1 (before_in_first g h G i) (before_in_second m.0 m.1 G b) m.4 in
             not_both (λ (w : SharedEntry Op). w.id) G o.ids g h i (subst (λ (w : SharedEntry Op). Before w g G) (sym eh) (subst (λ (w : SharedEntry Op). Before m.0 w G) (sym eg) b))
 
-pub from_own_items : {Op : Type 0} (l : List (LocalEntry Op)) (p : Item Op) → In p (own_items l) → (e : LocalEntry Op) × In e l × (is_own e.mark ≡ true) × (p ≡ item e)
-from_own_items {Op} l p i =
-    let m = from_map item p (own l) i in
-    let f = from_filter (λ (e : LocalEntry Op). is_own e.mark) m.0 l m.1 in
-    (m.0, f.0, f.1, m.2)
-
-pub ordered : {Op State : Type 0} (O : Object Op State) (c : Config Op) → Sound O c → Ordered O c.shared c.finished
+pub ordered : {Op State : Type 0} (O : Object Op State) (c : Config Op) → Sound O c → Ordered O c.shared c.done
 ordered {Op} O c s =
     record {
       ids = s.shared_ids;
@@ -169,7 +163,7 @@ ordered_committed {Op} O G D o =
       names = o.names;
       within = o.within;
       across = o.across;
-      stand = λ d i p j. in_filter (λ (w : SharedEntry Op). w.committed) (posted d.name true p) G (o.stand d i p j) refl;
+      stand = λ d i p j. in_filter (λ (w : SharedEntry Op). w.committed) (as_shared d.name true p) G (o.stand d i p j) refl;
       from = λ g i e. o.from g (from_filter (λ (w : SharedEntry Op). w.committed) g G i).0 e;
       alone = λ g i e d j. absurd (let t : true ≡ false = sym (from_filter (λ (w : SharedEntry Op). w.committed) g G i).1 ∙ e in cc);
       early = λ g h i. o.early g h (wide g h i);
@@ -182,7 +176,7 @@ ordered_committed {Op} O G D o =
     wide g h i = before_from_filter (λ (w : SharedEntry Op). w.committed) g h G i
 
     back : (d : CommittedTx Op) → In d D → (a : Item Op) → In a d.entries → Stands a.id G → Stands a.id (only_committed G)
-    back d i a j m = (posted d.name true a, in_filter (λ (w : SharedEntry Op). w.committed) (posted d.name true a) G (o.stand d i a j) refl, refl)
+    back d i a j m = (as_shared d.name true a, in_filter (λ (w : SharedEntry Op). w.committed) (as_shared d.name true a) G (o.stand d i a j) refl, refl)
 
 ops_items : {Op : Type 0} (G : List (SharedEntry Op)) → ops (items G) ≡ shared_ops G
 ops_items [] = refl
@@ -198,7 +192,7 @@ serial_law {Op} O G D k o h =
     subst (λ (w : List Op). Allowed O w) (append_assoc (serial_ops D) (shared_ops (uncommitted G)) k) h3
 
 pub may_run_serially : {Op State : Type 0} (O : Object Op State) (c : Config Op) → Sound O c → MayRunSerially O c
-may_run_serially O c s k h = serial_law O c.shared c.finished k (ordered O c s) h
+may_run_serially O c s k h = serial_law O c.shared c.done k (ordered O c s) h
 
 -- the committed entries may be put before the uncommitted ones
 pub committed_first : {Op State : Type 0} (O : Object Op State) (G : List (SharedEntry Op)) (D : List (CommittedTx Op)) → Ordered O G D →
@@ -228,11 +222,11 @@ committed_allowed {Op} O c s =
     let G = c.shared in
     let y : List (Item Op) = items (only_committed G) ++ items (uncommitted G) in
     let h1 : Allowed O (ops (items G) ++ []) = subst (λ (w : List Op). Allowed O w) (sym (ops_items G) ∙ sym (append-nil (ops (items G)))) s.shared_allowed in
-    let h2 : Allowed O (ops y ++ []) = permuted O y (items G) [] [] (committed_first O G c.finished (ordered O c s)) h1 in
+    let h2 : Allowed O (ops y ++ []) = permuted O y (items G) [] [] (committed_first O G c.done (ordered O c s)) h1 in
     let h3 : Allowed O (ops (items (only_committed G)) ++ ops (items (uncommitted G))) = subst (λ (w : List Op). Allowed O w) (append-nil (ops y) ∙ map-append (λ (w : Item Op). w.op) (items (only_committed G)) (items (uncommitted G))) h2 in
     subst (λ (w : List Op). Allowed O w) (ops_items (only_committed G)) (allowed_front O O.start (ops (items (only_committed G))) (ops (items (uncommitted G))) h3)
 
 pub same_state : {Op State : Type 0} (O : Object Op State) → TellsStates O → (c : Config Op) → Sound O c → HasSerialState O c
-same_state {Op} O tells c s = tells (shared_ops (only_committed c.shared)) (serial_ops c.finished) (committed_allowed O c s) (λ k h.
-    let turned = serial_law O (only_committed c.shared) c.finished k (ordered_committed O c.shared c.finished (ordered O c s)) h in
-    subst (λ (w : List (SharedEntry Op)). Allowed O (serial_ops c.finished ++ (shared_ops w ++ k))) (none_uncommitted c.shared) turned)
+same_state {Op} O tells c s = tells (shared_ops (only_committed c.shared)) (serial_ops c.done) (committed_allowed O c s) (λ k h.
+    let turned = serial_law O (only_committed c.shared) c.done k (ordered_committed O c.shared c.done (ordered O c s)) h in
+    subst (λ (w : List (SharedEntry Op)). Allowed O (serial_ops c.done ++ (shared_ops w ++ k))) (none_uncommitted c.shared) turned)

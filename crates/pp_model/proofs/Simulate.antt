@@ -7,9 +7,9 @@ use Rattle.pp_model.specs.Lists.{In, joined}
 use Rattle.pp_model.specs.Body.{IsWord}
 use Rattle.pp_model.specs.Object.{Object, Allowed, AllowedFrom, Item, ops, state, state_from, TellsStates}
 use Rattle.pp_model.specs.Config.{CommittedTx, Config, Start, Step, then, first, after, after_from, shared_ops, uncommitted}
-use Rattle.pp_model.specs.Rules.{calls, StartFails, RunsFrom}
+use Rattle.pp_model.specs.Rules.{calls, StartMeets, RunsFrom}
 use Rattle.pp_model.specs.Sound.{Sound, serial_items, serial_ops}
-use Rattle.pp_model.specs.Serial.{Attempt, attempts, serial, finished_of, AtomicRun, Simulated}
+use Rattle.pp_model.specs.Serial.{Attempt, attempts, serial, committed_tx, AtomicRun, Simulated}
 use Rattle.pp_model.proofs.Serial.{serial_law, ordered, same_state, allowed_front, allowed_back}
 use Rattle.pp_model.proofs.Begin.{start_sound}
 use Rattle.pp_model.proofs.Keeps.{step_keeps, run_keeps}
@@ -35,7 +35,7 @@ run_traced {Op} O h (a ∷ ss) past c s t r =
     subst (λ (w : List (Step Op)). Traced O h w (after_from (then c a) ss)) (append_assoc past (a ∷ []) ss)
     (run_traced O h ss (past ++ a ∷ []) (then c a) (step_keeps O c a s r.0) (follow O h past c a s t r.0) r.1)
 
-same_items : {Op : Type 0} (l : List (Attempt Op)) → serial_items (map finished_of l) ≡ joined (map (λ (a : Attempt Op). a.items) l)
+same_items : {Op : Type 0} (l : List (Attempt Op)) → serial_items (map committed_tx l) ≡ joined (map (λ (a : Attempt Op). a.items) l)
 same_items [] = refl
 same_items {Op} (a ∷ l) = ap (λ (w : List (Item Op)). a.items ++ w) (same_items l)
 
@@ -55,24 +55,24 @@ atomically {Op} {State} O (a ∷ l) s w h =
           (atomically O l m (λ b i. w b (inr i)) (allowed_back O s (ops a.items) (serial l) h1)),
     )
 
-module _ {Op State : Type 0} (O : Object Op State) (h : Option (Start Op)) (ss : List (Step Op)) (f : StartFails O h 0) (r : RunsFrom O (first h) ss) where
+module _ {Op State : Type 0} (O : Object Op State) (h : Option (Start Op)) (ss : List (Step Op)) (f : StartMeets O h) (r : RunsFrom O (first h) ss) where
   sound : Sound O (after h ss)
   sound = run_keeps O ss (first h) (start_sound O h f) r
 
   traced : Traced O h ss (after h ss)
   traced = run_traced O h ss [] (first h) (start_sound O h f) (start_traced O h) r
 
-  pub finished_are : (after h ss).finished ≡ map finished_of (attempts h ss)
+  pub finished_are : (after h ss).done ≡ map committed_tx (attempts h ss)
   finished_are = traced.done
 
   pub all_words : (a : Attempt Op) → In a (attempts h ss) → IsWord a.body (calls O a.items)
   all_words = traced.words
 
-  serial_is : serial_ops (after h ss).finished ≡ serial (attempts h ss)
+  serial_is : serial_ops (after h ss).done ≡ serial (attempts h ss)
   serial_is = ap (λ (w : List (CommittedTx Op)). serial_ops w) finished_are ∙ ap (λ (w : List (Item Op)). ops w) (same_items (attempts h ss))
 
   serial_onto : (k : List Op) → Allowed O (shared_ops (after h ss).shared ++ k) → Allowed O (serial (attempts h ss) ++ (shared_ops (uncommitted (after h ss).shared) ++ k))
-  serial_onto k a = subst (λ (w : List Op). Allowed O (w ++ (shared_ops (uncommitted (after h ss).shared) ++ k))) serial_is (serial_law O (after h ss).shared (after h ss).finished k (ordered O (after h ss) sound) a)
+  serial_onto k a = subst (λ (w : List Op). Allowed O (w ++ (shared_ops (uncommitted (after h ss).shared) ++ k))) serial_is (serial_law O (after h ss).shared (after h ss).done k (ordered O (after h ss) sound) a)
 
   pub serial_allowed : Allowed O (serial (attempts h ss))
   serial_allowed = allowed_front O O.start (serial (attempts h ss)) (shared_ops (uncommitted (after h ss).shared) ++ [])

@@ -1,5 +1,5 @@
 -- The words of a body: the lists of calls that it allows.
-use Rattle.std.specs.Prelude.{◌≡◌, ◌⊎◌, ℕ, ℤ, List, [], ◌∷◌, ◌++◌, Option, None, Some}
+use Rattle.std.specs.Prelude.{◌≡◌, ◌⊎◌, ℤ, List, [], ◌∷◌, ◌++◌, Option, None, Some}
 pub use Rattle.pp_core.specs.Trees.{Tree, Trees, Skip, One, Seq, Alt, Star, NoPart, Part}
 use Rattle.pp_model.specs.Lists.{Each, joined}
 pub use Rattle.pp_core.specs.declared.body.Pattern.{Pattern}
@@ -10,11 +10,14 @@ is_given None z = Unit {0}
 is_given (Some y) z = z ≡ y
 
 abbrev pub Matches : Pattern → Call → Type 0
-Matches p c = (c.object ≡ p.object) × (c.method ≡ p.method) × is_given p.first c.first × is_given p.second c.second
+Matches p c =
+    (c.object ≡ p.object) × (c.method ≡ p.method) × is_given p.first c.first
+    × is_given p.second c.second
 
 -- the word is made of words of R that are not empty
 abbrev pub Repeats : (List Call → Type 0) → List Call → Type 0
-Repeats R w = (pieces : List (List Call)) × (w ≡ joined pieces) × Each (λ u. (u ≡ [] → ⊥) × R u) pieces
+Repeats R w =
+    (pieces : List (List Call)) × (w ≡ joined pieces) × Each (λ u. (u ≡ [] → ⊥) × R u) pieces
 
 abbrev mutual
   pub Word : Tree → List Call → Type 0

@@ -30,9 +30,10 @@ pub record Config (Op : Type 0) : Type 0 where
   pub opened : List (Tx Op)
   pub shared : List (SharedEntry Op)
   -- in commit order
-  pub finished : List (CommittedTx Op)
+  pub done : List (CommittedTx Op)
 
--- What a header gives: the transaction that stands committed before the first step, if there is one.
+-- What a header gives: the transaction that stands committed before the first step, if there is
+-- one.
 pub record Start (Op : Type 0) : Type 0 where
   pub tx : Name
   pub items : List (Item Op)
@@ -56,8 +57,15 @@ abbrev pub shared_ops : {Op : Type 0} → List (SharedEntry Op) → List Op
 shared_ops l = map (λ g. g.op) l
 
 -- the item p of t, as it stands in the shared log
-abbrev pub posted : {Op : Type 0} → Name → Bool → Item Op → SharedEntry Op
-posted t b p = record { id = p.id; owner = t; committed = b; op = p.op }
+abbrev pub as_shared : {Op : Type 0} → Name → Bool → Item Op → SharedEntry Op
+as_shared t b p = record { id = p.id; owner = t; committed = b; op = p.op }
+
+-- the entry of a local log that t's APP adds, and the one that a PULL of g adds
+abbrev pub as_applied : {Op : Type 0} → Name → ℕ → Op → LocalEntry Op
+as_applied t id op = record { id = id; owner = t; mark = Unpushed; op = op }
+
+abbrev pub as_pulled : {Op : Type 0} → SharedEntry Op → LocalEntry Op
+as_pulled g = record { id = g.id; owner = g.owner; mark = Pulled; op = g.op }
 
 -- the open transaction of this name
 abbrev pub tx : {Op : Type 0} → Name → List (Tx Op) → Option (Tx Op)
@@ -72,14 +80,15 @@ abbrev pub relog : {Op : Type 0} → (List (LocalEntry Op) → List (LocalEntry 
 relog f x = record { name = x.name; thread = x.thread; body = x.body; local = f x.local }
 
 -- f at the local log of t
-abbrev pub on_log : {Op : Type 0} → Name → (List (LocalEntry Op) → List (LocalEntry Op)) → List (Tx Op) → List (Tx Op)
+abbrev pub on_log : {Op : Type 0} → Name → (List (LocalEntry Op) → List (LocalEntry Op)) →
+    List (Tx Op) → List (Tx Op)
 on_log t f xs = on t (relog f) xs
 
 abbrev pub without_tx : {Op : Type 0} → Name → List (Tx Op) → List (Tx Op)
 without_tx t xs = filter (λ x. not (x.name =ⁿ t)) xs
 
-abbrev pub marked : {Op : Type 0} → ℕ → Mark → List (LocalEntry Op) → List (LocalEntry Op)
-marked id m l = map (λ e. cond (e.id == id) (record { id = e.id; owner = e.owner; mark = m; op = e.op }) e) l
+abbrev pub set_mark : {Op : Type 0} → ℕ → Mark → List (LocalEntry Op) → List (LocalEntry Op)
+set_mark id m l = map (λ e. cond (e.id == id) (record e { mark = m }) e) l
 
 abbrev pub without_local : {Op : Type 0} → ℕ → List (LocalEntry Op) → List (LocalEntry Op)
 without_local id l = filter (λ e. not (e.id == id)) l
@@ -87,8 +96,8 @@ without_local id l = filter (λ e. not (e.id == id)) l
 abbrev pub without_shared : {Op : Type 0} → ℕ → List (SharedEntry Op) → List (SharedEntry Op)
 without_shared id l = filter (λ g. not (g.id == id)) l
 
-abbrev pub all_committed : {Op : Type 0} → Name → List (SharedEntry Op) → List (SharedEntry Op)
-all_committed t l = map (λ g. cond (g.owner =ⁿ t) (record { id = g.id; owner = g.owner; committed = true; op = g.op }) g) l
+abbrev pub commit_all : {Op : Type 0} → Name → List (SharedEntry Op) → List (SharedEntry Op)
+commit_all t l = map (λ g. cond (g.owner =ⁿ t) (record g { committed = true }) g) l
 
 abbrev pub uncommitted : {Op : Type 0} → List (SharedEntry Op) → List (SharedEntry Op)
 uncommitted l = filter (λ g. not g.committed) l
@@ -121,32 +130,36 @@ of_other t id l = find (λ g. (g.id == id) && not (g.owner =ⁿ t)) l
 
 -- the configuration before the first step
 abbrev pub first : {Op : Type 0} → Option (Start Op) → Config Op
-first None = record { names = []; ids = []; opened = []; shared = []; finished = [] }
+first None = record { names = []; ids = []; opened = []; shared = []; done = [] }
 first (Some z) =
     record {
       names = z.tx ∷ [];
       ids = map (λ p. p.id) z.items;
       opened = [];
-      shared = map (posted z.tx true) z.items;
-      finished = record { name = z.tx; entries = z.items } ∷ [];
+      shared = map (as_shared z.tx true) z.items;
+      done = record { name = z.tx; entries = z.items } ∷ [];
     }
 
 -- the effect of a step
-abbrev pub pushed : {Op : Type 0} → Config Op → Name → ℕ → Option (LocalEntry Op) → Config Op
-pushed c t id None = c
-pushed c t id (Some e) = record c { opened = on_log t (marked id Pushed) c.opened; shared = c.shared ++ posted t false (item e) ∷ [] }
+abbrev pub push_effect : {Op : Type 0} → Config Op → Name → ℕ → Option (LocalEntry Op) → Config Op
+push_effect c t id None = c
+push_effect c t id (Some e) =
+    record c {
+      opened = on_log t (set_mark id Pushed) c.opened;
+      shared = c.shared ++ as_shared t false (item e) ∷ [];
+    }
 
-abbrev pub pulled : {Op : Type 0} → Config Op → Name → ℕ → Option (SharedEntry Op) → Config Op
-pulled c t id None = c
-pulled c t id (Some g) = record c { opened = on_log t (λ l. l ++ record { id = g.id; owner = g.owner; mark = Pulled; op = g.op } ∷ []) c.opened }
+abbrev pub pull_effect : {Op : Type 0} → Config Op → Name → ℕ → Option (SharedEntry Op) → Config Op
+pull_effect c t id None = c
+pull_effect c t id (Some g) = record c { opened = on_log t (λ l. l ++ as_pulled g ∷ []) c.opened }
 
-abbrev pub committed : {Op : Type 0} → Config Op → Name → Option (Tx Op) → Config Op
-committed c t None = c
-committed c t (Some x) =
+abbrev pub commit_effect : {Op : Type 0} → Config Op → Name → Option (Tx Op) → Config Op
+commit_effect c t None = c
+commit_effect c t (Some x) =
     record c {
       opened = without_tx t c.opened;
-      shared = all_committed t c.shared;
-      finished = c.finished ++ record { name = t; entries = own_items x.local } ∷ [];
+      shared = commit_all t c.shared;
+      done = c.done ++ record { name = t; entries = own_items x.local } ∷ [];
     }
 
 abbrev pub entry_of : {Op : Type 0} → ℕ → Mark → Option (Tx Op) → Option (LocalEntry Op)
@@ -154,15 +167,23 @@ entry_of id m None = None
 entry_of id m (Some x) = at_mark id m x.local
 
 abbrev pub then : {Op : Type 0} → Config Op → Step Op → Config Op
-then c (Begin t p b) = record c { names = t ∷ c.names; opened = c.opened ++ record { name = t; thread = p; body = b; local = [] } ∷ [] }
+then c (Begin t p b) =
+    record c {
+      names = t ∷ c.names;
+      opened = c.opened ++ record { name = t; thread = p; body = b; local = [] } ∷ [];
+    }
 then c (App t id op) =
-    record c { ids = id ∷ c.ids; opened = on_log t (λ l. l ++ record { id = id; owner = t; mark = Unpushed; op = op } ∷ []) c.opened }
+    record c { ids = id ∷ c.ids; opened = on_log t (λ l. l ++ as_applied t id op ∷ []) c.opened }
 then c (Unapp t id) = record c { opened = on_log t but_last c.opened }
-then c (Push t id) = pushed c t id (entry_of id Unpushed (tx t c.opened))
-then c (Unpush t id) = record c { opened = on_log t (marked id Unpushed) c.opened; shared = without_shared id c.shared }
-then c (Pull t id) = pulled c t id (of_other t id c.shared)
+then c (Push t id) = push_effect c t id (entry_of id Unpushed (tx t c.opened))
+then c (Unpush t id) =
+    record c {
+      opened = on_log t (set_mark id Unpushed) c.opened;
+      shared = without_shared id c.shared;
+    }
+then c (Pull t id) = pull_effect c t id (of_other t id c.shared)
 then c (Unpull t id) = record c { opened = on_log t (without_local id) c.opened }
-then c (Cmt t) = committed c t (tx t c.opened)
+then c (Cmt t) = commit_effect c t (tx t c.opened)
 then c (Quit t) = record c { opened = without_tx t c.opened }
 then c (Note t) = c
 

@@ -4,7 +4,7 @@ use Rattle.pp_model.specs.Lists.{joined}
 use Rattle.pp_model.specs.Body.{Tree, IsWord}
 use Rattle.pp_model.specs.Object.{Object, Allowed, AllowedFrom, Item, ops, state, state_from}
 use Rattle.pp_model.specs.Config.{CommittedTx, Start, Step, Begin, App, Unapp, Cmt, shared_ops, uncommitted, only_committed, first, after}
-use Rattle.pp_model.specs.Rules.{calls, StartFails, RunsFrom}
+use Rattle.pp_model.specs.Rules.{calls, StartMeets, RunsFrom}
 use Rattle.pp_model.specs.Names.{Name, ◌=ⁿ◌}
 
 abbrev pub has_id : ℕ → List ℕ → Bool
@@ -12,20 +12,21 @@ has_id i [] = false
 has_id i (j ∷ js) = (j == i) || has_id i js
 
 -- what t's APP steps apply
-abbrev pub applied : {Op : Type 0} → Name → List (Step Op) → List (Item Op)
-applied t [] = []
-applied t (App u id op ∷ ss) = cond (u =ⁿ t) (record { id = id; op = op } ∷ applied t ss) (applied t ss)
-applied t (_ ∷ ss) = applied t ss
+abbrev pub applied_items : {Op : Type 0} → Name → List (Step Op) → List (Item Op)
+applied_items t [] = []
+applied_items t (App u id op ∷ ss) =
+    cond (u =ⁿ t) (record { id = id; op = op } ∷ applied_items t ss) (applied_items t ss)
+applied_items t (_ ∷ ss) = applied_items t ss
 
 -- the ids in t's UNAPP steps
-abbrev pub dropped : {Op : Type 0} → Name → List (Step Op) → List ℕ
-dropped t [] = []
-dropped t (Unapp u id ∷ ss) = cond (u =ⁿ t) (id ∷ dropped t ss) (dropped t ss)
-dropped t (_ ∷ ss) = dropped t ss
+abbrev pub unapplied_ids : {Op : Type 0} → Name → List (Step Op) → List ℕ
+unapplied_ids t [] = []
+unapplied_ids t (Unapp u id ∷ ss) = cond (u =ⁿ t) (id ∷ unapplied_ids t ss) (unapplied_ids t ss)
+unapplied_ids t (_ ∷ ss) = unapplied_ids t ss
 
 -- t's own list
 abbrev pub own_of : {Op : Type 0} → Name → List (Step Op) → List (Item Op)
-own_of t ss = filter (λ p. not (has_id p.id (dropped t ss))) (applied t ss)
+own_of t ss = filter (λ p. not (has_id p.id (unapplied_ids t ss))) (applied_items t ss)
 
 -- the bodies in t's BEGIN steps, of which there is one at most in an accepted run
 abbrev pub bodies_of : {Op : Type 0} → Name → List (Step Op) → List (Option Tree)
@@ -38,10 +39,10 @@ first_body [] = None
 first_body (b ∷ bs) = b
 
 -- the names in the CMT steps
-abbrev pub committers : {Op : Type 0} → List (Step Op) → List Name
-committers [] = []
-committers (Cmt t ∷ ss) = t ∷ committers ss
-committers (_ ∷ ss) = committers ss
+abbrev pub commits : {Op : Type 0} → List (Step Op) → List Name
+commits [] = []
+commits (Cmt t ∷ ss) = t ∷ commits ss
+commits (_ ∷ ss) = commits ss
 
 pub record Attempt (Op : Type 0) : Type 0 where
   pub name : Name
@@ -51,34 +52,42 @@ pub record Attempt (Op : Type 0) : Type 0 where
 abbrev pub attempt_of : {Op : Type 0} → List (Step Op) → Name → Attempt Op
 attempt_of ss t = record { name = t; body = first_body (bodies_of t ss); items = own_of t ss }
 
-abbrev pub given : {Op : Type 0} → Option (Start Op) → List (Attempt Op)
-given None = []
-given (Some z) = record { name = z.tx; body = None; items = z.items } ∷ []
+abbrev pub start_attempts : {Op : Type 0} → Option (Start Op) → List (Attempt Op)
+start_attempts None = []
+start_attempts (Some z) = record { name = z.tx; body = None; items = z.items } ∷ []
 
 abbrev pub attempts : {Op : Type 0} → Option (Start Op) → List (Step Op) → List (Attempt Op)
-attempts h ss = given h ++ map (attempt_of ss) (committers ss)
+attempts h ss = start_attempts h ++ map (attempt_of ss) (commits ss)
 
 abbrev pub serial : {Op : Type 0} → List (Attempt Op) → List Op
 serial as' = ops (joined (map (λ a. a.items) as'))
 
 -- The atomic machine: one step is one whole transaction.
-abbrev pub Atomic : {Op State : Type 0} → Object Op State → State → Option Tree → List (Item Op) → State → Type 0
+abbrev pub Atomic : {Op State : Type 0} → Object Op State → State → Option Tree → List (Item Op) →
+    State → Type 0
 Atomic O s b w s2 = IsWord b (calls O w) × AllowedFrom O s (ops w) × (s2 ≡ state_from O s (ops w))
 
-abbrev pub AtomicRun : {Op State : Type 0} → Object Op State → State → List (Attempt Op) → State → Type 0
+abbrev pub AtomicRun : {Op State : Type 0} → Object Op State → State → List (Attempt Op) → State →
+    Type 0
 AtomicRun O s [] s2 = s2 ≡ s
-AtomicRun {Op} {State} O s (a ∷ l) s2 = (m : State) × Atomic O s a.body a.items m × AtomicRun O m l s2
+AtomicRun {Op} {State} O s (a ∷ l) s2 =
+    (m : State) × Atomic O s a.body a.items m × AtomicRun O m l s2
 
-abbrev pub finished_of : {Op : Type 0} → Attempt Op → CommittedTx Op
-finished_of a = record { name = a.name; entries = a.items }
+abbrev pub committed_tx : {Op : Type 0} → Attempt Op → CommittedTx Op
+committed_tx a = record { name = a.name; entries = a.items }
 
 -- What holds after an accepted run.
-pub record Simulated {Op State : Type 0} (O : Object Op State) (h : Option (Start Op)) (ss : List (Step Op)) : Type 0 where
-  pub done : (after h ss).finished ≡ map finished_of (attempts h ss)
-  pub onto : (k : List Op) → Allowed O (shared_ops (after h ss).shared ++ k) → Allowed O (serial (attempts h ss) ++ (shared_ops (uncommitted (after h ss).shared) ++ k))
+pub record Simulated {Op State : Type 0} (O : Object Op State) (h : Option (Start Op))
+    (ss : List (Step Op)) : Type 0 where
+  pub done : (after h ss).done ≡ map committed_tx (attempts h ss)
+  pub onto : (k : List Op) → Allowed O (shared_ops (after h ss).shared ++ k) →
+      Allowed O (serial (attempts h ss) ++ (shared_ops (uncommitted (after h ss).shared) ++ k))
   pub allowed : Allowed O (serial (attempts h ss))
   pub atomic : AtomicRun O O.start (attempts h ss) (state O (serial (attempts h ss)))
-  pub same_state : state O (shared_ops (only_committed (after h ss).shared)) ≡ state O (serial (attempts h ss))
+  pub same_state : state O (shared_ops (only_committed (after h ss).shared))
+      ≡ state O (serial (attempts h ss))
 
 abbrev pub SimulationLaw : {Op State : Type 0} → Object Op State → Type 0
-SimulationLaw {Op} O = (h : Option (Start Op)) (ss : List (Step Op)) → StartFails O h 0 → RunsFrom O (first h) ss → Simulated O h ss
+SimulationLaw {Op} O =
+    (h : Option (Start Op)) (ss : List (Step Op)) → StartMeets O h → RunsFrom O (first h) ss →
+    Simulated O h ss
