@@ -1,4 +1,4 @@
--- The words of a body: the lists of calls that it allows.
+-- Meaning: the words of a body: the lists of calls that it allows.
 use Rattle.std.specs.Prelude.{◌≡◌, ◌⊎◌, ℤ, List, [], ◌∷◌, ◌++◌, Option, None, Some}
 pub use Rattle.pp_core.specs.Trees.{Tree, Trees, Skip, One, Seq, Alt, Star, NoPart, Part}
 use Rattle.pp_model.specs.Lists.{Each, joined}

@@ -1,4 +1,4 @@
--- A configuration of the machine, and the steps.
+-- Meaning: a configuration of the machine, and the steps.
 use Rattle.std.specs.Prelude.{ℕ, ◌==◌, Bool, true, false, cond, not, ◌&&◌, List, [], ◌∷◌, ◌++◌, map, filter, find, Option, None, Some}
 use Rattle.pp_model.specs.Body.{Tree}
 use Rattle.pp_model.specs.Names.{Name, ◌=ⁿ◌}

@@ -1,4 +1,4 @@
--- The serial run, read off the steps, and the atomic machine.
+-- Meaning: the serial run, read off the steps, and the atomic machine.
 use Rattle.std.specs.Prelude.{◌≡◌, ℕ, ◌==◌, Bool, false, cond, not, ◌||◌, List, [], ◌∷◌, ◌++◌, map, filter, Option, None, Some}
 use Rattle.pp_model.specs.Lists.{joined}
 use Rattle.pp_model.specs.Body.{Tree, IsWord}
@@ -62,32 +62,31 @@ attempts h ss = start_attempts h ++ map (attempt_of ss) (commits ss)
 abbrev pub serial : {Op : Type 0} → List (Attempt Op) → List Op
 serial as' = ops (joined (map (λ a. a.items) as'))
 
--- The atomic machine: one step is one whole transaction.
-abbrev pub Atomic : {Op State : Type 0} → Object Op State → State → Option Tree → List (Item Op) →
-    State → Type 0
-Atomic O s b w s2 = IsWord b (calls O w) × AllowedFrom O s (ops w) × (s2 ≡ state_from O s (ops w))
-
-abbrev pub AtomicRun : {Op State : Type 0} → Object Op State → State → List (Attempt Op) → State →
-    Type 0
-AtomicRun O s [] s2 = s2 ≡ s
-AtomicRun {Op} {State} O s (a ∷ l) s2 =
-    (m : State) × Atomic O s a.body a.items m × AtomicRun O m l s2
-
 abbrev pub committed_tx : {Op : Type 0} → Attempt Op → CommittedTx Op
 committed_tx a = record { name = a.name; entries = a.items }
 
--- What holds after an accepted run.
-pub record Simulated {Op State : Type 0} (O : Object Op State) (h : Option (Start Op))
-    (ss : List (Step Op)) : Type 0 where
-  pub done : (after h ss).done ≡ map committed_tx (attempts h ss)
-  pub onto : (k : List Op) → Allowed O (shared_ops (after h ss).shared ++ k) →
-      Allowed O (serial (attempts h ss) ++ (shared_ops (uncommitted (after h ss).shared) ++ k))
-  pub allowed : Allowed O (serial (attempts h ss))
-  pub atomic : AtomicRun O O.start (attempts h ss) (state O (serial (attempts h ss)))
-  pub same_state : state O (shared_ops (only_committed (after h ss).shared))
-      ≡ state O (serial (attempts h ss))
+module _ {Op State : Type 0} (O : Object Op State) where
+  -- The atomic machine: one step is one whole transaction.
+  abbrev pub Atomic : State → Option Tree → List (Item Op) → State → Type 0
+  Atomic s b w s2 = IsWord b (calls O w) × AllowedFrom O s (ops w) × (s2 ≡ state_from O s (ops w))
 
-abbrev pub SimulationLaw : {Op State : Type 0} → Object Op State → Type 0
-SimulationLaw {Op} O =
-    (h : Option (Start Op)) (ss : List (Step Op)) → StartMeets O h → RunsFrom O (first h) ss →
-    Simulated O h ss
+  abbrev pub AtomicRun : State → List (Attempt Op) → State → Type 0
+  AtomicRun s [] s2 = s2 ≡ s
+  AtomicRun s (a ∷ l) s2 =
+      (m : State) × Atomic s a.body a.items m × AtomicRun m l s2
+
+  -- What holds after an accepted run.
+  pub record Simulated (h : Option (Start Op))
+      (ss : List (Step Op)) : Type 0 where
+    pub done : (after h ss).done ≡ map committed_tx (attempts h ss)
+    pub onto : (k : List Op) → Allowed O (shared_ops (after h ss).shared ++ k) →
+        Allowed O (serial (attempts h ss) ++ (shared_ops (uncommitted (after h ss).shared) ++ k))
+    pub allowed : Allowed O (serial (attempts h ss))
+    pub atomic : AtomicRun O.start (attempts h ss) (state O (serial (attempts h ss)))
+    pub same_state : state O (shared_ops (only_committed (after h ss).shared))
+        ≡ state O (serial (attempts h ss))
+
+  abbrev pub SimulationLaw : Type 0
+  SimulationLaw =
+      (h : Option (Start Op)) (ss : List (Step Op)) → StartMeets O h → RunsFrom O (first h) ss →
+      Simulated h ss

@@ -1,4 +1,4 @@
--- What every reachable configuration keeps.
+-- Meaning: what every reachable configuration keeps.
 use Rattle.std.specs.Prelude.{◌≡◌, ◌≢◌, ◌⊎◌, ℕ, true, false, List, [], ◌++◌, map, Option}
 use Rattle.pp_model.specs.Lists.{In, Before, joined}
 use Rattle.pp_model.specs.Body.{Begins}
@@ -15,13 +15,6 @@ Stands {Op} i G = (g : SharedEntry Op) × In g G × (g.id ≡ i)
 abbrev pub StandsBefore : {Op : Type 0} → ℕ → ℕ → List (SharedEntry Op) → Type 0
 StandsBefore {Op} i j G = (g h : SharedEntry Op) × Before g h G × (g.id ≡ i) × (h.id ≡ j)
 
--- of an own list: for a before b, if b is in G and a is not there or stands after b, then b, a swap
-abbrev pub KeepsOrder : {Op State : Type 0} → Object Op State → List (SharedEntry Op) →
-    List (Item Op) → Type 0
-KeepsOrder {Op} O G xs =
-    (a b : Item Op) → Before a b xs → Stands b.id G →
-    (Stands a.id G → ⊥) ⊎ StandsBefore b.id a.id G → Swaps O b.op a.op
-
 -- the transaction t, open or committed, has the own entry p
 abbrev pub Owns : {Op : Type 0} → Config Op → Name → Item Op → Type 0
 Owns {Op} c t p =
@@ -36,60 +29,6 @@ CommittedAfter {Op} D t u = (d e : CommittedTx Op) × Before d e D × (d.name �
 abbrev pub OwnedAsMarked : {Op : Type 0} → Name → LocalEntry Op → Type 0
 OwnedAsMarked t e = ((is_own e.mark ≡ true) × (e.owner ≡ t)) ⊎ ((e.mark ≡ Pulled) × (e.owner ≢ t))
 
-pub record Sound {Op State : Type 0} (O : Object Op State) (c : Config Op) : Type 0 where
-  -- 0 marks and owners
-  pub marks : (x : Tx Op) → In x c.opened → (e : LocalEntry Op) → In e x.local →
-      OwnedAsMarked x.name e
-  -- 1 names, ids and owners
-  pub open_names : (x y : Tx Op) → Before x y c.opened → x.name ≢ y.name
-  pub done_names : (d e : CommittedTx Op) → Before d e c.done → d.name ≢ e.name
-  pub apart : (x : Tx Op) (d : CommittedTx Op) → In x c.opened → In d c.done → x.name ≢ d.name
-  pub open_known : (x : Tx Op) → In x c.opened → In x.name c.names
-  pub done_known : (d : CommittedTx Op) → In d c.done → In d.name c.names
-  pub local_ids : (x : Tx Op) → In x c.opened → (e f : LocalEntry Op) → Before e f x.local →
-      e.id ≢ f.id
-  pub shared_ids : (g h : SharedEntry Op) → Before g h c.shared → g.id ≢ h.id
-  pub done_ids : (d : CommittedTx Op) → In d c.done → (p q : Item Op) → Before p q d.entries →
-      p.id ≢ q.id
-  pub local_used : (x : Tx Op) → In x c.opened → (e : LocalEntry Op) → In e x.local → In e.id c.ids
-  pub done_used : (d : CommittedTx Op) → In d c.done → (p : Item Op) → In p d.entries →
-      In p.id c.ids
-  pub one_owner : (t u : Name) (p q : Item Op) → Owns c t p → Owns c u q → p.id ≡ q.id → t ≡ u
-  -- 2 what stands in G
-  pub pushed_stand : (x : Tx Op) → In x c.opened → (e : LocalEntry Op) → In e x.local →
-      e.mark ≡ Pushed → In (as_shared x.name false (item e)) c.shared
-  pub done_stand : (d : CommittedTx Op) → In d c.done → (p : Item Op) → In p d.entries →
-      In (as_shared d.name true p) c.shared
-  pub uncommitted_from : (g : SharedEntry Op) → In g c.shared → g.committed ≡ false →
-      (x : Tx Op) × In x c.opened × (e : LocalEntry Op) × In e x.local × (e.mark ≡ Pushed)
-      × (g ≡ as_shared x.name false (item e))
-  pub committed_from : (g : SharedEntry Op) → In g c.shared → g.committed ≡ true →
-      (d : CommittedTx Op) × In d c.done × (p : Item Op) × In p d.entries
-      × (g ≡ as_shared d.name true p)
-  -- 3 what is allowed
-  pub shared_allowed : Allowed O (shared_ops c.shared)
-  pub local_allowed : (x : Tx Op) → In x c.opened → Allowed O (local_ops x.local)
-  -- 4 the order of G
-  pub uncommitted_swap : (g h : SharedEntry Op) → Before g h c.shared → g.owner ≢ h.owner →
-      g.committed ≡ false → Swaps O g.op h.op
-  pub late_swap : (g h : SharedEntry Op) → Before g h c.shared → g.owner ≢ h.owner →
-      g.committed ≡ true → h.committed ≡ true →
-      CommittedAfter c.done g.owner h.owner → Swaps O g.op h.op
-  -- 5 the order of own lists
-  pub open_order : (x : Tx Op) → In x c.opened → KeepsOrder O c.shared (own_items x.local)
-  pub done_order : (d : CommittedTx Op) → In d c.done → KeepsOrder O c.shared d.entries
-  -- 6 own before pulled
-  pub own_pulled : (x : Tx Op) → In x c.opened → (a p : LocalEntry Op) → Before a p x.local →
-      is_own a.mark ≡ true → p.mark ≡ Pulled → Swaps O a.op p.op
-  -- 7 bodies
-  pub begun : (x : Tx Op) → In x c.opened →
-      (own_items x.local ≡ []) ⊎ Begins x.body (calls O (own_items x.local))
-
--- The start is sound, and each step that meets its criteria keeps a configuration sound.
-pub record KeptLaw {Op State : Type 0} (O : Object Op State) : Type 0 where
-  pub start : (h : Option (Start Op)) → StartMeets O h → Sound O (first h)
-  pub step : (c : Config Op) (a : Step Op) → Sound O c → Meets O c a → Sound O (then c a)
-
 -- The operations of the committed transactions, one transaction after another.
 abbrev pub serial_items : {Op : Type 0} → List (CommittedTx Op) → List (Item Op)
 serial_items D = joined (map (λ d. d.entries) D)
@@ -97,18 +36,82 @@ serial_items D = joined (map (λ d. d.entries) D)
 abbrev pub serial_ops : {Op : Type 0} → List (CommittedTx Op) → List Op
 serial_ops D = ops (serial_items D)
 
--- What is allowed after the shared log is allowed after the serial run and the uncommitted entries.
-abbrev pub MayRunSerially : {Op State : Type 0} → Object Op State → Config Op → Type 0
-MayRunSerially {Op} O c =
-    (k : List Op) → Allowed O (shared_ops c.shared ++ k) →
-    Allowed O (serial_ops c.done ++ (shared_ops (uncommitted c.shared) ++ k))
+module _ {Op State : Type 0} (O : Object Op State) where
+  -- of an own list: for a before b, if b is in G and a is not there or stands after b, then b, a
+  -- swap
+  abbrev pub KeepsOrder : List (SharedEntry Op) → List (Item Op) → Type 0
+  KeepsOrder G xs =
+      (a b : Item Op) → Before a b xs → Stands b.id G →
+      (Stands a.id G → ⊥) ⊎ StandsBefore b.id a.id G → Swaps O b.op a.op
 
-abbrev pub SerialLaw : {Op State : Type 0} → Object Op State → Type 0
-SerialLaw {Op} O = (c : Config Op) → Sound O c → MayRunSerially O c
+  pub record Sound (c : Config Op) : Type 0 where
+    -- 0 marks and owners
+    pub marks : (x : Tx Op) → In x c.opened → (e : LocalEntry Op) → In e x.local →
+        OwnedAsMarked x.name e
+    -- 1 names, ids and owners
+    pub open_names : (x y : Tx Op) → Before x y c.opened → x.name ≢ y.name
+    pub done_names : (d e : CommittedTx Op) → Before d e c.done → d.name ≢ e.name
+    pub apart : (x : Tx Op) (d : CommittedTx Op) → In x c.opened → In d c.done → x.name ≢ d.name
+    pub open_known : (x : Tx Op) → In x c.opened → In x.name c.names
+    pub done_known : (d : CommittedTx Op) → In d c.done → In d.name c.names
+    pub local_ids : (x : Tx Op) → In x c.opened → (e f : LocalEntry Op) → Before e f x.local →
+        e.id ≢ f.id
+    pub shared_ids : (g h : SharedEntry Op) → Before g h c.shared → g.id ≢ h.id
+    pub done_ids : (d : CommittedTx Op) → In d c.done → (p q : Item Op) → Before p q d.entries →
+        p.id ≢ q.id
+    pub local_used : (x : Tx Op) → In x c.opened → (e : LocalEntry Op) → In e x.local →
+        In e.id c.ids
+    pub done_used : (d : CommittedTx Op) → In d c.done → (p : Item Op) → In p d.entries →
+        In p.id c.ids
+    pub one_owner : (t u : Name) (p q : Item Op) → Owns c t p → Owns c u q → p.id ≡ q.id → t ≡ u
+    -- 2 what stands in G
+    pub pushed_stand : (x : Tx Op) → In x c.opened → (e : LocalEntry Op) → In e x.local →
+        e.mark ≡ Pushed → In (as_shared x.name false (item e)) c.shared
+    pub done_stand : (d : CommittedTx Op) → In d c.done → (p : Item Op) → In p d.entries →
+        In (as_shared d.name true p) c.shared
+    pub uncommitted_from : (g : SharedEntry Op) → In g c.shared → g.committed ≡ false →
+        (x : Tx Op) × In x c.opened × (e : LocalEntry Op) × In e x.local × (e.mark ≡ Pushed)
+        × (g ≡ as_shared x.name false (item e))
+    pub committed_from : (g : SharedEntry Op) → In g c.shared → g.committed ≡ true →
+        (d : CommittedTx Op) × In d c.done × (p : Item Op) × In p d.entries
+        × (g ≡ as_shared d.name true p)
+    -- 3 what is allowed
+    pub shared_allowed : Allowed O (shared_ops c.shared)
+    pub local_allowed : (x : Tx Op) → In x c.opened → Allowed O (local_ops x.local)
+    -- 4 the order of G
+    pub uncommitted_swap : (g h : SharedEntry Op) → Before g h c.shared → g.owner ≢ h.owner →
+        g.committed ≡ false → Swaps O g.op h.op
+    pub late_swap : (g h : SharedEntry Op) → Before g h c.shared → g.owner ≢ h.owner →
+        g.committed ≡ true → h.committed ≡ true →
+        CommittedAfter c.done g.owner h.owner → Swaps O g.op h.op
+    -- 5 the order of own lists
+    pub open_order : (x : Tx Op) → In x c.opened → KeepsOrder c.shared (own_items x.local)
+    pub done_order : (d : CommittedTx Op) → In d c.done → KeepsOrder c.shared d.entries
+    -- 6 own before pulled
+    pub own_pulled : (x : Tx Op) → In x c.opened → (a p : LocalEntry Op) → Before a p x.local →
+        is_own a.mark ≡ true → p.mark ≡ Pulled → Swaps O a.op p.op
+    -- 7 bodies
+    pub begun : (x : Tx Op) → In x c.opened →
+        (own_items x.local ≡ []) ⊎ Begins x.body (calls O (own_items x.local))
 
--- The committed entries, in the order of the shared log, lead to the state of the serial run.
-abbrev pub HasSerialState : {Op State : Type 0} → Object Op State → Config Op → Type 0
-HasSerialState O c = state O (shared_ops (only_committed c.shared)) ≡ state O (serial_ops c.done)
+  -- The start is sound, and each step that meets its criteria keeps a configuration sound.
+  pub record KeptLaw : Type 0 where
+    pub start : (h : Option (Start Op)) → StartMeets O h → Sound (first h)
+    pub step : (c : Config Op) (a : Step Op) → Sound c → Meets O c a → Sound (then c a)
 
-abbrev pub SameStateLaw : {Op State : Type 0} → Object Op State → Type 0
-SameStateLaw {Op} O = (c : Config Op) → Sound O c → HasSerialState O c
+  -- What is allowed after the shared log is allowed after the serial run and the uncommitted
+  -- entries.
+  abbrev pub MayRunSerially : Config Op → Type 0
+  MayRunSerially c =
+      (k : List Op) → Allowed O (shared_ops c.shared ++ k) →
+      Allowed O (serial_ops c.done ++ (shared_ops (uncommitted c.shared) ++ k))
+
+  abbrev pub SerialLaw : Type 0
+  SerialLaw = (c : Config Op) → Sound c → MayRunSerially c
+
+  -- The committed entries, in the order of the shared log, lead to the state of the serial run.
+  abbrev pub HasSerialState : Config Op → Type 0
+  HasSerialState c = state O (shared_ops (only_committed c.shared)) ≡ state O (serial_ops c.done)
+
+  abbrev pub SameStateLaw : Type 0
+  SameStateLaw = (c : Config Op) → Sound c → HasSerialState c
