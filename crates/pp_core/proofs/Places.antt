@@ -1,7 +1,7 @@
 -- Where a name stands among distinct names.
-use Rattle.std.proofs.Common.{◌≡◌, ℕ, Bool, true, false, List, Option, None, Some, slice_get, position, refl, sym, ◌∙◌, ap, is_some, true≢false}
+use Rattle.std.proofs.Common.{◌≡◌, ℕ, zero, suc, false, List, [], ◌∷◌, Option, None, Some, slice_get, position, refl, is_some, true≢false, subst}
 use Rattle.std.specs.List.{IsDistinct}
-use Rattle.std.specs.Map.{keys_of, lookup}
+use Rattle.std.specs.Map.{keys_of}
 use Rattle.std.specs.Str.{bytes_eq}
 use Rattle.std.proofs.lemmas.Cmp.{nat_list_eq_equiv}
 use Rattle.indexmap.proofs.MapLemmas.{index-first}
@@ -10,6 +10,28 @@ use Rattle.indexmap.proofs.RemoveLemmas.{own_first}
 -- an object is found at its place
 pub found_at_place : {K : Type 0} (es : List (List ℕ × K)) (i : ℕ) (e : List ℕ × K) → IsDistinct bytes_eq (keys_of es) → slice_get es i ≡ Some e → position (bytes_eq e.0) (keys_of es) ≡ Some i
 found_at_place es i e distinct at = index-first (bytes_eq e.0) es i (own_first bytes_eq nat_list_eq_equiv es i e.0 e.1 distinct at)
+
+-- an object of this name stands at the place
+named_at : {K : Type 0} (es : List (List ℕ × K)) (i : ℕ) (name : List ℕ) → slice_get (keys_of es) i ≡ Some name
+    → (e : List ℕ × K) × (slice_get es i ≡ Some e) × (e.0 ≡ name)
+named_at [] i name h = absurd (cc)
+named_at (e ∷ es) zero name h = (e, refl, cc)
+named_at (e ∷ es) (suc i) name h = named_at es i name h
+
+-- a name is found at its place
+name_at_place : {K : Type 0} (es : List (List ℕ × K)) (i : ℕ) (name : List ℕ) → IsDistinct bytes_eq (keys_of es)
+    → slice_get (keys_of es) i ≡ Some name → position (bytes_eq name) (keys_of es) ≡ Some i
+name_at_place es i name distinct at =
+    let found = named_at es i name at in
+    subst (λ n. position (bytes_eq n) (keys_of es) ≡ Some i) found.2 (found_at_place es i found.0 distinct found.1)
+
+-- two places with one name are one place
+pub one_place : {K : Type 0} (es : List (List ℕ × K)) → IsDistinct bytes_eq (keys_of es) → (name : List ℕ) (i j : ℕ)
+    → slice_get (keys_of es) i ≡ Some name → slice_get (keys_of es) j ≡ Some name → i ≡ j
+one_place es distinct name i j at_i at_j =
+    let first = name_at_place es i name distinct at_i in
+    let second = name_at_place es j name distinct at_j in
+    cc
 
 pub is_none_of : {A : Type 0} (o : Option A) → is_some o ≡ false → o ≡ None
 is_none_of None h = refl

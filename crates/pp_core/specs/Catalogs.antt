@@ -1,5 +1,5 @@
--- Looking an object up.
-use Rattle.std.specs.Prelude.{ℕ, List, Option, position}
+-- The objects of a catalog, and looking one up by its name.
+use Rattle.std.specs.Prelude.{◌≡◌, ℕ, Bool, List, [], ◌∷◌, ◌++◌, Option, Some, position, slice_get, if◌then◌else◌}
 use Rattle.std.specs.Map.{keys_of}
 use Rattle.std.specs.Str.{bytes_eq}
 use Rattle.pp_core.specs.declared.call.Kind.{Kind}
@@ -11,3 +11,12 @@ Objects = List (List ℕ × Kind)
 -- the place of the object of this name, among the objects' names
 abbrev pub place_of : List ℕ → Objects → Option ℕ
 place_of name objects = position (bytes_eq name) (keys_of objects)
+
+-- each object is the only one of its name: two places with one name are one place
+abbrev pub HasDistinctNames : Objects → Type 0
+HasDistinctNames objects =
+    (name : List ℕ) (i j : ℕ) → slice_get (keys_of objects) i ≡ Some name → slice_get (keys_of objects) j ≡ Some name → i ≡ j
+
+-- the objects, with one more at the end where it was added
+abbrev pub with_one_more : Bool → List ℕ → Kind → Objects → Objects
+with_one_more added name kind objects = if added then objects ++ (name, kind) ∷ [] else objects

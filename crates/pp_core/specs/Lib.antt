@@ -1,7 +1,9 @@
 pub mod Names
+pub mod Calls
 pub mod Catalogs
 pub mod Statuses
 pub mod Trees
 pub mod TreeCodes
 pub mod Steps
+pub mod Words
 pub mod formers

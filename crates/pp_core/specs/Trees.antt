@@ -3,6 +3,7 @@ use Rattle.std.specs.Prelude.{ℕ, ◌+◌, ◌≤◌, max, nat_le, ◌&&◌, Bo
 use Rattle.pp_core.specs.declared.body.Body.{Body, fold-Body}
 use Rattle.pp_core.specs.declared.body.Body.TheOpen.{Body-F}
 use Rattle.pp_core.specs.declared.body.Pattern.{Pattern}
+use Rattle.pp_core.specs.declared.limits.TheConstants.{MOST_BODY_NODES, MOST_DEPTH}
 
 -- a body with its parts in a row
 mutual
@@ -61,7 +62,7 @@ abbrev mutual
 
 -- at most 64 nodes, and depth at most 16
 abbrev pub IsWithin : Tree → Type 0
-IsWithin b = (nodes b ≤ 64) × (depth b ≤ 16)
+IsWithin b = (nodes b ≤ MOST_BODY_NODES) × (depth b ≤ MOST_DEPTH)
 
 abbrev pub IsWithinLimits : Option Tree → Type 0
 IsWithinLimits None = Unit {0}
@@ -69,4 +70,4 @@ IsWithinLimits (Some b) = IsWithin b
 
 -- the same as a test
 unfoldable pub is_within : Tree → Bool
-is_within b = nat_le (nodes b) 64 && nat_le (depth b) 16
+is_within b = nat_le (nodes b) MOST_BODY_NODES && nat_le (depth b) MOST_DEPTH

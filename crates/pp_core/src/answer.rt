@@ -1,3 +1,4 @@
+//! Results of calls, and the want of memory.
 use std::alloc::{AllocError, AllocFailed};
 
 /// Memory was refused.

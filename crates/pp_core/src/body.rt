@@ -1,8 +1,10 @@
+//! The bodies of transactions, and how large they are.
 ghost use Rattle.std.specs.Prelude.{◌≡◌, ◌+◌, ◌≤◌, min, IfOk};
 ghost use Rattle.pp_core.specs.Trees.{tree, trees_of, nodes, nodes_of_all, depth, depth_of_all};
 
 use crate::answer::OutOfMemory;
 use crate::call::Method;
+use crate::limits::{MOST_BODY_NODES, MOST_DEPTH};
 use crate::sequence::Sequence;
 use std::alloc::Global;
 
@@ -124,6 +126,6 @@ impl Body {
         ensures value { result ≡ is_within (tree self.now) }
         ensures meaning { IsTrue result ↔ IsWithin (tree self.now) }
     {
-        count_nodes(self) <= 64 && measure_depth(self) <= 16
+        count_nodes(self) <= MOST_BODY_NODES && measure_depth(self) <= MOST_DEPTH
     }
 }

@@ -1,3 +1,8 @@
+//! Objects' kinds, the calls on objects, and the styles of records, with their words.
+ghost use Rattle.std.specs.Prelude.{◌≡◌};
+ghost use Rattle.pp_core.specs.Calls.{arguments};
+ghost use Rattle.pp_core.specs.Words.{named, kind_word, kinds, method_word, style_word, styles};
+
 use crate::sequence::Sequence;
 
 /// What an object of a run is.
@@ -13,6 +18,35 @@ pub enum Kind {
     Counter,
     /// A first-in first-out queue.
     Queue,
+}
+
+impl Kind {
+    /// Its word in a header.
+    pub fn word(self) -> &'static str
+        ensures { result.now ≡ kind_word self }
+    {
+        match self {
+            Kind::Memory => "mem",
+            Kind::KeySet => "set",
+            Kind::KeyMap => "map",
+            Kind::Counter => "counter",
+            Kind::Queue => "queue",
+        }
+    }
+
+    /// The kind whose word this is.
+    pub fn named(word: &str) -> Option<Kind>
+        ensures { result ≡ named kind_word kinds word.now }
+    {
+        match word {
+            "mem" => Some(Kind::Memory),
+            "set" => Some(Kind::KeySet),
+            "map" => Some(Kind::KeyMap),
+            "counter" => Some(Kind::Counter),
+            "queue" => Some(Kind::Queue),
+            _ => None,
+        }
+    }
 }
 
 /// The kinds of the objects of a run, in their order.
@@ -33,6 +67,26 @@ pub enum Method {
     Deq,
 }
 
+impl Method {
+    /// Its word in a record.
+    pub fn word(self) -> &'static str
+        ensures { result.now ≡ method_word self }
+    {
+        match self {
+            Method::Read => "read",
+            Method::Write => "write",
+            Method::Add => "add",
+            Method::Remove => "remove",
+            Method::Contains => "contains",
+            Method::Put => "put",
+            Method::Get => "get",
+            Method::FetchAdd => "fetch_add",
+            Method::Enq => "enq",
+            Method::Deq => "deq",
+        }
+    }
+}
+
 /// A call with its arguments, of which an unused one is 0.
 #[derive(Clone, Copy, Debug, PartialEq, Eq)]
 pub struct Call {
@@ -41,6 +95,15 @@ pub struct Call {
     pub method: Method,
     pub first: i64,
     pub second: i64,
+}
+
+impl Call {
+    /// Its arguments in their order, also those that its method does not have.
+    pub fn arguments(&self) -> [i64; 2]
+        ensures { result ≡ arguments self.now }
+    {
+        [self.first, self.second]
+    }
 }
 
 /// How the records of a run were recorded.
@@ -56,4 +119,33 @@ pub enum Style {
     Hardware,
     /// A transaction may read what others published and did not commit.
     Dependent,
+}
+
+impl Style {
+    /// Its word in a header.
+    pub fn word(self) -> &'static str
+        ensures { result.now ≡ style_word self }
+    {
+        match self {
+            Style::Rules => "rules",
+            Style::Boosted => "boosted",
+            Style::Optimistic => "optimistic",
+            Style::Hardware => "hardware",
+            Style::Dependent => "dependent",
+        }
+    }
+
+    /// The style whose word this is.
+    pub fn named(word: &str) -> Option<Style>
+        ensures { result ≡ named style_word styles word.now }
+    {
+        match word {
+            "rules" => Some(Style::Rules),
+            "boosted" => Some(Style::Boosted),
+            "optimistic" => Some(Style::Optimistic),
+            "hardware" => Some(Style::Hardware),
+            "dependent" => Some(Style::Dependent),
+            _ => None,
+        }
+    }
 }

@@ -1,7 +1,9 @@
+//! The objects of a run.
 ghost use Rattle.std.specs.Prelude.{◌≡◌, ◌<◌, ◌≤◌, [], ◌∷◌, ◌++◌, length, map, slice_get, is_none, if◌then◌else◌, Some, IfOk, IfSome, OnErr};
 
 use crate::answer::OutOfMemory;
 use crate::call::{Kind, Kinds};
+use crate::limits::MOST_OBJECTS;
 use crate::name::Name;
 use indexmap::IndexMap;
 use std::alloc::Global;
@@ -18,16 +20,17 @@ impl Model for Catalog {
     ghost use Rattle.std.specs.Str.{bytes_eq};
     ghost use Rattle.indexmap.specs.IndexMap.{IsUnique};
     ghost use Rattle.pp_core.specs.declared.call.Kind.{Kind};
+    ghost use Rattle.pp_core.specs.declared.limits.TheConstants.{MOST_OBJECTS};
 
     ghost Value = { List (List ℕ × Kind) };
 
     ghost view = { λ c. c.objects.entries };
 
-    ghost invariant = { λ c. IsUnique bytes_eq c.objects × (length c.objects.entries ≤ 256) };
+    ghost invariant = { λ c. IsUnique bytes_eq c.objects × (length c.objects.entries ≤ MOST_OBJECTS) };
 }
 
 impl Catalog {
-    ghost use Rattle.pp_core.specs.Catalogs.{place_of};
+    ghost use Rattle.pp_core.specs.Catalogs.{place_of, with_one_more, HasDistinctNames};
 
     /// No object.
     pub fn new(alloc: Global) -> Catalog
@@ -38,19 +41,20 @@ impl Catalog {
         }
     }
 
-    /// How many objects there are.
+    /// How many objects there are. Their names are distinct.
     pub fn len(&self) -> usize
         ensures len { result ≡ length self.now }
-        ensures few { result ≤ 256 }
+        ensures few { result ≤ MOST_OBJECTS }
+        ensures distinct { HasDistinctNames self.now }
     {
         self.objects.len()
     }
 
     /// Adds an object at the end, and answers false where its name is there already.
     pub fn add(&mut self, name: Name, kind: Kind) -> Result<bool, OutOfMemory>
-        requires { length self.old < 256 }
+        requires { length self.old < MOST_OBJECTS }
         ensures added { IfOk result (λ added. added ≡ is_none (place_of name self.old)) }
-        ensures objects { IfOk result (λ added. self.new ≡ (if added then self.old ++ (name, kind) ∷ [] else self.old)) }
+        ensures objects { IfOk result (λ added. self.new ≡ with_one_more added name kind self.old) }
         ensures err { OnErr result (self.new ≡ self.old) }
     {
         if self.objects.get_index_of(&name).is_some() {

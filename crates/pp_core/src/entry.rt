@@ -1,3 +1,4 @@
+//! Entries of logs, and lists of operations.
 use crate::name::Name;
 use crate::sequence::Sequence;
 

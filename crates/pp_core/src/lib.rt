@@ -21,8 +21,8 @@ pub use call::{Call, Kind, Kinds, Method, Style};
 pub use catalog::Catalog;
 pub use entry::{Committed, CommittedTx, Item, Items, LocalEntry, Mark, Ops, SharedEntry};
 pub use limits::{
-    LONGEST_LINE, MOST_BODY_NODES, MOST_BYTES, MOST_DEPTH, MOST_LINES, MOST_OBJECTS, MOST_STEPS,
-    MOST_TRANSACTIONS,
+    LONGEST_LINE, LONGEST_NAME, MOST_BODY_NODES, MOST_BYTES, MOST_DEPTH, MOST_LINES, MOST_OBJECTS,
+    MOST_STEPS, MOST_TRANSACTIONS,
 };
 pub use member::Member;
 pub use name::Name;

@@ -1,3 +1,5 @@
+//! The limits of an input and of a run.
+
 /// The most bytes of an input.
 pub const MOST_BYTES: u64 = 268_435_456;
 
@@ -21,3 +23,6 @@ pub const MOST_BODY_NODES: u32 = 64;
 
 /// The greatest depth of a body.
 pub const MOST_DEPTH: u32 = 16;
+
+/// The most bytes of a name.
+pub const LONGEST_NAME: usize = 24;

@@ -1,3 +1,4 @@
+//! Names of transactions, threads and objects.
 ghost use Rattle.std.specs.Prelude.{◌≡◌, ◌≤◌, ◌<◌, IfSome, IsSome, ◌↔◌, length, IsTrue, ◌++◌, ◌-◌, replicate};
 ghost use Rattle.std.specs.List.{list_all};
 ghost use Rattle.std.specs.Str.{bytes_eq};
@@ -6,34 +7,35 @@ ghost use Rattle.std.specs.Cmp.Rules.{hashing};
 ghost use Rattle.std.specs.Hash as fed;
 ghost use Rattle.std.proofs.Common.{rules};
 ghost use Rattle.std.proofs.lemmas.Cmp.{nat_list_eq_equiv};
-ghost use Rattle.pp_core.specs.Names.{IsName, is_name_byte};
+ghost use Rattle.pp_core.specs.Names.{IsName, is_name_byte, padded};
 
+use crate::limits::LONGEST_NAME;
 use std::hash::{Hash, Hasher};
 use std::marker::Model;
 
 /// A name: 1 to 24 bytes out of letters, digits, `_`, `.` and `-`.
 #[derive(Clone, Copy)]
 pub struct Name {
-    bytes: [u8; 24],
+    bytes: [u8; LONGEST_NAME],
     len: usize,
 }
 
 impl Model for Name {
-    ghost use Rattle.std.specs.Prelude.{ℕ, List, ◌++◌, ◌-◌, ◌≡◌, take, replicate, length};
+    ghost use Rattle.std.specs.Prelude.{ℕ, List, take, length};
     ghost use Rattle.std.specs.Coded.{coded_list, coded_ℕ};
 
     ghost Value = { List ℕ };
 
     ghost coded = { coded_list coded_ℕ };
 
-    ghost use Rattle.pp_core.specs.Names.{IsName};
+    ghost use Rattle.pp_core.specs.Names.{padded, IsPadded};
     ghost use Rattle.std.proofs.Common.{sym};
 
     ghost view = { λ a. take a.len a.bytes };
 
-    ghost invariant = { λ a. IsName (take a.len a.bytes) × (a.len ≡ length (take a.len a.bytes)) × (a.bytes ≡ take a.len a.bytes ++ replicate (24 - length (take a.len a.bytes)) 0) };
+    ghost invariant = { λ a. IsPadded a.bytes a.len (take a.len a.bytes) };
 
-    ghost inverse = { λ text. record { bytes = text ++ replicate (24 - length text) 0; len = length text } };
+    ghost inverse = { λ text. record { bytes = padded text; len = length text } };
 
     ghost inverse_ok = { λ a h i. record { bytes = sym h.2 i; len = sym h.1 i } };
 }
@@ -77,9 +79,9 @@ fn all_name_bytes(bytes: &[u8]) -> bool
 }
 
 /// The bytes, and zeros behind them.
-fn padded(bytes: &[u8]) -> [u8; 24]
-    requires { length bytes.now ≤ 24 }
-    ensures { result ≡ bytes.now ++ replicate (24 - length bytes.now) 0 }
+fn padded(bytes: &[u8]) -> [u8; LONGEST_NAME]
+    requires { length bytes.now ≤ LONGEST_NAME }
+    ensures { result ≡ padded bytes.now }
 {
     let mut kept = [0; 24];
     kept[..bytes.len()].copy_from_slice(bytes);
@@ -92,7 +94,7 @@ impl Name {
         ensures name { IfSome result (λ name. name ≡ bytes.now) }
         ensures read { IsSome result ↔ IsName bytes.now }
     {
-        if bytes.is_empty() || bytes.len() > 24 || !all_name_bytes(bytes) {
+        if bytes.is_empty() || bytes.len() > LONGEST_NAME || !all_name_bytes(bytes) {
             return None;
         }
         Some(Name {

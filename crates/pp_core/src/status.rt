@@ -1,3 +1,4 @@
+//! How a command ends.
 ghost use Rattle.std.specs.Prelude.{◌≡◌};
 ghost use Rattle.pp_core.specs.Statuses.{code_of};
 

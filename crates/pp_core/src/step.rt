@@ -1,5 +1,7 @@
+//! The steps of the machine, and the rules that they follow.
 ghost use Rattle.std.specs.Prelude.{◌≡◌};
 ghost use Rattle.pp_core.specs.Steps.{meaning, rule_of};
+ghost use Rattle.pp_core.specs.Words.{rule_word};
 
 use crate::body::Body;
 use crate::name::Name;
@@ -61,6 +63,26 @@ pub enum Rule {
     Cmt,
     Quit,
     Note,
+}
+
+impl Rule {
+    /// Its name in a report.
+    pub fn word(self) -> &'static str
+        ensures { result.now ≡ rule_word self }
+    {
+        match self {
+            Rule::Begin => "BEGIN",
+            Rule::App => "APP",
+            Rule::Unapp => "UNAPP",
+            Rule::Push => "PUSH",
+            Rule::Unpush => "UNPUSH",
+            Rule::Pull => "PULL",
+            Rule::Unpull => "UNPULL",
+            Rule::Cmt => "CMT",
+            Rule::Quit => "QUIT",
+            Rule::Note => "NOTE",
+        }
+    }
 }
 
 /// The rule of a step.

@@ -1,3 +1,4 @@
+//! Texts, and the words of a command.
 ghost use Rattle.std.specs.Prelude.{◌≡◌, [], ◌∷◌, ◌++◌, length, slice_get, option_map, OnOk, OnErr};
 ghost use Rattle.std.specs.Option.{option_copied};
 

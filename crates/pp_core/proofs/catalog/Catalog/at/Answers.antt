@@ -1,7 +1,5 @@
-use Rattle.std.proofs.Common.{◌≡◌, Some, sym, ◌∙◌, slice_get, subst, rules}
-use Rattle.std.specs.Map.{keys_of}
+use Rattle.std.proofs.Common.{◌≡◌, Some, slice_get, subst, rules}
 use Rattle.pp_core.specs.Catalogs.{place_of}
-use Rattle.pp_core.specs.declared.call.Kind.{Kind}
 use Rattle.pp_core.proofs.Places.{found_at_place}
 use Rattle.pp_core.proofs.catalog.Catalog.at.Goals as goal
 
