@@ -2,3 +2,4 @@ pub mod Alone
 pub mod There
 pub mod Items
 pub mod Made
+pub mod Named

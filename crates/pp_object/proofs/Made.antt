@@ -27,20 +27,20 @@ IsActOf kind c answer a = IsTrue (fits kind a) × (record (call_of a) { object =
 called : ℕ → Method → ℤ → ℤ → Call
 called o m x y = record { object = o; method = m; first = x; second = y }
 
-memory_made : (o : ℕ) (m : Method) (x y : ℤ) (answer : Answer) → IfSome (memory_act m x y answer) (IsActOf kinds.Memory (called o m x y) answer)
+memory_made : (o : ℕ) (m : Method) (x y : ℤ) (answer : Answer) → IfSome (memory_act m (called o m x y) answer) (IsActOf kinds.Memory (called o m x y) answer)
 unfolding IsActOf called
 memory_made o methods.Read x y (answers.Number v) = (refl, refl, refl)
 memory_made o methods.Write x y answers.None = (refl, refl, refl)
 memory_made o m x y answer = tt
 
-set_made : (o : ℕ) (m : Method) (x y : ℤ) (answer : Answer) → IfSome (set_act m x answer) (IsActOf kinds.KeySet (called o m x y) answer)
+set_made : (o : ℕ) (m : Method) (x y : ℤ) (answer : Answer) → IfSome (set_act m (called o m x y) answer) (IsActOf kinds.KeySet (called o m x y) answer)
 unfolding IsActOf called
 set_made o methods.Add x y (answers.Truth t) = (refl, refl, refl)
 set_made o methods.Remove x y (answers.Truth t) = (refl, refl, refl)
 set_made o methods.Contains x y (answers.Truth t) = (refl, refl, refl)
 set_made o m x y answer = tt
 
-map_made : (o : ℕ) (m : Method) (x y : ℤ) (answer : Answer) → IfSome (map_act m x y answer) (IsActOf kinds.KeyMap (called o m x y) answer)
+map_made : (o : ℕ) (m : Method) (x y : ℤ) (answer : Answer) → IfSome (map_act m (called o m x y) answer) (IsActOf kinds.KeyMap (called o m x y) answer)
 unfolding IsActOf called
 map_made o m x y (answers.Truth t) = tt
 map_made o methods.Put x y answers.None = (refl, refl, refl)
@@ -51,14 +51,14 @@ map_made o methods.Remove x y answers.None = (refl, refl, refl)
 map_made o methods.Remove x y (answers.Number v) = (refl, refl, refl)
 map_made o m x y answer = tt
 
-counter_made : (o : ℕ) (m : Method) (x y : ℤ) (answer : Answer) → IfSome (counter_act m x answer) (IsActOf kinds.Counter (called o m x y) answer)
+counter_made : (o : ℕ) (m : Method) (x y : ℤ) (answer : Answer) → IfSome (counter_act m (called o m x y) answer) (IsActOf kinds.Counter (called o m x y) answer)
 unfolding IsActOf called
 counter_made o methods.Add x y answers.None = (refl, refl, refl)
 counter_made o methods.Get x y (answers.Number v) = (refl, refl, refl)
 counter_made o methods.FetchAdd x y (answers.Number v) = (refl, refl, refl)
 counter_made o m x y answer = tt
 
-queue_made : (o : ℕ) (m : Method) (x y : ℤ) (answer : Answer) → IfSome (queue_act m x answer) (IsActOf kinds.Queue (called o m x y) answer)
+queue_made : (o : ℕ) (m : Method) (x y : ℤ) (answer : Answer) → IfSome (queue_act m (called o m x y) answer) (IsActOf kinds.Queue (called o m x y) answer)
 unfolding IsActOf called
 queue_made o methods.Enq x y answers.None = (refl, refl, refl)
 queue_made o methods.Deq x y answers.None = (refl, refl, refl)
@@ -103,102 +103,102 @@ has_method (Queue (queues.Deq found)) = inr (inl refl)
 IsFormed : Kind → Method → Answer → Type 0
 IsFormed kind m answer = HasMethod kind m × IsTrue (has_form (form_of kind m) answer)
 
-memory_formed : (m : Method) (x y : ℤ) (answer : Answer) → IsSome (memory_act m x y answer) → IsFormed kinds.Memory m answer
+memory_formed : (m : Method) (c : Call) (answer : Answer) → IsSome (memory_act m c answer) → IsFormed kinds.Memory m answer
 unfolding IsFormed
-memory_formed methods.Read x y (answers.Number v) h = (inl refl, refl)
-memory_formed methods.Write x y answers.None h = (inr (inl refl), refl)
-memory_formed m x y answer h = absurd (cc)
+memory_formed methods.Read c (answers.Number v) h = (inl refl, refl)
+memory_formed methods.Write c answers.None h = (inr (inl refl), refl)
+memory_formed m c answer h = absurd (cc)
 
-memory_some : (m : Method) (x y : ℤ) (answer : Answer) → HasMethod kinds.Memory m → IsTrue (has_form (form_of kinds.Memory m) answer) → IsSome (memory_act m x y answer)
-memory_some methods.Read x y (answers.Number v) h form = refl
-memory_some methods.Read x y answer h form = absurd (cc)
-memory_some methods.Write x y answers.None h form = refl
-memory_some methods.Write x y answer h form = absurd (cc)
-memory_some m x y answer h form = elim h [ inl e ↦ absurd (cc) | inr h0 ↦ elim h0 [ inl e ↦ absurd (cc) | inr h1 ↦ absurd h1 ] ]
+memory_some : (m : Method) (c : Call) (answer : Answer) → HasMethod kinds.Memory m → IsTrue (has_form (form_of kinds.Memory m) answer) → IsSome (memory_act m c answer)
+memory_some methods.Read c (answers.Number v) h form = refl
+memory_some methods.Read c answer h form = absurd (cc)
+memory_some methods.Write c answers.None h form = refl
+memory_some methods.Write c answer h form = absurd (cc)
+memory_some m c answer h form = elim h [ inl e ↦ absurd (cc) | inr h0 ↦ elim h0 [ inl e ↦ absurd (cc) | inr h1 ↦ absurd h1 ] ]
 
-set_formed : (m : Method) (x : ℤ) (answer : Answer) → IsSome (set_act m x answer) → IsFormed kinds.KeySet m answer
+set_formed : (m : Method) (c : Call) (answer : Answer) → IsSome (set_act m c answer) → IsFormed kinds.KeySet m answer
 unfolding IsFormed
-set_formed methods.Add x (answers.Truth t) h = (inl refl, refl)
-set_formed methods.Remove x (answers.Truth t) h = (inr (inl refl), refl)
-set_formed methods.Contains x (answers.Truth t) h = (inr (inr (inl refl)), refl)
-set_formed m x answer h = absurd (cc)
+set_formed methods.Add c (answers.Truth t) h = (inl refl, refl)
+set_formed methods.Remove c (answers.Truth t) h = (inr (inl refl), refl)
+set_formed methods.Contains c (answers.Truth t) h = (inr (inr (inl refl)), refl)
+set_formed m c answer h = absurd (cc)
 
-set_some : (m : Method) (x : ℤ) (answer : Answer) → HasMethod kinds.KeySet m → IsTrue (has_form (form_of kinds.KeySet m) answer) → IsSome (set_act m x answer)
-set_some methods.Add x (answers.Truth t) h form = refl
-set_some methods.Add x answer h form = absurd (cc)
-set_some methods.Remove x (answers.Truth t) h form = refl
-set_some methods.Remove x answer h form = absurd (cc)
-set_some methods.Contains x (answers.Truth t) h form = refl
-set_some methods.Contains x answer h form = absurd (cc)
-set_some m x answer h form = elim h [ inl e ↦ absurd (cc) | inr h0 ↦ elim h0 [ inl e ↦ absurd (cc) | inr h1 ↦ elim h1 [ inl e ↦ absurd (cc) | inr h2 ↦ absurd h2 ] ] ]
+set_some : (m : Method) (c : Call) (answer : Answer) → HasMethod kinds.KeySet m → IsTrue (has_form (form_of kinds.KeySet m) answer) → IsSome (set_act m c answer)
+set_some methods.Add c (answers.Truth t) h form = refl
+set_some methods.Add c answer h form = absurd (cc)
+set_some methods.Remove c (answers.Truth t) h form = refl
+set_some methods.Remove c answer h form = absurd (cc)
+set_some methods.Contains c (answers.Truth t) h form = refl
+set_some methods.Contains c answer h form = absurd (cc)
+set_some m c answer h form = elim h [ inl e ↦ absurd (cc) | inr h0 ↦ elim h0 [ inl e ↦ absurd (cc) | inr h1 ↦ elim h1 [ inl e ↦ absurd (cc) | inr h2 ↦ absurd h2 ] ] ]
 
-map_formed : (m : Method) (x y : ℤ) (answer : Answer) → IsSome (map_act m x y answer) → IsFormed kinds.KeyMap m answer
+map_formed : (m : Method) (c : Call) (answer : Answer) → IsSome (map_act m c answer) → IsFormed kinds.KeyMap m answer
 unfolding IsFormed
-map_formed methods.Put x y answers.None h = (inl refl, refl)
-map_formed methods.Put x y (answers.Number v) h = (inl refl, refl)
-map_formed methods.Get x y answers.None h = (inr (inl refl), refl)
-map_formed methods.Get x y (answers.Number v) h = (inr (inl refl), refl)
-map_formed methods.Remove x y answers.None h = (inr (inr (inl refl)), refl)
-map_formed methods.Remove x y (answers.Number v) h = (inr (inr (inl refl)), refl)
-map_formed m x y (answers.Truth t) h = absurd (cc)
-map_formed m x y answer h = absurd (cc)
+map_formed methods.Put c answers.None h = (inl refl, refl)
+map_formed methods.Put c (answers.Number v) h = (inl refl, refl)
+map_formed methods.Get c answers.None h = (inr (inl refl), refl)
+map_formed methods.Get c (answers.Number v) h = (inr (inl refl), refl)
+map_formed methods.Remove c answers.None h = (inr (inr (inl refl)), refl)
+map_formed methods.Remove c (answers.Number v) h = (inr (inr (inl refl)), refl)
+map_formed m c (answers.Truth t) h = absurd (cc)
+map_formed m c answer h = absurd (cc)
 
-map_some : (m : Method) (x y : ℤ) (answer : Answer) → HasMethod kinds.KeyMap m → IsTrue (has_form (form_of kinds.KeyMap m) answer) → IsSome (map_act m x y answer)
-map_some methods.Put x y answers.None h form = refl
-map_some methods.Put x y (answers.Number v) h form = refl
-map_some methods.Put x y answer h form = absurd (cc)
-map_some methods.Get x y answers.None h form = refl
-map_some methods.Get x y (answers.Number v) h form = refl
-map_some methods.Get x y answer h form = absurd (cc)
-map_some methods.Remove x y answers.None h form = refl
-map_some methods.Remove x y (answers.Number v) h form = refl
-map_some methods.Remove x y answer h form = absurd (cc)
-map_some m x y answer h form = elim h [ inl e ↦ absurd (cc) | inr h0 ↦ elim h0 [ inl e ↦ absurd (cc) | inr h1 ↦ elim h1 [ inl e ↦ absurd (cc) | inr h2 ↦ absurd h2 ] ] ]
+map_some : (m : Method) (c : Call) (answer : Answer) → HasMethod kinds.KeyMap m → IsTrue (has_form (form_of kinds.KeyMap m) answer) → IsSome (map_act m c answer)
+map_some methods.Put c answers.None h form = refl
+map_some methods.Put c (answers.Number v) h form = refl
+map_some methods.Put c answer h form = absurd (cc)
+map_some methods.Get c answers.None h form = refl
+map_some methods.Get c (answers.Number v) h form = refl
+map_some methods.Get c answer h form = absurd (cc)
+map_some methods.Remove c answers.None h form = refl
+map_some methods.Remove c (answers.Number v) h form = refl
+map_some methods.Remove c answer h form = absurd (cc)
+map_some m c answer h form = elim h [ inl e ↦ absurd (cc) | inr h0 ↦ elim h0 [ inl e ↦ absurd (cc) | inr h1 ↦ elim h1 [ inl e ↦ absurd (cc) | inr h2 ↦ absurd h2 ] ] ]
 
-counter_formed : (m : Method) (x : ℤ) (answer : Answer) → IsSome (counter_act m x answer) → IsFormed kinds.Counter m answer
+counter_formed : (m : Method) (c : Call) (answer : Answer) → IsSome (counter_act m c answer) → IsFormed kinds.Counter m answer
 unfolding IsFormed
-counter_formed methods.Add x answers.None h = (inl refl, refl)
-counter_formed methods.Get x (answers.Number v) h = (inr (inl refl), refl)
-counter_formed methods.FetchAdd x (answers.Number v) h = (inr (inr (inl refl)), refl)
-counter_formed m x answer h = absurd (cc)
+counter_formed methods.Add c answers.None h = (inl refl, refl)
+counter_formed methods.Get c (answers.Number v) h = (inr (inl refl), refl)
+counter_formed methods.FetchAdd c (answers.Number v) h = (inr (inr (inl refl)), refl)
+counter_formed m c answer h = absurd (cc)
 
-counter_some : (m : Method) (x : ℤ) (answer : Answer) → HasMethod kinds.Counter m → IsTrue (has_form (form_of kinds.Counter m) answer) → IsSome (counter_act m x answer)
-counter_some methods.Add x answers.None h form = refl
-counter_some methods.Add x answer h form = absurd (cc)
-counter_some methods.Get x (answers.Number v) h form = refl
-counter_some methods.Get x answer h form = absurd (cc)
-counter_some methods.FetchAdd x (answers.Number v) h form = refl
-counter_some methods.FetchAdd x answer h form = absurd (cc)
-counter_some m x answer h form = elim h [ inl e ↦ absurd (cc) | inr h0 ↦ elim h0 [ inl e ↦ absurd (cc) | inr h1 ↦ elim h1 [ inl e ↦ absurd (cc) | inr h2 ↦ absurd h2 ] ] ]
+counter_some : (m : Method) (c : Call) (answer : Answer) → HasMethod kinds.Counter m → IsTrue (has_form (form_of kinds.Counter m) answer) → IsSome (counter_act m c answer)
+counter_some methods.Add c answers.None h form = refl
+counter_some methods.Add c answer h form = absurd (cc)
+counter_some methods.Get c (answers.Number v) h form = refl
+counter_some methods.Get c answer h form = absurd (cc)
+counter_some methods.FetchAdd c (answers.Number v) h form = refl
+counter_some methods.FetchAdd c answer h form = absurd (cc)
+counter_some m c answer h form = elim h [ inl e ↦ absurd (cc) | inr h0 ↦ elim h0 [ inl e ↦ absurd (cc) | inr h1 ↦ elim h1 [ inl e ↦ absurd (cc) | inr h2 ↦ absurd h2 ] ] ]
 
-queue_formed : (m : Method) (x : ℤ) (answer : Answer) → IsSome (queue_act m x answer) → IsFormed kinds.Queue m answer
+queue_formed : (m : Method) (c : Call) (answer : Answer) → IsSome (queue_act m c answer) → IsFormed kinds.Queue m answer
 unfolding IsFormed
-queue_formed methods.Enq x answers.None h = (inl refl, refl)
-queue_formed methods.Deq x answers.None h = (inr (inl refl), refl)
-queue_formed methods.Deq x (answers.Number v) h = (inr (inl refl), refl)
-queue_formed m x answer h = absurd (cc)
+queue_formed methods.Enq c answers.None h = (inl refl, refl)
+queue_formed methods.Deq c answers.None h = (inr (inl refl), refl)
+queue_formed methods.Deq c (answers.Number v) h = (inr (inl refl), refl)
+queue_formed m c answer h = absurd (cc)
 
-queue_some : (m : Method) (x : ℤ) (answer : Answer) → HasMethod kinds.Queue m → IsTrue (has_form (form_of kinds.Queue m) answer) → IsSome (queue_act m x answer)
-queue_some methods.Enq x answers.None h form = refl
-queue_some methods.Enq x answer h form = absurd (cc)
-queue_some methods.Deq x answers.None h form = refl
-queue_some methods.Deq x (answers.Number v) h form = refl
-queue_some methods.Deq x answer h form = absurd (cc)
-queue_some m x answer h form = elim h [ inl e ↦ absurd (cc) | inr h0 ↦ elim h0 [ inl e ↦ absurd (cc) | inr h1 ↦ absurd h1 ] ]
+queue_some : (m : Method) (c : Call) (answer : Answer) → HasMethod kinds.Queue m → IsTrue (has_form (form_of kinds.Queue m) answer) → IsSome (queue_act m c answer)
+queue_some methods.Enq c answers.None h form = refl
+queue_some methods.Enq c answer h form = absurd (cc)
+queue_some methods.Deq c answers.None h form = refl
+queue_some methods.Deq c (answers.Number v) h form = refl
+queue_some methods.Deq c answer h form = absurd (cc)
+queue_some m c answer h form = elim h [ inl e ↦ absurd (cc) | inr h0 ↦ elim h0 [ inl e ↦ absurd (cc) | inr h1 ↦ absurd h1 ] ]
 
 act_formed : (kind : Kind) (c : Call) (answer : Answer) → IsSome (act_made kind c answer) → IsFormed kind c.method answer
-act_formed kinds.Memory c answer h = memory_formed c.method c.first c.second answer h
-act_formed kinds.KeySet c answer h = set_formed c.method c.first answer h
-act_formed kinds.KeyMap c answer h = map_formed c.method c.first c.second answer h
-act_formed kinds.Counter c answer h = counter_formed c.method c.first answer h
-act_formed kinds.Queue c answer h = queue_formed c.method c.first answer h
+act_formed kinds.Memory c answer h = memory_formed c.method c answer h
+act_formed kinds.KeySet c answer h = set_formed c.method c answer h
+act_formed kinds.KeyMap c answer h = map_formed c.method c answer h
+act_formed kinds.Counter c answer h = counter_formed c.method c answer h
+act_formed kinds.Queue c answer h = queue_formed c.method c answer h
 
 act_some : (kind : Kind) (c : Call) (answer : Answer) → HasMethod kind c.method → IsTrue (has_form (form_of kind c.method) answer) → IsSome (act_made kind c answer)
-act_some kinds.Memory c answer h form = memory_some c.method c.first c.second answer h form
-act_some kinds.KeySet c answer h form = set_some c.method c.first answer h form
-act_some kinds.KeyMap c answer h form = map_some c.method c.first c.second answer h form
-act_some kinds.Counter c answer h form = counter_some c.method c.first answer h form
-act_some kinds.Queue c answer h form = queue_some c.method c.first answer h form
+act_some kinds.Memory c answer h form = memory_some c.method c answer h form
+act_some kinds.KeySet c answer h form = set_some c.method c answer h form
+act_some kinds.KeyMap c answer h form = map_some c.method c answer h form
+act_some kinds.Counter c answer h form = counter_some c.method c answer h form
+act_some kinds.Queue c answer h form = queue_some c.method c answer h form
 
 -- An act is ranged exactly where its call and its result are.
 module _ (kind : Kind) (c : Call) (answer : Answer) (a : Act) (made : act_made kind c answer ≡ Some a) where

@@ -1,6 +1,10 @@
-ghost use Rattle.std.specs.Prelude.{◌≡◌, ◌≢◌, ◌↔◌, IsTrue, IsSome, IfSome, None, negsuc, pos, ◌≤ℤ◌};
+//! The calls of the kinds, and the operations that records make of them.
+ghost use Rattle.std.specs.Prelude.{◌≡◌, ◌↔◌, IsTrue, IsSome, IfSome, None};
+ghost use Rattle.pp_core.specs.Words.{named, method_word};
 ghost use Rattle.pp_spec.specs.Numbers.{is_ranged_answer};
-ghost use Rattle.pp_object.specs.Calls.{word_of, methods_of, HasMethod, first_named, arity_of, act_made, memory_act, set_act, map_act, counter_act, queue_act, value_of, op_made, IsCallOf, IsOpOf};
+ghost use Rattle.pp_object.specs.Calls.{methods_of, HasMethod, HasMethodNamed, method_named};
+ghost use Rattle.pp_object.specs.Calls.{arity_of, value_of, memory_act, set_act, map_act, counter_act, queue_act};
+ghost use Rattle.pp_object.specs.Calls.{act_made, op_made, IsCallOf, IsOpOf};
 
 use crate::act::{Act, Op};
 use pp_core::{Answer, Call, Kind, Method};
@@ -9,105 +13,40 @@ use pp_map::MapOp;
 use pp_mem::MemOp;
 use pp_queue::QueueOp;
 use pp_set::SetOp;
-use pp_spec::GREATEST_NUMBER;
+use pp_spec::in_range;
 
-/// The word of a method in records.
-pub fn method_word(method: Method) -> &'static [u8]
-    ensures { result.now ≡ word_of method }
+/// The methods of the objects of a kind.
+fn methods(kind: Kind) -> &'static [Method]
+    ensures { result.now ≡ methods_of kind }
 {
-    match method {
-        Method::Read => b"read",
-        Method::Write => b"write",
-        Method::Add => b"add",
-        Method::Remove => b"remove",
-        Method::Contains => b"contains",
-        Method::Put => b"put",
-        Method::Get => b"get",
-        Method::FetchAdd => b"fetch_add",
-        Method::Enq => b"enq",
-        Method::Deq => b"deq",
+    match kind {
+        Kind::Memory => &[Method::Read, Method::Write],
+        Kind::KeySet => &[Method::Add, Method::Remove, Method::Contains],
+        Kind::KeyMap => &[Method::Put, Method::Get, Method::Remove],
+        Kind::Counter => &[Method::Add, Method::Get, Method::FetchAdd],
+        Kind::Queue => &[Method::Enq, Method::Deq],
     }
+}
+
+/// Of these methods the first whose word this is.
+fn first_named(methods: &[Method], word: &[u8]) -> Option<Method>
+    ensures { result ≡ named method_word methods.now word.now }
+{
+    for method in methods {
+        if word == method.word().as_bytes() {
+            return Some(*method);
+        }
+    }
+    None
 }
 
 /// The method that a kind's objects have under this word.
 pub fn method_of(kind: Kind, word: &[u8]) -> Option<Method>
-    ensures value { result ≡ first_named (methods_of kind) word.now }
-    ensures found { IfSome result (λ method. HasMethod kind method × (word_of method ≡ word.now)) }
-    ensures none { result ≡ None → (method : Method) → HasMethod kind method → word_of method ≢ word.now }
+    ensures value { result ≡ method_named kind word.now }
+    ensures found { IfSome result (HasMethodNamed kind word.now) }
+    ensures none { result ≡ None → (method : Method) → ¬ (HasMethodNamed kind word.now method) }
 {
-    match kind {
-        Kind::Memory => memory_method(word),
-        Kind::KeySet => set_method(word),
-        Kind::KeyMap => map_method(word),
-        Kind::Counter => counter_method(word),
-        Kind::Queue => queue_method(word),
-    }
-}
-
-fn memory_method(word: &[u8]) -> Option<Method>
-    ensures { result ≡ first_named (methods_of Kind.Memory) word.now }
-{
-    if word == b"read".as_slice() {
-        Some(Method::Read)
-    } else if word == b"write".as_slice() {
-        Some(Method::Write)
-    } else {
-        None
-    }
-}
-
-fn set_method(word: &[u8]) -> Option<Method>
-    ensures { result ≡ first_named (methods_of Kind.KeySet) word.now }
-{
-    if word == b"add".as_slice() {
-        Some(Method::Add)
-    } else if word == b"remove".as_slice() {
-        Some(Method::Remove)
-    } else if word == b"contains".as_slice() {
-        Some(Method::Contains)
-    } else {
-        None
-    }
-}
-
-fn map_method(word: &[u8]) -> Option<Method>
-    ensures { result ≡ first_named (methods_of Kind.KeyMap) word.now }
-{
-    if word == b"put".as_slice() {
-        Some(Method::Put)
-    } else if word == b"get".as_slice() {
-        Some(Method::Get)
-    } else if word == b"remove".as_slice() {
-        Some(Method::Remove)
-    } else {
-        None
-    }
-}
-
-fn counter_method(word: &[u8]) -> Option<Method>
-    ensures { result ≡ first_named (methods_of Kind.Counter) word.now }
-{
-    if word == b"add".as_slice() {
-        Some(Method::Add)
-    } else if word == b"get".as_slice() {
-        Some(Method::Get)
-    } else if word == b"fetch_add".as_slice() {
-        Some(Method::FetchAdd)
-    } else {
-        None
-    }
-}
-
-fn queue_method(word: &[u8]) -> Option<Method>
-    ensures { result ≡ first_named (methods_of Kind.Queue) word.now }
-{
-    if word == b"enq".as_slice() {
-        Some(Method::Enq)
-    } else if word == b"deq".as_slice() {
-        Some(Method::Deq)
-    } else {
-        None
-    }
+    first_named(methods(kind), word)
 }
 
 /// How many arguments a call of this method has.
@@ -131,17 +70,17 @@ fn answer_ranged(answer: &Answer) -> bool
     ensures { result ≡ is_ranged_answer answer.now }
 {
     match *answer {
-        Answer::Number(number) => {
-            let greatest = i128::from(GREATEST_NUMBER);
-            -greatest <= number && number <= greatest
-        }
+        Answer::Number(number) => match i64::try_from(number) {
+            Ok(number) => in_range(number),
+            Err(_) => false,
+        },
         _ => true,
     }
 }
 
 fn memory_act(call: &Call, answer: &Answer) -> Option<Act>
     requires { IsTrue (is_ranged_answer answer.now) }
-    ensures { result ≡ memory_act call.now.method call.now.first call.now.second answer.now }
+    ensures { result ≡ memory_act call.now.method call.now answer.now }
 {
     match (call.method, *answer) {
         (Method::Read, Answer::Number(value)) => Some(Act::Memory(MemOp::Read {
@@ -157,7 +96,7 @@ fn memory_act(call: &Call, answer: &Answer) -> Option<Act>
 }
 
 fn set_act(call: &Call, answer: &Answer) -> Option<Act>
-    ensures { result ≡ set_act call.now.method call.now.first answer.now }
+    ensures { result ≡ set_act call.now.method call.now answer.now }
 {
     let key = call.first;
     match (call.method, *answer) {
@@ -186,7 +125,7 @@ fn found(answer: &Answer) -> Option<Option<i64>>
 
 fn map_act(call: &Call, answer: &Answer) -> Option<Act>
     requires { IsTrue (is_ranged_answer answer.now) }
-    ensures { result ≡ map_act call.now.method call.now.first call.now.second answer.now }
+    ensures { result ≡ map_act call.now.method call.now answer.now }
 {
     let key = call.first;
     let found = found(answer)?;
@@ -204,7 +143,7 @@ fn map_act(call: &Call, answer: &Answer) -> Option<Act>
 
 fn counter_act(call: &Call, answer: &Answer) -> Option<Act>
     requires { IsTrue (is_ranged_answer answer.now) }
-    ensures { result ≡ counter_act call.now.method call.now.first answer.now }
+    ensures { result ≡ counter_act call.now.method call.now answer.now }
 {
     let by = call.first;
     match (call.method, *answer) {
@@ -222,7 +161,7 @@ fn counter_act(call: &Call, answer: &Answer) -> Option<Act>
 
 fn queue_act(call: &Call, answer: &Answer) -> Option<Act>
     requires { IsTrue (is_ranged_answer answer.now) }
-    ensures { result ≡ queue_act call.now.method call.now.first answer.now }
+    ensures { result ≡ queue_act call.now.method call.now answer.now }
 {
     match (call.method, *answer) {
         (Method::Enq, Answer::None) => Some(Act::Queue(QueueOp::Enq { value: call.first })),

@@ -11,7 +11,7 @@ mod pieces;
 mod states;
 
 pub use act::{Act, Op};
-pub use calls::{arity, make_op, method_of, method_word};
+pub use calls::{arity, make_op, method_of};
 pub use form::{Form, answer_form};
 pub use objects::Objects;
 pub use one::OneObject;

@@ -1,11 +1,19 @@
--- What follows where states are those of a catalog.
-use Rattle.std.proofs.Common.{◌≡◌, List, length, sym, ◌∙◌, ap}
-use Rattle.std.proofs.lemmas.List.{length-map}
+-- What follows where an object of the catalog has a state of its kind.
+use Rattle.std.proofs.Common.{◌≡◌, ◌<◌, ℕ, zero, suc, List, [], ◌∷◌, length, map, slice_get, Some, arith}
 use Rattle.pp_core.specs.Catalogs.{Objects}
 use Rattle.pp_object.specs.declared.states.ObjectState.{ObjectState}
-use Rattle.pp_object.specs.One.{kind_of}
-use Rattle.pp_text.specs.Texts.{AreStatesOf}
+use Rattle.pp_text.specs.Texts.{IsObjectOf}
 
--- there are as many states as objects
-pub as_many : (catalog : Objects) (states : List ObjectState) → AreStatesOf catalog states → length states ≡ length catalog
-as_many catalog states same = sym (length-map states kind_of) ∙ ap length same ∙ length-map catalog (λ entry. entry.1)
+-- an item of a list of images is the image of an item
+below : {A B : Type 0} (f : A → B) (xs : List A) (i : ℕ) (y : B) → slice_get (map f xs) i ≡ Some y → i < length xs
+below f [] i y at = absurd (cc)
+below f (x ∷ xs) zero y at = omega arith
+below f (x ∷ xs) (suc i) y at = let lt = below f xs i y at in omega arith
+
+-- the catalog has the object
+pub is_named : (catalog : Objects) (states : List ObjectState) (place : ℕ) → IsObjectOf catalog states place → place < length catalog
+is_named catalog states place is = below _ catalog place is.0 is.1
+
+-- the states have the object
+pub has_state : (catalog : Objects) (states : List ObjectState) (place : ℕ) → IsObjectOf catalog states place → place < length states
+has_state catalog states place is = below _ states place is.0 is.2

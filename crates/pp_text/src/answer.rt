@@ -1,3 +1,4 @@
+//! Results of calls as text.
 ghost use Rattle.std.specs.Prelude.{◌≡◌, ◌++◌, IfOk, OnOk};
 ghost use Rattle.pp_text.specs.Texts.{answer_bytes};
 

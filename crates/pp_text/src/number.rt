@@ -1,3 +1,4 @@
+//! Numbers as text.
 ghost use Rattle.std.specs.Prelude.{◌≡◌, ◌++◌, OnOk, OnErr};
 ghost use Rattle.std.specs.Fmt.{decimal, signed_decimal};
 
@@ -13,8 +14,8 @@ pub fn write_number(text: &mut Text, number: u64) -> Result<(), OutOfMemory>
     text.append(buffer.format(number).as_bytes())
 }
 
-/// Adds an integer in decimal digits, with a `-` where it is negative. The only error is that memory was
-/// refused.
+/// Adds an integer in decimal digits, with a `-` where it is negative. The only error is that memory
+/// was refused.
 pub fn write_integer(text: &mut Text, integer: i128) -> Result<(), OutOfMemory>
     ensures ok { OnOk result (text.new ≡ text.old ++ signed_decimal integer) }
     ensures err { OnErr result (text.new ≡ text.old) }

@@ -1,10 +1,12 @@
-ghost use Rattle.std.specs.Prelude.{◌≡◌, ◌<◌, ◌++◌, length, IfOk, OnOk};
-ghost use Rattle.pp_text.specs.Texts.{IsNamed, name_at, arguments_bytes, call_bytes, op_bytes};
+//! Operations as text.
+ghost use Rattle.std.specs.Prelude.{◌≡◌, ◌<◌, ◌++◌, codes, length, IfOk, OnOk};
+ghost use Rattle.std.specs.Fmt.{signed_decimal};
+ghost use Rattle.pp_text.specs.Texts.{IsNamed, name_at, more_bytes, arguments_bytes, call_bytes, op_bytes};
 
 use crate::answer::write_answer;
 use crate::number::write_integer;
-use pp_core::{Call, Catalog, Name, OutOfMemory, Text};
-use pp_object::{Act, Op, method_word};
+use pp_core::{Catalog, Name, OutOfMemory, Text};
+use pp_object::{Act, Op};
 use std::alloc::Global;
 
 /// The name of an object of the catalog.
@@ -18,29 +20,46 @@ pub(crate) fn name_at(catalog: &Catalog, object: u16) -> Name
     }
 }
 
-/// Adds the arguments of a call that has so many.
-fn write_arguments(text: &mut Text, count: usize, call: &Call) -> Result<(), OutOfMemory>
-    ensures { OnOk result (text.new ≡ text.old ++ arguments_bytes count call.now) }
+/// Adds numbers, each behind a comma.
+fn write_more(text: &mut Text, numbers: &[i64]) -> Result<(), OutOfMemory>
+    ensures { OnOk result (text.new ≡ text.old ++ more_bytes numbers.now) }
 {
-    match count {
-        0 => Ok(()),
-        1 => write_integer(text, i128::from(call.first)),
-        _ => {
-            write_integer(text, i128::from(call.first))?;
-            text.append(b",")?;
-            write_integer(text, i128::from(call.second))
+    for number in numbers {
+        write_next(text, *number)?;
+    }
+    Ok(())
+}
+
+/// Adds a number behind a comma.
+fn write_next(text: &mut Text, number: i64) -> Result<(), OutOfMemory>
+    ensures { OnOk result (text.new ≡ text.old ++ codes "," ++ signed_decimal number) }
+{
+    text.append(b",")?;
+    write_integer(text, i128::from(number))
+}
+
+/// Adds numbers, separated by commas.
+fn write_arguments(text: &mut Text, numbers: &[i64]) -> Result<(), OutOfMemory>
+    ensures { OnOk result (text.new ≡ text.old ++ arguments_bytes numbers.now) }
+{
+    match numbers {
+        [] => Ok(()),
+        [first, others @ ..] => {
+            write_integer(text, i128::from(*first))?;
+            write_more(text, others)
         }
     }
 }
 
 /// Adds the call of an operation with its arguments.
+#[tactic(auto, using(crate::proofs::Arguments::few))]
 fn write_call(text: &mut Text, act: &Act) -> Result<(), OutOfMemory>
     ensures { OnOk result (text.new ≡ text.old ++ call_bytes act.now) }
 {
     let call = act.call();
-    text.append(method_word(call.method))?;
+    text.append(call.method.word().as_bytes())?;
     text.append(b"(")?;
-    write_arguments(text, act.arity(), &call)?;
+    write_arguments(text, &call.arguments()[..act.arity()])?;
     text.append(b")")
 }
 

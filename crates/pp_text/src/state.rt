@@ -1,6 +1,7 @@
-ghost use Rattle.std.specs.Prelude.{◌≡◌, ◌<◌, ◌++◌, length, IfOk, OnOk};
+//! States of objects as text.
+ghost use Rattle.std.specs.Prelude.{◌≡◌, ◌++◌, IfOk, OnOk};
 ghost use Rattle.std.specs.List.{flat_map};
-ghost use Rattle.pp_text.specs.Texts.{AreStatesOf, key_bytes, piece_bytes, state_bytes};
+ghost use Rattle.pp_text.specs.Texts.{IsObjectOf, key_bytes, piece_bytes, state_bytes};
 
 use crate::number::write_integer;
 use crate::op::name_at;
@@ -39,7 +40,7 @@ fn write_pieces(text: &mut Text, pieces: &[Piece]) -> Result<(), OutOfMemory>
 }
 
 /// Adds the state of an object. After a refusal the text may end with a part of it.
-#[tactic(auto, using(crate::proofs::Shapes::as_many))]
+#[tactic(auto, using(crate::proofs::Shapes::is_named, crate::proofs::Shapes::has_state))]
 pub fn write_state(
     alloc: Global,
     text: &mut Text,
@@ -47,8 +48,7 @@ pub fn write_state(
     states: &ObjectStates,
     object: u16,
 ) -> Result<(), OutOfMemory>
-    requires named { object < length catalog.now }
-    requires states { AreStatesOf catalog.now states.now }
+    requires { IsObjectOf catalog.now states.now object }
     ensures { OnOk result (text.new ≡ text.old ++ state_bytes catalog.now states.now object) }
 {
     let name = name_at(catalog, object);
@@ -66,8 +66,7 @@ pub fn state_line(
     states: &ObjectStates,
     object: u16,
 ) -> Result<Text, OutOfMemory>
-    requires named { object < length catalog.now }
-    requires states { AreStatesOf catalog.now states.now }
+    requires { IsObjectOf catalog.now states.now object }
     ensures { IfOk result (λ text. text ≡ state_bytes catalog.now states.now object) }
 {
     let mut text = Text::new(alloc);

@@ -1,0 +1,21 @@
+-- How many arguments a call has.
+use Rattle.std.proofs.Common.{◌≤◌, arith}
+use Rattle.pp_core.specs.declared.call.Kind.{Kind}
+use Rattle.pp_core.specs.declared.call.Kind.TheVariants as kinds
+use Rattle.pp_core.specs.declared.call.Method.{Method}
+use Rattle.pp_core.specs.declared.call.Method.TheVariants as methods
+use Rattle.pp_object.specs.Calls.{arity_of}
+
+-- no call has more than two
+pub few : (kind : Kind) (method : Method) → arity_of kind method ≤ 2
+few kind methods.Read = omega arith
+few kind methods.Write = omega arith
+few kind methods.Add = omega arith
+few kind methods.Remove = omega arith
+few kind methods.Contains = omega arith
+few kind methods.Put = omega arith
+few kinds.Counter methods.Get = omega arith
+few kind methods.Get = omega arith
+few kind methods.FetchAdd = omega arith
+few kind methods.Enq = omega arith
+few kind methods.Deq = omega arith
