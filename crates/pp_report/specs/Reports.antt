@@ -1,8 +1,9 @@
 -- The report of a run, line by line.
-use Rattle.std.specs.Prelude.{ℕ, List, ◌++◌, length, codes}
+use Rattle.std.specs.Prelude.{◌≡◌, ℕ, List, ◌++◌, length, codes}
 use Rattle.std.specs.Fmt.{decimal}
 use Rattle.std.specs.List.{flat_map, range_with_len}
 use Rattle.pp_core.specs.Catalogs.{Objects}
+use Rattle.pp_core.specs.Words.{rule_word}
 use Rattle.pp_core.specs.declared.entry.CommittedTx.{CommittedTx}
 use Rattle.pp_core.specs.declared.entry.Item.{Item}
 use Rattle.pp_core.specs.declared.step.Rule.{Rule}
@@ -11,7 +12,7 @@ use Rattle.pp_object.specs.declared.act.Op.{Op}
 use Rattle.pp_object.specs.declared.states.ObjectState.{ObjectState}
 use Rattle.pp_text.specs.Texts.{IsNamed, op_bytes, state_bytes}
 use Rattle.pp_report.specs.declared.cause.Cause.{Cause}
-use Rattle.pp_report.specs.Words.{rule_bytes, cause_bytes}
+use Rattle.pp_report.specs.Words.{cause_bytes}
 
 -- a text with its line end
 abbrev pub line : List ℕ → List ℕ
@@ -19,15 +20,21 @@ line text = text ++ codes "\n"
 
 -- the first line of an accepted run, with the number of its steps and of its committed transactions
 abbrev pub accepted_line : ℕ → ℕ → List ℕ
-accepted_line steps count = line (codes "accepted steps " ++ decimal steps ++ codes " committed " ++ decimal count)
+accepted_line steps count =
+    line (codes "accepted steps " ++ decimal steps ++ codes " committed " ++ decimal count)
 
 -- the line of an operation
 abbrev pub op_line : Objects → Item Op → List ℕ
-op_line catalog entry = line (codes "op " ++ decimal entry.id ++ codes " " ++ op_bytes catalog entry.op)
+op_line catalog entry =
+    line (codes "op " ++ decimal entry.id ++ codes " " ++ op_bytes catalog entry.op)
 
 -- the lines of a committed transaction
 abbrev pub tx_lines : Objects → CommittedTx Op → List ℕ
 tx_lines catalog tx = line (codes "tx " ++ tx.name) ++ flat_map (op_line catalog) tx.entries
+
+-- the lines of committed transactions, in their order
+abbrev pub all_tx_lines : Objects → List (CommittedTx Op) → List ℕ
+all_tx_lines catalog committed = flat_map (tx_lines catalog) committed
 
 -- the line of the state of the object at a place
 abbrev pub state_line : Objects → List ObjectState → ℕ → List ℕ
@@ -35,7 +42,8 @@ state_line catalog states place = line (state_bytes catalog states place)
 
 -- the lines of the states of all objects, in their order
 abbrev pub state_lines : Objects → List ObjectState → List ℕ
-state_lines catalog states = flat_map (state_line catalog states) (range_with_len 0 (length catalog))
+state_lines catalog states =
+    flat_map (state_line catalog states) (range_with_len 0 (length catalog))
 
 -- the objects that these operations name are in the catalog, with the kinds of their acts
 abbrev pub EachNamed : Objects → List (Item Op) → Type 0
@@ -48,13 +56,25 @@ AreNamed catalog committed = Each (λ tx. EachNamed catalog tx.entries) committe
 -- the report of an accepted run
 abbrev pub accepted_text : Objects → ℕ → List (CommittedTx Op) → List ObjectState → List ℕ
 accepted_text catalog steps committed states =
-    accepted_line steps (length committed) ++ flat_map (tx_lines catalog) committed ++ state_lines catalog states
+    accepted_line steps (length committed) ++ all_tx_lines catalog committed
+    ++ state_lines catalog states
+
+-- the text is that report
+abbrev pub IsReport : Objects → ℕ → List (CommittedTx Op) → List ObjectState → List ℕ → Type 0
+IsReport catalog steps committed states text = text ≡ accepted_text catalog steps committed states
+
+-- where the failed step stands: its number, and the line of its record
+abbrev pub rejected_place : ℕ → ℕ → List ℕ
+rejected_place step at_line =
+    codes "rejected step " ++ decimal step ++ codes " line " ++ decimal at_line
 
 -- the report of a rejected run
 abbrev pub rejected_text : ℕ → ℕ → Rule → ℕ → List ℕ
 rejected_text step at_line rule criterion =
-    line (codes "rejected step " ++ decimal step ++ codes " line " ++ decimal at_line ++ codes " " ++ rule_bytes rule ++ codes " " ++ decimal criterion)
+    line (rejected_place step at_line ++ codes " " ++ rule_word rule ++ codes " "
+    ++ decimal criterion)
 
 -- the report of a fault of the input
 abbrev pub fault_text : ℕ → Cause → List ℕ
-fault_text at_line cause = line (codes "fault line " ++ decimal at_line ++ codes " " ++ cause_bytes cause)
+fault_text at_line cause =
+    line (codes "fault line " ++ decimal at_line ++ codes " " ++ cause_bytes cause)

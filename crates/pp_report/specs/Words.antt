@@ -1,45 +1,13 @@
--- The names of rules and causes in a report.
+-- The names of causes in a report.
 use Rattle.std.specs.Prelude.{ℕ, List, ◌++◌, codes}
 use Rattle.pp_core.specs.declared.member.Member.{Member}
-use Rattle.pp_core.specs.declared.member.Member.TheVariants as members
-use Rattle.pp_core.specs.declared.step.Rule.{Rule}
-use Rattle.pp_core.specs.declared.step.Rule.TheVariants.{Begin, App, Unapp, Push, Unpush, Pull, Unpull, Cmt, Quit, Note}
+use Rattle.pp_core.specs.Words.{member_word}
 use Rattle.pp_report.specs.declared.cause.Cause.{Cause}
 use Rattle.pp_report.specs.declared.cause.Cause.TheVariants as causes
 
--- the name of a rule, in capitals
-abbrev pub rule_bytes : Rule → List ℕ
-rule_bytes Begin = codes "BEGIN"
-rule_bytes App = codes "APP"
-rule_bytes Unapp = codes "UNAPP"
-rule_bytes Push = codes "PUSH"
-rule_bytes Unpush = codes "UNPUSH"
-rule_bytes Pull = codes "PULL"
-rule_bytes Unpull = codes "UNPULL"
-rule_bytes Cmt = codes "CMT"
-rule_bytes Quit = codes "QUIT"
-rule_bytes Note = codes "NOTE"
-
--- the name of a member, as it stands in a record
-abbrev pub member_bytes : Member → List ℕ
-member_bytes members.Run = codes "run"
-member_bytes members.Style = codes "style"
-member_bytes members.Objects = codes "objects"
-member_bytes members.Name = codes "name"
-member_bytes members.Kind = codes "kind"
-member_bytes members.Step = codes "step"
-member_bytes members.Tx = codes "tx"
-member_bytes members.Thread = codes "thread"
-member_bytes members.Id = codes "id"
-member_bytes members.On = codes "on"
-member_bytes members.Call = codes "call"
-member_bytes members.Args = codes "args"
-member_bytes members.Answer = codes "result"
-member_bytes members.Source = codes "source"
-
 -- a name with a member in round brackets
 abbrev pub with_member : List ℕ → Member → List ℕ
-with_member name member = name ++ codes "(" ++ member_bytes member ++ codes ")"
+with_member name member = name ++ codes "(" ++ member_word member ++ codes ")"
 
 -- the name of a cause, as `NotJson` or `Missing(tx)`
 abbrev pub cause_bytes : Cause → List ℕ

@@ -1,8 +1,5 @@
-ghost use Rattle.std.specs.Prelude.{◌≡◌};
-ghost use Rattle.pp_report.specs.Causes.{cause_of};
-
-use pp_core::{Member, OutOfMemory};
-use pp_json::RecordFault;
+//! The causes of faults.
+use pp_core::Member;
 
 /// Why an input has no run.
 #[derive(Clone, Copy, Debug, PartialEq, Eq)]
@@ -30,29 +27,4 @@ pub enum Cause {
     NoHeader,
     TooManyTransactions,
     TooManySteps,
-}
-
-/// The cause that a fault of a line is. The only error is that memory was refused when it was read.
-pub fn cause_of(fault: RecordFault) -> Result<Cause, OutOfMemory>
-    ensures { result ≡ cause_of fault }
-{
-    match fault {
-        RecordFault::NotJson => Ok(Cause::NotJson),
-        RecordFault::NotObject => Ok(Cause::NotObject),
-        RecordFault::Missing(member) => Ok(Cause::Missing(member)),
-        RecordFault::WrongType(member) => Ok(Cause::WrongType(member)),
-        RecordFault::OutOfRange(member) => Ok(Cause::OutOfRange(member)),
-        RecordFault::BadName(member) => Ok(Cause::BadName(member)),
-        RecordFault::UnknownStyle => Ok(Cause::UnknownStyle),
-        RecordFault::UnknownKind => Ok(Cause::UnknownKind),
-        RecordFault::RepeatedObject => Ok(Cause::RepeatedObject),
-        RecordFault::TooManyObjects => Ok(Cause::TooManyObjects),
-        RecordFault::UnknownObject => Ok(Cause::UnknownObject),
-        RecordFault::UnknownCall => Ok(Cause::UnknownCall),
-        RecordFault::UnknownStep => Ok(Cause::UnknownStep),
-        RecordFault::BodyBad => Ok(Cause::BodyBad),
-        RecordFault::BodyTooLarge => Ok(Cause::BodyTooLarge),
-        RecordFault::NotYet => Ok(Cause::NotYet),
-        RecordFault::OutOfMemory => Err(OutOfMemory),
-    }
 }

@@ -6,6 +6,6 @@ mod run;
 mod verdict;
 mod words;
 
-pub use cause::{Cause, cause_of};
-pub use run::accepted;
+pub use cause::Cause;
+pub use run::{accepted, write_first_line, write_states, write_transactions};
 pub use verdict::{fault, rejected};

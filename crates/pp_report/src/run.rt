@@ -1,15 +1,17 @@
-ghost use Rattle.std.specs.Prelude.{◌≡◌, ◌<◌, ◌++◌, length, IfOk, OnOk};
+//! The report of an accepted run, and the writers of its parts.
+ghost use Rattle.std.specs.Prelude.{◌≡◌, ◌++◌, IfOk, OnOk};
 ghost use Rattle.std.specs.List.{flat_map};
-ghost use Rattle.pp_text.specs.Texts.{IsNamed, AreStatesOf};
-ghost use Rattle.pp_report.specs.Reports.{accepted_line, op_line, tx_lines, state_line, state_lines, EachNamed, AreNamed, accepted_text};
+ghost use Rattle.pp_text.specs.Texts.{IsNamed, IsObjectOf, AreStatesOf};
+ghost use Rattle.pp_report.specs.Reports.{accepted_line, op_line, tx_lines, all_tx_lines};
+ghost use Rattle.pp_report.specs.Reports.{state_line, state_lines, EachNamed, AreNamed, IsReport};
 
 use pp_core::{Catalog, Committed, CommittedTx, Item, OutOfMemory, Text};
 use pp_object::{ObjectStates, Op};
 use pp_text::{write_number, write_op, write_state};
 use std::alloc::Global;
 
-/// Adds the first line.
-fn write_counts(text: &mut Text, steps: u32, committed: usize) -> Result<(), OutOfMemory>
+/// Adds the first line of an accepted run. After a refusal the text may end with a part of it.
+pub fn write_first_line(text: &mut Text, steps: u32, committed: usize) -> Result<(), OutOfMemory>
     ensures { OnOk result (text.new ≡ text.old ++ accepted_line steps committed) }
 {
     text.append(b"accepted steps ")?;
@@ -61,14 +63,15 @@ fn write_transaction(
     write_entries(text, catalog, transaction.entries.as_slice())
 }
 
-/// Adds the lines of committed transactions.
-fn write_transactions(
+/// Adds the `tx` and `op` lines of committed transactions. After a refusal the text may end with a
+/// part of them.
+pub fn write_transactions(
     text: &mut Text,
     catalog: &Catalog,
     committed: &[CommittedTx<Op>],
 ) -> Result<(), OutOfMemory>
     requires { AreNamed catalog.now committed.now }
-    ensures { OnOk result (text.new ≡ text.old ++ flat_map (tx_lines catalog.now) committed.now) }
+    ensures { OnOk result (text.new ≡ text.old ++ all_tx_lines catalog.now committed.now) }
 {
     for transaction in committed {
         write_transaction(text, catalog, transaction)?;
@@ -84,16 +87,16 @@ fn write_state_line(
     states: &ObjectStates,
     object: u16,
 ) -> Result<(), OutOfMemory>
-    requires named { object < length catalog.now }
-    requires states { AreStatesOf catalog.now states.now }
+    requires { IsObjectOf catalog.now states.now object }
     ensures { OnOk result (text.new ≡ text.old ++ state_line catalog.now states.now object) }
 {
     write_state(alloc, text, catalog, states, object)?;
     text.append(b"\n")
 }
 
-/// Adds the lines of the states of all objects.
-fn write_states(
+/// Adds the `state` lines of all objects. After a refusal the text may end with a part of them.
+#[tactic(auto, using(crate::proofs::Objects::is_object))]
+pub fn write_states(
     alloc: Global,
     text: &mut Text,
     catalog: &Catalog,
@@ -120,10 +123,10 @@ pub fn accepted(
 ) -> Result<Text, OutOfMemory>
     requires named { AreNamed catalog.now committed.now }
     requires states { AreStatesOf catalog.now states.now }
-    ensures { IfOk result (λ text. text ≡ accepted_text catalog.now count committed.now states.now) }
+    ensures { IfOk result (IsReport catalog.now count committed.now states.now) }
 {
     let mut text = Text::new(alloc);
-    write_counts(&mut text, count, committed.len())?;
+    write_first_line(&mut text, count, committed.len())?;
     write_transactions(&mut text, catalog, committed.as_slice())?;
     write_states(alloc, &mut text, catalog, states)?;
     Ok(text)

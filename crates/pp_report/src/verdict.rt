@@ -1,16 +1,16 @@
-ghost use Rattle.std.specs.Prelude.{◌≡◌, ◌++◌, codes, IfOk, OnOk};
-ghost use Rattle.std.specs.Fmt.{decimal};
-ghost use Rattle.pp_report.specs.Reports.{rejected_text, fault_text};
+//! The reports of rejected runs and of faults.
+ghost use Rattle.std.specs.Prelude.{◌≡◌, ◌++◌, IfOk, OnOk};
+ghost use Rattle.pp_report.specs.Reports.{rejected_place, rejected_text, fault_text};
 
 use crate::cause::Cause;
-use crate::words::{rule_word, write_cause};
+use crate::words::write_cause;
 use pp_core::{OutOfMemory, Rule, Text};
 use pp_text::write_number;
 use std::alloc::Global;
 
 /// Adds where the failed step stands.
 fn write_place(text: &mut Text, step: u32, line: u32) -> Result<(), OutOfMemory>
-    ensures { OnOk result (text.new ≡ text.old ++ codes "rejected step " ++ decimal step ++ codes " line " ++ decimal line) }
+    ensures { OnOk result (text.new ≡ text.old ++ rejected_place step line) }
 {
     text.append(b"rejected step ")?;
     write_number(text, u64::from(step))?;
@@ -32,7 +32,7 @@ pub fn rejected(
     let mut text = Text::new(alloc);
     write_place(&mut text, step, line)?;
     text.append(b" ")?;
-    text.append(rule_word(rule))?;
+    text.append(rule.word().as_bytes())?;
     text.append(b" ")?;
     write_number(&mut text, u64::from(criterion))?;
     text.append(b"\n")?;

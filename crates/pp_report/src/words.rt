@@ -1,48 +1,9 @@
+//! Causes as text.
 ghost use Rattle.std.specs.Prelude.{◌≡◌, ◌++◌, OnOk};
-ghost use Rattle.pp_report.specs.Words.{rule_bytes, member_bytes, with_member, cause_bytes};
+ghost use Rattle.pp_report.specs.Words.{with_member, cause_bytes};
 
 use crate::cause::Cause;
-use pp_core::{Member, OutOfMemory, Rule, Text};
-
-/// The name of a rule.
-pub(crate) fn rule_word(rule: Rule) -> &'static [u8]
-    ensures { result.now ≡ rule_bytes rule }
-{
-    match rule {
-        Rule::Begin => b"BEGIN",
-        Rule::App => b"APP",
-        Rule::Unapp => b"UNAPP",
-        Rule::Push => b"PUSH",
-        Rule::Unpush => b"UNPUSH",
-        Rule::Pull => b"PULL",
-        Rule::Unpull => b"UNPULL",
-        Rule::Cmt => b"CMT",
-        Rule::Quit => b"QUIT",
-        Rule::Note => b"NOTE",
-    }
-}
-
-/// The name of a member.
-fn member_word(member: Member) -> &'static [u8]
-    ensures { result.now ≡ member_bytes member }
-{
-    match member {
-        Member::Run => b"run",
-        Member::Style => b"style",
-        Member::Objects => b"objects",
-        Member::Name => b"name",
-        Member::Kind => b"kind",
-        Member::Step => b"step",
-        Member::Tx => b"tx",
-        Member::Thread => b"thread",
-        Member::Id => b"id",
-        Member::On => b"on",
-        Member::Call => b"call",
-        Member::Args => b"args",
-        Member::Answer => b"result",
-        Member::Source => b"source",
-    }
-}
+use pp_core::{Member, OutOfMemory, Text};
 
 /// Adds the name of a cause that has a member.
 fn write_with_member(text: &mut Text, name: &[u8], member: Member) -> Result<(), OutOfMemory>
@@ -50,7 +11,7 @@ fn write_with_member(text: &mut Text, name: &[u8], member: Member) -> Result<(),
 {
     text.append(name)?;
     text.append(b"(")?;
-    text.append(member_word(member))?;
+    text.append(member.word().as_bytes())?;
     text.append(b")")
 }
 

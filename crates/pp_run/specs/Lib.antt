@@ -1,3 +1,4 @@
+pub mod Causes
 pub mod Objects
 pub mod Scans
 pub mod Inputs

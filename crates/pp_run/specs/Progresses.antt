@@ -7,7 +7,7 @@ use Rattle.pp_object.specs.Objects.{kinds_of, objects}
 use Rattle.pp_json.specs.declared.fault.RecordFault.{RecordFault}
 use Rattle.pp_model.specs.Config.{after, first}
 use Rattle.pp_model.specs.Rules.{Fails, IsVerdict, Rejected, RunsFrom}
-use Rattle.pp_report.specs.Causes.{cause_of}
+use Rattle.pp_run.specs.Causes.{cause_of}
 use Rattle.pp_report.specs.declared.cause.Cause.{Cause}
 use Rattle.pp_report.specs.declared.cause.Cause.TheVariants.{TooManyTransactions}
 use Rattle.pp_rules.specs.Machines.{Seen, stepped}

@@ -1,6 +1,7 @@
 //! A whole run of the program: from its words and its input to its status and what it writes.
 #![tactic(auto)]
 
+mod cause;
 mod certify;
 mod examine;
 mod progress;

@@ -12,14 +12,15 @@ ghost use Rattle.pp_json.specs.declared.header.Header.{Header as HeaderOf};
 ghost use Rattle.pp_json.specs.declared.fault.RecordFault.{RecordFault as FaultOf};
 ghost use Rattle.pp_model.specs.Config.{first};
 ghost use Rattle.pp_object.specs.Objects.{kinds_of};
-ghost use Rattle.pp_report.specs.Causes.{cause_of};
+ghost use Rattle.pp_run.specs.Causes.{cause_of};
 
+use crate::cause::cause_of;
 use crate::progress::{Progress, Rejection, Stop, Tally};
 use pp_core::{MOST_TRANSACTIONS, OutOfMemory, Step, Steps, rule_of};
 use pp_io::{Line, is_blank};
 use pp_json::{RecordFault, read_header, read_record};
 use pp_object::{Objects, Op};
-use pp_report::{Cause, cause_of};
+use pp_report::Cause;
 use pp_rules::{Machine, Outcome};
 use std::alloc::Global;
 use std::sync::ledger::Ledger;

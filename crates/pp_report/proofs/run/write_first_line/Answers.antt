@@ -3,7 +3,7 @@ use Rattle.std.specs.Prelude.{codes}
 use Rattle.std.specs.Fmt.{decimal}
 use Rattle.std.proofs.lemmas.Result.{on_ok_weaker}
 use Rattle.pp_report.proofs.Appends.{five}
-use Rattle.pp_report.proofs.run.write_counts.Goals as goal
+use Rattle.pp_report.proofs.run.write_first_line.Goals as goal
 
 pub returns : goal.returns
 returns c =
