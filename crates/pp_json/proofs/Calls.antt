@@ -1,33 +1,40 @@
 -- What the tests before the last leave of a record's call.
-use Rattle.std.proofs.Common.{◌≡◌, ◌&&◌, ℤ, pos, Bool, true, false, cond, IsTrue, List, nat_lt, Some, refl, ap}
+use Rattle.std.proofs.Common.{◌≡◌, ◌&&◌, ℤ, Bool, true, false, IsTrue, List, nat_lt, Some, refl, ap}
 use Rattle.std.specs.List.{slice_get}
 use Rattle.pp_core.specs.declared.answer.Answer.{Answer}
 use Rattle.pp_core.specs.declared.call.Call.{Call}
 use Rattle.pp_core.specs.declared.call.Kind.{Kind}
-use Rattle.pp_spec.specs.Numbers.{in_range, is_ranged_answer}
+use Rattle.pp_spec.specs.Numbers.{in_range, has_ranged_arguments, is_ranged_answer}
 use Rattle.pp_object.specs.declared.act.Op.{Op}
 use Rattle.pp_object.specs.Objects.{objects}
-use Rattle.pp_object.specs.Calls.{HasMethod, form_of, has_form, arity_of, IsCallOf, IsOpOf}
+use Rattle.pp_object.specs.Calls.{HasMethod, form_of, has_form, arity_of, if_used, IsCallOf, IsOpOf}
 
 -- A number in range, or 0 in its place, is in range.
-used_ranged : (used : Bool) (n : ℤ) → IsTrue (in_range n) → IsTrue (in_range (cond used n (pos 0)))
+used_ranged : (used : Bool) (n : ℤ) → IsTrue (in_range n) → IsTrue (in_range (if_used used n))
 used_ranged true n near = near
 used_ranged false n near = refl
 
-both : (a b : Bool) → IsTrue a → IsTrue b → IsTrue (a && b)
-both true true h k = refl
-both true false h k = k
+-- both tests, where each holds, and each, where both hold
+pub both : (a b : Bool) → IsTrue a → IsTrue b → IsTrue (a && b)
+both true b h k = k
 both false b h k = h
+
+first_of : (a b : Bool) → IsTrue (a && b) → IsTrue a
+first_of true b h = refl
+first_of false b h = h
+
+second_of : (a b : Bool) → IsTrue (a && b) → IsTrue b
+second_of true b h = h
+second_of false b h = absurd (cc)
 
 -- A call that passed the tests before the last makes an operation.
 pub is_call : (kind : Kind) (c : Call) (answer : Answer) → HasMethod kind c.method → IsTrue (has_form (form_of kind c.method) answer)
-    → IsTrue (in_range c.first) → IsTrue (in_range c.second) → IsTrue (is_ranged_answer answer) → IsCallOf kind c answer
-is_call kind c answer method form first second ranged = record {
-  method = method;
-  form = form;
-  arguments = both _ _ (used_ranged (nat_lt 0 (arity_of kind c.method)) c.first first) (used_ranged (nat_lt 1 (arity_of kind c.method)) c.second second);
-  ranged = ranged;
-}
+    → IsTrue (has_ranged_arguments c) → IsTrue (is_ranged_answer answer) → IsCallOf kind c answer
+is_call kind c answer method form near ranged =
+    let used = arity_of kind c.method in
+    let first = used_ranged (nat_lt 0 used) c.first (first_of (in_range c.first) (in_range c.second) near) in
+    let second = used_ranged (nat_lt 1 used) c.second (second_of (in_range c.first) (in_range c.second) near) in
+    record { method = method; form = form; arguments = both _ _ first second; ranged = ranged }
 
 -- The operation of a call on the object that stands at its place fits there.
 pub fits_there : (kinds : List Kind) (kind : Kind) (c : Call) (answer : Answer) (op : Op)

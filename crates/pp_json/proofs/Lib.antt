@@ -3,3 +3,4 @@ pub mod Texts
 pub mod Objects
 pub mod Parts
 pub mod Calls
+pub mod Readable

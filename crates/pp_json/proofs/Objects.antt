@@ -12,7 +12,7 @@ pub count_view : (values : List Value) → count (items_view values) ≡ length 
 count_view [] = refl
 count_view (v ∷ vs) = ap suc (count_view vs)
 
-item_at : (values : List Value) (i : ℕ) (v : Value) → i < length values → v ≡ get_or values i v
+pub item_at : (values : List Value) (i : ℕ) (v : Value) → i < length values → v ≡ get_or values i v
     → items_view (drop i values) ≡ item (view v) (items_view (drop (i + 1) values))
 item_at values i v lt is = rw (drop_more values i v lt, ← is) refl
 

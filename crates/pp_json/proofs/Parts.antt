@@ -4,16 +4,17 @@ use Rattle.std.specs.Ordering.{nat_cmp, match_ordering}
 use Rattle.std.specs.declared.cmp.Ordering.{Ordering}
 use Rattle.std.specs.declared.cmp.Ordering.TheVariants.{Less, Equal, Greater}
 use Rattle.std.specs.Cmp.Lexicographic.{slice_cmp}
-use Rattle.std.proofs.lemmas.List.{drop_more, drop_all}
+use Rattle.std.proofs.lemmas.List.{drop_all}
 use Rattle.serde_json.specs.declared.value.Value.{Value}
 use Rattle.serde_json.specs.View.{view, items_view}
-use Rattle.serde_json.specs.Data.{Data, Items, item, Members, no_members, member, null, boolean, number, string, array, object, depth, items_depth, members_depth}
+use Rattle.serde_json.specs.Data.{Data, Items, Members, no_members, member, null, boolean, number, string, array, object, depth, items_depth, members_depth}
 use Rattle.serde_json.specs.Find.{get, get_member, as_array}
 use Rattle.pp_core.specs.Trees.{Tree}
 use Rattle.pp_core.specs.Catalogs.{Objects}
 use Rattle.pp_json.specs.declared.fault.RecordFault.{RecordFault}
 use Rattle.pp_json.specs.declared.fault.RecordFault.TheVariants.{BodyBad}
 use Rattle.pp_json.specs.Reading.{◌>>=◌}
+use Rattle.pp_json.proofs.Objects.{item_at}
 use Rattle.pp_json.specs.Bodies.{forms, form_of, as_seq, as_alt, as_star, body_of, bodies_of, bodies_in, seq_among, alt_among, star_among}
 
 -- what the members of an object are read as
@@ -90,10 +91,6 @@ item_falls (object ms) vs i v a lt is = absurd (cc)
 -- the parts of an array, one by one
 abbrev pub behind : List Tree → Result (List Tree) RecordFault → Result (List Tree) RecordFault
 behind before read = read >>= λ bs. Ok (before ++ bs)
-
-pub item_at : (values : List Value) (i : ℕ) (v : Value) → i < length values → v ≡ get_or values i v
-    → items_view (drop i values) ≡ item (view v) (items_view (drop (i + 1) values))
-item_at values i v lt is = rw (drop_more values i v lt, ← is) refl
 
 pub not_array : (objects : Objects) (d : Data) → as_array d ≡ None → bodies_of objects d ≡ Err BodyBad
 unfolding bodies_of

@@ -3,6 +3,7 @@ use Rattle.std.proofs.Common.{◌≡◌, ◌≤◌, ◌↔◌, ℕ, List, Option
 use Rattle.std.specs.Prelude.{IsSome, IfSome}
 use Rattle.std.specs.List.{list_all}
 use Rattle.std.proofs.lemmas.Grind.{common_steps}
+use Rattle.pp_core.specs.declared.limits.TheConstants.{LONGEST_NAME}
 use Rattle.pp_core.specs.Names.{IsName, is_name_byte}
 use Rattle.pp_json.specs.Members.{is_name, name_from}
 
@@ -16,7 +17,7 @@ is_name_test text h =
 is_name_fact : (text : List ℕ) → is_name text ≡ true → IsName text
 is_name_fact text e =
     let some : 1 ≤ length text = grind (arith, common_steps) in
-    let few : length text ≤ 24 = grind (arith, common_steps) in
+    let few : length text ≤ LONGEST_NAME = grind (arith, common_steps) in
     let bytes : IsTrue (list_all is_name_byte text) = grind (arith, common_steps) in
     record { some = some; few = few; bytes = bytes }
 

@@ -17,7 +17,9 @@ present key value = cond (is_some (get key value)) 1 0
 
 -- how many of the five members it has
 unfoldable pub forms : Data → ℕ
-forms value = present (codes "seq") value + present (codes "alt") value + present (codes "star") value + present (codes "skip") value + present (codes "on") value
+forms value =
+    present (codes "seq") value + present (codes "alt") value + present (codes "star") value
+    + present (codes "skip") value + present (codes "on") value
 
 -- what the member `skip` gives: only true is a body
 abbrev pub skip_in : Option Bool → Result Tree RecordFault
@@ -51,13 +53,17 @@ abbrev pub as_star : Result Tree RecordFault → Result Tree RecordFault
 as_star read = read >>= λ b. Ok (Star b)
 
 -- the first of these forms that is there, else a skip or a pattern
-abbrev pub form_of : Objects → Data → Option (Result Tree RecordFault) → Option (Result Tree RecordFault) → Option (Result Tree RecordFault) → Result Tree RecordFault
-form_of objects value seq alt star = if forms value == 1 then unwrap_or seq (unwrap_or alt (unwrap_or star (leaf_of objects value))) else Err BodyBad
+abbrev pub form_of : Objects → Data → Option (Result Tree RecordFault) → Option (Result Tree RecordFault)
+    → Option (Result Tree RecordFault) → Result Tree RecordFault
+form_of objects value seq alt star =
+    if forms value == 1 then unwrap_or seq (unwrap_or alt (unwrap_or star (leaf_of objects value)))
+    else Err BodyBad
 
 -- a body, the three members that hold bodies, and the bodies of an array
 unfoldable mutual
   pub body_of : Objects → Data → Result Tree RecordFault
-  body_of objects (object ms) = form_of objects (object ms) (seq_among objects ms) (alt_among objects ms) (star_among objects ms)
+  body_of objects (object ms) =
+      form_of objects (object ms) (seq_among objects ms) (alt_among objects ms) (star_among objects ms)
   body_of objects null = Err BodyBad
   body_of objects (boolean b) = Err BodyBad
   body_of objects (number n) = Err BodyBad
@@ -66,15 +72,21 @@ unfoldable mutual
 
   pub seq_among : Objects → Members → Option (Result Tree RecordFault)
   seq_among objects no_members = None
-  seq_among objects (member k d ms) = match_ordering (slice_cmp nat_cmp (codes "seq") k) (seq_among objects ms) (Some (as_seq (bodies_of objects d))) (seq_among objects ms)
+  seq_among objects (member k d ms) =
+      match_ordering (slice_cmp nat_cmp (codes "seq") k)
+      (seq_among objects ms) (Some (as_seq (bodies_of objects d))) (seq_among objects ms)
 
   pub alt_among : Objects → Members → Option (Result Tree RecordFault)
   alt_among objects no_members = None
-  alt_among objects (member k d ms) = match_ordering (slice_cmp nat_cmp (codes "alt") k) (alt_among objects ms) (Some (as_alt (bodies_of objects d))) (alt_among objects ms)
+  alt_among objects (member k d ms) =
+      match_ordering (slice_cmp nat_cmp (codes "alt") k)
+      (alt_among objects ms) (Some (as_alt (bodies_of objects d))) (alt_among objects ms)
 
   pub star_among : Objects → Members → Option (Result Tree RecordFault)
   star_among objects no_members = None
-  star_among objects (member k d ms) = match_ordering (slice_cmp nat_cmp (codes "star") k) (star_among objects ms) (Some (as_star (body_of objects d))) (star_among objects ms)
+  star_among objects (member k d ms) =
+      match_ordering (slice_cmp nat_cmp (codes "star") k)
+      (star_among objects ms) (Some (as_star (body_of objects d))) (star_among objects ms)
 
   pub bodies_of : Objects → Data → Result (List Tree) RecordFault
   bodies_of objects (array ds) = bodies_in objects ds
@@ -86,7 +98,8 @@ unfoldable mutual
 
   pub bodies_in : Objects → Items → Result (List Tree) RecordFault
   bodies_in objects no_items = Ok []
-  bodies_in objects (item d ds) = body_of objects d >>= λ b. (bodies_in objects ds >>= λ bs. Ok (b ∷ bs))
+  bodies_in objects (item d ds) =
+      body_of objects d >>= λ b. (bodies_in objects ds >>= λ bs. Ok (b ∷ bs))
 
 -- a body that is within the limits
 unfoldable pub small_body_of : Objects → Data → Result Tree RecordFault

@@ -1,14 +1,12 @@
 -- The first line of a run.
-use Rattle.std.specs.Prelude.{ℕ, suc, pos, List, [], ◌∷◌, ◌++◌, codes, not, nat_lt, is_some, Option, Some, None, ok_or, Result, Ok, if◌then◌else◌}
-use Rattle.std.specs.Str.{bytes_eq}
+use Rattle.std.specs.Prelude.{ℕ, suc, pos, List, [], ◌∷◌, ◌++◌, not, nat_lt, is_some, ok_or, Result, Ok}
 use Rattle.std.specs.Ordering.{int_eq}
 use Rattle.serde_json.specs.Data.{Data, Items, no_items, item}
 use Rattle.serde_json.specs.Find.{as_object}
 use Rattle.pp_core.specs.Catalogs.{Objects, place_of}
+use Rattle.pp_core.specs.Words.{named, kind_word, kinds, style_word, styles}
 use Rattle.pp_core.specs.declared.call.Kind.{Kind}
-use Rattle.pp_core.specs.declared.call.Kind.TheVariants as kinds
-use Rattle.pp_core.specs.declared.call.Style.{Style}
-use Rattle.pp_core.specs.declared.call.Style.TheVariants as styles
+use Rattle.pp_core.specs.declared.limits.TheConstants.{MOST_OBJECTS}
 use Rattle.pp_core.specs.declared.member.Member.TheVariants as members
 use Rattle.pp_json.specs.declared.header.Header.{Header}
 use Rattle.pp_json.specs.declared.fault.RecordFault.{RecordFault}
@@ -17,24 +15,6 @@ use Rattle.pp_json.specs.Reading.{◌>>=◌, fault_if}
 use Rattle.pp_json.specs.Members.{object_of, text_of, name_of, whole_of, array_of}
 use Rattle.pp_json.specs.Later.{is_built}
 
--- the style that a word names
-unfoldable pub style_from : List ℕ → Option Style
-style_from word =
-    if bytes_eq word (codes "rules") then Some styles.Rules else
-    (if bytes_eq word (codes "boosted") then Some styles.Boosted else
-    (if bytes_eq word (codes "optimistic") then Some styles.Optimistic else
-    (if bytes_eq word (codes "hardware") then Some styles.Hardware else
-    (if bytes_eq word (codes "dependent") then Some styles.Dependent else None))))
-
--- the kind that a word names
-unfoldable pub kind_from : List ℕ → Option Kind
-kind_from word =
-    if bytes_eq word (codes "mem") then Some kinds.Memory else
-    (if bytes_eq word (codes "set") then Some kinds.KeySet else
-    (if bytes_eq word (codes "map") then Some kinds.KeyMap else
-    (if bytes_eq word (codes "counter") then Some kinds.Counter else
-    (if bytes_eq word (codes "queue") then Some kinds.Queue else None))))
-
 -- an object, whose name no earlier one has
 unfoldable pub object_in : Objects → Data → Result (List ℕ × Kind) RecordFault
 object_in before value = do
@@ -42,7 +22,7 @@ object_in before value = do
   name ← name_of members.Name value
   new ← fault_if (is_some (place_of name before)) RepeatedObject
   word ← text_of members.Kind value
-  kind ← ok_or (kind_from word) UnknownKind
+  kind ← ok_or (named kind_word kinds word) UnknownKind
   Ok (name, kind)
 
 -- the objects with one more
@@ -67,7 +47,7 @@ count (item value values) = suc (count values)
 unfoldable pub catalog_of : Data → Result Objects RecordFault
 catalog_of value = do
   values ← array_of members.Objects value
-  few ← fault_if (nat_lt 256 (count values)) TooManyObjects
+  few ← fault_if (nat_lt MOST_OBJECTS (count values)) TooManyObjects
   objects_in [] values
 
 -- the header that a line is
@@ -77,7 +57,7 @@ header_of line = do
   run ← whole_of members.Run value
   one ← fault_if (not (int_eq run (pos 1))) (OutOfRange members.Run)
   word ← text_of members.Style value
-  style ← ok_or (style_from word) UnknownStyle
+  style ← ok_or (named style_word styles word) UnknownStyle
   catalog ← catalog_of value
   built ← fault_if (not (is_built style)) NotYet
   Ok (record { style = style; catalog = catalog })

@@ -1,3 +1,5 @@
+pub use Rattle.pp_core.specs.Catalogs
+pub use Rattle.pp_core.specs.Steps
 pub mod Reading
 pub mod Members
 pub mod Later

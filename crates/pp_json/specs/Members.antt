@@ -1,33 +1,17 @@
 -- A line's value and its members, read in the order of the tests.
-use Rattle.std.specs.Prelude.{ℕ, ℤ, List, length, codes, Bool, ◌&&◌, nat_le, Option, Some, None, ok_or, option_and_then, Result, Ok, Err, if◌then◌else◌}
+use Rattle.std.specs.Prelude.{ℕ, ℤ, List, length, Bool, ◌&&◌, nat_le, Option, Some, None, ok_or, option_and_then, Result, Ok, Err, if◌then◌else◌}
 use Rattle.std.specs.List.{list_all}
 use Rattle.std.specs.Str.{is_utf8}
 use Rattle.serde_json.specs.Data.{Data, Items}
 use Rattle.serde_json.specs.Read.{read}
 use Rattle.serde_json.specs.Find.{get, as_str, as_number, as_integer, as_array, as_object}
 use Rattle.pp_core.specs.Names.{is_name_byte}
+use Rattle.pp_core.specs.Words.{member_word}
 use Rattle.pp_core.specs.declared.member.Member.{Member}
-use Rattle.pp_core.specs.declared.member.Member.TheVariants as members
+use Rattle.pp_core.specs.declared.limits.TheConstants.{LONGEST_NAME}
 use Rattle.pp_json.specs.declared.fault.RecordFault.{RecordFault}
 use Rattle.pp_json.specs.declared.fault.RecordFault.TheVariants.{NotJson, NotObject, Missing, WrongType, BadName}
 use Rattle.pp_json.specs.Reading.{◌>>=◌}
-
--- the member's name in a line
-unfoldable pub key : Member → List ℕ
-key members.Run = codes "run"
-key members.Style = codes "style"
-key members.Objects = codes "objects"
-key members.Name = codes "name"
-key members.Kind = codes "kind"
-key members.Step = codes "step"
-key members.Tx = codes "tx"
-key members.Thread = codes "thread"
-key members.Id = codes "id"
-key members.On = codes "on"
-key members.Call = codes "call"
-key members.Args = codes "args"
-key members.Answer = codes "result"
-key members.Source = codes "source"
 
 -- the value on a line
 unfoldable pub value_of : List ℕ → Result Data RecordFault
@@ -42,7 +26,7 @@ object_of line = do
 
 -- a member, of any type
 unfoldable pub member_of : Member → Data → Result Data RecordFault
-member_of member value = ok_or (get (key member) value) (Missing member)
+member_of member value = ok_or (get (member_word member) value) (Missing member)
 
 -- a member that is to be a text
 unfoldable pub text_of : Member → Data → Result (List ℕ) RecordFault
@@ -52,7 +36,8 @@ text_of member value = do
 
 -- 1 to 24 bytes out of letters, digits, `_`, `.` and `-`
 abbrev pub is_name : List ℕ → Bool
-is_name text = nat_le 1 (length text) && nat_le (length text) 24 && list_all is_name_byte text
+is_name text =
+    nat_le 1 (length text) && nat_le (length text) LONGEST_NAME && list_all is_name_byte text
 
 -- the name with this text
 unfoldable pub name_from : List ℕ → Option (List ℕ)

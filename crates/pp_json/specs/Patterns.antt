@@ -6,21 +6,20 @@ use Rattle.pp_core.specs.Catalogs.{Objects}
 use Rattle.pp_core.specs.declared.call.Kind.{Kind}
 use Rattle.pp_core.specs.declared.call.Method.{Method}
 use Rattle.pp_core.specs.declared.body.Pattern.{Pattern}
-use Rattle.pp_spec.specs.Numbers.{in_range}
-use Rattle.pp_object.specs.Calls.{methods_of, first_named, arity_of}
+use Rattle.pp_object.specs.Calls.{method_named, arity_of}
 use Rattle.pp_json.specs.declared.fault.RecordFault.{RecordFault}
 use Rattle.pp_json.specs.declared.fault.RecordFault.TheVariants.{BodyBad}
 use Rattle.pp_json.specs.Reading.{◌>>=◌, fault_if}
 use Rattle.pp_json.specs.Headers.{count}
-use Rattle.pp_json.specs.Calls.{object_named}
+use Rattle.pp_json.specs.Calls.{number_from, object_named}
 
 -- a whole number in -10^18 to 10^18, or null for any number
 unfoldable pub wanted : Data → Result (Option ℤ) RecordFault
 wanted null = Ok None
 wanted value = do
   n ← ok_or (option_and_then as_integer (as_number value)) BodyBad
-  near ← fault_if (not (in_range n)) BodyBad
-  Ok (Some n)
+  near ← ok_or (number_from n) BodyBad
+  Ok (Some near)
 
 -- an argument that the call does not have is 0
 abbrev pub wanted_or_none : Option Data → Result (Option ℤ) RecordFault
@@ -41,22 +40,22 @@ target_of objects value = do
   on ← body_text (codes "on") value
   object ← ok_or (object_named objects on) BodyBad
   word ← body_text (codes "call") value
-  method ← ok_or (first_named (methods_of object.1) word) BodyBad
+  method ← ok_or (method_named object.1 word) BodyBad
   Ok (object.0, object.1, method)
 
--- what is wanted of the two arguments, in an array that has as many elements as the call has arguments
-unfoldable pub wanted_of : Kind → Method → Data → Result (Option ℤ × Option ℤ) RecordFault
+-- the array of what is wanted of the arguments, with as many elements as the call has arguments
+unfoldable pub wanted_of : Kind → Method → Data → Result Data RecordFault
 wanted_of kind method value = do
   list ← ok_or (get (codes "args") value) BodyBad
   values ← ok_or (as_array list) BodyBad
   exact ← fault_if (not (count values == arity_of kind method)) BodyBad
-  first ← wanted_at 0 list
-  second ← wanted_at 1 list
-  Ok (first, second)
+  Ok list
 
 -- the pattern
 unfoldable pub pattern_of : Objects → Data → Result Pattern RecordFault
 pattern_of objects value = do
   target ← target_of objects value
-  arguments ← wanted_of target.1 target.2 value
-  Ok (record { object = target.0; method = target.2; first = arguments.0; second = arguments.1 })
+  list ← wanted_of target.1 target.2 value
+  first ← wanted_at 0 list
+  second ← wanted_at 1 list
+  Ok (record { object = target.0; method = target.2; first = first; second = second })

@@ -5,7 +5,8 @@ use Rattle.pp_json.specs.declared.fault.RecordFault.TheVariants.{OutOfMemory}
 
 -- the next step of reading, after a step with no fault
 infixl 10 ◌>>=◌
-abbrev pub ◌>>=◌ : {A B : Type 0} → Result A RecordFault → (A → Result B RecordFault) → Result B RecordFault
+abbrev pub ◌>>=◌ : {A B : Type 0} → Result A RecordFault → (A → Result B RecordFault)
+    → Result B RecordFault
 (Ok x) >>= f = f x
 (Err e) >>= f = Err e
 

@@ -96,10 +96,13 @@ record_of header line = do
   name ← ok_or (step_from header.style word) UnknownStep
   step_of header.catalog name value
 
--- What a step that was read keeps to: it is one of the seven that are built, its id lies in the range of ids, its operation is one on an object of the run, with numbers in the range of records, and its body is within the limits.
+-- What a step that was read keeps to: it is one of the seven that are built, its id lies in the range
+-- of ids, its operation is one on an object of the run, with numbers in the range of records, and its
+-- body is within the limits.
 abbrev pub IsReadable : Objects → Step Op → Type 0
 IsReadable catalog (Begin tx thread body) = IsWithinLimits body
-IsReadable catalog (App tx id op) = (id ≤ 999_999_999) × IsTrue (objects.fits (kinds_of catalog) op) × IsTrue (objects.ranged op)
+IsReadable catalog (App tx id op) =
+    (id ≤ 999_999_999) × IsTrue (objects.fits (kinds_of catalog) op) × IsTrue (objects.ranged op)
 IsReadable catalog (Unapp tx id) = ⊥
 IsReadable catalog (Push tx id) = id ≤ 999_999_999
 IsReadable catalog (Unpush tx id) = ⊥
@@ -108,3 +111,7 @@ IsReadable catalog (Unpull tx id) = ⊥
 IsReadable catalog (Cmt tx) = Unit {0}
 IsReadable catalog (Quit tx) = Unit {0}
 IsReadable catalog (Note tx) = Unit {0}
+
+-- the same, whatever the objects of the run
+abbrev pub IsAlwaysReadable : Step Op → Type 0
+IsAlwaysReadable step = (catalog : Objects) → IsReadable catalog step

@@ -54,4 +54,5 @@ other_step style word = first_of (translated_step word) (own_step style word)
 
 -- the step that a word names in a style
 unfoldable pub step_from : Style → List ℕ → Option StepName
-step_from style word = if bytes_eq word (codes "begin") then Some names.Begin else other_step style word
+step_from style word =
+    if bytes_eq word (codes "begin") then Some names.Begin else other_step style word

@@ -1,27 +1,30 @@
 //! The calls of objects, with their arguments and results.
-ghost use Rattle.std.specs.Prelude.{◌≡◌, ℤ, IsTrue, pos, negsuc, ◌≤ℤ◌, IfOk, IfSome, Some, slice_get};
+ghost use Rattle.std.specs.Prelude.{◌≡◌, IsTrue, IfOk, IfSome, Some};
 ghost use Rattle.serde_json.specs.View.{view};
-ghost use Rattle.pp_spec.specs.Numbers.{in_range, is_ranged_answer};
+ghost use Rattle.pp_spec.specs.Numbers.{in_range, has_ranged_arguments, is_ranged_answer};
 ghost use Rattle.pp_object.specs.Objects.{objects, kinds_of};
-ghost use Rattle.pp_object.specs.Calls.{HasMethod, methods_of, first_named, has_form, op_made, IsCallOf, IsOpOf};
+ghost use Rattle.pp_object.specs.Calls.{HasMethod, method_named, has_form, op_made, IsCallOf, IsOpOf};
 ghost use Rattle.pp_json.specs.Reading.{Gives};
-ghost use Rattle.pp_json.specs.Calls.{number_of, object_named, object_called, method_of, argument, arguments_of, number_answer, answer_in, op_of};
+ghost use Rattle.pp_json.specs.Calls.{number_from, number_of, object_named, object_called, IsThere, method_of};
+ghost use Rattle.pp_json.specs.Calls.{argument, arguments_of, call_of, number_answer, IsRangedNumber, answer_in, op_of};
 
 use crate::fault::RecordFault;
 use crate::members::{member_in, name_with, text_in, whole_number};
 use pp_core::{Answer, Call, Catalog, Kind, Member, Method};
 use pp_object::{Form, Op, answer_form, arity, make_op, method_of};
-use pp_spec::GREATEST_NUMBER;
+use pp_spec::in_range;
 use serde_json::Value;
 
-/// Whether a number may stand in a record.
-pub(crate) fn is_in_range(n: i128) -> bool
-    ensures value { result ≡ in_range n }
-    ensures low { IsTrue result → negsuc 999_999_999_999_999_999 ≤ℤ n }
-    ensures high { IsTrue result → n ≤ℤ pos 1_000_000_000_000_000_000 }
+/// The number, where it may stand in a record.
+#[tactic(auto, unfolding(crate::specs::Calls::number_from))]
+pub(crate) fn number_from(n: i128) -> Option<i64>
+    ensures value { result ≡ number_from n }
+    ensures ranged { IfSome result (λ number. IsTrue (in_range number)) }
 {
-    let greatest = i128::from(GREATEST_NUMBER);
-    -greatest <= n && n <= greatest
+    match i64::try_from(n) {
+        Ok(number) if in_range(number) => Some(number),
+        _ => None,
+    }
 }
 
 #[tactic(auto, unfolding(crate::specs::Calls::number_of))]
@@ -30,17 +33,14 @@ fn number_that_is(value: &Value, member: Member) -> Result<i64, RecordFault>
     ensures ranged { IfOk result (λ n. IsTrue (in_range n)) }
 {
     let n = whole_number(value, member)?;
-    if !is_in_range(n) {
-        return Err(RecordFault::OutOfRange(member));
-    }
-    Ok(n as i64)
+    number_from(n).ok_or(RecordFault::OutOfRange(member))
 }
 
 /// The place and the kind of the object that a text names.
 #[tactic(auto, unfolding(crate::specs::Calls::object_named))]
 pub(crate) fn object_named(catalog: &Catalog, text: &str) -> Option<(u16, Kind)>
     ensures value { result ≡ object_named catalog.now text.now }
-    ensures there { IfSome result (λ object. slice_get (kinds_of catalog.now) object.0 ≡ Some object.1) }
+    ensures there { IfSome result (IsThere catalog.now) }
 {
     let name = name_with(text)?;
     let place = catalog.place(&name)?;
@@ -51,7 +51,7 @@ pub(crate) fn object_named(catalog: &Catalog, text: &str) -> Option<(u16, Kind)>
 #[tactic(auto, unfolding(crate::specs::Calls::object_called))]
 fn object_in(catalog: &Catalog, value: &Value) -> Result<(u16, Kind), RecordFault>
     ensures reads { Gives (λ object. object) result (object_called catalog.now (view value.now)) }
-    ensures there { IfOk result (λ object. slice_get (kinds_of catalog.now) object.0 ≡ Some object.1) }
+    ensures there { IfOk result (IsThere catalog.now) }
 {
     let on = text_in(value, Member::On)?;
     object_named(catalog, on).ok_or(RecordFault::UnknownObject)
@@ -59,7 +59,7 @@ fn object_in(catalog: &Catalog, value: &Value) -> Result<(u16, Kind), RecordFaul
 
 /// The method that a kind's objects have under this word.
 pub(crate) fn method_named(kind: Kind, word: &str) -> Option<Method>
-    ensures value { result ≡ first_named (methods_of kind) word.now }
+    ensures value { result ≡ method_named kind word.now }
     ensures found { IfSome result (HasMethod kind) }
 {
     method_of(kind, word.as_bytes())
@@ -85,27 +85,44 @@ fn argument_among(list: &Value, i: usize) -> Result<i64, RecordFault>
     }
 }
 
+/// The array of the arguments, which has as many elements as the call has arguments.
 #[tactic(auto, unfolding(crate::specs::Calls::arguments_of), using(crate::proofs::Objects::count_view))]
-fn arguments_in(kind: Kind, method: Method, value: &Value) -> Result<(i64, i64), RecordFault>
+fn arguments_in<'v>(kind: Kind, method: Method, value: &'v Value) -> Result<&'v Value, RecordFault>
     requires { HasMethod kind method }
-    ensures reads { Gives (λ both. both) result (arguments_of kind method (view value.now)) }
-    ensures first { IfOk result (λ both. IsTrue (in_range both.0)) }
-    ensures second { IfOk result (λ both. IsTrue (in_range both.1)) }
+    ensures { Gives (λ v. view v.now) result (arguments_of kind method (view value.now)) }
 {
     let list = member_in(value, Member::Args)?;
     let values = list.as_array().ok_or(RecordFault::WrongType(Member::Args))?;
     if values.len() != arity(kind, method) {
         return Err(RecordFault::WrongType(Member::Args));
     }
+    Ok(list)
+}
+
+/// The call on the object of this kind at a place, with its arguments.
+#[tactic(auto, unfolding(crate::specs::Calls::call_of), using(crate::proofs::Calls::both))]
+fn call_in(object: u16, kind: Kind, value: &Value) -> Result<Call, RecordFault>
+    ensures reads { Gives (λ call. call) result (call_of object kind (view value.now)) }
+    ensures place { IfOk result (λ call. call.object ≡ object) }
+    ensures method { IfOk result (λ call. HasMethod kind call.method) }
+    ensures ranged { IfOk result (λ call. IsTrue (has_ranged_arguments call)) }
+{
+    let method = method_in(kind, value)?;
+    let list = arguments_in(kind, method, value)?;
     let first = argument_among(list, 0)?;
     let second = argument_among(list, 1)?;
-    Ok((first, second))
+    Ok(Call {
+        object,
+        method,
+        first,
+        second,
+    })
 }
 
 #[tactic(auto, unfolding(crate::specs::Calls::number_answer))]
 fn number_answer(value: &Value) -> Result<Answer, RecordFault>
     ensures reads { Gives (λ answer. answer) result (number_answer (view value.now)) }
-    ensures formed { IfOk result (λ answer. (n : ℤ) × (answer ≡ Answer.Number n) × IsTrue (in_range n)) }
+    ensures formed { IfOk result IsRangedNumber }
 {
     let n = number_that_is(value, Member::Answer)?;
     Ok(Answer::Number(i128::from(n)))
@@ -131,7 +148,8 @@ fn answer_in(form: Form, value: &Value) -> Result<Answer, RecordFault>
     }
 }
 
-/// The operation of a call, which its object's kind has, with a result of the form that the call gives.
+/// The operation of a call, which its object's kind has, with a result of the form that the call
+/// gives.
 fn op_with(kind: Kind, call: &Call, answer: &Answer) -> Op
     requires { IsCallOf kind call.now answer.now }
     ensures made { op_made kind call.now answer.now ≡ Some result }
@@ -151,15 +169,8 @@ pub(crate) fn op_in(catalog: &Catalog, value: &Value) -> Result<Op, RecordFault>
     ensures ranged { IfOk result (λ op. IsTrue (objects.ranged op)) }
 {
     let (object, kind) = object_in(catalog, value)?;
-    let method = method_in(kind, value)?;
-    let (first, second) = arguments_in(kind, method, value)?;
+    let call = call_in(object, kind, value)?;
     let result = member_in(value, Member::Answer)?;
-    let answer = answer_in(answer_form(kind, method), result)?;
-    let call = Call {
-        object,
-        method,
-        first,
-        second,
-    };
+    let answer = answer_in(answer_form(kind, call.method), result)?;
     Ok(op_with(kind, &call, &answer))
 }

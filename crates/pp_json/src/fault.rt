@@ -1,3 +1,4 @@
+//! The faults of lines.
 ghost use Rattle.std.specs.Prelude.{◌≡◌};
 ghost use Rattle.pp_json.specs.declared.fault.RecordFault.TheVariants.{OutOfMemory};
 

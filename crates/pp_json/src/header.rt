@@ -3,7 +3,7 @@ ghost use Rattle.std.specs.Prelude.{◌≡◌, ◌≤◌, ◌<◌, [], length, s
 ghost use Rattle.serde_json.specs.View.{view, items_view};
 ghost use Rattle.pp_core.specs.Catalogs.{place_of};
 ghost use Rattle.pp_json.specs.Reading.{Gives};
-ghost use Rattle.pp_json.specs.Headers.{style_from, kind_from, object_in, with_object, objects_in, catalog_of, header_of};
+ghost use Rattle.pp_json.specs.Headers.{object_in, with_object, objects_in, catalog_of, header_of};
 ghost use Rattle.pp_json.specs.Later.{IsBuilt};
 
 use crate::fault::RecordFault;
@@ -20,34 +20,6 @@ pub struct Header {
     pub catalog: Catalog,
 }
 
-#[tactic(auto, unfolding(crate::specs::Headers::style_from))]
-fn style_named(word: &str) -> Option<Style>
-    ensures { result ≡ style_from word.now }
-{
-    match word {
-        "rules" => Some(Style::Rules),
-        "boosted" => Some(Style::Boosted),
-        "optimistic" => Some(Style::Optimistic),
-        "hardware" => Some(Style::Hardware),
-        "dependent" => Some(Style::Dependent),
-        _ => None,
-    }
-}
-
-#[tactic(auto, unfolding(crate::specs::Headers::kind_from))]
-fn kind_named(word: &str) -> Option<Kind>
-    ensures { result ≡ kind_from word.now }
-{
-    match word {
-        "mem" => Some(Kind::Memory),
-        "set" => Some(Kind::KeySet),
-        "map" => Some(Kind::KeyMap),
-        "counter" => Some(Kind::Counter),
-        "queue" => Some(Kind::Queue),
-        _ => None,
-    }
-}
-
 #[tactic(auto, unfolding(crate::specs::Headers::object_in))]
 fn object_behind(before: &Catalog, value: &Value) -> Result<(Name, Kind), RecordFault>
     ensures reads { Gives (λ x. x) result (object_in before.now (view value.now)) }
@@ -61,13 +33,13 @@ fn object_behind(before: &Catalog, value: &Value) -> Result<(Name, Kind), Record
         return Err(RecordFault::RepeatedObject);
     }
     let word = text_in(value, Member::Kind)?;
-    let kind = kind_named(word).ok_or(RecordFault::UnknownKind)?;
+    let kind = Kind::named(word).ok_or(RecordFault::UnknownKind)?;
     Ok((name, kind))
 }
 
 #[tactic(auto, unfolding(crate::specs::Headers::with_object))]
 fn with_object(mut catalog: Catalog, value: &Value) -> Result<Catalog, RecordFault>
-    requires { length catalog < 256 }
+    requires { length catalog < MOST_OBJECTS }
     ensures reads { Gives (λ c. c) result (with_object catalog (view value.now)) }
     ensures one_more { IfOk result (λ c. length c ≡ suc (length catalog)) }
 {
@@ -78,7 +50,7 @@ fn with_object(mut catalog: Catalog, value: &Value) -> Result<Catalog, RecordFau
 
 #[tactic(auto, using(crate::proofs::Objects::goes_on, crate::proofs::Objects::stops, crate::proofs::Objects::ends))]
 fn objects_among(alloc: Global, values: &[Value]) -> Result<Catalog, RecordFault>
-    requires { length values.now ≤ 256 }
+    requires { length values.now ≤ MOST_OBJECTS }
     ensures { Gives (λ c. c) result (objects_in [] (items_view values.now)) }
 {
     let mut catalog = Catalog::new(alloc);
@@ -112,7 +84,7 @@ pub fn read_header(alloc: Global, line: &[u8]) -> Result<Header, RecordFault>
         return Err(RecordFault::OutOfRange(Member::Run));
     }
     let word = text_in(&value, Member::Style)?;
-    let style = style_named(word).ok_or(RecordFault::UnknownStyle)?;
+    let style = Style::named(word).ok_or(RecordFault::UnknownStyle)?;
     let catalog = catalog_in(alloc, &value)?;
     if !is_built(style) {
         return Err(RecordFault::NotYet);

@@ -2,34 +2,13 @@
 ghost use Rattle.std.specs.Prelude.{◌≡◌};
 ghost use Rattle.serde_json.specs.View.{view, items_view};
 ghost use Rattle.pp_json.specs.Reading.{Gives};
-ghost use Rattle.pp_json.specs.Members.{key, value_of, object_of, member_of, text_of, name_from, name_of, whole, whole_of, array_of};
+ghost use Rattle.pp_json.specs.Members.{value_of, object_of, member_of, text_of, name_from, name_of};
+ghost use Rattle.pp_json.specs.Members.{whole, whole_of, array_of};
 
 use crate::fault::RecordFault;
 use pp_core::{Member, Name};
 use serde_json::Value;
 use std::alloc::Global;
-
-#[tactic(auto, unfolding(crate::specs::Members::key))]
-fn key_of(member: Member) -> &'static str
-    ensures { result.now ≡ key member }
-{
-    match member {
-        Member::Run => "run",
-        Member::Style => "style",
-        Member::Objects => "objects",
-        Member::Name => "name",
-        Member::Kind => "kind",
-        Member::Step => "step",
-        Member::Tx => "tx",
-        Member::Thread => "thread",
-        Member::Id => "id",
-        Member::On => "on",
-        Member::Call => "call",
-        Member::Args => "args",
-        Member::Answer => "result",
-        Member::Source => "source",
-    }
-}
 
 #[tactic(auto, using(crate::proofs::Values::value_is, crate::proofs::Values::no_value))]
 fn value_on(alloc: Global, line: &[u8]) -> Result<Value, RecordFault>
@@ -64,9 +43,7 @@ pub(crate) fn object_on(alloc: Global, line: &[u8]) -> Result<Value, RecordFault
 pub(crate) fn member_in<'v>(value: &'v Value, member: Member) -> Result<&'v Value, RecordFault>
     ensures { Gives (λ v. view v.now) result (member_of member (view value.now)) }
 {
-    value
-        .get(key_of(member))
-        .ok_or(RecordFault::Missing(member))
+    value.get(member.word()).ok_or(RecordFault::Missing(member))
 }
 
 /// A member that is to be a text.

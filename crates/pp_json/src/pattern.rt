@@ -5,7 +5,7 @@ ghost use Rattle.pp_object.specs.Calls.{HasMethod};
 ghost use Rattle.pp_json.specs.Reading.{Gives};
 ghost use Rattle.pp_json.specs.Patterns.{wanted, wanted_at, wanted_of, body_text, target_of, pattern_of};
 
-use crate::call::{is_in_range, method_named, object_named};
+use crate::call::{method_named, number_from, object_named};
 use crate::fault::RecordFault;
 use pp_core::{Catalog, Kind, Method, Pattern};
 use pp_object::arity;
@@ -21,10 +21,8 @@ fn wanted_number(value: &Value) -> Result<Option<i64>, RecordFault>
     }
     let number = value.as_number().and_then(|number| number.as_i128());
     let n = number.ok_or(RecordFault::BodyBad)?;
-    if !is_in_range(n) {
-        return Err(RecordFault::BodyBad);
-    }
-    Ok(Some(n as i64))
+    let near = number_from(n).ok_or(RecordFault::BodyBad)?;
+    Ok(Some(near))
 }
 
 #[tactic(auto, unfolding(crate::specs::Patterns::wanted_at))]
@@ -58,24 +56,19 @@ fn target_in(catalog: &Catalog, value: &Value) -> Result<(u16, Kind, Method), Re
     Ok((object, kind, method))
 }
 
-/// What is wanted of the two arguments.
+/// The array of what is wanted of the arguments, which has as many elements as the call has
+/// arguments.
 #[tactic(auto, unfolding(crate::specs::Patterns::wanted_of), using(crate::proofs::Objects::count_view))]
-fn wanted_in(
-    kind: Kind,
-    method: Method,
-    value: &Value,
-) -> Result<(Option<i64>, Option<i64>), RecordFault>
+fn wanted_in<'v>(kind: Kind, method: Method, value: &'v Value) -> Result<&'v Value, RecordFault>
     requires { HasMethod kind method }
-    ensures { Gives (λ both. both) result (wanted_of kind method (view value.now)) }
+    ensures { Gives (λ v. view v.now) result (wanted_of kind method (view value.now)) }
 {
     let list = value.get("args").ok_or(RecordFault::BodyBad)?;
     let values = list.as_array().ok_or(RecordFault::BodyBad)?;
     if values.len() != arity(kind, method) {
         return Err(RecordFault::BodyBad);
     }
-    let first = wanted_among(list, 0)?;
-    let second = wanted_among(list, 1)?;
-    Ok((first, second))
+    Ok(list)
 }
 
 /// The pattern that a value is.
@@ -84,7 +77,9 @@ pub(crate) fn pattern_in(catalog: &Catalog, value: &Value) -> Result<Pattern, Re
     ensures { Gives (λ pattern. pattern) result (pattern_of catalog.now (view value.now)) }
 {
     let (object, kind, method) = target_in(catalog, value)?;
-    let (first, second) = wanted_in(kind, method, value)?;
+    let list = wanted_in(kind, method, value)?;
+    let first = wanted_among(list, 0)?;
+    let second = wanted_among(list, 1)?;
     Ok(Pattern {
         object,
         method,

@@ -1,10 +1,9 @@
 //! The lines behind the header.
 ghost use Rattle.std.specs.Prelude.{◌≡◌, ◌≤◌, IfOk, IfSome};
 ghost use Rattle.serde_json.specs.View.{view};
-ghost use Rattle.pp_core.specs.Catalogs.{Objects};
 ghost use Rattle.pp_core.specs.Steps.{meaning};
 ghost use Rattle.pp_json.specs.Reading.{Gives};
-ghost use Rattle.pp_json.specs.Records.{id_from, id_of, begin_of, app_of, push_of, pull_of, cmt_of, quit_of, note_of, step_of, record_of, IsReadable};
+ghost use Rattle.pp_json.specs.Records.{id_from, id_of, begin_of, app_of, push_of, pull_of, cmt_of, quit_of, note_of, step_of, record_of, IsReadable, IsAlwaysReadable};
 
 use crate::body::begin_body;
 use crate::call::op_in;
@@ -63,7 +62,7 @@ fn app_in(catalog: &Catalog, value: &Value) -> Result<Step<Op>, RecordFault>
 #[tactic(auto, unfolding(crate::specs::Records::push_of))]
 fn push_in(value: &Value) -> Result<Step<Op>, RecordFault>
     ensures reads { Gives meaning result (push_of (view value.now)) }
-    ensures readable { (catalog : Objects) → IfOk result (λ step. IsReadable catalog (meaning step)) }
+    ensures readable { IfOk result (λ step. IsAlwaysReadable (meaning step)) }
 {
     let tx = name_in(value, Member::Tx)?;
     let id = id_in(value)?;
@@ -73,7 +72,7 @@ fn push_in(value: &Value) -> Result<Step<Op>, RecordFault>
 #[tactic(auto, unfolding(crate::specs::Records::pull_of))]
 fn pull_in(value: &Value) -> Result<Step<Op>, RecordFault>
     ensures reads { Gives meaning result (pull_of (view value.now)) }
-    ensures readable { (catalog : Objects) → IfOk result (λ step. IsReadable catalog (meaning step)) }
+    ensures readable { IfOk result (λ step. IsAlwaysReadable (meaning step)) }
 {
     let tx = name_in(value, Member::Tx)?;
     let id = id_in(value)?;
@@ -83,7 +82,7 @@ fn pull_in(value: &Value) -> Result<Step<Op>, RecordFault>
 #[tactic(auto, unfolding(crate::specs::Records::cmt_of))]
 fn cmt_in(value: &Value) -> Result<Step<Op>, RecordFault>
     ensures reads { Gives meaning result (cmt_of (view value.now)) }
-    ensures readable { (catalog : Objects) → IfOk result (λ step. IsReadable catalog (meaning step)) }
+    ensures readable { IfOk result (λ step. IsAlwaysReadable (meaning step)) }
 {
     let tx = name_in(value, Member::Tx)?;
     Ok(Step::Cmt { tx })
@@ -92,7 +91,7 @@ fn cmt_in(value: &Value) -> Result<Step<Op>, RecordFault>
 #[tactic(auto, unfolding(crate::specs::Records::quit_of))]
 fn quit_in(value: &Value) -> Result<Step<Op>, RecordFault>
     ensures reads { Gives meaning result (quit_of (view value.now)) }
-    ensures readable { (catalog : Objects) → IfOk result (λ step. IsReadable catalog (meaning step)) }
+    ensures readable { IfOk result (λ step. IsAlwaysReadable (meaning step)) }
 {
     let tx = name_in(value, Member::Tx)?;
     Ok(Step::Quit { tx })
@@ -101,7 +100,7 @@ fn quit_in(value: &Value) -> Result<Step<Op>, RecordFault>
 #[tactic(auto, unfolding(crate::specs::Records::note_of))]
 fn note_in(value: &Value) -> Result<Step<Op>, RecordFault>
     ensures reads { Gives meaning result (note_of (view value.now)) }
-    ensures readable { (catalog : Objects) → IfOk result (λ step. IsReadable catalog (meaning step)) }
+    ensures readable { IfOk result (λ step. IsAlwaysReadable (meaning step)) }
 {
     let tx = name_in(value, Member::Tx)?;
     Ok(Step::Note { tx })

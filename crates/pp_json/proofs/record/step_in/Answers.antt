@@ -1,16 +1,17 @@
+use Rattle.pp_json.proofs.Readable.{over}
 use Rattle.pp_json.proofs.record.step_in.Goals as goal
 
 pub returns-in-Push-clause-readable : goal.returns-in-Push-clause-readable
-returns-in-Push-clause-readable c = c.push_in.ensures.readable c.args.catalog.now
+returns-in-Push-clause-readable c = over c.args.catalog.now c.push_in.result c.push_in.ensures.readable
 
 pub returns-in-Pull-clause-readable : goal.returns-in-Pull-clause-readable
-returns-in-Pull-clause-readable c = c.pull_in.ensures.readable c.args.catalog.now
+returns-in-Pull-clause-readable c = over c.args.catalog.now c.pull_in.result c.pull_in.ensures.readable
 
 pub returns-in-Cmt-clause-readable : goal.returns-in-Cmt-clause-readable
-returns-in-Cmt-clause-readable c = c.cmt_in.ensures.readable c.args.catalog.now
+returns-in-Cmt-clause-readable c = over c.args.catalog.now c.cmt_in.result c.cmt_in.ensures.readable
 
 pub returns-in-Quit-clause-readable : goal.returns-in-Quit-clause-readable
-returns-in-Quit-clause-readable c = c.quit_in.ensures.readable c.args.catalog.now
+returns-in-Quit-clause-readable c = over c.args.catalog.now c.quit_in.result c.quit_in.ensures.readable
 
 pub returns-in-Note-clause-readable : goal.returns-in-Note-clause-readable
-returns-in-Note-clause-readable c = c.note_in.ensures.readable c.args.catalog.now
+returns-in-Note-clause-readable c = over c.args.catalog.now c.note_in.result c.note_in.ensures.readable
