@@ -12,4 +12,6 @@ is_allowed (Some y) z = int_eq y z
 
 -- the same object and method, and arguments that are allowed
 abbrev pub matches : Pattern → Call → Bool
-matches p c = p.object == c.object && sameb the_type p.method c.method && is_allowed p.first c.first && is_allowed p.second c.second
+matches p c =
+    p.object == c.object && sameb the_type p.method c.method
+    && is_allowed p.first c.first && is_allowed p.second c.second

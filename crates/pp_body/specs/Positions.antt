@@ -1,16 +1,17 @@
--- Sets of positions. Each node of a body has a place: its parts' places follow one another from its own.
--- A set of places says which patterns may have matched the last call.
+-- Sets of positions. Each node of a body has a place: its parts' places follow one another from its
+-- own. A set of places says which patterns may have matched the last call.
 use Rattle.std.specs.Prelude.{◌≡◌, ◌⊎◌, ℕ, ◌+◌, ◌^◌, ◌==◌, Bool, true, false, ◌&&◌, ◌||◌, if◌then◌else◌, List, [], ◌++◌, bit_or}
 use Rattle.std.specs.Int.{bit_at}
 use Rattle.pp_body.specs.Patterns.{matches}
 use Rattle.pp_model.specs.Body.{Tree, Trees, Skip, One, Seq, Alt, Star, NoPart, Part, Word, WordInTurn, Repeats, Call}
-use Rattle.pp_core.specs.Trees.{nodes}
+use Rattle.pp_core.specs.Trees.{nodes, nodes_of_all}
 
 -- the place is in the set
 abbrev pub has : ℕ → ℕ → Bool
 has set at = bit_at set at == 1
 
--- Whether the end is reached from the set, or from the start where that is entered. With `more`, whether calls can lead there.
+-- Whether the end is reached from the set, or from the start where that is entered. With `more`,
+-- whether calls can lead there.
 abbrev mutual
   pub reaches : Bool → Tree → ℕ → ℕ → Bool → Bool
   reaches more Skip at set entered = entered
@@ -21,11 +22,21 @@ abbrev mutual
 
   pub reaches_in_turn : Bool → Trees → ℕ → ℕ → Bool → Bool
   reaches_in_turn more NoPart at set entered = entered
-  reaches_in_turn more (Part b bs) at set entered = reaches_in_turn more bs (at + nodes b) set (reaches more b at set entered)
+  reaches_in_turn more (Part b bs) at set entered =
+      reaches_in_turn more bs (at + nodes b) set (reaches more b at set entered)
 
   pub reaches_some : Bool → Trees → ℕ → ℕ → Bool → Bool
   reaches_some more NoPart at set entered = false
-  reaches_some more (Part b bs) at set entered = reaches more b at set entered || reaches_some more bs (at + nodes b) set entered
+  reaches_some more (Part b bs) at set entered =
+      reaches more b at set entered || reaches_some more bs (at + nodes b) set entered
+
+-- the same, each with the place behind the parts
+abbrev pub reaches_in_turn_to : Bool → Trees → ℕ → ℕ → Bool → Bool × ℕ
+reaches_in_turn_to more bs at set entered =
+    (reaches_in_turn more bs at set entered, at + nodes_of_all bs)
+
+abbrev pub reaches_some_to : Bool → Trees → ℕ → ℕ → Bool → Bool × ℕ
+reaches_some_to more bs at set entered = (reaches_some more bs at set entered, at + nodes_of_all bs)
 
 -- the set after one more call
 abbrev mutual
@@ -39,11 +50,13 @@ abbrev mutual
   pub shift_in_turn : Trees → ℕ → ℕ → Bool → Call → ℕ
   shift_in_turn NoPart at set entered call = 0
   shift_in_turn (Part b bs) at set entered call =
-      bit_or (shift b at set entered call) (shift_in_turn bs (at + nodes b) set (reaches false b at set entered) call)
+      bit_or (shift b at set entered call)
+      (shift_in_turn bs (at + nodes b) set (reaches false b at set entered) call)
 
   pub shift_some : Trees → ℕ → ℕ → Bool → Call → ℕ
   shift_some NoPart at set entered call = 0
-  shift_some (Part b bs) at set entered call = bit_or (shift b at set entered call) (shift_some bs (at + nodes b) set entered call)
+  shift_some (Part b bs) at set entered call =
+      bit_or (shift b at set entered call) (shift_some bs (at + nodes b) set entered call)
 
 -- the words that may still follow from the set
 abbrev mutual
@@ -52,12 +65,14 @@ abbrev mutual
   Rest (One p) at set v = (has set at ≡ true) × (v ≡ [])
   Rest (Seq bs) at set v = RestInTurn bs at set v
   Rest (Alt bs) at set v = RestOfSome bs at set v
-  Rest (Star b) at set v = (u x : List Call) × (v ≡ u ++ x) × Rest b at set u × Repeats (λ w. Word b w) x
+  Rest (Star b) at set v =
+      (u x : List Call) × (v ≡ u ++ x) × Rest b at set u × Repeats (λ w. Word b w) x
 
   pub RestInTurn : Trees → ℕ → ℕ → List Call → Type 0
   RestInTurn NoPart at set v = ⊥
   RestInTurn (Part b bs) at set v =
-      ((u x : List Call) × (v ≡ u ++ x) × Rest b at set u × WordInTurn bs x) ⊎ RestInTurn bs (at + nodes b) set v
+      ((u x : List Call) × (v ≡ u ++ x) × Rest b at set u × WordInTurn bs x)
+      ⊎ RestInTurn bs (at + nodes b) set v
 
   pub RestOfSome : Trees → ℕ → ℕ → List Call → Type 0
   RestOfSome NoPart at set v = ⊥

@@ -6,4 +6,5 @@ mod moving;
 mod position;
 mod walk;
 
+pub use pp_core::{Body, Call, OutOfMemory, Parts, Pattern};
 pub use walk::Walk;

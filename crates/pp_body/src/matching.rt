@@ -1,3 +1,4 @@
+//! Calls that a pattern matches.
 ghost use Rattle.std.specs.Prelude.{◌≡◌};
 ghost use Rattle.pp_body.specs.Patterns.{matches, is_allowed};
 

@@ -1,8 +1,10 @@
 //! What one call does to a set of positions, in one pass over the body.
 ghost use Rattle.std.specs.Prelude.{◌≡◌, ◌+◌, ◌≤◌};
+ghost use Rattle.pp_core.specs.declared.limits.TheConstants.{MOST_BODY_NODES};
 ghost use Rattle.pp_core.specs.Trees.{tree, trees_of, nodes, nodes_of_all};
 ghost use Rattle.pp_body.specs.Positions.{shift};
-ghost use Rattle.pp_body.specs.Moves.{when, after, ends, passing, nowhere, first_then, either, again, moves, moves_in_turn, moves_of_some};
+ghost use Rattle.pp_body.specs.Moves.{when, after, ends, passing, nowhere, first_then, either, again};
+ghost use Rattle.pp_body.specs.Moves.{moves, moves_in_turn_to, moves_of_some_to};
 
 use crate::matching::matches;
 use crate::position::has;
@@ -90,7 +92,7 @@ impl Moves {
 /// The moves, and the place behind the body.
 #[cycle(moves)]
 fn moves_of(body: &Body, at: u32, set: u64, call: &Call) -> (Moves, u32)
-    requires { at + nodes (tree body.now) ≤ 64 }
+    requires { at + nodes (tree body.now) ≤ MOST_BODY_NODES }
     ensures { result ≡ (moves (tree body.now) at set call.now, at + nodes (tree body.now)) }
 {
     match body {
@@ -121,8 +123,8 @@ fn moves_of(body: &Body, at: u32, set: u64, call: &Call) -> (Moves, u32)
 #[cycle(moves)]
 #[tactic(auto, using(crate::proofs::Moves::passing_then))]
 fn moves_in_turn(parts: &[Body], at: u32, set: u64, call: &Call) -> (Moves, u32)
-    requires { at + nodes_of_all (trees_of parts.now) ≤ 64 }
-    ensures { result ≡ (moves_in_turn (trees_of parts.now) at set call.now, at + nodes_of_all (trees_of parts.now)) }
+    requires { at + nodes_of_all (trees_of parts.now) ≤ MOST_BODY_NODES }
+    ensures { result ≡ moves_in_turn_to (trees_of parts.now) at set call.now }
 {
     let mut at = at;
     let mut all = PASSING;
@@ -136,8 +138,8 @@ fn moves_in_turn(parts: &[Body], at: u32, set: u64, call: &Call) -> (Moves, u32)
 
 #[cycle(moves)]
 fn moves_of_some(parts: &[Body], at: u32, set: u64, call: &Call) -> (Moves, u32)
-    requires { at + nodes_of_all (trees_of parts.now) ≤ 64 }
-    ensures { result ≡ (moves_of_some (trees_of parts.now) at set call.now, at + nodes_of_all (trees_of parts.now)) }
+    requires { at + nodes_of_all (trees_of parts.now) ≤ MOST_BODY_NODES }
+    ensures { result ≡ moves_of_some_to (trees_of parts.now) at set call.now }
 {
     let mut at = at;
     let mut all = NOWHERE;
@@ -151,7 +153,7 @@ fn moves_of_some(parts: &[Body], at: u32, set: u64, call: &Call) -> (Moves, u32)
 
 /// The set after one more call.
 pub(crate) fn shift(body: &Body, set: u64, entered: bool, call: &Call) -> u64
-    requires { nodes (tree body.now) ≤ 64 }
+    requires { nodes (tree body.now) ≤ MOST_BODY_NODES }
     ensures { result ≡ shift (tree body.now) 0 set entered call.now }
 {
     let (all, _) = moves_of(body, 0, set, call);

@@ -1,12 +1,13 @@
 //! Sets of positions in a body, as bits.
 ghost use Rattle.std.specs.Prelude.{◌≡◌, ◌+◌, ◌≤◌};
+ghost use Rattle.pp_core.specs.declared.limits.TheConstants.{MOST_BODY_NODES};
 ghost use Rattle.pp_core.specs.Trees.{tree, trees_of, nodes, nodes_of_all};
-ghost use Rattle.pp_body.specs.Positions.{has, reaches, reaches_in_turn, reaches_some};
+ghost use Rattle.pp_body.specs.Positions.{has, reaches, reaches_in_turn_to, reaches_some_to};
 
 use pp_core::Body;
 
 pub(crate) fn has(set: u64, at: u32) -> bool
-    requires { at + 1 ≤ 64 }
+    requires { at + 1 ≤ MOST_BODY_NODES }
     ensures { result ≡ has set at }
 {
     (set >> at) & 1 == 1
@@ -15,7 +16,7 @@ pub(crate) fn has(set: u64, at: u32) -> bool
 /// Whether the end is reached, and the place behind the body.
 #[cycle(reaches)]
 pub(crate) fn reaches(more: bool, body: &Body, at: u32, set: u64, entered: bool) -> (bool, u32)
-    requires { at + nodes (tree body.now) ≤ 64 }
+    requires { at + nodes (tree body.now) ≤ MOST_BODY_NODES }
     ensures { result ≡ (reaches more (tree body.now) at set entered, at + nodes (tree body.now)) }
 {
     match body {
@@ -38,8 +39,8 @@ pub(crate) fn reaches(more: bool, body: &Body, at: u32, set: u64, entered: bool)
 
 #[cycle(reaches)]
 fn reaches_in_turn(more: bool, parts: &[Body], at: u32, set: u64, entered: bool) -> (bool, u32)
-    requires { at + nodes_of_all (trees_of parts.now) ≤ 64 }
-    ensures { result ≡ (reaches_in_turn more (trees_of parts.now) at set entered, at + nodes_of_all (trees_of parts.now)) }
+    requires { at + nodes_of_all (trees_of parts.now) ≤ MOST_BODY_NODES }
+    ensures { result ≡ reaches_in_turn_to more (trees_of parts.now) at set entered }
 {
     let mut at = at;
     let mut entered = entered;
@@ -51,8 +52,8 @@ fn reaches_in_turn(more: bool, parts: &[Body], at: u32, set: u64, entered: bool)
 
 #[cycle(reaches)]
 fn reaches_some(more: bool, parts: &[Body], at: u32, set: u64, entered: bool) -> (bool, u32)
-    requires { at + nodes_of_all (trees_of parts.now) ≤ 64 }
-    ensures { result ≡ (reaches_some more (trees_of parts.now) at set entered, at + nodes_of_all (trees_of parts.now)) }
+    requires { at + nodes_of_all (trees_of parts.now) ≤ MOST_BODY_NODES }
+    ensures { result ≡ reaches_some_to more (trees_of parts.now) at set entered }
 {
     let mut at = at;
     let mut some = false;

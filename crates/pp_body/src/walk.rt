@@ -1,8 +1,9 @@
-ghost use Rattle.std.specs.Prelude.{◌≡◌, ◌≤◌, ◌↔◌, ◌∷◌, ◌++◌, [], List, None, option_map, true, false, IsTrue, IsOk, IfOk, OnOk, OnErr};
+//! Walks of transactions through their bodies.
+ghost use Rattle.std.specs.Prelude.{◌≡◌, ◌≤◌, [], None, option_map, true, IsOk, IfOk, OnOk, OnErr};
+ghost use Rattle.pp_core.specs.declared.limits.TheConstants.{MOST_BODY_NODES};
 ghost use Rattle.pp_core.specs.Trees.{tree, nodes, IsWithinLimits};
-ghost use Rattle.pp_model.specs.Body.{Call, Begins, IsWord};
-ghost use Rattle.pp_body.specs.Positions.{reaches, shift};
-ghost use Rattle.pp_body.specs.Walks.{last_state, HasTaken, MayTake, MayGoBack};
+ghost use Rattle.pp_body.specs.Walks.{last_state, can_go_on, can_end, HasTaken, HasTakenOneMore};
+ghost use Rattle.pp_body.specs.Walks.{HasTakenOneLess, TellsBegins, TellsWord, MayTake, MayGoBack};
 
 use crate::moving::shift;
 use crate::position::reaches;
@@ -45,8 +46,8 @@ fn last_state_of(reached: &[u64]) -> (u64, bool)
 
 /// Whether some word of the body goes on by the call.
 fn goes_on(body: &Body, reached: &[u64], call: &Call) -> bool
-    requires { nodes (tree body.now) ≤ 64 }
-    ensures { let last = last_state 0 true reached.now in result ≡ reaches true (tree body.now) 0 (shift (tree body.now) 0 last.0 last.1 call.now) false }
+    requires { nodes (tree body.now) ≤ MOST_BODY_NODES }
+    ensures { result ≡ can_go_on (tree body.now) reached.now call.now }
 {
     let (set, entered) = last_state_of(reached);
     let next = shift(body, set, entered, call);
@@ -55,8 +56,8 @@ fn goes_on(body: &Body, reached: &[u64], call: &Call) -> bool
 
 /// Whether some word of the body ends here.
 fn is_at_end(body: &Body, reached: &[u64]) -> bool
-    requires { nodes (tree body.now) ≤ 64 }
-    ensures { let last = last_state 0 true reached.now in result ≡ reaches false (tree body.now) 0 last.0 last.1 }
+    requires { nodes (tree body.now) ≤ MOST_BODY_NODES }
+    ensures { result ≡ can_end (tree body.now) reached.now }
 {
     let (set, entered) = last_state_of(reached);
     reaches(false, body, 0, set, entered).0
@@ -78,7 +79,7 @@ impl Walk {
 
     /// Whether the calls taken, followed by this one, begin a word of the body.
     pub fn can(&self, call: &Call) -> bool
-        ensures { (taken : List Call) → HasTaken self.now taken → IsTrue result ↔ Begins self.now.body (taken ++ call.now ∷ []) }
+        ensures { TellsBegins self.now call.now result }
     {
         match &self.body {
             None => true,
@@ -86,11 +87,12 @@ impl Walk {
         }
     }
 
-    /// Takes a call that may come next. The only error is that memory was refused, and the walk is then as it was.
+    /// Takes a call that may come next. The only error is that memory was refused, and the walk is
+    /// then as it was.
     pub fn follow(&mut self, call: &Call) -> Result<(), OutOfMemory>
         requires { MayTake self.old call.now }
         ensures body { OnOk result (self.new.body ≡ self.old.body) }
-        ensures taken { OnOk result ((taken : List Call) → HasTaken self.old taken → HasTaken self.new (taken ++ call.now ∷ [])) }
+        ensures taken { OnOk result (HasTakenOneMore self.old call.now self.new) }
         ensures err { OnErr result (self.new ≡ self.old) }
         ensures free { self.old.body ≡ None → IsOk result }
     {
@@ -105,7 +107,7 @@ impl Walk {
     pub fn retreat(&mut self)
         requires { MayGoBack self.old }
         ensures body { self.new.body ≡ self.old.body }
-        ensures taken { (taken : List Call) (last : Call) → HasTaken self.old (taken ++ last ∷ []) → HasTaken self.new taken }
+        ensures taken { HasTakenOneLess self.old self.new }
     {
         let _ = self.reached.pop();
     }
@@ -114,7 +116,7 @@ impl Walk {
     pub fn take(mut self, call: Call) -> Result<Walk, OutOfMemory>
         requires { MayTake self call }
         ensures body { IfOk result (λ w. w.body ≡ self.body) }
-        ensures taken { IfOk result (λ w. (taken : List Call) → HasTaken self taken → HasTaken w (taken ++ call ∷ [])) }
+        ensures taken { IfOk result (HasTakenOneMore self call) }
         ensures free { self.body ≡ None → IsOk result }
     {
         self.follow(&call)?;
@@ -125,7 +127,7 @@ impl Walk {
     pub fn back(mut self) -> Walk
         requires { MayGoBack self }
         ensures body { result.body ≡ self.body }
-        ensures taken { (taken : List Call) (last : Call) → HasTaken self (taken ++ last ∷ []) → HasTaken result taken }
+        ensures taken { HasTakenOneLess self result }
     {
         self.retreat();
         self
@@ -133,7 +135,7 @@ impl Walk {
 
     /// Whether the calls taken are a word of the body.
     pub fn complete(&self) -> bool
-        ensures { (taken : List Call) → HasTaken self.now taken → IsTrue result ↔ IsWord self.now.body taken }
+        ensures { TellsWord self.now result }
     {
         match &self.body {
             None => true,
