@@ -1,4 +1,5 @@
--- Trees as lists, so that models may hold trees: each part is written before the part ahead of it, and a stack gives all back.
+-- Trees as lists, so that models may hold trees: each part is written before the part ahead of it, and
+-- a stack gives all back.
 use Rattle.std.specs.Prelude.{◌≡◌, ◌⊎◌, ℕ, zero, suc, List, [], ◌∷◌, refl}
 use Rattle.std.specs.Coded.{Coded, code_by, coded⊎, coded_ℕ, coded_list}
 use Rattle.std.proofs.Common.{ap, ◌∙◌, inl, inr}
@@ -6,7 +7,8 @@ use Rattle.pp_core.specs.contracts.body.Pattern.{the_row}
 use Rattle.pp_core.specs.declared.body.Pattern.{Pattern}
 use Rattle.pp_core.specs.Trees.{Tree, Trees, Skip, One, Seq, Alt, Star, NoPart, Part}
 
--- a pattern, or what is to be done: 0 no call, 1 a new row of parts, 2 a row in turn, 3 one of a row, 4 again and again
+-- a pattern, or what is to be done: 0 no call, 1 a new row of parts, 2 a row in turn, 3 one of a row,
+-- 4 again and again
 abbrev pub Token : Type 0
 Token = ℕ ⊎ Pattern
 
@@ -53,19 +55,22 @@ only [] = Skip
 only (row ∷ st) = first_part row
 
 mutual
-  pub read_back : (b : Tree) (k : List Token) (row : Trees) (st : List Trees) → read (written b k) (row ∷ st) ≡ read k (Part b row ∷ st)
+  pub read_back : (b : Tree) (k : List Token) (row : Trees) (st : List Trees)
+      → read (written b k) (row ∷ st) ≡ read k (Part b row ∷ st)
   read_back Skip k row st = refl
   read_back (One p) k row st = refl
   read_back (Seq bs) k row st = all_read_back bs (inl 2 ∷ k) (row ∷ st)
   read_back (Alt bs) k row st = all_read_back bs (inl 3 ∷ k) (row ∷ st)
   read_back (Star b) k row st = read_back b (inl 4 ∷ k) NoPart (row ∷ st)
 
-  pub all_read_back : (bs : Trees) (k : List Token) (st : List Trees) → read (all_written bs k) (NoPart ∷ st) ≡ read k (bs ∷ st)
+  pub all_read_back : (bs : Trees) (k : List Token) (st : List Trees)
+      → read (all_written bs k) (NoPart ∷ st) ≡ read k (bs ∷ st)
   all_read_back NoPart k st = refl
   all_read_back (Part b bs) k st = all_read_back bs (written b k) st ∙ read_back b k bs st
 
 -- a tree is stored as its list
 abbrev pub tree_code : Coded Tree
 tree_code =
-    code_by (List Token) (coded_list (coded⊎ coded_ℕ the_row.coded)) (λ b. written b []) (λ ts. only (read ts (NoPart ∷ [])))
+    code_by (List Token) (coded_list (coded⊎ coded_ℕ the_row.coded)) (λ b. written b [])
+    (λ ts. only (read ts (NoPart ∷ [])))
     (λ b. ap only (read_back b [] NoPart []))

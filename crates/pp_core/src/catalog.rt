@@ -16,17 +16,17 @@ pub struct Catalog {
 }
 
 impl Model for Catalog {
-    ghost use Rattle.std.specs.Prelude.{◌≤◌, List, ℕ, length};
+    ghost use Rattle.std.specs.Prelude.{List, ℕ};
     ghost use Rattle.std.specs.Str.{bytes_eq};
     ghost use Rattle.indexmap.specs.IndexMap.{IsUnique};
     ghost use Rattle.pp_core.specs.declared.call.Kind.{Kind};
-    ghost use Rattle.pp_core.specs.declared.limits.TheConstants.{MOST_OBJECTS};
+    ghost use Rattle.pp_core.specs.Catalogs.{AreFew};
 
     ghost Value = { List (List ℕ × Kind) };
 
     ghost view = { λ c. c.objects.entries };
 
-    ghost invariant = { λ c. IsUnique bytes_eq c.objects × (length c.objects.entries ≤ MOST_OBJECTS) };
+    ghost invariant = { λ c. IsUnique bytes_eq c.objects × AreFew c.objects.entries };
 }
 
 impl Catalog {

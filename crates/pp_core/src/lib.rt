@@ -1,4 +1,5 @@
-//! The types that every layer names: names, kinds, calls, entries, steps, lists, and the step counter.
+//! The types that every layer names: names, kinds, calls, entries, steps, lists, and the step
+//! counter.
 #![tactic(auto)]
 
 mod answer;
