@@ -1,4 +1,4 @@
--- Operations that show that a pair may not change places.
+-- Meaning: operations that show that a pair may not change places.
 use Rattle.std.specs.Prelude.{ℤ, pos, negsuc, ◌+ℤ◌, ◌-ℤ◌, Bool, true, false, int_lt, if◌then◌else◌, List, [], ◌∷◌, Option, Some, None}
 use Rattle.std.specs.Ordering.{int_eq}
 use Rattle.pp_spec.specs.Numbers.{in_range}
@@ -6,12 +6,15 @@ use Rattle.pp_counter.specs.declared.op.CounterOp.{CounterOp}
 use Rattle.pp_counter.specs.declared.op.CounterOp.TheVariants.{Add, Get, FetchAdd}
 use Rattle.pp_counter.specs.Movers.{may_swap}
 
--- none where x is zero, one where it lies in the range, or two, of which the first adds the greatest number or the least
+-- none where x is zero, one where it lies in the range, or two, of which the first adds the
+-- greatest number or the least
 abbrev pub reach_by : (zero inside up : Bool) → ℤ → List CounterOp
 reach_by true inside up x = []
 reach_by false true up x = Add x ∷ []
-reach_by false false true x = Add (pos 1_000_000_000_000_000_000) ∷ Add (x -ℤ pos 1_000_000_000_000_000_000) ∷ []
-reach_by false false false x = Add (negsuc 999_999_999_999_999_999) ∷ Add (x +ℤ pos 1_000_000_000_000_000_000) ∷ []
+reach_by false false true x =
+    Add (pos 1_000_000_000_000_000_000) ∷ Add (x -ℤ pos 1_000_000_000_000_000_000) ∷ []
+reach_by false false false x =
+    Add (negsuc 999_999_999_999_999_999) ∷ Add (x +ℤ pos 1_000_000_000_000_000_000) ∷ []
 
 -- additions that lead from zero to x
 abbrev pub reach : ℤ → List CounterOp
@@ -26,5 +29,9 @@ pair_begins (Add by) (Get value) = value -ℤ by
 pair_begins (Add by) (FetchAdd more was) = was -ℤ by
 
 -- what stands before and after such a pair
+abbrev pub lists_round : CounterOp → CounterOp → List CounterOp × List CounterOp
+lists_round a b = (reach (pair_begins a b), [])
+
+-- where it does not swap
 abbrev pub refuting_lists : CounterOp → CounterOp → Option (List CounterOp × List CounterOp)
-refuting_lists a b = if may_swap a b then None else Some (reach (pair_begins a b), [])
+refuting_lists a b = if may_swap a b then None else Some (lists_round a b)

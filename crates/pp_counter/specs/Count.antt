@@ -1,4 +1,4 @@
--- What a counter means.
+-- Meaning: what a counter means.
 use Rattle.std.specs.Prelude.{◌≡◌, ℤ, pos, ◌+ℤ◌, ◌-ℤ◌, ℕ, true}
 use Rattle.pp_spec.specs.Object.{Object}
 use Rattle.pp_counter.specs.declared.op.CounterOp.{CounterOp}
@@ -8,7 +8,6 @@ use Rattle.pp_counter.specs.Contexts.{refuting_lists}
 -- a number, at first zero, to which operations add
 abbrev pub counter : Object (Unit {0}) ℤ CounterOp (Unit {0})
 counter = record {
-  IsState = λ n. Unit {0};
   start = λ shape. pos 0;
   shape = λ n. tt;
   fits = λ shape op. true;
@@ -17,9 +16,12 @@ counter = record {
   recorded = recorded_by;
   gives = given_by;
   next = λ n op. n +ℤ shift_of op;
-  kept = λ n op. tt;
-  back = λ n op undo. n -ℤ shift_of op;
   refuting = refuting_lists;
+  upkeep = record {
+    IsState = λ n. Unit {0};
+    kept = λ n op. tt;
+    back = λ n op undo. n -ℤ shift_of op;
+  };
 }
 
 -- the numbers are one, where the place is the counter's

@@ -1,4 +1,4 @@
--- Which operations of a counter may change places, by a table.
+-- Meaning: which operations of a counter may change places, by a table.
 use Rattle.std.specs.Prelude.{pos, ◌+ℤ◌, ℕ, Bool, List, [], ◌∷◌}
 use Rattle.pp_table.specs.declared.table.Condition.{Condition}
 use Rattle.pp_table.specs.declared.table.Condition.TheVariants.{Always, Chain, FirstStill, SecondStill}
@@ -29,4 +29,5 @@ counter_table =
 
 -- whether the table lets the first change places with the second behind it
 abbrev pub may_swap : CounterOp → CounterOp → Bool
-may_swap a b = condition_holds (entry counter_table (form_of a) (form_of b)) (figures_of a) (figures_of b)
+may_swap a b = condition_holds (entry counter_table (form_of a) (form_of b)) (figures_of a)
+    (figures_of b)

@@ -1,4 +1,4 @@
--- The operations of a counter, and what they give and do.
+-- Meaning: the operations of a counter, and what they give and do.
 use Rattle.std.specs.Prelude.{ℤ, pos, ℕ, Bool, ◌&&◌}
 use Rattle.pp_core.specs.declared.answer.Answer.{Answer}
 use Rattle.pp_core.specs.declared.answer.Answer.TheVariants.{None as NoAnswer, Number}

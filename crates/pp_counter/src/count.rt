@@ -1,3 +1,4 @@
+//! The calls of a counter.
 ghost use Rattle.pp_counter.specs.Operations.{place_of};
 ghost use Rattle.pp_counter.specs.Count.{counter, SameAt};
 ghost use Rattle.pp_counter.specs.laws.Lawful.{counter_lawful, counter_placed};

@@ -1,3 +1,4 @@
+//! The operations of a counter.
 ghost use Rattle.std.specs.Prelude.{◌≡◌};
 ghost use Rattle.pp_counter.specs.Operations.{shift_of, call_of, recorded_by, is_ranged};
 

@@ -1,4 +1,4 @@
--- Objects that keep something at each key, as a memory, a set and a map do.
+-- Proof machinery: objects that keep something at each key, as a memory, a set and a map do.
 use Rattle.std.specs.Prelude.{◌≡◌, ℤ, Bool, true, false, not, cond, IsTrue, ◌&&◌, ◌||◌, if◌then◌else◌, List, ◌↔◌, Option, Some, None}
 use Rattle.std.specs.Ordering.{int_eq}
 use Rattle.pp_spec.specs.Numbers.{has_ranged_arguments, is_ranged_answer}
@@ -35,52 +35,78 @@ finds_too alike None None = true
 finds_too alike None (Some d) = false
 finds_too alike (Some c) second = finds alike second c
 
--- The rule for one key: a pair may change places where the second never finds what the first leaves, or where both leave one thing and each finds its own in the other order too.
-abbrev pub rule : {Cell : Type 0} → (Cell → Cell → Bool) → (found : Option Cell) (left : Cell) (then_found : Option Cell) (then_left : Cell) → Bool
+-- The rule for one key, by what each of a pair finds and leaves: it swaps where the second never
+-- finds what the first leaves, or where both leave one thing and each finds its own in the other
+-- order too.
+abbrev pub rule : {Cell : Type 0} → (Cell → Cell → Bool)
+    → (found : Option Cell) (left : Cell) (then_found : Option Cell) (then_left : Cell) → Bool
 rule alike found left then_found then_left =
-    not (finds alike then_found left) || (alike left then_left && (finds alike found then_left && finds_too alike found then_found))
+    not (finds alike then_found left)
+    || (alike left then_left && (finds alike found then_left && finds_too alike found then_found))
 
--- Operations on different keys always may change places, and those on one key by the rule.
-abbrev pub may_swap : {State Op Cell : Type 0} → Keys State Op Cell → Op → Op → Bool
-may_swap k a b = if int_eq (k.key a) (k.key b) then rule k.alike (k.found a) (k.left a) (k.found b) (k.left b) else true
+module _ {State Op Cell : Type 0} (k : Keys State Op Cell) where
+  -- whether the rule lets two operations on one key swap
+  abbrev pub rule_lets : Op → Op → Bool
+  rule_lets a b = rule k.alike (k.found a) (k.left a) (k.found b) (k.left b)
 
--- An object acts by its keys.
-pub record IsKeyed {State Op Undo Cell : Type 0} (o : Object (Unit {0}) State Op Undo) (k : Keys State Op Cell) : Type 0 where
-  -- the test tells cells apart
-  pub alike_is : (c d : Cell) → (k.alike c d ≡ true) ↔ (c ≡ d)
-  -- states with the same at each key are one
-  pub one_state : (s t : State) → o.IsState s → o.IsState t → ((q : ℤ) → k.cell s q ≡ k.cell t q) → s ≡ t
-  -- an operation is legal exactly where it finds what stands at its key
-  pub legal : (s : State) (a : Op) → IsLegal o s a ↔ Finds (k.found a) (k.cell s (k.key a))
-  -- it leaves its cell at its key, and every other key as it was
-  pub next_cell : (s : State) (a : Op) (q : ℤ) → IsLegal o s a → k.cell (o.next s a) q ≡ cond (int_eq q (k.key a)) (k.left a) (k.cell s q)
-  -- what is taken back stands at each key as it did
-  pub back_cell : (s : State) (a : Op) (q : ℤ) → IsLegal o s a → k.cell (o.back (o.next s a) a (o.kept s a)) q ≡ k.cell s q
-  -- every key can be read
-  pub read_key : (q : ℤ) (c : Cell) → k.key (k.read q c) ≡ q
-  pub read_found : (q : ℤ) (c : Cell) → k.found (k.read q c) ≡ Some c
-  -- states stay states
-  pub start_is_state : o.IsState (o.start tt)
-  pub next_is_state : (s : State) (a : Op) → o.IsState s → IsLegal o s a → o.IsState (o.next s a)
-  pub back_is_state : (s : State) (a : Op) → o.IsState s → IsLegal o s a → o.IsState (o.back (o.next s a) a (o.kept s a))
-  -- operations of one call are given one answer
-  pub one_given : (s : State) (a b : Op) → o.call a ≡ o.call b → o.gives s a ≡ o.gives s b
-  -- an operation is ranged exactly where its arguments and its recorded result are
-  pub ranged_numbers : (a : Op) → o.ranged a ≡ (has_ranged_arguments (o.call a) && is_ranged_answer (o.recorded a))
+  -- Operations on different keys always swap, and those on one key by the rule.
+  abbrev pub may_swap : Op → Op → Bool
+  may_swap a b = if int_eq (k.key a) (k.key b) then rule_lets a b else true
 
--- Why a pair on one key may not change places: behind `before`, which is allowed, the pair and then `after` go on, and in the other order they stop.
-pub record Shows {State Op Undo Cell : Type 0} (o : Object (Unit {0}) State Op Undo) (k : Keys State Op Cell) (a b : Op) (before after : List Op) : Type 0 where
-  pub cell : Cell
-  pub allowed : IsAllowed o tt before
-  pub stands : k.cell (state_after o tt before) (k.key a) ≡ cell
-  pub found : Finds (k.found a) cell
-  pub goes_on : (s : State) → k.cell s (k.key a) ≡ k.left b → AllowedFrom o s after
-  pub stops : Finds (k.found b) cell → Finds (k.found a) (k.left b) → (s : State) → k.cell s (k.key a) ≡ k.left a → AllowedFrom o s after → ⊥
+-- The state that undoing an operation leaves, right after it was applied.
+abbrev pub undone : {State Op Undo : Type 0} → Object (Unit {0}) State Op Undo → State → Op → State
+undone o s a = o.upkeep.back (o.next s a) a (o.upkeep.kept s a)
 
--- Such operations for each pair that the rule does not let change places, ranged where the pair is.
-pub record IsShown {State Op Undo Cell : Type 0} (o : Object (Unit {0}) State Op Undo) (k : Keys State Op Cell) (table : Op → Op → Bool) (lists : Op → Op → List Op × List Op) : Type 0 where
-  pub by_table : (a b : Op) → o.refuting a b ≡ (if table a b then None else Some (lists a b))
-  pub by_rule : (a b : Op) → table a b ≡ may_swap k a b
-  pub shown : (a b : Op) → k.key a ≡ k.key b → rule k.alike (k.found a) (k.left a) (k.found b) (k.left b) ≡ false → Shows o k a b (lists a b).0 (lists a b).1
-  pub ranged_before : (a b : Op) → IsTrue (o.ranged a) → IsTrue (o.ranged b) → AllRanged o (lists a b).0
-  pub ranged_after : (a b : Op) → IsTrue (o.ranged a) → IsTrue (o.ranged b) → AllRanged o (lists a b).1
+module _ {State Op Undo Cell : Type 0} (o : Object (Unit {0}) State Op Undo)
+    (k : Keys State Op Cell) where
+  -- An object acts by its keys.
+  pub record IsKeyed : Type 0 where
+    -- the test tells cells apart
+    pub alike_is : (c d : Cell) → (k.alike c d ≡ true) ↔ (c ≡ d)
+    -- states with the same at each key are one
+    pub one_state : (s t : State) → o.upkeep.IsState s → o.upkeep.IsState t
+        → ((q : ℤ) → k.cell s q ≡ k.cell t q) → s ≡ t
+    -- an operation is legal exactly where it finds what stands at its key
+    pub legal : (s : State) (a : Op) → IsLegal o s a ↔ Finds (k.found a) (k.cell s (k.key a))
+    -- it leaves its cell at its key, and every other key as it was
+    pub next_cell : (s : State) (a : Op) (q : ℤ) → IsLegal o s a
+        → k.cell (o.next s a) q ≡ cond (int_eq q (k.key a)) (k.left a) (k.cell s q)
+    -- what is taken back stands at each key as it did
+    pub back_cell : (s : State) (a : Op) (q : ℤ) → IsLegal o s a
+        → k.cell (undone o s a) q ≡ k.cell s q
+    -- every key can be read
+    pub read_key : (q : ℤ) (c : Cell) → k.key (k.read q c) ≡ q
+    pub read_found : (q : ℤ) (c : Cell) → k.found (k.read q c) ≡ Some c
+    -- states stay states
+    pub start_is_state : o.upkeep.IsState (o.start tt)
+    pub next_is_state : (s : State) (a : Op) → o.upkeep.IsState s → IsLegal o s a
+        → o.upkeep.IsState (o.next s a)
+    pub back_is_state : (s : State) (a : Op) → o.upkeep.IsState s → IsLegal o s a
+        → o.upkeep.IsState (undone o s a)
+    -- operations of one call are given one answer
+    pub one_given : (s : State) (a b : Op) → o.call a ≡ o.call b → o.gives s a ≡ o.gives s b
+    -- an operation is ranged exactly where its arguments and its recorded result are
+    pub ranged_numbers : (a : Op)
+        → o.ranged a ≡ (has_ranged_arguments (o.call a) && is_ranged_answer (o.recorded a))
+
+  -- Why a pair on one key does not swap: behind `before`, which is allowed, the pair and then
+  -- `after` go on, and in the other order they stop.
+  pub record Shows (a b : Op) (before after : List Op) : Type 0 where
+    pub cell : Cell
+    pub allowed : IsAllowed o tt before
+    pub stands : k.cell (state_after o tt before) (k.key a) ≡ cell
+    pub found : Finds (k.found a) cell
+    pub goes_on : (s : State) → k.cell s (k.key a) ≡ k.left b → AllowedFrom o s after
+    pub stops : Finds (k.found b) cell → Finds (k.found a) (k.left b)
+        → (s : State) → k.cell s (k.key a) ≡ k.left a → AllowedFrom o s after → ⊥
+
+  -- Such operations for each pair that the rule does not let swap, ranged where the pair is.
+  pub record IsShown (table : Op → Op → Bool) (lists : Op → Op → List Op × List Op) : Type 0 where
+    pub by_table : (a b : Op) → o.refuting a b ≡ (if table a b then None else Some (lists a b))
+    pub by_rule : (a b : Op) → table a b ≡ may_swap k a b
+    pub shown : (a b : Op) → k.key a ≡ k.key b → rule_lets k a b ≡ false
+        → Shows a b (lists a b).0 (lists a b).1
+    pub ranged_before : (a b : Op) → IsTrue (o.ranged a) → IsTrue (o.ranged b)
+        → AllRanged o (lists a b).0
+    pub ranged_after : (a b : Op) → IsTrue (o.ranged a) → IsTrue (o.ranged b)
+        → AllRanged o (lists a b).1

@@ -1,3 +1,4 @@
+//! Numbers at keys.
 ghost use Rattle.std.specs.Prelude.{◌≡◌, IfOk, OnOk, OnErr};
 ghost use Rattle.std.specs.FinMap as map;
 
@@ -42,7 +43,8 @@ impl Cells {
         self.entries.get(&key).copied()
     }
 
-    /// Puts a number at a key, in place of the one that stands there. The only error is that memory was refused.
+    /// Puts a number at a key, in place of the one that stands there. The only error is that memory
+    /// was refused.
     pub fn insert(&mut self, key: i64, number: i64) -> Result<(), OutOfMemory>
         ensures ok { OnOk result (self.new ≡ map.insert self.old key number) }
         ensures err { OnErr result (self.new ≡ self.old) }
@@ -59,6 +61,7 @@ impl Cells {
     {
         self.entries.remove(&key);
     }
+
     /// The keys with their numbers, in the keys' order. The only error is that memory was refused.
     pub fn pairs(&self, alloc: Global) -> Result<Sequence<(i64, i64)>, OutOfMemory>
         ensures { IfOk result (λ pairs. pairs ≡ map.entries self.now) }

@@ -1,4 +1,4 @@
--- Operations that show that a pair may not change places.
+-- Meaning: operations that show that a pair may not change places.
 use Rattle.std.specs.Prelude.{ℤ, if◌then◌else◌, List, [], ◌∷◌, Option, Some, None}
 use Rattle.pp_map.specs.declared.op.MapOp.{MapOp}
 use Rattle.pp_map.specs.declared.op.MapOp.TheVariants.{Put}

@@ -1,16 +1,18 @@
--- What a map means.
-use Rattle.std.specs.Prelude.{ℤ, true}
-use Rattle.std.specs.Ordering.{int_cmp}
-use Rattle.std.specs.FinMap.{FinMap, empty}
+-- Meaning: what a map means.
+use Rattle.std.specs.Prelude.{ℤ, true, Option, Some}
+use Rattle.std.specs.Option.{option_eq}
+use Rattle.std.specs.Ordering.{int_eq, int_cmp}
+use Rattle.std.specs.FinMap.{FinMap, empty, get}
 use Rattle.pp_spec.specs.Object.{Object}
+use Rattle.pp_keyed.specs.Keys.{Keys}
 use Rattle.pp_map.specs.declared.op.MapOp.{MapOp}
-use Rattle.pp_map.specs.Operations.{values_after, values_before, call_of, recorded_by, given_by, is_ranged}
+use Rattle.pp_map.specs.declared.op.MapOp.TheVariants.{Get}
+use Rattle.pp_map.specs.Operations.{key_of, found_by, left_by, values_after, values_before, call_of, recorded_by, given_by, is_ranged}
 use Rattle.pp_map.specs.Contexts.{refuting_lists}
 
 -- numbers at keys, at first none
 abbrev pub key_map : Object (Unit {0}) (FinMap int_cmp ℤ) MapOp (Unit {0})
 key_map = record {
-  IsState = λ values. Unit {0};
   start = λ shape. empty;
   shape = λ values. tt;
   fits = λ shape op. true;
@@ -19,7 +21,21 @@ key_map = record {
   recorded = recorded_by;
   gives = given_by;
   next = values_after;
-  kept = λ values op. tt;
-  back = λ values op undo. values_before values op;
   refuting = refuting_lists;
+  upkeep = record {
+    IsState = λ values. Unit {0};
+    kept = λ values op. tt;
+    back = λ values op undo. values_before values op;
+  };
+}
+
+-- it keeps a value, or none, at each key
+abbrev pub map_keys : Keys (FinMap int_cmp ℤ) MapOp (Option ℤ)
+map_keys = record {
+  cell = get;
+  alike = option_eq int_eq;
+  key = key_of;
+  found = λ op. Some (found_by op);
+  left = left_by;
+  read = λ key found. Get key found;
 }

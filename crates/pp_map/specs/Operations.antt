@@ -1,4 +1,4 @@
--- The operations of a map, and what they give and do.
+-- Meaning: the operations of a map, and what they give and do.
 use Rattle.std.specs.Prelude.{ℤ, pos, Bool, true, ◌&&◌, Option, Some, None}
 use Rattle.std.specs.Ordering.{int_cmp}
 use Rattle.std.specs.FinMap as map
@@ -8,6 +8,7 @@ use Rattle.pp_core.specs.declared.answer.Answer.TheVariants.{None as NoAnswer, N
 use Rattle.pp_core.specs.declared.call.Call.{Call}
 use Rattle.pp_core.specs.declared.call.Method.TheVariants.{Put as PutCall, Get as GetCall, Remove as RemoveCall}
 use Rattle.pp_spec.specs.Numbers.{in_range}
+use Rattle.pp_spec.specs.Found.{answer_of, is_ranged_found}
 use Rattle.pp_map.specs.declared.op.MapOp.{MapOp}
 use Rattle.pp_map.specs.declared.op.MapOp.TheVariants.{Put, Get, Remove}
 
@@ -35,11 +36,6 @@ call_of (Put key value was) = record { object = 0; method = PutCall; first = key
 call_of (Get key found) = record { object = 0; method = GetCall; first = key; second = pos 0 }
 call_of (Remove key was) = record { object = 0; method = RemoveCall; first = key; second = pos 0 }
 
--- the result of an operation that found this
-abbrev pub answer_of : Option ℤ → Answer
-answer_of None = NoAnswer
-answer_of (Some x) = Number x
-
 -- the result that it records
 abbrev pub recorded_by : MapOp → Answer
 recorded_by op = answer_of (found_by op)
@@ -65,13 +61,8 @@ values_before values (Put key value was) = with_value values key was
 values_before values (Get key found) = values
 values_before values (Remove key was) = with_value values key was
 
--- a value, if there is one, lies in the range of records
-abbrev pub is_ranged_value : Option ℤ → Bool
-is_ranged_value None = true
-is_ranged_value (Some x) = in_range x
-
--- all its numbers do
+-- all its numbers lie in the range of records
 abbrev pub is_ranged : MapOp → Bool
-is_ranged (Put key value was) = (in_range key && in_range value) && is_ranged_value was
-is_ranged (Get key found) = in_range key && is_ranged_value found
-is_ranged (Remove key was) = in_range key && is_ranged_value was
+is_ranged (Put key value was) = (in_range key && in_range value) && is_ranged_found was
+is_ranged (Get key found) = in_range key && is_ranged_found found
+is_ranged (Remove key was) = in_range key && is_ranged_found was

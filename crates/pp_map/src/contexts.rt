@@ -1,3 +1,4 @@
+//! The operations that show of a pair that it does not swap.
 ghost use Rattle.std.specs.Prelude.{◌≡◌, IfOk};
 ghost use Rattle.pp_map.specs.Contexts.{before_pair};
 

@@ -1,3 +1,4 @@
+//! The calls of a map.
 ghost use Rattle.std.specs.Prelude.{◌≡◌, OnOk, OnErr};
 ghost use Rattle.pp_map.specs.Operations.{with_value};
 ghost use Rattle.pp_map.specs.KeyMap.{key_map};
@@ -5,10 +6,10 @@ ghost use Rattle.pp_map.specs.laws.Lawful.{key_map_lawful};
 
 use crate::contexts::before_pair;
 use crate::movers::may_swap;
-use crate::op::{MapOp, answer_of};
+use crate::op::MapOp;
 use pp_core::{Answer, Ops, OutOfMemory, Steps};
 use pp_keyed::Cells;
-use pp_spec::{Applied, Context, Spec};
+use pp_spec::{Applied, Context, Spec, answer_of};
 use std::alloc::Global;
 use std::sync::ledger::Ledger;
 

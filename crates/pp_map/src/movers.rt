@@ -1,3 +1,4 @@
+//! Which pairs of operations swap, by a table.
 ghost use Rattle.std.specs.Prelude.{◌≡◌};
 ghost use Rattle.pp_map.specs.Movers.{figure_of, figures_of, form_by, form_of, map_table, may_swap};
 

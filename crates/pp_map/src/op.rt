@@ -1,8 +1,9 @@
+//! The operations of a map.
 ghost use Rattle.std.specs.Prelude.{◌≡◌};
-ghost use Rattle.pp_map.specs.Operations.{answer_of, key_of, found_by, call_of, recorded_by, is_ranged_value, is_ranged};
+ghost use Rattle.pp_map.specs.Operations.{key_of, found_by, call_of, recorded_by, is_ranged};
 
 use pp_core::{Answer, Call, Method};
-use pp_spec::in_range;
+use pp_spec::{answer_of, in_range, is_ranged_found};
 
 /// An operation on a map, with its recorded result: what it found at its key.
 #[derive(Clone, Copy, Debug, PartialEq, Eq)]
@@ -23,26 +24,6 @@ pub enum MapOp {
         key: i64,
         was: Option<i64>,
     },
-}
-
-/// The result of an operation that found this.
-pub fn answer_of(found: Option<i64>) -> Answer
-    ensures { result ≡ answer_of found }
-{
-    match found {
-        None => Answer::None,
-        Some(value) => Answer::Number(i128::from(value)),
-    }
-}
-
-/// Whether a value, if there is one, may stand in a record.
-fn value_ranged(found: Option<i64>) -> bool
-    ensures { result ≡ is_ranged_value found }
-{
-    match found {
-        None => true,
-        Some(value) => in_range(value),
-    }
 }
 
 impl MapOp {
@@ -82,10 +63,10 @@ impl MapOp {
     {
         match *self {
             MapOp::Put { key, value, was } => {
-                in_range(key) && in_range(value) && value_ranged(was)
+                in_range(key) && in_range(value) && is_ranged_found(was)
             }
-            MapOp::Get { key, found } => in_range(key) && value_ranged(found),
-            MapOp::Remove { key, was } => in_range(key) && value_ranged(was),
+            MapOp::Get { key, found } => in_range(key) && is_ranged_found(found),
+            MapOp::Remove { key, was } => in_range(key) && is_ranged_found(was),
         }
     }
 

@@ -1,4 +1,4 @@
--- Operations that show that a pair may not change places.
+-- Meaning: operations that show that a pair may not change places.
 use Rattle.std.specs.Prelude.{ℤ, pos, if◌then◌else◌, List, [], ◌∷◌, Option, Some, None}
 use Rattle.std.specs.Ordering.{int_eq}
 use Rattle.pp_mem.specs.declared.op.MemOp.{MemOp}

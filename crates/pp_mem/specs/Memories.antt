@@ -1,4 +1,4 @@
--- What a memory means.
+-- Meaning: what a memory means.
 use Rattle.std.specs.Prelude.{ℤ, true}
 use Rattle.std.specs.Ordering.{int_eq, int_cmp}
 use Rattle.std.specs.FinMap.{FinMap, empty}
@@ -13,7 +13,6 @@ use Rattle.pp_mem.specs.Contexts.{refuting_lists}
 -- numbers at addresses, at first 0 everywhere, which operations read and write
 abbrev pub memory : Object (Unit {0}) (FinMap int_cmp ℤ) MemOp ℤ
 memory = record {
-  IsState = HasNoZero;
   start = λ shape. empty;
   shape = λ m. tt;
   fits = λ shape op. true;
@@ -22,9 +21,12 @@ memory = record {
   recorded = recorded_by;
   gives = given_by;
   next = memory_after;
-  kept = kept_by;
-  back = memory_before;
   refuting = refuting_lists;
+  upkeep = record {
+    IsState = HasNoZero;
+    kept = kept_by;
+    back = memory_before;
+  };
 }
 
 -- it keeps a number at each address

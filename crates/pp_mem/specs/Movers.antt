@@ -1,4 +1,4 @@
--- Which operations of a memory may change places, by a table.
+-- Meaning: which operations of a memory may change places, by a table.
 use Rattle.std.specs.Prelude.{pos, ℕ, Bool, true, if◌then◌else◌, List, [], ◌∷◌}
 use Rattle.std.specs.Ordering.{int_eq}
 use Rattle.pp_table.specs.declared.table.Condition.{Condition}
@@ -28,7 +28,8 @@ memory_table =
 
 -- whether the table lets two operations on one address change places
 abbrev pub may_swap_there : MemOp → MemOp → Bool
-may_swap_there a b = condition_holds (entry memory_table (form_of a) (form_of b)) (figures_of a) (figures_of b)
+may_swap_there a b = condition_holds (entry memory_table (form_of a) (form_of b)) (figures_of a)
+    (figures_of b)
 
 -- those on different addresses always may
 abbrev pub may_swap : MemOp → MemOp → Bool

@@ -1,4 +1,4 @@
--- The operations of a memory, and what they give and do.
+-- Meaning: the operations of a memory, and what they give and do.
 use Rattle.std.specs.Prelude.{ℤ, pos, Bool, ◌&&◌, Option, Some, None}
 use Rattle.std.specs.Ordering.{int_cmp}
 use Rattle.std.specs.FinMap.{FinMap}

@@ -1,4 +1,4 @@
--- The numbers at the addresses of a memory, of which those that are not 0 are kept.
+-- Meaning: the numbers at the addresses of a memory, of which those that are not 0 are kept.
 use Rattle.std.specs.Prelude.{◌≢◌, ℤ, pos, if◌then◌else◌, Some, unwrap_or}
 use Rattle.std.specs.Ordering.{int_eq, int_cmp}
 use Rattle.std.specs.FinMap as map

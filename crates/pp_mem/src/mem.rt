@@ -1,3 +1,4 @@
+//! The calls of a memory.
 ghost use Rattle.pp_mem.specs.Memories.{memory};
 ghost use Rattle.pp_mem.specs.laws.Lawful.{memory_lawful};
 

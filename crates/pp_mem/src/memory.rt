@@ -1,3 +1,4 @@
+//! Numbers at addresses.
 ghost use Rattle.std.specs.Prelude.{◌≡◌, IfOk, OnOk, OnErr};
 ghost use Rattle.std.specs.FinMap as map;
 ghost use Rattle.pp_mem.specs.Values.{value_at, written};

@@ -1,3 +1,4 @@
+//! The operations of a memory.
 ghost use Rattle.std.specs.Prelude.{◌≡◌};
 ghost use Rattle.pp_mem.specs.Operations.{address_of, call_of, recorded_by, is_ranged};
 

@@ -1,4 +1,4 @@
--- One more item of a list.
+-- Proof machinery: one more item of a list.
 use Rattle.std.proofs.Common.{◌≡◌, ℕ, zero, suc, ◌+◌, List, [], ◌∷◌, ◌++◌, take, refl, ◌∙◌, ap, arith}
 use Rattle.std.specs.Prelude.{slice_get, option_to_list}
 

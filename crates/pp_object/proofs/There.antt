@@ -1,4 +1,4 @@
--- What was done to the object at a place, for all objects.
+-- Proof machinery: what was done to the object at a place, for all objects.
 use Rattle.std.proofs.Common.{◌≡◌, ℕ, Bool, true, IsTrue, List, set, ◌↔◌, Option, Some, None, Result, Ok, Err, OnOk, get_or, option_map, refl, sym, ◌∙◌, ap, subst}
 use Rattle.std.proofs.lemmas.Option.{slice_get-map, get_or_from_slice_get}
 use Rattle.std.specs.List.{slice_get}
@@ -63,7 +63,7 @@ lent ss items p n s v e i j h =
 pub written : (ss items : List ObjectState) (p n : ℕ) (t : ObjectState) → items ≡ ss → n ≡ p → set items n t ≡ set ss p t
 written ss items p n t i j = ap (λ (l : List ObjectState). set l n t) i ∙ ap (λ (q : ℕ). set ss q t) j
 
-pub back_there : (ss : List ObjectState) (x : Op) (u : Undo) (s t : ObjectState) (r : Result (Unit {0}) OutOfMemory) (new : List ObjectState) → slice_get ss x.object ≡ Some s → new ≡ set ss x.object t → OnOk r (t ≡ one.back s x.act u) → OnOk r (new ≡ objects.back ss x u)
+pub back_there : (ss : List ObjectState) (x : Op) (u : Undo) (s t : ObjectState) (r : Result (Unit {0}) OutOfMemory) (new : List ObjectState) → slice_get ss x.object ≡ Some s → new ≡ set ss x.object t → OnOk r (t ≡ one.upkeep.back s x.act u) → OnOk r (new ≡ objects.upkeep.back ss x u)
 back_there ss x u s t (Ok done) new e w h =
-    w ∙ ap (λ (v : ObjectState). set ss x.object v) h ∙ sym (ap (λ (v : Option ObjectState). put ss x.object (option_map (λ q. one.back q x.act u) v)) e)
+    w ∙ ap (λ (v : ObjectState). set ss x.object v) h ∙ sym (ap (λ (v : Option ObjectState). put ss x.object (option_map (λ q. one.upkeep.back q x.act u) v)) e)
 back_there ss x u s t (Err refused) new e w h = tt

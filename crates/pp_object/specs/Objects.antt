@@ -1,4 +1,4 @@
--- What the objects of a run mean: at each place one object, of which an operation knows the place.
+-- Meaning: what the objects of a run mean: at each place one object, of which an operation knows the place.
 use Rattle.std.specs.Prelude.{◌≡◌, ℕ, Bool, false, nat_eq, if◌then◌else◌, List, map, slice_set, Option, Some, None, option_map}
 use Rattle.std.specs.List.{slice_get}
 use Rattle.pp_core.specs.Catalogs as catalogs
@@ -34,12 +34,11 @@ gives_in o (Some s) a = o.gives s a
 
 abbrev pub kept_in : Object Kind ObjectState Act Undo → Option ObjectState → Act → Undo
 kept_in o None a = Nothing
-kept_in o (Some s) a = o.kept s a
+kept_in o (Some s) a = o.upkeep.kept s a
 
 -- several objects, each of which means this by itself
 abbrev pub many : Object Kind ObjectState Act Undo → Object (List Kind) (List ObjectState) Op Undo
 many o = record {
-  IsState = λ ss. (p : ℕ) (s : ObjectState) → slice_get ss p ≡ Some s → o.IsState s;
   start = λ kinds. map o.start kinds;
   shape = λ ss. map o.shape ss;
   fits = λ kinds op. fits_in o (slice_get kinds op.object) op.act;
@@ -48,9 +47,12 @@ many o = record {
   recorded = λ op. o.recorded op.act;
   gives = λ ss op. gives_in o (slice_get ss op.object) op.act;
   next = λ ss op. put ss op.object (option_map (λ s. o.next s op.act) (slice_get ss op.object));
-  kept = λ ss op. kept_in o (slice_get ss op.object) op.act;
-  back = λ ss op undo. put ss op.object (option_map (λ s. o.back s op.act undo) (slice_get ss op.object));
   refuting = λ a b. if nat_eq a.object b.object then both_as (act_at a.object) (o.refuting a.act b.act) else None;
+  upkeep = record {
+    IsState = λ ss. (p : ℕ) (s : ObjectState) → slice_get ss p ≡ Some s → o.upkeep.IsState s;
+    kept = λ ss op. kept_in o (slice_get ss op.object) op.act;
+    back = λ ss op undo. put ss op.object (option_map (λ s. o.upkeep.back s op.act undo) (slice_get ss op.object));
+  };
 }
 
 -- the objects of a run, of any kinds

@@ -1,4 +1,4 @@
--- What one object means, of whatever kind: what its kind means.
+-- Meaning: what one object means, of whatever kind: what its kind means.
 use Rattle.std.specs.Prelude.{ℤ, Bool, true, false, List, map, Option, Some, None, pos, Result, Ok, Err}
 use Rattle.pp_core.specs.declared.answer.OutOfMemory.{OutOfMemory}
 use Rattle.pp_spec.specs.declared.spec.Applied.{Applied}
@@ -23,11 +23,11 @@ use Rattle.pp_object.specs.declared.states.Undo.TheVariants.{Covered, Nothing}
 
 -- it is the state of some run of its kind
 abbrev pub IsState : ObjectState → Type 0
-IsState (states.Memory s) = memory.IsState s
-IsState (states.KeySet s) = key_set.IsState s
-IsState (states.KeyMap s) = key_map.IsState s
-IsState (states.Counter s) = counter.IsState s
-IsState (states.Queue s) = fifo.IsState s
+IsState (states.Memory s) = memory.upkeep.IsState s
+IsState (states.KeySet s) = key_set.upkeep.IsState s
+IsState (states.KeyMap s) = key_map.upkeep.IsState s
+IsState (states.Counter s) = counter.upkeep.IsState s
+IsState (states.Queue s) = fifo.upkeep.IsState s
 
 -- the state from which an object of a kind begins
 abbrev pub empty_of : Kind → ObjectState
@@ -106,7 +106,7 @@ state_after s a = s
 
 -- what is kept to take it back: a memory's number, and else nothing
 abbrev pub kept_by : ObjectState → Act → Undo
-kept_by (states.Memory s) (Memory a) = Covered (memory.kept s a)
+kept_by (states.Memory s) (Memory a) = Covered (memory.upkeep.kept s a)
 kept_by s a = Nothing
 
 -- the number that was kept
@@ -116,11 +116,11 @@ covered_by Nothing = pos 0
 
 -- the state that this brings back
 abbrev pub state_before : ObjectState → Act → Undo → ObjectState
-state_before (states.Memory s) (Memory a) undo = states.Memory (memory.back s a (covered_by undo))
-state_before (states.KeySet s) (KeySet a) undo = states.KeySet (key_set.back s a tt)
-state_before (states.KeyMap s) (KeyMap a) undo = states.KeyMap (key_map.back s a tt)
-state_before (states.Counter s) (Counter a) undo = states.Counter (counter.back s a tt)
-state_before (states.Queue s) (Queue a) undo = states.Queue (fifo.back s a tt)
+state_before (states.Memory s) (Memory a) undo = states.Memory (memory.upkeep.back s a (covered_by undo))
+state_before (states.KeySet s) (KeySet a) undo = states.KeySet (key_set.upkeep.back s a tt)
+state_before (states.KeyMap s) (KeyMap a) undo = states.KeyMap (key_map.upkeep.back s a tt)
+state_before (states.Counter s) (Counter a) undo = states.Counter (counter.upkeep.back s a tt)
+state_before (states.Queue s) (Queue a) undo = states.Queue (fifo.upkeep.back s a tt)
 state_before s a undo = s
 
 -- lists of a kind's operations, as lists of acts
@@ -146,7 +146,6 @@ kept_as f (Err refused) = Err refused
 -- an object of any kind
 abbrev pub one : Object Kind ObjectState Act Undo
 one = record {
-  IsState = IsState;
   start = empty_of;
   shape = kind_of;
   fits = fits;
@@ -155,7 +154,10 @@ one = record {
   recorded = recorded_by;
   gives = given_by;
   next = state_after;
-  kept = kept_by;
-  back = state_before;
   refuting = refuting_lists;
+  upkeep = record {
+    IsState = IsState;
+    kept = kept_by;
+    back = state_before;
+  };
 }

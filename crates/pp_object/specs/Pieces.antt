@@ -1,4 +1,4 @@
--- What is shown of the state of an object.
+-- Meaning: what is shown of the state of an object.
 use Rattle.std.specs.Prelude.{ℤ, ℕ, List, [], ◌∷◌, map, Option, Some, None}
 use Rattle.std.specs.List.{slice_get}
 use Rattle.std.specs.FinMap.{entries}

@@ -1,7 +1,5 @@
-pub mod Among
-pub mod Lists
+pub mod Kinds
 pub mod Acts
-pub mod Five
 pub mod One
 pub mod Reached
 pub mod Elements

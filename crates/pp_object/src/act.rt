@@ -1,3 +1,4 @@
+//! Acts: the operations of any kind.
 ghost use Rattle.std.specs.Prelude.{◌≡◌};
 ghost use Rattle.pp_object.specs.Calls.{arity_of};
 ghost use Rattle.pp_object.specs.One.{is_ranged, kind_for, recorded_by, call_of};

@@ -1,4 +1,6 @@
-ghost use Rattle.std.specs.Prelude.{◌≡◌, map, option_map, IfOk};
+//! The operations of a kind as acts, and acts as operations of an object.
+ghost use Rattle.std.specs.Prelude.{◌≡◌, map, IfOk};
+ghost use Rattle.pp_spec.specs.Calls.{lists_of};
 ghost use Rattle.pp_object.specs.One.{both_as};
 ghost use Rattle.pp_object.specs.Objects.{act_at};
 
@@ -90,7 +92,7 @@ pub fn context_of<O: KindOp>(
     alloc: Global,
     found: Option<Context<O>>,
 ) -> Result<Option<Context<Act>>, OutOfMemory>
-    ensures { IfOk result (λ acts. option_map (λ c. (c.before, c.after)) acts ≡ both_as O.act (option_map (λ c. (c.before, c.after)) found)) }
+    ensures { IfOk result (λ acts. lists_of acts ≡ both_as O.act (lists_of found)) }
 {
     match found {
         None => Ok(None),
@@ -119,7 +121,7 @@ pub fn context_at(
     object: u16,
     found: Option<Context<Act>>,
 ) -> Result<Option<Context<Op>>, OutOfMemory>
-    ensures { IfOk result (λ ops. option_map (λ c. (c.before, c.after)) ops ≡ both_as (act_at object) (option_map (λ c. (c.before, c.after)) found)) }
+    ensures { IfOk result (λ ops. lists_of ops ≡ both_as (act_at object) (lists_of found)) }
 {
     match found {
         None => Ok(None),

@@ -1,3 +1,4 @@
+//! What results look like.
 ghost use Rattle.std.specs.Prelude.{◌≡◌};
 ghost use Rattle.pp_object.specs.Calls.{HasMethod, form_of};
 

@@ -1,3 +1,4 @@
+//! The objects of a run, side by side.
 ghost use Rattle.std.specs.Prelude.{◌≡◌, ◌↔◌, IsTrue, IfOk, map};
 ghost use Rattle.pp_spec.specs.Object.{Swaps};
 ghost use Rattle.pp_object.specs.One.{one};

@@ -1,3 +1,4 @@
+//! One object of any kind, by a match on its kind.
 ghost use Rattle.std.specs.Prelude.{◌≡◌, ◌↔◌, IsTrue};
 ghost use Rattle.pp_spec.specs.Object.{Swaps};
 ghost use Rattle.pp_object.specs.One.{one, kept_as};

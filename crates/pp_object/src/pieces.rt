@@ -1,3 +1,4 @@
+//! What is shown of the state of an object.
 ghost use Rattle.std.specs.Prelude.{◌≡◌, ◌<◌, ◌++◌, length, map, slice_get, option_to_list, IfOk, OnOk};
 ghost use Rattle.pp_object.specs.Pieces.{alone, at_key, pieces_of, pieces_at};
 

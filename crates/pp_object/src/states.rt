@@ -1,3 +1,4 @@
+//! The states of objects of any kind.
 ghost use Rattle.std.specs.Prelude.{◌≡◌, length, slice_get};
 ghost use Rattle.std.specs.Option.{option_copied};
 ghost use Rattle.pp_object.specs.One.{covered_by};

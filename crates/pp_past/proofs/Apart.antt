@@ -17,8 +17,8 @@ module _ {Shape State Op Undo : Type 0} (o : Object Shape State Op Undo) (place 
   pub gives_at : (p : ℕ) (s t : State) (a : Op) → place a ≡ p → SameAt p s t → o.gives s a ≡ o.gives t a
   gives_at p s t a e = subst (λ (q : ℕ). SameAt q s t → o.gives s a ≡ o.gives t a) e (places.gives_there s t a)
 
-  pub kept_at : (p : ℕ) (s t : State) (a : Op) → place a ≡ p → SameAt p s t → o.kept s a ≡ o.kept t a
-  kept_at p s t a e = subst (λ (q : ℕ). SameAt q s t → o.kept s a ≡ o.kept t a) e (places.kept_there s t a)
+  pub kept_at : (p : ℕ) (s t : State) (a : Op) → place a ≡ p → SameAt p s t → o.upkeep.kept s a ≡ o.upkeep.kept t a
+  kept_at p s t a e = subst (λ (q : ℕ). SameAt q s t → o.upkeep.kept s a ≡ o.upkeep.kept t a) e (places.kept_there s t a)
 
   pub legal_at : (p : ℕ) (s t : State) (a : Op) → place a ≡ p → SameAt p s t → o.shape s ≡ o.shape t → IsLegal o s a → IsLegal o t a
   legal_at p s t a e h k l =
@@ -55,7 +55,7 @@ module _ {Shape State Op Undo : Type 0} (o : Object Shape State Op Undo) (place 
   kept_same p s t (e ∷ x) h =
       let P : List (Item Op) → Type 0 = λ z. kept_along o s (ops_of z) ≡ kept_along o t (ops_of z) in
       elim (is_at place e p) [
-        | inl i ↦ subst P (sym (there_at place p e x i)) (ap (λ (u : Undo). u ∷ kept_along o (o.next s e.op) (ops_of (there place p x))) (kept_at p s t e.op i h) ∙ ap (λ (us : List Undo). o.kept t e.op ∷ us) (kept_same p (o.next s e.op) (o.next t e.op) x (next_at p s t e.op i h)))
+        | inl i ↦ subst P (sym (there_at place p e x i)) (ap (λ (u : Undo). u ∷ kept_along o (o.next s e.op) (ops_of (there place p x))) (kept_at p s t e.op i h) ∙ ap (λ (us : List Undo). o.upkeep.kept t e.op ∷ us) (kept_same p (o.next s e.op) (o.next t e.op) x (next_at p s t e.op i h)))
         | inr i ↦ subst P (sym (there_off place p e x i)) (kept_same p s t x h)
       ]
 

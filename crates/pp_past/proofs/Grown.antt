@@ -73,7 +73,7 @@ module _ {Shape State Op Undo : Type 0} (o : Object Shape State Op Undo) where
 
 module _ {Shape State Op Undo : Type 0} (o : Object Shape State Op Undo) (place : Op → ℕ) (SameAt : ℕ → State → State → Type 0) (laws : IsLawful o) (places : IsPlaced o place SameAt) where
   -- one more item, at its place
-  pub grown : (s t : State) (log : List (Item Op)) (ps : List (Place Op Undo)) (e : Item Op) (p : ℕ) (q r : Place Op Undo) (u : Undo) → IsPast o place s log ps → IsLegal o s e.op → IsTrue (o.ranged e.op) → IsNew e.id log → length log < 1_000_000 → place e.op ≡ p → p < length ps → slice_get ps p ≡ Some q → t ≡ o.next s e.op → u ≡ o.kept s e.op → r.items.items ≡ q.items.items ++ e ∷ [] → r.undos.items ≡ q.undos.items ++ u ∷ [] → IsPast o place t (log ++ e ∷ []) (slice_set ps p r) × (o.shape t ≡ o.shape s)
+  pub grown : (s t : State) (log : List (Item Op)) (ps : List (Place Op Undo)) (e : Item Op) (p : ℕ) (q r : Place Op Undo) (u : Undo) → IsPast o place s log ps → IsLegal o s e.op → IsTrue (o.ranged e.op) → IsNew e.id log → length log < 1_000_000 → place e.op ≡ p → p < length ps → slice_get ps p ≡ Some q → t ≡ o.next s e.op → u ≡ o.upkeep.kept s e.op → r.items.items ≡ q.items.items ++ e ∷ [] → r.undos.items ≡ q.undos.items ++ u ∷ [] → IsPast o place t (log ++ e ∷ []) (slice_set ps p r) × (o.shape t ≡ o.shape s)
   grown s t log ps e p q r u h legal ranged new few at within found next kept items undos =
       let sh = o.shape s in
       let start = o.start sh in
@@ -84,7 +84,7 @@ module _ {Shape State Op Undo : Type 0} (o : Object Shape State Op Undo) (place 
       let had : IsKept o start T q = subst (KeptIn o start T) found (h.kept p) in
       let longer : there place p (log ++ e ∷ []) ≡ T ++ e ∷ [] = there-append place p log (e ∷ []) ∙ ap (λ (z : List (Item Op)). T ++ z) (there_at place p e [] at) in
       let same : SameAt p s (state_from o start (ops_of T)) = subst (λ (z : State). SameAt p z (state_from o start (ops_of T))) (sym h.is) (same_run o place SameAt laws places p start start log (places.same p start)) in
-      let value : u ≡ o.kept (state_from o start (ops_of T)) e.op = kept ∙ kept_at o place SameAt laws places p s (state_from o start (ops_of T)) e.op at same in
+      let value : u ≡ o.upkeep.kept (state_from o start (ops_of T)) e.op = kept ∙ kept_at o place SameAt laws places p s (state_from o start (ops_of T)) e.op at same in
       let here : IsKept o start (T ++ e ∷ []) r = record {
         same_items = items ∙ ap (λ (z : List (Item Op)). z ++ e ∷ []) had.same_items;
         same_undos = undos ∙ ap (λ (z : List Undo). z ++ u ∷ []) had.same_undos ∙ ap (λ (v : Undo). kept_along o start (ops_of T) ++ v ∷ []) value ∙ sym (kept-push o start (ops_of T) e.op) ∙ ap (kept_along o start) (sym (ops-append T (e ∷ [])));

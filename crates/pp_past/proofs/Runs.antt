@@ -64,9 +64,9 @@ module _ {Shape State Op Undo : Type 0} (o : Object Shape State Op Undo) where
   fit-get sh (f ∷ x) zero e h r = r.0
   fit-get sh (f ∷ x) (suc i) e h r = fit-get sh x i e (omega arith) r.1
 
-  pub kept-push : (s : State) (x : List Op) (a : Op) → kept_along o s (x ++ a ∷ []) ≡ kept_along o s x ++ o.kept (state_from o s x) a ∷ []
+  pub kept-push : (s : State) (x : List Op) (a : Op) → kept_along o s (x ++ a ∷ []) ≡ kept_along o s x ++ o.upkeep.kept (state_from o s x) a ∷ []
   kept-push s [] a = refl
-  kept-push s (b ∷ x) a = ap (λ (us : List Undo). o.kept s b ∷ us) (kept-push (o.next s b) x a)
+  kept-push s (b ∷ x) a = ap (λ (us : List Undo). o.upkeep.kept s b ∷ us) (kept-push (o.next s b) x a)
 
   pub length-kept : (s : State) (x : List Op) → length (kept_along o s x) ≡ length x
   length-kept s [] = refl
@@ -84,8 +84,8 @@ module _ {Shape State Op Undo : Type 0} (o : Object Shape State Op Undo) (laws :
         ranged = ranged-append o base x h.ranged r;
       }
 
-  pub log_is_state : (b : State) (base : List Op) → IsLog o b base → o.IsState b
-  log_is_state b base h = subst o.IsState (sym h.is) (reached_is_state o laws (o.shape b) base h.allowed)
+  pub log_is_state : (b : State) (base : List Op) → IsLog o b base → o.upkeep.IsState b
+  log_is_state b base h = subst o.upkeep.IsState (sym h.is) (reached_is_state o laws (o.shape b) base h.allowed)
 
   -- the state of a run in which an item is left to apply is reached
   pub run_reached : (b s : State) (items : List (Item Op)) (us : List Undo) → IsRun o b items us s → length us < length items → IsReached o s
@@ -114,7 +114,7 @@ module _ {Shape State Op Undo : Type 0} (o : Object Shape State Op Undo) (laws :
   pub run_ranged : (b s : State) (items : List (Item Op)) (us : List Undo) (e : Item Op) → IsRun o b items us s → length us < length items → e ≡ get_or items (length us) e → IsTrue (o.ranged e.op)
   run_ranged b s items us e h k is = subst (λ (f : Item Op). IsTrue (o.ranged f.op)) (sym is) (ranged-get o items (length us) e k h.ranged)
 
-  pub run_more : (b s : State) (items : List (Item Op)) (us vs : List Undo) (e : Item Op) (u : Undo) (t : State) → IsRun o b items us s → length us < length items → e ≡ get_or items (length us) e → o.gives s e.op ≡ o.recorded e.op → u ≡ o.kept s e.op → t ≡ o.next s e.op → vs ≡ us ++ u ∷ [] → IsRun o b items vs t
+  pub run_more : (b s : State) (items : List (Item Op)) (us vs : List Undo) (e : Item Op) (u : Undo) (t : State) → IsRun o b items us s → length us < length items → e ≡ get_or items (length us) e → o.gives s e.op ≡ o.recorded e.op → u ≡ o.upkeep.kept s e.op → t ≡ o.next s e.op → vs ≡ us ++ u ∷ [] → IsRun o b items vs t
   run_more b s items us vs e u t h k is gives kept next longer =
       let n = length us in
       let ops = ops_of items in
@@ -132,7 +132,7 @@ module _ {Shape State Op Undo : Type 0} (o : Object Shape State Op Undo) (laws :
         within = omega arith;
         allowed = subst (AllowedFrom o b) (sym cut) (allowed-append o b x (a ∷ []) h.allowed (subst (λ (r : State). IsLegal o r a) h.is legal, tt));
         is = next ∙ ap (λ (r : State). o.next r a) h.is ∙ sym (state-append o b x (a ∷ [])) ∙ ap (state_from o b) (sym cut);
-        kept = longer ∙ ap (λ (ws : List Undo). ws ++ u ∷ []) h.kept ∙ ap (λ (w : Undo). kept_along o b x ++ w ∷ []) (kept ∙ ap (λ (r : State). o.kept r a) h.is) ∙ sym (kept-push o b x a) ∙ ap (kept_along o b) (sym cut);
+        kept = longer ∙ ap (λ (ws : List Undo). ws ++ u ∷ []) h.kept ∙ ap (λ (w : Undo). kept_along o b x ++ w ∷ []) (kept ∙ ap (λ (r : State). o.upkeep.kept r a) h.is) ∙ sym (kept-push o b x a) ∙ ap (kept_along o b) (sym cut);
       }
 
 -- What is known of the last item that a run applied.
@@ -143,8 +143,8 @@ pub record IsLast {Shape State Op Undo : Type 0} (o : Object Shape State Op Undo
   pub ranged : IsTrue (o.ranged a)
   pub legal : IsLegal o before a
   pub state : s ≡ o.next before a
-  pub undo : u ≡ o.kept before a
-  pub back : o.back s a u ≡ before
+  pub undo : u ≡ o.upkeep.kept before a
+  pub back : o.upkeep.back s a u ≡ before
 
 pub run_last : {Shape State Op Undo : Type 0} (o : Object Shape State Op Undo) (laws : IsLawful o) (b s : State) (items : List (Item Op)) (vs us : List Undo) (u : Undo) (e : Item Op) → vs ≡ us ++ u ∷ [] → e ≡ get_or items (length us) e → IsRun o b items vs s → IsLast o b s items us e.op u
 run_last {Shape} {State} {Op} {Undo} o laws b s items vs us u e f is h =
@@ -158,7 +158,7 @@ run_last {Shape} {State} {Op} {Undo} o laws b s items vs us u e f is h =
     let cut : take (length vs) ops ≡ x ++ a ∷ [] = ap (λ (i : ℕ). take i ops) size ∙ take_one_more items n e k is in
     let allowed : AllowedFrom o b (x ++ a ∷ []) = subst (AllowedFrom o b) cut h.allowed in
     let r = state_from o b x in
-    let same = push-injective us (kept_along o b x) u (o.kept r a) (sym f ∙ h.kept ∙ ap (kept_along o b) cut ∙ kept-push o b x a) in
+    let same = push-injective us (kept_along o b x) u (o.upkeep.kept r a) (sym f ∙ h.kept ∙ ap (kept_along o b) cut ∙ kept-push o b x a) in
     let state : s ≡ o.next r a = h.is ∙ ap (state_from o b) cut ∙ state-append o b x (a ∷ []) in
     let legal : IsLegal o r a = (allowed-second o b x (a ∷ []) allowed).0 in
     let first = allowed-first o b x (a ∷ []) allowed in
@@ -173,7 +173,7 @@ run_last {Shape} {State} {Op} {Undo} o laws b s items vs us u e f is h =
       is = refl;
       kept = same.0;
     } in
-    let is_state : o.IsState r = allowed_is_state o b x laws.next_is_state (log_is_state o laws b h.base h.log) first in
+    let is_state : o.upkeep.IsState r = allowed_is_state o b x laws.next_is_state (log_is_state o laws b h.base h.log) first in
     record {
       before = r;
       shorter = shorter;
@@ -182,5 +182,5 @@ run_last {Shape} {State} {Op} {Undo} o laws b s items vs us u e f is h =
       legal = legal;
       state = state;
       undo = same.1;
-      back = ap (λ (t : State). o.back t a u) state ∙ ap (o.back (o.next r a) a) same.1 ∙ laws.taken_back r a is_state legal;
+      back = ap (λ (t : State). o.upkeep.back t a u) state ∙ ap (o.upkeep.back (o.next r a) a) same.1 ∙ laws.taken_back r a is_state legal;
     }

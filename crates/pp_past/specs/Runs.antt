@@ -6,7 +6,7 @@ use Rattle.pp_past.specs.Parts.{ops_of}
 -- What each operation left to take it back, from a state on.
 abbrev pub kept_along : {Shape State Op Undo : Type 0} → Object Shape State Op Undo → State → List Op → List Undo
 kept_along o s [] = []
-kept_along o s (a ∷ x) = o.kept s a ∷ kept_along o (o.next s a) x
+kept_along o s (a ∷ x) = o.upkeep.kept s a ∷ kept_along o (o.next s a) x
 
 -- The operations are of the objects of a shape.
 abbrev pub AllFit : {Shape State Op Undo : Type 0} → Object Shape State Op Undo → Shape → List Op → Type 0

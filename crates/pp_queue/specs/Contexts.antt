@@ -1,4 +1,4 @@
--- Operations that show that a pair may not change places.
+-- Meaning: operations that show that a pair may not change places.
 use Rattle.std.specs.Prelude.{if◌then◌else◌, List, [], ◌∷◌, Option, Some, None}
 use Rattle.pp_queue.specs.declared.op.QueueOp.{QueueOp}
 use Rattle.pp_queue.specs.declared.op.QueueOp.TheVariants.{Enq, Deq}
@@ -18,6 +18,10 @@ after_pair (Enq x) (Enq y) = Deq (Some x) ∷ []
 after_pair (Enq x) (Deq value) = []
 after_pair (Deq value) b = []
 
--- what stands before and after a pair that may not change places
+-- what stands before and after such a pair
+abbrev pub lists_round : QueueOp → QueueOp → List QueueOp × List QueueOp
+lists_round a b = (before_pair a b, after_pair a b)
+
+-- where it does not swap
 abbrev pub refuting_lists : QueueOp → QueueOp → Option (List QueueOp × List QueueOp)
-refuting_lists a b = if may_swap a b then None else Some (before_pair a b, after_pair a b)
+refuting_lists a b = if may_swap a b then None else Some (lists_round a b)

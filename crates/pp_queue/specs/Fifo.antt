@@ -1,4 +1,4 @@
--- What a queue means.
+-- Meaning: what a queue means.
 use Rattle.std.specs.Prelude.{ℤ, List, [], true}
 use Rattle.pp_spec.specs.Object.{Object}
 use Rattle.pp_queue.specs.declared.op.QueueOp.{QueueOp}
@@ -8,7 +8,6 @@ use Rattle.pp_queue.specs.Contexts.{refuting_lists}
 -- the items from front to back, at first none
 abbrev pub fifo : Object (Unit {0}) (List ℤ) QueueOp (Unit {0})
 fifo = record {
-  IsState = λ items. Unit {0};
   start = λ shape. [];
   shape = λ items. tt;
   fits = λ shape op. true;
@@ -17,7 +16,10 @@ fifo = record {
   recorded = recorded_by;
   gives = given_by;
   next = items_after;
-  kept = λ items op. tt;
-  back = λ items op undo. items_before items op;
   refuting = refuting_lists;
+  upkeep = record {
+    IsState = λ items. Unit {0};
+    kept = λ items op. tt;
+    back = λ items op undo. items_before items op;
+  };
 }

@@ -1,10 +1,11 @@
--- The operations of a queue, and what they give and do.
+-- Meaning: the operations of a queue, and what they give and do.
 use Rattle.std.specs.Prelude.{ℤ, pos, ◌-◌, Bool, true, List, [], ◌∷◌, ◌++◌, length, take, Option, Some, None}
 use Rattle.pp_core.specs.declared.answer.Answer.{Answer}
 use Rattle.pp_core.specs.declared.answer.Answer.TheVariants.{None as NoAnswer, Number}
 use Rattle.pp_core.specs.declared.call.Call.{Call}
 use Rattle.pp_core.specs.declared.call.Method.TheVariants.{Enq as EnqCall, Deq as DeqCall}
 use Rattle.pp_spec.specs.Numbers.{in_range}
+use Rattle.pp_spec.specs.Found.{answer_of, is_ranged_found}
 use Rattle.pp_queue.specs.declared.op.QueueOp.{QueueOp}
 use Rattle.pp_queue.specs.declared.op.QueueOp.TheVariants.{Enq, Deq}
 
@@ -26,11 +27,6 @@ without_last items = take (length items - 1) items
 abbrev pub call_of : QueueOp → Call
 call_of (Enq value) = record { object = 0; method = EnqCall; first = value; second = pos 0 }
 call_of (Deq value) = record { object = 0; method = DeqCall; first = pos 0; second = pos 0 }
-
--- the result of a dequeue that took this
-abbrev pub answer_of : Option ℤ → Answer
-answer_of None = NoAnswer
-answer_of (Some x) = Number x
 
 -- the result that it records
 abbrev pub recorded_by : QueueOp → Answer
@@ -56,5 +52,4 @@ items_before items (Deq None) = items
 -- all its numbers lie in the range of records
 abbrev pub is_ranged : QueueOp → Bool
 is_ranged (Enq value) = in_range value
-is_ranged (Deq (Some x)) = in_range x
-is_ranged (Deq None) = true
+is_ranged (Deq value) = is_ranged_found value

@@ -1,12 +1,13 @@
+//! The calls of a queue.
 ghost use Rattle.pp_queue.specs.Fifo.{fifo};
 ghost use Rattle.pp_queue.specs.laws.Lawful.{fifo_lawful};
 
 use crate::contexts::{after_pair, before_pair};
 use crate::movers::may_swap;
-use crate::op::{QueueOp, answer_of};
+use crate::op::QueueOp;
 use crate::queue::Queue;
 use pp_core::{Answer, OutOfMemory, Steps};
-use pp_spec::{Applied, Context, Spec};
+use pp_spec::{Applied, Context, Spec, answer_of};
 use std::alloc::Global;
 use std::sync::ledger::Ledger;
 

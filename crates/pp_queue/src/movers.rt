@@ -1,3 +1,4 @@
+//! Which pairs of operations swap, by a table.
 ghost use Rattle.std.specs.Prelude.{◌≡◌};
 ghost use Rattle.pp_queue.specs.Movers.{figures_of, form_of, queue_table, may_swap};
 

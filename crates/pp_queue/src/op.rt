@@ -1,8 +1,9 @@
+//! The operations of a queue.
 ghost use Rattle.std.specs.Prelude.{◌≡◌};
-ghost use Rattle.pp_queue.specs.Operations.{answer_of, call_of, recorded_by, is_ranged};
+ghost use Rattle.pp_queue.specs.Operations.{call_of, recorded_by, is_ranged};
 
 use pp_core::{Answer, Call, Method};
-use pp_spec::in_range;
+use pp_spec::{answer_of, in_range, is_ranged_found};
 
 /// An operation on a queue, with its recorded result.
 #[derive(Clone, Copy, Debug, PartialEq, Eq)]
@@ -13,16 +14,6 @@ pub enum QueueOp {
     Deq { value: Option<i64> },
 }
 
-/// The result of a dequeue that took this.
-pub fn answer_of(item: Option<i64>) -> Answer
-    ensures { result ≡ answer_of item }
-{
-    match item {
-        None => Answer::None,
-        Some(value) => Answer::Number(i128::from(value)),
-    }
-}
-
 impl QueueOp {
     /// Whether all its numbers may stand in a record.
     pub fn ranged(&self) -> bool
@@ -30,8 +21,7 @@ impl QueueOp {
     {
         match *self {
             QueueOp::Enq { value } => in_range(value),
-            QueueOp::Deq { value: Some(item) } => in_range(item),
-            QueueOp::Deq { value: None } => true,
+            QueueOp::Deq { value } => is_ranged_found(value),
         }
     }
 

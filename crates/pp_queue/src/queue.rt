@@ -1,3 +1,4 @@
+//! Lists of numbers with a front and a back.
 ghost use Rattle.std.specs.Prelude.{◌≡◌, List, [], ◌∷◌, ◌++◌, length, slice_get, OnOk, OnErr};
 ghost use Rattle.pp_queue.specs.Operations.{front_of, behind_front, without_last};
 

@@ -1,4 +1,4 @@
--- Operations that show that a pair may not change places.
+-- Meaning: operations that show that a pair may not change places.
 use Rattle.std.specs.Prelude.{ℤ, Bool, true, false, if◌then◌else◌, List, [], ◌∷◌, Option, Some, None}
 use Rattle.pp_set.specs.declared.op.SetOp.{SetOp}
 use Rattle.pp_set.specs.declared.op.SetOp.TheVariants.{Add}

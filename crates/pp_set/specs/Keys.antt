@@ -1,4 +1,4 @@
--- A finite set of keys: a finite map that has nothing at each of them.
+-- Meaning: a finite set of keys: a finite map that has nothing at each of them.
 use Rattle.std.specs.Prelude.{ℤ, Bool, List, [], ◌∷◌}
 use Rattle.std.specs.Ordering.{int_cmp}
 use Rattle.std.specs.FinSet.{FinSet}

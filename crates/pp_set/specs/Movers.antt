@@ -1,4 +1,4 @@
--- Which operations of a set may change places, by a table.
+-- Meaning: which operations of a set may change places, by a table.
 use Rattle.std.specs.Prelude.{pos, ℕ, Bool, true, false, if◌then◌else◌, List, [], ◌∷◌}
 use Rattle.std.specs.Ordering.{int_eq}
 use Rattle.pp_table.specs.declared.table.Condition.{Condition}

@@ -1,4 +1,4 @@
--- The operations of a set, and what they give and do.
+-- Meaning: the operations of a set, and what they give and do.
 use Rattle.std.specs.Prelude.{ℤ, pos, Bool, true, false, not}
 use Rattle.std.specs.Ordering.{int_cmp}
 use Rattle.std.specs.FinSet.{FinSet}
@@ -32,7 +32,8 @@ bit_after (Contains k present) = present
 abbrev pub call_of : SetOp → Call
 call_of (Add k changed) = record { object = 0; method = AddCall; first = k; second = pos 0 }
 call_of (Remove k changed) = record { object = 0; method = RemoveCall; first = k; second = pos 0 }
-call_of (Contains k present) = record { object = 0; method = ContainsCall; first = k; second = pos 0 }
+call_of (Contains k present) =
+    record { object = 0; method = ContainsCall; first = k; second = pos 0 }
 
 -- the result that it records
 abbrev pub recorded_by : SetOp → Answer

@@ -1,4 +1,4 @@
--- What a set means.
+-- Meaning: what a set means.
 use Rattle.std.specs.Prelude.{Bool, true, false, not, Some}
 use Rattle.std.specs.Ordering.{int_cmp}
 use Rattle.std.specs.FinSet.{FinSet}
@@ -14,7 +14,6 @@ use Rattle.pp_set.specs.Contexts.{refuting_lists}
 -- keys, at first none, which operations put in and take out
 abbrev pub key_set : Object (Unit {0}) (FinSet int_cmp) SetOp (Unit {0})
 key_set = record {
-  IsState = λ s. Unit {0};
   start = λ shape. empty;
   shape = λ s. tt;
   fits = λ shape op. true;
@@ -23,9 +22,12 @@ key_set = record {
   recorded = recorded_by;
   gives = given_by;
   next = set_after;
-  kept = λ s op. tt;
-  back = λ s op undo. set_before s op;
   refuting = refuting_lists;
+  upkeep = record {
+    IsState = λ s. Unit {0};
+    kept = λ s op. tt;
+    back = λ s op undo. set_before s op;
+  };
 }
 
 -- whether two bits are one

@@ -1,3 +1,4 @@
+//! Finite sets of keys.
 ghost use Rattle.std.specs.Prelude.{◌≡◌, IfOk, OnOk, OnErr};
 ghost use Rattle.std.specs.FinMap.{empty};
 ghost use Rattle.pp_set.specs.Keys.{contains, insert, remove, members};

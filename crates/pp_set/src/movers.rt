@@ -1,3 +1,4 @@
+//! Which pairs of operations swap, by a table.
 ghost use Rattle.std.specs.Prelude.{◌≡◌};
 ghost use Rattle.pp_set.specs.Movers.{no_figures, form_of, set_table, may_swap};
 

@@ -1,3 +1,4 @@
+//! The operations of a set.
 ghost use Rattle.std.specs.Prelude.{◌≡◌};
 ghost use Rattle.pp_set.specs.Operations.{key_of, bit_before, call_of, recorded_by, is_ranged};
 

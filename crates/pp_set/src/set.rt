@@ -1,3 +1,4 @@
+//! The calls of a set.
 ghost use Rattle.pp_set.specs.Sets.{key_set};
 ghost use Rattle.pp_set.specs.laws.Lawful.{set_lawful};
 

@@ -1,3 +1,4 @@
 pub mod Numbers
+pub mod Found
 pub mod Object
 pub mod Calls

@@ -1,4 +1,4 @@
--- The range of the numbers of records.
+-- Meaning: the range of the numbers of records.
 use Rattle.std.specs.Prelude.{ℤ, pos, negsuc, Bool, true, ◌&&◌, int_le}
 use Rattle.pp_core.specs.declared.answer.Answer.{Answer}
 use Rattle.pp_core.specs.declared.answer.Answer.TheVariants as answers

@@ -1,4 +1,5 @@
--- What a kind of object means, and its laws.
+-- Meaning: what a kind of object means, which lists it allows, and which pairs of its operations
+-- swap.
 use Rattle.std.specs.Prelude.{◌≡◌, ℕ, Bool, ◌&&◌, IsTrue, ◌<◌, List, [], ◌∷◌, ◌++◌, ◌↔◌, length, Option, Some, None}
 use Rattle.pp_core.specs.declared.answer.Answer.{Answer}
 use Rattle.pp_core.specs.declared.call.Call.{Call}
@@ -6,10 +7,18 @@ use Rattle.pp_spec.specs.Numbers.{has_ranged_arguments, is_ranged_answer}
 use Rattle.pp_model.specs.Object as model
 use Rattle.pp_model.specs.Object.{AllowedBy, state_by}
 
--- What a kind of object means: its states, what an operation gives in a state, and what it leaves.
-pub record Object (Shape State Op Undo : Type 0) : Type 1 where
+-- Proof machinery: which states the code meets, and what it keeps to take an operation back. No
+-- list that is allowed, no swap and no result depends on it.
+pub record Upkeep (State Op Undo : Type 0) : Type 1 where
   -- it is the state of some run, as far as the laws ask
   pub IsState : State → Type 0
+  -- what is kept of a state to take an operation back there
+  pub kept : State → Op → Undo
+  -- the state that this brings back
+  pub back : State → Op → Undo → State
+
+-- What a kind of object means: its states, what an operation gives in a state, and what it leaves.
+pub record Object (Shape State Op Undo : Type 0) : Type 1 where
   -- the state from which every run begins
   pub start : Shape → State
   -- which objects a state has
@@ -26,126 +35,167 @@ pub record Object (Shape State Op Undo : Type 0) : Type 1 where
   pub gives : State → Op → Answer
   -- the state afterwards
   pub next : State → Op → State
-  -- what is kept to take it back, and the state that this brings back
-  pub kept : State → Op → Undo
-  pub back : State → Op → Undo → State
-  -- operations before and after a pair that may not change places, which show that it may not
+  -- operations before and after a pair that does not swap, which show it
   pub refuting : Op → Op → Option (List Op × List Op)
+  pub upkeep : Upkeep State Op Undo
 
--- The operation fits the state, and its recorded result is the one that the object gives there.
-abbrev pub IsLegal : {Shape State Op Undo : Type 0} → Object Shape State Op Undo → State → Op → Type 0
-IsLegal o s op = IsTrue (o.fits (o.shape s) op) × (o.gives s op ≡ o.recorded op)
+module _ {Shape State Op Undo : Type 0} (o : Object Shape State Op Undo) where
+  -- The operation fits the state, and its recorded result is the one that the object gives there.
+  abbrev pub IsLegal : State → Op → Type 0
+  IsLegal s op = IsTrue (o.fits (o.shape s) op) × (o.gives s op ≡ o.recorded op)
 
--- From this state on, each operation is legal in the state after those before it.
-abbrev pub AllowedFrom : {Shape State Op Undo : Type 0} → Object Shape State Op Undo → State → List Op → Type 0
-AllowedFrom o s ops = AllowedBy (IsLegal o) o.next s ops
+  -- From this state on, each operation is legal in the state after those before it.
+  abbrev pub AllowedFrom : State → List Op → Type 0
+  AllowedFrom s ops = AllowedBy IsLegal o.next s ops
 
--- The state after these operations.
-abbrev pub state_from : {Shape State Op Undo : Type 0} → Object Shape State Op Undo → State → List Op → State
-state_from o s ops = state_by o.next s ops
+  -- The state after these operations.
+  abbrev pub state_from : State → List Op → State
+  state_from s ops = state_by o.next s ops
 
--- The list is allowed from the start.
-abbrev pub IsAllowed : {Shape State Op Undo : Type 0} → Object Shape State Op Undo → Shape → List Op → Type 0
-IsAllowed o shape ops = AllowedFrom o (o.start shape) ops
+  -- The list is allowed from the start.
+  abbrev pub IsAllowed : Shape → List Op → Type 0
+  IsAllowed shape ops = AllowedFrom (o.start shape) ops
 
--- The state after these operations from the start.
-abbrev pub state_after : {Shape State Op Undo : Type 0} → Object Shape State Op Undo → Shape → List Op → State
-state_after o shape ops = state_from o (o.start shape) ops
+  -- The state after these operations from the start.
+  abbrev pub state_after : Shape → List Op → State
+  state_after shape ops = state_from (o.start shape) ops
 
--- The sequential object of a shape.
-abbrev pub rules_of : {Shape State Op Undo : Type 0} → Object Shape State Op Undo → Shape → model.Object Op State
-rules_of o shape = record { start = o.start shape; Legal = IsLegal o; next = o.next; call = o.call }
+  -- The sequential object of a shape.
+  abbrev pub rules_of : Shape → model.Object Op State
+  rules_of shape = record { start = o.start shape; Legal = IsLegal; next = o.next; call = o.call }
 
--- In this shape, wherever the first is followed by the second, the two may change places.
-abbrev pub SwapsIn : {Shape State Op Undo : Type 0} → Object Shape State Op Undo → Shape → Op → Op → Type 0
-SwapsIn o shape a b = model.Swaps (rules_of o shape) a b
+  -- In this shape b moves left over a: wherever a is followed by b, whatever stands before and
+  -- behind them, b may stand before a instead.
+  abbrev pub SwapsIn : Shape → Op → Op → Type 0
+  SwapsIn shape a b = model.Swaps (rules_of shape) a b
 
--- The two may change places in every shape.
-abbrev pub Swaps : {Shape State Op Undo : Type 0} → Object Shape State Op Undo → Op → Op → Type 0
-Swaps {Shape} {State} {Op} {Undo} o a b = (shape : Shape) → SwapsIn o shape a b
+  -- So it does in every shape. The other way round it need not: a may not move left over b.
+  abbrev pub Swaps : Op → Op → Type 0
+  Swaps a b = (shape : Shape) → SwapsIn shape a b
 
--- They may change places in no shape that both of them fit.
-abbrev pub SwapsNowhere : {Shape State Op Undo : Type 0} → Object Shape State Op Undo → Op → Op → Type 0
-SwapsNowhere {Shape} {State} {Op} {Undo} o a b = (shape : Shape) → IsTrue (o.fits shape a) → IsTrue (o.fits shape b) → SwapsIn o shape a b → ⊥
+  -- b moves left over a in no shape that both of them fit.
+  abbrev pub SwapsNowhere : Op → Op → Type 0
+  SwapsNowhere a b =
+      (shape : Shape) → IsTrue (o.fits shape a) → IsTrue (o.fits shape b) → SwapsIn shape a b → ⊥
 
--- No shape has the objects of both.
-abbrev pub FitNowhere : {Shape State Op Undo : Type 0} → Object Shape State Op Undo → Op → Op → Type 0
-FitNowhere {Shape} {State} {Op} {Undo} o a b = (shape : Shape) → IsTrue (o.fits shape a) → IsTrue (o.fits shape b) → ⊥
+  -- No shape has the objects of both.
+  abbrev pub FitNowhere : Op → Op → Type 0
+  FitNowhere a b = (shape : Shape) → IsTrue (o.fits shape a) → IsTrue (o.fits shape b) → ⊥
 
--- All of them lie in the range of records.
-abbrev pub AllRanged : {Shape State Op Undo : Type 0} → Object Shape State Op Undo → List Op → Type 0
-AllRanged o [] = Unit {0}
-AllRanged o (op ∷ ops) = IsTrue (o.ranged op) × AllRanged o ops
+  -- All of them lie in the range of records.
+  abbrev pub AllRanged : List Op → Type 0
+  AllRanged [] = Unit {0}
+  AllRanged (op ∷ ops) = IsTrue (o.ranged op) × AllRanged ops
 
--- In every state after an allowed list in which the first and then the second are legal, so are the second and then the first, and they leave the same state.
-abbrev pub Commutes : {Shape State Op Undo : Type 0} → Object Shape State Op Undo → Op → Op → Type 0
-Commutes {Shape} {State} {Op} {Undo} o a b =
-    (shape : Shape) (before : List Op) → IsAllowed o shape before → IsLegal o (state_after o shape before) a → IsLegal o (o.next (state_after o shape before) a) b
-    → IsLegal o (state_after o shape before) b × IsLegal o (o.next (state_after o shape before) b) a × (o.next (o.next (state_after o shape before) b) a ≡ o.next (o.next (state_after o shape before) a) b)
+  -- Where a and then b are legal in this state, so are b and then a, and they leave the same state.
+  abbrev pub CommutesAt : State → Op → Op → Type 0
+  CommutesAt s a b =
+      IsLegal s a → IsLegal (o.next s a) b
+      → IsLegal s b × IsLegal (o.next s b) a × (o.next (o.next s b) a ≡ o.next (o.next s a) b)
 
--- The lists show that the pair may not change places: they fit each shape that the pair fits, and are ranged where the pair is.
-pub record Refutes {Shape State Op Undo : Type 0} (o : Object Shape State Op Undo) (a b : Op) (before after : List Op) : Type 0 where
-  pub allowed : (shape : Shape) → IsTrue (o.fits shape a) → IsTrue (o.fits shape b) → IsAllowed o shape (before ++ (a ∷ b ∷ after))
-  pub changed : (shape : Shape) → IsTrue (o.fits shape a) → IsTrue (o.fits shape b) → IsAllowed o shape (before ++ (b ∷ a ∷ after)) → ⊥
-  pub ranged_before : IsTrue (o.ranged a) → IsTrue (o.ranged b) → AllRanged o before
-  pub ranged_after : IsTrue (o.ranged a) → IsTrue (o.ranged b) → AllRanged o after
+  -- So it is in every state after an allowed list.
+  abbrev pub Commutes : Op → Op → Type 0
+  Commutes a b =
+      (shape : Shape) (before : List Op) → IsAllowed shape before
+      → CommutesAt (state_after shape before) a b
 
--- The lists that refute a pair, where there are any.
-abbrev pub IsRefutedBy : {Shape State Op Undo : Type 0} → Object Shape State Op Undo → Op → Op → Option (List Op × List Op) → Type 0
-IsRefutedBy o a b None = Unit {0}
-IsRefutedBy o a b (Some lists) = Refutes o a b lists.0 lists.1
+  -- The lists show that b may not move left over a: they fit each shape that the pair fits, and
+  -- are ranged where the pair is.
+  pub record Refutes (a b : Op) (before after : List Op) : Type 0 where
+    pub allowed : (shape : Shape) → IsTrue (o.fits shape a) → IsTrue (o.fits shape b)
+        → IsAllowed shape (before ++ (a ∷ b ∷ after))
+    pub changed : (shape : Shape) → IsTrue (o.fits shape a) → IsTrue (o.fits shape b)
+        → IsAllowed shape (before ++ (b ∷ a ∷ after)) → ⊥
+    pub ranged_before : IsTrue (o.ranged a) → IsTrue (o.ranged b) → AllRanged before
+    pub ranged_after : IsTrue (o.ranged a) → IsTrue (o.ranged b) → AllRanged after
 
--- The list is allowed and ranged, and this is the state after it.
-pub record IsLog {Shape State Op Undo : Type 0} (o : Object Shape State Op Undo) (s : State) (ops : List Op) : Type 0 where
-  pub allowed : IsAllowed o (o.shape s) ops
-  pub is : s ≡ state_after o (o.shape s) ops
-  pub ranged : AllRanged o ops
+  -- The lists that refute a pair, where there are any.
+  abbrev pub IsRefutedBy : Op → Op → Option (List Op × List Op) → Type 0
+  IsRefutedBy a b None = Unit {0}
+  IsRefutedBy a b (Some lists) = Refutes a b lists.0 lists.1
 
--- The state is the one after an allowed list of fewer than a million ranged operations.
-pub record IsReached {Shape State Op Undo : Type 0} (o : Object Shape State Op Undo) (s : State) : Type 0 where
-  pub ops : List Op
-  pub log : IsLog o s ops
-  pub few : length ops < 1_000_000
+  -- The list is allowed and ranged, and this is the state after it.
+  pub record IsLog (s : State) (ops : List Op) : Type 0 where
+    pub allowed : IsAllowed (o.shape s) ops
+    pub is : s ≡ state_after (o.shape s) ops
+    pub ranged : AllRanged ops
 
--- What each kind of object promises.
-pub record IsLawful {Shape State Op Undo : Type 0} (o : Object Shape State Op Undo) : Type 0 where
-  -- the start has its shape, and is a state
-  pub start_shape : (shape : Shape) → o.shape (o.start shape) ≡ shape
-  pub start_is_state : (shape : Shape) → o.IsState (o.start shape)
-  -- a legal operation keeps the shape, and leaves a state
-  pub next_shape : (s : State) (op : Op) → IsLegal o s op → o.shape (o.next s op) ≡ o.shape s
-  pub next_is_state : (s : State) (op : Op) → o.IsState s → IsLegal o s op → o.IsState (o.next s op)
-  -- what is taken back was as if it had not been
-  pub taken_back : (s : State) (op : Op) → o.IsState s → IsLegal o s op → o.back (o.next s op) op (o.kept s op) ≡ s
-  -- states of one shape are one where each list that is allowed after the first is allowed after the second
-  pub told_apart : (s t : State) → o.IsState s → o.IsState t → o.shape s ≡ o.shape t → ((k : List Op) → AllowedFrom o s k → AllowedFrom o t k) → s ≡ t
-  -- operations of one call that are legal in one state record one result
-  pub one_answer : (s : State) (a b : Op) → o.call a ≡ o.call b → IsLegal o s a → IsLegal o s b → o.recorded a ≡ o.recorded b
-  -- an operation is ranged exactly where its arguments and its recorded result are
-  pub ranged_numbers : (op : Op) → o.ranged op ≡ (has_ranged_arguments (o.call op) && is_ranged_answer (o.recorded op))
-  -- there are lists exactly for the pairs that do not swap, and they show it
-  pub unrefuted : (a b : Op) → (o.refuting a b ≡ None) ↔ Swaps o a b
-  pub refuted : (a b : Op) → IsRefutedBy o a b (o.refuting a b)
+  -- The state is the one after an allowed list of fewer than a million ranged operations.
+  pub record IsReached (s : State) : Type 0 where
+    pub ops : List Op
+    pub log : IsLog s ops
+    pub few : length ops < 1_000_000
 
--- What a kind of several objects promises: SameAt p s t says that the object at the place p is in t as it is in s.
-pub record IsPlaced {Shape State Op Undo : Type 0} (o : Object Shape State Op Undo) (place_of : Op → ℕ) (SameAt : ℕ → State → State → Type 0) : Type 0 where
-  -- to be the same at a place is an equivalence, and states of one shape that are the same at every place are one
-  pub same : (p : ℕ) (s : State) → SameAt p s s
-  pub turned : (p : ℕ) (s t : State) → SameAt p s t → SameAt p t s
-  pub joined : (p : ℕ) (r s t : State) → SameAt p r s → SameAt p s t → SameAt p r t
-  pub everywhere : (s t : State) → o.shape s ≡ o.shape t → ((p : ℕ) → SameAt p s t) → s ≡ t
-  -- operations of different places swap
-  pub apart : (a b : Op) → (place_of a ≡ place_of b → ⊥) → Swaps o a b
-  -- the result, the effect and the undo value depend on the place alone
-  pub gives_there : (s t : State) (a : Op) → SameAt (place_of a) s t → o.gives s a ≡ o.gives t a
-  pub kept_there : (s t : State) (a : Op) → SameAt (place_of a) s t → o.kept s a ≡ o.kept t a
-  pub next_there : (s t : State) (a : Op) → SameAt (place_of a) s t → SameAt (place_of a) (o.next s a) (o.next t a)
-  pub back_there : (s t : State) (a : Op) (u : Undo) → SameAt (place_of a) s t → SameAt (place_of a) (o.back s a u) (o.back t a u)
-  -- every other place stays
-  pub next_elsewhere : (s : State) (a : Op) (p : ℕ) → (p ≡ place_of a → ⊥) → SameAt p s (o.next s a)
-  pub back_elsewhere : (s : State) (a : Op) (u : Undo) (p : ℕ) → (p ≡ place_of a → ⊥) → SameAt p s (o.back s a u)
+  -- All that is allowed from the first state on is allowed from the second on.
+  abbrev pub AllowsAllOf : State → State → Type 0
+  AllowsAllOf s t = (k : List Op) → AllowedFrom s k → AllowedFrom t k
+
+  -- What each kind of object promises.
+  pub record IsLawful : Type 0 where
+    -- the start has its shape, and is a state
+    pub start_shape : (shape : Shape) → o.shape (o.start shape) ≡ shape
+    pub start_is_state : (shape : Shape) → o.upkeep.IsState (o.start shape)
+    -- a legal operation keeps the shape, and leaves a state
+    pub next_shape : (s : State) (op : Op) → IsLegal s op → o.shape (o.next s op) ≡ o.shape s
+    pub next_is_state : (s : State) (op : Op) → o.upkeep.IsState s → IsLegal s op
+        → o.upkeep.IsState (o.next s op)
+    -- what is taken back was as if it had not been
+    pub taken_back : (s : State) (op : Op) → o.upkeep.IsState s → IsLegal s op
+        → o.upkeep.back (o.next s op) op (o.upkeep.kept s op) ≡ s
+    -- states of one shape are one where all that is allowed from the first is from the second
+    pub told_apart : (s t : State) → o.upkeep.IsState s → o.upkeep.IsState t
+        → o.shape s ≡ o.shape t → AllowsAllOf s t → s ≡ t
+    -- operations of one call that are legal in one state record one result
+    pub one_answer : (s : State) (a b : Op) → o.call a ≡ o.call b → IsLegal s a → IsLegal s b
+        → o.recorded a ≡ o.recorded b
+    -- an operation is ranged exactly where its arguments and its recorded result are
+    pub ranged_numbers : (op : Op)
+        → o.ranged op ≡ (has_ranged_arguments (o.call op) && is_ranged_answer (o.recorded op))
+    -- there are lists exactly for the pairs that do not swap, and they show it
+    pub unrefuted : (a b : Op) → (o.refuting a b ≡ None) ↔ Swaps a b
+    pub refuted : (a b : Op) → IsRefutedBy a b (o.refuting a b)
 
 -- Each of the operations has another place.
 abbrev pub AllElsewhere : {Op : Type 0} → (Op → ℕ) → ℕ → List Op → Type 0
 AllElsewhere place_of p [] = Unit {0}
 AllElsewhere place_of p (b ∷ y) = (p ≡ place_of b → ⊥) × AllElsewhere place_of p y
+
+module _ {Shape State Op Undo : Type 0} (o : Object Shape State Op Undo) (place_of : Op → ℕ) where
+  -- Where a stands before operations y of other places, its effect may be seen as the last one,
+  -- and what was kept when it was applied takes it back, as if it had not been.
+  pub record IsUndoneBehind (shape : Shape) (x y : List Op) (a : Op) : Type 0 where
+    pub left : state_after o shape (x ++ a ∷ y) ≡ o.next (state_after o shape (x ++ y)) a
+    pub undone :
+        o.upkeep.back (state_after o shape (x ++ a ∷ y)) a (o.upkeep.kept (state_after o shape x) a)
+        ≡ state_after o shape (x ++ y)
+
+  -- An operation is taken back behind those of other places.
+  abbrev pub UndoneBehindOthers : Type 0
+  UndoneBehindOthers =
+      (shape : Shape) (x y : List Op) (a : Op) → AllElsewhere place_of (place_of a) y
+      → IsAllowed o shape (x ++ a ∷ y) → IsUndoneBehind shape x y a
+
+  -- What a kind of several objects promises: SameAt p s t says that the object at the place p is
+  -- in t as it is in s.
+  pub record IsPlaced (SameAt : ℕ → State → State → Type 0) : Type 0 where
+    -- to be the same at a place is an equivalence
+    pub same : (p : ℕ) (s : State) → SameAt p s s
+    pub turned : (p : ℕ) (s t : State) → SameAt p s t → SameAt p t s
+    pub joined : (p : ℕ) (r s t : State) → SameAt p r s → SameAt p s t → SameAt p r t
+    -- states of one shape that are the same at every place are one
+    pub everywhere : (s t : State) → o.shape s ≡ o.shape t → ((p : ℕ) → SameAt p s t) → s ≡ t
+    -- operations of different places swap
+    pub apart : (a b : Op) → (place_of a ≡ place_of b → ⊥) → Swaps o a b
+    -- the result, the effect and the undo value depend on the place alone
+    pub gives_there : (s t : State) (a : Op) → SameAt (place_of a) s t → o.gives s a ≡ o.gives t a
+    pub kept_there : (s t : State) (a : Op) → SameAt (place_of a) s t
+        → o.upkeep.kept s a ≡ o.upkeep.kept t a
+    pub next_there : (s t : State) (a : Op) → SameAt (place_of a) s t
+        → SameAt (place_of a) (o.next s a) (o.next t a)
+    pub back_there : (s t : State) (a : Op) (u : Undo) → SameAt (place_of a) s t
+        → SameAt (place_of a) (o.upkeep.back s a u) (o.upkeep.back t a u)
+    -- every other place stays
+    pub next_elsewhere : (s : State) (a : Op) (p : ℕ) → (p ≡ place_of a → ⊥)
+        → SameAt p s (o.next s a)
+    pub back_elsewhere : (s : State) (a : Op) (u : Undo) (p : ℕ) → (p ≡ place_of a → ⊥)
+        → SameAt p s (o.upkeep.back s a u)

@@ -1,9 +1,11 @@
 //! What a kind of object promises: its calls, and the laws that they obey.
 #![tactic(auto)]
 
+mod found;
 mod range;
 mod spec;
 
+pub use found::{answer_of, is_ranged_found};
 pub use range::{GREATEST_NUMBER, in_range};
 pub use spec::{
     Applied, Context, Placed, Spec, commuting_operations_swap, futures_tell_states,

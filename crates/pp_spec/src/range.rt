@@ -1,3 +1,4 @@
+//! The range of the numbers of records.
 ghost use Rattle.std.specs.Prelude.{◌≡◌};
 ghost use Rattle.pp_spec.specs.Numbers.{in_range};
 

@@ -1,7 +1,8 @@
-ghost use Rattle.std.specs.Prelude.{◌≡◌, ◌≢◌, ◌+◌, ℕ, false, IsTrue, IfOk, OnOk, OnErr, ◌↔◌, List, ◌∷◌, ◌++◌, option_map};
+//! The traits of a kind: its calls, each with its meaning, and the laws that hold of every kind.
+ghost use Rattle.std.specs.Prelude.{◌≡◌, ◌≢◌, ◌+◌, ℕ, false, IsTrue, IfOk, OnOk, OnErr, ◌↔◌};
 ghost use Rattle.pp_model.specs.Object.{TellsStates};
-ghost use Rattle.pp_spec.specs.Object.{Object, IsAllowed, Swaps, SwapsNowhere, FitNowhere, Commutes, IsReached, IsLawful, IsPlaced, AllElsewhere, rules_of, state_after};
-ghost use Rattle.pp_spec.specs.Calls.{Applies, WasApplied};
+ghost use Rattle.pp_spec.specs.Object.{Object, Swaps, SwapsNowhere, FitNowhere, Commutes, IsReached, IsLawful, IsPlaced, UndoneBehindOthers, rules_of};
+ghost use Rattle.pp_spec.specs.Calls.{Applies, WasApplied, lists_of};
 
 use pp_core::{Answer, Call, Ops, OutOfMemory, Steps};
 use std::alloc::Global;
@@ -87,11 +88,12 @@ pub trait Spec: Drop {
         steps: &mut Steps<L>,
     ) -> Result<(), OutOfMemory>
         requires { WasApplied object op.now undo state.old }
-        ensures ok { OnOk result (state.new ≡ object.back state.old op.now undo) }
+        ensures ok { OnOk result (state.new ≡ object.upkeep.back state.old op.now undo) }
         ensures err { OnErr result (state.new ≡ state.old) }
         ensures cost { steps.new ≡ steps.old + 1 };
 
-    /// Whether the first may change places with the second behind it, whatever stands round them.
+    /// Whether the second moves left over the first: in whatever midst the first is followed by the
+    /// second, the second may stand before the first instead.
     fn swaps(a: &Self::Op, b: &Self::Op) -> bool
         ensures swaps { IsTrue result → Swaps object a.now b.now }
         ensures only { Swaps object a.now b.now → IsTrue result }
@@ -106,7 +108,7 @@ pub trait Spec: Drop {
     ) -> Result<Option<Context<Self::Op>>, OutOfMemory>
         requires first { IsTrue (object.ranged a.now) }
         requires second { IsTrue (object.ranged b.now) }
-        ensures lists { IfOk result (λ found. option_map (λ c. (c.before, c.after)) found ≡ object.refuting a.now b.now) };
+        ensures lists { IfOk result (λ found. lists_of found ≡ object.refuting a.now b.now) };
 
     /// The laws of the kind.
     ghost lawful: { IsLawful object };
@@ -137,7 +139,8 @@ pub fn commuting_operations_swap<S: Spec>()
     ensures { (a b : S.Op) → Commutes S.object a b → Swaps S.object a b }
 {}
 
-/// Two lists lead to one state where the first is allowed, and all that is allowed after it is allowed after the second.
+/// Two lists lead to one state where the first is allowed, and all that is allowed after it is
+/// allowed after the second.
 pub fn futures_tell_states<S: Spec>()
     ensures { (shape : S.Shape) → TellsStates (rules_of S.object shape) }
 {}
@@ -152,7 +155,8 @@ pub fn other_places_swap<S: Placed>()
     ensures { (a b : S.Op) → S.place_of a ≢ S.place_of b → Swaps S.object a b }
 {}
 
-/// What an operation of a log left can be taken back behind operations of other places.
+/// An operation is taken back behind those of other places, with the undo value that was kept when
+/// it was applied.
 pub fn undone_behind_others<S: Placed>()
-    ensures { (shape : S.Shape) (x y : List S.Op) (a : S.Op) → AllElsewhere S.place_of (S.place_of a) y → IsAllowed S.object shape (x ++ a ∷ y) → state_after S.object shape (x ++ a ∷ y) ≡ S.object.next (state_after S.object shape (x ++ y)) a }
+    ensures { UndoneBehindOthers S.object S.place_of }
 {}

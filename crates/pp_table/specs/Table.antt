@@ -1,4 +1,4 @@
--- What the conditions mean, and the entries of a table.
+-- Meaning: what the conditions mean, and the entries of a table.
 use Rattle.std.specs.Prelude.{pos, ℕ, Bool, true, false, not, ◌&&◌, ◌||◌, List, [], slice_index_or}
 use Rattle.std.specs.Ordering.{int_eq}
 use Rattle.pp_table.specs.declared.table.Condition.{Condition}
@@ -11,7 +11,8 @@ condition_holds Always x y = true
 condition_holds Never x y = false
 condition_holds Equal x y = int_eq x.to y.to
 condition_holds Unequal x y = not (int_eq x.to y.from)
-condition_holds Chain x y = not (int_eq x.to y.from) || (int_eq x.from x.to && int_eq x.to y.from && int_eq y.from y.to)
+condition_holds Chain x y = not (int_eq x.to y.from) ||
+    (int_eq x.from x.to && int_eq x.to y.from && int_eq y.from y.to)
 condition_holds FirstStill x y = int_eq x.shift (pos 0)
 condition_holds SecondStill x y = int_eq y.shift (pos 0)
 

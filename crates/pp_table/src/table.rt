@@ -1,3 +1,4 @@
+//! Tables of conditions on pairs of operations.
 ghost use Rattle.std.specs.Prelude.{◌≡◌, ◌<◌};
 ghost use Rattle.pp_table.specs.Table.{condition_holds, entry};
 

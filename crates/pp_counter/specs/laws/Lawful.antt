@@ -1,26 +1,30 @@
--- The laws of a counter.
+-- Proof machinery: the laws of a counter.
 use Rattle.std.proofs.Common.{◌≡◌, ℤ, pos, ◌+ℤ◌, ◌-ℤ◌, Bool, List, [], ◌∷◌, ◌&&◌, refl, sym, ◌∙◌, ap, arith}
 use Rattle.std.proofs.Math.Bool.{and-true}
 use Rattle.std.proofs.lemmas.Int.{ints}
 use Rattle.pp_spec.specs.Numbers.{in_range, has_ranged_arguments, is_ranged_answer}
-use Rattle.pp_spec.specs.Object.{AllowedFrom, IsLawful, IsPlaced}
+use Rattle.pp_spec.specs.Object.{AllowsAllOf, IsLawful, IsPlaced}
+use Rattle.pp_spec.proofs.Tests.{unrefuted, refuted}
 use Rattle.pp_counter.specs.declared.op.CounterOp.{CounterOp}
 use Rattle.pp_counter.specs.declared.op.CounterOp.TheVariants.{Add, Get, FetchAdd}
 use Rattle.pp_counter.specs.Operations.{shift_of, call_of, given_by, recorded_by, is_ranged, place_of}
 use Rattle.pp_counter.specs.Movers.{may_swap}
+use Rattle.pp_counter.specs.Contexts.{lists_round}
 use Rattle.pp_counter.specs.Count.{counter, SameAt}
 use Rattle.pp_counter.specs.laws.Legal.{told, legal_where_told, same_given}
-use Rattle.pp_counter.specs.laws.Swapping.{refuting_exact, refuting_by}
+use Rattle.pp_counter.specs.laws.Swapping.{table_tells}
 
 sum_back : (n x : ℤ) → (n +ℤ x) -ℤ x ≡ n
 sum_back n x = omega (arith, ints)
 
 -- Each number is read by `Get`, so no other one allows what it allows.
-numbers_told_apart : (n m : ℤ) → ((k : List CounterOp) → AllowedFrom counter n k → AllowedFrom counter m k) → n ≡ m
-numbers_told_apart n m also = sym (told (Get n) m (also (Get n ∷ []) (legal_where_told (Get n) n refl, tt)).0)
+numbers_told_apart : (n m : ℤ) → AllowsAllOf counter n m → n ≡ m
+numbers_told_apart n m also =
+    sym (told (Get n) m (also (Get n ∷ []) (legal_where_told (Get n) n refl, tt)).0)
 
 -- An operation is ranged where its argument and its recorded result are.
-numbers : (op : CounterOp) → is_ranged op ≡ (has_ranged_arguments (call_of op) && is_ranged_answer (recorded_by op))
+numbers : (op : CounterOp) → is_ranged op
+    ≡ (has_ranged_arguments (call_of op) && is_ranged_answer (recorded_by op))
 numbers (Add by) = sym (and-true (in_range by && in_range (pos 0)) ∙ and-true (in_range by))
 numbers (Get value) = refl
 numbers (FetchAdd by was) = sym (ap (λ (b : Bool). b && in_range was) (and-true (in_range by)))
@@ -36,8 +40,8 @@ counter_lawful = record {
   told_apart = λ n m h k e also. numbers_told_apart n m also;
   one_answer = λ n a b e h k. sym h.1 ∙ same_given n a b e ∙ k.1;
   ranged_numbers = numbers;
-  unrefuted = refuting_exact;
-  refuted = λ a b. refuting_by a b (may_swap a b) refl;
+  unrefuted = unrefuted counter may_swap lists_round table_tells;
+  refuted = refuted counter may_swap lists_round table_tells;
 }
 
 -- The laws of places, of which there is one.

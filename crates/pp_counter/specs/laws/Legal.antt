@@ -1,4 +1,4 @@
--- When an operation of a counter is legal.
+-- Proof machinery: when an operation of a counter is legal.
 use Rattle.std.proofs.Common.{◌≡◌, ℤ, refl, ap, rules}
 use Rattle.pp_core.specs.declared.call.Call.{Call}
 use Rattle.pp_core.specs.declared.answer.Answer.TheVariants.{Number}

@@ -1,4 +1,4 @@
--- A map acts by its keys.
+-- Proof machinery: a map acts by its keys.
 use Rattle.std.proofs.Common.{◌≡◌, ℤ, int_eq, Bool, true, false, cond, Option, Some, None, refl, sym, ◌∙◌, ap, ◌&&◌}
 use Rattle.std.proofs.Math.Bool.{and-true}
 use Rattle.std.specs.Ordering.{int_cmp}
@@ -6,63 +6,51 @@ use Rattle.std.specs.Cmp.{int_cmp_total}
 use Rattle.std.specs.FinMap.{FinMap, get, get-insert, get-remove, same_map, int_cmp-IsAntisymmetric}
 use Rattle.pp_core.specs.declared.call.Call.{Call}
 use Rattle.pp_spec.specs.Numbers.{in_range, has_ranged_arguments, is_ranged_answer}
+use Rattle.pp_spec.specs.Found.{answer_of}
 use Rattle.pp_spec.specs.Object.{IsLegal}
-use Rattle.pp_keyed.specs.Keys.{Keys, IsKeyed}
-use Rattle.pp_keyed.proofs.Rule.{same_key}
+use Rattle.pp_spec.proofs.Results.{same_found, found_numbers}
+use Rattle.pp_keyed.specs.Keys.{IsKeyed}
+use Rattle.pp_keyed.proofs.Rule.{stands_at, covered}
 use Rattle.pp_map.specs.declared.op.MapOp.{MapOp}
 use Rattle.pp_map.specs.declared.op.MapOp.TheVariants.{Put, Get, Remove}
-use Rattle.pp_map.specs.Operations.{key_of, found_by, left_by, call_of, answer_of, recorded_by, given_by, with_value, values_after, values_before, is_ranged_value, is_ranged}
-use Rattle.pp_map.specs.KeyMap.{key_map}
-use Rattle.pp_map.specs.laws.Rule.{alike, alike_is}
+use Rattle.pp_map.specs.Operations.{key_of, found_by, left_by, call_of, recorded_by, given_by, with_value, values_after, values_before, is_ranged}
+use Rattle.pp_map.specs.KeyMap.{key_map, map_keys}
+use Rattle.pp_map.specs.laws.Rule.{alike_is}
 
--- What a map keeps at its keys, and how its operations act there.
-abbrev pub map_keys : Keys (FinMap int_cmp ℤ) MapOp (Option ℤ)
-map_keys = record {
-  cell = get;
-  alike = alike;
-  key = key_of;
-  found = λ op. Some (found_by op);
-  left = left_by;
-  read = λ key found. Get key found;
-}
-
-same_value : (c d : Option ℤ) → answer_of c ≡ answer_of d → c ≡ d
-same_value None None e = refl
-same_value None (Some y) e = cc
-same_value (Some x) None e = cc
-same_value (Some x) (Some y) e = cc
-
-get-with_value : (values : FinMap int_cmp ℤ) (key : ℤ) (v : Option ℤ) (q : ℤ) → get (with_value values key v) q ≡ cond (int_eq q key) v (get values q)
+get-with_value : (values : FinMap int_cmp ℤ) (key : ℤ) (v : Option ℤ) (q : ℤ)
+    → get (with_value values key v) q ≡ cond (int_eq q key) v (get values q)
 get-with_value values key None q = get-remove int_cmp_total values key q
 get-with_value values key (Some x) q = get-insert int_cmp_total values key x q
 
--- What is put back where it stood.
-put_back : (values : FinMap int_cmp ℤ) (key q : ℤ) (was : Option ℤ) (b : Bool) → int_eq q key ≡ b → get values key ≡ was → cond b was (get values q) ≡ get values q
-put_back values key q was true e h = sym h ∙ ap (get values) (sym (same_key q key e))
-put_back values key q was false e h = refl
-
-put_over : (values : FinMap int_cmp ℤ) (key q : ℤ) (was v : Option ℤ) (b : Bool) → int_eq q key ≡ b → get values key ≡ was → cond b was (cond b v (get values q)) ≡ get values q
-put_over values key q was v true e h = put_back values key q was true e h
-put_over values key q was v false e h = refl
-
-next_cell : (values : FinMap int_cmp ℤ) (op : MapOp) (q : ℤ) → IsLegal key_map values op → get (values_after values op) q ≡ cond (int_eq q (key_of op)) (left_by op) (get values q)
+next_cell : (values : FinMap int_cmp ℤ) (op : MapOp) (q : ℤ) → IsLegal key_map values op
+    → get (values_after values op) q ≡ cond (int_eq q (key_of op)) (left_by op) (get values q)
 next_cell values (Put key v was) q h = get-insert int_cmp_total values key v q
-next_cell values (Get key found) q h = sym (put_back values key q found (int_eq q key) refl (same_value (get values key) found h.1))
+next_cell values (Get key found) q h =
+    sym (stands_at (get values) key q found (int_eq q key) refl
+    (same_found (get values key) found h.1))
 next_cell values (Remove key was) q h = get-remove int_cmp_total values key q
 
-back_over : (values : FinMap int_cmp ℤ) (key q : ℤ) (was v : Option ℤ) → get values key ≡ was → get (with_value (with_value values key v) key was) q ≡ get values q
+back_over : (values : FinMap int_cmp ℤ) (key q : ℤ) (was v : Option ℤ) → get values key ≡ was
+    → get (with_value (with_value values key v) key was) q ≡ get values q
 back_over values key q was v h =
-    get-with_value (with_value values key v) key was q ∙ ap (cond (int_eq q key) was) (get-with_value values key v q)
-    ∙ put_over values key q was v (int_eq q key) refl h
+    get-with_value (with_value values key v) key was q
+        ∙ ap (cond (int_eq q key) was) (get-with_value values key v q)
+    ∙ covered (int_eq q key) was v (get values q)
+        ∙ stands_at (get values) key q was (int_eq q key) refl h
 
-back_cell : (values : FinMap int_cmp ℤ) (op : MapOp) (q : ℤ) → IsLegal key_map values op → get (values_before (values_after values op) op) q ≡ get values q
-back_cell values (Put key v was) q h = back_over values key q was (Some v) (same_value (get values key) was h.1)
+back_cell : (values : FinMap int_cmp ℤ) (op : MapOp) (q : ℤ) → IsLegal key_map values op
+    → get (values_before (values_after values op) op) q ≡ get values q
+back_cell values (Put key v was) q h =
+    back_over values key q was (Some v) (same_found (get values key) was h.1)
 back_cell values (Get key found) q h = refl
-back_cell values (Remove key was) q h = back_over values key q was None (same_value (get values key) was h.1)
+back_cell values (Remove key was) q h =
+    back_over values key q was None (same_found (get values key) was h.1)
 
 -- Operations of one call have one key.
-same_given : (values : FinMap int_cmp ℤ) (a b : MapOp) → call_of a ≡ call_of b → given_by values a ≡ given_by values b
-same_given values a b e = ap (λ (q : ℤ). answer_of (get values q)) (sym (first_is_key a) ∙ ap (λ (c : Call). c.first) e ∙ first_is_key b)
+same_given : (values : FinMap int_cmp ℤ) (a b : MapOp) → call_of a ≡ call_of b
+    → given_by values a ≡ given_by values b
+same_given values a b e = ap (λ (q : ℤ). answer_of (get values q))
+    (sym (first_is_key a) ∙ ap (λ (c : Call). c.first) e ∙ first_is_key b)
   where
     first_is_key : (op : MapOp) → (call_of op).first ≡ key_of op
     first_is_key (Put key v was) = refl
@@ -70,21 +58,21 @@ same_given values a b e = ap (λ (q : ℤ). answer_of (get values q)) (sym (firs
     first_is_key (Remove key was) = refl
 
 -- An operation is ranged where its arguments and its recorded result are.
-value_numbers : (v : Option ℤ) → is_ranged_value v ≡ is_ranged_answer (answer_of v)
-value_numbers None = refl
-value_numbers (Some x) = refl
-
-numbers : (op : MapOp) → is_ranged op ≡ (has_ranged_arguments (call_of op) && is_ranged_answer (recorded_by op))
-numbers (Put key v was) = ap (λ (b : Bool). (in_range key && in_range v) && b) (value_numbers was)
-numbers (Get key found) = ap (λ (b : Bool). in_range key && b) (value_numbers found) ∙ ap (λ (b : Bool). b && is_ranged_answer (answer_of found)) (sym (and-true (in_range key)))
-numbers (Remove key was) = ap (λ (b : Bool). in_range key && b) (value_numbers was) ∙ ap (λ (b : Bool). b && is_ranged_answer (answer_of was)) (sym (and-true (in_range key)))
+numbers : (op : MapOp) → is_ranged op
+    ≡ (has_ranged_arguments (call_of op) && is_ranged_answer (recorded_by op))
+numbers (Put key v was) = ap (λ (b : Bool). (in_range key && in_range v) && b) (found_numbers was)
+numbers (Get key found) = ap (λ (b : Bool). in_range key && b) (found_numbers found)
+    ∙ ap (λ (b : Bool). b && is_ranged_answer (answer_of found)) (sym (and-true (in_range key)))
+numbers (Remove key was) = ap (λ (b : Bool). in_range key && b) (found_numbers was)
+    ∙ ap (λ (b : Bool). b && is_ranged_answer (answer_of was)) (sym (and-true (in_range key)))
 
 -- A map acts by its keys.
 pub map_is_keyed : IsKeyed key_map map_keys
 map_is_keyed = record {
   alike_is = alike_is;
   one_state = λ s t is it same. same_map int_cmp_total int_cmp-IsAntisymmetric s t same;
-  legal = λ s a. ((λ h. same_value (get s (key_of a)) (found_by a) h.1), (λ e. (refl, ap answer_of e)));
+  legal = λ s a. ((λ h. same_found (get s (key_of a)) (found_by a) h.1),
+      (λ e. (refl, ap answer_of e)));
   next_cell = next_cell;
   back_cell = back_cell;
   read_key = λ q c. refl;

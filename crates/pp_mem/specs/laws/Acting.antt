@@ -1,4 +1,4 @@
--- How the operations of a memory act at their addresses.
+-- Proof machinery: how the operations of a memory act at their addresses.
 use Rattle.std.proofs.Common.{◌≡◌, ℤ, Bool, true, false, cond, ◌&&◌, ◌↔◌, refl, sym, ◌∙◌, ap, int_eq, arith}
 use Rattle.std.proofs.Math.Bool.{and-true}
 use Rattle.std.proofs.lemmas.Int.{ints}
@@ -9,6 +9,7 @@ use Rattle.pp_core.specs.declared.call.Call.{Call}
 use Rattle.pp_spec.specs.Numbers.{in_range, has_ranged_arguments, is_ranged_answer}
 use Rattle.pp_spec.specs.Object.{IsLegal}
 use Rattle.pp_keyed.specs.Keys.{Finds, IsKeyed}
+use Rattle.pp_keyed.proofs.Rule.{same_key, key_is, stands_at, covered}
 use Rattle.pp_mem.specs.declared.op.MemOp.{MemOp}
 use Rattle.pp_mem.specs.declared.op.MemOp.TheVariants.{Read, Write}
 use Rattle.pp_mem.specs.Values.{value_at, written, HasNoZero}
@@ -16,61 +17,61 @@ use Rattle.pp_mem.specs.Operations.{address_of, found_by, left_by, call_of, reco
 use Rattle.pp_mem.specs.Memories.{memory, addresses}
 use Rattle.pp_mem.specs.laws.Written.{written_at, written_has_no_zero, empty_has_no_zero, one_memory}
 
-one_number : (v w : ℤ) → (int_eq v w ≡ true) ↔ (v ≡ w)
-one_number v w = ((λ e. grind (arith, ints)), (λ e. grind (arith, ints)))
-
 -- An operation is legal exactly where it finds what stands at its address.
-legal_finds : (m : FinMap int_cmp ℤ) (a : MemOp) → IsLegal memory m a → Finds (found_by a) (value_at m (address_of a))
+legal_finds : (m : FinMap int_cmp ℤ) (a : MemOp) → IsLegal memory m a
+    → Finds (found_by a) (value_at m (address_of a))
 legal_finds m (Read a v) h = let k = h.1 in cc
 legal_finds m (Write a v) h = tt
 
-finds_legal : (m : FinMap int_cmp ℤ) (a : MemOp) → Finds (found_by a) (value_at m (address_of a)) → IsLegal memory m a
+finds_legal : (m : FinMap int_cmp ℤ) (a : MemOp) → Finds (found_by a) (value_at m (address_of a))
+    → IsLegal memory m a
 finds_legal m (Read a v) h = (refl, ap Number h)
 finds_legal m (Write a v) h = (refl, refl)
 
 -- What it leaves, and what it leaves when it is taken back.
-read_at : (m : FinMap int_cmp ℤ) (a v q : ℤ) (here : Bool) → int_eq q a ≡ here → value_at m a ≡ v → value_at m q ≡ cond here v (value_at m q)
-read_at m a v q true e h = let f : q ≡ a = grind (arith, ints) in ap (value_at m) f ∙ h
-read_at m a v q false e h = refl
-
-next_at : (m : FinMap int_cmp ℤ) (a : MemOp) (q : ℤ) → IsLegal memory m a → value_at (memory_after m a) q ≡ cond (int_eq q (address_of a)) (left_by a) (value_at m q)
-next_at m (Read a v) q h = read_at m a v q (int_eq q a) refl (legal_finds m (Read a v) h)
+next_at : (m : FinMap int_cmp ℤ) (a : MemOp) (q : ℤ) → IsLegal memory m a
+    → value_at (memory_after m a) q ≡ cond (int_eq q (address_of a)) (left_by a) (value_at m q)
+next_at m (Read a v) q h = sym
+    (stands_at (value_at m) a q v (int_eq q a) refl (legal_finds m (Read a v) h))
 next_at m (Write a v) q h = written_at m a v q
 
-covered_at : (m : FinMap int_cmp ℤ) (a v q : ℤ) (here : Bool) → int_eq q a ≡ here → cond here (value_at m a) (cond here v (value_at m q)) ≡ value_at m q
-covered_at m a v q true e = let f : q ≡ a = grind (arith, ints) in ap (value_at m) (sym f)
-covered_at m a v q false e = refl
-
-back_at : (m : FinMap int_cmp ℤ) (a : MemOp) (q : ℤ) → value_at (memory_before (memory_after m a) a (kept_by m a)) q ≡ value_at m q
+back_at : (m : FinMap int_cmp ℤ) (a : MemOp) (q : ℤ)
+    → value_at (memory_before (memory_after m a) a (kept_by m a)) q ≡ value_at m q
 back_at m (Read a v) q = refl
 back_at m (Write a v) q =
-    written_at (written m a v) a (value_at m a) q ∙ ap (cond (int_eq q a) (value_at m a)) (written_at m a v q) ∙ covered_at m a v q (int_eq q a) refl
+    written_at (written m a v) a (value_at m a) q
+        ∙ ap (cond (int_eq q a) (value_at m a)) (written_at m a v q) 
+    ∙ covered (int_eq q a) (value_at m a) v (value_at m q)
+        ∙ stands_at (value_at m) a q (value_at m a) (int_eq q a) refl refl
 
 -- No 0 is kept by any of them.
 next_has_no_zero : (m : FinMap int_cmp ℤ) (a : MemOp) → HasNoZero m → HasNoZero (memory_after m a)
 next_has_no_zero m (Read a v) h = h
 next_has_no_zero m (Write a v) h = written_has_no_zero m a v h
 
-back_has_no_zero : (m : FinMap int_cmp ℤ) (a : MemOp) (u : ℤ) → HasNoZero m → HasNoZero (memory_before m a u)
+back_has_no_zero : (m : FinMap int_cmp ℤ) (a : MemOp) (u : ℤ) → HasNoZero m
+    → HasNoZero (memory_before m a u)
 back_has_no_zero m (Read a v) u h = h
 back_has_no_zero m (Write a v) u h = written_has_no_zero m a u h
 
 -- Operations of one call are given one answer.
-same_given : (m : FinMap int_cmp ℤ) (a b : MemOp) → call_of a ≡ call_of b → given_by m a ≡ given_by m b
+same_given : (m : FinMap int_cmp ℤ) (a b : MemOp) → call_of a ≡ call_of b
+    → given_by m a ≡ given_by m b
 same_given m (Read a v) (Read b w) h = ap (λ (c : Call). Number (value_at m c.first)) h
 same_given m (Write a v) (Write b w) h = refl
 same_given m (Read a v) (Write b w) h = let e = ap (λ (c : Call). c.method) h in cc
 same_given m (Write a v) (Read b w) h = let e = ap (λ (c : Call). c.method) h in cc
 
 -- An operation is ranged where its arguments and its recorded result are.
-numbers : (a : MemOp) → is_ranged a ≡ (has_ranged_arguments (call_of a) && is_ranged_answer (recorded_by a))
+numbers : (a : MemOp) → is_ranged a
+    ≡ (has_ranged_arguments (call_of a) && is_ranged_answer (recorded_by a))
 numbers (Read a v) = ap (λ (b : Bool). b && in_range v) (sym (and-true (in_range a)))
 numbers (Write a v) = sym (and-true (in_range a && in_range v))
 
 -- A memory acts by its addresses.
 pub memory_keyed : IsKeyed memory addresses
 memory_keyed = record {
-  alike_is = one_number;
+  alike_is = λ v w. (same_key v w, key_is v w);
   one_state = one_memory;
   legal = λ m a. (legal_finds m a, finds_legal m a);
   next_cell = next_at;
@@ -79,7 +80,8 @@ memory_keyed = record {
   read_found = λ q c. refl;
   start_is_state = empty_has_no_zero;
   next_is_state = λ m a is h. next_has_no_zero m a is;
-  back_is_state = λ m a is h. back_has_no_zero (memory_after m a) a (kept_by m a) (next_has_no_zero m a is);
+  back_is_state = λ m a is h. back_has_no_zero (memory_after m a) a (kept_by m a)
+      (next_has_no_zero m a is);
   one_given = same_given;
   ranged_numbers = numbers;
 }

@@ -1,4 +1,4 @@
--- The objects of a run are lawful, and each operation has one place.
+-- Proof machinery: the objects of a run are lawful, and each operation has one place.
 use Rattle.std.proofs.Common.{◌≡◌, ℕ, zero, suc, Bool, true, false, nat_eq, IsTrue, List, [], ◌∷◌, ◌++◌, map, set, Option, Some, None, option_map, ◌↔◌, refl, sym, ◌∙◌, ap, subst, inl, inr, ◌⊎◌, if◌then◌else◌, arith}
 use Rattle.std.proofs.lemmas.Bool.Decides.{nat_tests}
 use Rattle.std.proofs.lemmas.List.{map-append, set-set}
@@ -6,7 +6,7 @@ use Rattle.std.proofs.lemmas.Option.{slice_get-map}
 use Rattle.std.specs.List.{slice_get}
 use Rattle.pp_core.specs.declared.call.Call.{Call}
 use Rattle.pp_core.specs.declared.call.Kind.{Kind}
-use Rattle.pp_spec.specs.Object.{Object, IsLegal, AllowedFrom, IsAllowed, AllRanged, Swaps, IsRefutedBy, IsLawful, IsPlaced}
+use Rattle.pp_spec.specs.Object.{Object, IsLegal, AllowedFrom, IsAllowed, AllRanged, Swaps, IsRefutedBy, IsLawful, IsPlaced, AllowsAllOf}
 use Rattle.pp_object.specs.declared.act.Act.{Act}
 use Rattle.pp_object.specs.declared.act.Op.{Op}
 use Rattle.pp_object.specs.declared.states.ObjectState.{ObjectState}
@@ -15,43 +15,43 @@ use Rattle.pp_object.specs.One.{one, both_as}
 use Rattle.pp_object.specs.Objects.{many, objects, place_of, SameAt, fits_in, gives_in, kept_in, put, act_at}
 use Rattle.pp_object.specs.laws.Elements.{same_place, same_some, set_own, same_list, get_put, put_other}
 use Rattle.pp_object.specs.laws.Places.{legal_there, next_is, next_there, next_other, next_shapes, start_shapes, start_at, allowed_at, allowed_alone, others_swap, swaps_at, swaps_alone}
-use Rattle.pp_object.specs.laws.One.{one_lawful, call_has_no_place}
+use Rattle.pp_object.specs.laws.One.{one_lawful, call_has_no_place, none_as}
 
 -- a call at the object 0 is told by its other parts
 plain : (c : Call) → c.object ≡ 0 → record c { object = 0 } ≡ c
 plain c h = ap (λ (n : ℕ). record c { object = n }) (sym h)
 
 module _ (o : Object Kind ObjectState Act Undo) (laws : IsLawful o) (no_place : (a : Act) → (o.call a).object ≡ 0) where
-  start_states : (kinds : List Kind) (p : ℕ) (s : ObjectState) → slice_get (map o.start kinds) p ≡ Some s → o.IsState s
+  start_states : (kinds : List Kind) (p : ℕ) (s : ObjectState) → slice_get (map o.start kinds) p ≡ Some s → o.upkeep.IsState s
   start_states [] p s h = absurd (cc)
-  start_states (q ∷ kinds) zero s h = subst (λ (t : ObjectState). o.IsState t) (same_some (o.start q) s h) (laws.start_is_state q)
+  start_states (q ∷ kinds) zero s h = subst (λ (t : ObjectState). o.upkeep.IsState t) (same_some (o.start q) s h) (laws.start_is_state q)
   start_states (q ∷ kinds) (suc p) s h = start_states kinds p s h
 
-  next_states_by : (ss : List ObjectState) (x : Op) → (many o).IsState ss → IsLegal (many o) ss x → (p : ℕ) (s : ObjectState) → (p ≡ x.object) ⊎ (p ≡ x.object → ⊥) → slice_get ((many o).next ss x) p ≡ Some s → o.IsState s
+  next_states_by : (ss : List ObjectState) (x : Op) → (many o).upkeep.IsState ss → IsLegal (many o) ss x → (p : ℕ) (s : ObjectState) → (p ≡ x.object) ⊎ (p ≡ x.object → ⊥) → slice_get ((many o).next ss x) p ≡ Some s → o.upkeep.IsState s
   next_states_by ss x states h p s (inl e) there =
       let t = legal_there o laws ss x h in
       let at : slice_get ((many o).next ss x) x.object ≡ Some s = subst (λ (q : ℕ). slice_get ((many o).next ss x) q ≡ Some s) e there in
-      subst (λ (r : ObjectState). o.IsState r) (same_some (o.next t.0 x.act) s (sym (next_there o laws ss x t.0 t.1) ∙ at)) (laws.next_is_state t.0 x.act (states x.object t.0 t.1) t.2)
+      subst (λ (r : ObjectState). o.upkeep.IsState r) (same_some (o.next t.0 x.act) s (sym (next_there o laws ss x t.0 t.1) ∙ at)) (laws.next_is_state t.0 x.act (states x.object t.0 t.1) t.2)
   next_states_by ss x states h p s (inr other) there =
       let t = legal_there o laws ss x h in
       states p s (sym (next_other o laws ss x t.0 p t.1 other) ∙ there)
 
-  back_is : (ss : List ObjectState) (x : Op) (u : Undo) (s : ObjectState) → slice_get ss x.object ≡ Some s → (many o).back ss x u ≡ set ss x.object (o.back s x.act u)
-  back_is ss x u s e = ap (λ (t : Option ObjectState). put ss x.object (option_map (λ r. o.back r x.act u) t)) e
+  back_is : (ss : List ObjectState) (x : Op) (u : Undo) (s : ObjectState) → slice_get ss x.object ≡ Some s → (many o).upkeep.back ss x u ≡ set ss x.object (o.upkeep.back s x.act u)
+  back_is ss x u s e = ap (λ (t : Option ObjectState). put ss x.object (option_map (λ r. o.upkeep.back r x.act u) t)) e
 
-  taken_back : (ss : List ObjectState) (x : Op) → (many o).IsState ss → IsLegal (many o) ss x → (many o).back ((many o).next ss x) x ((many o).kept ss x) ≡ ss
+  taken_back : (ss : List ObjectState) (x : Op) → (many o).upkeep.IsState ss → IsLegal (many o) ss x → (many o).upkeep.back ((many o).next ss x) x ((many o).upkeep.kept ss x) ≡ ss
   taken_back ss x states h =
       let t = legal_there o laws ss x h in
-      let u = (many o).kept ss x in
+      let u = (many o).upkeep.kept ss x in
       back_is ((many o).next ss x) x u (o.next t.0 x.act) (next_there o laws ss x t.0 t.1)
-      ∙ ap (λ (ts : List ObjectState). set ts x.object (o.back (o.next t.0 x.act) x.act u)) (next_is o laws ss x t.0 t.1)
-      ∙ set-set ss x.object (o.next t.0 x.act) (o.back (o.next t.0 x.act) x.act u)
-      ∙ ap (λ (r : Option ObjectState). set ss x.object (o.back (o.next t.0 x.act) x.act (kept_in o r x.act))) t.1
+      ∙ ap (λ (ts : List ObjectState). set ts x.object (o.upkeep.back (o.next t.0 x.act) x.act u)) (next_is o laws ss x t.0 t.1)
+      ∙ set-set ss x.object (o.next t.0 x.act) (o.upkeep.back (o.next t.0 x.act) x.act u)
+      ∙ ap (λ (r : Option ObjectState). set ss x.object (o.upkeep.back (o.next t.0 x.act) x.act (kept_in o r x.act))) t.1
       ∙ ap (λ (s : ObjectState). set ss x.object s) (laws.taken_back t.0 x.act (states x.object t.0 t.1) t.2)
       ∙ set_own ss x.object t.0 t.1
 
   -- states of one shape with another object at a place are told apart there
-  told_by : (ss ts : List ObjectState) (p : ℕ) (s t : Option ObjectState) → (many o).IsState ss → (many o).IsState ts → ((l : List Op) → AllowedFrom (many o) ss l → AllowedFrom (many o) ts l) → slice_get ss p ≡ s → slice_get ts p ≡ t → option_map o.shape s ≡ option_map o.shape t → s ≡ t
+  told_by : (ss ts : List ObjectState) (p : ℕ) (s t : Option ObjectState) → (many o).upkeep.IsState ss → (many o).upkeep.IsState ts → AllowsAllOf (many o) ss ts → slice_get ss p ≡ s → slice_get ts p ≡ t → option_map o.shape s ≡ option_map o.shape t → s ≡ t
   told_by ss ts p None None i j also e f h = refl
   told_by ss ts p None (Some t) i j also e f h = absurd (cc)
   told_by ss ts p (Some s) None i j also e f h = absurd (cc)
@@ -60,7 +60,7 @@ module _ (o : Object Kind ObjectState Act Undo) (laws : IsLawful o) (no_place : 
       (laws.told_apart s t (i p s e) (j p t f) (same_some (o.shape s) (o.shape t) h)
       (λ l g. allowed_alone o laws p l ts t f (also (map (act_at p) l) (allowed_at o laws p l ss s e g))))
 
-  told_apart : (ss ts : List ObjectState) → (many o).IsState ss → (many o).IsState ts → map o.shape ss ≡ map o.shape ts → ((l : List Op) → AllowedFrom (many o) ss l → AllowedFrom (many o) ts l) → ss ≡ ts
+  told_apart : (ss ts : List ObjectState) → (many o).upkeep.IsState ss → (many o).upkeep.IsState ts → map o.shape ss ≡ map o.shape ts → AllowsAllOf (many o) ss ts → ss ≡ ts
   told_apart ss ts i j e also =
       same_list ss ts
       (λ p. told_by ss ts p (slice_get ss p) (slice_get ts p) i j also refl refl (sym (slice_get-map o.shape ss p) ∙ ap (λ (l : List Kind). slice_get l p) e ∙ slice_get-map o.shape ts p))
@@ -101,10 +101,6 @@ module _ (o : Object Kind ObjectState Act Undo) (laws : IsLawful o) (no_place : 
         ranged_after = λ f g. ranged_at p lists.1 (h.ranged_after f g);
       }
 
-  none_as : (p : ℕ) (r : Option (List Act × List Act)) → both_as (act_at p) r ≡ None → r ≡ None
-  none_as p None h = refl
-  none_as p (Some lists) h = absurd (cc)
-
   -- there are lists for a pair exactly where it does not swap, and they refute it
   IsExact : Op → Op → Option (List Op × List Op) → Type 0
   IsExact a b lists = ((lists ≡ None) ↔ Swaps (many o) a b) × IsRefutedBy (many o) a b lists
@@ -113,7 +109,7 @@ module _ (o : Object Kind ObjectState Act Undo) (laws : IsLawful o) (no_place : 
   unfolding IsExact
   exact_at p a b = (
     (
-      (λ h. swaps_at o laws p a b ((laws.unrefuted a b).0 (none_as p (o.refuting a b) h))),
+      (λ h. swaps_at o laws p a b ((laws.unrefuted a b).0 (none_as (act_at p) (o.refuting a b) h))),
       (λ h. ap (λ (r : Option (List Act × List Act)). both_as (act_at p) r) ((laws.unrefuted a b).1 (swaps_alone o laws p a b h))),
     ),
     refuted_at p a b (o.refuting a b) (laws.refuted a b),
@@ -154,9 +150,9 @@ module _ (o : Object Kind ObjectState Act Undo) (laws : IsLawful o) (no_place : 
     gives_there = λ ss ts a h. ap (λ (t : Option ObjectState). gives_in o t a.act) h;
     kept_there = λ ss ts a h. ap (λ (t : Option ObjectState). kept_in o t a.act) h;
     next_there = λ ss ts a h. get_put (λ s. o.next s a.act) ss a.object ∙ ap (λ (t : Option ObjectState). option_map (λ s. o.next s a.act) t) h ∙ sym (get_put (λ s. o.next s a.act) ts a.object);
-    back_there = λ ss ts a u h. get_put (λ s. o.back s a.act u) ss a.object ∙ ap (λ (t : Option ObjectState). option_map (λ s. o.back s a.act u) t) h ∙ sym (get_put (λ s. o.back s a.act u) ts a.object);
+    back_there = λ ss ts a u h. get_put (λ s. o.upkeep.back s a.act u) ss a.object ∙ ap (λ (t : Option ObjectState). option_map (λ s. o.upkeep.back s a.act u) t) h ∙ sym (get_put (λ s. o.upkeep.back s a.act u) ts a.object);
     next_elsewhere = λ ss a p other. put_other ss a.object p (option_map (λ s. o.next s a.act) (slice_get ss a.object)) other;
-    back_elsewhere = λ ss a u p other. put_other ss a.object p (option_map (λ s. o.back s a.act u) (slice_get ss a.object)) other;
+    back_elsewhere = λ ss a u p other. put_other ss a.object p (option_map (λ s. o.upkeep.back s a.act u) (slice_get ss a.object)) other;
   }
 
 -- The objects of a run obey the laws of a kind, and the laws of places.

@@ -1,19 +1,18 @@
--- What an operation does at its place, and that it does nothing elsewhere.
+-- Proof machinery: what an operation does at its place, and that it does nothing elsewhere.
 use Rattle.std.proofs.Common.{◌≡◌, ℕ, ◌≤◌, suc, IsTrue, List, [], ◌∷◌, length, map, set, replicate, Option, Some, None, option_map, refl, sym, ◌∙◌, ap, subst, inl, inr, ◌⊎◌, arith}
 use Rattle.std.proofs.lemmas.List.{set-set}
 use Rattle.std.proofs.lemmas.Option.{slice_get-map}
 use Rattle.std.specs.List.{slice_get}
 use Rattle.pp_core.specs.declared.call.Kind.{Kind}
 use Rattle.pp_spec.specs.Calls.{WasApplied}
-use Rattle.pp_spec.specs.Object.{Object, IsLegal, AllowedFrom, state_from, state_after, AllRanged, IsLawful, IsReached, Swaps, Commutes}
-use Rattle.pp_spec.proofs.Lists.{commuting_swap}
+use Rattle.pp_spec.specs.Object.{Object, IsLegal, AllowedFrom, state_from, state_after, AllRanged, IsLawful, IsReached, Swaps, Commutes, AllowsAllOf}
+use Rattle.pp_spec.proofs.Lists.{commuting_swap, keeps_shape, MayTurn, turned_there, swaps_where_turned}
 use Rattle.pp_object.specs.declared.act.Act.{Act}
 use Rattle.pp_object.specs.declared.act.Op.{Op}
 use Rattle.pp_object.specs.declared.states.ObjectState.{ObjectState}
 use Rattle.pp_object.specs.declared.states.Undo.{Undo}
 use Rattle.pp_object.specs.Objects.{many, fits_in, gives_in, kept_in, put, act_at}
 use Rattle.pp_object.specs.laws.Elements.{same_place, same_some, get_set, get_other, set_turned, map_set, get_replicate}
-use Rattle.pp_object.specs.laws.Lists.{keeps_shape, turned_there, swaps_where_turned}
 
 module _ (o : Object Kind ObjectState Act Undo) (laws : IsLawful o) where
   -- an operation is legal where its act is legal at its place
@@ -165,8 +164,8 @@ module _ (o : Object Kind ObjectState Act Undo) (laws : IsLawful o) where
   others_swap a b apart = commuting_swap (many o) a b (others_commute a b apart)
 
   -- where all that is allowed behind s is allowed behind t, all that is allowed where s stands is allowed where t stands
-  carried_by : (p : ℕ) (l : List Op) (ss : List ObjectState) (x : Op) (s t : ObjectState) → (p ≡ x.object) ⊎ (p ≡ x.object → ⊥) → slice_get ss p ≡ Some s → o.shape s ≡ o.shape t → ((m : List Act) → AllowedFrom o s m → AllowedFrom o t m)
-      → ((ts : List ObjectState) (u v : ObjectState) → slice_get ts p ≡ Some u → o.shape u ≡ o.shape v → ((m : List Act) → AllowedFrom o u m → AllowedFrom o v m) → AllowedFrom (many o) ts l → AllowedFrom (many o) (set ts p v) l)
+  carried_by : (p : ℕ) (l : List Op) (ss : List ObjectState) (x : Op) (s t : ObjectState) → (p ≡ x.object) ⊎ (p ≡ x.object → ⊥) → slice_get ss p ≡ Some s → o.shape s ≡ o.shape t → AllowsAllOf o s t
+      → ((ts : List ObjectState) (u v : ObjectState) → slice_get ts p ≡ Some u → o.shape u ≡ o.shape v → AllowsAllOf o u v → AllowedFrom (many o) ts l → AllowedFrom (many o) (set ts p v) l)
       → AllowedFrom (many o) ss (x ∷ l) → AllowedFrom (many o) (set ss p t) (x ∷ l)
   carried_by p l ss x s t (inl e) there same behind rest h =
       let P : ℕ → Type 0 = λ q. AllowedFrom (many o) (set ss q t) (x ∷ l) in
@@ -199,12 +198,12 @@ module _ (o : Object Kind ObjectState Act Undo) (laws : IsLawful o) where
       ∙ sym (next_is (set ss p t) x r.0 at) in
       (legal_from (set ss p t) x r.0 at r.2, subst Q left after)
 
-  carried : (p : ℕ) (l : List Op) (ss : List ObjectState) (s t : ObjectState) → slice_get ss p ≡ Some s → o.shape s ≡ o.shape t → ((m : List Act) → AllowedFrom o s m → AllowedFrom o t m) → AllowedFrom (many o) ss l → AllowedFrom (many o) (set ss p t) l
+  carried : (p : ℕ) (l : List Op) (ss : List ObjectState) (s t : ObjectState) → slice_get ss p ≡ Some s → o.shape s ≡ o.shape t → AllowsAllOf o s t → AllowedFrom (many o) ss l → AllowedFrom (many o) (set ss p t) l
   carried p [] ss s t e same behind h = tt
   carried p (x ∷ l) ss s t e same behind h = carried_by p l ss x s t (same_place p x.object) e same behind (λ ts u v f g k. carried p l ts u v f g k) h
 
   -- acts of one place may be turned where they may be turned by themselves
-  turned_at : (p : ℕ) (a b : Act) (ss : List ObjectState) (s : ObjectState) → slice_get ss p ≡ Some s → ((m : List Act) → AllowedFrom o s (a ∷ b ∷ m) → AllowedFrom o s (b ∷ a ∷ m)) → (l : List Op) → AllowedFrom (many o) ss (act_at p a ∷ act_at p b ∷ l) → AllowedFrom (many o) ss (act_at p b ∷ act_at p a ∷ l)
+  turned_at : (p : ℕ) (a b : Act) (ss : List ObjectState) (s : ObjectState) → slice_get ss p ≡ Some s → MayTurn o s a b → MayTurn (many o) ss (act_at p a) (act_at p b)
   turned_at p a b ss s e turned l h =
       let first = allowed_alone p (a ∷ b ∷ []) ss s e (h.0, (h.1.0, tt)) in
       let second = turned [] first in

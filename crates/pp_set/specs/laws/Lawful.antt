@@ -1,9 +1,10 @@
--- The table of a set is the rule of its keys, and so a set is lawful.
+-- Proof machinery: the table of a set is the rule of its keys, and so a set is lawful.
 use Rattle.std.proofs.Common.{◌≡◌, ℤ, Bool, true, false, IsTrue, if◌then◌else◌, ◌↔◌, Some, None, refl, ap, int_eq}
 use Rattle.std.specs.FinMap.{empty}
 use Rattle.pp_spec.specs.Numbers.{in_range}
 use Rattle.pp_spec.specs.Object.{AllRanged, IsAllowed, state_after, Swaps, SwapsNowhere, IsLawful}
-use Rattle.pp_keyed.specs.Keys.{rule, IsShown}
+use Rattle.pp_spec.proofs.Tests.{IsTold, swaps_exact, swaps_nowhere}
+use Rattle.pp_keyed.specs.Keys.{rule_lets, IsShown}
 use Rattle.pp_keyed.proofs.Acting.{left_here, shows_where_told}
 use Rattle.pp_keyed.proofs.Lawful as keyed
 use Rattle.pp_set.specs.declared.op.SetOp.{SetOp}
@@ -16,12 +17,10 @@ use Rattle.pp_set.specs.Sets.{key_set, same_bit, bits}
 use Rattle.pp_set.specs.laws.Bits.{empty_at}
 use Rattle.pp_set.specs.laws.Acting.{set_keyed}
 
--- whether the rule lets two operations on one key change places
-abbrev by_rule : SetOp → SetOp → Bool
-by_rule a b = rule same_bit (Some (bit_before a)) (bit_after a) (Some (bit_before b)) (bit_after b)
-
 -- what holds of each form holds of each operation
-each_form : (P : SetOp → Type 0) → ((k : ℤ) → P (Add k true)) → ((k : ℤ) → P (Add k false)) → ((k : ℤ) → P (Remove k true)) → ((k : ℤ) → P (Remove k false)) → ((k : ℤ) → P (Contains k true)) → ((k : ℤ) → P (Contains k false)) → (a : SetOp) → P a
+each_form : (P : SetOp → Type 0) → ((k : ℤ) → P (Add k true)) → ((k : ℤ) → P (Add k false))
+    → ((k : ℤ) → P (Remove k true)) → ((k : ℤ) → P (Remove k false))
+    → ((k : ℤ) → P (Contains k true)) → ((k : ℤ) → P (Contains k false)) → (a : SetOp) → P a
 each_form P p q r s t u (Add k true) = p k
 each_form P p q r s t u (Add k false) = q k
 each_form P p q r s t u (Remove k true) = r k
@@ -31,18 +30,26 @@ each_form P p q r s t u (Contains k false) = u k
 
 -- The table says what the rule says, as computing both for each pair of forms shows.
 abbrev Agrees : SetOp → SetOp → Type 0
-Agrees a b = may_swap_there a b ≡ by_rule a b
+Agrees a b = may_swap_there a b ≡ rule_lets bits a b
 
 table_is_rule : (a b : SetOp) → Agrees a b
-table_is_rule (Add j true) = each_form (Agrees (Add j true)) (λ k. refl) (λ k. refl) (λ k. refl) (λ k. refl) (λ k. refl) (λ k. refl)
-table_is_rule (Add j false) = each_form (Agrees (Add j false)) (λ k. refl) (λ k. refl) (λ k. refl) (λ k. refl) (λ k. refl) (λ k. refl)
-table_is_rule (Remove j true) = each_form (Agrees (Remove j true)) (λ k. refl) (λ k. refl) (λ k. refl) (λ k. refl) (λ k. refl) (λ k. refl)
-table_is_rule (Remove j false) = each_form (Agrees (Remove j false)) (λ k. refl) (λ k. refl) (λ k. refl) (λ k. refl) (λ k. refl) (λ k. refl)
-table_is_rule (Contains j true) = each_form (Agrees (Contains j true)) (λ k. refl) (λ k. refl) (λ k. refl) (λ k. refl) (λ k. refl) (λ k. refl)
-table_is_rule (Contains j false) = each_form (Agrees (Contains j false)) (λ k. refl) (λ k. refl) (λ k. refl) (λ k. refl) (λ k. refl) (λ k. refl)
-
-some_is_there : (c : Bool) → Some c ≡ None → ⊥
-some_is_there c e = cc
+table_is_rule (Add j true) = each_form (Agrees (Add j true)) (λ k. refl) (λ k. refl) (λ k. refl)
+    (λ k. refl) (λ k. refl) (λ k. refl)
+table_is_rule (Add j false) =
+    each_form (Agrees (Add j false)) (λ k. refl) (λ k. refl) (λ k. refl) (λ k. refl) (λ k. refl)
+    (λ k. refl)
+table_is_rule (Remove j true) =
+    each_form (Agrees (Remove j true)) (λ k. refl) (λ k. refl) (λ k. refl) (λ k. refl) (λ k. refl)
+    (λ k. refl)
+table_is_rule (Remove j false) =
+    each_form (Agrees (Remove j false)) (λ k. refl) (λ k. refl) (λ k. refl) (λ k. refl) (λ k. refl)
+    (λ k. refl)
+table_is_rule (Contains j true) =
+    each_form (Agrees (Contains j true)) (λ k. refl) (λ k. refl) (λ k. refl) (λ k. refl) (λ k. refl)
+    (λ k. refl)
+table_is_rule (Contains j false) =
+    each_form (Agrees (Contains j false)) (λ k. refl) (λ k. refl) (λ k. refl) (λ k. refl)
+    (λ k. refl) (λ k. refl)
 
 -- The operations lead the key there.
 reach_allowed : (k : ℤ) (c : Bool) → IsAllowed key_set tt (reach k c)
@@ -50,7 +57,8 @@ reach_allowed k true = ((set_keyed.legal empty (Add k true)).1 (empty_at k), tt)
 reach_allowed k false = tt
 
 reach_stands : (k : ℤ) (c : Bool) → contains (state_after key_set tt (reach k c)) k ≡ c
-reach_stands k true = left_here key_set bits set_keyed empty (Add k true) k refl ((set_keyed.legal empty (Add k true)).1 (empty_at k))
+reach_stands k true = left_here key_set bits set_keyed empty (Add k true) k refl
+    ((set_keyed.legal empty (Add k true)).1 (empty_at k))
 reach_stands k false = empty_at k
 
 reach_ranged : (k : ℤ) (c : Bool) → IsTrue (in_range k) → AllRanged key_set (reach k c)
@@ -60,19 +68,24 @@ reach_ranged k false h = tt
 set_shown : IsShown key_set bits may_swap lists_round
 set_shown = record {
   by_table = λ a b. refl;
-  by_rule = λ a b. ap (λ (t : Bool). if int_eq (key_of a) (key_of b) then t else true) (table_is_rule a b);
-  shown = λ a b e t. shows_where_told key_set bits set_keyed a b (reach (key_of a) (bit_before a)) (bit_before a) refl (λ n. absurd (some_is_there (bit_before b) n)) t (reach_allowed (key_of a) (bit_before a)) (reach_stands (key_of a) (bit_before a));
+  by_rule = λ a b. ap (λ (t : Bool). if int_eq (key_of a) (key_of b) then t else true)
+      (table_is_rule a b);
+  shown = λ a b e t. shows_where_told key_set bits set_keyed a b (reach (key_of a) (bit_before a))
+      (bit_before a) refl (λ n. absurd (cc)) t (reach_allowed (key_of a) (bit_before a))
+      (reach_stands (key_of a) (bit_before a));
   ranged_before = λ a b h k. reach_ranged (key_of a) (bit_before a) h;
   ranged_after = λ a b h k. tt;
 }
 
 -- The pair swaps exactly where the table lets it, and else nowhere.
+told : IsTold key_set may_swap lists_round
+told = keyed.table_tells key_set bits may_swap lists_round set_keyed set_shown
+
 pub may_swap_exact : (a b : SetOp) → (may_swap a b ≡ true) ↔ Swaps key_set a b
-may_swap_exact = keyed.swaps_exact key_set bits may_swap lists_round set_keyed set_shown
+may_swap_exact = swaps_exact key_set may_swap lists_round told
 
 pub may_not_swap : (a b : SetOp) → may_swap a b ≡ false → SwapsNowhere key_set a b
-may_not_swap = keyed.swaps_nowhere key_set bits may_swap lists_round set_keyed set_shown
+may_not_swap = swaps_nowhere key_set may_swap lists_round told
 
--- The laws of a set.
 pub set_lawful : IsLawful key_set
 set_lawful = keyed.keyed_lawful key_set bits may_swap lists_round set_keyed set_shown

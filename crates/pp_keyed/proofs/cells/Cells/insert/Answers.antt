@@ -9,6 +9,10 @@ returns-clause-ok c =
     let fits : FitsSigned w64 c.args.key = search rules in
     let number_fits : FitsSigned w64 c.args.number = search rules in
     elim c.match-insert.branch [
-      | in-Ok w ↦ rw w.result-is (inserted_seen c.self.inside.entries.entries c.insert.new.self.entries c.args.self.now c.args.key (to_z w64 (of_z w64 c.args.key)) c.args.number (to_z w64 (of_z w64 c.args.number)) c.self.view_is (to_z-of_z w64 c.args.key fits) (to_z-of_z w64 c.args.number number_fits) w.in-Ok.ensures.updates.0)
+      | in-Ok w ↦ rw w.result-is (inserted_seen c.self.inside.entries.entries
+          c.insert.new.self.entries c.args.self.now c.args.key
+          (to_z w64 (of_z w64 c.args.key)) c.args.number
+          (to_z w64 (of_z w64 c.args.number)) c.self.view_is (to_z-of_z w64 c.args.key fits)
+          (to_z-of_z w64 c.args.number number_fits) w.in-Ok.ensures.updates.0)
       | in-Err w ↦ rw w.result-is tt
     ]

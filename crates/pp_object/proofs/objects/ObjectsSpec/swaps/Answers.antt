@@ -1,6 +1,6 @@
 use Rattle.pp_object.specs.Objects.{objects}
 use Rattle.pp_object.specs.laws.Objects.{objects_lawful}
-use Rattle.pp_object.proofs.Alone.{swaps_nowhere}
+use Rattle.pp_spec.proofs.Places.{swaps_nowhere}
 use Rattle.pp_object.proofs.objects.ObjectsSpec.swaps.Goals as goal
 
 pub returns-clause-never : goal.returns-clause-never

@@ -1,6 +1,6 @@
 use Rattle.pp_object.specs.One.{one}
 use Rattle.pp_object.specs.laws.One.{one_lawful}
-use Rattle.pp_object.proofs.Alone.{swaps_nowhere}
+use Rattle.pp_spec.proofs.Places.{swaps_nowhere}
 use Rattle.pp_object.proofs.one.OneObjectSpec.swaps.Goals as goal
 
 pub returns-clause-never : goal.returns-clause-never

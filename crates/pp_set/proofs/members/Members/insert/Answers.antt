@@ -8,6 +8,8 @@ pub returns-clause-ok : goal.returns-clause-ok
 returns-clause-ok c =
     let fits : FitsSigned w64 c.args.key = search rules in
     elim c.match-insert.branch [
-      | in-Ok w ↦ rw w.result-is (inserted_seen c.self.inside.keys.keys c.insert.new.self.keys c.args.self.now c.args.key (to_z w64 (of_z w64 c.args.key)) c.self.view_is (to_z-of_z w64 c.args.key fits) w.in-Ok.ensures.updates.0)
+      | in-Ok w ↦ rw w.result-is (inserted_seen c.self.inside.keys.keys c.insert.new.self.keys
+          c.args.self.now c.args.key (to_z w64 (of_z w64 c.args.key)) c.self.view_is
+          (to_z-of_z w64 c.args.key fits) w.in-Ok.ensures.updates.0)
       | in-Err w ↦ rw w.result-is tt
     ]
