@@ -1,4 +1,4 @@
--- Meaning: operations that show that a pair may not change places.
+-- Meaning: operations that show that a pair does not swap.
 use Rattle.std.specs.Prelude.{ℤ, pos, negsuc, ◌+ℤ◌, ◌-ℤ◌, Bool, true, false, int_lt, if◌then◌else◌, List, [], ◌∷◌, Option, Some, None}
 use Rattle.std.specs.Ordering.{int_eq}
 use Rattle.pp_spec.specs.Numbers.{in_range}
@@ -20,7 +20,7 @@ reach_by false false false x =
 abbrev pub reach : ℤ → List CounterOp
 reach x = reach_by (int_eq x (pos 0)) (in_range x) (int_lt (pos 0) x) x
 
--- the number at which a pair that may not change places is legal
+-- the number at which a pair that does not swap is legal
 abbrev pub pair_begins : CounterOp → CounterOp → ℤ
 pair_begins (Get value) b = value
 pair_begins (FetchAdd by was) b = was

@@ -1,4 +1,4 @@
--- Meaning: which operations of a counter may change places, by a table.
+-- Meaning: which operations of a counter swap, by a table.
 use Rattle.std.specs.Prelude.{pos, ◌+ℤ◌, ℕ, Bool, List, [], ◌∷◌}
 use Rattle.pp_table.specs.declared.table.Condition.{Condition}
 use Rattle.pp_table.specs.declared.table.Condition.TheVariants.{Always, Chain, FirstStill, SecondStill}
@@ -27,7 +27,7 @@ counter_table =
     ∷ (SecondStill ∷ Chain ∷ Chain ∷ [])
     ∷ []
 
--- whether the table lets the first change places with the second behind it
+-- whether the table lets the second move left over the first
 abbrev pub may_swap : CounterOp → CounterOp → Bool
 may_swap a b = condition_holds (entry counter_table (form_of a) (form_of b)) (figures_of a)
     (figures_of b)

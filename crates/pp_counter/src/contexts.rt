@@ -36,7 +36,7 @@ pub fn reach(alloc: Global, number: i128) -> Result<Ops<CounterOp>, OutOfMemory>
     }
 }
 
-/// The number at which a pair that may not change places is legal.
+/// The number at which a pair that does not swap is legal.
 pub fn pair_begins(a: &CounterOp, b: &CounterOp) -> i128
     ensures { result ≡ pair_begins a.now b.now }
 {

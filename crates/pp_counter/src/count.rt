@@ -11,7 +11,8 @@ use pp_spec::{Applied, Context, Placed, Spec};
 use std::alloc::Global;
 use std::sync::ledger::Ledger;
 
-/// Counters. The state is the number, which no run within the limits brings near the ends of `i128`.
+/// Counters. The state is the number, which no run within the limits brings near the ends of
+/// `i128`.
 #[derive(Drop)]
 pub struct Count;
 

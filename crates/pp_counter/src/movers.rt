@@ -50,7 +50,7 @@ fn mover_table() -> MoverTable<3>
     MoverTable::new([add, get, fetch_add])
 }
 
-/// Whether two operations may change places, by the table.
+/// Whether two operations swap, by the table.
 pub fn may_swap(a: &CounterOp, b: &CounterOp) -> bool
     ensures { result ≡ may_swap a.now b.now }
 {

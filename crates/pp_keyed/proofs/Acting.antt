@@ -35,7 +35,7 @@ module _ {State Op Undo Cell : Type 0} (o : Object (Unit {0}) State Op Undo)
       (λ q.
       both_left s b a q hb ga
       ∙ turned_cells (int_eq q (k.key a)) (int_eq q (k.key b)) (k.left a) (k.left b) (k.cell s q)
-          (λ e f. one (sym (same_key q (k.key a) e) ∙ same_key q (k.key b) f))
+      (λ e f. one (sym (same_key q (k.key a) e) ∙ same_key q (k.key b) f))
       ∙ sym (both_left s a b q h g))
 
   abbrev Turned : State → Op → Op → Type 0
@@ -48,30 +48,33 @@ module _ {State Op Undo Cell : Type 0} (o : Object (Unit {0}) State Op Undo)
   apart s a b is e h g =
       let P : Option Cell → Cell → Type 0 = λ f c. Finds f c in
       let hb : IsLegal o s b = (acts.legal s b).1
-          (subst (P (k.found b)) (left_elsewhere s a (k.key b) (other_key (k.key a) (k.key b) e) h)
-          ((acts.legal (o.next s a) b).0 g)) in
+      (subst (P (k.found b)) (left_elsewhere s a (k.key b) (other_key (k.key a) (k.key b) e) h)
+      ((acts.legal (o.next s a) b).0 g)) in
       let ga : IsLegal o (o.next s b) a =
-          (acts.legal (o.next s b) a).1
-          (subst (P (k.found a)) (sym (left_elsewhere s b (k.key a) e hb)) ((acts.legal s a).0 h))
-          in
-      (hb, ga, same_left s a b is (λ same. let f = key_is (k.key a) (k.key b) same in
-          absurd (let g : true ≡ false = sym f ∙ e in cc)) h g hb ga)
+      (acts.legal (o.next s b) a).1
+      (subst (P (k.found a)) (sym (left_elsewhere s b (k.key a) e hb)) ((acts.legal s a).0 h))
+      in (
+        hb,
+        ga,
+        same_left s a b is (λ same. let f = key_is (k.key a) (k.key b) same in
+            absurd (let g : true ≡ false = sym f ∙ e in cc)) h g hb ga,
+      )
 
-  -- operations on one key that the rule lets change places
+  -- operations on one key that the rule lets swap
   together : (s : State) (a b : Op) → o.upkeep.IsState s → k.key a ≡ k.key b
       → rule_lets k a b ≡ true → IsLegal o s a → IsLegal o (o.next s a) b → Turned s a b
   together s a b is e t h g =
       let P : Option Cell → Cell → Type 0 = λ f c. Finds f c in
       let follows = subst (P (k.found b)) (left_here s a (k.key b) (sym e) h)
-          ((acts.legal (o.next s a) b).0 g) in
+      ((acts.legal (o.next s a) b).0 g) in
       let lets = lets_turned k.alike acts.alike_is (k.found a) (k.left a) (k.found b)
-          (k.left b) t follows in
+      (k.left b) t follows in
       let hb : IsLegal o s b = (acts.legal s b).1
-          (subst (λ (q : ℤ). Finds (k.found b) (k.cell s q)) e
-          (lets.2 (k.cell s (k.key a)) ((acts.legal s a).0 h))) in
+      (subst (λ (q : ℤ). Finds (k.found b) (k.cell s q)) e
+      (lets.2 (k.cell s (k.key a)) ((acts.legal s a).0 h))) in
       let ga : IsLegal o (o.next s b) a =
-          (acts.legal (o.next s b) a).1
-          (subst (P (k.found a)) (sym (left_here s b (k.key a) e hb)) lets.1) in
+      (acts.legal (o.next s b) a).1
+      (subst (P (k.found a)) (sym (left_here s b (k.key a) e hb)) lets.1) in
       (hb, ga, same_left s a b is (λ same. lets.0) h g hb ga)
 
   turned_by : (t : Bool) (s : State) (a b : Op) → int_eq (k.key a) (k.key b) ≡ t
@@ -85,14 +88,14 @@ module _ {State Op Undo Cell : Type 0} (o : Object (Unit {0}) State Op Undo)
       turned_by (int_eq (k.key a) (k.key b)) (state_after o shape before) a b refl r
       (allowed_is_state o (o.start shape) before acts.next_is_state acts.start_is_state allowed) h g
 
-  -- operations that show that a pair may not change places, where the first tells what it finds
+  -- operations that show that a pair does not swap, where the first tells what it finds
   pub shows_where_told : (a b : Op) (before : List Op) (x : Cell) → k.found a ≡ Some x
       → (k.found b ≡ None → k.left a ≡ x) → rule_lets k a b ≡ false → IsAllowed o tt before
       → k.cell (state_after o tt before) (k.key a) ≡ x → Shows o k a b before []
   shows_where_told a b before x e still r allowed stands =
       let told : rule k.alike (Some x) (k.left a) (k.found b) (k.left b) ≡ false =
-          subst (λ (f : Option Cell). rule k.alike f (k.left a) (k.found b) (k.left b) ≡ false) e r
-          in
+      subst (λ (f : Option Cell). rule k.alike f (k.left a) (k.found b) (k.left b) ≡ false) e r
+      in
       record {
         cell = x;
         allowed = allowed;
@@ -110,15 +113,20 @@ module _ {State Op Undo Cell : Type 0} (o : Object (Unit {0}) State Op Undo)
   shown_allowed a b before after e r w =
       let s = state_after o tt before in
       let first : IsLegal o s a = (acts.legal s a).1
-          (subst (Finds (k.found a)) (sym w.stands) w.found) in
+      (subst (Finds (k.found a)) (sym w.stands) w.found) in
       let follows = refused_follows k.alike acts.alike_is (k.found a) (k.left a) (k.found b)
-          (k.left b) r in
+      (k.left b) r in
       let second : IsLegal o (o.next s a) b =
-          (acts.legal (o.next s a) b).1
-          (subst (Finds (k.found b)) (sym (left_here s a (k.key b) (sym e) first)) follows) in
-      allowed-append o (o.start tt) before (a ∷ b ∷ after) w.allowed
-      (first, (second, w.goes_on (o.next (o.next s a) b)
-          (left_here (o.next s a) b (k.key a) e second)))
+      (acts.legal (o.next s a) b).1
+      (subst (Finds (k.found b)) (sym (left_here s a (k.key b) (sym e) first)) follows) in
+      allowed-append o (o.start tt) before (a ∷ b ∷ after) w.allowed (
+        first,
+        (
+          second,
+          w.goes_on (o.next (o.next s a) b)
+              (left_here (o.next s a) b (k.key a) e second),
+        ),
+      )
 
   pub shown_stops : (a b : Op) (before after : List Op) → k.key a ≡ k.key b
       → Shows o k a b before after → IsAllowed o tt (before ++ (b ∷ a ∷ after)) → ⊥
@@ -126,8 +134,8 @@ module _ {State Op Undo Cell : Type 0} (o : Object (Unit {0}) State Op Undo)
       let s = state_after o tt before in
       let rest = allowed-second o (o.start tt) before (b ∷ a ∷ after) h in
       let first = subst (Finds (k.found b)) (ap (k.cell s) (sym e) ∙ w.stands)
-          ((acts.legal s b).0 rest.0) in
+      ((acts.legal s b).0 rest.0) in
       let second = subst (Finds (k.found a)) (left_here s b (k.key a) e rest.0)
-          ((acts.legal (o.next s b) a).0 rest.1.0) in
+      ((acts.legal (o.next s b) a).0 rest.1.0) in
       w.stops first second (o.next (o.next s b) a)
-          (left_here (o.next s b) a (k.key a) refl rest.1.0) rest.1.1
+      (left_here (o.next s b) a (k.key a) refl rest.1.0) rest.1.1

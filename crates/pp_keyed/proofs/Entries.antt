@@ -31,9 +31,9 @@ inserted : {X : Type 0} (es fs : List (ℤ × X)) (k : ℤ) (v : X)
     → from_entries {R = int_cmp} fs ≡ insert (from_entries es) k v
 inserted es fs k v h = same_map int_cmp_total int_cmp-IsAntisymmetric _ _ (λ q.
     got fs q ∙ h q ∙ ap (λ b. cond b (Some v) (lookup (is_at (int_cmp q)) es))
-        ((eq_by_cmp_equiv int_cmp_total).symm k q)
+    ((eq_by_cmp_equiv int_cmp_total).symm k q)
     ∙ sym (get-insert int_cmp_total (from_entries es) k v q
-        ∙ ap (cond (is_at (int_cmp q) k) (Some v)) (got es q)))
+    ∙ ap (cond (is_at (int_cmp q) k) (Some v)) (got es q)))
 
 removed : {X : Type 0} (es fs : List (ℤ × X)) (k : ℤ)
     → ((q : ℤ) → lookup (is_at (int_cmp q)) fs
@@ -41,9 +41,9 @@ removed : {X : Type 0} (es fs : List (ℤ × X)) (k : ℤ)
     → from_entries {R = int_cmp} fs ≡ remove (from_entries es) k
 removed es fs k h = same_map int_cmp_total int_cmp-IsAntisymmetric _ _ (λ q.
     got fs q ∙ h q ∙ ap (λ b. cond b None (lookup (is_at (int_cmp q)) es))
-        ((eq_by_cmp_equiv int_cmp_total).symm k q)
+    ((eq_by_cmp_equiv int_cmp_total).symm k q)
     ∙ sym (get-remove int_cmp_total (from_entries es) k q
-        ∙ ap (cond (is_at (int_cmp q) k) None) (got es q)))
+    ∙ ap (cond (is_at (int_cmp q) k) None) (got es q)))
 
 -- The same of the map as it is seen, at a key and a number as they are stored.
 pub got_seen : {X : Type 0} (es : List (ℤ × X)) (seen : FinMap int_cmp X) (k j : ℤ) (r : Option X)
@@ -58,7 +58,7 @@ pub inserted_seen : {X : Type 0} (es fs : List (ℤ × X)) (seen : FinMap int_cm
     → from_entries {R = int_cmp} fs ≡ insert seen k v
 inserted_seen {X} es fs seen k j v w e f g h =
     inserted es fs j w h ∙ ap (λ (m : FinMap int_cmp X). insert m j w) e
-        ∙ ap (λ (q : ℤ). insert seen q w) f ∙ ap (insert seen k) g
+    ∙ ap (λ (q : ℤ). insert seen q w) f ∙ ap (insert seen k) g
 
 pub removed_seen : {X : Type 0} (es fs : List (ℤ × X)) (seen : FinMap int_cmp X) (k j : ℤ)
     → from_entries es ≡ seen → j ≡ k
@@ -86,7 +86,7 @@ pub entries_seen : {X : Type 0} (es : List (ℤ × X)) (seen : FinMap int_cmp X)
     → from_entries es ≡ seen → IsStrictlySortedBy int_cmp (keys_of es) → es ≡ entries seen
 entries_seen {X} es seen e h =
     let one : from_entries {R = int_cmp} es ≡ from_sorted es =
-        same_map int_cmp_total int_cmp-IsAntisymmetric _ _
-        (λ q. get-from_entries int_cmp_total es q
-        ∙ sym (get-from_sorted int_cmp es q (sorted es h))) in
+    same_map int_cmp_total int_cmp-IsAntisymmetric _ _
+    (λ q. get-from_entries int_cmp_total es q
+    ∙ sym (get-from_sorted int_cmp es q (sorted es h))) in
     sym (entries-from_sorted int_cmp es (sorted es h)) ∙ ap entries (sym one ∙ e)

@@ -16,7 +16,7 @@ module _ {State Op Undo Cell : Type 0} (o : Object (Unit {0}) State Op Undo)
   refused_here : (a b : Op) → table a b ≡ false → (k.key a ≡ k.key b) × (rule_lets k a b ≡ false)
   refused_here a b e =
       let r = refused_by (int_eq (k.key a) (k.key b)) (rule_lets k a b)
-          (sym (shown.by_rule a b) ∙ e) in
+      (sym (shown.by_rule a b) ∙ e) in
       (same_key (k.key a) (k.key b) r.0, r.1)
 
   shows : (a b : Op) → table a b ≡ false → Shows o k a b (lists a b).0 (lists a b).1
@@ -52,11 +52,11 @@ module _ {State Op Undo Cell : Type 0} (o : Object (Unit {0}) State Op Undo)
       let r = k.read q c in
       let Here : State → ℤ → Type 0 = λ u p. k.cell u p ≡ c in
       let finds : Finds (k.found r) (k.cell s (k.key r)) =
-          subst (λ (f : Option Cell). Finds f (k.cell s (k.key r))) (sym (acts.read_found q c))
-          (subst (Here s) (sym (acts.read_key q c)) refl) in
+      subst (λ (f : Option Cell). Finds f (k.cell s (k.key r))) (sym (acts.read_found q c))
+      (subst (Here s) (sym (acts.read_key q c)) refl) in
       let there = (acts.legal t r).0 (also (r ∷ []) ((acts.legal s r).1 finds, tt)).0 in
       sym (subst (Here t) (acts.read_key q c)
-          (subst (λ (f : Option Cell). Finds f (k.cell t (k.key r))) (acts.read_found q c) there)))
+      (subst (λ (f : Option Cell). Finds f (k.cell t (k.key r))) (acts.read_found q c) there)))
 
   taken_back : (s : State) (a : Op) → o.upkeep.IsState s → IsLegal o s a → undone o s a ≡ s
   taken_back s a is h = acts.one_state (undone o s a) s (acts.back_is_state s a is h) is

@@ -1,5 +1,6 @@
 -- Proof machinery: the rule of two operations on one key.
 use Rattle.std.proofs.Common.{◌≡◌, ℤ, int_eq, Bool, true, false, not, cond, ◌&&◌, ◌||◌, ◌↔◌, Option, Some, None, refl, sym, ◌∙◌, ap, subst, arith}
+use Rattle.std.proofs.lemmas.Bool.{and_parts}
 use Rattle.std.proofs.lemmas.Int.{ints}
 use Rattle.pp_keyed.specs.Keys.{Finds, finds, finds_too, rule}
 
@@ -10,10 +11,6 @@ goes_on false q h e = cc
 refused : (p q : Bool) → (not p || q) ≡ false → (p ≡ true) × (q ≡ false)
 refused true q h = (refl, h)
 refused false q h = cc
-
-both : (p q : Bool) → (p && q) ≡ true → (p ≡ true) × (q ≡ true)
-both true q h = (refl, h)
-both false q h = cc
 
 all_three : (p q r : Bool) → p ≡ true → q ≡ true → r ≡ true → (p && (q && r)) ≡ false → ⊥
 all_three true true true e f g h = cc
@@ -65,15 +62,15 @@ module _ {Cell : Type 0} (alike : Cell → Cell → Bool)
   finds_both None (Some d) c t h = absurd (let e : false ≡ true = t in cc)
   finds_both (Some x) g c t h = subst (λ (y : Cell). Finds g y) (sym h) (where_finds g x t)
 
-  -- where the rule lets a pair change places, and its second finds what its first leaves
+  -- where the rule lets a pair swap, and its second finds what its first leaves
   pub lets_turned : (f : Option Cell) (l : Cell) (g : Option Cell) (m : Cell)
       → rule alike f l g m ≡ true → Finds g l → (l ≡ m) × Finds f m
       × ((c : Cell) → Finds f c → Finds g c)
   lets_turned f l g m t h =
-      let three = both (alike l m) (finds alike f m && finds_too alike f g)
-          (goes_on (finds alike g l) (alike l m && (finds alike f m && finds_too alike f g)) t
-          (finds_where g l h)) in
-      let two = both (finds alike f m) (finds_too alike f g) three.1 in
+      let three = and_parts (alike l m) (finds alike f m && finds_too alike f g)
+      (goes_on (finds alike g l) (alike l m && (finds alike f m && finds_too alike f g)) t
+      (finds_where g l h)) in
+      let two = and_parts (finds alike f m) (finds_too alike f g) three.1 in
       ((alike_is l m).0 three.0, where_finds f m two.0, (λ c. finds_both f g c two.1))
 
   -- where it does not, the second finds what the first leaves
@@ -87,7 +84,7 @@ module _ {Cell : Type 0} (alike : Cell → Cell → Bool)
       → rule alike f l g m ≡ false → l ≡ m → Finds f m → finds_too alike f g ≡ true → ⊥
   refused_turned f l g m t e h k =
       all_three (alike l m) (finds alike f m) (finds_too alike f g) ((alike_is l m).1 e)
-          (finds_where f m h) k
+      (finds_where f m h) k
       (refused (finds alike g l) (alike l m && (finds alike f m && finds_too alike f g)) t).1
 
   -- so where the first tells what it finds, the pair is not legal in the other order
@@ -97,4 +94,4 @@ module _ {Cell : Type 0} (alike : Cell → Cell → Bool)
       refused_turned (Some x) l None m t (still refl ∙ sym e) e refl
   refused_where_told x l (Some y) m t still h e =
       refused_turned (Some x) l (Some y) m t
-          (refused_follows (Some x) l (Some y) m t ∙ sym h ∙ sym e) e ((alike_is x y).1 h)
+      (refused_follows (Some x) l (Some y) m t ∙ sym h ∙ sym e) e ((alike_is x y).1 h)

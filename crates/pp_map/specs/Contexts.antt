@@ -1,4 +1,4 @@
--- Meaning: operations that show that a pair may not change places.
+-- Meaning: operations that show that a pair does not swap.
 use Rattle.std.specs.Prelude.{ℤ, if◌then◌else◌, List, [], ◌∷◌, Option, Some, None}
 use Rattle.pp_map.specs.declared.op.MapOp.{MapOp}
 use Rattle.pp_map.specs.declared.op.MapOp.TheVariants.{Put}
@@ -18,6 +18,6 @@ before_pair a = put_first (key_of a) (found_by a)
 abbrev pub lists_round : MapOp → MapOp → List MapOp × List MapOp
 lists_round a b = (before_pair a, [])
 
--- the same, for a pair that may not change places
+-- where it does not swap
 abbrev pub refuting_lists : MapOp → MapOp → Option (List MapOp × List MapOp)
 refuting_lists a b = if may_swap a b then None else Some (lists_round a b)

@@ -1,4 +1,4 @@
--- Meaning: which operations of a map may change places, by a table.
+-- Meaning: which operations of a map swap, by a table.
 use Rattle.std.specs.Prelude.{ℤ, pos, ℕ, Bool, true, if◌then◌else◌, List, [], ◌∷◌, Option, Some, None}
 use Rattle.std.specs.Ordering.{int_eq}
 use Rattle.pp_table.specs.declared.table.Condition.{Condition}
@@ -27,8 +27,12 @@ figure_of (Some x) = x
 
 -- what it finds and what it leaves
 abbrev pub figures_of : MapOp → Figures
-figures_of op = record { from = figure_of (found_by op); to = figure_of (left_by op); shift =
-    pos 0 }
+figures_of op = record {
+  from = figure_of (found_by op);
+  to = figure_of (left_by op);
+  shift =
+      pos 0;
+}
 
 -- a row for each first operation, and a column for each second: put, get and remove, each without
 -- and with a value that they found
@@ -42,11 +46,11 @@ map_table =
     ∷ (Never ∷ Always ∷ Never ∷ Always ∷ Never ∷ Always ∷ [])
     ∷ []
 
--- whether the table lets two operations on one key change places
+-- whether the table lets two operations on one key swap
 abbrev pub table_lets : MapOp → MapOp → Bool
 table_lets a b = condition_holds (entry map_table (form_of a) (form_of b)) (figures_of a)
     (figures_of b)
 
--- operations on different keys always may change places, and others by the table
+-- operations on different keys always swap, and others by the table
 abbrev pub may_swap : MapOp → MapOp → Bool
 may_swap a b = if int_eq (key_of a) (key_of b) then table_lets a b else true

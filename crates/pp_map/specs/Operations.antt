@@ -1,10 +1,9 @@
 -- Meaning: the operations of a map, and what they give and do.
-use Rattle.std.specs.Prelude.{ℤ, pos, Bool, true, ◌&&◌, Option, Some, None}
+use Rattle.std.specs.Prelude.{ℤ, pos, Bool, ◌&&◌, Option, Some, None}
 use Rattle.std.specs.Ordering.{int_cmp}
 use Rattle.std.specs.FinMap as map
 use Rattle.std.specs.FinMap.{FinMap}
 use Rattle.pp_core.specs.declared.answer.Answer.{Answer}
-use Rattle.pp_core.specs.declared.answer.Answer.TheVariants.{None as NoAnswer, Number}
 use Rattle.pp_core.specs.declared.call.Call.{Call}
 use Rattle.pp_core.specs.declared.call.Method.TheVariants.{Put as PutCall, Get as GetCall, Remove as RemoveCall}
 use Rattle.pp_spec.specs.Numbers.{in_range}

@@ -6,7 +6,7 @@ use crate::op::MapOp;
 use pp_core::{Ops, OutOfMemory};
 use std::alloc::Global;
 
-/// What stands before a pair that may not change places: the value that its first operation found
+/// What stands before a pair that does not swap: the value that its first operation found
 /// is put there. The only error is that memory was refused.
 pub fn before_pair(alloc: Global, a: &MapOp) -> Result<Ops<MapOp>, OutOfMemory>
     ensures { IfOk result (λ ops. ops ≡ before_pair a.now) }

@@ -1,4 +1,4 @@
--- Meaning: which operations of a memory may change places, by a table.
+-- Meaning: which operations of a memory swap, by a table.
 use Rattle.std.specs.Prelude.{pos, ℕ, Bool, true, if◌then◌else◌, List, [], ◌∷◌}
 use Rattle.std.specs.Ordering.{int_eq}
 use Rattle.pp_table.specs.declared.table.Condition.{Condition}
@@ -26,11 +26,11 @@ memory_table =
     ∷ (Unequal ∷ Equal ∷ [])
     ∷ []
 
--- whether the table lets two operations on one address change places
+-- whether the table lets two operations on one address swap
 abbrev pub may_swap_there : MemOp → MemOp → Bool
 may_swap_there a b = condition_holds (entry memory_table (form_of a) (form_of b)) (figures_of a)
     (figures_of b)
 
--- those on different addresses always may
+-- those on different addresses always do
 abbrev pub may_swap : MemOp → MemOp → Bool
 may_swap a b = if int_eq (address_of a) (address_of b) then may_swap_there a b else true

@@ -16,7 +16,7 @@ fn alone(alloc: Global, op: MemOp) -> Result<Ops<MemOp>, OutOfMemory>
     Ok(ops)
 }
 
-/// The operations round a pair that may not change places. The only error is that memory was
+/// The operations round a pair that does not swap. The only error is that memory was
 /// refused.
 pub fn lists_round(alloc: Global, a: &MemOp, b: &MemOp) -> Result<Context<MemOp>, OutOfMemory>
     ensures { IfOk result (λ c. (c.before, c.after) ≡ lists_round a.now b.now) }

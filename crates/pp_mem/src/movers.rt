@@ -43,7 +43,7 @@ fn mover_table() -> MoverTable<2>
     MoverTable::new([read, write])
 }
 
-/// Whether two operations may change places: always at different addresses, and by the table at
+/// Whether two operations swap: always at different addresses, and by the table at
 /// one.
 pub fn may_swap(a: &MemOp, b: &MemOp) -> bool
     ensures { result ≡ may_swap a.now b.now }

@@ -1,4 +1,4 @@
--- Meaning: operations that show that a pair may not change places.
+-- Meaning: operations that show that a pair does not swap.
 use Rattle.std.specs.Prelude.{if◌then◌else◌, List, [], ◌∷◌, Option, Some, None}
 use Rattle.pp_queue.specs.declared.op.QueueOp.{QueueOp}
 use Rattle.pp_queue.specs.declared.op.QueueOp.TheVariants.{Enq, Deq}

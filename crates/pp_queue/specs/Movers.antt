@@ -1,4 +1,4 @@
--- Meaning: which operations of a queue may change places, by a table.
+-- Meaning: which operations of a queue swap, by a table.
 use Rattle.std.specs.Prelude.{pos, ℕ, Bool, List, [], ◌∷◌, Some, None}
 use Rattle.pp_table.specs.declared.table.Condition.{Condition}
 use Rattle.pp_table.specs.declared.table.Condition.TheVariants.{Always, Never, Equal, Unequal}
@@ -27,7 +27,7 @@ queue_table =
     ∷ (Never ∷ Always ∷ Always ∷ [])
     ∷ []
 
--- whether the table lets the first change places with the second behind it
+-- whether the table lets the second move left over the first
 abbrev pub may_swap : QueueOp → QueueOp → Bool
 may_swap a b = condition_holds (entry queue_table (form_of a) (form_of b)) (figures_of a)
     (figures_of b)

@@ -1,7 +1,7 @@
 -- Meaning: the operations of a queue, and what they give and do.
-use Rattle.std.specs.Prelude.{ℤ, pos, ◌-◌, Bool, true, List, [], ◌∷◌, ◌++◌, length, take, Option, Some, None}
+use Rattle.std.specs.Prelude.{ℤ, pos, ◌-◌, Bool, List, [], ◌∷◌, ◌++◌, length, take, Option, Some, None}
 use Rattle.pp_core.specs.declared.answer.Answer.{Answer}
-use Rattle.pp_core.specs.declared.answer.Answer.TheVariants.{None as NoAnswer, Number}
+use Rattle.pp_core.specs.declared.answer.Answer.TheVariants.{None as NoAnswer}
 use Rattle.pp_core.specs.declared.call.Call.{Call}
 use Rattle.pp_core.specs.declared.call.Method.TheVariants.{Enq as EnqCall, Deq as DeqCall}
 use Rattle.pp_spec.specs.Numbers.{in_range}

@@ -6,7 +6,7 @@ use crate::op::QueueOp;
 use pp_core::{Ops, OutOfMemory};
 use std::alloc::Global;
 
-/// What stands before a pair that may not change places. The only error is that memory was refused.
+/// What stands before a pair that does not swap. The only error is that memory was refused.
 pub fn before_pair(alloc: Global, a: &QueueOp, b: &QueueOp) -> Result<Ops<QueueOp>, OutOfMemory>
     ensures { IfOk result (λ ops. ops ≡ before_pair a.now b.now) }
 {

@@ -1,4 +1,5 @@
-//! The queue: a list of numbers, at first empty, which are added at its back and leave at its front.
+//! The queue: a list of numbers, at first empty, which are added at its back and leave at its
+//! front.
 #![tactic(auto)]
 
 mod contexts;

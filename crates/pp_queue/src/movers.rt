@@ -43,7 +43,7 @@ fn mover_table() -> MoverTable<3>
     MoverTable::new([enq, deq, empty])
 }
 
-/// Whether two operations may change places, by the table.
+/// Whether two operations swap, by the table.
 pub fn may_swap(a: &QueueOp, b: &QueueOp) -> bool
     ensures { result ≡ may_swap a.now b.now }
 {

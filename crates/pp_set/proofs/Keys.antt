@@ -48,7 +48,7 @@ pub contained_seen : (ks : List ℤ) (seen : FinSet int_cmp) (k j : ℤ) (r : Bo
 contained_seen ks seen k j r e f h =
     h ∙ is_some_mark (list_any (is_at (int_cmp j)) ks)
     ∙ ap is_some (entries.got_seen (marked ks) seen k j (mark (list_any (is_at (int_cmp j)) ks)) e f
-        (sym (looked_up (is_at (int_cmp j)) ks)))
+    (sym (looked_up (is_at (int_cmp j)) ks)))
 
 pub inserted_seen : (ks ls : List ℤ) (seen : FinSet int_cmp) (k j : ℤ) → set_of ks ≡ seen → j ≡ k
     → ((q : ℤ) → list_any (is_at (int_cmp q)) ls
@@ -72,5 +72,5 @@ pub members_seen : (ks : List ℤ) (seen : FinSet int_cmp) → set_of ks ≡ see
     → IsStrictlySortedBy int_cmp ks → ks ≡ members seen
 members_seen ks seen e h =
     sym (keys_marked ks) ∙ ap keys_of
-        (entries.entries_seen (marked ks) seen e
-        (subst (IsStrictlySortedBy int_cmp) (sym (keys_marked ks)) h))
+    (entries.entries_seen (marked ks) seen e
+    (subst (IsStrictlySortedBy int_cmp) (sym (keys_marked ks)) h))

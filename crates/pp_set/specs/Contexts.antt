@@ -1,4 +1,4 @@
--- Meaning: operations that show that a pair may not change places.
+-- Meaning: operations that show that a pair does not swap.
 use Rattle.std.specs.Prelude.{ℤ, Bool, true, false, if◌then◌else◌, List, [], ◌∷◌, Option, Some, None}
 use Rattle.pp_set.specs.declared.op.SetOp.{SetOp}
 use Rattle.pp_set.specs.declared.op.SetOp.TheVariants.{Add}
@@ -10,10 +10,10 @@ abbrev pub reach : ℤ → Bool → List SetOp
 reach k true = Add k true ∷ []
 reach k false = []
 
--- what stands before and after a pair on one key that may not change places
+-- what stands before and after a pair on one key that does not swap
 abbrev pub lists_round : SetOp → SetOp → List SetOp × List SetOp
 lists_round a b = (reach (key_of a) (bit_before a), [])
 
--- where it may not
+-- where it does not swap
 abbrev pub refuting_lists : SetOp → SetOp → Option (List SetOp × List SetOp)
 refuting_lists a b = if may_swap a b then None else Some (lists_round a b)

@@ -1,4 +1,4 @@
--- Meaning: which operations of a set may change places, by a table.
+-- Meaning: which operations of a set swap, by a table.
 use Rattle.std.specs.Prelude.{pos, ℕ, Bool, true, false, if◌then◌else◌, List, [], ◌∷◌}
 use Rattle.std.specs.Ordering.{int_eq}
 use Rattle.pp_table.specs.declared.table.Condition.{Condition}
@@ -33,10 +33,10 @@ set_table =
     ∷ (Never ∷ Always ∷ Always ∷ Always ∷ Always ∷ Always ∷ [])
     ∷ []
 
--- whether the table lets two operations on one key change places
+-- whether the table lets two operations on one key swap
 abbrev pub may_swap_there : SetOp → SetOp → Bool
 may_swap_there a b = condition_holds (entry set_table (form_of a) (form_of b)) no_figures no_figures
 
--- those on different keys always may
+-- those on different keys always do
 abbrev pub may_swap : SetOp → SetOp → Bool
 may_swap a b = if int_eq (key_of a) (key_of b) then may_swap_there a b else true

@@ -41,7 +41,7 @@ fn mover_table() -> MoverTable<6>
     MoverTable::new([add_new, add_old, remove_old, remove_none, contains, lacks])
 }
 
-/// Whether two operations may change places: always at different keys, and by the table at one.
+/// Whether two operations swap: always at different keys, and by the table at one.
 pub fn may_swap(a: &SetOp, b: &SetOp) -> bool
     ensures { result ≡ may_swap a.now b.now }
 {

@@ -126,7 +126,7 @@ module _ {Shape State Op Undo : Type 0} (o : Object Shape State Op Undo) where
 
   pub swaps_where_turned : (a b : Op)
       → ((sh : Shape) (before : List Op) → IsAllowed o sh before
-          → MayTurn (state_after o sh before) a b)
+      → MayTurn (state_after o sh before) a b)
       → Swaps o a b
   swaps_where_turned a b turned sh =
       record {

@@ -6,7 +6,8 @@ use Rattle.pp_spec.proofs.Lists.{state-append, allowed-first, allowed-second, al
 
 module _ {Shape State Op Undo : Type 0} (o : Object Shape State Op Undo) (laws : IsLawful o) where
   -- an allowed list keeps the shape
-  pub shape_stays : (s : State) (x : List Op) → AllowedFrom o s x → o.shape (state_from o s x) ≡ o.shape s
+  pub shape_stays : (s : State) (x : List Op) → AllowedFrom o s x
+      → o.shape (state_from o s x) ≡ o.shape s
   shape_stays = keeps_shape o laws.next_shape
 
   pub reached_shape : (sh : Shape) (x : List Op) → IsAllowed o sh x

@@ -1,5 +1,5 @@
 -- Proof machinery: a kind of one shape, of which a test tells which pairs swap.
-use Rattle.std.proofs.Common.{◌≡◌, Bool, true, false, IsTrue, List, ◌∷◌, ◌++◌, ◌↔◌, if◌then◌else◌, Option, Some, None, refl, sym, ◌∙◌, ap, subst}
+use Rattle.std.proofs.Common.{◌≡◌, Bool, true, false, IsTrue, List, ◌∷◌, ◌++◌, ◌↔◌, if◌then◌else◌, Some, None, refl, sym, ◌∙◌, ap, subst}
 use Rattle.pp_spec.specs.Object.{Object, IsAllowed, AllRanged, Swaps, SwapsNowhere, Refutes, IsRefutedBy, Commutes}
 use Rattle.pp_spec.proofs.Lists.{commuting_swap, refuted_nowhere}
 
@@ -40,8 +40,10 @@ module _ {State Op Undo : Type 0} (o : Object (Unit {0}) State Op Undo) (test : 
 
   -- a pair swaps exactly where the test lets it
   pub swaps_exact : (a b : Op) → (test a b ≡ true) ↔ Swaps o a b
-  swaps_exact a b = ((λ t. commuting_swap o a b (told.commutes a b t)),
-      (λ h. exact_by a b (test a b) refl h))
+  swaps_exact a b = (
+    (λ t. commuting_swap o a b (told.commutes a b t)),
+    (λ h. exact_by a b (test a b) refl h),
+  )
 
   -- and else it swaps nowhere
   pub swaps_nowhere : (a b : Op) → test a b ≡ false → SwapsNowhere o a b

@@ -17,8 +17,8 @@ pub enum Applied<U> {
     Differs,
 }
 
-/// Operations round a pair that may not change places, which show that it may not: in their midst
-/// the pair is allowed as it stands, and not the other way round.
+/// Operations round a pair that does not swap, which show it: in their midst the pair is allowed
+/// as it stands, and not the other way round.
 #[derive(Drop)]
 pub struct Context<O> {
     pub before: Ops<O>,
@@ -99,7 +99,7 @@ pub trait Spec: Drop {
         ensures only { Swaps object a.now b.now → IsTrue result }
         ensures never { result ≡ false → SwapsNowhere object a.now b.now };
 
-    /// Operations that show that the pair may not change places, or `None` where it may. The only
+    /// Operations that show that the pair does not swap, or `None` where it does. The only
     /// error is that memory was refused.
     fn context(
         alloc: Global,

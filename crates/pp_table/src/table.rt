@@ -2,7 +2,7 @@
 ghost use Rattle.std.specs.Prelude.{◌≡◌, ◌<◌};
 ghost use Rattle.pp_table.specs.Table.{condition_holds, entry};
 
-/// When a pair of operations may change places, by their figures.
+/// When a pair of operations swaps, by their figures.
 #[derive(Clone, Copy, Debug, PartialEq, Eq)]
 pub enum Condition {
     /// Always.

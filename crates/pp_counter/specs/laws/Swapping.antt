@@ -1,5 +1,5 @@
 -- Proof machinery: a pair swaps exactly where the table lets it.
-use Rattle.std.proofs.Common.{◌≡◌, ℤ, pos, ◌+ℤ◌, true, false, List, [], ◌∷◌, ◌++◌, ◌↔◌, refl, sym, subst, arith, int_eq, int_lt, IsTrue}
+use Rattle.std.proofs.Common.{◌≡◌, ℤ, pos, ◌+ℤ◌, true, false, [], ◌∷◌, ◌++◌, ◌↔◌, refl, sym, subst, arith, int_eq, int_lt, IsTrue}
 use Rattle.std.proofs.lemmas.Int.{ints}
 use Rattle.pp_spec.specs.Numbers.{in_range}
 use Rattle.pp_spec.specs.Object.{AllowedFrom, AllRanged, state_after, Commutes, Swaps, SwapsNowhere}
@@ -33,11 +33,13 @@ pair_refuted : (a b : CounterOp) → may_swap a b ≡ false
 pair_refuted a b t =
     let x = pair_begins a b in
     let Two : ℤ → Type 0 = λ n. AllowedFrom counter n (a ∷ b ∷ []) in
-    let both : Two x = (legal_where_told a x (begins_first a b t),
-        (legal_where_told b (x +ℤ shift_of a) (begins_second a b t), tt)) in
+    let both : Two x = (
+      legal_where_told a x (begins_first a b t),
+      (legal_where_told b (x +ℤ shift_of a) (begins_second a b t), tt),
+    ) in
     allowed-append counter (pos 0) (reach x) (a ∷ b ∷ [])
-        (reach_by_allowed (int_eq x (pos 0)) (in_range x) (int_lt (pos 0) x) (pos 0) x)
-        (subst Two (sym (reach_state x)) both)
+    (reach_by_allowed (int_eq x (pos 0)) (in_range x) (int_lt (pos 0) x) (pos 0) x)
+    (subst Two (sym (reach_state x)) both)
 
 turned_refuted : (a b : CounterOp) → may_swap a b ≡ false
     → AllowedFrom counter (pos 0) (reach (pair_begins a b) ++ (b ∷ a ∷ [])) → ⊥
@@ -45,7 +47,7 @@ turned_refuted a b t h =
     let x = pair_begins a b in
     let Two : ℤ → Type 0 = λ n. AllowedFrom counter n (b ∷ a ∷ []) in
     let both : Two x = subst Two (reach_state x)
-        (allowed-second counter (pos 0) (reach x) (b ∷ a ∷ []) h) in
+    (allowed-second counter (pos 0) (reach x) (b ∷ a ∷ []) h) in
     not_turned a b t (told b x both.0) (told a (x +ℤ shift_of b) both.1.0)
 
 ranged_before : (a b : CounterOp) → IsTrue (counter.ranged a) → IsTrue (counter.ranged b)
@@ -53,7 +55,7 @@ ranged_before : (a b : CounterOp) → IsTrue (counter.ranged a) → IsTrue (coun
 ranged_before a b h k =
     let x = pair_begins a b in
     reach_by_ranged (int_eq x (pos 0)) (in_range x) (int_lt (pos 0) x) x (begins_low a b h k)
-        (begins_high a b h k) refl refl
+    (begins_high a b h k) refl refl
 
 -- The pair swaps exactly where the table lets it, and else nowhere.
 pub table_tells : IsTold counter may_swap lists_round

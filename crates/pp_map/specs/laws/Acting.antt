@@ -1,5 +1,5 @@
 -- Proof machinery: a map acts by its keys.
-use Rattle.std.proofs.Common.{◌≡◌, ℤ, int_eq, Bool, true, false, cond, Option, Some, None, refl, sym, ◌∙◌, ap, ◌&&◌}
+use Rattle.std.proofs.Common.{◌≡◌, ℤ, int_eq, Bool, cond, Option, Some, None, refl, sym, ◌∙◌, ap, ◌&&◌}
 use Rattle.std.proofs.Math.Bool.{and-true}
 use Rattle.std.specs.Ordering.{int_cmp}
 use Rattle.std.specs.Cmp.{int_cmp_total}
@@ -34,9 +34,9 @@ back_over : (values : FinMap int_cmp ℤ) (key q : ℤ) (was v : Option ℤ) →
     → get (with_value (with_value values key v) key was) q ≡ get values q
 back_over values key q was v h =
     get-with_value (with_value values key v) key was q
-        ∙ ap (cond (int_eq q key) was) (get-with_value values key v q)
+    ∙ ap (cond (int_eq q key) was) (get-with_value values key v q)
     ∙ covered (int_eq q key) was v (get values q)
-        ∙ stands_at (get values) key q was (int_eq q key) refl h
+    ∙ stands_at (get values) key q was (int_eq q key) refl h
 
 back_cell : (values : FinMap int_cmp ℤ) (op : MapOp) (q : ℤ) → IsLegal key_map values op
     → get (values_before (values_after values op) op) q ≡ get values q
@@ -71,8 +71,10 @@ pub map_is_keyed : IsKeyed key_map map_keys
 map_is_keyed = record {
   alike_is = alike_is;
   one_state = λ s t is it same. same_map int_cmp_total int_cmp-IsAntisymmetric s t same;
-  legal = λ s a. ((λ h. same_found (get s (key_of a)) (found_by a) h.1),
-      (λ e. (refl, ap answer_of e)));
+  legal = λ s a. (
+    (λ h. same_found (get s (key_of a)) (found_by a) h.1),
+    (λ e. (refl, ap answer_of e)),
+  );
   next_cell = next_cell;
   back_cell = back_cell;
   read_key = λ q c. refl;

@@ -45,7 +45,7 @@ before_ranged : (a : MapOp) → IsTrue (is_ranged a) → AllRanged key_map (befo
 before_ranged (Put key v was) h =
     let numbers = and_parts (in_range key && in_range v) (is_ranged_found was) h in
     put_ranged key was (and_from (in_range key) (is_ranged_found was)
-        (and_parts (in_range key) (in_range v) numbers.0).0 numbers.1)
+    (and_parts (in_range key) (in_range v) numbers.0).0 numbers.1)
 before_ranged (Get key found) h = put_ranged key found h
 before_ranged (Remove key was) h = put_ranged key was h
 

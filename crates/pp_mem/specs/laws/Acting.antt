@@ -1,7 +1,6 @@
 -- Proof machinery: how the operations of a memory act at their addresses.
-use Rattle.std.proofs.Common.{◌≡◌, ℤ, Bool, true, false, cond, ◌&&◌, ◌↔◌, refl, sym, ◌∙◌, ap, int_eq, arith}
+use Rattle.std.proofs.Common.{◌≡◌, ℤ, Bool, cond, ◌&&◌, refl, sym, ◌∙◌, ap, int_eq}
 use Rattle.std.proofs.Math.Bool.{and-true}
-use Rattle.std.proofs.lemmas.Int.{ints}
 use Rattle.std.specs.Ordering.{int_cmp}
 use Rattle.std.specs.FinMap.{FinMap}
 use Rattle.pp_core.specs.declared.answer.Answer.TheVariants.{Number}
@@ -40,9 +39,9 @@ back_at : (m : FinMap int_cmp ℤ) (a : MemOp) (q : ℤ)
 back_at m (Read a v) q = refl
 back_at m (Write a v) q =
     written_at (written m a v) a (value_at m a) q
-        ∙ ap (cond (int_eq q a) (value_at m a)) (written_at m a v q) 
+    ∙ ap (cond (int_eq q a) (value_at m a)) (written_at m a v q)
     ∙ covered (int_eq q a) (value_at m a) v (value_at m q)
-        ∙ stands_at (value_at m) a q (value_at m a) (int_eq q a) refl refl
+    ∙ stands_at (value_at m) a q (value_at m a) (int_eq q a) refl refl
 
 -- No 0 is kept by any of them.
 next_has_no_zero : (m : FinMap int_cmp ℤ) (a : MemOp) → HasNoZero m → HasNoZero (memory_after m a)

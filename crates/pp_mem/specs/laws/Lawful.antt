@@ -10,7 +10,7 @@ use Rattle.pp_keyed.proofs.Acting.{left_here, shows_where_told}
 use Rattle.pp_keyed.proofs.Lawful as keyed
 use Rattle.pp_mem.specs.declared.op.MemOp.{MemOp}
 use Rattle.pp_mem.specs.declared.op.MemOp.TheVariants.{Read, Write}
-use Rattle.pp_mem.specs.Operations.{address_of, found_by, left_by, is_ranged}
+use Rattle.pp_mem.specs.Operations.{address_of, found_by, is_ranged}
 use Rattle.pp_mem.specs.Movers.{may_swap, may_swap_there}
 use Rattle.pp_mem.specs.Contexts.{other_than, lists_round}
 use Rattle.pp_mem.specs.Memories.{memory, addresses}
@@ -30,19 +30,19 @@ other_is_other v e = grind (arith, ints)
 unlike : (v w : ℤ) → rule_lets addresses (Write (pos 0) v) (Write (pos 0) w) ≡ false → v ≡ w → ⊥
 unlike v w t e = grind (arith, ints)
 
--- The lists show that the pair may not change places.
+-- The lists show that the pair does not swap.
 shown : (a b : MemOp) → address_of a ≡ address_of b → rule_lets addresses a b ≡ false
     → Shows memory addresses a b (lists_round a b).0 (lists_round a b).1
 shown (Read a v) b e t =
     let w = Write a v in
     let first = (memory_keyed.legal empty w).1 tt in
     shows_where_told memory addresses memory_keyed (Read a v) b (w ∷ []) v refl (λ n. refl) t
-        (first, tt) (left_here memory addresses memory_keyed empty w a refl first)
+    (first, tt) (left_here memory addresses memory_keyed empty w a refl first)
 shown (Write a v) (Read b w) e t =
     let c = Write a (other_than v) in
     let first = (memory_keyed.legal empty c).1 tt in
     let follows = refused_follows int_eq memory_keyed.alike_is (found_by (Write a v)) v
-        (found_by (Read b w)) w t in
+    (found_by (Read b w)) w t in
     record {
       cell = other_than v;
       allowed = (first, tt);

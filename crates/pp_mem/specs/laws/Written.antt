@@ -25,7 +25,7 @@ pub written_at : (m : FinMap int_cmp ℤ) (a v q : ℤ)
     → value_at (written m a v) q ≡ cond (int_eq q a) v (value_at m q)
 written_at m a v q =
     ap (λ (o : Option ℤ). unwrap_or o (pos 0)) (kept_at (int_eq v (pos 0)) m a v q refl)
-        ∙ value_by (int_eq v (pos 0)) (int_eq q a) v (get m q) refl
+    ∙ value_by (int_eq v (pos 0)) (int_eq q a) v (get m q) refl
 
 no_zero_by : (zero here : Bool) (v : ℤ) (o : Option ℤ) → int_eq v (pos 0) ≡ zero → o ≢ Some (pos 0)
     → cond here (cond zero None (Some v)) o ≢ Some (pos 0)

@@ -19,7 +19,7 @@ use Rattle.pp_queue.specs.laws.Swapping.{table_tells}
 last_added : (items : List ℤ) (x : ℤ) → without_last (items ++ x ∷ []) ≡ items
 last_added items x =
     let e : length (items ++ x ∷ []) - 1 ≡ length items =
-        omega (arith, length-append items (x ∷ [])) in
+    omega (arith, length-append items (x ∷ [])) in
     ap (λ (n : ℕ). take n (items ++ x ∷ [])) e ∙ take-append_seam items (x ∷ [])
 
 taken_back : (items : List ℤ) (op : QueueOp) → Tells op items

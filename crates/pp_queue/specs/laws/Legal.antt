@@ -1,5 +1,5 @@
 -- Proof machinery: when an operation of a queue is legal.
-use Rattle.std.proofs.Common.{◌≡◌, ℤ, List, Option, Some, None, refl, ap}
+use Rattle.std.proofs.Common.{◌≡◌, ℤ, List, refl, ap}
 use Rattle.pp_core.specs.declared.call.Call.{Call}
 use Rattle.pp_spec.specs.Found.{answer_of}
 use Rattle.pp_spec.specs.Object.{IsLegal}

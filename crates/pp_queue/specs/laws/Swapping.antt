@@ -1,5 +1,5 @@
 -- Proof machinery: a pair swaps exactly where the table lets it.
-use Rattle.std.proofs.Common.{◌≡◌, Bool, true, false, IsTrue, List, [], ◌∷◌, ◌++◌, ◌↔◌, refl, ap, arith, Some, None}
+use Rattle.std.proofs.Common.{◌≡◌, true, false, IsTrue, [], ◌∷◌, ◌++◌, ◌↔◌, refl, ap, arith, Some, None}
 use Rattle.std.proofs.lemmas.Int.{ints}
 use Rattle.pp_spec.specs.Object.{AllowedFrom, AllRanged, state_after, Commutes, Swaps, SwapsNowhere}
 use Rattle.pp_spec.proofs.Tests.{IsTold, swaps_exact, swaps_nowhere}
@@ -15,9 +15,11 @@ use Rattle.pp_queue.specs.laws.Turning.{pair_turns}
 may_swap_commutes : (a b : QueueOp) → may_swap a b ≡ true → Commutes fifo a b
 may_swap_commutes a b t shape before allowed h k =
     let items = state_after fifo shape before in
-    let turned = pair_turns a b items t (told a items h) (told b (items_after items a) k) in
-    (legal_where_told b items turned.second_first,
-        legal_where_told a (items_after items b) turned.first_second, turned.same)
+    let turned = pair_turns a b items t (told a items h) (told b (items_after items a) k) in (
+      legal_where_told b items turned.second_first,
+      legal_where_told a (items_after items b) turned.first_second,
+      turned.same,
+    )
 
 -- The lists show a pair that the table does not let swap: it is allowed in their midst, and not the
 -- other way round.

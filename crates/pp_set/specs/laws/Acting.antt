@@ -1,7 +1,6 @@
 -- Proof machinery: how the operations of a set act at their keys.
-use Rattle.std.proofs.Common.{◌≡◌, ℤ, pos, Bool, true, false, not, cond, ◌&&◌, refl, sym, ◌∙◌, ap, int_eq, arith}
+use Rattle.std.proofs.Common.{◌≡◌, ℤ, pos, Bool, true, false, not, cond, ◌&&◌, refl, sym, ◌∙◌, ap, int_eq}
 use Rattle.std.proofs.Math.Bool.{and-true}
-use Rattle.std.proofs.lemmas.Int.{ints}
 use Rattle.std.specs.Ordering.{int_cmp}
 use Rattle.std.specs.FinSet.{FinSet}
 use Rattle.pp_core.specs.declared.answer.Answer.TheVariants.{Truth}
@@ -50,13 +49,13 @@ back_at : (s : FinSet int_cmp) (a : SetOp) (q : ℤ) → IsLegal key_set s a
     → contains (set_before (set_after s a) a) q ≡ contains s q
 back_at s (Add k true) q h =
     removed_at (insert s k) k q ∙ ap (cond (int_eq q k) false) (inserted_at s k q)
-        ∙ covered (int_eq q k) false true (contains s q)
+    ∙ covered (int_eq q k) false true (contains s q)
     ∙ stands_at (contains s) k q false (int_eq q k) refl (legal_finds s (Add k true) h)
 back_at s (Add k false) q h = inserted_at s k q
     ∙ stands_at (contains s) k q true (int_eq q k) refl (legal_finds s (Add k false) h)
 back_at s (Remove k true) q h =
     inserted_at (remove s k) k q ∙ ap (cond (int_eq q k) true) (removed_at s k q)
-        ∙ covered (int_eq q k) true false (contains s q)
+    ∙ covered (int_eq q k) true false (contains s q)
     ∙ stands_at (contains s) k q true (int_eq q k) refl (legal_finds s (Remove k true) h)
 back_at s (Remove k false) q h = removed_at s k q
     ∙ stands_at (contains s) k q false (int_eq q k) refl (legal_finds s (Remove k false) h)

@@ -1,5 +1,5 @@
 -- Proof machinery: the table of a set is the rule of its keys, and so a set is lawful.
-use Rattle.std.proofs.Common.{◌≡◌, ℤ, Bool, true, false, IsTrue, if◌then◌else◌, ◌↔◌, Some, None, refl, ap, int_eq}
+use Rattle.std.proofs.Common.{◌≡◌, ℤ, Bool, true, false, IsTrue, if◌then◌else◌, ◌↔◌, refl, ap, int_eq}
 use Rattle.std.specs.FinMap.{empty}
 use Rattle.pp_spec.specs.Numbers.{in_range}
 use Rattle.pp_spec.specs.Object.{AllRanged, IsAllowed, state_after, Swaps, SwapsNowhere, IsLawful}
@@ -10,10 +10,10 @@ use Rattle.pp_keyed.proofs.Lawful as keyed
 use Rattle.pp_set.specs.declared.op.SetOp.{SetOp}
 use Rattle.pp_set.specs.declared.op.SetOp.TheVariants.{Add, Remove, Contains}
 use Rattle.pp_set.specs.Keys.{contains}
-use Rattle.pp_set.specs.Operations.{key_of, bit_before, bit_after}
+use Rattle.pp_set.specs.Operations.{key_of, bit_before}
 use Rattle.pp_set.specs.Movers.{may_swap, may_swap_there}
 use Rattle.pp_set.specs.Contexts.{reach, lists_round}
-use Rattle.pp_set.specs.Sets.{key_set, same_bit, bits}
+use Rattle.pp_set.specs.Sets.{key_set, bits}
 use Rattle.pp_set.specs.laws.Bits.{empty_at}
 use Rattle.pp_set.specs.laws.Acting.{set_keyed}
 

@@ -7,6 +7,6 @@ pub returns : goal.returns
 returns c =
     let fits : FitsSigned w64 c.args.key = search rules in
     got_seen c.self.inside.entries.entries c.args.self.now c.args.key
-        (to_z w64 (of_z w64 c.args.key)) c.copied.result c.self.view_is
-        (to_z-of_z w64 c.args.key fits)
+    (to_z w64 (of_z w64 c.args.key)) c.copied.result c.self.view_is
+    (to_z-of_z w64 c.args.key fits)
     (c.copied.ensures ∙ c.get.ensures.value)

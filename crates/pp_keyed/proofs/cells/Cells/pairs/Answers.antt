@@ -7,4 +7,4 @@ pub returns : goal.returns
 returns c =
     let whole : c.loop-key.pairs ≡ c.self.inside.entries.entries = grind (arith, common_steps) in
     whole ∙ entries_seen c.self.inside.entries.entries c.args.self.now c.self.view_is
-        c.iter-key-items.ensures.ordered
+    c.iter-key-items.ensures.ordered

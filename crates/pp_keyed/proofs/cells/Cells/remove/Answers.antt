@@ -7,5 +7,5 @@ pub returns : goal.returns
 returns c =
     let fits : FitsSigned w64 c.args.key = search rules in
     removed_seen c.self.inside.entries.entries c.remove.new.self.entries c.args.self.now c.args.key
-        (to_z w64 (of_z w64 c.args.key)) c.self.view_is
-        (to_z-of_z w64 c.args.key fits) c.remove.ensures.updates.0
+    (to_z w64 (of_z w64 c.args.key)) c.self.view_is
+    (to_z-of_z w64 c.args.key fits) c.remove.ensures.updates.0

@@ -7,5 +7,5 @@ pub returns : goal.returns
 returns c =
     let fits : FitsSigned w64 c.args.key = search rules in
     contained_seen c.self.inside.keys.keys c.args.self.now c.args.key
-        (to_z w64 (of_z w64 c.args.key)) c.contains.result c.self.view_is
-        (to_z-of_z w64 c.args.key fits) c.contains.ensures
+    (to_z w64 (of_z w64 c.args.key)) c.contains.result c.self.view_is
+    (to_z-of_z w64 c.args.key fits) c.contains.ensures
