@@ -1,4 +1,5 @@
--- Meaning: what the objects of a run mean: at each place one object, of which an operation knows the place.
+-- Meaning: what the objects of a run mean: at each place one object, of which an operation knows
+-- the place.
 use Rattle.std.specs.Prelude.{◌≡◌, ℕ, Bool, false, nat_eq, if◌then◌else◌, List, map, slice_set, Option, Some, None, option_map}
 use Rattle.std.specs.List.{slice_get}
 use Rattle.pp_core.specs.Catalogs as catalogs
@@ -47,11 +48,13 @@ many o = record {
   recorded = λ op. o.recorded op.act;
   gives = λ ss op. gives_in o (slice_get ss op.object) op.act;
   next = λ ss op. put ss op.object (option_map (λ s. o.next s op.act) (slice_get ss op.object));
-  refuting = λ a b. if nat_eq a.object b.object then both_as (act_at a.object) (o.refuting a.act b.act) else None;
+  refuting = λ a b. if nat_eq a.object b.object then both_as (act_at a.object)
+      (o.refuting a.act b.act) else None;
   upkeep = record {
     IsState = λ ss. (p : ℕ) (s : ObjectState) → slice_get ss p ≡ Some s → o.upkeep.IsState s;
     kept = λ ss op. kept_in o (slice_get ss op.object) op.act;
-    back = λ ss op undo. put ss op.object (option_map (λ s. o.upkeep.back s op.act undo) (slice_get ss op.object));
+    back = λ ss op undo. put ss op.object
+        (option_map (λ s. o.upkeep.back s op.act undo) (slice_get ss op.object));
   };
 }
 

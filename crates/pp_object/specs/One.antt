@@ -116,7 +116,8 @@ covered_by Nothing = pos 0
 
 -- the state that this brings back
 abbrev pub state_before : ObjectState → Act → Undo → ObjectState
-state_before (states.Memory s) (Memory a) undo = states.Memory (memory.upkeep.back s a (covered_by undo))
+state_before (states.Memory s) (Memory a) undo =
+    states.Memory (memory.upkeep.back s a (covered_by undo))
 state_before (states.KeySet s) (KeySet a) undo = states.KeySet (key_set.upkeep.back s a tt)
 state_before (states.KeyMap s) (KeyMap a) undo = states.KeyMap (key_map.upkeep.back s a tt)
 state_before (states.Counter s) (Counter a) undo = states.Counter (counter.upkeep.back s a tt)
@@ -128,7 +129,7 @@ abbrev pub both_as : {A B : Type 0} → (A → B) → Option (List A × List A) 
 both_as f None = None
 both_as f (Some lists) = Some (map f lists.0, map f lists.1)
 
--- acts before and after a pair that may not change places
+-- acts before and after a pair that does not swap
 abbrev pub refuting_lists : Act → Act → Option (List Act × List Act)
 refuting_lists (Memory a) (Memory b) = both_as Memory (memory.refuting a b)
 refuting_lists (KeySet a) (KeySet b) = both_as KeySet (key_set.refuting a b)
@@ -138,7 +139,8 @@ refuting_lists (Queue a) (Queue b) = both_as Queue (fifo.refuting a b)
 refuting_lists a b = None
 
 -- what `apply` did, with what is kept among what all kinds keep
-abbrev pub kept_as : {U : Type 0} → (U → Undo) → Result (Applied U) OutOfMemory → Result (Applied Undo) OutOfMemory
+abbrev pub kept_as : {U : Type 0} → (U → Undo) → Result (Applied U) OutOfMemory
+    → Result (Applied Undo) OutOfMemory
 kept_as f (Ok (Done undo)) = Ok (Done (f undo))
 kept_as f (Ok Differs) = Ok Differs
 kept_as f (Err refused) = Err refused

@@ -14,7 +14,8 @@ alone value = record { key = None; value = value }
 abbrev pub at_key : ℤ × ℤ → Piece
 at_key entry = record { key = Some entry.0; value = entry.1 }
 
--- the numbers at their keys, ascending, the keys of a set, ascending, a counter's number, or the items from front to back
+-- the numbers at their keys, ascending, the keys of a set, ascending, a counter's number, or the
+-- items from front to back
 abbrev pub pieces_of : ObjectState → List Piece
 pieces_of (states.Memory s) = map at_key (entries s)
 pieces_of (states.KeySet s) = map alone (members s)

@@ -1,4 +1,5 @@
-//! The objects of a run: one state for each of any kinds, and operations that name the place of theirs.
+//! The objects of a run: one state for each of any kinds, and operations that name the place of
+//! theirs.
 #![tactic(auto)]
 
 mod act;

@@ -29,7 +29,7 @@ fn empty_states(alloc: Global, kinds: &Kinds) -> Result<Vec<ObjectState>, OutOfM
     Ok(states)
 }
 
-/// Whether two operations may change places. Those of different objects always may.
+/// Whether two operations swap. Those of different objects always do.
 fn may_swap(a: &Op, b: &Op) -> bool
     ensures { IsTrue result ↔ Swaps objects a.now b.now }
 {

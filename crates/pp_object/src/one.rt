@@ -44,7 +44,7 @@ fn uncovered(applied: Result<Applied<()>, OutOfMemory>) -> Result<Applied<Undo>,
     }
 }
 
-/// Whether two acts may change places. Those that no object has together always may.
+/// Whether two acts swap. Those that no object has together always do.
 fn may_swap(a: &Act, b: &Act) -> bool
     ensures { IsTrue result ↔ Swaps one a.now b.now }
 {

@@ -1,4 +1,5 @@
--- Proof machinery: the kinds, one by one. Each table has an arm for each kind, and what the laws ask
+-- Proof machinery: the kinds, one by one. Each table has an arm for each kind, and what the laws
+-- ask
 -- of a kind holds case by case.
 use Rattle.std.proofs.Common.{◌≡◌, ℤ, false, IsTrue, List, None, refl, sym, ◌∙◌, subst}
 use Rattle.std.specs.Ordering.{int_cmp}
@@ -164,13 +165,15 @@ only_kind k q a h = fits_own q (act_of k a) h ∙ act_kind k a
 
 pub other : (k : Kind) (a : Ops k) (b : Act) → one.fits k b ≡ false
     → one.refuting (act_of k a) b ≡ None
-other k a b h = unrefuted_apart (act_of k a) b (subst (λ (q : Kind). one.fits q b ≡ false) (sym (act_kind k a)) h)
+other k a b h = unrefuted_apart (act_of k a) b
+    (subst (λ (q : Kind). one.fits q b ≡ false) (sym (act_kind k a)) h)
 
 pub its_state : (k : Kind) (s : ObjectState) → one.shape s ≡ k → (t : States k) × (s ≡ state_of k t)
 its_state k s e = subst (λ (q : Kind). (t : States q) × (s ≡ state_of q t)) e (own_state s)
 
 pub its_act : (k : Kind) (a : Act) → IsTrue (one.fits k a) → (b : Ops k) × (a ≡ act_of k b)
-its_act k a h = subst (λ (q : Kind). (b : Ops q) × (a ≡ act_of q b)) (sym (fits_own k a h)) (own_act a)
+its_act k a h = subst (λ (q : Kind). (b : Ops q) × (a ≡ act_of q b)) (sym (fits_own k a h))
+    (own_act a)
 
 pub one_state : (k : Kind) (s t : States k) → state_of k s ≡ state_of k t → s ≡ t
 one_state kinds.Memory s t h = cc

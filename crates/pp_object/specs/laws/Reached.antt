@@ -21,20 +21,25 @@ module _ (k : Kind) where
         ops = r.0;
         log = record {
           allowed = r.2;
-          is = one_state k s (state_after (object_of k) tt r.0) (subst Q (has_kind k s) h.log.is ∙ r.3);
+          is = one_state k s (state_after (object_of k) tt r.0)
+              (subst Q (has_kind k s) h.log.is ∙ r.3);
           ranged = ranged_out k r.0 (subst (λ (l : List Act). AllRanged one l) r.1 h.log.ranged);
         };
         few = subst (λ n. n < 1_000_000) (ap length r.1 ∙ length-map r.0 (act_of k)) h.few;
       }
 
-  pub was_applied_alone : (s : States k) (a : Ops k) (u : Undo) → WasApplied one (act_of k a) u (state_of k s) → WasApplied (object_of k) a (undo_from k u) s
+  pub was_applied_alone : (s : States k) (a : Ops k) (u : Undo)
+      → WasApplied one (act_of k a) u (state_of k s) → WasApplied (object_of k) a (undo_from k u) s
   was_applied_alone s a u h =
       let t = its_state k h.0 (only_kind k (one.shape h.0) a h.3.0) in
-      let legal = legal_out k t.0 a (subst (λ (v : ObjectState). IsLegal one v (act_of k a)) t.1 h.3) in (
+      let legal = legal_out k t.0 a
+      (subst (λ (v : ObjectState). IsLegal one v (act_of k a)) t.1 h.3) in (
         t.0,
         reached_alone t.0 (subst (λ (v : ObjectState). IsReached one v) t.1 h.1),
         subst IsTrue (ranged_is k a) h.2,
         legal,
-        one_state k s ((object_of k).next t.0 a) (h.4 ∙ ap (λ (v : ObjectState). one.next v (act_of k a)) t.1 ∙ next_is k t.0 a),
-        ap (undo_from k) (h.5 ∙ ap (λ (v : ObjectState). one.upkeep.kept v (act_of k a)) t.1 ∙ kept_is k t.0 a) ∙ one_undo k ((object_of k).upkeep.kept t.0 a),
+        one_state k s ((object_of k).next t.0 a)
+            (h.4 ∙ ap (λ (v : ObjectState). one.next v (act_of k a)) t.1 ∙ next_is k t.0 a),
+        ap (undo_from k) (h.5 ∙ ap (λ (v : ObjectState). one.upkeep.kept v (act_of k a)) t.1
+            ∙ kept_is k t.0 a) ∙ one_undo k ((object_of k).upkeep.kept t.0 a),
       )

@@ -8,8 +8,12 @@ use Rattle.pp_object.proofs.objects.may_swap.Goals as goal
 pub returns-then-a-b : goal.returns-then-a-b
 returns-then-a-b c =
     let t = c.if-a-b.true in
-    let e : not (nat_eq c.args.a.now.object c.args.b.now.object) ≡ true = grind (arith, nat_tests) in
-    subst (λ (b : Bool). IsTrue b ↔ Swaps objects c.args.a.now c.args.b.now) (sym e) (other_place_swaps c.args.a.now c.args.b.now t)
+    let e : not (nat_eq c.args.a.now.object c.args.b.now.object) ≡ true =
+    grind (arith, nat_tests) in
+    subst (λ (b : Bool). IsTrue b ↔ Swaps objects c.args.a.now c.args.b.now) (sym e)
+    (other_place_swaps c.args.a.now c.args.b.now t)
 
 pub returns-else-a-b : goal.returns-else-a-b
-returns-else-a-b c = let f = c.if-a-b.false in same_place_swaps c.args.a.now c.args.b.now c.swaps.result (grind (arith, nat_tests)) c.swaps.ensures.swaps c.swaps.ensures.only
+returns-else-a-b c = let f = c.if-a-b.false in
+    same_place_swaps c.args.a.now c.args.b.now c.swaps.result
+    (grind (arith, nat_tests)) c.swaps.ensures.swaps c.swaps.ensures.only

@@ -5,18 +5,29 @@ use Rattle.pp_object.proofs.one.OneObjectSpec.undo.Goals as goal
 
 pub undo-requires : goal.undo-requires
 undo-requires g c =
-    let w = was_applied_here kinds.Memory c.args.state.now c.in-Memory-Memory.state c.args.op.now c.in-Memory-Memory.op c.args.undo c.in-Memory-Memory.is-0 c.in-Memory-Memory.is-1 c.requires in
+    let w = was_applied_here kinds.Memory c.args.state.now c.in-Memory-Memory.state c.args.op.now
+    c.in-Memory-Memory.op c.args.undo c.in-Memory-Memory.is-0 c.in-Memory-Memory.is-1 c.requires
+    in
     let e = c.covered.ensures ∙ w.5 in
     (w.0, w.1, w.2, w.3, w.4, search (rules, e))
 
 pub undo-requires-in-KeySet-KeySet : goal.undo-requires-in-KeySet-KeySet
-undo-requires-in-KeySet-KeySet g c = was_applied_here kinds.KeySet c.args.state.now c.in-KeySet-KeySet.state c.args.op.now c.in-KeySet-KeySet.op c.args.undo c.in-KeySet-KeySet.is-0 c.in-KeySet-KeySet.is-1 c.requires
+undo-requires-in-KeySet-KeySet g c =
+    was_applied_here kinds.KeySet c.args.state.now c.in-KeySet-KeySet.state c.args.op.now
+    c.in-KeySet-KeySet.op c.args.undo c.in-KeySet-KeySet.is-0 c.in-KeySet-KeySet.is-1 c.requires
 
 pub undo-requires-in-KeyMap-KeyMap : goal.undo-requires-in-KeyMap-KeyMap
-undo-requires-in-KeyMap-KeyMap g c = was_applied_here kinds.KeyMap c.args.state.now c.in-KeyMap-KeyMap.state c.args.op.now c.in-KeyMap-KeyMap.op c.args.undo c.in-KeyMap-KeyMap.is-0 c.in-KeyMap-KeyMap.is-1 c.requires
+undo-requires-in-KeyMap-KeyMap g c =
+    was_applied_here kinds.KeyMap c.args.state.now c.in-KeyMap-KeyMap.state c.args.op.now
+    c.in-KeyMap-KeyMap.op c.args.undo c.in-KeyMap-KeyMap.is-0 c.in-KeyMap-KeyMap.is-1 c.requires
 
 pub undo-requires-in-Counter-Counter : goal.undo-requires-in-Counter-Counter
-undo-requires-in-Counter-Counter g c = was_applied_here kinds.Counter c.args.state.now c.in-Counter-Counter.state c.args.op.now c.in-Counter-Counter.op c.args.undo c.in-Counter-Counter.is-0 c.in-Counter-Counter.is-1 c.requires
+undo-requires-in-Counter-Counter g c =
+    was_applied_here kinds.Counter c.args.state.now c.in-Counter-Counter.state c.args.op.now
+    c.in-Counter-Counter.op c.args.undo c.in-Counter-Counter.is-0 c.in-Counter-Counter.is-1
+    c.requires
 
 pub undo-requires-in-Queue-Queue : goal.undo-requires-in-Queue-Queue
-undo-requires-in-Queue-Queue g c = was_applied_here kinds.Queue c.args.state.now c.in-Queue-Queue.state c.args.op.now c.in-Queue-Queue.op c.args.undo c.in-Queue-Queue.is-0 c.in-Queue-Queue.is-1 c.requires
+undo-requires-in-Queue-Queue g c =
+    was_applied_here kinds.Queue c.args.state.now c.in-Queue-Queue.state c.args.op.now
+    c.in-Queue-Queue.op c.args.undo c.in-Queue-Queue.is-0 c.in-Queue-Queue.is-1 c.requires
