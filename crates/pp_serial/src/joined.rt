@@ -1,3 +1,4 @@
+//! The operations of all committed transactions.
 ghost use Rattle.std.specs.Prelude.{◌≡◌, ◌++◌, IfOk, OnOk};
 ghost use Rattle.pp_model.specs.Object.{ops};
 ghost use Rattle.pp_model.specs.Sound.{serial_ops};

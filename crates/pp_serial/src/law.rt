@@ -1,3 +1,4 @@
+//! The permutation law, of every kind.
 ghost use Rattle.pp_model.specs.Object.{PermutationLaw};
 ghost use Rattle.pp_spec.specs.Object.{rules_of};
 

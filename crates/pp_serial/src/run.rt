@@ -1,3 +1,4 @@
+//! The serial run: its list, and the state after it.
 ghost use Rattle.std.specs.Prelude.{◌≡◌, ◌+◌, ◌≤◌, ◌<◌, length, IfOk, OnOk};
 ghost use Rattle.pp_spec.specs.Object.{IsAllowed, AllRanged, state_after};
 ghost use Rattle.pp_model.specs.Sound.{serial_ops};

@@ -10,19 +10,19 @@ use std::test::Fail;
 pub struct Pair {
     pub first: Op,
     pub second: Op,
-    /// What stands before and after them where they may not change places, or nothing where they
-    /// may.
+    /// What stands before and after them where they do not swap, or nothing where they
+    /// do.
     pub context: Option<(&'static [Op], &'static [Op])>,
 }
 
-/// A pair that may change places.
+/// A pair that swaps.
 macro_rules! swap {
     ($first:expr, $second:expr) => {
         Pair { first: $first, second: $second, context: None }
     };
 }
 
-/// A pair that may not, with the operations before it and after it that show this.
+/// A pair that does not, with the operations before it and after it that show this.
 macro_rules! stay {
     ($first:expr, $second:expr, $before:expr, $after:expr) => {
         Pair { first: $first, second: $second, context: Some((&$before, &$after)) }
