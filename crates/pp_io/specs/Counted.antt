@@ -9,7 +9,8 @@ listed None = []
 listed (Some line) = line ∷ []
 
 -- no line more is held or was handed out than ended, and none above the limit
-pub record IsCounted (whole : List (List ℕ)) (last : Option (List ℕ)) (rest : List ℕ) (handed : ℕ) (reach : Reach) (closed : Bool) : Type 0 where
+pub record IsCounted (whole : List (List ℕ)) (last : Option (List ℕ)) (rest : List ℕ)
+    (handed : ℕ) (reach : Reach) (closed : Bool) : Type 0 where
   pub reached : IsReach reach
   pub column : length rest ≤ reach.column
   pub ahead : closed ≡ false → (handed + length whole ≤ reach.lines) × (last ≡ None)

@@ -1,9 +1,13 @@
 -- How a count of faults rises.
-use Rattle.std.specs.Prelude.{ℕ, ◌+◌, ◌^◌, ◌<◌, ◌-◌, min}
+use Rattle.std.specs.Prelude.{◌≡◌, ℕ, List, length, ◌+◌, ◌^◌, ◌<◌, ◌-◌, min}
 
 -- a count that stands at the end of 64 bits counts as risen
 abbrev pub HasRisen : ℕ → ℕ → Type 0
 HasRisen old new = old < 2 ^ 64 - 1 → old < new
+
+-- a write that takes nothing of some bytes is counted
+abbrev pub CountsNothing : ℕ → List ℕ → ℕ → ℕ → Type 0
+CountsNothing n bytes old new = n ≡ 0 → 0 < length bytes → HasRisen old new
 
 -- one more, up to the end of 64 bits
 abbrev pub counted : ℕ → ℕ

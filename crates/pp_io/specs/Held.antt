@@ -1,12 +1,14 @@
 -- What `Lines` holds, as contracts see it.
-use Rattle.std.specs.Prelude.{ℕ, ◌+◌, List, [], ◌∷◌, ◌++◌, map, Bool, true, false, Option, Some, None}
+use Rattle.std.specs.Prelude.{◌≡◌, ℕ, ◌+◌, List, [], ◌∷◌, ◌++◌, map, Bool, true, false, Option, Some, None}
 use Rattle.pp_io.specs.declared.fault.LineFault.{LineFault}
 use Rattle.pp_io.specs.declared.fault.LineFault.TheVariants.{OutOfMemory}
 use Rattle.pp_io.specs.declared.reach.Reach.{Reach}
-use Rattle.pp_io.specs.Lines.{ended_behind, rest_behind, unended, without_return}
+use Rattle.pp_io.specs.Lines.{NumberedLine, ended_behind, rest_behind, unended, without_return}
 use Rattle.pp_io.specs.Reaches.{overrun_from, within_from, reach_from, start}
 
--- the whole lines that were not handed out, what follows the last line end, how many lines were handed out, how far the input has come, the fault that every later feed answers, and whether the input is at its end
+-- the whole lines that were not handed out, what follows the last line end, how many lines were
+-- handed out, how far the input has come, the fault that every later feed answers, and whether the
+-- input is at its end
 pub record Held : Type 0 where
   pub whole : List (List ℕ)
   pub rest : List ℕ
@@ -30,21 +32,30 @@ fed held piece = record {
   closed = held.closed;
 }
 
+-- a piece is taken, up to the first limit that it passes
+abbrev pub TakesPiece : Held → Held → List ℕ → Option LineFault → Type 0
+TakesPiece old new piece limit =
+    (new ≡ fed old piece) × (overrun_from old.reach piece ≡ limit)
+
 -- after want of memory
 abbrev pub refused : Held → Held
 refused held = record held { rest = []; fault = Some OutOfMemory }
 
 -- at the end of the input: what follows the last line end counts as a line where it is not empty
 abbrev pub finished : Held → Held
-finished held = record held { whole = held.whole ++ map without_return (unended held.rest); rest = []; closed = true }
+finished held = record held {
+  whole = held.whole ++ map without_return (unended held.rest);
+  rest = [];
+  closed = true;
+}
 
 -- the first of the whole lines, where so many were handed out
-abbrev pub first_of : ℕ → List (List ℕ) → Option (ℕ × List ℕ)
+abbrev pub first_of : ℕ → List (List ℕ) → Option NumberedLine
 first_of handed [] = None
 first_of handed (line ∷ lines) = Some (handed + 1, line)
 
 -- the next whole line, with its number
-abbrev pub next_line : Held → Option (ℕ × List ℕ)
+abbrev pub next_line : Held → Option NumberedLine
 next_line held = first_of held.handed held.whole
 
 -- what is held once the first of the whole lines was handed out

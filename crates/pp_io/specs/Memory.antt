@@ -1,14 +1,24 @@
 -- Sources and sinks in memory, as contracts see them.
-use Rattle.std.specs.Prelude.{ℕ, List, ◌++◌, length, drop, min, max, Option, Some, None, slice_get}
+use Rattle.std.specs.Prelude.{ℕ, List, [], ◌++◌, length, drop, min, max, Option, Some, None, slice_get, Contains}
 use Rattle.pp_io.specs.Faults.{counted}
 
--- the bytes that are left, how many bytes each call gives at most, the numbers of the calls that fail, and how many calls were made and failed
+-- the bytes that are left, how many bytes each call gives at most, the numbers of the calls that
+-- fail, and how many calls were made and failed
 pub record SourceInMemory : Type 0 where
   pub left : List ℕ
   pub pieces : List ℕ
   pub failing : List ℕ
   pub calls : ℕ
   pub faults : ℕ
+
+-- before the first call
+abbrev pub fresh_source : List ℕ → List ℕ → List ℕ → SourceInMemory
+fresh_source bytes pieces failing =
+    record { left = bytes; pieces = pieces; failing = failing; calls = 0; faults = 0 }
+
+-- the next call fails
+abbrev pub ReadFails : SourceInMemory → Type 0
+ReadFails source = Contains source.failing source.calls
 
 -- the most bytes of a piece, one at least; where there is none, as many as fit
 abbrev pub most_of : Option ℕ → ℕ → ℕ
@@ -17,7 +27,8 @@ most_of (Some most) room = max most 1
 
 -- how many bytes the next call gives
 abbrev pub given_by : SourceInMemory → ℕ → ℕ
-given_by source room = min (min room (most_of (slice_get source.pieces source.calls) room)) (length source.left)
+given_by source room =
+    min (min room (most_of (slice_get source.pieces source.calls) room)) (length source.left)
 
 -- after a call that gave so many bytes
 abbrev pub after_read : SourceInMemory → ℕ → SourceInMemory
@@ -25,15 +36,26 @@ after_read source n = record source { left = drop n source.left; calls = counted
 
 -- after a call that failed
 abbrev pub after_failed_read : SourceInMemory → SourceInMemory
-after_failed_read source = record source { calls = counted source.calls; faults = counted source.faults }
+after_failed_read source =
+    record source { calls = counted source.calls; faults = counted source.faults }
 
--- the bytes that were taken, how many a call takes at most, the numbers of the calls that fail, and how many calls were made and failed
+-- the bytes that were taken, how many a call takes at most, the numbers of the calls that fail,
+-- and how many calls were made and failed
 pub record SinkInMemory : Type 0 where
   pub held : List ℕ
   pub most : ℕ
   pub failing : List ℕ
   pub calls : ℕ
   pub faults : ℕ
+
+-- before the first call, where a call takes so many bytes at most, and one at least
+abbrev pub fresh_sink : ℕ → List ℕ → SinkInMemory
+fresh_sink most failing =
+    record { held = []; most = max most 1; failing = failing; calls = 0; faults = 0 }
+
+-- the next call fails
+abbrev pub WriteFails : SinkInMemory → Type 0
+WriteFails sink = Contains sink.failing sink.calls
 
 -- after a call that took these bytes
 abbrev pub after_write : SinkInMemory → List ℕ → SinkInMemory

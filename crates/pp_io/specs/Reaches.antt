@@ -5,16 +5,21 @@ use Rattle.pp_io.specs.declared.reach.Reach.{Reach}
 use Rattle.pp_io.specs.declared.fault.LineFault.{LineFault}
 use Rattle.pp_io.specs.declared.fault.LineFault.TheVariants.{TooLong, TooManyLines, LineTooLong}
 
--- the limit that a byte passes, where the bytes before it reach to here: that of the bytes, of the lines, or of a line's bytes, the first of them if it passes several
+-- the limit that a byte passes, where the bytes before it reach to here: that of the bytes, of the
+-- lines, or of a line's bytes, the first of them if it passes several
 abbrev pub passed : Reach → ℕ → Option LineFault
 passed at byte =
     if nat_le 268_435_456 at.bytes then Some (TooLong (at.lines + 1)) else
     (if nat_le 200_001 at.lines then Some (TooManyLines (at.lines + 1)) else
-    (if not (byte == 10) && nat_le 65_536 at.column then Some (LineTooLong (at.lines + 1)) else None))
+    (if not (byte == 10) && nat_le 65_536 at.column
+    then Some (LineTooLong (at.lines + 1)) else None))
 
 -- where the input reaches behind a byte
 abbrev pub past : Reach → ℕ → Reach
-past at byte = if byte == 10 then record { bytes = at.bytes + 1; lines = at.lines + 1; column = 0 } else record { bytes = at.bytes + 1; lines = at.lines; column = at.column + 1 }
+past at byte =
+    if byte == 10
+    then record { bytes = at.bytes + 1; lines = at.lines + 1; column = 0 }
+    else record { bytes = at.bytes + 1; lines = at.lines; column = at.column + 1 }
 
 -- the first limit that is passed by bytes that begin here
 abbrev pub overrun_from : Reach → List ℕ → Option LineFault
@@ -24,16 +29,23 @@ overrun_from at (byte ∷ bytes) = option_or (passed at byte) (overrun_from (pas
 -- the bytes before the one that passes it
 abbrev pub within_from : Reach → List ℕ → List ℕ
 within_from at [] = []
-within_from at (byte ∷ bytes) = if is_some (passed at byte) then [] else byte ∷ within_from (past at byte) bytes
+within_from at (byte ∷ bytes) =
+    if is_some (passed at byte) then [] else byte ∷ within_from (past at byte) bytes
 
 -- where they reach to
 abbrev pub reach_from : Reach → List ℕ → Reach
 reach_from at [] = at
-reach_from at (byte ∷ bytes) = if is_some (passed at byte) then at else reach_from (past at byte) bytes
+reach_from at (byte ∷ bytes) =
+    if is_some (passed at byte) then at else reach_from (past at byte) bytes
 
 -- no byte was read
 abbrev pub start : Reach
 start = record { bytes = 0; lines = 0; column = 0 }
+
+-- a line of so many bytes, and its end, pass no limit
+abbrev pub HasRoom : Reach → ℕ → Type 0
+HasRoom at len =
+    (at.bytes + len < 268_435_456) × (at.lines < 200_001) × (at.column + len ≤ 65_536)
 
 -- no byte follows the last line that may be
 abbrev pub IsReach : Reach → Type 0

@@ -13,7 +13,9 @@ pub(crate) fn cut(
     tail: &mut Tail,
     piece: &[u8],
 ) -> Result<(), OutOfMemory>
-    ensures whole { OnOk result (whole.new.items ≡ whole.old.items ++ map without_return (ended_behind tail.old piece.now)) }
+    ensures whole { OnOk result
+        (whole.new.items
+        ≡ whole.old.items ++ map without_return (ended_behind tail.old piece.now)) }
     ensures tail { OnOk result (tail.new ≡ rest_behind tail.old piece.now) }
     ensures kept { take (length whole.old.items) whole.new.items ≡ whole.old.items }
 {

@@ -1,3 +1,4 @@
+//! Limits of an input that are passed.
 /// Why a piece of an input is not taken.
 #[derive(Clone, Copy, Debug, PartialEq, Eq)]
 pub enum LineFault {

@@ -1,10 +1,9 @@
 //! Whole lines out of pieces of bytes.
 ghost use Rattle.std.specs.Prelude.{◌≡◌, ◌≤◌, ◌+◌, ◌++◌, ◌∷◌, [], ℕ, List, IfNone, None, Some, Err, OnOk, IfErr, IsErrOf, option_map, IfSome, false};
-ghost use Rattle.pp_io.specs.Lines.{blank, numbered_lines};
+ghost use Rattle.pp_io.specs.Lines.{NumberedLine, blank, numbered_lines};
 ghost use Rattle.pp_io.specs.Overruns.{overrun, answer_of};
 ghost use Rattle.pp_io.specs.Taken.{Hands, Took};
-ghost use Rattle.pp_io.specs.Reaches.{overrun_from};
-ghost use Rattle.pp_io.specs.Held.{empty, fed, refused, finished, next_line, after_next};
+ghost use Rattle.pp_io.specs.Held.{TakesPiece, empty, refused, finished, next_line, after_next};
 ghost use Rattle.pp_io.specs.declared.fault.LineFault.TheVariants.{OutOfMemory};
 
 use crate::cut::cut;
@@ -23,8 +22,8 @@ pub struct Line {
     pub text: Text,
 }
 
-/// Cuts an input, which comes in pieces, into its lines. After each `feed` all whole lines can be taken by
-/// `next`; at the end of the input `finish` makes what is left a line.
+/// Cuts an input, which comes in pieces, into its lines. After each `feed` all whole lines can be
+/// taken by `next`; at the end of the input `finish` makes what is left a line.
 #[derive(Drop)]
 pub struct Lines {
     whole: VecDeque<Text>,
@@ -43,7 +42,14 @@ impl Model for Lines {
 
     ghost Value = { Held };
 
-    ghost view = { λ l. record { whole = l.whole.items ++ listed l.last; rest = l.tail; handed = l.handed; reach = l.reach; fault = l.fault; closed = l.closed } };
+    ghost view = { λ l. record {
+      whole = l.whole.items ++ listed l.last;
+      rest = l.tail;
+      handed = l.handed;
+      reach = l.reach;
+      fault = l.fault;
+      closed = l.closed;
+    } };
 
     ghost invariant = { λ l. IsCounted l.whole.items l.last l.tail l.handed l.reach l.closed };
 }
@@ -72,13 +78,21 @@ impl Lines {
     /// Takes the next piece of the input.
     pub fn feed(&mut self, piece: &[u8]) -> Result<(), LineFault>
         requires { self.old.closed ≡ false }
-        ensures again { IfSome self.old.fault (λ fault. (result ≡ Err fault) × (self.new ≡ self.old)) }
-        ensures ok { self.old.fault ≡ None → OnOk result ((self.new ≡ fed self.old piece.now) × (overrun_from self.old.reach piece.now ≡ None)) }
-        ensures passed { self.old.fault ≡ None → IfErr result (λ fault. ¬ (fault ≡ OutOfMemory) → (self.new ≡ fed self.old piece.now) × (overrun_from self.old.reach piece.now ≡ Some fault)) }
-        ensures memory { self.old.fault ≡ None → IsErrOf result OutOfMemory → self.new ≡ refused self.old }
+        ensures again { IfSome self.old.fault (λ fault.
+            (result ≡ Err fault) × (self.new ≡ self.old)) }
+        ensures ok { self.old.fault ≡ None →
+            OnOk result (TakesPiece self.old self.new piece.now None) }
+        ensures passed { self.old.fault ≡ None →
+            IfErr result (λ fault.
+            ¬ (fault ≡ OutOfMemory) → TakesPiece self.old self.new piece.now (Some fault)) }
+        ensures memory { self.old.fault ≡ None → IsErrOf result OutOfMemory →
+            self.new ≡ refused self.old }
 
         // In whatever pieces the bytes before it came.
-        ensures input { (bytes : List ℕ) (out : List (ℕ × List ℕ)) → Took bytes out self.old → self.old.fault ≡ None → ¬ IsErrOf result OutOfMemory → (result ≡ answer_of (overrun (bytes ++ piece.now))) × Took (bytes ++ piece.now) out self.new }
+        ensures input { (bytes : List ℕ) (out : List NumberedLine) → Took bytes out self.old →
+            self.old.fault ≡ None → ¬ IsErrOf result OutOfMemory →
+            (result ≡ answer_of (overrun (bytes ++ piece.now)))
+            × Took (bytes ++ piece.now) out self.new }
     {
         if let Some(fault) = self.fault {
             return Err(fault);
@@ -99,12 +113,14 @@ impl Lines {
         }
     }
 
-    /// The input is at its end: what follows the last line end counts as a line where it is not empty.
+    /// The input is at its end: what follows the last line end counts as a line where it is not
+    /// empty.
     pub fn finish(&mut self)
         requires sound { self.old.fault ≡ None }
         requires open { self.old.closed ≡ false }
         ensures after { self.new ≡ finished self.old }
-        ensures input { (bytes : List ℕ) (out : List (ℕ × List ℕ)) → Took bytes out self.old → Hands (numbered_lines bytes) out self.new }
+        ensures input { (bytes : List ℕ) (out : List NumberedLine) → Took bytes out self.old →
+            Hands (numbered_lines bytes) out self.new }
     {
         self.closed = true;
         if !self.tail.is_empty() {
@@ -116,10 +132,16 @@ impl Lines {
     pub fn next(&mut self) -> Option<Line>
         ensures line { option_map (λ line. (line.number, line.text)) result ≡ next_line self.old }
         ensures after { self.new ≡ after_next self.old }
-        ensures number { IfSome result (λ line. (line.number ≡ self.old.handed + 1) × (self.new.handed ≡ line.number) × (line.number ≤ 200_001)) }
-        ensures input { (bytes : List ℕ) (out : List (ℕ × List ℕ)) → Took bytes out self.old → IfSome result (λ line. Took bytes (out ++ (line.number, line.text) ∷ []) self.new) }
-        ensures some { (lines out : List (ℕ × List ℕ)) → Hands lines out self.old → IfSome result (λ line. Hands lines (out ++ (line.number, line.text) ∷ []) self.new) }
-        ensures none { (lines out : List (ℕ × List ℕ)) → Hands lines out self.old → IfNone result (out ≡ lines) }
+        ensures number { IfSome result (λ line.
+            (line.number ≡ self.old.handed + 1)
+            × (self.new.handed ≡ line.number)
+            × (line.number ≤ 200_001)) }
+        ensures input { (bytes : List ℕ) (out : List NumberedLine) → Took bytes out self.old →
+            IfSome result (λ line. Took bytes (out ++ (line.number, line.text) ∷ []) self.new) }
+        ensures some { (lines out : List NumberedLine) → Hands lines out self.old →
+            IfSome result (λ line. Hands lines (out ++ (line.number, line.text) ∷ []) self.new) }
+        ensures none { (lines out : List NumberedLine) → Hands lines out self.old →
+            IfNone result (out ≡ lines) }
     {
         let text = match self.whole.pop_front() {
             Some(text) => text,

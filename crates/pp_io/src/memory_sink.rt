@@ -1,8 +1,8 @@
 //! A sink in memory, with calls that fail.
-ghost use Rattle.std.specs.Prelude.{◌≡◌, ◌<◌, ◌≤◌, ℕ, Some, [], Ok, Err, length, take, min, max, Contains, IfOk, OnErr, IsErrOf, IsTrue, ◌↔◌};
+ghost use Rattle.std.specs.Prelude.{◌≡◌, ◌≤◌, Some, [], Ok, Err, length, take, min, IfOk, OnErr, IsErrOf, IsTrue, ◌↔◌};
 ghost use Rattle.std.specs.Io.KnownBytes.{WriteAppends, Keeps};
-ghost use Rattle.pp_io.specs.Faults.{HasRisen};
-ghost use Rattle.pp_io.specs.Memory.{after_write, after_failed_write};
+ghost use Rattle.pp_io.specs.Faults.{CountsNothing, HasRisen};
+ghost use Rattle.pp_io.specs.Memory.{WriteFails, after_write, after_failed_write, fresh_sink};
 ghost use Rattle.pp_io.specs.declared.sink.SinkFault.TheVariants.{Failed, OutOfMemory};
 
 use crate::memory_source::is_among;
@@ -10,8 +10,8 @@ use crate::sink::{Sink, SinkFault};
 use std::alloc::Global;
 use std::marker::Model;
 
-/// Keeps what it takes, at most so many bytes a call. The calls whose numbers, from 0, are in `failing`
-/// fail.
+/// Keeps what it takes, at most so many bytes a call. The calls whose numbers, from 0, are in
+/// `failing` fail.
 #[derive(Drop)]
 pub struct MemorySink {
     held: Vec<u8>,
@@ -27,7 +27,13 @@ impl Model for MemorySink {
 
     ghost Value = { SinkInMemory };
 
-    ghost view = { λ s. record { held = s.held.items; most = s.most; failing = s.failing.items; calls = s.calls; faults = s.faults } };
+    ghost view = { λ s. record {
+      held = s.held.items;
+      most = s.most;
+      failing = s.failing.items;
+      calls = s.calls;
+      faults = s.faults;
+    } };
 
     ghost invariant = { λ s. 0 < s.most };
 }
@@ -35,7 +41,7 @@ impl Model for MemorySink {
 impl MemorySink {
     /// A sink that has taken nothing. It takes one byte a call at least.
     pub fn new(alloc: Global, most: usize, failing: Vec<u64>) -> MemorySink
-        ensures { result ≡ record { held = []; most = max most 1; failing = failing.items; calls = 0; faults = 0 } }
+        ensures { result ≡ fresh_sink most failing.items }
     {
         MemorySink {
             held: Vec::new(alloc),
@@ -55,7 +61,7 @@ impl MemorySink {
 
     /// Counts a call, and answers whether it fails.
     fn fails(&mut self) -> bool
-        ensures fails { IsTrue result ↔ Contains self.old.failing self.old.calls }
+        ensures fails { IsTrue result ↔ WriteFails self.old }
         ensures failed { IsTrue result → self.new ≡ after_failed_write self.old }
         ensures passed { ¬ IsTrue result → self.new ≡ after_write self.old [] }
         ensures count { self.old.faults ≤ self.new.faults }
@@ -79,11 +85,17 @@ impl Sink for MemorySink {
         ensures bound { IfOk result (λ n. n ≤ length bytes.now) }
         ensures bytes { WriteAppends (Some self.old.held) (Some self.new.held) result bytes.now }
         ensures count { self.old.faults ≤ self.new.faults }
-        ensures nothing { IfOk result (λ n. n ≡ 0 → 0 < length bytes.now → HasRisen self.old.faults self.new.faults) }
+        ensures nothing { IfOk result (λ n.
+            CountsNothing n bytes.now self.old.faults self.new.faults) }
         ensures failed { IsErrOf result Failed → HasRisen self.old.faults self.new.faults }
-        ensures fails { Contains self.old.failing self.old.calls → (result ≡ Err Failed) × (self.new ≡ after_failed_write self.old) }
-        ensures takes { ¬ Contains self.old.failing self.old.calls → IfOk result (λ n. (n ≡ min (length bytes.now) self.old.most) × (self.new ≡ after_write self.old (take n bytes.now))) }
-        ensures memory { ¬ Contains self.old.failing self.old.calls → OnErr result ((result ≡ Err OutOfMemory) × (self.new ≡ after_write self.old [])) }
+        ensures fails { WriteFails self.old →
+            (result ≡ Err Failed) × (self.new ≡ after_failed_write self.old) }
+        ensures takes { ¬ WriteFails self.old →
+            IfOk result (λ n.
+            (n ≡ min (length bytes.now) self.old.most)
+            × (self.new ≡ after_write self.old (take n bytes.now))) }
+        ensures memory { ¬ WriteFails self.old →
+            OnErr result ((result ≡ Err OutOfMemory) × (self.new ≡ after_write self.old [])) }
     {
         if self.fails() {
             return Err(SinkFault::Failed);
@@ -99,8 +111,10 @@ impl Sink for MemorySink {
         ensures bytes { Keeps (Some self.old.held) (Some self.new.held) }
         ensures count { self.old.faults ≤ self.new.faults }
         ensures failed { IsErrOf result Failed → HasRisen self.old.faults self.new.faults }
-        ensures fails { Contains self.old.failing self.old.calls → (result ≡ Err Failed) × (self.new ≡ after_failed_write self.old) }
-        ensures passes { ¬ Contains self.old.failing self.old.calls → (result ≡ Ok tt) × (self.new ≡ after_write self.old []) }
+        ensures fails { WriteFails self.old →
+            (result ≡ Err Failed) × (self.new ≡ after_failed_write self.old) }
+        ensures passes { ¬ WriteFails self.old →
+            (result ≡ Ok tt) × (self.new ≡ after_write self.old []) }
     {
         if self.fails() {
             return Err(SinkFault::Failed);

@@ -1,8 +1,8 @@
 //! Bytes in memory, in pieces, with calls that fail.
-ghost use Rattle.std.specs.Prelude.{◌≡◌, ◌≤◌, ℕ, Some, Ok, IsErr, length, take, drop, slice_get, Contains, IfOk, OnErr, IsTrue, ◌↔◌};
+ghost use Rattle.std.specs.Prelude.{◌≡◌, ◌≤◌, Some, Ok, IsErr, length, take, drop, slice_get, Contains, IfOk, OnErr, IsTrue, ◌↔◌};
 ghost use Rattle.std.specs.Io.KnownBytes.{ReadConsumes};
 ghost use Rattle.pp_io.specs.Faults.{HasRisen};
-ghost use Rattle.pp_io.specs.Memory.{most_of, given_by, after_read, after_failed_read};
+ghost use Rattle.pp_io.specs.Memory.{ReadFails, most_of, given_by, after_read, after_failed_read, fresh_source};
 
 use crate::source::{Failed, Source};
 use std::marker::Model;
@@ -24,7 +24,13 @@ impl Model for MemorySource {
 
     ghost Value = { SourceInMemory };
 
-    ghost view = { λ s. record { left = drop s.at s.bytes.items; pieces = s.pieces.items; failing = s.failing.items; calls = s.calls; faults = s.faults } };
+    ghost view = { λ s. record {
+      left = drop s.at s.bytes.items;
+      pieces = s.pieces.items;
+      failing = s.failing.items;
+      calls = s.calls;
+      faults = s.faults;
+    } };
 
     ghost invariant = { λ s. s.at ≤ length s.bytes.items };
 }
@@ -32,7 +38,7 @@ impl Model for MemorySource {
 impl MemorySource {
     /// A source that has given nothing.
     pub fn new(bytes: Vec<u8>, pieces: Vec<usize>, failing: Vec<u64>) -> MemorySource
-        ensures { result ≡ record { left = bytes.items; pieces = pieces.items; failing = failing.items; calls = 0; faults = 0 } }
+        ensures { result ≡ fresh_source bytes.items pieces.items failing.items }
     {
         MemorySource {
             bytes,
@@ -79,8 +85,11 @@ impl Source for MemorySource {
         ensures bytes { ReadConsumes (Some self.old.left) (Some self.new.left) result into.new }
         ensures count { self.old.faults ≤ self.new.faults }
         ensures failed { OnErr result (HasRisen self.old.faults self.new.faults) }
-        ensures fails { Contains self.old.failing self.old.calls → IsErr result × (self.new ≡ after_failed_read self.old) }
-        ensures gives { ¬ Contains self.old.failing self.old.calls → let n = given_by self.old (length into.new) in (result ≡ Ok n) × (self.new ≡ after_read self.old n) }
+        ensures fails { ReadFails self.old →
+            IsErr result × (self.new ≡ after_failed_read self.old) }
+        ensures gives { ¬ ReadFails self.old →
+            let n = given_by self.old (length into.new) in
+            (result ≡ Ok n) × (self.new ≡ after_read self.old n) }
     {
         let call = self.calls;
         self.calls = call.saturating_add(1);

@@ -1,6 +1,6 @@
 //! How far an input has come, and what it may not pass.
 ghost use Rattle.std.specs.Prelude.{◌≡◌, ◌≢◌, ◌<◌, ◌≤◌, ◌+◌, ◌↔◌, IsTrue, length, take, None, Some};
-ghost use Rattle.pp_io.specs.Reaches.{passed, past, overrun_from, within_from, reach_from, IsReach, IsSkipped};
+ghost use Rattle.pp_io.specs.Reaches.{HasRoom, passed, past, overrun_from, within_from, reach_from, IsReach, IsSkipped};
 ghost use Rattle.pp_io.specs.declared.fault.LineFault.TheVariants.{OutOfMemory};
 
 use crate::fault::LineFault;
@@ -52,7 +52,7 @@ fn behind(at: Reach, byte: u8) -> Reach
 
 /// Whether a line of so many bytes passes no limit, nor does its end.
 fn has_room(at: Reach, len: usize) -> bool
-    ensures { IsTrue result ↔ ((at.bytes + len < MOST_BYTES) × (at.lines < MOST_LINES) × (at.column + len ≤ LONGEST_LINE)) }
+    ensures { IsTrue result ↔ HasRoom at len }
 {
     let len = len as u64;
     at.bytes < MOST_BYTES
@@ -87,8 +87,8 @@ fn skipped(from: Reach, piece: &[u8]) -> (usize, Reach)
     (done, at)
 }
 
-/// How many bytes of a piece pass no limit, where they reach to, and what the next one passes: one byte
-/// after the other.
+/// How many bytes of a piece pass no limit, where they reach to, and what the next one passes: one
+/// byte after the other.
 fn passed_over(from: Reach, piece: &[u8]) -> (usize, Reach, Option<LineFault>)
     requires { IsReach from }
     ensures count { result.0 ≤ length piece.now }

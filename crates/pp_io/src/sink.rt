@@ -1,7 +1,7 @@
 //! Where bytes go to.
-ghost use Rattle.std.specs.Prelude.{◌≡◌, ◌<◌, ◌≤◌, ℕ, List, Option, length, IfOk, OnErr, IsErrOf};
+ghost use Rattle.std.specs.Prelude.{◌≤◌, ℕ, List, Option, length, IfOk, OnErr, IsErrOf};
 ghost use Rattle.std.specs.Io.KnownBytes.{WriteAppends, Keeps};
-ghost use Rattle.pp_io.specs.Faults.{HasRisen};
+ghost use Rattle.pp_io.specs.Faults.{CountsNothing, HasRisen};
 ghost use Rattle.pp_io.specs.declared.sink.SinkFault.TheVariants.{Failed};
 
 /// Why a write or a flush is refused.
@@ -21,13 +21,14 @@ pub trait Sink {
     /// How often it has failed, up to the end of 64 bits.
     ghost faults: { Self → ℕ };
 
-    /// Takes bytes from the front of a piece, and answers how many. None of a piece that is not empty is a
-    /// fault.
+    /// Takes bytes from the front of a piece, and answers how many. None of a piece that is not
+    /// empty is a fault.
     fn write(&mut self, bytes: &[u8]) -> Result<usize, SinkFault>
         ensures bound { IfOk result (λ n. n ≤ length bytes.now) }
         ensures bytes { WriteAppends (held self.old) (held self.new) result bytes.now }
         ensures count { faults self.old ≤ faults self.new }
-        ensures nothing { IfOk result (λ n. n ≡ 0 → 0 < length bytes.now → HasRisen (faults self.old) (faults self.new)) }
+        ensures nothing { IfOk result (λ n.
+            CountsNothing n bytes.now (faults self.old) (faults self.new)) }
         ensures failed { IsErrOf result Failed → HasRisen (faults self.old) (faults self.new) };
 
     /// Sends on what was taken.

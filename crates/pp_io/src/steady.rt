@@ -10,8 +10,8 @@ use crate::source::{Failed, Source};
 use std::alloc::Global;
 use std::marker::Model;
 
-/// Bytes in memory. A read fills what it is given, and never fails. Contracts see it as the bytes that are
-/// left.
+/// Bytes in memory. A read fills what it is given, and never fails. Contracts see it as the bytes
+/// that are left.
 #[derive(Drop)]
 pub struct SteadySource {
     bytes: Vec<u8>,
@@ -44,7 +44,8 @@ impl Source for SteadySource {
 
     fn read(&mut self, into: &mut [u8]) -> Result<usize, Failed>
         ensures bytes { ReadConsumes (Some self.old) (Some self.new) result into.new }
-        ensures gives { let n = min (length into.new) (length self.old) in (result ≡ Ok n) × (self.new ≡ drop n self.old) }
+        ensures gives { let n = min (length into.new) (length self.old) in
+            (result ≡ Ok n) × (self.new ≡ drop n self.old) }
     {
         let n = into.len().min(self.bytes.len() - self.at);
         give(into, &self.bytes[self.at..], n);
@@ -91,7 +92,8 @@ impl Sink for SteadySink {
     ghost faults = { λ _. 0 };
 
     fn write(&mut self, bytes: &[u8]) -> Result<usize, SinkFault>
-        ensures ok { IfOk result (λ n. (n ≡ length bytes.now) × (self.new ≡ self.old ++ bytes.now)) }
+        ensures ok { IfOk result (λ n.
+            (n ≡ length bytes.now) × (self.new ≡ self.old ++ bytes.now)) }
         ensures err { OnErr result ((result ≡ Err OutOfMemory) × (self.new ≡ self.old)) }
     {
         match self.held.extend_from_slice(bytes) {

@@ -7,8 +7,8 @@ use std::alloc::Global;
 use std::marker::Model;
 use std::mem;
 
-/// The bytes behind the last line end. One byte 13 at their end is held back, so that the line can be
-/// handed out without it and without memory.
+/// The bytes behind the last line end. One byte 13 at their end is held back, so that the line can
+/// be handed out without it and without memory.
 #[derive(Drop)]
 pub(crate) struct Tail {
     text: Text,
