@@ -1,0 +1,48 @@
+#!/usr/bin/env python3
+"""Quick looks at the text of the repository: how long clauses and definitions are, and what no file should name."""
+import pathlib
+import re
+import subprocess
+import sys
+
+ROOT = pathlib.Path(__file__).resolve().parent.parent
+# Crates whose clauses and definitions keep within the columns. The list grows as crates do.
+NARROW = ("pp_cli", "pp_io")
+COLUMNS = 100
+OUTSIDE = re.compile(r"\b[TDRWP]\d{1,2}\b|/(?:work|opt|home|root|tmp)/|\bthe papers\b")
+
+
+def narrow_files():
+    for crate in NARROW:
+        folder = ROOT / "crates" / crate
+        yield from (file for file in folder.glob("src/*.rt"))
+        yield from folder.glob("specs/**/*.antt")
+
+
+def too_wide(file):
+    for number, line in enumerate(file.read_text().splitlines(), 1):
+        if len(line) > COLUMNS and not re.match(r"\s*(ghost |pub )*use ", line):
+            yield f"{file.relative_to(ROOT)}:{number}: {len(line)} columns"
+
+
+def outside(file):
+    """Lines that name a place of some machine, or what stands in no file of the repository."""
+    for number, line in enumerate(file.read_text().splitlines(), 1):
+        found = OUTSIDE.search(line)
+        if found:
+            yield f"{file.relative_to(ROOT)}:{number}: {found[0]}"
+
+
+def main():
+    listed = subprocess.run(["git", "ls-files", "-z"], cwd=ROOT, capture_output=True, check=True)
+    files = [ROOT / name for name in listed.stdout.decode().split("\0") if name]
+    own = pathlib.Path(__file__).resolve()
+    wrong = [line for file in narrow_files() for line in too_wide(file)]
+    wrong += [line for file in files if file.is_file() and file != own for line in outside(file)]
+    for line in wrong:
+        print(f"words: {line}")
+    return int(bool(wrong))
+
+
+if __name__ == "__main__":
+    sys.exit(main())
