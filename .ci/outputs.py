@@ -1,5 +1,6 @@
 #!/usr/bin/env python3
 """Whether README.md shows what is: for each file of examples/ what the built program prints, and the clauses of `run` word for word.
+And whether an input of too many bytes, which is too large for a test, has its fault.
 
     python3 .ci/outputs.py [PROGRAM]      PROGRAM is crates/pp_cli/out/pp_cli where none is named
 
@@ -12,6 +13,7 @@ import sys
 
 ROOT = pathlib.Path(__file__).resolve().parent.parent
 COMMAND = re.compile(r"^ {4}\$ \./pp_cli certify < examples/(\w+\.jsonl)\n((?: {4}.+\n)*)", re.MULTILINE)
+TOO_LONG = 4_096 * (65_536 * b" " + b"\n")
 STATUS = {"accepted": 0, "rejected": 1, "fault": 3}
 
 
@@ -21,14 +23,21 @@ def shown():
     return {name: re.sub(r"^ {4}", "", block, flags=re.MULTILINE) for name, block in COMMAND.findall(text)}
 
 
-def differs(program, example, output):
-    """What the program does otherwise on an example, or nothing."""
-    with example.open("rb") as run:
-        ran = subprocess.run([program, "certify"], stdin=run, capture_output=True, timeout=60, check=False)
+def differs(program, run, output):
+    """What the program does otherwise on a run, or nothing."""
+    ran = subprocess.run([program, "certify"], input=run, capture_output=True, timeout=120, check=False)
     if ran.stdout.decode() != output:
-        return f"prints\n{ran.stdout.decode()}and README shows\n{output}"
+        return f"prints\n{ran.stdout.decode()}and not\n{output}"
     wanted = STATUS[output.split()[0]]
     return f"ends with {ran.returncode} and not {wanted}" if ran.returncode != wanted else None
+
+
+def wrong_answers(program, outputs):
+    runs = [(name, (ROOT / "examples" / name).read_bytes(), output) for name, output in sorted(outputs.items())]
+    for name, run, output in [*runs, ("too many bytes", TOO_LONG, "fault line 4096 TooLong\n")]:
+        said = differs(program, run, output)
+        if said:
+            yield f"{name}: the program {said}"
 
 
 def strange_clauses():
@@ -45,11 +54,10 @@ def main():
     names = {file.name for file in (ROOT / "examples").iterdir()}
     wrong = [f"{name}: README shows no output" for name in sorted(names - outputs.keys())]
     wrong += [f"{name}: there is no such example" for name in sorted(outputs.keys() - names)]
-    if not program.is_file():
+    if program.is_file():
+        wrong += wrong_answers(program, {name: outputs[name] for name in names & outputs.keys()})
+    else:
         wrong.append(f"no program at {program}")
-    for name in sorted(names & outputs.keys() if program.is_file() else ()):
-        said = differs(program, ROOT / "examples" / name, outputs[name])
-        wrong += [f"{name}: the program {said}"] if said else []
     wrong += [f"not a clause of run: {clause}" for clause in strange_clauses()]
     for line in wrong:
         print(f"outputs: {line}")

@@ -1,4 +1,6 @@
 //! The edge: streams of the system as a source and a sink. What they hold is not told.
+ghost use Rattle.std.specs.Prelude.{◌≡◌};
+
 use pp_io::{Failed, Sink, SinkFault, Source};
 use std::io::{Read, Write};
 
@@ -11,7 +13,9 @@ pub struct StdSource<R: Read + Drop> {
 
 impl<R: Read + Drop> StdSource<R> {
     /// A source with no fault so far.
-    pub fn new(stream: R) -> StdSource<R> {
+    pub fn new(stream: R) -> StdSource<R>
+        ensures { result.faults ≡ 0 }
+    {
         StdSource { stream, faults: 0 }
     }
 }
@@ -43,7 +47,9 @@ pub struct StdSink<W: Write + Drop> {
 
 impl<W: Write + Drop> StdSink<W> {
     /// A sink with no fault so far.
-    pub fn new(stream: W) -> StdSink<W> {
+    pub fn new(stream: W) -> StdSink<W>
+        ensures { result.faults ≡ 0 }
+    {
         StdSink { stream, faults: 0 }
     }
 }

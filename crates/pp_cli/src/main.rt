@@ -6,29 +6,21 @@ ghost use Rattle.std.specs.Prelude.{◌≡◌};
 mod edge;
 #[cfg(test)]
 mod tests;
+mod words;
 
 use crate::edge::{StdSink, StdSource};
+use crate::words::collect_words;
 use pp_core::{OutOfMemory, Status, Steps, Words};
 use pp_io::{Sink, Source};
 use pp_run::run;
 use std::alloc::Global;
-use std::env::Args;
+use std::io;
 use std::marker::Brand;
 use std::process::ExitCode;
 use std::sync::ledger::{Blank, Ledger};
-use std::{env, io};
 
 /// The status where the system does not give the words.
 const NO_WORDS: u8 = 8;
-
-/// The words behind the program's own name.
-fn collect_words(alloc: Global, args: Args) -> Result<Words, OutOfMemory> {
-    let mut words = Words::new(alloc);
-    for word in args.skip(1) {
-        words.push(word.as_bytes())?;
-    }
-    Ok(words)
-}
 
 /// Does a command with a step counter of its own.
 fn run_counted<L: Ledger, S: Source, K: Sink>(
@@ -48,19 +40,10 @@ fn run_counted<L: Ledger, S: Source, K: Sink>(
 
 fn main(rt: HostRuntime) -> ExitCode {
     let alloc = rt.alloc();
-    let args = match env::args(&rt) {
-        Ok(args) => args,
-        Err(error) => {
-            let refused = error.kind() == io::ErrorKind::OutOfMemory;
-            return ExitCode::from(if refused {
-                Status::OutOfMemory.code()
-            } else {
-                NO_WORDS
-            });
-        }
-    };
-    let Ok(words) = collect_words(alloc, args) else {
-        return ExitCode::from(Status::OutOfMemory.code());
+    let words = match collect_words(alloc, &rt) {
+        Ok(Some(words)) => words,
+        Ok(None) => return ExitCode::from(NO_WORDS),
+        Err(OutOfMemory) => return ExitCode::from(Status::OutOfMemory.code()),
     };
     let mut source = StdSource::new(rt.reader());
     let mut sink = StdSink::new(io::writer(&rt));

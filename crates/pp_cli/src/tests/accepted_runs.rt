@@ -1,0 +1,185 @@
+//! Runs that are accepted, with their reports.
+use crate::tests::row::{COUNTER, MEMORY, QUEUE, Row};
+use pp_core::Status;
+
+pub(crate) const ACCEPTED: [Row; 13] = [
+    Row {
+        what: "a header alone",
+        header: COUNTER,
+        records: b"",
+        status: Status::Accepted,
+        report: b"accepted steps 0 committed 0\nstate c 0\n",
+    },
+    Row {
+        what: "one transaction",
+        header: COUNTER,
+        records: br#"{"step":"begin","tx":"t1","thread":"p1"}
+{"step":"app","tx":"t1","id":1,"on":"c","call":"add","args":[2],"result":null}
+{"step":"push","tx":"t1","id":1}
+{"step":"cmt","tx":"t1"}
+"#,
+        status: Status::Accepted,
+        report: b"accepted steps 4 committed 1\ntx t1\nop 1 c.add(2)=none\nstate c 2\n",
+    },
+    Row {
+        what: "an unfinished transaction",
+        header: COUNTER,
+        records: br#"{"step":"begin","tx":"t1","thread":"p1"}
+{"step":"app","tx":"t1","id":1,"on":"c","call":"add","args":[2],"result":null}
+{"step":"push","tx":"t1","id":1}
+"#,
+        status: Status::Accepted,
+        report: b"accepted steps 3 committed 0\nstate c 0\n",
+    },
+    Row {
+        what: "two transactions that add at the same time",
+        header: COUNTER,
+        records: br#"{"step":"begin","tx":"t1","thread":"p1"}
+{"step":"begin","tx":"t2","thread":"p2"}
+{"step":"app","tx":"t1","id":1,"on":"c","call":"add","args":[1],"result":null}
+{"step":"app","tx":"t2","id":2,"on":"c","call":"add","args":[5],"result":null}
+{"step":"push","tx":"t1","id":1}
+{"step":"push","tx":"t2","id":2}
+{"step":"cmt","tx":"t2"}
+{"step":"cmt","tx":"t1"}
+"#,
+        status: Status::Accepted,
+        report: b"accepted steps 8 committed 2\ntx t2\nop 2 c.add(5)=none\ntx t1\nop 1 c.add(1)=none\nstate c 6\n",
+    },
+    Row {
+        what: "a memory and a counter",
+        header: br#"{"run":1,"style":"rules","objects":[{"name":"m","kind":"mem"},{"name":"c","kind":"counter"}]}
+"#,
+        records: br#"{"step":"begin","tx":"t1","thread":"p1"}
+{"step":"app","tx":"t1","id":1,"on":"m","call":"write","args":[3,9],"result":null}
+{"step":"app","tx":"t1","id":2,"on":"c","call":"fetch_add","args":[4],"result":0}
+{"step":"push","tx":"t1","id":2}
+{"step":"push","tx":"t1","id":1}
+{"step":"cmt","tx":"t1"}
+"#,
+        status: Status::Accepted,
+        report: b"accepted steps 6 committed 1\ntx t1\nop 1 m.write(3,9)=none\nop 2 c.fetch_add(4)=0\nstate m 3=9\nstate c 4\n",
+    },
+    Row {
+        what: "two transactions that write the same number",
+        header: MEMORY,
+        records: br#"{"step":"begin","tx":"t1","thread":"p1"}
+{"step":"begin","tx":"t2","thread":"p2"}
+{"step":"app","tx":"t1","id":1,"on":"m","call":"write","args":[0,5],"result":null}
+{"step":"push","tx":"t1","id":1}
+{"step":"app","tx":"t2","id":2,"on":"m","call":"write","args":[0,5],"result":null}
+{"step":"push","tx":"t2","id":2}
+{"step":"cmt","tx":"t2"}
+{"step":"cmt","tx":"t1"}
+"#,
+        status: Status::Accepted,
+        report: b"accepted steps 8 committed 2\ntx t2\nop 2 m.write(0,5)=none\ntx t1\nop 1 m.write(0,5)=none\nstate m 0=5\n",
+    },
+    Row {
+        what: "a commit without a call, under a body",
+        header: COUNTER,
+        records: br#"{"step":"begin","tx":"t1","thread":"p1","body":{"star":{"skip":true}}}
+{"step":"cmt","tx":"t1"}
+"#,
+        status: Status::Accepted,
+        report: b"accepted steps 2 committed 1\ntx t1\nstate c 0\n",
+    },
+    Row {
+        what: "a body that adds any number of times",
+        header: COUNTER,
+        records: br#"{"step":"begin","tx":"t1","thread":"p1","body":{"star":{"on":"c","call":"add","args":[null]}}}
+{"step":"app","tx":"t1","id":1,"on":"c","call":"add","args":[1],"result":null}
+{"step":"app","tx":"t1","id":2,"on":"c","call":"add","args":[2],"result":null}
+{"step":"push","tx":"t1","id":1}
+{"step":"push","tx":"t1","id":2}
+{"step":"cmt","tx":"t1"}
+"#,
+        status: Status::Accepted,
+        report: b"accepted steps 6 committed 1\ntx t1\nop 1 c.add(1)=none\nop 2 c.add(2)=none\nstate c 3\n",
+    },
+    Row {
+        what: "a body of the most nodes",
+        header: COUNTER,
+        records: br#"{"step":"begin","tx":"t1","thread":"p1","body":{"seq":[{"skip":true},{"skip":true},{"skip":true},{"skip":true},{"skip":true},{"skip":true},{"skip":true},{"skip":true},{"skip":true},{"skip":true},{"skip":true},{"skip":true},{"skip":true},{"skip":true},{"skip":true},{"skip":true},{"skip":true},{"skip":true},{"skip":true},{"skip":true},{"skip":true},{"skip":true},{"skip":true},{"skip":true},{"skip":true},{"skip":true},{"skip":true},{"skip":true},{"skip":true},{"skip":true},{"skip":true},{"skip":true},{"skip":true},{"skip":true},{"skip":true},{"skip":true},{"skip":true},{"skip":true},{"skip":true},{"skip":true},{"skip":true},{"skip":true},{"skip":true},{"skip":true},{"skip":true},{"skip":true},{"skip":true},{"skip":true},{"skip":true},{"skip":true},{"skip":true},{"skip":true},{"skip":true},{"skip":true},{"skip":true},{"skip":true},{"skip":true},{"skip":true},{"skip":true},{"skip":true},{"skip":true},{"skip":true},{"skip":true}]}}
+"#,
+        status: Status::Accepted,
+        report: b"accepted steps 1 committed 0\nstate c 0\n",
+    },
+    Row {
+        what: "an item that is taken over a pull while another is put in",
+        header: QUEUE,
+        records: br#"{"step":"begin","tx":"t0","thread":"p0"}
+{"step":"app","tx":"t0","id":1,"on":"q","call":"enq","args":[3],"result":null}
+{"step":"push","tx":"t0","id":1}
+{"step":"cmt","tx":"t0"}
+{"step":"begin","tx":"t1","thread":"p1"}
+{"step":"app","tx":"t1","id":2,"on":"q","call":"enq","args":[4],"result":null}
+{"step":"push","tx":"t1","id":2}
+{"step":"begin","tx":"t2","thread":"p2"}
+{"step":"pull","tx":"t2","id":1}
+{"step":"app","tx":"t2","id":3,"on":"q","call":"deq","args":[],"result":3}
+{"step":"push","tx":"t2","id":3}
+{"step":"cmt","tx":"t2"}
+{"step":"cmt","tx":"t1"}
+"#,
+        status: Status::Accepted,
+        report: b"accepted steps 13 committed 3\ntx t0\nop 1 q.enq(3)=none\ntx t2\nop 3 q.deq()=3\ntx t1\nop 2 q.enq(4)=none\nstate q 4\n",
+    },
+    Row {
+        what: "an item that is put in again while it is taken",
+        header: QUEUE,
+        records: br#"{"step":"begin","tx":"t0","thread":"p0"}
+{"step":"app","tx":"t0","id":1,"on":"q","call":"enq","args":[3],"result":null}
+{"step":"push","tx":"t0","id":1}
+{"step":"cmt","tx":"t0"}
+{"step":"begin","tx":"t1","thread":"p1"}
+{"step":"pull","tx":"t1","id":1}
+{"step":"app","tx":"t1","id":2,"on":"q","call":"deq","args":[],"result":3}
+{"step":"push","tx":"t1","id":2}
+{"step":"begin","tx":"t2","thread":"p2"}
+{"step":"app","tx":"t2","id":3,"on":"q","call":"enq","args":[3],"result":null}
+{"step":"push","tx":"t2","id":3}
+{"step":"cmt","tx":"t2"}
+{"step":"cmt","tx":"t1"}
+"#,
+        status: Status::Accepted,
+        report: b"accepted steps 13 committed 3\ntx t0\nop 1 q.enq(3)=none\ntx t2\nop 3 q.enq(3)=none\ntx t1\nop 2 q.deq()=3\nstate q 3\n",
+    },
+    Row {
+        what: "a number at its limit, a member that is not known, and lines that end in 13 10",
+        header: b"",
+        records: b"{\"run\":1,\"style\":\"rules\",\"objects\":[{\"name\":\"c\",\"kind\":\"counter\"}]}\r\n{\"step\":\"begin\",\"tx\":\"t1\",\"thread\":\"p1\",\"at\":17}\r\n{\"step\":\"app\",\"tx\":\"t1\",\"id\":1,\"on\":\"c\",\"call\":\"add\",\"args\":[1000000000000000000],\"result\":null}\r\n{\"step\":\"push\",\"tx\":\"t1\",\"id\":1}\r\n{\"step\":\"cmt\",\"tx\":\"t1\"}\r\n",
+        status: Status::Accepted,
+        report: b"accepted steps 4 committed 1\ntx t1\nop 1 c.add(1000000000000000000)=none\nstate c 1000000000000000000\n",
+    },
+    Row {
+        what: "a set, a queue and a map",
+        header: br#"{"run":1,"style":"rules","objects":[{"name":"s","kind":"set"},{"name":"q","kind":"queue"},{"name":"a","kind":"map"}]}
+"#,
+        records: br#"{"step":"begin","tx":"t1","thread":"p1"}
+{"step":"app","tx":"t1","id":1,"on":"s","call":"add","args":[7],"result":true}
+{"step":"app","tx":"t1","id":2,"on":"q","call":"enq","args":[4],"result":null}
+{"step":"app","tx":"t1","id":3,"on":"q","call":"enq","args":[3],"result":null}
+{"step":"app","tx":"t1","id":4,"on":"a","call":"put","args":[1,-8],"result":null}
+{"step":"app","tx":"t1","id":5,"on":"s","call":"add","args":[-5],"result":true}
+{"step":"push","tx":"t1","id":1}
+{"step":"push","tx":"t1","id":2}
+{"step":"push","tx":"t1","id":3}
+{"step":"push","tx":"t1","id":4}
+{"step":"push","tx":"t1","id":5}
+{"step":"cmt","tx":"t1"}
+"#,
+        status: Status::Accepted,
+        report: br#"accepted steps 12 committed 1
+tx t1
+op 1 s.add(7)=true
+op 2 q.enq(4)=none
+op 3 q.enq(3)=none
+op 4 a.put(1,-8)=none
+op 5 s.add(-5)=true
+state s -5 7
+state q 4 3
+state a 1=-8
+"#,
+    },
+];

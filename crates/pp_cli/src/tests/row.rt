@@ -1,0 +1,26 @@
+//! A row of a table: an input, its status, and its report.
+use pp_core::Status;
+
+/// What is told of it, its lines, and what is answered. Of a rejected run the report is its first
+/// line.
+pub(crate) struct Row {
+    pub(crate) what: &'static str,
+    pub(crate) header: &'static [u8],
+    pub(crate) records: &'static [u8],
+    pub(crate) status: Status,
+    pub(crate) report: &'static [u8],
+}
+
+/// The header of one counter.
+pub(crate) const COUNTER: &[u8] =
+    br#"{"run":1,"style":"rules","objects":[{"name":"c","kind":"counter"}]}
+"#;
+
+/// The header of one memory.
+pub(crate) const MEMORY: &[u8] = br#"{"run":1,"style":"rules","objects":[{"name":"m","kind":"mem"}]}
+"#;
+
+/// The header of one queue.
+pub(crate) const QUEUE: &[u8] =
+    br#"{"run":1,"style":"rules","objects":[{"name":"q","kind":"queue"}]}
+"#;
