@@ -1,5 +1,6 @@
 #!/usr/bin/env python3
-"""Quick looks at the text of the repository: how long clauses and definitions are, and what no file should name."""
+"""Quick looks at the text of the repository: how long clauses and definitions are, whether the edits that docs/PROOFS.md names are there,
+and what no file should name."""
 import pathlib
 import re
 import subprocess
@@ -25,6 +26,15 @@ def too_wide(file):
             yield f"{file.relative_to(ROOT)}:{number}: {len(line)} columns"
 
 
+def lost_edits():
+    """The edits that the last column of a table of PROOFS.md names, and that no crate has."""
+    there = {file.stem for file in ROOT.glob("crates/*/must-fail/*.edit")}
+    for line in (ROOT / "docs/PROOFS.md").read_text().splitlines():
+        cells = line.split("|")
+        named = re.findall(r"`(\w+_\w+)`", cells[3]) if len(cells) == 5 else []
+        yield from (f"docs/PROOFS.md: no edit {name}" for name in named if name not in there and not name.startswith("pp_"))
+
+
 def outside(file):
     """Lines that name a place of some machine, or what stands in no file of the repository."""
     for number, line in enumerate(file.read_text().splitlines(), 1):
@@ -38,6 +48,7 @@ def main():
     files = [ROOT / name for name in listed.stdout.decode().split("\0") if name]
     own = pathlib.Path(__file__).resolve()
     wrong = [line for file in narrow_files() for line in too_wide(file)]
+    wrong += lost_edits()
     wrong += [line for file in files if file.is_file() and file != own for line in outside(file)]
     for line in wrong:
         print(f"words: {line}")
