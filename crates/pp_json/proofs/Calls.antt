@@ -1,6 +1,7 @@
 -- What the tests before the last leave of a record's call.
 use Rattle.std.proofs.Common.{◌≡◌, ◌&&◌, ℤ, Bool, true, false, IsTrue, List, nat_lt, Some, refl, ap}
 use Rattle.std.specs.List.{slice_get}
+use Rattle.std.proofs.lemmas.Bool.{and_parts, and_from}
 use Rattle.pp_core.specs.declared.answer.Answer.{Answer}
 use Rattle.pp_core.specs.declared.call.Call.{Call}
 use Rattle.pp_core.specs.declared.call.Kind.{Kind}
@@ -14,27 +15,20 @@ used_ranged : (used : Bool) (n : ℤ) → IsTrue (in_range n) → IsTrue (in_ran
 used_ranged true n near = near
 used_ranged false n near = refl
 
--- both tests, where each holds, and each, where both hold
-pub both : (a b : Bool) → IsTrue a → IsTrue b → IsTrue (a && b)
-both true b h k = k
-both false b h k = h
-
-first_of : (a b : Bool) → IsTrue (a && b) → IsTrue a
-first_of true b h = refl
-first_of false b h = h
-
-second_of : (a b : Bool) → IsTrue (a && b) → IsTrue b
-second_of true b h = h
-second_of false b h = absurd (cc)
+-- a call of two numbers in range has arguments in range
+pub both_ranged : (first second : ℤ) → IsTrue (in_range first) → IsTrue (in_range second)
+    → IsTrue (in_range first && in_range second)
+both_ranged first second near also = and_from (in_range first) (in_range second) near also
 
 -- A call that passed the tests before the last makes an operation.
 pub is_call : (kind : Kind) (c : Call) (answer : Answer) → HasMethod kind c.method → IsTrue (has_form (form_of kind c.method) answer)
     → IsTrue (has_ranged_arguments c) → IsTrue (is_ranged_answer answer) → IsCallOf kind c answer
 is_call kind c answer method form near ranged =
     let used = arity_of kind c.method in
-    let first = used_ranged (nat_lt 0 used) c.first (first_of (in_range c.first) (in_range c.second) near) in
-    let second = used_ranged (nat_lt 1 used) c.second (second_of (in_range c.first) (in_range c.second) near) in
-    record { method = method; form = form; arguments = both _ _ first second; ranged = ranged }
+    let parts = and_parts (in_range c.first) (in_range c.second) near in
+    let first = used_ranged (nat_lt 0 used) c.first parts.0 in
+    let second = used_ranged (nat_lt 1 used) c.second parts.1 in
+    record { method = method; form = form; arguments = and_from _ _ first second; ranged = ranged }
 
 -- The operation of a call on the object that stands at its place fits there.
 pub fits_there : (kinds : List Kind) (kind : Kind) (c : Call) (answer : Answer) (op : Op)

@@ -1,10 +1,10 @@
 -- The parts of a body that is read.
-use Rattle.std.proofs.Common.{◌≡◌, ◌<◌, ◌≤◌, ℕ, zero, suc, ◌+◌, max, List, [], ◌∷◌, ◌++◌, codes, length, drop, get_or, map, Option, Some, None, option_map, Result, Ok, Err, refl, ap, sym, ◌∙◌, append_assoc, arith}
+use Rattle.std.proofs.Common.{◌≡◌, ◌<◌, ◌≤◌, ℕ, zero, suc, ◌+◌, max, List, [], ◌∷◌, ◌++◌, codes, length, drop, get_or, Option, Some, None, option_map, Result, Ok, Err, refl, ap, sym, ◌∙◌, append_assoc, arith}
 use Rattle.std.specs.Ordering.{nat_cmp, match_ordering}
 use Rattle.std.specs.declared.cmp.Ordering.{Ordering}
 use Rattle.std.specs.declared.cmp.Ordering.TheVariants.{Less, Equal, Greater}
 use Rattle.std.specs.Cmp.Lexicographic.{slice_cmp}
-use Rattle.std.proofs.lemmas.List.{drop_all}
+use Rattle.std.proofs.lemmas.List.{append-nil, drop_all}
 use Rattle.serde_json.specs.declared.value.Value.{Value}
 use Rattle.serde_json.specs.View.{view, items_view}
 use Rattle.serde_json.specs.Data.{Data, Items, Members, no_members, member, null, boolean, number, string, array, object, depth, items_depth, members_depth}
@@ -134,17 +134,9 @@ stops objects before values i v e total lt is h so_far =
     let one : behind before (bodies_in objects (items_view (drop i values))) ≡ Err e = rw (item_at values i v lt is, h) refl in
     sym so_far ∙ one
 
-no_more : (bs : List Tree) → bs ++ [] ≡ bs
-no_more [] = refl
-no_more (b ∷ bs) = ap (λ (x : List Tree). b ∷ x) (no_more bs)
-
 pub ends : (objects : Objects) (before : List Tree) (values : List Value) (i : ℕ) (total : Result (List Tree) RecordFault)
     → length values ≤ i → behind before (bodies_in objects (items_view (drop i values))) ≡ total → total ≡ Ok before
 unfolding bodies_in
 ends objects before values i total le so_far =
-    let one : behind before (bodies_in objects (items_view (drop i values))) ≡ Ok before = rw (drop_all i values le) (ap (λ (x : List Tree). Ok x) (no_more before)) in
+    let one : behind before (bodies_in objects (items_view (drop i values))) ≡ Ok before = rw (drop_all i values le) (ap (λ (x : List Tree). Ok x) (append-nil before)) in
     sym so_far ∙ one
-
-pub map_more : {A B : Type 0} (f : A → B) (xs : List A) (y : A) → map f (xs ++ y ∷ []) ≡ map f xs ++ f y ∷ []
-map_more f [] y = refl
-map_more f (x ∷ xs) y = ap (λ zs. f x ∷ zs) (map_more f xs y)

@@ -1,6 +1,8 @@
+use Rattle.std.proofs.Common.{[], ◌∷◌}
+use Rattle.std.proofs.lemmas.List.{map-append}
 use Rattle.std.proofs.lemmas.Result.{err_from_is_err_and}
 use Rattle.pp_core.specs.Trees.{tree}
-use Rattle.pp_json.proofs.Parts.{goes_on, stops, map_more}
+use Rattle.pp_json.proofs.Parts.{goes_on, stops}
 use Rattle.pp_json.proofs.body.+body.Goals as goal
 
 pub parts_in-returns-in_err-part : goal.parts_in-returns-in_err-part
@@ -10,5 +12,5 @@ parts_in-returns-in_err-part t c =
 
 pub parts_in-loop-item-preserved : goal.parts_in-loop-item-preserved
 parts_in-loop-item-preserved t c =
-    rw (c.in_ok-push.ensures.ok, map_more tree c.loop-item.parts c.in_ok-part.part)
+    rw (c.in_ok-push.ensures.ok, map-append tree c.loop-item.parts (c.in_ok-part.part ∷ []))
     (goes_on c.args.catalog.now _ c.deref-item-items.result.now c.loop-item.item-index c.item-item.result _ _ c.loop-item-test.true c.item-item.is c.in_ok-part.ensures c.loop-item.invariant)
