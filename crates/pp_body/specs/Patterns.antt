@@ -1,4 +1,4 @@
--- The test of a pattern.
+-- Proof machinery: the test of a pattern.
 use Rattle.std.specs.Prelude.{◌==◌, ℤ, Bool, true, ◌&&◌, Option, None, Some}
 use Rattle.std.specs.Ordering.{int_eq}
 use denote.Enum.Bare.{sameb}

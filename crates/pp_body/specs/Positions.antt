@@ -1,4 +1,4 @@
--- Sets of positions. Each node of a body has a place: its parts' places follow one another from its
+-- Proof machinery: sets of positions. Each node of a body has a place: its parts' places follow one another from its
 -- own. A set of places says which patterns may have matched the last call.
 use Rattle.std.specs.Prelude.{◌≡◌, ◌⊎◌, ℕ, ◌+◌, ◌^◌, ◌==◌, Bool, true, false, ◌&&◌, ◌||◌, if◌then◌else◌, List, [], ◌++◌, bit_or}
 use Rattle.std.specs.Int.{bit_at}

@@ -10,7 +10,7 @@ mod words;
 
 use crate::edge::{StdSink, StdSource};
 use crate::words::collect_words;
-use pp_core::{OutOfMemory, Status, Steps, Words};
+use pp_core::{OutOfMemory, Status, Ticks, Words};
 use pp_io::{Sink, Source};
 use pp_run::run;
 use std::alloc::Global;
@@ -34,8 +34,8 @@ fn run_counted<L: Ledger, S: Source, K: Sink>(
     requires parts { blank.parts ≡ L.parts }
     requires one { L.parts ≡ 1 }
 {
-    let mut steps = Steps::<L>::new(blank);
-    run(alloc, words, source, sink, &mut steps)
+    let mut ticks = Ticks::<L>::new(blank);
+    run(alloc, words, source, sink, &mut ticks)
 }
 
 fn main(rt: HostRuntime) -> ExitCode {

@@ -1,4 +1,4 @@
--- The parts of a call.
+-- Meaning: the parts of a call.
 use Rattle.std.specs.Prelude.{ℤ, List, [], ◌∷◌}
 use Rattle.pp_core.specs.declared.call.Call.{Call}
 

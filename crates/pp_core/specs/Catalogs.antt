@@ -1,4 +1,4 @@
--- The objects of a catalog, and looking one up by its name.
+-- Meaning: the objects of a catalog, and looking one up by its name.
 use Rattle.std.specs.Prelude.{◌≡◌, ◌≤◌, ℕ, Bool, List, [], ◌∷◌, ◌++◌, length, Option, Some, position, slice_get, if◌then◌else◌}
 use Rattle.std.specs.Map.{keys_of}
 use Rattle.std.specs.Str.{bytes_eq}

@@ -1,4 +1,4 @@
--- How the program ends.
+-- Proof machinery: how the program ends.
 use Rattle.std.specs.Prelude.{ℕ}
 use Rattle.pp_core.specs.declared.status.Status.{Status}
 use Rattle.pp_core.specs.declared.status.Status.TheVariants.{Accepted, Rejected, BadWords, InputFault, ReadFault, WriteFault, OutOfMemory}

@@ -1,4 +1,4 @@
--- The words of kinds, methods, styles, members and rules, in records and in reports.
+-- Meaning: the words of kinds, methods, styles, members and rules, in records and in reports.
 use Rattle.std.specs.Prelude.{ℕ, List, [], ◌∷◌, codes, Option, Some, None, if◌then◌else◌}
 use Rattle.std.specs.Str.{bytes_eq}
 use Rattle.pp_core.specs.declared.call.Kind.{Kind}

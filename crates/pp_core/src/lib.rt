@@ -13,8 +13,8 @@ mod name;
 mod sequence;
 mod status;
 mod step;
-mod steps;
 mod text;
+mod ticks;
 
 pub use answer::{Answer, OutOfMemory};
 pub use body::{Body, Parts, Pattern};
@@ -30,5 +30,5 @@ pub use name::Name;
 pub use sequence::Sequence;
 pub use status::Status;
 pub use step::{Rule, Step, rule_of};
-pub use steps::Steps;
 pub use text::{Text, Words};
+pub use ticks::Ticks;

@@ -6,7 +6,7 @@ ghost use Rattle.pp_counter.specs.laws.Lawful.{counter_lawful, counter_placed};
 use crate::contexts::{pair_begins, reach};
 use crate::movers::may_swap;
 use crate::op::CounterOp;
-use pp_core::{Answer, Call, Ops, OutOfMemory, Steps};
+use pp_core::{Answer, Call, Ops, OutOfMemory, Ticks};
 use pp_spec::{Applied, Context, Placed, Spec};
 use std::alloc::Global;
 use std::sync::ledger::Ledger;
@@ -62,9 +62,9 @@ impl Spec for Count {
     fn apply<L: Ledger>(
         state: &mut i128,
         op: &CounterOp,
-        steps: &mut Steps<L>,
+        ticks: &mut Ticks<L>,
     ) -> Result<Applied<()>, OutOfMemory> {
-        steps.tick();
+        ticks.tick();
         if !Self::legal(state, op) {
             return Ok(Applied::Differs);
         }
@@ -76,9 +76,9 @@ impl Spec for Count {
         state: &mut i128,
         op: &CounterOp,
         _undo: (),
-        steps: &mut Steps<L>,
+        ticks: &mut Ticks<L>,
     ) -> Result<(), OutOfMemory> {
-        steps.tick();
+        ticks.tick();
         *state -= i128::from(op.shift());
         Ok(())
     }

@@ -1,4 +1,4 @@
--- What the fields of `Lines` keep.
+-- Proof machinery: what the fields of `Lines` keep.
 use Rattle.std.specs.Prelude.{◌≡◌, ◌≤◌, ◌+◌, ℕ, List, [], ◌∷◌, length, Bool, false, Option, Some, None}
 use Rattle.pp_io.specs.declared.reach.Reach.{Reach}
 use Rattle.pp_io.specs.Reaches.{IsReach}

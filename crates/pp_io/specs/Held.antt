@@ -1,4 +1,4 @@
--- What `Lines` holds, as contracts see it.
+-- Proof machinery: what `Lines` holds, as contracts see it.
 use Rattle.std.specs.Prelude.{◌≡◌, ℕ, ◌+◌, List, [], ◌∷◌, ◌++◌, map, Bool, true, false, Option, Some, None}
 use Rattle.pp_io.specs.declared.fault.LineFault.{LineFault}
 use Rattle.pp_io.specs.declared.fault.LineFault.TheVariants.{OutOfMemory}

@@ -1,4 +1,4 @@
--- Which lines some bytes are.
+-- Meaning: which lines some bytes are.
 use Rattle.std.specs.Prelude.{ℕ, ◌+◌, ◌-◌, Bool, ◌==◌, ◌||◌, List, [], ◌∷◌, ◌++◌, length, take, map, slice_index, if◌then◌else◌}
 use Rattle.std.specs.List.{list_all}
 

@@ -1,4 +1,4 @@
--- Sources and sinks in memory, as contracts see them.
+-- Proof machinery: sources and sinks in memory, as contracts see them.
 use Rattle.std.specs.Prelude.{ℕ, List, [], ◌++◌, length, drop, min, max, Option, Some, None, slice_get, Contains}
 use Rattle.pp_io.specs.Faults.{counted}
 

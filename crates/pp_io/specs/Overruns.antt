@@ -1,4 +1,4 @@
--- The first byte of an input that passes a limit, and the lines before it.
+-- Meaning: the first byte of an input that passes a limit, and the lines before it.
 use Rattle.std.specs.Prelude.{ℕ, ◌-◌, List, [], ◌∷◌, ◌++◌, length, take, Option, Some, None, Result, Ok, Err}
 use Rattle.std.specs.Option.{option_or}
 use Rattle.pp_io.specs.declared.reach.Reach.{Reach}

@@ -1,4 +1,4 @@
--- What was fed to `Lines`, what it handed out, and what it holds.
+-- Proof machinery: what was fed to `Lines`, what it handed out, and what it holds.
 use Rattle.std.specs.Prelude.{◌≡◌, ℕ, ◌+◌, List, ◌++◌, length, false}
 use Rattle.pp_io.specs.Held.{Held}
 use Rattle.pp_io.specs.Lines.{NumberedLine, rest, numbered_from}

@@ -1,4 +1,4 @@
--- The body that a value is. Each fault in it at any depth is that the body is bad.
+-- Meaning: the body that a value is. Each fault in it at any depth is that the body is bad.
 use Rattle.std.specs.Prelude.{ℕ, ◌+◌, ◌==◌, List, [], ◌∷◌, codes, Bool, true, false, is_some, not, Option, Some, None, unwrap_or, Result, Ok, Err, if◌then◌else◌, cond}
 use Rattle.std.specs.Ordering.{nat_cmp, match_ordering}
 use Rattle.std.specs.Cmp.Lexicographic.{slice_cmp}
@@ -53,7 +53,8 @@ abbrev pub as_star : Result Tree RecordFault → Result Tree RecordFault
 as_star read = read >>= λ b. Ok (Star b)
 
 -- the first of these forms that is there, else a skip or a pattern
-abbrev pub form_of : Objects → Data → Option (Result Tree RecordFault) → Option (Result Tree RecordFault)
+abbrev pub form_of : Objects → Data → Option (Result Tree RecordFault) →
+    Option (Result Tree RecordFault)
     → Option (Result Tree RecordFault) → Result Tree RecordFault
 form_of objects value seq alt star =
     if forms value == 1 then unwrap_or seq (unwrap_or alt (unwrap_or star (leaf_of objects value)))
@@ -63,7 +64,8 @@ form_of objects value seq alt star =
 unfoldable mutual
   pub body_of : Objects → Data → Result Tree RecordFault
   body_of objects (object ms) =
-      form_of objects (object ms) (seq_among objects ms) (alt_among objects ms) (star_among objects ms)
+      form_of objects (object ms) (seq_among objects ms) (alt_among objects ms)
+      (star_among objects ms)
   body_of objects null = Err BodyBad
   body_of objects (boolean b) = Err BodyBad
   body_of objects (number n) = Err BodyBad

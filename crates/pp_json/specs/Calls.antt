@@ -1,4 +1,4 @@
--- The calls of objects, with their arguments and results.
+-- Meaning: the calls of objects, with their arguments and results.
 use Rattle.std.specs.Prelude.{◌≡◌, ℕ, ◌==◌, ℤ, pos, IsTrue, List, not, Option, Some, None, ok_or, option_map, option_and_then, slice_get, Result, Ok, if◌then◌else◌}
 use Rattle.serde_json.specs.Data.{Data, null}
 use Rattle.serde_json.specs.Find.{as_null, as_bool, as_array, at}

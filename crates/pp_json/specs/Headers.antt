@@ -1,4 +1,4 @@
--- The first line of a run.
+-- Meaning: the first line of a run.
 use Rattle.std.specs.Prelude.{ℕ, suc, pos, List, [], ◌∷◌, ◌++◌, not, nat_lt, is_some, ok_or, Result, Ok}
 use Rattle.std.specs.Ordering.{int_eq}
 use Rattle.serde_json.specs.Data.{Data, Items, no_items, item}

@@ -1,4 +1,4 @@
--- What a line may ask for, and is not built yet.
+-- Meaning: what a line may ask for, and is not built yet.
 use Rattle.std.specs.Prelude.{◌≡◌, Bool, true, false}
 use Rattle.pp_core.specs.declared.call.Style.{Style}
 use Rattle.pp_core.specs.declared.call.Style.TheVariants as styles

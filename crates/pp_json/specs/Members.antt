@@ -1,4 +1,4 @@
--- A line's value and its members, read in the order of the tests.
+-- Meaning: a line's value and its members, read in the order of the tests.
 use Rattle.std.specs.Prelude.{ℕ, ℤ, List, length, Bool, ◌&&◌, nat_le, Option, Some, None, ok_or, option_and_then, Result, Ok, Err, if◌then◌else◌}
 use Rattle.std.specs.List.{list_all}
 use Rattle.std.specs.Str.{is_utf8}

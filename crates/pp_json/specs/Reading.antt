@@ -1,4 +1,4 @@
--- Reading with the first fault that is met.
+-- Meaning: reading with the first fault that is met.
 use Rattle.std.specs.Prelude.{◌≡◌, Bool, Result, Ok, Err, if◌then◌else◌}
 use Rattle.pp_json.specs.declared.fault.RecordFault.{RecordFault}
 use Rattle.pp_json.specs.declared.fault.RecordFault.TheVariants.{OutOfMemory}

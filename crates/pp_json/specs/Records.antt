@@ -1,4 +1,4 @@
--- The lines behind the header.
+-- Meaning: the lines behind the header.
 use Rattle.std.specs.Prelude.{◌≤◌, ℕ, ℤ, pos, negsuc, List, nat_le, IsTrue, Option, Some, None, ok_or, Result, Ok, Err, if◌then◌else◌}
 use Rattle.serde_json.specs.Data.{Data}
 use Rattle.pp_core.specs.Catalogs.{Objects}
@@ -96,8 +96,10 @@ record_of header line = do
   name ← ok_or (step_from header.style word) UnknownStep
   step_of header.catalog name value
 
--- What a step that was read keeps to: it is one of the seven that are built, its id lies in the range
--- of ids, its operation is one on an object of the run, with numbers in the range of records, and its
+-- What a step that was read keeps to: it is one of the seven that are built, its id lies in the
+-- range
+-- of ids, its operation is one on an object of the run, with numbers in the range of records, and
+-- its
 -- body is within the limits.
 abbrev pub IsReadable : Objects → Step Op → Type 0
 IsReadable catalog (Begin tx thread body) = IsWithinLimits body

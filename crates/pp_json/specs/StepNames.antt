@@ -1,4 +1,4 @@
--- The steps that a style has.
+-- Meaning: the steps that a style has.
 use Rattle.std.specs.Prelude.{ℕ, List, codes, Option, Some, None, if◌then◌else◌}
 use Rattle.std.specs.Str.{bytes_eq}
 use Rattle.pp_core.specs.declared.call.Style.{Style}

@@ -2,12 +2,12 @@ ghost use Rattle.std.specs.Prelude.{◌≡◌, ◌≢◌, ◌==◌, ◌<◌, ◌
 ghost use Rattle.std.specs.Option.{option_copied};
 ghost use Rattle.pp_core.specs.declared.entry.LocalEntry.{LocalEntry as EntryOf};
 ghost use Rattle.pp_core.specs.declared.entry.Mark.TheVariants.{Pulled};
-ghost use Rattle.pp_model.specs.Config.{item, local_ops, marked};
+ghost use Rattle.pp_model.specs.Config.{item, local_ops, set_mark};
 ghost use Rattle.pp_spec.specs.Object.{IsAllowed, AllRanged, state_after};
 ghost use Rattle.pp_past.specs.Pasts.{removal_steps};
 ghost use Rattle.pp_log.specs.Logs.{RemovesEntry, HaveDistinctIds, from_place};
 
-use pp_core::{Answer, LocalEntry, Mark, OutOfMemory, Steps};
+use pp_core::{Answer, LocalEntry, Mark, OutOfMemory, Ticks};
 use pp_log::{LocalSide, Log};
 use pp_past::Removed;
 use pp_spec::Placed;
@@ -88,7 +88,7 @@ impl<S: Placed> Local<S> {
     pub fn append<L: Ledger>(
         &mut self,
         entry: LocalEntry<S::Op>,
-        steps: &mut Steps<L>,
+        ticks: &mut Ticks<L>,
     ) -> Result<(), OutOfMemory>
         requires allowed { IsAllowed S.object self.old.0 (local_ops self.old.1 ++ entry.op ∷ []) }
         requires ranged { IsTrue (S.object.ranged entry.op) }
@@ -96,10 +96,10 @@ impl<S: Placed> Local<S> {
         requires few { length self.old.1 < 1_000_000 }
         ensures ok { OnOk result (self.new ≡ (self.old.0, self.old.1 ++ entry ∷ [])) }
         ensures err { OnErr result (self.new ≡ self.old) }
-        ensures cost { OnOk result (steps.new ≡ steps.old + 1) }
-        ensures bound { steps.new ≤ steps.old + 1 }
+        ensures cost { OnOk result (ticks.new ≡ ticks.old + 1) }
+        ensures bound { ticks.new ≤ ticks.old + 1 }
     {
-        self.log.append(entry, steps)
+        self.log.append(entry, ticks)
     }
 
     /// Gives one of the transaction's own entries another mark.
@@ -107,7 +107,7 @@ impl<S: Placed> Local<S> {
         requires within { i < length self.old.1 }
         requires own { (e : EntryOf S.Op) → slice_get self.old.1 i ≡ Some e → e.mark ≢ Pulled }
         requires to_own { mark ≢ Pulled }
-        ensures { (e : EntryOf S.Op) → slice_get self.old.1 i ≡ Some e → self.new ≡ (self.old.0, marked e.id mark self.old.1) }
+        ensures { (e : EntryOf S.Op) → slice_get self.old.1 i ≡ Some e → self.new ≡ (self.old.0, set_mark e.id mark self.old.1) }
     {
         let _distinct = self.log.len();
         let Some(&entry) = self.log.get(i) else {
@@ -123,15 +123,15 @@ impl<S: Placed> Local<S> {
     pub fn remove<L: Ledger>(
         self,
         i: usize,
-        steps: &mut Steps<L>,
+        ticks: &mut Ticks<L>,
     ) -> Result<(Self, Removed), OutOfMemory>
         requires { i < length self.1 }
         ensures removes { IfOk result (λ r. RemovesEntry S.object item self i r.0 r.1) }
-        ensures cost { IfOk result (λ r. removal_steps r.1 (from_place S.place_of (local_ops self.1) i) steps.old steps.new) }
-        ensures bound { steps.new + 3 ≤ steps.old + 4 * from_place S.place_of (local_ops self.1) i }
+        ensures cost { IfOk result (λ r. removal_steps r.1 (from_place S.place_of (local_ops self.1) i) ticks.old ticks.new) }
+        ensures bound { ticks.new + 3 ≤ ticks.old + 4 * from_place S.place_of (local_ops self.1) i }
     {
         let Local { log } = self;
-        let (log, removed) = log.remove(i, steps)?;
+        let (log, removed) = log.remove(i, ticks)?;
         Ok((Local { log }, removed))
     }
 }

@@ -5,7 +5,7 @@ ghost use Rattle.pp_past.specs.Pasts.{removal_steps};
 ghost use Rattle.pp_log.specs.Logs.{RemovesEntry, HaveDistinctIds, entry_ops, from_place};
 
 use crate::sides::Side;
-use pp_core::{Answer, OutOfMemory, Steps};
+use pp_core::{Answer, OutOfMemory, Ticks};
 use pp_past::{Past, Removed};
 use pp_spec::Placed;
 use std::alloc::Global;
@@ -92,7 +92,7 @@ impl<S: Placed, T: Side<S::Op>> Log<S, T> {
     pub fn append<L: Ledger>(
         &mut self,
         entry: T::Entry,
-        steps: &mut Steps<L>,
+        ticks: &mut Ticks<L>,
     ) -> Result<(), OutOfMemory>
         requires allowed { IsAllowed S.object self.old.0 (entry_ops T.item_of self.old.1 ++ (T.item_of entry).op ∷ []) }
         requires ranged { IsTrue (S.object.ranged (T.item_of entry).op) }
@@ -100,11 +100,11 @@ impl<S: Placed, T: Side<S::Op>> Log<S, T> {
         requires few { length self.old.1 < 1_000_000 }
         ensures ok { OnOk result (self.new ≡ (self.old.0, self.old.1 ++ entry ∷ [])) }
         ensures err { OnErr result (self.new ≡ self.old) }
-        ensures cost { OnOk result (steps.new ≡ steps.old + 1) }
-        ensures bound { steps.new ≤ steps.old + 1 }
+        ensures cost { OnOk result (ticks.new ≡ ticks.old + 1) }
+        ensures bound { ticks.new ≤ ticks.old + 1 }
     {
         self.entries.reserve(1)?;
-        self.past.append(T::item(&entry), steps)?;
+        self.past.append(T::item(&entry), ticks)?;
         let Ok(()) = self.entries.push(entry) else {
             unreachable!()
         };
@@ -125,15 +125,15 @@ impl<S: Placed, T: Side<S::Op>> Log<S, T> {
     pub fn remove<L: Ledger>(
         self,
         i: usize,
-        steps: &mut Steps<L>,
+        ticks: &mut Ticks<L>,
     ) -> Result<(Self, Removed), OutOfMemory>
         requires { i < length self.1 }
         ensures removes { IfOk result (λ r. RemovesEntry S.object T.item_of self i r.0 r.1) }
-        ensures cost { IfOk result (λ r. removal_steps r.1 (from_place S.place_of (entry_ops T.item_of self.1) i) steps.old steps.new) }
-        ensures bound { steps.new + 3 ≤ steps.old + 4 * from_place S.place_of (entry_ops T.item_of self.1) i }
+        ensures cost { IfOk result (λ r. removal_steps r.1 (from_place S.place_of (entry_ops T.item_of self.1) i) ticks.old ticks.new) }
+        ensures bound { ticks.new + 3 ≤ ticks.old + 4 * from_place S.place_of (entry_ops T.item_of self.1) i }
     {
         let Log { mut entries, past } = self;
-        let (past, removed) = past.remove(i, steps)?;
+        let (past, removed) = past.remove(i, ticks)?;
         if let Removed::Done = removed {
             let _ = entries.remove(i);
         }

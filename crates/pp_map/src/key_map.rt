@@ -7,7 +7,7 @@ ghost use Rattle.pp_map.specs.laws.Lawful.{key_map_lawful};
 use crate::contexts::before_pair;
 use crate::movers::may_swap;
 use crate::op::MapOp;
-use pp_core::{Answer, Ops, OutOfMemory, Steps};
+use pp_core::{Answer, Ops, OutOfMemory, Ticks};
 use pp_keyed::Cells;
 use pp_spec::{Applied, Context, Spec, answer_of};
 use std::alloc::Global;
@@ -70,9 +70,9 @@ impl Spec for KeyMap {
     fn apply<L: Ledger>(
         state: &mut Cells,
         op: &MapOp,
-        steps: &mut Steps<L>,
+        ticks: &mut Ticks<L>,
     ) -> Result<Applied<()>, OutOfMemory> {
-        steps.tick();
+        ticks.tick();
         if !Self::legal(state, op) {
             return Ok(Applied::Differs);
         }
@@ -88,9 +88,9 @@ impl Spec for KeyMap {
         state: &mut Cells,
         op: &MapOp,
         _undo: (),
-        steps: &mut Steps<L>,
+        ticks: &mut Ticks<L>,
     ) -> Result<(), OutOfMemory> {
-        steps.tick();
+        ticks.tick();
         match *op {
             MapOp::Put { key, value: _, was } => set_value(state, key, was),
             MapOp::Get { key: _, found: _ } => Ok(()),

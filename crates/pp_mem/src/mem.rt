@@ -6,7 +6,7 @@ use crate::contexts::lists_round;
 use crate::memory::Memory;
 use crate::movers::may_swap;
 use crate::op::MemOp;
-use pp_core::{Answer, OutOfMemory, Steps};
+use pp_core::{Answer, OutOfMemory, Ticks};
 use pp_spec::{Applied, Context, Spec};
 use std::alloc::Global;
 use std::sync::ledger::Ledger;
@@ -59,9 +59,9 @@ impl Spec for Mem {
     fn apply<L: Ledger>(
         state: &mut Memory,
         op: &MemOp,
-        steps: &mut Steps<L>,
+        ticks: &mut Ticks<L>,
     ) -> Result<Applied<i64>, OutOfMemory> {
-        steps.tick();
+        ticks.tick();
         match *op {
             MemOp::Read { at, value } => {
                 if state.value_at(at) == value {
@@ -82,9 +82,9 @@ impl Spec for Mem {
         state: &mut Memory,
         op: &MemOp,
         undo: i64,
-        steps: &mut Steps<L>,
+        ticks: &mut Ticks<L>,
     ) -> Result<(), OutOfMemory> {
-        steps.tick();
+        ticks.tick();
         match *op {
             MemOp::Read { at: _, value: _ } => Ok(()),
             MemOp::Write { at, value: _ } => state.write(at, undo),

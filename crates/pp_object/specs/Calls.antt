@@ -1,4 +1,5 @@
--- The calls of the kinds: their words, their arguments, and the operations that records make of them.
+-- Meaning: the calls of the kinds: their words, their arguments, and the operations that records
+-- make of them.
 use Rattle.std.specs.Prelude.{◌≡◌, ℕ, ℤ, pos, nat_lt, Bool, true, false, IsTrue, if◌then◌else◌, List, [], ◌∷◌, Option, Some, None, option_and_then}
 use Rattle.pp_core.specs.declared.answer.Answer.{Answer}
 use Rattle.pp_core.specs.declared.answer.Answer.TheVariants as answers
@@ -93,14 +94,16 @@ with_used kind c = record c {
   second = if_used (nat_lt 1 (arity_of kind c.method)) c.second;
 }
 
--- objects of the kind have the method, the result is of its form, and all numbers lie in the range of records
+-- objects of the kind have the method, the result is of its form, and all numbers lie in the range
+-- of records
 pub record IsCallOf (kind : Kind) (c : Call) (answer : Answer) : Type 0 where
   pub method : HasMethod kind c.method
   pub form : IsTrue (has_form (form_of kind c.method) answer)
   pub arguments : IsTrue (has_ranged_arguments (with_used kind c))
   pub ranged : IsTrue (is_ranged_answer answer)
 
--- the operation is this call on an object of the kind, with this result, and its numbers lie in the range of records
+-- the operation is this call on an object of the kind, with this result, and its numbers lie in the
+-- range of records
 pub record IsOpOf (kind : Kind) (c : Call) (answer : Answer) (op : Op) : Type 0 where
   pub fits_kind : IsTrue (fits kind op.act)
   pub call : objects.call op ≡ with_used kind c
@@ -137,7 +140,8 @@ map_act method c answer = option_and_then (map_act_of method c) (value_of answer
 abbrev pub counter_act : Method → Call → Answer → Option Act
 counter_act methods.Add c answers.None = Some (Counter (counts.Add c.first))
 counter_act methods.Get c (answers.Number value) = Some (Counter (counts.Get value))
-counter_act methods.FetchAdd c (answers.Number value) = Some (Counter (counts.FetchAdd c.first value))
+counter_act methods.FetchAdd c (answers.Number value) =
+    Some (Counter (counts.FetchAdd c.first value))
 counter_act method c answer = None
 
 abbrev pub queue_act : Method → Call → Answer → Option Act

@@ -9,7 +9,7 @@ use crate::act::Op;
 use crate::acts::context_at;
 use crate::one::OneObject;
 use crate::states::{ObjectState, ObjectStates, Undo};
-use pp_core::{Answer, Call, Kinds, OutOfMemory, Steps};
+use pp_core::{Answer, Call, Kinds, OutOfMemory, Ticks};
 use pp_spec::{Applied, Context, Placed, Spec};
 use std::alloc::Global;
 use std::sync::ledger::Ledger;
@@ -84,22 +84,22 @@ impl Spec for Objects {
     fn apply<L: Ledger>(
         state: &mut ObjectStates,
         op: &Op,
-        steps: &mut Steps<L>,
+        ticks: &mut Ticks<L>,
     ) -> Result<Applied<Undo>, OutOfMemory> {
-        OneObject::apply(&mut state.states[usize::from(op.object)], &op.act, steps)
+        OneObject::apply(&mut state.states[usize::from(op.object)], &op.act, ticks)
     }
 
     fn undo<L: Ledger>(
         state: &mut ObjectStates,
         op: &Op,
         undo: Undo,
-        steps: &mut Steps<L>,
+        ticks: &mut Ticks<L>,
     ) -> Result<(), OutOfMemory> {
         OneObject::undo(
             &mut state.states[usize::from(op.object)],
             &op.act,
             undo,
-            steps,
+            ticks,
         )
     }
 

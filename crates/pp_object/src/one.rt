@@ -8,7 +8,7 @@ ghost use Rattle.pp_object.specs.laws.One.{one_lawful};
 use crate::act::Act;
 use crate::acts::context_of;
 use crate::states::{ObjectState, Undo};
-use pp_core::{Answer, Kind, OutOfMemory, Steps};
+use pp_core::{Answer, Kind, OutOfMemory, Ticks};
 use pp_counter::Count;
 use pp_map::KeyMap;
 use pp_mem::Mem;
@@ -123,24 +123,24 @@ impl Spec for OneObject {
     fn apply<L: Ledger>(
         state: &mut ObjectState,
         op: &Act,
-        steps: &mut Steps<L>,
+        ticks: &mut Ticks<L>,
     ) -> Result<Applied<Undo>, OutOfMemory> {
         match (state, op) {
-            (ObjectState::Memory(state), Act::Memory(op)) => covered(Mem::apply(state, op, steps)),
+            (ObjectState::Memory(state), Act::Memory(op)) => covered(Mem::apply(state, op, ticks)),
             (ObjectState::KeySet(state), Act::KeySet(op)) => {
-                uncovered(KeySet::apply(state, op, steps))
+                uncovered(KeySet::apply(state, op, ticks))
             }
             (ObjectState::KeyMap(state), Act::KeyMap(op)) => {
-                uncovered(KeyMap::apply(state, op, steps))
+                uncovered(KeyMap::apply(state, op, ticks))
             }
             (ObjectState::Counter(state), Act::Counter(op)) => {
-                uncovered(Count::apply(state, op, steps))
+                uncovered(Count::apply(state, op, ticks))
             }
             (ObjectState::Queue(state), Act::Queue(op)) => {
-                uncovered(Fifo::apply(state, op, steps))
+                uncovered(Fifo::apply(state, op, ticks))
             }
             _ => {
-                steps.tick();
+                ticks.tick();
                 Ok(Applied::Differs)
             }
         }
@@ -150,18 +150,18 @@ impl Spec for OneObject {
         state: &mut ObjectState,
         op: &Act,
         undo: Undo,
-        steps: &mut Steps<L>,
+        ticks: &mut Ticks<L>,
     ) -> Result<(), OutOfMemory> {
         match (state, op) {
             (ObjectState::Memory(state), Act::Memory(op)) => {
-                Mem::undo(state, op, undo.covered(), steps)
+                Mem::undo(state, op, undo.covered(), ticks)
             }
-            (ObjectState::KeySet(state), Act::KeySet(op)) => KeySet::undo(state, op, (), steps),
-            (ObjectState::KeyMap(state), Act::KeyMap(op)) => KeyMap::undo(state, op, (), steps),
-            (ObjectState::Counter(state), Act::Counter(op)) => Count::undo(state, op, (), steps),
-            (ObjectState::Queue(state), Act::Queue(op)) => Fifo::undo(state, op, (), steps),
+            (ObjectState::KeySet(state), Act::KeySet(op)) => KeySet::undo(state, op, (), ticks),
+            (ObjectState::KeyMap(state), Act::KeyMap(op)) => KeyMap::undo(state, op, (), ticks),
+            (ObjectState::Counter(state), Act::Counter(op)) => Count::undo(state, op, (), ticks),
+            (ObjectState::Queue(state), Act::Queue(op)) => Fifo::undo(state, op, (), ticks),
             _ => {
-                steps.tick();
+                ticks.tick();
                 Ok(())
             }
         }

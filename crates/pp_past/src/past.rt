@@ -9,7 +9,7 @@ use crate::place::{Place, Removed};
 use crate::room::make_room;
 use crate::take_out::{last_with, take_out};
 use indexmap::IndexSet;
-use pp_core::{Answer, Item, OutOfMemory, Steps};
+use pp_core::{Answer, Item, OutOfMemory, Ticks};
 use pp_spec::{Applied, Placed};
 use std::alloc::Global;
 use std::marker::Model;
@@ -86,7 +86,7 @@ impl<S: Placed> Past<S> {
     pub fn append<L: Ledger>(
         &mut self,
         item: Item<S::Op>,
-        steps: &mut Steps<L>,
+        ticks: &mut Ticks<L>,
     ) -> Result<(), OutOfMemory>
         requires allowed { IsAllowed S.object self.old.0 (ops_of self.old.1 ++ item.op ∷ []) }
         requires ranged { IsTrue (S.object.ranged item.op) }
@@ -94,8 +94,8 @@ impl<S: Placed> Past<S> {
         requires few { length self.old.1 < 1_000_000 }
         ensures ok { OnOk result (self.new ≡ (self.old.0, self.old.1 ++ item ∷ [])) }
         ensures err { OnErr result (self.new ≡ self.old) }
-        ensures cost { OnOk result (steps.new ≡ steps.old + 1) }
-        ensures bound { steps.new ≤ steps.old + 1 }
+        ensures cost { OnOk result (ticks.new ≡ ticks.old + 1) }
+        ensures bound { ticks.new ≤ ticks.old + 1 }
     {
         let p = usize::from(S::place(&item.op));
         make_room(
@@ -105,7 +105,7 @@ impl<S: Placed> Past<S> {
             p,
             self.alloc,
         )?;
-        let Applied::Done(undo) = S::apply(&mut self.state, &item.op, steps)? else {
+        let Applied::Done(undo) = S::apply(&mut self.state, &item.op, ticks)? else {
             unreachable!()
         };
         let place = &mut self.places[p];
@@ -128,12 +128,12 @@ impl<S: Placed> Past<S> {
     pub fn remove<L: Ledger>(
         self,
         i: usize,
-        steps: &mut Steps<L>,
+        ticks: &mut Ticks<L>,
     ) -> Result<(Self, Removed), OutOfMemory>
         requires { i < length self.1 }
         ensures removes { IfOk result (λ r. Removes S.object self i r.0 r.1) }
-        ensures cost { IfOk result (λ r. removal_steps r.1 (from_there S.place_of self.1 i) steps.old steps.new) }
-        ensures bound { steps.new + 3 ≤ steps.old + 4 * from_there S.place_of self.1 i }
+        ensures cost { IfOk result (λ r. removal_steps r.1 (from_there S.place_of self.1 i) ticks.old ticks.new) }
+        ensures bound { ticks.new + 3 ≤ ticks.old + 4 * from_there S.place_of self.1 i }
     {
         let Past {
             mut items,
@@ -148,7 +148,7 @@ impl<S: Placed> Past<S> {
         let Some(from) = last_with(&place.items, item.id) else {
             unreachable!()
         };
-        let removal = take_out::<S, L>(place, from, &mut state, steps)?;
+        let removal = take_out::<S, L>(place, from, &mut state, ticks)?;
         if let Removed::Done = removal {
             let _ = items.remove(i);
             let _ = ids.shift_remove_index(i);

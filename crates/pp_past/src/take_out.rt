@@ -4,7 +4,7 @@ ghost use Rattle.pp_past.specs.TakesOut.{IsWhole, TakesOut, takes_out_steps};
 
 use crate::place::{Place, Removed};
 use crate::run::{rewind, unwind};
-use pp_core::{Item, OutOfMemory, Steps};
+use pp_core::{Item, OutOfMemory, Ticks};
 use pp_spec::Spec;
 use std::sync::ledger::Ledger;
 
@@ -26,25 +26,25 @@ pub fn take_out<S: Spec, L: Ledger>(
     place: &mut Place<S::Op, S::Undo>,
     from: usize,
     state: &mut S::State,
-    steps: &mut Steps<L>,
+    ticks: &mut Ticks<L>,
 ) -> Result<Removed, OutOfMemory>
     requires whole { (b : S.State) × IsWhole S.object b place.old state.old }
     requires within { from < length place.old.items.items }
     ensures takes { IfOk result (λ removal. (b : S.State) → IsWhole S.object b place.old state.old → TakesOut S.object b place.old.items.items from place.new state.new removal) }
-    ensures cost { IfOk result (λ removal. takes_out_steps removal (length place.old.items.items) from steps.old steps.new) }
-    ensures bound { steps.new + 3 + 4 * from ≤ steps.old + 4 * length place.old.items.items }
+    ensures cost { IfOk result (λ removal. takes_out_steps removal (length place.old.items.items) from ticks.old ticks.new) }
+    ensures bound { ticks.new + 3 + 4 * from ≤ ticks.old + 4 * length place.old.items.items }
 {
-    unwind::<S, L>(&place.items, &mut place.undos, from, state, steps)?;
+    unwind::<S, L>(&place.items, &mut place.undos, from, state, ticks)?;
     let noted = place.items.remove(from);
-    let Some(answer) = rewind::<S, L>(&place.items, &mut place.undos, state, steps)? else {
+    let Some(answer) = rewind::<S, L>(&place.items, &mut place.undos, state, ticks)? else {
         return Ok(Removed::Done);
     };
     let id = place.items[place.undos.len()].id;
-    unwind::<S, L>(&place.items, &mut place.undos, from, state, steps)?;
+    unwind::<S, L>(&place.items, &mut place.undos, from, state, ticks)?;
     let Ok(()) = place.items.insert(from, noted) else {
         return Err(OutOfMemory);
     };
-    let None = rewind::<S, L>(&place.items, &mut place.undos, state, steps)? else {
+    let None = rewind::<S, L>(&place.items, &mut place.undos, state, ticks)? else {
         unreachable!()
     };
     Ok(Removed::Differs { entry: id, answer })

@@ -6,7 +6,7 @@ use crate::contexts::{after_pair, before_pair};
 use crate::movers::may_swap;
 use crate::op::QueueOp;
 use crate::queue::Queue;
-use pp_core::{Answer, OutOfMemory, Steps};
+use pp_core::{Answer, OutOfMemory, Ticks};
 use pp_spec::{Applied, Context, Spec, answer_of};
 use std::alloc::Global;
 use std::sync::ledger::Ledger;
@@ -59,9 +59,9 @@ impl Spec for Fifo {
     fn apply<L: Ledger>(
         state: &mut Queue,
         op: &QueueOp,
-        steps: &mut Steps<L>,
+        ticks: &mut Ticks<L>,
     ) -> Result<Applied<()>, OutOfMemory> {
-        steps.tick();
+        ticks.tick();
         if !Self::legal(state, op) {
             return Ok(Applied::Differs);
         }
@@ -76,9 +76,9 @@ impl Spec for Fifo {
         state: &mut Queue,
         op: &QueueOp,
         _undo: (),
-        steps: &mut Steps<L>,
+        ticks: &mut Ticks<L>,
     ) -> Result<(), OutOfMemory> {
-        steps.tick();
+        ticks.tick();
         match *op {
             QueueOp::Enq { value: _ } => {
                 state.remove_back();

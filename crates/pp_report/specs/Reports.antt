@@ -1,4 +1,4 @@
--- The report of a run, line by line.
+-- Meaning: the report of a run, line by line.
 use Rattle.std.specs.Prelude.{◌≡◌, ℕ, List, ◌++◌, length, codes}
 use Rattle.std.specs.Fmt.{decimal}
 use Rattle.std.specs.List.{flat_map, range_with_len}

@@ -1,4 +1,4 @@
--- The names of causes in a report.
+-- Meaning: the names of causes in a report.
 use Rattle.std.specs.Prelude.{ℕ, List, ◌++◌, codes}
 use Rattle.pp_core.specs.declared.member.Member.{Member}
 use Rattle.pp_core.specs.Words.{member_word}

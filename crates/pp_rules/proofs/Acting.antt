@@ -5,7 +5,7 @@ use Rattle.pp_core.specs.declared.entry.CommittedTx.{CommittedTx}
 use Rattle.pp_core.specs.declared.entry.LocalEntry.{LocalEntry}
 use Rattle.pp_core.specs.declared.entry.SharedEntry.{SharedEntry}
 use Rattle.pp_model.specs.Body.{Tree}
-use Rattle.pp_model.specs.Config.{Tx, Begin, App, Push, Pull, Cmt, Quit, Unpushed, Pushed, Pulled, all_committed, at_mark, committed, entry_of, item, marked, of_other, on_log, own_items, posted, pulled, pushed, relog, then, tx, without_tx}
+use Rattle.pp_model.specs.Config.{Tx, Begin, App, Push, Pull, Cmt, Quit, Unpushed, Pushed, Pulled, commit_all, at_mark, commit_effect, entry_of, item, set_mark, of_other, on_log, own_items, as_shared, pull_effect, push_effect, relog, then, tx, without_tx}
 use Rattle.pp_model.specs.Names.{Name, ◌=ⁿ◌}
 use Rattle.pp_rules.specs.Machines.{config_of, tx_of}
 use Rattle.pp_rules.specs.Transactions.{Open, Txs, open_of, relogged, with_log, with_open, without_open}
@@ -35,32 +35,32 @@ module _ {Shape Op : Type 0} where
   module _ (v : Txs Shape Op) (ids : List ℕ) (G : List (SharedEntry Op)) (F : List (CommittedTx Op)) (t : Name) where
     pub after_begin : (p : Name) (b : Option Tree) (l : Shape × List (LocalEntry Op)) → l.1 ≡ [] → config_of (with_open (open_of t p b l) v) ids G F ≡ then (config_of v ids G F) (Begin t p b)
     after_begin p b l e =
-        ap (λ (z : List Name). record { names = z; ids = reverse ids; opened = map tx_of (v.opened ++ open_of t p b l ∷ []); shared = G; finished = F }) (reverse_more v.names t)
-        ∙ ap (λ (z : List (Tx Op)). record { names = t ∷ reverse v.names; ids = reverse ids; opened = z; shared = G; finished = F })
+        ap (λ (z : List Name). record { names = z; ids = reverse ids; opened = map tx_of (v.opened ++ open_of t p b l ∷ []); shared = G; done = F }) (reverse_more v.names t)
+        ∙ ap (λ (z : List (Tx Op)). record { names = t ∷ reverse v.names; ids = reverse ids; opened = z; shared = G; done = F })
         (map-append tx_of v.opened (open_of t p b l ∷ []) ∙ ap (λ (z : List (LocalEntry Op)). map tx_of v.opened ++ record { name = t; thread = p; body = b; local = z } ∷ []) e)
 
     pub after_app : (id : ℕ) (op : Op) → config_of (with_log t (λ l. l ++ record { id = id; owner = t; mark = Unpushed; op = op } ∷ []) v) (ids ++ id ∷ []) G F ≡ then (config_of v ids G F) (App t id op)
     after_app id op =
-        ap (λ (z : List ℕ). record { names = reverse v.names; ids = z; opened = map tx_of (with_log t (λ l. l ++ record { id = id; owner = t; mark = Unpushed; op = op } ∷ []) v).opened; shared = G; finished = F }) (reverse_more ids id)
-        ∙ ap (λ (z : List (Tx Op)). record { names = reverse v.names; ids = id ∷ reverse ids; opened = z; shared = G; finished = F }) (on_logs t (λ l. l ++ record { id = id; owner = t; mark = Unpushed; op = op } ∷ []) v.opened)
+        ap (λ (z : List ℕ). record { names = reverse v.names; ids = z; opened = map tx_of (with_log t (λ l. l ++ record { id = id; owner = t; mark = Unpushed; op = op } ∷ []) v).opened; shared = G; done = F }) (reverse_more ids id)
+        ∙ ap (λ (z : List (Tx Op)). record { names = reverse v.names; ids = id ∷ reverse ids; opened = z; shared = G; done = F }) (on_logs t (λ l. l ++ record { id = id; owner = t; mark = Unpushed; op = op } ∷ []) v.opened)
 
     pub after_pull : (id : ℕ) (g : SharedEntry Op) → of_other t id G ≡ Some g →
         config_of (with_log t (λ l. l ++ record { id = g.id; owner = g.owner; mark = Pulled; op = g.op } ∷ []) v) ids G F ≡ then (config_of v ids G F) (Pull t id)
     after_pull id g h =
-        ap (λ (z : List (Tx Op)). record { names = reverse v.names; ids = reverse ids; opened = z; shared = G; finished = F }) (on_logs t (λ l. l ++ record { id = g.id; owner = g.owner; mark = Pulled; op = g.op } ∷ []) v.opened)
-        ∙ sym (ap (λ (z : Option (SharedEntry Op)). pulled (config_of v ids G F) t id z) h)
+        ap (λ (z : List (Tx Op)). record { names = reverse v.names; ids = reverse ids; opened = z; shared = G; done = F }) (on_logs t (λ l. l ++ record { id = g.id; owner = g.owner; mark = Pulled; op = g.op } ∷ []) v.opened)
+        ∙ sym (ap (λ (z : Option (SharedEntry Op)). pull_effect (config_of v ids G F) t id z) h)
 
     pub after_push : (id : ℕ) (x : Tx Op) (p : LocalEntry Op) → tx t (map tx_of v.opened) ≡ Some x → at_mark id Unpushed x.local ≡ Some p →
-        config_of (with_log t (marked id Pushed) v) ids (G ++ posted t false (item p) ∷ []) F ≡ then (config_of v ids G F) (Push t id)
+        config_of (with_log t (set_mark id Pushed) v) ids (G ++ as_shared t false (item p) ∷ []) F ≡ then (config_of v ids G F) (Push t id)
     after_push id x p e h =
-        ap (λ (z : List (Tx Op)). record { names = reverse v.names; ids = reverse ids; opened = z; shared = G ++ posted t false (item p) ∷ []; finished = F }) (on_logs t (marked id Pushed) v.opened)
-        ∙ sym (ap (λ (z : Option (Tx Op)). pushed (config_of v ids G F) t id (entry_of id Unpushed z)) e ∙ ap (λ (z : Option (LocalEntry Op)). pushed (config_of v ids G F) t id z) h)
+        ap (λ (z : List (Tx Op)). record { names = reverse v.names; ids = reverse ids; opened = z; shared = G ++ as_shared t false (item p) ∷ []; done = F }) (on_logs t (set_mark id Pushed) v.opened)
+        ∙ sym (ap (λ (z : Option (Tx Op)). push_effect (config_of v ids G F) t id (entry_of id Unpushed z)) e ∙ ap (λ (z : Option (LocalEntry Op)). push_effect (config_of v ids G F) t id z) h)
 
     pub after_cmt : (x : Tx Op) → tx t (map tx_of v.opened) ≡ Some x →
-        config_of (without_open t v) ids (all_committed t G) (F ++ record { name = t; entries = own_items x.local } ∷ []) ≡ then (config_of v ids G F) (Cmt t)
+        config_of (without_open t v) ids (commit_all t G) (F ++ record { name = t; entries = own_items x.local } ∷ []) ≡ then (config_of v ids G F) (Cmt t)
     after_cmt x e =
-        ap (λ (z : List (Tx Op)). record { names = reverse v.names; ids = reverse ids; opened = z; shared = all_committed t G; finished = F ++ record { name = t; entries = own_items x.local } ∷ [] }) (left t v.opened)
-        ∙ sym (ap (λ (z : Option (Tx Op)). committed (config_of v ids G F) t z) e)
+        ap (λ (z : List (Tx Op)). record { names = reverse v.names; ids = reverse ids; opened = z; shared = commit_all t G; done = F ++ record { name = t; entries = own_items x.local } ∷ [] }) (left t v.opened)
+        ∙ sym (ap (λ (z : Option (Tx Op)). commit_effect (config_of v ids G F) t z) e)
 
     pub after_quit : config_of (without_open t v) ids G F ≡ then (config_of v ids G F) (Quit t)
-    after_quit = ap (λ (z : List (Tx Op)). record { names = reverse v.names; ids = reverse ids; opened = z; shared = G; finished = F }) (left t v.opened)
+    after_quit = ap (λ (z : List (Tx Op)). record { names = reverse v.names; ids = reverse ids; opened = z; shared = G; done = F }) (left t v.opened)

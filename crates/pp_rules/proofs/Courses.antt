@@ -3,7 +3,7 @@ use Rattle.std.proofs.Common.{◌≡◌, ◌≢◌, ◌↔◌, IsTrue, ℕ, Bool
 use Rattle.std.proofs.lemmas.List.{map-append}
 use Rattle.pp_core.specs.declared.entry.LocalEntry.{LocalEntry}
 use Rattle.pp_model.specs.Body.{Call, Begins, IsWord}
-use Rattle.pp_model.specs.Config.{Mark, Unpushed, Pushed, Pulled, is_own, item, marked, own, own_items}
+use Rattle.pp_model.specs.Config.{Mark, Unpushed, Pushed, Pulled, is_own, item, set_mark, own, own_items}
 use Rattle.pp_model.specs.Lists.{In}
 use Rattle.pp_model.specs.Object.{Item}
 use Rattle.pp_model.proofs.Lists.{by_key}
@@ -29,15 +29,15 @@ map_cond true e w = refl
 map_cond false e w = refl
 
 -- the own items stay where the entries of this id are own and stay so
-own_marked : {Op : Type 0} (id : ℕ) (m : Mark) → is_own m ≡ true → (l : List (LocalEntry Op)) → ((e : LocalEntry Op) → In e l → e.id ≡ id → is_own e.mark ≡ true) → own_items (marked id m l) ≡ own_items l
+own_marked : {Op : Type 0} (id : ℕ) (m : Mark) → is_own m ≡ true → (l : List (LocalEntry Op)) → ((e : LocalEntry Op) → In e l → e.id ≡ id → is_own e.mark ≡ true) → own_items (set_mark id m l) ≡ own_items l
 own_marked id m k [] h = refl
 own_marked {Op} id m k (e ∷ l) h = elim (mark_cases id m e) [
-  | inl r ↦ ap (λ (w : LocalEntry Op). own_items (w ∷ marked id m l)) r.1
-      ∙ ap (λ (b : Bool). map item (cond b (remark m e ∷ own (marked id m l)) (own (marked id m l)))) k
+  | inl r ↦ ap (λ (w : LocalEntry Op). own_items (w ∷ set_mark id m l)) r.1
+      ∙ ap (λ (b : Bool). map item (cond b (remark m e ∷ own (set_mark id m l)) (own (set_mark id m l)))) k
       ∙ ap (λ (w : List (Item Op)). item e ∷ w) (own_marked id m k l (λ a i. h a (inr i)))
       ∙ ap (λ (b : Bool). map item (cond b (e ∷ own l) (own l))) (sym (h e (inl refl) r.0))
-  | inr r ↦ ap (λ (w : LocalEntry Op). own_items (w ∷ marked id m l)) r.1
-      ∙ map_cond (is_own e.mark) e (own (marked id m l))
+  | inr r ↦ ap (λ (w : LocalEntry Op). own_items (w ∷ set_mark id m l)) r.1
+      ∙ map_cond (is_own e.mark) e (own (set_mark id m l))
       ∙ ap (λ (w : List (Item Op)). cond (is_own e.mark) (item e ∷ w) w) (own_marked id m k l (λ a i. h a (inr i)))
       ∙ sym (map_cond (is_own e.mark) e (own l))
 ]
@@ -51,7 +51,7 @@ module _ {Shape State Op Undo : Type 0} (o : Object Shape State Op Undo) where
       ap (map (λ (p : Item Op). o.call p.op)) (own_items-append l (e ∷ []) ∙ ap (λ (w : List (Item Op)). own_items l ++ w) (own_of e true h))
       ∙ map-append (λ (p : Item Op). o.call p.op) (own_items l) (item e ∷ [])
 
-  pub calls_marked : (l : List (LocalEntry Op)) (i : ℕ) (e : LocalEntry Op) (m : Mark) → AreDistinct l → slice_get l i ≡ Some e → e.mark ≢ Pulled → m ≢ Pulled → own_calls o (marked e.id m l) ≡ own_calls o l
+  pub calls_marked : (l : List (LocalEntry Op)) (i : ℕ) (e : LocalEntry Op) (m : Mark) → AreDistinct l → slice_get l i ≡ Some e → e.mark ≢ Pulled → m ≢ Pulled → own_calls o (set_mark e.id m l) ≡ own_calls o l
   calls_marked l i e m d h own to =
       ap (map (λ (p : Item Op). o.call p.op)) (own_marked e.id m (own_mark m to) l (λ a j s.
       ap (λ (z : LocalEntry Op). is_own z.mark) (by_key (λ (z : LocalEntry Op). z.id) l d a e j (slice_in l i e h) s) ∙ own_mark e.mark own))
@@ -72,7 +72,7 @@ module _ {Shape State Op Undo : Type 0} (o : Object Shape State Op Undo) (w : Wa
   pub takes_still : (e : LocalEntry Op) → Takes o v.local e → Takes o log e
   takes_still e h = subst (λ (z : Guided Shape Op). Takes o z.local e) (sym same) h
 
-  pub mark_kept : (new : Shape × List (LocalEntry Op)) (i : ℕ) (m : Mark) → AreDistinct log.1 → m ≢ Pulled → HasOwn v.local.1 i → ((e : LocalEntry Op) → slice_get log.1 i ≡ Some e → new ≡ (log.0, marked e.id m log.1)) → HasTaken w (own_calls o new.1)
+  pub mark_kept : (new : Shape × List (LocalEntry Op)) (i : ℕ) (m : Mark) → AreDistinct log.1 → m ≢ Pulled → HasOwn v.local.1 i → ((e : LocalEntry Op) → slice_get log.1 i ≡ Some e → new ≡ (log.0, set_mark e.id m log.1)) → HasTaken w (own_calls o new.1)
   mark_kept new i m d to h is =
       let own = subst (λ (z : Guided Shape Op). HasOwn z.local.1 i) (sym same) h in
       subst (λ (z : List Call). HasTaken w z) (sym (ap (λ (z : Shape × List (LocalEntry Op)). own_calls o z.1) (is own.entry own.here) ∙ calls_marked o log.1 i own.entry m d own.here own.own to)) taken

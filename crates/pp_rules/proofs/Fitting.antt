@@ -50,7 +50,7 @@ module _ {Shape State Op Undo : Type 0} (o : Object Shape State Op Undo) where
       ])
 
   -- the operations of the committed transactions are allowed
-  pub serial_allowed : (shape : Shape) (c : Config Op) → Sound (rules_of o shape) c → IsAllowed o shape (serial_ops c.finished)
+  pub serial_allowed : (shape : Shape) (c : Config Op) → Sound (rules_of o shape) c → IsAllowed o shape (serial_ops c.done)
   serial_allowed shape c s =
-      allowed_front (rules_of o shape) (o.start shape) (serial_ops c.finished) (shared_ops (uncommitted c.shared) ++ [])
-      (serial_law (rules_of o shape) c.shared c.finished [] (ordered (rules_of o shape) c s) (subst (λ (z : List Op). IsAllowed o shape z) (sym (append-nil (shared_ops c.shared))) s.shared_allowed))
+      allowed_front (rules_of o shape) (o.start shape) (serial_ops c.done) (shared_ops (uncommitted c.shared) ++ [])
+      (serial_law (rules_of o shape) c.shared c.done [] (ordered (rules_of o shape) c s) (subst (λ (z : List Op). IsAllowed o shape z) (sym (append-nil (shared_ops c.shared))) s.shared_allowed))

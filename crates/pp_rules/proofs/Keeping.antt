@@ -6,10 +6,10 @@ use Rattle.pp_core.specs.declared.entry.CommittedTx.{CommittedTx}
 use Rattle.pp_core.specs.declared.entry.LocalEntry.{LocalEntry}
 use Rattle.pp_core.specs.declared.entry.SharedEntry.{SharedEntry}
 use Rattle.pp_model.specs.Body.{Tree}
-use Rattle.pp_model.specs.Config.{Config, Tx, Step, Begin, App, Push, Pull, Cmt, Quit, Note, Unpushed, Pushed, Pulled, all_committed, at_mark, item, local_ops, marked, of_other, own_items, posted, shared_ops, then, tx}
+use Rattle.pp_model.specs.Config.{Config, Tx, Step, Begin, App, Push, Pull, Cmt, Quit, Note, Unpushed, Pushed, Pulled, commit_all, at_mark, item, local_ops, set_mark, of_other, own_items, as_shared, shared_ops, then, tx}
 use Rattle.pp_model.specs.Lists.{In}
 use Rattle.pp_model.specs.Names.{Name, ◌=ⁿ◌}
-use Rattle.pp_model.specs.Rules.{Fails}
+use Rattle.pp_model.specs.Rules.{Breaks, Meets}
 use Rattle.pp_model.specs.Sound.{Sound, serial_ops}
 use Rattle.pp_model.proofs.Begin.{empty_sound}
 use Rattle.pp_model.proofs.Keeps.{step_keeps}
@@ -39,19 +39,19 @@ same_ops : {Op : Type 0} (e : LocalEntry Op) (b : Bool) → (cond b (record { id
 same_ops e true = refl
 same_ops e false = refl
 
-marked_ops : {Op : Type 0} (id : ℕ) (l : List (LocalEntry Op)) → local_ops (marked id Pushed l) ≡ local_ops l
+marked_ops : {Op : Type 0} (id : ℕ) (l : List (LocalEntry Op)) → local_ops (set_mark id Pushed l) ≡ local_ops l
 marked_ops id [] = refl
 marked_ops {Op} id (e ∷ l) =
-    ap (λ (z : Op). z ∷ local_ops (marked id Pushed l)) (same_ops e (e.id == id)) ∙ ap (λ (z : List Op). e.op ∷ z) (marked_ops id l)
+    ap (λ (z : Op). z ∷ local_ops (set_mark id Pushed l)) (same_ops e (e.id == id)) ∙ ap (λ (z : List Op). e.op ∷ z) (marked_ops id l)
 
 committed_op : {Op : Type 0} (g : SharedEntry Op) (b : Bool) → (cond b (record { id = g.id; owner = g.owner; committed = true; op = g.op }) g).op ≡ g.op
 committed_op g true = refl
 committed_op g false = refl
 
-committed_ops : {Op : Type 0} (t : Name) (l : List (SharedEntry Op)) → shared_ops (all_committed t l) ≡ shared_ops l
+committed_ops : {Op : Type 0} (t : Name) (l : List (SharedEntry Op)) → shared_ops (commit_all t l) ≡ shared_ops l
 committed_ops t [] = refl
 committed_ops {Op} t (g ∷ l) =
-    ap (λ (z : Op). z ∷ shared_ops (all_committed t l)) (committed_op g (g.owner =ⁿ t)) ∙ ap (λ (z : List Op). g.op ∷ z) (committed_ops t l)
+    ap (λ (z : Op). z ∷ shared_ops (commit_all t l)) (committed_op g (g.owner =ⁿ t)) ∙ ap (λ (z : List Op). g.op ∷ z) (committed_ops t l)
 
 ops_more : {Op : Type 0} (l : List (LocalEntry Op)) (e : LocalEntry Op) → local_ops (l ++ e ∷ []) ≡ local_ops l ++ e.op ∷ []
 ops_more [] e = refl
@@ -98,25 +98,25 @@ module _ {Shape State Op Undo : Type 0} (o : Object Shape State Op Undo) (shape 
         ranged = subst (AllRanged o) (sym (ops_more x.local.1 e)) (ranged_more o (local_ops x.local.1) e.op h.ranged r);
       }
 
-  fine_mark : (id : ℕ) (x : Open Shape Op) → In x l → IsFine o shape (n + 1) (relogged (marked id Pushed) x)
+  fine_mark : (id : ℕ) (x : Open Shape Op) → In x l → IsFine o shape (n + 1) (relogged (set_mark id Pushed) x)
   fine_mark id x i =
       let h = fine x i in
       record {
         same_shape = h.same_shape;
-        short = (let s = h.short in let k : length (marked id Pushed x.local.1) ≡ length x.local.1 = length-map x.local.1 _ in omega (arith, s, k));
+        short = (let s = h.short in let k : length (set_mark id Pushed x.local.1) ≡ length x.local.1 = length-map x.local.1 _ in omega (arith, s, k));
         ranged = subst (AllRanged o) (sym (marked_ops id x.local.1)) h.ranged;
       }
 
 -- a machine, and what is seen of it
 module _ {Shape State Op Undo : Type 0} (o : Object Shape State Op Undo) (shape : Shape) (v : Txs Shape Op) (ids : List ℕ) (G : Shape × List (SharedEntry Op)) (F : List (CommittedTx Op)) (n : ℕ) (w : Seen Shape Op)
     (same : ◌≡◌ {A = Seen Shape Op} (record { shape = shape; config = config_of v ids G.1 F; count = n }) w) (h : Holds o shape v ids G F n) where
-  lower : (s : Step Op) (k : ℕ) → Fails (rules_of o w.shape) w.config s k → Fails (rules_of o shape) (config_of v ids G.1 F) s k
-  lower s k f = subst (λ (z : Seen Shape Op). Fails (rules_of o z.shape) z.config s k) (sym same) f
+  lower : (s : Step Op) (k : ℕ) → Breaks (rules_of o w.shape) w.config s k → Breaks (rules_of o shape) (config_of v ids G.1 F) s k
+  lower s k f = subst (λ (z : Seen Shape Op). Breaks (rules_of o z.shape) z.config s k) (sym same) f
 
-  sound_then : (s : Step Op) → Fails (rules_of o w.shape) w.config s 0 → Sound (rules_of o shape) (then (config_of v ids G.1 F) s)
+  sound_then : (s : Step Op) → Meets (rules_of o w.shape) w.config s → Sound (rules_of o shape) (then (config_of v ids G.1 F) s)
   sound_then s f = step_keeps (rules_of o shape) (config_of v ids G.1 F) s h.sound (lower s 0 f)
 
-  sound_as : (s : Step Op) (c : Config Op) → Fails (rules_of o w.shape) w.config s 0 → c ≡ then (config_of v ids G.1 F) s → Sound (rules_of o shape) c
+  sound_as : (s : Step Op) (c : Config Op) → Meets (rules_of o w.shape) w.config s → c ≡ then (config_of v ids G.1 F) s → Sound (rules_of o shape) c
   sound_as s c f e = subst (λ (z : Config Op). Sound (rules_of o shape) z) (sym e) (sound_then s f)
 
   seen_as : (s : Step Op) (c : Config Op) → c ≡ then (config_of v ids G.1 F) s → ◌≡◌ {A = Seen Shape Op} (record { shape = shape; config = c; count = n + 1 }) (stepped w s)
@@ -129,7 +129,7 @@ module _ {Shape State Op Undo : Type 0} (o : Object Shape State Op Undo) (shape 
   pub seen_begin : (t p : Name) (b : Option Tree) (u : Txs Shape Op) → u ≡ with_open (open_of t p b (shape, [])) v → ◌≡◌ {A = Seen Shape Op} (record { shape = shape; config = config_of u ids G.1 F; count = n + 1 }) (stepped w (Begin t p b))
   seen_begin t p b u e = seen_as (Begin t p b) (config_of u ids G.1 F) (begin_is t p b u e)
 
-  pub holds_begin : (t p : Name) (b : Option Tree) (u : Txs Shape Op) → Fails (rules_of o w.shape) w.config (Begin t p b) 0 → u ≡ with_open (open_of t p b (shape, [])) v → Holds o shape u ids G F (n + 1)
+  pub holds_begin : (t p : Name) (b : Option Tree) (u : Txs Shape Op) → Meets (rules_of o w.shape) w.config (Begin t p b) → u ≡ with_open (open_of t p b (shape, [])) v → Holds o shape u ids G F (n + 1)
   holds_begin t p b u f e = record {
     sound = sound_as (Begin t p b) (config_of u ids G.1 F) f (begin_is t p b u e);
     fine = subst (λ (z : Txs Shape Op). (x : Open Shape Op) → In x z.opened → IsFine o shape (n + 1) x) (sym e)
@@ -140,14 +140,14 @@ module _ {Shape State Op Undo : Type 0} (o : Object Shape State Op Undo) (shape 
     serial_ranged = h.serial_ranged;
   }
 
-  pub begin_free : (t p : Name) (b : Option Tree) → Fails (rules_of o w.shape) w.config (Begin t p b) 0 → is_begun v t ≡ false
+  pub begin_free : (t p : Name) (b : Option Tree) → Meets (rules_of o w.shape) w.config (Begin t p b) → is_begun v t ≡ false
   begin_free t p b f = not_equal (is_begun v t) (λ k. (lower (Begin t p b) 0 f).0 (begun_in v t (sym k)))
 
-  pub begin_idle : (t p : Name) (b : Option Tree) → Fails (rules_of o w.shape) w.config (Begin t p b) 0 → is_busy v p ≡ false
+  pub begin_idle : (t p : Name) (b : Option Tree) → Meets (rules_of o w.shape) w.config (Begin t p b) → is_busy v p ≡ false
   begin_idle t p b f = not_equal (is_busy v p) (λ k. let x = busy_in v p (sym k) in (lower (Begin t p b) 0 f).1.0 x.0 x.1 x.2)
 
   -- APP
-  pub ids_more : (t : Name) (id : ℕ) (op : Op) (js ks : List ℕ) → Fails (rules_of o w.shape) w.config (App t id op) 0 → js ≡ ids → ks ≡ insert_key (λ a b. a == b) js id → ks ≡ ids ++ id ∷ []
+  pub ids_more : (t : Name) (id : ℕ) (op : Op) (js ks : List ℕ) → Meets (rules_of o w.shape) w.config (App t id op) → js ≡ ids → ks ≡ insert_key (λ a b. a == b) js id → ks ≡ ids ++ id ∷ []
   ids_more t id op js ks f e i =
       let k = there_holds (tx t (map tx_of v.opened)) _ (lower (App t id op) 0 f) in
       let u : list_any (λ j. id == j) ids ≡ false = not_equal (list_any (λ j. id == j) ids) (λ m. k.2.0 (used_in ids id (sym m))) in
@@ -166,7 +166,7 @@ module _ {Shape State Op Undo : Type 0} (o : Object Shape State Op Undo) (shape 
   fine_after : (t : Name) (k : List (LocalEntry Op) → List (LocalEntry Op)) (u : Txs Shape Op) → u ≡ with_log t k v → ((x : Open Shape Op) → In x v.opened → IsFine o shape (n + 1) (relogged k x)) → (x : Open Shape Op) → In x u.opened → IsFine o shape (n + 1) x
   fine_after t k u e f = subst (λ (z : Txs Shape Op). (x : Open Shape Op) → In x z.opened → IsFine o shape (n + 1) x) (sym e) (fine_log o shape n v.opened h.fine t k (λ x i same. f x i))
 
-  pub holds_app : (t : Name) (id : ℕ) (op : Op) (u : Txs Shape Op) (js : List ℕ) → Fails (rules_of o w.shape) w.config (App t id op) 0 → IsTrue (o.ranged op) → u ≡ with_log t (λ l. l ++ record { id = id; owner = t; mark = Unpushed; op = op } ∷ []) v → js ≡ ids ++ id ∷ [] → Holds o shape u js G F (n + 1)
+  pub holds_app : (t : Name) (id : ℕ) (op : Op) (u : Txs Shape Op) (js : List ℕ) → Meets (rules_of o w.shape) w.config (App t id op) → IsTrue (o.ranged op) → u ≡ with_log t (λ l. l ++ record { id = id; owner = t; mark = Unpushed; op = op } ∷ []) v → js ≡ ids ++ id ∷ [] → Holds o shape u js G F (n + 1)
   holds_app t id op u js f r e i = record {
     sound = sound_as (App t id op) (config_of u js G.1 F) f (app_is t id op u js e i);
     fine = fine_after t (λ l. l ++ record { id = id; owner = t; mark = Unpushed; op = op } ∷ []) u e (fine_entry o shape n v.opened h.fine (record { id = id; owner = t; mark = Unpushed; op = op }) r);
@@ -194,7 +194,7 @@ module _ {Shape State Op Undo : Type 0} (o : Object Shape State Op Undo) (shape 
         subst (λ (z : Tx Op). FollowsIfOwn o z.body z.local e) (sym y.2) follows,
       )
 
-  pub takes_app : (t : Name) (id : ℕ) (op : Op) → Fails (rules_of o w.shape) w.config (App t id op) 0 → IsTrue (o.ranged op) → w.count < 200_000 →
+  pub takes_app : (t : Name) (id : ℕ) (op : Op) → Meets (rules_of o w.shape) w.config (App t id op) → IsTrue (o.ranged op) → w.count < 200_000 →
       (y : Open Shape Op) × (open_at t v.opened ≡ Some y) × Takes o y.local (record { id = id; owner = t; mark = Unpushed; op = op }) × FollowsIfOwn o y.body y.local.1 (record { id = id; owner = t; mark = Unpushed; op = op })
   takes_app t id op f r few =
       let k = there_holds (tx t (map tx_of v.opened)) _ (lower (App t id op) 0 f) in
@@ -212,7 +212,7 @@ module _ {Shape State Op Undo : Type 0} (o : Object Shape State Op Undo) (shape 
   post_ranged : (g : SharedEntry Op) → In g G.1 → IsTrue (o.ranged g.op)
   post_ranged g i = ranged_in o (shared_ops G.1) h.shared_ranged g.op (in_map (λ (z : SharedEntry Op). z.op) g G.1 i)
 
-  pub holds_pull : (t : Name) (id : ℕ) (g : SharedEntry Op) (u : Txs Shape Op) → Fails (rules_of o w.shape) w.config (Pull t id) 0 → of_other t id G.1 ≡ Some g → u ≡ with_log t (λ l. l ++ record { id = g.id; owner = g.owner; mark = Pulled; op = g.op } ∷ []) v → Holds o shape u ids G F (n + 1)
+  pub holds_pull : (t : Name) (id : ℕ) (g : SharedEntry Op) (u : Txs Shape Op) → Meets (rules_of o w.shape) w.config (Pull t id) → of_other t id G.1 ≡ Some g → u ≡ with_log t (λ l. l ++ record { id = g.id; owner = g.owner; mark = Pulled; op = g.op } ∷ []) v → Holds o shape u ids G F (n + 1)
   holds_pull t id g u f q e = record {
     sound = sound_as (Pull t id) (config_of u ids G.1 F) f (pull_is t id g u q e);
     fine = fine_after t (λ l. l ++ record { id = g.id; owner = g.owner; mark = Pulled; op = g.op } ∷ []) u e (fine_entry o shape n v.opened h.fine (record { id = g.id; owner = g.owner; mark = Pulled; op = g.op }) (post_ranged g (found_other t id G.1 g q).0));
@@ -222,7 +222,7 @@ module _ {Shape State Op Undo : Type 0} (o : Object Shape State Op Undo) (shape 
     serial_ranged = h.serial_ranged;
   }
 
-  pub takes_pull : (t : Name) (id : ℕ) (g : SharedEntry Op) → Fails (rules_of o w.shape) w.config (Pull t id) 0 → of_other t id G.1 ≡ Some g → w.count < 200_000 →
+  pub takes_pull : (t : Name) (id : ℕ) (g : SharedEntry Op) → Meets (rules_of o w.shape) w.config (Pull t id) → of_other t id G.1 ≡ Some g → w.count < 200_000 →
       (y : Open Shape Op) × (open_at t v.opened ≡ Some y) × Takes o y.local (record { id = g.id; owner = g.owner; mark = Pulled; op = g.op }) × FollowsIfOwn o y.body y.local.1 (record { id = g.id; owner = g.owner; mark = Pulled; op = g.op })
   takes_pull t id g f q few =
       let k = there_holds (tx t (map tx_of v.opened)) _ (lower (Pull t id) 0 f) in
@@ -232,20 +232,20 @@ module _ {Shape State Op Undo : Type 0} (o : Object Shape State Op Undo) (shape 
       takes t k.0 (record { id = g.id; owner = g.owner; mark = Pulled; op = g.op }) k.1 (subst (λ (z : SharedEntry Op). IsAllowed o shape (local_ops (k.0).local ++ z.op ∷ [])) e m.2.1.0) (post_ranged g i.0) (λ a j d. m.2.0 a j (d ∙ i.1))
       (subst (λ (z : ℕ). z < 200_000) (sym (ap (λ (z : Seen Shape Op). z.count) same)) few) (λ own. absurd (cc))
 
-  pub pull_finds : (t : Name) (id : ℕ) → Fails (rules_of o w.shape) w.config (Pull t id) 0 → of_other t id G.1 ≡ None → ⊥
+  pub pull_finds : (t : Name) (id : ℕ) → Meets (rules_of o w.shape) w.config (Pull t id) → of_other t id G.1 ≡ None → ⊥
   pull_finds t id f e =
       let k = there_holds (tx t (map tx_of v.opened)) _ (lower (Pull t id) 0 f) in
       let m = there_holds (of_other t id G.1) _ k.2 in
       let z : Some m.0 ≡ None = sym m.1 ∙ e in cc
 
   -- PUSH
-  pub push_finds : (t : Name) (id : ℕ) → Fails (rules_of o w.shape) w.config (Push t id) 0 → (l : Shape × List (LocalEntry Op)) → HasLog o shape v ids G F n h t l → at_mark id Unpushed l.1 ≡ None → ⊥
+  pub push_finds : (t : Name) (id : ℕ) → Meets (rules_of o w.shape) w.config (Push t id) → (l : Shape × List (LocalEntry Op)) → HasLog o shape v ids G F n h t l → at_mark id Unpushed l.1 ≡ None → ⊥
   push_finds t id f l r e =
       let k = there_holds (tx t (map tx_of v.opened)) _ (lower (Push t id) 0 f) in
       let m = there_holds (at_mark id Unpushed (k.0).local) _ k.2 in
       let z : Some m.0 ≡ None = sym m.1 ∙ ap (λ (y : Tx Op). at_mark id Unpushed y.local) (some_inj k.0 _ (sym k.1 ∙ r.is)) ∙ e in cc
 
-  pub push_allowed : (t : Name) (id : ℕ) → Fails (rules_of o w.shape) w.config (Push t id) 0 → (l : Shape × List (LocalEntry Op)) → HasLog o shape v ids G F n h t l → (p : LocalEntry Op) → at_mark id Unpushed l.1 ≡ Some p →
+  pub push_allowed : (t : Name) (id : ℕ) → Meets (rules_of o w.shape) w.config (Push t id) → (l : Shape × List (LocalEntry Op)) → HasLog o shape v ids G F n h t l → (p : LocalEntry Op) → at_mark id Unpushed l.1 ≡ Some p →
       IsAllowed o G.0 (shared_ops G.1 ++ p.op ∷ [])
   push_allowed t id f l r p q =
       let k = there_holds (tx t (map tx_of v.opened)) _ (lower (Push t id) 0 f) in
@@ -256,32 +256,32 @@ module _ {Shape State Op Undo : Type 0} (o : Object Shape State Op Undo) (shape 
   pub entry_ranged : (t : Name) (l : Shape × List (LocalEntry Op)) → HasLog o shape v ids G F n h t l → (p : LocalEntry Op) (i : ℕ) → slice_get l.1 i ≡ Some p → IsTrue (o.ranged p.op)
   entry_ranged t l r p i q = ranged_in o (local_ops l.1) (r.fine).ranged p.op (in_map (λ (z : LocalEntry Op). z.op) p l.1 (slice_in l.1 i p q))
 
-  pub push_new : (t : Name) (id : ℕ) → Fails (rules_of o w.shape) w.config (Push t id) 0 → (l : Shape × List (LocalEntry Op)) → HasLog o shape v ids G F n h t l → (p : LocalEntry Op) → at_mark id Unpushed l.1 ≡ Some p → position (λ g. g.id == p.id) G.1 ≡ None
+  pub push_new : (t : Name) (id : ℕ) → Meets (rules_of o w.shape) w.config (Push t id) → (l : Shape × List (LocalEntry Op)) → HasLog o shape v ids G F n h t l → (p : LocalEntry Op) → at_mark id Unpushed l.1 ≡ Some p → position (λ g. g.id == p.id) G.1 ≡ None
   push_new t id f l r p q =
       let s = subst (λ (c : Config Op). Sound (rules_of o shape) c) (sym (after_push v ids G.1 F t id _ p r.is q)) (sound_then (Push t id) f) in
-      place_nowhere (λ g. g.id == p.id) G.1 (λ g i. not_equal (g.id == p.id) (λ k. s.shared_ids g (posted t false (item p)) (before_across g (posted t false (item p)) G.1 (posted t false (item p) ∷ []) i (inl refl)) (eqb-true g.id p.id k)))
+      place_nowhere (λ g. g.id == p.id) G.1 (λ g i. not_equal (g.id == p.id) (λ k. s.shared_ids g (as_shared t false (item p)) (before_across g (as_shared t false (item p)) G.1 (as_shared t false (item p) ∷ []) i (inl refl)) (eqb-true g.id p.id k)))
 
-  push_is : (t : Name) (id : ℕ) (l : Shape × List (LocalEntry Op)) → HasLog o shape v ids G F n h t l → (p : LocalEntry Op) → at_mark id Unpushed l.1 ≡ Some p → (u : Txs Shape Op) (H : List (SharedEntry Op)) → u ≡ with_log t (marked p.id Pushed) v → H ≡ G.1 ++ posted t false (item p) ∷ [] →
+  push_is : (t : Name) (id : ℕ) (l : Shape × List (LocalEntry Op)) → HasLog o shape v ids G F n h t l → (p : LocalEntry Op) → at_mark id Unpushed l.1 ≡ Some p → (u : Txs Shape Op) (H : List (SharedEntry Op)) → u ≡ with_log t (set_mark p.id Pushed) v → H ≡ G.1 ++ as_shared t false (item p) ∷ [] →
       config_of u ids H F ≡ then (config_of v ids G.1 F) (Push t id)
   push_is t id l r p q u H e k =
-      ap (λ (z : Txs Shape Op). config_of z ids H F) (e ∙ ap (λ (z : ℕ). with_log t (marked z Pushed) v) (found_mark id Unpushed l.1 p q).1)
-      ∙ ap (λ (z : List (SharedEntry Op)). config_of (with_log t (marked id Pushed) v) ids z F) k
+      ap (λ (z : Txs Shape Op). config_of z ids H F) (e ∙ ap (λ (z : ℕ). with_log t (set_mark z Pushed) v) (found_mark id Unpushed l.1 p q).1)
+      ∙ ap (λ (z : List (SharedEntry Op)). config_of (with_log t (set_mark id Pushed) v) ids z F) k
       ∙ after_push v ids G.1 F t id _ p r.is q
 
-  pub seen_push : (t : Name) (id : ℕ) (l : Shape × List (LocalEntry Op)) → HasLog o shape v ids G F n h t l → (p : LocalEntry Op) → at_mark id Unpushed l.1 ≡ Some p → (u : Txs Shape Op) (H : Shape × List (SharedEntry Op)) → u ≡ with_log t (marked p.id Pushed) v → H ≡ (G.0, G.1 ++ posted t false (item p) ∷ []) →
+  pub seen_push : (t : Name) (id : ℕ) (l : Shape × List (LocalEntry Op)) → HasLog o shape v ids G F n h t l → (p : LocalEntry Op) → at_mark id Unpushed l.1 ≡ Some p → (u : Txs Shape Op) (H : Shape × List (SharedEntry Op)) → u ≡ with_log t (set_mark p.id Pushed) v → H ≡ (G.0, G.1 ++ as_shared t false (item p) ∷ []) →
       ◌≡◌ {A = Seen Shape Op} (record { shape = shape; config = config_of u ids H.1 F; count = n + 1 }) (stepped w (Push t id))
   seen_push t id l r p q u H e k = seen_as (Push t id) (config_of u ids H.1 F) (push_is t id l r p q u H.1 e (ap (λ (z : Shape × List (SharedEntry Op)). z.1) k))
 
-  pub holds_push : (t : Name) (id : ℕ) → Fails (rules_of o w.shape) w.config (Push t id) 0 → (l : Shape × List (LocalEntry Op)) → HasLog o shape v ids G F n h t l → (p : LocalEntry Op) (i : ℕ) → at_mark id Unpushed l.1 ≡ Some p → slice_get l.1 i ≡ Some p →
-      (u : Txs Shape Op) (H : Shape × List (SharedEntry Op)) → u ≡ with_log t (marked p.id Pushed) v → H ≡ (G.0, G.1 ++ posted t false (item p) ∷ []) → Holds o shape u ids H F (n + 1)
+  pub holds_push : (t : Name) (id : ℕ) → Meets (rules_of o w.shape) w.config (Push t id) → (l : Shape × List (LocalEntry Op)) → HasLog o shape v ids G F n h t l → (p : LocalEntry Op) (i : ℕ) → at_mark id Unpushed l.1 ≡ Some p → slice_get l.1 i ≡ Some p →
+      (u : Txs Shape Op) (H : Shape × List (SharedEntry Op)) → u ≡ with_log t (set_mark p.id Pushed) v → H ≡ (G.0, G.1 ++ as_shared t false (item p) ∷ []) → Holds o shape u ids H F (n + 1)
   holds_push t id f l r p i q at u H e k =
-      let posts : H.1 ≡ G.1 ++ posted t false (item p) ∷ [] = ap (λ (z : Shape × List (SharedEntry Op)). z.1) k in
+      let posts : H.1 ≡ G.1 ++ as_shared t false (item p) ∷ [] = ap (λ (z : Shape × List (SharedEntry Op)). z.1) k in
       record {
         sound = sound_as (Push t id) (config_of u ids H.1 F) f (push_is t id l r p q u H.1 e posts);
-        fine = fine_after t (marked p.id Pushed) u e (fine_mark o shape n v.opened h.fine p.id);
+        fine = fine_after t (set_mark p.id Pushed) u e (fine_mark o shape n v.opened h.fine p.id);
         shared_shape = ap (λ (z : Shape × List (SharedEntry Op)). z.0) k ∙ h.shared_shape;
-        shared_short = (let s = h.shared_short in let m = ap length posts ∙ length_push G.1 (posted t false (item p)) in omega (arith, s, m));
-        shared_ranged = subst (AllRanged o) (sym (ap shared_ops posts ∙ posts_more G.1 (posted t false (item p)))) (ranged_more o (shared_ops G.1) p.op h.shared_ranged (entry_ranged t l r p i at));
+        shared_short = (let s = h.shared_short in let m = ap length posts ∙ length_push G.1 (as_shared t false (item p)) in omega (arith, s, m));
+        shared_ranged = subst (AllRanged o) (sym (ap shared_ops posts ∙ posts_more G.1 (as_shared t false (item p)))) (ranged_more o (shared_ops G.1) p.op h.shared_ranged (entry_ranged t l r p i at));
         serial_ranged = h.serial_ranged;
       }
 
@@ -290,35 +290,35 @@ module _ {Shape State Op Undo : Type 0} (o : Object Shape State Op Undo) (shape 
       (open_of t r.thread r.body l, r.at, record { within = slice_within l.1 i p at; entry = p; here = at; own = λ e. let z : Unpushed ≡ Pulled = sym (found_mark id Unpushed l.1 p q).2 ∙ e in cc })
 
   -- CMT
-  pub cmt_opens : (t : Name) → Fails (rules_of o w.shape) w.config (Cmt t) 0 → tx t (map tx_of v.opened) ≡ None → ⊥
+  pub cmt_opens : (t : Name) → Meets (rules_of o w.shape) w.config (Cmt t) → tx t (map tx_of v.opened) ≡ None → ⊥
   cmt_opens t f e =
       let k = there_holds (tx t (map tx_of v.opened)) _ (lower (Cmt t) 0 f) in
       let z : Some k.0 ≡ None = sym k.1 ∙ e in cc
 
-  pub push_opens : (t : Name) (id : ℕ) → Fails (rules_of o w.shape) w.config (Push t id) 0 → tx t (map tx_of v.opened) ≡ None → ⊥
+  pub push_opens : (t : Name) (id : ℕ) → Meets (rules_of o w.shape) w.config (Push t id) → tx t (map tx_of v.opened) ≡ None → ⊥
   push_opens t id f e =
       let k = there_holds (tx t (map tx_of v.opened)) _ (lower (Push t id) 0 f) in
       let z : Some k.0 ≡ None = sym k.1 ∙ e in cc
 
-  cmt_is : (t : Name) (l : Shape × List (LocalEntry Op)) → HasLog o shape v ids G F n h t l → (u : Txs Shape Op) (H : List (SharedEntry Op)) (D : List (CommittedTx Op)) → u ≡ without_open t v → H ≡ all_committed t G.1 → D ≡ F ++ record { name = t; entries = own_items l.1 } ∷ [] →
+  cmt_is : (t : Name) (l : Shape × List (LocalEntry Op)) → HasLog o shape v ids G F n h t l → (u : Txs Shape Op) (H : List (SharedEntry Op)) (D : List (CommittedTx Op)) → u ≡ without_open t v → H ≡ commit_all t G.1 → D ≡ F ++ record { name = t; entries = own_items l.1 } ∷ [] →
       config_of u ids H D ≡ then (config_of v ids G.1 F) (Cmt t)
   cmt_is t l r u H D e k d =
       ap (λ (z : Txs Shape Op). config_of z ids H D) e
       ∙ ap (λ (z : List (SharedEntry Op)). config_of (without_open t v) ids z D) k
-      ∙ ap (λ (z : List (CommittedTx Op)). config_of (without_open t v) ids (all_committed t G.1) z) d
+      ∙ ap (λ (z : List (CommittedTx Op)). config_of (without_open t v) ids (commit_all t G.1) z) d
       ∙ after_cmt v ids G.1 F t _ r.is
 
-  pub seen_cmt : (t : Name) (l : Shape × List (LocalEntry Op)) → HasLog o shape v ids G F n h t l → (u : Txs Shape Op) (H : Shape × List (SharedEntry Op)) (D : List (CommittedTx Op)) → u ≡ without_open t v → H ≡ (G.0, all_committed t G.1) → D ≡ F ++ record { name = t; entries = own_items l.1 } ∷ [] →
+  pub seen_cmt : (t : Name) (l : Shape × List (LocalEntry Op)) → HasLog o shape v ids G F n h t l → (u : Txs Shape Op) (H : Shape × List (SharedEntry Op)) (D : List (CommittedTx Op)) → u ≡ without_open t v → H ≡ (G.0, commit_all t G.1) → D ≡ F ++ record { name = t; entries = own_items l.1 } ∷ [] →
       ◌≡◌ {A = Seen Shape Op} (record { shape = shape; config = config_of u ids H.1 D; count = n + 1 }) (stepped w (Cmt t))
   seen_cmt t l r u H D e k d = seen_as (Cmt t) (config_of u ids H.1 D) (cmt_is t l r u H.1 D e (ap (λ (z : Shape × List (SharedEntry Op)). z.1) k) d)
 
   fine_without : (t : Name) (u : Txs Shape Op) → u ≡ without_open t v → (x : Open Shape Op) → In x u.opened → IsFine o shape (n + 1) x
   fine_without t u e = subst (λ (z : Txs Shape Op). (x : Open Shape Op) → In x z.opened → IsFine o shape (n + 1) x) (sym e) (fine_left o shape n v.opened h.fine _)
 
-  pub holds_cmt : (t : Name) → Fails (rules_of o w.shape) w.config (Cmt t) 0 → (l : Shape × List (LocalEntry Op)) → HasLog o shape v ids G F n h t l → (u : Txs Shape Op) (H : Shape × List (SharedEntry Op)) (D : List (CommittedTx Op)) →
-      u ≡ without_open t v → H ≡ (G.0, all_committed t G.1) → D ≡ F ++ record { name = t; entries = own_items l.1 } ∷ [] → Holds o shape u ids H D (n + 1)
+  pub holds_cmt : (t : Name) → Meets (rules_of o w.shape) w.config (Cmt t) → (l : Shape × List (LocalEntry Op)) → HasLog o shape v ids G F n h t l → (u : Txs Shape Op) (H : Shape × List (SharedEntry Op)) (D : List (CommittedTx Op)) →
+      u ≡ without_open t v → H ≡ (G.0, commit_all t G.1) → D ≡ F ++ record { name = t; entries = own_items l.1 } ∷ [] → Holds o shape u ids H D (n + 1)
   holds_cmt t f l r u H D e k d =
-      let posts : H.1 ≡ all_committed t G.1 = ap (λ (z : Shape × List (SharedEntry Op)). z.1) k in
+      let posts : H.1 ≡ commit_all t G.1 = ap (λ (z : Shape × List (SharedEntry Op)). z.1) k in
       record {
         sound = sound_as (Cmt t) (config_of u ids H.1 D) f (cmt_is t l r u H.1 D e posts d);
         fine = fine_without t u e;
@@ -335,7 +335,7 @@ module _ {Shape State Op Undo : Type 0} (o : Object Shape State Op Undo) (shape 
   pub seen_quit : (t : Name) (u : Txs Shape Op) → u ≡ without_open t v → ◌≡◌ {A = Seen Shape Op} (record { shape = shape; config = config_of u ids G.1 F; count = n + 1 }) (stepped w (Quit t))
   seen_quit t u e = seen_as (Quit t) (config_of u ids G.1 F) (quit_is t u e)
 
-  pub holds_quit : (t : Name) (u : Txs Shape Op) → Fails (rules_of o w.shape) w.config (Quit t) 0 → u ≡ without_open t v → Holds o shape u ids G F (n + 1)
+  pub holds_quit : (t : Name) (u : Txs Shape Op) → Meets (rules_of o w.shape) w.config (Quit t) → u ≡ without_open t v → Holds o shape u ids G F (n + 1)
   holds_quit t u f e = record {
     sound = sound_as (Quit t) (config_of u ids G.1 F) f (quit_is t u e);
     fine = fine_without t u e;
@@ -374,8 +374,8 @@ module _ {Shape State Op Undo : Type 0} (o : Object Shape State Op Undo) (v w : 
   pub seen_sound : Sound (rules_of o v.shape) v.config → Sound (rules_of o w.shape) w.config
   seen_sound s = subst (λ (z : Seen Shape Op). Sound (rules_of o z.shape) z.config) same s
 
-  pub seen_allowed : Sound (rules_of o v.shape) v.config → IsAllowed o w.shape (serial_ops w.config.finished)
+  pub seen_allowed : Sound (rules_of o v.shape) v.config → IsAllowed o w.shape (serial_ops w.config.done)
   seen_allowed s = serial_allowed o w.shape w.config (seen_sound s)
 
-  pub seen_ranged : AllRanged o (serial_ops v.config.finished) → AllRanged o (serial_ops w.config.finished)
-  seen_ranged s = subst (λ (z : Seen Shape Op). AllRanged o (serial_ops z.config.finished)) same s
+  pub seen_ranged : AllRanged o (serial_ops v.config.done) → AllRanged o (serial_ops w.config.done)
+  seen_ranged s = subst (λ (z : Seen Shape Op). AllRanged o (serial_ops z.config.done)) same s

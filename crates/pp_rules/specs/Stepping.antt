@@ -2,7 +2,7 @@
 use Rattle.std.specs.Prelude.{◌≡◌, ◌<◌, ◌+◌, ℕ, IsTrue}
 use Rattle.pp_core.specs.Trees.{IsWithinLimits}
 use Rattle.pp_core.specs.Steps.{Step, Begin, App, Unapp, Push, Unpush, Pull, Unpull, Cmt, Quit, Note}
-use Rattle.pp_model.specs.Rules.{Fails}
+use Rattle.pp_model.specs.Rules.{Breaks, Meets}
 use Rattle.pp_spec.specs.Object.{Object, rules_of}
 use Rattle.pp_rules.specs.declared.machine.Outcome.{Outcome}
 use Rattle.pp_rules.specs.declared.machine.Outcome.TheVariants.{Done, False}
@@ -23,25 +23,25 @@ IsAsked o shape (Note t) = Unit {0}
 
 -- Done comes with the effect where each criterion holds, and False with the number of the first false one where the machine is as it was.
 abbrev pub Stepped : {Shape State Op Undo : Type 0} → Object Shape State Op Undo → Seen Shape Op → Step Op → Outcome → Seen Shape Op → Type 0
-Stepped o old step Done new = Fails (rules_of o old.shape) old.config step 0 × (new ≡ stepped old step)
-Stepped o old step (False n) new = Fails (rules_of o old.shape) old.config step n × (0 < n) × (new ≡ old)
+Stepped o old step Done new = Meets (rules_of o old.shape) old.config step × (new ≡ stepped old step)
+Stepped o old step (False n) new = Breaks (rules_of o old.shape) old.config step n × (0 < n) × (new ≡ old)
 
 -- How many operations a step that is done applies or takes back. What an UNPUSH or an UNPULL costs lies in the log and not in the step: these two are never asked so far, and stand here with 0.
-abbrev pub ticks : {Op : Type 0} → Step Op → ℕ
-ticks (Begin t p b) = 0
-ticks (App t id op) = 1
-ticks (Unapp t id) = 1
-ticks (Push t id) = 1
-ticks (Unpush t id) = 0
-ticks (Pull t id) = 1
-ticks (Unpull t id) = 0
-ticks (Cmt t) = 0
-ticks (Quit t) = 0
-ticks (Note t) = 0
+abbrev pub step_ticks : {Op : Type 0} → Step Op → ℕ
+step_ticks (Begin t p b) = 0
+step_ticks (App t id op) = 1
+step_ticks (Unapp t id) = 1
+step_ticks (Push t id) = 1
+step_ticks (Unpush t id) = 0
+step_ticks (Pull t id) = 1
+step_ticks (Unpull t id) = 0
+step_ticks (Cmt t) = 0
+step_ticks (Quit t) = 0
+step_ticks (Note t) = 0
 
 -- A step that is done costs exactly that, and one that is not done nothing.
 abbrev pub Costs : {Op : Type 0} → Step Op → Outcome → ℕ → ℕ → Type 0
-Costs step Done old new = new ≡ old + ticks step
+Costs step Done old new = new ≡ old + step_ticks step
 Costs step (False n) old new = new ≡ old
 
 -- The step needs no memory.

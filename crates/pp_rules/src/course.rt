@@ -3,14 +3,14 @@ ghost use Rattle.pp_core.specs.declared.entry.LocalEntry.{LocalEntry};
 ghost use Rattle.pp_core.specs.declared.entry.Mark.TheVariants.{Pulled};
 ghost use Rattle.pp_core.specs.Trees.{IsWithinLimits, tree};
 ghost use Rattle.pp_model.specs.Body.{Begins, IsWord};
-ghost use Rattle.pp_model.specs.Config.{is_own, marked};
+ghost use Rattle.pp_model.specs.Config.{is_own, set_mark};
 ghost use Rattle.pp_body.specs.Walks.{HasTaken};
 ghost use Rattle.pp_rules.specs.Courses.{own_calls, FollowsIfOwn, MayFollow};
 ghost use Rattle.pp_rules.specs.Transactions.{Takes, HasOwn};
 
 use crate::find::is_own;
 use pp_body::Walk;
-use pp_core::{Body, LocalEntry, Mark, OutOfMemory, Steps};
+use pp_core::{Body, LocalEntry, Mark, OutOfMemory, Ticks};
 use pp_local::Local;
 use pp_spec::Placed;
 use std::alloc::Global;
@@ -59,7 +59,7 @@ fn copied(body: &Option<Body>, alloc: Global) -> Result<Option<Body>, OutOfMemor
 fn append_own<S: Placed, L: Ledger>(
     walked: &mut Walked<Local<S>>,
     entry: LocalEntry<S::Op>,
-    steps: &mut Steps<L>,
+    ticks: &mut Ticks<L>,
 ) -> Result<(), OutOfMemory>
     requires own { is_own entry.mark ≡ true }
     requires takes { Takes S.object walked.old.log entry }
@@ -69,11 +69,11 @@ fn append_own<S: Placed, L: Ledger>(
     ensures err { OnErr result (walked.new.log ≡ walked.old.log) }
     ensures body { walked.new.walk.body ≡ walked.old.walk.body }
     ensures taken { HasTaken walked.new.walk (own_calls S.object walked.new.log.1) }
-    ensures cost { OnOk result (steps.new ≡ steps.old + 1) }
-    ensures bound { steps.new ≤ steps.old + 1 }
+    ensures cost { OnOk result (ticks.new ≡ ticks.old + 1) }
+    ensures bound { ticks.new ≤ ticks.old + 1 }
 {
     walked.walk.follow(&S::call(&entry.op))?;
-    let appended = walked.log.append(entry, steps);
+    let appended = walked.log.append(entry, ticks);
     if appended.is_err() {
         walked.walk.retreat();
     }
@@ -119,19 +119,19 @@ impl<S: Placed> Course<S> {
     pub fn append<L: Ledger>(
         &mut self,
         entry: LocalEntry<S::Op>,
-        steps: &mut Steps<L>,
+        ticks: &mut Ticks<L>,
     ) -> Result<(), OutOfMemory>
         requires takes { Takes S.object self.old.local entry }
         requires follows { FollowsIfOwn S.object self.old.body self.old.local.1 entry }
         ensures ok { OnOk result (self.new ≡ record { body = self.old.body; local = (self.old.local.0, self.old.local.1 ++ entry ∷ []) }) }
         ensures err { OnErr result (self.new ≡ self.old) }
-        ensures cost { OnOk result (steps.new ≡ steps.old + 1) }
-        ensures bound { steps.new ≤ steps.old + 1 }
+        ensures cost { OnOk result (ticks.new ≡ ticks.old + 1) }
+        ensures bound { ticks.new ≤ ticks.old + 1 }
     {
         if is_own(entry.mark) {
-            append_own(&mut self.walked, entry, steps)
+            append_own(&mut self.walked, entry, ticks)
         } else {
-            self.walked.log.append(entry, steps)
+            self.walked.log.append(entry, ticks)
         }
     }
 
@@ -139,7 +139,7 @@ impl<S: Placed> Course<S> {
     pub fn mark(&mut self, i: usize, mark: Mark)
         requires own { HasOwn self.old.local.1 i }
         requires to_own { mark ≢ Pulled }
-        ensures { (e : LocalEntry S.Op) → slice_get self.old.local.1 i ≡ Some e → self.new ≡ record { body = self.old.body; local = (self.old.local.0, marked e.id mark self.old.local.1) } }
+        ensures { (e : LocalEntry S.Op) → slice_get self.old.local.1 i ≡ Some e → self.new ≡ record { body = self.old.body; local = (self.old.local.0, set_mark e.id mark self.old.local.1) } }
     {
         let _distinct = self.walked.log.len();
         self.walked.log.mark(i, mark);

@@ -4,12 +4,12 @@ ghost use Rattle.pp_core.specs.Trees.{IsWithinLimits, Tree, tree};
 ghost use Rattle.pp_model.specs.AsWritten.{AsWritten};
 ghost use Rattle.pp_model.specs.Config.{first, tx as open_tx};
 ghost use Rattle.pp_model.specs.Laws.{HasViews};
-ghost use Rattle.pp_model.specs.Rules.{Fails};
+ghost use Rattle.pp_model.specs.Rules.{Breaks, Meets};
 ghost use Rattle.pp_core.specs.Steps.{Begin, App, Push, Pull, Cmt, Quit, Note, meaning};
 ghost use Rattle.pp_model.specs.Sound.{HasSerialState, MayRunSerially, Sound, serial_ops};
 ghost use Rattle.pp_spec.specs.Object.{AllRanged, IsAllowed, rules_of};
 ghost use Rattle.pp_rules.specs.Machines.{stepped};
-ghost use Rattle.pp_rules.specs.Stepping.{Costs, IsAsked, NeedsNoMemory, Stepped, ticks};
+ghost use Rattle.pp_rules.specs.Stepping.{Costs, IsAsked, NeedsNoMemory, Stepped, step_ticks};
 
 use crate::find::{
     all_pushed, all_stand, first_holding_back, first_not_before, marked_at, other_at, own_items,
@@ -17,7 +17,7 @@ use crate::find::{
 use crate::transactions::{OpenTx, Transactions};
 use indexmap::IndexSet;
 use pp_core::{
-    Body, Committed, CommittedTx, LocalEntry, Mark, Name, OutOfMemory, SharedEntry, Step, Steps,
+    Body, Committed, CommittedTx, LocalEntry, Mark, Name, OutOfMemory, SharedEntry, Step, Ticks,
 };
 use pp_local::Local;
 use pp_shared::Shared;
@@ -114,9 +114,9 @@ impl<S: Placed> Machine<S> {
     /// The committed transactions, in commit order. Their operations, joined, are allowed, may be put
     /// for the committed entries of the shared log, and lead to the state of those.
     pub fn committed(&self) -> &Committed<S::Op>
-        ensures finished { result.now ≡ self.now.config.finished }
-        ensures allowed { IsAllowed S.object self.now.shape (serial_ops self.now.config.finished) }
-        ensures ranged { AllRanged S.object (serial_ops self.now.config.finished) }
+        ensures done { result.now ≡ self.now.config.done }
+        ensures allowed { IsAllowed S.object self.now.shape (serial_ops self.now.config.done) }
+        ensures ranged { AllRanged S.object (serial_ops self.now.config.done) }
         ensures serial { MayRunSerially (rules_of S.object self.now.shape) self.now.config }
         ensures state { HasSerialState (rules_of S.object self.now.shape) self.now.config }
     {
@@ -125,7 +125,7 @@ impl<S: Placed> Machine<S> {
 
     /// The number of the first false criterion of BEGIN, or 0.
     fn judge_begin(&self, tx: &Name, thread: &Name) -> u8
-        ensures { (body : Option Tree) → Fails (rules_of S.object self.now.shape) self.now.config (Begin tx.now thread.now body) result }
+        ensures { (body : Option Tree) → Breaks (rules_of S.object self.now.shape) self.now.config (Begin tx.now thread.now body) result }
     {
         if self.transactions.is_begun(tx) {
             return 1;
@@ -139,7 +139,7 @@ impl<S: Placed> Machine<S> {
     /// The number of the first false criterion of APP, or 0.
     fn judge_app(&self, tx: &Name, id: u32, op: &S::Op) -> u8
         requires { IsTrue (S.object.fits self.now.shape op.now) }
-        ensures { Fails (rules_of S.object self.now.shape) self.now.config (App tx.now id op.now) result }
+        ensures { Breaks (rules_of S.object self.now.shape) self.now.config (App tx.now id op.now) result }
     {
         let Some(course) = self.transactions.course(tx) else {
             return 1;
@@ -158,7 +158,7 @@ impl<S: Placed> Machine<S> {
 
     /// The number of the first false criterion of PUSH, or 0.
     fn judge_push(&self, tx: &Name, id: u32) -> u8
-        ensures { Fails (rules_of S.object self.now.shape) self.now.config (Push tx.now id) result }
+        ensures { Breaks (rules_of S.object self.now.shape) self.now.config (Push tx.now id) result }
     {
         let Some(local) = self.transactions.local(tx) else {
             return 1;
@@ -181,7 +181,7 @@ impl<S: Placed> Machine<S> {
 
     /// The number of the first false criterion of PULL, or 0.
     fn judge_pull(&self, tx: &Name, id: u32) -> u8
-        ensures { Fails (rules_of S.object self.now.shape) self.now.config (Pull tx.now id) result }
+        ensures { Breaks (rules_of S.object self.now.shape) self.now.config (Pull tx.now id) result }
     {
         let Some(local) = self.transactions.local(tx) else {
             return 1;
@@ -203,7 +203,7 @@ impl<S: Placed> Machine<S> {
 
     /// The number of the first false criterion of CMT, or 0.
     fn judge_cmt(&self, tx: &Name) -> u8
-        ensures { Fails (rules_of S.object self.now.shape) self.now.config (Cmt tx.now) result }
+        ensures { Breaks (rules_of S.object self.now.shape) self.now.config (Cmt tx.now) result }
     {
         let Some(course) = self.transactions.course(tx) else {
             return 1;
@@ -223,7 +223,7 @@ impl<S: Placed> Machine<S> {
 
     /// The number of the first false criterion of QUIT, or 0.
     fn judge_quit(&self, tx: &Name) -> u8
-        ensures { Fails (rules_of S.object self.now.shape) self.now.config (Quit tx.now) result }
+        ensures { Breaks (rules_of S.object self.now.shape) self.now.config (Quit tx.now) result }
     {
         let Some(local) = self.transactions.local(tx) else {
             return 1;
@@ -236,7 +236,7 @@ impl<S: Placed> Machine<S> {
 
     /// The number of the first false criterion of NOTE, or 0.
     fn judge_note(&self, tx: &Name) -> u8
-        ensures { Fails (rules_of S.object self.now.shape) self.now.config (Note tx.now) result }
+        ensures { Breaks (rules_of S.object self.now.shape) self.now.config (Note tx.now) result }
     {
         let Some(_local) = self.transactions.local(tx) else {
             return 1;
@@ -246,7 +246,7 @@ impl<S: Placed> Machine<S> {
 
     /// Does BEGIN, whose criteria hold.
     fn begin(&mut self, tx: &Name, thread: &Name, body: &Option<Body>) -> Result<(), OutOfMemory>
-        requires holds { Fails (rules_of S.object self.old.shape) self.old.config (Begin tx.now thread.now (option_map tree body.now)) 0 }
+        requires holds { Meets (rules_of S.object self.old.shape) self.old.config (Begin tx.now thread.now (option_map tree body.now)) }
         requires within { IsWithinLimits (option_map tree body.now) }
         requires few { self.old.count < 200_000 }
         ensures ok { OnOk result (self.new ≡ stepped self.old (Begin tx.now thread.now (option_map tree body.now))) }
@@ -264,15 +264,15 @@ impl<S: Placed> Machine<S> {
         tx: &Name,
         id: u32,
         op: &S::Op,
-        steps: &mut Steps<L>,
+        ticks: &mut Ticks<L>,
     ) -> Result<(), OutOfMemory>
-        requires holds { Fails (rules_of S.object self.old.shape) self.old.config (App tx.now id op.now) 0 }
+        requires holds { Meets (rules_of S.object self.old.shape) self.old.config (App tx.now id op.now) }
         requires few { self.old.count < 200_000 }
         requires ranged { IsTrue (S.object.ranged op.now) }
         ensures ok { OnOk result (self.new ≡ stepped self.old (App tx.now id op.now)) }
         ensures err { OnErr result (self.new ≡ self.old) }
-        ensures cost { OnOk result (steps.new ≡ steps.old + 1) }
-        ensures bound { steps.new ≤ steps.old + 1 }
+        ensures cost { OnOk result (ticks.new ≡ ticks.old + 1) }
+        ensures bound { ticks.new ≤ ticks.old + 1 }
     {
         let entry = LocalEntry {
             id,
@@ -281,7 +281,7 @@ impl<S: Placed> Machine<S> {
             op: *op,
         };
         self.ids.reserve(1)?;
-        self.transactions.append(tx, entry, steps)?;
+        self.transactions.append(tx, entry, ticks)?;
         let Ok(_added) = self.ids.insert(id) else {
             unreachable!()
         };
@@ -294,14 +294,14 @@ impl<S: Placed> Machine<S> {
         &mut self,
         tx: &Name,
         id: u32,
-        steps: &mut Steps<L>,
+        ticks: &mut Ticks<L>,
     ) -> Result<(), OutOfMemory>
-        requires holds { Fails (rules_of S.object self.old.shape) self.old.config (Push tx.now id) 0 }
+        requires holds { Meets (rules_of S.object self.old.shape) self.old.config (Push tx.now id) }
         requires few { self.old.count < 200_000 }
         ensures ok { OnOk result (self.new ≡ stepped self.old (Push tx.now id)) }
         ensures err { OnErr result (self.new ≡ self.old) }
-        ensures cost { OnOk result (steps.new ≡ steps.old + 1) }
-        ensures bound { steps.new ≤ steps.old + 1 }
+        ensures cost { OnOk result (ticks.new ≡ ticks.old + 1) }
+        ensures bound { ticks.new ≤ ticks.old + 1 }
     {
         let Some(local) = self.transactions.local(tx) else {
             unreachable!()
@@ -315,7 +315,7 @@ impl<S: Placed> Machine<S> {
             committed: false,
             op: entry.op,
         };
-        self.shared.push(posted, steps)?;
+        self.shared.push(posted, ticks)?;
         self.transactions.mark(tx, i, Mark::Pushed);
         self.count += 1;
         Ok(())
@@ -326,14 +326,14 @@ impl<S: Placed> Machine<S> {
         &mut self,
         tx: &Name,
         id: u32,
-        steps: &mut Steps<L>,
+        ticks: &mut Ticks<L>,
     ) -> Result<(), OutOfMemory>
-        requires holds { Fails (rules_of S.object self.old.shape) self.old.config (Pull tx.now id) 0 }
+        requires holds { Meets (rules_of S.object self.old.shape) self.old.config (Pull tx.now id) }
         requires few { self.old.count < 200_000 }
         ensures ok { OnOk result (self.new ≡ stepped self.old (Pull tx.now id)) }
         ensures err { OnErr result (self.new ≡ self.old) }
-        ensures cost { OnOk result (steps.new ≡ steps.old + 1) }
-        ensures bound { steps.new ≤ steps.old + 1 }
+        ensures cost { OnOk result (ticks.new ≡ ticks.old + 1) }
+        ensures bound { ticks.new ≤ ticks.old + 1 }
     {
         let Some(post) = other_at(&self.shared, tx, id) else {
             unreachable!()
@@ -344,14 +344,14 @@ impl<S: Placed> Machine<S> {
             mark: Mark::Pulled,
             op: post.op,
         };
-        self.transactions.append(tx, entry, steps)?;
+        self.transactions.append(tx, entry, ticks)?;
         self.count += 1;
         Ok(())
     }
 
     /// Does CMT, whose criteria hold.
     fn commit(&mut self, tx: &Name) -> Result<(), OutOfMemory>
-        requires holds { Fails (rules_of S.object self.old.shape) self.old.config (Cmt tx.now) 0 }
+        requires holds { Meets (rules_of S.object self.old.shape) self.old.config (Cmt tx.now) }
         requires few { self.old.count < 200_000 }
         ensures ok { OnOk result (self.new ≡ stepped self.old (Cmt tx.now)) }
         ensures err { OnErr result (self.new ≡ self.old) }
@@ -369,7 +369,7 @@ impl<S: Placed> Machine<S> {
 
     /// Does QUIT, whose criteria hold.
     fn quit(&mut self, tx: &Name)
-        requires holds { Fails (rules_of S.object self.old.shape) self.old.config (Quit tx.now) 0 }
+        requires holds { Meets (rules_of S.object self.old.shape) self.old.config (Quit tx.now) }
         requires few { self.old.count < 200_000 }
         ensures { self.new ≡ stepped self.old (Quit tx.now) }
     {
@@ -389,7 +389,7 @@ impl<S: Placed> Machine<S> {
     /// The number of the first false criterion of a step, or 0.
     fn judge(&self, step: &Step<S::Op>) -> u8
         requires { IsAsked S.object self.now.shape (meaning step.now) }
-        ensures { Fails (rules_of S.object self.now.shape) self.now.config (meaning step.now) result }
+        ensures { Breaks (rules_of S.object self.now.shape) self.now.config (meaning step.now) result }
     {
         match step {
             Step::Begin {
@@ -411,22 +411,22 @@ impl<S: Placed> Machine<S> {
     fn act<L: Ledger>(
         &mut self,
         step: &Step<S::Op>,
-        steps: &mut Steps<L>,
+        ticks: &mut Ticks<L>,
     ) -> Result<(), OutOfMemory>
         requires asked { IsAsked S.object self.old.shape (meaning step.now) }
-        requires holds { Fails (rules_of S.object self.old.shape) self.old.config (meaning step.now) 0 }
+        requires holds { Meets (rules_of S.object self.old.shape) self.old.config (meaning step.now) }
         requires few { self.old.count < 200_000 }
         ensures ok { OnOk result (self.new ≡ stepped self.old (meaning step.now)) }
         ensures err { OnErr result (self.new ≡ self.old) }
-        ensures cost { OnOk result (steps.new ≡ steps.old + ticks (meaning step.now)) }
-        ensures bound { steps.new ≤ steps.old + ticks (meaning step.now) }
+        ensures cost { OnOk result (ticks.new ≡ ticks.old + step_ticks (meaning step.now)) }
+        ensures bound { ticks.new ≤ ticks.old + step_ticks (meaning step.now) }
         ensures sure { NeedsNoMemory (meaning step.now) → IsOk result }
     {
         match step {
             Step::Begin { tx, thread, body } => self.begin(tx, thread, body),
-            Step::App { tx, id, op } => self.app(tx, *id, op, steps),
-            Step::Push { tx, id } => self.push(tx, *id, steps),
-            Step::Pull { tx, id } => self.pull(tx, *id, steps),
+            Step::App { tx, id, op } => self.app(tx, *id, op, ticks),
+            Step::Push { tx, id } => self.push(tx, *id, ticks),
+            Step::Pull { tx, id } => self.pull(tx, *id, ticks),
             Step::Cmt { tx } => self.commit(tx),
             Step::Quit { tx } => {
                 self.quit(tx);
@@ -445,21 +445,21 @@ impl<S: Placed> Machine<S> {
     fn advance<L: Ledger>(
         &mut self,
         step: &Step<S::Op>,
-        steps: &mut Steps<L>,
+        ticks: &mut Ticks<L>,
     ) -> Result<Outcome, OutOfMemory>
         requires asked { IsAsked S.object self.old.shape (meaning step.now) }
         requires few { self.old.count < 200_000 }
         ensures effect { IfOk result (λ outcome. Stepped S.object self.old (meaning step.now) outcome self.new) }
         ensures err { OnErr result (self.new ≡ self.old) }
-        ensures cost { IfOk result (λ outcome. Costs (meaning step.now) outcome steps.old steps.new) }
-        ensures bound { steps.new ≤ steps.old + ticks (meaning step.now) }
+        ensures cost { IfOk result (λ outcome. Costs (meaning step.now) outcome ticks.old ticks.new) }
+        ensures bound { ticks.new ≤ ticks.old + step_ticks (meaning step.now) }
         ensures sure { NeedsNoMemory (meaning step.now) → IsOk result }
     {
         let criterion = self.judge(step);
         if criterion > 0 {
             return Ok(Outcome::False { criterion });
         }
-        self.act(step, steps)?;
+        self.act(step, ticks)?;
         Ok(Outcome::Done)
     }
 
@@ -468,17 +468,17 @@ impl<S: Placed> Machine<S> {
     pub fn step<L: Ledger>(
         mut self,
         step: &Step<S::Op>,
-        steps: &mut Steps<L>,
+        ticks: &mut Ticks<L>,
     ) -> Result<(Self, Outcome), OutOfMemory>
         requires asked { IsAsked S.object self.shape (meaning step.now) }
         requires few { self.count < 200_000 }
         ensures effect { IfOk result (λ r. Stepped S.object self (meaning step.now) r.1 r.0) }
         ensures one_more { IfOk result (λ r. r.0.count ≤ self.count + 1) }
-        ensures cost { IfOk result (λ r. Costs (meaning step.now) r.1 steps.old steps.new) }
-        ensures bound { steps.new ≤ steps.old + ticks (meaning step.now) }
+        ensures cost { IfOk result (λ r. Costs (meaning step.now) r.1 ticks.old ticks.new) }
+        ensures bound { ticks.new ≤ ticks.old + step_ticks (meaning step.now) }
         ensures sure { NeedsNoMemory (meaning step.now) → IsOk result }
     {
-        let outcome = self.advance(step, steps)?;
+        let outcome = self.advance(step, ticks)?;
         Ok((self, outcome))
     }
 }

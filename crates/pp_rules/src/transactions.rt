@@ -4,14 +4,14 @@ ghost use Rattle.std.specs.Option.{option_copied};
 ghost use Rattle.std.specs.Str.{bytes_eq};
 ghost use Rattle.pp_core.specs.declared.entry.LocalEntry.{LocalEntry};
 ghost use Rattle.pp_core.specs.declared.entry.Mark.TheVariants.{Pulled};
-ghost use Rattle.pp_model.specs.Config.{marked};
+ghost use Rattle.pp_model.specs.Config.{set_mark};
 ghost use Rattle.pp_core.specs.Trees.{IsWithinLimits, tree};
 ghost use Rattle.pp_rules.specs.Courses.{FollowsIfOwn};
 ghost use Rattle.pp_rules.specs.Transactions.{Open, course_of, is_begun, is_busy, open_at, open_of, with_open, without_open, with_log, Takes, HasOwn};
 
 use crate::course::Course;
 use indexmap::{IndexMap, IndexSet};
-use pp_core::{Body, LocalEntry, Mark, Name, OutOfMemory, Steps};
+use pp_core::{Body, LocalEntry, Mark, Name, OutOfMemory, Ticks};
 use pp_local::Local;
 use pp_spec::Placed;
 use std::alloc::Global;
@@ -74,18 +74,18 @@ fn empty<T: Drop>(slot: &mut Option<OpenTx<T>>) -> Option<Name>
 fn append_in<S: Placed, L: Ledger>(
     slot: &mut Option<OpenTx<Course<S>>>,
     entry: LocalEntry<S::Op>,
-    steps: &mut Steps<L>,
+    ticks: &mut Ticks<L>,
 ) -> Result<(), OutOfMemory>
     requires held { IsSome slot.old }
     requires takes { IfSome slot.old (λ t. Takes S.object t.course.local entry) }
     requires follows { IfSome slot.old (λ t. FollowsIfOwn S.object t.course.body t.course.local.1 entry) }
     ensures ok { OnOk result (slot.new ≡ option_map (λ t. record { thread = t.thread; course = record { body = t.course.body; local = (t.course.local.0, t.course.local.1 ++ entry ∷ []) } }) slot.old) }
     ensures err { OnErr result (slot.new ≡ slot.old) }
-    ensures cost { OnOk result (steps.new ≡ steps.old + 1) }
-    ensures bound { steps.new ≤ steps.old + 1 }
+    ensures cost { OnOk result (ticks.new ≡ ticks.old + 1) }
+    ensures bound { ticks.new ≤ ticks.old + 1 }
 {
     match slot {
-        Some(open) => open.course.append(entry, steps),
+        Some(open) => open.course.append(entry, ticks),
         None => unreachable!(),
     }
 }
@@ -95,7 +95,7 @@ fn mark_in<S: Placed>(slot: &mut Option<OpenTx<Course<S>>>, i: usize, mark: Mark
     requires held { IsSome slot.old }
     requires own { IfSome slot.old (λ t. HasOwn t.course.local.1 i) }
     requires to_own { mark ≢ Pulled }
-    ensures { (e : LocalEntry S.Op) → IfSome slot.old (λ t. slice_get t.course.local.1 i ≡ Some e) → slot.new ≡ option_map (λ t. record { thread = t.thread; course = record { body = t.course.body; local = (t.course.local.0, marked e.id mark t.course.local.1) } }) slot.old }
+    ensures { (e : LocalEntry S.Op) → IfSome slot.old (λ t. slice_get t.course.local.1 i ≡ Some e) → slot.new ≡ option_map (λ t. record { thread = t.thread; course = record { body = t.course.body; local = (t.course.local.0, set_mark e.id mark t.course.local.1) } }) slot.old }
 {
     match slot {
         Some(open) => open.course.mark(i, mark),
@@ -191,25 +191,25 @@ impl<S: Placed> Transactions<S> {
         &mut self,
         tx: &Name,
         entry: LocalEntry<S::Op>,
-        steps: &mut Steps<L>,
+        ticks: &mut Ticks<L>,
     ) -> Result<(), OutOfMemory>
         requires taken { (x : Open S.Shape S.Op) × (open_at tx.now self.old.opened ≡ Some x) × Takes S.object x.local entry × FollowsIfOwn S.object x.body x.local.1 entry }
         ensures ok { OnOk result (self.new ≡ with_log tx.now (λ l. l ++ entry ∷ []) self.old) }
         ensures err { OnErr result (self.new ≡ self.old) }
-        ensures cost { OnOk result (steps.new ≡ steps.old + 1) }
-        ensures bound { steps.new ≤ steps.old + 1 }
+        ensures cost { OnOk result (ticks.new ≡ ticks.old + 1) }
+        ensures bound { ticks.new ≤ ticks.old + 1 }
     {
         let Some(slot) = self.slots.get_mut(tx) else {
             unreachable!()
         };
-        append_in(slot, entry, steps)
+        append_in(slot, entry, ticks)
     }
 
     /// Marks an entry of a local log.
     pub fn mark(&mut self, tx: &Name, i: usize, mark: Mark)
         requires own { (x : Open S.Shape S.Op) × (open_at tx.now self.old.opened ≡ Some x) × HasOwn x.local.1 i }
         requires to_own { mark ≢ Pulled }
-        ensures { (x : Open S.Shape S.Op) (e : LocalEntry S.Op) → open_at tx.now self.old.opened ≡ Some x → slice_get x.local.1 i ≡ Some e → self.new ≡ with_log tx.now (marked e.id mark) self.old }
+        ensures { (x : Open S.Shape S.Op) (e : LocalEntry S.Op) → open_at tx.now self.old.opened ≡ Some x → slice_get x.local.1 i ≡ Some e → self.new ≡ with_log tx.now (set_mark e.id mark) self.old }
     {
         let Some(slot) = self.slots.get_mut(tx) else {
             unreachable!()

@@ -19,7 +19,7 @@ use Rattle.pp_io.specs.Overruns.{overrun, scanned_lines}
 use Rattle.pp_io.proofs.Reading.{scanned_all}
 use Rattle.pp_core.specs.Steps.{rule_of}
 use Rattle.std.specs.Option.{option_or}
-use Rattle.pp_model.specs.Serial.{Attempt, Simulated, attempts, finished_of, serial}
+use Rattle.pp_model.specs.Serial.{Attempt, Simulated, attempts, committed_tx, serial}
 use Rattle.pp_model.specs.Sound.{serial_ops}
 use Rattle.pp_model.proofs.Simulate.{finished_are, simulated}
 use Rattle.pp_report.specs.Reports.{accepted_text, fault_text, rejected_text}
@@ -46,27 +46,27 @@ use Rattle.pp_run.specs.declared.progress.Tally.{Tally}
 
 -- the committed transactions of an accepted run are its attempts
 module _ (sc : Scanned) (tally : Tally) (machine : Seen (List Kind) Op) (r : IsRunning sc tally machine) where
-  pub committed_are : machine.config.finished ≡ map finished_of (attempts None (steps_of sc))
-  committed_are = ap (λ c. c.finished) r.config ∙ finished_are (object_of tally.header) None (steps_of sc) refl r.runs
+  pub committed_are : machine.config.done ≡ map committed_tx (attempts None (steps_of sc))
+  committed_are = ap (λ c. c.done) r.config ∙ finished_are (object_of tally.header) None (steps_of sc) refl r.runs
 
-entries_of : (as' : List (Attempt Op)) → map (λ d. d.entries) (map finished_of as') ≡ map (λ a. a.items) as'
+entries_of : (as' : List (Attempt Op)) → map (λ d. d.entries) (map committed_tx as') ≡ map (λ a. a.items) as'
 entries_of [] = refl
 entries_of (a ∷ as') = ap (λ l. a.items ∷ l) (entries_of as')
 
-pub serial_is : (as' : List (Attempt Op)) → serial_ops (map finished_of as') ≡ serial as'
+pub serial_is : (as' : List (Attempt Op)) → serial_ops (map committed_tx as') ≡ serial as'
 serial_is as' = ap (λ (ls : List (List (Item Op))). ops (joined ls)) (entries_of as')
 
 -- the report of an accepted run
-pub report_is : (sc : Scanned) (tally : Tally) (machine : Seen (List Kind) Op) (count : ℕ) (D : List (CommittedTx Op)) (states : List ObjectState) (text : List ℕ) → IsRunning sc tally machine → count ≡ machine.count → D ≡ machine.config.finished
+pub report_is : (sc : Scanned) (tally : Tally) (machine : Seen (List Kind) Op) (count : ℕ) (D : List (CommittedTx Op)) (states : List ObjectState) (text : List ℕ) → IsRunning sc tally machine → count ≡ machine.count → D ≡ machine.config.done
     → states ≡ state_after objects (kinds_of tally.header.catalog) (serial_ops D) → text ≡ accepted_text tally.header.catalog count D states → IsReportOf tally.header sc.records Accepted statuses.Accepted text
 report_is sc tally machine count D states text r count_is D_is state_is text_is =
     let as' = attempts None (steps_of sc) in
     let catalog = tally.header.catalog in
     let kinds = kinds_of catalog in
-    let committed : D ≡ map finished_of as' = D_is ∙ committed_are sc tally machine r in
+    let committed : D ≡ map committed_tx as' = D_is ∙ committed_are sc tally machine r in
     let same : states ≡ state (object_of tally.header) (serial as') =
     state_is ∙ ap (λ E. state_after objects kinds (serial_ops E)) committed ∙ ap (λ k. state_after objects kinds k) (serial_is as') in
-    (refl, text_is ∙ ap (λ k. accepted_text catalog k D states) (count_is ∙ r.count) ∙ ap (λ E. accepted_text catalog (length sc.records) E states) committed ∙ ap (accepted_text catalog (length sc.records) (map finished_of as')) same)
+    (refl, text_is ∙ ap (λ k. accepted_text catalog k D states) (count_is ∙ r.count) ∙ ap (λ E. accepted_text catalog (length sc.records) E states) committed ∙ ap (accepted_text catalog (length sc.records) (map committed_tx as')) same)
 
 -- it is the report of the run
 pub run_accepted : (sc : Scanned) (tally : Tally) (machine : Seen (List Kind) Op) (status : Status) (text : List ℕ) → IsRunning sc tally machine → IsReportOf tally.header sc.records Accepted status text

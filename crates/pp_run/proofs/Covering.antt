@@ -14,7 +14,7 @@ use Rattle.pp_io.specs.Lines.{blank}
 use Rattle.pp_json.specs.declared.fault.RecordFault.{RecordFault}
 use Rattle.pp_json.specs.Records.{record_of}
 use Rattle.pp_model.specs.Config.{after, after_from, first, then}
-use Rattle.pp_model.specs.Rules.{Fails, IsVerdict, Rejected, RunsFrom}
+use Rattle.pp_model.specs.Rules.{Breaks, Meets, IsVerdict, Rejected, RunsFrom}
 use Rattle.pp_report.specs.declared.cause.Cause.{Cause}
 use Rattle.pp_rules.specs.Machines.{Seen, stepped}
 use Rattle.pp_spec.specs.Object.{rules_of}
@@ -107,15 +107,15 @@ get_last xs x =
     slice_get-get_or (xs ++ x ∷ []) (length xs) x within ∙ ap (λ y. Some y) (get_or-append_seam xs x [] x)
 
 -- a step fails or holds over the machine's objects as over those of the header
-at_shape : (machine : Seen (List Kind) Op) (tally : Tally) (step : Step Op) (n : ℕ) → machine.shape ≡ kinds_of tally.header.catalog → Fails (rules_of objects machine.shape) machine.config step n → Fails (object_of tally.header) machine.config step n
-at_shape machine tally step n shape fails = subst (λ (k : List Kind). Fails (rules_of objects k) machine.config step n) shape fails
+at_shape : (machine : Seen (List Kind) Op) (tally : Tally) (step : Step Op) (n : ℕ) → machine.shape ≡ kinds_of tally.header.catalog → Breaks (rules_of objects machine.shape) machine.config step n → Breaks (object_of tally.header) machine.config step n
+at_shape machine tally step n shape fails = subst (λ (k : List Kind). Breaks (rules_of objects k) machine.config step n) shape fails
 
 pub cover_step : (sc : Scanned) (tally : Tally) (machine : Seen (List Kind) Op) (line : Numbered) (step : Step Op) (next : Progress) → IsRunning sc tally machine → blank line.1 ≡ false
     → record_of tally.header line.1 ≡ Ok step → is_too_many tally step ≡ false → StepTaken (with_record tally step) machine step line.0 next → Covers (scan_line sc line) next
 cover_step sc tally machine line step next c other read few (inl done) =
     let more = steps_more sc line.0 step in
     let object = object_of tally.header in
-    let holds : Fails object (after_from (first None) (steps_of sc)) step 0 = subst (λ d. Fails object d step 0) c.config (at_shape machine tally step 0 c.shape done.0) in
+    let holds : Meets object (after_from (first None) (steps_of sc)) step = subst (λ d. Meets object d step) c.config (at_shape machine tally step 0 c.shape done.0) in
     let running : IsRunning (one_more sc line.0 step) (with_record tally step) (stepped machine step) = record {
       follows = follows_step sc tally c.follows line other step;
       shape = c.shape;
@@ -130,7 +130,7 @@ cover_step sc tally machine line step next c other read few (inr (suc n, positiv
     let it : Recorded = record { line = line.0; step = step } in
     let rejection : Rejection = record { step = machine.count + 1; line = line.0; rule = rule_of step; criterion = suc n } in
     let object = object_of tally.header in
-    let fails_here : Fails object (after_from (first None) (steps_of sc)) step (suc n) = subst (λ d. Fails object d step (suc n)) c.config (at_shape machine tally step (suc n) c.shape fails) in
+    let fails_here : Breaks object (after_from (first None) (steps_of sc)) step (suc n) = subst (λ d. Breaks object d step (suc n)) c.config (at_shape machine tally step (suc n) c.shape fails) in
     let number : 1 + length (steps_of sc) ≡ machine.count + 1 = omega (arith, c.count, length-map sc.records (λ (r : Recorded). r.step)) in
     let now : IsVerdict object None (steps_of sc ++ step ∷ []) (Rejected (machine.count + 1) (suc n)) =
     subst (λ (k : ℕ). IsVerdict object None (steps_of sc ++ step ∷ []) (Rejected k (suc n))) number (rejected_now object (steps_of sc) step n c.runs fails_here) in

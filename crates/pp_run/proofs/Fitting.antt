@@ -25,8 +25,8 @@ no_longer {Op} (x ∷ xs) ys distinct within =
           | inr b ↦ elim b [ inl e ↦ absurd (distinct x q (inl (refl, i)) (ap (λ (p : Item Op). p.id) (sym e))) | inr t ↦ in_right q front back t ]
         ]
 
-pub serial_fits : {Op State : Type 0} (O : Object Op State) (c : Config Op) → Sound O c → length (serial_ops c.finished) ≤ length c.shared
+pub serial_fits : {Op State : Type 0} (O : Object Op State) (c : Config Op) → Sound O c → length (serial_ops c.done) ≤ length c.shared
 serial_fits {Op} O c sound =
-    let r = reorders O c.shared c.finished (ordered O c sound) in
-    let all : length (target c.shared c.finished) ≤ length (items c.shared) = no_longer (target c.shared c.finished) (items c.shared) r.distinct_y r.back in
-    omega (arith, all, length-append (serial_items c.finished) (items (uncommitted c.shared)), length-map (serial_items c.finished) (λ (p : Item Op). p.op), length-map c.shared (shared_item {Op = Op}))
+    let r = reorders O c.shared c.done (ordered O c sound) in
+    let all : length (target c.shared c.done) ≤ length (items c.shared) = no_longer (target c.shared c.done) (items c.shared) r.distinct_y r.back in
+    omega (arith, all, length-append (serial_items c.done) (items (uncommitted c.shared)), length-map (serial_items c.done) (λ (p : Item Op). p.op), length-map c.shared (shared_item {Op = Op}))

@@ -6,7 +6,7 @@ use Rattle.pp_core.specs.Steps.{rule_of}
 use Rattle.pp_json.specs.declared.header.Header.{Header}
 use Rattle.pp_model.specs.Object.{state}
 use Rattle.pp_model.specs.Rules.{Verdict, Accepted, Rejected, IsVerdict}
-use Rattle.pp_model.specs.Serial.{attempts, serial, finished_of}
+use Rattle.pp_model.specs.Serial.{attempts, serial, committed_tx}
 use Rattle.pp_report.specs.Reports.{accepted_text, rejected_text, fault_text}
 use Rattle.pp_report.specs.declared.cause.Cause.{Cause}
 use Rattle.pp_run.specs.declared.words.Command.{Command}
@@ -19,7 +19,7 @@ use Rattle.pp_run.specs.Scans.{Recorded, Scanned}
 abbrev pub IsReportOf : Header → List Recorded → Verdict → Status → List ℕ → Type 0
 IsReportOf header records Accepted status text =
     let steps = map (λ r. r.step) records in
-    (status ≡ statuses.Accepted) × (text ≡ accepted_text header.catalog (length records) (map finished_of (attempts None steps)) (state (object_of header) (serial (attempts None steps))))
+    (status ≡ statuses.Accepted) × (text ≡ accepted_text header.catalog (length records) (map committed_tx (attempts None steps)) (state (object_of header) (serial (attempts None steps))))
 IsReportOf header records (Rejected i n) status text =
     (status ≡ statuses.Rejected) × ((r : Recorded) × (slice_get records (i - 1) ≡ Some r) × (text ≡ rejected_text i r.line (rule_of r.step) n))
 

@@ -6,7 +6,7 @@ use Rattle.pp_object.specs.declared.act.Op.{Op}
 use Rattle.pp_object.specs.Objects.{kinds_of, objects}
 use Rattle.pp_json.specs.declared.fault.RecordFault.{RecordFault}
 use Rattle.pp_model.specs.Config.{after, first}
-use Rattle.pp_model.specs.Rules.{Fails, IsVerdict, Rejected, RunsFrom}
+use Rattle.pp_model.specs.Rules.{Breaks, Meets, IsVerdict, Rejected, RunsFrom}
 use Rattle.pp_run.specs.Causes.{cause_of}
 use Rattle.pp_report.specs.declared.cause.Cause.{Cause}
 use Rattle.pp_report.specs.declared.cause.Cause.TheVariants.{TooManyTransactions}
@@ -90,6 +90,6 @@ IsRefused tally (Ok step) cause = (is_too_many tally step ≡ true) × (cause �
 -- a step is taken: it meets its criteria, or it is the first that does not
 abbrev pub StepTaken : Tally → Seen (List Kind) Op → Step Op → ℕ → Progress → Type 0
 StepTaken tally machine step line next =
-    (Fails (rules_of objects machine.shape) machine.config step 0 × (next ≡ Running tally (stepped machine step)))
-    ⊎ ((n : ℕ) × (0 < n) × Fails (rules_of objects machine.shape) machine.config step n
+    (Meets (rules_of objects machine.shape) machine.config step × (next ≡ Running tally (stepped machine step)))
+    ⊎ ((n : ℕ) × (0 < n) × Breaks (rules_of objects machine.shape) machine.config step n
     × (next ≡ Stopped tally (record { step = machine.count + 1; line = line; rule = rule_of step; criterion = n })))

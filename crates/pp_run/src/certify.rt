@@ -17,7 +17,7 @@ ghost use Rattle.pp_run.specs.Scans.{Scanned};
 
 use crate::examine::{Ending, examine};
 use crate::progress::{Progress, Rejection, Stop, Tally};
-use pp_core::{OutOfMemory, Status, Steps, Text};
+use pp_core::{OutOfMemory, Status, Ticks, Text};
 use pp_io::Source;
 use pp_object::Objects;
 use pp_report::{Cause, accepted, fault, rejected};
@@ -40,7 +40,7 @@ fn report_accepted<L: Ledger>(
     alloc: Global,
     tally: &Tally,
     machine: &Machine<Objects>,
-    steps: &mut Steps<L>,
+    ticks: &mut Ticks<L>,
 ) -> Result<(Status, Text), OutOfMemory>
     requires running { (sc : Scanned) × IsRunning sc tally.now machine.now }
     requires few { tally.now.lines ≤ 200_001 }
@@ -50,7 +50,7 @@ fn report_accepted<L: Ledger>(
     let kinds = catalog.kinds(alloc)?;
     let count = machine.count();
     let committed = machine.committed();
-    let (_list, states) = serial::<Objects, L>(alloc, &kinds, committed, steps)?;
+    let (_list, states) = serial::<Objects, L>(alloc, &kinds, committed, ticks)?;
     let text = accepted(alloc, catalog, count, committed, &states)?;
     Ok((Status::Accepted, text))
 }
@@ -77,7 +77,7 @@ fn report_rejected(
 fn conclude<L: Ledger>(
     alloc: Global,
     progress: &Progress,
-    steps: &mut Steps<L>,
+    ticks: &mut Ticks<L>,
 ) -> Result<(Status, Text), Stop>
     requires covers { (sc : Scanned) × Covers sc progress.now }
     requires few { lines_of progress.now ≤ 200_001 }
@@ -86,7 +86,7 @@ fn conclude<L: Ledger>(
 {
     match progress {
         Progress::Waiting(lines) => Err(Stop::Fault(*lines + 1, Cause::NoHeader)),
-        Progress::Running(tally, machine) => Ok(report_accepted(alloc, tally, machine, steps)?),
+        Progress::Running(tally, machine) => Ok(report_accepted(alloc, tally, machine, ticks)?),
         Progress::Stopped(tally, rejection) => Ok(report_rejected(alloc, tally, rejection)?),
     }
 }
@@ -109,7 +109,7 @@ fn report_fault(alloc: Global, stop: Stop) -> Result<(Status, Text), Failure>
 pub fn certify<S: Source, L: Ledger>(
     alloc: Global,
     source: &mut S,
-    steps: &mut Steps<L>,
+    ticks: &mut Ticks<L>,
 ) -> Result<(Status, Text), Failure>
     ensures report { IfOk result (λ r. (bytes : List ℕ) → S.left source.old ≡ Some bytes → IsReport bytes r.0 r.1) }
     ensures status { IfOk result (λ r. IsDecided r.0 ⊎ (r.0 ≡ statuses.InputFault)) }
@@ -117,8 +117,8 @@ pub fn certify<S: Source, L: Ledger>(
     ensures read_fault { IsErrOf result ReadFault → HasRisen (S.faults source.old) (S.faults source.new) × ((bytes : List ℕ) × Consumes (S.left source.old) (S.left source.new) bytes × (early_fault bytes ≡ None)) }
     ensures count { S.faults source.old ≤ S.faults source.new }
 {
-    match examine(alloc, source, steps) {
-        Ok(progress) => match conclude(alloc, &progress, steps) {
+    match examine(alloc, source, ticks) {
+        Ok(progress) => match conclude(alloc, &progress, ticks) {
             Ok(report) => Ok(report),
             Err(stop) => report_fault(alloc, stop),
         },

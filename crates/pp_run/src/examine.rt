@@ -14,7 +14,7 @@ ghost use Rattle.pp_run.specs.Scans.{Numbered, scan_lines};
 
 use crate::progress::{Progress, Stop};
 use crate::take::take_line;
-use pp_core::{OutOfMemory, Steps};
+use pp_core::{OutOfMemory, Ticks};
 use pp_io::{LineFault, Lines, Source};
 use pp_report::Cause;
 use std::alloc::{AllocError, Global};
@@ -62,7 +62,7 @@ fn drain<L: Ledger>(
     alloc: Global,
     lines: &mut Lines,
     progress: Progress,
-    steps: &mut Steps<L>,
+    ticks: &mut Ticks<L>,
 ) -> Result<Progress, Stop>
     requires { (all : List Numbered) × Follows all lines.old progress }
     ensures ok { IfOk result (λ next. (all : List Numbered) → Follows all lines.old progress → Follows all lines.new next) }
@@ -75,7 +75,7 @@ fn drain<L: Ledger>(
 {
     let mut progress = progress;
     'lines: while let Some(line) = lines.next() {
-        progress = take_line(alloc, progress, &line, steps)?;
+        progress = take_line(alloc, progress, &line, ticks)?;
     }
     Ok(progress)
 }
@@ -99,14 +99,14 @@ fn take_piece<L: Ledger>(
     lines: &mut Lines,
     progress: Progress,
     piece: &[u8],
-    steps: &mut Steps<L>,
+    ticks: &mut Ticks<L>,
 ) -> Result<Progress, Stop>
     requires { (bytes : List ℕ) × IsAt bytes lines.old progress }
     ensures ok { IfOk result (λ next. (bytes : List ℕ) → IsAt bytes lines.old progress → IsAt (bytes ++ piece.now) lines.new next) }
     ensures stop { IfErr result (λ stop. IfFault stop (λ at cause. (bytes : List ℕ) → IsAt bytes lines.old progress → early_fault (bytes ++ piece.now) ≡ Some (at, cause))) }
 {
     let limit = feed(lines, piece)?;
-    let progress = drain(alloc, lines, progress, steps)?;
+    let progress = drain(alloc, lines, progress, ticks)?;
     match limit {
         None => Ok(progress),
         Some(fault) => Err(stop_at_limit(fault)),
@@ -118,14 +118,14 @@ fn take_rest<L: Ledger>(
     alloc: Global,
     lines: &mut Lines,
     progress: Progress,
-    steps: &mut Steps<L>,
+    ticks: &mut Ticks<L>,
 ) -> Result<Progress, Stop>
     requires { (bytes : List ℕ) × IsAt bytes lines.old progress }
     ensures ok { IfOk result (λ next. (bytes : List ℕ) → IsAt bytes lines.old progress → Leads (scanned_lines bytes) next) }
     ensures stop { IfErr result (λ stop. IfFault stop (λ at cause. (bytes : List ℕ) → IsAt bytes lines.old progress → (scan_lines (scanned_lines bytes)).fault ≡ Some (at, cause))) }
 {
     lines.finish();
-    drain(alloc, lines, progress, steps)
+    drain(alloc, lines, progress, ticks)
 }
 
 /// So many zeros.
@@ -140,7 +140,7 @@ fn read_through<S: Source, L: Ledger>(
     alloc: Global,
     source: &mut S,
     buffer: &mut [u8],
-    steps: &mut Steps<L>,
+    ticks: &mut Ticks<L>,
 ) -> Result<Progress, Ending>
     requires { 0 < length buffer.old }
     ensures ok { IfOk result (λ next. (bytes : List ℕ) × Consumes (S.left source.old) (S.left source.new) bytes × (overrun bytes ≡ None) × Leads (scanned_lines bytes) next) }
@@ -158,16 +158,16 @@ fn read_through<S: Source, L: Ledger>(
         if n == 0 {
             break;
         }
-        progress = take_piece(alloc, &mut lines, progress, &buffer[..n], steps)?;
+        progress = take_piece(alloc, &mut lines, progress, &buffer[..n], ticks)?;
     }
-    Ok(take_rest(alloc, &mut lines, progress, steps)?)
+    Ok(take_rest(alloc, &mut lines, progress, ticks)?)
 }
 
 /// Examines the input that a source gives, in pieces of at most 65,536 bytes.
 pub fn examine<S: Source, L: Ledger>(
     alloc: Global,
     source: &mut S,
-    steps: &mut Steps<L>,
+    ticks: &mut Ticks<L>,
 ) -> Result<Progress, Ending>
     ensures ok { IfOk result (λ next. (bytes : List ℕ) × Consumes (S.left source.old) (S.left source.new) bytes × (overrun bytes ≡ None) × Leads (scanned_lines bytes) next) }
     ensures end { OnOk result (IsAtEnd (S.left source.new)) }
@@ -176,5 +176,5 @@ pub fn examine<S: Source, L: Ledger>(
     ensures count { S.faults source.old ≤ S.faults source.new }
 {
     let mut buffer = zeros(alloc, 65_536)?;
-    read_through(alloc, source, &mut buffer, steps)
+    read_through(alloc, source, &mut buffer, ticks)
 }

@@ -16,7 +16,7 @@ ghost use Rattle.pp_run.specs.Causes.{cause_of};
 
 use crate::cause::cause_of;
 use crate::progress::{Progress, Rejection, Stop, Tally};
-use pp_core::{MOST_TRANSACTIONS, OutOfMemory, Step, Steps, rule_of};
+use pp_core::{MOST_TRANSACTIONS, OutOfMemory, Step, Ticks, rule_of};
 use pp_io::{Line, is_blank};
 use pp_json::{RecordFault, read_header, read_record};
 use pp_object::{Objects, Op};
@@ -120,7 +120,7 @@ fn take_step<L: Ledger>(
     machine: Machine<Objects>,
     step: &Step<Op>,
     line: u32,
-    steps: &mut Steps<L>,
+    ticks: &mut Ticks<L>,
 ) -> Result<Progress, Stop>
     requires shape { machine.shape ≡ kinds_of tally.header.catalog }
     requires readable { IsReadable tally.header.catalog (meaning step.now) }
@@ -129,7 +129,7 @@ fn take_step<L: Ledger>(
     ensures err { IfErr result (λ stop. stop ≡ NoMemory) }
 {
     let number = machine.count() + 1;
-    let (machine, outcome) = machine.step(step, steps)?;
+    let (machine, outcome) = machine.step(step, ticks)?;
     match outcome {
         Outcome::Done => Ok(Progress::Running(tally, machine)),
         Outcome::False { criterion } => {
@@ -150,7 +150,7 @@ fn take_record<L: Ledger>(
     tally: Tally,
     machine: Machine<Objects>,
     line: &Line,
-    steps: &mut Steps<L>,
+    ticks: &mut Ticks<L>,
 ) -> Result<Progress, Stop>
     requires next { line.now.number ≡ tally.lines + 1 }
     requires few { line.now.number ≤ 200_001 }
@@ -166,7 +166,7 @@ fn take_record<L: Ledger>(
         machine,
         &step,
         line.number,
-        steps,
+        ticks,
     )
 }
 
@@ -194,7 +194,7 @@ pub fn take_line<L: Ledger>(
     alloc: Global,
     progress: Progress,
     line: &Line,
-    steps: &mut Steps<L>,
+    ticks: &mut Ticks<L>,
 ) -> Result<Progress, Stop>
     requires next { line.now.number ≡ lines_of progress + 1 }
     requires few { line.now.number ≤ 200_001 }
@@ -208,7 +208,7 @@ pub fn take_line<L: Ledger>(
     }
     match progress {
         Progress::Waiting(_) => take_header(alloc, line),
-        Progress::Running(tally, machine) => take_record(alloc, tally, machine, line, steps),
+        Progress::Running(tally, machine) => take_record(alloc, tally, machine, line, ticks),
         Progress::Stopped(tally, rejection) => pass_record(alloc, tally, rejection, line),
     }
 }

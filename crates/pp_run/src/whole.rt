@@ -21,7 +21,7 @@ ghost use Rattle.pp_run.specs.Writing.{AppendsFront};
 use crate::certify::{Failure, certify};
 use crate::words::{Command, read_words};
 use crate::write::{WriteError, write_all};
-use pp_core::{Status, Steps, Words};
+use pp_core::{Status, Ticks, Words};
 use pp_io::{Sink, SinkFault, Source};
 use std::alloc::Global;
 use std::sync::ledger::Ledger;
@@ -49,7 +49,7 @@ pub fn run<S: Source, K: Sink, L: Ledger>(
     words: &Words,
     source: &mut S,
     sink: &mut K,
-    steps: &mut Steps<L>,
+    ticks: &mut Ticks<L>,
 ) -> Status
     // What is printed is the output that the words and the input define.
     ensures output { IsPrinted result → (bytes : List ℕ) → S.left source.old ≡ Some bytes → (text : List ℕ) × IsOutput (command_of words.now) bytes result text × Appends (K.held sink.old) (K.held sink.new) text }
@@ -80,7 +80,7 @@ pub fn run<S: Source, K: Sink, L: Ledger>(
     let Some(Command::Certify) = read_words(words) else {
         return Status::BadWords;
     };
-    let (status, text) = match certify(alloc, source, steps) {
+    let (status, text) = match certify(alloc, source, ticks) {
         Ok(report) => report,
         Err(Failure::ReadFault) => return Status::ReadFault,
         Err(Failure::OutOfMemory) => return Status::OutOfMemory,

@@ -6,7 +6,7 @@ use crate::contexts::reach;
 use crate::members::Members;
 use crate::movers::may_swap;
 use crate::op::SetOp;
-use pp_core::{Answer, Ops, OutOfMemory, Steps};
+use pp_core::{Answer, Ops, OutOfMemory, Ticks};
 use pp_spec::{Applied, Context, Spec};
 use std::alloc::Global;
 use std::sync::ledger::Ledger;
@@ -57,9 +57,9 @@ impl Spec for KeySet {
     fn apply<L: Ledger>(
         state: &mut Members,
         op: &SetOp,
-        steps: &mut Steps<L>,
+        ticks: &mut Ticks<L>,
     ) -> Result<Applied<()>, OutOfMemory> {
-        steps.tick();
+        ticks.tick();
         if !Self::legal(state, op) {
             return Ok(Applied::Differs);
         }
@@ -75,9 +75,9 @@ impl Spec for KeySet {
         state: &mut Members,
         op: &SetOp,
         _undo: (),
-        steps: &mut Steps<L>,
+        ticks: &mut Ticks<L>,
     ) -> Result<(), OutOfMemory> {
-        steps.tick();
+        ticks.tick();
         match *op {
             SetOp::Add { key, changed: true } => state.remove(key),
             SetOp::Remove { key, changed: true } => state.insert(key)?,

@@ -1,7 +1,7 @@
 use Rattle.std.proofs.Common.{◌≡◌, ℕ, zero, suc, ◌<◌, ◌≤◌, Bool, true, false, not, ◌&&◌, cond, List, [], ◌∷◌, length, refl, sym, ◌∙◌, ap, subst, arith, inl, inr, ◌⊎◌, Some, None}
 use Rattle.std.specs.List.{slice_get, slice_set}
 use Rattle.pp_core.specs.declared.entry.SharedEntry.{SharedEntry}
-use Rattle.pp_model.specs.Config.{all_committed}
+use Rattle.pp_model.specs.Config.{commit_all}
 use Rattle.pp_model.specs.Names.{Name, ◌=ⁿ◌}
 use Rattle.pp_shared.specs.Blocking.{IsSettled}
 
@@ -39,7 +39,7 @@ both true b h = cc
 both false b h = h
 
 -- all entries
-pub below_all : {Op : Type 0} (t : Name) (k : ℕ) (x : List (SharedEntry Op)) → length x ≤ k → committed_below t k x ≡ all_committed t x
+pub below_all : {Op : Type 0} (t : Name) (k : ℕ) (x : List (SharedEntry Op)) → length x ≤ k → committed_below t k x ≡ commit_all t x
 below_all t zero [] h = refl
 below_all t zero (e ∷ x) h = absurd (omega arith)
 below_all t (suc k) [] h = refl
@@ -104,7 +104,7 @@ module _ {Shape Op : Type 0} (t : Name) (x : Shape × List (SharedEntry Op)) (k 
       ∙ ap (λ (m : ℕ). pair x.0 (committed_below t m x.1)) (sym next)
 
 -- a front stays committed
-front_committed : {Op : Type 0} (t : Name) (x : List (SharedEntry Op)) (k : ℕ) → ((j : ℕ) (e : SharedEntry Op) → j < k → slice_get x j ≡ Some e → e.committed ≡ true) → (j : ℕ) (e : SharedEntry Op) → j < k → slice_get (all_committed t x) j ≡ Some e → e.committed ≡ true
+front_committed : {Op : Type 0} (t : Name) (x : List (SharedEntry Op)) (k : ℕ) → ((j : ℕ) (e : SharedEntry Op) → j < k → slice_get x j ≡ Some e → e.committed ≡ true) → (j : ℕ) (e : SharedEntry Op) → j < k → slice_get (commit_all t x) j ≡ Some e → e.committed ≡ true
 front_committed t [] k h j e lt at = cc
 front_committed {Op} t (a ∷ x) k h zero e lt at =
     let same : commit t a ≡ e = cc in
@@ -112,13 +112,13 @@ front_committed {Op} t (a ∷ x) k h zero e lt at =
 front_committed t (a ∷ x) zero h (suc j) e lt at = absurd (omega arith)
 front_committed t (a ∷ x) (suc k) h (suc j) e lt at = front_committed t x k (λ i d less is. h (suc i) d (omega arith) is) j e (omega arith) at
 
-length_committed : {Op : Type 0} (t : Name) (x : List (SharedEntry Op)) → length (all_committed t x) ≡ length x
+length_committed : {Op : Type 0} (t : Name) (x : List (SharedEntry Op)) → length (commit_all t x) ≡ length x
 length_committed t [] = refl
 length_committed t (e ∷ x) = ap suc (length_committed t x)
 
-pub settled_committed : {Op : Type 0} (t : Name) (x y : List (SharedEntry Op)) (k : ℕ) → y ≡ all_committed t x → IsSettled x k → IsSettled y k
+pub settled_committed : {Op : Type 0} (t : Name) (x y : List (SharedEntry Op)) (k : ℕ) → y ≡ commit_all t x → IsSettled x k → IsSettled y k
 settled_committed {Op} t x y k is h =
     let size = length_committed t x in
     let within = h.within in
-    let there : IsSettled (all_committed t x) k = record { within = omega arith; committed = front_committed t x k h.committed } in
+    let there : IsSettled (commit_all t x) k = record { within = omega arith; committed = front_committed t x k h.committed } in
     subst (λ (z : List (SharedEntry Op)). IsSettled z k) (sym is) there

@@ -1,7 +1,7 @@
 ghost use Rattle.std.specs.Prelude.{◌≡◌, ◌≢◌, ◌==◌, ◌<◌, ◌≤◌, ◌+◌, ◌*◌, ◌↔◌, ◌&&◌, not, false, IfOk, IfSome, IfNone, OnOk, OnErr, IsTrue, Some, None, List, [], ◌∷◌, ◌++◌, length, position, slice_get};
 ghost use Rattle.std.specs.Option.{option_copied};
 ghost use Rattle.pp_core.specs.declared.entry.SharedEntry.{SharedEntry as EntryOf};
-ghost use Rattle.pp_model.specs.Config.{shared_item, shared_ops, all_committed};
+ghost use Rattle.pp_model.specs.Config.{shared_item, shared_ops, commit_all};
 ghost use Rattle.pp_model.specs.Lists.{In};
 ghost use Rattle.pp_model.specs.Names.{◌=ⁿ◌};
 ghost use Rattle.pp_spec.specs.Object.{IsAllowed, AllRanged, SwapsIn, state_after};
@@ -9,7 +9,7 @@ ghost use Rattle.pp_past.specs.Pasts.{removal_steps};
 ghost use Rattle.pp_log.specs.Logs.{RemovesEntry, HaveDistinctIds, from_place};
 ghost use Rattle.pp_shared.specs.Blocking.{IsSettled, Blocks, GivesWay, IsFirstBlocking};
 
-use pp_core::{Answer, Name, OutOfMemory, SharedEntry, Steps};
+use pp_core::{Answer, Name, OutOfMemory, SharedEntry, Ticks};
 use pp_log::{Log, SharedSide};
 use pp_past::Removed;
 use pp_spec::{Placed, Spec};
@@ -52,7 +52,7 @@ fn is_open<O: Copy>(owner: &Name, entry: &SharedEntry<O>) -> bool
 /// Commits the entries of an owner. All entries before the position are committed.
 fn commit_from<S: Placed>(log: &mut Log<S, SharedSide>, from: usize, owner: &Name)
     requires { IsSettled log.old.1 from }
-    ensures { log.new ≡ (log.old.0, all_committed owner.now log.old.1) }
+    ensures { log.new ≡ (log.old.0, commit_all owner.now log.old.1) }
 {
     for k in from..log.len() {
         let Some(&entry) = log.get(k) else {
@@ -143,7 +143,7 @@ impl<S: Placed> Shared<S> {
     pub fn push<L: Ledger>(
         &mut self,
         entry: SharedEntry<S::Op>,
-        steps: &mut Steps<L>,
+        ticks: &mut Ticks<L>,
     ) -> Result<(), OutOfMemory>
         requires allowed { IsAllowed S.object self.old.0 (shared_ops self.old.1 ++ entry.op ∷ []) }
         requires ranged { IsTrue (S.object.ranged entry.op) }
@@ -152,10 +152,10 @@ impl<S: Placed> Shared<S> {
         requires uncommitted { entry.committed ≡ false }
         ensures ok { OnOk result (self.new ≡ (self.old.0, self.old.1 ++ entry ∷ [])) }
         ensures err { OnErr result (self.new ≡ self.old) }
-        ensures cost { OnOk result (steps.new ≡ steps.old + 1) }
-        ensures bound { steps.new ≤ steps.old + 1 }
+        ensures cost { OnOk result (ticks.new ≡ ticks.old + 1) }
+        ensures bound { ticks.new ≤ ticks.old + 1 }
     {
-        self.log.append(entry, steps)
+        self.log.append(entry, ticks)
     }
 
     /// The first uncommitted entry of another owner that may not change places with the operation behind it. It passes over
@@ -176,7 +176,7 @@ impl<S: Placed> Shared<S> {
 
     /// Commits all entries of an owner. It passes over the committed entries at the front.
     pub fn commit(&mut self, owner: &Name)
-        ensures { self.new ≡ (self.old.0, all_committed owner.now self.old.1) }
+        ensures { self.new ≡ (self.old.0, commit_all owner.now self.old.1) }
     {
         commit_from(&mut self.log, self.settled, owner);
         self.settled = settle(self.log.entries(), self.settled);
@@ -189,15 +189,15 @@ impl<S: Placed> Shared<S> {
     pub fn remove<L: Ledger>(
         self,
         i: usize,
-        steps: &mut Steps<L>,
+        ticks: &mut Ticks<L>,
     ) -> Result<(Self, Removed), OutOfMemory>
         requires { i < length self.1 }
         ensures removes { IfOk result (λ r. RemovesEntry S.object shared_item self i r.0 r.1) }
-        ensures cost { IfOk result (λ r. removal_steps r.1 (from_place S.place_of (shared_ops self.1) i) steps.old steps.new) }
-        ensures bound { steps.new + 3 ≤ steps.old + 4 * from_place S.place_of (shared_ops self.1) i }
+        ensures cost { IfOk result (λ r. removal_steps r.1 (from_place S.place_of (shared_ops self.1) i) ticks.old ticks.new) }
+        ensures bound { ticks.new + 3 ≤ ticks.old + 4 * from_place S.place_of (shared_ops self.1) i }
     {
         let Shared { log, settled } = self;
-        let (log, removed) = log.remove(i, steps)?;
+        let (log, removed) = log.remove(i, ticks)?;
         let settled = settled.min(i);
         Ok((Shared { log, settled }, removed))
     }

@@ -4,7 +4,7 @@ ghost use Rattle.pp_model.specs.Object.{TellsStates};
 ghost use Rattle.pp_spec.specs.Object.{Object, Swaps, SwapsNowhere, FitNowhere, Commutes, IsReached, IsLawful, IsPlaced, UndoneBehindOthers, rules_of};
 ghost use Rattle.pp_spec.specs.Calls.{Applies, WasApplied, lists_of};
 
-use pp_core::{Answer, Call, Ops, OutOfMemory, Steps};
+use pp_core::{Answer, Call, Ops, OutOfMemory, Ticks};
 use std::alloc::Global;
 use std::sync::ledger::Ledger;
 
@@ -72,25 +72,25 @@ pub trait Spec: Drop {
     fn apply<L: Ledger>(
         state: &mut Self::State,
         op: &Self::Op,
-        steps: &mut Steps<L>,
+        ticks: &mut Ticks<L>,
     ) -> Result<Applied<Self::Undo>, OutOfMemory>
         requires fits { IsTrue (object.fits (object.shape state.old) op.now) }
         requires ranged { IsTrue (object.ranged op.now) }
         requires reached { IsReached object state.old }
         ensures applied { Applies object state.old op.now result state.new }
-        ensures cost { steps.new ≡ steps.old + 1 };
+        ensures cost { ticks.new ≡ ticks.old + 1 };
 
     /// Takes the operation back that left this state. The only error is that memory was refused.
     fn undo<L: Ledger>(
         state: &mut Self::State,
         op: &Self::Op,
         undo: Self::Undo,
-        steps: &mut Steps<L>,
+        ticks: &mut Ticks<L>,
     ) -> Result<(), OutOfMemory>
         requires { WasApplied object op.now undo state.old }
         ensures ok { OnOk result (state.new ≡ object.upkeep.back state.old op.now undo) }
         ensures err { OnErr result (state.new ≡ state.old) }
-        ensures cost { steps.new ≡ steps.old + 1 };
+        ensures cost { ticks.new ≡ ticks.old + 1 };
 
     /// Whether the second moves left over the first: in whatever midst the first is followed by the
     /// second, the second may stand before the first instead.

@@ -1,4 +1,4 @@
--- The texts of results, operations and states.
+-- Meaning: the texts of results, operations and states.
 use Rattle.std.specs.Prelude.{◌≡◌, ℕ, ℤ, true, false, IsTrue, List, [], ◌∷◌, ◌++◌, take, Option, Some, None, option_map, unwrap_or, slice_get, codes}
 use Rattle.std.specs.Fmt.{signed_decimal}
 use Rattle.std.specs.List.{flat_map}

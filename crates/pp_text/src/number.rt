@@ -14,7 +14,8 @@ pub fn write_number(text: &mut Text, number: u64) -> Result<(), OutOfMemory>
     text.append(buffer.format(number).as_bytes())
 }
 
-/// Adds an integer in decimal digits, with a `-` where it is negative. The only error is that memory
+/// Adds an integer in decimal digits, with a `-` where it is negative. The only error is that
+/// memory
 /// was refused.
 pub fn write_integer(text: &mut Text, integer: i128) -> Result<(), OutOfMemory>
     ensures ok { OnOk result (text.new ≡ text.old ++ signed_decimal integer) }

@@ -2,7 +2,7 @@
 ghost use Rattle.std.specs.Prelude.{◌≡◌, ◌<◌};
 
 use crate::calls::{HERE, adds, enqueues, increases, puts, writes};
-use pp_core::{Kinds, Steps};
+use pp_core::{Kinds, Ticks};
 use pp_counter::CounterOp;
 use pp_map::MapOp;
 use pp_mem::MemOp;
@@ -93,15 +93,15 @@ pub fn try_effect<L: Ledger>(
     requires some { 0 < L.parts }
 {
     let Effect { op, before, after } = effect;
-    let mut steps = Steps::<L>::new(blank);
+    let mut ticks = Ticks::<L>::new(blank);
     let kinds = Kinds::from(vec![in alloc; op.act.kind(); 4]?);
     assert!(rt; Objects::fits(&kinds, op) && Objects::ranged(op), "{op:?}");
     let mut states = Objects::empty(alloc, &kinds)?;
     try_shown(rt, alloc, &states, before)?;
-    match Objects::apply(&mut states, op, &mut steps)? {
+    match Objects::apply(&mut states, op, &mut ticks)? {
         Applied::Done(undo) => {
             try_shown(rt, alloc, &states, after)?;
-            Objects::undo(&mut states, op, undo, &mut steps)?;
+            Objects::undo(&mut states, op, undo, &mut ticks)?;
             try_shown(rt, alloc, &states, before)
         }
         Applied::Differs => Err(Fail::from("another result")),

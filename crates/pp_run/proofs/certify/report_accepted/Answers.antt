@@ -13,22 +13,22 @@ use Rattle.pp_run.proofs.certify.report_accepted.Goals as goal
 pub serial-requires-clause-allowed : goal.serial-requires-clause-allowed
 serial-requires-clause-allowed g c =
     let machine = c.args.machine.now in
-    allowed_over c.in_ok-kinds.kinds machine.shape c.committed-committed.result.now machine.config.finished
-    (c.requires.running.1.shape ∙ sym c.in_ok-kinds.ensures) c.committed-committed.ensures.finished c.committed-committed.ensures.allowed
+    allowed_over c.in_ok-kinds.kinds machine.shape c.committed-committed.result.now machine.config.done
+    (c.requires.running.1.shape ∙ sym c.in_ok-kinds.ensures) c.committed-committed.ensures.done c.committed-committed.ensures.allowed
 
 pub serial-requires-clause-few : goal.serial-requires-clause-few
 serial-requires-clause-few g c =
     let r = c.requires.running.1 in
     let machine = c.args.machine.now in
-    let same : length (serial_ops c.committed-committed.result.now) ≡ length (serial_ops machine.config.finished) = ap (λ (D : List (CommittedTx Op)). length (serial_ops D)) c.committed-committed.ensures.finished in
+    let same : length (serial_ops c.committed-committed.result.now) ≡ length (serial_ops machine.config.done) = ap (λ (D : List (CommittedTx Op)). length (serial_ops D)) c.committed-committed.ensures.done in
     omega (arith, same, serial_fits (rules_of objects machine.shape) machine.config c.count-count.ensures.sound, c.count-count.ensures.short, r.count, r.follows.fewer, c.requires.few)
 
 pub accepted-requires-clause-named : goal.accepted-requires-clause-named
 accepted-requires-clause-named g c =
     let machine = c.args.machine.now in
     committed_named c.args.tally.now.header.catalog c.committed-committed.result.now
-    (allowed_over (kinds_of c.args.tally.now.header.catalog) machine.shape c.committed-committed.result.now machine.config.finished
-    c.requires.running.1.shape c.committed-committed.ensures.finished c.committed-committed.ensures.allowed)
+    (allowed_over (kinds_of c.args.tally.now.header.catalog) machine.shape c.committed-committed.result.now machine.config.done
+    c.requires.running.1.shape c.committed-committed.ensures.done c.committed-committed.ensures.allowed)
 
 pub accepted-requires-clause-states : goal.accepted-requires-clause-states
 accepted-requires-clause-states g c =
@@ -36,7 +36,7 @@ accepted-requires-clause-states g c =
     let catalog = c.args.tally.now.header.catalog in
     let committed = c.committed-committed.result.now in
     states_named catalog committed c.in_ok-_list.states
-    (allowed_over (kinds_of catalog) machine.shape committed machine.config.finished c.requires.running.1.shape c.committed-committed.ensures.finished c.committed-committed.ensures.allowed)
+    (allowed_over (kinds_of catalog) machine.shape committed machine.config.done c.requires.running.1.shape c.committed-committed.ensures.done c.committed-committed.ensures.allowed)
     (c.in_ok-_list.ensures.state ∙ ap (λ k. state_after objects k (serial_ops committed)) c.in_ok-kinds.ensures)
 
 pub returns : goal.returns
@@ -44,5 +44,5 @@ returns g c = λ sc r.
     let catalog = c.args.tally.now.header.catalog in
     let committed = c.committed-committed.result.now in
     let text_is : c.in_ok-text.text ≡ accepted_text catalog c.count-count.result committed c.in_ok-_list.states = search rules in
-    report_is sc c.args.tally.now c.args.machine.now c.count-count.result committed c.in_ok-_list.states c.in_ok-text.text r c.count-count.ensures.count c.committed-committed.ensures.finished
+    report_is sc c.args.tally.now c.args.machine.now c.count-count.result committed c.in_ok-_list.states c.in_ok-text.text r c.count-count.ensures.count c.committed-committed.ensures.done
     (c.in_ok-_list.ensures.state ∙ ap (λ k. state_after objects k (serial_ops committed)) c.in_ok-kinds.ensures) text_is

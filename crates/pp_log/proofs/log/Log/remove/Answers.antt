@@ -10,7 +10,7 @@ pub returns-in_err-past-clause-bound : goal.returns-in_err-past-clause-bound
 returns-in_err-past-clause-bound g c =
     let f = g.T.Side.item_of in
     let s = seen f c.self.inside.entries.items c.self.inside.past c.args.self c.self.invariant c.self.view_is in
-    subst (λ k. c.remove.new.steps + 3 ≤ c.args.steps.now + 4 * k) (from_seen g.S.Placed.place_of f c.self.inside.past.1 c.args.self.1 c.args.i s.items) c.in_err-past.ensures.bound
+    subst (λ k. c.remove.new.ticks + 3 ≤ c.args.ticks.now + 4 * k) (from_seen g.S.Placed.place_of f c.self.inside.past.1 c.args.self.1 c.args.i s.items) c.in_err-past.ensures.bound
 
 pub invariant_of-result : goal.invariant_of-result
 invariant_of-result g c =
@@ -39,10 +39,10 @@ pub returns-clause-cost : goal.returns-clause-cost
 returns-clause-cost g c =
     let f = g.T.Side.item_of in
     let s = seen f c.self.inside.entries.items c.self.inside.past c.args.self c.self.invariant c.self.view_is in
-    subst (λ k. removal_steps c.in_ok-past.removed k c.args.steps.now c.remove.new.steps) (from_seen g.S.Placed.place_of f c.self.inside.past.1 c.args.self.1 c.args.i s.items) c.in_ok-past.ensures.cost
+    subst (λ k. removal_steps c.in_ok-past.removed k c.args.ticks.now c.remove.new.ticks) (from_seen g.S.Placed.place_of f c.self.inside.past.1 c.args.self.1 c.args.i s.items) c.in_ok-past.ensures.cost
 
 pub returns-clause-bound : goal.returns-clause-bound
 returns-clause-bound g c =
     let f = g.T.Side.item_of in
     let s = seen f c.self.inside.entries.items c.self.inside.past c.args.self c.self.invariant c.self.view_is in
-    subst (λ k. c.remove.new.steps + 3 ≤ c.args.steps.now + 4 * k) (from_seen g.S.Placed.place_of f c.self.inside.past.1 c.args.self.1 c.args.i s.items) c.in_ok-past.ensures.bound
+    subst (λ k. c.remove.new.ticks + 3 ≤ c.args.ticks.now + 4 * k) (from_seen g.S.Placed.place_of f c.self.inside.past.1 c.args.self.1 c.args.i s.items) c.in_ok-past.ensures.bound

@@ -160,8 +160,8 @@ returns-clause-cost g c =
     let index = index_of_site o place s log ps c.args.i e found.0 p c.in-Some.from q c.self.invariant.0 site at (ap (λ z. slice_get z c.in-Some.from) (sym c.deref.ensures.value) ∙ found.1) found.2 in
     let count = counted q.items.items site.u site.v e c.in-Some.from (kept_of o place s log ps p q c.self.invariant.0 at ∙ site.here) index in
     let size : from_there place c.args.self.1 c.args.i ≡ length site.v + 1 = ap (λ z. from_there place z.1 c.args.i) (sym c.self.view_is) ∙ site.count in
-    subst (λ k. removal_steps c.in_ok-removal.removal k c.args.steps.now c.take_out.new.steps) (sym size)
-    (steps_of c.in_ok-removal.removal (length q.items.items) c.in-Some.from (length site.v + 1) c.args.steps.now c.take_out.new.steps count c.in_ok-removal.ensures.cost)
+    subst (λ k. removal_steps c.in_ok-removal.removal k c.args.ticks.now c.take_out.new.ticks) (sym size)
+    (steps_of c.in_ok-removal.removal (length q.items.items) c.in-Some.from (length site.v + 1) c.args.ticks.now c.take_out.new.ticks count c.in_ok-removal.ensures.cost)
 
 pub returns-clause-bound : goal.returns-clause-bound
 returns-clause-bound g c =

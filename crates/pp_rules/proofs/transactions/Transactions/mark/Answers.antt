@@ -1,7 +1,7 @@
 use Rattle.std.proofs.Common.{◌≡◌, refl, sym, ap, ◌∙◌, subst, Some, IsSome, IfSome, option_map, slice_get}
 use Rattle.std.specs.Map.{set_value}
 use Rattle.std.specs.Str.{bytes_eq}
-use Rattle.pp_model.specs.Config.{marked}
+use Rattle.pp_model.specs.Config.{set_mark}
 use Rattle.pp_rules.specs.Transactions.{open_of, HasOwn}
 use Rattle.pp_rules.proofs.Slots.{never, held, kept_changed, seen_changed}
 use Rattle.pp_rules.proofs.transactions.Transactions.mark.Goals as goal
@@ -33,5 +33,5 @@ returns g c = λ x e o h.
     let r = held (λ n t. open_of n t.thread t.course.body t.course.local) (λ n t. refl) c.self.inside.slots.entries _ _ c.self.view_is c.self.invariant c.args.tx.now c.in-Some.slot.now (sym c.in-Some.ensures.value) x o in
     let k = c.get_mut.follows.holds c.mark_in.new.slot in
     let m = c.mark_in.ensures e (subst (λ s. IfSome s (λ t. slice_get t.course.local.1 c.args.i ≡ Some e)) (sym r.1) (ap (λ x. slice_get x.local.1 c.args.i) r.2 ∙ h)) in
-    seen_changed (λ n t. open_of n t.thread t.course.body t.course.local) (λ n t. refl) c.self.inside.slots.entries _ _ c.self.view_is c.self.invariant c.args.tx.now r.0 _ (marked e.id c.args.mark) _ (sym c.in-Some.ensures.value ∙ ap (λ s. Some s) r.1) refl
-    (k.0 ∙ ap (set_value (bytes_eq c.args.tx.now) c.self.inside.slots.entries) (m ∙ ap (option_map (λ t. record { thread = t.thread; course = record { body = t.course.body; local = (t.course.local.0, marked e.id c.args.mark t.course.local.1) } })) r.1)) k.1
+    seen_changed (λ n t. open_of n t.thread t.course.body t.course.local) (λ n t. refl) c.self.inside.slots.entries _ _ c.self.view_is c.self.invariant c.args.tx.now r.0 _ (set_mark e.id c.args.mark) _ (sym c.in-Some.ensures.value ∙ ap (λ s. Some s) r.1) refl
+    (k.0 ∙ ap (set_value (bytes_eq c.args.tx.now) c.self.inside.slots.entries) (m ∙ ap (option_map (λ t. record { thread = t.thread; course = record { body = t.course.body; local = (t.course.local.0, set_mark e.id c.args.mark t.course.local.1) } })) r.1)) k.1
