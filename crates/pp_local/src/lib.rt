@@ -5,4 +5,4 @@ mod local;
 
 pub use local::Local;
 pub use pp_core::{LocalEntry, Mark};
-pub use pp_past::Removed;
+pub use pp_log::Removed;

@@ -1,22 +1,25 @@
-ghost use Rattle.std.specs.Prelude.{◌≡◌, ◌≢◌, ◌==◌, ◌<◌, ◌≤◌, ◌+◌, ◌*◌, ◌↔◌, IfOk, OnOk, OnErr, IsTrue, Some, None, List, [], ◌∷◌, ◌++◌, length, position, slice_get};
+//! The local log of a transaction, which marks its entries.
+ghost use Rattle.std.specs.Prelude.{◌≡◌, ◌≢◌, ◌==◌, ◌<◌, ◌≤◌, ◌+◌, ◌↔◌, IfOk, OnOk, OnErr, IsTrue};
+ghost use Rattle.std.specs.Prelude.{Some, None, List, [], ◌∷◌, ◌++◌, length, map, position};
+ghost use Rattle.std.specs.Prelude.{slice_get};
 ghost use Rattle.std.specs.Option.{option_copied};
 ghost use Rattle.pp_core.specs.declared.entry.LocalEntry.{LocalEntry as EntryOf};
 ghost use Rattle.pp_core.specs.declared.entry.Mark.TheVariants.{Pulled};
 ghost use Rattle.pp_model.specs.Config.{item, local_ops, set_mark};
-ghost use Rattle.pp_spec.specs.Object.{IsAllowed, AllRanged, state_after};
-ghost use Rattle.pp_past.specs.Pasts.{removal_steps};
-ghost use Rattle.pp_log.specs.Logs.{RemovesEntry, HaveDistinctIds, from_place};
+ghost use Rattle.pp_model.specs.Object.{HasDistinctIds};
+ghost use Rattle.pp_spec.specs.Object.{IsAllowed, AllRanged};
+ghost use Rattle.pp_log.specs.Logs.{GoesBehind, RemovesEntry, RemovalCosts, RemovalBound};
+ghost use Rattle.pp_log.specs.Logs.{answer_behind};
 
 use pp_core::{Answer, LocalEntry, Mark, OutOfMemory, Ticks};
-use pp_log::{LocalSide, Log};
-use pp_past::Removed;
+use pp_log::{LocalSide, Log, Removed};
 use pp_spec::Placed;
 use std::alloc::Global;
 use std::marker::Model;
 use std::sync::ledger::Ledger;
 
-/// The local log of an open transaction: its own operations and those that it pulled, which are allowed one after another.
-/// Contracts see the objects of the run, and the entries in order.
+/// The local log of an open transaction: its own operations and those that it pulled, which are
+/// allowed one after another. Contracts see the objects of the run, and the entries in order.
 #[derive(Drop)]
 pub struct Local<S: Placed> {
     log: Log<S, LocalSide>,
@@ -42,7 +45,7 @@ impl<S: Placed> Local<S> {
         ensures len { result ≡ length self.now.1 }
         ensures allowed { IsAllowed S.object self.now.0 (local_ops self.now.1) }
         ensures ranged { AllRanged S.object (local_ops self.now.1) }
-        ensures distinct { HaveDistinctIds item self.now.1 }
+        ensures distinct { HasDistinctIds (map item self.now.1) }
     {
         self.log.len()
     }
@@ -71,7 +74,7 @@ impl<S: Placed> Local<S> {
     /// Whether the log stays allowed with the operation behind it.
     pub fn legal(&self, op: &S::Op) -> bool
         requires { IsTrue (S.object.fits self.now.0 op.now) }
-        ensures { IsTrue result ↔ IsAllowed S.object self.now.0 (local_ops self.now.1 ++ op.now ∷ []) }
+        ensures { IsTrue result ↔ GoesBehind S.object self.now.0 (local_ops self.now.1) op.now }
     {
         self.log.legal(op)
     }
@@ -79,18 +82,19 @@ impl<S: Placed> Local<S> {
     /// The object's result for the operation's call at the end of the log.
     pub fn gives(&self, op: &S::Op) -> Answer
         requires { IsTrue (S.object.fits self.now.0 op.now) }
-        ensures { result ≡ S.object.gives (state_after S.object self.now.0 (local_ops self.now.1)) op.now }
+        ensures { result ≡ answer_behind S.object self.now.0 (local_ops self.now.1) op.now }
     {
         self.log.gives(op)
     }
 
-    /// Adds an entry at the end. The only error is that memory was refused, and the log is then as it was.
+    /// Adds an entry at the end. The only error is that memory was refused, and the log is then as
+    /// it was.
     pub fn append<L: Ledger>(
         &mut self,
         entry: LocalEntry<S::Op>,
         ticks: &mut Ticks<L>,
     ) -> Result<(), OutOfMemory>
-        requires allowed { IsAllowed S.object self.old.0 (local_ops self.old.1 ++ entry.op ∷ []) }
+        requires allowed { GoesBehind S.object self.old.0 (local_ops self.old.1) entry.op }
         requires ranged { IsTrue (S.object.ranged entry.op) }
         requires new { position (λ e. e.id == entry.id) self.old.1 ≡ None }
         requires few { length self.old.1 < 1_000_000 }
@@ -107,7 +111,8 @@ impl<S: Placed> Local<S> {
         requires within { i < length self.old.1 }
         requires own { (e : EntryOf S.Op) → slice_get self.old.1 i ≡ Some e → e.mark ≢ Pulled }
         requires to_own { mark ≢ Pulled }
-        ensures { (e : EntryOf S.Op) → slice_get self.old.1 i ≡ Some e → self.new ≡ (self.old.0, set_mark e.id mark self.old.1) }
+        ensures { (e : EntryOf S.Op) → slice_get self.old.1 i ≡ Some e →
+            self.new ≡ (self.old.0, set_mark e.id mark self.old.1) }
     {
         let _distinct = self.log.len();
         let Some(&entry) = self.log.get(i) else {
@@ -116,10 +121,11 @@ impl<S: Placed> Local<S> {
         self.log.set(i, LocalEntry { mark, ..entry });
     }
 
-    /// Takes out the i-th entry, unless the list without it is not allowed. The steps are those of its place alone: with k
-    /// operations there from the entry on, itself counted, it takes them back, and applies the k - 1 others again; where one
-    /// of these differs, it also takes back what it applied, and applies all k as they were. The only error is that memory
-    /// was refused, and the log is then lost.
+    /// Takes out the i-th entry, unless the list without it is not allowed. The steps are those of
+    /// its place alone: with k operations there from the entry on, itself counted, it takes them
+    /// back, and applies the k - 1 others again; where one of these differs, it also takes back
+    /// what it applied, and applies all k as they were. The only error is that memory was refused,
+    /// and the log is then lost.
     pub fn remove<L: Ledger>(
         self,
         i: usize,
@@ -127,8 +133,8 @@ impl<S: Placed> Local<S> {
     ) -> Result<(Self, Removed), OutOfMemory>
         requires { i < length self.1 }
         ensures removes { IfOk result (λ r. RemovesEntry S.object item self i r.0 r.1) }
-        ensures cost { IfOk result (λ r. removal_steps r.1 (from_place S.place_of (local_ops self.1) i) ticks.old ticks.new) }
-        ensures bound { ticks.new + 3 ≤ ticks.old + 4 * from_place S.place_of (local_ops self.1) i }
+        ensures cost { RemovalCosts S.place_of (local_ops self.1) i result ticks.old ticks.new }
+        ensures bound { RemovalBound S.place_of (local_ops self.1) i ticks.old ticks.new }
     {
         let Local { log } = self;
         let (log, removed) = log.remove(i, ticks)?;

@@ -1,30 +1,44 @@
-ghost use Rattle.std.specs.Prelude.{◌≡◌, ◌==◌, ◌<◌, ◌≤◌, ◌+◌, ◌*◌, ◌↔◌, IfOk, OnOk, OnErr, IsTrue, Some, None, List, [], ◌∷◌, ◌++◌, length, map, position, slice_get, slice_set};
+//! The one log, whoever's it is.
+ghost use Rattle.std.specs.Prelude.{◌≡◌, ◌==◌, ◌<◌, ◌≤◌, ◌+◌, ◌↔◌, IfOk, OnOk, OnErr, IsTrue};
+ghost use Rattle.std.specs.Prelude.{None, List, [], ◌∷◌, ◌++◌, length, map, position};
+ghost use Rattle.std.specs.Prelude.{slice_get, slice_set};
 ghost use Rattle.std.specs.Option.{option_copied};
-ghost use Rattle.pp_spec.specs.Object.{IsAllowed, AllRanged, state_after};
-ghost use Rattle.pp_past.specs.Pasts.{removal_steps};
-ghost use Rattle.pp_log.specs.Logs.{RemovesEntry, HaveDistinctIds, entry_ops, from_place};
+ghost use Rattle.pp_model.specs.Object.{HasDistinctIds};
+ghost use Rattle.pp_spec.specs.Object.{IsAllowed, AllRanged};
+ghost use Rattle.pp_log.specs.Keeps.{KeepsAll};
+ghost use Rattle.pp_log.specs.Logs.{GoesBehind, HasItemAt, RemovalBound, RemovalCosts};
+ghost use Rattle.pp_log.specs.Logs.{RemovesEntry, answer_behind, entry_ops};
 
+use crate::place::{Place, Removed};
+use crate::room::make_room;
 use crate::sides::Side;
+use crate::take_out::{last_with, take_out};
+use indexmap::IndexSet;
 use pp_core::{Answer, OutOfMemory, Ticks};
-use pp_past::{Past, Removed};
-use pp_spec::Placed;
+use pp_spec::{Applied, Placed};
 use std::alloc::Global;
 use std::marker::Model;
 use std::sync::ledger::Ledger;
 
-/// A list of entries whose operations are allowed one after another, with the state that they lead to.
+/// A list of entries whose operations are allowed one after another, with the state that they lead
+/// to. An index has the ids of the entries, and each place has its own items in order with what
+/// takes them back.
 #[derive(Drop)]
 pub struct Log<S: Placed, T: Side<S::Op>> {
     entries: Vec<T::Entry>,
-    past: Past<S>,
+    ids: IndexSet<u32>,
+    places: Vec<Place<S::Op, S::Undo>>,
+    state: S::State,
+    alloc: Global,
 }
 
 impl<S: Placed, T: Side<S::Op>> Model for Log<S, T> {
     ghost Value = { S.Shape × List T.Entry };
 
-    ghost view = { λ a. (a.past.0, a.entries.items) };
+    ghost view = { λ a. (S.object.shape a.state, a.entries.items) };
 
-    ghost invariant = { λ a. map T.item_of a.entries.items ≡ a.past.1 };
+    ghost invariant = { λ a. KeepsAll S.object S.place_of a.state (map T.item_of a.entries.items)
+        a.places.items a.ids.keys };
 }
 
 impl<S: Placed, T: Side<S::Op>> Log<S, T> {
@@ -32,10 +46,13 @@ impl<S: Placed, T: Side<S::Op>> Log<S, T> {
     pub fn new(alloc: Global, shape: &S::Shape) -> Result<Self, OutOfMemory>
         ensures { IfOk result (λ log. log ≡ (shape.now, [])) }
     {
-        let past = Past::new(alloc, shape)?;
+        let state = S::empty(alloc, shape)?;
         Ok(Log {
             entries: Vec::new(alloc),
-            past,
+            ids: IndexSet::new(alloc),
+            places: Vec::new(alloc),
+            state,
+            alloc,
         })
     }
 
@@ -44,10 +61,9 @@ impl<S: Placed, T: Side<S::Op>> Log<S, T> {
         ensures len { result ≡ length self.now.1 }
         ensures allowed { IsAllowed S.object self.now.0 (entry_ops T.item_of self.now.1) }
         ensures ranged { AllRanged S.object (entry_ops T.item_of self.now.1) }
-        ensures distinct { HaveDistinctIds T.item_of self.now.1 }
+        ensures distinct { HasDistinctIds (map T.item_of self.now.1) }
         ensures few { length self.now.1 ≤ 1_000_000 }
     {
-        let _known = self.past.len();
         self.entries.len()
     }
 
@@ -69,32 +85,36 @@ impl<S: Placed, T: Side<S::Op>> Log<S, T> {
     pub fn find(&self, id: u32) -> Option<usize>
         ensures { result ≡ position (λ e. (T.item_of e).id == id) self.now.1 }
     {
-        self.past.find(id)
+        self.ids.get_index_of(&id)
     }
 
     /// Whether the log stays allowed with the operation behind it.
     pub fn legal(&self, op: &S::Op) -> bool
         requires { IsTrue (S.object.fits self.now.0 op.now) }
-        ensures { IsTrue result ↔ IsAllowed S.object self.now.0 (entry_ops T.item_of self.now.1 ++ op.now ∷ []) }
+        ensures { IsTrue result ↔
+            GoesBehind S.object self.now.0 (entry_ops T.item_of self.now.1) op.now }
     {
-        self.past.legal(op)
+        S::legal(&self.state, op)
     }
 
     /// The object's result for the operation's call at the end.
     pub fn gives(&self, op: &S::Op) -> Answer
         requires { IsTrue (S.object.fits self.now.0 op.now) }
-        ensures { result ≡ S.object.gives (state_after S.object self.now.0 (entry_ops T.item_of self.now.1)) op.now }
+        ensures { result ≡
+            answer_behind S.object self.now.0 (entry_ops T.item_of self.now.1) op.now }
     {
-        self.past.gives(op)
+        S::gives(&self.state, op)
     }
 
-    /// Adds an entry at the end, which keeps the log allowed. After a refusal of memory the log is as it was.
+    /// Adds an entry at the end, which keeps the log allowed. The only error is that memory was
+    /// refused, and the log is then as it was.
     pub fn append<L: Ledger>(
         &mut self,
         entry: T::Entry,
         ticks: &mut Ticks<L>,
     ) -> Result<(), OutOfMemory>
-        requires allowed { IsAllowed S.object self.old.0 (entry_ops T.item_of self.old.1 ++ (T.item_of entry).op ∷ []) }
+        requires allowed { GoesBehind S.object self.old.0 (entry_ops T.item_of self.old.1)
+            (T.item_of entry).op }
         requires ranged { IsTrue (S.object.ranged (T.item_of entry).op) }
         requires new { position (λ e. (T.item_of e).id == (T.item_of entry).id) self.old.1 ≡ None }
         requires few { length self.old.1 < 1_000_000 }
@@ -103,9 +123,23 @@ impl<S: Placed, T: Side<S::Op>> Log<S, T> {
         ensures cost { OnOk result (ticks.new ≡ ticks.old + 1) }
         ensures bound { ticks.new ≤ ticks.old + 1 }
     {
-        self.entries.reserve(1)?;
-        self.past.append(T::item(&entry), ticks)?;
+        let item = T::item(&entry);
+        let p = usize::from(S::place(&item.op));
+        make_room(
+            &mut self.entries,
+            &mut self.ids,
+            &mut self.places,
+            p,
+            self.alloc,
+        )?;
+        let Applied::Done(undo) = S::apply(&mut self.state, &item.op, ticks)? else {
+            unreachable!()
+        };
+        self.places[p].keep(item, undo);
         let Ok(()) = self.entries.push(entry) else {
+            unreachable!()
+        };
+        let Ok(_) = self.ids.insert(item.id) else {
             unreachable!()
         };
         Ok(())
@@ -114,14 +148,15 @@ impl<S: Placed, T: Side<S::Op>> Log<S, T> {
     /// Puts an entry with the same id and operation in another's place.
     pub fn set(&mut self, i: usize, entry: T::Entry)
         requires within { i < length self.old.1 }
-        requires same { (e : T.Entry) → slice_get self.old.1 i ≡ Some e → T.item_of entry ≡ T.item_of e }
+        requires same { HasItemAt T.item_of self.old.1 i entry }
         ensures { self.new ≡ (self.old.0, slice_set self.old.1 i entry) }
     {
         self.entries[i] = entry;
     }
 
-    /// Takes out the i-th entry: its place's later operations are taken back, and then applied again without it. Where one
-    /// of them differs, all is put back. The log is lost where memory is refused.
+    /// Takes out the i-th entry: its place's later operations are taken back, and then applied
+    /// again without it. Where one of them differs, all is put back. The only error is that memory
+    /// was refused, and the log is then lost.
     pub fn remove<L: Ledger>(
         self,
         i: usize,
@@ -129,14 +164,35 @@ impl<S: Placed, T: Side<S::Op>> Log<S, T> {
     ) -> Result<(Self, Removed), OutOfMemory>
         requires { i < length self.1 }
         ensures removes { IfOk result (λ r. RemovesEntry S.object T.item_of self i r.0 r.1) }
-        ensures cost { IfOk result (λ r. removal_steps r.1 (from_place S.place_of (entry_ops T.item_of self.1) i) ticks.old ticks.new) }
-        ensures bound { ticks.new + 3 ≤ ticks.old + 4 * from_place S.place_of (entry_ops T.item_of self.1) i }
+        ensures cost { RemovalCosts S.place_of (entry_ops T.item_of self.1) i result
+            ticks.old ticks.new }
+        ensures bound { RemovalBound S.place_of (entry_ops T.item_of self.1) i ticks.old ticks.new }
     {
-        let Log { mut entries, past } = self;
-        let (past, removed) = past.remove(i, ticks)?;
+        let Log {
+            mut entries,
+            mut ids,
+            mut places,
+            mut state,
+            alloc,
+        } = self;
+        let item = T::item(&entries[i]);
+        let p = usize::from(S::place(&item.op));
+        let place = &mut places[p];
+        let Some(from) = last_with(&place.items, item.id) else {
+            unreachable!()
+        };
+        let removed = take_out::<S, L>(place, from, &mut state, ticks)?;
         if let Removed::Done = removed {
             let _ = entries.remove(i);
+            let _ = ids.shift_remove_index(i);
         }
-        Ok((Log { entries, past }, removed))
+        let log = Log {
+            entries,
+            ids,
+            places,
+            state,
+            alloc,
+        };
+        Ok((log, removed))
     }
 }

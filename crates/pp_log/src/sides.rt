@@ -1,3 +1,4 @@
+//! The two sides that have a log: a transaction, and the run.
 ghost use Rattle.std.specs.Prelude.{◌≡◌};
 ghost use Rattle.pp_core.specs.declared.entry.Item.{Item as ItemOf};
 ghost use Rattle.pp_model.specs.Config.{item, shared_item};

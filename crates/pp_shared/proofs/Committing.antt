@@ -1,8 +1,10 @@
-use Rattle.std.proofs.Common.{◌≡◌, ℕ, zero, suc, ◌<◌, ◌≤◌, Bool, true, false, not, ◌&&◌, cond, List, [], ◌∷◌, length, refl, sym, ◌∙◌, ap, subst, arith, inl, inr, ◌⊎◌, Some, None}
+-- The entries of an owner are committed one by one.
+use Rattle.std.proofs.Common.{◌≡◌, ℕ, zero, suc, ◌<◌, ◌≤◌, Bool, true, false, not, ◌&&◌, cond, List, [], ◌∷◌, length, refl, sym, ◌∙◌, ap, subst, arith, inl, inr, ◌⊎◌, Some}
 use Rattle.std.specs.List.{slice_get, slice_set}
 use Rattle.pp_core.specs.declared.entry.SharedEntry.{SharedEntry}
 use Rattle.pp_model.specs.Config.{commit_all}
 use Rattle.pp_model.specs.Names.{Name, ◌=ⁿ◌}
+use Rattle.pp_log.proofs.Lists.{pair}
 use Rattle.pp_shared.specs.Blocking.{IsSettled}
 
 abbrev pub as_committed : {Op : Type 0} → SharedEntry Op → SharedEntry Op
@@ -58,11 +60,6 @@ below_length t zero x = refl
 below_length t (suc k) [] = refl
 below_length t (suc k) (e ∷ x) = ap suc (below_length t k x)
 
-pub not_past : {A : Type 0} (x : List A) (k : ℕ) → k < length x → slice_get x k ≡ None → ⊥
-not_past [] k h at = absurd (omega arith)
-not_past (a ∷ x) zero h at = cc
-not_past (a ∷ x) (suc k) h at = not_past x k (omega arith) at
-
 -- one more entry
 below_set : {Op : Type 0} (t : Name) (k : ℕ) (x : List (SharedEntry Op)) (e : SharedEntry Op) → slice_get (committed_below t k x) k ≡ Some e → slice_set (committed_below t k x) k (commit t e) ≡ committed_below t (suc k) x
 below_set t zero [] e at = cc
@@ -77,9 +74,6 @@ below_kept {Op} t zero (a ∷ x) e at h =
     ap (λ (d : SharedEntry Op). d ∷ x) (subst (λ (d : SharedEntry Op). d ≡ commit t d) (sym same) (sym h))
 below_kept t (suc k) [] e at h = cc
 below_kept {Op} t (suc k) (a ∷ x) e at h = ap (λ (z : List (SharedEntry Op)). commit t a ∷ z) (below_kept t k x e at h)
-
-abbrev pub pair : {A B : Type 0} → A → B → A × B
-pair a b = (a, b)
 
 module _ {Shape Op : Type 0} (t : Name) (x : Shape × List (SharedEntry Op)) (k n : ℕ) (next : n ≡ suc k) (log : Shape × List (SharedEntry Op)) (e : SharedEntry Op) (so : log ≡ (x.0, committed_below t k x.1)) (at : Some e ≡ slice_get log.1 k) where
   there : slice_get (committed_below t k x.1) k ≡ Some e

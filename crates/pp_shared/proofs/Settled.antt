@@ -1,27 +1,16 @@
-use Rattle.std.proofs.Common.{◌≡◌, ℕ, zero, suc, ◌<◌, ◌≤◌, List, [], ◌∷◌, ◌++◌, length, refl, sym, ◌∙◌, subst, arith, Result, Ok, Err, OnOk, OnErr}
-use Rattle.std.specs.List.{slice_get, remove}
+-- The committed entries at the front of a log that changes.
+use Rattle.std.proofs.Common.{◌≡◌, ℕ, ◌<◌, ◌≤◌, List, [], ◌∷◌, ◌++◌, length, sym, ◌∙◌, subst, arith, Result, Ok, Err, OnOk, OnErr}
+use Rattle.std.specs.List.{remove}
 use Rattle.std.proofs.lemmas.List.{length_push}
 use Rattle.std.proofs.lemmas.List.Edits.{length-remove}
 use Rattle.pp_core.specs.declared.entry.SharedEntry.{SharedEntry}
 use Rattle.pp_core.specs.declared.entry.Item.{Item}
 use Rattle.pp_spec.specs.Object.{Object}
-use Rattle.pp_past.specs.declared.place.Removed.{Removed}
-use Rattle.pp_past.specs.declared.place.Removed.TheVariants.{Done, Differs}
+use Rattle.pp_log.specs.declared.place.Removed.{Removed}
+use Rattle.pp_log.specs.declared.place.Removed.TheVariants.{Done, Differs}
+use Rattle.pp_log.proofs.Lists.{before_stays, front_stays}
 use Rattle.pp_log.specs.Logs.{RemovesEntry}
 use Rattle.pp_shared.specs.Blocking.{IsSettled}
-
--- What stands in front stays there.
-front_stays : {A : Type 0} (x y : List A) (j : ℕ) → j < length x → slice_get (x ++ y) j ≡ slice_get x j
-front_stays [] y j h = absurd (omega arith)
-front_stays (a ∷ x) y zero h = refl
-front_stays (a ∷ x) y (suc j) h = front_stays x y j (omega arith)
-
-before_stays : {A : Type 0} (x : List A) (i j : ℕ) → j < i → slice_get (remove x i) j ≡ slice_get x j
-before_stays [] zero j h = absurd (omega arith)
-before_stays [] (suc i) j h = refl
-before_stays (a ∷ x) zero j h = absurd (omega arith)
-before_stays (a ∷ x) (suc i) zero h = refl
-before_stays (a ∷ x) (suc i) (suc j) h = before_stays x i j (omega arith)
 
 -- the front behind one more entry
 settled_push : {Op : Type 0} (x : List (SharedEntry Op)) (e : SharedEntry Op) (k : ℕ) → IsSettled x k → IsSettled (x ++ e ∷ []) k

@@ -4,5 +4,5 @@
 mod shared;
 
 pub use pp_core::SharedEntry;
-pub use pp_past::Removed;
+pub use pp_log::Removed;
 pub use shared::Shared;

@@ -1,24 +1,27 @@
-ghost use Rattle.std.specs.Prelude.{◌≡◌, ◌≢◌, ◌==◌, ◌<◌, ◌≤◌, ◌+◌, ◌*◌, ◌↔◌, ◌&&◌, not, false, IfOk, IfSome, IfNone, OnOk, OnErr, IsTrue, Some, None, List, [], ◌∷◌, ◌++◌, length, position, slice_get};
+//! The log that all transactions share, whose entries are committed or not.
+ghost use Rattle.std.specs.Prelude.{◌≡◌, ◌==◌, ◌<◌, ◌≤◌, ◌+◌, ◌↔◌, ◌&&◌, not, false, IsTrue};
+ghost use Rattle.std.specs.Prelude.{IfOk, IfSome, IfNone, OnOk, OnErr};
+ghost use Rattle.std.specs.Prelude.{None, List, [], ◌∷◌, ◌++◌, length, map, position, slice_get};
 ghost use Rattle.std.specs.Option.{option_copied};
 ghost use Rattle.pp_core.specs.declared.entry.SharedEntry.{SharedEntry as EntryOf};
 ghost use Rattle.pp_model.specs.Config.{shared_item, shared_ops, commit_all};
-ghost use Rattle.pp_model.specs.Lists.{In};
 ghost use Rattle.pp_model.specs.Names.{◌=ⁿ◌};
-ghost use Rattle.pp_spec.specs.Object.{IsAllowed, AllRanged, SwapsIn, state_after};
-ghost use Rattle.pp_past.specs.Pasts.{removal_steps};
-ghost use Rattle.pp_log.specs.Logs.{RemovesEntry, HaveDistinctIds, from_place};
-ghost use Rattle.pp_shared.specs.Blocking.{IsSettled, Blocks, GivesWay, IsFirstBlocking};
+ghost use Rattle.pp_model.specs.Object.{HasDistinctIds};
+ghost use Rattle.pp_spec.specs.Object.{IsAllowed, AllRanged};
+ghost use Rattle.pp_log.specs.Logs.{GoesBehind, RemovesEntry, RemovalCosts, RemovalBound};
+ghost use Rattle.pp_log.specs.Logs.{answer_behind};
+ghost use Rattle.pp_shared.specs.Blocking.{AllGiveWay, Blocks, GivesWay, IsFirstBlocking};
+ghost use Rattle.pp_shared.specs.Blocking.{IsSettled};
 
 use pp_core::{Answer, Name, OutOfMemory, SharedEntry, Ticks};
-use pp_log::{Log, SharedSide};
-use pp_past::Removed;
+use pp_log::{Log, Removed, SharedSide};
 use pp_spec::{Placed, Spec};
 use std::alloc::Global;
 use std::marker::Model;
 use std::sync::ledger::Ledger;
 
-/// The shared log: the operations that transactions pushed, which are allowed one after another. Contracts see the objects
-/// of the run, and the entries in order.
+/// The shared log: the operations that transactions pushed, which are allowed one after another.
+/// Contracts see the objects of the run, and the entries in order.
 #[derive(Drop)]
 pub struct Shared<S: Placed> {
     log: Log<S, SharedSide>,
@@ -34,7 +37,8 @@ impl<S: Placed> Model for Shared<S> {
     ghost invariant = { λ a. IsSettled a.log.1 a.settled };
 }
 
-/// Whether an entry is uncommitted, of another owner, and may not change places with an operation behind it.
+/// Whether an entry is uncommitted, of another owner, and may not change places with an operation
+/// behind it.
 fn blocks<S: Spec>(owner: &Name, op: &S::Op, entry: &SharedEntry<S::Op>) -> bool
     ensures blocks { IsTrue result → Blocks S.object owner.now op.now entry.now }
     ensures gives_way { result ≡ false → GivesWay S.object owner.now op.now entry.now }
@@ -97,7 +101,7 @@ impl<S: Placed> Shared<S> {
         ensures len { result ≡ length self.now.1 }
         ensures allowed { IsAllowed S.object self.now.0 (shared_ops self.now.1) }
         ensures ranged { AllRanged S.object (shared_ops self.now.1) }
-        ensures distinct { HaveDistinctIds shared_item self.now.1 }
+        ensures distinct { HasDistinctIds (map shared_item self.now.1) }
     {
         self.log.len()
     }
@@ -126,7 +130,7 @@ impl<S: Placed> Shared<S> {
     /// Whether the log stays allowed with the operation behind it.
     pub fn legal(&self, op: &S::Op) -> bool
         requires { IsTrue (S.object.fits self.now.0 op.now) }
-        ensures { IsTrue result ↔ IsAllowed S.object self.now.0 (shared_ops self.now.1 ++ op.now ∷ []) }
+        ensures { IsTrue result ↔ GoesBehind S.object self.now.0 (shared_ops self.now.1) op.now }
     {
         self.log.legal(op)
     }
@@ -134,18 +138,19 @@ impl<S: Placed> Shared<S> {
     /// The object's result for the operation's call at the end of the log.
     pub fn gives(&self, op: &S::Op) -> Answer
         requires { IsTrue (S.object.fits self.now.0 op.now) }
-        ensures { result ≡ S.object.gives (state_after S.object self.now.0 (shared_ops self.now.1)) op.now }
+        ensures { result ≡ answer_behind S.object self.now.0 (shared_ops self.now.1) op.now }
     {
         self.log.gives(op)
     }
 
-    /// Adds an entry at the end. The only error is that memory was refused, and the log is then as it was.
+    /// Adds an entry at the end. The only error is that memory was refused, and the log is then as
+    /// it was.
     pub fn push<L: Ledger>(
         &mut self,
         entry: SharedEntry<S::Op>,
         ticks: &mut Ticks<L>,
     ) -> Result<(), OutOfMemory>
-        requires allowed { IsAllowed S.object self.old.0 (shared_ops self.old.1 ++ entry.op ∷ []) }
+        requires allowed { GoesBehind S.object self.old.0 (shared_ops self.old.1) entry.op }
         requires ranged { IsTrue (S.object.ranged entry.op) }
         requires new { position (λ e. e.id == entry.id) self.old.1 ≡ None }
         requires few { length self.old.1 < 1_000_000 }
@@ -158,12 +163,11 @@ impl<S: Placed> Shared<S> {
         self.log.append(entry, ticks)
     }
 
-    /// The first uncommitted entry of another owner that may not change places with the operation behind it. It passes over
-    /// the committed entries at the front.
+    /// The first uncommitted entry of another owner that may not change places with the operation
+    /// behind it, whatever the objects are. It passes over the committed entries at the front.
     pub fn blocking(&self, owner: &Name, op: &S::Op) -> Option<usize>
-        requires { IsTrue (S.object.fits self.now.0 op.now) }
-        ensures some { IfSome result (λ k. IsFirstBlocking S.object self.now.0 owner.now op.now self.now.1 k) }
-        ensures none { IfNone result ((u : EntryOf S.Op) → In u self.now.1 → u.committed ≡ false → u.owner ≢ owner.now → SwapsIn S.object self.now.0 u.op op.now) }
+        ensures some { IfSome result (λ k. IsFirstBlocking S.object owner.now op.now self.now.1 k) }
+        ensures none { IfNone result (AllGiveWay S.object owner.now op.now self.now.1) }
     {
         let entries = self.log.entries();
         for k in self.settled..self.log.len() {
@@ -182,10 +186,11 @@ impl<S: Placed> Shared<S> {
         self.settled = settle(self.log.entries(), self.settled);
     }
 
-    /// Takes out the i-th entry, unless the list without it is not allowed. The steps are those of its place alone: with k
-    /// operations there from the entry on, itself counted, it takes them back, and applies the k - 1 others again; where one
-    /// of these differs, it also takes back what it applied, and applies all k as they were. The only error is that memory
-    /// was refused, and the log is then lost.
+    /// Takes out the i-th entry, unless the list without it is not allowed. The steps are those of
+    /// its place alone: with k operations there from the entry on, itself counted, it takes them
+    /// back, and applies the k - 1 others again; where one of these differs, it also takes back
+    /// what it applied, and applies all k as they were. The only error is that memory was refused,
+    /// and the log is then lost.
     pub fn remove<L: Ledger>(
         self,
         i: usize,
@@ -193,8 +198,8 @@ impl<S: Placed> Shared<S> {
     ) -> Result<(Self, Removed), OutOfMemory>
         requires { i < length self.1 }
         ensures removes { IfOk result (λ r. RemovesEntry S.object shared_item self i r.0 r.1) }
-        ensures cost { IfOk result (λ r. removal_steps r.1 (from_place S.place_of (shared_ops self.1) i) ticks.old ticks.new) }
-        ensures bound { ticks.new + 3 ≤ ticks.old + 4 * from_place S.place_of (shared_ops self.1) i }
+        ensures cost { RemovalCosts S.place_of (shared_ops self.1) i result ticks.old ticks.new }
+        ensures bound { RemovalBound S.place_of (shared_ops self.1) i ticks.old ticks.new }
     {
         let Shared { log, settled } = self;
         let (log, removed) = log.remove(i, ticks)?;

@@ -1,9 +1,14 @@
-use Rattle.std.proofs.Common.{◌∙◌}
-use Rattle.pp_log.proofs.Maps.{seen, position_seen}
+use Rattle.std.proofs.Common.{nat_eq, map, ap, ◌∙◌}
+use Rattle.std.specs.List.{position}
+use Rattle.pp_log.proofs.Ids.{position_of_id}
+use Rattle.pp_log.proofs.Maps.{position_seen}
 use Rattle.pp_log.proofs.log.Log.find.Goals as goal
 
 pub returns : goal.returns
 returns g c =
     let f = g.T.Side.item_of in
-    let s = seen f c.self.inside.entries.items c.self.inside.past c.args.self.now c.self.invariant c.self.view_is in
-    c.find.ensures ∙ position_seen f c.self.inside.past.1 c.args.self.now.1 c.args.id s.items
+    let log = map f c.self.inside.entries.items in
+    c.get_index_of.ensures.index
+    ∙ ap (position (nat_eq c.args.id)) c.self.invariant.index
+    ∙ position_of_id log c.args.id
+    ∙ position_seen f log c.args.self.now.1 c.args.id (ap (λ z. map f z.1) c.self.view_is)

@@ -1,4 +1,4 @@
-use Rattle.std.proofs.Common.{◌≡◌}
+use Rattle.std.proofs.Common.{◌≡◌, ap, ◌∙◌}
 use Rattle.pp_spec.specs.Object.{state_after}
 use Rattle.pp_log.proofs.Maps.{seen, through}
 use Rattle.pp_log.proofs.log.Log.gives.Goals as goal
@@ -6,6 +6,6 @@ use Rattle.pp_log.proofs.log.Log.gives.Goals as goal
 pub returns : goal.returns
 returns g c =
     let o = g.S.Spec.object in
-    through (λ sh ops. c.gives.result ≡ o.gives (state_after o sh ops) c.args.op.now)
-    (seen g.T.Side.item_of c.self.inside.entries.items c.self.inside.past c.args.self.now c.self.invariant c.self.view_is)
-    c.gives.ensures
+    let a = c.args.op.now in
+    through (λ sh ops. c.gives.result ≡ o.gives (state_after o sh ops) a) (seen g.T.Side.item_of (o.shape c.self.inside.state) c.self.inside.entries.items c.args.self.now c.self.view_is)
+    (c.gives.ensures ∙ ap (λ t. o.gives t a) c.self.invariant.past.is)

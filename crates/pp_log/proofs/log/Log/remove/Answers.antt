@@ -1,48 +1,204 @@
-use Rattle.std.proofs.Common.{◌≡◌, ◌+◌, ◌*◌, ◌≤◌, map, subst, sym, ap, ◌∙◌}
-use Rattle.pp_past.specs.Pasts.{removal_steps}
-use Rattle.pp_past.proofs.Sites.{left, left_else}
-use Rattle.pp_log.specs.Logs.{RemovesEntry}
-use Rattle.pp_log.proofs.Maps.{entry_removed, seen, from_seen}
+use Rattle.std.proofs.Common.{◌≡◌, length, map, sym, ◌∙◌, ap, subst, arith}
+use Rattle.std.specs.List.{slice_get, slice_set, remove}
+use Rattle.std.proofs.lemmas.Option.{slice_get_within}
+use Rattle.pp_model.specs.Lists.{In}
+use Rattle.pp_model.specs.Object.{ops}
+use Rattle.pp_spec.specs.Object.{state_after}
+use Rattle.pp_log.specs.Keeps.{KeepsAll}
+use Rattle.pp_log.specs.Logs.{RemovesEntry, from_place, removal_steps}
+use Rattle.pp_log.specs.Parts.{elsewhere}
+use Rattle.pp_log.specs.Room.{ids_of}
+use Rattle.pp_log.proofs.Grown.{ids-remove}
+use Rattle.pp_log.proofs.Whole.{whole_of}
+use Rattle.pp_log.proofs.Sites.{place_there, place_at, id_there, found_in, steps_of, left, left_else, left_over}
+use Rattle.pp_log.proofs.Maps.{count_seen, entry_removed, inside, left_mapped, site_seen}
 use Rattle.pp_log.proofs.log.Log.remove.Goals as goal
-use Rattle.pp_log.proofs.log.Log.remove.Goals.{in-Done, in_default}
+use Rattle.pp_log.proofs.log.Log.remove.Goals.{in-Done, in_default-removed}
 
-pub returns-in_err-past-clause-bound : goal.returns-in_err-past-clause-bound
-returns-in_err-past-clause-bound g c =
+pub index_mut-place-requires : goal.index_mut-place-requires
+index_mut-place-requires g c =
+    let o = g.S.Spec.object in
+    let place = g.S.Placed.place_of in
     let f = g.T.Side.item_of in
-    let s = seen f c.self.inside.entries.items c.self.inside.past c.args.self c.self.invariant c.self.view_is in
-    subst (λ k. c.remove.new.ticks + 3 ≤ c.args.ticks.now + 4 * k) (from_seen g.S.Placed.place_of f c.self.inside.past.1 c.args.self.1 c.args.i s.items) c.in_err-past.ensures.bound
-
-pub invariant_of-result : goal.invariant_of-result
-invariant_of-result g c =
     let x = c.self.inside.entries.items in
-    let removed = c.in_ok-past.removed in
-    let left_is : c.match-removed.entries.items ≡ left removed x c.args.i = elim c.match-removed.branch [
-      | in-Done w ↦ ap (λ v. v.items) w.entries-is ∙ w.remove-in-Done.ensures.items ∙ ap (λ r. left r x c.args.i) (sym w.in-Done.is)
-      | in_default w ↦ ap (λ v. v.items) w.entries-is ∙ sym (left_else removed x c.args.i w.in_default.not-Done)
+    let log = map f x in
+    let ps = c.self.inside.places.items in
+    let s = c.self.inside.state in
+    let past = c.self.invariant.past in
+    let e = c.item-item.result in
+    let p = c.from-p.result in
+    let site = site_seen place f (o.shape s) x c.args.self c.args.i c.index.result.now e p c.self.view_is c.requires c.index.ensures c.item-item.ensures (c.from-p.ensures ∙ c.place.ensures) in
+    let is = place_there o place s log ps c.args.i e p past site in
+    omega arith
+
+pub unreachable-requires : goal.unreachable-requires
+unreachable-requires g c =
+    let o = g.S.Spec.object in
+    let place = g.S.Placed.place_of in
+    let f = g.T.Side.item_of in
+    let x = c.self.inside.entries.items in
+    let log = map f x in
+    let ps = c.self.inside.places.items in
+    let s = c.self.inside.state in
+    let past = c.self.invariant.past in
+    let e = c.item-item.result in
+    let p = c.from-p.result in
+    let site = site_seen place f (o.shape s) x c.args.self c.args.i c.index.result.now e p c.self.view_is c.requires c.index.ensures c.item-item.ensures (c.from-p.ensures ∙ c.place.ensures) in
+    let q = c.index_mut-place.result.now in
+    let value = c.index_mut-place.ensures.value in
+    let none = c.in_default.ensures.none in
+    id_there o place s log ps c.args.i e p q past site (place_at o place s log ps c.args.i e p q past site value) (λ d k. none d (subst (In d) (sym c.deref.ensures.value) k))
+
+pub take_out-requires-clause-whole : goal.take_out-requires-clause-whole
+take_out-requires-clause-whole g c =
+    let o = g.S.Spec.object in
+    let place = g.S.Placed.place_of in
+    let f = g.T.Side.item_of in
+    let x = c.self.inside.entries.items in
+    let log = map f x in
+    let ps = c.self.inside.places.items in
+    let s = c.self.inside.state in
+    let past = c.self.invariant.past in
+    let e = c.item-item.result in
+    let p = c.from-p.result in
+    let site = site_seen place f (o.shape s) x c.args.self c.args.i c.index.result.now e p c.self.view_is c.requires c.index.ensures c.item-item.ensures (c.from-p.ensures ∙ c.place.ensures) in
+    let q = c.index_mut-place.result.now in
+    let value = c.index_mut-place.ensures.value in
+    let at = place_at o place s log ps c.args.i e p q past site value in
+    (state_after o (o.shape s) (ops (elsewhere place p log)), whole_of o place g.S.Placed.SameAt g.met.S.Spec.lawful g.met.S.Placed.placed p s log ps q past at)
+
+pub take_out-requires-clause-within : goal.take_out-requires-clause-within
+take_out-requires-clause-within g c =
+    let found = c.in-Some.ensures.found in
+    slice_get_within c.index_mut-place.result.now.items.items c.in-Some.from found.0 (ap (λ z. slice_get z c.in-Some.from) (sym c.deref.ensures.value) ∙ found.1)
+
+pub returns-in_err-removed-clause-bound : goal.returns-in_err-removed-clause-bound
+returns-in_err-removed-clause-bound g c =
+    let o = g.S.Spec.object in
+    let place = g.S.Placed.place_of in
+    let f = g.T.Side.item_of in
+    let x = c.self.inside.entries.items in
+    let log = map f x in
+    let ps = c.self.inside.places.items in
+    let s = c.self.inside.state in
+    let past = c.self.invariant.past in
+    let e = c.item-item.result in
+    let p = c.from-p.result in
+    let site = site_seen place f (o.shape s) x c.args.self c.args.i c.index.result.now e p c.self.view_is c.requires c.index.ensures c.item-item.ensures (c.from-p.ensures ∙ c.place.ensures) in
+    let q = c.index_mut-place.result.now in
+    let value = c.index_mut-place.ensures.value in
+    let stands = c.in-Some.ensures.found in
+    let within = inside f (o.shape s) x c.args.self c.args.i c.self.view_is c.requires in
+    let found = found_in o place s log ps c.args.i e stands.0 p c.in-Some.from q past within site value (ap (λ z. slice_get z c.in-Some.from) (sym c.deref.ensures.value) ∙ stands.1) stands.2 in
+    let count = found.count in
+    let size = count_seen place f (o.shape s) x c.args.self c.args.i c.self.view_is in
+    let bound = c.take_out.ensures.bound in
+    omega arith
+
+pub invariant_of-log : goal.invariant_of-log
+invariant_of-log g c =
+    let o = g.S.Spec.object in
+    let place = g.S.Placed.place_of in
+    let f = g.T.Side.item_of in
+    let x = c.self.inside.entries.items in
+    let log = map f x in
+    let ps = c.self.inside.places.items in
+    let s = c.self.inside.state in
+    let past = c.self.invariant.past in
+    let e = c.item-item.result in
+    let p = c.from-p.result in
+    let site = site_seen place f (o.shape s) x c.args.self c.args.i c.index.result.now e p c.self.view_is c.requires c.index.ensures c.item-item.ensures (c.from-p.ensures ∙ c.place.ensures) in
+    let q = c.index_mut-place.result.now in
+    let value = c.index_mut-place.ensures.value in
+    let stands = c.in-Some.ensures.found in
+    let within = inside f (o.shape s) x c.args.self c.args.i c.self.view_is c.requires in
+    let found = found_in o place s log ps c.args.i e stands.0 p c.in-Some.from q past within site value (ap (λ z. slice_get z c.in-Some.from) (sym c.deref.ensures.value) ∙ stands.1) stands.2 in
+    let b = state_after o (o.shape s) (ops (elsewhere place p log)) in
+    let takes = c.in_ok-removed.ensures.takes b (whole_of o place g.S.Placed.SameAt g.met.S.Spec.lawful g.met.S.Placed.placed p s log ps q past found.at) in
+    let removed = c.in_ok-removed.removed in
+    let done = left_over o place g.S.Placed.SameAt g.met.S.Spec.lawful g.met.S.Placed.placed s c.take_out.new.state log ps c.args.i e p c.in-Some.from q c.take_out.new.place removed past found takes in
+    let entries : c.match-removed.entries.items ≡ left removed x c.args.i = elim c.match-removed.branch [
+      | in-Done w ↦ ap (λ v. v.items) w.entries-is ∙ w.remove.ensures.items ∙ ap (λ r. left r x c.args.i) (sym w.in-Done.is)
+      | in_default-removed w ↦ ap (λ v. v.items) w.entries-is ∙ sym (left_else removed x c.args.i w.in_default-removed.not-Done)
     ] in
-    let done = entry_removed g.S.Spec.object g.T.Side.item_of c.self.inside.past c.in_ok-past.past x c.args.i removed c.self.invariant c.in_ok-past.ensures.removes in
-    ap (map g.T.Side.item_of) left_is ∙ done.0
+    let ids : c.match-removed.ids.keys ≡ ids_of (left removed log c.args.i) = elim c.match-removed.branch [
+      | in-Done w ↦ ap (λ v. v.keys) w.ids-is ∙ w.shift_remove_index.ensures.keys ∙ ap (λ z. remove z c.args.i) c.self.invariant.index ∙ ids-remove log c.args.i ∙ ap (λ r. ids_of (left r log c.args.i)) (sym w.in-Done.is)
+      | in_default-removed w ↦ ap (λ v. v.keys) w.ids-is ∙ c.self.invariant.index ∙ ap (λ z. ids_of z) (sym (left_else removed log c.args.i w.in_default-removed.not-Done))
+    ] in
+    subst (λ z. KeepsAll o place c.take_out.new.state z (slice_set ps p c.take_out.new.place) c.match-removed.ids.keys) (sym (ap (map f) entries ∙ left_mapped f removed x c.args.i)) (record { past = done.0; index = ids })
 
 pub returns-clause-removes : goal.returns-clause-removes
 returns-clause-removes g c =
+    let o = g.S.Spec.object in
+    let place = g.S.Placed.place_of in
+    let f = g.T.Side.item_of in
     let x = c.self.inside.entries.items in
-    let removed = c.in_ok-past.removed in
-    let left_is : c.match-removed.entries.items ≡ left removed x c.args.i = elim c.match-removed.branch [
-      | in-Done w ↦ ap (λ v. v.items) w.entries-is ∙ w.remove-in-Done.ensures.items ∙ ap (λ r. left r x c.args.i) (sym w.in-Done.is)
-      | in_default w ↦ ap (λ v. v.items) w.entries-is ∙ sym (left_else removed x c.args.i w.in_default.not-Done)
+    let log = map f x in
+    let ps = c.self.inside.places.items in
+    let s = c.self.inside.state in
+    let past = c.self.invariant.past in
+    let e = c.item-item.result in
+    let p = c.from-p.result in
+    let site = site_seen place f (o.shape s) x c.args.self c.args.i c.index.result.now e p c.self.view_is c.requires c.index.ensures c.item-item.ensures (c.from-p.ensures ∙ c.place.ensures) in
+    let q = c.index_mut-place.result.now in
+    let value = c.index_mut-place.ensures.value in
+    let stands = c.in-Some.ensures.found in
+    let within = inside f (o.shape s) x c.args.self c.args.i c.self.view_is c.requires in
+    let found = found_in o place s log ps c.args.i e stands.0 p c.in-Some.from q past within site value (ap (λ z. slice_get z c.in-Some.from) (sym c.deref.ensures.value) ∙ stands.1) stands.2 in
+    let b = state_after o (o.shape s) (ops (elsewhere place p log)) in
+    let takes = c.in_ok-removed.ensures.takes b (whole_of o place g.S.Placed.SameAt g.met.S.Spec.lawful g.met.S.Placed.placed p s log ps q past found.at) in
+    let removed = c.in_ok-removed.removed in
+    let done = left_over o place g.S.Placed.SameAt g.met.S.Spec.lawful g.met.S.Placed.placed s c.take_out.new.state log ps c.args.i e p c.in-Some.from q c.take_out.new.place removed past found takes in
+    let entries : c.match-removed.entries.items ≡ left removed x c.args.i = elim c.match-removed.branch [
+      | in-Done w ↦ ap (λ v. v.items) w.entries-is ∙ w.remove.ensures.items ∙ ap (λ r. left r x c.args.i) (sym w.in-Done.is)
+      | in_default-removed w ↦ ap (λ v. v.items) w.entries-is ∙ sym (left_else removed x c.args.i w.in_default-removed.not-Done)
     ] in
-    let done = entry_removed g.S.Spec.object g.T.Side.item_of c.self.inside.past c.in_ok-past.past x c.args.i removed c.self.invariant c.in_ok-past.ensures.removes in
-    subst (λ z. RemovesEntry g.S.Spec.object g.T.Side.item_of z c.args.i (c.in_ok-past.past.0, c.match-removed.entries.items) removed) c.self.view_is
-    (subst (λ z. RemovesEntry g.S.Spec.object g.T.Side.item_of (c.self.inside.past.0, x) c.args.i (c.in_ok-past.past.0, z) removed) (sym left_is) done.1)
+    let answer = entry_removed o f (o.shape s) (o.shape c.take_out.new.state) x c.args.i removed done.1 in
+    subst (λ z. RemovesEntry o f z c.args.i (o.shape c.take_out.new.state, c.match-removed.entries.items) removed) c.self.view_is
+    (subst (λ z. RemovesEntry o f (o.shape s, x) c.args.i (o.shape c.take_out.new.state, z) removed) (sym entries) answer)
 
 pub returns-clause-cost : goal.returns-clause-cost
 returns-clause-cost g c =
+    let o = g.S.Spec.object in
+    let place = g.S.Placed.place_of in
     let f = g.T.Side.item_of in
-    let s = seen f c.self.inside.entries.items c.self.inside.past c.args.self c.self.invariant c.self.view_is in
-    subst (λ k. removal_steps c.in_ok-past.removed k c.args.ticks.now c.remove.new.ticks) (from_seen g.S.Placed.place_of f c.self.inside.past.1 c.args.self.1 c.args.i s.items) c.in_ok-past.ensures.cost
+    let x = c.self.inside.entries.items in
+    let log = map f x in
+    let ps = c.self.inside.places.items in
+    let s = c.self.inside.state in
+    let past = c.self.invariant.past in
+    let e = c.item-item.result in
+    let p = c.from-p.result in
+    let site = site_seen place f (o.shape s) x c.args.self c.args.i c.index.result.now e p c.self.view_is c.requires c.index.ensures c.item-item.ensures (c.from-p.ensures ∙ c.place.ensures) in
+    let q = c.index_mut-place.result.now in
+    let value = c.index_mut-place.ensures.value in
+    let stands = c.in-Some.ensures.found in
+    let within = inside f (o.shape s) x c.args.self c.args.i c.self.view_is c.requires in
+    let found = found_in o place s log ps c.args.i e stands.0 p c.in-Some.from q past within site value (ap (λ z. slice_get z c.in-Some.from) (sym c.deref.ensures.value) ∙ stands.1) stands.2 in
+    let count = found.count in
+    let size = count_seen place f (o.shape s) x c.args.self c.args.i c.self.view_is in
+    subst (λ k. removal_steps c.in_ok-removed.removed k c.args.ticks.now c.take_out.new.ticks) size
+    (steps_of c.in_ok-removed.removed (length q.items.items) c.in-Some.from (from_place place (ops log) c.args.i) c.args.ticks.now c.take_out.new.ticks count c.in_ok-removed.ensures.cost)
 
 pub returns-clause-bound : goal.returns-clause-bound
 returns-clause-bound g c =
+    let o = g.S.Spec.object in
+    let place = g.S.Placed.place_of in
     let f = g.T.Side.item_of in
-    let s = seen f c.self.inside.entries.items c.self.inside.past c.args.self c.self.invariant c.self.view_is in
-    subst (λ k. c.remove.new.ticks + 3 ≤ c.args.ticks.now + 4 * k) (from_seen g.S.Placed.place_of f c.self.inside.past.1 c.args.self.1 c.args.i s.items) c.in_ok-past.ensures.bound
+    let x = c.self.inside.entries.items in
+    let log = map f x in
+    let ps = c.self.inside.places.items in
+    let s = c.self.inside.state in
+    let past = c.self.invariant.past in
+    let e = c.item-item.result in
+    let p = c.from-p.result in
+    let site = site_seen place f (o.shape s) x c.args.self c.args.i c.index.result.now e p c.self.view_is c.requires c.index.ensures c.item-item.ensures (c.from-p.ensures ∙ c.place.ensures) in
+    let q = c.index_mut-place.result.now in
+    let value = c.index_mut-place.ensures.value in
+    let stands = c.in-Some.ensures.found in
+    let within = inside f (o.shape s) x c.args.self c.args.i c.self.view_is c.requires in
+    let found = found_in o place s log ps c.args.i e stands.0 p c.in-Some.from q past within site value (ap (λ z. slice_get z c.in-Some.from) (sym c.deref.ensures.value) ∙ stands.1) stands.2 in
+    let count = found.count in
+    let size = count_seen place f (o.shape s) x c.args.self c.args.i c.self.view_is in
+    let bound = c.take_out.ensures.bound in
+    omega arith

@@ -1,29 +1,28 @@
-use Rattle.std.proofs.Common.{◌≡◌, length, subst, sym, ap, ◌∙◌, arith, Some}
+use Rattle.std.proofs.Common.{◌≡◌, length, subst, ap, ◌∙◌, sym, arith, Some}
 use Rattle.std.specs.List.{slice_get}
 use Rattle.std.proofs.lemmas.Option.{slice_get_read}
-use Rattle.pp_model.specs.Config.{shared_ops}
-use Rattle.pp_spec.specs.Object.{IsAllowed}
 use Rattle.pp_shared.specs.Blocking.{AllGiveWayBelow}
-use Rattle.pp_shared.proofs.Blocked.{one_gives_way, all_give_way, blocks_first}
+use Rattle.pp_shared.proofs.Blocked.{one_gives_way, all_give_way}
 use Rattle.pp_shared.proofs.shared.Shared.blocking.Goals as goal
 
 pub returns-then-blocks-clause-some : goal.returns-then-blocks-clause-some
 returns-then-blocks-clause-some g c =
-    let o = g.S.Spec.object in
     let xs = c.entries-entries.result.now in
     let list : xs ≡ c.args.self.now.1 = c.entries-entries.ensures ∙ ap (λ z. z.1) c.self.view_is in
     let at = slice_get_read xs c.len-k-end.result c.loop-k.k c.index-entries-k.result (c.len-k-end.ensures.len ∙ ap length (sym c.entries-entries.ensures)) c.loop-k-test.true c.index-entries-k.is in
-    let allowed = subst (λ z. IsAllowed o z.0 (shared_ops z.1)) c.self.view_is c.len-k-end.ensures.allowed in
-    blocks_first o c.args.self.now.0 g.met.S.Spec.lawful c.args.owner.now c.args.op.now c.args.self.now.1 c.loop-k.k c.index-entries-k.result c.requires allowed c.loop-k.invariant
-    (subst (λ z. slice_get z c.loop-k.k ≡ Some c.index-entries-k.result) list at)
-    (c.blocks-in-loop-k.ensures.blocks c.if-blocks.true)
+    record {
+      entry = c.index-entries-k.result;
+      is = subst (λ z. slice_get z c.loop-k.k ≡ Some c.index-entries-k.result) list at;
+      blocks = c.blocks-in-loop-k.ensures.blocks c.if-blocks.true;
+      first = c.loop-k.invariant;
+    }
 
 pub loop-k-preserved : goal.loop-k-preserved
 loop-k-preserved g c =
     let xs = c.entries-entries.result.now in
     let list : xs ≡ c.args.self.now.1 = c.entries-entries.ensures ∙ ap (λ z. z.1) c.self.view_is in
     let at = slice_get_read xs c.len-k-end.result c.loop-k.k c.index-entries-k.result (c.len-k-end.ensures.len ∙ ap length (sym c.entries-entries.ensures)) c.loop-k-test.true c.index-entries-k.is in
-    one_gives_way g.S.Spec.object c.args.self.now.0 c.args.owner.now c.args.op.now c.args.self.now.1 c.loop-k.k c.index-entries-k.result c.loop-k.invariant
+    one_gives_way g.S.Spec.object c.args.owner.now c.args.op.now c.args.self.now.1 c.loop-k.k c.index-entries-k.result c.loop-k.invariant
     (subst (λ z. slice_get z c.loop-k.k ≡ Some c.index-entries-k.result) list at)
     (c.blocks-in-loop-k.ensures.gives_way c.if-blocks.false)
 
@@ -33,5 +32,5 @@ returns-clause-none g c =
     let all = c.len-k-end.ensures.len in
     let settled = c.self.invariant.within in
     let end : c.loop-k.k ≡ length c.args.self.now.1 = omega arith in
-    all_give_way g.S.Spec.object c.args.self.now.0 c.args.owner.now c.args.op.now c.args.self.now.1
-    (subst (λ n. AllGiveWayBelow g.S.Spec.object c.args.self.now.0 c.args.owner.now c.args.op.now c.args.self.now.1 n) end c.loop-k.invariant)
+    all_give_way g.S.Spec.object c.args.owner.now c.args.op.now c.args.self.now.1
+    (subst (λ n. AllGiveWayBelow g.S.Spec.object c.args.owner.now c.args.op.now c.args.self.now.1 n) end c.loop-k.invariant)

@@ -1,0 +1,170 @@
+-- Lists: where an element stands, and what a list is with one more, one less, or one set.
+use Rattle.std.proofs.Common.{◌≡◌, ℕ, ◌<◌, ◌≤◌, ◌+◌, zero, suc, Bool, not, cond, nat_lt, List, [], ◌∷◌, ◌++◌, length, take, drop, map, get_or, refl, sym, ◌∙◌, ap, arith, inl, inr, Some, None}
+use Rattle.std.specs.List.{slice_get, slice_set, remove, insert, position, position_or_len}
+use Rattle.std.proofs.lemmas.List.{length-map}
+use Rattle.std.proofs.lemmas.Bool.{cases_lt}
+use borrow.Author.Tests.{lt-ltb}
+use Rattle.pp_model.specs.Lists.{In}
+
+abbrev pub pair : {A B : Type 0} → A → B → A × B
+pair a b = (a, b)
+
+-- lists that are equal to the last item are equal before it, and so are the items
+not_alone : {A : Type 0} (a b x : A) (xs : List A) → a ∷ [] ≡ b ∷ (xs ++ x ∷ []) → ⊥
+not_alone a b x [] e = cc
+not_alone a b x (y ∷ xs) e = cc
+
+pub push-injective : {A : Type 0} (xs ys : List A) (x y : A) → xs ++ x ∷ [] ≡ ys ++ y ∷ [] → (xs ≡ ys) × (x ≡ y)
+push-injective [] [] x y e = let k : x ≡ y = cc in (refl, k)
+push-injective [] (b ∷ ys) x y e = absurd (not_alone x b y ys e)
+push-injective (a ∷ xs) [] x y e = absurd (not_alone y a x xs (sym e))
+push-injective (a ∷ xs) (b ∷ ys) x y e =
+    let first : a ≡ b = cc in
+    let rest : xs ++ x ∷ [] ≡ ys ++ y ∷ [] = cc in
+    let h = push-injective xs ys x y rest in
+    let both : (a ∷ xs) ≡ (b ∷ ys) = let k = h.0 in cc in
+    (both, h.1)
+
+-- an item that is found is the one there, whatever stands for none
+get_any : {A : Type 0} (x : List A) (i : ℕ) (d e : A) → i < length x → get_or x i d ≡ get_or x i e
+get_any [] i d e h = absurd (omega arith)
+get_any (a ∷ x) zero d e h = refl
+get_any (a ∷ x) (suc i) d e h = get_any x i d e (omega arith)
+
+pub found_there : {A : Type 0} (x : List A) (i j : ℕ) (d : A) → i ≡ j → j < length x → get_or x i d ≡ get_or x j (get_or x i d)
+found_there x i j d e h = ap (λ (k : ℕ). get_or x k d) e ∙ get_any x j d (get_or x i d) h
+
+pub insert-remove : {A : Type 0} (x : List A) (i : ℕ) (e : A) → i < length x → e ≡ get_or x i e → insert (remove x i) i e ≡ x
+insert-remove [] i e h is = absurd (omega arith)
+insert-remove {A} (a ∷ x) zero e h is = ap (λ (b : A). b ∷ x) is
+insert-remove {A} (a ∷ x) (suc i) e h is = ap (λ (z : List A). a ∷ z) (insert-remove x i e (omega arith) is)
+
+-- a list cut at an element
+plus_one : (i : ℕ) → suc (i + 1) ≡ suc i + 1
+plus_one i = omega arith
+
+pub cut_there : {A : Type 0} (x : List A) (i : ℕ) (e : A) → i < length x → e ≡ get_or x i e → x ≡ take i x ++ e ∷ drop (i + 1) x
+cut_there [] i e h is = absurd (omega arith)
+cut_there {A} (a ∷ x) zero e h is = ap (λ (b : A). b ∷ x) (sym is)
+cut_there {A} (a ∷ x) (suc i) e h is = ap (λ (z : List A). a ∷ z) (cut_there x i e (omega arith) is) ∙ ap (λ (k : ℕ). take (suc i) (a ∷ x) ++ e ∷ drop k (a ∷ x)) (plus_one i)
+
+pub not_empty : {A : Type 0} (w z : List A) (f : A) → [] ≡ w ++ f ∷ z → ⊥
+not_empty [] z f e = cc
+not_empty (g ∷ w) z f e = cc
+
+pub in_mid : {A : Type 0} (u v : List A) (e : A) → In e (u ++ e ∷ v)
+in_mid [] v e = inl refl
+in_mid (d ∷ u) v e = inr (in_mid u v e)
+
+pub remove_mid : {A : Type 0} (u v : List A) (e : A) → remove (u ++ e ∷ v) (length u) ≡ u ++ v
+remove_mid [] v e = refl
+remove_mid {A} (d ∷ u) v e = ap (λ (z : List A). d ∷ z) (remove_mid u v e)
+
+-- lists in which one element was set
+pub set_same : {A : Type 0} (x : List A) (p : ℕ) (a : A) → p < length x → slice_get (slice_set x p a) p ≡ Some a
+set_same [] p a h = absurd (omega arith)
+set_same (b ∷ x) zero a h = refl
+set_same (b ∷ x) (suc p) a h = set_same x p a (omega arith)
+
+pub set_other : {A : Type 0} (x : List A) (p r : ℕ) (a : A) → (p ≡ r → ⊥) → slice_get (slice_set x p a) r ≡ slice_get x r
+set_other [] p r a n = refl
+set_other (b ∷ x) zero zero a n = absurd (n refl)
+set_other (b ∷ x) zero (suc r) a n = refl
+set_other (b ∷ x) (suc p) zero a n = refl
+set_other (b ∷ x) (suc p) (suc r) a n = set_other x p r a (λ e. n (ap suc e))
+
+-- what stands at a place is in the list
+pub stands_in : {A : Type 0} (x : List A) (i : ℕ) (a : A) → slice_get x i ≡ Some a → In a x
+stands_in [] i a h = cc
+stands_in (b ∷ x) zero a h = inl cc
+stands_in (b ∷ x) (suc i) a h = inr (stands_in x i a h)
+
+pub in_at : {A : Type 0} (x : List A) (a : A) → In a x → (j : ℕ) × (j < length x) × (slice_get x j ≡ Some a)
+in_at [] a h = absurd h
+in_at (b ∷ x) a h = elim h [
+  | inl same ↦ (0, omega arith, ap Some (sym same))
+  | inr later ↦ let r = in_at x a later in let lt : suc r.0 < length (b ∷ x) = omega arith in (suc r.0, lt, r.2)
+]
+
+pub not_past : {A : Type 0} (x : List A) (k : ℕ) → k < length x → slice_get x k ≡ None → ⊥
+not_past [] k h at = absurd (omega arith)
+not_past (a ∷ x) zero h at = cc
+not_past (a ∷ x) (suc k) h at = not_past x k (omega arith) at
+
+-- what stands in front stays there
+pub front_stays : {A : Type 0} (x y : List A) (j : ℕ) → j < length x → slice_get (x ++ y) j ≡ slice_get x j
+front_stays [] y j h = absurd (omega arith)
+front_stays (a ∷ x) y zero h = refl
+front_stays (a ∷ x) y (suc j) h = front_stays x y j (omega arith)
+
+pub before_stays : {A : Type 0} (x : List A) (i j : ℕ) → j < i → slice_get (remove x i) j ≡ slice_get x j
+before_stays [] zero j h = absurd (omega arith)
+before_stays [] (suc i) j h = refl
+before_stays (a ∷ x) zero j h = absurd (omega arith)
+before_stays (a ∷ x) (suc i) zero h = refl
+before_stays (a ∷ x) (suc i) (suc j) h = before_stays x i j (omega arith)
+
+-- lists that are mapped
+pub map_remove : {A B : Type 0} (f : A → B) (x : List A) (i : ℕ) → map f (remove x i) ≡ remove (map f x) i
+map_remove f [] zero = refl
+map_remove f [] (suc i) = refl
+map_remove f (a ∷ x) zero = refl
+map_remove {A} {B} f (a ∷ x) (suc i) = ap (λ (z : List B). f a ∷ z) (map_remove f x i)
+
+pub map_set_same : {A B : Type 0} (f : A → B) (x : List A) (i : ℕ) (b : A) → ((a : A) → slice_get x i ≡ Some a → f b ≡ f a) → map f (slice_set x i b) ≡ map f x
+map_set_same f [] i b h = refl
+map_set_same {A} {B} f (a ∷ x) zero b h = ap (λ (c : B). c ∷ map f x) (h a refl)
+map_set_same {A} {B} f (a ∷ x) (suc i) b h = ap (λ (z : List B). f a ∷ z) (map_set_same f x i b h)
+
+pub map_push : {A B : Type 0} (f : A → B) (x : List A) (e : A) → map f (x ++ e ∷ []) ≡ map f x ++ f e ∷ []
+map_push f [] e = refl
+map_push {A} {B} f (a ∷ x) e = ap (λ (z : List B). f a ∷ z) (map_push f x e)
+
+pub get_mapped : {A B : Type 0} (f : A → B) (x : List A) (i : ℕ) (a : A) → get_or (map f x) i (f a) ≡ f (get_or x i a)
+get_mapped f [] i a = refl
+get_mapped f (b ∷ x) zero a = refl
+get_mapped f (b ∷ x) (suc i) a = get_mapped f x i a
+
+-- a list cut where the list that it is mapped to is cut
+pub record IsCut {A B : Type 0} (f : A → B) (x : List A) (before : List B) (b : B) : Type 0 where
+  pub front : List A
+  pub entry : A
+  pub back : List A
+  pub is : x ≡ front ++ entry ∷ back
+  pub front_is : map f front ≡ before
+  pub entry_is : f entry ≡ b
+
+pub cut : {A B : Type 0} (f : A → B) (x : List A) (before after : List B) (b : B) → map f x ≡ before ++ b ∷ after → IsCut f x before b
+cut f [] [] after b h = cc
+cut f [] (c ∷ before) after b h = cc
+cut f (a ∷ x) [] after b h = record { front = []; entry = a; back = x; is = refl; front_is = refl; entry_is = cc }
+cut {A} {B} f (a ∷ x) (c ∷ before) after b h =
+    let first : f a ≡ c = cc in
+    let rest : map f x ≡ before ++ b ∷ after = cc in
+    let r = cut f x before after b rest in
+    record {
+      front = a ∷ r.front;
+      entry = r.entry;
+      back = r.back;
+      is = ap (λ (z : List A). a ∷ z) r.is;
+      front_is = ap (λ (z : List B). f a ∷ z) r.front_is ∙ ap (λ (d : B). d ∷ before) first;
+      entry_is = r.entry_is;
+    }
+
+-- Where a test first holds of a list, and of the list that it was mapped from.
+place_of_same : {A B : Type 0} (f : A → B) (p : B → Bool) (q : A → Bool) → ((a : A) → p (f a) ≡ q a) → (x : List A) → position_or_len p (map f x) ≡ position_or_len q x
+place_of_same f p q h [] = refl
+place_of_same f p q h (a ∷ x) =
+    ap (λ (b : Bool). cond (not b) (1 + position_or_len p (map f x)) 0) (h a) ∙ ap (λ (n : ℕ). cond (not (q a)) (1 + n) 0) (place_of_same f p q h x)
+
+pub same_position : {A B : Type 0} (f : A → B) (p : B → Bool) (q : A → Bool) → ((a : A) → p (f a) ≡ q a) → (x : List A) → position p (map f x) ≡ position q x
+same_position f p q h x =
+    ap (λ (n : ℕ). cond (nat_lt n (length (map f x))) (Some n) None) (place_of_same f p q h x)
+    ∙ ap (λ (m : ℕ). cond (nat_lt (position_or_len q x) m) (Some (position_or_len q x)) None) (length-map x f)
+
+pub none_len : {A : Type 0} (p : A → Bool) (x : List A) → position p x ≡ None → length x ≤ position_or_len p x
+none_len p x h = elim (cases_lt (position_or_len p x) (length x)) [
+  | inl l ↦ let there : position p x ≡ Some (position_or_len p x) = ap (λ (b : Bool). cond b (Some (position_or_len p x)) None) (lt-ltb (position_or_len p x) (length x) l) in
+      let both : Some (position_or_len p x) ≡ None = sym there ∙ h in cc
+  | inr l ↦ l
+]

@@ -1,0 +1,96 @@
+use Rattle.std.proofs.Common.{append-nil, ◌≡◌, ℕ, ◌+◌, suc, ◌==◌, Bool, true, false, cond, filter, List, [], ◌∷◌, ◌++◌, length, refl, sym, ◌∙◌, ap, arith, eq-eqb, ◌⊎◌, inl, inr}
+use Rattle.std.proofs.lemmas.Bool.{ne_eqb}
+use Rattle.std.proofs.lemmas.Bool.Decides.{eqb_tells}
+use Rattle.pp_core.specs.declared.entry.Item.{Item}
+use Rattle.pp_model.specs.Object.{ops}
+use Rattle.pp_log.specs.Parts.{there, elsewhere}
+
+-- Lists of items and their parts by places.
+pub ops-append : {Op : Type 0} (x y : List (Item Op)) → ops (x ++ y) ≡ ops x ++ ops y
+ops-append [] y = refl
+ops-append {Op} (e ∷ x) y = ap (λ (z : List Op). e.op ∷ z) (ops-append x y)
+
+module _ {Op : Type 0} (place : Op → ℕ) where
+  -- an item is at a place or not
+  pub is_at : (e : Item Op) (p : ℕ) → (place e.op ≡ p) ⊎ (place e.op ≡ p → ⊥)
+  is_at e p = elim (eqb_tells (place e.op) p) [ inl h ↦ inl h.1 | inr h ↦ inr h.1 ]
+
+  pub there_at : (p : ℕ) (e : Item Op) (x : List (Item Op)) → place e.op ≡ p → there place p (e ∷ x) ≡ e ∷ there place p x
+  there_at p e x h = ap (λ (b : Bool). cond b (e ∷ there place p x) (there place p x)) (eq-eqb (place e.op) p h)
+
+  pub there_off : (p : ℕ) (e : Item Op) (x : List (Item Op)) → (place e.op ≡ p → ⊥) → there place p (e ∷ x) ≡ there place p x
+  there_off p e x h = ap (λ (b : Bool). cond b (e ∷ there place p x) (there place p x)) (ne_eqb (place e.op) p h)
+
+  pub elsewhere_at : (p : ℕ) (e : Item Op) (x : List (Item Op)) → place e.op ≡ p → elsewhere place p (e ∷ x) ≡ elsewhere place p x
+  elsewhere_at p e x h = ap (λ (b : Bool). cond b (elsewhere place p x) (e ∷ elsewhere place p x)) (eq-eqb (place e.op) p h)
+
+  pub elsewhere_off : (p : ℕ) (e : Item Op) (x : List (Item Op)) → (place e.op ≡ p → ⊥) → elsewhere place p (e ∷ x) ≡ e ∷ elsewhere place p x
+  elsewhere_off p e x h = ap (λ (b : Bool). cond b (elsewhere place p x) (e ∷ elsewhere place p x)) (ne_eqb (place e.op) p h)
+
+  pub there-append : (p : ℕ) (x y : List (Item Op)) → there place p (x ++ y) ≡ there place p x ++ there place p y
+  there-append p [] y = refl
+  there-append p (e ∷ x) y = elim (is_at e p) [
+    | inl h ↦ there_at p e (x ++ y) h ∙ ap (λ (z : List (Item Op)). e ∷ z) (there-append p x y) ∙ ap (λ (z : List (Item Op)). z ++ there place p y) (sym (there_at p e x h))
+    | inr h ↦ there_off p e (x ++ y) h ∙ there-append p x y ∙ ap (λ (z : List (Item Op)). z ++ there place p y) (sym (there_off p e x h))
+  ]
+
+  pub elsewhere-append : (p : ℕ) (x y : List (Item Op)) → elsewhere place p (x ++ y) ≡ elsewhere place p x ++ elsewhere place p y
+  elsewhere-append p [] y = refl
+  elsewhere-append p (e ∷ x) y = elim (is_at e p) [
+    | inl h ↦ elsewhere_at p e (x ++ y) h ∙ elsewhere-append p x y ∙ ap (λ (z : List (Item Op)). z ++ elsewhere place p y) (sym (elsewhere_at p e x h))
+    | inr h ↦ elsewhere_off p e (x ++ y) h ∙ ap (λ (z : List (Item Op)). e ∷ z) (elsewhere-append p x y) ∙ ap (λ (z : List (Item Op)). z ++ elsewhere place p y) (sym (elsewhere_off p e x h))
+  ]
+
+  pub there_twice : (p : ℕ) (x : List (Item Op)) → there place p (there place p x) ≡ there place p x
+  there_twice p [] = refl
+  there_twice p (e ∷ x) = elim (is_at e p) [
+    | inl h ↦ ap (there place p) (there_at p e x h) ∙ there_at p e (there place p x) h ∙ ap (λ (z : List (Item Op)). e ∷ z) (there_twice p x) ∙ sym (there_at p e x h)
+    | inr h ↦ ap (there place p) (there_off p e x h) ∙ there_twice p x ∙ sym (there_off p e x h)
+  ]
+
+  pub there_of_elsewhere : (p : ℕ) (x : List (Item Op)) → there place p (elsewhere place p x) ≡ []
+  there_of_elsewhere p [] = refl
+  there_of_elsewhere p (e ∷ x) = elim (is_at e p) [
+    | inl h ↦ ap (there place p) (elsewhere_at p e x h) ∙ there_of_elsewhere p x
+    | inr h ↦ ap (there place p) (elsewhere_off p e x h) ∙ there_off p e (elsewhere place p x) h ∙ there_of_elsewhere p x
+  ]
+
+  pub there_of_others : (p q : ℕ) (x : List (Item Op)) → (p ≡ q → ⊥) → there place q (elsewhere place p x) ≡ there place q x
+  there_of_others p q [] n = refl
+  there_of_others p q (e ∷ x) n = elim (is_at e p) [
+    | inl h ↦ ap (there place q) (elsewhere_at p e x h) ∙ there_of_others p q x n ∙ sym (there_off q e x (λ k. n (sym h ∙ k)))
+    | inr h ↦ ap (there place q) (elsewhere_off p e x h) ∙ elim (is_at e q) [
+      | inl k ↦ there_at q e (elsewhere place p x) k ∙ ap (λ (z : List (Item Op)). e ∷ z) (there_of_others p q x n) ∙ sym (there_at q e x k)
+      | inr k ↦ there_off q e (elsewhere place p x) k ∙ there_of_others p q x n ∙ sym (there_off q e x k)
+    ]
+  ]
+
+  pub others_of_there : (p q : ℕ) (x : List (Item Op)) → (p ≡ q → ⊥) → there place q (there place p x) ≡ []
+  others_of_there p q [] n = refl
+  others_of_there p q (e ∷ x) n = elim (is_at e p) [
+    | inl h ↦ ap (there place q) (there_at p e x h) ∙ there_off q e (there place p x) (λ k. n (sym h ∙ k)) ∙ others_of_there p q x n
+    | inr h ↦ ap (there place q) (there_off p e x h) ∙ others_of_there p q x n
+  ]
+
+  -- the items of the other places, and then those of the place, have at each place the items of the list
+  pub parted : (p q : ℕ) (x : List (Item Op)) → there place q (elsewhere place p x ++ there place p x) ≡ there place q x
+  parted p q x = there-append q (elsewhere place p x) (there place p x) ∙ elim (eqb_tells p q) [
+    | inl h ↦ ap (λ (r : ℕ). there place r (elsewhere place p x) ++ there place r (there place p x)) (sym h.1) ∙ ap (λ (z : List (Item Op)). z ++ there place p (there place p x)) (there_of_elsewhere p x) ∙ there_twice p x ∙ ap (λ (r : ℕ). there place r x) h.1
+    | inr h ↦ ap (λ (z : List (Item Op)). there place q (elsewhere place p x) ++ z) (others_of_there p q x h.1) ∙ append-nil (there place q (elsewhere place p x)) ∙ there_of_others p q x h.1
+  ]
+
+  pub length-parts : (p : ℕ) (x : List (Item Op)) → length (elsewhere place p x) + length (there place p x) ≡ length x
+  length-parts p [] = refl
+  length-parts p (e ∷ x) = let IH = length-parts p x in elim (is_at e p) [
+    | inl h ↦ let a : length (elsewhere place p (e ∷ x)) ≡ length (elsewhere place p x) = ap length (elsewhere_at p e x h) in let b : length (there place p (e ∷ x)) ≡ length (e ∷ there place p x) = ap length (there_at p e x h) in omega arith
+    | inr h ↦ let a : length (elsewhere place p (e ∷ x)) ≡ length (e ∷ elsewhere place p x) = ap length (elsewhere_off p e x h) in let b : length (there place p (e ∷ x)) ≡ length (there place p x) = ap length (there_off p e x h) in omega arith
+  ]
+
+-- How many have a place.
+more_or_not : {A B : Type 0} (b : Bool) (a : A) (c : B) (x : List A) (y : List B) → length x ≡ length y → length (cond b (a ∷ x) x) ≡ length (cond b (c ∷ y) y)
+more_or_not true a c x y h = ap suc h
+more_or_not false a c x y h = h
+
+pub there_count : {Op : Type 0} (place : Op → ℕ) (p : ℕ) (x : List (Item Op)) → length (there place p x) ≡ length (filter (λ b. place b == p) (ops x))
+there_count place p [] = refl
+there_count place p (e ∷ x) = more_or_not (place e.op == p) e e.op (there place p x) (filter (λ b. place b == p) (ops x)) (there_count place p x)

@@ -1,0 +1,13 @@
+use Rattle.std.proofs.Common.{◌≡◌, ◌≤◌, ◌+◌, length}
+use Rattle.pp_log.specs.Runs.{IsRun}
+use Rattle.pp_log.proofs.run.unwind.Given as goal
+
+abbrev pub invariant-loop-undos : goal.invariant-loop-undos
+invariant-loop-undos g l = record {
+  run : (b : _) → IsRun g.S.Spec.object b l.initial.items l.initial.undos.items l.initial.state → IsRun g.S.Spec.object b l.initial.items l.undos.items l.state;
+  enough : l.to ≤ length l.undos.items;
+  cost : l.ticks + length l.undos.items ≡ l.initial.ticks + length l.initial.undos.items;
+}
+
+abbrev pub decreases-loop-undos : goal.decreases-loop-undos
+decreases-loop-undos g l = length l.undos.items

@@ -1,0 +1,40 @@
+-- What a log keeps beside its entries.
+use Rattle.std.specs.Prelude.{◌≡◌, ◌≤◌, ℕ, List, [], length, slice_get, Option, Some, None}
+use Rattle.pp_core.specs.declared.entry.Item.{Item}
+use Rattle.pp_model.specs.Object.{HasDistinctIds, ops}
+use Rattle.pp_spec.specs.Object.{Object, AllRanged, IsAllowed, state_after}
+use Rattle.pp_log.specs.declared.place.Place.{Place}
+use Rattle.pp_log.specs.Parts.{there}
+use Rattle.pp_log.specs.Room.{ids_of}
+use Rattle.pp_log.specs.Runs.{kept_along}
+
+-- The items of a place and their undo values are kept there.
+pub record IsKept {Shape State Op Undo : Type 0} (o : Object Shape State Op Undo)
+    (b : State) (items : List (Item Op)) (q : Place Op Undo) : Type 0 where
+  pub same_items : q.items.items ≡ items
+  pub same_undos : q.undos.items ≡ kept_along o b (ops items)
+
+-- What is kept for a place: nothing is needed where there are no items.
+abbrev pub KeptIn :
+    {Shape State Op Undo : Type 0} → Object Shape State Op Undo → State →
+    List (Item Op) → Option (Place Op Undo) → Type 0
+KeptIn o b items None = items ≡ []
+KeptIn o b items (Some q) = IsKept o b items q
+
+-- The list of items is allowed, this is the state after it, and each place keeps its items.
+pub record Keeps {Shape State Op Undo : Type 0} (o : Object Shape State Op Undo)
+    (place : Op → ℕ) (s : State) (log : List (Item Op))
+    (places : List (Place Op Undo)) : Type 0 where
+  pub allowed : IsAllowed o (o.shape s) (ops log)
+  pub is : s ≡ state_after o (o.shape s) (ops log)
+  pub ranged : AllRanged o (ops log)
+  pub few : length log ≤ 1_000_000
+  pub distinct : HasDistinctIds log
+  pub kept : (p : ℕ) → KeptIn o (o.start (o.shape s)) (there place p log) (slice_get places p)
+
+-- And the index has its ids.
+pub record KeepsAll {Shape State Op Undo : Type 0} (o : Object Shape State Op Undo)
+    (place : Op → ℕ) (s : State) (log : List (Item Op)) (places : List (Place Op Undo))
+    (ids : List ℕ) : Type 0 where
+  pub past : Keeps o place s log places
+  pub index : ids ≡ ids_of log

@@ -1,0 +1,29 @@
+-- Room for one more entry, and the index of ids.
+use Rattle.std.specs.Prelude.{◌≡◌, ◌<◌, ℕ, List, [], map, slice_get, Option, Some, None, vec_len}
+use Rattle.std.specs.Vec.{vec_capacity}
+use Rattle.pp_core.specs.declared.entry.Item.{Item}
+use Rattle.pp_log.specs.declared.place.Place.{Place}
+
+-- The ids of the items.
+abbrev pub ids_of : {Op : Type 0} → List (Item Op) → List ℕ
+ids_of x = map (λ e. e.id) x
+
+-- A place has the same items and undo values, and none where it is a new place.
+abbrev pub SameIn : {Op Undo : Type 0} → Option (Place Op Undo) → Option (Place Op Undo) → Type 0
+SameIn None None = Unit {0}
+SameIn None (Some q) = (q.items.items ≡ []) × (q.undos.items ≡ [])
+SameIn (Some a) None = ⊥
+SameIn (Some a) (Some b) = (b.items.items ≡ a.items.items) × (b.undos.items ≡ a.undos.items)
+
+-- Each place has the same items and undo values.
+abbrev pub ArePlacesSame : {Op Undo : Type 0} → List (Place Op Undo) → List (Place Op Undo) → Type 0
+ArePlacesSame old new = (r : ℕ) → SameIn (slice_get old r) (slice_get new r)
+
+-- There is room for one more item in a place.
+pub record HasRoom {Op Undo : Type 0} (q : Place Op Undo) : Type 0 where
+  pub items : vec_len q.items < vec_capacity q.items
+  pub undos : vec_len q.undos < vec_capacity q.undos
+
+-- There is room for one more item at the p-th place, where there is such a place.
+abbrev pub HasRoomAt : {Op Undo : Type 0} → List (Place Op Undo) → ℕ → Type 0
+HasRoomAt {Op} {Undo} places p = (q : Place Op Undo) → slice_get places p ≡ Some q → HasRoom q

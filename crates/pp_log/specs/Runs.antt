@@ -1,0 +1,55 @@
+-- Items of a place that are applied one after another, and how far.
+use Rattle.std.specs.Prelude.{◌≡◌, ◌≢◌, ◌≤◌, ◌+◌, ℕ, IsTrue, List, [], ◌∷◌, length, take}
+use Rattle.std.specs.Prelude.{Option, Some, None, slice_get}
+use Rattle.pp_core.specs.declared.answer.Answer.{Answer}
+use Rattle.pp_core.specs.declared.entry.Item.{Item}
+use Rattle.pp_model.specs.Object.{ops}
+use Rattle.pp_spec.specs.Object.{Object, AllowedFrom, AllRanged, IsLog, state_from}
+
+-- What each operation left to take it back, from a state on.
+abbrev pub kept_along :
+    {Shape State Op Undo : Type 0} → Object Shape State Op Undo → State → List Op → List Undo
+kept_along o s [] = []
+kept_along o s (a ∷ x) = o.upkeep.kept s a ∷ kept_along o (o.next s a) x
+
+-- The operations are of the objects of a shape.
+abbrev pub AllFit :
+    {Shape State Op Undo : Type 0} → Object Shape State Op Undo → Shape → List Op → Type 0
+AllFit o sh [] = Unit {0}
+AllFit o sh (a ∷ x) = IsTrue (o.fits sh a) × AllFit o sh x
+
+-- From the state b of a list on, as many of the items as there are undo values were applied. They
+-- led to s, and left these values.
+pub record IsRun {Shape State Op Undo : Type 0} (o : Object Shape State Op Undo)
+    (b : State) (items : List (Item Op)) (us : List Undo) (s : State) : Type 0 where
+  pub base : List Op
+  pub log : IsLog o b base
+  pub few : length base + length items ≤ 1_000_000
+  pub fit : AllFit o (o.shape b) (ops items)
+  pub ranged : AllRanged o (ops items)
+  pub within : length us ≤ length items
+  pub allowed : AllowedFrom o b (take (length us) (ops items))
+  pub is : s ≡ state_from o b (take (length us) (ops items))
+  pub kept : us ≡ kept_along o b (take (length us) (ops items))
+
+-- All items were applied, or the next one differs, since the object gives this answer.
+abbrev pub Stops :
+    {Shape State Op Undo : Type 0} → Object Shape State Op Undo →
+    List (Item Op) → List Undo → State → Option Answer → Type 0
+Stops o items us s None = length us ≡ length items
+Stops {Shape} {State} {Op} {Undo} o items us s (Some answer) =
+    (e : Item Op) × (slice_get items (length us) ≡ Some e) ×
+    (o.gives s e.op ≡ answer) × (answer ≢ o.recorded e.op)
+
+-- One step for each item that was applied, and one for an item that differs.
+abbrev pub Costs : Option Answer → ℕ → ℕ → ℕ → ℕ → Type 0
+Costs None old from to new = new + from ≡ old + to
+Costs (Some answer) old from to new = new + from ≡ old + to + 1
+
+-- Whatever the run of the items was from any state on, it is one with these undo values and this
+-- state.
+abbrev pub GoesOn :
+    {Shape State Op Undo : Type 0} → Object Shape State Op Undo →
+    List (Item Op) → List Undo → State → List Undo → State → Type 0
+GoesOn {Shape} {State} o items old s new t =
+    (b : State) → IsRun o b items old s → IsRun o b items new t
