@@ -5,7 +5,7 @@ use Rattle.pp_core.specs.declared.entry.CommittedTx.{CommittedTx}
 use Rattle.pp_core.specs.declared.entry.LocalEntry.{LocalEntry}
 use Rattle.pp_core.specs.declared.entry.SharedEntry.{SharedEntry}
 use Rattle.pp_model.specs.Body.{Tree}
-use Rattle.pp_model.specs.Config.{Tx, Begin, App, Push, Pull, Cmt, Quit, Unpushed, Pushed, Pulled, commit_all, at_mark, commit_effect, entry_of, item, set_mark, of_other, on_log, own_items, as_shared, pull_effect, push_effect, relog, then, tx, without_tx}
+use Rattle.pp_model.specs.Config.{Tx, Begin, App, Unapp, Push, Unpush, Pull, Unpull, Cmt, Quit, Unpushed, Pushed, Pulled, commit_all, at_mark, but_last, commit_effect, entry_of, item, set_mark, of_other, on_log, own_items, as_shared, pull_effect, push_effect, relog, then, tx, without_local, without_shared, without_tx}
 use Rattle.pp_model.specs.Names.{Name, ◌=ⁿ◌}
 use Rattle.pp_rules.specs.Machines.{config_of, tx_of}
 use Rattle.pp_rules.specs.Transactions.{Open, Txs, open_of, relogged, with_log, with_open, without_open}
@@ -64,3 +64,12 @@ module _ {Shape Op : Type 0} where
 
     pub after_quit : config_of (without_open t v) ids G F ≡ then (config_of v ids G F) (Quit t)
     after_quit = ap (λ (z : List (Tx Op)). record { names = reverse v.names; ids = reverse ids; opened = z; shared = G; done = F }) (left t v.opened)
+
+    pub after_unapp : (id : ℕ) → config_of (with_log t but_last v) ids G F ≡ then (config_of v ids G F) (Unapp t id)
+    after_unapp id = ap (λ (z : List (Tx Op)). record { names = reverse v.names; ids = reverse ids; opened = z; shared = G; done = F }) (on_logs t but_last v.opened)
+
+    pub after_unpush : (id : ℕ) → config_of (with_log t (set_mark id Unpushed) v) ids (without_shared id G) F ≡ then (config_of v ids G F) (Unpush t id)
+    after_unpush id = ap (λ (z : List (Tx Op)). record { names = reverse v.names; ids = reverse ids; opened = z; shared = without_shared id G; done = F }) (on_logs t (set_mark id Unpushed) v.opened)
+
+    pub after_unpull : (id : ℕ) → config_of (with_log t (without_local id) v) ids G F ≡ then (config_of v ids G F) (Unpull t id)
+    after_unpull id = ap (λ (z : List (Tx Op)). record { names = reverse v.names; ids = reverse ids; opened = z; shared = G; done = F }) (on_logs t (without_local id) v.opened)

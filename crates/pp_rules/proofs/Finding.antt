@@ -1,15 +1,16 @@
 -- What tests, places and lookups say of a list.
-use Rattle.std.proofs.Common.{◌≡◌, Bor, is_some, ◌==◌, ◌↔◌, IsTrue, ℕ, zero, suc, ◌<◌, ◌≤◌, ◌+◌, Bool, true, false, cond, not, ◌||◌, ◌&&◌, List, [], ◌∷◌, ◌++◌, map, take, length, get_or, Option, Some, None, IfNone, option_map, position, nat_lt, find, slice_get, reverse, refl, sym, ◌∙◌, ap, subst, arith, inl, inr}
-use Rattle.std.specs.List.{list_any, list_all, position_or_len}
+use Rattle.std.proofs.Common.{◌≡◌, ◌≢◌, ◌-◌, drop, filter, Bor, is_some, ◌==◌, ◌↔◌, IsTrue, ℕ, zero, suc, ◌<◌, ◌≤◌, ◌+◌, Bool, true, false, cond, not, ◌||◌, ◌&&◌, List, [], ◌∷◌, ◌++◌, map, take, length, get_or, Option, Some, None, IfNone, IfSome, MatchOption, option_map, add-one, IsSome, position, nat_lt, find, slice_get, reverse, refl, sym, ◌∙◌, ap, subst, arith, inl, inr}
+use Rattle.std.specs.List.{list_any, list_all, position_or_len, remove}
 use Rattle.std.proofs.lemmas.Bool.{ltb-false, ltb-true, eqb-true, eq-eqb}
-use Rattle.std.proofs.lemmas.List.{reverse-append}
+use Rattle.std.proofs.lemmas.List.{length-drop, reverse-append, take_all}
 use Rattle.std.proofs.lemmas.List.Folds.{find_at}
 use Rattle.std.proofs.lemmas.List.Quantifiers.{position-Some}
 use Rattle.std.proofs.lemmas.Option.{slice_get_past}
 use Rattle.std.specs.Option.{option_copied}
 use Rattle.pp_core.specs.declared.entry.LocalEntry.{LocalEntry}
+use Rattle.pp_model.specs.Config.{but_last, last}
 use Rattle.pp_model.specs.Lists.{In, Before}
-use Rattle.pp_model.proofs.Lists.{in_cases, in_left, in_right}
+use Rattle.pp_model.proofs.Lists.{before_in_second, in_cases, in_left, in_right}
 use Rattle.pp_model.proofs.Logs.{found}
 use Rattle.pp_rules.specs.Finding.{HoldsAtPlace, HoldEverywhere}
 
@@ -63,7 +64,7 @@ if_none None P p = p
 if_none (Some x) P p = tt
 
 -- what is found by a key, and then has to pass another test
-some_same : {X : Type 0} (x y : X) → Some x ≡ Some y → x ≡ y
+pub some_same : {X : Type 0} (x y : X) → Some x ≡ Some y → x ≡ y
 some_same x y e = cc
 
 found_both : {X : Type 0} (p q : X → Bool) (y x : X) (ys : List X) → q x ≡ true → (find p ys ≡ Some x → find (λ z. p z && q z) ys ≡ Some x) →
@@ -257,3 +258,108 @@ pub not_placed : {Op : Type 0} (l : List (LocalEntry Op)) (id : ℕ) → positio
 not_placed {Op} l id h a i e =
     let n = find_nowhere (λ (z : LocalEntry Op). z.id == id) l (place_none (λ (z : LocalEntry Op). z.id == id) l h) a i in
     let z : true ≡ false = sym (eq-eqb a.id id e) ∙ n in cc
+
+-- what is said of an option that holds something, and of one that does not
+pub some_holds : (r : Option ℕ) (Q : ℕ → Type 0) (b : Bool) → b ≡ is_some r → b ≡ true → IfSome r Q → (k : ℕ) × Q k
+some_holds None Q b e t h = let z : true ≡ false = sym t ∙ e in cc
+some_holds (Some k) Q b e t h = (k, h)
+
+pub none_holds : (r : Option ℕ) (P : Type 0) (b : Bool) → b ≡ is_some r → b ≡ false → IfNone r P → P
+none_holds None P b e t h = h
+none_holds (Some k) P b e t h = let z : true ≡ false = sym e ∙ t in cc
+
+pub first_holds : (r : Option ℕ) (P : Type 0) (Q : ℕ → Type 0) (b : Bool) → b ≡ is_some r → b ≡ true → MatchOption r P Q → (k : ℕ) × Q k
+first_holds None P Q b e t h = let z : true ≡ false = sym t ∙ e in cc
+first_holds (Some k) P Q b e t h = (k, h)
+
+pub all_hold : (r : Option ℕ) (P : Type 0) (Q : ℕ → Type 0) (b : Bool) → b ≡ is_some r → b ≡ false → MatchOption r P Q → P
+all_hold None P Q b e t h = h
+all_hold (Some k) P Q b e t h = let z : true ≡ false = sym e ∙ t in cc
+
+pub a_place : (r : Option ℕ) (b : Bool) → b ≡ is_some r → b ≡ true → (k : ℕ) × (r ≡ Some k)
+a_place None b e t = let z : true ≡ false = sym t ∙ e in cc
+a_place (Some k) b e t = (k, refl)
+
+pub no_place : (r : Option ℕ) (b : Bool) → b ≡ is_some r → b ≡ false → r ≡ None
+no_place None b e t = refl
+no_place (Some k) b e t = let z : true ≡ false = sym e ∙ t in cc
+
+pub placed : {X : Type 0} (p : X → Bool) (xs : List X) (i : ℕ) → position p xs ≡ Some i → (x : X) × (slice_get xs i ≡ Some x) × (p x ≡ true)
+placed {X} p xs i h = go (slice_get xs i) refl
+  where
+    go : (r : Option X) → slice_get xs i ≡ r → (x : X) × (slice_get xs i ≡ Some x) × (p x ≡ true)
+    go None e = absurd (place_there p xs i h e)
+    go (Some x) e = (x, e, (found p xs x (place_found p xs i x h e)).1)
+
+-- what stands behind a place
+pub in_dropped : {X : Type 0} (i : ℕ) (a : X) (xs : List X) → In a (drop i xs) → In a xs
+in_dropped zero a xs h = h
+in_dropped (suc i) a [] h = elim h [ ]
+in_dropped (suc i) a (y ∷ ys) h = inr (in_dropped i a ys h)
+
+pub here_behind : {X : Type 0} (xs : List X) (i : ℕ) (x b : X) → slice_get xs i ≡ Some x → In b (drop (suc i) xs) → Before x b xs
+here_behind [] i x b h j = absurd (cc)
+here_behind {X} (y ∷ ys) zero x b h j = inl (sym (some_same y x h), j)
+here_behind (y ∷ ys) (suc i) x b h j = inr (here_behind ys i x b h j)
+
+pub behind_here : {X K : Type 0} (f : X → K) (xs : List X) → ((p q : X) → Before p q xs → f p ≡ f q → ⊥) → (i : ℕ) (x b : X) → slice_get xs i ≡ Some x → Before x b xs → In b (drop (suc i) xs)
+behind_here f [] d i x b h k = elim k [ ]
+behind_here f (y ∷ ys) d zero x b h (inl k) = k.1
+behind_here f (y ∷ ys) d zero x b h (inr k) = before_in_second x b ys k
+behind_here f (y ∷ ys) d (suc i) x b h (inl k) = absurd (d y x (inl (refl, slice_in ys i x h)) (ap f (sym k.0)))
+behind_here f (y ∷ ys) d (suc i) x b h (inr k) = behind_here f ys (λ p q w. d p q (inr w)) i x b h k
+
+-- a list without the element at a place
+pub keeps_all : {X : Type 0} (p : X → Bool) (xs : List X) → ((x : X) → In x xs → p x ≡ true) → filter p xs ≡ xs
+keeps_all p [] n = refl
+keeps_all {X} p (y ∷ ys) n = ap (λ (b : Bool). cond b (y ∷ filter p ys) (filter p ys)) (n y (inl refl)) ∙ ap (λ (z : List X). y ∷ z) (keeps_all p ys (λ x i. n x (inr i)))
+
+differs_in : (a b : ℕ) → a ≢ b → not (a == b) ≡ true
+differs_in a b n = ap not (is_not_true (a == b) (λ e. n (eqb-true a b e)))
+
+pub removed_filter : {X : Type 0} (key : X → ℕ) (id : ℕ) (xs : List X) → ((p q : X) → Before p q xs → key p ≡ key q → ⊥) → (i : ℕ) (x : X) → slice_get xs i ≡ Some x → key x ≡ id → remove xs i ≡ filter (λ z. not (key z == id)) xs
+removed_filter key id [] d i x h e = absurd (cc)
+removed_filter {X} key id (y ∷ ys) d zero x h e =
+    let k : key y ≡ id = ap key (some_same y x h) ∙ e in
+    sym (ap (λ (b : Bool). cond (not b) (y ∷ filter (λ z. not (key z == id)) ys) (filter (λ z. not (key z == id)) ys)) (eq-eqb (key y) id k)
+    ∙ keeps_all (λ z. not (key z == id)) ys (λ z j. differs_in (key z) id (λ q. d y z (inl (refl, j)) (k ∙ sym q))))
+removed_filter {X} key id (y ∷ ys) d (suc i) x h e =
+    ap (λ (z : List X). y ∷ z) (removed_filter key id ys (λ p q w. d p q (inr w)) i x h e)
+    ∙ sym (ap (λ (b : Bool). cond b (y ∷ filter (λ z. not (key z == id)) ys) (filter (λ z. not (key z == id)) ys)) (differs_in (key y) id (λ q. d y x (inl (refl, slice_in ys i x h)) (q ∙ sym e))))
+
+pub removed_last : {X : Type 0} (xs : List X) (i : ℕ) → i + 1 ≡ length xs → remove xs i ≡ but_last xs
+removed_last [] i e = absurd (omega arith)
+removed_last (y ∷ []) zero e = refl
+removed_last (y ∷ []) (suc i) e = absurd (omega arith)
+removed_last (y ∷ z ∷ zs) zero e = absurd (omega arith)
+removed_last {X} (y ∷ z ∷ zs) (suc i) e = ap (λ (w : List X). y ∷ w) (removed_last (z ∷ zs) i (omega arith))
+
+pub last_at : {X : Type 0} (xs : List X) → last xs ≡ slice_get xs (length xs - 1)
+last_at [] = refl
+last_at (y ∷ []) = refl
+last_at {X} (y ∷ z ∷ zs) =
+    let e : suc (length (z ∷ zs) - 1) ≡ length (y ∷ z ∷ zs) - 1 = omega arith in
+    last_at (z ∷ zs) ∙ ap (slice_get (y ∷ z ∷ zs)) e
+
+pub but_last_short : {X : Type 0} (xs : List X) → length (but_last xs) ≤ length xs
+but_last_short [] = omega arith
+but_last_short (x ∷ []) = omega arith
+but_last_short (x ∷ y ∷ xs) = let k = but_last_short (y ∷ xs) in omega (arith, k)
+
+pub filter_short : {X : Type 0} (p : X → Bool) (xs : List X) → length (filter p xs) ≤ length xs
+filter_short p [] = omega arith
+filter_short {X} p (x ∷ xs) = go (p x) (filter_short p xs)
+  where
+    go : (b : Bool) → length (filter p xs) ≤ length xs → length (cond b (x ∷ filter p xs) (filter p xs)) ≤ length (x ∷ xs)
+    go true k = omega (arith, k)
+    go false k = omega (arith, k)
+
+pub rest_is : {X : Type 0} (xs l : List X) (i : ℕ) → xs ≡ l → take (length xs - (i + 1)) (drop (i + 1) xs) ≡ drop (suc i) l
+rest_is {X} xs l i e =
+    let n : length (drop (i + 1) xs) ≡ length xs - (i + 1) = length-drop (i + 1) xs in
+    take_all (length xs - (i + 1)) (drop (i + 1) xs) (omega (arith, n)) ∙ ap (λ (k : ℕ). drop k xs) (add-one i) ∙ ap (drop (suc i)) e
+
+pub some_is_none : {X : Type 0} (r s : Option X) → IsSome s → r ≡ s → r ≡ None → ⊥
+some_is_none None None h e n = absurd (cc)
+some_is_none None (Some x) h e n = absurd (cc)
+some_is_none (Some x) s h e n = absurd (cc)

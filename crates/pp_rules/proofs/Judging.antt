@@ -1,13 +1,13 @@
 -- The number of the first false criterion, by what the tests of the machine say.
 use Rattle.std.proofs.Common.{◌≡◌, ◌≢◌, ℕ, suc, true, false, List, [], ◌∷◌, ◌++◌, Option, Some, None, refl, sym, subst}
-use Rattle.pp_model.specs.Config.{Step, Begin, App, Push, Pull, Cmt, Quit, Note, of_other, Tx, tx, LocalEntry, SharedEntry, local_ops, shared_ops, is_own, Unpushed, Pushed, Pulled, at_mark}
+use Rattle.pp_model.specs.Config.{Step, Begin, App, Unapp, Push, Unpush, Pull, Unpull, Cmt, Quit, Note, last, of_other, without_local, without_shared, Tx, tx, LocalEntry, SharedEntry, local_ops, shared_ops, is_own, Unpushed, Pushed, Pulled, at_mark}
 use Rattle.pp_model.specs.Lists.{In, Before}
 use Rattle.pp_model.specs.Body.{Tree, IsWord}
 use Rattle.pp_model.specs.Names.{Name}
 use Rattle.pp_model.specs.Object as model
 use Rattle.pp_spec.specs.Object.{Object, IsAllowed, rules_of}
 use Rattle.pp_rules.specs.Machines.{Seen}
-use Rattle.pp_model.specs.Rules.{Breaks, Meets, FirstFalse, there}
+use Rattle.pp_model.specs.Rules.{Breaks, Meets, FirstFalse, IsLast, there}
 use Rattle.pp_rules.specs.Courses.{MayFollow, own_calls}
 
 pub there_1 : {A : Type 0} (o : Option A) (f : A → List (Type 0)) → o ≡ None → FirstFalse (there o f) 1
@@ -138,3 +138,47 @@ module _ {Shape State Op Undo : Type 0} (o : Object Shape State Op Undo) (v w : 
 
   pub pull_0 : (t : Name) (id : ℕ) (x : Tx Op) (g : SharedEntry Op) → tx t v.config.opened ≡ Some x → of_other t id v.config.shared ≡ Some g → NotThere id x → IsAllowed o v.shape (local_ops x.local ++ g.op ∷ []) → OwnBefore x g → Meets (rules_of o w.shape) w.config (Pull t id)
   pull_0 t id x g e h n k b = lift (Pull t id) 0 (there_0 (tx t v.config.opened) _ x e (there_0 (of_other t id v.config.shared) _ g h (n, (k, (b, refl)))))
+
+  pub unapp_1 : (t : Name) (id : ℕ) → tx t v.config.opened ≡ None → Breaks (rules_of o w.shape) w.config (Unapp t id) 1
+  unapp_1 t id e = lift (Unapp t id) 1 (there_1 (tx t v.config.opened) _ e)
+
+  pub unapp_2 : (t : Name) (id : ℕ) (x : Tx Op) → tx t v.config.opened ≡ Some x → (IsLast id (last x.local) → ⊥) → Breaks (rules_of o w.shape) w.config (Unapp t id) 2
+  unapp_2 t id x e n = lift (Unapp t id) 2 (there_more (tx t v.config.opened) _ x 0 e n)
+
+  pub unapp_0 : (t : Name) (id : ℕ) (x : Tx Op) → tx t v.config.opened ≡ Some x → IsLast id (last x.local) → Meets (rules_of o w.shape) w.config (Unapp t id)
+  unapp_0 t id x e k = lift (Unapp t id) 0 (there_0 (tx t v.config.opened) _ x e (k, refl))
+
+  pub unpush_1 : (t : Name) (id : ℕ) → tx t v.config.opened ≡ None → Breaks (rules_of o w.shape) w.config (Unpush t id) 1
+  unpush_1 t id e = lift (Unpush t id) 1 (there_1 (tx t v.config.opened) _ e)
+
+  pub unpush_2 : (t : Name) (id : ℕ) (x : Tx Op) → tx t v.config.opened ≡ Some x → at_mark id Pushed x.local ≡ None → Breaks (rules_of o w.shape) w.config (Unpush t id) 2
+  unpush_2 t id x e h = lift (Unpush t id) 2 (there_more (tx t v.config.opened) _ x 0 e (there_1 (at_mark id Pushed x.local) _ h))
+
+  pub unpush_3 : (t : Name) (id : ℕ) (x : Tx Op) (p b : LocalEntry Op) → tx t v.config.opened ≡ Some x → at_mark id Pushed x.local ≡ Some p →
+      Before p b x.local → b.mark ≡ Pushed → (model.Swaps (rules_of o v.shape) b.op p.op → ⊥) → Breaks (rules_of o w.shape) w.config (Unpush t id) 3
+  unpush_3 t id x p b e h i m n = lift (Unpush t id) 3 (there_more (tx t v.config.opened) _ x 1 e (there_more (at_mark id Pushed x.local) _ p 0 h (λ all. n (all b i m))))
+
+  abbrev pub BehindSwap : Tx Op → LocalEntry Op → Type 0
+  BehindSwap x p = (b : LocalEntry Op) → Before p b x.local → b.mark ≡ Pushed → model.Swaps (rules_of o v.shape) b.op p.op
+
+  pub unpush_4 : (t : Name) (id : ℕ) (x : Tx Op) (p : LocalEntry Op) → tx t v.config.opened ≡ Some x → at_mark id Pushed x.local ≡ Some p →
+      BehindSwap x p → (IsAllowed o v.shape (shared_ops (without_shared id v.config.shared)) → ⊥) → Breaks (rules_of o w.shape) w.config (Unpush t id) 4
+  unpush_4 t id x p e h all n = lift (Unpush t id) 4 (there_more (tx t v.config.opened) _ x 2 e (there_more (at_mark id Pushed x.local) _ p 1 h (all, n)))
+
+  pub unpush_0 : (t : Name) (id : ℕ) (x : Tx Op) (p : LocalEntry Op) → tx t v.config.opened ≡ Some x → at_mark id Pushed x.local ≡ Some p →
+      BehindSwap x p → IsAllowed o v.shape (shared_ops (without_shared id v.config.shared)) → Meets (rules_of o w.shape) w.config (Unpush t id)
+  unpush_0 t id x p e h all k = lift (Unpush t id) 0 (there_0 (tx t v.config.opened) _ x e (there_0 (at_mark id Pushed x.local) _ p h (all, (k, refl))))
+
+  pub unpull_1 : (t : Name) (id : ℕ) → tx t v.config.opened ≡ None → Breaks (rules_of o w.shape) w.config (Unpull t id) 1
+  unpull_1 t id e = lift (Unpull t id) 1 (there_1 (tx t v.config.opened) _ e)
+
+  pub unpull_2 : (t : Name) (id : ℕ) (x : Tx Op) → tx t v.config.opened ≡ Some x → at_mark id Pulled x.local ≡ None → Breaks (rules_of o w.shape) w.config (Unpull t id) 2
+  unpull_2 t id x e h = lift (Unpull t id) 2 (there_more (tx t v.config.opened) _ x 0 e (there_1 (at_mark id Pulled x.local) _ h))
+
+  pub unpull_3 : (t : Name) (id : ℕ) (x : Tx Op) (p : LocalEntry Op) → tx t v.config.opened ≡ Some x → at_mark id Pulled x.local ≡ Some p →
+      (IsAllowed o v.shape (local_ops (without_local id x.local)) → ⊥) → Breaks (rules_of o w.shape) w.config (Unpull t id) 3
+  unpull_3 t id x p e h n = lift (Unpull t id) 3 (there_more (tx t v.config.opened) _ x 1 e (there_more (at_mark id Pulled x.local) _ p 0 h n))
+
+  pub unpull_0 : (t : Name) (id : ℕ) (x : Tx Op) (p : LocalEntry Op) → tx t v.config.opened ≡ Some x → at_mark id Pulled x.local ≡ Some p →
+      IsAllowed o v.shape (local_ops (without_local id x.local)) → Meets (rules_of o w.shape) w.config (Unpull t id)
+  unpull_0 t id x p e h k = lift (Unpull t id) 0 (there_0 (tx t v.config.opened) _ x e (there_0 (at_mark id Pulled x.local) _ p h (k, refl)))

@@ -1,48 +1,58 @@
 -- What each machine keeps holds after each step.
-use Rattle.std.proofs.Common.{◌≡◌, ◌≢◌, ◌==◌, ℕ, ◌<◌, ◌+◌, IsTrue, Bool, true, false, cond, List, [], ◌∷◌, ◌++◌, map, filter, length, Option, Some, None, position, slice_get, refl, sym, ◌∙◌, ap, subst, arith, inl, inr}
+use Rattle.std.proofs.Common.{◌≡◌, ◌≢◌, ◌==◌, ℕ, ◌<◌, ◌≤◌, ◌+◌, IsTrue, Bool, true, false, cond, not, List, [], ◌∷◌, ◌++◌, map, filter, length, Option, Some, None, position, slice_get, refl, sym, ◌∙◌, ap, subst, arith, inl, inr}
 use Rattle.std.proofs.lemmas.List.{length_push, length-map}
 use Rattle.std.proofs.lemmas.Bool.{eqb-true}
 use Rattle.pp_core.specs.declared.entry.CommittedTx.{CommittedTx}
 use Rattle.pp_core.specs.declared.entry.LocalEntry.{LocalEntry}
 use Rattle.pp_core.specs.declared.entry.SharedEntry.{SharedEntry}
 use Rattle.pp_model.specs.Body.{Tree}
-use Rattle.pp_model.specs.Config.{Config, Tx, Step, Begin, App, Push, Pull, Cmt, Quit, Note, Unpushed, Pushed, Pulled, commit_all, at_mark, item, local_ops, set_mark, of_other, own_items, as_shared, shared_ops, then, tx}
+use Rattle.pp_model.specs.Config.{Config, Mark, Tx, Step, Begin, App, Unapp, Push, Unpush, Pull, Unpull, Cmt, Quit, Note, Unpushed, Pushed, Pulled, commit_all, at_mark, but_last, is_own, item, local_ops, set_mark, of_other, own_items, as_shared, shared_ops, then, tx, without_local, without_shared}
 use Rattle.pp_model.specs.Lists.{In}
 use Rattle.pp_model.specs.Names.{Name, ◌=ⁿ◌}
 use Rattle.pp_model.specs.Rules.{Breaks, Meets}
 use Rattle.pp_model.specs.Sound.{Sound, serial_ops}
 use Rattle.pp_model.proofs.Begin.{empty_sound}
 use Rattle.pp_model.proofs.Keeps.{step_keeps}
-use Rattle.pp_model.proofs.Lists.{before_across, from_filter, from_map, in_cases, in_map}
-use Rattle.pp_model.proofs.Logs.{found_mark, found_other, found_tx}
+use Rattle.pp_model.proofs.Lists.{before_across, before_map, by_key, from_filter, from_map, in_cases, in_map}
+use Rattle.pp_model.proofs.Logs.{found, found_mark, found_other, found_tx, in_but_last}
 use Rattle.pp_model.proofs.Names.{names_tell}
 use Rattle.pp_model.proofs.Steps.{there_holds}
 use Rattle.pp_spec.specs.Object.{Object, AllRanged, IsAllowed, rules_of}
 use Rattle.pp_rules.specs.Courses.{FollowsIfOwn}
 use Rattle.pp_rules.specs.Machines.{Holds, IsFine, Seen, config_of, stepped, tx_of}
-use Rattle.pp_rules.specs.Transactions.{HasOwn, is_begun, is_busy, Open, Takes, Txs, open_at, open_of, relogged, with_log, with_open, without_open}
-use Rattle.pp_rules.proofs.Acting.{after_begin, after_app, after_pull, after_push, after_cmt, after_quit}
-use Rattle.pp_rules.proofs.Finding.{place_nowhere, slice_in, slice_within}
-use Rattle.pp_rules.proofs.Fitting.{ranged_in, ranged_more, serial_allowed, serial_more}
-use Rattle.pp_rules.proofs.Opened.{HasLog, begun_in, busy_in, opened, used_in}
+use Rattle.pp_rules.specs.Transactions.{HasOwn, MayLeave, is_begun, is_busy, Open, Takes, Txs, open_at, open_of, relocated, relogged, with_local, with_log, with_open, without_open}
+use Rattle.pp_rules.proofs.Acting.{after_begin, after_app, after_unapp, after_pull, after_unpull, after_push, after_unpush, after_cmt, after_quit}
+use Rattle.pp_rules.proofs.Finding.{but_last_short, filter_short, place_nowhere, placed, removed_filter, slice_in, slice_within}
+use Rattle.pp_rules.proofs.Fitting.{in_ranged, ranged_in, ranged_more, serial_allowed, serial_more}
+use Rattle.pp_rules.proofs.Opened.{HasLog, begun_in, busy_in, distinct, opened, used_in}
+use Rattle.pp_rules.proofs.Removing.{ranged_posts}
 use Rattle.indexmap.specs.IndexSet.{insert_key}
-use Rattle.std.specs.List.{list_any}
+use Rattle.std.specs.List.{list_any, remove}
 
 some_inj : {X : Type 0} (x y : X) → Some x ≡ Some y → x ≡ y
 some_inj x y e = cc
+
+pub unpushed_own : Unpushed ≢ Pulled
+unpushed_own e = cc
+
+pub pushed_own : Pushed ≢ Pulled
+pushed_own e = cc
+
+pulled_other : is_own Pulled ≡ true → ⊥
+pulled_other e = cc
 
 not_equal : (b : Bool) → (b ≡ true → ⊥) → b ≡ false
 not_equal true n = absurd (n refl)
 not_equal false n = refl
 
-same_ops : {Op : Type 0} (e : LocalEntry Op) (b : Bool) → (cond b (record { id = e.id; owner = e.owner; mark = Pushed; op = e.op }) e).op ≡ e.op
-same_ops e true = refl
-same_ops e false = refl
+same_ops : {Op : Type 0} (m : Mark) (e : LocalEntry Op) (b : Bool) → (cond b (record { id = e.id; owner = e.owner; mark = m; op = e.op }) e).op ≡ e.op
+same_ops m e true = refl
+same_ops m e false = refl
 
-marked_ops : {Op : Type 0} (id : ℕ) (l : List (LocalEntry Op)) → local_ops (set_mark id Pushed l) ≡ local_ops l
-marked_ops id [] = refl
-marked_ops {Op} id (e ∷ l) =
-    ap (λ (z : Op). z ∷ local_ops (set_mark id Pushed l)) (same_ops e (e.id == id)) ∙ ap (λ (z : List Op). e.op ∷ z) (marked_ops id l)
+marked_ops : {Op : Type 0} (id : ℕ) (m : Mark) (l : List (LocalEntry Op)) → local_ops (set_mark id m l) ≡ local_ops l
+marked_ops id m [] = refl
+marked_ops {Op} id m (e ∷ l) =
+    ap (λ (z : Op). z ∷ local_ops (set_mark id m l)) (same_ops m e (e.id == id)) ∙ ap (λ (z : List Op). e.op ∷ z) (marked_ops id m l)
 
 committed_op : {Op : Type 0} (g : SharedEntry Op) (b : Bool) → (cond b (record { id = g.id; owner = g.owner; committed = true; op = g.op }) g).op ≡ g.op
 committed_op g true = refl
@@ -60,6 +70,30 @@ ops_more {Op} (x ∷ l) e = ap (λ (z : List Op). x.op ∷ z) (ops_more l e)
 posts_more : {Op : Type 0} (l : List (SharedEntry Op)) (g : SharedEntry Op) → shared_ops (l ++ g ∷ []) ≡ shared_ops l ++ g.op ∷ []
 posts_more [] g = refl
 posts_more {Op} (x ∷ l) g = ap (λ (z : List Op). x.op ∷ z) (posts_more l g)
+
+relocated_one : {Shape Op : Type 0} (t : Name) (k : List (LocalEntry Op) → List (LocalEntry Op)) (l : Shape × List (LocalEntry Op)) (x : Open Shape Op) → (x.name ≡ t → (x.local.0, k x.local.1) ≡ l) →
+    cond (x.name =ⁿ t) (relocated l x) x ≡ cond (x.name =ⁿ t) (relogged k x) x
+relocated_one {Shape} {Op} t k l x f = elim (names_tell x.name t) [
+  | inl r ↦ ap (λ (b : Bool). cond b (relocated l x) x) r.0 ∙ ap (λ (z : Shape × List (LocalEntry Op)). relocated z x) (sym (f r.1)) ∙ sym (ap (λ (b : Bool). cond b (relogged k x) x) r.0)
+  | inr r ↦ ap (λ (b : Bool). cond b (relocated l x) x) r.0 ∙ sym (ap (λ (b : Bool). cond b (relogged k x) x) r.0)
+]
+
+relocated_all : {Shape Op : Type 0} (xs : List (Open Shape Op)) (t : Name) (k : List (LocalEntry Op) → List (LocalEntry Op)) (l : Shape × List (LocalEntry Op)) → ((x : Open Shape Op) → In x xs → x.name ≡ t → (x.local.0, k x.local.1) ≡ l) →
+    map (λ x. cond (x.name =ⁿ t) (relocated l x) x) xs ≡ map (λ x. cond (x.name =ⁿ t) (relogged k x) x) xs
+relocated_all [] t k l f = refl
+relocated_all {Shape} {Op} (x ∷ xs) t k l f =
+    ap (λ (z : Open Shape Op). z ∷ map (λ x. cond (x.name =ⁿ t) (relocated l x) x) xs) (relocated_one t k l x (λ e. f x (inl refl) e))
+    ∙ ap (λ (z : List (Open Shape Op)). cond (x.name =ⁿ t) (relogged k x) x ∷ z) (relocated_all xs t k l (λ y i e. f y (inr i) e))
+
+cond_same : {X : Type 0} (b : Bool) (x : X) → cond b x x ≡ x
+cond_same true x = refl
+cond_same false x = refl
+
+log_same : {Shape Op : Type 0} (xs : List (Open Shape Op)) (t : Name) → map (λ x. cond (x.name =ⁿ t) (relogged (λ l. l) x) x) xs ≡ xs
+log_same [] t = refl
+log_same {Shape} {Op} (x ∷ xs) t =
+    ap (λ (z : Open Shape Op). z ∷ map (λ x. cond (x.name =ⁿ t) (relogged (λ l. l) x) x) xs) (cond_same (x.name =ⁿ t) x)
+    ∙ ap (λ (z : List (Open Shape Op)). x ∷ z) (log_same xs t)
 
 module _ {Shape State Op Undo : Type 0} (o : Object Shape State Op Undo) (shape : Shape) (n : ℕ) where
   -- one step later an open transaction is as fine
@@ -98,13 +132,24 @@ module _ {Shape State Op Undo : Type 0} (o : Object Shape State Op Undo) (shape 
         ranged = subst (AllRanged o) (sym (ops_more x.local.1 e)) (ranged_more o (local_ops x.local.1) e.op h.ranged r);
       }
 
-  fine_mark : (id : ℕ) (x : Open Shape Op) → In x l → IsFine o shape (n + 1) (relogged (set_mark id Pushed) x)
-  fine_mark id x i =
+  fine_mark : (id : ℕ) (m : Mark) (x : Open Shape Op) → In x l → IsFine o shape (n + 1) (relogged (set_mark id m) x)
+  fine_mark id m x i =
       let h = fine x i in
       record {
         same_shape = h.same_shape;
-        short = (let s = h.short in let k : length (set_mark id Pushed x.local.1) ≡ length x.local.1 = length-map x.local.1 _ in omega (arith, s, k));
-        ranged = subst (AllRanged o) (sym (marked_ops id x.local.1)) h.ranged;
+        short = (let s = h.short in let k : length (set_mark id m x.local.1) ≡ length x.local.1 = length-map x.local.1 _ in omega (arith, s, k));
+        ranged = subst (AllRanged o) (sym (marked_ops id m x.local.1)) h.ranged;
+      }
+
+  fine_part : (k : List (LocalEntry Op) → List (LocalEntry Op)) → ((m : List (LocalEntry Op)) → length (k m) ≤ length m) → ((m : List (LocalEntry Op)) (e : LocalEntry Op) → In e (k m) → In e m) → (x : Open Shape Op) → In x l → IsFine o shape (n + 1) (relogged k x)
+  fine_part k less part x i =
+      let h = fine x i in
+      record {
+        same_shape = h.same_shape;
+        short = (let s = h.short in let m = less x.local.1 in omega (arith, s, m));
+        ranged = in_ranged o (local_ops (k x.local.1)) (λ a j.
+            let q = from_map (λ (e : LocalEntry Op). e.op) a (k x.local.1) j in
+            ranged_in o (local_ops x.local.1) h.ranged a (subst (λ (z : Op). In z (local_ops x.local.1)) (sym q.2) (in_map (λ (e : LocalEntry Op). e.op) q.0 x.local.1 (part x.local.1 q.0 q.1))));
       }
 
 -- a machine, and what is seen of it
@@ -147,11 +192,11 @@ module _ {Shape State Op Undo : Type 0} (o : Object Shape State Op Undo) (shape 
   begin_idle t p b f = not_equal (is_busy v p) (λ k. let x = busy_in v p (sym k) in (lower (Begin t p b) 0 f).1.0 x.0 x.1 x.2)
 
   -- APP
-  pub ids_more : (t : Name) (id : ℕ) (op : Op) (js ks : List ℕ) → Meets (rules_of o w.shape) w.config (App t id op) → js ≡ ids → ks ≡ insert_key (λ a b. a == b) js id → ks ≡ ids ++ id ∷ []
-  ids_more t id op js ks f e i =
+  pub ids_more : (t : Name) (id : ℕ) (op : Op) (ks : List ℕ) → Meets (rules_of o w.shape) w.config (App t id op) → ks ≡ insert_key (λ a b. a == b) ids id → ks ≡ ids ++ id ∷ []
+  ids_more t id op ks f i =
       let k = there_holds (tx t (map tx_of v.opened)) _ (lower (App t id op) 0 f) in
       let u : list_any (λ j. id == j) ids ≡ false = not_equal (list_any (λ j. id == j) ids) (λ m. k.2.0 (used_in ids id (sym m))) in
-      i ∙ ap (λ (z : List ℕ). insert_key (λ a b. a == b) z id) e ∙ ap (λ (b : Bool). cond b ids (ids ++ id ∷ [])) u
+      i ∙ ap (λ (b : Bool). cond b ids (ids ++ id ∷ [])) u
 
   app_is : (t : Name) (id : ℕ) (op : Op) (u : Txs Shape Op) (js : List ℕ) → u ≡ with_log t (λ l. l ++ record { id = id; owner = t; mark = Unpushed; op = op } ∷ []) v → js ≡ ids ++ id ∷ [] → config_of u js G.1 F ≡ then (config_of v ids G.1 F) (App t id op)
   app_is t id op u js e i =
@@ -232,19 +277,7 @@ module _ {Shape State Op Undo : Type 0} (o : Object Shape State Op Undo) (shape 
       takes t k.0 (record { id = g.id; owner = g.owner; mark = Pulled; op = g.op }) k.1 (subst (λ (z : SharedEntry Op). IsAllowed o shape (local_ops (k.0).local ++ z.op ∷ [])) e m.2.1.0) (post_ranged g i.0) (λ a j d. m.2.0 a j (d ∙ i.1))
       (subst (λ (z : ℕ). z < 200_000) (sym (ap (λ (z : Seen Shape Op). z.count) same)) few) (λ own. absurd (cc))
 
-  pub pull_finds : (t : Name) (id : ℕ) → Meets (rules_of o w.shape) w.config (Pull t id) → of_other t id G.1 ≡ None → ⊥
-  pull_finds t id f e =
-      let k = there_holds (tx t (map tx_of v.opened)) _ (lower (Pull t id) 0 f) in
-      let m = there_holds (of_other t id G.1) _ k.2 in
-      let z : Some m.0 ≡ None = sym m.1 ∙ e in cc
-
   -- PUSH
-  pub push_finds : (t : Name) (id : ℕ) → Meets (rules_of o w.shape) w.config (Push t id) → (l : Shape × List (LocalEntry Op)) → HasLog o shape v ids G F n h t l → at_mark id Unpushed l.1 ≡ None → ⊥
-  push_finds t id f l r e =
-      let k = there_holds (tx t (map tx_of v.opened)) _ (lower (Push t id) 0 f) in
-      let m = there_holds (at_mark id Unpushed (k.0).local) _ k.2 in
-      let z : Some m.0 ≡ None = sym m.1 ∙ ap (λ (y : Tx Op). at_mark id Unpushed y.local) (some_inj k.0 _ (sym k.1 ∙ r.is)) ∙ e in cc
-
   pub push_allowed : (t : Name) (id : ℕ) → Meets (rules_of o w.shape) w.config (Push t id) → (l : Shape × List (LocalEntry Op)) → HasLog o shape v ids G F n h t l → (p : LocalEntry Op) → at_mark id Unpushed l.1 ≡ Some p →
       IsAllowed o G.0 (shared_ops G.1 ++ p.op ∷ [])
   push_allowed t id f l r p q =
@@ -278,28 +311,115 @@ module _ {Shape State Op Undo : Type 0} (o : Object Shape State Op Undo) (shape 
       let posts : H.1 ≡ G.1 ++ as_shared t false (item p) ∷ [] = ap (λ (z : Shape × List (SharedEntry Op)). z.1) k in
       record {
         sound = sound_as (Push t id) (config_of u ids H.1 F) f (push_is t id l r p q u H.1 e posts);
-        fine = fine_after t (set_mark p.id Pushed) u e (fine_mark o shape n v.opened h.fine p.id);
+        fine = fine_after t (set_mark p.id Pushed) u e (fine_mark o shape n v.opened h.fine p.id Pushed);
         shared_shape = ap (λ (z : Shape × List (SharedEntry Op)). z.0) k ∙ h.shared_shape;
         shared_short = (let s = h.shared_short in let m = ap length posts ∙ length_push G.1 (as_shared t false (item p)) in omega (arith, s, m));
         shared_ranged = subst (AllRanged o) (sym (ap shared_ops posts ∙ posts_more G.1 (as_shared t false (item p)))) (ranged_more o (shared_ops G.1) p.op h.shared_ranged (entry_ranged t l r p i at));
         serial_ranged = h.serial_ranged;
       }
 
-  pub owns : (t : Name) (id : ℕ) (l : Shape × List (LocalEntry Op)) → HasLog o shape v ids G F n h t l → (p : LocalEntry Op) (i : ℕ) → at_mark id Unpushed l.1 ≡ Some p → slice_get l.1 i ≡ Some p → (y : Open Shape Op) × (open_at t v.opened ≡ Some y) × HasOwn y.local.1 i
-  owns t id l r p i q at =
-      (open_of t r.thread r.body l, r.at, record { within = slice_within l.1 i p at; entry = p; here = at; own = λ e. let z : Unpushed ≡ Pulled = sym (found_mark id Unpushed l.1 p q).2 ∙ e in cc })
+  pub owns : (t : Name) (id : ℕ) (m : Mark) → m ≢ Pulled → (l : Shape × List (LocalEntry Op)) → HasLog o shape v ids G F n h t l → (p : LocalEntry Op) (i : ℕ) → at_mark id m l.1 ≡ Some p → slice_get l.1 i ≡ Some p → (y : Open Shape Op) × (open_at t v.opened ≡ Some y) × HasOwn y.local.1 i
+  owns t id m d l r p i q at =
+      (open_of t r.thread r.body l, r.at, record { within = slice_within l.1 i p at; entry = p; here = at; own = λ e. d (sym (found_mark id m l.1 p q).2 ∙ e) })
+
+  -- the local log of t, where t is one of the transactions
+  same_log : (t : Name) (l : Shape × List (LocalEntry Op)) → HasLog o shape v ids G F n h t l → (x : Open Shape Op) → In x v.opened → x.name ≡ t → x.local ≡ l
+  same_log t l r x i e =
+      let k = found (λ (z : Open Shape Op). z.name =ⁿ t) v.opened _ r.at in
+      ap (λ (z : Open Shape Op). z.local) (by_key (λ (z : Open Shape Op). z.name) v.opened (λ p q b. h.sound.open_names (tx_of p) (tx_of q) (before_map tx_of p q v.opened b)) x _ i k.0 e)
+
+  pub relocated_is : (t : Name) (l : Shape × List (LocalEntry Op)) → HasLog o shape v ids G F n h t l → (k : List (LocalEntry Op) → List (LocalEntry Op)) (new : Shape × List (LocalEntry Op)) → new ≡ (l.0, k l.1) → with_local t new v ≡ with_log t k v
+  relocated_is t l r k new e =
+      ap (λ (z : List (Open Shape Op)). record { names = v.names; opened = z })
+      (relocated_all v.opened t k new (λ x i is. ap (λ (z : Shape × List (LocalEntry Op)). (z.0, k z.1)) (same_log t l r x i is) ∙ sym e))
+
+  pub located_same : (t : Name) (l : Shape × List (LocalEntry Op)) → HasLog o shape v ids G F n h t l → (new : Shape × List (LocalEntry Op)) → new ≡ l → with_local t new v ≡ v
+  located_same t l r new e = relocated_is t l r (λ z. z) new e ∙ ap (λ (z : List (Open Shape Op)). record { names = v.names; opened = z }) (log_same v.opened t)
+
+  -- UNAPP
+  unapp_is : (t : Name) (id : ℕ) (u : Txs Shape Op) → u ≡ with_log t but_last v → config_of u ids G.1 F ≡ then (config_of v ids G.1 F) (Unapp t id)
+  unapp_is t id u e = ap (λ (z : Txs Shape Op). config_of z ids G.1 F) e ∙ after_unapp v ids G.1 F t id
+
+  pub seen_unapp : (t : Name) (id : ℕ) (u : Txs Shape Op) → u ≡ with_log t but_last v → ◌≡◌ {A = Seen Shape Op} (record { shape = shape; config = config_of u ids G.1 F; count = n + 1 }) (stepped w (Unapp t id))
+  seen_unapp t id u e = seen_as (Unapp t id) (config_of u ids G.1 F) (unapp_is t id u e)
+
+  pub holds_unapp : (t : Name) (id : ℕ) (u : Txs Shape Op) → Meets (rules_of o w.shape) w.config (Unapp t id) → u ≡ with_log t but_last v → Holds o shape u ids G F (n + 1)
+  holds_unapp t id u f e = record {
+    sound = sound_as (Unapp t id) (config_of u ids G.1 F) f (unapp_is t id u e);
+    fine = fine_after t but_last u e (fine_part o shape n v.opened h.fine but_last (λ m. but_last_short m) (λ m a i. in_but_last a m i));
+    shared_shape = h.shared_shape;
+    shared_short = (let s = h.shared_short in omega (arith, s));
+    shared_ranged = h.shared_ranged;
+    serial_ranged = h.serial_ranged;
+  }
+
+  -- UNPULL
+  unpull_is : (t : Name) (id : ℕ) (u : Txs Shape Op) → u ≡ with_log t (without_local id) v → config_of u ids G.1 F ≡ then (config_of v ids G.1 F) (Unpull t id)
+  unpull_is t id u e = ap (λ (z : Txs Shape Op). config_of z ids G.1 F) e ∙ after_unpull v ids G.1 F t id
+
+  pub seen_unpull : (t : Name) (id : ℕ) (u : Txs Shape Op) → u ≡ with_log t (without_local id) v → ◌≡◌ {A = Seen Shape Op} (record { shape = shape; config = config_of u ids G.1 F; count = n + 1 }) (stepped w (Unpull t id))
+  seen_unpull t id u e = seen_as (Unpull t id) (config_of u ids G.1 F) (unpull_is t id u e)
+
+  pub holds_unpull : (t : Name) (id : ℕ) (u : Txs Shape Op) → Meets (rules_of o w.shape) w.config (Unpull t id) → u ≡ with_log t (without_local id) v → Holds o shape u ids G F (n + 1)
+  holds_unpull t id u f e = record {
+    sound = sound_as (Unpull t id) (config_of u ids G.1 F) f (unpull_is t id u e);
+    fine = fine_after t (without_local id) u e (fine_part o shape n v.opened h.fine (without_local id) (λ m. filter_short (λ (z : LocalEntry Op). not (z.id == id)) m) (λ m a i. (from_filter (λ (z : LocalEntry Op). not (z.id == id)) a m i).0));
+    shared_shape = h.shared_shape;
+    shared_short = (let s = h.shared_short in omega (arith, s));
+    shared_ranged = h.shared_ranged;
+    serial_ranged = h.serial_ranged;
+  }
+
+  -- the i-th entry of the local log is the pulled one of this id
+  pub unpull_leaves : (t : Name) (id : ℕ) (l : Shape × List (LocalEntry Op)) → HasLog o shape v ids G F n h t l → (p : LocalEntry Op) (i : ℕ) → at_mark id Pulled l.1 ≡ Some p → slice_get l.1 i ≡ Some p → (y : Open Shape Op) × (open_at t v.opened ≡ Some y) × MayLeave y.local.1 i
+  unpull_leaves t id l r p i q at =
+      (open_of t r.thread r.body l, r.at, record { within = slice_within l.1 i p at; entry = p; here = at; own_last = λ mine. absurd (pulled_other (sym (ap is_own (found_mark id Pulled l.1 p q).2) ∙ mine)) })
+
+  pub unpulled : (t : Name) (id : ℕ) (l : Shape × List (LocalEntry Op)) → HasLog o shape v ids G F n h t l → (p : LocalEntry Op) (i : ℕ) → at_mark id Pulled l.1 ≡ Some p → slice_get l.1 i ≡ Some p → remove l.1 i ≡ without_local id l.1
+  unpulled t id l r p i q at = removed_filter (λ (z : LocalEntry Op). z.id) id l.1 (distinct o shape v ids G F n h t l r) i p at (found_mark id Pulled l.1 p q).1
+
+  -- UNPUSH
+  pub posted_at : (id j : ℕ) → position (λ g. g.id == id) G.1 ≡ Some j → remove G.1 j ≡ without_shared id G.1
+  posted_at id j e =
+      let k = placed (λ (z : SharedEntry Op). z.id == id) G.1 j e in
+      removed_filter (λ (z : SharedEntry Op). z.id) id G.1 h.sound.shared_ids j k.0 k.1 (eqb-true (k.0).id id k.2)
+
+  unpush_is : (t : Name) (id : ℕ) (u : Txs Shape Op) (H : List (SharedEntry Op)) → u ≡ with_log t (set_mark id Unpushed) v → H ≡ without_shared id G.1 → config_of u ids H F ≡ then (config_of v ids G.1 F) (Unpush t id)
+  unpush_is t id u H e k =
+      ap (λ (z : Txs Shape Op). config_of z ids H F) e
+      ∙ ap (λ (z : List (SharedEntry Op)). config_of (with_log t (set_mark id Unpushed) v) ids z F) k
+      ∙ after_unpush v ids G.1 F t id
+
+  pub seen_unpush : (t : Name) (id : ℕ) (u : Txs Shape Op) (H : Shape × List (SharedEntry Op)) → u ≡ with_log t (set_mark id Unpushed) v → H ≡ (G.0, without_shared id G.1) →
+      ◌≡◌ {A = Seen Shape Op} (record { shape = shape; config = config_of u ids H.1 F; count = n + 1 }) (stepped w (Unpush t id))
+  seen_unpush t id u H e k = seen_as (Unpush t id) (config_of u ids H.1 F) (unpush_is t id u H.1 e (ap (λ (z : Shape × List (SharedEntry Op)). z.1) k))
+
+  pub holds_unpush : (t : Name) (id : ℕ) (u : Txs Shape Op) (H : Shape × List (SharedEntry Op)) → Meets (rules_of o w.shape) w.config (Unpush t id) → u ≡ with_log t (set_mark id Unpushed) v → H ≡ (G.0, without_shared id G.1) → Holds o shape u ids H F (n + 1)
+  holds_unpush t id u H f e k =
+      let posts : H.1 ≡ without_shared id G.1 = ap (λ (z : Shape × List (SharedEntry Op)). z.1) k in
+      record {
+        sound = sound_as (Unpush t id) (config_of u ids H.1 F) f (unpush_is t id u H.1 e posts);
+        fine = fine_after t (set_mark id Unpushed) u e (fine_mark o shape n v.opened h.fine id Unpushed);
+        shared_shape = ap (λ (z : Shape × List (SharedEntry Op)). z.0) k ∙ h.shared_shape;
+        shared_short = (let s = h.shared_short in let m = ap length posts in let less = filter_short (λ (z : SharedEntry Op). not (z.id == id)) G.1 in omega (arith, s, m, less));
+        shared_ranged = subst (AllRanged o) (sym (ap shared_ops posts)) (ranged_posts o id G.1 h.shared_ranged);
+        serial_ranged = h.serial_ranged;
+      }
+
+  -- a removal that was refused leaves all as it was
+  pub seen_same_txs : (u : Txs Shape Op) → u ≡ v → ◌≡◌ {A = Seen Shape Op} (record { shape = shape; config = config_of u ids G.1 F; count = n }) w
+  seen_same_txs u e = ap (λ (z : Txs Shape Op). record { shape = shape; config = config_of z ids G.1 F; count = n }) e ∙ same
+
+  pub holds_same_txs : (u : Txs Shape Op) → u ≡ v → Holds o shape u ids G F n
+  holds_same_txs u e = subst (λ (z : Txs Shape Op). Holds o shape z ids G F n) (sym e) h
+
+  pub seen_same_shared : (H : Shape × List (SharedEntry Op)) → H ≡ G → ◌≡◌ {A = Seen Shape Op} (record { shape = shape; config = config_of v ids H.1 F; count = n }) w
+  seen_same_shared H e = ap (λ (z : Shape × List (SharedEntry Op)). record { shape = shape; config = config_of v ids z.1 F; count = n }) e ∙ same
+
+  pub holds_same_shared : (H : Shape × List (SharedEntry Op)) → H ≡ G → Holds o shape v ids H F n
+  holds_same_shared H e = subst (λ (z : Shape × List (SharedEntry Op)). Holds o shape v ids z F n) (sym e) h
 
   -- CMT
-  pub cmt_opens : (t : Name) → Meets (rules_of o w.shape) w.config (Cmt t) → tx t (map tx_of v.opened) ≡ None → ⊥
-  cmt_opens t f e =
-      let k = there_holds (tx t (map tx_of v.opened)) _ (lower (Cmt t) 0 f) in
-      let z : Some k.0 ≡ None = sym k.1 ∙ e in cc
-
-  pub push_opens : (t : Name) (id : ℕ) → Meets (rules_of o w.shape) w.config (Push t id) → tx t (map tx_of v.opened) ≡ None → ⊥
-  push_opens t id f e =
-      let k = there_holds (tx t (map tx_of v.opened)) _ (lower (Push t id) 0 f) in
-      let z : Some k.0 ≡ None = sym k.1 ∙ e in cc
-
   cmt_is : (t : Name) (l : Shape × List (LocalEntry Op)) → HasLog o shape v ids G F n h t l → (u : Txs Shape Op) (H : List (SharedEntry Op)) (D : List (CommittedTx Op)) → u ≡ without_open t v → H ≡ commit_all t G.1 → D ≡ F ++ record { name = t; entries = own_items l.1 } ∷ [] →
       config_of u ids H D ≡ then (config_of v ids G.1 F) (Cmt t)
   cmt_is t l r u H D e k d =

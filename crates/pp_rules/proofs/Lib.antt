@@ -1,11 +1,15 @@
 pub mod Acting
 pub mod Courses
+pub mod Dispatch
 pub mod Finding
 pub mod Fitting
+pub mod Judged
 pub mod Judging
 pub mod Keeping
 pub mod Looking
 pub mod Opened
+pub mod Removing
 pub mod Slots
 pub mod Swapping
 pub mod Testing
+pub mod Undoing

@@ -23,6 +23,14 @@ use Rattle.pp_rules.proofs.Finding.{any_in, none_in, find_map, from_reverse, in_
 some_inj : {X : Type 0} (x y : X) → Some x ≡ Some y → x ≡ y
 some_inj x y e = cc
 
+pub is_none : {X : Type 0} (r : Option X) → is_some r ≡ false → r ≡ None
+is_none None e = refl
+is_none (Some x) e = absurd (cc)
+
+pub is_there : {X : Type 0} (r : Option X) → is_some r ≡ true → (x : X) × (r ≡ Some x)
+is_there None e = absurd (cc)
+is_there (Some x) e = (x, refl)
+
 -- names, threads and ids
 pub begun_in : {Shape Op : Type 0} (v : Txs Shape Op) (t : Name) → true ≡ is_begun v t → In t (reverse v.names)
 begun_in v t e =

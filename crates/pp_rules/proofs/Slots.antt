@@ -9,7 +9,7 @@ use Rattle.pp_model.specs.Names.{Name, ◌=ⁿ◌}
 use Rattle.pp_model.proofs.Lists.{in_cases, before_cases, before_left, before_right, before_across}
 use Rattle.pp_model.proofs.Names.{eq-names, names_tell}
 use Rattle.pp_core.specs.declared.entry.LocalEntry.{LocalEntry}
-use Rattle.pp_rules.specs.Transactions.{Open, Txs, Kept, filled, threads_of, open_at, is_begun, is_busy, relogged, with_log, with_open, without_open}
+use Rattle.pp_rules.specs.Transactions.{Open, Txs, Kept, filled, threads_of, open_at, is_begun, is_busy, relocated, relogged, with_local, with_log, with_open, without_open}
 
 pub names_turned : (a b : Name) → (a =ⁿ b) ≡ (b =ⁿ a)
 names_turned a b = elim (names_tell a b) [
@@ -352,6 +352,14 @@ module _ {A Shape Op : Type 0} (f : Name → A → Open Shape Op) (named : (n : 
         ap (λ (z : List Name). record { names = z; opened = filled f fs }) n
         ∙ ap (λ (z : List (Open Shape Op)). record { names = keys_of es; opened = z }) opened
         ∙ ap (with_log t h) same
+
+    pub seen_relocated : (a b : A) (l : Shape × List (LocalEntry Op)) (fs : List (Name × Option A)) → lookup (λ n. t =ⁿ n) es ≡ Some (Some a) → f t b ≡ relocated l (f t a) → fs ≡ set_value (λ n. t =ⁿ n) es (Some b) → keys_of fs ≡ keys_of es →
+        ◌≡◌ {A = Txs Shape Op} (record { names = keys_of fs; opened = filled f fs }) (with_local t l v)
+    seen_relocated a b l fs k e m n =
+        let opened : filled f fs ≡ map (λ x. cond (x.name =ⁿ t) (relocated l x) x) (filled f es) = ap (filled f) m ∙ changed_log es t a b (relocated l) k kept.names_apart e in
+        ap (λ (z : List Name). record { names = z; opened = filled f fs }) n
+        ∙ ap (λ (z : List (Open Shape Op)). record { names = keys_of es; opened = z }) opened
+        ∙ ap (with_local t l) same
 
     pub kept_changed : (a b : A) (fs : List (Name × Option A)) → lookup (λ n. t =ⁿ n) es ≡ Some (Some a) → (f t b).thread ≡ (f t a).thread → fs ≡ set_value (λ n. t =ⁿ n) es (Some b) → keys_of fs ≡ keys_of es → Kept (keys_of fs) ts (threads_of (filled f fs))
     kept_changed a b fs k e m n =

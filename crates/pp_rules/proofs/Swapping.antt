@@ -1,18 +1,13 @@
 -- Which operations swap, by what the tests of the movers say.
-use Rattle.std.proofs.Common.{◌≡◌, ◌≢◌, false, ℕ, IsTrue, true, List, Some, take, slice_get, sym, subst}
+use Rattle.std.proofs.Common.{◌≡◌, ◌≢◌, false, ℕ, IsTrue, true, suc, List, Some, drop, take, slice_get, sym, subst}
 use Rattle.pp_core.specs.declared.entry.LocalEntry.{LocalEntry}
 use Rattle.pp_core.specs.declared.entry.SharedEntry.{SharedEntry}
 use Rattle.pp_model.specs.Names.{Name}
-use Rattle.pp_model.specs.Config.{Unpushed, is_own}
+use Rattle.pp_model.specs.Config.{Unpushed, Pushed, is_own}
 use Rattle.pp_model.specs.Lists.{In, Before}
 use Rattle.pp_spec.specs.Object.{Object, SwapsIn}
-use Rattle.pp_rules.specs.Finding.{AreDistinct, GoesBehind, HoldEverywhere, HoldsAtPlace, HoldsBack, LetsPass, StandsFirst}
-use Rattle.pp_rules.proofs.Finding.{before_here, everywhere, here_before, in_taken, somewhere}
-
--- what is said of the shape of the shared log is said of the shape
-pub here : {Shape State Op Undo : Type 0} (o : Object Shape State Op Undo) (shape : Shape) (G : Shape × List (SharedEntry Op)) (t : Name) (op : Op) → G.0 ≡ shape →
-    ((u : SharedEntry Op) → In u G.1 → u.committed ≡ false → u.owner ≢ t → SwapsIn o G.0 u.op op) → (u : SharedEntry Op) → In u G.1 → u.committed ≡ false → u.owner ≢ t → SwapsIn o shape u.op op
-here {Shape} o shape G t op e f u i c n = subst (λ (z : Shape). SwapsIn o z u.op op) e (f u i c n)
+use Rattle.pp_rules.specs.Finding.{AreDistinct, ComesForward, StaysBehind, GoesBehind, HoldEverywhere, HoldsAtPlace, HoldsBack, LetsPass, StandsFirst}
+use Rattle.pp_rules.proofs.Finding.{before_here, behind_here, here_behind, in_dropped, everywhere, here_before, in_taken, somewhere}
 
 module _ {Shape State Op Undo : Type 0} (o : Object Shape State Op Undo) (shape : Shape) (l : List (LocalEntry Op)) where
   -- each operation of the log fits
@@ -38,3 +33,14 @@ module _ {Shape State Op Undo : Type 0} (o : Object Shape State Op Undo) (shape 
       let q = somewhere (StandsFirst o op) ds k w in
       let at = subst (λ (z : List (LocalEntry Op)). In q.0 z) e q.1 in
       (q.0, at, q.2.0, q.2.1 shape (fit q.0 at) f)
+
+  pub behind_swap : (i : ℕ) (p : LocalEntry Op) (ds : List (LocalEntry Op)) → AreDistinct l → slice_get l i ≡ Some p → ds ≡ drop (suc i) l → HoldEverywhere (ComesForward o p.op) ds → (b : LocalEntry Op) → Before p b l → b.mark ≡ Pushed → SwapsIn o shape b.op p.op
+  behind_swap i p ds d h e n b before m =
+      everywhere (ComesForward o p.op) ds n b (subst (λ (z : List (LocalEntry Op)). In b z) (sym e) (behind_here (λ (z : LocalEntry Op). z.id) l d i p b h before)) m shape
+
+  pub behind_not : (i k : ℕ) (p : LocalEntry Op) (ds : List (LocalEntry Op)) → AllFit → IsTrue (o.fits shape p.op) → slice_get l i ≡ Some p → ds ≡ drop (suc i) l → HoldsAtPlace (StaysBehind o p.op) ds k →
+      (b : LocalEntry Op) × Before p b l × (b.mark ≡ Pushed) × (SwapsIn o shape b.op p.op → ⊥)
+  behind_not i k p ds fit f h e w =
+      let q = somewhere (StaysBehind o p.op) ds k w in
+      let at = subst (λ (z : List (LocalEntry Op)). In q.0 z) e q.1 in
+      (q.0, here_behind l i p q.0 h at, q.2.0, q.2.1 shape (fit q.0 (in_dropped (suc i) q.0 l at)) f)

@@ -1,5 +1,7 @@
+pub mod Costs
 pub mod Courses
 pub mod Finding
 pub mod Machines
+pub mod Removals
 pub mod Stepping
 pub mod Transactions

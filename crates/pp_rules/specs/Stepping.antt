@@ -1,51 +1,144 @@
 -- What a step answers.
-use Rattle.std.specs.Prelude.{◌≡◌, ◌<◌, ◌+◌, ℕ, IsTrue}
-use Rattle.pp_core.specs.Trees.{IsWithinLimits}
+use Rattle.std.specs.Prelude.{◌≡◌, ◌==◌, ◌+◌, ◌<◌, length, position, ℕ, List, Option, Some, Result, Ok, Err, IfOk, IsTrue, option_map, slice_get}
+use Rattle.pp_core.specs.Trees.{IsWithinLimits, Tree, tree}
+use Rattle.pp_core.specs.declared.body.Body.{Body}
+use Rattle.pp_core.specs.declared.entry.LocalEntry.{LocalEntry}
+use Rattle.pp_core.specs.declared.entry.Mark.{Mark}
+use Rattle.pp_core.specs.declared.entry.SharedEntry.{SharedEntry}
 use Rattle.pp_core.specs.Steps.{Step, Begin, App, Unapp, Push, Unpush, Pull, Unpull, Cmt, Quit, Note}
+use Rattle.pp_model.specs.Config.{Config, Tx, Unpushed, Pushed, Pulled, at_mark, of_other, tx}
+use Rattle.pp_model.specs.Lists.{Before}
+use Rattle.pp_model.specs.Names.{Name}
 use Rattle.pp_model.specs.Rules.{Breaks, Meets}
-use Rattle.pp_spec.specs.Object.{Object, rules_of}
+use Rattle.pp_spec.specs.Object.{Object, SwapsIn, rules_of}
 use Rattle.pp_rules.specs.declared.machine.Outcome.{Outcome}
 use Rattle.pp_rules.specs.declared.machine.Outcome.TheVariants.{Done, False}
 use Rattle.pp_rules.specs.Machines.{Seen, stepped}
 
--- The steps that the machine can do so far, with bodies within the limits, and operations of the shape.
-abbrev pub IsAsked : {Shape State Op Undo : Type 0} → Object Shape State Op Undo → Shape → Step Op → Type 0
+-- What a step asks: a body within the limits, and an operation of the shape.
+abbrev pub IsAsked : {Shape State Op Undo : Type 0} → Object Shape State Op Undo → Shape → Step Op →
+    Type 0
 IsAsked o shape (Begin t p b) = IsWithinLimits b
 IsAsked o shape (App t id op) = IsTrue (o.fits shape op) × IsTrue (o.ranged op)
-IsAsked o shape (Unapp t id) = ⊥
+IsAsked o shape (Unapp t id) = Unit {0}
 IsAsked o shape (Push t id) = Unit {0}
-IsAsked o shape (Unpush t id) = ⊥
+IsAsked o shape (Unpush t id) = Unit {0}
 IsAsked o shape (Pull t id) = Unit {0}
-IsAsked o shape (Unpull t id) = ⊥
+IsAsked o shape (Unpull t id) = Unit {0}
 IsAsked o shape (Cmt t) = Unit {0}
 IsAsked o shape (Quit t) = Unit {0}
 IsAsked o shape (Note t) = Unit {0}
 
--- Done comes with the effect where each criterion holds, and False with the number of the first false one where the machine is as it was.
-abbrev pub Stepped : {Shape State Op Undo : Type 0} → Object Shape State Op Undo → Seen Shape Op → Step Op → Outcome → Seen Shape Op → Type 0
-Stepped o old step Done new = Meets (rules_of o old.shape) old.config step × (new ≡ stepped old step)
-Stepped o old step (False n) new = Breaks (rules_of o old.shape) old.config step n × (0 < n) × (new ≡ old)
+-- Done comes with the effect where each criterion holds, and False with the number of the first
+-- false one where the machine
+-- is as it was.
+abbrev pub Stepped : {Shape State Op Undo : Type 0} → Object Shape State Op Undo → Seen Shape Op →
+    Step Op → Outcome →
+    Seen Shape Op → Type 0
+Stepped o old step Done new =
+    Meets (rules_of o old.shape) old.config step × (new ≡ stepped old step)
+Stepped o old step (False n) new =
+    Breaks (rules_of o old.shape) old.config step n × (0 < n) × (new ≡ old)
 
--- How many operations a step that is done applies or takes back. What an UNPUSH or an UNPULL costs lies in the log and not in the step: these two are never asked so far, and stand here with 0.
-abbrev pub step_ticks : {Op : Type 0} → Step Op → ℕ
-step_ticks (Begin t p b) = 0
-step_ticks (App t id op) = 1
-step_ticks (Unapp t id) = 1
-step_ticks (Push t id) = 1
-step_ticks (Unpush t id) = 0
-step_ticks (Pull t id) = 1
-step_ticks (Unpull t id) = 0
-step_ticks (Cmt t) = 0
-step_ticks (Quit t) = 0
-step_ticks (Note t) = 0
-
--- A step that is done costs exactly that, and one that is not done nothing.
-abbrev pub Costs : {Op : Type 0} → Step Op → Outcome → ℕ → ℕ → Type 0
-Costs step Done old new = new ≡ old + step_ticks step
-Costs step (False n) old new = new ≡ old
+-- What doing a step answers, unless memory was refused: the machine behind it, and its outcome.
+abbrev pub Does : {Shape State Op Undo E : Type 0} → Object Shape State Op Undo → Seen Shape Op →
+    Step Op →
+    Result (Seen Shape Op × Outcome) E → Type 0
+Does o old step result = IfOk result (λ r. Stepped o old step r.1 r.0)
 
 -- The step needs no memory.
 abbrev pub NeedsNoMemory : {Op : Type 0} → Step Op → Type 0
 NeedsNoMemory (Quit t) = Unit {0}
 NeedsNoMemory (Note t) = Unit {0}
 NeedsNoMemory _ = ⊥
+
+-- What judging a step answers: what its effect needs where each criterion holds, and else the
+-- number of the first false one.
+abbrev pub Judges : {Shape State Op Undo A : Type 0} → Object Shape State Op Undo → Seen Shape Op →
+    Step Op → (A → Type 0) →
+    Result A ℕ → Type 0
+Judges o v step Needed (Ok found) = Meets (rules_of o v.shape) v.config step × Needed found
+Judges o v step Needed (Err n) = Breaks (rules_of o v.shape) v.config step n × (0 < n)
+
+-- A BEGIN is judged without its body, and needs nothing more.
+abbrev pub JudgesBegin : {Shape State Op Undo A : Type 0} → Object Shape State Op Undo →
+    Seen Shape Op → Name → Name →
+    Result A ℕ → Type 0
+JudgesBegin o v t p result =
+    (body : Option Tree) → Judges o v (Begin t p body) (λ _. Unit {0}) result
+
+abbrev pub begin_of : {Op : Type 0} → Name → Name → Option Body → Step Op
+begin_of t p body = Begin t p (option_map tree body)
+
+-- In the local log of the open transaction t, the entry of this id and mark stands at this
+-- position.
+pub record IsAt {Op : Type 0} (c : Config Op) (t : Name) (id : ℕ) (m : Mark) (i : ℕ)
+    (e : LocalEntry Op) : Type 0 where
+  pub holder : Tx Op
+  pub is_open : tx t c.opened ≡ Some holder
+  pub found : at_mark id m holder.local ≡ Some e
+  pub here : slice_get holder.local i ≡ Some e
+
+abbrev pub StandsAt : {Op : Type 0} → Config Op → Name → ℕ → Mark → ℕ × LocalEntry Op → Type 0
+StandsAt c t id m found = IsAt c t id m found.0 found.1
+
+-- The entry of this id in the shared log is this one, of another than t.
+abbrev pub IsOfOther : {Op : Type 0} → Config Op → Name → ℕ → SharedEntry Op → Type 0
+IsOfOther c t id post = of_other t id c.shared ≡ Some post
+
+-- This is the local log of the open transaction t.
+abbrev pub IsLocalOf : {Shape Op : Type 0} → Seen Shape Op → Name → Shape × List (LocalEntry Op) →
+    Type 0
+IsLocalOf v t log = option_map (λ x. (v.shape, x.local)) (tx t v.config.opened) ≡ Some log
+
+-- The last entry of the open transaction t's local log, at this position, is its own.
+pub record IsLastAt {Op : Type 0} (c : Config Op) (t : Name) (i : ℕ) : Type 0 where
+  pub holder : Tx Op
+  pub is_open : tx t c.opened ≡ Some holder
+  pub entry : LocalEntry Op
+  pub here : slice_get holder.local i ≡ Some entry
+  pub end : i + 1 ≡ length holder.local
+  pub own : entry.mark ≡ Unpushed
+
+-- UNPUSH finds its entry in the local log, which each pushed one behind it may come before, and in
+-- the shared log.
+pub record FindsPushed {Shape State Op Undo : Type 0} (o : Object Shape State Op Undo)
+    (v : Seen Shape Op) (t : Name) (id : ℕ)
+    (i j : ℕ) : Type 0 where
+  pub entry : LocalEntry Op
+  pub at : IsAt v.config t id Pushed i entry
+  pub swap : (b : LocalEntry Op) → Before entry b at.holder.local → b.mark ≡ Pushed →
+      SwapsIn o v.shape b.op entry.op
+  pub posted : position (λ g. g.id == id) v.config.shared ≡ Some j
+
+-- UNPUSH is judged up to its last criterion, which its effect decides.
+abbrev pub JudgesUnpush : {Shape State Op Undo : Type 0} → Object Shape State Op Undo →
+    Seen Shape Op → Name → ℕ →
+    Result (ℕ × ℕ) ℕ → Type 0
+JudgesUnpush o v t id (Ok found) = FindsPushed o v t id found.0 found.1
+JudgesUnpush o v t id (Err n) = Breaks (rules_of o v.shape) v.config (Unpush t id) n × (0 < n)
+
+-- So is UNPULL.
+abbrev pub JudgesUnpull : {Shape State Op Undo : Type 0} → Object Shape State Op Undo →
+    Seen Shape Op → Name → ℕ →
+    Result ℕ ℕ → Type 0
+JudgesUnpull {Shape} {State} {Op} o v t id (Ok i) =
+    (e : LocalEntry Op) × IsAt v.config t id Pulled i e
+JudgesUnpull o v t id (Err n) = Breaks (rules_of o v.shape) v.config (Unpull t id) n × (0 < n)
+
+-- What judging hands on where all criteria hold: at PUSH and UNAPP where
+-- the entry stands, at PULL the entry.
+abbrev pub JudgesPush : {Shape State Op Undo : Type 0} → Object Shape State Op Undo →
+    Seen Shape Op → Name → ℕ →
+    Result (ℕ × LocalEntry Op) ℕ → Type 0
+JudgesPush o v t id result = Judges o v (Push t id) (StandsAt v.config t id Unpushed) result
+
+abbrev pub JudgesUnapp : {Shape State Op Undo : Type 0} → Object Shape State Op Undo →
+    Seen Shape Op → Name → ℕ →
+    Result ℕ ℕ → Type 0
+JudgesUnapp o v t id result = Judges o v (Unapp t id) (IsLastAt v.config t) result
+
+abbrev pub JudgesPull : {Shape State Op Undo : Type 0} → Object Shape State Op Undo →
+    Seen Shape Op → Name → ℕ →
+    Result (SharedEntry Op) ℕ → Type 0
+JudgesPull o v t id result = Judges o v (Pull t id) (IsOfOther v.config t id) result

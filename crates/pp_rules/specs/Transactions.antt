@@ -1,10 +1,14 @@
 -- What contracts see of the transactions of a run.
-use Rattle.std.specs.Prelude.{◌≡◌, ◌≢◌, ℕ, Bool, not, cond, List, [], ◌∷◌, ◌++◌, map, filter, find, Option, None, Some, length, IsTrue, ◌<◌, ◌==◌, position, slice_get}
+use Rattle.std.specs.Prelude.{◌≡◌, ◌≢◌, ◌+◌, true, Result, ℕ, Bool, not, cond, List, [], ◌∷◌, ◌++◌, map, filter, find, Option, None, Some, length, IsTrue, ◌<◌, ◌==◌, position, slice_get}
 use Rattle.std.specs.List.{list_any}
 use Rattle.pp_core.specs.Trees.{Tree}
 use Rattle.pp_core.specs.declared.entry.LocalEntry.{LocalEntry}
 use Rattle.pp_core.specs.declared.entry.Mark.TheVariants.{Pulled}
-use Rattle.pp_model.specs.Config.{local_ops}
+use Rattle.pp_model.specs.Config.{is_own, item, local_ops}
+use Rattle.pp_log.specs.declared.place.Removed.{Removed}
+use Rattle.pp_log.specs.Logs.{RemovesEntry}
+use Rattle.pp_rules.specs.Removals.{CostsRemoval}
+use Rattle.pp_rules.specs.declared.transactions.OpenTx.{OpenTx}
 use Rattle.pp_model.specs.Lists.{Before}
 use Rattle.pp_model.specs.Names.{Name, ◌=ⁿ◌}
 use Rattle.pp_spec.specs.Object.{Object, IsAllowed}
@@ -43,12 +47,26 @@ abbrev pub is_busy : {Shape Op : Type 0} → Txs Shape Op → Name → Bool
 is_busy v p = list_any (λ q. q =ⁿ p) (threads_of v.opened)
 
 -- the transaction with f at the entries of its local log
-abbrev pub relogged : {Shape Op : Type 0} → (List (LocalEntry Op) → List (LocalEntry Op)) → Open Shape Op → Open Shape Op
-relogged f x = record { name = x.name; thread = x.thread; body = x.body; local = (x.local.0, f x.local.1) }
+abbrev pub relogged : {Shape Op : Type 0} → (List (LocalEntry Op) → List (LocalEntry Op)) →
+    Open Shape Op → Open Shape Op
+relogged f x =
+    record { name = x.name; thread = x.thread; body = x.body; local = (x.local.0, f x.local.1) }
 
 -- with f at the local log of the open transaction t
-abbrev pub with_log : {Shape Op : Type 0} → Name → (List (LocalEntry Op) → List (LocalEntry Op)) → Txs Shape Op → Txs Shape Op
-with_log t f v = record { names = v.names; opened = map (λ x. cond (x.name =ⁿ t) (relogged f x) x) v.opened }
+abbrev pub with_log : {Shape Op : Type 0} → Name → (List (LocalEntry Op) → List (LocalEntry Op)) →
+    Txs Shape Op → Txs Shape Op
+with_log t f v =
+    record { names = v.names; opened = map (λ x. cond (x.name =ⁿ t) (relogged f x) x) v.opened }
+
+-- with this local log of the open transaction t
+abbrev pub relocated : {Shape Op : Type 0} → Shape × List (LocalEntry Op) → Open Shape Op →
+    Open Shape Op
+relocated l x = record { name = x.name; thread = x.thread; body = x.body; local = l }
+
+abbrev pub with_local : {Shape Op : Type 0} → Name → Shape × List (LocalEntry Op) → Txs Shape Op →
+    Txs Shape Op
+with_local t l v =
+    record { names = v.names; opened = map (λ x. cond (x.name =ⁿ t) (relocated l x) x) v.opened }
 
 -- with one more transaction at the end
 abbrev pub with_open : {Shape Op : Type 0} → Open Shape Op → Txs Shape Op → Txs Shape Op
@@ -64,17 +82,20 @@ filled f [] = []
 filled f ((n, None) ∷ es) = filled f es
 filled f ((n, Some x) ∷ es) = f n x ∷ filled f es
 
-abbrev pub open_of : {Shape Op : Type 0} → Name → Name → Option Tree → Shape × List (LocalEntry Op) → Open Shape Op
+abbrev pub open_of : {Shape Op : Type 0} → Name → Name → Option Tree →
+    Shape × List (LocalEntry Op) → Open Shape Op
 open_of n p b l = record { name = n; thread = p; body = b; local = l }
 
--- What the transactions keep: names told apart, and the set of the threads that are busy, told apart too.
+-- What the transactions keep: names told apart, and the set of the threads that are busy, told
+-- apart too.
 pub record Kept (names threads busy : List Name) : Type 0 where
   pub names_apart : (s t : Name) → Before s t names → s ≢ t
   pub busy_apart : (p q : Name) → Before p q busy → p ≢ q
   pub threads_are : (p : Name) → list_any (λ q. p =ⁿ q) threads ≡ list_any (λ q. q =ⁿ p) busy
 
 -- The local log takes the entry at its end.
-pub record Takes {Shape State Op Undo : Type 0} (o : Object Shape State Op Undo) (log : Shape × List (LocalEntry Op)) (entry : LocalEntry Op) : Type 0 where
+pub record Takes {Shape State Op Undo : Type 0} (o : Object Shape State Op Undo)
+    (log : Shape × List (LocalEntry Op)) (entry : LocalEntry Op) : Type 0 where
   pub allowed : IsAllowed o log.0 (local_ops log.1 ++ entry.op ∷ [])
   pub ranged : IsTrue (o.ranged entry.op)
   pub new : position (λ e. e.id == entry.id) log.1 ≡ None
@@ -86,3 +107,41 @@ pub record HasOwn {Op : Type 0} (log : List (LocalEntry Op)) (i : ℕ) : Type 0 
   pub entry : LocalEntry Op
   pub here : slice_get log i ≡ Some entry
   pub own : entry.mark ≢ Pulled
+
+-- The entry at this place of a local log may be taken out: it is pulled, or the last.
+pub record MayLeave {Op : Type 0} (log : List (LocalEntry Op)) (i : ℕ) : Type 0 where
+  pub within : i < length log
+  pub entry : LocalEntry Op
+  pub here : slice_get log i ≡ Some entry
+  pub own_last : is_own entry.mark ≡ true → i + 1 ≡ length log
+
+-- What a removal at this place of the local log of t answers, and the transactions that it leaves.
+abbrev pub RemovesAt : {Shape State Op Undo : Type 0} → Object Shape State Op Undo → Txs Shape Op →
+    Name → ℕ →
+    Txs Shape Op → Removed → Type 0
+RemovesAt {Shape} {State} {Op} o old t i new removed =
+    (x : Open Shape Op) → open_at t old.opened ≡ Some x →
+    (l : Shape × List (LocalEntry Op)) × RemovesEntry o item x.local i l removed
+    × (new ≡ with_local t l old)
+
+-- What it costs.
+abbrev pub CostsAt : {Shape Op E : Type 0} → (Op → ℕ) → Txs Shape Op → Name → ℕ → Result Removed E →
+    ℕ → ℕ → Type 0
+CostsAt {Shape} {Op} place v t i result old new =
+    (x : Open Shape Op) → open_at t v.opened ≡ Some x →
+    CostsRemoval place (local_ops x.local.1) i result old new
+
+-- The same in a slot.
+abbrev pub RemovesIn : {Shape State Op Undo : Type 0} → Object Shape State Op Undo →
+    OpenTx (Guided Shape Op) → ℕ →
+    Option (OpenTx (Guided Shape Op)) → Removed → Type 0
+RemovesIn {Shape} {State} {Op} o old i new removed =
+    (l : Shape × List (LocalEntry Op)) × RemovesEntry o item old.course.local i l removed
+    ×
+    (new
+    ≡ Some
+    (record { thread = old.thread; course = record { body = old.course.body; local = l } }))
+
+abbrev pub CostsIn : {Shape Op E : Type 0} → (Op → ℕ) → OpenTx (Guided Shape Op) → ℕ →
+    Result Removed E → ℕ → ℕ → Type 0
+CostsIn place t i result old new = CostsRemoval place (local_ops t.course.local.1) i result old new

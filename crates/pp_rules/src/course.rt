@@ -1,17 +1,20 @@
-ghost use Rattle.std.specs.Prelude.{◌≡◌, ◌≢◌, ◌+◌, ◌≤◌, ◌↔◌, ◌++◌, ◌∷◌, [], Some, true, option_map, slice_get, IsTrue, IfOk, OnOk, OnErr};
+//! The course of an open transaction: its local log, and how far it has come in its body.
+ghost use Rattle.std.specs.Prelude.{◌≡◌, ◌≢◌, false, ◌+◌, ◌≤◌, ◌↔◌, ◌++◌, ◌∷◌, [], Some, true, option_map, slice_get, IsTrue, IfOk, OnOk, OnErr};
 ghost use Rattle.pp_core.specs.declared.entry.LocalEntry.{LocalEntry};
 ghost use Rattle.pp_core.specs.declared.entry.Mark.TheVariants.{Pulled};
 ghost use Rattle.pp_core.specs.Trees.{IsWithinLimits, tree};
 ghost use Rattle.pp_model.specs.Body.{Begins, IsWord};
-ghost use Rattle.pp_model.specs.Config.{is_own, set_mark};
-ghost use Rattle.pp_body.specs.Walks.{HasTaken};
-ghost use Rattle.pp_rules.specs.Courses.{own_calls, FollowsIfOwn, MayFollow};
-ghost use Rattle.pp_rules.specs.Transactions.{Takes, HasOwn};
+ghost use Rattle.pp_log.specs.Logs.{RemovesEntry};
+ghost use Rattle.pp_model.specs.Config.{is_own, item, local_ops, set_mark};
+ghost use Rattle.pp_body.specs.Walks.{HasTaken, MayGoBack};
+ghost use Rattle.pp_rules.specs.Removals.{CostsRemoval, answer_of};
+ghost use Rattle.pp_rules.specs.Courses.{own_calls, FollowsIfOwn, IsGivenBack, MayFollow};
+ghost use Rattle.pp_rules.specs.Transactions.{Takes, HasOwn, MayLeave};
 
-use crate::find::is_own;
+use crate::find::{is_own, is_own_at};
 use pp_body::Walk;
 use pp_core::{Body, LocalEntry, Mark, OutOfMemory, Ticks};
-use pp_local::Local;
+use pp_local::{Local, Removed};
 use pp_spec::Placed;
 use std::alloc::Global;
 use std::marker::Model;
@@ -80,11 +83,22 @@ fn append_own<S: Placed, L: Ledger>(
     appended
 }
 
+/// The walk, with its last call given back if that is asked.
+fn given_back(walk: Walk, asked: bool) -> Walk
+    requires { IsTrue asked → MayGoBack walk }
+    ensures body { result.body ≡ walk.body }
+    ensures same { asked ≡ false → result ≡ walk }
+    ensures back { IsTrue asked → IsGivenBack walk result }
+{
+    if asked { walk.back() } else { walk }
+}
+
 impl<S: Placed> Course<S> {
     /// The course of a transaction that begins.
     pub fn start(alloc: Global, shape: &S::Shape, body: &Option<Body>) -> Result<Self, OutOfMemory>
         requires { IsWithinLimits (option_map tree body.now) }
-        ensures { IfOk result (λ course. course ≡ record { body = option_map tree body.now; local = (shape.now, []) }) }
+        ensures { IfOk result (λ course. course
+            ≡ record { body = option_map tree body.now; local = (shape.now, []) }) }
     {
         let body = copied(body, alloc)?;
         let walk = Walk::start(alloc, body)?;
@@ -115,7 +129,8 @@ impl<S: Placed> Course<S> {
         self.walked.walk.complete()
     }
 
-    /// Adds an entry at the end of the local log. After a refusal of memory the course is as it was.
+    /// Adds an entry at the end of the local log. After a refusal of memory the course is as it
+    /// was.
     pub fn append<L: Ledger>(
         &mut self,
         entry: LocalEntry<S::Op>,
@@ -123,7 +138,11 @@ impl<S: Placed> Course<S> {
     ) -> Result<(), OutOfMemory>
         requires takes { Takes S.object self.old.local entry }
         requires follows { FollowsIfOwn S.object self.old.body self.old.local.1 entry }
-        ensures ok { OnOk result (self.new ≡ record { body = self.old.body; local = (self.old.local.0, self.old.local.1 ++ entry ∷ []) }) }
+        ensures ok { OnOk result (self.new ≡ record {
+          body = self.old.body;
+          local =
+              (self.old.local.0, self.old.local.1 ++ entry ∷ []);
+        }) }
         ensures err { OnErr result (self.new ≡ self.old) }
         ensures cost { OnOk result (ticks.new ≡ ticks.old + 1) }
         ensures bound { ticks.new ≤ ticks.old + 1 }
@@ -139,9 +158,42 @@ impl<S: Placed> Course<S> {
     pub fn mark(&mut self, i: usize, mark: Mark)
         requires own { HasOwn self.old.local.1 i }
         requires to_own { mark ≢ Pulled }
-        ensures { (e : LocalEntry S.Op) → slice_get self.old.local.1 i ≡ Some e → self.new ≡ record { body = self.old.body; local = (self.old.local.0, set_mark e.id mark self.old.local.1) } }
+        ensures { (e : LocalEntry S.Op) → slice_get self.old.local.1 i ≡ Some e →
+            self.new ≡ record {
+              body = self.old.body;
+              local =
+                  (self.old.local.0, set_mark e.id mark self.old.local.1);
+            } }
     {
         let _distinct = self.walked.log.len();
         self.walked.log.mark(i, mark);
+    }
+
+    /// Takes an entry out of the local log, unless the list without it is not allowed. The walk
+    /// gives back the call of an own
+    /// one. The only error is that memory was refused, and the course is then lost.
+    pub fn remove<L: Ledger>(
+        self,
+        i: usize,
+        ticks: &mut Ticks<L>,
+    ) -> Result<(Self, Removed), OutOfMemory>
+        requires { MayLeave self.local.1 i }
+        ensures body { IfOk result (λ r. r.0.body ≡ self.body) }
+        ensures removes { IfOk result (λ r. RemovesEntry S.object item self.local i r.0.local r.1) }
+        ensures cost { CostsRemoval S.place_of (local_ops self.local.1) i
+            (answer_of result) ticks.old ticks.new }
+    {
+        let Course { walked } = self;
+        let Walked { walk, log } = walked;
+        let _allowed = log.len();
+        let own = is_own_at(log.entries(), i);
+        let (log, removed) = log.remove(i, ticks)?;
+        let walk = given_back(walk, own);
+        Ok((
+            Course {
+                walked: Walked { walk, log },
+            },
+            removed,
+        ))
     }
 }

@@ -1,7 +1,10 @@
-ghost use Rattle.std.specs.Prelude.{◌≡◌, ◌==◌, ◌&&◌, ◌||◌, not, IsTrue, false, Some, None, slice_get, option_map, MatchOption, IfOk, IfSome};
+//! What the machine looks up in logs.
+ghost use Rattle.std.specs.Prelude.{◌≡◌, ◌<◌, length, ◌==◌, ◌&&◌, ◌||◌, not, IsTrue, false, Some, None, slice_get, option_map, MatchOption, IfOk, IfSome};
 ghost use Rattle.std.specs.List.{list_all};
-ghost use Rattle.pp_model.specs.Config.{is_mark, is_own, own_items, at_mark, of_other};
-ghost use Rattle.pp_rules.specs.Finding.{HoldsBack, LetsPass, StandsFirst, GoesBehind, HoldsAtPlace, HoldEverywhere, AreDistinct, HaveOwnIds, stands_committed};
+ghost use Rattle.pp_model.specs.Config.{is_mark, is_own, last, own_items, at_mark, of_other};
+ghost use Rattle.pp_core.specs.declared.entry.LocalEntry.{LocalEntry as EntryOf};
+ghost use Rattle.pp_model.specs.Rules.{IsLast};
+ghost use Rattle.pp_rules.specs.Finding.{ComesForward, IsLastUnpushed, StaysBehind, HoldsBack, LetsPass, StandsFirst, GoesBehind, HoldsAtPlace, HoldEverywhere, AreDistinct, HaveOwnIds, stands_committed};
 
 use pp_core::{Item, Items, LocalEntry, Mark, Name, OutOfMemory, SharedEntry};
 use pp_local::Local;
@@ -42,6 +45,28 @@ pub fn marked_at<S: Placed>(
     }
 }
 
+/// The place of the last entry, if it has this id and is own and unpushed.
+pub fn last_unpushed<O: Copy>(entries: &[LocalEntry<O>], id: u32) -> Option<usize>
+    ensures { MatchOption result (IsLast id (last entries.now) → ⊥)
+        (IsLastUnpushed id entries.now) }
+{
+    let last = entries.last()?;
+    if last.id == id && is_mark(last.mark, Mark::Unpushed) {
+        Some(entries.len() - 1)
+    } else {
+        None
+    }
+}
+
+/// Whether the entry at a place is own.
+pub fn is_own_at<O: Copy>(entries: &[LocalEntry<O>], i: usize) -> bool
+    requires { i < length entries.now }
+    ensures { (e : EntryOf O) → slice_get entries.now i ≡ Some e → result ≡ is_own e.mark }
+{
+    let entry = &entries[i];
+    is_own(entry.mark)
+}
+
 /// The entry of this id that another owns.
 pub fn other_at<S: Placed>(shared: &Shared<S>, owner: &Name, id: u32) -> Option<SharedEntry<S::Op>>
     requires { HaveOwnIds shared.now.1 }
@@ -80,7 +105,8 @@ fn stands_committed<S: Placed>(shared: &Shared<S>, id: u32) -> bool
 
 /// Whether each pulled entry stands committed.
 pub fn all_stand<S: Placed>(entries: &[LocalEntry<S::Op>], shared: &Shared<S>) -> bool
-    ensures { result ≡ list_all (λ e. not (is_mark e.mark Mark.Pulled) || stands_committed e.id shared.now.1) entries.now }
+    ensures { result ≡ list_all (λ e. not (is_mark e.mark Mark.Pulled)
+        || stands_committed e.id shared.now.1) entries.now }
 {
     entries.iter().all(|entry| !is_mark(entry.mark, Mark::Pulled)
         || stands_committed(shared, entry.id))
@@ -96,9 +122,26 @@ fn holds_back<S: Spec>(entry: &LocalEntry<S::Op>, op: &S::Op) -> bool
 
 /// The place of the first own unpushed entry that holds the operation back.
 pub fn first_holding_back<S: Spec>(before: &[LocalEntry<S::Op>], op: &S::Op) -> Option<usize>
-    ensures { MatchOption result (HoldEverywhere (LetsPass S.object op.now) before.now) (HoldsAtPlace (HoldsBack S.object op.now) before.now) }
+    ensures { MatchOption result (HoldEverywhere (LetsPass S.object op.now) before.now)
+        (HoldsAtPlace (HoldsBack S.object op.now) before.now) }
 {
     before.iter().position(|entry| holds_back::<S>(entry, op))
+}
+
+/// Whether this is an own pushed entry that may not come before the operation.
+fn stays_behind<S: Spec>(entry: &LocalEntry<S::Op>, op: &S::Op) -> bool
+    ensures held { IsTrue result → StaysBehind S.object op.now entry.now }
+    ensures free { result ≡ false → ComesForward S.object op.now entry.now }
+{
+    is_mark(entry.mark, Mark::Pushed) && !S::swaps(&entry.op, op)
+}
+
+/// The place of the first own pushed entry that may not come before the operation.
+pub fn first_staying_behind<S: Spec>(after: &[LocalEntry<S::Op>], op: &S::Op) -> Option<usize>
+    ensures { MatchOption result (HoldEverywhere (ComesForward S.object op.now) after.now)
+        (HoldsAtPlace (StaysBehind S.object op.now) after.now) }
+{
+    after.iter().position(|entry| stays_behind::<S>(entry, op))
 }
 
 /// Whether this is an own entry that may not come behind the operation.
@@ -111,7 +154,8 @@ fn stands_first<S: Spec>(entry: &LocalEntry<S::Op>, op: &S::Op) -> bool
 
 /// The place of the first own entry that may not come behind the operation.
 pub fn first_not_before<S: Spec>(entries: &[LocalEntry<S::Op>], op: &S::Op) -> Option<usize>
-    ensures { MatchOption result (HoldEverywhere (GoesBehind S.object op.now) entries.now) (HoldsAtPlace (StandsFirst S.object op.now) entries.now) }
+    ensures { MatchOption result (HoldEverywhere (GoesBehind S.object op.now) entries.now)
+        (HoldsAtPlace (StandsFirst S.object op.now) entries.now) }
 {
     entries
         .iter()

@@ -1,3 +1,4 @@
+//! The laws of the machine, each over every object.
 ghost use Rattle.pp_model.specs.Alone.{AloneLaw};
 ghost use Rattle.pp_model.specs.AsWritten.{WrittenLaw};
 ghost use Rattle.pp_model.specs.Laws.{VerdictLaw, ViewsLaw};
@@ -17,7 +18,8 @@ pub fn written_law<S: Spec>()
     ensures { (shape : S.Shape) → WrittenLaw (rules_of S.object shape) }
 {}
 
-/// What is allowed after the shared log is allowed after the serial run and the uncommitted entries.
+/// What is allowed after the shared log is allowed after the serial run and the uncommitted
+/// entries.
 pub fn serial_law<S: Spec>()
     ensures { (shape : S.Shape) → SerialLaw (rules_of S.object shape) }
 {}
@@ -42,7 +44,8 @@ pub fn alone_law<S: Spec>()
     ensures { (shape : S.Shape) → AloneLaw (rules_of S.object shape) }
 {}
 
-/// A run has one verdict at most, and is accepted exactly where the start and each step meet their criteria.
+/// A run has one verdict at most, and is accepted exactly where the start and each step meet their
+/// criteria.
 pub fn verdict_law<S: Spec>()
     ensures { (shape : S.Shape) → VerdictLaw (rules_of S.object shape) }
 {}

@@ -12,3 +12,8 @@ pub use laws::{
     written_law,
 };
 pub use machine::{Machine, Outcome};
+pub use pp_core::{
+    Committed, CommittedTx, LocalEntry, Mark, Rule, SharedEntry, Step, Ticks, rule_of,
+};
+pub use pp_local::Local;
+pub use pp_shared::Shared;

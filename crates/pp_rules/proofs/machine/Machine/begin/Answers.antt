@@ -1,20 +1,24 @@
-use Rattle.std.proofs.Common.{option_map}
+use Rattle.std.proofs.Common.{option_map, refl}
 use Rattle.pp_core.specs.Trees.{tree}
 use Rattle.pp_rules.proofs.Keeping.{begin_free, begin_idle, holds_begin, seen_begin}
 use Rattle.pp_rules.proofs.machine.Machine.begin.Goals as goal
 
+pub returns-in-Err : goal.returns-in-Err
+returns-in-Err g c =
+    let k = c.in-Err.ensures (option_map tree c.args.body.now) in (k.0, k.1, refl)
+
 pub begin-requires-clause-new : goal.begin-requires-clause-new
 begin-requires-clause-new g c =
-    begin_free g.S.Spec.object c.self.inside.shape c.self.inside.transactions c.self.inside.ids.keys c.self.inside.shared c.self.inside.committed c.self.inside.count _ c.self.view_is c.self.invariant c.args.tx.now c.args.thread.now (option_map tree c.args.body.now) c.requires.holds
+    begin_free g.S.Spec.object c.self.inside.shape c.self.inside.transactions c.self.inside.ids.keys c.self.inside.shared c.self.inside.committed c.self.inside.count _ c.self.view_is c.self.invariant c.args.tx.now c.args.thread.now (option_map tree c.args.body.now) (c.in_default.ensures (option_map tree c.args.body.now)).0
 
 pub begin-requires-clause-idle : goal.begin-requires-clause-idle
 begin-requires-clause-idle g c =
-    begin_idle g.S.Spec.object c.self.inside.shape c.self.inside.transactions c.self.inside.ids.keys c.self.inside.shared c.self.inside.committed c.self.inside.count _ c.self.view_is c.self.invariant c.args.tx.now c.args.thread.now (option_map tree c.args.body.now) c.requires.holds
+    begin_idle g.S.Spec.object c.self.inside.shape c.self.inside.transactions c.self.inside.ids.keys c.self.inside.shared c.self.inside.committed c.self.inside.count _ c.self.view_is c.self.invariant c.args.tx.now c.args.thread.now (option_map tree c.args.body.now) (c.in_default.ensures (option_map tree c.args.body.now)).0
 
-pub invariant_of-self-2 : goal.invariant_of-self-2
-invariant_of-self-2 g c =
-    holds_begin g.S.Spec.object c.self.inside.shape c.self.inside.transactions c.self.inside.ids.keys c.self.inside.shared c.self.inside.committed c.self.inside.count _ c.self.view_is c.self.invariant c.args.tx.now c.args.thread.now _ c.begin.new.self c.requires.holds c.in_ok-begin.ensures.ok
+pub invariant_of-self : goal.invariant_of-self
+invariant_of-self g c =
+    holds_begin g.S.Spec.object c.self.inside.shape c.self.inside.transactions c.self.inside.ids.keys c.self.inside.shared c.self.inside.committed c.self.inside.count _ c.self.view_is c.self.invariant c.args.tx.now c.args.thread.now _ c.begin.new.self (c.in_default.ensures (option_map tree c.args.body.now)).0 c.in_ok-begin.ensures.ok
 
-pub returns-clause-ok : goal.returns-clause-ok
-returns-clause-ok g c =
-    seen_begin g.S.Spec.object c.self.inside.shape c.self.inside.transactions c.self.inside.ids.keys c.self.inside.shared c.self.inside.committed c.self.inside.count _ c.self.view_is c.self.invariant c.args.tx.now c.args.thread.now _ c.begin.new.self c.in_ok-begin.ensures.ok
+pub returns : goal.returns
+returns g c =
+    ((c.in_default.ensures (option_map tree c.args.body.now)).0, seen_begin g.S.Spec.object c.self.inside.shape c.self.inside.transactions c.self.inside.ids.keys c.self.inside.shared c.self.inside.committed c.self.inside.count _ c.self.view_is c.self.invariant c.args.tx.now c.args.thread.now _ c.begin.new.self c.in_ok-begin.ensures.ok)

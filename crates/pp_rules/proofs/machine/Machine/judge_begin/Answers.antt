@@ -1,15 +1,16 @@
+use Rattle.std.proofs.Common.{arith}
 use Rattle.pp_rules.proofs.Judging.{begin_1, begin_2, begin_0}
 use Rattle.pp_rules.proofs.Opened.{begun_in, not_begun, busy_in, not_busy}
 use Rattle.pp_rules.proofs.machine.Machine.judge_begin.Goals as goal
 
 pub returns-then-is_begun : goal.returns-then-is_begun
-returns-then-is_begun g c = λ body. begin_1 g.S.Spec.object _ _ c.self.view_is c.args.tx.now c.args.thread.now body (begun_in c.self.inside.transactions c.args.tx.now c.if-is_begun.ensures)
+returns-then-is_begun g c = λ body. (begin_1 g.S.Spec.object _ _ c.self.view_is c.args.tx.now c.args.thread.now body (begun_in c.self.inside.transactions c.args.tx.now c.if-is_begun.ensures), omega arith)
 
 pub returns-then-is_busy : goal.returns-then-is_busy
 returns-then-is_busy g c = λ body.
     let x = busy_in c.self.inside.transactions c.args.thread.now c.if-is_busy.ensures in
-    begin_2 g.S.Spec.object _ _ c.self.view_is c.args.tx.now c.args.thread.now body (not_begun c.self.inside.transactions c.args.tx.now c.if-is_begun.ensures) x.0 x.1 x.2
+    (begin_2 g.S.Spec.object _ _ c.self.view_is c.args.tx.now c.args.thread.now body (not_begun c.self.inside.transactions c.args.tx.now c.if-is_begun.ensures) x.0 x.1 x.2, omega arith)
 
 pub returns : goal.returns
 returns g c = λ body.
-    begin_0 g.S.Spec.object _ _ c.self.view_is c.args.tx.now c.args.thread.now body (not_begun c.self.inside.transactions c.args.tx.now c.if-is_begun.ensures) (not_busy c.self.inside.transactions c.args.thread.now c.if-is_busy.ensures)
+    (begin_0 g.S.Spec.object _ _ c.self.view_is c.args.tx.now c.args.thread.now body (not_begun c.self.inside.transactions c.args.tx.now c.if-is_begun.ensures) (not_busy c.self.inside.transactions c.args.thread.now c.if-is_busy.ensures), tt)

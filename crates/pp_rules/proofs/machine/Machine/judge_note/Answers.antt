@@ -1,12 +1,12 @@
+use Rattle.std.proofs.Common.{refl, sym, ◌∙◌, arith}
 use Rattle.pp_rules.proofs.Judging.{note_1, note_0}
-use Rattle.pp_rules.proofs.Opened.{logged, unlogged}
+use Rattle.pp_rules.proofs.Opened.{is_none, is_there}
 use Rattle.pp_rules.proofs.machine.Machine.judge_note.Goals as goal
 
-pub returns-in_default : goal.returns-in_default
-returns-in_default g c =
-    note_1 g.S.Spec.object _ _ c.self.view_is c.args.tx.now (unlogged g.S.Spec.object c.self.inside.shape c.self.inside.transactions c.self.inside.ids.keys c.self.inside.shared c.self.inside.committed c.self.inside.count c.self.invariant c.args.tx.now c.in_default.ensures)
+pub returns-then-not-is_open : goal.returns-then-not-is_open
+returns-then-not-is_open g c = (note_1 g.S.Spec.object c.args.self.now c.args.self.now refl c.args.tx.now (is_none _ (sym c.is_open.ensures ∙ c.if-not-is_open.true)), omega arith)
 
 pub returns : goal.returns
 returns g c =
-    let r = logged g.S.Spec.object c.self.inside.shape c.self.inside.transactions c.self.inside.ids.keys c.self.inside.shared c.self.inside.committed c.self.inside.count c.self.invariant c.args.tx.now c.in-Some._local.now c.in-Some.ensures in
-    note_0 g.S.Spec.object _ _ c.self.view_is c.args.tx.now _ r.is
+    let r = is_there _ (sym c.is_open.ensures ∙ c.if-not-is_open.false) in
+    (note_0 g.S.Spec.object c.args.self.now c.args.self.now refl c.args.tx.now r.0 r.1, tt)

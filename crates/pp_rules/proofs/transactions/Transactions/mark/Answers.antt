@@ -26,7 +26,7 @@ invariant_of-self g c =
     let w = c.requires.own.2 in
     let m = c.mark_in.ensures w.entry (subst (λ s. IfSome s (λ t. slice_get t.course.local.1 c.args.i ≡ Some w.entry)) (sym r.1) (ap (λ x. slice_get x.local.1 c.args.i) r.2 ∙ w.here)) in
     kept_changed (λ n t. open_of n t.thread t.course.body t.course.local) (λ n t. refl) c.self.inside.slots.entries _ _ c.self.view_is c.self.invariant c.args.tx.now r.0 _ _ (sym c.in-Some.ensures.value ∙ ap (λ s. Some s) r.1) refl
-    (k.0 ∙ ap (set_value (bytes_eq c.args.tx.now) c.self.inside.slots.entries) (m ∙ ap (option_map (λ t. record { thread = t.thread; course = record { body = t.course.body; local = (t.course.local.0, marked (w.entry).id c.args.mark t.course.local.1) } })) r.1)) k.1
+    (k.0 ∙ ap (set_value (bytes_eq c.args.tx.now) c.self.inside.slots.entries) (m ∙ ap (option_map (λ t. record { thread = t.thread; course = record { body = t.course.body; local = (t.course.local.0, set_mark (w.entry).id c.args.mark t.course.local.1) } })) r.1)) k.1
 
 pub returns : goal.returns
 returns g c = λ x e o h.

@@ -1,0 +1,11 @@
+pub mod Ends
+pub mod Whole
+pub mod Reading
+pub mod Restating
+pub mod Taking
+pub mod Reporting
+pub mod Asking
+pub mod Pushing
+pub mod Keepless
+pub mod Reprinting
+pub mod Rows

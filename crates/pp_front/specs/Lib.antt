@@ -1,0 +1,12 @@
+pub mod Records
+pub mod Fronts
+pub mod Expansions
+pub mod Runs
+pub mod Laws
+pub mod Styles
+pub mod Effects
+pub mod Inputs
+pub mod RulesInputs
+pub mod Asked
+pub mod Stateless
+pub mod Reprints

@@ -1,0 +1,91 @@
+-- What judging a step hands on to its effect.
+use Rattle.std.proofs.Common.{◌≡◌, ◌==◌, ◌-◌, ℕ, true, false, List, map, length, Option, Some, None, option_map, position, slice_get, sym, ap, subst, ◌∙◌, arith}
+use Rattle.std.proofs.lemmas.Bool.{eq-eqb}
+use Rattle.pp_core.specs.declared.entry.CommittedTx.{CommittedTx}
+use Rattle.pp_core.specs.declared.entry.LocalEntry.{LocalEntry}
+use Rattle.pp_core.specs.declared.entry.SharedEntry.{SharedEntry}
+use Rattle.pp_model.specs.Config.{Mark, Tx, Unpushed, Pushed, at_mark, is_mark, item, last, of_other, as_shared}
+use Rattle.pp_model.specs.Lists.{Before}
+use Rattle.pp_model.specs.Names.{Name}
+use Rattle.pp_model.specs.Rules.{IsLast}
+use Rattle.pp_model.proofs.Logs.{found_mark, found_tx}
+use Rattle.pp_spec.specs.Object.{Object, SwapsIn}
+use Rattle.pp_rules.specs.Finding.{IsLastUnpushed}
+use Rattle.pp_rules.specs.Machines.{Holds, Seen, config_of, tx_of}
+use Rattle.pp_rules.specs.Stepping.{FindsPushed, IsAt, IsLastAt, IsLocalOf, IsOfOther}
+use Rattle.pp_rules.specs.Transactions.{Open, Txs}
+use Rattle.pp_rules.proofs.Finding.{find_nowhere, last_at, place_none}
+use Rattle.pp_rules.proofs.Opened.{HasLog, local_seen, logged, opened}
+
+not_both : true ≡ false → ⊥
+not_both e = cc
+
+module _ {Shape State Op Undo : Type 0} (o : Object Shape State Op Undo) (shape : Shape) (v : Txs Shape Op) (ids : List ℕ) (G : Shape × List (SharedEntry Op)) (F : List (CommittedTx Op)) (n : ℕ) (h : Holds o shape v ids G F n) (w : Seen Shape Op)
+    (same : ◌≡◌ {A = Seen Shape Op} (record { shape = shape; config = config_of v ids G.1 F; count = n }) w) where
+  -- the local log of the open transaction t, with an entry that stands in it
+  pub record HasEntry (t : Name) (id : ℕ) (m : Mark) (i : ℕ) (e : LocalEntry Op) : Type 0 where
+    pub log : Shape × List (LocalEntry Op)
+    pub has : HasLog o shape v ids G F n h t log
+    pub found : at_mark id m log.1 ≡ Some e
+    pub here : slice_get log.1 i ≡ Some e
+
+  pub entry_at : (t : Name) (id : ℕ) (m : Mark) (i : ℕ) (e : LocalEntry Op) → IsAt w.config t id m i e → HasEntry t id m i e
+  entry_at t id m i e k =
+      let q = subst (λ (z : Seen Shape Op). IsAt z.config t id m i e) (sym same) k in
+      let y = opened o shape v ids G F n h t q.holder q.is_open in
+      let is : (y.0).local.1 ≡ (q.holder).local = ap (λ (z : Tx Op). z.local) y.2 in
+      record {
+        log = (y.0).local;
+        has = logged o shape v ids G F n h t (y.0).local (sym (ap (option_map (λ (x : Open Shape Op). x.local)) y.1));
+        found = ap (at_mark id m) is ∙ q.found;
+        here = ap (λ (l : List (LocalEntry Op)). slice_get l i) is ∙ q.here;
+      }
+
+  pub is_at : (t : Name) (id : ℕ) (m : Mark) (i : ℕ) (e : LocalEntry Op) (l : Shape × List (LocalEntry Op)) → HasLog o shape v ids G F n h t l → at_mark id m l.1 ≡ Some e → slice_get l.1 i ≡ Some e → IsAt w.config t id m i e
+  is_at t id m i e l r q at = subst (λ (z : Seen Shape Op). IsAt z.config t id m i e) same (record { holder = _; is_open = r.is; found = q; here = at })
+
+  pub of_other_is : (t : Name) (id : ℕ) (g : SharedEntry Op) → of_other t id G.1 ≡ Some g → IsOfOther w.config t id g
+  of_other_is t id g e = subst (λ (z : Seen Shape Op). IsOfOther z.config t id g) same e
+
+  pub is_of_other : (t : Name) (id : ℕ) (g : SharedEntry Op) → IsOfOther w.config t id g → of_other t id G.1 ≡ Some g
+  is_of_other t id g e = subst (λ (z : Seen Shape Op). IsOfOther z.config t id g) (sym same) e
+
+  pub is_local : (t : Name) (l m : Shape × List (LocalEntry Op)) → HasLog o shape v ids G F n h t l → m ≡ l → IsLocalOf w t m
+  is_local t l m r e =
+      subst (λ (z : Seen Shape Op). IsLocalOf z t m) same
+      (ap (option_map (λ (x : Tx Op). (shape, x.local))) r.is ∙ ap (λ (s : Shape). Some (s, l.1)) (sym (r.fine).same_shape) ∙ ap (λ (k : Shape × List (LocalEntry Op)). Some k) (sym e))
+
+  pub local_log : (t : Name) (l : Shape × List (LocalEntry Op)) → IsLocalOf w t l → HasLog o shape v ids G F n h t l
+  local_log t l e =
+      let k = subst (λ (z : Seen Shape Op). IsLocalOf z t l) (sym same) e in
+      logged o shape v ids G F n h t l (sym (local_seen o shape v ids G F n h t ∙ k))
+
+  pub is_last_at : (t : Name) (id i : ℕ) (l : Shape × List (LocalEntry Op)) → HasLog o shape v ids G F n h t l → IsLastUnpushed id l.1 i → IsLastAt w.config t i
+  is_last_at t id i l r q = subst (λ (z : Seen Shape Op). IsLastAt z.config t i) same (record { holder = _; is_open = r.is; entry = q.entry; here = q.here; end = q.end; own = q.unpushed })
+
+  pub finds_pushed : (t : Name) (id i j : ℕ) (e : LocalEntry Op) (l : Shape × List (LocalEntry Op)) → HasLog o shape v ids G F n h t l → at_mark id Pushed l.1 ≡ Some e → slice_get l.1 i ≡ Some e →
+      ((b : LocalEntry Op) → Before e b l.1 → b.mark ≡ Pushed → SwapsIn o shape b.op e.op) → position (λ g. g.id == id) G.1 ≡ Some j → FindsPushed o w t id i j
+  finds_pushed t id i j e l r q at s p =
+      subst (λ (z : Seen Shape Op). FindsPushed o z t id i j) same
+      (record { entry = e; at = record { holder = _; is_open = r.is; found = q; here = at }; swap = s; posted = p })
+
+  -- each pushed entry of an open transaction stands in the shared log
+  pub stands_posted : (t : Name) (id : ℕ) (e : LocalEntry Op) (l : Shape × List (LocalEntry Op)) → HasLog o shape v ids G F n h t l → at_mark id Pushed l.1 ≡ Some e → position (λ g. g.id == id) G.1 ≡ None → ⊥
+  stands_posted t id e l r q none =
+      let k = found_mark id Pushed l.1 e q in
+      let i = h.sound.pushed_stand (record { name = t; thread = r.thread; body = r.body; local = l.1 }) (found_tx t (map tx_of v.opened) _ r.is).0 e k.0 k.2 in
+      not_both (sym (eq-eqb e.id id k.1) ∙ find_nowhere (λ (g : SharedEntry Op). g.id == id) G.1 (place_none (λ (g : SharedEntry Op). g.id == id) G.1 none) (as_shared t false (item e)) i)
+
+pub ends_with : {Op : Type 0} (id i : ℕ) (l : List (LocalEntry Op)) → IsLastUnpushed id l i → IsLast id (last l)
+ends_with {Op} id i l q =
+    let end = q.end in
+    let e : length l - 1 ≡ i = omega (arith, end) in
+    subst (λ (z : Option (LocalEntry Op)). IsLast id z) (sym (last_at l ∙ ap (slice_get l) e ∙ q.here)) (q.id_is, q.unpushed)
+
+pub not_last : {Op : Type 0} (id : ℕ) (l : List (LocalEntry Op)) (e : LocalEntry Op) → last l ≡ Some e → (e.id ≡ id → ⊥) → IsLast id (last l) → ⊥
+not_last {Op} id l e is n h = let k = subst (λ (z : Option (LocalEntry Op)). IsLast id z) is h in n k.0
+
+pub not_unpushed : {Op : Type 0} (id : ℕ) (l : List (LocalEntry Op)) (e : LocalEntry Op) → last l ≡ Some e → false ≡ is_mark e.mark Unpushed → IsLast id (last l) → ⊥
+not_unpushed {Op} id l e is n h =
+    let k = subst (λ (z : Option (LocalEntry Op)). IsLast id z) is h in
+    not_both (sym (ap (λ (m : Mark). is_mark m Unpushed) k.1) ∙ sym n)

@@ -1,0 +1,86 @@
+-- What a step costs: how many operations it applies or takes back.
+use Rattle.std.specs.Prelude.{◌≡◌, ◌≤◌, ◌==◌, ◌+◌, ◌*◌, ◌-◌, ℕ, cond, List, [], ◌∷◌, map, filter, length, Option, None, Some, Result, Ok, Err}
+use Rattle.pp_core.specs.Steps.{Step, Begin, App, Unapp, Push, Unpush, Pull, Unpull, Cmt, Quit, Note}
+use Rattle.pp_core.specs.declared.entry.Item.{Item}
+use Rattle.pp_model.specs.Config.{Config, Tx, item, shared_item, tx}
+use Rattle.pp_rules.specs.declared.machine.Outcome.{Outcome}
+use Rattle.pp_rules.specs.declared.machine.Outcome.TheVariants.{Done, False}
+use Rattle.pp_rules.specs.Machines.{Seen}
+
+-- How many items, from the one of this id to the end and itself counted, have its place. It is 1
+-- where there is no such item.
+abbrev pub from_id : {Op : Type 0} → (Op → ℕ) → ℕ → List (Item Op) → ℕ
+from_id place id [] = 1
+from_id place id (p ∷ ps) =
+    cond (p.id == id) (length (filter (λ q. place q.op == place p.op) (p ∷ ps)))
+    (from_id place id ps)
+
+-- the local log of the transaction, and the empty one where it is not open
+abbrev pub log_items : {Op : Type 0} → Option (Tx Op) → List (Item Op)
+log_items None = []
+log_items (Some x) = map item x.local
+
+-- How many operations stand in the way of a removal, that of the entry counted.
+abbrev pub behind : {Op : Type 0} → (Op → ℕ) → Config Op → Step Op → ℕ
+behind place c (Begin t p b) = 1
+behind place c (App t id op) = 1
+behind place c (Unapp t id) = 1
+behind place c (Push t id) = 1
+behind place c (Unpush t id) = from_id place id (map shared_item c.shared)
+behind place c (Pull t id) = 1
+behind place c (Unpull t id) = from_id place id (log_items (tx t c.opened))
+behind place c (Cmt t) = 1
+behind place c (Quit t) = 1
+behind place c (Note t) = 1
+
+-- What a step costs that is done. A removal takes the operations back, and applies all but one
+-- again.
+abbrev pub step_ticks : {Op : Type 0} → (Op → ℕ) → Config Op → Step Op → ℕ
+step_ticks place c (Begin t p b) = 0
+step_ticks place c (App t id op) = 1
+step_ticks place c (Unapp t id) = 1
+step_ticks place c (Push t id) = 1
+step_ticks place c (Unpush t id) = 2 * behind place c (Unpush t id) - 1
+step_ticks place c (Pull t id) = 1
+step_ticks place c (Unpull t id) = 2 * behind place c (Unpull t id) - 1
+step_ticks place c (Cmt t) = 0
+step_ticks place c (Quit t) = 0
+step_ticks place c (Note t) = 0
+
+-- What a step costs at most, whatever it answers. A removal may also take back what it applied, and
+-- apply all as they were.
+abbrev pub at_most : {Op : Type 0} → (Op → ℕ) → Config Op → Step Op → ℕ
+at_most place c (Begin t p b) = 0
+at_most place c (App t id op) = 1
+at_most place c (Unapp t id) = 1
+at_most place c (Push t id) = 1
+at_most place c (Unpush t id) = 4 * behind place c (Unpush t id) - 3
+at_most place c (Pull t id) = 1
+at_most place c (Unpull t id) = 4 * behind place c (Unpull t id) - 3
+at_most place c (Cmt t) = 0
+at_most place c (Quit t) = 0
+at_most place c (Note t) = 0
+
+-- What a step costs that is not done: nothing, unless it is a removal.
+abbrev pub CostsInVain : {Op : Type 0} → (Op → ℕ) → Config Op → Step Op → ℕ → ℕ → Type 0
+CostsInVain place c (Begin t p b) old new = new ≡ old
+CostsInVain place c (App t id op) old new = new ≡ old
+CostsInVain place c (Unapp t id) old new = new ≡ old
+CostsInVain place c (Push t id) old new = new ≡ old
+CostsInVain place c (Unpush t id) old new = new ≤ old + at_most place c (Unpush t id)
+CostsInVain place c (Pull t id) old new = new ≡ old
+CostsInVain place c (Unpull t id) old new = new ≤ old + at_most place c (Unpull t id)
+CostsInVain place c (Cmt t) old new = new ≡ old
+CostsInVain place c (Quit t) old new = new ≡ old
+CostsInVain place c (Note t) old new = new ≡ old
+
+-- What a step costs by its outcome.
+abbrev pub CostsBy : {Op : Type 0} → (Op → ℕ) → Config Op → Step Op → Outcome → ℕ → ℕ → Type 0
+CostsBy place c step Done old new = new ≡ old + step_ticks place c step
+CostsBy place c step (False n) old new = CostsInVain place c step old new
+
+-- What a step costs by what it answers.
+abbrev pub Costs : {Shape Op A E : Type 0} → (Op → ℕ) → Seen Shape Op → Step Op →
+    Result (A × Outcome) E → ℕ → ℕ → Type 0
+Costs place v step (Ok r) old new = CostsBy place v.config step r.1 old new
+Costs place v step (Err e) old new = new ≤ old + at_most place v.config step

@@ -1,0 +1,43 @@
+//! BEGIN: its criteria and its effect.
+ghost use Rattle.std.specs.Prelude.{◌<◌, option_map};
+ghost use Rattle.pp_core.specs.Trees.{IsWithinLimits, tree};
+ghost use Rattle.pp_rules.specs.Stepping.{Does, JudgesBegin, begin_of};
+
+use crate::machine::{Machine, Outcome};
+use pp_core::{Body, Name, OutOfMemory};
+use pp_spec::Placed;
+
+impl<S: Placed> Machine<S> {
+    /// Whether BEGIN may be done, or the number of its first false criterion.
+    fn judge_begin(&self, tx: &Name, thread: &Name) -> Result<(), u8>
+        ensures { JudgesBegin S.object self.now tx.now thread.now result }
+    {
+        if self.transactions.is_begun(tx) {
+            return Err(1);
+        }
+        if self.transactions.is_busy(thread) {
+            return Err(2);
+        }
+        Ok(())
+    }
+
+    /// Does BEGIN where its criteria hold.
+    pub(super) fn begin(
+        mut self,
+        tx: &Name,
+        thread: &Name,
+        body: &Option<Body>,
+    ) -> Result<(Self, Outcome), OutOfMemory>
+        requires within { IsWithinLimits (option_map tree body.now) }
+        requires few { self.count < 200_000 }
+        ensures { Does S.object self (begin_of tx.now thread.now body.now) result }
+    {
+        if let Err(criterion) = self.judge_begin(tx, thread) {
+            return Ok((self, Outcome::False { criterion }));
+        }
+        self.transactions
+            .begin(self.alloc, &self.shape, tx, thread, body)?;
+        self.count += 1;
+        Ok((self, Outcome::Done))
+    }
+}
