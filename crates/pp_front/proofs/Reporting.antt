@@ -10,7 +10,7 @@ use Rattle.pp_front.specs.Records.{RunRecord}
 use Rattle.pp_front.specs.Fronts.{Front}
 use Rattle.pp_front.specs.Inputs.{InputLaw, IsFault, IsReport, IsReportBehind, IsReportOf, IsRunReport, OverrunsAt, Report, Scan, Setting, StepRejected, Widens, steps_of}
 use Rattle.pp_front.specs.Laws.{up_to}
-use Rattle.pp_front.specs.RulesInputs.{AreRules, RulesInputLaw}
+use Rattle.pp_front.specs.PlainInputs.{AreStyled, PlainInputLaw}
 use Rattle.pp_front.specs.Runs.{IsRun, Lined, Translation, bare, joined_steps, outset}
 use Rattle.pp_front.specs.Styles.{plain, translation}
 use Rattle.pp_front.proofs.Ends.{few_steps}
@@ -121,29 +121,29 @@ module _ {H F R Op State Cause : Type 0} (setting : H → Setting F R Op State) 
         unfolded = λ h rs r. (run_report_to h rs r, run_report_of h rs r);
       }
 
--- style rules
+-- records that are steps
 module _ {H Op State Cause : Type 0} (setting : H → Setting Front (RunRecord Op) Op State) (too_many : Cause) where
-  rules_steps : AreRules setting → (h : H) (ss : List (Lined (Step Op))) → steps_of (setting h) (plain ss) ≡ ss
-  rules_steps rules h ss =
+  plain_are : AreStyled setting → (h : H) (ss : List (Lined (Step Op))) → steps_of (setting h) (plain ss) ≡ ss
+  plain_are rules h ss =
       let k = rules h in
-      ap (λ (w : Translation Front (RunRecord Op) Op). joined_steps w (outset w (setting h).start) (plain ss)) k.2
-      ∙ plain_steps k.0 k.1 (outset (translation k.0 Rules k.1) (setting h).start) ss
+      ap (λ (w : Translation Front (RunRecord Op) Op). joined_steps w (outset w (setting h).start) (plain ss)) k.3
+      ∙ plain_steps k.0 k.1 k.2 (outset (translation k.0 k.1 k.2) (setting h).start) ss
 
-  no_overrun : AreRules setting → (ho : Option H) (ss : List (Lined (Step Op))) → length ss ≤ 200_000 → (line : ℕ) → OverrunsAt setting ho (plain ss) line → ⊥
+  no_overrun : AreStyled setting → (ho : Option H) (ss : List (Lined (Step Op))) → length ss ≤ 200_000 → (line : ℕ) → OverrunsAt setting ho (plain ss) line → ⊥
   no_overrun rules None ss few line m = m
   no_overrun rules (Some h) ss few line m =
-      few_steps (setting h).object 200_000 _ (steps_of (setting h) (plain ss)) line (subst (λ (w : List (Lined (Step Op))). length w ≤ 200_000) (sym (rules_steps rules h ss)) few) m.1
+      few_steps (setting h).object 200_000 _ (steps_of (setting h) (plain ss)) line (subst (λ (w : List (Lined (Step Op))). length w ≤ 200_000) (sym (plain_are rules h ss)) few) m.1
 
-  rules_fault : AreRules setting → (header : Option H) (ss : List (Lined (Step Op))) (scanned f : Option (ℕ × Cause)) → length ss ≤ 200_000 →
+  plain_fault : AreStyled setting → (header : Option H) (ss : List (Lined (Step Op))) (scanned f : Option (ℕ × Cause)) → length ss ≤ 200_000 →
       IsFault setting too_many (record { header = header; records = plain ss; fault = scanned }) f → f ≡ scanned
-  rules_fault rules header ss scanned f few (inl a) = absurd (no_overrun rules header ss few a.0 a.1)
-  rules_fault rules header ss scanned f few (inr a) = a.1
+  plain_fault rules header ss scanned f few (inl a) = absurd (no_overrun rules header ss few a.0 a.1)
+  plain_fault rules header ss scanned f few (inr a) = a.1
 
-  pub rules_input_law : RulesInputLaw setting too_many
-  rules_input_law =
+  pub plain_input_law : PlainInputLaw setting too_many
+  plain_input_law =
       record {
-        fault = λ rules header ss scanned f few. (rules_fault rules header ss scanned f few, λ e. inr (no_overrun rules header ss few, e));
+        fault = λ rules header ss scanned f few. (plain_fault rules header ss scanned f few, λ e. inr (no_overrun rules header ss few, e));
         report = λ rules h ss r.
             subst (λ (w : List (Lined (Step Op))). IsRunReport setting (Some h) (plain ss) r ↔ ((v : Verdict) × IsVerdict (setting h).object (setting h).start (bare w) v × IsReportOf (setting h) w v r))
-            (rules_steps rules h ss) (run_report_to setting too_many h (plain ss) r, run_report_of setting too_many h (plain ss) r);
+            (plain_are rules h ss) (run_report_to setting too_many h (plain ss) r, run_report_of setting too_many h (plain ss) r);
       }

@@ -3,6 +3,7 @@ use Rattle.std.specs.Prelude.{◌≡◌, ◌≤◌, ◌↔◌, ℕ, suc, List, [
 use Rattle.std.proofs.Common.{refl, sym, ap, subst, ◌∙◌}
 use mathlib.Core.Logic.{inl, inr}
 use Rattle.pp_core.specs.declared.call.Kind.{Kind}
+use Rattle.pp_core.specs.declared.call.Style.{Style}
 use Rattle.pp_core.specs.declared.call.Style.TheVariants.{Rules}
 use Rattle.pp_model.specs.Object.{Object}
 use Rattle.pp_model.specs.Config.{Config, Start, Step, first, then}
@@ -13,28 +14,28 @@ use Rattle.pp_front.specs.Styles.{RestatedLaw, RulesLaw, numbered, plain, restat
 use Rattle.pp_front.proofs.Ends.{bare_append, few_steps, heads, length_bare, more_behind, tails}
 use Rattle.pp_front.proofs.Whole.{one_run_law, unbegun}
 
-pub plain_steps : {Op : Type 0} (place : Op → ℕ) (ks : List Kind) (p : Standing Front Op) (ss : List (Lined (Step Op))) → joined_steps (translation place Rules ks) p (plain ss) ≡ ss
-plain_steps place ks p [] = refl
-plain_steps {Op} place ks p (s ∷ ss) =
-    ap (λ (w : List (Lined (Step Op))). s ∷ w) (plain_steps place ks (record { front = p.front; config = then p.config s.what }) ss)
+pub plain_steps : {Op : Type 0} (place : Op → ℕ) (style : Style) (ks : List Kind) (p : Standing Front Op) (ss : List (Lined (Step Op))) → joined_steps (translation place style ks) p (plain ss) ≡ ss
+plain_steps place style ks p [] = refl
+plain_steps {Op} place style ks p (s ∷ ss) =
+    ap (λ (w : List (Lined (Step Op))). s ∷ w) (plain_steps place style ks (record { front = p.front; config = then p.config s.what }) ss)
 
 module _ {Op State : Type 0} (O : Object Op State) (place : Op → ℕ) (ks : List Kind) (h : Option (Start Op)) where
   plain_ends : (ss run : List (Lined (Step Op))) → EndsAtFailure O (first h) ss run → EndsAtFailure O (first h) (joined_steps (translation place Rules ks) (outset (translation place Rules ks) h) (plain ss)) run
-  plain_ends ss run e = subst (λ (w : List (Lined (Step Op))). EndsAtFailure O (first h) w run) (sym (plain_steps place ks (outset (translation place Rules ks) h) ss)) e
+  plain_ends ss run e = subst (λ (w : List (Lined (Step Op))). EndsAtFailure O (first h) w run) (sym (plain_steps place Rules ks (outset (translation place Rules ks) h) ss)) e
 
   plain_run : (ss run : List (Lined (Step Op))) → StartMeets O h → IsRun O (translation place Rules ks) h (plain ss) run → EndsAtFailure O (first h) ss run
   plain_run ss run b (inl r) = absurd (unbegun O h r.0 b r.1)
-  plain_run ss run b (inr r) = subst (λ (w : List (Lined (Step Op))). EndsAtFailure O (first h) w run) (plain_steps place ks (outset (translation place Rules ks) h) ss) r.1
+  plain_run ss run b (inr r) = subst (λ (w : List (Lined (Step Op))). EndsAtFailure O (first h) w run) (plain_steps place Rules ks (outset (translation place Rules ks) h) ss) r.1
 
   plain_verdict : (ss run : List (Lined (Step Op))) (v : Verdict) → IsRun O (translation place Rules ks) h (plain ss) run → IsVerdict O h (bare run) v ↔ IsVerdict O h (bare ss) v
   plain_verdict ss run v r =
-      subst (λ (w : List (Lined (Step Op))). IsVerdict O h (bare run) v ↔ IsVerdict O h (bare w) v) (plain_steps place ks (outset (translation place Rules ks) h) ss)
+      subst (λ (w : List (Lined (Step Op))). IsVerdict O h (bare run) v ↔ IsVerdict O h (bare w) v) (plain_steps place Rules ks (outset (translation place Rules ks) h) ss)
       ((one_run_law O (translation place Rules ks)).verdict h (plain ss) run v r)
 
   plain_few : (ss : List (Lined (Step Op))) (line : ℕ) → length ss ≤ 200_000 → HasTooManySteps O (translation place Rules ks) h (plain ss) line → ⊥
   plain_few ss line few m =
       few_steps O 200_000 (first h) (joined_steps (translation place Rules ks) (outset (translation place Rules ks) h) (plain ss)) line
-      (subst (λ (w : List (Lined (Step Op))). length w ≤ 200_000) (sym (plain_steps place ks (outset (translation place Rules ks) h) ss)) few) m.1
+      (subst (λ (w : List (Lined (Step Op))). length w ≤ 200_000) (sym (plain_steps place Rules ks (outset (translation place Rules ks) h) ss)) few) m.1
 
 pub rules_law : {Op State : Type 0} (O : Object Op State) → RulesLaw O
 rules_law O =
@@ -134,7 +135,7 @@ module _ {F R Op State : Type 0} (O : Object Op State) (T : Translation F R Op) 
       let ss : List (Lined (Step Op)) = joined_steps T (outset T h) rs in
       let front = run_front O (first h) ss run r.1 in
       let m1 : HasOneMore O 200_000 (first h) (restated run) line =
-      subst (λ (w : List (Lined (Step Op))). HasOneMore O 200_000 (first h) w line) (plain_steps place ks (outset (translation place Rules ks) h) (restated run)) m.1 in
+      subst (λ (w : List (Lined (Step Op))). HasOneMore O 200_000 (first h) w line) (plain_steps place Rules ks (outset (translation place Rules ks) h) (restated run)) m.1 in
       let m2 = one_more_again O 200_000 (first h) run (restated run) line (bare_numbered 1 (bare run)) m1 in
       none m2.0 (r.0, subst (λ (w : List (Lined (Step Op))). HasOneMore O 200_000 (first h) w m2.0) (sym front.1) (more_behind O 200_000 (first h) run front.0 m2.0 m2.1))
 

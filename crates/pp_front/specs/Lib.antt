@@ -6,7 +6,7 @@ pub mod Laws
 pub mod Styles
 pub mod Effects
 pub mod Inputs
-pub mod RulesInputs
+pub mod PlainInputs
 pub mod Asked
 pub mod Stateless
 pub mod Reprints

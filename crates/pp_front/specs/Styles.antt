@@ -30,11 +30,12 @@ numbered i (s ∷ ss) = record { line = suc i; what = s } ∷ numbered (suc i) s
 abbrev pub restated : {Op : Type 0} → LinedSteps Op → LinedSteps Op
 restated run = numbered 1 (bare run)
 
--- In style rules each record is its step. So the run of the records is the steps up to and with the
--- first that fails, and it has their verdict.
+-- A record that is a step is that step, in every style, and in style rules each record is. So the
+-- run of such records is the steps up to and with the first that fails, and it has their verdict.
 pub record RulesLaw {Op State : Type 0} (O : Object Op State) : Type 0 where
-  pub steps : (place : Op → ℕ) (ks : List Kind) (p : Standing Front Op) (ss : LinedSteps Op) →
-      joined_steps (translation place Rules ks) p (plain ss) ≡ ss
+  pub steps :
+      (place : Op → ℕ) (style : Style) (ks : List Kind) (p : Standing Front Op)
+      (ss : LinedSteps Op) → joined_steps (translation place style ks) p (plain ss) ≡ ss
   pub run : (place : Op → ℕ) (ks : List Kind) (h : Option (Start Op)) (ss run : LinedSteps Op) →
       StartMeets O h →
       IsRun O (translation place Rules ks) h (plain ss) run ↔ EndsAtFailure O (first h) ss run

@@ -9,7 +9,7 @@ ghost use Rattle.pp_front.specs.Laws.{ExtendsLaw, OneRunLaw, ReadingLaw};
 ghost use Rattle.pp_front.specs.Fronts.{Front as FrontState};
 ghost use Rattle.pp_front.specs.Records.{RunRecord};
 ghost use Rattle.pp_front.specs.Reprints.{ReprintLaw};
-ghost use Rattle.pp_front.specs.RulesInputs.{RulesInputLaw};
+ghost use Rattle.pp_front.specs.PlainInputs.{PlainInputLaw};
 ghost use Rattle.pp_front.specs.Runs.{Translation};
 ghost use Rattle.pp_front.specs.Stateless.{StatelessLaw};
 ghost use Rattle.pp_front.specs.Styles.{RestatedLaw, RulesLaw};
@@ -68,7 +68,7 @@ pub fn restated_law<S: Translated>()
     ensures { RestatedLaw S.object S.translation }
 {}
 
-/// In style rules each record is its step.
+/// A record that is a step is that step, so in style rules each record is its step.
 pub fn rules_law<S: Sequential>()
     ensures { RulesLaw S.object }
 {}
@@ -114,9 +114,9 @@ pub trait Styled: Sequential {
     ghost too_many: { Self.Cause };
 }
 
-/// An input of style rules has the fault of its scan, and else the verdict of its steps.
-pub fn rules_input_law<S: Styled>()
-    ensures { RulesInputLaw S.setting S.too_many }
+/// An input whose records are steps has the fault of its scan, and else the verdict of these steps.
+pub fn plain_input_law<S: Styled>()
+    ensures { PlainInputLaw S.setting S.too_many }
 {}
 
 /// The steps of a run, written down as records of style rules, have the same report but for lines.

@@ -45,6 +45,13 @@ app_of catalog value = do
   op ← op_of catalog value
   Ok (App tx id op)
 
+-- an operation that is taken back
+unfoldable pub unapp_of : Data → Result (Step Op) RecordFault
+unapp_of value = do
+  tx ← name_of members.Tx value
+  id ← id_of value
+  Ok (Unapp tx id)
+
 -- an operation that is pushed
 unfoldable pub push_of : Data → Result (Step Op) RecordFault
 push_of value = do
@@ -52,12 +59,26 @@ push_of value = do
   id ← id_of value
   Ok (Push tx id)
 
+-- an operation that is withdrawn from the shared log
+unfoldable pub unpush_of : Data → Result (Step Op) RecordFault
+unpush_of value = do
+  tx ← name_of members.Tx value
+  id ← id_of value
+  Ok (Unpush tx id)
+
 -- an operation that is pulled
 unfoldable pub pull_of : Data → Result (Step Op) RecordFault
 pull_of value = do
   tx ← name_of members.Tx value
   id ← id_of value
   Ok (Pull tx id)
+
+-- an operation that was pulled, and is given up
+unfoldable pub unpull_of : Data → Result (Step Op) RecordFault
+unpull_of value = do
+  tx ← name_of members.Tx value
+  id ← id_of value
+  Ok (Unpull tx id)
 
 -- a commit
 unfoldable pub cmt_of : Data → Result (Step Op) RecordFault
@@ -77,12 +98,15 @@ note_of value = do
   tx ← name_of members.Tx value
   Ok (Note tx)
 
--- the step of this name, where it is built
+-- the step of this name; those of the other styles are not built
 abbrev pub step_of : Objects → StepName → Data → Result (Step Op) RecordFault
 step_of catalog names.Begin value = begin_of catalog value
 step_of catalog names.App value = app_of catalog value
+step_of catalog names.Unapp value = unapp_of value
 step_of catalog names.Push value = push_of value
+step_of catalog names.Unpush value = unpush_of value
 step_of catalog names.Pull value = pull_of value
+step_of catalog names.Unpull value = unpull_of value
 step_of catalog names.Cmt value = cmt_of value
 step_of catalog names.Quit value = quit_of value
 step_of catalog names.Note value = note_of value
@@ -96,20 +120,17 @@ record_of header line = do
   name ← ok_or (step_from header.style word) UnknownStep
   step_of header.catalog name value
 
--- What a step that was read keeps to: it is one of the seven that are built, its id lies in the
--- range
--- of ids, its operation is one on an object of the run, with numbers in the range of records, and
--- its
--- body is within the limits.
+-- What a step that was read keeps to: its id lies in the range of ids, its operation is one on an
+-- object of the run, with numbers in the range of records, and its body is within the limits.
 abbrev pub IsReadable : Objects → Step Op → Type 0
 IsReadable catalog (Begin tx thread body) = IsWithinLimits body
 IsReadable catalog (App tx id op) =
     (id ≤ 999_999_999) × IsTrue (objects.fits (kinds_of catalog) op) × IsTrue (objects.ranged op)
-IsReadable catalog (Unapp tx id) = ⊥
+IsReadable catalog (Unapp tx id) = id ≤ 999_999_999
 IsReadable catalog (Push tx id) = id ≤ 999_999_999
-IsReadable catalog (Unpush tx id) = ⊥
+IsReadable catalog (Unpush tx id) = id ≤ 999_999_999
 IsReadable catalog (Pull tx id) = id ≤ 999_999_999
-IsReadable catalog (Unpull tx id) = ⊥
+IsReadable catalog (Unpull tx id) = id ≤ 999_999_999
 IsReadable catalog (Cmt tx) = Unit {0}
 IsReadable catalog (Quit tx) = Unit {0}
 IsReadable catalog (Note tx) = Unit {0}

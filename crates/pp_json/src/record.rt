@@ -3,7 +3,7 @@ ghost use Rattle.std.specs.Prelude.{◌≡◌, ◌≤◌, IfOk, IfSome};
 ghost use Rattle.serde_json.specs.View.{view};
 ghost use Rattle.pp_core.specs.Steps.{meaning};
 ghost use Rattle.pp_json.specs.Reading.{Gives};
-ghost use Rattle.pp_json.specs.Records.{id_from, id_of, begin_of, app_of, push_of, pull_of, cmt_of, quit_of, note_of, step_of, record_of, IsReadable, IsAlwaysReadable};
+ghost use Rattle.pp_json.specs.Records.{id_from, id_of, begin_of, app_of, unapp_of, push_of, unpush_of, pull_of, unpull_of, cmt_of, quit_of, note_of, step_of, record_of, IsReadable, IsAlwaysReadable};
 
 use crate::body::begin_body;
 use crate::call::op_in;
@@ -59,6 +59,16 @@ fn app_in(catalog: &Catalog, value: &Value) -> Result<Step<Op>, RecordFault>
     Ok(Step::App { tx, id, op })
 }
 
+#[tactic(auto, unfolding(crate::specs::Records::unapp_of))]
+fn unapp_in(value: &Value) -> Result<Step<Op>, RecordFault>
+    ensures reads { Gives meaning result (unapp_of (view value.now)) }
+    ensures readable { IfOk result (λ step. IsAlwaysReadable (meaning step)) }
+{
+    let tx = name_in(value, Member::Tx)?;
+    let id = id_in(value)?;
+    Ok(Step::Unapp { tx, id })
+}
+
 #[tactic(auto, unfolding(crate::specs::Records::push_of))]
 fn push_in(value: &Value) -> Result<Step<Op>, RecordFault>
     ensures reads { Gives meaning result (push_of (view value.now)) }
@@ -69,6 +79,16 @@ fn push_in(value: &Value) -> Result<Step<Op>, RecordFault>
     Ok(Step::Push { tx, id })
 }
 
+#[tactic(auto, unfolding(crate::specs::Records::unpush_of))]
+fn unpush_in(value: &Value) -> Result<Step<Op>, RecordFault>
+    ensures reads { Gives meaning result (unpush_of (view value.now)) }
+    ensures readable { IfOk result (λ step. IsAlwaysReadable (meaning step)) }
+{
+    let tx = name_in(value, Member::Tx)?;
+    let id = id_in(value)?;
+    Ok(Step::Unpush { tx, id })
+}
+
 #[tactic(auto, unfolding(crate::specs::Records::pull_of))]
 fn pull_in(value: &Value) -> Result<Step<Op>, RecordFault>
     ensures reads { Gives meaning result (pull_of (view value.now)) }
@@ -77,6 +97,16 @@ fn pull_in(value: &Value) -> Result<Step<Op>, RecordFault>
     let tx = name_in(value, Member::Tx)?;
     let id = id_in(value)?;
     Ok(Step::Pull { tx, id })
+}
+
+#[tactic(auto, unfolding(crate::specs::Records::unpull_of))]
+fn unpull_in(value: &Value) -> Result<Step<Op>, RecordFault>
+    ensures reads { Gives meaning result (unpull_of (view value.now)) }
+    ensures readable { IfOk result (λ step. IsAlwaysReadable (meaning step)) }
+{
+    let tx = name_in(value, Member::Tx)?;
+    let id = id_in(value)?;
+    Ok(Step::Unpull { tx, id })
 }
 
 #[tactic(auto, unfolding(crate::specs::Records::cmt_of))]
@@ -118,8 +148,11 @@ fn step_in(
     match name {
         StepName::Begin => begin_in(alloc, catalog, value),
         StepName::App => app_in(catalog, value),
+        StepName::Unapp => unapp_in(value),
         StepName::Push => push_in(value),
+        StepName::Unpush => unpush_in(value),
         StepName::Pull => pull_in(value),
+        StepName::Unpull => unpull_in(value),
         StepName::Cmt => cmt_in(value),
         StepName::Quit => quit_in(value),
         StepName::Note => note_in(value),

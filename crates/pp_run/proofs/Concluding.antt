@@ -1,53 +1,60 @@
 -- What an examination concludes.
-use Rattle.std.specs.Prelude.{◌≡◌, ℕ, ◌+◌, List, [], ◌∷◌, length, map, Option, None, Some}
+use Rattle.std.specs.Prelude.{◌≡◌, ℕ, zero, suc, ◌+◌, List, [], ◌∷◌, length, map, take, Option, None, Some}
+use Rattle.std.specs.Option.{option_or}
 use Rattle.std.proofs.Common.{refl, sym, ap, ◌∙◌, subst}
+use Rattle.std.proofs.lemmas.List.{append-nil}
+use mathlib.Core.Logic.{inr}
 use Rattle.pp_core.specs.declared.call.Kind.{Kind}
 use Rattle.pp_core.specs.declared.entry.CommittedTx.{CommittedTx}
 use Rattle.pp_core.specs.declared.status.Status.{Status}
 use Rattle.pp_core.specs.declared.status.Status.TheVariants as statuses
+use Rattle.pp_core.specs.Steps.{rule_of}
+use Rattle.pp_front.specs.Inputs.{Accepts, Faulty, IsReportBehind, IsRunReport, StartRejected, StepRejected}
+use Rattle.pp_front.specs.Laws.{IsRejectedAt}
+use Rattle.pp_front.specs.Records.{RunRecord}
+use Rattle.pp_front.specs.Runs.{IsRun, Lined, LinedSteps, Records, Standing, bare, joined_steps, outset}
+use Rattle.pp_front.specs.Fronts.{Front}
+use Rattle.pp_front.proofs.Reading.{reading_law}
+use Rattle.pp_front.proofs.Reporting.{input_law}
+use Rattle.pp_front.proofs.Whole.{extends_law}
 use Rattle.pp_object.specs.Objects.{kinds_of, objects}
 use Rattle.pp_object.specs.laws.Objects.{objects_lawful}
 use Rattle.pp_object.specs.declared.act.Op.{Op}
 use Rattle.pp_object.specs.declared.states.ObjectState.{ObjectState}
 use Rattle.pp_json.specs.declared.header.Header.{Header}
-use Rattle.pp_model.specs.Config.{first}
+use Rattle.pp_model.specs.Config.{after, first}
 use Rattle.pp_model.specs.Lists.{joined}
 use Rattle.pp_model.specs.Object.{Item, ops, state}
-use Rattle.pp_model.specs.Rules.{Accepted, Rejected, RunsFrom, Verdict}
-use Rattle.pp_model.proofs.Verdict.{accepted_iff, one_verdict}
+use Rattle.pp_model.specs.Rules.{Accepted, Rejected, RunsFrom, StartMeets}
+use Rattle.pp_model.proofs.Alone.{alone_attempts, alone_law}
+use Rattle.pp_model.proofs.Verdict.{accepted_iff}
 use Rattle.pp_io.specs.Overruns.{overrun, scanned_lines}
 use Rattle.pp_io.proofs.Reading.{scanned_all}
-use Rattle.pp_core.specs.Steps.{rule_of}
-use Rattle.std.specs.Option.{option_or}
-use Rattle.pp_model.specs.Serial.{Attempt, Simulated, attempts, committed_tx, serial}
+use Rattle.pp_model.specs.Serial.{Attempt, attempts, committed_tx, serial}
 use Rattle.pp_model.specs.Sound.{serial_ops}
 use Rattle.pp_model.proofs.Simulate.{finished_are, simulated}
 use Rattle.pp_report.specs.Reports.{accepted_text, fault_text, rejected_text}
 use Rattle.pp_report.specs.declared.cause.Cause.{Cause}
-use Rattle.pp_report.specs.declared.cause.Cause.TheVariants.{NoHeader}
+use Rattle.pp_report.specs.declared.cause.Cause.TheVariants.{NoHeader, TooManySteps}
 use Rattle.pp_rules.specs.Machines.{Seen}
 use Rattle.pp_spec.specs.Object.{state_after}
 use Rattle.pp_spec.proofs.Places.{tells_states}
-use Rattle.pp_run.specs.Objects.{object_of}
+use Rattle.pp_run.specs.Objects.{object_of, setting_of, start_of, translation_of}
+use Rattle.pp_run.specs.Accepted.{HasRun, IsAloneAccepted, IsSimulated}
 use Rattle.pp_run.specs.Certified.{IsDecided}
-use Rattle.pp_run.specs.Inputs.{limit_fault, no_header, scan}
-use Rattle.pp_run.specs.Outputs.{IsOutput, IsReport, IsReportOf, IsRunReport, IsScanReport}
+use Rattle.pp_run.specs.Inputs.{IsFaultOf, limit_fault, no_header, scan}
+use Rattle.pp_run.specs.Outputs.{IsCertified, IsOutput, IsRunTold, IsTold, RunReport}
 use Rattle.pp_run.specs.declared.words.Command.{Command}
 use Rattle.pp_run.specs.declared.words.Command.TheVariants.{Certify}
 use Rattle.pp_run.specs.declared.progress.Rejection.{Rejection}
 use Rattle.pp_run.specs.Examined.{Leads}
-use Rattle.pp_run.specs.Progresses.{Covers, IfFault, IsRejected, IsRunning, lines_of}
+use Rattle.pp_run.specs.Progresses.{Covers, IfFault, IsRejected, IsRunning, lines_of, standing_of}
 use Rattle.pp_run.specs.declared.progress.Progress.{Progress}
 use Rattle.pp_run.specs.declared.progress.Stop.{Stop}
 use Rattle.pp_run.specs.declared.progress.Stop.TheVariants.{Fault}
-use Rattle.pp_run.proofs.Examining.{leads_sound}
-use Rattle.pp_run.specs.Scans.{Numbered, Recorded, Scanned, scan_lines, steps_of}
+use Rattle.pp_run.proofs.Covering.{covers_few, covers_sound}
+use Rattle.pp_run.specs.Scans.{InputScan, Numbered, scan_lines}
 use Rattle.pp_run.specs.declared.progress.Tally.{Tally}
-
--- the committed transactions of an accepted run are its attempts
-module _ (sc : Scanned) (tally : Tally) (machine : Seen (List Kind) Op) (r : IsRunning sc tally machine) where
-  pub committed_are : machine.config.done ≡ map committed_tx (attempts None (steps_of sc))
-  committed_are = ap (λ c. c.done) r.config ∙ finished_are (object_of tally.header) None (steps_of sc) refl r.runs
 
 entries_of : (as' : List (Attempt Op)) → map (λ d. d.entries) (map committed_tx as') ≡ map (λ a. a.items) as'
 entries_of [] = refl
@@ -56,109 +63,184 @@ entries_of (a ∷ as') = ap (λ l. a.items ∷ l) (entries_of as')
 pub serial_is : (as' : List (Attempt Op)) → serial_ops (map committed_tx as') ≡ serial as'
 serial_is as' = ap (λ (ls : List (List (Item Op))). ops (joined ls)) (entries_of as')
 
--- the report of an accepted run
-pub report_is : (sc : Scanned) (tally : Tally) (machine : Seen (List Kind) Op) (count : ℕ) (D : List (CommittedTx Op)) (states : List ObjectState) (text : List ℕ) → IsRunning sc tally machine → count ≡ machine.count → D ≡ machine.config.done
-    → states ≡ state_after objects (kinds_of tally.header.catalog) (serial_ops D) → text ≡ accepted_text tally.header.catalog count D states → IsReportOf tally.header sc.records Accepted statuses.Accepted text
-report_is sc tally machine count D states text r count_is D_is state_is text_is =
-    let as' = attempts None (steps_of sc) in
-    let catalog = tally.header.catalog in
-    let kinds = kinds_of catalog in
-    let committed : D ≡ map committed_tx as' = D_is ∙ committed_are sc tally machine r in
-    let same : states ≡ state (object_of tally.header) (serial as') =
-    state_is ∙ ap (λ E. state_after objects kinds (serial_ops E)) committed ∙ ap (λ k. state_after objects kinds k) (serial_is as') in
-    (refl, text_is ∙ ap (λ k. accepted_text catalog k D states) (count_is ∙ r.count) ∙ ap (λ E. accepted_text catalog (length sc.records) E states) committed ∙ ap (accepted_text catalog (length sc.records) (map committed_tx as')) same)
+-- a report, told of a scan with this header
+told_of : (sc : InputScan) (o : Option (Lined Header)) (status : Status) (text : List ℕ) → sc.header ≡ o
+    → (report : RunReport) × IsRunReport setting_of o sc.records report × IsTold o report status text → IsRunTold sc status text
+told_of sc o status text is t =
+    subst (λ (w : Option (Lined Header)). (report : RunReport) × IsRunReport setting_of w sc.records report × IsTold w report status text) (sym is) t
 
--- it is the report of the run
-pub run_accepted : (sc : Scanned) (tally : Tally) (machine : Seen (List Kind) Op) (status : Status) (text : List ℕ) → IsRunning sc tally machine → IsReportOf tally.header sc.records Accepted status text
-    → IsRunReport sc.header sc.records status text
-run_accepted sc tally machine status text r report =
-    subst (λ h. IsRunReport h sc.records status text) (sym r.follows.header) (Accepted, (accepted_iff (object_of tally.header) None (steps_of sc)).1 (refl, r.runs), report)
+-- an accepted run: its committed transactions are its attempts
+module _ (sc : InputScan) (tally : Tally) (machine : Seen (List Kind) Op) (r : IsRunning sc tally machine) where
+  abbrev run : LinedSteps Op
+  run = joined_steps (translation_of tally.header) (outset (translation_of tally.header) (start_of tally.header)) sc.records
 
-pub run_rejected : (sc : Scanned) (tally : Tally) (rejection : Rejection) (status : Status) (text : List ℕ) → IsRejected sc tally rejection → IsReportOf tally.header sc.records (Rejected rejection.step rejection.criterion) status text
-    → IsRunReport sc.header sc.records status text
-run_rejected sc tally rejection status text r report =
-    subst (λ h. IsRunReport h sc.records status text) (sym r.follows.header) (Rejected rejection.step rejection.criterion, r.verdict, report)
+  config_is : machine.config ≡ after (start_of tally.header) (bare run)
+  config_is =
+      let h = tally.header in
+      ap (λ (p : Standing Front Op). p.config) r.stands.place ∙ (extends_law (object_of h) (translation_of h)).config (outset (translation_of h) (start_of h)) sc.records
 
--- the report of a fault
-pub fault_report : (bytes : List ℕ) (line : ℕ) (cause : Cause) (text : List ℕ) → (scan bytes).fault ≡ Some (line, cause) → text ≡ fault_text line cause → IsReport bytes statuses.InputFault text
-fault_report bytes line cause text faulty is = subst (λ f. IsScanReport f (scan bytes) statuses.InputFault text) (sym faulty) (refl, is)
+  committed_are : machine.config.done ≡ map committed_tx (attempts (start_of tally.header) (bare run))
+  committed_are = ap (λ c. c.done) config_is ∙ finished_are (object_of tally.header) (start_of tally.header) (bare run) r.stands.begun r.stands.hold
+
+  pub accepted_told : (count : ℕ) (D : List (CommittedTx Op)) (states : List ObjectState) (text : List ℕ) → count ≡ machine.count → D ≡ machine.config.done
+      → states ≡ state_after objects (kinds_of tally.header.catalog) (serial_ops D) → text ≡ accepted_text tally.header.catalog count D states → IsRunTold sc statuses.Accepted text
+  accepted_told count D states text count_is D_is state_is text_is =
+      let h = tally.header in
+      let as' = attempts (start_of h) (bare run) in
+      let kinds = kinds_of h.catalog in
+      let committed : D ≡ map committed_tx as' = D_is ∙ committed_are in
+      let same : states ≡ state (object_of h) (serial as') =
+      state_is ∙ ap (λ E. state_after objects kinds (serial_ops E)) committed ∙ ap (λ k. state_after objects kinds k) (serial_is as') in
+      let end = (reading_law (object_of h) (translation_of h)).end (start_of h) sc.records (standing_of tally machine) machine.count r.stands in
+      let printed : text ≡ accepted_text h.catalog (length run) (map committed_tx as') (state (object_of h) (serial as')) =
+      text_is ∙ ap (λ k. accepted_text h.catalog k D states) (count_is ∙ r.stands.number) ∙ ap (λ E. accepted_text h.catalog (length run) E states) committed ∙ ap (accepted_text h.catalog (length run) (map committed_tx as')) same in
+      told_of sc (Some (record { line = r.follows.at; what = h })) statuses.Accepted text r.follows.header
+      (Accepts (length run) as' (state (object_of h) (serial as')), (run, Accepted, end.0, end.1, refl), (refl, printed))
+
+-- a rejected run
+pub rejected_told : (sc : InputScan) (tally : Tally) (rejection : Rejection) (text : List ℕ) → IsRejected sc tally rejection
+    → text ≡ rejected_text rejection.step rejection.line rejection.rule rejection.criterion → IsRunTold sc statuses.Rejected text
+rejected_told sc tally rejection text r text_is =
+    let h = tally.header in
+    let e = r.ends in
+    let here = subst (λ (w : Records (RunRecord Op)). IsRejectedAt (object_of h) (translation_of h) (start_of h) w e.run (suc e.place) e.criterion) (append-nil sc.records) (e.stays []) in
+    let printed : text ≡ rejected_text (suc e.place) rejection.line (rule_of e.last) (suc e.criterion) =
+    text_is ∙ ap (λ (w : Rejection). rejected_text w.step w.line w.rule w.criterion) e.is in
+    told_of sc (Some (record { line = r.follows.at; what = h })) statuses.Rejected text r.follows.header (
+      StepRejected (suc e.place) rejection.line (suc e.criterion) (after (start_of h) (bare (take e.place e.run))) e.last,
+      (e.run, Rejected (suc e.place) (suc e.criterion), here.run_is, here.verdict, (record { line = rejection.line; what = e.last }, e.there, refl)),
+      (refl, printed),
+    )
+
+-- a fault
+told_fault : (o : Option (Lined Header)) (line : ℕ) (cause : Cause) (text : List ℕ) → text ≡ fault_text line cause → IsTold o (Faulty line cause) statuses.InputFault text
+told_fault None line cause text is = (refl, is)
+told_fault (Some header) line cause text is = (refl, is)
+
+pub fault_report : (bytes : List ℕ) (line : ℕ) (cause : Cause) (text : List ℕ) → IsFaultOf (scan bytes) (Some (line, cause)) → text ≡ fault_text line cause → IsCertified bytes statuses.InputFault text
+fault_report bytes line cause text faulty is = (Faulty line cause, (Some (line, cause), faulty, refl), told_fault (scan bytes).header line cause text is)
+
+-- the report of a fault that stopped the examination
+pub stop_report : (bytes : List ℕ) (stop : Stop) (status : Status) (text : List ℕ) → IfFault stop (λ at cause. IsFaultOf (scan bytes) (Some (at, cause)))
+    → (status ≡ statuses.InputFault) × ((line : ℕ) × (cause : Cause) × (stop ≡ Fault line cause) × (text ≡ fault_text line cause)) → IsCertified bytes status text
+stop_report bytes stop status text faulty told =
+    let line = told.1.0 in
+    let cause = told.1.1 in
+    let said = subst (λ (s : Stop). IfFault s (λ at cause. IsFaultOf (scan bytes) (Some (at, cause)))) told.1.2 faulty in
+    subst (λ (s : Status). IsCertified bytes s text) (sym told.0) (fault_report bytes line cause text said told.1.3)
 
 -- an input that was read to its end with no fault
-module _ (bytes : List ℕ) (none : overrun bytes ≡ None) (sound : (scan_lines (scanned_lines bytes)).fault ≡ None) where
-  scan_fault : (h : Option Header) → (scan_lines (scanned_lines bytes)).header ≡ h → (scan bytes).fault ≡ no_header bytes h
+module _ (bytes : List ℕ) (none : overrun bytes ≡ None) (progress : Progress) (leads : Leads (scanned_lines bytes) progress) where
+  scan_fault : (h : Option (Lined Header)) → (scan_lines (scanned_lines bytes)).header ≡ h → (scan bytes).fault ≡ no_header bytes h
   scan_fault h is =
-      ap (λ o. option_or o (option_or (limit_fault (overrun bytes)) (no_header bytes (scan_lines (scanned_lines bytes)).header))) sound
+      ap (λ o. option_or o (option_or (limit_fault (overrun bytes)) (no_header bytes (scan_lines (scanned_lines bytes)).header))) (covers_sound (scan_lines (scanned_lines bytes)) progress leads.covers)
       ∙ ap (λ o. option_or (limit_fault o) (no_header bytes (scan_lines (scanned_lines bytes)).header)) none ∙ ap (no_header bytes) is
 
-  pub no_header_fault : (n : ℕ) → (scan_lines (scanned_lines bytes)).header ≡ None → n ≡ length (scanned_lines bytes) → (scan bytes).fault ≡ Some (n + 1, NoHeader)
-  no_header_fault n is count = scan_fault None is ∙ ap (λ k. Some (k + 1, NoHeader)) (ap (λ (ls : List Numbered). length ls) (sym (scanned_all bytes none)) ∙ sym count)
+  fault_is : (o : Option (ℕ × Cause)) → (scan bytes).fault ≡ o → IsFaultOf (scan bytes) o
+  fault_is o is = inr (covers_few (scan_lines (scanned_lines bytes)) progress leads.covers, sym is)
 
-  pub run_report : (status : Status) (text : List ℕ) → IsRunReport (scan_lines (scanned_lines bytes)).header (scan_lines (scanned_lines bytes)).records status text → IsReport bytes status text
-  run_report status text report = by (scan_lines (scanned_lines bytes)).header refl report
+  pub no_header_fault : (scan_lines (scanned_lines bytes)).header ≡ None → IsFaultOf (scan bytes) (Some (lines_of progress + 1, NoHeader))
+  no_header_fault is =
+      fault_is (Some (lines_of progress + 1, NoHeader))
+      (scan_fault None is ∙ ap (λ k. Some (k + 1, NoHeader)) (ap (λ (ls : List Numbered). length ls) (sym (scanned_all bytes none)) ∙ sym leads.count))
+
+  pub run_report : (status : Status) (text : List ℕ) → IsRunTold (scan_lines (scanned_lines bytes)) status text → IsCertified bytes status text
+  run_report status text told = by (scan_lines (scanned_lines bytes)).header refl told.1
     where
-      by : (h : Option Header) → (scan_lines (scanned_lines bytes)).header ≡ h → IsRunReport h (scan_lines (scanned_lines bytes)).records status text → IsReport bytes status text
+      by : (h : Option (Lined Header)) → (scan_lines (scanned_lines bytes)).header ≡ h → IsRunReport setting_of h (scan_lines (scanned_lines bytes)).records told.0 → IsCertified bytes status text
       by None is r = absurd r
-      by (Some header) is r =
-          subst (λ f. IsScanReport f (scan bytes) status text) (sym (scan_fault (Some header) is))
-          (subst (λ h. IsRunReport h (scan_lines (scanned_lines bytes)).records status text) (sym is) r)
+      by (Some header) is r = (told.0, (None, fault_is None (scan_fault (Some header) is), told.1), told.2)
 
--- a report of a verdict has its status
-pub decided : (h : Option Header) (records : List Recorded) (status : Status) (text : List ℕ) → IsRunReport h records status text → IsDecided status
-decided None records status text r = absurd r
-decided (Some header) records status text (Accepted, v, r) = subst IsDecided (sym r.0) tt
-decided (Some header) records status text (Rejected i n, v, r) = subst IsDecided (sym r.0) tt
+-- the report of a verdict has its status
+decided_by : (o : Option (Lined Header)) (records : Records (RunRecord Op)) (report : RunReport) (status : Status) (text : List ℕ) → IsRunReport setting_of o records report → IsTold o report status text → IsDecided status
+decided_by None records report status text r t = absurd r
+decided_by (Some h) records report status text (run, Accepted, is, v, r) t =
+    let told = subst (λ (w : RunReport). IsTold (Some h) w status text) r t in subst IsDecided (sym told.0) tt
+decided_by (Some h) records report status text (run, Rejected zero n, is, v, r) t =
+    let told = subst (λ (w : RunReport). IsTold (Some h) w status text) r t in subst IsDecided (sym told.0) tt
+decided_by (Some h) records report status text (run, Rejected (suc i) n, is, v, r) t =
+    let told = subst (λ (w : RunReport). IsTold (Some h) w status text) r.2 t in subst IsDecided (sym told.0) tt
 
--- the steps of an accepted input
-accepted_run : (h : Option Header) (records : List Recorded) (text : List ℕ) → IsRunReport h records statuses.Accepted text → (header : Header) × (h ≡ Some header) × RunsFrom (object_of header) (first None) (map (λ r. r.step) records)
-accepted_run None records text r = absurd r
-accepted_run (Some header) records text (Accepted, v, r) = (header, refl, ((accepted_iff (object_of header) None (map (λ r. r.step) records)).0 v).1)
-accepted_run (Some header) records text (Rejected i n, v, r) = absurd (let e : statuses.Accepted ≡ statuses.Rejected = r.0 in cc)
+pub decided : (sc : InputScan) (status : Status) (text : List ℕ) → IsRunTold sc status text → IsDecided status
+decided sc status text told = decided_by sc.header sc.records told.0 status text told.1 told.2
 
-accepted_scan : (f : Option (ℕ × Cause)) (sc : Scanned) (text : List ℕ) → IsScanReport f sc statuses.Accepted text → (header : Header) × (sc.header ≡ Some header) × RunsFrom (object_of header) (first None) (steps_of sc)
-accepted_scan (Some fault) sc text r = absurd (let e : statuses.Accepted ≡ statuses.InputFault = r.0 in cc)
-accepted_scan None sc text r = accepted_run sc.header sc.records text r
+-- ---- an accepted input
 
-pub accepted_runs : (bytes : List ℕ) (text : List ℕ) → IsReport bytes statuses.Accepted text → (header : Header) × ((scan bytes).header ≡ Some header) × RunsFrom (object_of header) (first None) (steps_of (scan bytes))
-accepted_runs bytes text r = accepted_scan (scan bytes).fault (scan bytes) text r
+-- a run of which each step meets its criteria
+record AcceptedRun (o : Option (Lined Header)) (records : Records (RunRecord Op)) : Type 0 where
+  pub header : Lined Header
+  pub run : LinedSteps Op
+  pub first_line : o ≡ Some header
+  pub steps : IsRun (object_of header.what) (translation_of header.what) (start_of header.what) records run
+  pub begun : StartMeets (object_of header.what) (start_of header.what)
+  pub hold : RunsFrom (object_of header.what) (first (start_of header.what)) (bare run)
 
-pub accepted_simulated : (bytes : List ℕ) (text : List ℕ) → IsReport bytes statuses.Accepted text → (header : Header) × ((scan bytes).header ≡ Some header) × Simulated (object_of header) None (steps_of (scan bytes))
+accepted_by : (o : Option (Lined Header)) (records : Records (RunRecord Op)) (report : RunReport) (text : List ℕ) → IsRunReport setting_of o records report → IsTold o report statuses.Accepted text → AcceptedRun o records
+accepted_by None records report text r t = absurd r
+accepted_by (Some h) records report text (run, Accepted, is, v, r) t =
+    let both = (accepted_iff (object_of h.what) (start_of h.what) (bare run)).0 v in
+    record { header = h; run = run; first_line = refl; steps = is; begun = both.0; hold = both.1 }
+accepted_by (Some h) records report text (run, Rejected zero n, is, v, r) t =
+    absurd (let told = subst (λ (w : RunReport). IsTold (Some h) w statuses.Accepted text) r t in let e : statuses.Accepted ≡ statuses.Rejected = told.0 in cc)
+accepted_by (Some h) records report text (run, Rejected (suc i) n, is, v, r) t =
+    absurd (let told = subst (λ (w : RunReport). IsTold (Some h) w statuses.Accepted text) r.2 t in let e : statuses.Accepted ≡ statuses.Rejected = told.0 in cc)
+
+faulty_by : (o : Option (Lined Header)) (line : ℕ) (cause : Cause) (text : List ℕ) → IsTold o (Faulty line cause) statuses.Accepted text → ⊥
+faulty_by None line cause text t = let e : statuses.Accepted ≡ statuses.InputFault = t.0 in cc
+faulty_by (Some h) line cause text t = let e : statuses.Accepted ≡ statuses.InputFault = t.0 in cc
+
+accepted_behind : (fault : Option (ℕ × Cause)) (sc : InputScan) (report : RunReport) (text : List ℕ) → IsReportBehind setting_of fault sc report → IsTold sc.header report statuses.Accepted text → AcceptedRun sc.header sc.records
+accepted_behind (Some f) sc report text r t = absurd (faulty_by sc.header f.0 f.1 text (subst (λ (w : RunReport). IsTold sc.header w statuses.Accepted text) r t))
+accepted_behind None sc report text r t = accepted_by sc.header sc.records report text r t
+
+accepted_run : (bytes : List ℕ) (text : List ℕ) → IsCertified bytes statuses.Accepted text → AcceptedRun (scan bytes).header (scan bytes).records
+accepted_run bytes text r = accepted_behind r.1.0 (scan bytes) r.0 text r.1.2 r.2
+
+abbrev has_run : (sc : InputScan) → AcceptedRun sc.header sc.records → HasRun sc
+has_run sc a = record { header = a.header; run = a.run; first_line = a.first_line; steps = a.steps }
+
+pub accepted_simulated : (bytes : List ℕ) (text : List ℕ) → IsCertified bytes statuses.Accepted text → IsSimulated (scan bytes)
 accepted_simulated bytes text r =
-    let run = accepted_runs bytes text r in
-    (run.0, run.1, simulated (object_of run.0) None (steps_of (scan bytes)) refl run.2 (tells_states objects objects_lawful (kinds_of run.0.catalog)))
+    let a = accepted_run bytes text r in
+    let h = a.header.what in
+    (has_run (scan bytes) a, simulated (object_of h) (start_of h) (bare a.run) a.begun a.hold (tells_states objects objects_lawful (kinds_of h.catalog)))
+
+pub accepted_alone : (bytes : List ℕ) (text : List ℕ) → IsCertified bytes statuses.Accepted text → IsAloneAccepted (scan bytes)
+accepted_alone bytes text r =
+    let a = accepted_run bytes text r in
+    let h = a.header.what in
+    (has_run (scan bytes) a, (alone_law (object_of h) (start_of h) (bare a.run) a.begun a.hold, alone_attempts (object_of h) (start_of h) (bare a.run) a.begun a.hold))
 
 -- ---- an input has one report
 
-one_of : (header : Header) (records : List Recorded) (v : Verdict) (s s' : Status) (t t' : List ℕ) → IsReportOf header records v s t → IsReportOf header records v s' t' → (s ≡ s') × (t ≡ t')
-one_of header records Accepted s s' t t' a b = (a.0 ∙ sym b.0, a.1 ∙ sym b.1)
-one_of header records (Rejected i n) s s' t t' a b =
-    let same : a.1.0 ≡ b.1.0 = same_some (sym a.1.1 ∙ b.1.1) in
-    (a.0 ∙ sym b.0, a.1.2 ∙ ap (λ (r : Recorded). rejected_text i r.line (rule_of r.step) n) same ∙ sym b.1.2)
-  where
-    same_some : {A : Type 0} {x y : A} → Some x ≡ Some y → x ≡ y
-    same_some e = cc
+told_once : (o : Option (Lined Header)) (report : RunReport) (s s' : Status) (t t' : List ℕ) → IsTold o report s t → IsTold o report s' t' → (s ≡ s') × (t ≡ t')
+told_once None (Faulty line cause) s s' t t' a b = (a.0 ∙ sym b.0, a.1 ∙ sym b.1)
+told_once (Some h) (Faulty line cause) s s' t t' a b = (a.0 ∙ sym b.0, a.1 ∙ sym b.1)
+told_once None (Accepts n committed final) s s' t t' a b = absurd a
+told_once (Some h) (Accepts n committed final) s s' t t' a b = (a.0 ∙ sym b.0, a.1 ∙ sym b.1)
+told_once None (StartRejected line n) s s' t t' a b = (a.0 ∙ sym b.0, a.1 ∙ sym b.1)
+told_once (Some h) (StartRejected line n) s s' t t' a b = (a.0 ∙ sym b.0, a.1 ∙ sym b.1)
+told_once None (StepRejected i line n before step) s s' t t' a b = (a.0 ∙ sym b.0, a.1 ∙ sym b.1)
+told_once (Some h) (StepRejected i line n before step) s s' t t' a b = (a.0 ∙ sym b.0, a.1 ∙ sym b.1)
 
-one_run : (h : Option Header) (records : List Recorded) (s s' : Status) (t t' : List ℕ) → IsRunReport h records s t → IsRunReport h records s' t' → (s ≡ s') × (t ≡ t')
-one_run None records s s' t t' a b = absurd a
-one_run (Some header) records s s' t t' a b =
-    let same : a.0 ≡ b.0 = one_verdict (object_of header) None (map (λ r. r.step) records) a.0 b.0 a.1 b.1 in
-    one_of header records b.0 s s' t t' (subst (λ v. IsReportOf header records v s t) same a.2) b.2
-
-one_scan : (f : Option (ℕ × Cause)) (sc : Scanned) (s s' : Status) (t t' : List ℕ) → IsScanReport f sc s t → IsScanReport f sc s' t' → (s ≡ s') × (t ≡ t')
-one_scan (Some fault) sc s s' t t' a b = (a.0 ∙ sym b.0, a.1 ∙ sym b.1)
-one_scan None sc s s' t t' a b = one_run sc.header sc.records s s' t t' a b
+one_certified : (bytes : List ℕ) (s s' : Status) (t t' : List ℕ) → IsCertified bytes s t → IsCertified bytes s' t' → (s ≡ s') × (t ≡ t')
+one_certified bytes s s' t t' a b =
+    let same : a.0 ≡ b.0 = (input_law setting_of TooManySteps).one_report (scan bytes) a.0 b.0 a.1 b.1 in
+    told_once (scan bytes).header b.0 s s' t t' (subst (λ (w : RunReport). IsTold (scan bytes).header w s t) same a.2) b.2
 
 pub one_output : (command : Option Command) (bytes : List ℕ) (s s' : Status) (t t' : List ℕ) → IsOutput command bytes s t → IsOutput command bytes s' t' → (s ≡ s') × (t ≡ t')
 one_output None bytes s s' t t' a b = (a.0 ∙ sym b.0, a.1 ∙ sym b.1)
-one_output (Some Certify) bytes s s' t t' a b = one_scan (scan bytes).fault (scan bytes) s s' t t' a b
+one_output (Some Certify) bytes s s' t t' a b = one_certified bytes s s' t t' a b
 
 -- an input without a header
 pub stopped_report : (bytes : List ℕ) (progress : Progress) (stop : Stop) (status : Status) (text : List ℕ) → overrun bytes ≡ None → Leads (scanned_lines bytes) progress
-    → IfFault stop (λ at cause. (at ≡ lines_of progress + 1) × (cause ≡ NoHeader) × ((sc : Scanned) → Covers sc progress → sc.header ≡ None))
-    → (status ≡ statuses.InputFault) × ((line : ℕ) × (cause : Cause) × (stop ≡ Fault line cause) × (text ≡ fault_text line cause)) → IsReport bytes status text
+    → IfFault stop (λ at cause. (at ≡ lines_of progress + 1) × (cause ≡ NoHeader) × ((sc : InputScan) → Covers sc progress → sc.header ≡ None))
+    → (status ≡ statuses.InputFault) × ((line : ℕ) × (cause : Cause) × (stop ≡ Fault line cause) × (text ≡ fault_text line cause)) → IsCertified bytes status text
 stopped_report bytes progress stop status text none leads no_header fault =
     let line = fault.1.0 in
     let cause = fault.1.1 in
-    let said = subst (λ s. IfFault s (λ at cause. (at ≡ lines_of progress + 1) × (cause ≡ NoHeader) × ((sc : Scanned) → Covers sc progress → sc.header ≡ None))) fault.1.2 no_header in
-    let there = no_header_fault bytes none (leads_sound (scanned_lines bytes) progress leads) (lines_of progress) (said.2 (scan_lines (scanned_lines bytes)) leads.covers) leads.count in
-    let faulty : (scan bytes).fault ≡ Some (line, cause) = there ∙ ap (λ k. Some (k, NoHeader)) (sym said.0) ∙ ap (λ k. Some (line, k)) (sym said.1) in
-    subst (λ s. IsReport bytes s text) (sym fault.0) (fault_report bytes line cause text faulty fault.1.3)
+    let said = subst (λ s. IfFault s (λ at cause. (at ≡ lines_of progress + 1) × (cause ≡ NoHeader) × ((sc : InputScan) → Covers sc progress → sc.header ≡ None))) fault.1.2 no_header in
+    let there = no_header_fault bytes none progress leads (said.2 (scan_lines (scanned_lines bytes)) leads.covers) in
+    let same : Some (lines_of progress + 1, NoHeader) ≡ Some (line, cause) = ap (λ k. Some (k, NoHeader)) (sym said.0) ∙ ap (λ k. Some (line, k)) (sym said.1) in
+    let faulty : IsFaultOf (scan bytes) (Some (line, cause)) = subst (IsFaultOf (scan bytes)) same there in
+    subst (λ s. IsCertified bytes s text) (sym fault.0) (fault_report bytes line cause text faulty fault.1.3)

@@ -1,32 +1,41 @@
 -- One line more, seen from the progress of an examination.
-use Rattle.std.specs.Prelude.{◌≡◌, ◌≤◌, ◌<◌, ℕ, zero, suc, ◌+◌, ◌-◌, ◌==◌, ◌&&◌, Bool, true, false, List, [], ◌∷◌, ◌++◌, length, filter, slice_get, cond, None, Some, Result, Ok, Err}
-use Rattle.std.proofs.Common.{refl, sym, ap, ◌∙◌, subst, arith, length-append}
-use Rattle.std.proofs.lemmas.List.{get_or_append_left, map-append, length-map}
+use Rattle.std.specs.Prelude.{◌≡◌, ◌≤◌, ◌<◌, ℕ, zero, suc, ◌+◌, ◌==◌, ◌&&◌, Bool, true, false, List, [], ◌∷◌, ◌++◌, length, filter, slice_get, cond, Option, None, Some, Result, Ok, Err}
+use Rattle.std.proofs.Common.{refl, sym, ap, ◌∙◌, subst, arith, length-append, append_assoc}
+use Rattle.std.proofs.lemmas.List.{append-nil}
 use Rattle.std.proofs.lemmas.List.Elements.{filter-append}
-use Rattle.std.proofs.lemmas.Option.{get_or_from_slice_get, slice_get-get_or, slice_get_within}
+use Rattle.std.proofs.lemmas.Option.{slice_get-get_or}
 use Rattle.std.proofs.Math.Seq.{get_or-append_seam}
 use mathlib.Core.Logic.{inl, inr}
+use Rattle.pp_core.specs.declared.answer.OutOfMemory.{OutOfMemory}
 use Rattle.pp_core.specs.declared.call.Kind.{Kind}
 use Rattle.pp_core.specs.Steps.{Step, rule_of}
+use Rattle.pp_front.specs.Inputs.{OverrunsAt}
+use Rattle.pp_front.specs.Laws.{IsRejectedAt}
+use Rattle.pp_front.specs.Records.{RunRecord, Plain}
+use Rattle.pp_front.specs.Runs.{Lined, LinedSteps, Records, joined_steps, outset}
+use Rattle.pp_front.proofs.Reading.{reading_law}
 use Rattle.pp_object.specs.declared.act.Op.{Op}
 use Rattle.pp_object.specs.Objects.{kinds_of, objects}
 use Rattle.pp_io.specs.Lines.{blank}
 use Rattle.pp_json.specs.declared.fault.RecordFault.{RecordFault}
+use Rattle.pp_json.specs.declared.header.Header.{Header}
+use Rattle.pp_json.specs.Headers.{header_of}
 use Rattle.pp_json.specs.Records.{record_of}
-use Rattle.pp_model.specs.Config.{after, after_from, first, then}
-use Rattle.pp_model.specs.Rules.{Breaks, Meets, IsVerdict, Rejected, RunsFrom}
+use Rattle.pp_model.specs.Config.{first}
+use Rattle.pp_model.specs.Rules.{Breaks, Meets}
+use Rattle.pp_run.specs.Causes.{cause_of}
 use Rattle.pp_report.specs.declared.cause.Cause.{Cause}
 use Rattle.pp_rules.specs.Machines.{Seen, stepped}
 use Rattle.pp_spec.specs.Object.{rules_of}
-use Rattle.pp_run.specs.Objects.{object_of}
-use Rattle.pp_run.specs.Scans.{Numbered, Recorded, Scanned, begins, is_begin, scan_line, steps_of}
-use Rattle.pp_run.specs.Progresses.{Covers, IsTallied, IsRefused, IsRejected, IsRunning, StepTaken, is_too_many, skipped, with_line, with_record}
+use Rattle.pp_run.specs.Inputs.{IsFaultOf}
+use Rattle.pp_run.specs.Objects.{object_of, setting_of, start_of, translation_of}
+use Rattle.pp_run.specs.Scans.{InputScan, Numbered, begins, is_begin, is_begin_record, nothing, scan_line, stopped, with_header, with_step}
+use Rattle.pp_run.specs.Progresses.{Covers, EndsAt, IsTallied, IsRefused, IsRejected, IsRunning, StepTaken, is_too_many, skipped, standing_of, with_line, with_record}
 use Rattle.pp_run.specs.declared.progress.Progress.{Progress}
 use Rattle.pp_run.specs.declared.progress.Progress.TheVariants.{Waiting, Running, Stopped}
 use Rattle.pp_run.specs.declared.progress.Rejection.{Rejection}
 use Rattle.pp_run.specs.declared.progress.Tally.{Tally}
-use Rattle.pp_run.proofs.Scanning.{one_more, scan_blank, scan_record, too_many, with_step}
-use Rattle.pp_run.proofs.Verdicts.{after_more, rejected_now, runs_more, still_rejected}
+use Rattle.pp_run.proofs.Scanning.{faulty_at, scan_blank, scan_header, scan_record, step_taken, too_many}
 
 length_filter : {A : Type 0} (test : A → Bool) (xs : List A) → length (filter test xs) ≤ length xs
 length_filter test [] = omega arith
@@ -36,123 +45,190 @@ length_filter test (x ∷ xs) =
       | false ↦ omega (arith, length_filter test xs)
     ]
 
-pub few_begins : (sc : Scanned) (tally : Tally) → IsTallied sc tally → tally.begins < tally.lines
-few_begins sc tally f = omega (arith, f.begun, f.fewer, length_filter (λ (r : Recorded). is_begin r.step) sc.records)
+abbrev test_begin : Lined (RunRecord Op) → Bool
+test_begin r = is_begin_record r.what
+
+pub few_begins : (sc : InputScan) (tally : Tally) → IsTallied sc tally → tally.begins < tally.lines
+few_begins sc tally f = omega (arith, f.begun, f.fewer, length_filter test_begin sc.records)
 
 -- a blank line
 
-follows_line : (sc : Scanned) (tally : Tally) → IsTallied sc tally → IsTallied sc (with_line tally)
-follows_line sc tally f = record { header = f.header; sound = f.sound; begun = f.begun; fewer = omega (arith, f.fewer) }
+follows_line : (sc : InputScan) (tally : Tally) → IsTallied sc tally → IsTallied sc (with_line tally)
+follows_line sc tally f = record { at = f.at; header = f.header; sound = f.sound; begun = f.begun; fewer = omega (arith, f.fewer) }
 
-skip_covers : (sc : Scanned) (p : Progress) → Covers sc p → Covers sc (skipped p)
+skip_covers : (sc : InputScan) (p : Progress) → Covers sc p → Covers sc (skipped p)
 skip_covers sc (Waiting lines) c = c
-skip_covers sc (Running tally machine) c = record { follows = follows_line sc tally c.follows; shape = c.shape; runs = c.runs; config = c.config; count = c.count }
-skip_covers sc (Stopped tally rejection) c = record { follows = follows_line sc tally c.follows; verdict = c.verdict; place = c.place }
+skip_covers sc (Running tally machine) c = record { follows = follows_line sc tally c.follows; shape = c.shape; stands = c.stands; count = c.count }
+skip_covers sc (Stopped tally rejection) c = record { follows = follows_line sc tally c.follows; ends = c.ends }
 
-pub covers_sound : (sc : Scanned) (p : Progress) → Covers sc p → sc.fault ≡ None
-covers_sound sc (Waiting lines) c = ap (λ (s : Scanned). s.fault) c
+pub covers_sound : (sc : InputScan) (p : Progress) → Covers sc p → sc.fault ≡ None
+covers_sound sc (Waiting lines) c = ap (λ (s : InputScan). s.fault) c
 covers_sound sc (Running tally machine) c = c.follows.sound
 covers_sound sc (Stopped tally rejection) c = c.follows.sound
 
-pub cover_blank : (sc : Scanned) (line : Numbered) (p : Progress) → blank line.1 ≡ true → Covers sc p → Covers (scan_line sc line) (skipped p)
-cover_blank sc line p is c = subst (λ (s : Scanned). Covers s (skipped p)) (sym (scan_blank sc line (covers_sound sc p c) is)) (skip_covers sc p c)
+pub cover_blank : (sc : InputScan) (line : Numbered) (p : Progress) → blank line.1 ≡ true → Covers sc p → Covers (scan_line sc line) (skipped p)
+cover_blank sc line p is c = subst (λ (s : InputScan). Covers s (skipped p)) (sym (scan_blank sc line (covers_sound sc p c) is)) (skip_covers sc p c)
 
--- a record
+-- ---- no step too many
 
-module _ (sc : Scanned) (tally : Tally) (f : IsTallied sc tally) (line : Numbered) (other : blank line.1 ≡ false) where
+few_of : (tally : Tally) (o : Option (Lined Header)) (at : ℕ) (records : Records (RunRecord Op)) → o ≡ Some (record { line = at; what = tally.header })
+    → ((line : ℕ) → OverrunsAt setting_of (Some (record { line = at; what = tally.header })) records line → ⊥) → (line : ℕ) → OverrunsAt setting_of o records line → ⊥
+few_of tally o at records is few line over = few line (subst (λ (w : Option (Lined Header)). OverrunsAt setting_of w records line) is over)
+
+pub covers_few : (sc : InputScan) (p : Progress) → Covers sc p → (line : ℕ) → OverrunsAt setting_of sc.header sc.records line → ⊥
+covers_few sc (Waiting lines) c line over = subst (λ (s : InputScan). OverrunsAt setting_of s.header s.records line) c over
+covers_few sc (Running tally machine) c line over =
+    let h = tally.header in
+    few_of tally sc.header c.follows.at sc.records c.follows.header
+    ((reading_law (object_of h) (translation_of h)).end (start_of h) sc.records (standing_of tally machine) machine.count c.stands).2 line over
+covers_few sc (Stopped tally rejection) c line over =
+    let h = tally.header in
+    let rejected = subst (λ (w : Records (RunRecord Op)). IsRejectedAt (object_of h) (translation_of h) (start_of h) w c.ends.run (suc c.ends.place) c.ends.criterion) (append-nil sc.records) (c.ends.stays []) in
+    few_of tally sc.header c.follows.at sc.records c.follows.header rejected.few line over
+
+-- the fault of a scan, where the lines before it led to here
+pub cover_fault : (sc : InputScan) (p : Progress) (x : ℕ × Cause) → Covers sc p → IsFaultOf (faulty_at sc x) (Some x)
+cover_fault sc p x c = inr (covers_few sc p c, refl)
+
+-- ---- the header
+
+pub cover_header : (sc : InputScan) (line : Numbered) (header : Header) → sc ≡ nothing → blank line.1 ≡ false → 0 < line.0 → header_of line.1 ≡ Ok header
+    → Covers (scan_line sc line) (Running (record { header = header; lines = line.0; begins = 0 }) (record { shape = kinds_of header.catalog; config = first (start_of header); count = 0 }))
+cover_header sc line header none other positive read =
+    let tally : Tally = record { header = header; lines = line.0; begins = 0 } in
+    let machine : Seen (List Kind) Op = record { shape = kinds_of header.catalog; config = first (start_of header); count = 0 } in
+    let running : IsRunning (with_header nothing line.0 (Ok header)) tally machine = record {
+      follows = record { at = line.0; header = refl; sound = refl; begun = refl; fewer = positive };
+      shape = refl;
+      stands = (reading_law (object_of header) (translation_of header)).nothing (start_of header) refl;
+      count = refl;
+    } in
+    subst (λ (s : InputScan). Covers s (Running tally machine)) (sym (ap (λ (s : InputScan). scan_line s line) none ∙ scan_header nothing line (Ok header) refl refl other read)) running
+
+pub cover_header_fault : (sc : InputScan) (line : Numbered) (lines : ℕ) (fault : RecordFault) (cause : Cause) → sc ≡ nothing → blank line.1 ≡ false → header_of line.1 ≡ Err fault → cause_of fault ≡ Ok cause
+    → IsFaultOf (scan_line sc line) (Some (line.0, cause))
+cover_header_fault sc line lines fault cause none other read caused =
+    let is : scan_line sc line ≡ faulty_at nothing (line.0, cause) =
+    ap (λ (s : InputScan). scan_line s line) none ∙ scan_header nothing line (Err fault) refl refl other read ∙ ap (λ (r : Result Cause OutOfMemory). stopped nothing line.0 r) caused in
+    subst (λ (s : InputScan). IsFaultOf s (Some (line.0, cause))) (sym is) (cover_fault nothing (Waiting lines) (line.0, cause) refl)
+
+-- ---- a record
+
+module _ (sc : InputScan) (tally : Tally) (f : IsTallied sc tally) (line : Numbered) (other : blank line.1 ≡ false) where
   test_same : (step : Step Op) (b : Bool) → is_too_many tally step ≡ b → (is_begin step && begins sc.records == 20_000) ≡ b
   test_same step b test = ap (λ (n : ℕ). is_begin step && n == 20_000) (sym f.begun) ∙ test
 
-  pub scan_step : (step : Step Op) → record_of tally.header line.1 ≡ Ok step → is_too_many tally step ≡ false → scan_line sc line ≡ one_more sc line.0 step
-  scan_step step read few = scan_record sc tally.header line (Ok step) f.sound f.header other read ∙ with_step sc line.0 step (test_same step false few)
+  pub scan_step : (step : Step Op) → record_of tally.header line.1 ≡ Ok step → is_too_many tally step ≡ false → scan_line sc line ≡ with_step sc line.0 step
+  scan_step step read few = scan_record sc (record { line = f.at; what = tally.header }) line (Ok step) f.sound f.header other read ∙ step_taken sc line.0 step (test_same step false few)
 
-  pub record_fault : (r : Result (Step Op) RecordFault) (cause : Cause) → record_of tally.header line.1 ≡ r → IsRefused tally r cause → (scan_line sc line).fault ≡ Some (line.0, cause)
+  pub record_fault : (r : Result (Step Op) RecordFault) (cause : Cause) → record_of tally.header line.1 ≡ r → IsRefused tally r cause → scan_line sc line ≡ faulty_at sc (line.0, cause)
   record_fault (Ok step) cause read refused =
-      ap (λ (s : Scanned). s.fault) (scan_record sc tally.header line (Ok step) f.sound f.header other read)
-      ∙ too_many sc line.0 step (test_same step true refused.0) ∙ ap (λ (c : Cause). Some (line.0, c)) (sym refused.1)
-  record_fault (Err fault) cause read refused = ap (λ (s : Scanned). s.fault) (scan_record sc tally.header line (Err fault) f.sound f.header other read) ∙ rw refused refl
+      scan_record sc (record { line = f.at; what = tally.header }) line (Ok step) f.sound f.header other read
+      ∙ too_many sc line.0 step (test_same step true refused.0) ∙ ap (λ (c : Cause). faulty_at sc (line.0, c)) (sym refused.1)
+  record_fault (Err fault) cause read refused = scan_record sc (record { line = f.at; what = tally.header }) line (Err fault) f.sound f.header other read ∙ rw refused refl
 
-  begun_more : (step : Step Op) → (with_record tally step).begins ≡ begins (one_more sc line.0 step).records
+  begun_more : (step : Step Op) → (with_record tally step).begins ≡ begins (with_step sc line.0 step).records
   begun_more step =
-      let it : Recorded = record { line = line.0; step = step } in
-      let test : Recorded → Bool = λ r. is_begin r.step in
-      let all : begins (one_more sc line.0 step).records ≡ begins sc.records + length (filter test (it ∷ [])) =
-      ap (λ (l : List Recorded). length l) (filter-append test sc.records (it ∷ [])) ∙ length-append (filter test sc.records) (filter test (it ∷ [])) in
+      let it : Lined (RunRecord Op) = record { line = line.0; what = Plain step } in
+      let all : begins (with_step sc line.0 step).records ≡ begins sc.records + length (filter test_begin (it ∷ [])) =
+      ap (λ (l : Records (RunRecord Op)). length l) (filter-append test_begin sc.records (it ∷ [])) ∙ length-append (filter test_begin sc.records) (filter test_begin (it ∷ [])) in
       by (is_begin step) it ∙ sym all
     where
-      by : (b : Bool) (r : Recorded) → cond b (tally.begins + 1) tally.begins ≡ begins sc.records + length (cond b (r ∷ []) [])
+      by : (b : Bool) (r : Lined (RunRecord Op)) → cond b (tally.begins + 1) tally.begins ≡ begins sc.records + length (cond b (r ∷ []) [])
       by true r = omega (arith, f.begun)
       by false r = omega (arith, f.begun)
 
-  pub follows_step : (step : Step Op) → IsTallied (one_more sc line.0 step) (with_record tally step)
+  pub follows_step : (step : Step Op) → IsTallied (with_step sc line.0 step) (with_record tally step)
   follows_step step = record {
+    at = f.at;
     header = f.header;
     sound = f.sound;
     begun = begun_more step;
-    fewer = omega (arith, f.fewer, length-append sc.records (record { line = line.0; step = step } ∷ []));
+    fewer = omega (arith, f.fewer, length-append sc.records (record { line = line.0; what = Plain step } ∷ []));
   }
 
-steps_more : (sc : Scanned) (line : ℕ) (step : Step Op) → steps_of (one_more sc line step) ≡ steps_of sc ++ step ∷ []
-steps_more sc line step = map-append (λ (r : Recorded). r.step) sc.records (record { line = line; step = step } ∷ [])
+-- a record that is refused
+pub cover_refused : (sc : InputScan) (tally : Tally) (p : Progress) (line : Numbered) (r : Result (Step Op) RecordFault) (cause : Cause) → Covers sc p → IsTallied sc tally → blank line.1 ≡ false
+    → record_of tally.header line.1 ≡ r → IsRefused tally r cause → IsFaultOf (scan_line sc line) (Some (line.0, cause))
+cover_refused sc tally p line r cause c f other read refused =
+    subst (λ (s : InputScan). IsFaultOf s (Some (line.0, cause))) (sym (record_fault sc tally f line other r cause read refused)) (cover_fault sc p (line.0, cause) c)
 
-get_front : {A : Type 0} (xs ys : List A) (i : ℕ) (x : A) → slice_get xs i ≡ Some x → slice_get (xs ++ ys) i ≡ Some x
-get_front xs ys i x at =
-    let within : i < length xs = slice_get_within xs i x at in
-    let longer : i < length (xs ++ ys) = omega (arith, length-append xs ys) in
-    slice_get-get_or (xs ++ ys) i x longer ∙ ap (λ y. Some y) (get_or_append_left xs ys x i within ∙ get_or_from_slice_get xs i x x at)
-
-get_last : {A : Type 0} (xs : List A) (x : A) → slice_get (xs ++ x ∷ []) (length xs) ≡ Some x
-get_last xs x =
+get_last : {A : Type 0} (xs : List A) (x : A) (n : ℕ) → n ≡ length xs → slice_get (xs ++ x ∷ []) n ≡ Some x
+get_last {A} xs x n is =
     let within : length xs < length (xs ++ x ∷ []) = omega (arith, length-append xs (x ∷ [])) in
-    slice_get-get_or (xs ++ x ∷ []) (length xs) x within ∙ ap (λ y. Some y) (get_or-append_seam xs x [] x)
+    ap (λ (k : ℕ). slice_get (xs ++ x ∷ []) k) is ∙ slice_get-get_or (xs ++ x ∷ []) (length xs) x within ∙ ap (λ y. Some y) (get_or-append_seam xs x [] x)
 
 -- a step fails or holds over the machine's objects as over those of the header
 at_shape : (machine : Seen (List Kind) Op) (tally : Tally) (step : Step Op) (n : ℕ) → machine.shape ≡ kinds_of tally.header.catalog → Breaks (rules_of objects machine.shape) machine.config step n → Breaks (object_of tally.header) machine.config step n
 at_shape machine tally step n shape fails = subst (λ (k : List Kind). Breaks (rules_of objects k) machine.config step n) shape fails
 
-pub cover_step : (sc : Scanned) (tally : Tally) (machine : Seen (List Kind) Op) (line : Numbered) (step : Step Op) (next : Progress) → IsRunning sc tally machine → blank line.1 ≡ false
+abbrev on_record : ℕ → Step Op → Lined (RunRecord Op)
+on_record line step = record { line = line; what = Plain step }
+
+-- the step is the first that fails
+ends_now : (sc : InputScan) (tally : Tally) (machine : Seen (List Kind) Op) (line : ℕ) (step : Step Op) (n : ℕ) → IsRunning sc tally machine → length sc.records < 200_000
+    → Breaks (object_of tally.header) machine.config step (suc n) → EndsAt tally.header (with_step sc line step).records (record { step = machine.count + 1; line = line; rule = rule_of step; criterion = suc n })
+ends_now sc tally machine line step n c few fails =
+    let h = tally.header in
+    let before : LinedSteps Op = joined_steps (translation_of h) (outset (translation_of h) (start_of h)) sc.records in
+    let one : Lined (Step Op) = record { line = line; what = step } in
+    let run : LinedSteps Op = before ++ one ∷ [] in
+    let number : suc machine.count ≡ machine.count + 1 = omega arith in
+    let named : machine.count + 0 + 1 ≡ suc machine.count = omega arith in
+    let room : machine.count + 0 < 200_000 = omega (arith, c.count, few) in
+    record {
+      run = run;
+      place = machine.count;
+      criterion = n;
+      last = step;
+      is = ap (λ (k : ℕ). let r : Rejection = record { step = k; line = line; rule = rule_of step; criterion = suc n } in r) (sym number);
+      there = get_last before one machine.count c.stands.number;
+      stays = λ more.
+          let law = (reading_law (object_of h) (translation_of h)).fails (start_of h) sc.records more (standing_of tally machine) machine.count (on_record line step) [] [] step n c.stands refl tt room fails in
+          subst (λ (w : Records (RunRecord Op)). IsRejectedAt (object_of h) (translation_of h) (start_of h) w run (suc machine.count) n) (sym (append_assoc sc.records (on_record line step ∷ []) more))
+          (subst (λ (k : ℕ). IsRejectedAt (object_of h) (translation_of h) (start_of h) (sc.records ++ on_record line step ∷ more) run k n) named law);
+    }
+
+pub cover_step : (sc : InputScan) (tally : Tally) (machine : Seen (List Kind) Op) (line : Numbered) (step : Step Op) (next : Progress) → IsRunning sc tally machine → length sc.records < 200_000 → blank line.1 ≡ false
     → record_of tally.header line.1 ≡ Ok step → is_too_many tally step ≡ false → StepTaken (with_record tally step) machine step line.0 next → Covers (scan_line sc line) next
-cover_step sc tally machine line step next c other read few (inl done) =
-    let more = steps_more sc line.0 step in
-    let object = object_of tally.header in
-    let holds : Meets object (after_from (first None) (steps_of sc)) step = subst (λ d. Meets object d step) c.config (at_shape machine tally step 0 c.shape done.0) in
-    let running : IsRunning (one_more sc line.0 step) (with_record tally step) (stepped machine step) = record {
+cover_step sc tally machine line step next c few other read begun (inl done) =
+    let h = tally.header in
+    let holds : Meets (object_of h) machine.config step = at_shape machine tally step 0 c.shape done.0 in
+    let more : machine.count + 1 ≤ 200_000 = omega (arith, c.count, few) in
+    let running : IsRunning (with_step sc line.0 step) (with_record tally step) (stepped machine step) = record {
       follows = follows_step sc tally c.follows line other step;
       shape = c.shape;
-      runs = subst (RunsFrom object (first None)) (sym more) (runs_more object (first None) (steps_of sc) step c.runs holds);
-      config = ap (λ d. then d step) c.config ∙ sym (after_more (first None) (steps_of sc) step) ∙ ap (λ ss. after None ss) (sym more);
-      count = omega (arith, c.count, length-append sc.records (record { line = line.0; step = step } ∷ []));
+      stands = (reading_law (object_of h) (translation_of h)).more (start_of h) sc.records (standing_of tally machine) machine.count (on_record line.0 step) c.stands (holds, tt) more;
+      count = omega (arith, c.count, length-append sc.records (on_record line.0 step ∷ []));
     } in
-    subst (λ (p : Progress). Covers (scan_line sc line) p) (sym done.1) (subst (λ (s : Scanned). Covers s (Running (with_record tally step) (stepped machine step))) (sym (scan_step sc tally c.follows line other step read few)) running)
-cover_step sc tally machine line step next c other read few (inr (zero, positive, fails, is)) = absurd (omega arith)
-cover_step sc tally machine line step next c other read few (inr (suc n, positive, fails, is)) =
-    let more = steps_more sc line.0 step in
-    let it : Recorded = record { line = line.0; step = step } in
+    subst (λ (p : Progress). Covers (scan_line sc line) p) (sym done.1) (subst (λ (s : InputScan). Covers s (Running (with_record tally step) (stepped machine step))) (sym (scan_step sc tally c.follows line other step read begun)) running)
+cover_step sc tally machine line step next c few other read begun (inr (zero, positive, fails, is)) = absurd (omega arith)
+cover_step sc tally machine line step next c few other read begun (inr (suc n, positive, fails, is)) =
     let rejection : Rejection = record { step = machine.count + 1; line = line.0; rule = rule_of step; criterion = suc n } in
-    let object = object_of tally.header in
-    let fails_here : Breaks object (after_from (first None) (steps_of sc)) step (suc n) = subst (λ d. Breaks object d step (suc n)) c.config (at_shape machine tally step (suc n) c.shape fails) in
-    let number : 1 + length (steps_of sc) ≡ machine.count + 1 = omega (arith, c.count, length-map sc.records (λ (r : Recorded). r.step)) in
-    let now : IsVerdict object None (steps_of sc ++ step ∷ []) (Rejected (machine.count + 1) (suc n)) =
-    subst (λ (k : ℕ). IsVerdict object None (steps_of sc ++ step ∷ []) (Rejected k (suc n))) number (rejected_now object (steps_of sc) step n c.runs fails_here) in
-    let last : slice_get (one_more sc line.0 step).records (machine.count + 1 - 1) ≡ Some it =
-    let index : machine.count + 1 - 1 ≡ length sc.records = omega (arith, c.count) in
-    ap (λ (k : ℕ). slice_get (sc.records ++ it ∷ []) k) index ∙ get_last sc.records it in
-    let rejected : IsRejected (one_more sc line.0 step) (with_record tally step) rejection = record {
+    let rejected : IsRejected (with_step sc line.0 step) (with_record tally step) rejection = record {
       follows = follows_step sc tally c.follows line other step;
-      verdict = subst (λ ss. IsVerdict object None ss (Rejected (machine.count + 1) (suc n))) (sym more) now;
-      place = (it, last, refl, refl);
+      ends = ends_now sc tally machine line.0 step n c few (at_shape machine tally step (suc n) c.shape fails);
     } in
     subst (λ (p : Progress). Covers (scan_line sc line) p) (sym is)
-    (subst (λ (s : Scanned). IsRejected s (with_record tally step) rejection) (sym (scan_step sc tally c.follows line other step read few)) rejected)
+    (subst (λ (s : InputScan). IsRejected s (with_record tally step) rejection) (sym (scan_step sc tally c.follows line other step read begun)) rejected)
 
-pub cover_stopped : (sc : Scanned) (tally : Tally) (rejection : Rejection) (line : Numbered) (step : Step Op) → IsRejected sc tally rejection → blank line.1 ≡ false
+pub cover_stopped : (sc : InputScan) (tally : Tally) (rejection : Rejection) (line : Numbered) (step : Step Op) → IsRejected sc tally rejection → blank line.1 ≡ false
     → record_of tally.header line.1 ≡ Ok step → is_too_many tally step ≡ false → Covers (scan_line sc line) (Stopped (with_record tally step) rejection)
 cover_stopped sc tally rejection line step c other read few =
-    let more = steps_more sc line.0 step in
-    let object = object_of tally.header in
-    let rejected : IsRejected (one_more sc line.0 step) (with_record tally step) rejection = record {
+    let h = tally.header in
+    let e = c.ends in
+    let rejected : IsRejected (with_step sc line.0 step) (with_record tally step) rejection = record {
       follows = follows_step sc tally c.follows line other step;
-      verdict = subst (λ ss. IsVerdict object None ss (Rejected rejection.step rejection.criterion)) (sym more) (still_rejected object (steps_of sc) (step ∷ []) rejection.step rejection.criterion c.verdict);
-      place = (c.place.0, get_front sc.records (record { line = line.0; step = step } ∷ []) (rejection.step - 1) c.place.0 c.place.1, c.place.2, c.place.3);
+      ends = record {
+        run = e.run;
+        place = e.place;
+        criterion = e.criterion;
+        last = e.last;
+        is = e.is;
+        there = e.there;
+        stays = λ more.
+            subst (λ (w : Records (RunRecord Op)). IsRejectedAt (object_of h) (translation_of h) (start_of h) w e.run (suc e.place) e.criterion)
+            (sym (append_assoc sc.records (on_record line.0 step ∷ []) more)) (e.stays (on_record line.0 step ∷ more));
+      };
     } in
-    subst (λ (s : Scanned). IsRejected s (with_record tally step) rejection) (sym (scan_step sc tally c.follows line other step read few)) rejected
+    subst (λ (s : InputScan). IsRejected s (with_record tally step) rejection) (sym (scan_step sc tally c.follows line other step read few)) rejected

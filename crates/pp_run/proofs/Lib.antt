@@ -1,5 +1,5 @@
-pub mod Verdicts
 pub mod Scanning
+pub mod Widening
 pub mod Covering
 pub mod Examining
 pub mod Fitting

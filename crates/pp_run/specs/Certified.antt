@@ -1,4 +1,4 @@
--- How a command ends with a report.
+-- How a command ends.
 use Rattle.pp_core.specs.declared.status.Status.{Status}
 use Rattle.pp_core.specs.declared.status.Status.TheVariants as statuses
 
@@ -6,18 +6,28 @@ use Rattle.pp_core.specs.declared.status.Status.TheVariants as statuses
 abbrev pub IsDecided : Status → Type 0
 IsDecided statuses.Accepted = Unit {0}
 IsDecided statuses.Rejected = Unit {0}
-IsDecided _ = ⊥
+IsDecided statuses.BadWords = ⊥
+IsDecided statuses.InputFault = ⊥
+IsDecided statuses.ReadFault = ⊥
+IsDecided statuses.WriteFault = ⊥
+IsDecided statuses.OutOfMemory = ⊥
 
--- the output was written whole
+-- the output was written to its end
 abbrev pub IsPrinted : Status → Type 0
 IsPrinted statuses.Accepted = Unit {0}
 IsPrinted statuses.Rejected = Unit {0}
 IsPrinted statuses.BadWords = Unit {0}
 IsPrinted statuses.InputFault = Unit {0}
-IsPrinted _ = ⊥
+IsPrinted statuses.ReadFault = ⊥
+IsPrinted statuses.WriteFault = ⊥
+IsPrinted statuses.OutOfMemory = ⊥
 
 -- the output was not written, or not to its end
 abbrev pub IsUnwritten : Status → Type 0
+IsUnwritten statuses.Accepted = ⊥
+IsUnwritten statuses.Rejected = ⊥
+IsUnwritten statuses.BadWords = ⊥
+IsUnwritten statuses.InputFault = ⊥
+IsUnwritten statuses.ReadFault = ⊥
 IsUnwritten statuses.WriteFault = Unit {0}
 IsUnwritten statuses.OutOfMemory = Unit {0}
-IsUnwritten _ = ⊥

@@ -3,8 +3,9 @@ pub mod Objects
 pub mod Scans
 pub mod Inputs
 pub mod Words
+pub mod Writing
 pub mod Outputs
 pub mod Progresses
 pub mod Examined
 pub mod Certified
-pub mod Writing
+pub mod Accepted

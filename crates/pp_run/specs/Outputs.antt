@@ -1,44 +1,85 @@
 -- What a command prints, and how it ends.
-use Rattle.std.specs.Prelude.{◌≡◌, ℕ, ◌-◌, List, [], length, map, slice_get, Option, None, Some}
+use Rattle.std.specs.Prelude.{◌≡◌, ℕ, List, [], ◌++◌, codes, map, Option, None, Some}
+use Rattle.std.specs.Fmt.{decimal}
+use Rattle.std.specs.Io.KnownBytes.{Appends}
 use Rattle.pp_core.specs.declared.status.Status.{Status}
 use Rattle.pp_core.specs.declared.status.Status.TheVariants as statuses
 use Rattle.pp_core.specs.Steps.{rule_of}
+use Rattle.pp_front.specs.Inputs.{Accepts, Faulty, IsReport, IsRunReport, Report, StartRejected, StepRejected}
+use Rattle.pp_front.specs.Runs.{Lined}
 use Rattle.pp_json.specs.declared.header.Header.{Header}
-use Rattle.pp_model.specs.Object.{state}
-use Rattle.pp_model.specs.Rules.{Verdict, Accepted, Rejected, IsVerdict}
-use Rattle.pp_model.specs.Serial.{attempts, serial, committed_tx}
-use Rattle.pp_report.specs.Reports.{accepted_text, rejected_text, fault_text}
+use Rattle.pp_model.specs.Serial.{committed_tx}
+use Rattle.pp_object.specs.declared.act.Op.{Op}
+use Rattle.pp_object.specs.declared.states.ObjectState.{ObjectState}
+use Rattle.pp_report.specs.Reports.{accepted_text, fault_text, line, rejected_text}
 use Rattle.pp_report.specs.declared.cause.Cause.{Cause}
+use Rattle.pp_report.specs.declared.cause.Cause.TheVariants.{TooManySteps}
 use Rattle.pp_run.specs.declared.words.Command.{Command}
 use Rattle.pp_run.specs.declared.words.Command.TheVariants.{Certify}
 use Rattle.pp_run.specs.Inputs.{scan}
-use Rattle.pp_run.specs.Objects.{object_of}
-use Rattle.pp_run.specs.Scans.{Recorded, Scanned}
+use Rattle.pp_run.specs.Objects.{setting_of}
+use Rattle.pp_run.specs.Scans.{InputScan}
+use Rattle.pp_run.specs.Writing.{AppendsFront}
 
--- The report of a verdict. Accepted: the committed transactions, each with its own operations, and the state that they lead to one after another.
-abbrev pub IsReportOf : Header → List Recorded → Verdict → Status → List ℕ → Type 0
-IsReportOf header records Accepted status text =
-    let steps = map (λ r. r.step) records in
-    (status ≡ statuses.Accepted) × (text ≡ accepted_text header.catalog (length records) (map committed_tx (attempts None steps)) (state (object_of header) (serial (attempts None steps))))
-IsReportOf header records (Rejected i n) status text =
-    (status ≡ statuses.Rejected) × ((r : Recorded) × (slice_get records (i - 1) ≡ Some r) × (text ≡ rejected_text i r.line (rule_of r.step) n))
+-- what is reported of a run over the objects of its header
+abbrev pub RunReport : Type 0
+RunReport = Report Op (List ObjectState) Cause
 
--- a run of this header, with no fault: the report of the verdict of its steps
-abbrev pub IsRunReport : Option Header → List Recorded → Status → List ℕ → Type 0
-IsRunReport None records status text = ⊥
-IsRunReport (Some header) records status text =
-    (v : Verdict) × IsVerdict (object_of header) None (map (λ r. r.step) records) v × IsReportOf header records v status text
+-- the text of a start that is rejected, with the line of the header
+abbrev pub rejected_start_text : ℕ → ℕ → List ℕ
+rejected_start_text at_line criterion =
+    line (codes "rejected step 0 line " ++ decimal at_line ++ codes " START " ++ decimal criterion)
 
--- the fault, where there is one, and else the report of the run
-abbrev pub IsScanReport : Option (ℕ × Cause) → Scanned → Status → List ℕ → Type 0
-IsScanReport (Some fault) sc status text = (status ≡ statuses.InputFault) × (text ≡ fault_text fault.0 fault.1)
-IsScanReport None sc status text = IsRunReport sc.header sc.records status text
+-- The status and the text of a report. Accepted: the committed transactions, each with its own
+-- operations, and the state that they lead to one after another.
+abbrev pub IsTold : Option (Lined Header) → RunReport → Status → List ℕ → Type 0
+IsTold header (Faulty at_line cause) status text =
+    (status ≡ statuses.InputFault) × (text ≡ fault_text at_line cause)
+IsTold None (Accepts steps committed final) status text = ⊥
+IsTold (Some header) (Accepts steps committed final) status text = (status ≡ statuses.Accepted)
+    × (text ≡ accepted_text header.what.catalog steps (map committed_tx committed) final)
+IsTold header (StartRejected at_line criterion) status text =
+    (status ≡ statuses.Rejected) × (text ≡ rejected_start_text at_line criterion)
+IsTold header (StepRejected number at_line criterion before step) status text =
+    (status ≡ statuses.Rejected) × (text ≡ rejected_text number at_line (rule_of step) criterion)
+
+-- the status and the text of records without a fault
+abbrev pub IsRunTold : InputScan → Status → List ℕ → Type 0
+IsRunTold sc status text = (report : RunReport)
+    × IsRunReport setting_of sc.header sc.records report × IsTold sc.header report status text
 
 -- the status and the text that certify an input
-abbrev pub IsReport : List ℕ → Status → List ℕ → Type 0
-IsReport bytes status text = IsScanReport (scan bytes).fault (scan bytes) status text
+abbrev pub IsCertified : List ℕ → Status → List ℕ → Type 0
+IsCertified bytes status text = (report : RunReport)
+    × IsReport setting_of TooManySteps (scan bytes) report
+    × IsTold (scan bytes).header report status text
 
 -- the status and the text of a command; words that are no command print nothing
 abbrev pub IsOutput : Option Command → List ℕ → Status → List ℕ → Type 0
 IsOutput None bytes status text = (status ≡ statuses.BadWords) × (text ≡ [])
-IsOutput (Some Certify) bytes status text = IsReport bytes status text
+IsOutput (Some Certify) bytes status text = IsCertified bytes status text
+
+-- where the bytes are told, this holds of them
+abbrev pub WhereTold : Option (List ℕ) → (List ℕ → Type 0) → Type 0
+WhereTold left P = (bytes : List ℕ) → left ≡ Some bytes → P bytes
+
+-- known bytes grow by an output that is defined, with this status
+abbrev pub Prints : Option Command → List ℕ → Status → Option (List ℕ) → Option (List ℕ) → Type 0
+Prints command bytes status old new =
+    (text : List ℕ) × IsOutput command bytes status text × Appends old new text
+
+-- each output that is defined is this one
+abbrev pub PrintsOnly : Option Command → List ℕ → Status → Option (List ℕ) → Option (List ℕ) →
+    Type 0
+PrintsOnly command bytes status old new = (other : Status) (text : List ℕ) →
+    IsOutput command bytes other text → (other ≡ status) × Appends old new text
+
+-- known bytes grow by a front of an output that is defined
+abbrev pub PrintsFront : Option Command → List ℕ → Option (List ℕ) → Option (List ℕ) → Type 0
+PrintsFront command bytes old new = (status : Status) × (text : List ℕ)
+    × IsOutput command bytes status text × AppendsFront old new text
+
+-- and by a front of each output that is defined
+abbrev pub PrintsFrontOnly : Option Command → List ℕ → Option (List ℕ) → Option (List ℕ) → Type 0
+PrintsFrontOnly command bytes old new = (status : Status) (text : List ℕ) →
+    IsOutput command bytes status text → AppendsFront old new text

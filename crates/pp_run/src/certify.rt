@@ -1,19 +1,18 @@
 //! Certifying an input: its status and its report.
 ghost use Rattle.std.specs.Prelude.{◌≡◌, ◌≤◌, ◌+◌, ℕ, List, None, Some, IfOk, IfErr, IsErrOf, ◌⊎◌};
-ghost use Rattle.std.specs.Io.KnownBytes.{Consumes, IsAtEnd};
+ghost use Rattle.std.specs.Io.KnownBytes.{IsAtEnd};
 ghost use Rattle.pp_core.specs.declared.status.Status.TheVariants as statuses;
 ghost use Rattle.pp_io.specs.Faults.{HasRisen};
-ghost use Rattle.pp_model.specs.Rules.{Accepted, Rejected};
 ghost use Rattle.pp_report.specs.declared.cause.Cause.{Cause as CauseOf};
 ghost use Rattle.pp_report.specs.declared.cause.Cause.TheVariants.{NoHeader};
 ghost use Rattle.pp_report.specs.Reports.{fault_text};
 ghost use Rattle.pp_run.specs.declared.certify.Failure.TheVariants.{ReadFault, OutOfMemory as NoMemory};
 ghost use Rattle.pp_run.specs.declared.progress.Stop.TheVariants.{Fault};
 ghost use Rattle.pp_run.specs.Certified.{IsDecided};
-ghost use Rattle.pp_run.specs.Inputs.{early_fault};
-ghost use Rattle.pp_run.specs.Outputs.{IsReport, IsReportOf, IsRunReport};
+ghost use Rattle.pp_run.specs.Inputs.{ReadsNoFault};
+ghost use Rattle.pp_run.specs.Outputs.{IsCertified, IsRunTold};
 ghost use Rattle.pp_run.specs.Progresses.{Covers, IfFault, IsRejected, IsRunning, lines_of};
-ghost use Rattle.pp_run.specs.Scans.{Scanned};
+ghost use Rattle.pp_run.specs.Scans.{InputScan};
 
 use crate::examine::{Ending, examine};
 use crate::progress::{Progress, Rejection, Stop, Tally};
@@ -42,9 +41,10 @@ fn report_accepted<L: Ledger>(
     machine: &Machine<Objects>,
     ticks: &mut Ticks<L>,
 ) -> Result<(Status, Text), OutOfMemory>
-    requires running { (sc : Scanned) × IsRunning sc tally.now machine.now }
+    requires running { (sc : InputScan) × IsRunning sc tally.now machine.now }
     requires few { tally.now.lines ≤ 200_001 }
-    ensures { IfOk result (λ r. (sc : Scanned) → IsRunning sc tally.now machine.now → IsReportOf tally.now.header sc.records Accepted r.0 r.1) }
+    ensures { IfOk result (λ r. (sc : InputScan) → IsRunning sc tally.now machine.now →
+        IsRunTold sc r.0 r.1) }
 {
     let catalog = &tally.header.catalog;
     let kinds = catalog.kinds(alloc)?;
@@ -61,7 +61,8 @@ fn report_rejected(
     tally: &Tally,
     rejection: &Rejection,
 ) -> Result<(Status, Text), OutOfMemory>
-    ensures { IfOk result (λ r. (sc : Scanned) → IsRejected sc tally.now rejection.now → IsReportOf tally.now.header sc.records (Rejected rejection.now.step rejection.now.criterion) r.0 r.1) }
+    ensures { IfOk result (λ r. (sc : InputScan) → IsRejected sc tally.now rejection.now →
+        IsRunTold sc r.0 r.1) }
 {
     let text = rejected(
         alloc,
@@ -79,10 +80,13 @@ fn conclude<L: Ledger>(
     progress: &Progress,
     ticks: &mut Ticks<L>,
 ) -> Result<(Status, Text), Stop>
-    requires covers { (sc : Scanned) × Covers sc progress.now }
+    requires covers { (sc : InputScan) × Covers sc progress.now }
     requires few { lines_of progress.now ≤ 200_001 }
-    ensures report { IfOk result (λ r. (sc : Scanned) → Covers sc progress.now → IsRunReport sc.header sc.records r.0 r.1) }
-    ensures no_header { IfErr result (λ stop. IfFault stop (λ at cause. (at ≡ lines_of progress.now + 1) × (cause ≡ NoHeader) × ((sc : Scanned) → Covers sc progress.now → sc.header ≡ None))) }
+    ensures report { IfOk result (λ r. (sc : InputScan) → Covers sc progress.now →
+        IsRunTold sc r.0 r.1) }
+    ensures no_header { IfErr result (λ stop. IfFault stop
+        (λ at cause. (at ≡ lines_of progress.now + 1) × (cause ≡ NoHeader) × ((sc : InputScan) →
+        Covers sc progress.now → sc.header ≡ None))) }
 {
     match progress {
         Progress::Waiting(lines) => Err(Stop::Fault(*lines + 1, Cause::NoHeader)),
@@ -93,7 +97,8 @@ fn conclude<L: Ledger>(
 
 /// The report of a fault of the input.
 fn report_fault(alloc: Global, stop: Stop) -> Result<(Status, Text), Failure>
-    ensures report { IfOk result (λ r. (r.0 ≡ statuses.InputFault) × ((line : ℕ) × (cause : CauseOf) × (stop ≡ Fault line cause) × (r.1 ≡ fault_text line cause))) }
+    ensures report { IfOk result (λ r. (r.0 ≡ statuses.InputFault) × ((line : ℕ)
+        × (cause : CauseOf) × (stop ≡ Fault line cause) × (r.1 ≡ fault_text line cause))) }
     ensures memory { IfErr result (λ failure. failure ≡ NoMemory) }
 {
     match stop {
@@ -111,10 +116,13 @@ pub fn certify<S: Source, L: Ledger>(
     source: &mut S,
     ticks: &mut Ticks<L>,
 ) -> Result<(Status, Text), Failure>
-    ensures report { IfOk result (λ r. (bytes : List ℕ) → S.left source.old ≡ Some bytes → IsReport bytes r.0 r.1) }
+    ensures report { IfOk result (λ r. (bytes : List ℕ) → S.left source.old ≡ Some bytes →
+        IsCertified bytes r.0 r.1) }
     ensures status { IfOk result (λ r. IsDecided r.0 ⊎ (r.0 ≡ statuses.InputFault)) }
     ensures end { IfOk result (λ r. IsDecided r.0 → IsAtEnd (S.left source.new)) }
-    ensures read_fault { IsErrOf result ReadFault → HasRisen (S.faults source.old) (S.faults source.new) × ((bytes : List ℕ) × Consumes (S.left source.old) (S.left source.new) bytes × (early_fault bytes ≡ None)) }
+    ensures read_fault { IsErrOf result ReadFault →
+        HasRisen (S.faults source.old) (S.faults source.new)
+        × ReadsNoFault (S.left source.old) (S.left source.new) }
     ensures count { S.faults source.old ≤ S.faults source.new }
 {
     match examine(alloc, source, ticks) {

@@ -8,7 +8,7 @@ ghost use Rattle.pp_io.specs.Overruns.{line_of, overrun, scanned_lines};
 ghost use Rattle.pp_run.specs.declared.examine.Ending.TheVariants.{Stopped, ReadFault};
 ghost use Rattle.pp_run.specs.Examined.{Follows, IfInputFault, IsAt, Leads};
 ghost use Rattle.pp_run.specs.declared.progress.Stop.TheVariants.{OutOfMemory as NoMemory};
-ghost use Rattle.pp_run.specs.Inputs.{cause_of_limit, early_fault, scan};
+ghost use Rattle.pp_run.specs.Inputs.{IsFaultOf, ReadsNoFault, cause_of_limit, early_scan, scan};
 ghost use Rattle.pp_run.specs.Progresses.{IfFault};
 ghost use Rattle.pp_run.specs.Scans.{Numbered, scan_lines};
 
@@ -47,7 +47,8 @@ impl From<AllocError> for Ending {
 
 /// How an examination ends at a limit that is passed.
 fn stop_at_limit(fault: LineFault) -> Stop
-    ensures { IfFault result (λ line cause. (line ≡ line_of fault) × (cause_of_limit fault ≡ Some cause)) }
+    ensures { IfFault result (λ line cause. (line ≡ line_of fault)
+        × (cause_of_limit fault ≡ Some cause)) }
 {
     match fault {
         LineFault::TooLong { line } => Stop::Fault(line, Cause::TooLong),
@@ -65,13 +66,15 @@ fn drain<L: Ledger>(
     ticks: &mut Ticks<L>,
 ) -> Result<Progress, Stop>
     requires { (all : List Numbered) × Follows all lines.old progress }
-    ensures ok { IfOk result (λ next. (all : List Numbered) → Follows all lines.old progress → Follows all lines.new next) }
+    ensures ok { IfOk result (λ next. (all : List Numbered) → Follows all lines.old progress →
+        Follows all lines.new next) }
     ensures whole { OnOk result (lines.new.whole ≡ []) }
     ensures rest { lines.new.rest ≡ lines.old.rest }
     ensures reach { lines.new.reach ≡ lines.old.reach }
     ensures fault { lines.new.fault ≡ lines.old.fault }
     ensures closed { lines.new.closed ≡ lines.old.closed }
-    ensures stop { IfErr result (λ stop. IfFault stop (λ at cause. (all : List Numbered) → Follows all lines.old progress → (scan_lines all).fault ≡ Some (at, cause))) }
+    ensures stop { IfErr result (λ stop. IfFault stop (λ at cause. (all : List Numbered) →
+        Follows all lines.old progress → IsFaultOf (scan_lines all) (Some (at, cause)))) }
 {
     let mut progress = progress;
     'lines: while let Some(line) = lines.next() {
@@ -84,7 +87,8 @@ fn drain<L: Ledger>(
 fn feed(lines: &mut Lines, piece: &[u8]) -> Result<Option<LineFault>, OutOfMemory>
     requires sound { lines.old.fault ≡ None }
     requires open { lines.old.closed ≡ false }
-    ensures fed { IfOk result (λ limit. (lines.new ≡ fed lines.old piece.now) × (overrun_from lines.old.reach piece.now ≡ limit)) }
+    ensures fed { IfOk result (λ limit. (lines.new ≡ fed lines.old piece.now)
+        × (overrun_from lines.old.reach piece.now ≡ limit)) }
 {
     match lines.feed(piece) {
         Ok(()) => Ok(None),
@@ -102,8 +106,11 @@ fn take_piece<L: Ledger>(
     ticks: &mut Ticks<L>,
 ) -> Result<Progress, Stop>
     requires { (bytes : List ℕ) × IsAt bytes lines.old progress }
-    ensures ok { IfOk result (λ next. (bytes : List ℕ) → IsAt bytes lines.old progress → IsAt (bytes ++ piece.now) lines.new next) }
-    ensures stop { IfErr result (λ stop. IfFault stop (λ at cause. (bytes : List ℕ) → IsAt bytes lines.old progress → early_fault (bytes ++ piece.now) ≡ Some (at, cause))) }
+    ensures ok { IfOk result (λ next. (bytes : List ℕ) → IsAt bytes lines.old progress →
+        IsAt (bytes ++ piece.now) lines.new next) }
+    ensures stop { IfErr result (λ stop. IfFault stop (λ at cause. (bytes : List ℕ) →
+        IsAt bytes lines.old progress →
+        IsFaultOf (early_scan (bytes ++ piece.now)) (Some (at, cause)))) }
 {
     let limit = feed(lines, piece)?;
     let progress = drain(alloc, lines, progress, ticks)?;
@@ -121,8 +128,11 @@ fn take_rest<L: Ledger>(
     ticks: &mut Ticks<L>,
 ) -> Result<Progress, Stop>
     requires { (bytes : List ℕ) × IsAt bytes lines.old progress }
-    ensures ok { IfOk result (λ next. (bytes : List ℕ) → IsAt bytes lines.old progress → Leads (scanned_lines bytes) next) }
-    ensures stop { IfErr result (λ stop. IfFault stop (λ at cause. (bytes : List ℕ) → IsAt bytes lines.old progress → (scan_lines (scanned_lines bytes)).fault ≡ Some (at, cause))) }
+    ensures ok { IfOk result (λ next. (bytes : List ℕ) → IsAt bytes lines.old progress →
+        Leads (scanned_lines bytes) next) }
+    ensures stop { IfErr result (λ stop. IfFault stop (λ at cause. (bytes : List ℕ) →
+        IsAt bytes lines.old progress →
+        IsFaultOf (scan_lines (scanned_lines bytes)) (Some (at, cause)))) }
 {
     lines.finish();
     drain(alloc, lines, progress, ticks)
@@ -143,10 +153,15 @@ fn read_through<S: Source, L: Ledger>(
     ticks: &mut Ticks<L>,
 ) -> Result<Progress, Ending>
     requires { 0 < length buffer.old }
-    ensures ok { IfOk result (λ next. (bytes : List ℕ) × Consumes (S.left source.old) (S.left source.new) bytes × (overrun bytes ≡ None) × Leads (scanned_lines bytes) next) }
+    ensures ok { IfOk result (λ next. (bytes : List ℕ)
+        × Consumes (S.left source.old) (S.left source.new) bytes × (overrun bytes ≡ None)
+        × Leads (scanned_lines bytes) next) }
     ensures end { OnOk result (IsAtEnd (S.left source.new)) }
-    ensures stop { IfErr result (λ ending. IfInputFault ending (λ at cause. (bytes : List ℕ) → S.left source.old ≡ Some bytes → (scan bytes).fault ≡ Some (at, cause))) }
-    ensures read_fault { IsErrOf result ReadFault → HasRisen (S.faults source.old) (S.faults source.new) × ((bytes : List ℕ) × Consumes (S.left source.old) (S.left source.new) bytes × (early_fault bytes ≡ None)) }
+    ensures stop { IfErr result (λ ending. IfInputFault ending (λ at cause. (bytes : List ℕ) →
+        S.left source.old ≡ Some bytes → IsFaultOf (scan bytes) (Some (at, cause)))) }
+    ensures read_fault { IsErrOf result ReadFault →
+        HasRisen (S.faults source.old) (S.faults source.new)
+        × ReadsNoFault (S.left source.old) (S.left source.new) }
     ensures count { S.faults source.old ≤ S.faults source.new }
 {
     let mut lines = Lines::new(alloc);
@@ -169,10 +184,15 @@ pub fn examine<S: Source, L: Ledger>(
     source: &mut S,
     ticks: &mut Ticks<L>,
 ) -> Result<Progress, Ending>
-    ensures ok { IfOk result (λ next. (bytes : List ℕ) × Consumes (S.left source.old) (S.left source.new) bytes × (overrun bytes ≡ None) × Leads (scanned_lines bytes) next) }
+    ensures ok { IfOk result (λ next. (bytes : List ℕ)
+        × Consumes (S.left source.old) (S.left source.new) bytes × (overrun bytes ≡ None)
+        × Leads (scanned_lines bytes) next) }
     ensures end { OnOk result (IsAtEnd (S.left source.new)) }
-    ensures stop { IfErr result (λ ending. IfInputFault ending (λ at cause. (bytes : List ℕ) → S.left source.old ≡ Some bytes → (scan bytes).fault ≡ Some (at, cause))) }
-    ensures read_fault { IsErrOf result ReadFault → HasRisen (S.faults source.old) (S.faults source.new) × ((bytes : List ℕ) × Consumes (S.left source.old) (S.left source.new) bytes × (early_fault bytes ≡ None)) }
+    ensures stop { IfErr result (λ ending. IfInputFault ending (λ at cause. (bytes : List ℕ) →
+        S.left source.old ≡ Some bytes → IsFaultOf (scan bytes) (Some (at, cause)))) }
+    ensures read_fault { IsErrOf result ReadFault →
+        HasRisen (S.faults source.old) (S.faults source.new)
+        × ReadsNoFault (S.left source.old) (S.left source.new) }
     ensures count { S.faults source.old ≤ S.faults source.new }
 {
     let mut buffer = zeros(alloc, 65_536)?;

@@ -4,10 +4,10 @@
 mod cause;
 mod certify;
 mod examine;
+mod program;
 mod progress;
 mod take;
-mod whole;
 mod words;
 mod write;
 
-pub use whole::run;
+pub use program::run;

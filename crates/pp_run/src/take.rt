@@ -2,7 +2,9 @@
 ghost use Rattle.std.specs.Prelude.{◌≡◌, ◌≤◌, ◌<◌, ◌+◌, false, ◌&&◌, ◌==◌, IfOk, IfErr, Some, None, Ok, Err};
 ghost use Rattle.pp_run.specs.declared.progress.Progress.TheVariants.{Running, Stopped};
 ghost use Rattle.pp_run.specs.declared.progress.Stop.TheVariants.{OutOfMemory as NoMemory};
-ghost use Rattle.pp_run.specs.Scans.{Scanned, is_begin, scan_line};
+ghost use Rattle.pp_run.specs.Inputs.{IsFaultOf};
+ghost use Rattle.pp_run.specs.Objects.{start_of};
+ghost use Rattle.pp_run.specs.Scans.{InputScan, is_begin, scan_line};
 ghost use Rattle.pp_run.specs.Progresses.{Covers, IfFault, IsRefused, StepTaken, is_too_many, lines_of, skipped, with_line, with_record};
 ghost use Rattle.pp_core.specs.Steps.{meaning, rule_of};
 ghost use Rattle.pp_io.specs.Lines.{blank};
@@ -81,8 +83,17 @@ fn skip_line(progress: Progress) -> Progress
 
 /// The line that is the header.
 fn take_header(alloc: Global, line: &Line) -> Result<Progress, Stop>
-    ensures ok { IfOk result (λ next. (header : HeaderOf) × (header_of line.now.text ≡ Ok header) × (next ≡ Running (record { header = header; lines = line.now.number; begins = 0 }) (record { shape = kinds_of header.catalog; config = first None; count = 0 }))) }
-    ensures err { IfErr result (λ stop. IfFault stop (λ at cause. (at ≡ line.now.number) × ((fault : FaultOf) × (header_of line.now.text ≡ Err fault) × (cause_of fault ≡ Ok cause)))) }
+    ensures ok { IfOk result (λ next. (header : HeaderOf)
+        × (header_of line.now.text ≡ Ok header)
+        × (next ≡ Running (record { header = header; lines = line.now.number; begins = 0 })
+        (record {
+          shape = kinds_of header.catalog;
+          config = first (start_of header);
+          count = 0;
+        }))) }
+    ensures err { IfErr result (λ stop. IfFault stop (λ at cause. (at ≡ line.now.number)
+        × ((fault : FaultOf) × (header_of line.now.text ≡ Err fault)
+        × (cause_of fault ≡ Ok cause)))) }
 {
     let header = match read_header(alloc, line.text.bytes()) {
         Ok(header) => header,
@@ -99,10 +110,12 @@ fn take_header(alloc: Global, line: &Line) -> Result<Progress, Stop>
 
 /// The step of a line behind the header.
 fn read_step(alloc: Global, tally: &Tally, line: &Line) -> Result<Step<Op>, Stop>
-    ensures read { IfOk result (λ step. record_of tally.now.header line.now.text ≡ Ok (meaning step)) }
+    ensures read { IfOk result
+        (λ step. record_of tally.now.header line.now.text ≡ Ok (meaning step)) }
     ensures readable { IfOk result (λ step. IsReadable tally.now.header.catalog (meaning step)) }
     ensures few { IfOk result (λ step. is_too_many tally.now (meaning step) ≡ false) }
-    ensures err { IfErr result (λ stop. IfFault stop (λ at cause. (at ≡ line.now.number) × IsRefused tally.now (record_of tally.now.header line.now.text) cause)) }
+    ensures err { IfErr result (λ stop. IfFault stop (λ at cause. (at ≡ line.now.number)
+        × IsRefused tally.now (record_of tally.now.header line.now.text) cause)) }
 {
     let step = match read_record(alloc, &tally.header, line.text.bytes()) {
         Ok(step) => step,
@@ -154,11 +167,14 @@ fn take_record<L: Ledger>(
 ) -> Result<Progress, Stop>
     requires next { line.now.number ≡ tally.lines + 1 }
     requires few { line.now.number ≤ 200_001 }
-    requires covers { (sc : Scanned) × Covers sc (Running tally machine) }
+    requires covers { (sc : InputScan) × Covers sc (Running tally machine) }
     requires other { blank line.now.text ≡ false }
     ensures lines { IfOk result (λ next. lines_of next ≡ line.now.number) }
-    ensures ok { IfOk result (λ next. (sc : Scanned) → Covers sc (Running tally machine) → Covers (scan_line sc (line.now.number, line.now.text)) next) }
-    ensures fault { IfErr result (λ stop. IfFault stop (λ at cause. (sc : Scanned) → Covers sc (Running tally machine) → (scan_line sc (line.now.number, line.now.text)).fault ≡ Some (at, cause))) }
+    ensures ok { IfOk result (λ next. (sc : InputScan) → Covers sc (Running tally machine) →
+        Covers (scan_line sc (line.now.number, line.now.text)) next) }
+    ensures fault { IfErr result (λ stop. IfFault stop (λ at cause. (sc : InputScan) →
+        Covers sc (Running tally machine) →
+        IsFaultOf (scan_line sc (line.now.number, line.now.text)) (Some (at, cause)))) }
 {
     let step = read_step(alloc, &tally, line)?;
     take_step(
@@ -179,11 +195,14 @@ fn pass_record(
 ) -> Result<Progress, Stop>
     requires next { line.now.number ≡ tally.lines + 1 }
     requires few { line.now.number ≤ 200_001 }
-    requires covers { (sc : Scanned) × Covers sc (Stopped tally rejection) }
+    requires covers { (sc : InputScan) × Covers sc (Stopped tally rejection) }
     requires other { blank line.now.text ≡ false }
     ensures lines { IfOk result (λ next. lines_of next ≡ line.now.number) }
-    ensures ok { IfOk result (λ next. (sc : Scanned) → Covers sc (Stopped tally rejection) → Covers (scan_line sc (line.now.number, line.now.text)) next) }
-    ensures fault { IfErr result (λ stop. IfFault stop (λ at cause. (sc : Scanned) → Covers sc (Stopped tally rejection) → (scan_line sc (line.now.number, line.now.text)).fault ≡ Some (at, cause))) }
+    ensures ok { IfOk result (λ next. (sc : InputScan) → Covers sc (Stopped tally rejection) →
+        Covers (scan_line sc (line.now.number, line.now.text)) next) }
+    ensures fault { IfErr result (λ stop. IfFault stop (λ at cause. (sc : InputScan) →
+        Covers sc (Stopped tally rejection) →
+        IsFaultOf (scan_line sc (line.now.number, line.now.text)) (Some (at, cause)))) }
 {
     let step = read_step(alloc, &tally, line)?;
     Ok(Progress::Stopped(with_record(tally, &step), rejection))
@@ -198,10 +217,13 @@ pub fn take_line<L: Ledger>(
 ) -> Result<Progress, Stop>
     requires next { line.now.number ≡ lines_of progress + 1 }
     requires few { line.now.number ≤ 200_001 }
-    requires covers { (sc : Scanned) × Covers sc progress }
+    requires covers { (sc : InputScan) × Covers sc progress }
     ensures lines { IfOk result (λ next. lines_of next ≡ line.now.number) }
-    ensures ok { IfOk result (λ next. (sc : Scanned) → Covers sc progress → Covers (scan_line sc (line.now.number, line.now.text)) next) }
-    ensures fault { IfErr result (λ stop. IfFault stop (λ at cause. (sc : Scanned) → Covers sc progress → (scan_line sc (line.now.number, line.now.text)).fault ≡ Some (at, cause))) }
+    ensures ok { IfOk result (λ next. (sc : InputScan) → Covers sc progress →
+        Covers (scan_line sc (line.now.number, line.now.text)) next) }
+    ensures fault { IfErr result (λ stop. IfFault stop (λ at cause. (sc : InputScan) →
+        Covers sc progress →
+        IsFaultOf (scan_line sc (line.now.number, line.now.text)) (Some (at, cause)))) }
 {
     if is_blank(line.text.bytes()) {
         return Ok(skip_line(progress));

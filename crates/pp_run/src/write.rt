@@ -21,7 +21,8 @@ pub fn write_all<K: Sink>(sink: &mut K, bytes: &[u8]) -> Result<(), WriteError>
     ensures ok { OnOk result (Appends (K.held sink.old) (K.held sink.new) bytes.now) }
     ensures err { OnErr result (AppendsFront (K.held sink.old) (K.held sink.new) bytes.now) }
     ensures count { K.faults sink.old ≤ K.faults sink.new }
-    ensures write_fault { IsErrOf result WriteFault → HasRisen (K.faults sink.old) (K.faults sink.new) }
+    ensures write_fault { IsErrOf result WriteFault →
+        HasRisen (K.faults sink.old) (K.faults sink.new) }
 {
     let mut at = 0;
     while at < bytes.len() {

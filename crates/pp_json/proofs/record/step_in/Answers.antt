@@ -15,3 +15,12 @@ returns-in-Quit-clause-readable c = over c.args.catalog.now c.quit_in.result c.q
 
 pub returns-in-Note-clause-readable : goal.returns-in-Note-clause-readable
 returns-in-Note-clause-readable c = over c.args.catalog.now c.note_in.result c.note_in.ensures.readable
+
+pub returns-in-Unapp-clause-readable : goal.returns-in-Unapp-clause-readable
+returns-in-Unapp-clause-readable c = over c.args.catalog.now c.unapp_in.result c.unapp_in.ensures.readable
+
+pub returns-in-Unpush-clause-readable : goal.returns-in-Unpush-clause-readable
+returns-in-Unpush-clause-readable c = over c.args.catalog.now c.unpush_in.result c.unpush_in.ensures.readable
+
+pub returns-in-Unpull-clause-readable : goal.returns-in-Unpull-clause-readable
+returns-in-Unpull-clause-readable c = over c.args.catalog.now c.unpull_in.result c.unpull_in.ensures.readable

@@ -5,7 +5,7 @@ use Rattle.pp_object.specs.Objects.{kinds_of, objects}
 use Rattle.pp_object.specs.declared.act.Op.{Op}
 use Rattle.pp_report.specs.Reports.{accepted_text}
 use Rattle.pp_spec.specs.Object.{rules_of, state_after}
-use Rattle.pp_run.proofs.Concluding.{report_is}
+use Rattle.pp_run.proofs.Concluding.{accepted_told}
 use Rattle.pp_run.proofs.Fitting.{serial_fits}
 use Rattle.pp_run.proofs.Naming.{allowed_over, committed_named, states_named}
 use Rattle.pp_run.proofs.certify.report_accepted.Goals as goal
@@ -44,5 +44,5 @@ returns g c = λ sc r.
     let catalog = c.args.tally.now.header.catalog in
     let committed = c.committed-committed.result.now in
     let text_is : c.in_ok-text.text ≡ accepted_text catalog c.count-count.result committed c.in_ok-_list.states = search rules in
-    report_is sc c.args.tally.now c.args.machine.now c.count-count.result committed c.in_ok-_list.states c.in_ok-text.text r c.count-count.ensures.count c.committed-committed.ensures.done
+    accepted_told sc c.args.tally.now c.args.machine.now r c.count-count.result committed c.in_ok-_list.states c.in_ok-text.text c.count-count.ensures.count c.committed-committed.ensures.done
     (c.in_ok-_list.ensures.state ∙ ap (λ k. state_after objects k (serial_ops committed)) c.in_ok-kinds.ensures) text_is

@@ -1,8 +1,20 @@
-use Rattle.std.proofs.Common.{◌++◌, length-append, take, arith}
-use Rattle.std.proofs.lemmas.List.{length-take}
+use Rattle.std.specs.Io.KnownBytes.{Consumes, IsAtEnd}
+use Rattle.std.proofs.Common.{◌<◌, ◌≤◌, ◌-◌, ◌^◌, ℕ, [], ◌++◌, Some, ◌∙◌, length, inl, inr, length-append, take, arith, rules, subst, sym}
+use Rattle.std.proofs.lemmas.Bool.Decides.{leb_tells}
+use Rattle.std.proofs.KnownBytes.{Consumes-kept}
+use Rattle.std.proofs.lemmas.List.{append-nil, length-take}
 use Rattle.std.proofs.lemmas.Result.{err_from_is_err_and}
-use Rattle.pp_run.proofs.Examining.{at_bytes, consumes_more, if_fault, taken_fault}
+use Rattle.pp_run.specs.Inputs.{IsFaultOf, scan}
+use Rattle.pp_run.proofs.Examining.{at_bytes, at_sound, consumes_more, if_fault, line_fault, taken_all, taken_fault}
 use Rattle.pp_run.proofs.examine.read_through.Goals as goal
+
+-- a count that rises behind one that did not fall
+risen : (a b c m : ℕ) → a ≤ b → (b < m → b < c) → b ≤ c → a < m → a < c
+risen a b c m kept rises more below =
+    elim (leb_tells m b) [
+      | inl over ↦ omega (arith, over.1)
+      | inr under ↦ omega (arith, rises under.1)
+    ]
 
 pub pieces-preserved : goal.pieces-preserved
 pieces-preserved g c =
@@ -30,3 +42,31 @@ returns-in_err-progress-clause-stop g c =
     (λ at' cause faulty bytes is. taken_fault (g.S.Source.left c.args.source.now) (g.S.Source.left c.read.new.self) (at.0 ++ piece) bytes (at', cause)
     (consumes_more (g.S.Source.left c.args.source.now) (g.S.Source.left c.pieces.source) (g.S.Source.left c.read.new.self) at.0 piece at.2 c.in-Ok.ensures.bytes.0) is (faulty at.0 at.1))
     c.in_err-progress.ensures.stop)
+
+-- a read failed
+pub returns-in_default-clause-read_fault : goal.returns-in_default-clause-read_fault
+returns-in_default-clause-read_fault g c = λ failed.
+    let at = c.pieces.invariant.at in (
+      λ below. risen (g.S.Source.faults c.args.source.now) (g.S.Source.faults c.pieces.source) (g.S.Source.faults c.read.new.self) (2 ^ 64 - 1) c.pieces.invariant.count c.in_default.ensures.failed c.read.ensures.count below,
+      (
+        at.0,
+        Consumes-kept (g.S.Source.left c.args.source.now) (g.S.Source.left c.pieces.source) (g.S.Source.left c.read.new.self) at.0 at.2 c.in_default.ensures.bytes,
+        at_sound at.0 c.pieces.lines c.pieces.progress at.1,
+      ),
+    )
+
+-- the last line has a fault
+pub returns-in_err-take_rest-clause-stop : goal.returns-in_err-take_rest-clause-stop
+returns-in_err-take_rest-clause-stop g c =
+    let at = c.pieces.invariant.at in
+    let p = err_from_is_err_and c.from_residual-in_err-take_rest.result c.from_residual-in_err-take_rest.ensures.1 in
+    let room : 0 < length c.read.new.into = search rules in
+    let none : Consumes (g.S.Source.left c.pieces.source) (g.S.Source.left c.read.new.self) [] =
+    subst (λ (k : ℕ). Consumes (g.S.Source.left c.pieces.source) (g.S.Source.left c.read.new.self) (take k c.read.new.into)) c.if-n-eq0.true c.in-Ok.ensures.bytes.0 in
+    let end : IsAtEnd (g.S.Source.left c.read.new.self) = c.in-Ok.ensures.bytes.1 c.if-n-eq0.true room in
+    rw (p.1, p.2) (if_fault c.in_err-take_rest.field-0.0 _ _
+    (λ at' cause faulty bytes is.
+    let all = taken_all (g.S.Source.left c.args.source.now) (g.S.Source.left c.read.new.self) (at.0 ++ []) bytes
+    (consumes_more (g.S.Source.left c.args.source.now) (g.S.Source.left c.pieces.source) (g.S.Source.left c.read.new.self) at.0 [] at.2 none) end is in
+    subst (λ bs. IsFaultOf (scan bs) (Some (at', cause))) (sym (append-nil at.0) ∙ all) (line_fault at.0 (at', cause) (faulty at.0 at.1)))
+    c.in_err-take_rest.ensures.stop)

@@ -1,8 +1,9 @@
-use Rattle.std.proofs.Common.{◌++◌, Some, sym, ap, ◌∙◌, subst}
+use Rattle.std.proofs.Common.{◌++◌, ℕ, Some, sym, ap, ◌∙◌, subst}
 use Rattle.std.proofs.lemmas.Result.{err_from_is_err_and}
 use Rattle.pp_io.specs.Overruns.{early_lines}
 use Rattle.pp_run.specs.Examined.{Follows}
-use Rattle.pp_run.proofs.Examining.{follows_done, if_fault, leads_sound, piece_fault, piece_follows, piece_passes, piece_taken}
+use Rattle.pp_run.specs.Inputs.{IsFaultOf, early_scan}
+use Rattle.pp_run.proofs.Examining.{follows_done, if_fault, piece_fault, piece_follows, piece_passes, piece_taken}
 use Rattle.pp_run.proofs.examine.take_piece.Goals as goal
 
 pub drain-requires : goal.drain-requires
@@ -37,5 +38,5 @@ returns-in-Some-clause-stop g c =
     if_fault c.stop_at_limit.result _ _ (λ at cause said bytes is.
     let follows = subst (λ h. Follows (early_lines (bytes ++ piece)) h c.args.progress) (sym fed.0) (piece_follows bytes piece held c.args.progress is) in
     let leads = follows_done (early_lines (bytes ++ piece)) c.drain.new.lines c.in_ok-progress.progress (c.in_ok-progress.ensures.ok (early_lines (bytes ++ piece)) follows) c.in_ok-progress.ensures.whole in
-    piece_passes bytes piece held c.args.progress c.in-Some.fault cause is (fed.1 ∙ c.in-Some.is) said.1 (leads_sound (early_lines (bytes ++ piece)) c.in_ok-progress.progress leads) ∙ ap (λ l. Some (l, cause)) (sym said.0))
+    subst (λ (w : ℕ). IsFaultOf (early_scan (bytes ++ piece)) (Some (w, cause))) (sym said.0) (piece_passes bytes piece held c.args.progress c.in_ok-progress.progress c.in-Some.fault cause is (fed.1 ∙ c.in-Some.is) said.1 leads))
     c.stop_at_limit.ensures

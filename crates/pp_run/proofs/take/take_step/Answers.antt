@@ -1,5 +1,5 @@
-use Rattle.std.proofs.Common.{◌≡◌, ◌+◌, inr, ap, subst, refl, ◌∙◌}
-use Rattle.pp_core.specs.Steps.{meaning, rule_of}
+use Rattle.std.proofs.Common.{◌+◌, inr, ap, subst, ◌∙◌}
+use Rattle.pp_core.specs.Steps.{meaning}
 use Rattle.pp_object.specs.Objects.{objects}
 use Rattle.pp_rules.specs.Stepping.{Stepped}
 use Rattle.pp_run.specs.declared.progress.Progress.TheVariants.{Stopped}

@@ -1,0 +1,54 @@
+use Rattle.std.proofs.Common.{◌≡◌, Some, inr, rules, subst, sym, ◌∙◌}
+use Rattle.std.specs.Io.KnownBytes.{Appends}
+use Rattle.pp_run.specs.Outputs.{IsCertified, IsOutput}
+use Rattle.pp_run.specs.Words.{command_of}
+use Rattle.pp_run.specs.Writing.{AppendsFront}
+use Rattle.pp_run.specs.declared.words.Command.TheVariants.{Certify}
+use Rattle.pp_run.proofs.Concluding.{accepted_alone, accepted_simulated, one_output}
+use Rattle.pp_run.proofs.program.run.Goals as goal
+
+pub returns-in-Ok-send-clause-only : goal.returns-in-Ok-send-clause-only
+returns-in-Ok-send-clause-only g c = λ printed bytes is status text output.
+    let command : command_of c.args.words.now ≡ Some Certify = search rules in
+    let one = one_output (Some Certify) bytes c.in-Ok.report.0 status c.in-Ok.report.1 text (c.in-Ok.ensures.report bytes is) (subst (λ o. IsOutput o bytes status text) command output) in
+    (sym one.0, subst (Appends (g.K.Sink.held c.args.sink.now) (g.K.Sink.held c.send.new.sink)) (c.bytes.ensures ∙ one.1) c.in-Ok-send.ensures.ok)
+
+pub returns-in-Ok-send-clause-simulated : goal.returns-in-Ok-send-clause-simulated
+returns-in-Ok-send-clause-simulated g c = λ certify accepted bytes is.
+    accepted_simulated bytes c.in-Ok.report.1 (subst (λ s. IsCertified bytes s c.in-Ok.report.1) accepted (c.in-Ok.ensures.report bytes is))
+
+pub returns-in-Ok-send-clause-alone : goal.returns-in-Ok-send-clause-alone
+returns-in-Ok-send-clause-alone g c = λ certify accepted bytes is.
+    accepted_alone bytes c.in-Ok.report.1 (subst (λ s. IsCertified bytes s c.in-Ok.report.1) accepted (c.in-Ok.ensures.report bytes is))
+
+pub returns-in-Err-WriteFault-clause-front : goal.returns-in-Err-WriteFault-clause-front
+returns-in-Err-WriteFault-clause-front g c = λ unwritten bytes is status text output.
+    let command : command_of c.args.words.now ≡ Some Certify = search rules in
+    subst (AppendsFront (g.K.Sink.held c.args.sink.now) (g.K.Sink.held c.send.new.sink))
+    (c.bytes.ensures ∙ (one_output (Some Certify) bytes c.in-Ok.report.0 status c.in-Ok.report.1 text (c.in-Ok.ensures.report bytes is) (subst (λ o. IsOutput o bytes status text) command output)).1)
+    c.in-Err-WriteFault.ensures.err
+
+pub returns-clause-front : goal.returns-clause-front
+returns-clause-front g c = λ unwritten bytes is status text output.
+    let command : command_of c.args.words.now ≡ Some Certify = search rules in
+    subst (AppendsFront (g.K.Sink.held c.args.sink.now) (g.K.Sink.held c.send.new.sink))
+    (c.bytes.ensures ∙ (one_output (Some Certify) bytes c.in-Ok.report.0 status c.in-Ok.report.1 text (c.in-Ok.ensures.report bytes is) (subst (λ o. IsOutput o bytes status text) command output)).1)
+    c.in-Err-Memory.ensures.err
+
+pub returns-in-Err-WriteFault-clause-written : goal.returns-in-Err-WriteFault-clause-written
+returns-in-Err-WriteFault-clause-written g c = λ failed bytes is.
+    let command : command_of c.args.words.now ≡ Some Certify = search rules in
+    (c.in-Ok.report.0, c.bytes.result.now, subst (λ o. IsOutput o bytes c.in-Ok.report.0 c.bytes.result.now) (sym command) (subst (IsOutput (Some Certify) bytes c.in-Ok.report.0) (sym c.bytes.ensures) (c.in-Ok.ensures.report bytes is)), c.in-Err-WriteFault.ensures.err)
+
+pub returns-clause-refused : goal.returns-clause-refused
+returns-clause-refused g c = λ refused. inr (λ bytes is.
+    let command : command_of c.args.words.now ≡ Some Certify = search rules in
+    (c.in-Ok.report.0, c.bytes.result.now, subst (λ o. IsOutput o bytes c.in-Ok.report.0 c.bytes.result.now) (sym command) (subst (IsOutput (Some Certify) bytes c.in-Ok.report.0) (sym c.bytes.ensures) (c.in-Ok.ensures.report bytes is)), c.in-Err-Memory.ensures.err))
+
+pub returns-in-Ok-send-clause-output : goal.returns-in-Ok-send-clause-output
+returns-in-Ok-send-clause-output g c = λ printed bytes is.
+    let command : command_of c.args.words.now ≡ Some Certify = search rules in (
+      c.in-Ok.report.1,
+      subst (λ o. IsOutput o bytes c.in-Ok.report.0 c.in-Ok.report.1) (sym command) (c.in-Ok.ensures.report bytes is),
+      subst (Appends (g.K.Sink.held c.args.sink.now) (g.K.Sink.held c.send.new.sink)) c.bytes.ensures c.in-Ok-send.ensures.ok,
+    )

@@ -1,0 +1,111 @@
+//! The program but for its edge: from its words and its input to its status and what it writes.
+ghost use Rattle.std.specs.Prelude.{◌≡◌, ◌≤◌, ◌↔◌, ◌⊎◌, None, Some, OnOk, OnErr, IsErrOf};
+ghost use Rattle.std.specs.Io.KnownBytes.{Appends, IsAtEnd, Keeps};
+ghost use Rattle.pp_core.specs.declared.status.Status.TheVariants as statuses;
+ghost use Rattle.pp_io.specs.Faults.{HasRisen};
+ghost use Rattle.pp_run.specs.declared.words.Command.TheVariants.{Certify};
+ghost use Rattle.pp_run.specs.declared.write.WriteError.TheVariants.{WriteFault};
+ghost use Rattle.pp_run.specs.Certified.{IsDecided, IsPrinted, IsUnwritten};
+ghost use Rattle.pp_run.specs.Inputs.{ReadsNoFault, scan};
+ghost use Rattle.pp_run.specs.Outputs.{Prints, PrintsFront, PrintsFrontOnly, PrintsOnly, WhereTold};
+ghost use Rattle.pp_run.specs.Accepted.{IsAloneAccepted, IsSimulated};
+ghost use Rattle.pp_run.specs.Words.{command_of};
+ghost use Rattle.pp_run.specs.Writing.{AppendsFront};
+
+use crate::certify::{Failure, certify};
+use crate::words::{Command, read_words};
+use crate::write::{WriteError, write_all};
+use pp_core::{Status, Ticks, Words};
+use pp_io::{Sink, SinkFault, Source};
+use std::alloc::Global;
+use std::sync::ledger::Ledger;
+
+/// Writes all of an output, and sends it on.
+fn send<K: Sink>(sink: &mut K, bytes: &[u8]) -> Result<(), WriteError>
+    ensures ok { OnOk result (Appends (K.held sink.old) (K.held sink.new) bytes.now) }
+    ensures err { OnErr result (AppendsFront (K.held sink.old) (K.held sink.new) bytes.now) }
+    ensures count { K.faults sink.old ≤ K.faults sink.new }
+    ensures write_fault { IsErrOf result WriteFault →
+        HasRisen (K.faults sink.old) (K.faults sink.new) }
+{
+    write_all(sink, bytes)?;
+    match sink.flush() {
+        Ok(()) => Ok(()),
+        Err(SinkFault::Failed) => Err(WriteError::WriteFault),
+        Err(SinkFault::OutOfMemory) => Err(WriteError::Memory),
+    }
+}
+
+/// Does a command: reads the source where the command has an input, and writes its output to the sink.
+///
+/// The source is read in pieces of at most 65,536 bytes, and nothing is written before the output is whole.
+pub fn run<S: Source, K: Sink, L: Ledger>(
+    alloc: Global,
+    words: &Words,
+    source: &mut S,
+    sink: &mut K,
+    ticks: &mut Ticks<L>,
+) -> Status
+    // What is printed is the output that the words and the input define, and they define no other.
+    ensures output { IsPrinted result → WhereTold (S.left source.old) λ bytes.
+        Prints (command_of words.now) bytes result (K.held sink.old) (K.held sink.new) }
+    ensures only { IsPrinted result → WhereTold (S.left source.old) λ bytes.
+        PrintsOnly (command_of words.now) bytes result (K.held sink.old) (K.held sink.new) }
+
+    // Words that are no command touch nothing.
+    ensures bad_words { (result ≡ statuses.BadWords) ↔ (command_of words.now ≡ None) }
+    ensures source_untouched { result ≡ statuses.BadWords → source.new ≡ source.old }
+    ensures sink_untouched { result ≡ statuses.BadWords → sink.new ≡ sink.old }
+
+    // A verdict is given on the whole input.
+    ensures end { IsDecided result → IsAtEnd (S.left source.new) }
+
+    // A failed read is told only where one failed, and no fault in what was read is hidden.
+    ensures read_fault { result ≡ statuses.ReadFault →
+        HasRisen (S.faults source.old) (S.faults source.new)
+        × Keeps (K.held sink.old) (K.held sink.new)
+        × ReadsNoFault (S.left source.old) (S.left source.new) }
+
+    // A failed write is told only where one failed, and a front of the output was written.
+    ensures write_fault { result ≡ statuses.WriteFault →
+        HasRisen (K.faults sink.old) (K.faults sink.new) }
+    ensures written { result ≡ statuses.WriteFault → WhereTold (S.left source.old) λ bytes.
+        PrintsFront (command_of words.now) bytes (K.held sink.old) (K.held sink.new) }
+
+    // Where memory was refused, nothing was written, or a front of the output.
+    ensures refused { result ≡ statuses.OutOfMemory → Keeps (K.held sink.old) (K.held sink.new)
+        ⊎ WhereTold (S.left source.old) λ bytes.
+        PrintsFront (command_of words.now) bytes (K.held sink.old) (K.held sink.new) }
+    ensures front { IsUnwritten result → WhereTold (S.left source.old) λ bytes.
+        PrintsFrontOnly (command_of words.now) bytes (K.held sink.old) (K.held sink.new) }
+
+    // The counts of faults never fall.
+    ensures reads { S.faults source.old ≤ S.faults source.new }
+    ensures writes { K.faults sink.old ≤ K.faults sink.new }
+
+    // Where nothing failed, the status is the defined one, unless memory was refused.
+    ensures complete { ¬ HasRisen (S.faults source.old) (S.faults source.new) →
+        ¬ HasRisen (K.faults sink.old) (K.faults sink.new) →
+        (result ≡ statuses.OutOfMemory) ⊎ IsPrinted result }
+
+    // A run that is certified is simulated by its committed transactions, one after another in
+    // commit order, and these transactions, each alone, are an accepted run.
+    ensures simulated { command_of words.now ≡ Some Certify → result ≡ statuses.Accepted →
+        WhereTold (S.left source.old) λ bytes. IsSimulated (scan bytes) }
+    ensures alone { command_of words.now ≡ Some Certify → result ≡ statuses.Accepted →
+        WhereTold (S.left source.old) λ bytes. IsAloneAccepted (scan bytes) }
+{
+    let Some(Command::Certify) = read_words(words) else {
+        return Status::BadWords;
+    };
+    let (status, text) = match certify(alloc, source, ticks) {
+        Ok(report) => report,
+        Err(Failure::ReadFault) => return Status::ReadFault,
+        Err(Failure::OutOfMemory) => return Status::OutOfMemory,
+    };
+    match send(sink, text.bytes()) {
+        Ok(()) => status,
+        Err(WriteError::WriteFault) => Status::WriteFault,
+        Err(WriteError::Memory) => Status::OutOfMemory,
+    }
+}
