@@ -1,7 +1,7 @@
--- Where the operations and the bodies of an expansion come from.
+-- Meaning: where the operations and the bodies of an expansion come from.
 use Rattle.std.specs.Prelude.{◌≡◌, ◌⊎◌, ℕ}
 use Rattle.pp_core.specs.declared.call.Style.{Style}
-use Rattle.pp_model.specs.Config.{Config, Step, Begin, App}
+use Rattle.pp_model.specs.Config.{Config, Step, Begin, App, Unapp, Push, Unpush, Pull, Unpull, Cmt, Quit, Note}
 use Rattle.pp_model.specs.Lists.{In}
 use Rattle.pp_front.specs.Records.{RunRecord}
 use Rattle.pp_front.specs.Records as records
@@ -12,7 +12,14 @@ use Rattle.pp_front.specs.Fronts.{Front}
 abbrev pub IsBare : {Op : Type 0} → Step Op → Type 0
 IsBare (Begin t p b) = ⊥
 IsBare (App t id op) = ⊥
-IsBare _ = Unit {0}
+IsBare (Unapp t id) = Unit {0}
+IsBare (Push t id) = Unit {0}
+IsBare (Unpush t id) = Unit {0}
+IsBare (Pull t id) = Unit {0}
+IsBare (Unpull t id) = Unit {0}
+IsBare (Cmt t) = Unit {0}
+IsBare (Quit t) = Unit {0}
+IsBare (Note t) = Unit {0}
 
 -- the step is the one that the record names
 abbrev pub IsNamed : {Op : Type 0} → RunRecord Op → Step Op → Type 0

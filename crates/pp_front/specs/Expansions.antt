@@ -1,4 +1,4 @@
--- The steps that a record stands for, and the front's state behind it.
+-- Meaning: the steps that a record stands for, and the front's state behind it.
 use Rattle.std.specs.Prelude.{ℕ, ◌==◌, Bool, true, false, not, ◌&&◌, ◌||◌, List, [], ◌∷◌, ◌++◌, length, map, filter, reverse, drop, if◌then◌else◌, Option, None, Some}
 use Rattle.std.specs.List.{list_any}
 use Rattle.pp_core.specs.declared.call.Style.{Style}
@@ -175,7 +175,12 @@ kept f c (records.Depend t source) =
     changed_where_open c t f λ l. with_sources f t (with_source source (f.sources t))
 kept f c (records.DropSource t source) =
     changed_where_open c t f λ l. with_sources f t (without_source source (f.sources t))
-kept f c _ = f
+kept f c (records.Plain step) = f
+kept f c (records.Op t id op) = f
+kept f c (records.Commit t) = f
+kept f c (records.Abort t) = f
+kept f c (records.Refresh t o) = f
+kept f c (records.Publish t) = f
 
 -- the record is one of the style
 abbrev pub IsOfStyle : {Op : Type 0} → Style → RunRecord Op → Type 0

@@ -1,4 +1,4 @@
--- The laws of runs, for each way in which records become steps.
+-- Meaning: the laws of runs, for each way in which records become steps.
 use Rattle.std.specs.Prelude.{◌≡◌, ◌≤◌, ◌<◌, ◌+◌, ◌↔◌, ℕ, suc, List, [], ◌∷◌, ◌++◌, length, take, Option}
 use Rattle.pp_model.specs.Object.{Object}
 use Rattle.pp_model.specs.Config.{Start, Step, after_from, first}

@@ -1,4 +1,4 @@
--- The records of a run, as its style writes them.
+-- Meaning: the records of a run, as its style writes them.
 use Rattle.std.specs.Prelude.{ℕ}
 use Rattle.pp_model.specs.Config.{Step}
 use Rattle.pp_model.specs.Names.{Name}

@@ -1,4 +1,4 @@
--- The report of a run whose steps are written down as an input of style rules.
+-- Meaning: the report of a run whose steps are written down as an input of style rules.
 use Rattle.std.specs.Prelude.{ℕ, suc, List}
 use Rattle.pp_core.specs.declared.call.Kind.{Kind}
 use Rattle.pp_core.specs.declared.call.Style.TheVariants.{Rules}

@@ -1,4 +1,5 @@
--- The run of a list of records: the steps that they stand for, up to and with the first that fails.
+-- Meaning: the run of a list of records: the steps that they stand for, up to and with the first
+-- that fails.
 use Rattle.std.specs.Prelude.{◌≡◌, ◌⊎◌, ℕ, suc, List, [], ◌∷◌, ◌++◌, length, map, Option}
 use Rattle.pp_model.specs.Object.{Object}
 use Rattle.pp_model.specs.Config.{Config, Start, Step, after_from, first, then}

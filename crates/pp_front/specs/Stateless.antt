@@ -1,4 +1,4 @@
--- The styles whose fronts keep nothing.
+-- Meaning: the styles whose fronts keep nothing.
 use Rattle.std.specs.Prelude.{◌≡◌, ◌⊎◌, List}
 use Rattle.pp_core.specs.declared.call.Kind.{Kind}
 use Rattle.pp_core.specs.declared.call.Style.TheVariants.{Rules, Boosted, Optimistic}

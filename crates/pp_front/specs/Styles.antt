@@ -1,4 +1,4 @@
--- The five styles as translations, and their laws.
+-- Meaning: the five styles as translations, and their laws.
 use Rattle.std.specs.Prelude.{◌≡◌, ◌≤◌, ◌↔◌, ℕ, suc, List, [], ◌∷◌, length, map, Option}
 use Rattle.pp_core.specs.declared.call.Kind.{Kind}
 use Rattle.pp_core.specs.declared.call.Style.{Style}

@@ -1,4 +1,4 @@
--- What a step costs: how many operations it applies or takes back.
+-- Meaning: what a step costs: how many operations it applies or takes back.
 use Rattle.std.specs.Prelude.{◌≡◌, ◌≤◌, ◌==◌, ◌+◌, ◌*◌, ◌-◌, ℕ, cond, List, [], ◌∷◌, map, filter, length, Option, None, Some, Result, Ok, Err}
 use Rattle.pp_core.specs.Steps.{Step, Begin, App, Unapp, Push, Unpush, Pull, Unpull, Cmt, Quit, Note}
 use Rattle.pp_core.specs.declared.entry.Item.{Item}

@@ -1,4 +1,4 @@
--- What contracts see of the course of an open transaction.
+-- Proof machinery: what contracts see of the course of an open transaction.
 use Rattle.std.specs.Prelude.{◌≡◌, ◌++◌, ◌∷◌, [], true, List, Option, map}
 use Rattle.pp_core.specs.Trees.{Tree}
 use Rattle.pp_core.specs.declared.call.Call.{Call}

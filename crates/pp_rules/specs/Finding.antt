@@ -1,4 +1,4 @@
--- What the look-ups in logs answer.
+-- Proof machinery: what the look-ups in logs answer.
 use Rattle.std.specs.Prelude.{◌≡◌, ◌≢◌, ◌+◌, slice_get, ◌==◌, ◌<◌, ℕ, Bool, true, false, List, Option, None, Some, find, length}
 use Rattle.std.specs.List.{HoldsAt, AllWithin}
 use Rattle.pp_core.specs.declared.entry.LocalEntry.{LocalEntry}

@@ -1,4 +1,4 @@
--- What contracts see of a machine, and what each machine keeps.
+-- Meaning: what contracts see of a machine, and what each machine keeps.
 use Rattle.std.specs.Prelude.{◌≡◌, ◌+◌, ◌≤◌, ℕ, List, length, map, reverse}
 use Rattle.pp_core.specs.declared.entry.CommittedTx.{CommittedTx}
 use Rattle.pp_core.specs.declared.entry.SharedEntry.{SharedEntry}
@@ -25,7 +25,14 @@ tx_of x = record { name = x.name; thread = x.thread; body = x.body; local = x.lo
 -- the configuration of these transactions, ids, shared entries and committed transactions
 abbrev pub config_of : {Shape Op : Type 0} → Txs Shape Op → List ℕ → List (SharedEntry Op) →
     List (CommittedTx Op) → Config Op
-config_of v ids shared done = record { names = reverse v.names; ids = reverse ids; opened = map tx_of v.opened; shared = shared; done = done }
+config_of v ids shared done =
+    record {
+      names = reverse v.names;
+      ids = reverse ids;
+      opened = map tx_of v.opened;
+      shared = shared;
+      done = done;
+    }
 
 -- An open transaction, whose log is of the shape, no longer than the count, and ranged.
 pub record IsFine {Shape State Op Undo : Type 0} (o : Object Shape State Op Undo) (shape : Shape)

@@ -1,4 +1,4 @@
--- What it costs to take an entry out of a log.
+-- Proof machinery: what it costs to take an entry out of a log.
 use Rattle.std.specs.Prelude.{◌≤◌, ◌+◌, ◌*◌, ℕ, List, Result, Ok, Err}
 use Rattle.pp_log.specs.declared.place.Removed.{Removed}
 use Rattle.pp_log.specs.Logs.{removal_steps}

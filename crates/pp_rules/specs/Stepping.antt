@@ -1,4 +1,4 @@
--- What a step answers.
+-- Meaning: what a step answers.
 use Rattle.std.specs.Prelude.{◌≡◌, ◌==◌, ◌+◌, ◌<◌, length, position, ℕ, List, Option, Some, Result, Ok, Err, IfOk, IsTrue, option_map, slice_get}
 use Rattle.pp_core.specs.Trees.{IsWithinLimits, Tree, tree}
 use Rattle.pp_core.specs.declared.body.Body.{Body}
@@ -48,9 +48,16 @@ Does o old step result = IfOk result (λ r. Stepped o old step r.1 r.0)
 
 -- The step needs no memory.
 abbrev pub NeedsNoMemory : {Op : Type 0} → Step Op → Type 0
+NeedsNoMemory (Begin t p b) = ⊥
+NeedsNoMemory (App t id op) = ⊥
+NeedsNoMemory (Unapp t id) = ⊥
+NeedsNoMemory (Push t id) = ⊥
+NeedsNoMemory (Unpush t id) = ⊥
+NeedsNoMemory (Pull t id) = ⊥
+NeedsNoMemory (Unpull t id) = ⊥
+NeedsNoMemory (Cmt t) = ⊥
 NeedsNoMemory (Quit t) = Unit {0}
 NeedsNoMemory (Note t) = Unit {0}
-NeedsNoMemory _ = ⊥
 
 -- What judging a step answers: what its effect needs where each criterion holds, and else the
 -- number of the first false one.

@@ -1,4 +1,4 @@
--- What contracts see of the transactions of a run.
+-- Proof machinery: what contracts see of the transactions of a run.
 use Rattle.std.specs.Prelude.{◌≡◌, ◌≢◌, ◌+◌, true, Result, ℕ, Bool, not, cond, List, [], ◌∷◌, ◌++◌, map, filter, find, Option, None, Some, length, IsTrue, ◌<◌, ◌==◌, position, slice_get}
 use Rattle.std.specs.List.{list_any}
 use Rattle.pp_core.specs.Trees.{Tree}

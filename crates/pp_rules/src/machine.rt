@@ -62,9 +62,14 @@ impl<S: Placed> Model for Machine<S> {
 
     ghost coded = { Prim.hlevel (codes, tree_code, S.Shape.code, S.Op.code) };
 
-    ghost view = { λ a. record { shape = a.shape; config = config_of a.transactions a.ids.keys a.shared.1 a.committed; count = a.count } };
+    ghost view = { λ a. record {
+      shape = a.shape;
+      config = config_of a.transactions a.ids.keys a.shared.1 a.committed;
+      count = a.count;
+    } };
 
-    ghost invariant = { λ a. Holds S.object a.shape a.transactions a.ids.keys a.shared a.committed a.count };
+    ghost invariant = { λ a.
+        Holds S.object a.shape a.transactions a.ids.keys a.shared a.committed a.count };
 }
 
 impl<S: Placed> Machine<S> {

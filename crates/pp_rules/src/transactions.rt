@@ -44,9 +44,14 @@ impl<S: Placed> Model for Transactions<S> {
 
     ghost coded = { Prim.hlevel (codes, tree_code, S.Shape.code, S.Op.code) };
 
-    ghost view = { λ a. record { names = keys_of a.slots.entries; opened = filled (λ n t. open_of n t.thread t.course.body t.course.local) a.slots.entries } };
+    ghost view = { λ a. record {
+      names = keys_of a.slots.entries;
+      opened =
+          filled (λ n t. open_of n t.thread t.course.body t.course.local) a.slots.entries;
+    } };
 
-    ghost invariant = { λ a. Kept (keys_of a.slots.entries) a.threads.keys (threads_of (filled (λ n t. open_of n t.thread t.course.body t.course.local) a.slots.entries)) };
+    ghost invariant = { λ a. Kept (keys_of a.slots.entries) a.threads.keys (threads_of
+        (filled (λ n t. open_of n t.thread t.course.body t.course.local) a.slots.entries)) };
 }
 
 /// Gives a name that has no slot one that holds the transaction.

@@ -1,4 +1,5 @@
 -- What an examination concludes.
+use Rattle.std.proofs.lemmas.Option.{same_Some}
 use Rattle.std.specs.Prelude.{◌≡◌, ℕ, zero, suc, ◌+◌, List, [], ◌∷◌, length, map, take, Option, None, Some}
 use Rattle.std.specs.Option.{option_or}
 use Rattle.std.proofs.Common.{refl, sym, ap, ◌∙◌, subst}
@@ -9,6 +10,7 @@ use Rattle.pp_core.specs.declared.entry.CommittedTx.{CommittedTx}
 use Rattle.pp_core.specs.declared.status.Status.{Status}
 use Rattle.pp_core.specs.declared.status.Status.TheVariants as statuses
 use Rattle.pp_core.specs.Steps.{rule_of}
+use Rattle.pp_front.proofs.Whole.{one_run_law}
 use Rattle.pp_front.specs.Inputs.{Accepts, Faulty, IsReportBehind, IsRunReport, StartRejected, StepRejected}
 use Rattle.pp_front.specs.Laws.{IsRejectedAt}
 use Rattle.pp_front.specs.Records.{RunRecord}
@@ -30,7 +32,7 @@ use Rattle.pp_model.proofs.Alone.{alone_attempts, alone_law}
 use Rattle.pp_model.proofs.Verdict.{accepted_iff}
 use Rattle.pp_io.specs.Overruns.{overrun, scanned_lines}
 use Rattle.pp_io.proofs.Reading.{scanned_all}
-use Rattle.pp_model.specs.Serial.{Attempt, attempts, committed_tx, serial}
+use Rattle.pp_model.specs.Serial.{Attempt, attempts, committed_tx, serial, Simulated}
 use Rattle.pp_model.specs.Sound.{serial_ops}
 use Rattle.pp_model.proofs.Simulate.{finished_are, simulated}
 use Rattle.pp_report.specs.Reports.{accepted_text, fault_text, rejected_text}
@@ -40,7 +42,7 @@ use Rattle.pp_rules.specs.Machines.{Seen}
 use Rattle.pp_spec.specs.Object.{state_after}
 use Rattle.pp_spec.proofs.Places.{tells_states}
 use Rattle.pp_run.specs.Objects.{object_of, setting_of, start_of, translation_of}
-use Rattle.pp_run.specs.Accepted.{HasRun, IsAloneAccepted, IsSimulated}
+use Rattle.pp_run.specs.Accepted.{HasRun, IsAloneAccepted, IsSimulated, RunsAlone}
 use Rattle.pp_run.specs.Certified.{IsDecided}
 use Rattle.pp_run.specs.Inputs.{IsFaultOf, limit_fault, no_header, scan}
 use Rattle.pp_run.specs.Outputs.{IsCertified, IsOutput, IsRunTold, IsTold, RunReport}
@@ -199,17 +201,33 @@ accepted_run bytes text r = accepted_behind r.1.0 (scan bytes) r.0 text r.1.2 r.
 abbrev has_run : (sc : InputScan) → AcceptedRun sc.header sc.records → HasRun sc
 has_run sc a = record { header = a.header; run = a.run; first_line = a.first_line; steps = a.steps }
 
+-- what holds of one run of a scan holds of every one, since there is one at most
+only_run : (sc : InputScan) (a r : HasRun sc) (P : Lined Header → LinedSteps Op → Type 0) → P a.header a.run → P r.header r.run
+only_run sc a r P p =
+    let heads : a.header ≡ r.header = same_Some a.header r.header (sym a.first_line ∙ r.first_line) in
+    let steps = subst (λ (h : Lined Header). IsRun (object_of h.what) (translation_of h.what) (start_of h.what) sc.records a.run) heads a.steps in
+    let runs : a.run ≡ r.run = (one_run_law (object_of r.header.what) (translation_of r.header.what)).run (start_of r.header.what) sc.records a.run r.run steps r.steps in
+    subst (P r.header) runs (subst (λ (h : Lined Header). P h a.run) heads p)
+
 pub accepted_simulated : (bytes : List ℕ) (text : List ℕ) → IsCertified bytes statuses.Accepted text → IsSimulated (scan bytes)
 accepted_simulated bytes text r =
     let a = accepted_run bytes text r in
     let h = a.header.what in
-    (has_run (scan bytes) a, simulated (object_of h) (start_of h) (bare a.run) a.begun a.hold (tells_states objects objects_lawful (kinds_of h.catalog)))
+    let own = has_run (scan bytes) a in (
+      own,
+      λ other. only_run (scan bytes) own other (λ head run. Simulated (object_of head.what) (start_of head.what) (bare run))
+          (simulated (object_of h) (start_of h) (bare a.run) a.begun a.hold (tells_states objects objects_lawful (kinds_of h.catalog))),
+    )
 
 pub accepted_alone : (bytes : List ℕ) (text : List ℕ) → IsCertified bytes statuses.Accepted text → IsAloneAccepted (scan bytes)
 accepted_alone bytes text r =
     let a = accepted_run bytes text r in
     let h = a.header.what in
-    (has_run (scan bytes) a, (alone_law (object_of h) (start_of h) (bare a.run) a.begun a.hold, alone_attempts (object_of h) (start_of h) (bare a.run) a.begun a.hold))
+    let own = has_run (scan bytes) a in (
+      own,
+      λ other. only_run (scan bytes) own other (λ head run. RunsAlone head.what run)
+          (alone_law (object_of h) (start_of h) (bare a.run) a.begun a.hold, alone_attempts (object_of h) (start_of h) (bare a.run) a.begun a.hold),
+    )
 
 -- ---- an input has one report
 

@@ -1,4 +1,4 @@
--- What an accepted run promises of its committed transactions.
+-- Meaning: what an accepted run promises of its committed transactions.
 use Rattle.std.specs.Prelude.{◌≡◌, Some}
 use Rattle.pp_front.specs.Runs.{IsRun, Lined, LinedSteps, bare}
 use Rattle.pp_json.specs.declared.header.Header.{Header}
@@ -18,14 +18,19 @@ pub record HasRun (sc : InputScan) : Type 0 where
   pub steps : IsRun (object_of header.what) (translation_of header.what) (start_of header.what)
       sc.records run
 
--- one after another in commit order, they simulate the run
+-- There is a run, and in every run of these records (there is one at most) the committed
+-- transactions, one after another in commit order, simulate it.
 abbrev pub IsSimulated : InputScan → Type 0
-IsSimulated sc = (r : HasRun sc) ×
-    Simulated (object_of r.header.what) (start_of r.header.what) (bare r.run)
+IsSimulated sc = HasRun sc
+    × ((r : HasRun sc) → Simulated (object_of r.header.what) (start_of r.header.what) (bare r.run))
 
--- each alone, they are an accepted run of the same transactions
+-- These transactions, each alone, are an accepted run of the same transactions.
+abbrev pub RunsAlone : Header → LinedSteps Op → Type 0
+RunsAlone header run =
+    let start = start_of header in let steps = bare run in
+    RunsFrom (object_of header) (first start) (alone start steps)
+    × (attempts start (alone start steps) ≡ attempts start steps)
+
+-- There is a run, and in every run of these records the committed transactions run alone too.
 abbrev pub IsAloneAccepted : InputScan → Type 0
-IsAloneAccepted sc = (r : HasRun sc) ×
-    (let start = start_of r.header.what in let steps = bare r.run in
-    RunsFrom (object_of r.header.what) (first start) (alone start steps)
-    × (attempts start (alone start steps) ≡ attempts start steps))
+IsAloneAccepted sc = HasRun sc × ((r : HasRun sc) → RunsAlone r.header.what r.run)

@@ -1,4 +1,4 @@
--- What a fault of a line is in a report.
+-- Meaning: what a fault of a line is in a report.
 use Rattle.std.specs.Prelude.{Result, Ok, Err}
 use Rattle.pp_core.specs.declared.answer.OutOfMemory.{OutOfMemory}
 use Rattle.pp_json.specs.declared.fault.RecordFault.{RecordFault}

@@ -1,4 +1,4 @@
--- How a command ends.
+-- Meaning: how a command ends.
 use Rattle.pp_core.specs.declared.status.Status.{Status}
 use Rattle.pp_core.specs.declared.status.Status.TheVariants as statuses
 

@@ -1,4 +1,4 @@
--- How far an examination has come.
+-- Proof machinery: how far an examination has come.
 use Rattle.std.specs.Prelude.{◌≡◌, ◌≤◌, ℕ, List, length, None}
 use Rattle.pp_io.specs.Held.{Held}
 use Rattle.pp_io.specs.Overruns.{early_lines}

@@ -1,4 +1,4 @@
--- What an input is, from its bytes.
+-- Meaning: what an input is, from its bytes.
 use Rattle.std.specs.Prelude.{ℕ, ◌+◌, List, length, Option, None, Some, option_map}
 use Rattle.std.specs.Io.KnownBytes.{Consumes}
 use Rattle.std.specs.Option.{option_or}

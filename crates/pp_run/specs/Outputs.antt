@@ -1,4 +1,4 @@
--- What a command prints, and how it ends.
+-- Meaning: what a command prints, and how it ends.
 use Rattle.std.specs.Prelude.{◌≡◌, ℕ, List, [], ◌++◌, codes, map, Option, None, Some}
 use Rattle.std.specs.Fmt.{decimal}
 use Rattle.std.specs.Io.KnownBytes.{Appends}
@@ -19,7 +19,7 @@ use Rattle.pp_run.specs.declared.words.Command.TheVariants.{Certify}
 use Rattle.pp_run.specs.Inputs.{scan}
 use Rattle.pp_run.specs.Objects.{setting_of}
 use Rattle.pp_run.specs.Scans.{InputScan}
-use Rattle.pp_run.specs.Writing.{AppendsFront}
+use Rattle.pp_run.specs.Writing.{AppendsPrefix}
 
 -- what is reported of a run over the objects of its header
 abbrev pub RunReport : Type 0
@@ -74,12 +74,12 @@ abbrev pub PrintsOnly : Option Command → List ℕ → Status → Option (List 
 PrintsOnly command bytes status old new = (other : Status) (text : List ℕ) →
     IsOutput command bytes other text → (other ≡ status) × Appends old new text
 
--- known bytes grow by a front of an output that is defined
-abbrev pub PrintsFront : Option Command → List ℕ → Option (List ℕ) → Option (List ℕ) → Type 0
-PrintsFront command bytes old new = (status : Status) × (text : List ℕ)
-    × IsOutput command bytes status text × AppendsFront old new text
+-- known bytes grow by a prefix of an output that is defined
+abbrev pub PrintsPrefix : Option Command → List ℕ → Option (List ℕ) → Option (List ℕ) → Type 0
+PrintsPrefix command bytes old new = (status : Status) × (text : List ℕ)
+    × IsOutput command bytes status text × AppendsPrefix old new text
 
--- and by a front of each output that is defined
-abbrev pub PrintsFrontOnly : Option Command → List ℕ → Option (List ℕ) → Option (List ℕ) → Type 0
-PrintsFrontOnly command bytes old new = (status : Status) (text : List ℕ) →
-    IsOutput command bytes status text → AppendsFront old new text
+-- and by a prefix of each output that is defined
+abbrev pub PrintsPrefixOnly : Option Command → List ℕ → Option (List ℕ) → Option (List ℕ) → Type 0
+PrintsPrefixOnly command bytes old new = (status : Status) (text : List ℕ) →
+    IsOutput command bytes status text → AppendsPrefix old new text

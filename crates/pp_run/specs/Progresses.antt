@@ -1,4 +1,4 @@
--- Where the examination of a run stands after some of its lines.
+-- Proof machinery: where the examination of a run stands after some of its lines.
 use Rattle.std.specs.Prelude.{◌≡◌, ℕ, suc, ◌+◌, ◌<◌, Bool, true, ◌==◌, ◌&&◌, ◌⊎◌, List, ◌++◌, length, slice_get, if◌then◌else◌, None, Some, Result, Ok, Err}
 use Rattle.pp_core.specs.declared.call.Kind.{Kind}
 use Rattle.pp_core.specs.Steps.{Step, rule_of}

@@ -1,4 +1,4 @@
--- The words of a command.
+-- Meaning: the words of a command.
 use Rattle.std.specs.Prelude.{ℕ, List, [], ◌∷◌, codes, if◌then◌else◌, Option, None, Some}
 use Rattle.std.specs.Str.{bytes_eq}
 use Rattle.pp_run.specs.declared.words.Command.{Command}

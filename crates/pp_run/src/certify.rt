@@ -16,7 +16,7 @@ ghost use Rattle.pp_run.specs.Scans.{InputScan};
 
 use crate::examine::{Ending, examine};
 use crate::progress::{Progress, Rejection, Stop, Tally};
-use pp_core::{OutOfMemory, Status, Ticks, Text};
+use pp_core::{OutOfMemory, Status, Text, Ticks};
 use pp_io::Source;
 use pp_object::Objects;
 use pp_report::{Cause, accepted, fault, rejected};

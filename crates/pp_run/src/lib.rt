@@ -4,10 +4,12 @@
 mod cause;
 mod certify;
 mod examine;
+mod law;
 mod program;
 mod progress;
 mod take;
 mod words;
 mod write;
 
+pub use law::records_are_steps;
 pub use program::run;

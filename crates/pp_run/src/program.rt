@@ -7,10 +7,10 @@ ghost use Rattle.pp_run.specs.declared.words.Command.TheVariants.{Certify};
 ghost use Rattle.pp_run.specs.declared.write.WriteError.TheVariants.{WriteFault};
 ghost use Rattle.pp_run.specs.Certified.{IsDecided, IsPrinted, IsUnwritten};
 ghost use Rattle.pp_run.specs.Inputs.{ReadsNoFault, scan};
-ghost use Rattle.pp_run.specs.Outputs.{Prints, PrintsFront, PrintsFrontOnly, PrintsOnly, WhereTold};
+ghost use Rattle.pp_run.specs.Outputs.{Prints, PrintsPrefix, PrintsPrefixOnly, PrintsOnly, WhereTold};
 ghost use Rattle.pp_run.specs.Accepted.{IsAloneAccepted, IsSimulated};
 ghost use Rattle.pp_run.specs.Words.{command_of};
-ghost use Rattle.pp_run.specs.Writing.{AppendsFront};
+ghost use Rattle.pp_run.specs.Writing.{AppendsPrefix};
 
 use crate::certify::{Failure, certify};
 use crate::words::{Command, read_words};
@@ -23,7 +23,7 @@ use std::sync::ledger::Ledger;
 /// Writes all of an output, and sends it on.
 fn send<K: Sink>(sink: &mut K, bytes: &[u8]) -> Result<(), WriteError>
     ensures ok { OnOk result (Appends (K.held sink.old) (K.held sink.new) bytes.now) }
-    ensures err { OnErr result (AppendsFront (K.held sink.old) (K.held sink.new) bytes.now) }
+    ensures err { OnErr result (AppendsPrefix (K.held sink.old) (K.held sink.new) bytes.now) }
     ensures count { K.faults sink.old ≤ K.faults sink.new }
     ensures write_fault { IsErrOf result WriteFault →
         HasRisen (K.faults sink.old) (K.faults sink.new) }
@@ -36,9 +36,11 @@ fn send<K: Sink>(sink: &mut K, bytes: &[u8]) -> Result<(), WriteError>
     }
 }
 
-/// Does a command: reads the source where the command has an input, and writes its output to the sink.
+/// Does a command: reads the source where the command has an input, and writes its output to the
+/// sink.
 ///
-/// The source is read in pieces of at most 65,536 bytes, and nothing is written before the output is whole.
+/// The source is read in pieces of at most 65,536 bytes, and nothing is written before the output
+/// is whole.
 pub fn run<S: Source, K: Sink, L: Ledger>(
     alloc: Global,
     words: &Words,
@@ -66,18 +68,18 @@ pub fn run<S: Source, K: Sink, L: Ledger>(
         × Keeps (K.held sink.old) (K.held sink.new)
         × ReadsNoFault (S.left source.old) (S.left source.new) }
 
-    // A failed write is told only where one failed, and a front of the output was written.
+    // A failed write is told only where one failed, and a prefix of the output was written.
     ensures write_fault { result ≡ statuses.WriteFault →
         HasRisen (K.faults sink.old) (K.faults sink.new) }
     ensures written { result ≡ statuses.WriteFault → WhereTold (S.left source.old) λ bytes.
-        PrintsFront (command_of words.now) bytes (K.held sink.old) (K.held sink.new) }
+        PrintsPrefix (command_of words.now) bytes (K.held sink.old) (K.held sink.new) }
 
-    // Where memory was refused, nothing was written, or a front of the output.
+    // Where memory was refused, nothing was written, or a prefix of the output.
     ensures refused { result ≡ statuses.OutOfMemory → Keeps (K.held sink.old) (K.held sink.new)
         ⊎ WhereTold (S.left source.old) λ bytes.
-        PrintsFront (command_of words.now) bytes (K.held sink.old) (K.held sink.new) }
-    ensures front { IsUnwritten result → WhereTold (S.left source.old) λ bytes.
-        PrintsFrontOnly (command_of words.now) bytes (K.held sink.old) (K.held sink.new) }
+        PrintsPrefix (command_of words.now) bytes (K.held sink.old) (K.held sink.new) }
+    ensures prefix { IsUnwritten result → WhereTold (S.left source.old) λ bytes.
+        PrintsPrefixOnly (command_of words.now) bytes (K.held sink.old) (K.held sink.new) }
 
     // The counts of faults never fall.
     ensures reads { S.faults source.old ≤ S.faults source.new }

@@ -17,7 +17,8 @@ pub struct Tally {
     pub begins: u32,
 }
 
-/// The first step that does not meet its criteria, the line of its record, its rule, and its first false criterion.
+/// The first step that does not meet its criteria, the line of its record, its rule, and its first
+/// false criterion.
 #[derive(Clone, Copy)]
 pub struct Rejection {
     pub step: u32,

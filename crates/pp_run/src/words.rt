@@ -11,7 +11,8 @@ pub enum Command {
     Certify,
 }
 
-/// The command that the words are, None exactly where they are no command. The program's own name is not among them.
+/// The command that the words are, None exactly where they are no command. The program's own name
+/// is not among them.
 pub fn read_words(words: &Words) -> Option<Command>
     ensures { result ≡ command_of words.now }
 {

@@ -2,7 +2,7 @@
 ghost use Rattle.std.specs.Prelude.{◌≤◌, OnOk, OnErr, IsErrOf};
 ghost use Rattle.std.specs.Io.KnownBytes.{Appends};
 ghost use Rattle.pp_io.specs.Faults.{HasRisen};
-ghost use Rattle.pp_run.specs.Writing.{AppendsFront};
+ghost use Rattle.pp_run.specs.Writing.{AppendsPrefix};
 ghost use Rattle.pp_run.specs.declared.write.WriteError.TheVariants.{WriteFault};
 
 use pp_io::{Sink, SinkFault};
@@ -16,10 +16,10 @@ pub enum WriteError {
     WriteFault,
 }
 
-/// Writes all of these bytes. What was written when a write fails is a front of them.
+/// Writes all of these bytes. What was written when a write fails is a prefix of them.
 pub fn write_all<K: Sink>(sink: &mut K, bytes: &[u8]) -> Result<(), WriteError>
     ensures ok { OnOk result (Appends (K.held sink.old) (K.held sink.new) bytes.now) }
-    ensures err { OnErr result (AppendsFront (K.held sink.old) (K.held sink.new) bytes.now) }
+    ensures err { OnErr result (AppendsPrefix (K.held sink.old) (K.held sink.new) bytes.now) }
     ensures count { K.faults sink.old ≤ K.faults sink.new }
     ensures write_fault { IsErrOf result WriteFault →
         HasRisen (K.faults sink.old) (K.faults sink.new) }

@@ -1,4 +1,4 @@
--- Which entries stand in the way of an operation behind them.
+-- Meaning: which entries stand in the way of an operation behind them.
 use Rattle.std.specs.Prelude.{◌≡◌, ◌≢◌, ◌<◌, ◌≤◌, ℕ, true, false, List, length, slice_get, Some}
 use Rattle.pp_core.specs.declared.entry.SharedEntry.{SharedEntry}
 use Rattle.pp_model.specs.Lists.{In}
@@ -11,16 +11,17 @@ pub record IsSettled {Op : Type 0} (log : List (SharedEntry Op)) (settled : ℕ)
   pub committed :
       (j : ℕ) (e : SharedEntry Op) → j < settled → slice_get log j ≡ Some e → e.committed ≡ true
 
--- The entry is uncommitted, of another owner, and may not change places with the operation behind
--- it in any shape that both of them fit.
+-- The entry is uncommitted, of another owner, and does not swap with the operation behind it: not
+-- in every shape, and in none that both of them fit.
 pub record Blocks {Shape State Op Undo : Type 0} (o : Object Shape State Op Undo)
     (owner : Name) (op : Op) (e : SharedEntry Op) : Type 0 where
   pub uncommitted : e.committed ≡ false
   pub other : e.owner ≢ owner
+  pub unswapped : Swaps o e.op op → ⊥
   pub stays : SwapsNowhere o e.op op
 
--- Where the entry is uncommitted and of another owner, it may change places with the operation
--- behind it in every shape.
+-- Where the entry is uncommitted and of another owner, it swaps with the operation behind it in
+-- every shape.
 abbrev pub GivesWay :
     {Shape State Op Undo : Type 0} → Object Shape State Op Undo →
     Name → Op → SharedEntry Op → Type 0

@@ -2,7 +2,7 @@ use Rattle.std.proofs.Common.{◌≡◌, Some, inr, rules, subst, sym, ◌∙◌
 use Rattle.std.specs.Io.KnownBytes.{Appends}
 use Rattle.pp_run.specs.Outputs.{IsCertified, IsOutput}
 use Rattle.pp_run.specs.Words.{command_of}
-use Rattle.pp_run.specs.Writing.{AppendsFront}
+use Rattle.pp_run.specs.Writing.{AppendsPrefix}
 use Rattle.pp_run.specs.declared.words.Command.TheVariants.{Certify}
 use Rattle.pp_run.proofs.Concluding.{accepted_alone, accepted_simulated, one_output}
 use Rattle.pp_run.proofs.program.run.Goals as goal
@@ -21,17 +21,17 @@ pub returns-in-Ok-send-clause-alone : goal.returns-in-Ok-send-clause-alone
 returns-in-Ok-send-clause-alone g c = λ certify accepted bytes is.
     accepted_alone bytes c.in-Ok.report.1 (subst (λ s. IsCertified bytes s c.in-Ok.report.1) accepted (c.in-Ok.ensures.report bytes is))
 
-pub returns-in-Err-WriteFault-clause-front : goal.returns-in-Err-WriteFault-clause-front
-returns-in-Err-WriteFault-clause-front g c = λ unwritten bytes is status text output.
+pub returns-in-Err-WriteFault-clause-prefix : goal.returns-in-Err-WriteFault-clause-prefix
+returns-in-Err-WriteFault-clause-prefix g c = λ unwritten bytes is status text output.
     let command : command_of c.args.words.now ≡ Some Certify = search rules in
-    subst (AppendsFront (g.K.Sink.held c.args.sink.now) (g.K.Sink.held c.send.new.sink))
+    subst (AppendsPrefix (g.K.Sink.held c.args.sink.now) (g.K.Sink.held c.send.new.sink))
     (c.bytes.ensures ∙ (one_output (Some Certify) bytes c.in-Ok.report.0 status c.in-Ok.report.1 text (c.in-Ok.ensures.report bytes is) (subst (λ o. IsOutput o bytes status text) command output)).1)
     c.in-Err-WriteFault.ensures.err
 
-pub returns-clause-front : goal.returns-clause-front
-returns-clause-front g c = λ unwritten bytes is status text output.
+pub returns-clause-prefix : goal.returns-clause-prefix
+returns-clause-prefix g c = λ unwritten bytes is status text output.
     let command : command_of c.args.words.now ≡ Some Certify = search rules in
-    subst (AppendsFront (g.K.Sink.held c.args.sink.now) (g.K.Sink.held c.send.new.sink))
+    subst (AppendsPrefix (g.K.Sink.held c.args.sink.now) (g.K.Sink.held c.send.new.sink))
     (c.bytes.ensures ∙ (one_output (Some Certify) bytes c.in-Ok.report.0 status c.in-Ok.report.1 text (c.in-Ok.ensures.report bytes is) (subst (λ o. IsOutput o bytes status text) command output)).1)
     c.in-Err-Memory.ensures.err
 
