@@ -1,7 +1,8 @@
 #!/usr/bin/env python3
-"""Which definition files the clauses of `run` reach, by the imports, and whether docs/ARCHITECTURE.md lists just these.
+"""Which definition files the clauses of `run` reach, by the imports, and whether docs/ARCHITECTURE.md lists just these. Each of them says in
+its first line that it is to be believed: `-- Meaning:`.
 
-    python3 .ci/definitions.py            fails where the list differs, and says how
+    python3 .ci/definitions.py            fails where the list differs or a file says nothing, and says how
     python3 .ci/definitions.py --write    writes the list anew
 
 A file of definitions is reached where the file of `run`, or a file that is reached, imports it. A type of the code that is imported leads
@@ -12,13 +13,16 @@ import re
 import sys
 
 ROOT = pathlib.Path(__file__).resolve().parent.parent
-ENTRY = ROOT / "crates/pp_run/src/whole.rt"
+ENTRY = ROOT / "crates/pp_run/src/program.rt"
 HEADING = "## What the clauses of `run` reach"
+MEANING = "-- Meaning:"
+# The files of memories, sets and maps import it, and no clause speaks of it: their laws are proved from it.
+SHARED_BY_PROOFS = {"pp_keyed/specs/Keys.antt"}
 IMPORT = re.compile(r"^(\s*)(?:pub |ghost )*use Rattle\.(pp_\w+)\.specs\.([\w.]+)", re.MULTILINE)
 
 
 def file_of(crate, path):
-    """The longest front of a dotted path that names a file of definitions, or the code of a declared type."""
+    """The longest beginning of a dotted path that names a file of definitions, or the code of a declared type."""
     parts = [part for part in path.split(".") if part]
     folder, ending = (("src", ".rt") if parts[0] == "declared" else ("specs", ".antt"))
     parts = parts[1:] if parts[0] == "declared" else parts
@@ -56,23 +60,38 @@ def listing(files):
     return "\n".join(["| Crate | Files of its `specs/` |", "|---|---|", *rows]) + "\n"
 
 
-def main():
+def without_meaning(files):
+    """The files that do not say that they are to be believed."""
+    for file in sorted(files - SHARED_BY_PROOFS):
+        if not (ROOT / "crates" / file).read_text().startswith(MEANING):
+            yield f"{file} does not begin with `{MEANING}`"
+
+
+def differences(wanted, write):
+    """How the list of ARCHITECTURE.md differs, unless it is written anew."""
     document = ROOT / "docs/ARCHITECTURE.md"
     before, heading, section = document.read_text().partition(HEADING)
     table = re.search(r"(?:\|.*\n)+", section)
-    wanted = listing(reached())
     if table is None:
-        print(f"definitions: ARCHITECTURE.md has no table under {HEADING}")
-        return 1
+        return [f"ARCHITECTURE.md has no table under {HEADING}"]
     if table[0] == wanted:
-        return 0
-    if "--write" in sys.argv:
+        return []
+    if write:
         document.write_text(before + heading + section[: table.start()] + wanted + section[table.end() :])
-        return 0
+        return []
     told = set(table[0].splitlines())
-    for line in sorted(told ^ set(wanted.splitlines())):
-        print(f"definitions: {'ARCHITECTURE.md has' if line in told else 'the clauses reach'}: {line}")
-    return 1
+    return [
+        f"{'ARCHITECTURE.md has' if line in told else 'the clauses reach'}: {line}"
+        for line in sorted(told ^ set(wanted.splitlines()))
+    ]
+
+
+def main():
+    files = reached()
+    wrong = [*without_meaning(files), *differences(listing(files), "--write" in sys.argv)]
+    for line in wrong:
+        print(f"definitions: {line}")
+    return int(bool(wrong))
 
 
 if __name__ == "__main__":

@@ -44,7 +44,7 @@ def strange_clauses():
     """The clauses that README quotes and `run` does not have, but for the ends of lines."""
     blocks = re.findall(r"^```\n(ensures .*?)^```", (ROOT / "README.md").read_text(), re.MULTILINE | re.DOTALL)
     quoted = [" ".join(clause.split()) for block in blocks for clause in block.split("\n\n")]
-    run = " ".join((ROOT / "crates/pp_run/src/whole.rt").read_text().split())
+    run = " ".join((ROOT / "crates/pp_run/src/program.rt").read_text().split())
     return [clause for clause in quoted if clause not in run]
 
 

@@ -7,17 +7,20 @@ import subprocess
 import sys
 
 ROOT = pathlib.Path(__file__).resolve().parent.parent
-# Crates whose clauses and definitions keep within the columns. The list grows as crates do.
-NARROW = ("pp_cli", "pp_io")
 COLUMNS = 100
+# Crates with lines that are still wider. The list shrinks as they are laid out anew.
+WIDE = ("pp_body", "pp_core", "pp_json", "pp_rules")
+# The rows of the tests are data, and stand as they are.
+ROWS = "tests"
 OUTSIDE = re.compile(r"\b[TDRWP]\d{1,2}\b|/(?:work|opt|home|root|tmp)/|\bthe papers\b")
 
 
 def narrow_files():
-    for crate in NARROW:
-        folder = ROOT / "crates" / crate
-        yield from (file for file in folder.glob("src/*.rt"))
-        yield from folder.glob("specs/**/*.antt")
+    """The code, the clauses and the definitions of all other crates."""
+    for folder in sorted((ROOT / "crates").iterdir()):
+        if folder.name not in WIDE:
+            yield from (file for file in sorted(folder.glob("src/**/*.rt")) if ROWS not in file.parts)
+            yield from sorted(folder.glob("specs/**/*.antt"))
 
 
 def too_wide(file):

@@ -115,10 +115,13 @@ fn long_inputs_have_their_reports(rt: HostRuntime) -> Result<(), Fail> {
 }
 
 /// Words that are no command, behind the program's own name.
-const NO_COMMANDS: [&[&[u8]]; 6] = [
+const NO_COMMANDS: [&[&[u8]]; 9] = [
     &[b"pp_cli"],
     &[b"pp_cli", b"certify", b"certify"],
     &[b"pp_cli", b"check"],
+    &[b"pp_cli", b"drill", b"0"],
+    &[b"pp_cli", b"drill", b"20001"],
+    &[b"pp_cli", b"drill", b"007"],
     &[b"pp_cli", b""],
     &[b"pp_cli", b"certif\xff"],
     &[b"pp_cli", &[b'c'; 300]],
@@ -158,7 +161,7 @@ fn a_failed_read_writes_nothing(rt: HostRuntime) -> Result<(), Fail> {
 }
 
 #[test]
-fn a_failed_write_leaves_a_front(rt: HostRuntime) -> Result<(), Fail> {
+fn a_failed_write_leaves_a_prefix(rt: HostRuntime) -> Result<(), Fail> {
     let alloc = rt.alloc();
     let source = MemorySource::new(added(alloc)?, Vec::new(alloc), Vec::new(alloc));
     let sink = MemorySink::new(alloc, 8, vec![in alloc; 1u64]?);

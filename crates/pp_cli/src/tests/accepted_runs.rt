@@ -2,7 +2,7 @@
 use crate::tests::row::{COUNTER, MEMORY, QUEUE, Row};
 use pp_core::Status;
 
-pub(crate) const ACCEPTED: [Row; 13] = [
+pub(crate) const ACCEPTED: [Row; 15] = [
     Row {
         what: "a header alone",
         header: COUNTER,
@@ -180,6 +180,52 @@ op 5 s.add(-5)=true
 state s -5 7
 state q 4 3
 state a 1=-8
+"#,
+    },
+    Row {
+        what: "a call that is taken back, so that the body's other part is taken",
+        header: COUNTER,
+        records: br#"{"step":"begin","tx":"t1","thread":"p1","body":{"alt":[{"seq":[{"on":"c","call":"add","args":[null]},{"on":"c","call":"get","args":[]}]},{"seq":[{"on":"c","call":"add","args":[null]},{"on":"c","call":"add","args":[null]}]}]}}
+{"step":"app","tx":"t1","id":1,"on":"c","call":"add","args":[1],"result":null}
+{"step":"app","tx":"t1","id":2,"on":"c","call":"get","args":[],"result":1}
+{"step":"unapp","tx":"t1","id":2}
+{"step":"app","tx":"t1","id":3,"on":"c","call":"add","args":[1],"result":null}
+{"step":"push","tx":"t1","id":1}
+{"step":"push","tx":"t1","id":3}
+{"step":"cmt","tx":"t1"}
+"#,
+        status: Status::Accepted,
+        report: b"accepted steps 8 committed 1\ntx t1\nop 1 c.add(1)=none\nop 3 c.add(1)=none\nstate c 2\n",
+    },
+    Row {
+        what: "a write that is withdrawn, and a reader that gives it up and reads again",
+        header: MEMORY,
+        records: br#"{"step":"begin","tx":"t1","thread":"p1"}
+{"step":"app","tx":"t1","id":1,"on":"m","call":"write","args":[0,7],"result":null}
+{"step":"push","tx":"t1","id":1}
+{"step":"begin","tx":"t2","thread":"p2"}
+{"step":"pull","tx":"t2","id":1}
+{"step":"app","tx":"t2","id":2,"on":"m","call":"read","args":[0],"result":7}
+{"step":"unpush","tx":"t1","id":1}
+{"step":"unapp","tx":"t1","id":1}
+{"step":"quit","tx":"t1"}
+{"step":"unapp","tx":"t2","id":2}
+{"step":"unpull","tx":"t2","id":1}
+{"step":"app","tx":"t2","id":3,"on":"m","call":"read","args":[0],"result":0}
+{"step":"push","tx":"t2","id":3}
+{"step":"cmt","tx":"t2"}
+{"step":"begin","tx":"t1_again","thread":"p1"}
+{"step":"app","tx":"t1_again","id":4,"on":"m","call":"write","args":[0,8],"result":null}
+{"step":"push","tx":"t1_again","id":4}
+{"step":"cmt","tx":"t1_again"}
+"#,
+        status: Status::Accepted,
+        report: br#"accepted steps 18 committed 2
+tx t2
+op 3 m.read(0)=0
+tx t1_again
+op 4 m.write(0,8)=none
+state m 0=8
 "#,
     },
 ];

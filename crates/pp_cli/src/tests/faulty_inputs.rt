@@ -184,11 +184,11 @@ oops
         report: b"fault line 1 RepeatedObject\n",
     },
     Row {
-        what: "a step that is not taken yet",
+        what: "a whole call in style rules",
         header: COUNTER,
-        records: br#"{"step":"unapp","tx":"t1","id":1}
+        records: br#"{"step":"op","tx":"t1","id":1,"on":"c","call":"add","args":[1],"result":null}
 "#,
         status: Status::InputFault,
-        report: b"fault line 2 NotYet\n",
+        report: b"fault line 2 UnknownStep\n",
     },
 ];

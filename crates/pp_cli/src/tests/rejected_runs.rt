@@ -2,7 +2,7 @@
 use crate::tests::row::{COUNTER, MEMORY, QUEUE, Row};
 use pp_core::Status;
 
-pub(crate) const REJECTED: [Row; 22] = [
+pub(crate) const REJECTED: [Row; 31] = [
     Row {
         what: "a result that no counter gives",
         header: COUNTER,
@@ -273,5 +273,118 @@ pub(crate) const REJECTED: [Row; 22] = [
 "#,
         status: Status::Rejected,
         report: b"rejected step 7 line 8 PUSH 5\n",
+    },
+    Row {
+        what: "a write that is withdrawn before the one behind it",
+        header: MEMORY,
+        records: br#"{"step":"begin","tx":"t1","thread":"p1"}
+{"step":"app","tx":"t1","id":1,"on":"m","call":"write","args":[0,1],"result":null}
+{"step":"app","tx":"t1","id":2,"on":"m","call":"write","args":[0,2],"result":null}
+{"step":"push","tx":"t1","id":1}
+{"step":"push","tx":"t1","id":2}
+{"step":"unpush","tx":"t1","id":1}
+"#,
+        status: Status::Rejected,
+        report: b"rejected step 6 line 7 UNPUSH 3\n",
+    },
+    Row {
+        what: "a commit of a read that was not published, of a write that was withdrawn",
+        header: MEMORY,
+        records: br#"{"step":"begin","tx":"t1","thread":"p1"}
+{"step":"app","tx":"t1","id":1,"on":"m","call":"write","args":[0,7],"result":null}
+{"step":"push","tx":"t1","id":1}
+{"step":"begin","tx":"t2","thread":"p2"}
+{"step":"pull","tx":"t2","id":1}
+{"step":"app","tx":"t2","id":2,"on":"m","call":"read","args":[0],"result":7}
+{"step":"unpush","tx":"t1","id":1}
+{"step":"unapp","tx":"t1","id":1}
+{"step":"cmt","tx":"t2"}
+"#,
+        status: Status::Rejected,
+        report: b"rejected step 9 line 10 CMT 3\n",
+    },
+    Row {
+        what: "a commit on a write that was withdrawn",
+        header: MEMORY,
+        records: br#"{"step":"begin","tx":"t1","thread":"p1"}
+{"step":"app","tx":"t1","id":1,"on":"m","call":"write","args":[0,7],"result":null}
+{"step":"push","tx":"t1","id":1}
+{"step":"begin","tx":"t2","thread":"p2"}
+{"step":"pull","tx":"t2","id":1}
+{"step":"app","tx":"t2","id":2,"on":"m","call":"read","args":[0],"result":7}
+{"step":"unpush","tx":"t1","id":1}
+{"step":"unapp","tx":"t1","id":1}
+{"step":"unapp","tx":"t2","id":2}
+{"step":"cmt","tx":"t2"}
+"#,
+        status: Status::Rejected,
+        report: b"rejected step 10 line 11 CMT 4\n",
+    },
+    Row {
+        what: "an id that was taken back and is used again",
+        header: COUNTER,
+        records: br#"{"step":"begin","tx":"t1","thread":"p1"}
+{"step":"app","tx":"t1","id":1,"on":"c","call":"add","args":[1],"result":null}
+{"step":"unapp","tx":"t1","id":1}
+{"step":"app","tx":"t1","id":1,"on":"c","call":"add","args":[1],"result":null}
+"#,
+        status: Status::Rejected,
+        report: b"rejected step 4 line 5 APP 2\n",
+    },
+    Row {
+        what: "an unapp in an empty log",
+        header: COUNTER,
+        records: br#"{"step":"begin","tx":"t1","thread":"p1"}
+{"step":"unapp","tx":"t1","id":1}
+"#,
+        status: Status::Rejected,
+        report: b"rejected step 2 line 3 UNAPP 2\n",
+    },
+    Row {
+        what: "an unpush of what is not published",
+        header: COUNTER,
+        records: br#"{"step":"begin","tx":"t1","thread":"p1"}
+{"step":"app","tx":"t1","id":1,"on":"c","call":"add","args":[1],"result":null}
+{"step":"unpush","tx":"t1","id":1}
+"#,
+        status: Status::Rejected,
+        report: b"rejected step 3 line 4 UNPUSH 2\n",
+    },
+    Row {
+        what: "a write that is withdrawn before the read that saw it",
+        header: MEMORY,
+        records: br#"{"step":"begin","tx":"t1","thread":"p1"}
+{"step":"app","tx":"t1","id":1,"on":"m","call":"write","args":[0,5],"result":null}
+{"step":"app","tx":"t1","id":2,"on":"m","call":"read","args":[0],"result":5}
+{"step":"push","tx":"t1","id":1}
+{"step":"push","tx":"t1","id":2}
+{"step":"unpush","tx":"t1","id":1}
+"#,
+        status: Status::Rejected,
+        report: b"rejected step 6 line 7 UNPUSH 4\n",
+    },
+    Row {
+        what: "an unpull of an unknown id",
+        header: COUNTER,
+        records: br#"{"step":"begin","tx":"t1","thread":"p1"}
+{"step":"unpull","tx":"t1","id":1}
+"#,
+        status: Status::Rejected,
+        report: b"rejected step 2 line 3 UNPULL 2\n",
+    },
+    Row {
+        what: "a pull that is given up before the read that saw it",
+        header: COUNTER,
+        records: br#"{"step":"begin","tx":"t0","thread":"p0"}
+{"step":"app","tx":"t0","id":1,"on":"c","call":"add","args":[1],"result":null}
+{"step":"push","tx":"t0","id":1}
+{"step":"cmt","tx":"t0"}
+{"step":"begin","tx":"t1","thread":"p1"}
+{"step":"pull","tx":"t1","id":1}
+{"step":"app","tx":"t1","id":2,"on":"c","call":"get","args":[],"result":1}
+{"step":"unpull","tx":"t1","id":1}
+"#,
+        status: Status::Rejected,
+        report: b"rejected step 8 line 9 UNPULL 3\n",
     },
 ];
