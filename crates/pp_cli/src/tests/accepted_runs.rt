@@ -195,7 +195,12 @@ state a 1=-8
 {"step":"cmt","tx":"t1"}
 "#,
         status: Status::Accepted,
-        report: b"accepted steps 8 committed 1\ntx t1\nop 1 c.add(1)=none\nop 3 c.add(1)=none\nstate c 2\n",
+        report: br#"accepted steps 8 committed 1
+tx t1
+op 1 c.add(1)=none
+op 3 c.add(1)=none
+state c 2
+"#,
     },
     Row {
         what: "a write that is withdrawn, and a reader that gives it up and reads again",
