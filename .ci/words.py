@@ -9,7 +9,7 @@ import sys
 ROOT = pathlib.Path(__file__).resolve().parent.parent
 COLUMNS = 100
 # Crates with lines that are still wider. The list shrinks as they are laid out anew.
-WIDE = ("pp_body", "pp_core", "pp_json", "pp_rules")
+WIDE = ("pp_core", "pp_json")
 # The rows of the tests are data, and stand as they are.
 ROWS = "tests"
 OUTSIDE = re.compile(r"\b[TDRWP]\d{1,2}\b|/(?:work|opt|home|root|tmp)/|\bthe papers\b")
@@ -25,7 +25,7 @@ def narrow_files():
 
 def too_wide(file):
     for number, line in enumerate(file.read_text().splitlines(), 1):
-        if len(line) > COLUMNS and not re.match(r"\s*(ghost |pub )*use ", line):
+        if len(line) > COLUMNS and not re.match(r"\s*((ghost |pub )*use |//|--)", line):
             yield f"{file.relative_to(ROOT)}:{number}: {len(line)} columns"
 
 
