@@ -44,17 +44,19 @@ given_allowed (Some y) z h = (Decides-int_eq y z).1 (sym h)
 
 pub matches_means : (p : Pattern) (c : Call) → matches p c ≡ true → Matches p c
 matches_means p c h =
-    let front = and_left (p.object == c.object && sameb the_type p.method c.method && is_allowed p.first c.first) (is_allowed p.second c.second) h in
+    let two = and_left (p.object == c.object && sameb the_type p.method c.method && is_allowed p.first c.first && is_allowed p.second c.second) (is_allowed p.third c.third) h in
+    let front = and_left (p.object == c.object && sameb the_type p.method c.method && is_allowed p.first c.first) (is_allowed p.second c.second) two in
     let head = and_left (p.object == c.object && sameb the_type p.method c.method) (is_allowed p.first c.first) front in (
       sym ((Decides-eqb p.object c.object).0 (and_left (p.object == c.object) (sameb the_type p.method c.method) head)),
       same_method p.method c.method (and_right (p.object == c.object) (sameb the_type p.method c.method) head),
       allowed_given p.first c.first (and_right (p.object == c.object && sameb the_type p.method c.method) (is_allowed p.first c.first) front),
-      allowed_given p.second c.second (and_right (p.object == c.object && sameb the_type p.method c.method && is_allowed p.first c.first) (is_allowed p.second c.second) h),
+      allowed_given p.second c.second (and_right (p.object == c.object && sameb the_type p.method c.method && is_allowed p.first c.first) (is_allowed p.second c.second) two),
+      allowed_given p.third c.third (and_right (p.object == c.object && sameb the_type p.method c.method && is_allowed p.first c.first && is_allowed p.second c.second) (is_allowed p.third c.third) h),
     )
 
 pub means_matches : (p : Pattern) (c : Call) → Matches p c → matches p c ≡ true
 means_matches p c m =
-    both _ _ (both _ _ (both _ _ ((Decides-eqb p.object c.object).1 (sym m.0)) (true_same the_type p.method c.method (sym m.1))) (given_allowed p.first c.first m.2)) (given_allowed p.second c.second m.3)
+    both _ _ (both _ _ (both _ _ (both _ _ ((Decides-eqb p.object c.object).1 (sym m.0)) (true_same the_type p.method c.method (sym m.1))) (given_allowed p.first c.first m.2)) (given_allowed p.second c.second m.3)) (given_allowed p.third c.third m.4)
 
 some_number : Option ℤ → ℤ
 some_number None = pos 0
@@ -68,4 +70,4 @@ number_given (Some z) = refl
 -- a pattern matches some call
 pub some_call : (p : Pattern) → (c : Call) × Matches p c
 some_call p =
-    (record { object = p.object; method = p.method; first = some_number p.first; second = some_number p.second }, (refl, refl, number_given p.first, number_given p.second))
+    (record { object = p.object; method = p.method; first = some_number p.first; second = some_number p.second; third = some_number p.third }, (refl, refl, number_given p.first, number_given p.second, number_given p.third))

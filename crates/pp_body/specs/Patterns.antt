@@ -14,4 +14,4 @@ is_allowed (Some y) z = int_eq y z
 abbrev pub matches : Pattern → Call → Bool
 matches p c =
     p.object == c.object && sameb the_type p.method c.method
-    && is_allowed p.first c.first && is_allowed p.second c.second
+    && is_allowed p.first c.first && is_allowed p.second c.second && is_allowed p.third c.third

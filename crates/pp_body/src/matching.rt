@@ -21,4 +21,5 @@ pub(crate) fn matches(pattern: &Pattern, call: &Call) -> bool
         && pattern.method == call.method
         && allows(pattern.first, call.first)
         && allows(pattern.second, call.second)
+        && allows(pattern.third, call.third)
 }

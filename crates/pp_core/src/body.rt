@@ -15,6 +15,7 @@ pub struct Pattern {
     pub method: Method,
     pub first: Option<i64>,
     pub second: Option<i64>,
+    pub third: Option<i64>,
 }
 
 /// The parts of a body.

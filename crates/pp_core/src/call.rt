@@ -95,14 +95,15 @@ pub struct Call {
     pub method: Method,
     pub first: i64,
     pub second: i64,
+    pub third: i64,
 }
 
 impl Call {
     /// Its arguments in their order, also those that its method does not have.
-    pub fn arguments(&self) -> [i64; 2]
+    pub fn arguments(&self) -> [i64; 3]
         ensures { result ≡ arguments self.now }
     {
-        [self.first, self.second]
+        [self.first, self.second, self.third]
     }
 }
 

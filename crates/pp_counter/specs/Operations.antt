@@ -16,9 +16,9 @@ shift_of (FetchAdd by was) = by
 
 -- its method and its argument, at the object 0
 abbrev pub call_of : CounterOp → Call
-call_of (Add by) = record { object = 0; method = AddCall; first = by; second = pos 0 }
-call_of (Get value) = record { object = 0; method = GetCall; first = pos 0; second = pos 0 }
-call_of (FetchAdd by was) = record { object = 0; method = FetchAddCall; first = by; second = pos 0 }
+call_of (Add by) = record { object = 0; method = AddCall; first = by; second = pos 0; third = pos 0 }
+call_of (Get value) = record { object = 0; method = GetCall; first = pos 0; second = pos 0; third = pos 0 }
+call_of (FetchAdd by was) = record { object = 0; method = FetchAddCall; first = by; second = pos 0; third = pos 0 }
 
 -- the result that it records
 abbrev pub recorded_by : CounterOp → Answer

@@ -53,6 +53,7 @@ impl CounterOp {
             method,
             first,
             second: 0,
+            third: 0,
         }
     }
 

@@ -15,20 +15,24 @@ used_ranged : (used : Bool) (n : ℤ) → IsTrue (in_range n) → IsTrue (in_ran
 used_ranged true n near = near
 used_ranged false n near = refl
 
--- a call of two numbers in range has arguments in range
-pub both_ranged : (first second : ℤ) → IsTrue (in_range first) → IsTrue (in_range second)
-    → IsTrue (in_range first && in_range second)
-both_ranged first second near also = and_from (in_range first) (in_range second) near also
+-- a call of three numbers in range has arguments in range
+pub all_ranged : (first second third : ℤ) → IsTrue (in_range first) → IsTrue (in_range second)
+    → IsTrue (in_range third) → IsTrue (in_range first && in_range second && in_range third)
+all_ranged first second third near also too =
+    and_from (in_range first && in_range second) (in_range third)
+    (and_from (in_range first) (in_range second) near also) too
 
 -- A call that passed the tests before the last makes an operation.
 pub is_call : (kind : Kind) (c : Call) (answer : Answer) → HasMethod kind c.method → IsTrue (has_form (form_of kind c.method) answer)
     → IsTrue (has_ranged_arguments c) → IsTrue (is_ranged_answer answer) → IsCallOf kind c answer
 is_call kind c answer method form near ranged =
     let used = arity_of kind c.method in
-    let parts = and_parts (in_range c.first) (in_range c.second) near in
+    let three = and_parts (in_range c.first && in_range c.second) (in_range c.third) near in
+    let parts = and_parts (in_range c.first) (in_range c.second) three.0 in
     let first = used_ranged (nat_lt 0 used) c.first parts.0 in
     let second = used_ranged (nat_lt 1 used) c.second parts.1 in
-    record { method = method; form = form; arguments = and_from _ _ first second; ranged = ranged }
+    let third = used_ranged (nat_lt 2 used) c.third three.1 in
+    record { method = method; form = form; arguments = and_from _ _ (and_from _ _ first second) third; ranged = ranged }
 
 -- The operation of a call on the object that stands at its place fits there.
 pub fits_there : (kinds : List Kind) (kind : Kind) (c : Call) (answer : Answer) (op : Op)

@@ -82,7 +82,8 @@ call_of object kind value = do
   list ← arguments_of kind method value
   first ← argument 0 list
   second ← argument 1 list
-  Ok (record { object = object; method = method; first = first; second = second })
+  third ← argument 2 list
+  Ok (record { object = object; method = method; first = first; second = second; third = third })
 
 -- a result that is a whole number
 unfoldable pub number_answer : Data → Result Answer RecordFault

@@ -58,4 +58,5 @@ pattern_of objects value = do
   list ← wanted_of target.1 target.2 value
   first ← wanted_at 0 list
   second ← wanted_at 1 list
-  Ok (record { object = target.0; method = target.2; first = first; second = second })
+  third ← wanted_at 2 list
+  Ok (record { object = target.0; method = target.2; first = first; second = second; third = third })

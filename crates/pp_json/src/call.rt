@@ -100,7 +100,7 @@ fn arguments_in<'v>(kind: Kind, method: Method, value: &'v Value) -> Result<&'v 
 }
 
 /// The call on the object of this kind at a place, with its arguments.
-#[tactic(auto, unfolding(crate::specs::Calls::call_of), using(crate::proofs::Calls::both_ranged))]
+#[tactic(auto, unfolding(crate::specs::Calls::call_of), using(crate::proofs::Calls::all_ranged))]
 fn call_in(object: u16, kind: Kind, value: &Value) -> Result<Call, RecordFault>
     ensures reads { Gives (λ call. call) result (call_of object kind (view value.now)) }
     ensures place { IfOk result (λ call. call.object ≡ object) }
@@ -111,11 +111,13 @@ fn call_in(object: u16, kind: Kind, value: &Value) -> Result<Call, RecordFault>
     let list = arguments_in(kind, method, value)?;
     let first = argument_among(list, 0)?;
     let second = argument_among(list, 1)?;
+    let third = argument_among(list, 2)?;
     Ok(Call {
         object,
         method,
         first,
         second,
+        third,
     })
 }
 

@@ -80,10 +80,12 @@ pub(crate) fn pattern_in(catalog: &Catalog, value: &Value) -> Result<Pattern, Re
     let list = wanted_in(kind, method, value)?;
     let first = wanted_among(list, 0)?;
     let second = wanted_among(list, 1)?;
+    let third = wanted_among(list, 2)?;
     Ok(Pattern {
         object,
         method,
         first,
         second,
+        third,
     })
 }

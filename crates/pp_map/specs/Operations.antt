@@ -31,9 +31,9 @@ left_by (Remove key was) = None
 
 -- its method and its arguments, at the object 0
 abbrev pub call_of : MapOp → Call
-call_of (Put key value was) = record { object = 0; method = PutCall; first = key; second = value }
-call_of (Get key found) = record { object = 0; method = GetCall; first = key; second = pos 0 }
-call_of (Remove key was) = record { object = 0; method = RemoveCall; first = key; second = pos 0 }
+call_of (Put key value was) = record { object = 0; method = PutCall; first = key; second = value; third = pos 0 }
+call_of (Get key found) = record { object = 0; method = GetCall; first = key; second = pos 0; third = pos 0 }
+call_of (Remove key was) = record { object = 0; method = RemoveCall; first = key; second = pos 0; third = pos 0 }
 
 -- the result that it records
 abbrev pub recorded_by : MapOp → Answer

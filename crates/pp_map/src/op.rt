@@ -88,6 +88,7 @@ impl MapOp {
             method,
             first: self.key(),
             second,
+            third: 0,
         }
     }
 

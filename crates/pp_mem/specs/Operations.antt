@@ -27,8 +27,8 @@ left_by (Write a v) = v
 
 -- its method and its arguments, at the object 0
 abbrev pub call_of : MemOp → Call
-call_of (Read a v) = record { object = 0; method = ReadCall; first = a; second = pos 0 }
-call_of (Write a v) = record { object = 0; method = WriteCall; first = a; second = v }
+call_of (Read a v) = record { object = 0; method = ReadCall; first = a; second = pos 0; third = pos 0 }
+call_of (Write a v) = record { object = 0; method = WriteCall; first = a; second = v; third = pos 0 }
 
 -- the result that it records
 abbrev pub recorded_by : MemOp → Answer

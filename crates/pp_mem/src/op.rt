@@ -48,6 +48,7 @@ impl MemOp {
             method,
             first,
             second,
+            third: 0,
         }
     }
 

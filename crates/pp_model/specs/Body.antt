@@ -12,7 +12,7 @@ is_given (Some y) z = z ≡ y
 abbrev pub Matches : Pattern → Call → Type 0
 Matches p c =
     (c.object ≡ p.object) × (c.method ≡ p.method) × is_given p.first c.first
-    × is_given p.second c.second
+    × is_given p.second c.second × is_given p.third c.third
 
 -- the word is made of words of R that are not empty
 abbrev pub Repeats : (List Call → Type 0) → List Call → Type 0

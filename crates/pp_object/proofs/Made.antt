@@ -24,54 +24,54 @@ use Rattle.pp_object.specs.Calls.{HasMethod, form_of, has_form, with_used, IsCal
 IsActOf : Kind → Call → Answer → Act → Type 0
 IsActOf kind c answer a = IsTrue (fits kind a) × (record (call_of a) { object = c.object } ≡ with_used kind c) × (recorded_by a ≡ answer)
 
-called : ℕ → Method → ℤ → ℤ → Call
-called o m x y = record { object = o; method = m; first = x; second = y }
+called : ℕ → Method → ℤ → ℤ → ℤ → Call
+called o m x y z = record { object = o; method = m; first = x; second = y; third = z }
 
-memory_made : (o : ℕ) (m : Method) (x y : ℤ) (answer : Answer) → IfSome (memory_act m (called o m x y) answer) (IsActOf kinds.Memory (called o m x y) answer)
+memory_made : (o : ℕ) (m : Method) (x y z : ℤ) (answer : Answer) → IfSome (memory_act m (called o m x y z) answer) (IsActOf kinds.Memory (called o m x y z) answer)
 unfolding IsActOf called
-memory_made o methods.Read x y (answers.Number v) = (refl, refl, refl)
-memory_made o methods.Write x y answers.None = (refl, refl, refl)
-memory_made o m x y answer = tt
+memory_made o methods.Read x y z (answers.Number v) = (refl, refl, refl)
+memory_made o methods.Write x y z answers.None = (refl, refl, refl)
+memory_made o m x y z answer = tt
 
-set_made : (o : ℕ) (m : Method) (x y : ℤ) (answer : Answer) → IfSome (set_act m (called o m x y) answer) (IsActOf kinds.KeySet (called o m x y) answer)
+set_made : (o : ℕ) (m : Method) (x y z : ℤ) (answer : Answer) → IfSome (set_act m (called o m x y z) answer) (IsActOf kinds.KeySet (called o m x y z) answer)
 unfolding IsActOf called
-set_made o methods.Add x y (answers.Truth t) = (refl, refl, refl)
-set_made o methods.Remove x y (answers.Truth t) = (refl, refl, refl)
-set_made o methods.Contains x y (answers.Truth t) = (refl, refl, refl)
-set_made o m x y answer = tt
+set_made o methods.Add x y z (answers.Truth t) = (refl, refl, refl)
+set_made o methods.Remove x y z (answers.Truth t) = (refl, refl, refl)
+set_made o methods.Contains x y z (answers.Truth t) = (refl, refl, refl)
+set_made o m x y z answer = tt
 
-map_made : (o : ℕ) (m : Method) (x y : ℤ) (answer : Answer) → IfSome (map_act m (called o m x y) answer) (IsActOf kinds.KeyMap (called o m x y) answer)
+map_made : (o : ℕ) (m : Method) (x y z : ℤ) (answer : Answer) → IfSome (map_act m (called o m x y z) answer) (IsActOf kinds.KeyMap (called o m x y z) answer)
 unfolding IsActOf called
-map_made o m x y (answers.Truth t) = tt
-map_made o methods.Put x y answers.None = (refl, refl, refl)
-map_made o methods.Put x y (answers.Number v) = (refl, refl, refl)
-map_made o methods.Get x y answers.None = (refl, refl, refl)
-map_made o methods.Get x y (answers.Number v) = (refl, refl, refl)
-map_made o methods.Remove x y answers.None = (refl, refl, refl)
-map_made o methods.Remove x y (answers.Number v) = (refl, refl, refl)
-map_made o m x y answer = tt
+map_made o m x y z (answers.Truth t) = tt
+map_made o methods.Put x y z answers.None = (refl, refl, refl)
+map_made o methods.Put x y z (answers.Number v) = (refl, refl, refl)
+map_made o methods.Get x y z answers.None = (refl, refl, refl)
+map_made o methods.Get x y z (answers.Number v) = (refl, refl, refl)
+map_made o methods.Remove x y z answers.None = (refl, refl, refl)
+map_made o methods.Remove x y z (answers.Number v) = (refl, refl, refl)
+map_made o m x y z answer = tt
 
-counter_made : (o : ℕ) (m : Method) (x y : ℤ) (answer : Answer) → IfSome (counter_act m (called o m x y) answer) (IsActOf kinds.Counter (called o m x y) answer)
+counter_made : (o : ℕ) (m : Method) (x y z : ℤ) (answer : Answer) → IfSome (counter_act m (called o m x y z) answer) (IsActOf kinds.Counter (called o m x y z) answer)
 unfolding IsActOf called
-counter_made o methods.Add x y answers.None = (refl, refl, refl)
-counter_made o methods.Get x y (answers.Number v) = (refl, refl, refl)
-counter_made o methods.FetchAdd x y (answers.Number v) = (refl, refl, refl)
-counter_made o m x y answer = tt
+counter_made o methods.Add x y z answers.None = (refl, refl, refl)
+counter_made o methods.Get x y z (answers.Number v) = (refl, refl, refl)
+counter_made o methods.FetchAdd x y z (answers.Number v) = (refl, refl, refl)
+counter_made o m x y z answer = tt
 
-queue_made : (o : ℕ) (m : Method) (x y : ℤ) (answer : Answer) → IfSome (queue_act m (called o m x y) answer) (IsActOf kinds.Queue (called o m x y) answer)
+queue_made : (o : ℕ) (m : Method) (x y z : ℤ) (answer : Answer) → IfSome (queue_act m (called o m x y z) answer) (IsActOf kinds.Queue (called o m x y z) answer)
 unfolding IsActOf called
-queue_made o methods.Enq x y answers.None = (refl, refl, refl)
-queue_made o methods.Deq x y answers.None = (refl, refl, refl)
-queue_made o methods.Deq x y (answers.Number v) = (refl, refl, refl)
-queue_made o m x y answer = tt
+queue_made o methods.Enq x y z answers.None = (refl, refl, refl)
+queue_made o methods.Deq x y z answers.None = (refl, refl, refl)
+queue_made o methods.Deq x y z (answers.Number v) = (refl, refl, refl)
+queue_made o m x y z answer = tt
 
 act_is : (kind : Kind) (c : Call) (answer : Answer) → IfSome (act_made kind c answer) (IsActOf kind c answer)
 unfolding IsActOf called
-act_is kinds.Memory c answer = memory_made c.object c.method c.first c.second answer
-act_is kinds.KeySet c answer = set_made c.object c.method c.first c.second answer
-act_is kinds.KeyMap c answer = map_made c.object c.method c.first c.second answer
-act_is kinds.Counter c answer = counter_made c.object c.method c.first c.second answer
-act_is kinds.Queue c answer = queue_made c.object c.method c.first c.second answer
+act_is kinds.Memory c answer = memory_made c.object c.method c.first c.second c.third answer
+act_is kinds.KeySet c answer = set_made c.object c.method c.first c.second c.third answer
+act_is kinds.KeyMap c answer = map_made c.object c.method c.first c.second c.third answer
+act_is kinds.Counter c answer = counter_made c.object c.method c.first c.second c.third answer
+act_is kinds.Queue c answer = queue_made c.object c.method c.first c.second c.third answer
 
 made_by : (kind : Kind) (c : Call) (answer : Answer) (a : Act) (r : Option Act) → IfSome r (IsActOf kind c answer) → r ≡ Some a → IsActOf kind c answer a
 made_by kind c answer a None h e = absurd (cc)

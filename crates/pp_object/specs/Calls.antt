@@ -92,6 +92,7 @@ abbrev pub with_used : Kind → Call → Call
 with_used kind c = record c {
   first = if_used (nat_lt 0 (arity_of kind c.method)) c.first;
   second = if_used (nat_lt 1 (arity_of kind c.method)) c.second;
+  third = if_used (nat_lt 2 (arity_of kind c.method)) c.third;
 }
 
 -- objects of the kind have the method, the result is of its form, and all numbers lie in the range

@@ -25,8 +25,8 @@ without_last items = take (length items - 1) items
 
 -- its method and its argument, at the object 0
 abbrev pub call_of : QueueOp → Call
-call_of (Enq value) = record { object = 0; method = EnqCall; first = value; second = pos 0 }
-call_of (Deq value) = record { object = 0; method = DeqCall; first = pos 0; second = pos 0 }
+call_of (Enq value) = record { object = 0; method = EnqCall; first = value; second = pos 0; third = pos 0 }
+call_of (Deq value) = record { object = 0; method = DeqCall; first = pos 0; second = pos 0; third = pos 0 }
 
 -- the result that it records
 abbrev pub recorded_by : QueueOp → Answer

@@ -38,6 +38,7 @@ impl QueueOp {
             method,
             first,
             second: 0,
+            third: 0,
         }
     }
 

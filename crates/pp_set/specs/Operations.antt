@@ -30,10 +30,10 @@ bit_after (Contains k present) = present
 
 -- its method and its argument, at the object 0
 abbrev pub call_of : SetOp → Call
-call_of (Add k changed) = record { object = 0; method = AddCall; first = k; second = pos 0 }
-call_of (Remove k changed) = record { object = 0; method = RemoveCall; first = k; second = pos 0 }
+call_of (Add k changed) = record { object = 0; method = AddCall; first = k; second = pos 0; third = pos 0 }
+call_of (Remove k changed) = record { object = 0; method = RemoveCall; first = k; second = pos 0; third = pos 0 }
 call_of (Contains k present) =
-    record { object = 0; method = ContainsCall; first = k; second = pos 0 }
+    record { object = 0; method = ContainsCall; first = k; second = pos 0; third = pos 0 }
 
 -- the result that it records
 abbrev pub recorded_by : SetOp → Answer

@@ -60,6 +60,7 @@ impl SetOp {
             method,
             first: self.key(),
             second: 0,
+            third: 0,
         }
     }
 

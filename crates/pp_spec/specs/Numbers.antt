@@ -8,9 +8,9 @@ use Rattle.pp_core.specs.declared.call.Call.{Call}
 abbrev pub in_range : ℤ → Bool
 in_range x = int_le (negsuc 999_999_999_999_999_999) x && int_le x (pos 1_000_000_000_000_000_000)
 
--- both arguments lie in it
+-- all arguments lie in it
 abbrev pub has_ranged_arguments : Call → Bool
-has_ranged_arguments c = in_range c.first && in_range c.second
+has_ranged_arguments c = in_range c.first && in_range c.second && in_range c.third
 
 -- a number lies in it
 abbrev pub is_ranged_answer : Answer → Bool

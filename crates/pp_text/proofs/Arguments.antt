@@ -6,8 +6,8 @@ use Rattle.pp_core.specs.declared.call.Method.{Method}
 use Rattle.pp_core.specs.declared.call.Method.TheVariants as methods
 use Rattle.pp_object.specs.Calls.{arity_of}
 
--- no call has more than two
-pub few : (kind : Kind) (method : Method) → arity_of kind method ≤ 2
+-- no call has more than three
+pub few : (kind : Kind) (method : Method) → arity_of kind method ≤ 3
 few kind methods.Read = omega arith
 few kind methods.Write = omega arith
 few kind methods.Add = omega arith

@@ -2,6 +2,7 @@
 use Rattle.std.proofs.Common.{◌≡◌, ℤ, pos, ◌+ℤ◌, ◌-ℤ◌, Bool, [], ◌∷◌, ◌&&◌, refl, sym, ◌∙◌, ap, arith}
 use Rattle.std.proofs.Math.Bool.{and-true}
 use Rattle.std.proofs.lemmas.Int.{ints}
+use Rattle.pp_spec.proofs.Numbers.{one_ranged}
 use Rattle.pp_spec.specs.Numbers.{in_range, has_ranged_arguments, is_ranged_answer}
 use Rattle.pp_spec.specs.Object.{AllowsAllOf, IsLawful, IsPlaced}
 use Rattle.pp_spec.proofs.Tests.{unrefuted, refuted}
@@ -25,9 +26,9 @@ numbers_told_apart n m also =
 -- An operation is ranged where its argument and its recorded result are.
 numbers : (op : CounterOp) → is_ranged op
     ≡ (has_ranged_arguments (call_of op) && is_ranged_answer (recorded_by op))
-numbers (Add by) = sym (and-true (in_range by && in_range (pos 0)) ∙ and-true (in_range by))
+numbers (Add by) = sym (and-true (has_ranged_arguments (call_of (Add by))) ∙ one_ranged by)
 numbers (Get value) = refl
-numbers (FetchAdd by was) = sym (ap (λ (b : Bool). b && in_range was) (and-true (in_range by)))
+numbers (FetchAdd by was) = sym (ap (λ (b : Bool). b && in_range was) (one_ranged by))
 
 -- The laws of a counter.
 pub counter_lawful : IsLawful counter

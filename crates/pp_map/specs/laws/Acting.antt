@@ -1,10 +1,10 @@
 -- Proof machinery: a map acts by its keys.
 use Rattle.std.proofs.Common.{◌≡◌, ℤ, int_eq, Bool, cond, Option, Some, None, refl, sym, ◌∙◌, ap, ◌&&◌}
-use Rattle.std.proofs.Math.Bool.{and-true}
 use Rattle.std.specs.Ordering.{int_cmp}
 use Rattle.std.specs.Cmp.{int_cmp_total}
 use Rattle.std.specs.FinMap.{FinMap, get, get-insert, get-remove, same_map, int_cmp-IsAntisymmetric}
 use Rattle.pp_core.specs.declared.call.Call.{Call}
+use Rattle.pp_spec.proofs.Numbers.{one_ranged, two_ranged}
 use Rattle.pp_spec.specs.Numbers.{in_range, has_ranged_arguments, is_ranged_answer}
 use Rattle.pp_spec.specs.Found.{answer_of}
 use Rattle.pp_spec.specs.Object.{IsLegal}
@@ -61,10 +61,11 @@ same_given values a b e = ap (λ (q : ℤ). answer_of (get values q))
 numbers : (op : MapOp) → is_ranged op
     ≡ (has_ranged_arguments (call_of op) && is_ranged_answer (recorded_by op))
 numbers (Put key v was) = ap (λ (b : Bool). (in_range key && in_range v) && b) (found_numbers was)
+    ∙ ap (λ (b : Bool). b && is_ranged_answer (answer_of was)) (sym (two_ranged key v))
 numbers (Get key found) = ap (λ (b : Bool). in_range key && b) (found_numbers found)
-    ∙ ap (λ (b : Bool). b && is_ranged_answer (answer_of found)) (sym (and-true (in_range key)))
+    ∙ ap (λ (b : Bool). b && is_ranged_answer (answer_of found)) (sym (one_ranged key))
 numbers (Remove key was) = ap (λ (b : Bool). in_range key && b) (found_numbers was)
-    ∙ ap (λ (b : Bool). b && is_ranged_answer (answer_of was)) (sym (and-true (in_range key)))
+    ∙ ap (λ (b : Bool). b && is_ranged_answer (answer_of was)) (sym (one_ranged key))
 
 -- A map acts by its keys.
 pub map_is_keyed : IsKeyed key_map map_keys

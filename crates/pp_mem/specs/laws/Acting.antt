@@ -5,6 +5,7 @@ use Rattle.std.specs.Ordering.{int_cmp}
 use Rattle.std.specs.FinMap.{FinMap}
 use Rattle.pp_core.specs.declared.answer.Answer.TheVariants.{Number}
 use Rattle.pp_core.specs.declared.call.Call.{Call}
+use Rattle.pp_spec.proofs.Numbers.{one_ranged, two_ranged}
 use Rattle.pp_spec.specs.Numbers.{in_range, has_ranged_arguments, is_ranged_answer}
 use Rattle.pp_spec.specs.Object.{IsLegal}
 use Rattle.pp_keyed.specs.Keys.{Finds, IsKeyed}
@@ -64,8 +65,8 @@ same_given m (Write a v) (Read b w) h = let e = ap (λ (c : Call). c.method) h i
 -- An operation is ranged where its arguments and its recorded result are.
 numbers : (a : MemOp) → is_ranged a
     ≡ (has_ranged_arguments (call_of a) && is_ranged_answer (recorded_by a))
-numbers (Read a v) = ap (λ (b : Bool). b && in_range v) (sym (and-true (in_range a)))
-numbers (Write a v) = sym (and-true (in_range a && in_range v))
+numbers (Read a v) = ap (λ (b : Bool). b && in_range v) (sym (one_ranged a))
+numbers (Write a v) = sym (and-true (has_ranged_arguments (call_of (Write a v))) ∙ two_ranged a v)
 
 -- A memory acts by its addresses.
 pub memory_keyed : IsKeyed memory addresses

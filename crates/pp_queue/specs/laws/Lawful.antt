@@ -2,6 +2,7 @@
 use Rattle.std.proofs.Common.{◌≡◌, ℕ, ℤ, pos, ◌-◌, List, [], ◌∷◌, ◌++◌, ◌&&◌, Some, None, refl, sym, ◌∙◌, ap, length, take, length-append, arith}
 use Rattle.std.proofs.Math.Bool.{and-true}
 use Rattle.std.proofs.Math.Seq.{take-append_seam}
+use Rattle.pp_spec.proofs.Numbers.{one_ranged}
 use Rattle.pp_spec.specs.Numbers.{in_range, has_ranged_arguments, is_ranged_answer}
 use Rattle.pp_spec.specs.Object.{AllowedFrom, IsLawful}
 use Rattle.pp_spec.proofs.Results.{found_numbers}
@@ -50,7 +51,7 @@ drained (x ∷ items) (y ∷ others) h = let e = told (Deq (Some x)) (y ∷ othe
 -- An operation is ranged where its argument and its recorded result are.
 numbers : (op : QueueOp) → is_ranged op
     ≡ (has_ranged_arguments (call_of op) && is_ranged_answer (recorded_by op))
-numbers (Enq x) = sym (and-true (in_range x && in_range (pos 0)) ∙ and-true (in_range x))
+numbers (Enq x) = sym (and-true (has_ranged_arguments (call_of (Enq x))) ∙ one_ranged x)
 numbers (Deq value) = found_numbers value
 
 -- The laws of a queue.

@@ -5,6 +5,7 @@ use Rattle.std.specs.Ordering.{int_cmp}
 use Rattle.std.specs.FinSet.{FinSet}
 use Rattle.pp_core.specs.declared.answer.Answer.TheVariants.{Truth}
 use Rattle.pp_core.specs.declared.call.Call.{Call}
+use Rattle.pp_spec.proofs.Numbers.{one_ranged}
 use Rattle.pp_spec.specs.Numbers.{in_range, has_ranged_arguments, is_ranged_answer}
 use Rattle.pp_spec.specs.Object.{IsLegal}
 use Rattle.pp_keyed.specs.Keys.{IsKeyed}
@@ -77,9 +78,9 @@ same_given s (Contains k c) (Add l d) h = let e = ap (λ (c : Call). c.method) h
 -- An operation is ranged where its arguments and its recorded result are.
 numbers : (a : SetOp) → is_ranged a
     ≡ (has_ranged_arguments (call_of a) && is_ranged_answer (recorded_by a))
-numbers (Add k c) = sym (and-true (in_range k && in_range (pos 0)) ∙ and-true (in_range k))
-numbers (Remove k c) = sym (and-true (in_range k && in_range (pos 0)) ∙ and-true (in_range k))
-numbers (Contains k c) = sym (and-true (in_range k && in_range (pos 0)) ∙ and-true (in_range k))
+numbers (Add k c) = sym (and-true (has_ranged_arguments (call_of (Add k c))) ∙ one_ranged k)
+numbers (Remove k c) = sym (and-true (has_ranged_arguments (call_of (Remove k c))) ∙ one_ranged k)
+numbers (Contains k c) = sym (and-true (has_ranged_arguments (call_of (Contains k c))) ∙ one_ranged k)
 
 -- A set acts by its keys.
 pub set_keyed : IsKeyed key_set bits
