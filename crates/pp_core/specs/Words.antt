@@ -40,6 +40,11 @@ method_word method.Get = codes "get"
 method_word method.FetchAdd = codes "fetch_add"
 method_word method.Enq = codes "enq"
 method_word method.Deq = codes "deq"
+method_word method.StackPush = codes "push"
+method_word method.StackPop = codes "pop"
+method_word method.Insert = codes "insert"
+method_word method.Take = codes "take"
+method_word method.Least = codes "least"
 
 -- the word of a style in a header, and all styles
 abbrev pub style_word : Style → List ℕ

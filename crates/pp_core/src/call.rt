@@ -65,6 +65,11 @@ pub enum Method {
     FetchAdd,
     Enq,
     Deq,
+    StackPush,
+    StackPop,
+    Insert,
+    Take,
+    Least,
 }
 
 impl Method {
@@ -83,6 +88,11 @@ impl Method {
             Method::FetchAdd => "fetch_add",
             Method::Enq => "enq",
             Method::Deq => "deq",
+            Method::StackPush => "push",
+            Method::StackPop => "pop",
+            Method::Insert => "insert",
+            Method::Take => "take",
+            Method::Least => "least",
         }
     }
 }

@@ -20,6 +20,18 @@ pub enum Condition {
     FirstStill,
     /// Where the second shifts nothing.
     SecondStill,
+    /// Where both lead to one number, and the first shifts nothing.
+    Settled,
+    /// Where the two lead to different numbers.
+    Apart,
+    /// Where the first does not start from the number that the second leads to, or leads there.
+    FromApart,
+    /// Where the second does not lead to the number that the first leads to, or starts from it.
+    IntoApart,
+    /// Where the first leads to no greater number than the second.
+    Rising,
+    /// Where the second leads to no greater number than the first.
+    Falling,
 }
 
 /// The numbers of an operation that a condition reads. One that an operation does not have is 0.
@@ -48,6 +60,12 @@ impl Condition {
             }
             Condition::FirstStill => x.shift == 0,
             Condition::SecondStill => y.shift == 0,
+            Condition::Settled => x.to == y.to && x.shift == 0,
+            Condition::Apart => x.to != y.to,
+            Condition::FromApart => x.from != y.to || x.to == y.to,
+            Condition::IntoApart => y.to != x.to || y.from == x.to,
+            Condition::Rising => x.to <= y.to,
+            Condition::Falling => y.to <= x.to,
         }
     }
 }

@@ -1,0 +1,5 @@
+pub mod Operations
+pub mod Movers
+pub mod Contexts
+pub mod Stacks
+pub mod laws

@@ -1,0 +1,4 @@
+pub mod Legal
+pub mod Turning
+pub mod Swapping
+pub mod Lawful

@@ -1,0 +1,12 @@
+//! The stack: a list of numbers, at first empty, which are added at its top and leave there.
+#![tactic(auto)]
+
+mod contexts;
+mod movers;
+mod op;
+mod pile;
+mod stack;
+
+pub use op::StackOp;
+pub use pile::Pile;
+pub use stack::Stack;

@@ -1,0 +1,51 @@
+//! Which pairs of operations swap, by a table.
+ghost use Rattle.std.specs.Prelude.{◌≡◌};
+ghost use Rattle.pp_stack.specs.Movers.{figures_of, form_of, stack_table, may_swap};
+
+use crate::op::StackOp;
+use pp_table::Condition::{Always, Equal, Never, Unequal};
+use pp_table::{Figures, MoverTable};
+
+/// The row and the column of an operation's form.
+fn form(op: &StackOp) -> usize
+    ensures { result ≡ form_of op.now }
+{
+    match *op {
+        StackOp::Push { value: _ } => 0,
+        StackOp::Pop { value: Some(_) } => 1,
+        StackOp::Pop { value: None } => 2,
+    }
+}
+
+/// The numbers of an operation that a condition reads.
+fn figures(op: &StackOp) -> Figures
+    ensures { result ≡ figures_of op.now }
+{
+    let item = match *op {
+        StackOp::Push { value } => value,
+        StackOp::Pop { value: Some(item) } => item,
+        StackOp::Pop { value: None } => 0,
+    };
+    Figures {
+        from: i128::from(item),
+        to: i128::from(item),
+        shift: 0,
+    }
+}
+
+/// A condition for each pair of forms: a row for the first operation, a column for the second.
+fn mover_table() -> MoverTable<3>
+    ensures { result.rows ≡ stack_table }
+{
+    let push = [Equal, Unequal, Always];
+    let pop = [Equal, Equal, Never];
+    let empty = [Never, Always, Always];
+    MoverTable::new([push, pop, empty])
+}
+
+/// Whether two operations swap, by the table.
+pub fn may_swap(a: &StackOp, b: &StackOp) -> bool
+    ensures { result ≡ may_swap a.now b.now }
+{
+    mover_table().holds(form(a), &figures(a), form(b), &figures(b))
+}
