@@ -24,14 +24,18 @@ kind_word kind.KeySet = codes "set"
 kind_word kind.KeyMap = codes "map"
 kind_word kind.Counter = codes "counter"
 kind_word kind.Queue = codes "queue"
+kind_word kind.Stack = codes "stack"
+kind_word kind.PriorityQueue = codes "prio"
 
 abbrev pub kinds : List Kind
-kinds = kind.Memory ∷ kind.KeySet ∷ kind.KeyMap ∷ kind.Counter ∷ kind.Queue ∷ []
+kinds = kind.Memory ∷ kind.KeySet ∷ kind.KeyMap ∷ kind.Counter ∷ kind.Queue ∷ kind.Stack
+    ∷ kind.PriorityQueue ∷ []
 
 -- the word of a method in a record
 abbrev pub method_word : Method → List ℕ
 method_word method.Read = codes "read"
 method_word method.Write = codes "write"
+method_word method.Cas = codes "cas"
 method_word method.Add = codes "add"
 method_word method.Remove = codes "remove"
 method_word method.Contains = codes "contains"

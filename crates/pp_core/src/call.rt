@@ -18,6 +18,10 @@ pub enum Kind {
     Counter,
     /// A first-in first-out queue.
     Queue,
+    /// A last-in first-out stack.
+    Stack,
+    /// A queue that gives the least item first.
+    PriorityQueue,
 }
 
 impl Kind {
@@ -31,6 +35,8 @@ impl Kind {
             Kind::KeyMap => "map",
             Kind::Counter => "counter",
             Kind::Queue => "queue",
+            Kind::Stack => "stack",
+            Kind::PriorityQueue => "prio",
         }
     }
 
@@ -44,6 +50,8 @@ impl Kind {
             "map" => Some(Kind::KeyMap),
             "counter" => Some(Kind::Counter),
             "queue" => Some(Kind::Queue),
+            "stack" => Some(Kind::Stack),
+            "prio" => Some(Kind::PriorityQueue),
             _ => None,
         }
     }
@@ -57,6 +65,7 @@ pub type Kinds = Sequence<Kind>;
 pub enum Method {
     Read,
     Write,
+    Cas,
     Add,
     Remove,
     Contains,
@@ -80,6 +89,7 @@ impl Method {
         match self {
             Method::Read => "read",
             Method::Write => "write",
+            Method::Cas => "cas",
             Method::Add => "add",
             Method::Remove => "remove",
             Method::Contains => "contains",

@@ -19,8 +19,8 @@ without_top items = take (length items - 1) items
 
 -- its method and its argument, at the object 0
 abbrev pub call_of : StackOp → Call
-call_of (Push value) = record { object = 0; method = PushCall; first = value; second = pos 0 }
-call_of (Pop value) = record { object = 0; method = PopCall; first = pos 0; second = pos 0 }
+call_of (Push value) = record { object = 0; method = PushCall; first = value; second = pos 0; third = pos 0 }
+call_of (Pop value) = record { object = 0; method = PopCall; first = pos 0; second = pos 0; third = pos 0 }
 
 -- the result that it records
 abbrev pub recorded_by : StackOp → Answer

@@ -38,6 +38,7 @@ impl StackOp {
             method,
             first,
             second: 0,
+            third: 0,
         }
     }
 

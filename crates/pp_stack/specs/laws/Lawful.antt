@@ -2,6 +2,7 @@
 use Rattle.std.proofs.Common.{◌≡◌, ℤ, pos, List, [], ◌∷◌, ◌++◌, reverse, ◌&&◌, Some, None, refl, sym, ◌∙◌, ap, subst}
 use Rattle.std.proofs.lemmas.List.{reverse-append, reverse-reverse}
 use Rattle.std.proofs.Math.Bool.{and-true}
+use Rattle.pp_spec.proofs.Numbers.{one_ranged}
 use Rattle.pp_spec.specs.Numbers.{in_range, has_ranged_arguments, is_ranged_answer}
 use Rattle.pp_spec.specs.Object.{AllowedFrom, AllowsAllOf, IsLawful}
 use Rattle.pp_spec.proofs.Results.{found_numbers}
@@ -63,7 +64,7 @@ told_apart items others also =
 -- An operation is ranged where its argument and its recorded result are.
 numbers : (op : StackOp) → is_ranged op
     ≡ (has_ranged_arguments (call_of op) && is_ranged_answer (recorded_by op))
-numbers (Push x) = sym (and-true (in_range x && in_range (pos 0)) ∙ and-true (in_range x))
+numbers (Push x) = sym (and-true (has_ranged_arguments (call_of (Push x))) ∙ one_ranged x)
 numbers (Pop value) = found_numbers value
 
 -- The laws of a stack.
