@@ -36,7 +36,7 @@ pub fn take_out<S: Spec, L: Ledger>(
     ensures takes { IfOk result (TakesOutOf S.object place.old state.old from place.new state.new) }
     ensures cost { IfOk result (λ removed. takes_out_ticks removed (length place.old.items.items)
         from ticks.old ticks.new) }
-    ensures grows { ticks.old ≤ ticks.new }
+    ensures rises { ticks.old ≤ ticks.new }
     ensures bound { ticks.new + 3 + 4 * from ≤ ticks.old + 4 * length place.old.items.items }
 {
     unwind::<S, L>(&place.items, &mut place.undos, from, state, ticks)?;

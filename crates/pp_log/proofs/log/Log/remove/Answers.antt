@@ -93,7 +93,7 @@ returns-in_err-removed-clause-bound g c =
     let count = found.count in
     let size = count_seen place f (o.shape s) x c.args.self c.args.i c.self.view_is in
     let bound = c.take_out.ensures.bound in
-    (c.take_out.ensures.grows, omega arith)
+    (c.take_out.ensures.rises, omega arith)
 
 pub invariant_of-log : goal.invariant_of-log
 invariant_of-log g c =
@@ -201,4 +201,4 @@ returns-clause-bound g c =
     let count = found.count in
     let size = count_seen place f (o.shape s) x c.args.self c.args.i c.self.view_is in
     let bound = c.take_out.ensures.bound in
-    (c.take_out.ensures.grows, omega arith)
+    (c.take_out.ensures.rises, omega arith)
