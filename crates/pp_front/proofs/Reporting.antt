@@ -1,6 +1,7 @@
 -- An input has one fault and one report at most.
 use Rattle.std.specs.Prelude.{◌≡◌, ◌≤◌, ◌↔◌, ℕ, zero, suc, List, [], ◌∷◌, ◌++◌, length, slice_get, take, Option, None, Some}
 use Rattle.std.proofs.Common.{refl, sym, ap, subst, ◌∙◌}
+use Rattle.std.proofs.lemmas.Option.{same_Some}
 use mathlib.Core.Logic.{inl, inr}
 use Rattle.pp_core.specs.declared.call.Style.TheVariants.{Rules}
 use Rattle.pp_model.specs.Config.{Step, after}
@@ -16,9 +17,6 @@ use Rattle.pp_front.specs.Styles.{plain, translation}
 use Rattle.pp_front.proofs.Ends.{few_steps}
 use Rattle.pp_front.proofs.Restating.{plain_steps}
 use Rattle.pp_front.proofs.Whole.{extends_law, one_run_law}
-
-some_same : {A : Type 0} (x y : A) → Some x ≡ Some y → x ≡ y
-some_same x y e = cc
 
 taken_at : {A : Type 0} (i : ℕ) (xs : List A) → slice_get (take (suc i) xs) i ≡ slice_get xs i
 taken_at zero [] = refl
@@ -48,7 +46,7 @@ module _ {F R Op State Cause : Type 0} (s : Setting F R Op State) where
   one_report_of all Accepted r q a b = a ∙ sym b
   one_report_of all (Rejected zero n) r q a b = a ∙ sym b
   one_report_of all (Rejected (suc i) n) r q a b =
-      a.2 ∙ ap (λ (w : Lined (Step Op)). StepRejected (suc i) w.line n (after s.start (bare (take i all))) w.what) (some_same a.0 b.0 (sym a.1 ∙ b.1)) ∙ sym b.2
+      a.2 ∙ ap (λ (w : Lined (Step Op)). StepRejected (suc i) w.line n (after s.start (bare (take i all))) w.what) (same_Some a.0 b.0 (sym a.1 ∙ b.1)) ∙ sym b.2
 
 module _ {H F R Op State Cause : Type 0} (setting : H → Setting F R Op State) (too_many : Cause) where
   run_report_to : (h : H) (rs : List (Lined R)) (r : Report Op State Cause) → IsRunReport setting (Some h) rs r →

@@ -3,7 +3,8 @@ use Rattle.std.specs.Prelude.{◌≡◌, ◌≢◌, ◌⊎◌, ℕ, eqb, Bool, t
 use Rattle.std.proofs.Common.{refl, sym, ap, subst, ◌∙◌, append_assoc, take-append-drop}
 use Rattle.std.proofs.lemmas.List.{append-nil}
 use Rattle.std.proofs.lemmas.Bool.Decides.{eqb_tells}
-use Rattle.std.proofs.lemmas.Bool.{eqb-true, eq-eqb}
+use Rattle.std.proofs.lemmas.Bool.{eqb-true, eq-eqb, or_cases}
+use Rattle.std.proofs.lemmas.Option.{same_Some}
 use mathlib.Core.Logic.{inl, inr}
 use Rattle.pp_model.specs.Lists.{Before, In}
 use Rattle.pp_model.specs.Names.{Name, ◌=ⁿ◌}
@@ -18,16 +19,13 @@ use Rattle.pp_front.specs.Effects.{BackLaw, PullsLaw, as_pulled, missing}
 use Rattle.pp_front.specs.Expansions.{pulls, stands_in, taken_at, taken_out}
 use Rattle.pp_front.proofs.Ends.{after_append}
 
-some_is : {A : Type 0} (x y : A) → Some x ≡ Some y → x ≡ y
-some_is x y e = cc
-
 -- the transaction after a change of its log
 on_step : {Op : Type 0} (t : Name) (f : List (LocalEntry Op) → List (LocalEntry Op)) (z x : Tx Op) (zs : List (Tx Op)) (b : Bool) → (z.name =ⁿ t) ≡ b → cond b (Some z) (tx t zs) ≡ Some x →
     (tx t zs ≡ Some x → tx t (on_log t f zs) ≡ Some (relog f x)) → tx t (on_log t f (z ∷ zs)) ≡ Some (relog f x)
 on_step {Op} t f z x zs true e h k =
     ap (λ (w : Tx Op). cond (w.name =ⁿ t) (Some w) (tx t (on_log t f zs))) (ap (λ (b : Bool). cond b (relog f z) z) e)
     ∙ ap (λ (b : Bool). cond b (Some (relog f z)) (tx t (on_log t f zs))) e
-    ∙ ap (λ (w : Tx Op). Some (relog f w)) (some_is z x h)
+    ∙ ap (λ (w : Tx Op). Some (relog f w)) (same_Some z x h)
 on_step {Op} t f z x zs false e h k =
     ap (λ (w : Tx Op). cond (w.name =ⁿ t) (Some w) (tx t (on_log t f zs))) (ap (λ (b : Bool). cond b (relog f z) z) e)
     ∙ ap (λ (b : Bool). cond b (Some z) (tx t (on_log t f zs))) e
@@ -133,10 +131,6 @@ pulled_log {Op} O c t wanted x s h r =
     (λ g i. (from_filter (λ (g : SharedEntry Op). wanted g && not (stands_in x.local g.id)) g c.shared i).0) h r
 
 -- an id that is told to be among those of the entries is one of theirs
-or_cases : (a b : Bool) → (a || b) ≡ true → (a ≡ true) ⊎ (b ≡ true)
-or_cases true b e = inl refl
-or_cases false b e = inr e
-
 told_in : {Op : Type 0} (l : List (LocalEntry Op)) (i : ℕ) → stands_in l i ≡ true → (e : LocalEntry Op) × In e l × (e.id ≡ i)
 told_in [] i h = absurd (cc)
 told_in (e ∷ l) i h =

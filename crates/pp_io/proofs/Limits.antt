@@ -2,6 +2,7 @@
 use Rattle.std.proofs.Common.{◌≡◌, ◌≤◌, ◌<◌, ℕ, ◌+◌, List, [], ◌∷◌, ◌++◌, ◌==◌, length, Bool, true, false, cond, is_some, Option, Some, None, refl, ap, sym, ◌∙◌, append_assoc, arith}
 use Rattle.std.proofs.lemmas.List.{append-nil, length-append}
 use Rattle.std.proofs.lemmas.Bool.{leb-false}
+use Rattle.std.proofs.lemmas.Option.{same_Some}
 use Rattle.std.specs.Option.{option_or}
 use Rattle.pp_io.specs.declared.reach.Reach.{Reach}
 use Rattle.pp_io.specs.declared.fault.LineFault.{LineFault}
@@ -97,13 +98,10 @@ within_front at (x ∷ xs) =
       | false ↦ (tail.0, ap (λ ls. x ∷ ls) tail.1)
     ]
 
-some_is : (f g : LineFault) → Some f ≡ Some g → f ≡ g
-some_is f g h = cc
-
 line_in : (a b c : Bool) (n : ℕ) (fault : LineFault) → cond a (Some (TooLong n)) (cond b (Some (TooManyLines n)) (cond c (Some (LineTooLong n)) None)) ≡ Some fault → line_of fault ≡ n
-line_in true b c n fault h = sym (ap line_of (some_is (TooLong n) fault h))
-line_in false true c n fault h = sym (ap line_of (some_is (TooManyLines n) fault h))
-line_in false false true n fault h = sym (ap line_of (some_is (LineTooLong n) fault h))
+line_in true b c n fault h = sym (ap line_of (same_Some (TooLong n) fault h))
+line_in false true c n fault h = sym (ap line_of (same_Some (TooManyLines n) fault h))
+line_in false false true n fault h = sym (ap line_of (same_Some (LineTooLong n) fault h))
 line_in false false false n fault h = absurd (cc)
 
 -- the line of a fault is the one behind those that ended

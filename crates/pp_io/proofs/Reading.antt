@@ -141,7 +141,7 @@ took_fed bytes piece out held is sound =
       unclosed = is.unclosed;
     }
 
-after_keeps : (held : Held) (whole : List (List ℕ)) → ((after_first held whole).rest ≡ held.rest) × ((after_first held whole).reach ≡ held.reach) × ((after_first held whole).fault ≡ held.fault) × ((after_first held whole).closed ≡ held.closed)
+pub after_keeps : (held : Held) (whole : List (List ℕ)) → ((after_first held whole).rest ≡ held.rest) × ((after_first held whole).reach ≡ held.reach) × ((after_first held whole).fault ≡ held.fault) × ((after_first held whole).closed ≡ held.closed)
 after_keeps held [] = (refl, refl, refl, refl)
 after_keeps held (line ∷ lines) = (refl, refl, refl, refl)
 

@@ -9,28 +9,21 @@ use Rattle.pp_model.specs.Lists.{In}
 use Rattle.pp_model.specs.Object.{HasDistinctIds}
 use Rattle.pp_log.proofs.Lists.{pair, stands_in}
 use Rattle.pp_model.proofs.Lists.{in_map}
-
-abbrev with_mark : {Op : Type 0} → Mark → LocalEntry Op → LocalEntry Op
-with_mark m e = record { id = e.id; owner = e.owner; mark = m; op = e.op }
-
-none_marked : {Op : Type 0} (id : ℕ) (m : Mark) (x : List (LocalEntry Op)) → ((e : LocalEntry Op) → In e x → e.id ≢ id) → set_mark id m x ≡ x
-none_marked id m [] h = refl
-none_marked {Op} id m (e ∷ x) h =
-    ap (λ (b : Bool). cond b (with_mark m e) e ∷ set_mark id m x) (ne_eqb e.id id (h e (inl refl))) ∙ ap (λ (z : List (LocalEntry Op)). e ∷ z) (none_marked id m x (λ d k. h d (inr k)))
+use Rattle.pp_model.proofs.Push.{marked_other, remark}
 
 -- to mark the i-th entry is to mark the one with its id
 pub set_is_marked : {Op : Type 0} (m : Mark) (x : List (LocalEntry Op)) (i : ℕ) (e : LocalEntry Op) → HasDistinctIds (map item x) → slice_get x i ≡ Some e → slice_set x i (record { id = e.id; owner = e.owner; mark = m; op = e.op }) ≡ set_mark e.id m x
 set_is_marked m [] i e h at = cc
 set_is_marked {Op} m (a ∷ x) zero e h at =
     let same : a ≡ e = cc in
-    let P : LocalEntry Op → Type 0 = λ d. with_mark m e ∷ x ≡ cond (d.id == e.id) (with_mark m d) d ∷ set_mark e.id m x in
+    let P : LocalEntry Op → Type 0 = λ d. remark m e ∷ x ≡ cond (d.id == e.id) (remark m d) d ∷ set_mark e.id m x in
     let others : (d : LocalEntry Op) → In d x → d.id ≢ e.id = λ d k is. h (item a) (item d) (inl (refl, in_map item d x k)) (ap (λ (b : LocalEntry Op). b.id) same ∙ sym is) in
     subst P (sym same)
-    (sym (ap (λ (b : Bool). cond b (with_mark m e) e ∷ set_mark e.id m x) (eq-eqb e.id e.id refl) ∙ ap (λ (z : List (LocalEntry Op)). with_mark m e ∷ z) (none_marked e.id m x others)))
+    (sym (ap (λ (b : Bool). cond b (remark m e) e ∷ set_mark e.id m x) (eq-eqb e.id e.id refl) ∙ ap (λ (z : List (LocalEntry Op)). remark m e ∷ z) (marked_other e.id m x others)))
 set_is_marked {Op} m (a ∷ x) (suc i) e h at =
     let other = ne_eqb a.id e.id (h (item a) (item e) (inl (refl, in_map item e x (stands_in x i e at)))) in
     ap (λ (z : List (LocalEntry Op)). a ∷ z) (set_is_marked m x i e (λ b d k. h b d (inr k)) at)
-    ∙ sym (ap (λ (b : Bool). cond b (with_mark m a) a ∷ set_mark e.id m x) other)
+    ∙ sym (ap (λ (b : Bool). cond b (remark m a) a ∷ set_mark e.id m x) other)
 
 -- so a log in which the i-th entry was set is the marked log
 pub seen_marked : {Shape Op : Type 0} (m : Mark) (i : ℕ) (log seen new : Shape × List (LocalEntry Op)) (d e : LocalEntry Op) → log ≡ seen → HasDistinctIds (map item log.1) → Some d ≡ slice_get log.1 i → slice_get seen.1 i ≡ Some e → new ≡ (log.0, slice_set log.1 i (record { id = d.id; owner = d.owner; mark = m; op = d.op })) → new ≡ (seen.0, set_mark e.id m seen.1)

@@ -15,8 +15,8 @@ use Rattle.pp_model.specs.Object.{ops}
 use Rattle.pp_log.specs.Parts.{there, elsewhere}
 use Rattle.pp_log.proofs.Distinct.{AreDistinct, apart, distinct_index, distinct_there, one_id_less}
 use Rattle.pp_log.specs.Keeps.{IsKept, KeptIn, Keeps}
-use Rattle.pp_log.specs.Logs.{DiffersFrom, DiffersFirst, RemovesEntry, from_place, removal_steps}
-use Rattle.pp_log.specs.TakesOut.{IsWhole, TakesOut, itself, takes_out_steps}
+use Rattle.pp_log.specs.Logs.{DiffersFrom, DiffersFirst, RemovesEntry, from_place, removal_ticks}
+use Rattle.pp_log.specs.TakesOut.{IsWhole, TakesOut, itself, takes_out_ticks}
 use Rattle.pp_log.proofs.Lists.{pair, cut_there, in_mid, not_empty, remove_mid, set_other, set_same}
 use Rattle.pp_log.proofs.Edits.{ranged-remove}
 use Rattle.pp_log.proofs.Parted.{there_at, there_off, elsewhere_at, elsewhere-append, there-append, there_count}
@@ -62,9 +62,9 @@ site_of {Op} place log i e p h is at =
 pub counted : {Op : Type 0} (items : List (Item Op)) (u v : List (Item Op)) (e : Item Op) (k : ℕ) → items ≡ u ++ e ∷ v → k ≡ length u → length items ≡ k + (length v + 1)
 counted items u v e k is index = let size = ap length is ∙ length-append u (e ∷ v) in omega arith
 
-pub steps_of : (removal : Removed) (n i k old new : ℕ) → n ≡ i + k → takes_out_steps removal n i old new → removal_steps removal k old new
-steps_of Done n i k old new e h = omega arith
-steps_of (Differs id answer) n i k old new e h = omega arith
+pub ticks_of : (removal : Removed) (n i k old new : ℕ) → n ≡ i + k → takes_out_ticks removal n i old new → removal_ticks removal k old new
+ticks_of Done n i k old new e h = omega arith
+ticks_of (Differs id answer) n i k old new e h = let most = h.1 in (h.0, omega arith)
 
 -- the list that is left
 abbrev pub left : {A : Type 0} → Removed → List A → ℕ → List A

@@ -1,4 +1,4 @@
--- What a log keeps beside its entries.
+-- Proof machinery: what a log keeps beside its entries.
 use Rattle.std.specs.Prelude.{◌≡◌, ◌≤◌, ℕ, List, [], length, slice_get, Option, Some, None}
 use Rattle.pp_core.specs.declared.entry.Item.{Item}
 use Rattle.pp_model.specs.Object.{HasDistinctIds, ops}

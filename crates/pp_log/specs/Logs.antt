@@ -1,5 +1,5 @@
--- What a log says of its entries: their operations, and what it is to add one and to take one out.
--- item_of gives the id and the operation of an entry.
+-- Meaning: what a log says of its entries: their operations, and what it is to add one and to take
+-- one out. item_of gives the id and the operation of an entry.
 use Rattle.std.specs.Prelude.{◌≡◌, ◌≢◌, ◌==◌, ◌≤◌, ◌+◌, ◌*◌, ℕ, zero, suc, List, [], ◌∷◌, ◌++◌}
 use Rattle.std.specs.Prelude.{map, filter, length, remove, slice_get, Some, Result, IfOk}
 use Rattle.pp_core.specs.declared.answer.Answer.{Answer}
@@ -68,18 +68,18 @@ from_place place [] i = 1
 from_place place (a ∷ x) zero = length (filter (λ b. place b == place a) (a ∷ x))
 from_place place (a ∷ x) (suc i) = from_place place x i
 
--- How many steps a removal takes where k operations of the place, the removed one counted, are
+-- How many ticks a removal takes where k operations of the place, the removed one counted, are
 -- taken back.
-abbrev pub removal_steps : Removed → ℕ → ℕ → ℕ → Type 0
-removal_steps Done k old new = new + 1 ≡ old + 2 * k
-removal_steps (Differs id answer) k old new = new + 3 ≤ old + 4 * k
+abbrev pub removal_ticks : Removed → ℕ → ℕ → ℕ → Type 0
+removal_ticks Done k old new = new + 1 ≡ old + 2 * k
+removal_ticks (Differs id answer) k old new = (old ≤ new) × (new + 3 ≤ old + 4 * k)
 
--- The steps of the removal of the i-th operation, by its answer.
+-- The ticks of the removal of the i-th operation, by its answer.
 abbrev pub RemovalCosts :
     {Op L Error : Type 0} → (Op → ℕ) → List Op → ℕ → Result (L × Removed) Error → ℕ → ℕ → Type 0
 RemovalCosts place ops i result old new =
-    IfOk result (λ r. removal_steps r.1 (from_place place ops i) old new)
+    IfOk result (λ r. removal_ticks r.1 (from_place place ops i) old new)
 
--- The most steps of such a removal, whatever it answers.
+-- The most ticks of such a removal, whatever it answers. None is taken back.
 abbrev pub RemovalBound : {Op : Type 0} → (Op → ℕ) → List Op → ℕ → ℕ → ℕ → Type 0
-RemovalBound place ops i old new = new + 3 ≤ old + 4 * from_place place ops i
+RemovalBound place ops i old new = (old ≤ new) × (new + 3 ≤ old + 4 * from_place place ops i)

@@ -1,4 +1,4 @@
--- The parts of a list of items by their places.
+-- Proof machinery: the parts of a list of items by their places.
 use Rattle.std.specs.Prelude.{ℕ, nat_eq, List, [], ◌∷◌, cond}
 use Rattle.pp_core.specs.declared.entry.Item.{Item}
 

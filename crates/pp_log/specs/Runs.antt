@@ -1,4 +1,4 @@
--- Items of a place that are applied one after another, and how far.
+-- Proof machinery: items of a place that are applied one after another, and how far.
 use Rattle.std.specs.Prelude.{◌≡◌, ◌≢◌, ◌≤◌, ◌+◌, ℕ, IsTrue, List, [], ◌∷◌, length, take}
 use Rattle.std.specs.Prelude.{Option, Some, None, slice_get}
 use Rattle.pp_core.specs.declared.answer.Answer.{Answer}
@@ -41,7 +41,7 @@ Stops {Shape} {State} {Op} {Undo} o items us s (Some answer) =
     (e : Item Op) × (slice_get items (length us) ≡ Some e) ×
     (o.gives s e.op ≡ answer) × (answer ≢ o.recorded e.op)
 
--- One step for each item that was applied, and one for an item that differs.
+-- One tick for each item that was applied, and one for an item that differs.
 abbrev pub Costs : Option Answer → ℕ → ℕ → ℕ → ℕ → Type 0
 Costs None old from to new = new + from ≡ old + to
 Costs (Some answer) old from to new = new + from ≡ old + to + 1

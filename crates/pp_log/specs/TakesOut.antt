@@ -1,4 +1,4 @@
--- What taking an item out of its place does.
+-- Proof machinery: what taking an item out of its place does.
 use Rattle.std.specs.Prelude.{◌≡◌, ◌+◌, ◌*◌, ◌≤◌, ℕ, List, Some, length, remove, slice_get}
 use Rattle.pp_core.specs.declared.entry.Item.{Item}
 use Rattle.pp_spec.specs.Object.{Object}
@@ -30,10 +30,10 @@ TakesOut o b items i q s Done = (q.items.items ≡ remove items i) × IsWhole o 
 TakesOut o b items i q s (Differs id answer) =
     (q.items.items ≡ items) × IsWhole o b q s × DiffersFrom o itself b (remove items i) id answer
 
--- How many steps it takes where the place has n items.
-abbrev pub takes_out_steps : Removed → ℕ → ℕ → ℕ → ℕ → Type 0
-takes_out_steps Done n i old new = new + 1 + 2 * i ≡ old + 2 * n
-takes_out_steps (Differs id answer) n i old new = new + 3 + 4 * i ≤ old + 4 * n
+-- How many ticks it takes where the place has n items.
+abbrev pub takes_out_ticks : Removed → ℕ → ℕ → ℕ → ℕ → Type 0
+takes_out_ticks Done n i old new = new + 1 + 2 * i ≡ old + 2 * n
+takes_out_ticks (Differs id answer) n i old new = (old ≤ new) × (new + 3 + 4 * i ≤ old + 4 * n)
 
 -- From whatever state the place was whole, taking the i-th item out leaves this.
 abbrev pub TakesOutOf :

@@ -121,6 +121,7 @@ impl<S: Placed, T: Side<S::Op>> Log<S, T> {
         ensures ok { OnOk result (self.new ≡ (self.old.0, self.old.1 ++ entry ∷ [])) }
         ensures err { OnErr result (self.new ≡ self.old) }
         ensures cost { OnOk result (ticks.new ≡ ticks.old + 1) }
+        ensures rises { ticks.old ≤ ticks.new }
         ensures bound { ticks.new ≤ ticks.old + 1 }
     {
         let item = T::item(&entry);

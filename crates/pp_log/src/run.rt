@@ -20,6 +20,7 @@ pub fn unwind<S: Spec, L: Ledger>(
         undos.new.items state.new) }
     ensures len { OnOk result (length undos.new.items ≡ to) }
     ensures cost { OnOk result (ticks.new + to ≡ ticks.old + length undos.old.items) }
+    ensures rises { ticks.old ≤ ticks.new }
     ensures bound { ticks.new + to ≤ ticks.old + length undos.old.items }
 {
     while undos.len() > to {
@@ -46,6 +47,7 @@ pub fn rewind<S: Spec, L: Ledger>(
     ensures stops { IfOk result (Stops S.object items.now undos.new.items state.new) }
     ensures cost { IfOk result (λ found. Costs found ticks.old (length undos.old.items)
         (length undos.new.items) ticks.new) }
+    ensures rises { ticks.old ≤ ticks.new }
     ensures bound { ticks.new + length undos.old.items ≤ ticks.old + length items.now }
 {
     while undos.len() < items.len() {

@@ -2,7 +2,7 @@
 ghost use Rattle.std.specs.Prelude.{◌≡◌, ◌≢◌, ◌<◌, ◌≤◌, ◌+◌, ◌*◌, IfOk, IfSome, IfNone, length};
 ghost use Rattle.pp_core.specs.declared.entry.Item.{Item as ItemOf};
 ghost use Rattle.pp_model.specs.Lists.{In};
-ghost use Rattle.pp_log.specs.TakesOut.{IsWhole, StandsAt, TakesOutOf, takes_out_steps};
+ghost use Rattle.pp_log.specs.TakesOut.{IsWhole, StandsAt, TakesOutOf, takes_out_ticks};
 
 use crate::place::{Place, Removed};
 use crate::run::{rewind, unwind};
@@ -34,8 +34,9 @@ pub fn take_out<S: Spec, L: Ledger>(
     requires whole { (b : S.State) × IsWhole S.object b place.old state.old }
     requires within { from < length place.old.items.items }
     ensures takes { IfOk result (TakesOutOf S.object place.old state.old from place.new state.new) }
-    ensures cost { IfOk result (λ removed. takes_out_steps removed (length place.old.items.items)
+    ensures cost { IfOk result (λ removed. takes_out_ticks removed (length place.old.items.items)
         from ticks.old ticks.new) }
+    ensures rises { ticks.old ≤ ticks.new }
     ensures bound { ticks.new + 3 + 4 * from ≤ ticks.old + 4 * length place.old.items.items }
 {
     unwind::<S, L>(&place.items, &mut place.undos, from, state, ticks)?;

@@ -3,20 +3,20 @@ use mathlib.Core.List.{map-map}
 use Rattle.std.specs.Prelude.{◌≡◌, ◌≢◌, ◌⊎◌, ℕ, ◌==◌, Bool, true, false, not, cond, ◌&&◌, List, [], ◌∷◌, ◌++◌, map, find, Option, Some, None}
 use Rattle.std.proofs.Common.{refl, sym, ap, subst, ◌∙◌, append_assoc}
 use Rattle.std.proofs.lemmas.List.{map-append, append-nil}
-use Rattle.std.proofs.lemmas.Bool.{eqb-true, eq-eqb}
+use Rattle.std.proofs.lemmas.Bool.{and_parts, eqb-true, eq-eqb}
 use mathlib.Core.Logic.{inl, inr}
 use Rattle.pp_model.specs.Lists.{In, Before, joined}
 use Rattle.pp_model.specs.Body.{Call, Tree, IsWord, Begins}
 use Rattle.pp_model.specs.Object.{Object, Allowed, Item, ops}
-use Rattle.pp_model.specs.Config.{after, Mark, Unpushed, Pushed, Pulled, is_own, is_mark, LocalEntry, SharedEntry, Tx, CommittedTx, Config, Start, Step, App, Push, Pull, Cmt, item, shared_item, own, own_items, local_ops, shared_ops, as_shared, tx, then, push_effect, pull_effect, commit_effect, entry_of, at_mark, of_other, on_log, set_mark, commit_all, first}
+use Rattle.pp_model.specs.Config.{after, Unpushed, Pushed, Pulled, is_own, is_mark, LocalEntry, SharedEntry, Tx, CommittedTx, Config, Start, Step, App, Push, Pull, Cmt, item, shared_item, own, own_items, local_ops, shared_ops, as_shared, tx, then, push_effect, pull_effect, commit_effect, entry_of, at_mark, of_other, on_log, set_mark, commit_all, first}
 use Rattle.pp_model.specs.Rules.{calls, FirstFalse, there, Meets, StartMeets, RunsFrom}
 use Rattle.pp_model.specs.Sound.{Sound}
 use Rattle.pp_model.specs.Serial.{Attempt, attempt_of, attempts, commits, start_attempts, committed_tx, serial}
 use Rattle.pp_model.specs.Alone.{own_steps, one_alone, all_alone, alone, first_thread, threads_of}
 use Rattle.pp_model.proofs.Lists.{in_left, in_right, in_cases, before_cases, before_left, before_right, before_across, before_in_first, before_in_second, in_map, from_map, before_map, before_from_map, by_key, in_joined, before_from_joined}
-use Rattle.pp_model.proofs.Logs.{at_tx, is_mark-true, both_true}
+use Rattle.pp_model.proofs.Logs.{at_tx, is_mark-true}
 use Rattle.pp_model.proofs.Steps.{own_items-append}
-use Rattle.pp_model.proofs.Push.{mark_at, mark_cases, remark}
+use Rattle.pp_model.proofs.Push.{mark_at, marked_other, remark}
 use Rattle.pp_model.proofs.Serial.{allowed_front}
 use Rattle.pp_model.proofs.SameAttempts.{same_attempts}
 use Rattle.pp_model.proofs.Begin.{start_sound}
@@ -109,7 +109,7 @@ pulls {Op} O t p b N I F G A m (g ∷ H) K e rest r =
     lookup : of_other t g.id G ≡ Some g
     lookup = find_only (λ (w : SharedEntry Op). (w.id == g.id) && not (w.owner =ⁿ t)) g G here
         (ap (λ (z : Bool). z && not (g.owner =ⁿ t)) (eq-eqb g.id g.id refl) ∙ names_not g.owner t (m.others g here))
-        (λ y i k. by_key (λ (w : SharedEntry Op). w.id) G m.distinct y g i here (eqb-true y.id g.id (both_true (y.id == g.id) (not (y.owner =ⁿ t)) k).0))
+        (λ y i k. by_key (λ (w : SharedEntry Op). w.id) G m.distinct y g i here (eqb-true y.id g.id (and_parts (y.id == g.id) (not (y.owner =ⁿ t)) k).0))
 
     front : Allowed O (shared_ops K ++ g.op ∷ [])
     front = allowed_front O O.start (shared_ops K ++ g.op ∷ []) (shared_ops H ++ ops A)
@@ -166,11 +166,6 @@ log_ids {Op} t id G A m n e i u = elim (in_cases e (map pull_entry G) (map (push
   | inl j ↦ let w = from_map pull_entry e G j in m w.0 w.1 (ap (λ (w : LocalEntry Op). w.id) (sym w.2) ∙ u)
   | inr j ↦ let w = from_map (push_entry t) e A j in n w.0 w.1 (ap (λ (w : LocalEntry Op). w.id) (sym w.2) ∙ u)
 ]
-
-marked_other : {Op : Type 0} (id : ℕ) (m : Mark) (l : List (LocalEntry Op)) → ((e : LocalEntry Op) → In e l → e.id ≢ id) → set_mark id m l ≡ l
-marked_other id m [] h = refl
-marked_other {Op} id m (e ∷ l) h =
-    ap (λ (w : LocalEntry Op). w ∷ set_mark id m l) (elim (mark_cases id m e) [ inl r ↦ absurd (h e (inl refl) r.0) | inr r ↦ r.1 ]) ∙ ap (λ (w : List (LocalEntry Op)). e ∷ w) (marked_other id m l (λ a i. h a (inr i)))
 
 -- it applies and pushes its own items
 owns : {Op State : Type 0} (O : Object Op State) (t p : Name) (b : Option Tree) (N : List Name) (I : List ℕ) (F : List (CommittedTx Op)) (G : List (SharedEntry Op)) (A : List (Item Op)) → MayRunAlone O t b I G A →
@@ -241,7 +236,7 @@ owns {Op} O t p b N I F G A m (q ∷ B) K e J free rest r =
     lookup : at_mark q.id Unpushed (log_of t G K ++ u ∷ []) ≡ Some u
     lookup = find_only test u (log_of t G K ++ u ∷ []) (in_right u (log_of t G K) (u ∷ []) (inl refl)) (ap (λ (z : Bool). z && true) (eq-eqb q.id q.id refl))
         (λ y i k. elim (in_cases y (log_of t G K) (u ∷ []) i) [
-          | inl j ↦ absurd (log_marks t G K y j (is_mark-true y.mark Unpushed (both_true (y.id == q.id) (is_mark y.mark Unpushed) k).1))
+          | inl j ↦ absurd (log_marks t G K y j (is_mark-true y.mark Unpushed (and_parts (y.id == q.id) (is_mark y.mark Unpushed) k).1))
           | inr (inl j) ↦ j
           | inr (inr j) ↦ absurd j
         ])

@@ -44,7 +44,7 @@ commit_keeps_rest {Op} t g = elim (names_tell g.owner t) [
   | inr r ↦ (ap (λ (b : Bool). (cond b (as_committed g) g).id) r.0, ap (λ (b : Bool). (cond b (as_committed g) g).owner) r.0, ap (λ (b : Bool). (cond b (as_committed g) g).op) r.0)
 ]
 
-ops_committed : {Op : Type 0} (t : Name) (G : List (SharedEntry Op)) → shared_ops (commit_all t G) ≡ shared_ops G
+pub ops_committed : {Op : Type 0} (t : Name) (G : List (SharedEntry Op)) → shared_ops (commit_all t G) ≡ shared_ops G
 ops_committed t [] = refl
 ops_committed {Op} t (g ∷ G) = ap (λ (o : Op). o ∷ shared_ops (commit_all t G)) (commit_keeps_rest t g).2 ∙ ap (λ (w : List Op). g.op ∷ w) (ops_committed t G)
 

@@ -2,6 +2,7 @@
 use Rattle.std.specs.Prelude.{◌≡◌, ◌≢◌, ◌⊎◌, ℕ, Bool, true, false, not, cond, ◌==◌, List, [], ◌∷◌, ◌++◌, map, Option, Some}
 use Rattle.std.proofs.Common.{refl, sym, ap, subst, ◌∙◌}
 use Rattle.std.proofs.lemmas.List.{map-append}
+use Rattle.std.proofs.lemmas.Bool.{cases_eq}
 use Rattle.std.proofs.lemmas.Bool.Decides.{eqb_tells}
 use mathlib.Core.Logic.{inl, inr}
 use Rattle.pp_model.specs.Lists.{In, Before}
@@ -15,7 +16,7 @@ use Rattle.pp_model.proofs.Logs.{found_tx, found_mark, eqb_not, in_own, before_f
 use Rattle.pp_model.proofs.Steps.{there_holds}
 use Rattle.pp_model.proofs.Begin.{before_added}
 use Rattle.pp_model.specs.Names.{Name}
-use Rattle.pp_model.proofs.Names.{names_tell}
+use Rattle.pp_model.proofs.Names.{name_or_not}
 
 -- the entry with another mark
 abbrev pub remark : {Op : Type 0} → Mark → LocalEntry Op → LocalEntry Op
@@ -36,12 +37,18 @@ mark_keeps_id {Op} id m e = elim (mark_cases id m e) [ inl r ↦ ap (λ (w : Loc
 mark_keeps_op : {Op : Type 0} (id : ℕ) (m : Mark) (e : LocalEntry Op) → (mark_at id m e).op ≡ e.op
 mark_keeps_op {Op} id m e = elim (mark_cases id m e) [ inl r ↦ ap (λ (w : LocalEntry Op). w.op) r.1 | inr r ↦ ap (λ (w : LocalEntry Op). w.op) r.1 ]
 
-ops_marked : {Op : Type 0} (id : ℕ) (m : Mark) (l : List (LocalEntry Op)) → local_ops (set_mark id m l) ≡ local_ops l
+pub ops_marked : {Op : Type 0} (id : ℕ) (m : Mark) (l : List (LocalEntry Op)) → local_ops (set_mark id m l) ≡ local_ops l
 ops_marked id m [] = refl
 ops_marked {Op} id m (e ∷ l) = ap (λ (o : Op). o ∷ local_ops (set_mark id m l)) (mark_keeps_op id m e) ∙ ap (λ (w : List Op). e.op ∷ w) (ops_marked id m l)
 
+-- no entry has this id
+pub marked_other : {Op : Type 0} (id : ℕ) (m : Mark) (l : List (LocalEntry Op)) → ((e : LocalEntry Op) → In e l → e.id ≢ id) → set_mark id m l ≡ l
+marked_other id m [] h = refl
+marked_other {Op} id m (e ∷ l) h =
+    ap (λ (w : LocalEntry Op). w ∷ set_mark id m l) (elim (mark_cases id m e) [ inl r ↦ absurd (h e (inl refl) r.0) | inr r ↦ r.1 ]) ∙ ap (λ (w : List (LocalEntry Op)). e ∷ w) (marked_other id m l (λ a i. h a (inr i)))
+
 -- the own items stay, where the entry of this id is own and stays so
-own_marked : {Op : Type 0} (id : ℕ) (m : Mark) → is_own m ≡ true → (l : List (LocalEntry Op)) → ((e : LocalEntry Op) → In e l → e.id ≡ id → is_own e.mark ≡ true) → own_items (set_mark id m l) ≡ own_items l
+pub own_marked : {Op : Type 0} (id : ℕ) (m : Mark) → is_own m ≡ true → (l : List (LocalEntry Op)) → ((e : LocalEntry Op) → In e l → e.id ≡ id → is_own e.mark ≡ true) → own_items (set_mark id m l) ≡ own_items l
 own_marked id m k [] h = refl
 own_marked {Op} id m k (e ∷ l) h = elim (mark_cases id m e) [
   | inl r ↦ ap (λ (w : LocalEntry Op). own_items (w ∷ set_mark id m l)) r.1
@@ -116,12 +123,6 @@ standing {Op} O c s x i e j o g k n false u =
 pub stands_pushed : {Op State : Type 0} (O : Object Op State) (c : Config Op) → Sound O c → (x : Tx Op) → In x c.opened → (e : LocalEntry Op) → In e x.local → is_own e.mark ≡ true → Stands e.id c.shared → e.mark ≡ Pushed
 stands_pushed O c s x i e j o h = standing O c s x i e j o h.0 h.1 h.2 (h.0).committed refl
 
-pub same_or_not : (a b : ℕ) → (a ≡ b) ⊎ (a ≢ b)
-same_or_not a b = elim (eqb_tells a b) [ inl r ↦ inl r.1 | inr r ↦ inr r.1 ]
-
-pub name_or_not : (a b : Name) → (a ≡ b) ⊎ (a ≢ b)
-name_or_not a b = elim (names_tell a b) [ inl r ↦ inl r.1 | inr r ↦ inr r.1 ]
-
 -- what stands in a longer log
 stands_wider : {Op : Type 0} (i : ℕ) (G : List (SharedEntry Op)) (g : SharedEntry Op) → Stands i G → Stands i (G ++ g ∷ [])
 stands_wider i G g h = (h.0, in_left h.0 G (g ∷ []) h.1, h.2)
@@ -137,7 +138,7 @@ stands_older {Op} i G g h n = elim (in_cases h.0 G (g ∷ []) h.1) [
 order_pushed : {Op State : Type 0} (O : Object Op State) (G : List (SharedEntry Op)) (g : SharedEntry Op) (xs : List (Item Op)) → (Stands g.id G → ⊥) →
     ((a b : Item Op) → Before a b xs → b.id ≡ g.id → (Stands a.id G → ⊥) → Swaps O b.op a.op) →
     KeepsOrder O G xs → KeepsOrder O (G ++ g ∷ []) xs
-order_pushed {Op} O G g xs new last h a b i j k = elim (same_or_not b.id g.id) [
+order_pushed {Op} O G g xs new last h a b i j k = elim (cases_eq b.id g.id) [
   | inl e ↦ elim k [
     | inl n ↦ last a b i e (λ m. n (stands_wider a.id G g m))
     | inr m ↦ absurd (first_new m e)
@@ -161,7 +162,7 @@ order_pushed {Op} O G g xs new last h a b i j k = elim (same_or_not b.id g.id) [
 pub order_unpushed : {Op State : Type 0} (O : Object Op State) (G : List (SharedEntry Op)) (id : ℕ) (xs : List (Item Op)) →
     ((a b : Item Op) → Before a b xs → a.id ≡ id → Stands b.id G → Swaps O b.op a.op) →
     KeepsOrder O G xs → KeepsOrder O (without_shared id G) xs
-order_unpushed {Op} O G id xs first h a b i j k = elim (same_or_not a.id id) [
+order_unpushed {Op} O G id xs first h a b i j k = elim (cases_eq a.id id) [
   | inl e ↦ first a b i e (was b.id j)
   | inr e ↦ h a b i (was b.id j) (elim k [
     | inl n ↦ inl (λ m. n (m.0, in_filter test m.0 G m.1 (eqb_not (m.0).id id (λ z. e (sym m.2 ∙ z))), m.2))

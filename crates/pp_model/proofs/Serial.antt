@@ -1,6 +1,7 @@
 -- The shared log may be put into the order of the commits.
 use Rattle.std.specs.Prelude.{◌≡◌, ◌≢◌, ◌⊎◌, ℕ, Bool, true, false, not, cond, List, [], ◌∷◌, ◌++◌, map}
 use Rattle.std.proofs.Common.{refl, sym, ap, subst, ◌∙◌, append_assoc}
+use Rattle.std.proofs.lemmas.Bool.{not-true}
 use Rattle.std.proofs.lemmas.List.{map-append, append-nil}
 use mathlib.Core.Logic.{inl, inr}
 use Rattle.pp_model.specs.Lists.{In, Before}
@@ -55,11 +56,7 @@ pub from_uncommitted : {Op : Type 0} (G : List (SharedEntry Op)) (p : Item Op) �
 from_uncommitted {Op} G p i =
     let m = from_map shared_item p (uncommitted G) i in
     let f = from_filter (λ (g : SharedEntry Op). not g.committed) m.0 G m.1 in
-    (m.0, f.0, not_true (m.0).committed f.1, m.2)
-  where
-    not_true : (b : Bool) → not b ≡ true → b ≡ false
-    not_true true e = cc
-    not_true false e = refl
+    (m.0, f.0, not-true (m.0).committed f.1, m.2)
 
 pub reorders : {Op State : Type 0} (O : Object Op State) (G : List (SharedEntry Op)) (D : List (CommittedTx Op)) → Ordered O G D → Reorders O (items G) (target G D)
 reorders {Op} O G D o =

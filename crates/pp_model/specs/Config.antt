@@ -115,13 +115,14 @@ last [] = None
 last (x ∷ []) = Some x
 last (x ∷ y ∷ l) = last (y ∷ l)
 
--- the entry of this id and mark, and the entry of this id in G that another transaction owns
+-- two marks are one
 abbrev pub is_mark : Mark → Mark → Bool
 is_mark Unpushed Unpushed = true
 is_mark Pushed Pushed = true
 is_mark Pulled Pulled = true
 is_mark _ _ = false
 
+-- the entry of this id and mark, and the entry of this id in G that another transaction owns
 abbrev pub at_mark : {Op : Type 0} → ℕ → Mark → List (LocalEntry Op) → Option (LocalEntry Op)
 at_mark id m l = find (λ e. (e.id == id) && is_mark e.mark m) l
 
@@ -140,7 +141,7 @@ first (Some z) =
       done = record { name = z.tx; entries = z.items } ∷ [];
     }
 
--- the effect of a step
+-- the effect of a PUSH, a PULL and a CMT, each with what it finds; where it finds nothing, none
 abbrev pub push_effect : {Op : Type 0} → Config Op → Name → ℕ → Option (LocalEntry Op) → Config Op
 push_effect c t id None = c
 push_effect c t id (Some e) =
@@ -162,10 +163,12 @@ commit_effect c t (Some x) =
       done = c.done ++ record { name = t; entries = own_items x.local } ∷ [];
     }
 
+-- the entry of this id and mark of a transaction
 abbrev pub entry_of : {Op : Type 0} → ℕ → Mark → Option (Tx Op) → Option (LocalEntry Op)
 entry_of id m None = None
 entry_of id m (Some x) = at_mark id m x.local
 
+-- the effect of a step
 abbrev pub then : {Op : Type 0} → Config Op → Step Op → Config Op
 then c (Begin t p b) =
     record c {
@@ -187,6 +190,7 @@ then c (Cmt t) = commit_effect c t (tx t c.opened)
 then c (Quit t) = record c { opened = without_tx t c.opened }
 then c (Note t) = c
 
+-- the configuration after these steps, from one on and from the first
 abbrev pub after_from : {Op : Type 0} → Config Op → List (Step Op) → Config Op
 after_from c [] = c
 after_from c (s ∷ ss) = after_from (then c s) ss

@@ -1,17 +1,14 @@
 -- The entries of an owner are committed one by one.
-use Rattle.std.proofs.Common.{◌≡◌, ℕ, zero, suc, ◌<◌, ◌≤◌, Bool, true, false, not, ◌&&◌, cond, List, [], ◌∷◌, length, refl, sym, ◌∙◌, ap, subst, arith, inl, inr, ◌⊎◌, Some}
+use Rattle.std.proofs.Common.{◌≡◌, ℕ, zero, suc, ◌<◌, ◌≤◌, Bool, true, false, not, ◌&&◌, cond, List, [], ◌∷◌, length, refl, sym, ◌∙◌, ap, subst, arith, inl, inr, Some}
 use Rattle.std.specs.List.{slice_get, slice_set}
+use Rattle.std.proofs.lemmas.Bool.{and_cases, and_parts, not-false}
+use Rattle.std.proofs.lemmas.List.{length-map}
 use Rattle.pp_core.specs.declared.entry.SharedEntry.{SharedEntry}
 use Rattle.pp_model.specs.Config.{commit_all}
 use Rattle.pp_model.specs.Names.{Name, ◌=ⁿ◌}
+use Rattle.pp_model.proofs.Commit.{as_committed, commit}
 use Rattle.pp_log.proofs.Lists.{pair}
 use Rattle.pp_shared.specs.Blocking.{IsSettled}
-
-abbrev pub as_committed : {Op : Type 0} → SharedEntry Op → SharedEntry Op
-as_committed e = record { id = e.id; owner = e.owner; committed = true; op = e.op }
-
-abbrev pub commit : {Op : Type 0} → Name → SharedEntry Op → SharedEntry Op
-commit t e = cond (e.owner =ⁿ t) (as_committed e) e
 
 -- The first k entries of t are committed.
 abbrev pub committed_below : {Op : Type 0} → Name → ℕ → List (SharedEntry Op) → List (SharedEntry Op)
@@ -31,14 +28,6 @@ stays_other {Op} t e h = ap (λ (b : Bool). cond b (as_committed e) e) h
 
 is_committed : {Op : Type 0} (t : Name) (e : SharedEntry Op) → (e.owner =ⁿ t) ≡ true → commit t e ≡ as_committed e
 is_committed {Op} t e h = ap (λ (b : Bool). cond b (as_committed e) e) h
-
-not_both : (c b : Bool) → (not c && b) ≡ false → (c ≡ true) ⊎ (b ≡ false)
-not_both true b h = inl refl
-not_both false b h = inr h
-
-both : (c b : Bool) → (not c && b) ≡ true → b ≡ true
-both true b h = cc
-both false b h = h
 
 -- all entries
 pub below_all : {Op : Type 0} (t : Name) (k : ℕ) (x : List (SharedEntry Op)) → length x ≤ k → committed_below t k x ≡ commit_all t x
@@ -84,14 +73,14 @@ module _ {Shape Op : Type 0} (t : Name) (x : Shape × List (SharedEntry Op)) (k 
   one_committed new is set =
       set
       ∙ ap (λ (p : Shape × List (SharedEntry Op)). pair p.0 (slice_set p.1 k (as_committed e))) so
-      ∙ ap (λ (d : SharedEntry Op). pair x.0 (slice_set (committed_below t k x.1) k d)) (sym (is_committed t e (both e.committed (e.owner =ⁿ t) is)))
+      ∙ ap (λ (d : SharedEntry Op). pair x.0 (slice_set (committed_below t k x.1) k d)) (sym (is_committed t e (and_parts (not e.committed) (e.owner =ⁿ t) is).1))
       ∙ ap (pair x.0) (below_set t k x.1 e there)
       ∙ ap (λ (m : ℕ). pair x.0 (committed_below t m x.1)) (sym next)
 
   -- it stays as it is
   pub none_committed : (new : Shape × List (SharedEntry Op)) → (not e.committed && (e.owner =ⁿ t)) ≡ false → new ≡ log → new ≡ (x.0, committed_below t n x.1)
   none_committed new not_so same =
-      let stays : commit t e ≡ e = elim (not_both e.committed (e.owner =ⁿ t) not_so) [ inl c ↦ stays_committed t e c | inr o ↦ stays_other t e o ] in
+      let stays : commit t e ≡ e = elim (and_cases (not e.committed) (e.owner =ⁿ t) not_so) [ inl c ↦ stays_committed t e (not-false e.committed c) | inr o ↦ stays_other t e o ] in
       same
       ∙ so
       ∙ ap (pair x.0) (below_kept t k x.1 e there stays)
@@ -106,13 +95,9 @@ front_committed {Op} t (a ∷ x) k h zero e lt at =
 front_committed t (a ∷ x) zero h (suc j) e lt at = absurd (omega arith)
 front_committed t (a ∷ x) (suc k) h (suc j) e lt at = front_committed t x k (λ i d less is. h (suc i) d (omega arith) is) j e (omega arith) at
 
-length_committed : {Op : Type 0} (t : Name) (x : List (SharedEntry Op)) → length (commit_all t x) ≡ length x
-length_committed t [] = refl
-length_committed t (e ∷ x) = ap suc (length_committed t x)
-
 pub settled_committed : {Op : Type 0} (t : Name) (x y : List (SharedEntry Op)) (k : ℕ) → y ≡ commit_all t x → IsSettled x k → IsSettled y k
 settled_committed {Op} t x y k is h =
-    let size = length_committed t x in
+    let size = length-map x (commit t) in
     let within = h.within in
     let there : IsSettled (commit_all t x) k = record { within = omega arith; committed = front_committed t x k h.committed } in
     subst (λ (z : List (SharedEntry Op)). IsSettled z k) (sym is) there

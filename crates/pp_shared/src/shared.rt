@@ -158,6 +158,7 @@ impl<S: Placed> Shared<S> {
         ensures ok { OnOk result (self.new ≡ (self.old.0, self.old.1 ++ entry ∷ [])) }
         ensures err { OnErr result (self.new ≡ self.old) }
         ensures cost { OnOk result (ticks.new ≡ ticks.old + 1) }
+        ensures rises { ticks.old ≤ ticks.new }
         ensures bound { ticks.new ≤ ticks.old + 1 }
     {
         self.log.append(entry, ticks)
@@ -186,7 +187,7 @@ impl<S: Placed> Shared<S> {
         self.settled = settle(self.log.entries(), self.settled);
     }
 
-    /// Takes out the i-th entry, unless the list without it is not allowed. The steps are those of
+    /// Takes out the i-th entry, unless the list without it is not allowed. The ticks are those of
     /// its place alone: with k operations there from the entry on, itself counted, it takes them
     /// back, and applies the k - 1 others again; where one of these differs, it also takes back
     /// what it applied, and applies all k as they were. The only error is that memory was refused,

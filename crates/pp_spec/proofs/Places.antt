@@ -112,7 +112,9 @@ module _ {Shape State Op Undo : Type 0} (o : Object Shape State Op Undo) (place_
       (allowed-first o (o.start sh) (x ++ y) (a ∷ []) last) in
       let legal = last_is_legal o sh s (x ++ y) a refl last in
       record {
+        allowed = last;
         left = left_last sh x y a e h;
+        kept = kept_behind sh x y a e;
         undone = ap (o.upkeep.back t a) (kept_behind sh x y a e)
             ∙ ap (λ (r : State). o.upkeep.back r a (o.upkeep.kept s a)) (left_last sh x y a e h)
             ∙ laws.taken_back s a is_state legal;

@@ -130,6 +130,18 @@ module _ {Shape State Op Undo : Type 0} (o : Object Shape State Op Undo) where
   abbrev pub AllowsAllOf : State → State → Type 0
   AllowsAllOf s t = (k : List Op) → AllowedFrom s k → AllowedFrom t k
 
+  -- Where a stands before the operations y, its effect may be seen as the last one, and what was
+  -- kept when it was applied, which is what would be kept behind y, takes it back, as if it had
+  -- not been.
+  pub record IsUndoneBehind (shape : Shape) (x y : List Op) (a : Op) : Type 0 where
+    pub allowed : IsAllowed shape ((x ++ y) ++ a ∷ [])
+    pub left : state_after shape (x ++ a ∷ y) ≡ o.next (state_after shape (x ++ y)) a
+    pub kept :
+        o.upkeep.kept (state_after shape x) a ≡ o.upkeep.kept (state_after shape (x ++ y)) a
+    pub undone :
+        o.upkeep.back (state_after shape (x ++ a ∷ y)) a (o.upkeep.kept (state_after shape x) a)
+        ≡ state_after shape (x ++ y)
+
   -- What each kind of object promises.
   pub record IsLawful : Type 0 where
     -- the start has its shape, and is a state
@@ -161,19 +173,11 @@ AllElsewhere place_of p [] = Unit {0}
 AllElsewhere place_of p (b ∷ y) = (p ≡ place_of b → ⊥) × AllElsewhere place_of p y
 
 module _ {Shape State Op Undo : Type 0} (o : Object Shape State Op Undo) (place_of : Op → ℕ) where
-  -- Where a stands before operations y of other places, its effect may be seen as the last one,
-  -- and what was kept when it was applied takes it back, as if it had not been.
-  pub record IsUndoneBehind (shape : Shape) (x y : List Op) (a : Op) : Type 0 where
-    pub left : state_after o shape (x ++ a ∷ y) ≡ o.next (state_after o shape (x ++ y)) a
-    pub undone :
-        o.upkeep.back (state_after o shape (x ++ a ∷ y)) a (o.upkeep.kept (state_after o shape x) a)
-        ≡ state_after o shape (x ++ y)
-
   -- An operation is taken back behind those of other places.
   abbrev pub UndoneBehindOthers : Type 0
   UndoneBehindOthers =
       (shape : Shape) (x y : List Op) (a : Op) → AllElsewhere place_of (place_of a) y
-      → IsAllowed o shape (x ++ a ∷ y) → IsUndoneBehind shape x y a
+      → IsAllowed o shape (x ++ a ∷ y) → IsUndoneBehind o shape x y a
 
   -- What a kind of several objects promises: SameAt p s t says that the object at the place p is
   -- in t as it is in s.

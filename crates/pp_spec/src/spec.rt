@@ -155,8 +155,8 @@ pub fn other_places_swap<S: Placed>()
     ensures { (a b : S.Op) → S.place_of a ≢ S.place_of b → Swaps S.object a b }
 {}
 
-/// An operation is taken back behind those of other places, with the undo value that was kept when
-/// it was applied.
+/// An operation may be seen as the last one behind those of other places, and is taken back there
+/// with the undo value that was kept when it was applied, which is what would be kept there.
 pub fn undone_behind_others<S: Placed>()
     ensures { UndoneBehindOthers S.object S.place_of }
 {}

@@ -43,5 +43,6 @@ loop-undos-preserved g c = record {
       let last = run_last g.S.Spec.object g.met.S.Spec.lawful b c.loop-undos.state c.args.items.now c.loop-undos.undos.items c.pop.new.self.items c.in-Some.undo (get_or c.args.items.now c.len-in-loop-undos.result c.index-items-len.result) c.in-Some.ensures.items found run in
       subst (λ t. IsRun g.S.Spec.object b c.args.items.now c.pop.new.self.items t) (sym (c.in_ok-undo.ensures.ok ∙ last.back)) last.shorter;
   enough = let len = c.in-Some.ensures.len in omega arith;
+  rises = let rises = c.loop-undos.invariant.rises in let cost = c.undo.ensures.cost in omega arith;
   cost = let len = c.in-Some.ensures.len in let cost = c.undo.ensures.cost in omega arith;
 }

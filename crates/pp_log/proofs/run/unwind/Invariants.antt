@@ -6,6 +6,7 @@ abbrev pub invariant-loop-undos : goal.invariant-loop-undos
 invariant-loop-undos g l = record {
   run : (b : _) → IsRun g.S.Spec.object b l.initial.items l.initial.undos.items l.initial.state → IsRun g.S.Spec.object b l.initial.items l.undos.items l.state;
   enough : l.to ≤ length l.undos.items;
+  rises : l.initial.ticks ≤ l.ticks;
   cost : l.ticks + length l.undos.items ≡ l.initial.ticks + length l.initial.undos.items;
 }
 

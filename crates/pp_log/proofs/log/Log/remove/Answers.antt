@@ -5,12 +5,12 @@ use Rattle.pp_model.specs.Lists.{In}
 use Rattle.pp_model.specs.Object.{ops}
 use Rattle.pp_spec.specs.Object.{state_after}
 use Rattle.pp_log.specs.Keeps.{KeepsAll}
-use Rattle.pp_log.specs.Logs.{RemovesEntry, from_place, removal_steps}
+use Rattle.pp_log.specs.Logs.{RemovesEntry, from_place, removal_ticks}
 use Rattle.pp_log.specs.Parts.{elsewhere}
 use Rattle.pp_log.specs.Room.{ids_of}
 use Rattle.pp_log.proofs.Grown.{ids-remove}
 use Rattle.pp_log.proofs.Whole.{whole_of}
-use Rattle.pp_log.proofs.Sites.{place_there, place_at, id_there, found_in, steps_of, left, left_else, left_over}
+use Rattle.pp_log.proofs.Sites.{place_there, place_at, id_there, found_in, ticks_of, left, left_else, left_over}
 use Rattle.pp_log.proofs.Maps.{count_seen, entry_removed, inside, left_mapped, site_seen}
 use Rattle.pp_log.proofs.log.Log.remove.Goals as goal
 use Rattle.pp_log.proofs.log.Log.remove.Goals.{in-Done, in_default-removed}
@@ -93,7 +93,7 @@ returns-in_err-removed-clause-bound g c =
     let count = found.count in
     let size = count_seen place f (o.shape s) x c.args.self c.args.i c.self.view_is in
     let bound = c.take_out.ensures.bound in
-    omega arith
+    (c.take_out.ensures.rises, omega arith)
 
 pub invariant_of-log : goal.invariant_of-log
 invariant_of-log g c =
@@ -177,8 +177,8 @@ returns-clause-cost g c =
     let found = found_in o place s log ps c.args.i e stands.0 p c.in-Some.from q past within site value (ap (λ z. slice_get z c.in-Some.from) (sym c.deref.ensures.value) ∙ stands.1) stands.2 in
     let count = found.count in
     let size = count_seen place f (o.shape s) x c.args.self c.args.i c.self.view_is in
-    subst (λ k. removal_steps c.in_ok-removed.removed k c.args.ticks.now c.take_out.new.ticks) size
-    (steps_of c.in_ok-removed.removed (length q.items.items) c.in-Some.from (from_place place (ops log) c.args.i) c.args.ticks.now c.take_out.new.ticks count c.in_ok-removed.ensures.cost)
+    subst (λ k. removal_ticks c.in_ok-removed.removed k c.args.ticks.now c.take_out.new.ticks) size
+    (ticks_of c.in_ok-removed.removed (length q.items.items) c.in-Some.from (from_place place (ops log) c.args.i) c.args.ticks.now c.take_out.new.ticks count c.in_ok-removed.ensures.cost)
 
 pub returns-clause-bound : goal.returns-clause-bound
 returns-clause-bound g c =
@@ -201,4 +201,4 @@ returns-clause-bound g c =
     let count = found.count in
     let size = count_seen place f (o.shape s) x c.args.self c.args.i c.self.view_is in
     let bound = c.take_out.ensures.bound in
-    omega arith
+    (c.take_out.ensures.rises, omega arith)
