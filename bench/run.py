@@ -4,8 +4,9 @@
     python3 bench/run.py crates/pp_cli/out/pp_cli
 
 Each of N transactions begins, calls an object three times, publishes its calls and commits, one after another: eight lines each. The
-object is a counter, to which numbers are added, or a map, in which each call puts a value at a key of its own. A run is only read where a
-step that fails is put before its other steps. The bench ends with a failure where a run is not answered as it should be.
+object is of each kind in turn: a counter, to which numbers are added; a memory, a set or a map, in which each call is at an address or a key of
+its own; a queue, a stack or a priority queue, into which values are put. The ratio to a counter is that of the whole times. A run is only read
+where a step that fails is put before its other steps. The bench ends with a failure where a run is not answered as it should be.
 """
 import json
 import os
@@ -29,12 +30,20 @@ def addition(place):
     return "add", [place % 3 + 1], None
 
 
-def put(place):
-    """A call of a map. The keys come in an order that is not theirs."""
-    return "put", [place * 7_919 % KEYS, place], None
+def key(place):
+    """The keys come in an order that is not theirs."""
+    return place * 7_919 % KEYS
 
 
-CALLS = {"counter": addition, "map": put}
+CALLS = {
+    "counter": addition,
+    "mem": lambda place: ("cas", [key(place), 0, place + 1], True),
+    "set": lambda place: ("add", [key(place)], True),
+    "map": lambda place: ("put", [key(place), place], None),
+    "queue": lambda place: ("enq", [place], None),
+    "stack": lambda place: ("push", [place], None),
+    "prio": lambda place: ("insert", [key(place)], None),
+}
 
 
 def lines(kind, count, first=()):
@@ -77,11 +86,16 @@ def main():
     program = os.path.abspath(sys.argv[1])
     with tempfile.TemporaryDirectory() as folder:
         path = os.path.join(folder, "run.jsonl")
-        for kind, count in [("counter", 19_999), ("counter", 9_999), ("map", 19_999)]:
+        of_counter = None
+        for kind, count in [("counter", 9_999), *((kind, 19_999) for kind in CALLS)]:
             accepted = f"accepted steps {8 * count} committed {count}"
             read = timed(program, path, lines(kind, count, [FAILING]), "rejected step 1 line 2 CMT 1")
             whole = timed(program, path, lines(kind, count), accepted)
             line = f"{kind}, {8 * count} steps: {whole:.2f} s, only read {read:.2f} s, ratio {whole / read:.2f}"
+            if kind == "counter":
+                of_counter = whole
+            else:
+                line += f", to a counter {whole / of_counter:.2f}"
             if shutil.which("jq"):
                 line += f"; jq {seconds(['jq', '-c', '.'], path)[0]:.2f} s"
             print(line)
