@@ -7,7 +7,7 @@ use Rattle.pp_model.specs.Object.{Object}
 use Rattle.pp_model.specs.Config.{Config, Start, Step, after_from, first}
 use Rattle.pp_model.specs.Rules.{Accepted, Breaks, IsVerdict, IsVerdictFrom, Rejected, RunsFrom}
 use Rattle.pp_model.proofs.Verdict.{accepted_iff}
-use Rattle.pp_front.specs.Runs.{EndsAtFailure, HasOneMore, HasTooManySteps, IsRun, Lined, Standing, Translation, bare, joined_steps, led, on_line, outset, past, steps_at}
+use Rattle.pp_front.specs.Runs.{EndsAtFailure, HasOneMore, HasTooManySteps, IsRun, Lined, Standing, Translation, bare, joined_steps, after_records, on_line, outset, after_record, steps_at}
 use Rattle.pp_front.specs.Laws.{IsRejectedAt, ReadingLaw, StandsAt}
 use Rattle.pp_front.proofs.Ends.{after_append, bare_append, bare_on_line, ends_here, ends_whole, failing_first, few_steps, length_bare, length_on_line, rejected_here, runs_append}
 use Rattle.pp_front.proofs.Whole.{joined_more, led_config, led_more, unbegun}
@@ -17,11 +17,11 @@ on_line_append {A} line xs ys = map-append (λ (s : A). let z : Lined A = record
 
 module _ {F R Op State : Type 0} (O : Object Op State) (T : Translation F R Op) where
   -- the records, one of which stands behind the first ones
-  joined_at : (h : Option (Start Op)) (rs more : List (Lined R)) (p : Standing F Op) (r : Lined R) → p ≡ led T (outset T h) rs →
-      joined_steps T (outset T h) (rs ++ r ∷ more) ≡ joined_steps T (outset T h) rs ++ (on_line r.line (steps_at T p r.what) ++ joined_steps T (past T p r.what) more)
+  joined_at : (h : Option (Start Op)) (rs more : List (Lined R)) (p : Standing F Op) (r : Lined R) → p ≡ after_records T (outset T h) rs →
+      joined_steps T (outset T h) (rs ++ r ∷ more) ≡ joined_steps T (outset T h) rs ++ (on_line r.line (steps_at T p r.what) ++ joined_steps T (after_record T p r.what) more)
   joined_at h rs more p r e =
       joined_more O T (outset T h) rs (r ∷ more)
-      ∙ ap (λ (w : Standing F Op). joined_steps T (outset T h) rs ++ (on_line r.line (steps_at T w r.what) ++ joined_steps T (past T w r.what) more)) (sym e)
+      ∙ ap (λ (w : Standing F Op). joined_steps T (outset T h) rs ++ (on_line r.line (steps_at T w r.what) ++ joined_steps T (after_record T w r.what) more)) (sym e)
 
   -- where the run stands after some steps of a record
   record Within (h : Option (Start Op)) (p : Standing F Op) (count : ℕ) (before : List (Step Op)) (xs : List (Lined (Step Op))) : Type 0 where
@@ -44,7 +44,7 @@ module _ {F R Op State : Type 0} (O : Object Op State) (T : Translation F R Op) 
 
   one_more_record : (h : Option (Start Op)) (rs : List (Lined R)) (p : Standing F Op) (count : ℕ) (r : Lined R) → StandsAt O T h rs p count →
       RunsFrom O p.config (steps_at T p r.what) → count + length (steps_at T p r.what) ≤ 200_000 →
-      StandsAt O T h (rs ++ r ∷ []) (past T p r.what) (count + length (steps_at T p r.what))
+      StandsAt O T h (rs ++ r ∷ []) (after_record T p r.what) (count + length (steps_at T p r.what))
   one_more_record h rs p count r s holds few =
       let ss : List (Step Op) = steps_at T p r.what in
       let w = within h rs p count r.line ss s holds in
@@ -53,19 +53,19 @@ module _ {F R Op State : Type 0} (O : Object Op State) (T : Translation F R Op) 
       record {
         begun = s.begun;
         hold = subst (λ (w : List (Lined (Step Op))). RunsFrom O (first h) (bare w)) (sym whole) w.hold;
-        place = ap (λ (w : Standing F Op). past T w r.what) s.place ∙ sym (led_more O T (outset T h) rs (r ∷ []));
+        place = ap (λ (w : Standing F Op). after_record T w r.what) s.place ∙ sym (led_more O T (outset T h) rs (r ∷ []));
         number = sym (ap (λ (w : List (Lined (Step Op))). length w) whole ∙ w.number);
         few = few;
       }
 
   -- the steps of all records, of which one more stands behind those within
   parted_at : (h : Option (Start Op)) (rs more : List (Lined R)) (p : Standing F Op) (r : Lined R) (before behind : List (Step Op)) (step : Step Op) →
-      p ≡ led T (outset T h) rs → steps_at T p r.what ≡ before ++ step ∷ behind →
+      p ≡ after_records T (outset T h) rs → steps_at T p r.what ≡ before ++ step ∷ behind →
       joined_steps T (outset T h) (rs ++ r ∷ more)
-      ≡ (joined_steps T (outset T h) rs ++ on_line r.line before) ++ record { line = r.line; what = step } ∷ (on_line r.line behind ++ joined_steps T (past T p r.what) more)
+      ≡ (joined_steps T (outset T h) rs ++ on_line r.line before) ++ record { line = r.line; what = step } ∷ (on_line r.line behind ++ joined_steps T (after_record T p r.what) more)
   parted_at h rs more p r before behind step e parts =
       let ss : List (Lined (Step Op)) = joined_steps T (outset T h) rs in
-      let rest : List (Lined (Step Op)) = joined_steps T (past T p r.what) more in
+      let rest : List (Lined (Step Op)) = joined_steps T (after_record T p r.what) more in
       joined_at h rs more p r e
       ∙ ap (λ (w : List (Step Op)). ss ++ (on_line r.line w ++ rest)) parts
       ∙ ap (λ (w : List (Lined (Step Op))). ss ++ (w ++ rest)) (on_line_append r.line before (step ∷ behind))
@@ -79,7 +79,7 @@ module _ {F R Op State : Type 0} (O : Object Op State) (T : Translation F R Op) 
   failing_record h rs more p count r before behind step n s parts holds few fails =
       let xs : List (Lined (Step Op)) = joined_steps T (outset T h) rs ++ on_line r.line before in
       let one : Lined (Step Op) = record { line = r.line; what = step } in
-      let ys : List (Lined (Step Op)) = on_line r.line behind ++ joined_steps T (past T p r.what) more in
+      let ys : List (Lined (Step Op)) = on_line r.line behind ++ joined_steps T (after_record T p r.what) more in
       let w = within h rs p count r.line before s holds in
       let whole : joined_steps T (outset T h) (rs ++ r ∷ more) ≡ xs ++ one ∷ ys = parted_at h rs more p r before behind step s.place parts in
       let here : Breaks O (after_from (first h) (bare xs)) step (suc n) = subst (λ (w : Config Op). Breaks O w step (suc n)) (sym w.config) fails in
@@ -116,7 +116,7 @@ module _ {F R Op State : Type 0} (O : Object Op State) (T : Translation F R Op) 
         record {
           before = joined_steps T (outset T h) rs ++ on_line r.line before;
           next = record { line = r.line; what = step };
-          behind = on_line r.line behind ++ joined_steps T (past T p r.what) more;
+          behind = on_line r.line behind ++ joined_steps T (after_record T p r.what) more;
           parts = parted_at h rs more p r before behind step s.place parts;
           count = w.number ∙ full;
           hold = w.hold;

@@ -3,7 +3,6 @@ use Rattle.std.specs.Prelude.{◌≡◌, ◌≤◌, ◌↔◌, ℕ, zero, suc, L
 use Rattle.std.proofs.Common.{refl, sym, ap, subst, ◌∙◌}
 use Rattle.std.proofs.lemmas.Option.{same_Some}
 use mathlib.Core.Logic.{inl, inr}
-use Rattle.pp_core.specs.declared.call.Style.TheVariants.{Rules}
 use Rattle.pp_model.specs.Config.{Step, after}
 use Rattle.pp_model.specs.Rules.{Accepted, IsVerdict, Rejected, Verdict}
 use Rattle.pp_model.proofs.Verdict.{one_verdict}

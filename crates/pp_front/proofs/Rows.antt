@@ -1,4 +1,5 @@
--- Runs of each style by hand, as the definitions compute them. Operations are numbers, all on the object 0.
+-- Runs of each style by hand, as the definitions compute them. Operations are numbers, all on the
+-- object 0.
 use Rattle.std.specs.Prelude.{◌≡◌, ℕ, List, [], ◌∷◌, None}
 use Rattle.std.proofs.Common.{refl}
 use Rattle.pp_core.specs.declared.call.Kind.{Kind}

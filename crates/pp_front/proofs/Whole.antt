@@ -6,7 +6,7 @@ use Rattle.pp_model.specs.Object.{Object}
 use Rattle.pp_model.specs.Config.{Config, Start, Step, after_from, first}
 use Rattle.pp_model.specs.Rules.{Accepted, IsVerdict, Rejected, RunsFrom, StartBreaks, StartMeets, Verdict}
 use Rattle.pp_model.proofs.Parted.{one_number}
-use Rattle.pp_front.specs.Runs.{EndsAtFailure, HasOneMore, HasTooManySteps, IsRun, IsRunFrom, Lined, Standing, Translation, bare, joined_steps, led, on_line, outset, past, steps_at}
+use Rattle.pp_front.specs.Runs.{EndsAtFailure, HasOneMore, HasTooManySteps, IsRun, IsRunFrom, Lined, Standing, Translation, bare, joined_steps, after_records, on_line, outset, after_record, steps_at}
 use Rattle.pp_front.specs.Laws.{ExtendsLaw, OneRunLaw, up_to}
 use Rattle.pp_front.proofs.Ends.{accepted_ends, after_append, bare_append, bare_on_line, ends_behind, ends_once, ends_split, failed_stays, less_before, more_before, more_behind, one_line, rejected_from, verdict_off, verdict_on}
 
@@ -55,55 +55,55 @@ module _ {F R Op State : Type 0} (O : Object Op State) (T : Translation F R Op) 
       }
 
   -- records behind others
-  pub joined_more : (p : Standing F Op) (rs more : List (Lined R)) → joined_steps T p (rs ++ more) ≡ joined_steps T p rs ++ joined_steps T (led T p rs) more
+  pub joined_more : (p : Standing F Op) (rs more : List (Lined R)) → joined_steps T p (rs ++ more) ≡ joined_steps T p rs ++ joined_steps T (after_records T p rs) more
   joined_more p [] more = refl
   joined_more p (r ∷ rs) more =
-      ap (λ (w : List (Lined (Step Op))). on_line r.line (steps_at T p r.what) ++ w) (joined_more (past T p r.what) rs more)
-      ∙ sym (append_assoc (on_line r.line (steps_at T p r.what)) (joined_steps T (past T p r.what) rs) (joined_steps T (led T (past T p r.what) rs) more))
+      ap (λ (w : List (Lined (Step Op))). on_line r.line (steps_at T p r.what) ++ w) (joined_more (after_record T p r.what) rs more)
+      ∙ sym (append_assoc (on_line r.line (steps_at T p r.what)) (joined_steps T (after_record T p r.what) rs) (joined_steps T (after_records T (after_record T p r.what) rs) more))
 
-  pub led_more : (p : Standing F Op) (rs more : List (Lined R)) → led T p (rs ++ more) ≡ led T (led T p rs) more
+  pub led_more : (p : Standing F Op) (rs more : List (Lined R)) → after_records T p (rs ++ more) ≡ after_records T (after_records T p rs) more
   led_more p [] more = refl
-  led_more p (r ∷ rs) more = led_more (past T p r.what) rs more
+  led_more p (r ∷ rs) more = led_more (after_record T p r.what) rs more
 
-  pub led_config : (p : Standing F Op) (rs : List (Lined R)) → (led T p rs).config ≡ after_from p.config (bare (joined_steps T p rs))
+  pub led_config : (p : Standing F Op) (rs : List (Lined R)) → (after_records T p rs).config ≡ after_from p.config (bare (joined_steps T p rs))
   led_config p [] = refl
   led_config p (r ∷ rs) =
       let ss : List (Step Op) = steps_at T p r.what in
-      let rest : List (Lined (Step Op)) = joined_steps T (past T p r.what) rs in
-      led_config (past T p r.what) rs
+      let rest : List (Lined (Step Op)) = joined_steps T (after_record T p r.what) rs in
+      led_config (after_record T p r.what) rs
       ∙ sym (after_append p.config ss (bare rest))
       ∙ ap (λ (w : List (Step Op)). after_from p.config (w ++ bare rest)) (sym (bare_on_line r.line ss))
       ∙ ap (λ (w : List (Step Op)). after_from p.config w) (sym (bare_append (on_line r.line ss) rest))
 
   run_to : (p : Standing F Op) (rs more : List (Lined R)) (run : List (Lined (Step Op))) → RunsFrom O p.config (bare (joined_steps T p rs)) →
-      IsRunFrom O T p (rs ++ more) run → (rest : List (Lined (Step Op))) × IsRunFrom O T (led T p rs) more rest × (run ≡ joined_steps T p rs ++ rest)
+      IsRunFrom O T p (rs ++ more) run → (rest : List (Lined (Step Op))) × IsRunFrom O T (after_records T p rs) more rest × (run ≡ joined_steps T p rs ++ rest)
   run_to p rs more run r e =
-      let k = ends_split O p.config (joined_steps T p rs) (joined_steps T (led T p rs) more) run r
+      let k = ends_split O p.config (joined_steps T p rs) (joined_steps T (after_records T p rs) more) run r
       (subst (λ (w : List (Lined (Step Op))). EndsAtFailure O p.config w run) (joined_more p rs more) e) in
-      (k.0, subst (λ (w : Config Op). EndsAtFailure O w (joined_steps T (led T p rs) more) k.0) (sym (led_config p rs)) k.1, k.2)
+      (k.0, subst (λ (w : Config Op). EndsAtFailure O w (joined_steps T (after_records T p rs) more) k.0) (sym (led_config p rs)) k.1, k.2)
 
   run_of : (p : Standing F Op) (rs more : List (Lined R)) (run : List (Lined (Step Op))) → RunsFrom O p.config (bare (joined_steps T p rs)) →
-      (rest : List (Lined (Step Op))) × IsRunFrom O T (led T p rs) more rest × (run ≡ joined_steps T p rs ++ rest) → IsRunFrom O T p (rs ++ more) run
+      (rest : List (Lined (Step Op))) × IsRunFrom O T (after_records T p rs) more rest × (run ≡ joined_steps T p rs ++ rest) → IsRunFrom O T p (rs ++ more) run
   run_of p rs more run r k =
       let xs : List (Lined (Step Op)) = joined_steps T p rs in
-      let ys : List (Lined (Step Op)) = joined_steps T (led T p rs) more in
+      let ys : List (Lined (Step Op)) = joined_steps T (after_records T p rs) more in
       let behind : EndsAtFailure O (after_from p.config (bare xs)) ys k.0 = subst (λ (w : Config Op). EndsAtFailure O w ys k.0) (led_config p rs) k.1 in
       subst (λ (w : List (Lined (Step Op))). EndsAtFailure O p.config w run) (sym (joined_more p rs more))
       (subst (λ (w : List (Lined (Step Op))). EndsAtFailure O p.config (xs ++ ys) w) (sym k.2) (ends_behind O p.config xs ys k.0 r behind))
 
   more_to : (p : Standing F Op) (rs more : List (Lined R)) (most line : ℕ) →
-      HasOneMore O (length (joined_steps T p rs) + most) p.config (joined_steps T p (rs ++ more)) line → HasOneMore O most (led T p rs).config (joined_steps T (led T p rs) more) line
+      HasOneMore O (length (joined_steps T p rs) + most) p.config (joined_steps T p (rs ++ more)) line → HasOneMore O most (after_records T p rs).config (joined_steps T (after_records T p rs) more) line
   more_to p rs more most line m =
       let xs : List (Lined (Step Op)) = joined_steps T p rs in
-      let ys : List (Lined (Step Op)) = joined_steps T (led T p rs) more in
+      let ys : List (Lined (Step Op)) = joined_steps T (after_records T p rs) more in
       subst (λ (w : Config Op). HasOneMore O most w ys line) (sym (led_config p rs))
       (less_before O most p.config xs ys line (subst (λ (w : List (Lined (Step Op))). HasOneMore O (length xs + most) p.config w line) (joined_more p rs more) m))
 
   more_of : (p : Standing F Op) (rs more : List (Lined R)) (most line : ℕ) → RunsFrom O p.config (bare (joined_steps T p rs)) →
-      HasOneMore O most (led T p rs).config (joined_steps T (led T p rs) more) line → HasOneMore O (length (joined_steps T p rs) + most) p.config (joined_steps T p (rs ++ more)) line
+      HasOneMore O most (after_records T p rs).config (joined_steps T (after_records T p rs) more) line → HasOneMore O (length (joined_steps T p rs) + most) p.config (joined_steps T p (rs ++ more)) line
   more_of p rs more most line r m =
       let xs : List (Lined (Step Op)) = joined_steps T p rs in
-      let ys : List (Lined (Step Op)) = joined_steps T (led T p rs) more in
+      let ys : List (Lined (Step Op)) = joined_steps T (after_records T p rs) more in
       subst (λ (w : List (Lined (Step Op))). HasOneMore O (length xs + most) p.config w line) (sym (joined_more p rs more))
       (more_before O most p.config xs ys line r (subst (λ (w : Config Op). HasOneMore O most w ys line) (led_config p rs) m))
 
@@ -115,14 +115,14 @@ module _ {F R Op State : Type 0} (O : Object Op State) (T : Translation F R Op) 
       inr (
         r.0,
         subst (λ (w : List (Lined (Step Op))). EndsAtFailure O (first h) w run) (sym (joined_more (outset T h) rs more))
-            (failed_stays O 1 (first h) (joined_steps T (outset T h) rs) (joined_steps T (led T (outset T h) rs) more) run i n r.1 v.1),
+            (failed_stays O 1 (first h) (joined_steps T (outset T h) rs) (joined_steps T (after_records T (outset T h) rs) more) run i n r.1 v.1),
       )
 
   still_too_many : (h : Option (Start Op)) (rs more : List (Lined R)) (line : ℕ) → HasTooManySteps O T h rs line → HasTooManySteps O T h (rs ++ more) line
   still_too_many h rs more line m = (
     m.0,
     subst (λ (w : List (Lined (Step Op))). HasOneMore O 200_000 (first h) w line) (sym (joined_more (outset T h) rs more))
-        (more_behind O 200_000 (first h) (joined_steps T (outset T h) rs) (joined_steps T (led T (outset T h) rs) more) line m.1),
+        (more_behind O 200_000 (first h) (joined_steps T (outset T h) rs) (joined_steps T (after_records T (outset T h) rs) more) line m.1),
   )
 
   pub extends_law : ExtendsLaw O T

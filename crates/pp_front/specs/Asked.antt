@@ -1,7 +1,8 @@
 -- Meaning: where the operations and the bodies of an expansion come from.
 use Rattle.std.specs.Prelude.{◌≡◌, ◌⊎◌, ℕ}
 use Rattle.pp_core.specs.declared.call.Style.{Style}
-use Rattle.pp_model.specs.Config.{Config, Step, Begin, App, Unapp, Push, Unpush, Pull, Unpull, Cmt, Quit, Note}
+use Rattle.pp_model.specs.Config.{Config, Step, Begin, App, Unapp, Push, Unpush, Pull, Unpull, Cmt}
+use Rattle.pp_model.specs.Config.{Quit, Note}
 use Rattle.pp_model.specs.Lists.{In}
 use Rattle.pp_front.specs.Records.{RunRecord}
 use Rattle.pp_front.specs.Records as records

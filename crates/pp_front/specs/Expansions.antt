@@ -1,14 +1,19 @@
 -- Meaning: the steps that a record stands for, and the front's state behind it.
-use Rattle.std.specs.Prelude.{ℕ, ◌==◌, Bool, true, false, not, ◌&&◌, ◌||◌, List, [], ◌∷◌, ◌++◌, length, map, filter, reverse, drop, if◌then◌else◌, Option, None, Some}
+use Rattle.std.specs.Prelude.{ℕ, ◌==◌, Bool, true, false, not, ◌&&◌, ◌||◌, List, [], ◌∷◌, ◌++◌}
+use Rattle.std.specs.Prelude.{length, map, filter, reverse, drop, if◌then◌else◌, Option, None, Some}
 use Rattle.std.specs.List.{list_any}
 use Rattle.pp_core.specs.declared.call.Style.{Style}
-use Rattle.pp_core.specs.declared.call.Style.TheVariants.{Rules, Boosted, Optimistic, Hardware, Dependent}
-use Rattle.pp_model.specs.Config.{Mark, Unpushed, Pushed, Pulled, LocalEntry, SharedEntry, Config, Tx, is_mark, tx, Step, Begin, App, Unapp, Push, Unpush, Pull, Unpull, Cmt, Quit, Note}
+use Rattle.pp_core.specs.declared.call.Style.TheVariants.{Rules, Boosted, Optimistic, Hardware}
+use Rattle.pp_core.specs.declared.call.Style.TheVariants.{Dependent}
+use Rattle.pp_model.specs.Config.{Mark, Unpushed, Pushed, Pulled, LocalEntry, SharedEntry, Config}
+use Rattle.pp_model.specs.Config.{Tx, is_mark, tx, Step, Begin, App, Unapp, Push, Unpush, Pull}
+use Rattle.pp_model.specs.Config.{Unpull, Cmt, Quit, Note}
 use Rattle.pp_model.specs.Names.{Name, ◌=ⁿ◌}
 use Rattle.pp_model.specs.Serial.{has_id}
 use Rattle.pp_front.specs.Records.{RunRecord}
 use Rattle.pp_front.specs.Records as records
-use Rattle.pp_front.specs.Fronts.{Front, has_name, is_mem, mark_of, opened_at, with_section, with_source, with_sources, without_source}
+use Rattle.pp_front.specs.Fronts.{Front, has_name, is_mem, mark_of, opened_at, with_section}
+use Rattle.pp_front.specs.Fronts.{with_source, with_sources, without_source}
 
 -- Below, G is the shared log, l is the local log L of the transaction t, o is an object, and place
 -- tells the object of an operation.

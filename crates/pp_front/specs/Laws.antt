@@ -1,9 +1,13 @@
 -- Meaning: the laws of runs, for each way in which records become steps.
-use Rattle.std.specs.Prelude.{◌≡◌, ◌≤◌, ◌<◌, ◌+◌, ◌↔◌, ℕ, suc, List, [], ◌∷◌, ◌++◌, length, take, Option}
+use Rattle.std.specs.Prelude.{◌≡◌, ◌≤◌, ◌<◌, ◌+◌, ◌↔◌, ℕ, suc, List, [], ◌∷◌, ◌++◌, length, take}
+use Rattle.std.specs.Prelude.{Option}
 use Rattle.pp_model.specs.Object.{Object}
 use Rattle.pp_model.specs.Config.{Start, Step, after_from, first}
-use Rattle.pp_model.specs.Rules.{Accepted, Breaks, IsVerdict, Rejected, RunsFrom, StartBreaks, StartMeets, Verdict}
-use Rattle.pp_front.specs.Runs.{HasOneMore, HasTooManySteps, IsRun, IsRunFrom, Lined, LinedSteps, Records, Standing, Translation, bare, joined_steps, led, on_line, outset, past, steps_at}
+use Rattle.pp_model.specs.Rules.{Accepted, Breaks, IsVerdict, Rejected, RunsFrom, StartBreaks}
+use Rattle.pp_model.specs.Rules.{StartMeets, Verdict}
+use Rattle.pp_front.specs.Runs.{HasOneMore, HasTooManySteps, IsRun, IsRunFrom, Lined, LinedSteps}
+use Rattle.pp_front.specs.Runs.{Records, Standing, Translation, after_record, after_records, bare}
+use Rattle.pp_front.specs.Runs.{joined_steps, on_line, outset, steps_at}
 
 -- the steps up to and with the one that a verdict names
 abbrev pub up_to : {A : Type 0} → Verdict → List A → List A
@@ -30,21 +34,23 @@ pub record OneRunLaw {F R Op State : Type 0} (O : Object Op State) (T : Translat
 pub record ExtendsLaw {F R Op State : Type 0} (O : Object Op State) (T : Translation F R Op) :
     Type 0 where
   pub steps : (p : Standing F Op) (rs more : Records R) →
-      joined_steps T p (rs ++ more) ≡ joined_steps T p rs ++ joined_steps T (led T p rs) more
+      joined_steps T p (rs ++ more)
+      ≡ joined_steps T p rs ++ joined_steps T (after_records T p rs) more
   pub leads : (p : Standing F Op) (rs more : Records R) →
-      led T p (rs ++ more) ≡ led T (led T p rs) more
+      after_records T p (rs ++ more) ≡ after_records T (after_records T p rs) more
   pub config : (p : Standing F Op) (rs : Records R) →
-      (led T p rs).config ≡ after_from p.config (bare (joined_steps T p rs))
+      (after_records T p rs).config ≡ after_from p.config (bare (joined_steps T p rs))
   pub run : (p : Standing F Op) (rs more : Records R) (run : LinedSteps Op) →
       RunsFrom O p.config (bare (joined_steps T p rs)) →
       IsRunFrom O T p (rs ++ more) run
-      ↔ ((rest : LinedSteps Op) × IsRunFrom O T (led T p rs) more rest
+      ↔ ((rest : LinedSteps Op) × IsRunFrom O T (after_records T p rs) more rest
       × (run ≡ joined_steps T p rs ++ rest))
   pub one_more : (p : Standing F Op) (rs more : Records R) (most line : ℕ) →
       RunsFrom O p.config (bare (joined_steps T p rs)) →
       HasOneMore O (length (joined_steps T p rs) + most) p.config (joined_steps T p (rs ++ more))
       line
-      ↔ HasOneMore O most (led T p rs).config (joined_steps T (led T p rs) more) line
+      ↔ HasOneMore O most (after_records T p rs).config
+      (joined_steps T (after_records T p rs) more) line
   -- what is decided stays
   pub rejected : (h : Option (Start Op)) (rs more : Records R) (run : LinedSteps Op) (i n : ℕ) →
       IsRun O T h rs run → IsVerdict O h (bare run) (Rejected i n) → IsRun O T h (rs ++ more) run
@@ -56,7 +62,7 @@ pub record StandsAt {F R Op State : Type 0} (O : Object Op State) (T : Translati
     (h : Option (Start Op)) (rs : Records R) (p : Standing F Op) (count : ℕ) : Type 0 where
   pub begun : StartMeets O h
   pub hold : RunsFrom O (first h) (bare (joined_steps T (outset T h) rs))
-  pub place : p ≡ led T (outset T h) rs
+  pub place : p ≡ after_records T (outset T h) rs
   pub number : count ≡ length (joined_steps T (outset T h) rs)
   pub few : count ≤ 200_000
 
@@ -76,7 +82,7 @@ pub record ReadingLaw {F R Op State : Type 0} (O : Object Op State) (T : Transla
       (h : Option (Start Op)) (rs : Records R) (p : Standing F Op) (count : ℕ) (r : Lined R) →
       StandsAt O T h rs p count →
       RunsFrom O p.config (steps_at T p r.what) → count + length (steps_at T p r.what) ≤ 200_000 →
-      StandsAt O T h (rs ++ r ∷ []) (past T p r.what) (count + length (steps_at T p r.what))
+      StandsAt O T h (rs ++ r ∷ []) (after_record T p r.what) (count + length (steps_at T p r.what))
   -- a record of which a step fails
   pub fails :
       (h : Option (Start Op)) (rs more : Records R) (p : Standing F Op) (count : ℕ) (r : Lined R)

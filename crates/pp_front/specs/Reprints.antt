@@ -5,7 +5,8 @@ use Rattle.pp_core.specs.declared.call.Style.TheVariants.{Rules}
 use Rattle.pp_model.specs.Rules.{IsVerdict, Verdict}
 use Rattle.pp_front.specs.Records.{RunRecord}
 use Rattle.pp_front.specs.Fronts.{Front}
-use Rattle.pp_front.specs.Inputs.{Accepts, Faulty, IsReportOf, Report, Setting, StartRejected, StepRejected}
+use Rattle.pp_front.specs.Inputs.{Accepts, Faulty, IsReportOf, Report, Setting, StartRejected}
+use Rattle.pp_front.specs.Inputs.{StepRejected}
 use Rattle.pp_front.specs.Runs.{IsRun, LinedSteps, Records, bare}
 use Rattle.pp_front.specs.Styles.{plain, restated, translation}
 

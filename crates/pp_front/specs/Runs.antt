@@ -37,8 +37,8 @@ abbrev pub steps_at : {F R Op : Type 0} → Translation F R Op → Standing F Op
 steps_at T p r = T.expand p.front p.config r
 
 -- where they lead
-abbrev pub past : {F R Op : Type 0} → Translation F R Op → Standing F Op → R → Standing F Op
-past T p r =
+abbrev pub after_record : {F R Op : Type 0} → Translation F R Op → Standing F Op → R → Standing F Op
+after_record T p r =
     record { front = T.kept p.front p.config r; config = after_from p.config (steps_at T p r) }
 
 abbrev pub on_line : {A : Type 0} → ℕ → List A → List (Lined A)
@@ -53,12 +53,13 @@ abbrev pub joined_steps : {F R Op : Type 0} → Translation F R Op → Standing 
     LinedSteps Op
 joined_steps T p [] = []
 joined_steps T p (r ∷ rs) =
-    on_line r.line (steps_at T p r.what) ++ joined_steps T (past T p r.what) rs
+    on_line r.line (steps_at T p r.what) ++ joined_steps T (after_record T p r.what) rs
 
 -- where the records lead
-abbrev pub led : {F R Op : Type 0} → Translation F R Op → Standing F Op → Records R → Standing F Op
-led T p [] = p
-led T p (r ∷ rs) = led T (past T p r.what) rs
+abbrev pub after_records : {F R Op : Type 0} → Translation F R Op → Standing F Op → Records R →
+    Standing F Op
+after_records T p [] = p
+after_records T p (r ∷ rs) = after_records T (after_record T p r.what) rs
 
 -- run is the front of the steps that ends with the first that fails, and all of them where none
 -- fails

@@ -10,7 +10,8 @@ use Rattle.pp_front.specs.Records.{RunRecord}
 use Rattle.pp_front.specs.Records.{Plain}
 use Rattle.pp_front.specs.Expansions.{expand, kept}
 use Rattle.pp_front.specs.Fronts.{Front, new_front}
-use Rattle.pp_front.specs.Runs.{EndsAtFailure, HasTooManySteps, IsRun, Lined, LinedSteps, Records, Standing, Translation, bare, joined_steps}
+use Rattle.pp_front.specs.Runs.{EndsAtFailure, HasTooManySteps, IsRun, Lined, LinedSteps, Records}
+use Rattle.pp_front.specs.Runs.{Standing, Translation, bare, joined_steps}
 
 -- The translation of a style, over objects of these kinds.
 abbrev pub translation : {Op : Type 0} → (Op → ℕ) → Style → List Kind →

@@ -1,2 +1,3 @@
-//! The records of a run, and the steps that they stand for: the definitions, and proofs of their laws.
+//! The records of a run, and the steps that they stand for: the definitions, and proofs of their
+//! laws.
 #![tactic(auto)]

@@ -1,9 +1,11 @@
 -- Proof machinery: what operations on keys do one after another.
-use Rattle.std.proofs.Common.{◌≡◌, ℤ, int_eq, Bool, true, false, cond, if◌then◌else◌, List, [], ◌∷◌, ◌++◌, Option, Some, None, refl, sym, ◌∙◌, ap, subst}
+use Rattle.std.proofs.Common.{◌≡◌, ℤ, int_eq, Bool, true, false, cond, if◌then◌else◌, List, [], ◌∷◌}
+use Rattle.std.proofs.Common.{◌++◌, Option, Some, None, refl, sym, ◌∙◌, ap, subst}
 use Rattle.pp_spec.specs.Object.{Object, IsLegal, IsAllowed, state_after, Commutes}
 use Rattle.pp_spec.proofs.Lists.{allowed_is_state, allowed-append, allowed-second}
 use Rattle.pp_keyed.specs.Keys.{Keys, IsKeyed, Finds, rule, rule_lets, may_swap, Shows}
-use Rattle.pp_keyed.proofs.Rule.{same_key, key_is, other_key, turned_cells, lets_turned, refused_follows, refused_where_told}
+use Rattle.pp_keyed.proofs.Rule.{same_key, key_is, other_key, turned_cells, lets_turned}
+use Rattle.pp_keyed.proofs.Rule.{refused_follows, refused_where_told}
 
 module _ {State Op Undo Cell : Type 0} (o : Object (Unit {0}) State Op Undo)
     (k : Keys State Op Cell) (acts : IsKeyed o k) where

@@ -1,10 +1,14 @@
 -- Proof machinery: the map that the entries of a tree make.
-use Rattle.std.proofs.Common.{◌≡◌, ℤ, Bool, true, false, T, ◌&&◌, subst, cond, List, [], ◌∷◌, Option, Some, None, refl, sym, ◌∙◌, ap}
+use Rattle.std.proofs.Common.{◌≡◌, ℤ, Bool, true, false, T, ◌&&◌, subst, cond, List, [], ◌∷◌}
+use Rattle.std.proofs.Common.{Option, Some, None, refl, sym, ◌∙◌, ap}
 use Rattle.std.specs.declared.cmp.Ordering.{Ordering}
 use Rattle.std.specs.declared.cmp.Ordering.TheVariants.{Less}
 use Rattle.std.specs.Ordering.{is_lt, int_cmp}
 use Rattle.std.specs.Cmp.{int_cmp_total, eq_by_cmp_equiv}
-use Rattle.std.specs.FinMap.{FinMap, find, is_sorted, entries, from_entries, from_sorted, entries-from_sorted, get-from_sorted, insert, remove, get, get-from_entries, get-insert, get-remove, same_map, int_cmp-IsAntisymmetric}
+use Rattle.std.specs.FinMap.{FinMap, find, is_sorted, entries, from_entries, from_sorted}
+use Rattle.std.specs.FinMap.{entries-from_sorted, get-from_sorted, insert, remove, get}
+use Rattle.std.specs.FinMap.{get-from_entries, get-insert, get-remove, same_map}
+use Rattle.std.specs.FinMap.{int_cmp-IsAntisymmetric}
 use Rattle.std.specs.FinMap.Entries.{below_all}
 use Rattle.std.specs.List.{AllByRecursion}
 use Rattle.std.specs.List.Sorted.{IsStrictlySortedBy}

@@ -1,5 +1,6 @@
 -- Proof machinery: the rule of two operations on one key.
-use Rattle.std.proofs.Common.{◌≡◌, ℤ, int_eq, Bool, true, false, not, cond, ◌&&◌, ◌||◌, ◌↔◌, Option, Some, None, refl, sym, ◌∙◌, ap, subst, arith}
+use Rattle.std.proofs.Common.{◌≡◌, ℤ, int_eq, Bool, true, false, not, cond, ◌&&◌, ◌||◌, ◌↔◌, Option}
+use Rattle.std.proofs.Common.{Some, None, refl, sym, ◌∙◌, ap, subst, arith}
 use Rattle.std.proofs.lemmas.Bool.{and_parts}
 use Rattle.std.proofs.lemmas.Int.{ints}
 use Rattle.pp_keyed.specs.Keys.{Finds, finds, finds_too, rule}

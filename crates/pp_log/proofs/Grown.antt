@@ -50,10 +50,10 @@ module _ {Shape State Op Undo : Type 0} (o : Object Shape State Op Undo) where
 
   pub with_room : (place : Op → ℕ) (s : State) (log new : List (Item Op)) (ps qs : List (Place Op Undo)) (ids keys : List ℕ) → KeepsAll o place s log ps ids → new ≡ log → ArePlacesSame ps qs → keys ≡ ids → KeepsAll o place s new qs keys
   with_room place s log new ps qs ids keys h is k same =
-      subst (λ (z : List (Item Op)). KeepsAll o place s z qs keys) (sym is) (record { past = roomy place s log ps qs h.past k; index = same ∙ h.index })
+      subst (λ (z : List (Item Op)). KeepsAll o place s z qs keys) (sym is) (record { keeps = roomy place s log ps qs h.keeps k; index = same ∙ h.index })
 
-  pub past_reached : (place : Op → ℕ) (s : State) (log : List (Item Op)) (ps : List (Place Op Undo)) → Keeps o place s log ps → length log < 1_000_000 → IsReached o s
-  past_reached place s log ps h k = record {
+  pub keeps_reached : (place : Op → ℕ) (s : State) (log : List (Item Op)) (ps : List (Place Op Undo)) → Keeps o place s log ps → length log < 1_000_000 → IsReached o s
+  keeps_reached place s log ps h k = record {
     ops = ops log;
     log = record { allowed = h.allowed; is = h.is; ranged = h.ranged };
     few = let size = length-ops log in omega arith;
@@ -84,7 +84,7 @@ module _ {Shape State Op Undo : Type 0} (o : Object Shape State Op Undo) (place 
             subst (KeptIn o start (there place j (log ++ e ∷ []))) (sym (set_other ps p j r k.1)) (subst (λ (z : List (Item Op)). KeptIn o start z (slice_get ps j)) (sym still) (h.kept j))
       ] in
       let allowed : IsAllowed o sh (ops (log ++ e ∷ [])) = subst (IsAllowed o sh) (sym more) (one_more o sh s (ops log) e.op h.is h.allowed legal) in
-      let past : Keeps o place t (log ++ e ∷ []) (slice_set ps p r) = record {
+      let keeps : Keeps o place t (log ++ e ∷ []) (slice_set ps p r) = record {
         allowed = subst (λ (k : Shape). IsAllowed o k (ops (log ++ e ∷ []))) (sym shape) allowed;
         is = next ∙ state_one_more o sh s (ops log) e.op h.is ∙ ap (state_after o sh) (sym more) ∙ ap (λ (k : Shape). state_after o k (ops (log ++ e ∷ []))) (sym shape);
         ranged = subst (AllRanged o) (sym more) (ranged-append o (ops log) (e.op ∷ []) h.ranged (ranged, tt));
@@ -92,7 +92,7 @@ module _ {Shape State Op Undo : Type 0} (o : Object Shape State Op Undo) (place 
         distinct = one_more_id log e h.distinct new;
         kept = subst (λ (k : Shape). (j : ℕ) → KeptIn o (o.start k) (there place j (log ++ e ∷ [])) (slice_get (slice_set ps p r) j)) (sym shape) all;
       } in
-      (past, shape)
+      (keeps, shape)
 
 pub new_key : {Op : Type 0} (keys : List ℕ) (log : List (Item Op)) (e : Item Op) → keys ≡ ids_of log → IsNew e.id log → insert_key nat_eq keys e.id ≡ ids_of (log ++ e ∷ [])
 new_key keys log e h n =

@@ -72,7 +72,8 @@ module _ {Op : Type 0} (place : Op → ℕ) where
     | inr h ↦ ap (there place q) (there_off p e x h) ∙ others_of_there p q x n
   ]
 
-  -- the items of the other places, and then those of the place, have at each place the items of the list
+  -- the items of the other places, and then those of the place, have at each place the items of the
+  -- list
   pub parted : (p q : ℕ) (x : List (Item Op)) → there place q (elsewhere place p x ++ there place p x) ≡ there place q x
   parted p q x = there-append q (elsewhere place p x) (there place p x) ∙ elim (eqb_tells p q) [
     | inl h ↦ ap (λ (r : ℕ). there place r (elsewhere place p x) ++ there place r (there place p x)) (sym h.1) ∙ ap (λ (z : List (Item Op)). z ++ there place p (there place p x)) (there_of_elsewhere p x) ∙ there_twice p x ∙ ap (λ (r : ℕ). there place r x) h.1

@@ -36,5 +36,5 @@ pub record Keeps {Shape State Op Undo : Type 0} (o : Object Shape State Op Undo)
 pub record KeepsAll {Shape State Op Undo : Type 0} (o : Object Shape State Op Undo)
     (place : Op → ℕ) (s : State) (log : List (Item Op)) (places : List (Place Op Undo))
     (ids : List ℕ) : Type 0 where
-  pub past : Keeps o place s log places
+  pub keeps : Keeps o place s log places
   pub index : ids ≡ ids_of log

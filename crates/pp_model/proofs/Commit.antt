@@ -21,7 +21,8 @@ as_committed g = record { id = g.id; owner = g.owner; committed = true; op = g.o
 abbrev pub commit : {Op : Type 0} → Name → SharedEntry Op → SharedEntry Op
 commit t g = cond (g.owner =ⁿ t) (as_committed g) g
 
--- it is committed as it was, or it was not and its owner is t, or it stays uncommitted and its owner is not t
+-- it is committed as it was, or it was not and its owner is t, or it stays uncommitted and its
+-- owner is not t
 commit_cases : {Op : Type 0} (t : Name) (g : SharedEntry Op) (b : Bool) → g.committed ≡ b →
     ((g.committed ≡ true) × (commit t g ≡ g)) ⊎ ((g.committed ≡ false) × (g.owner ≡ t) × (commit t g ≡ as_committed g)) ⊎ ((g.committed ≡ false) × (g.owner ≢ t) × (commit t g ≡ g))
 commit_cases {Op} t g true e =

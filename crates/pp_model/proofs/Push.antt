@@ -176,7 +176,8 @@ order_unpushed {Op} O G id xs first h a b i j k = elim (cases_eq a.id id) [
     was : (i : ℕ) → Stands i (without_shared id G) → Stands i G
     was i h = (h.0, (from_filter test h.0 G h.1).0, h.2)
 
--- what both steps keep of the entry's own transaction and of the others: an id that x owns is owned by no other
+-- what both steps keep of the entry's own transaction and of the others: an id that x owns is owned
+-- by no other
 pub elsewhere : {Op State : Type 0} (O : Object Op State) (c : Config Op) → Sound O c → (x : Tx Op) → In x c.opened → (e : LocalEntry Op) → In e x.local → is_own e.mark ≡ true →
     (y : Tx Op) → In y c.opened → y.name ≢ x.name → (p : Item Op) → In p (own_items y.local) → p.id ≢ e.id
 elsewhere O c s x i e j o y k n p q z = n (s.one_owner y.name x.name p (item e) (inl (y, k, refl, q)) (inl (x, i, refl, in_own x.local e j o)) z)

@@ -2,7 +2,8 @@
 -- where its owner is the transaction.
 use Rattle.std.specs.Prelude.{◌++◌, ◌≡◌, ◌≢◌, ◌⊎◌, ◌↔◌, List, map, true, false, ℕ, []}
 use Rattle.pp_model.specs.Body.{Begins}
-use Rattle.pp_model.specs.Config.{Config, CommittedTx, LocalEntry, Pulled, Pushed, SharedEntry, Tx, item, shared_item, local_ops, own_items, shared_ops}
+use Rattle.pp_model.specs.Config.{Config, CommittedTx, LocalEntry, Pulled, Pushed, SharedEntry, Tx}
+use Rattle.pp_model.specs.Config.{item, shared_item, local_ops, own_items, shared_ops}
 use Rattle.pp_model.specs.Lists.{Before, In}
 use Rattle.pp_model.specs.Object.{Allowed, Item, Object, Swaps}
 use Rattle.pp_model.specs.Rules.{calls}

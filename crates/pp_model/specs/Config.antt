@@ -1,5 +1,6 @@
 -- Meaning: a configuration of the machine, and the steps.
-use Rattle.std.specs.Prelude.{ℕ, ◌==◌, Bool, true, false, cond, not, ◌&&◌, List, [], ◌∷◌, ◌++◌, map, filter, find, Option, None, Some}
+use Rattle.std.specs.Prelude.{ℕ, ◌==◌, Bool, true, false, cond, not, ◌&&◌, List, [], ◌∷◌, ◌++◌, map}
+use Rattle.std.specs.Prelude.{filter, find, Option, None, Some}
 use Rattle.pp_model.specs.Body.{Tree}
 use Rattle.pp_model.specs.Names.{Name, ◌=ⁿ◌}
 pub use Rattle.pp_core.specs.declared.entry.Mark.{Mark}
@@ -7,7 +8,8 @@ pub use Rattle.pp_core.specs.declared.entry.Mark.TheVariants.{Unpushed, Pushed, 
 pub use Rattle.pp_core.specs.declared.entry.LocalEntry.{LocalEntry}
 pub use Rattle.pp_core.specs.declared.entry.SharedEntry.{SharedEntry}
 pub use Rattle.pp_core.specs.declared.entry.CommittedTx.{CommittedTx}
-pub use Rattle.pp_core.specs.Steps.{Step, Begin, App, Unapp, Push, Unpush, Pull, Unpull, Cmt, Quit, Note}
+pub use Rattle.pp_core.specs.Steps.{Step, Begin, App, Unapp, Push, Unpush, Pull, Unpull, Cmt, Quit}
+pub use Rattle.pp_core.specs.Steps.{Note}
 use Rattle.pp_model.specs.Object.{Item}
 
 abbrev pub is_own : Mark → Bool

@@ -1,9 +1,11 @@
 -- Meaning: the serial run, read off the steps, and the atomic machine.
-use Rattle.std.specs.Prelude.{◌≡◌, ℕ, ◌==◌, Bool, false, cond, not, ◌||◌, List, [], ◌∷◌, ◌++◌, map, filter, Option, None, Some}
+use Rattle.std.specs.Prelude.{◌≡◌, ℕ, ◌==◌, Bool, false, cond, not, ◌||◌, List, [], ◌∷◌, ◌++◌, map}
+use Rattle.std.specs.Prelude.{filter, Option, None, Some}
 use Rattle.pp_model.specs.Lists.{joined}
 use Rattle.pp_model.specs.Body.{Tree, IsWord}
 use Rattle.pp_model.specs.Object.{Object, Allowed, AllowedFrom, Item, ops, state, state_from}
-use Rattle.pp_model.specs.Config.{CommittedTx, Start, Step, Begin, App, Unapp, Cmt, shared_ops, uncommitted, only_committed, first, after}
+use Rattle.pp_model.specs.Config.{CommittedTx, Start, Step, Begin, App, Unapp, Cmt, shared_ops}
+use Rattle.pp_model.specs.Config.{uncommitted, only_committed, first, after}
 use Rattle.pp_model.specs.Rules.{calls, StartMeets, RunsFrom}
 use Rattle.pp_model.specs.Names.{Name, ◌=ⁿ◌}
 

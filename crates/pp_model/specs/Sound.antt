@@ -3,7 +3,9 @@ use Rattle.std.specs.Prelude.{◌≡◌, ◌≢◌, ◌⊎◌, ℕ, true, false,
 use Rattle.pp_model.specs.Lists.{In, Before, joined}
 use Rattle.pp_model.specs.Body.{Begins}
 use Rattle.pp_model.specs.Object.{Object, Allowed, Swaps, Item, ops, state}
-use Rattle.pp_model.specs.Config.{Pushed, Pulled, is_own, LocalEntry, SharedEntry, Tx, CommittedTx, Config, item, own_items, local_ops, shared_ops, as_shared, uncommitted, only_committed, Start, Step, then, first}
+use Rattle.pp_model.specs.Config.{Pushed, Pulled, is_own, LocalEntry, SharedEntry, Tx, CommittedTx}
+use Rattle.pp_model.specs.Config.{Config, item, own_items, local_ops, shared_ops, as_shared}
+use Rattle.pp_model.specs.Config.{uncommitted, only_committed, Start, Step, then, first}
 use Rattle.pp_model.specs.Rules.{calls, Meets, StartMeets}
 use Rattle.pp_model.specs.Names.{Name}
 

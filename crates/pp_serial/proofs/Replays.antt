@@ -1,7 +1,9 @@
 -- Proof machinery: a list of operations, replayed one by one.
-use Rattle.std.proofs.Common.{◌≡◌, ℕ, ◌<◌, ◌≤◌, ◌+◌, IsTrue, List, [], ◌∷◌, ◌++◌, take, drop, length, get_or, sym, ◌∙◌, ap, subst, arith}
+use Rattle.std.proofs.Common.{◌≡◌, ℕ, ◌<◌, ◌≤◌, ◌+◌, IsTrue, List, [], ◌∷◌, ◌++◌, take, drop}
+use Rattle.std.proofs.Common.{length, get_or, sym, ◌∙◌, ap, subst, arith}
 use Rattle.std.proofs.lemmas.List.{take_more, drop_more, at_drop_all, length-take}
-use Rattle.pp_spec.specs.Object.{Object, IsLegal, AllowedFrom, IsAllowed, AllRanged, IsLog, IsReached, IsLawful, state_from, state_after}
+use Rattle.pp_spec.specs.Object.{Object, IsLegal, AllowedFrom, IsAllowed, AllRanged, IsLog}
+use Rattle.pp_spec.specs.Object.{IsReached, IsLawful, state_from, state_after}
 use Rattle.pp_spec.proofs.Lists.{log_grows}
 
 -- The first i operations of a list are applied, and the rest may follow.

@@ -1,6 +1,8 @@
 -- Proof machinery: lists of operations, where they are cut, and one operation at the end.
-use Rattle.std.proofs.Common.{◌≡◌, IsTrue, List, [], ◌∷◌, ◌++◌, ◌↔◌, refl, sym, ◌∙◌, ap, subst, Some}
-use Rattle.pp_spec.specs.Object.{Object, IsLegal, AllowedFrom, state_from, IsAllowed, state_after, AllRanged, Swaps, SwapsNowhere, IsRefutedBy, Commutes, IsLog}
+use Rattle.std.proofs.Common.{◌≡◌, IsTrue, List, [], ◌∷◌, ◌++◌, ◌↔◌, refl, sym, ◌∙◌, ap, subst}
+use Rattle.std.proofs.Common.{Some}
+use Rattle.pp_spec.specs.Object.{Object, IsLegal, AllowedFrom, state_from, IsAllowed, state_after}
+use Rattle.pp_spec.specs.Object.{AllRanged, Swaps, SwapsNowhere, IsRefutedBy, Commutes, IsLog}
 
 module _ {Shape State Op Undo : Type 0} (o : Object Shape State Op Undo) where
   pub state-append : (s : State) (x y : List Op)

@@ -1,8 +1,12 @@
 -- Proof machinery: what the laws of a kind say of lists of operations.
-use Rattle.std.proofs.Common.{◌≡◌, ℕ, IsTrue, List, [], ◌∷◌, ◌++◌, Option, Some, None, refl, sym, ◌∙◌, ap, subst, append_assoc, append-nil}
-use Rattle.pp_spec.specs.Object.{Object, AllowedFrom, state_from, IsAllowed, state_after, IsLawful, IsPlaced, AllElsewhere, UndoneBehindOthers, Swaps, SwapsNowhere, FitNowhere, IsRefutedBy, rules_of}
+use Rattle.std.proofs.Common.{◌≡◌, ℕ, IsTrue, List, [], ◌∷◌, ◌++◌, Option, Some, None, refl, sym}
+use Rattle.std.proofs.Common.{◌∙◌, ap, subst, append_assoc, append-nil}
+use Rattle.pp_spec.specs.Object.{Object, AllowedFrom, state_from, IsAllowed, state_after, IsLawful}
+use Rattle.pp_spec.specs.Object.{IsPlaced, AllElsewhere, UndoneBehindOthers, Swaps, SwapsNowhere}
+use Rattle.pp_spec.specs.Object.{FitNowhere, IsRefutedBy, rules_of}
 use Rattle.pp_model.specs.Object.{TellsStates}
-use Rattle.pp_spec.proofs.Lists.{state-append, allowed-first, allowed-second, allowed-append, allowed_is_state, last_is_legal, keeps_shape, refuted_nowhere}
+use Rattle.pp_spec.proofs.Lists.{state-append, allowed-first, allowed-second, allowed-append}
+use Rattle.pp_spec.proofs.Lists.{allowed_is_state, last_is_legal, keeps_shape, refuted_nowhere}
 
 module _ {Shape State Op Undo : Type 0} (o : Object Shape State Op Undo) (laws : IsLawful o) where
   -- an allowed list keeps the shape

@@ -1,6 +1,8 @@
 -- Proof machinery: a kind of one shape, of which a test tells which pairs swap.
-use Rattle.std.proofs.Common.{◌≡◌, Bool, true, false, IsTrue, List, ◌∷◌, ◌++◌, ◌↔◌, if◌then◌else◌, Some, None, refl, sym, ◌∙◌, ap, subst}
-use Rattle.pp_spec.specs.Object.{Object, IsAllowed, AllRanged, Swaps, SwapsNowhere, Refutes, IsRefutedBy, Commutes}
+use Rattle.std.proofs.Common.{◌≡◌, Bool, true, false, IsTrue, List, ◌∷◌, ◌++◌, ◌↔◌, if◌then◌else◌}
+use Rattle.std.proofs.Common.{Some, None, refl, sym, ◌∙◌, ap, subst}
+use Rattle.pp_spec.specs.Object.{Object, IsAllowed, AllRanged, Swaps, SwapsNowhere, Refutes}
+use Rattle.pp_spec.specs.Object.{IsRefutedBy, Commutes}
 use Rattle.pp_spec.proofs.Lists.{commuting_swap, refuted_nowhere}
 
 -- The pairs that the test lets swap commute, and the lists show of each other pair that it does not

@@ -1,6 +1,7 @@
 -- Meaning: what a kind of object means, which lists it allows, and which pairs of its operations
 -- swap.
-use Rattle.std.specs.Prelude.{◌≡◌, ℕ, Bool, ◌&&◌, IsTrue, ◌<◌, List, [], ◌∷◌, ◌++◌, ◌↔◌, length, Option, Some, None}
+use Rattle.std.specs.Prelude.{◌≡◌, ℕ, Bool, ◌&&◌, IsTrue, ◌<◌, List, [], ◌∷◌, ◌++◌, ◌↔◌, length}
+use Rattle.std.specs.Prelude.{Option, Some, None}
 use Rattle.pp_core.specs.declared.answer.Answer.{Answer}
 use Rattle.pp_core.specs.declared.call.Call.{Call}
 use Rattle.pp_spec.specs.Numbers.{has_ranged_arguments, is_ranged_answer}
@@ -99,8 +100,8 @@ module _ {Shape State Op Undo : Type 0} (o : Object Shape State Op Undo) where
       (shape : Shape) (before : List Op) → IsAllowed shape before
       → CommutesAt (state_after shape before) a b
 
-  -- The lists show that b may not move left over a: they fit each shape that the pair fits, and
-  -- are ranged where the pair is.
+  -- The lists show that b may not move left over a: they fit each shape that the pair fits, and are
+  -- ranged where the pair is.
   pub record Refutes (a b : Op) (before after : List Op) : Type 0 where
     pub allowed : (shape : Shape) → IsTrue (o.fits shape a) → IsTrue (o.fits shape b)
         → IsAllowed shape (before ++ (a ∷ b ∷ after))
@@ -131,8 +132,8 @@ module _ {Shape State Op Undo : Type 0} (o : Object Shape State Op Undo) where
   AllowsAllOf s t = (k : List Op) → AllowedFrom s k → AllowedFrom t k
 
   -- Where a stands before the operations y, its effect may be seen as the last one, and what was
-  -- kept when it was applied, which is what would be kept behind y, takes it back, as if it had
-  -- not been.
+  -- kept when it was applied, which is what would be kept behind y, takes it back, as if it had not
+  -- been.
   pub record IsUndoneBehind (shape : Shape) (x y : List Op) (a : Op) : Type 0 where
     pub allowed : IsAllowed shape ((x ++ y) ++ a ∷ [])
     pub left : state_after shape (x ++ a ∷ y) ≡ o.next (state_after shape (x ++ y)) a
@@ -179,8 +180,8 @@ module _ {Shape State Op Undo : Type 0} (o : Object Shape State Op Undo) (place_
       (shape : Shape) (x y : List Op) (a : Op) → AllElsewhere place_of (place_of a) y
       → IsAllowed o shape (x ++ a ∷ y) → IsUndoneBehind o shape x y a
 
-  -- What a kind of several objects promises: SameAt p s t says that the object at the place p is
-  -- in t as it is in s.
+  -- What a kind of several objects promises: SameAt p s t says that the object at the place p is in
+  -- t as it is in s.
   pub record IsPlaced (SameAt : ℕ → State → State → Type 0) : Type 0 where
     -- to be the same at a place is an equivalence
     pub same : (p : ℕ) (s : State) → SameAt p s s

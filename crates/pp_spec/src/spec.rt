@@ -1,7 +1,8 @@
 //! The traits of a kind: its calls, each with its meaning, and the laws that hold of every kind.
 ghost use Rattle.std.specs.Prelude.{◌≡◌, ◌≢◌, ◌+◌, ℕ, false, IsTrue, IfOk, OnOk, OnErr, ◌↔◌};
 ghost use Rattle.pp_model.specs.Object.{TellsStates};
-ghost use Rattle.pp_spec.specs.Object.{Object, Swaps, SwapsNowhere, FitNowhere, Commutes, IsReached, IsLawful, IsPlaced, UndoneBehindOthers, rules_of};
+ghost use Rattle.pp_spec.specs.Object.{Object, Swaps, SwapsNowhere, FitNowhere, Commutes};
+ghost use Rattle.pp_spec.specs.Object.{IsReached, IsLawful, IsPlaced, UndoneBehindOthers, rules_of};
 ghost use Rattle.pp_spec.specs.Calls.{Applies, WasApplied, lists_of};
 
 use pp_core::{Answer, Call, Ops, OutOfMemory, Ticks};
@@ -17,8 +18,8 @@ pub enum Applied<U> {
     Differs,
 }
 
-/// Operations round a pair that does not swap, which show it: in their midst the pair is allowed
-/// as it stands, and not the other way round.
+/// Operations round a pair that does not swap, which show it: in their midst the pair is allowed as
+/// it stands, and not the other way round.
 #[derive(Drop)]
 pub struct Context<O> {
     pub before: Ops<O>,
@@ -99,8 +100,8 @@ pub trait Spec: Drop {
         ensures only { Swaps object a.now b.now → IsTrue result }
         ensures never { result ≡ false → SwapsNowhere object a.now b.now };
 
-    /// Operations that show that the pair does not swap, or `None` where it does. The only
-    /// error is that memory was refused.
+    /// Operations that show that the pair does not swap, or `None` where it does. The only error is
+    /// that memory was refused.
     fn context(
         alloc: Global,
         a: &Self::Op,

@@ -3,7 +3,7 @@ use Rattle.std.specs.List.{slice_get, slice_set}
 use Rattle.std.proofs.lemmas.Option.{slice_get-get_or}
 use Rattle.pp_log.specs.Keeps.{KeepsAll}
 use Rattle.pp_log.proofs.Distinct.{IsNew}
-use Rattle.pp_log.proofs.Grown.{grown, with_room, past_reached, new_key, seen_more}
+use Rattle.pp_log.proofs.Grown.{grown, with_room, keeps_reached, new_key, seen_more}
 use Rattle.pp_log.proofs.Maps.{legal_seen, new_seen, few_seen}
 use Rattle.pp_log.proofs.Lists.{map_push}
 use Rattle.pp_log.proofs.log.Log.append.Goals as goal
@@ -15,11 +15,11 @@ invariant_of-self g c =
 
 pub apply-requires-clause-fits : goal.apply-requires-clause-fits
 apply-requires-clause-fits g c =
-    (legal_seen g.S.Spec.object g.T.Side.item_of c.self.inside.state c.self.inside.entries.items c.args.self.now c.args.entry c.item-item.result c.self.view_is c.self.invariant.past.is c.item-item.ensures c.requires.allowed).0
+    (legal_seen g.S.Spec.object g.T.Side.item_of c.self.inside.state c.self.inside.entries.items c.args.self.now c.args.entry c.item-item.result c.self.view_is c.self.invariant.keeps.is c.item-item.ensures c.requires.allowed).0
 
 pub apply-requires-clause-reached : goal.apply-requires-clause-reached
 apply-requires-clause-reached g c =
-    past_reached g.S.Spec.object g.S.Placed.place_of c.self.inside.state (map g.T.Side.item_of c.self.inside.entries.items) c.self.inside.places.items c.self.invariant.past
+    keeps_reached g.S.Spec.object g.S.Placed.place_of c.self.inside.state (map g.T.Side.item_of c.self.inside.entries.items) c.self.inside.places.items c.self.invariant.keeps
     (few_seen g.T.Side.item_of _ c.self.inside.entries.items c.args.self.now c.self.view_is c.requires.few)
 
 pub invariant_of-self-in_err-undo : goal.invariant_of-self-in_err-undo
@@ -30,7 +30,7 @@ invariant_of-self-in_err-undo g c =
 
 pub unreachable-requires : goal.unreachable-requires
 unreachable-requires g c =
-    let legal = legal_seen g.S.Spec.object g.T.Side.item_of c.self.inside.state c.self.inside.entries.items c.args.self.now c.args.entry c.item-item.result c.self.view_is c.self.invariant.past.is c.item-item.ensures c.requires.allowed in
+    let legal = legal_seen g.S.Spec.object g.T.Side.item_of c.self.inside.state c.self.inside.entries.items c.args.self.now c.args.entry c.item-item.result c.self.view_is c.self.invariant.keeps.is c.item-item.ensures c.requires.allowed in
     let applied = rw c.in_default.is at c.in_ok-undo.ensures.applied in
     applied.0 legal.1
 
@@ -50,24 +50,24 @@ invariant_of-self-2 g c =
     let room = c.in_ok-make_room.ensures in
     let q = c.index_mut.result.now in
     let ps = c.make_room.new.places.items in
-    let legal = legal_seen o f s x c.args.self.now c.args.entry e c.self.view_is c.self.invariant.past.is c.item-item.ensures c.requires.allowed in
+    let legal = legal_seen o f s x c.args.self.now c.args.entry e c.self.view_is c.self.invariant.keeps.is c.item-item.ensures c.requires.allowed in
     let ranged = subst (λ d. IsTrue (o.ranged d.op)) (sym c.item-item.ensures) c.requires.ranged in
     let new : IsNew e.id (map f x) = new_seen f (o.shape s) x c.args.self.now c.args.entry e c.self.view_is c.item-item.ensures c.requires.new in
     let few = few_seen f _ x c.args.self.now c.self.view_is c.requires.few in
     let same = with_room o g.S.Placed.place_of s _ _ _ _ _ _ c.self.invariant refl room.same refl in
     let at : slice_get ps c.from-p.result ≡ Some q = slice_get-get_or ps c.from-p.result q room.there ∙ ap Some (sym c.index_mut.ensures.value) in
     let applied = rw c.in-Done.is at c.in_ok-undo.ensures.applied in
-    let more = grown o g.S.Placed.place_of g.S.Placed.SameAt g.met.S.Spec.lawful g.met.S.Placed.placed s c.apply.new.state (map f x) ps e c.from-p.result q c.keep.new.self c.in-Done.undo same.past legal ranged new few (sym (c.from-p.ensures ∙ c.place.ensures)) room.there at applied.2 applied.1 c.keep.ensures.items c.keep.ensures.undos in
+    let more = grown o g.S.Placed.place_of g.S.Placed.SameAt g.met.S.Spec.lawful g.met.S.Placed.placed s c.apply.new.state (map f x) ps e c.from-p.result q c.keep.new.self c.in-Done.undo same.keeps legal ranged new few (sym (c.from-p.ensures ∙ c.place.ensures)) room.there at applied.2 applied.1 c.keep.ensures.items c.keep.ensures.undos in
     let items : map f c.push.new.self.items ≡ map f x ++ e ∷ [] =
     ap (map f) (c.in-Ok.ensures.items ∙ ap (λ z. z ++ c.args.entry ∷ []) room.entries) ∙ map_push f x c.args.entry ∙ ap (λ d. map f x ++ d ∷ []) (sym c.item-item.ensures) in
     let keys = c.in-Ok-insert.ensures.keys ∙ new_key c.make_room.new.ids.keys (map f x) e (room.ids ∙ c.self.invariant.index) new in
-    subst (λ z. KeepsAll o g.S.Placed.place_of c.apply.new.state z (slice_set ps c.from-p.result c.keep.new.self) c.insert.new.self.keys) (sym items) (record { past = more.0; index = keys })
+    subst (λ z. KeepsAll o g.S.Placed.place_of c.apply.new.state z (slice_set ps c.from-p.result c.keep.new.self) c.insert.new.self.keys) (sym items) (record { keeps = more.0; index = keys })
 
 pub returns-clause-ok : goal.returns-clause-ok
 returns-clause-ok g c =
     let o = g.S.Spec.object in
     let s = c.self.inside.state in
-    let legal = legal_seen o g.T.Side.item_of s c.self.inside.entries.items c.args.self.now c.args.entry c.item-item.result c.self.view_is c.self.invariant.past.is c.item-item.ensures c.requires.allowed in
+    let legal = legal_seen o g.T.Side.item_of s c.self.inside.entries.items c.args.self.now c.args.entry c.item-item.result c.self.view_is c.self.invariant.keeps.is c.item-item.ensures c.requires.allowed in
     let applied = rw c.in-Done.is at c.in_ok-undo.ensures.applied in
     let shape = ap o.shape applied.2 ∙ g.met.S.Spec.lawful.next_shape s c.item-item.result.op legal in
     seen_more (o.shape s) (o.shape c.apply.new.state) c.self.inside.entries.items c.push.new.self.items c.args.entry c.args.self.now c.self.view_is shape (c.in-Ok.ensures.items ∙ ap (λ z. z ++ c.args.entry ∷ []) c.in_ok-make_room.ensures.entries)

@@ -24,11 +24,11 @@ index_mut-place-requires g c =
     let log = map f x in
     let ps = c.self.inside.places.items in
     let s = c.self.inside.state in
-    let past = c.self.invariant.past in
+    let keeps = c.self.invariant.keeps in
     let e = c.item-item.result in
     let p = c.from-p.result in
     let site = site_seen place f (o.shape s) x c.args.self c.args.i c.index.result.now e p c.self.view_is c.requires c.index.ensures c.item-item.ensures (c.from-p.ensures ∙ c.place.ensures) in
-    let is = place_there o place s log ps c.args.i e p past site in
+    let is = place_there o place s log ps c.args.i e p keeps site in
     omega arith
 
 pub unreachable-requires : goal.unreachable-requires
@@ -40,14 +40,14 @@ unreachable-requires g c =
     let log = map f x in
     let ps = c.self.inside.places.items in
     let s = c.self.inside.state in
-    let past = c.self.invariant.past in
+    let keeps = c.self.invariant.keeps in
     let e = c.item-item.result in
     let p = c.from-p.result in
     let site = site_seen place f (o.shape s) x c.args.self c.args.i c.index.result.now e p c.self.view_is c.requires c.index.ensures c.item-item.ensures (c.from-p.ensures ∙ c.place.ensures) in
     let q = c.index_mut-place.result.now in
     let value = c.index_mut-place.ensures.value in
     let none = c.in_default.ensures.none in
-    id_there o place s log ps c.args.i e p q past site (place_at o place s log ps c.args.i e p q past site value) (λ d k. none d (subst (In d) (sym c.deref.ensures.value) k))
+    id_there o place s log ps c.args.i e p q keeps site (place_at o place s log ps c.args.i e p q keeps site value) (λ d k. none d (subst (In d) (sym c.deref.ensures.value) k))
 
 pub take_out-requires-clause-whole : goal.take_out-requires-clause-whole
 take_out-requires-clause-whole g c =
@@ -58,14 +58,14 @@ take_out-requires-clause-whole g c =
     let log = map f x in
     let ps = c.self.inside.places.items in
     let s = c.self.inside.state in
-    let past = c.self.invariant.past in
+    let keeps = c.self.invariant.keeps in
     let e = c.item-item.result in
     let p = c.from-p.result in
     let site = site_seen place f (o.shape s) x c.args.self c.args.i c.index.result.now e p c.self.view_is c.requires c.index.ensures c.item-item.ensures (c.from-p.ensures ∙ c.place.ensures) in
     let q = c.index_mut-place.result.now in
     let value = c.index_mut-place.ensures.value in
-    let at = place_at o place s log ps c.args.i e p q past site value in
-    (state_after o (o.shape s) (ops (elsewhere place p log)), whole_of o place g.S.Placed.SameAt g.met.S.Spec.lawful g.met.S.Placed.placed p s log ps q past at)
+    let at = place_at o place s log ps c.args.i e p q keeps site value in
+    (state_after o (o.shape s) (ops (elsewhere place p log)), whole_of o place g.S.Placed.SameAt g.met.S.Spec.lawful g.met.S.Placed.placed p s log ps q keeps at)
 
 pub take_out-requires-clause-within : goal.take_out-requires-clause-within
 take_out-requires-clause-within g c =
@@ -81,7 +81,7 @@ returns-in_err-removed-clause-bound g c =
     let log = map f x in
     let ps = c.self.inside.places.items in
     let s = c.self.inside.state in
-    let past = c.self.invariant.past in
+    let keeps = c.self.invariant.keeps in
     let e = c.item-item.result in
     let p = c.from-p.result in
     let site = site_seen place f (o.shape s) x c.args.self c.args.i c.index.result.now e p c.self.view_is c.requires c.index.ensures c.item-item.ensures (c.from-p.ensures ∙ c.place.ensures) in
@@ -89,7 +89,7 @@ returns-in_err-removed-clause-bound g c =
     let value = c.index_mut-place.ensures.value in
     let stands = c.in-Some.ensures.found in
     let within = inside f (o.shape s) x c.args.self c.args.i c.self.view_is c.requires in
-    let found = found_in o place s log ps c.args.i e stands.0 p c.in-Some.from q past within site value (ap (λ z. slice_get z c.in-Some.from) (sym c.deref.ensures.value) ∙ stands.1) stands.2 in
+    let found = found_in o place s log ps c.args.i e stands.0 p c.in-Some.from q keeps within site value (ap (λ z. slice_get z c.in-Some.from) (sym c.deref.ensures.value) ∙ stands.1) stands.2 in
     let count = found.count in
     let size = count_seen place f (o.shape s) x c.args.self c.args.i c.self.view_is in
     let bound = c.take_out.ensures.bound in
@@ -104,7 +104,7 @@ invariant_of-log g c =
     let log = map f x in
     let ps = c.self.inside.places.items in
     let s = c.self.inside.state in
-    let past = c.self.invariant.past in
+    let keeps = c.self.invariant.keeps in
     let e = c.item-item.result in
     let p = c.from-p.result in
     let site = site_seen place f (o.shape s) x c.args.self c.args.i c.index.result.now e p c.self.view_is c.requires c.index.ensures c.item-item.ensures (c.from-p.ensures ∙ c.place.ensures) in
@@ -112,11 +112,11 @@ invariant_of-log g c =
     let value = c.index_mut-place.ensures.value in
     let stands = c.in-Some.ensures.found in
     let within = inside f (o.shape s) x c.args.self c.args.i c.self.view_is c.requires in
-    let found = found_in o place s log ps c.args.i e stands.0 p c.in-Some.from q past within site value (ap (λ z. slice_get z c.in-Some.from) (sym c.deref.ensures.value) ∙ stands.1) stands.2 in
+    let found = found_in o place s log ps c.args.i e stands.0 p c.in-Some.from q keeps within site value (ap (λ z. slice_get z c.in-Some.from) (sym c.deref.ensures.value) ∙ stands.1) stands.2 in
     let b = state_after o (o.shape s) (ops (elsewhere place p log)) in
-    let takes = c.in_ok-removed.ensures.takes b (whole_of o place g.S.Placed.SameAt g.met.S.Spec.lawful g.met.S.Placed.placed p s log ps q past found.at) in
+    let takes = c.in_ok-removed.ensures.takes b (whole_of o place g.S.Placed.SameAt g.met.S.Spec.lawful g.met.S.Placed.placed p s log ps q keeps found.at) in
     let removed = c.in_ok-removed.removed in
-    let done = left_over o place g.S.Placed.SameAt g.met.S.Spec.lawful g.met.S.Placed.placed s c.take_out.new.state log ps c.args.i e p c.in-Some.from q c.take_out.new.place removed past found takes in
+    let done = left_over o place g.S.Placed.SameAt g.met.S.Spec.lawful g.met.S.Placed.placed s c.take_out.new.state log ps c.args.i e p c.in-Some.from q c.take_out.new.place removed keeps found takes in
     let entries : c.match-removed.entries.items ≡ left removed x c.args.i = elim c.match-removed.branch [
       | in-Done w ↦ ap (λ v. v.items) w.entries-is ∙ w.remove.ensures.items ∙ ap (λ r. left r x c.args.i) (sym w.in-Done.is)
       | in_default-removed w ↦ ap (λ v. v.items) w.entries-is ∙ sym (left_else removed x c.args.i w.in_default-removed.not-Done)
@@ -125,7 +125,7 @@ invariant_of-log g c =
       | in-Done w ↦ ap (λ v. v.keys) w.ids-is ∙ w.shift_remove_index.ensures.keys ∙ ap (λ z. remove z c.args.i) c.self.invariant.index ∙ ids-remove log c.args.i ∙ ap (λ r. ids_of (left r log c.args.i)) (sym w.in-Done.is)
       | in_default-removed w ↦ ap (λ v. v.keys) w.ids-is ∙ c.self.invariant.index ∙ ap (λ z. ids_of z) (sym (left_else removed log c.args.i w.in_default-removed.not-Done))
     ] in
-    subst (λ z. KeepsAll o place c.take_out.new.state z (slice_set ps p c.take_out.new.place) c.match-removed.ids.keys) (sym (ap (map f) entries ∙ left_mapped f removed x c.args.i)) (record { past = done.0; index = ids })
+    subst (λ z. KeepsAll o place c.take_out.new.state z (slice_set ps p c.take_out.new.place) c.match-removed.ids.keys) (sym (ap (map f) entries ∙ left_mapped f removed x c.args.i)) (record { keeps = done.0; index = ids })
 
 pub returns-clause-removes : goal.returns-clause-removes
 returns-clause-removes g c =
@@ -136,7 +136,7 @@ returns-clause-removes g c =
     let log = map f x in
     let ps = c.self.inside.places.items in
     let s = c.self.inside.state in
-    let past = c.self.invariant.past in
+    let keeps = c.self.invariant.keeps in
     let e = c.item-item.result in
     let p = c.from-p.result in
     let site = site_seen place f (o.shape s) x c.args.self c.args.i c.index.result.now e p c.self.view_is c.requires c.index.ensures c.item-item.ensures (c.from-p.ensures ∙ c.place.ensures) in
@@ -144,11 +144,11 @@ returns-clause-removes g c =
     let value = c.index_mut-place.ensures.value in
     let stands = c.in-Some.ensures.found in
     let within = inside f (o.shape s) x c.args.self c.args.i c.self.view_is c.requires in
-    let found = found_in o place s log ps c.args.i e stands.0 p c.in-Some.from q past within site value (ap (λ z. slice_get z c.in-Some.from) (sym c.deref.ensures.value) ∙ stands.1) stands.2 in
+    let found = found_in o place s log ps c.args.i e stands.0 p c.in-Some.from q keeps within site value (ap (λ z. slice_get z c.in-Some.from) (sym c.deref.ensures.value) ∙ stands.1) stands.2 in
     let b = state_after o (o.shape s) (ops (elsewhere place p log)) in
-    let takes = c.in_ok-removed.ensures.takes b (whole_of o place g.S.Placed.SameAt g.met.S.Spec.lawful g.met.S.Placed.placed p s log ps q past found.at) in
+    let takes = c.in_ok-removed.ensures.takes b (whole_of o place g.S.Placed.SameAt g.met.S.Spec.lawful g.met.S.Placed.placed p s log ps q keeps found.at) in
     let removed = c.in_ok-removed.removed in
-    let done = left_over o place g.S.Placed.SameAt g.met.S.Spec.lawful g.met.S.Placed.placed s c.take_out.new.state log ps c.args.i e p c.in-Some.from q c.take_out.new.place removed past found takes in
+    let done = left_over o place g.S.Placed.SameAt g.met.S.Spec.lawful g.met.S.Placed.placed s c.take_out.new.state log ps c.args.i e p c.in-Some.from q c.take_out.new.place removed keeps found takes in
     let entries : c.match-removed.entries.items ≡ left removed x c.args.i = elim c.match-removed.branch [
       | in-Done w ↦ ap (λ v. v.items) w.entries-is ∙ w.remove.ensures.items ∙ ap (λ r. left r x c.args.i) (sym w.in-Done.is)
       | in_default-removed w ↦ ap (λ v. v.items) w.entries-is ∙ sym (left_else removed x c.args.i w.in_default-removed.not-Done)
@@ -166,7 +166,7 @@ returns-clause-cost g c =
     let log = map f x in
     let ps = c.self.inside.places.items in
     let s = c.self.inside.state in
-    let past = c.self.invariant.past in
+    let keeps = c.self.invariant.keeps in
     let e = c.item-item.result in
     let p = c.from-p.result in
     let site = site_seen place f (o.shape s) x c.args.self c.args.i c.index.result.now e p c.self.view_is c.requires c.index.ensures c.item-item.ensures (c.from-p.ensures ∙ c.place.ensures) in
@@ -174,7 +174,7 @@ returns-clause-cost g c =
     let value = c.index_mut-place.ensures.value in
     let stands = c.in-Some.ensures.found in
     let within = inside f (o.shape s) x c.args.self c.args.i c.self.view_is c.requires in
-    let found = found_in o place s log ps c.args.i e stands.0 p c.in-Some.from q past within site value (ap (λ z. slice_get z c.in-Some.from) (sym c.deref.ensures.value) ∙ stands.1) stands.2 in
+    let found = found_in o place s log ps c.args.i e stands.0 p c.in-Some.from q keeps within site value (ap (λ z. slice_get z c.in-Some.from) (sym c.deref.ensures.value) ∙ stands.1) stands.2 in
     let count = found.count in
     let size = count_seen place f (o.shape s) x c.args.self c.args.i c.self.view_is in
     subst (λ k. removal_ticks c.in_ok-removed.removed k c.args.ticks.now c.take_out.new.ticks) size
@@ -189,7 +189,7 @@ returns-clause-bound g c =
     let log = map f x in
     let ps = c.self.inside.places.items in
     let s = c.self.inside.state in
-    let past = c.self.invariant.past in
+    let keeps = c.self.invariant.keeps in
     let e = c.item-item.result in
     let p = c.from-p.result in
     let site = site_seen place f (o.shape s) x c.args.self c.args.i c.index.result.now e p c.self.view_is c.requires c.index.ensures c.item-item.ensures (c.from-p.ensures ∙ c.place.ensures) in
@@ -197,7 +197,7 @@ returns-clause-bound g c =
     let value = c.index_mut-place.ensures.value in
     let stands = c.in-Some.ensures.found in
     let within = inside f (o.shape s) x c.args.self c.args.i c.self.view_is c.requires in
-    let found = found_in o place s log ps c.args.i e stands.0 p c.in-Some.from q past within site value (ap (λ z. slice_get z c.in-Some.from) (sym c.deref.ensures.value) ∙ stands.1) stands.2 in
+    let found = found_in o place s log ps c.args.i e stands.0 p c.in-Some.from q keeps within site value (ap (λ z. slice_get z c.in-Some.from) (sym c.deref.ensures.value) ∙ stands.1) stands.2 in
     let count = found.count in
     let size = count_seen place f (o.shape s) x c.args.self c.args.i c.self.view_is in
     let bound = c.take_out.ensures.bound in
