@@ -6,53 +6,63 @@ use Rattle.pp_spec.specs.Numbers.{has_ranged_arguments, is_ranged_answer}
 use Rattle.pp_spec.specs.Object.{Object, IsLegal, AllowedFrom, IsAllowed, state_after, AllRanged}
 
 -- What a state keeps at its keys, and how an operation acts on the one key that it has.
-pub record Keys (State Op Cell : Type 0) : Type 0 where
+pub record Keys (State Op Cell : Type 0) : Type 1 where
   -- what stands at a key
   pub cell : State → ℤ → Cell
-  -- whether two cells are one
-  pub alike : Cell → Cell → Bool
   -- the key of an operation
   pub key : Op → ℤ
-  -- what stands there before it, where its recorded result tells
-  pub found : Op → Option Cell
-  -- what stands there after it
-  pub left : Op → Cell
+  -- whether this may stand there before it, by its recorded result
+  pub Finds : Op → Cell → Type 0
+  -- what stands there after it, by what stood there
+  pub left : Op → Cell → Cell
   -- the operation that finds this at a key, and leaves it
   pub read : ℤ → Cell → Op
 
--- A cell is what an operation finds.
-abbrev pub Finds : {Cell : Type 0} → Option Cell → Cell → Type 0
-Finds None c = Unit {0}
-Finds (Some d) c = c ≡ d
+module _ {State Op Cell : Type 0} (k : Keys State Op Cell) where
+  -- Where a and then b find what they ask of this cell, so do b and then a, and leave the same.
+  abbrev pub TurnsAt : Op → Op → Cell → Type 0
+  TurnsAt a b c =
+      k.Finds a c → k.Finds b (k.left a c)
+      → k.Finds b c × k.Finds a (k.left b c) × (k.left a (k.left b c) ≡ k.left b (k.left a c))
 
--- the same as a test
-abbrev pub finds : {Cell : Type 0} → (Cell → Cell → Bool) → Option Cell → Cell → Bool
-finds alike None c = true
-finds alike (Some d) c = alike c d
+  -- Operations on different keys always swap, and those on one key where this lets them.
+  abbrev pub may_swap : (Op → Op → Bool) → Op → Op → Bool
+  may_swap lets a b = if int_eq (k.key a) (k.key b) then lets a b else true
 
--- whether all cells that the first finds are ones that the second finds
-abbrev pub finds_too : {Cell : Type 0} → (Cell → Cell → Bool) → Option Cell → Option Cell → Bool
-finds_too alike None None = true
-finds_too alike None (Some d) = false
-finds_too alike (Some c) second = finds alike second c
+-- The same where the result of each operation tells what stood at its key, and so what stands there
+-- after it.
+pub record ToldKeys (State Op Cell : Type 0) : Type 0 where
+  pub cell : State → ℤ → Cell
+  -- whether two cells are one
+  pub alike : Cell → Cell → Bool
+  pub key : Op → ℤ
+  -- what stands there before it
+  pub found : Op → Cell
+  -- what stands there after it
+  pub left : Op → Cell
+  pub read : ℤ → Cell → Op
 
 -- The rule for one key, by what each of a pair finds and leaves: it swaps where the second never
--- finds what the first leaves, or where both leave one thing and each finds its own in the other
--- order too.
+-- finds what the first leaves, or where all four are one.
 abbrev pub rule : {Cell : Type 0} → (Cell → Cell → Bool)
-    → (found : Option Cell) (left : Cell) (then_found : Option Cell) (then_left : Cell) → Bool
+    → (found : Cell) (left : Cell) (then_found : Cell) (then_left : Cell) → Bool
 rule alike found left then_found then_left =
-    not (finds alike then_found left)
-    || (alike left then_left && (finds alike found then_left && finds_too alike found then_found))
+    not (alike left then_found)
+    || (alike left then_left && (alike then_left found && alike found then_found))
 
-module _ {State Op Cell : Type 0} (k : Keys State Op Cell) where
+module _ {State Op Cell : Type 0} (k : ToldKeys State Op Cell) where
+  abbrev pub told_keys : Keys State Op Cell
+  told_keys = record {
+    cell = k.cell;
+    key = k.key;
+    Finds = λ a c. c ≡ k.found a;
+    left = λ a c. k.left a;
+    read = k.read;
+  }
+
   -- whether the rule lets two operations on one key swap
   abbrev pub rule_lets : Op → Op → Bool
   rule_lets a b = rule k.alike (k.found a) (k.left a) (k.found b) (k.left b)
-
-  -- Operations on different keys always swap, and those on one key by the rule.
-  abbrev pub may_swap : Op → Op → Bool
-  may_swap a b = if int_eq (k.key a) (k.key b) then rule_lets a b else true
 
 -- The state that undoing an operation leaves, right after it was applied.
 abbrev pub undone : {State Op Undo : Type 0} → Object (Unit {0}) State Op Undo → State → Op → State
@@ -62,22 +72,20 @@ module _ {State Op Undo Cell : Type 0} (o : Object (Unit {0}) State Op Undo)
     (k : Keys State Op Cell) where
   -- An object acts by its keys.
   pub record IsKeyed : Type 0 where
-    -- the test tells cells apart
-    pub alike_is : (c d : Cell) → (k.alike c d ≡ true) ↔ (c ≡ d)
     -- states with the same at each key are one
     pub one_state : (s t : State) → o.upkeep.IsState s → o.upkeep.IsState t
         → ((q : ℤ) → k.cell s q ≡ k.cell t q) → s ≡ t
     -- an operation is legal exactly where it finds what stands at its key
-    pub legal : (s : State) (a : Op) → IsLegal o s a ↔ Finds (k.found a) (k.cell s (k.key a))
-    -- it leaves its cell at its key, and every other key as it was
+    pub legal : (s : State) (a : Op) → IsLegal o s a ↔ k.Finds a (k.cell s (k.key a))
+    -- it leaves at its key what it says, and every other key as it was
     pub next_cell : (s : State) (a : Op) (q : ℤ) → IsLegal o s a
-        → k.cell (o.next s a) q ≡ cond (int_eq q (k.key a)) (k.left a) (k.cell s q)
+        → k.cell (o.next s a) q ≡ cond (int_eq q (k.key a)) (k.left a (k.cell s q)) (k.cell s q)
     -- what is taken back stands at each key as it did
     pub back_cell : (s : State) (a : Op) (q : ℤ) → IsLegal o s a
         → k.cell (undone o s a) q ≡ k.cell s q
     -- every key can be read
     pub read_key : (q : ℤ) (c : Cell) → k.key (k.read q c) ≡ q
-    pub read_found : (q : ℤ) (c : Cell) → k.found (k.read q c) ≡ Some c
+    pub read_finds : (q : ℤ) (c d : Cell) → k.Finds (k.read q c) d ↔ (d ≡ c)
     -- states stay states
     pub start_is_state : o.upkeep.IsState (o.start tt)
     pub next_is_state : (s : State) (a : Op) → o.upkeep.IsState s → IsLegal o s a
@@ -96,16 +104,20 @@ module _ {State Op Undo Cell : Type 0} (o : Object (Unit {0}) State Op Undo)
     pub cell : Cell
     pub allowed : IsAllowed o tt before
     pub stands : k.cell (state_after o tt before) (k.key a) ≡ cell
-    pub found : Finds (k.found a) cell
-    pub goes_on : (s : State) → k.cell s (k.key a) ≡ k.left b → AllowedFrom o s after
-    pub stops : Finds (k.found b) cell → Finds (k.found a) (k.left b)
-        → (s : State) → k.cell s (k.key a) ≡ k.left a → AllowedFrom o s after → ⊥
+    pub finds : k.Finds a cell
+    pub follows : k.Finds b (k.left a cell)
+    pub goes_on : (s : State) → k.cell s (k.key a) ≡ k.left b (k.left a cell)
+        → AllowedFrom o s after
+    pub stops : k.Finds b cell → k.Finds a (k.left b cell) → (s : State)
+        → k.cell s (k.key a) ≡ k.left a (k.left b cell) → AllowedFrom o s after → ⊥
 
-  -- Such operations for each pair that the rule does not let swap, ranged where the pair is.
-  pub record IsShown (table : Op → Op → Bool) (lists : Op → Op → List Op × List Op) : Type 0 where
-    pub by_table : (a b : Op) → o.refuting a b ≡ (if table a b then None else Some (lists a b))
-    pub by_rule : (a b : Op) → table a b ≡ may_swap k a b
-    pub shown : (a b : Op) → k.key a ≡ k.key b → rule_lets k a b ≡ false
+  -- Each pair on one key that is let to swap does, and for each other pair there are such
+  -- operations, ranged where the pair is.
+  pub record IsShown (lets : Op → Op → Bool) (lists : Op → Op → List Op × List Op) : Type 0 where
+    pub by_table : (a b : Op)
+        → o.refuting a b ≡ (if may_swap k lets a b then None else Some (lists a b))
+    pub turns : (a b : Op) → lets a b ≡ true → (c : Cell) → TurnsAt k a b c
+    pub shown : (a b : Op) → k.key a ≡ k.key b → lets a b ≡ false
         → Shows a b (lists a b).0 (lists a b).1
     pub ranged_before : (a b : Op) → IsTrue (o.ranged a) → IsTrue (o.ranged b)
         → AllRanged o (lists a b).0

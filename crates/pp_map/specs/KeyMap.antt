@@ -1,10 +1,10 @@
 -- Meaning: what a map means.
-use Rattle.std.specs.Prelude.{ℤ, true, Option, Some}
+use Rattle.std.specs.Prelude.{ℤ, true, Option}
 use Rattle.std.specs.Option.{option_eq}
 use Rattle.std.specs.Ordering.{int_eq, int_cmp}
 use Rattle.std.specs.FinMap.{FinMap, empty, get}
 use Rattle.pp_spec.specs.Object.{Object}
-use Rattle.pp_keyed.specs.Keys.{Keys}
+use Rattle.pp_keyed.specs.Keys.{ToldKeys}
 use Rattle.pp_map.specs.declared.op.MapOp.{MapOp}
 use Rattle.pp_map.specs.declared.op.MapOp.TheVariants.{Get}
 use Rattle.pp_map.specs.Operations.{key_of, found_by, left_by, values_after, values_before, call_of, recorded_by, given_by, is_ranged}
@@ -30,12 +30,12 @@ key_map = record {
 }
 
 -- it keeps a value, or none, at each key
-abbrev pub map_keys : Keys (FinMap int_cmp ℤ) MapOp (Option ℤ)
+abbrev pub map_keys : ToldKeys (FinMap int_cmp ℤ) MapOp (Option ℤ)
 map_keys = record {
   cell = get;
   alike = option_eq int_eq;
   key = key_of;
-  found = λ op. Some (found_by op);
+  found = found_by;
   left = left_by;
   read = λ key found. Get key found;
 }

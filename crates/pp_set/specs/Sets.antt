@@ -1,10 +1,10 @@
 -- Meaning: what a set means.
-use Rattle.std.specs.Prelude.{Bool, true, false, not, Some}
+use Rattle.std.specs.Prelude.{Bool, true, false, not}
 use Rattle.std.specs.Ordering.{int_cmp}
 use Rattle.std.specs.FinSet.{FinSet}
 use Rattle.std.specs.FinMap.{empty}
 use Rattle.pp_spec.specs.Object.{Object}
-use Rattle.pp_keyed.specs.Keys.{Keys}
+use Rattle.pp_keyed.specs.Keys.{ToldKeys}
 use Rattle.pp_set.specs.declared.op.SetOp.{SetOp}
 use Rattle.pp_set.specs.declared.op.SetOp.TheVariants.{Contains}
 use Rattle.pp_set.specs.Keys.{contains}
@@ -36,12 +36,12 @@ same_bit true b = b
 same_bit false b = not b
 
 -- it keeps a bit at each key: whether the key is in
-abbrev pub bits : Keys (FinSet int_cmp) SetOp Bool
+abbrev pub bits : ToldKeys (FinSet int_cmp) SetOp Bool
 bits = record {
   cell = contains;
   alike = same_bit;
   key = key_of;
-  found = λ a. Some (bit_before a);
+  found = bit_before;
   left = bit_after;
   read = Contains;
 }

@@ -9,13 +9,12 @@ use Rattle.pp_spec.specs.Numbers.{in_range, has_ranged_arguments, is_ranged_answ
 use Rattle.pp_spec.specs.Found.{answer_of}
 use Rattle.pp_spec.specs.Object.{IsLegal}
 use Rattle.pp_spec.proofs.Results.{same_found, found_numbers}
-use Rattle.pp_keyed.specs.Keys.{IsKeyed}
+use Rattle.pp_keyed.specs.Keys.{IsKeyed, told_keys}
 use Rattle.pp_keyed.proofs.Rule.{stands_at, covered}
 use Rattle.pp_map.specs.declared.op.MapOp.{MapOp}
 use Rattle.pp_map.specs.declared.op.MapOp.TheVariants.{Put, Get, Remove}
 use Rattle.pp_map.specs.Operations.{key_of, found_by, left_by, call_of, recorded_by, given_by, with_value, values_after, values_before, is_ranged}
 use Rattle.pp_map.specs.KeyMap.{key_map, map_keys}
-use Rattle.pp_map.specs.laws.Rule.{alike_is}
 
 get-with_value : (values : FinMap int_cmp ℤ) (key : ℤ) (v : Option ℤ) (q : ℤ)
     → get (with_value values key v) q ≡ cond (int_eq q key) v (get values q)
@@ -68,9 +67,8 @@ numbers (Remove key was) = ap (λ (b : Bool). in_range key && b) (found_numbers 
     ∙ ap (λ (b : Bool). b && is_ranged_answer (answer_of was)) (sym (one_ranged key))
 
 -- A map acts by its keys.
-pub map_is_keyed : IsKeyed key_map map_keys
+pub map_is_keyed : IsKeyed key_map (told_keys map_keys)
 map_is_keyed = record {
-  alike_is = alike_is;
   one_state = λ s t is it same. same_map int_cmp_total int_cmp-IsAntisymmetric s t same;
   legal = λ s a. (
     (λ h. same_found (get s (key_of a)) (found_by a) h.1),
@@ -79,7 +77,7 @@ map_is_keyed = record {
   next_cell = next_cell;
   back_cell = back_cell;
   read_key = λ q c. refl;
-  read_found = λ q c. refl;
+  read_finds = λ q c d. ((λ h. h), (λ h. h));
   start_is_state = tt;
   next_is_state = λ s a h k. tt;
   back_is_state = λ s a h k. tt;

@@ -1,22 +1,22 @@
 -- Proof machinery: the laws of a map.
-use Rattle.std.proofs.Common.{◌≡◌, ℤ, true, false, int_eq, if◌then◌else◌, IsTrue, Bool, [], ◌↔◌, Option, Some, None, refl, ap, ◌&&◌}
+use Rattle.std.proofs.Common.{◌≡◌, ℤ, true, false, IsTrue, ◌↔◌, Option, Some, None, refl, sym, ◌∙◌, ap, ◌&&◌}
 use Rattle.std.proofs.lemmas.Bool.{and_parts, and_from}
 use Rattle.pp_spec.specs.Numbers.{in_range}
 use Rattle.pp_spec.specs.Found.{answer_of, is_ranged_found}
 use Rattle.std.specs.Ordering.{int_cmp}
 use Rattle.std.specs.FinMap.{empty, get, get-empty}
 use Rattle.pp_spec.specs.Object.{IsAllowed, state_after, AllRanged, Swaps, SwapsNowhere, IsLawful}
-use Rattle.pp_keyed.specs.Keys.{rule_lets, Shows, IsShown}
-use Rattle.pp_keyed.proofs.Acting.{left_here, shows_where_told}
+use Rattle.pp_keyed.specs.Keys.{told_keys, IsShown}
+use Rattle.pp_keyed.proofs.Acting.{left_here, rule_turns, rule_shows}
 use Rattle.pp_spec.proofs.Tests.{IsTold, swaps_exact, swaps_nowhere}
 use Rattle.pp_keyed.proofs.Lawful as keyed
 use Rattle.pp_map.specs.declared.op.MapOp.{MapOp}
 use Rattle.pp_map.specs.declared.op.MapOp.TheVariants.{Put, Get, Remove}
 use Rattle.pp_map.specs.Operations.{key_of, found_by, is_ranged}
-use Rattle.pp_map.specs.Movers.{may_swap}
+use Rattle.pp_map.specs.Movers.{may_swap, table_lets}
 use Rattle.pp_map.specs.Contexts.{put_first, before_pair, lists_round}
 use Rattle.pp_map.specs.KeyMap.{key_map, map_keys}
-use Rattle.pp_map.specs.laws.Rule.{table_is_rule}
+use Rattle.pp_map.specs.laws.Rule.{alike_is, table_is_rule}
 use Rattle.pp_map.specs.laws.Acting.{map_is_keyed}
 
 -- What is put first stands at its key.
@@ -26,14 +26,8 @@ put_allowed key (Some x) = ((refl, ap answer_of (get-empty {X = ℤ} int_cmp key
 
 put_stands : (key : ℤ) (v : Option ℤ) → get (state_after key_map tt (put_first key v)) key ≡ v
 put_stands key None = get-empty {X = ℤ} int_cmp key
-put_stands key (Some x) = left_here key_map map_keys map_is_keyed empty (Put key x None) key refl
+put_stands key (Some x) = left_here key_map (told_keys map_keys) map_is_keyed empty (Put key x None) key refl
     (put_allowed key (Some x)).0
-
-shown : (a b : MapOp) → key_of a ≡ key_of b → rule_lets map_keys a b ≡ false
-    → Shows key_map map_keys a b (before_pair a) []
-shown a b same r = shows_where_told key_map map_keys map_is_keyed a b (before_pair a)
-    (found_by a) refl (λ e. absurd (cc)) r (put_allowed (key_of a) (found_by a))
-    (put_stands (key_of a) (found_by a))
 
 -- It is ranged where the key and the value are.
 put_ranged : (key : ℤ) (v : Option ℤ) → (in_range key && is_ranged_found v) ≡ true
@@ -49,19 +43,20 @@ before_ranged (Put key v was) h =
 before_ranged (Get key found) h = put_ranged key found h
 before_ranged (Remove key was) h = put_ranged key was h
 
-pub map_is_shown : IsShown key_map map_keys may_swap lists_round
+pub map_is_shown : IsShown key_map (told_keys map_keys) table_lets lists_round
 map_is_shown = record {
   by_table = λ a b. refl;
-  by_rule = λ a b. ap (λ (t : Bool). if int_eq (key_of a) (key_of b) then t else true)
-      (table_is_rule a b);
-  shown = shown;
+  turns = λ a b t. rule_turns key_map map_keys alike_is a b (sym (table_is_rule a b) ∙ t);
+  shown = λ a b e t. rule_shows key_map map_keys alike_is a b (before_pair a)
+      (sym (table_is_rule a b) ∙ t) (put_allowed (key_of a) (found_by a))
+      (put_stands (key_of a) (found_by a));
   ranged_before = λ a b h k. before_ranged a h;
   ranged_after = λ a b h k. tt;
 }
 
 -- The pair swaps exactly where the table lets it, and else nowhere.
 told : IsTold key_map may_swap lists_round
-told = keyed.table_tells key_map map_keys may_swap lists_round map_is_keyed map_is_shown
+told = keyed.table_tells key_map (told_keys map_keys) table_lets lists_round map_is_keyed map_is_shown
 
 pub may_swap_exact : (a b : MapOp) → (may_swap a b ≡ true) ↔ Swaps key_map a b
 may_swap_exact = swaps_exact key_map may_swap lists_round told
@@ -70,4 +65,4 @@ pub may_not_swap : (a b : MapOp) → may_swap a b ≡ false → SwapsNowhere key
 may_not_swap = swaps_nowhere key_map may_swap lists_round told
 
 pub key_map_lawful : IsLawful key_map
-key_map_lawful = keyed.keyed_lawful key_map map_keys may_swap lists_round map_is_keyed map_is_shown
+key_map_lawful = keyed.keyed_lawful key_map (told_keys map_keys) table_lets lists_round map_is_keyed map_is_shown

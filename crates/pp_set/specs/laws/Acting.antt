@@ -8,14 +8,14 @@ use Rattle.pp_core.specs.declared.call.Call.{Call}
 use Rattle.pp_spec.proofs.Numbers.{one_ranged}
 use Rattle.pp_spec.specs.Numbers.{in_range, has_ranged_arguments, is_ranged_answer}
 use Rattle.pp_spec.specs.Object.{IsLegal}
-use Rattle.pp_keyed.specs.Keys.{IsKeyed}
+use Rattle.pp_keyed.specs.Keys.{IsKeyed, told_keys}
 use Rattle.pp_keyed.proofs.Rule.{stands_at, covered}
 use Rattle.pp_set.specs.declared.op.SetOp.{SetOp}
 use Rattle.pp_set.specs.declared.op.SetOp.TheVariants.{Add, Remove, Contains}
 use Rattle.pp_set.specs.Keys.{contains, insert, remove}
 use Rattle.pp_set.specs.Operations.{key_of, bit_before, bit_after, call_of, recorded_by, given_by, set_after, set_before, is_ranged}
 use Rattle.pp_set.specs.Sets.{key_set, bits}
-use Rattle.pp_set.specs.laws.Bits.{one_bit, inserted_at, removed_at, one_set}
+use Rattle.pp_set.specs.laws.Bits.{inserted_at, removed_at, one_set}
 
 twice : (b c : Bool) → not b ≡ c → b ≡ not c
 twice true c e = ap not e
@@ -83,15 +83,14 @@ numbers (Remove k c) = sym (and-true (has_ranged_arguments (call_of (Remove k c)
 numbers (Contains k c) = sym (and-true (has_ranged_arguments (call_of (Contains k c))) ∙ one_ranged k)
 
 -- A set acts by its keys.
-pub set_keyed : IsKeyed key_set bits
+pub set_keyed : IsKeyed key_set (told_keys bits)
 set_keyed = record {
-  alike_is = one_bit;
   one_state = λ s t is it same. one_set s t same;
   legal = λ s a. (legal_finds s a, finds_legal s a);
   next_cell = next_at;
   back_cell = back_at;
   read_key = λ q c. refl;
-  read_found = λ q c. refl;
+  read_finds = λ q c d. ((λ h. h), (λ h. h));
   start_is_state = tt;
   next_is_state = λ s a is h. tt;
   back_is_state = λ s a is h. tt;

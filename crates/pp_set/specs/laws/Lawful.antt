@@ -1,11 +1,11 @@
 -- Proof machinery: the table of a set is the rule of its keys, and so a set is lawful.
-use Rattle.std.proofs.Common.{◌≡◌, ℤ, Bool, true, false, IsTrue, if◌then◌else◌, ◌↔◌, refl, ap, int_eq}
+use Rattle.std.proofs.Common.{◌≡◌, ℤ, Bool, true, false, IsTrue, ◌↔◌, refl, sym, ◌∙◌}
 use Rattle.std.specs.FinMap.{empty}
 use Rattle.pp_spec.specs.Numbers.{in_range}
 use Rattle.pp_spec.specs.Object.{AllRanged, IsAllowed, state_after, Swaps, SwapsNowhere, IsLawful}
 use Rattle.pp_spec.proofs.Tests.{IsTold, swaps_exact, swaps_nowhere}
-use Rattle.pp_keyed.specs.Keys.{rule_lets, IsShown}
-use Rattle.pp_keyed.proofs.Acting.{left_here, shows_where_told}
+use Rattle.pp_keyed.specs.Keys.{rule_lets, told_keys, IsShown}
+use Rattle.pp_keyed.proofs.Acting.{left_here, rule_turns, rule_shows}
 use Rattle.pp_keyed.proofs.Lawful as keyed
 use Rattle.pp_set.specs.declared.op.SetOp.{SetOp}
 use Rattle.pp_set.specs.declared.op.SetOp.TheVariants.{Add, Remove, Contains}
@@ -14,7 +14,7 @@ use Rattle.pp_set.specs.Operations.{key_of, bit_before}
 use Rattle.pp_set.specs.Movers.{may_swap, may_swap_there}
 use Rattle.pp_set.specs.Contexts.{reach, lists_round}
 use Rattle.pp_set.specs.Sets.{key_set, bits}
-use Rattle.pp_set.specs.laws.Bits.{empty_at}
+use Rattle.pp_set.specs.laws.Bits.{empty_at, one_bit}
 use Rattle.pp_set.specs.laws.Acting.{set_keyed}
 
 -- what holds of each form holds of each operation
@@ -57,7 +57,7 @@ reach_allowed k true = ((set_keyed.legal empty (Add k true)).1 (empty_at k), tt)
 reach_allowed k false = tt
 
 reach_stands : (k : ℤ) (c : Bool) → contains (state_after key_set tt (reach k c)) k ≡ c
-reach_stands k true = left_here key_set bits set_keyed empty (Add k true) k refl
+reach_stands k true = left_here key_set (told_keys bits) set_keyed empty (Add k true) k refl
     ((set_keyed.legal empty (Add k true)).1 (empty_at k))
 reach_stands k false = empty_at k
 
@@ -65,13 +65,12 @@ reach_ranged : (k : ℤ) (c : Bool) → IsTrue (in_range k) → AllRanged key_se
 reach_ranged k true h = (h, tt)
 reach_ranged k false h = tt
 
-set_shown : IsShown key_set bits may_swap lists_round
+set_shown : IsShown key_set (told_keys bits) may_swap_there lists_round
 set_shown = record {
   by_table = λ a b. refl;
-  by_rule = λ a b. ap (λ (t : Bool). if int_eq (key_of a) (key_of b) then t else true)
-      (table_is_rule a b);
-  shown = λ a b e t. shows_where_told key_set bits set_keyed a b (reach (key_of a) (bit_before a))
-      (bit_before a) refl (λ n. absurd (cc)) t (reach_allowed (key_of a) (bit_before a))
+  turns = λ a b t. rule_turns key_set bits one_bit a b (sym (table_is_rule a b) ∙ t);
+  shown = λ a b e t. rule_shows key_set bits one_bit a b (reach (key_of a) (bit_before a))
+      (sym (table_is_rule a b) ∙ t) (reach_allowed (key_of a) (bit_before a))
       (reach_stands (key_of a) (bit_before a));
   ranged_before = λ a b h k. reach_ranged (key_of a) (bit_before a) h;
   ranged_after = λ a b h k. tt;
@@ -79,7 +78,7 @@ set_shown = record {
 
 -- The pair swaps exactly where the table lets it, and else nowhere.
 told : IsTold key_set may_swap lists_round
-told = keyed.table_tells key_set bits may_swap lists_round set_keyed set_shown
+told = keyed.table_tells key_set (told_keys bits) may_swap_there lists_round set_keyed set_shown
 
 pub may_swap_exact : (a b : SetOp) → (may_swap a b ≡ true) ↔ Swaps key_set a b
 may_swap_exact = swaps_exact key_set may_swap lists_round told
@@ -88,4 +87,4 @@ pub may_not_swap : (a b : SetOp) → may_swap a b ≡ false → SwapsNowhere key
 may_not_swap = swaps_nowhere key_set may_swap lists_round told
 
 pub set_lawful : IsLawful key_set
-set_lawful = keyed.keyed_lawful key_set bits may_swap lists_round set_keyed set_shown
+set_lawful = keyed.keyed_lawful key_set (told_keys bits) may_swap_there lists_round set_keyed set_shown
