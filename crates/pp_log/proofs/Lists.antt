@@ -1,7 +1,7 @@
 -- Lists: where an element stands, and what a list is with one more, one less, or one set.
 use Rattle.std.proofs.Common.{◌≡◌, ℕ, ◌<◌, ◌≤◌, ◌+◌, zero, suc, Bool, not, cond, nat_lt, List, [], ◌∷◌, ◌++◌, length, take, drop, map, get_or, refl, sym, ◌∙◌, ap, arith, inl, inr, Some, None}
 use Rattle.std.specs.List.{slice_get, slice_set, remove, insert, position, position_or_len}
-use Rattle.std.proofs.lemmas.List.{length-map}
+use Rattle.std.proofs.lemmas.List.{get_or_default, length-map}
 use Rattle.std.proofs.lemmas.Bool.{cases_lt}
 use borrow.Author.Tests.{lt-ltb}
 use Rattle.pp_model.specs.Lists.{In}
@@ -26,13 +26,8 @@ push-injective (a ∷ xs) (b ∷ ys) x y e =
     (both, h.1)
 
 -- an item that is found is the one there, whatever stands for none
-get_any : {A : Type 0} (x : List A) (i : ℕ) (d e : A) → i < length x → get_or x i d ≡ get_or x i e
-get_any [] i d e h = absurd (omega arith)
-get_any (a ∷ x) zero d e h = refl
-get_any (a ∷ x) (suc i) d e h = get_any x i d e (omega arith)
-
 pub found_there : {A : Type 0} (x : List A) (i j : ℕ) (d : A) → i ≡ j → j < length x → get_or x i d ≡ get_or x j (get_or x i d)
-found_there x i j d e h = ap (λ (k : ℕ). get_or x k d) e ∙ get_any x j d (get_or x i d) h
+found_there x i j d e h = ap (λ (k : ℕ). get_or x k d) e ∙ get_or_default x j d (get_or x i d) h
 
 pub insert-remove : {A : Type 0} (x : List A) (i : ℕ) (e : A) → i < length x → e ≡ get_or x i e → insert (remove x i) i e ≡ x
 insert-remove [] i e h is = absurd (omega arith)
@@ -105,25 +100,10 @@ before_stays (a ∷ x) (suc i) zero h = refl
 before_stays (a ∷ x) (suc i) (suc j) h = before_stays x i j (omega arith)
 
 -- lists that are mapped
-pub map_remove : {A B : Type 0} (f : A → B) (x : List A) (i : ℕ) → map f (remove x i) ≡ remove (map f x) i
-map_remove f [] zero = refl
-map_remove f [] (suc i) = refl
-map_remove f (a ∷ x) zero = refl
-map_remove {A} {B} f (a ∷ x) (suc i) = ap (λ (z : List B). f a ∷ z) (map_remove f x i)
-
 pub map_set_same : {A B : Type 0} (f : A → B) (x : List A) (i : ℕ) (b : A) → ((a : A) → slice_get x i ≡ Some a → f b ≡ f a) → map f (slice_set x i b) ≡ map f x
 map_set_same f [] i b h = refl
 map_set_same {A} {B} f (a ∷ x) zero b h = ap (λ (c : B). c ∷ map f x) (h a refl)
 map_set_same {A} {B} f (a ∷ x) (suc i) b h = ap (λ (z : List B). f a ∷ z) (map_set_same f x i b h)
-
-pub map_push : {A B : Type 0} (f : A → B) (x : List A) (e : A) → map f (x ++ e ∷ []) ≡ map f x ++ f e ∷ []
-map_push f [] e = refl
-map_push {A} {B} f (a ∷ x) e = ap (λ (z : List B). f a ∷ z) (map_push f x e)
-
-pub get_mapped : {A B : Type 0} (f : A → B) (x : List A) (i : ℕ) (a : A) → get_or (map f x) i (f a) ≡ f (get_or x i a)
-get_mapped f [] i a = refl
-get_mapped f (b ∷ x) zero a = refl
-get_mapped f (b ∷ x) (suc i) a = get_mapped f x i a
 
 -- a list cut where the list that it is mapped to is cut
 pub record IsCut {A B : Type 0} (f : A → B) (x : List A) (before : List B) (b : B) : Type 0 where

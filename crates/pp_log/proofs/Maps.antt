@@ -12,7 +12,9 @@ use Rattle.pp_log.specs.declared.place.Removed.TheVariants.{Done, Differs}
 use Rattle.pp_model.specs.Object.{ops}
 use Rattle.pp_log.proofs.Distinct.{IsNew}
 use Rattle.pp_log.specs.TakesOut.{itself}
-use Rattle.pp_log.proofs.Lists.{pair, cut, get_mapped, map_remove, none_len, same_position}
+use Rattle.std.proofs.Math.ListN.{get_or-map}
+use Rattle.indexmap.proofs.SetLemmas.{map-remove}
+use Rattle.pp_log.proofs.Lists.{pair, cut, none_len, same_position}
 use Rattle.pp_log.proofs.Sites.{IsSite, left, site_of}
 use Rattle.pp_log.specs.Logs.{DiffersFirst, RemovesEntry, entry_ops, from_place}
 
@@ -87,18 +89,18 @@ differs_entry {Shape} {State} {Op} {Undo} {E} o f sh x id answer h =
 
 -- what is left of the entries has the items that are left
 pub left_mapped : {A B : Type 0} (f : A → B) (removed : Removed) (x : List A) (i : ℕ) → map f (left removed x i) ≡ left removed (map f x) i
-left_mapped f Done x i = map_remove f x i
+left_mapped f Done x i = map-remove f x i
 left_mapped f (Differs id answer) x i = refl
 
 pub entry_removed : {Shape State Op Undo E : Type 0} (o : Object Shape State Op Undo) (f : E → Item Op) (sh new : Shape) (x : List E) (i : ℕ) (removed : Removed) → RemovesEntry o itself (sh, map f x) i (new, left removed (map f x) i) removed → RemovesEntry o f (sh, x) i (new, left removed x i) removed
 entry_removed {Shape} {State} {Op} {Undo} {E} o f sh new x i Done r =
-    let same : ops (remove (map f x) i) ≡ entry_ops f (remove x i) = ap (λ (z : List (Item Op)). ops z) (sym (map_remove f x i)) ∙ ops_mapped f (remove x i) in (
+    let same : ops (remove (map f x) i) ≡ entry_ops f (remove x i) = ap (λ (z : List (Item Op)). ops z) (sym (map-remove f x i)) ∙ ops_mapped f (remove x i) in (
       ap (λ (p : Shape × List (Item Op)). pair p.0 (remove x i)) r.0,
       subst (λ (z : List Op). IsAllowed o sh z) same r.1,
     )
 entry_removed {Shape} {State} {Op} {Undo} {E} o f sh new x i (Differs id answer) r = (
   ap (λ (p : Shape × List (Item Op)). pair p.0 x) r.0,
-  differs_entry o f sh (remove x i) id answer (subst (λ (z : List (Item Op)). DiffersFirst o itself sh z id answer) (sym (map_remove f x i)) r.1),
+  differs_entry o f sh (remove x i) id answer (subst (λ (z : List (Item Op)). DiffersFirst o itself sh z id answer) (sym (map-remove f x i)) r.1),
 )
 
 pub inside : {Shape A B : Type 0} (f : A → B) (sh : Shape) (x : List A) (log : Shape × List A) (i : ℕ) → ◌≡◌ {A = Shape × List A} (sh, x) log → i < length log.1 → i < length (map f x)
@@ -109,7 +111,7 @@ inside {Shape} {A} f sh x log i is lt =
 
 pub site_seen : {Shape Op E : Type 0} (place : Op → ℕ) (f : E → Item Op) (sh : Shape) (x : List E) (log : Shape × List E) (i : ℕ) (a : E) (e : Item Op) (p : ℕ) → ◌≡◌ {A = Shape × List E} (sh, x) log → i < length log.1 → a ≡ get_or x i a → e ≡ f a → p ≡ place e.op → IsSite place (map f x) i e p
 site_seen {Shape} {Op} {E} place f sh x log i a e p is lt at item here =
-    site_of place (map f x) i e p (inside f sh x log i is lt) (item ∙ ap f at ∙ sym (get_mapped f x i a) ∙ ap (λ (d : Item Op). get_or (map f x) i d) (sym item)) (sym here)
+    site_of place (map f x) i e p (inside f sh x log i is lt) (item ∙ ap f at ∙ sym (get_or-map f x i a) ∙ ap (λ (d : Item Op). get_or (map f x) i d) (sym item)) (sym here)
 
 -- How many operations of its place stand from an entry on.
 pub count_seen : {Shape Op E : Type 0} (place : Op → ℕ) (f : E → Item Op) (sh : Shape) (x : List E) (log : Shape × List E) (i : ℕ) → ◌≡◌ {A = Shape × List E} (sh, x) log → from_place place (ops (map f x)) i ≡ from_place place (entry_ops f log.1) i

@@ -106,6 +106,15 @@ remarked {Op} O c s id m k x i h =
     not_own : (m : Mark) → m ≡ Pulled → is_own m ≡ true → ⊥
     not_own m e o = let z : false ≡ true = ap is_own (sym e) ∙ o in cc
 
+-- an open transaction is known by its name, and an entry of it by its id
+pub one_open : {Op State : Type 0} (O : Object Op State) (c : Config Op) → Sound O c → (x w : Tx Op) → In x c.opened → In w c.opened → w.name ≡ x.name → w ≡ x
+one_open {Op} O c s x w i k n = by_key (λ (z : Tx Op). z.name) c.opened s.open_names w x k i n
+
+pub one_entry : {Op State : Type 0} (O : Object Op State) (c : Config Op) → Sound O c → (x w : Tx Op) → In x c.opened → In w c.opened → w.name ≡ x.name →
+    (e a : LocalEntry Op) → In e x.local → In a w.local → a.id ≡ e.id → a ≡ e
+one_entry {Op} O c s x w i k n e a j m z =
+    by_key (λ (b : LocalEntry Op). b.id) x.local (s.local_ids x i) a e (subst (λ (b : Tx Op). In a b.local) (one_open O c s x w i k n) m) j z
+
 -- an own entry of an open transaction stands in G only where it is pushed
 standing : {Op State : Type 0} (O : Object Op State) (c : Config Op) → Sound O c → (x : Tx Op) → In x c.opened → (e : LocalEntry Op) → In e x.local → is_own e.mark ≡ true →
     (g : SharedEntry Op) → In g c.shared → g.id ≡ e.id → (b : Bool) → g.committed ≡ b → e.mark ≡ Pushed
@@ -211,7 +220,7 @@ pushed_keeps {Op} O c s t id x ix nx e ie ne me before others allowed =
       pushed_stand = on_each t f c.opened (λ (w : Tx Op). (a : LocalEntry Op) → In a w.local → a.mark ≡ Pushed → In (as_shared w.name false (item a)) (c.shared ++ g ∷ []))
           (λ w k n a i m. let r = from_map (mark_at id Pushed) a w.local i in elim (mark_cases id Pushed r.0) [
             | inl q ↦ in_right (as_shared w.name false (item a)) c.shared (g ∷ []) (inl (
-                ap (λ (z : Name). as_shared z false (item a)) n ∙ ap (λ (z : LocalEntry Op). as_shared t false (item z)) (r.2 ∙ q.1) ∙ ap (λ (z : LocalEntry Op). as_shared t false (item z)) (the_entry w k n r.0 r.1 q.0)))
+                ap (λ (z : Name). as_shared z false (item a)) n ∙ ap (λ (z : LocalEntry Op). as_shared t false (item z)) (r.2 ∙ q.1) ∙ ap (λ (z : LocalEntry Op). as_shared t false (item z)) (one_entry O c s x w ix k (n ∙ sym nx) e r.0 ie r.1 (q.0 ∙ sym ne))))
             | inr q ↦ in_left (as_shared w.name false (item a)) c.shared (g ∷ []) (s.pushed_stand w k a (subst (λ (z : LocalEntry Op). In z w.local) (sym (r.2 ∙ q.1)) r.1) m)
           ])
           (λ w k n a i m. in_left (as_shared w.name false (item a)) c.shared (g ∷ []) (s.pushed_stand w k a i m));
@@ -245,7 +254,7 @@ pushed_keeps {Op} O c s t id x ix nx e ie ne me before others allowed =
       ];
       open_order = on_each t f c.opened (λ (w : Tx Op). KeepsOrder O (c.shared ++ g ∷ []) (own_items w.local))
           (λ w k n. subst (λ (z : List (Item Op)). KeepsOrder O (c.shared ++ g ∷ []) z) (sym (same w k n).same_own)
-          (subst (λ (z : Tx Op). KeepsOrder O (c.shared ++ g ∷ []) (own_items z.local)) (sym (is_x w k n)) (order_pushed O c.shared g (own_items x.local) new mine (s.open_order x ix))))
+          (subst (λ (z : Tx Op). KeepsOrder O (c.shared ++ g ∷ []) (own_items z.local)) (sym (one_open O c s x w ix k (n ∙ sym nx))) (order_pushed O c.shared g (own_items x.local) new mine (s.open_order x ix))))
           (λ w k n. order_pushed O c.shared g (own_items w.local) new
           (λ a b i z. absurd (elsewhere O c s x ix e ie own_e w k (λ q. n (q ∙ nx)) b (before_in_second a b (own_items w.local) i) z)) (s.open_order w k));
       done_order = λ d i. order_pushed O c.shared g d.entries new (λ a b j z. absurd (not_done O c s x ix e ie own_e d i b (before_in_second a b d.entries j) z)) (s.done_order d i);
@@ -269,14 +278,8 @@ pushed_keeps {Op} O c s t id x ix nx e ie ne me before others allowed =
     new : Stands e.id c.shared → ⊥
     new h = let z : Unpushed ≡ Pushed = sym me ∙ stands_pushed O c s x ix e ie own_e h in cc
 
-    is_x : (w : Tx Op) → In w c.opened → w.name ≡ t → w ≡ x
-    is_x w k n = by_key (λ (z : Tx Op). z.name) c.opened s.open_names w x k ix (n ∙ sym nx)
-
-    the_entry : (w : Tx Op) → In w c.opened → w.name ≡ t → (a : LocalEntry Op) → In a w.local → a.id ≡ id → a ≡ e
-    the_entry w k n a i z = by_key (λ (b : LocalEntry Op). b.id) x.local (s.local_ids x ix) a e (subst (λ (b : Tx Op). In a b.local) (is_x w k n) i) ie (z ∙ sym ne)
-
     same : (w : Tx Op) → In w c.opened → w.name ≡ t → Remarked O c (set_mark id Pushed) w
-    same w k n = remarked O c s id Pushed refl w k (λ a i z. ap (λ (b : LocalEntry Op). is_own b.mark) (the_entry w k n a i z) ∙ own_e)
+    same w k n = remarked O c s id Pushed refl w k (λ a i z. ap (λ (b : LocalEntry Op). is_own b.mark) (one_entry O c s x w ix k (n ∙ sym nx) e a ie i (z ∙ sym ne)) ∙ own_e)
 
     old : (u : Name) (p : Item Op) → Owns (push_effect c t id (Some e)) u p → Owns c u p
     old u p (inr i) = inr i

@@ -5,7 +5,7 @@ use Rattle.pp_log.specs.Keeps.{KeepsAll}
 use Rattle.pp_log.proofs.Distinct.{IsNew}
 use Rattle.pp_log.proofs.Grown.{grown, with_room, keeps_reached, new_key, seen_more}
 use Rattle.pp_log.proofs.Maps.{legal_seen, new_seen, few_seen}
-use Rattle.pp_log.proofs.Lists.{map_push}
+use Rattle.std.proofs.lemmas.List.{map_push}
 use Rattle.pp_log.proofs.log.Log.append.Goals as goal
 
 pub invariant_of-self : goal.invariant_of-self
