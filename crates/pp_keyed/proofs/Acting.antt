@@ -40,13 +40,13 @@ module _ {State Op Undo Cell : Type 0} (o : Object (Unit {0}) State Op Undo)
       (λ e f. one (sym (same_key q (k.key a) e) ∙ same_key q (k.key b) f))
       ∙ sym (both_left s a b q h g))
 
-  abbrev Turned : State → Op → Op → Type 0
-  Turned s a b = IsLegal o s b × IsLegal o (o.next s b) a
+  abbrev AreLegalTurned : State → Op → Op → Type 0
+  AreLegalTurned s a b = IsLegal o s b × IsLegal o (o.next s b) a
       × (o.next (o.next s b) a ≡ o.next (o.next s a) b)
 
   -- operations on different keys
   apart : (s : State) (a b : Op) → o.upkeep.IsState s → int_eq (k.key a) (k.key b) ≡ false
-      → IsLegal o s a → IsLegal o (o.next s a) b → Turned s a b
+      → IsLegal o s a → IsLegal o (o.next s a) b → AreLegalTurned s a b
   apart s a b is e h g =
       let P : Option Cell → Cell → Type 0 = λ f c. Finds f c in
       let hb : IsLegal o s b = (acts.legal s b).1
@@ -64,7 +64,7 @@ module _ {State Op Undo Cell : Type 0} (o : Object (Unit {0}) State Op Undo)
 
   -- operations on one key that the rule lets swap
   together : (s : State) (a b : Op) → o.upkeep.IsState s → k.key a ≡ k.key b
-      → rule_lets k a b ≡ true → IsLegal o s a → IsLegal o (o.next s a) b → Turned s a b
+      → rule_lets k a b ≡ true → IsLegal o s a → IsLegal o (o.next s a) b → AreLegalTurned s a b
   together s a b is e t h g =
       let P : Option Cell → Cell → Type 0 = λ f c. Finds f c in
       let follows = subst (P (k.found b)) (left_here s a (k.key b) (sym e) h)
@@ -81,7 +81,7 @@ module _ {State Op Undo Cell : Type 0} (o : Object (Unit {0}) State Op Undo)
 
   turned_by : (t : Bool) (s : State) (a b : Op) → int_eq (k.key a) (k.key b) ≡ t
       → (if t then rule_lets k a b else true) ≡ true → o.upkeep.IsState s → IsLegal o s a
-      → IsLegal o (o.next s a) b → Turned s a b
+      → IsLegal o (o.next s a) b → AreLegalTurned s a b
   turned_by true s a b e r is h g = together s a b is (same_key (k.key a) (k.key b) e) r h g
   turned_by false s a b e r is h g = apart s a b is e h g
 
