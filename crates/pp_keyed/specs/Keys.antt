@@ -54,6 +54,8 @@ module _ {State Op Cell : Type 0} (k : Keys State Op Cell) where
   abbrev pub may_swap : Op → Op → Bool
   may_swap a b = if int_eq (k.key a) (k.key b) then rule_lets a b else true
 
+-- From here on proof machinery: what such an object shows of itself, of which its laws are made.
+
 -- The state that undoing an operation leaves, right after it was applied.
 abbrev pub undone : {State Op Undo : Type 0} → Object (Unit {0}) State Op Undo → State → Op → State
 undone o s a = o.upkeep.back (o.next s a) a (o.upkeep.kept s a)
