@@ -6,9 +6,6 @@ use Rattle.pp_io.specs.Memory.{most_of}
 pub given : (bytes gave : List ℕ) (at n : ℕ) → gave ≡ take n (drop at bytes) → drop at bytes ≡ gave ++ drop (at + n) bytes
 given bytes gave at n h = rw (h, ← drop-drop n at bytes) (sym (take-append-drop n (drop at bytes)))
 
-pub none_left : (bytes : List ℕ) (at : ℕ) → length bytes ≤ at → drop at bytes ≡ []
-none_left bytes at le = drop_all at bytes le
-
 -- a call gives one byte at least, where there is room
 pub some_given : (most : Option ℕ) (room : ℕ) → 0 < room → 0 < most_of most room
 some_given None room some = some
