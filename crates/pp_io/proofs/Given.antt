@@ -1,6 +1,6 @@
 -- What a read takes from the front.
-use Rattle.std.proofs.Common.{◌≡◌, ◌≤◌, ◌<◌, ◌+◌, ℕ, List, [], ◌++◌, length, take, drop, Option, Some, None, sym, arith}
-use Rattle.std.proofs.lemmas.List.{drop-drop, drop_all, take-append-drop}
+use Rattle.std.proofs.Common.{◌≡◌, ◌<◌, ◌+◌, ℕ, List, ◌++◌, take, drop, Option, Some, None, sym, arith}
+use Rattle.std.proofs.lemmas.List.{drop-drop, take-append-drop}
 use Rattle.pp_io.specs.Memory.{most_of}
 
 pub given : (bytes gave : List ℕ) (at n : ℕ) → gave ≡ take n (drop at bytes) → drop at bytes ≡ gave ++ drop (at + n) bytes
