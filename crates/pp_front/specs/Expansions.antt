@@ -169,23 +169,23 @@ abbrev pub changed_where_open : {Op : Type 0} → Config Op → Name → Front �
 changed_where_open c t f changed = front_of_open (tx t c.opened) f changed
 
 -- The front's state behind a record.
-abbrev pub kept : {Op : Type 0} → Front → Config Op → RunRecord Op → Front
-kept f c (records.Retry t) =
+abbrev pub front_after : {Op : Type 0} → Front → Config Op → RunRecord Op → Front
+front_after f c (records.Retry t) =
     changed_where_open c t f λ l. with_sources (with_section f t None) t []
-kept f c (records.XBegin t) =
+front_after f c (records.XBegin t) =
     changed_where_open c t f λ l. with_section f t (opened_at (length l) (f.section t))
-kept f c (records.XEnd t) = changed_where_open c t f λ l. with_section f t None
-kept f c (records.XAbort t) = changed_where_open c t f λ l. with_section f t None
-kept f c (records.Depend t source) =
+front_after f c (records.XEnd t) = changed_where_open c t f λ l. with_section f t None
+front_after f c (records.XAbort t) = changed_where_open c t f λ l. with_section f t None
+front_after f c (records.Depend t source) =
     changed_where_open c t f λ l. with_sources f t (with_source source (f.sources t))
-kept f c (records.DropSource t source) =
+front_after f c (records.DropSource t source) =
     changed_where_open c t f λ l. with_sources f t (without_source source (f.sources t))
-kept f c (records.Plain step) = f
-kept f c (records.Op t id op) = f
-kept f c (records.Commit t) = f
-kept f c (records.Abort t) = f
-kept f c (records.Refresh t o) = f
-kept f c (records.Publish t) = f
+front_after f c (records.Plain step) = f
+front_after f c (records.Op t id op) = f
+front_after f c (records.Commit t) = f
+front_after f c (records.Abort t) = f
+front_after f c (records.Refresh t o) = f
+front_after f c (records.Publish t) = f
 
 -- the record is one of the style
 abbrev pub IsOfStyle : {Op : Type 0} → Style → RunRecord Op → Type 0

@@ -21,7 +21,7 @@ Records R = List (Lined R)
 pub record Translation (F R Op : Type 0) : Type 0 where
   pub new : F
   pub expand : F → Config Op → R → List (Step Op)
-  pub kept : F → Config Op → R → F
+  pub front_after : F → Config Op → R → F
 
 -- where a run stands
 pub record Standing (F Op : Type 0) : Type 0 where
@@ -39,7 +39,10 @@ steps_at T p r = T.expand p.front p.config r
 -- where they lead
 abbrev pub after_record : {F R Op : Type 0} → Translation F R Op → Standing F Op → R → Standing F Op
 after_record T p r =
-    record { front = T.kept p.front p.config r; config = after_from p.config (steps_at T p r) }
+    record {
+      front = T.front_after p.front p.config r;
+      config = after_from p.config (steps_at T p r);
+    }
 
 abbrev pub on_line : {A : Type 0} → ℕ → List A → List (Lined A)
 on_line line ss = map (λ s. record { line = line; what = s }) ss

@@ -8,7 +8,7 @@ use Rattle.pp_model.specs.Config.{Start, first}
 use Rattle.pp_model.specs.Rules.{IsVerdict, StartMeets, Verdict}
 use Rattle.pp_front.specs.Records.{RunRecord}
 use Rattle.pp_front.specs.Records.{Plain}
-use Rattle.pp_front.specs.Expansions.{expand, kept}
+use Rattle.pp_front.specs.Expansions.{expand, front_after}
 use Rattle.pp_front.specs.Fronts.{Front, new_front}
 use Rattle.pp_front.specs.Runs.{EndsAtFailure, HasTooManySteps, IsRun, Lined, LinedSteps, Records}
 use Rattle.pp_front.specs.Runs.{Standing, Translation, bare, joined_steps}
@@ -16,7 +16,8 @@ use Rattle.pp_front.specs.Runs.{Standing, Translation, bare, joined_steps}
 -- The translation of a style, over objects of these kinds.
 abbrev pub translation : {Op : Type 0} → (Op → ℕ) → Style → List Kind →
     Translation Front (RunRecord Op) Op
-translation place style ks = record { new = new_front ks; expand = expand place style; kept = kept }
+translation place style ks =
+    record { new = new_front ks; expand = expand place style; front_after = front_after }
 
 -- the steps as records, each on its line
 abbrev pub plain : {Op : Type 0} → LinedSteps Op → List (Lined (RunRecord Op))

@@ -1,6 +1,7 @@
 -- Feeding pieces and taking lines hands out the lines of the whole input, in order.
-use Rattle.std.proofs.Common.{◌≡◌, ◌≤◌, ℕ, suc, ◌+◌, ◌-◌, List, [], ◌∷◌, ◌++◌, length, take, map, Some, None, refl, ap, sym, ◌∙◌, subst, append_assoc, lit≤, arith}
+use Rattle.std.proofs.Common.{◌≡◌, ◌≤◌, ℕ, suc, ◌+◌, ◌-◌, List, [], ◌∷◌, ◌++◌, length, map, Some, None, refl, ap, sym, ◌∙◌, subst, append_assoc, lit≤, arith}
 use Rattle.std.proofs.lemmas.List.{append-nil, length-append, length-map, map-append}
+use Rattle.std.proofs.Math.Seq.{take-append_seam}
 use Rattle.pp_io.specs.declared.reach.Reach.{Reach}
 use Rattle.pp_io.specs.declared.fault.LineFault.{LineFault}
 use Rattle.pp_io.specs.Lines.{ended, rest, ended_behind, unended, without_return, numbered_from, numbered, ended_lines, numbered_lines}
@@ -21,10 +22,6 @@ numbered_append n (x ∷ xs) b =
 length_numbered : (n : ℕ) (a : List (List ℕ)) → length (numbered_from n a) ≡ length a
 length_numbered n [] = refl
 length_numbered n (x ∷ xs) = ap suc (length_numbered (n + 1) xs)
-
-take_length : {X : Type 0} (a b : List X) → take (length a) (a ++ b) ≡ a
-take_length [] b = refl
-take_length (x ∷ xs) b = ap (λ ls. x ∷ ls) (take_length xs b)
 
 -- the first lines, and then others
 numbered_front : (lines more : List (List ℕ)) → numbered (lines ++ more) ≡ numbered lines ++ numbered_from (1 + length (map without_return lines)) (map without_return more)
@@ -50,7 +47,7 @@ before_fault bytes fault more h =
     let front = ended_front bytes in
     let all : numbered (ended bytes ++ more) ≡ ended_lines (within bytes) ++ numbered_from (1 + length (map without_return (ended (within bytes)))) (map without_return (front.0 ++ more))
     = ap (λ ls. numbered (ls ++ more)) front.1 ∙ ap numbered (append_assoc (ended (within bytes)) front.0 more) ∙ numbered_front (ended (within bytes)) (front.0 ++ more) in
-    rw (h, all, fault_line bytes fault h) (take_length (ended_lines (within bytes)) _)
+    rw (h, all, fault_line bytes fault h) (take-append_seam (ended_lines (within bytes)) _)
 
 -- where a limit is passed, the lines before that line are what ended before that byte
 pub scanned_at_fault : (bytes : List ℕ) (fault : LineFault) → overrun bytes ≡ Some fault → scanned_lines bytes ≡ ended_lines (within bytes)

@@ -41,13 +41,13 @@ module _ {State Op Undo Cell : Type 0} (o : Object (Unit {0}) State Op Undo)
       (λ e f. one q (same_key q (k.key a) e) (same_key q (k.key b) f))
       ∙ sym (both_left s a b q h g))
 
-  abbrev Turned : State → Op → Op → Type 0
-  Turned s a b = IsLegal o s b × IsLegal o (o.next s b) a
+  abbrev AreLegalTurned : State → Op → Op → Type 0
+  AreLegalTurned s a b = IsLegal o s b × IsLegal o (o.next s b) a
       × (o.next (o.next s b) a ≡ o.next (o.next s a) b)
 
   -- operations on different keys
   apart : (s : State) (a b : Op) → o.upkeep.IsState s → int_eq (k.key a) (k.key b) ≡ false
-      → IsLegal o s a → IsLegal o (o.next s a) b → Turned s a b
+      → IsLegal o s a → IsLegal o (o.next s a) b → AreLegalTurned s a b
   apart s a b is e h g =
       let hb : IsLegal o s b = (acts.legal s b).1
       (subst (k.Finds b) (left_elsewhere s a (k.key b) (other_key (k.key a) (k.key b) e) h)
@@ -64,7 +64,7 @@ module _ {State Op Undo Cell : Type 0} (o : Object (Unit {0}) State Op Undo)
 
   -- operations on one key whose cells turn
   together : (s : State) (a b : Op) → o.upkeep.IsState s → k.key a ≡ k.key b
-      → ((c : Cell) → TurnsAt k a b c) → IsLegal o s a → IsLegal o (o.next s a) b → Turned s a b
+      → ((c : Cell) → TurnsAt k a b c) → IsLegal o s a → IsLegal o (o.next s a) b → AreLegalTurned s a b
   together s a b is e turns h g =
       let turned = turns (k.cell s (k.key b))
       (subst (λ (q : ℤ). k.Finds a (k.cell s q)) e ((acts.legal s a).0 h))
@@ -81,7 +81,7 @@ module _ {State Op Undo Cell : Type 0} (o : Object (Unit {0}) State Op Undo)
   turned_by : (lets : Op → Op → Bool)
       → ((a b : Op) → lets a b ≡ true → (c : Cell) → TurnsAt k a b c) → (t : Bool) (s : State)
       (a b : Op) → int_eq (k.key a) (k.key b) ≡ t → (if t then lets a b else true) ≡ true
-      → o.upkeep.IsState s → IsLegal o s a → IsLegal o (o.next s a) b → Turned s a b
+      → o.upkeep.IsState s → IsLegal o s a → IsLegal o (o.next s a) b → AreLegalTurned s a b
   turned_by lets turns true s a b e r is h g =
       together s a b is (same_key (k.key a) (k.key b) e) (turns a b r) h g
   turned_by lets turns false s a b e r is h g = apart s a b is e h g

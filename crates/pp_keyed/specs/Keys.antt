@@ -64,6 +64,8 @@ module _ {State Op Cell : Type 0} (k : ToldKeys State Op Cell) where
   abbrev pub rule_lets : Op → Op → Bool
   rule_lets a b = rule k.alike (k.found a) (k.left a) (k.found b) (k.left b)
 
+-- From here on proof machinery: what such an object shows of itself, of which its laws are made.
+
 -- The state that undoing an operation leaves, right after it was applied.
 abbrev pub undone : {State Op Undo : Type 0} → Object (Unit {0}) State Op Undo → State → Op → State
 undone o s a = o.upkeep.back (o.next s a) a (o.upkeep.kept s a)

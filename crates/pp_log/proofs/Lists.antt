@@ -43,14 +43,6 @@ cut_there [] i e h is = absurd (omega arith)
 cut_there {A} (a ∷ x) zero e h is = ap (λ (b : A). b ∷ x) (sym is)
 cut_there {A} (a ∷ x) (suc i) e h is = ap (λ (z : List A). a ∷ z) (cut_there x i e (omega arith) is) ∙ ap (λ (k : ℕ). take (suc i) (a ∷ x) ++ e ∷ drop k (a ∷ x)) (plus_one i)
 
-pub not_empty : {A : Type 0} (w z : List A) (f : A) → [] ≡ w ++ f ∷ z → ⊥
-not_empty [] z f e = cc
-not_empty (g ∷ w) z f e = cc
-
-pub in_mid : {A : Type 0} (u v : List A) (e : A) → In e (u ++ e ∷ v)
-in_mid [] v e = inl refl
-in_mid (d ∷ u) v e = inr (in_mid u v e)
-
 pub remove_mid : {A : Type 0} (u v : List A) (e : A) → remove (u ++ e ∷ v) (length u) ≡ u ++ v
 remove_mid [] v e = refl
 remove_mid {A} (d ∷ u) v e = ap (λ (z : List A). d ∷ z) (remove_mid u v e)

@@ -7,6 +7,7 @@ use Rattle.std.proofs.lemmas.List.{length-append}
 use Rattle.pp_core.specs.declared.entry.Item.{Item}
 use Rattle.pp_core.specs.declared.answer.Answer.{Answer}
 use Rattle.pp_model.specs.Lists.{In}
+use Rattle.pp_model.proofs.Lists.{in_right, not_empty}
 use Rattle.pp_spec.specs.Object.{Object, IsAllowed, IsLawful, IsPlaced, state_after}
 use Rattle.pp_log.specs.declared.place.Place.{Place}
 use Rattle.pp_log.specs.declared.place.Removed.{Removed}
@@ -17,7 +18,7 @@ use Rattle.pp_log.proofs.Distinct.{AreDistinct, apart, distinct_index, distinct_
 use Rattle.pp_log.specs.Keeps.{IsKept, KeptIn, Keeps}
 use Rattle.pp_log.specs.Logs.{DiffersFrom, DiffersFirst, RemovesEntry, from_place, removal_ticks}
 use Rattle.pp_log.specs.TakesOut.{IsWhole, TakesOut, itself, takes_out_ticks}
-use Rattle.pp_log.proofs.Lists.{pair, cut_there, in_mid, not_empty, remove_mid, set_other, set_same}
+use Rattle.pp_log.proofs.Lists.{pair, cut_there, remove_mid, set_other, set_same}
 use Rattle.pp_log.proofs.Edits.{ranged-remove}
 use Rattle.pp_log.proofs.Parted.{there_at, there_off, elsewhere_at, elsewhere-append, there-append, there_count}
 use Rattle.pp_log.proofs.Whole.{base_allowed, log_of, differs_first}
@@ -97,7 +98,7 @@ module _ {Shape State Op Undo : Type 0} (o : Object Shape State Op Undo) (place 
   pub id_there : (s : State) (log : List (Item Op)) (ps : List (Place Op Undo)) (i : ℕ) (e : Item Op) (p : ℕ) (q : Place Op Undo) → Keeps o place s log ps → IsSite place log i e p → slice_get ps p ≡ Some q → ((f : Item Op) → In f q.items.items → f.id ≢ e.id) → ⊥
   id_there s log ps i e p q h site at none =
       let kept : IsKept o (o.start (o.shape s)) (there place p log) q = subst (KeptIn o (o.start (o.shape s)) (there place p log)) at (h.kept p) in
-      none e (subst (In e) (sym (kept.same_items ∙ site.here)) (in_mid site.u site.v e)) refl
+      none e (subst (In e) (sym (kept.same_items ∙ site.here)) (in_right e site.u (e ∷ site.v) (inl refl))) refl
 
   -- its items, and where the item stands there
   pub kept_of : (s : State) (log : List (Item Op)) (ps : List (Place Op Undo)) (p : ℕ) (q : Place Op Undo) → Keeps o place s log ps → slice_get ps p ≡ Some q → q.items.items ≡ there place p log

@@ -14,7 +14,7 @@ use Rattle.pp_log.specs.Runs.{kept_along, AllFit, IsRun}
 use Rattle.pp_log.specs.Keeps.{IsKept, KeptIn, Keeps}
 use Rattle.pp_log.specs.Logs.{DiffersFrom, DiffersFirst}
 use Rattle.pp_log.specs.TakesOut.{IsWhole, itself}
-use Rattle.pp_log.proofs.Lists.{not_empty}
+use Rattle.pp_model.proofs.Lists.{not_empty}
 use Rattle.pp_log.proofs.Runs.{length-ops, length-kept, run_shape}
 use Rattle.pp_log.proofs.Parted.{is_at, there_at, there_off, elsewhere_at, elsewhere_off, there-append, there_of_elsewhere, there_of_others, parted, length-parts, ops-append}
 use Rattle.pp_log.proofs.Apart.{same_run, allowed_there, allowed_same, kept_same, allowed_by_places, state_by_places, gives_at}

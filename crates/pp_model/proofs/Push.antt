@@ -66,7 +66,7 @@ own_marked {Op} id m k (e ∷ l) h = elim (mark_cases id m e) [
     map_cond false e w = refl
 
 -- what a transaction with another mark at one own entry keeps by itself
-pub record Remarked {Op State : Type 0} (O : Object Op State) (c : Config Op) (f : List (LocalEntry Op) → List (LocalEntry Op)) (x : Tx Op) : Type 0 where
+pub record IsRemarked {Op State : Type 0} (O : Object Op State) (c : Config Op) (f : List (LocalEntry Op) → List (LocalEntry Op)) (x : Tx Op) : Type 0 where
   pub marks : (e : LocalEntry Op) → In e (f x.local) → OwnedAsMarked x.name e
   pub distinct : (e g : LocalEntry Op) → Before e g (f x.local) → e.id ≢ g.id
   pub used : (e : LocalEntry Op) → In e (f x.local) → In e.id c.ids
@@ -75,7 +75,7 @@ pub record Remarked {Op State : Type 0} (O : Object Op State) (c : Config Op) (f
   pub pulled : (a p : LocalEntry Op) → Before a p (f x.local) → is_own a.mark ≡ true → p.mark ≡ Pulled → Swaps O a.op p.op
 
 pub remarked : {Op State : Type 0} (O : Object Op State) (c : Config Op) → Sound O c → (id : ℕ) (m : Mark) → is_own m ≡ true →
-    (x : Tx Op) → In x c.opened → ((e : LocalEntry Op) → In e x.local → e.id ≡ id → is_own e.mark ≡ true) → Remarked O c (set_mark id m) x
+    (x : Tx Op) → In x c.opened → ((e : LocalEntry Op) → In e x.local → e.id ≡ id → is_own e.mark ≡ true) → IsRemarked O c (set_mark id m) x
 remarked {Op} O c s id m k x i h =
     record {
       marks = λ a j. let r = from_map (mark_at id m) a x.local j in elim (mark_cases id m r.0) [
@@ -278,7 +278,7 @@ pushed_keeps {Op} O c s t id x ix nx e ie ne me before others allowed =
     new : Stands e.id c.shared → ⊥
     new h = let z : Unpushed ≡ Pushed = sym me ∙ stands_pushed O c s x ix e ie own_e h in cc
 
-    same : (w : Tx Op) → In w c.opened → w.name ≡ t → Remarked O c (set_mark id Pushed) w
+    same : (w : Tx Op) → In w c.opened → w.name ≡ t → IsRemarked O c (set_mark id Pushed) w
     same w k n = remarked O c s id Pushed refl w k (λ a i z. ap (λ (b : LocalEntry Op). is_own b.mark) (one_entry O c s x w ix k (n ∙ sym nx) e a ie i (z ∙ sym ne)) ∙ own_e)
 
     old : (u : Name) (p : Item Op) → Owns (push_effect c t id (Some e)) u p → Owns c u p

@@ -13,7 +13,7 @@ use Rattle.pp_model.proofs.Permute.{permuted}
 use Rattle.pp_model.proofs.Parted.{parted}
 
 -- what the order of a shared log and of the committed transactions rests on
-pub record Ordered {Op State : Type 0} (O : Object Op State) (G : List (SharedEntry Op)) (D : List (CommittedTx Op)) : Type 0 where
+pub record IsOrdered {Op State : Type 0} (O : Object Op State) (G : List (SharedEntry Op)) (D : List (CommittedTx Op)) : Type 0 where
   pub ids : (g h : SharedEntry Op) → Before g h G → g.id ≡ h.id → ⊥
   pub names : (d e : CommittedTx Op) → Before d e D → d.name ≢ e.name
   pub within : (d : CommittedTx Op) → In d D → (p q : Item Op) → Before p q d.entries → p.id ≢ q.id
@@ -58,7 +58,7 @@ from_uncommitted {Op} G p i =
     let f = from_filter (λ (g : SharedEntry Op). not g.committed) m.0 G m.1 in
     (m.0, f.0, not-true (m.0).committed f.1, m.2)
 
-pub reorders : {Op State : Type 0} (O : Object Op State) (G : List (SharedEntry Op)) (D : List (CommittedTx Op)) → Ordered O G D → Reorders O (items G) (target G D)
+pub reorders : {Op State : Type 0} (O : Object Op State) (G : List (SharedEntry Op)) (D : List (CommittedTx Op)) → IsOrdered O G D → Reorders O (items G) (target G D)
 reorders {Op} O G D o =
     record {
       distinct_x = λ p q i e.
@@ -134,7 +134,7 @@ reorders {Op} O G D o =
             let eg = key g m.1 (before_in_first g h G i) (before_in_second m.0 m.1 G b) m.4 in
             not_both (λ (w : SharedEntry Op). w.id) G o.ids g h i (subst (λ (w : SharedEntry Op). Before w g G) (sym eh) (subst (λ (w : SharedEntry Op). Before m.0 w G) (sym eg) b))
 
-pub ordered : {Op State : Type 0} (O : Object Op State) (c : Config Op) → Sound O c → Ordered O c.shared c.done
+pub ordered : {Op State : Type 0} (O : Object Op State) (c : Config Op) → Sound O c → IsOrdered O c.shared c.done
 ordered {Op} O c s =
     record {
       ids = s.shared_ids;
@@ -153,7 +153,7 @@ pub stands_in : {Op : Type 0} (G : List (SharedEntry Op)) (i : ℕ) → Stands i
 stands_in {Op} G i h = (h.0, (from_filter (λ (w : SharedEntry Op). w.committed) h.0 G h.1).0, h.2)
 
 -- the committed entries alone are ordered too
-pub ordered_committed : {Op State : Type 0} (O : Object Op State) (G : List (SharedEntry Op)) (D : List (CommittedTx Op)) → Ordered O G D → Ordered O (only_committed G) D
+pub ordered_committed : {Op State : Type 0} (O : Object Op State) (G : List (SharedEntry Op)) (D : List (CommittedTx Op)) → IsOrdered O G D → IsOrdered O (only_committed G) D
 ordered_committed {Op} O G D o =
     record {
       ids = λ g h i. o.ids g h (wide g h i);
@@ -179,7 +179,7 @@ ops_items : {Op : Type 0} (G : List (SharedEntry Op)) → ops (items G) ≡ shar
 ops_items [] = refl
 ops_items {Op} (g ∷ G) = ap (λ (w : List Op). g.op ∷ w) (ops_items G)
 
-pub serial_law : {Op State : Type 0} (O : Object Op State) (G : List (SharedEntry Op)) (D : List (CommittedTx Op)) (k : List Op) → Ordered O G D →
+pub serial_law : {Op State : Type 0} (O : Object Op State) (G : List (SharedEntry Op)) (D : List (CommittedTx Op)) (k : List Op) → IsOrdered O G D →
     Allowed O (shared_ops G ++ k) → Allowed O (serial_ops D ++ (shared_ops (uncommitted G) ++ k))
 serial_law {Op} O G D k o h =
     let h1 : Allowed O (ops (items G) ++ k) = subst (λ (w : List Op). Allowed O (w ++ k)) (sym (ops_items G)) h in
@@ -192,7 +192,7 @@ pub may_run_serially : {Op State : Type 0} (O : Object Op State) (c : Config Op)
 may_run_serially O c s k h = serial_law O c.shared c.done k (ordered O c s) h
 
 -- the committed entries may be put before the uncommitted ones
-pub committed_first : {Op State : Type 0} (O : Object Op State) (G : List (SharedEntry Op)) (D : List (CommittedTx Op)) → Ordered O G D →
+pub committed_first : {Op State : Type 0} (O : Object Op State) (G : List (SharedEntry Op)) (D : List (CommittedTx Op)) → IsOrdered O G D →
     Reorders O (items G) (items (only_committed G) ++ items (uncommitted G))
 committed_first {Op} O G D o = parted O shared_item (λ (g : SharedEntry Op). g.committed) G o.ids (λ g h i m n. o.early g h i
     (λ e. let f = o.from h (before_in_second g h G i) n in o.alone g (before_in_first g h G i) m f.0 f.1 (e ∙ ap (λ (w : SharedEntry Op). w.owner) f.4)) m)

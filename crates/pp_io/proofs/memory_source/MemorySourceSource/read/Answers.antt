@@ -1,7 +1,8 @@
 use Rattle.std.proofs.Common.{◌≡◌, ◌<◌, ◌≤◌, ◌+◌, length, take, drop, slice_get, sym, ap, ◌∙◌, rules, arith}
 use Rattle.std.proofs.lemmas.List.{take_rest}
 use Rattle.pp_io.specs.Memory.{most_of, SourceInMemory}
-use Rattle.pp_io.proofs.Given.{given, none_left, some_given}
+use Rattle.std.proofs.lemmas.List.{drop_all}
+use Rattle.pp_io.proofs.Given.{given, some_given}
 use Rattle.pp_io.proofs.memory_source.MemorySourceSource.read.Goals as goal
 
 pub returns-clause-bytes : goal.returns-clause-bytes
@@ -14,5 +15,5 @@ returns-clause-bytes c =
       λ zero some.
           let positive : 0 < c.most_at.result = rw most (some_given (slice_get inside.pieces.items inside.calls) (length c.give.new.into) some) in
           let all : length inside.bytes.items ≤ inside.at + n = omega arith in
-          none_left inside.bytes.items (inside.at + n) all,
+          drop_all (inside.at + n) inside.bytes.items all,
     )
