@@ -10,7 +10,7 @@ use std::marker::Model;
 
 /// The values of a priority queue: for each that is there, how many further copies of it are.
 /// Contracts see it as their list, in ascending order. A call costs at most the logarithm of the
-/// number of different values.
+/// number of different values, but `values`, which walks them all.
 #[derive(Drop)]
 pub struct Bag {
     further: BTreeMap<i64, u64>,

@@ -20,7 +20,8 @@ may_swap_commutes : (a b : PrioOp) → may_swap a b ≡ true → Commutes prio a
 may_swap_commutes a b t shape before allowed h k =
     let values = state_after prio shape before in
     let is = allowed_is_state prio [] before (λ s op f g. after_ascends s op f) tt allowed in
-    let turned = pair_turns a b values is t (told a values h) (told b (values_after values a) k) in (
+    let turned = pair_turns a b values is t (told a values h) (told b (values_after values a) k)
+    in (
       legal_where_told b values turned.second_first,
       legal_where_told a (values_after values b) turned.first_second,
       turned.same,
@@ -54,10 +55,12 @@ first x y h = first_by x y (int_le y x) refl h
 pair_refuted : (a b : PrioOp) → may_swap a b ≡ false
     → AllowedFrom prio [] (before_pair a b ++ (a ∷ b ∷ []))
 pair_refuted (Insert x) (Insert y) t = absurd (cc)
-pair_refuted (Insert x) (Take (Some y)) t = let e : Some x ≡ Some y = ap Some (grind (arith, ints)) in
+pair_refuted (Insert x) (Take (Some y)) t =
+    let e : Some x ≡ Some y = ap Some (grind (arith, ints)) in
     ((refl, refl), (legal_where_told (Take (Some y)) (x ∷ []) e, tt))
 pair_refuted (Insert x) (Take None) t = absurd (cc)
-pair_refuted (Insert x) (Least (Some y)) t = let e : Some x ≡ Some y = ap Some (grind (arith, ints)) in
+pair_refuted (Insert x) (Least (Some y)) t =
+    let e : Some x ≡ Some y = ap Some (grind (arith, ints)) in
     ((refl, refl), (legal_where_told (Least (Some y)) (x ∷ []) e, tt))
 pair_refuted (Insert x) (Least None) t = absurd (cc)
 pair_refuted (Take (Some x)) (Insert y) t = ((refl, refl), ((refl, refl), ((refl, refl), tt)))

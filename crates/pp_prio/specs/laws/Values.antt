@@ -172,8 +172,9 @@ pub record StaysLeast (w v : ℤ) (values : List ℤ) : Type 0 where
 
 stays_least_by : (w v : ℤ) (values : List ℤ) (t : Bool) → int_le v w ≡ t → int_le w v ≡ true
     → BeginsAt w values → StaysLeast w v values
-stays_least_by w v values true e h k = let same = alike v w e h in let front = put_first w values k in
-    let put = put_before v w values e in record { least = cc; rest = cc }
+stays_least_by w v values true e h k = let same = alike v w e h in
+    let front = put_first w values k in let put = put_before v w values e in
+    record { least = cc; rest = cc }
 stays_least_by w v values false e h k = let put = put_behind v w values e in
     record { least = ap least_of put; rest = ap without_least put }
 
