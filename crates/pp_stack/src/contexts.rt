@@ -12,11 +12,8 @@ pub fn before_pair(alloc: Global, a: &StackOp, b: &StackOp) -> Result<Ops<StackO
 {
     let mut ops = Ops::new(alloc);
     if let StackOp::Pop { value: Some(first) } = *a {
-        if let StackOp::Pop {
-            value: Some(second),
-        } = *b
-        {
-            ops.push(StackOp::Push { value: second })?;
+        if let StackOp::Pop { value: Some(below) } = *b {
+            ops.push(StackOp::Push { value: below })?;
         }
         ops.push(StackOp::Push { value: first })?;
     }
