@@ -1,0 +1,7 @@
+pub mod Values
+pub mod Operations
+pub mod Movers
+pub mod Contexts
+pub mod Prios
+pub mod Copies
+pub mod laws

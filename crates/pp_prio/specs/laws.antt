@@ -1,0 +1,5 @@
+pub mod Values
+pub mod Legal
+pub mod Turning
+pub mod Swapping
+pub mod Lawful

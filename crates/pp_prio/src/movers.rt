@@ -1,0 +1,61 @@
+//! Which pairs of operations swap, by a table.
+ghost use Rattle.std.specs.Prelude.{◌≡◌};
+ghost use Rattle.pp_prio.specs.Movers.{value_of, figures_of, form_of, prio_table, may_swap};
+
+use crate::op::PrioOp;
+use pp_table::Condition::{Always, Falling, Never, Rising, Unequal};
+use pp_table::{Figures, MoverTable};
+
+/// The row and the column of an operation's form.
+fn form(op: &PrioOp) -> usize
+    ensures { result ≡ form_of op.now }
+{
+    match *op {
+        PrioOp::Insert { value: _ } => 0,
+        PrioOp::Take { value: Some(_) } => 1,
+        PrioOp::Least { value: Some(_) } => 2,
+        PrioOp::Take { value: None } => 3,
+        PrioOp::Least { value: None } => 3,
+    }
+}
+
+/// The value that an operation adds or finds, and else 0.
+fn value_of(op: &PrioOp) -> i64
+    ensures { result ≡ value_of op.now }
+{
+    match *op {
+        PrioOp::Insert { value } => value,
+        PrioOp::Take { value } => value.unwrap_or(0),
+        PrioOp::Least { value } => value.unwrap_or(0),
+    }
+}
+
+/// The numbers of an operation that a condition reads.
+fn figures(op: &PrioOp) -> Figures
+    ensures { result ≡ figures_of op.now }
+{
+    let value = value_of(op);
+    Figures {
+        from: i128::from(value),
+        to: i128::from(value),
+        shift: 0,
+    }
+}
+
+/// A condition for each pair of forms: a row for the first operation, a column for the second.
+fn mover_table() -> MoverTable<4>
+    ensures { result.rows ≡ prio_table }
+{
+    let insert = [Always, Unequal, Unequal, Always];
+    let take = [Rising, Falling, Falling, Never];
+    let least = [Rising, Unequal, Always, Always];
+    let empty = [Never, Always, Always, Always];
+    MoverTable::new([insert, take, least, empty])
+}
+
+/// Whether two operations swap, by the table.
+pub fn may_swap(a: &PrioOp, b: &PrioOp) -> bool
+    ensures { result ≡ may_swap a.now b.now }
+{
+    mover_table().holds(form(a), &figures(a), form(b), &figures(b))
+}
