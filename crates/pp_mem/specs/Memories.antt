@@ -1,13 +1,13 @@
 -- Meaning: what a memory means.
 use Rattle.std.specs.Prelude.{ℤ, true}
-use Rattle.std.specs.Ordering.{int_eq, int_cmp}
+use Rattle.std.specs.Ordering.{int_cmp}
 use Rattle.std.specs.FinMap.{FinMap, empty}
 use Rattle.pp_spec.specs.Object.{Object}
 use Rattle.pp_keyed.specs.Keys.{Keys}
 use Rattle.pp_mem.specs.declared.op.MemOp.{MemOp}
 use Rattle.pp_mem.specs.declared.op.MemOp.TheVariants.{Read}
 use Rattle.pp_mem.specs.Values.{value_at, HasNoZero}
-use Rattle.pp_mem.specs.Operations.{address_of, found_by, left_by, call_of, recorded_by, given_by, memory_after, kept_by, memory_before, is_ranged}
+use Rattle.pp_mem.specs.Operations.{address_of, Finds, left_by, call_of, recorded_by, given_by, memory_after, kept_by, memory_before, is_ranged}
 use Rattle.pp_mem.specs.Contexts.{refuting_lists}
 
 -- numbers at addresses, at first 0 everywhere, which operations read and write
@@ -33,9 +33,8 @@ memory = record {
 abbrev pub addresses : Keys (FinMap int_cmp ℤ) MemOp ℤ
 addresses = record {
   cell = value_at;
-  alike = int_eq;
   key = address_of;
-  found = found_by;
+  Finds = Finds;
   left = left_by;
   read = Read;
 }

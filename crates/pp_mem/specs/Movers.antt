@@ -1,29 +1,36 @@
 -- Meaning: which operations of a memory swap, by a table.
-use Rattle.std.specs.Prelude.{pos, ℕ, Bool, true, if◌then◌else◌, List, [], ◌∷◌}
+use Rattle.std.specs.Prelude.{pos, ◌-ℤ◌, ℕ, Bool, true, false, if◌then◌else◌, List, [], ◌∷◌}
 use Rattle.std.specs.Ordering.{int_eq}
 use Rattle.pp_table.specs.declared.table.Condition.{Condition}
-use Rattle.pp_table.specs.declared.table.Condition.TheVariants.{Always, Equal, Unequal}
+use Rattle.pp_table.specs.declared.table.Condition.TheVariants.{Always, Equal, Unequal, Chain, Settled, Apart, FromApart, IntoApart}
 use Rattle.pp_table.specs.declared.table.Figures.{Figures}
 use Rattle.pp_table.specs.Table.{condition_holds, entry}
 use Rattle.pp_mem.specs.declared.op.MemOp.{MemOp}
-use Rattle.pp_mem.specs.declared.op.MemOp.TheVariants.{Read, Write}
+use Rattle.pp_mem.specs.declared.op.MemOp.TheVariants.{Read, Write, Cas}
 use Rattle.pp_mem.specs.Operations.{address_of}
 
--- the row and the column of an operation
+-- the row and the column of an operation, by its call and its result
 abbrev pub form_of : MemOp → ℕ
 form_of (Read a v) = 0
 form_of (Write a v) = 1
+form_of (Cas a e n true) = 2
+form_of (Cas a e n false) = 3
 
--- the number that it finds, where it tells, and the one that it leaves
+-- the number that it finds, where it tells, and the one that it leaves; of a compare-and-swap that
+-- fails, the one that it does not find
 abbrev pub figures_of : MemOp → Figures
 figures_of (Read a v) = record { from = v; to = v; shift = pos 0 }
 figures_of (Write a v) = record { from = pos 0; to = v; shift = pos 0 }
+figures_of (Cas a e n true) = record { from = e; to = n; shift = n -ℤ e }
+figures_of (Cas a e n false) = record { from = e; to = e; shift = pos 0 }
 
 -- a row for each first operation, and a column for each second
 abbrev pub memory_table : List (List Condition)
 memory_table =
-    (Always ∷ Equal ∷ [])
-    ∷ (Unequal ∷ Equal ∷ [])
+    (Always ∷ Equal ∷ Chain ∷ Always ∷ [])
+    ∷ (Unequal ∷ Equal ∷ Unequal ∷ Equal ∷ [])
+    ∷ (Chain ∷ Settled ∷ Chain ∷ FromApart ∷ [])
+    ∷ (Always ∷ Apart ∷ IntoApart ∷ Always ∷ [])
     ∷ []
 
 -- whether the table lets two operations on one address swap

@@ -46,6 +46,7 @@ impl Spec for Mem {
         match *op {
             MemOp::Read { at, value: _ } => Answer::Number(i128::from(state.value_at(at))),
             MemOp::Write { at: _, value: _ } => Answer::None,
+            MemOp::Cas { at, expected, .. } => { Answer::Truth(state.value_at(at) == expected) }
         }
     }
 
@@ -53,6 +54,12 @@ impl Spec for Mem {
         match *op {
             MemOp::Read { at, value } => state.value_at(at) == value,
             MemOp::Write { at: _, value: _ } => true,
+            MemOp::Cas {
+                at,
+                expected,
+                done,
+                ..
+            } => (state.value_at(at) == expected) == done,
         }
     }
 
@@ -62,19 +69,26 @@ impl Spec for Mem {
         ticks: &mut Ticks<L>,
     ) -> Result<Applied<i64>, OutOfMemory> {
         ticks.tick();
+        if !Self::legal(state, op) {
+            return Ok(Applied::Differs);
+        }
         match *op {
-            MemOp::Read { at, value } => {
-                if state.value_at(at) == value {
-                    Ok(Applied::Done(0))
-                } else {
-                    Ok(Applied::Differs)
-                }
-            }
+            MemOp::Read { at: _, value: _ } => Ok(Applied::Done(0)),
             MemOp::Write { at, value } => {
                 let was = state.value_at(at);
                 state.write(at, value)?;
                 Ok(Applied::Done(was))
             }
+            MemOp::Cas {
+                at,
+                new,
+                done: true,
+                ..
+            } => {
+                state.write(at, new)?;
+                Ok(Applied::Done(0))
+            }
+            MemOp::Cas { done: false, .. } => Ok(Applied::Done(0)),
         }
     }
 
@@ -88,6 +102,13 @@ impl Spec for Mem {
         match *op {
             MemOp::Read { at: _, value: _ } => Ok(()),
             MemOp::Write { at, value: _ } => state.write(at, undo),
+            MemOp::Cas {
+                at,
+                expected,
+                done: true,
+                ..
+            } => state.write(at, expected),
+            MemOp::Cas { done: false, .. } => Ok(()),
         }
     }
 

@@ -9,9 +9,22 @@ use pp_spec::in_range;
 #[derive(Clone, Copy, Debug, PartialEq, Eq)]
 pub enum MemOp {
     /// Reads the number at an address.
-    Read { at: i64, value: i64 },
+    Read {
+        at: i64,
+        value: i64,
+    },
     /// Writes a number at an address.
-    Write { at: i64, value: i64 },
+    Write {
+        at: i64,
+        value: i64,
+    },
+    /// Writes a number at an address where the expected one stands, and tells whether it does.
+    Cas {
+        at: i64,
+        expected: i64,
+        new: i64,
+        done: bool,
+    },
 }
 
 impl MemOp {
@@ -22,6 +35,7 @@ impl MemOp {
         match *self {
             MemOp::Read { at, value: _ } => at,
             MemOp::Write { at, value: _ } => at,
+            MemOp::Cas { at, .. } => at,
         }
     }
 
@@ -32,6 +46,12 @@ impl MemOp {
         match *self {
             MemOp::Read { at, value } => in_range(at) && in_range(value),
             MemOp::Write { at, value } => in_range(at) && in_range(value),
+            MemOp::Cas {
+                at,
+                expected,
+                new,
+                ..
+            } => { in_range(at) && in_range(expected) && in_range(new) }
         }
     }
 
@@ -39,16 +59,22 @@ impl MemOp {
     pub fn call(&self) -> Call
         ensures { result ≡ call_of self.now }
     {
-        let (method, first, second) = match *self {
-            MemOp::Read { at, value: _ } => (Method::Read, at, 0),
-            MemOp::Write { at, value } => (Method::Write, at, value),
+        let (method, first, second, third) = match *self {
+            MemOp::Read { at, value: _ } => (Method::Read, at, 0, 0),
+            MemOp::Write { at, value } => (Method::Write, at, value, 0),
+            MemOp::Cas {
+                at,
+                expected,
+                new,
+                ..
+            } => (Method::Cas, at, expected, new),
         };
         Call {
             object: 0,
             method,
             first,
             second,
-            third: 0,
+            third,
         }
     }
 
@@ -59,6 +85,7 @@ impl MemOp {
         match *self {
             MemOp::Read { at: _, value } => Answer::Number(i128::from(value)),
             MemOp::Write { at: _, value: _ } => Answer::None,
+            MemOp::Cas { done, .. } => Answer::Truth(done),
         }
     }
 }

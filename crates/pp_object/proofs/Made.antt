@@ -12,13 +12,15 @@ use Rattle.pp_set.specs.declared.op.SetOp.TheVariants as set
 use Rattle.pp_map.specs.declared.op.MapOp.TheVariants as map
 use Rattle.pp_counter.specs.declared.op.CounterOp.TheVariants as counts
 use Rattle.pp_queue.specs.declared.op.QueueOp.TheVariants as queues
+use Rattle.pp_stack.specs.declared.op.StackOp.TheVariants as stacks
+use Rattle.pp_prio.specs.declared.op.PrioOp.TheVariants as prios
 use Rattle.pp_spec.specs.Numbers.{has_ranged_arguments, is_ranged_answer}
 use Rattle.pp_object.specs.declared.act.Act.{Act}
-use Rattle.pp_object.specs.declared.act.Act.TheVariants.{Memory, KeySet, KeyMap, Counter, Queue}
+use Rattle.pp_object.specs.declared.act.Act.TheVariants.{Memory, KeySet, KeyMap, Counter, Queue, Stack, PriorityQueue}
 use Rattle.pp_object.specs.One.{is_ranged, kind_for, recorded_by, call_of, fits}
 use Rattle.pp_object.specs.laws.One.{one_lawful}
 use Rattle.pp_object.specs.Objects.{act_at}
-use Rattle.pp_object.specs.Calls.{HasMethod, form_of, has_form, with_used, IsCallOf, IsOpOf, op_made, ranged_op, memory_act, set_act, map_act, counter_act, queue_act, act_made}
+use Rattle.pp_object.specs.Calls.{HasMethod, form_of, has_form, with_used, IsCallOf, IsOpOf, op_made, ranged_op, memory_act, set_act, map_act, counter_act, queue_act, stack_act, prio_act, act_made}
 
 -- what an act has of a call
 IsActOf : Kind → Call → Answer → Act → Type 0
@@ -65,6 +67,20 @@ queue_made o methods.Deq x y z answers.None = (refl, refl, refl)
 queue_made o methods.Deq x y z (answers.Number v) = (refl, refl, refl)
 queue_made o m x y z answer = tt
 
+stack_made : (o : ℕ) (m : Method) (x y z : ℤ) (answer : Answer) → IfSome (stack_act m (called o m x y z) answer) (IsActOf kinds.Stack (called o m x y z) answer)
+unfolding IsActOf called
+stack_made o methods.StackPush x y z answers.None = (refl, refl, refl)
+stack_made o methods.StackPop x y z answers.None = (refl, refl, refl)
+stack_made o methods.StackPop x y z (answers.Number v) = (refl, refl, refl)
+stack_made o m x y z answer = tt
+
+prio_made : (o : ℕ) (m : Method) (x y z : ℤ) (answer : Answer) → IfSome (prio_act m (called o m x y z) answer) (IsActOf kinds.PriorityQueue (called o m x y z) answer)
+unfolding IsActOf called
+prio_made o methods.Insert x y z answers.None = (refl, refl, refl)
+prio_made o methods.Take x y z answers.None = (refl, refl, refl)
+prio_made o methods.Take x y z (answers.Number v) = (refl, refl, refl)
+prio_made o m x y z answer = tt
+
 act_is : (kind : Kind) (c : Call) (answer : Answer) → IfSome (act_made kind c answer) (IsActOf kind c answer)
 unfolding IsActOf called
 act_is kinds.Memory c answer = memory_made c.object c.method c.first c.second c.third answer
@@ -72,6 +88,8 @@ act_is kinds.KeySet c answer = set_made c.object c.method c.first c.second c.thi
 act_is kinds.KeyMap c answer = map_made c.object c.method c.first c.second c.third answer
 act_is kinds.Counter c answer = counter_made c.object c.method c.first c.second c.third answer
 act_is kinds.Queue c answer = queue_made c.object c.method c.first c.second c.third answer
+act_is kinds.Stack c answer = stack_made c.object c.method c.first c.second c.third answer
+act_is kinds.PriorityQueue c answer = prio_made c.object c.method c.first c.second c.third answer
 
 made_by : (kind : Kind) (c : Call) (answer : Answer) (a : Act) (r : Option Act) → IfSome r (IsActOf kind c answer) → r ≡ Some a → IsActOf kind c answer a
 made_by kind c answer a None h e = absurd (cc)
@@ -98,6 +116,10 @@ has_method (Counter (counts.Get v)) = inr (inl refl)
 has_method (Counter (counts.FetchAdd x v)) = inr (inr (inl refl))
 has_method (Queue (queues.Enq x)) = inl refl
 has_method (Queue (queues.Deq found)) = inr (inl refl)
+has_method (Stack (stacks.Push value)) = inl refl
+has_method (Stack (stacks.Pop found)) = inr (inl refl)
+has_method (PriorityQueue (prios.Insert value)) = inl refl
+has_method (PriorityQueue (prios.Take found)) = inr (inl refl)
 
 -- the kind has the method, and the result is of its form
 IsFormed : Kind → Method → Answer → Type 0
@@ -178,6 +200,20 @@ queue_formed methods.Deq c answers.None h = (inr (inl refl), refl)
 queue_formed methods.Deq c (answers.Number v) h = (inr (inl refl), refl)
 queue_formed m c answer h = absurd (cc)
 
+stack_formed : (m : Method) (c : Call) (answer : Answer) → IsSome (stack_act m c answer) → IsFormed kinds.Stack m answer
+unfolding IsFormed
+stack_formed methods.StackPush c answers.None h = (inl refl, refl)
+stack_formed methods.StackPop c answers.None h = (inr (inl refl), refl)
+stack_formed methods.StackPop c (answers.Number v) h = (inr (inl refl), refl)
+stack_formed m c answer h = absurd (cc)
+
+prio_formed : (m : Method) (c : Call) (answer : Answer) → IsSome (prio_act m c answer) → IsFormed kinds.PriorityQueue m answer
+unfolding IsFormed
+prio_formed methods.Insert c answers.None h = (inl refl, refl)
+prio_formed methods.Take c answers.None h = (inr (inl refl), refl)
+prio_formed methods.Take c (answers.Number v) h = (inr (inl refl), refl)
+prio_formed m c answer h = absurd (cc)
+
 queue_some : (m : Method) (c : Call) (answer : Answer) → HasMethod kinds.Queue m → IsTrue (has_form (form_of kinds.Queue m) answer) → IsSome (queue_act m c answer)
 queue_some methods.Enq c answers.None h form = refl
 queue_some methods.Enq c answer h form = absurd (cc)
@@ -186,12 +222,30 @@ queue_some methods.Deq c (answers.Number v) h form = refl
 queue_some methods.Deq c answer h form = absurd (cc)
 queue_some m c answer h form = elim h [ inl e ↦ absurd (cc) | inr h0 ↦ elim h0 [ inl e ↦ absurd (cc) | inr h1 ↦ absurd h1 ] ]
 
+stack_some : (m : Method) (c : Call) (answer : Answer) → HasMethod kinds.Stack m → IsTrue (has_form (form_of kinds.Stack m) answer) → IsSome (stack_act m c answer)
+stack_some methods.StackPush c answers.None h form = refl
+stack_some methods.StackPush c answer h form = absurd (cc)
+stack_some methods.StackPop c answers.None h form = refl
+stack_some methods.StackPop c (answers.Number v) h form = refl
+stack_some methods.StackPop c answer h form = absurd (cc)
+stack_some m c answer h form = elim h [ inl e ↦ absurd (cc) | inr h0 ↦ elim h0 [ inl e ↦ absurd (cc) | inr h1 ↦ absurd h1 ] ]
+
+prio_some : (m : Method) (c : Call) (answer : Answer) → HasMethod kinds.PriorityQueue m → IsTrue (has_form (form_of kinds.PriorityQueue m) answer) → IsSome (prio_act m c answer)
+prio_some methods.Insert c answers.None h form = refl
+prio_some methods.Insert c answer h form = absurd (cc)
+prio_some methods.Take c answers.None h form = refl
+prio_some methods.Take c (answers.Number v) h form = refl
+prio_some methods.Take c answer h form = absurd (cc)
+prio_some m c answer h form = elim h [ inl e ↦ absurd (cc) | inr h0 ↦ elim h0 [ inl e ↦ absurd (cc) | inr h1 ↦ absurd h1 ] ]
+
 act_formed : (kind : Kind) (c : Call) (answer : Answer) → IsSome (act_made kind c answer) → IsFormed kind c.method answer
 act_formed kinds.Memory c answer h = memory_formed c.method c answer h
 act_formed kinds.KeySet c answer h = set_formed c.method c answer h
 act_formed kinds.KeyMap c answer h = map_formed c.method c answer h
 act_formed kinds.Counter c answer h = counter_formed c.method c answer h
 act_formed kinds.Queue c answer h = queue_formed c.method c answer h
+act_formed kinds.Stack c answer h = stack_formed c.method c answer h
+act_formed kinds.PriorityQueue c answer h = prio_formed c.method c answer h
 
 act_some : (kind : Kind) (c : Call) (answer : Answer) → HasMethod kind c.method → IsTrue (has_form (form_of kind c.method) answer) → IsSome (act_made kind c answer)
 act_some kinds.Memory c answer h form = memory_some c.method c answer h form
@@ -199,6 +253,8 @@ act_some kinds.KeySet c answer h form = set_some c.method c answer h form
 act_some kinds.KeyMap c answer h form = map_some c.method c answer h form
 act_some kinds.Counter c answer h form = counter_some c.method c answer h form
 act_some kinds.Queue c answer h form = queue_some c.method c answer h form
+act_some kinds.Stack c answer h form = stack_some c.method c answer h form
+act_some kinds.PriorityQueue c answer h form = prio_some c.method c answer h form
 
 -- An act is ranged exactly where its call and its result are.
 module _ (kind : Kind) (c : Call) (answer : Answer) (a : Act) (made : act_made kind c answer ≡ Some a) where

@@ -16,8 +16,10 @@ use Rattle.pp_set.specs.declared.op.SetOp.TheVariants as set
 use Rattle.pp_map.specs.declared.op.MapOp.TheVariants as map
 use Rattle.pp_counter.specs.declared.op.CounterOp.TheVariants as counts
 use Rattle.pp_queue.specs.declared.op.QueueOp.TheVariants as queues
+use Rattle.pp_stack.specs.declared.op.StackOp.TheVariants as stacks
+use Rattle.pp_prio.specs.declared.op.PrioOp.TheVariants as prios
 use Rattle.pp_object.specs.declared.act.Act.{Act}
-use Rattle.pp_object.specs.declared.act.Act.TheVariants.{Memory, KeySet, KeyMap, Counter, Queue}
+use Rattle.pp_object.specs.declared.act.Act.TheVariants.{Memory, KeySet, KeyMap, Counter, Queue, Stack, PriorityQueue}
 use Rattle.pp_object.specs.declared.act.Op.{Op}
 use Rattle.pp_object.specs.declared.form.Form.{Form}
 use Rattle.pp_object.specs.declared.form.Form.TheVariants as forms
@@ -31,6 +33,8 @@ methods_of kinds.KeySet = methods.Add ∷ methods.Remove ∷ methods.Contains �
 methods_of kinds.KeyMap = methods.Put ∷ methods.Get ∷ methods.Remove ∷ []
 methods_of kinds.Counter = methods.Add ∷ methods.Get ∷ methods.FetchAdd ∷ []
 methods_of kinds.Queue = methods.Enq ∷ methods.Deq ∷ []
+methods_of kinds.Stack = methods.StackPush ∷ methods.StackPop ∷ []
+methods_of kinds.PriorityQueue = methods.Insert ∷ methods.Take ∷ []
 
 -- objects of the kind have the method
 abbrev pub HasMethod : Kind → Method → Type 0
@@ -48,6 +52,7 @@ method_named kind word = named method_word (methods_of kind) word
 abbrev pub arity_of : Kind → Method → ℕ
 arity_of kind methods.Read = 1
 arity_of kind methods.Write = 2
+arity_of kind methods.Cas = 3
 arity_of kind methods.Add = 1
 arity_of kind methods.Remove = 1
 arity_of kind methods.Contains = 1
@@ -57,11 +62,17 @@ arity_of kind methods.Get = 1
 arity_of kind methods.FetchAdd = 1
 arity_of kind methods.Enq = 1
 arity_of kind methods.Deq = 0
+arity_of kind methods.StackPush = 1
+arity_of kind methods.StackPop = 0
+arity_of kind methods.Insert = 1
+arity_of kind methods.Take = 0
+arity_of kind methods.Least = 0
 
 -- the form of the results of a method
 abbrev pub form_of : Kind → Method → Form
 form_of kind methods.Read = forms.Number
 form_of kind methods.Write = forms.Nothing
+form_of kind methods.Cas = forms.Truth
 form_of kinds.Counter methods.Add = forms.Nothing
 form_of kind methods.Add = forms.Truth
 form_of kinds.KeyMap methods.Remove = forms.Found
@@ -73,6 +84,11 @@ form_of kind methods.Get = forms.Found
 form_of kind methods.FetchAdd = forms.Number
 form_of kind methods.Enq = forms.Nothing
 form_of kind methods.Deq = forms.Found
+form_of kind methods.StackPush = forms.Nothing
+form_of kind methods.StackPop = forms.Found
+form_of kind methods.Insert = forms.Nothing
+form_of kind methods.Take = forms.Found
+form_of kind methods.Least = forms.Found
 
 -- the result is of the form
 abbrev pub has_form : Form → Answer → Bool
@@ -151,12 +167,26 @@ queue_act methods.Deq c answers.None = Some (Queue (queues.Deq None))
 queue_act methods.Deq c (answers.Number value) = Some (Queue (queues.Deq (Some value)))
 queue_act method c answer = None
 
+abbrev pub stack_act : Method → Call → Answer → Option Act
+stack_act methods.StackPush c answers.None = Some (Stack (stacks.Push c.first))
+stack_act methods.StackPop c answers.None = Some (Stack (stacks.Pop None))
+stack_act methods.StackPop c (answers.Number value) = Some (Stack (stacks.Pop (Some value)))
+stack_act method c answer = None
+
+abbrev pub prio_act : Method → Call → Answer → Option Act
+prio_act methods.Insert c answers.None = Some (PriorityQueue (prios.Insert c.first))
+prio_act methods.Take c answers.None = Some (PriorityQueue (prios.Take None))
+prio_act methods.Take c (answers.Number value) = Some (PriorityQueue (prios.Take (Some value)))
+prio_act method c answer = None
+
 abbrev pub act_made : Kind → Call → Answer → Option Act
 act_made kinds.Memory c answer = memory_act c.method c answer
 act_made kinds.KeySet c answer = set_act c.method c answer
 act_made kinds.KeyMap c answer = map_act c.method c answer
 act_made kinds.Counter c answer = counter_act c.method c answer
 act_made kinds.Queue c answer = queue_act c.method c answer
+act_made kinds.Stack c answer = stack_act c.method c answer
+act_made kinds.PriorityQueue c answer = prio_act c.method c answer
 
 -- the same as an operation, if all its numbers lie in the range of records
 abbrev pub ranged_op : ℕ → Act → Option Op

@@ -14,8 +14,10 @@ use Rattle.pp_set.specs.Sets.{key_set}
 use Rattle.pp_map.specs.KeyMap.{key_map}
 use Rattle.pp_counter.specs.Count.{counter}
 use Rattle.pp_queue.specs.Fifo.{fifo}
+use Rattle.pp_stack.specs.Stacks.{stack}
+use Rattle.pp_prio.specs.Prios.{prio}
 use Rattle.pp_object.specs.declared.act.Act.{Act}
-use Rattle.pp_object.specs.declared.act.Act.TheVariants.{Memory, KeySet, KeyMap, Counter, Queue}
+use Rattle.pp_object.specs.declared.act.Act.TheVariants.{Memory, KeySet, KeyMap, Counter, Queue, Stack, PriorityQueue}
 use Rattle.pp_object.specs.declared.states.ObjectState.{ObjectState}
 use Rattle.pp_object.specs.declared.states.ObjectState.TheVariants as states
 use Rattle.pp_object.specs.declared.states.Undo.{Undo}
@@ -28,6 +30,8 @@ IsState (states.KeySet s) = key_set.upkeep.IsState s
 IsState (states.KeyMap s) = key_map.upkeep.IsState s
 IsState (states.Counter s) = counter.upkeep.IsState s
 IsState (states.Queue s) = fifo.upkeep.IsState s
+IsState (states.Stack s) = stack.upkeep.IsState s
+IsState (states.PriorityQueue s) = prio.upkeep.IsState s
 
 -- the state from which an object of a kind begins
 abbrev pub empty_of : Kind → ObjectState
@@ -36,6 +40,8 @@ empty_of kinds.KeySet = states.KeySet (key_set.start tt)
 empty_of kinds.KeyMap = states.KeyMap (key_map.start tt)
 empty_of kinds.Counter = states.Counter (counter.start tt)
 empty_of kinds.Queue = states.Queue (fifo.start tt)
+empty_of kinds.Stack = states.Stack (stack.start tt)
+empty_of kinds.PriorityQueue = states.PriorityQueue (prio.start tt)
 
 -- the kind of the object that has this state
 abbrev pub kind_of : ObjectState → Kind
@@ -44,6 +50,8 @@ kind_of (states.KeySet s) = kinds.KeySet
 kind_of (states.KeyMap s) = kinds.KeyMap
 kind_of (states.Counter s) = kinds.Counter
 kind_of (states.Queue s) = kinds.Queue
+kind_of (states.Stack s) = kinds.Stack
+kind_of (states.PriorityQueue s) = kinds.PriorityQueue
 
 -- it is an act on objects of this kind
 abbrev pub fits : Kind → Act → Bool
@@ -52,6 +60,8 @@ fits kinds.KeySet (KeySet a) = true
 fits kinds.KeyMap (KeyMap a) = true
 fits kinds.Counter (Counter a) = true
 fits kinds.Queue (Queue a) = true
+fits kinds.Stack (Stack a) = true
+fits kinds.PriorityQueue (PriorityQueue a) = true
 fits kind act = false
 
 -- the kind of the objects that it is an act on
@@ -61,6 +71,8 @@ kind_for (KeySet a) = kinds.KeySet
 kind_for (KeyMap a) = kinds.KeyMap
 kind_for (Counter a) = kinds.Counter
 kind_for (Queue a) = kinds.Queue
+kind_for (Stack a) = kinds.Stack
+kind_for (PriorityQueue a) = kinds.PriorityQueue
 
 -- all its numbers lie in the range of records
 abbrev pub is_ranged : Act → Bool
@@ -69,6 +81,8 @@ is_ranged (KeySet a) = key_set.ranged a
 is_ranged (KeyMap a) = key_map.ranged a
 is_ranged (Counter a) = counter.ranged a
 is_ranged (Queue a) = fifo.ranged a
+is_ranged (Stack a) = stack.ranged a
+is_ranged (PriorityQueue a) = prio.ranged a
 
 -- its method and its arguments, at the object 0
 abbrev pub call_of : Act → Call
@@ -77,6 +91,8 @@ call_of (KeySet a) = key_set.call a
 call_of (KeyMap a) = key_map.call a
 call_of (Counter a) = counter.call a
 call_of (Queue a) = fifo.call a
+call_of (Stack a) = stack.call a
+call_of (PriorityQueue a) = prio.call a
 
 -- the result that it records
 abbrev pub recorded_by : Act → Answer
@@ -85,6 +101,8 @@ recorded_by (KeySet a) = key_set.recorded a
 recorded_by (KeyMap a) = key_map.recorded a
 recorded_by (Counter a) = counter.recorded a
 recorded_by (Queue a) = fifo.recorded a
+recorded_by (Stack a) = stack.recorded a
+recorded_by (PriorityQueue a) = prio.recorded a
 
 -- the result that an object gives for an act of its kind
 abbrev pub given_by : ObjectState → Act → Answer
@@ -93,6 +111,8 @@ given_by (states.KeySet s) (KeySet a) = key_set.gives s a
 given_by (states.KeyMap s) (KeyMap a) = key_map.gives s a
 given_by (states.Counter s) (Counter a) = counter.gives s a
 given_by (states.Queue s) (Queue a) = fifo.gives s a
+given_by (states.Stack s) (Stack a) = stack.gives s a
+given_by (states.PriorityQueue s) (PriorityQueue a) = prio.gives s a
 given_by s a = NoAnswer
 
 -- the state afterwards
@@ -102,6 +122,8 @@ state_after (states.KeySet s) (KeySet a) = states.KeySet (key_set.next s a)
 state_after (states.KeyMap s) (KeyMap a) = states.KeyMap (key_map.next s a)
 state_after (states.Counter s) (Counter a) = states.Counter (counter.next s a)
 state_after (states.Queue s) (Queue a) = states.Queue (fifo.next s a)
+state_after (states.Stack s) (Stack a) = states.Stack (stack.next s a)
+state_after (states.PriorityQueue s) (PriorityQueue a) = states.PriorityQueue (prio.next s a)
 state_after s a = s
 
 -- what is kept to take it back: a memory's number, and else nothing
@@ -122,6 +144,8 @@ state_before (states.KeySet s) (KeySet a) undo = states.KeySet (key_set.upkeep.b
 state_before (states.KeyMap s) (KeyMap a) undo = states.KeyMap (key_map.upkeep.back s a tt)
 state_before (states.Counter s) (Counter a) undo = states.Counter (counter.upkeep.back s a tt)
 state_before (states.Queue s) (Queue a) undo = states.Queue (fifo.upkeep.back s a tt)
+state_before (states.Stack s) (Stack a) undo = states.Stack (stack.upkeep.back s a tt)
+state_before (states.PriorityQueue s) (PriorityQueue a) undo = states.PriorityQueue (prio.upkeep.back s a tt)
 state_before s a undo = s
 
 -- lists of a kind's operations, as lists of acts
@@ -136,6 +160,8 @@ refuting_lists (KeySet a) (KeySet b) = both_as KeySet (key_set.refuting a b)
 refuting_lists (KeyMap a) (KeyMap b) = both_as KeyMap (key_map.refuting a b)
 refuting_lists (Counter a) (Counter b) = both_as Counter (counter.refuting a b)
 refuting_lists (Queue a) (Queue b) = both_as Queue (fifo.refuting a b)
+refuting_lists (Stack a) (Stack b) = both_as Stack (stack.refuting a b)
+refuting_lists (PriorityQueue a) (PriorityQueue b) = both_as PriorityQueue (prio.refuting a b)
 refuting_lists a b = None
 
 -- what `apply` did, with what is kept among what all kinds keep

@@ -14,14 +14,16 @@ alone value = record { key = None; value = value }
 abbrev pub at_key : ℤ × ℤ → Piece
 at_key entry = record { key = Some entry.0; value = entry.1 }
 
--- the numbers at their keys, ascending, the keys of a set, ascending, a counter's number, or the
--- items from front to back
+-- the numbers at their keys, ascending, the keys of a set, ascending, a counter's number, the items
+-- from front to back or from bottom to top, or all items, ascending
 abbrev pub pieces_of : ObjectState → List Piece
 pieces_of (states.Memory s) = map at_key (entries s)
 pieces_of (states.KeySet s) = map alone (members s)
 pieces_of (states.KeyMap s) = map at_key (entries s)
 pieces_of (states.Counter n) = alone n ∷ []
 pieces_of (states.Queue items) = map alone items
+pieces_of (states.Stack items) = map alone items
+pieces_of (states.PriorityQueue items) = map alone items
 
 -- the same of the object at a place, if there is one
 abbrev pub pieces_in : Option ObjectState → List Piece

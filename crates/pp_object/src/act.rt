@@ -8,8 +8,10 @@ use pp_core::{Answer, Call, Kind};
 use pp_counter::CounterOp;
 use pp_map::MapOp;
 use pp_mem::MemOp;
+use pp_prio::PrioOp;
 use pp_queue::QueueOp;
 use pp_set::SetOp;
+use pp_stack::StackOp;
 
 /// A call on an object of some kind, with its recorded result.
 #[derive(Clone, Copy, Debug, PartialEq, Eq)]
@@ -19,6 +21,8 @@ pub enum Act {
     KeyMap(MapOp),
     Counter(CounterOp),
     Queue(QueueOp),
+    Stack(StackOp),
+    PriorityQueue(PrioOp),
 }
 
 /// An operation of a run: the place of its object, and what is done there.
@@ -40,6 +44,8 @@ impl Act {
             Act::KeyMap(_) => Kind::KeyMap,
             Act::Counter(_) => Kind::Counter,
             Act::Queue(_) => Kind::Queue,
+            Act::Stack(_) => Kind::Stack,
+            Act::PriorityQueue(_) => Kind::PriorityQueue,
         }
     }
 
@@ -61,6 +67,8 @@ impl Act {
             Act::KeyMap(op) => op.ranged(),
             Act::Counter(op) => op.ranged(),
             Act::Queue(op) => op.ranged(),
+            Act::Stack(op) => op.ranged(),
+            Act::PriorityQueue(op) => op.ranged(),
         }
     }
 
@@ -74,6 +82,8 @@ impl Act {
             Act::KeyMap(op) => op.recorded(),
             Act::Counter(op) => op.recorded(),
             Act::Queue(op) => op.recorded(),
+            Act::Stack(op) => op.recorded(),
+            Act::PriorityQueue(op) => op.recorded(),
         }
     }
 
@@ -87,6 +97,8 @@ impl Act {
             Act::KeyMap(op) => op.call(),
             Act::Counter(op) => op.call(),
             Act::Queue(op) => op.call(),
+            Act::Stack(op) => op.call(),
+            Act::PriorityQueue(op) => op.call(),
         }
     }
 }

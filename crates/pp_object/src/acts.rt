@@ -9,9 +9,11 @@ use pp_core::{Ops, OutOfMemory};
 use pp_counter::CounterOp;
 use pp_map::MapOp;
 use pp_mem::MemOp;
+use pp_prio::PrioOp;
 use pp_queue::QueueOp;
 use pp_set::SetOp;
 use pp_spec::Context;
+use pp_stack::StackOp;
 use std::alloc::Global;
 
 /// A kind's operation, which is an act.
@@ -73,6 +75,26 @@ impl KindOp for QueueOp {
 
     fn act(&self) -> Act {
         Act::Queue(*self)
+    }
+}
+
+impl KindOp for StackOp {
+    ghost use Rattle.pp_object.specs.declared.act.Act.TheVariants.{Stack};
+
+    ghost act = { Stack };
+
+    fn act(&self) -> Act {
+        Act::Stack(*self)
+    }
+}
+
+impl KindOp for PrioOp {
+    ghost use Rattle.pp_object.specs.declared.act.Act.TheVariants.{PriorityQueue};
+
+    ghost act = { PriorityQueue };
+
+    fn act(&self) -> Act {
+        Act::PriorityQueue(*self)
     }
 }
 

@@ -3,7 +3,7 @@ ghost use Rattle.std.specs.Prelude.{◌≡◌, ◌↔◌, IsTrue, IsSome, IfSome
 ghost use Rattle.pp_core.specs.Words.{named, method_word};
 ghost use Rattle.pp_spec.specs.Numbers.{is_ranged_answer};
 ghost use Rattle.pp_object.specs.Calls.{methods_of, HasMethod, HasMethodNamed, method_named};
-ghost use Rattle.pp_object.specs.Calls.{arity_of, value_of, memory_act, set_act, map_act, counter_act, queue_act};
+ghost use Rattle.pp_object.specs.Calls.{arity_of, value_of, memory_act, set_act, map_act, counter_act, queue_act, stack_act, prio_act};
 ghost use Rattle.pp_object.specs.Calls.{act_made, op_made, IsCallOf, IsOpOf};
 
 use crate::act::{Act, Op};
@@ -11,9 +11,11 @@ use pp_core::{Answer, Call, Kind, Method};
 use pp_counter::CounterOp;
 use pp_map::MapOp;
 use pp_mem::MemOp;
+use pp_prio::PrioOp;
 use pp_queue::QueueOp;
 use pp_set::SetOp;
 use pp_spec::in_range;
+use pp_stack::StackOp;
 
 /// The methods of the objects of a kind.
 fn methods(kind: Kind) -> &'static [Method]
@@ -25,6 +27,8 @@ fn methods(kind: Kind) -> &'static [Method]
         Kind::KeyMap => &[Method::Put, Method::Get, Method::Remove],
         Kind::Counter => &[Method::Add, Method::Get, Method::FetchAdd],
         Kind::Queue => &[Method::Enq, Method::Deq],
+        Kind::Stack => &[Method::StackPush, Method::StackPop],
+        Kind::PriorityQueue => &[Method::Insert, Method::Take],
     }
 }
 
@@ -55,8 +59,9 @@ pub fn arity(kind: Kind, method: Method) -> usize
     ensures { result ≡ arity_of kind method }
 {
     match method {
+        Method::Cas => 3,
         Method::Write | Method::Put => 2,
-        Method::Deq => 0,
+        Method::Deq | Method::StackPop | Method::Take | Method::Least => 0,
         Method::Get => match kind {
             Kind::Counter => 0,
             _ => 1,
@@ -173,6 +178,38 @@ fn queue_act(call: &Call, answer: &Answer) -> Option<Act>
     }
 }
 
+fn stack_act(call: &Call, answer: &Answer) -> Option<Act>
+    requires { IsTrue (is_ranged_answer answer.now) }
+    ensures { result ≡ stack_act call.now.method call.now answer.now }
+{
+    match (call.method, *answer) {
+        (Method::StackPush, Answer::None) => {
+            Some(Act::Stack(StackOp::Push { value: call.first }))
+        }
+        (Method::StackPop, Answer::None) => Some(Act::Stack(StackOp::Pop { value: None })),
+        (Method::StackPop, Answer::Number(value)) => Some(Act::Stack(StackOp::Pop {
+            value: Some(value as i64),
+        })),
+        _ => None,
+    }
+}
+
+fn prio_act(call: &Call, answer: &Answer) -> Option<Act>
+    requires { IsTrue (is_ranged_answer answer.now) }
+    ensures { result ≡ prio_act call.now.method call.now answer.now }
+{
+    match (call.method, *answer) {
+        (Method::Insert, Answer::None) => {
+            Some(Act::PriorityQueue(PrioOp::Insert { value: call.first }))
+        }
+        (Method::Take, Answer::None) => Some(Act::PriorityQueue(PrioOp::Take { value: None })),
+        (Method::Take, Answer::Number(value)) => Some(Act::PriorityQueue(PrioOp::Take {
+            value: Some(value as i64),
+        })),
+        _ => None,
+    }
+}
+
 fn act_made(kind: Kind, call: &Call, answer: &Answer) -> Option<Act>
     requires { IsTrue (is_ranged_answer answer.now) }
     ensures { result ≡ act_made kind call.now answer.now }
@@ -183,6 +220,8 @@ fn act_made(kind: Kind, call: &Call, answer: &Answer) -> Option<Act>
         Kind::KeyMap => map_act(call, answer),
         Kind::Counter => counter_act(call, answer),
         Kind::Queue => queue_act(call, answer),
+        Kind::Stack => stack_act(call, answer),
+        Kind::PriorityQueue => prio_act(call, answer),
     }
 }
 

@@ -24,9 +24,10 @@ pub fn answer_form(kind: Kind, method: Method) -> Form
 {
     match method {
         Method::Read | Method::FetchAdd => Form::Number,
-        Method::Write | Method::Enq => Form::Nothing,
-        Method::Contains => Form::Truth,
-        Method::Put | Method::Deq => Form::Found,
+        Method::Write | Method::Enq | Method::StackPush | Method::Insert => Form::Nothing,
+        Method::Contains | Method::Cas => Form::Truth,
+        Method::Put | Method::Deq | Method::StackPop => Form::Found,
+        Method::Take | Method::Least => Form::Found,
         Method::Add => match kind {
             Kind::Counter => Form::Nothing,
             _ => Form::Truth,

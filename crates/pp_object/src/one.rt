@@ -12,9 +12,11 @@ use pp_core::{Answer, Kind, OutOfMemory, Ticks};
 use pp_counter::Count;
 use pp_map::KeyMap;
 use pp_mem::Mem;
+use pp_prio::Prio;
 use pp_queue::Fifo;
 use pp_set::KeySet;
 use pp_spec::{Applied, Context, Spec};
+use pp_stack::Stack;
 use std::alloc::Global;
 use std::sync::ledger::Ledger;
 
@@ -54,6 +56,8 @@ fn may_swap(a: &Act, b: &Act) -> bool
         (Act::KeyMap(a), Act::KeyMap(b)) => KeyMap::swaps(a, b),
         (Act::Counter(a), Act::Counter(b)) => Count::swaps(a, b),
         (Act::Queue(a), Act::Queue(b)) => Fifo::swaps(a, b),
+        (Act::Stack(a), Act::Stack(b)) => Stack::swaps(a, b),
+        (Act::PriorityQueue(a), Act::PriorityQueue(b)) => Prio::swaps(a, b),
         _ => true,
     }
 }
@@ -76,6 +80,8 @@ impl Spec for OneObject {
             Kind::KeyMap => Ok(ObjectState::KeyMap(KeyMap::empty(alloc, &())?)),
             Kind::Counter => Ok(ObjectState::Counter(Count::empty(alloc, &())?)),
             Kind::Queue => Ok(ObjectState::Queue(Fifo::empty(alloc, &())?)),
+            Kind::Stack => Ok(ObjectState::Stack(Stack::empty(alloc, &())?)),
+            Kind::PriorityQueue => Ok(ObjectState::PriorityQueue(Prio::empty(alloc, &())?)),
         }
     }
 
@@ -86,6 +92,8 @@ impl Spec for OneObject {
             (Kind::KeyMap, Act::KeyMap(_)) => true,
             (Kind::Counter, Act::Counter(_)) => true,
             (Kind::Queue, Act::Queue(_)) => true,
+            (Kind::Stack, Act::Stack(_)) => true,
+            (Kind::PriorityQueue, Act::PriorityQueue(_)) => true,
             _ => false,
         }
     }
@@ -105,6 +113,8 @@ impl Spec for OneObject {
             (ObjectState::KeyMap(state), Act::KeyMap(op)) => KeyMap::gives(state, op),
             (ObjectState::Counter(state), Act::Counter(op)) => Count::gives(state, op),
             (ObjectState::Queue(state), Act::Queue(op)) => Fifo::gives(state, op),
+            (ObjectState::Stack(state), Act::Stack(op)) => Stack::gives(state, op),
+            (ObjectState::PriorityQueue(state), Act::PriorityQueue(op)) => Prio::gives(state, op),
             _ => Answer::None,
         }
     }
@@ -116,6 +126,8 @@ impl Spec for OneObject {
             (ObjectState::KeyMap(state), Act::KeyMap(op)) => KeyMap::legal(state, op),
             (ObjectState::Counter(state), Act::Counter(op)) => Count::legal(state, op),
             (ObjectState::Queue(state), Act::Queue(op)) => Fifo::legal(state, op),
+            (ObjectState::Stack(state), Act::Stack(op)) => Stack::legal(state, op),
+            (ObjectState::PriorityQueue(state), Act::PriorityQueue(op)) => Prio::legal(state, op),
             _ => false,
         }
     }
@@ -136,9 +148,13 @@ impl Spec for OneObject {
             (ObjectState::Counter(state), Act::Counter(op)) => {
                 uncovered(Count::apply(state, op, ticks))
             }
-            (ObjectState::Queue(state), Act::Queue(op)) => {
-                uncovered(Fifo::apply(state, op, ticks))
-            }
+            (ObjectState::Queue(state), Act::Queue(op)) => uncovered(Fifo::apply(state, op, ticks)),
+            (ObjectState::Stack(state), Act::Stack(op)) => uncovered(Stack::apply(
+                state, op, ticks,
+            )),
+            (ObjectState::PriorityQueue(state), Act::PriorityQueue(op)) => uncovered(Prio::apply(
+                state, op, ticks,
+            )),
             _ => {
                 ticks.tick();
                 Ok(Applied::Differs)
@@ -160,6 +176,13 @@ impl Spec for OneObject {
             (ObjectState::KeyMap(state), Act::KeyMap(op)) => KeyMap::undo(state, op, (), ticks),
             (ObjectState::Counter(state), Act::Counter(op)) => Count::undo(state, op, (), ticks),
             (ObjectState::Queue(state), Act::Queue(op)) => Fifo::undo(state, op, (), ticks),
+            (ObjectState::Stack(state), Act::Stack(op)) => Stack::undo(state, op, (), ticks),
+            (ObjectState::PriorityQueue(state), Act::PriorityQueue(op)) => Prio::undo(
+                state,
+                op,
+                (),
+                ticks,
+            ),
             _ => {
                 ticks.tick();
                 Ok(())
@@ -178,6 +201,11 @@ impl Spec for OneObject {
             (Act::KeyMap(a), Act::KeyMap(b)) => context_of(alloc, KeyMap::context(alloc, a, b)?),
             (Act::Counter(a), Act::Counter(b)) => context_of(alloc, Count::context(alloc, a, b)?),
             (Act::Queue(a), Act::Queue(b)) => context_of(alloc, Fifo::context(alloc, a, b)?),
+            (Act::Stack(a), Act::Stack(b)) => context_of(alloc, Stack::context(alloc, a, b)?),
+            (Act::PriorityQueue(a), Act::PriorityQueue(b)) => context_of(
+                alloc,
+                Prio::context(alloc, a, b)?,
+            ),
             _ => Ok(None),
         }
     }

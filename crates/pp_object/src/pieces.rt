@@ -1,10 +1,11 @@
 //! What is shown of the state of an object.
-ghost use Rattle.std.specs.Prelude.{◌≡◌, ◌<◌, ◌++◌, length, map, slice_get, option_to_list, IfOk, OnOk};
+ghost use Rattle.std.specs.Prelude.{◌≡◌, ◌<◌, ◌++◌, length, map, option_to_list, IfOk, OnOk};
 ghost use Rattle.pp_object.specs.Pieces.{alone, at_key, pieces_of, pieces_at};
 
 use crate::states::{ObjectState, ObjectStates};
 use pp_core::{OutOfMemory, Sequence};
 use pp_queue::Queue;
+use pp_stack::Pile;
 use std::alloc::Global;
 
 /// What is shown of an object: a number, and its key where it stands at one.
@@ -43,11 +44,11 @@ fn numbers(alloc: Global, numbers: &Sequence<i64>) -> Result<Pieces, OutOfMemory
     Ok(pieces)
 }
 
-/// Adds the item of a queue at a place, if there is one.
-fn add_item(items: &mut Sequence<i64>, queue: &Queue, place: usize) -> Result<(), OutOfMemory>
-    ensures { OnOk result (items.new ≡ items.old ++ option_to_list (slice_get queue.now place)) }
+/// Adds what was found, if there was something.
+fn add_item(items: &mut Sequence<i64>, found: Option<i64>) -> Result<(), OutOfMemory>
+    ensures { OnOk result (items.new ≡ items.old ++ option_to_list found) }
 {
-    match queue.get(place) {
+    match found {
         Some(item) => items.push(item),
         None => Ok(()),
     }
@@ -55,12 +56,24 @@ fn add_item(items: &mut Sequence<i64>, queue: &Queue, place: usize) -> Result<()
 
 /// The items of a queue, from front to back.
 #[tactic(auto, using(crate::proofs::Items::taken))]
-fn items(alloc: Global, queue: &Queue) -> Result<Sequence<i64>, OutOfMemory>
+fn queue_items(alloc: Global, queue: &Queue) -> Result<Sequence<i64>, OutOfMemory>
     ensures { IfOk result (λ items. items ≡ queue.now) }
 {
     let mut items = Sequence::new(alloc);
     for place in 0..queue.len() {
-        add_item(&mut items, queue, place)?;
+        add_item(&mut items, queue.get(place))?;
+    }
+    Ok(items)
+}
+
+/// The items of a stack, from bottom to top.
+#[tactic(auto, using(crate::proofs::Items::taken))]
+fn stack_items(alloc: Global, pile: &Pile) -> Result<Sequence<i64>, OutOfMemory>
+    ensures { IfOk result (λ items. items ≡ pile.now) }
+{
+    let mut items = Sequence::new(alloc);
+    for place in 0..pile.len() {
+        add_item(&mut items, pile.get(place))?;
     }
     Ok(items)
 }
@@ -80,7 +93,9 @@ fn show_state(alloc: Global, state: &ObjectState) -> Result<Pieces, OutOfMemory>
             })?;
             Ok(pieces)
         }
-        ObjectState::Queue(queue) => numbers(alloc, &items(alloc, queue)?),
+        ObjectState::Queue(queue) => numbers(alloc, &queue_items(alloc, queue)?),
+        ObjectState::Stack(pile) => numbers(alloc, &stack_items(alloc, pile)?),
+        ObjectState::PriorityQueue(bag) => numbers(alloc, &bag.values(alloc)?),
     }
 }
 

@@ -5,8 +5,10 @@ ghost use Rattle.pp_object.specs.One.{covered_by};
 
 use pp_keyed::Cells;
 use pp_mem::Memory;
+use pp_prio::Bag;
 use pp_queue::Queue;
 use pp_set::Members;
+use pp_stack::Pile;
 use std::marker::Model;
 
 /// The state of one object.
@@ -17,6 +19,8 @@ pub enum ObjectState {
     KeyMap(Cells),
     Counter(i128),
     Queue(Queue),
+    Stack(Pile),
+    PriorityQueue(Bag),
 }
 
 /// What takes an operation back, beside the operation.

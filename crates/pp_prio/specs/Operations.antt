@@ -18,9 +18,12 @@ found_by (Least value) = value
 
 -- its method and its argument, at the object 0
 abbrev pub call_of : PrioOp → Call
-call_of (Insert value) = record { object = 0; method = InsertCall; first = value; second = pos 0 }
-call_of (Take value) = record { object = 0; method = TakeCall; first = pos 0; second = pos 0 }
-call_of (Least value) = record { object = 0; method = LeastCall; first = pos 0; second = pos 0 }
+call_of (Insert value) =
+    record { object = 0; method = InsertCall; first = value; second = pos 0; third = pos 0 }
+call_of (Take value) =
+    record { object = 0; method = TakeCall; first = pos 0; second = pos 0; third = pos 0 }
+call_of (Least value) =
+    record { object = 0; method = LeastCall; first = pos 0; second = pos 0; third = pos 0 }
 
 -- the result that it records
 abbrev pub recorded_by : PrioOp → Answer

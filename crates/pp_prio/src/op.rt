@@ -53,6 +53,7 @@ impl PrioOp {
             method,
             first,
             second: 0,
+            third: 0,
         }
     }
 

@@ -10,6 +10,7 @@ use Rattle.pp_object.specs.Calls.{arity_of}
 pub few : (kind : Kind) (method : Method) → arity_of kind method ≤ 3
 few kind methods.Read = omega arith
 few kind methods.Write = omega arith
+few kind methods.Cas = omega arith
 few kind methods.Add = omega arith
 few kind methods.Remove = omega arith
 few kind methods.Contains = omega arith
@@ -19,3 +20,8 @@ few kind methods.Get = omega arith
 few kind methods.FetchAdd = omega arith
 few kind methods.Enq = omega arith
 few kind methods.Deq = omega arith
+few kind methods.StackPush = omega arith
+few kind methods.StackPop = omega arith
+few kind methods.Insert = omega arith
+few kind methods.Take = omega arith
+few kind methods.Least = omega arith

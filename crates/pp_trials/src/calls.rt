@@ -97,14 +97,54 @@ macro_rules! dequeues {
     };
 }
 
+/// A push: the item.
+macro_rules! pushes {
+    ($value:expr) => {
+        Op { object: HERE, act: Act::Stack(StackOp::Push { value: $value }) }
+    };
+}
+
+/// A pop: the item taken, if there was one.
+macro_rules! pops {
+    ($value:expr) => {
+        Op { object: HERE, act: Act::Stack(StackOp::Pop { value: $value }) }
+    };
+}
+
+/// An insertion into a priority queue: the item.
+macro_rules! inserts {
+    ($value:expr) => {
+        Op { object: HERE, act: Act::PriorityQueue(PrioOp::Insert { value: $value }) }
+    };
+}
+
+/// A removal from a priority queue: the item taken, if there was one.
+macro_rules! extracts {
+    ($value:expr) => {
+        Op { object: HERE, act: Act::PriorityQueue(PrioOp::Take { value: $value }) }
+    };
+}
+
+/// A question for the least item of a priority queue: the item, if there is one.
+macro_rules! least {
+    ($value:expr) => {
+        Op { object: HERE, act: Act::PriorityQueue(PrioOp::Least { value: $value }) }
+    };
+}
+
 pub(crate) use adds;
 pub(crate) use contains;
 pub(crate) use counts;
 pub(crate) use dequeues;
 pub(crate) use enqueues;
+pub(crate) use extracts;
 pub(crate) use fetches;
 pub(crate) use gets;
 pub(crate) use increases;
+pub(crate) use inserts;
+pub(crate) use least;
+pub(crate) use pops;
+pub(crate) use pushes;
 pub(crate) use puts;
 pub(crate) use reads;
 pub(crate) use removes;

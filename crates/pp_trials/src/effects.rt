@@ -1,15 +1,17 @@
 //! Operations that take effect and are taken back.
 ghost use Rattle.std.specs.Prelude.{◌≡◌, ◌<◌};
 
-use crate::calls::{HERE, adds, enqueues, increases, puts, writes};
+use crate::calls::{HERE, adds, enqueues, increases, inserts, pushes, puts, writes};
 use pp_core::{Kinds, Ticks};
 use pp_counter::CounterOp;
 use pp_map::MapOp;
 use pp_mem::MemOp;
 use pp_object::{Act, ObjectStates, Objects, Op, Piece, show};
+use pp_prio::PrioOp;
 use pp_queue::QueueOp;
 use pp_set::SetOp;
 use pp_spec::{Applied, Spec};
+use pp_stack::StackOp;
 use std::alloc::Global;
 use std::process::Abort;
 use std::sync::ledger::{Blank, Ledger};
@@ -23,7 +25,7 @@ pub struct Effect {
 }
 
 /// An operation of each kind.
-pub const EFFECTS: [Effect; 5] = [
+pub const EFFECTS: [Effect; 7] = [
     Effect {
         op: writes!(7, 5),
         before: &[],
@@ -61,6 +63,22 @@ pub const EFFECTS: [Effect; 5] = [
     },
     Effect {
         op: enqueues!(5),
+        before: &[],
+        after: &[Piece {
+            key: None,
+            value: 5,
+        }],
+    },
+    Effect {
+        op: pushes!(5),
+        before: &[],
+        after: &[Piece {
+            key: None,
+            value: 5,
+        }],
+    },
+    Effect {
+        op: inserts!(5),
         before: &[],
         after: &[Piece {
             key: None,

@@ -1,15 +1,17 @@
 //! The pairs of operations that are tried.
 use crate::calls::{
-    HERE, adds, contains, counts, dequeues, enqueues, fetches, gets, increases, puts, reads,
-    removes, takes, writes,
+    HERE, adds, contains, counts, dequeues, enqueues, extracts, fetches, gets, increases, inserts,
+    least, pops, pushes, puts, reads, removes, takes, writes,
 };
 use crate::pairs::{Pair, stay, swap};
 use pp_counter::CounterOp;
 use pp_map::MapOp;
 use pp_mem::MemOp;
 use pp_object::{Act, Op};
+use pp_prio::PrioOp;
 use pp_queue::QueueOp;
 use pp_set::SetOp;
+use pp_stack::StackOp;
 
 /// The greatest number of a record.
 const MOST: i64 = 1_000_000_000_000_000_000;
@@ -248,11 +250,91 @@ const QUEUE: [Pair; 12] = [
     swap!(dequeues!(None), dequeues!(None)),
 ];
 
+/// Each pair of a push, a pop of an item and a pop that finds none.
+const STACK: [Pair; 13] = [
+    // a push
+    swap!(pushes!(5), pushes!(5)),
+    stay!(pushes!(5), pushes!(6), [], [pops!(Some(6))]),
+    swap!(pushes!(5), pops!(Some(6))),
+    stay!(pushes!(5), pops!(Some(5)), [], []),
+    swap!(pushes!(5), pops!(None)),
+    // a pop of an item
+    swap!(pops!(Some(5)), pushes!(5)),
+    stay!(pops!(Some(5)), pushes!(6), [pushes!(5)], []),
+    swap!(pops!(Some(5)), pops!(Some(5))),
+    stay!(pops!(Some(5)), pops!(Some(6)), [pushes!(6), pushes!(5)], []),
+    stay!(pops!(Some(5)), pops!(None), [pushes!(5)], []),
+    // a pop that finds none
+    stay!(pops!(None), pushes!(5), [], []),
+    swap!(pops!(None), pops!(Some(5))),
+    swap!(pops!(None), pops!(None)),
+];
+
+/// Each pair of an insertion, a removal, a question that finds an item, and either that finds none.
+const PRIORITY_QUEUE: [Pair; 34] = [
+    // an insertion
+    swap!(inserts!(5), inserts!(5)),
+    swap!(inserts!(6), inserts!(5)),
+    swap!(inserts!(5), extracts!(Some(6))),
+    stay!(inserts!(5), extracts!(Some(5)), [], []),
+    swap!(inserts!(5), least!(Some(6))),
+    stay!(inserts!(5), least!(Some(5)), [], []),
+    swap!(inserts!(5), extracts!(None)),
+    swap!(inserts!(5), least!(None)),
+    // a removal
+    swap!(extracts!(Some(5)), inserts!(5)),
+    swap!(extracts!(Some(5)), inserts!(6)),
+    stay!(extracts!(Some(5)), inserts!(4), [inserts!(5)], []),
+    swap!(extracts!(Some(5)), extracts!(Some(5))),
+    swap!(extracts!(Some(5)), extracts!(Some(4))),
+    stay!(
+        extracts!(Some(5)),
+        extracts!(Some(6)),
+        [inserts!(5), inserts!(6)],
+        []
+    ),
+    swap!(extracts!(Some(5)), least!(Some(5))),
+    swap!(extracts!(Some(5)), least!(Some(4))),
+    stay!(
+        extracts!(Some(5)),
+        least!(Some(6)),
+        [inserts!(5), inserts!(6)],
+        []
+    ),
+    stay!(extracts!(Some(5)), extracts!(None), [inserts!(5)], []),
+    stay!(extracts!(Some(5)), least!(None), [inserts!(5)], []),
+    // a question that finds an item
+    swap!(least!(Some(5)), inserts!(5)),
+    swap!(least!(Some(5)), inserts!(6)),
+    stay!(least!(Some(5)), inserts!(4), [inserts!(5)], []),
+    swap!(least!(Some(5)), extracts!(Some(6))),
+    stay!(least!(Some(5)), extracts!(Some(5)), [inserts!(5)], []),
+    swap!(least!(Some(5)), least!(Some(5))),
+    swap!(least!(Some(5)), least!(Some(6))),
+    swap!(least!(Some(5)), extracts!(None)),
+    swap!(least!(Some(5)), least!(None)),
+    // a removal or a question that finds none
+    stay!(extracts!(None), inserts!(5), [], []),
+    stay!(least!(None), inserts!(5), [], []),
+    swap!(extracts!(None), extracts!(Some(5))),
+    swap!(least!(None), extracts!(Some(5))),
+    swap!(extracts!(None), least!(Some(5))),
+    swap!(extracts!(None), extracts!(None)),
+];
+
 /// The pairs of each kind: every cell of its table, and some at other numbers.
-pub const CELLS: [&[Pair]; 5] = [&MEMORY, &KEY_SET, &KEY_MAP, &COUNTER, &QUEUE];
+pub const CELLS: [&[Pair]; 7] = [
+    &MEMORY,
+    &KEY_SET,
+    &KEY_MAP,
+    &COUNTER,
+    &QUEUE,
+    &STACK,
+    &PRIORITY_QUEUE,
+];
 
 /// Calls whose answers were worked out by hand.
-pub const WORKED: [Pair; 8] = [
+pub const WORKED: [Pair; 10] = [
     stay!(reads!(0, 5), writes!(0, 6), [writes!(0, 5)], []),
     swap!(writes!(0, 5), reads!(0, 6)),
     stay!(adds!(4, true), contains!(4, true), [], []),
@@ -276,4 +358,6 @@ pub const WORKED: [Pair; 8] = [
         [puts!(1, 100, None)],
         []
     ),
+    stay!(pushes!(4), pushes!(5), [], [pops!(Some(5))]),
+    stay!(extracts!(Some(3)), inserts!(2), [inserts!(3)], []),
 ];

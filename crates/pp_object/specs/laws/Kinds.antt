@@ -28,8 +28,16 @@ use Rattle.pp_queue.specs.Fifo.{fifo}
 use Rattle.pp_queue.specs.laws.Lawful.{fifo_lawful}
 use Rattle.pp_queue.specs.declared.op.QueueOp.{QueueOp}
 use Rattle.pp_queue.specs.declared.op.QueueOp.TheVariants as queues
+use Rattle.pp_stack.specs.Stacks.{stack}
+use Rattle.pp_stack.specs.laws.Lawful.{stack_lawful}
+use Rattle.pp_stack.specs.declared.op.StackOp.{StackOp}
+use Rattle.pp_stack.specs.declared.op.StackOp.TheVariants as stacks
+use Rattle.pp_prio.specs.Prios.{prio}
+use Rattle.pp_prio.specs.laws.Lawful.{prio_lawful}
+use Rattle.pp_prio.specs.declared.op.PrioOp.{PrioOp}
+use Rattle.pp_prio.specs.declared.op.PrioOp.TheVariants as prios
 use Rattle.pp_object.specs.declared.act.Act.{Act}
-use Rattle.pp_object.specs.declared.act.Act.TheVariants.{Memory, KeySet, KeyMap, Counter, Queue}
+use Rattle.pp_object.specs.declared.act.Act.TheVariants.{Memory, KeySet, KeyMap, Counter, Queue, Stack, PriorityQueue}
 use Rattle.pp_object.specs.declared.states.ObjectState.{ObjectState}
 use Rattle.pp_object.specs.declared.states.ObjectState.TheVariants as states
 use Rattle.pp_object.specs.declared.states.Undo.{Undo}
@@ -43,6 +51,8 @@ States kinds.KeySet = FinSet int_cmp
 States kinds.KeyMap = FinMap int_cmp ℤ
 States kinds.Counter = ℤ
 States kinds.Queue = List ℤ
+States kinds.Stack = List ℤ
+States kinds.PriorityQueue = List ℤ
 
 abbrev pub Ops : Kind → Type 0
 Ops kinds.Memory = MemOp
@@ -50,6 +60,8 @@ Ops kinds.KeySet = SetOp
 Ops kinds.KeyMap = MapOp
 Ops kinds.Counter = CounterOp
 Ops kinds.Queue = QueueOp
+Ops kinds.Stack = StackOp
+Ops kinds.PriorityQueue = PrioOp
 
 abbrev pub Undos : Kind → Type 0
 Undos kinds.Memory = ℤ
@@ -62,6 +74,8 @@ object_of kinds.KeySet = key_set
 object_of kinds.KeyMap = key_map
 object_of kinds.Counter = counter
 object_of kinds.Queue = fifo
+object_of kinds.Stack = stack
+object_of kinds.PriorityQueue = prio
 
 pub lawful : (k : Kind) → IsLawful (object_of k)
 lawful kinds.Memory = memory_lawful
@@ -69,6 +83,8 @@ lawful kinds.KeySet = set_lawful
 lawful kinds.KeyMap = key_map_lawful
 lawful kinds.Counter = counter_lawful
 lawful kinds.Queue = fifo_lawful
+lawful kinds.Stack = stack_lawful
+lawful kinds.PriorityQueue = prio_lawful
 
 -- Its states, operations and undo values among those of all kinds.
 abbrev pub state_of : (k : Kind) → States k → ObjectState
@@ -77,6 +93,8 @@ state_of kinds.KeySet s = states.KeySet s
 state_of kinds.KeyMap s = states.KeyMap s
 state_of kinds.Counter s = states.Counter s
 state_of kinds.Queue s = states.Queue s
+state_of kinds.Stack s = states.Stack s
+state_of kinds.PriorityQueue s = states.PriorityQueue s
 
 abbrev pub act_of : (k : Kind) → Ops k → Act
 act_of kinds.Memory a = Memory a
@@ -84,6 +102,8 @@ act_of kinds.KeySet a = KeySet a
 act_of kinds.KeyMap a = KeyMap a
 act_of kinds.Counter a = Counter a
 act_of kinds.Queue a = Queue a
+act_of kinds.Stack a = Stack a
+act_of kinds.PriorityQueue a = PriorityQueue a
 
 abbrev pub undo_as : (k : Kind) → Undos k → Undo
 undo_as kinds.Memory u = Covered u
@@ -100,6 +120,8 @@ own_state (states.KeySet s) = (s, refl)
 own_state (states.KeyMap s) = (s, refl)
 own_state (states.Counter s) = (s, refl)
 own_state (states.Queue s) = (s, refl)
+own_state (states.Stack s) = (s, refl)
+own_state (states.PriorityQueue s) = (s, refl)
 
 own_act : (a : Act) → (b : Ops (kind_for a)) × (a ≡ act_of (kind_for a) b)
 own_act (Memory a) = (a, refl)
@@ -107,6 +129,8 @@ own_act (KeySet a) = (a, refl)
 own_act (KeyMap a) = (a, refl)
 own_act (Counter a) = (a, refl)
 own_act (Queue a) = (a, refl)
+own_act (Stack a) = (a, refl)
+own_act (PriorityQueue a) = (a, refl)
 
 -- An act fits its kind alone, and no lists refute a pair of acts of two kinds.
 fits_own : (k : Kind) (a : Act) → IsTrue (one.fits k a) → k ≡ kind_for a
@@ -115,6 +139,8 @@ fits_own kinds.KeySet (KeySet a) h = refl
 fits_own kinds.KeyMap (KeyMap a) h = refl
 fits_own kinds.Counter (Counter a) h = refl
 fits_own kinds.Queue (Queue a) h = refl
+fits_own kinds.Stack (Stack a) h = refl
+fits_own kinds.PriorityQueue (PriorityQueue a) h = refl
 fits_own k a h = absurd (cc)
 
 unrefuted_apart : (a b : Act) → one.fits (kind_for a) b ≡ false → one.refuting a b ≡ None
@@ -123,6 +149,8 @@ unrefuted_apart (KeySet a) (KeySet b) h = absurd (cc)
 unrefuted_apart (KeyMap a) (KeyMap b) h = absurd (cc)
 unrefuted_apart (Counter a) (Counter b) h = absurd (cc)
 unrefuted_apart (Queue a) (Queue b) h = absurd (cc)
+unrefuted_apart (Stack a) (Stack b) h = absurd (cc)
+unrefuted_apart (PriorityQueue a) (PriorityQueue b) h = absurd (cc)
 unrefuted_apart a b h = refl
 
 -- A call of a kind has no place.
@@ -140,6 +168,10 @@ no_place kinds.Counter (counts.Get v) = refl
 no_place kinds.Counter (counts.FetchAdd d v) = refl
 no_place kinds.Queue (queues.Enq v) = refl
 no_place kinds.Queue (queues.Deq v) = refl
+no_place kinds.Stack (stacks.Push v) = refl
+no_place kinds.Stack (stacks.Pop v) = refl
+no_place kinds.PriorityQueue (prios.Insert v) = refl
+no_place kinds.PriorityQueue (prios.Take v) = refl
 
 -- What follows needs no arm of a new kind.
 

@@ -1,7 +1,8 @@
 -- Proof machinery: the laws of a priority queue.
-use Rattle.std.proofs.Common.{◌≡◌, ℤ, pos, List, [], ◌∷◌, ◌&&◌, Some, None, refl, sym, ◌∙◌}
+use Rattle.std.proofs.Common.{◌≡◌, ℤ, List, [], ◌∷◌, ◌&&◌, Some, None, refl, sym, ◌∙◌}
 use Rattle.std.proofs.Math.Bool.{and-true}
-use Rattle.pp_spec.specs.Numbers.{in_range, has_ranged_arguments, is_ranged_answer}
+use Rattle.pp_spec.proofs.Numbers.{one_ranged}
+use Rattle.pp_spec.specs.Numbers.{has_ranged_arguments, is_ranged_answer}
 use Rattle.pp_spec.specs.Object.{AllowedFrom, IsLawful}
 use Rattle.pp_spec.proofs.Results.{found_numbers}
 use Rattle.pp_spec.proofs.Tests.{unrefuted, refuted}
@@ -46,7 +47,7 @@ drained (x ∷ values) (y ∷ others) h = let e = told (Take (Some x)) (y ∷ ot
 -- An operation is ranged where its argument and its recorded result are.
 numbers : (op : PrioOp) → is_ranged op
     ≡ (has_ranged_arguments (call_of op) && is_ranged_answer (recorded_by op))
-numbers (Insert x) = sym (and-true (in_range x && in_range (pos 0)) ∙ and-true (in_range x))
+numbers (Insert x) = sym (and-true (has_ranged_arguments (call_of (Insert x))) ∙ one_ranged x)
 numbers (Take value) = found_numbers value
 numbers (Least value) = found_numbers value
 

@@ -30,6 +30,16 @@ returns-in-Queue-Queue c = pair_swaps kinds.Queue c.args.a.now c.args.b.now c.in
     c.in-Queue-Queue.b c.swaps-in-Queue-Queue.result c.in-Queue-Queue.is-0 c.in-Queue-Queue.is-1
     c.swaps-in-Queue-Queue.ensures.swaps c.swaps-in-Queue-Queue.ensures.only
 
+pub returns-in-Stack-Stack : goal.returns-in-Stack-Stack
+returns-in-Stack-Stack c = pair_swaps kinds.Stack c.args.a.now c.args.b.now c.in-Stack-Stack.a
+    c.in-Stack-Stack.b c.swaps-in-Stack-Stack.result c.in-Stack-Stack.is-0 c.in-Stack-Stack.is-1
+    c.swaps-in-Stack-Stack.ensures.swaps c.swaps-in-Stack-Stack.ensures.only
+
+pub returns-in-PriorityQueue-PriorityQueue : goal.returns-in-PriorityQueue-PriorityQueue
+returns-in-PriorityQueue-PriorityQueue c = pair_swaps kinds.PriorityQueue c.args.a.now c.args.b.now c.in-PriorityQueue-PriorityQueue.a
+    c.in-PriorityQueue-PriorityQueue.b c.swaps-in-PriorityQueue-PriorityQueue.result c.in-PriorityQueue-PriorityQueue.is-0 c.in-PriorityQueue-PriorityQueue.is-1
+    c.swaps-in-PriorityQueue-PriorityQueue.ensures.swaps c.swaps-in-PriorityQueue-PriorityQueue.ensures.only
+
 pub returns-in_default : goal.returns-in_default
 returns-in_default c = strangers_swap kinds.Memory c.args.a.now c.args.b.now c.in_default.field-0-0
     c.in_default.is-0 c.in_default.not-Memory-1
@@ -49,3 +59,11 @@ returns-in_default-4 c = strangers_swap kinds.Counter c.args.a.now c.args.b.now
 pub returns-in_default-5 : goal.returns-in_default-5
 returns-in_default-5 c = strangers_swap kinds.Queue c.args.a.now c.args.b.now c.in_default.field-0-0
     c.in_default.is-0 c.in_default.not-Queue-1
+
+pub returns-in_default-6 : goal.returns-in_default-6
+returns-in_default-6 c = strangers_swap kinds.Stack c.args.a.now c.args.b.now c.in_default.field-0-0
+    c.in_default.is-0 c.in_default.not-Stack-1
+
+pub returns-in_default-7 : goal.returns-in_default-7
+returns-in_default-7 c = strangers_swap kinds.PriorityQueue c.args.a.now c.args.b.now c.in_default.field-0-0
+    c.in_default.is-0 c.in_default.not-PriorityQueue-1

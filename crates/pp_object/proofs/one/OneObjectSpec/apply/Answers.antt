@@ -29,3 +29,13 @@ pub apply-requires-in-Queue-Queue-clause-reached : goal.apply-requires-in-Queue-
 apply-requires-in-Queue-Queue-clause-reached g c =
     reached_here kinds.Queue c.args.state.now c.in-Queue-Queue.state c.in-Queue-Queue.is-0
     c.requires.reached
+
+pub apply-requires-in-Stack-Stack-clause-reached : goal.apply-requires-in-Stack-Stack-clause-reached
+apply-requires-in-Stack-Stack-clause-reached g c =
+    reached_here kinds.Stack c.args.state.now c.in-Stack-Stack.state c.in-Stack-Stack.is-0
+    c.requires.reached
+
+pub apply-requires-in-PriorityQueue-PriorityQueue-clause-reached : goal.apply-requires-in-PriorityQueue-PriorityQueue-clause-reached
+apply-requires-in-PriorityQueue-PriorityQueue-clause-reached g c =
+    reached_here kinds.PriorityQueue c.args.state.now c.in-PriorityQueue-PriorityQueue.state c.in-PriorityQueue-PriorityQueue.is-0
+    c.requires.reached

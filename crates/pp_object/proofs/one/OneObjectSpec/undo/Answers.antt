@@ -31,3 +31,13 @@ pub undo-requires-in-Queue-Queue : goal.undo-requires-in-Queue-Queue
 undo-requires-in-Queue-Queue g c =
     was_applied_here kinds.Queue c.args.state.now c.in-Queue-Queue.state c.args.op.now
     c.in-Queue-Queue.op c.args.undo c.in-Queue-Queue.is-0 c.in-Queue-Queue.is-1 c.requires
+
+pub undo-requires-in-Stack-Stack : goal.undo-requires-in-Stack-Stack
+undo-requires-in-Stack-Stack g c =
+    was_applied_here kinds.Stack c.args.state.now c.in-Stack-Stack.state c.args.op.now
+    c.in-Stack-Stack.op c.args.undo c.in-Stack-Stack.is-0 c.in-Stack-Stack.is-1 c.requires
+
+pub undo-requires-in-PriorityQueue-PriorityQueue : goal.undo-requires-in-PriorityQueue-PriorityQueue
+undo-requires-in-PriorityQueue-PriorityQueue g c =
+    was_applied_here kinds.PriorityQueue c.args.state.now c.in-PriorityQueue-PriorityQueue.state c.args.op.now
+    c.in-PriorityQueue-PriorityQueue.op c.args.undo c.in-PriorityQueue-PriorityQueue.is-0 c.in-PriorityQueue-PriorityQueue.is-1 c.requires
