@@ -58,7 +58,8 @@ memory_after m (Read a v) = m
 memory_after m (Write a v) = written m a v
 memory_after m (Cas a e n done) = if int_eq (value_at m a) e then written m a n else m
 
--- the number that a write covers, and the memory that it brings back
+-- the number that a write covers, and the memory that it brings back; a compare-and-swap tells itself
+-- what it covered
 abbrev pub kept_by : FinMap int_cmp ℤ → MemOp → ℤ
 kept_by m (Read a v) = pos 0
 kept_by m (Write a v) = value_at m a

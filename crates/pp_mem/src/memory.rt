@@ -55,6 +55,7 @@ impl Memory {
         }
         self.cells.insert(at, value)
     }
+
     /// The addresses whose number is not 0, with their numbers, in ascending order. The only error
     /// is that memory was refused.
     pub fn pairs(&self, alloc: Global) -> Result<Sequence<(i64, i64)>, OutOfMemory>

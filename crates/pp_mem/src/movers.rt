@@ -66,8 +66,7 @@ fn mover_table() -> MoverTable<4>
     MoverTable::new([read, write, cas_done, cas_failed])
 }
 
-/// Whether two operations swap: always at different addresses, and by the table at
-/// one.
+/// Whether two operations swap: always at different addresses, and by the table at one.
 pub fn may_swap(a: &MemOp, b: &MemOp) -> bool
     ensures { result ≡ may_swap a.now b.now }
 {

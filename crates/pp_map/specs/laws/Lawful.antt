@@ -26,8 +26,8 @@ put_allowed key (Some x) = ((refl, ap answer_of (get-empty {X = ℤ} int_cmp key
 
 put_stands : (key : ℤ) (v : Option ℤ) → get (state_after key_map tt (put_first key v)) key ≡ v
 put_stands key None = get-empty {X = ℤ} int_cmp key
-put_stands key (Some x) = left_here key_map (told_keys map_keys) map_is_keyed empty (Put key x None) key refl
-    (put_allowed key (Some x)).0
+put_stands key (Some x) = left_here key_map (told_keys map_keys) map_is_keyed empty (Put key x None)
+    key refl (put_allowed key (Some x)).0
 
 -- It is ranged where the key and the value are.
 put_ranged : (key : ℤ) (v : Option ℤ) → (in_range key && is_ranged_found v) ≡ true
@@ -56,7 +56,8 @@ map_is_shown = record {
 
 -- The pair swaps exactly where the table lets it, and else nowhere.
 told : IsTold key_map may_swap lists_round
-told = keyed.table_tells key_map (told_keys map_keys) table_lets lists_round map_is_keyed map_is_shown
+told = keyed.table_tells key_map (told_keys map_keys) table_lets lists_round map_is_keyed
+    map_is_shown
 
 pub may_swap_exact : (a b : MapOp) → (may_swap a b ≡ true) ↔ Swaps key_map a b
 may_swap_exact = swaps_exact key_map may_swap lists_round told
@@ -65,4 +66,5 @@ pub may_not_swap : (a b : MapOp) → may_swap a b ≡ false → SwapsNowhere key
 may_not_swap = swaps_nowhere key_map may_swap lists_round told
 
 pub key_map_lawful : IsLawful key_map
-key_map_lawful = keyed.keyed_lawful key_map (told_keys map_keys) table_lets lists_round map_is_keyed map_is_shown
+key_map_lawful = keyed.keyed_lawful key_map (told_keys map_keys) table_lets lists_round map_is_keyed
+    map_is_shown

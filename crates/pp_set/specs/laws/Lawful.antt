@@ -87,4 +87,5 @@ pub may_not_swap : (a b : SetOp) → may_swap a b ≡ false → SwapsNowhere key
 may_not_swap = swaps_nowhere key_set may_swap lists_round told
 
 pub set_lawful : IsLawful key_set
-set_lawful = keyed.keyed_lawful key_set (told_keys bits) may_swap_there lists_round set_keyed set_shown
+set_lawful = keyed.keyed_lawful key_set (told_keys bits) may_swap_there lists_round set_keyed
+    set_shown
