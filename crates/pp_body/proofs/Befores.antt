@@ -1,13 +1,17 @@
 -- What may follow a call may follow the set after it.
-use Rattle.std.proofs.Common.{◌≡◌, ℕ, ◌+◌, ◌^◌, Bool, true, false, ◌||◌, cond, List, [], ◌∷◌, ◌++◌, bit_or, refl, sym, subst, ◌∙◌, inl, inr}
+use Rattle.std.proofs.Common.{◌≡◌, ℕ, ◌+◌, ◌^◌, Bool, true, false, ◌||◌, cond, List, [], ◌∷◌, ◌++◌}
+use Rattle.std.proofs.Common.{bit_or, refl, sym, subst, ◌∙◌, inl, inr}
 use Rattle.pp_body.specs.Patterns.{matches}
-use Rattle.pp_model.specs.Body.{Tree, Trees, Skip, One, Seq, Alt, Star, NoPart, Part, Word, WordInTurn, Repeats, Call, Pattern, Matches}
+use Rattle.pp_model.specs.Body.{Tree, Trees, Skip, One, Seq, Alt, Star, NoPart, Part, Word}
+use Rattle.pp_model.specs.Body.{WordInTurn, Repeats, Call, Pattern, Matches}
 use Rattle.pp_core.specs.Trees.{nodes}
 use Rattle.pp_model.specs.Lists.{Each, joined}
-use Rattle.pp_body.specs.Positions.{has, reaches, shift, shift_in_turn, shift_some, Rest, RestInTurn, RestOfSome}
+use Rattle.pp_body.specs.Positions.{has, reaches, shift, shift_in_turn, shift_some, Rest}
+use Rattle.pp_body.specs.Positions.{RestInTurn, RestOfSome}
 use Rattle.pp_body.proofs.Patterns.{both, or_left, or_right, means_matches}
 use Rattle.pp_body.proofs.Reaches.{Goes, GoesInTurn, GoesOfSome}
-use Rattle.pp_body.proofs.Shifts.{along, along_turn, along_some, in_first, in_second, single_has, ended}
+use Rattle.pp_body.proofs.Shifts.{along, along_turn, along_some, in_first, in_second, single_has}
+use Rattle.pp_body.proofs.Shifts.{ended}
 
 one_before : (p : Pattern) (at : ℕ) (m : Bool) (c : Call) (v : List Call) → m ≡ true → Word (One p) (c ∷ v) → Rest (One p) at (shift (One p) at 0 m c) v
 one_before p at m c v e w =

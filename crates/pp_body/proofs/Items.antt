@@ -1,5 +1,6 @@
 -- The parts of a body, one by one.
-use Rattle.std.proofs.Common.{◌≡◌, ◌<◌, ◌≤◌, ℕ, ◌+◌, List, length, drop, get_or, refl, ap, sym, ◌∙◌, arith}
+use Rattle.std.proofs.Common.{◌≡◌, ◌<◌, ◌≤◌, ℕ, ◌+◌, List, length, drop, get_or, refl, ap, sym, ◌∙◌}
+use Rattle.std.proofs.Common.{arith}
 use Rattle.std.proofs.lemmas.List.{drop_more, drop_all}
 use Rattle.pp_core.specs.declared.body.Body.{Body}
 use Rattle.pp_core.specs.Trees.{Part, NoPart, tree, trees_of, nodes, nodes_of_all}

@@ -1,5 +1,6 @@
 -- One pass over a body finds the set after a call.
-use Rattle.std.proofs.Common.{◌≡◌, ℕ, ◌+◌, Bool, true, false, ◌&&◌, ◌||◌, cond, bit_or, max, refl, ap, sym, ◌∙◌, arith}
+use Rattle.std.proofs.Common.{◌≡◌, ℕ, ◌+◌, Bool, true, false, ◌&&◌, ◌||◌, cond, bit_or, max, refl}
+use Rattle.std.proofs.Common.{ap, sym, ◌∙◌, arith}
 use Rattle.std.specs.Int.{bit_at}
 use Rattle.std.specs.Int.Bits.{or_zero_l, or_zero_r}
 use Rattle.std.proofs.lemmas.Nat.Bits.{same_from_bits, bit_at_or}
@@ -7,8 +8,10 @@ use Rattle.pp_core.specs.Trees.{Tree, Trees, Skip, One, Seq, Alt, Star, NoPart, 
 use Rattle.pp_model.specs.Body.{Call}
 use Rattle.pp_body.specs.declared.moving.Moves.{Moves}
 use Rattle.pp_body.specs.Patterns.{matches}
-use Rattle.pp_body.specs.Positions.{has, reaches, reaches_in_turn, reaches_some, shift, shift_in_turn, shift_some}
-use Rattle.pp_body.specs.Moves.{when, after, ends, passing, nowhere, first_then, either, moves, moves_in_turn, moves_of_some}
+use Rattle.pp_body.specs.Positions.{has, reaches, reaches_in_turn, reaches_some, shift}
+use Rattle.pp_body.specs.Positions.{shift_in_turn, shift_some}
+use Rattle.pp_body.specs.Moves.{when, after, ends, passing, nowhere, first_then, either, moves}
+use Rattle.pp_body.specs.Moves.{moves_in_turn, moves_of_some}
 
 -- sets
 max_assoc : (a b c : ℕ) → max (max a b) c ≡ max a (max b c)

@@ -1,5 +1,6 @@
 -- The test of a pattern is its meaning.
-use Rattle.std.proofs.Common.{◌≡◌, ◌⊎◌, ◌==◌, ℤ, pos, Bool, true, false, ◌&&◌, ◌||◌, Option, None, Some, refl, sym, inl, inr, rules}
+use Rattle.std.proofs.Common.{◌≡◌, ◌⊎◌, ◌==◌, ℤ, pos, Bool, true, false, ◌&&◌, ◌||◌, Option, None}
+use Rattle.std.proofs.Common.{Some, refl, sym, inl, inr, rules}
 use Rattle.std.proofs.lemmas.Bool.Decides.{Decides-eqb, Decides-int_eq}
 use denote.Enum.Bare.{sameb, same_true, true_same}
 use Rattle.pp_core.specs.declared.call.Method.{Method}

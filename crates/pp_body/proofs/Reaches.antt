@@ -1,9 +1,13 @@
 -- What `reaches` tests.
-use Rattle.std.proofs.Common.{◌≡◌, ◌⊎◌, ℕ, ◌+◌, Bool, true, false, ◌&&◌, List, [], ◌∷◌, ◌++◌, refl, ap, sym, ◌∙◌, inl, inr}
-use Rattle.pp_model.specs.Body.{Tree, Trees, Skip, One, Seq, Alt, Star, NoPart, Part, Word, WordInTurn, WordOfSome, Call, Pattern}
+use Rattle.std.proofs.Common.{◌≡◌, ◌⊎◌, ℕ, ◌+◌, Bool, true, false, ◌&&◌, List, [], ◌∷◌, ◌++◌, refl}
+use Rattle.std.proofs.Common.{ap, sym, ◌∙◌, inl, inr}
+use Rattle.pp_model.specs.Body.{Tree, Trees, Skip, One, Seq, Alt, Star, NoPart, Part, Word}
+use Rattle.pp_model.specs.Body.{WordInTurn, WordOfSome, Call, Pattern}
 use Rattle.pp_core.specs.Trees.{nodes}
-use Rattle.pp_body.specs.Positions.{has, reaches, reaches_in_turn, reaches_some, Rest, RestInTurn, RestOfSome}
-use Rattle.pp_body.proofs.Patterns.{and_left, and_right, both, or_cases, or_left, or_right, some_call}
+use Rattle.pp_body.specs.Positions.{has, reaches, reaches_in_turn, reaches_some, Rest, RestInTurn}
+use Rattle.pp_body.specs.Positions.{RestOfSome}
+use Rattle.pp_body.proofs.Patterns.{and_left, and_right, both, or_cases, or_left, or_right}
+use Rattle.pp_body.proofs.Patterns.{some_call}
 
 -- what may follow, from the set or from the start where that is entered
 abbrev pub Goes : Tree → ℕ → ℕ → Bool → List Call → Type 0

@@ -1,12 +1,17 @@
 -- What `shift` keeps.
-use Rattle.std.proofs.Common.{◌≡◌, ◌≤◌, ◌<◌, ◌⊎◌, ℕ, ◌+◌, ◌^◌, Bool, true, false, ◌&&◌, ◌||◌, cond, List, [], ◌∷◌, ◌++◌, bit_or, max, refl, ap, sym, subst, ◌∙◌, inl, inr, arith}
+use Rattle.std.proofs.Common.{◌≡◌, ◌≤◌, ◌<◌, ◌⊎◌, ℕ, ◌+◌, ◌^◌, Bool, true, false, ◌&&◌, ◌||◌, cond}
+use Rattle.std.proofs.Common.{List, [], ◌∷◌, ◌++◌, bit_or, max, refl, ap, sym, subst, ◌∙◌, inl, inr}
+use Rattle.std.proofs.Common.{arith}
 use Rattle.std.specs.Int.{bit_at}
-use Rattle.std.proofs.lemmas.Nat.Bits.{bit_at_or, bit_at-zero, bit_at-pow_same, bit_at-pow_other, bit_at-lt}
+use Rattle.std.proofs.lemmas.Nat.Bits.{bit_at_or, bit_at-zero, bit_at-pow_same, bit_at-pow_other}
+use Rattle.std.proofs.lemmas.Nat.Bits.{bit_at-lt}
 use Rattle.std.proofs.lemmas.Bool.Decides.{Decides-eqb, eqb_tells}
 use Rattle.pp_body.specs.Patterns.{matches}
-use Rattle.pp_model.specs.Body.{Tree, Trees, Skip, One, Seq, Alt, Star, NoPart, Part, Word, WordInTurn, Repeats, Call, Pattern}
+use Rattle.pp_model.specs.Body.{Tree, Trees, Skip, One, Seq, Alt, Star, NoPart, Part, Word}
+use Rattle.pp_model.specs.Body.{WordInTurn, Repeats, Call, Pattern}
 use Rattle.pp_core.specs.Trees.{nodes, nodes_of_all}
-use Rattle.pp_body.specs.Positions.{has, reaches, shift, shift_in_turn, shift_some, Rest, RestInTurn, RestOfSome}
+use Rattle.pp_body.specs.Positions.{has, reaches, shift, shift_in_turn, shift_some, Rest}
+use Rattle.pp_body.specs.Positions.{RestInTurn, RestOfSome}
 use Rattle.pp_body.proofs.Patterns.{and_left, and_right, or_cases, matches_means}
 use Rattle.pp_body.proofs.Reaches.{Goes, GoesInTurn, GoesOfSome, reached, reaching}
 

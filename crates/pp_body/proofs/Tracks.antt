@@ -1,6 +1,10 @@
 -- The last set tells which words may follow.
-use Rattle.std.proofs.Common.{◌≡◌, ◌<◌, ℕ, suc, ◌+◌, ◌-◌, Bool, true, false, List, [], ◌∷◌, ◌++◌, length, get_or, Option, Some, None, IsNone, IsSome, zero, IsTrue, ◌↔◌, length-append, refl, ap, sym, subst, ◌∙◌, inl, inr, arith, append_assoc}
-use Rattle.pp_model.specs.Body.{Tree, Trees, Skip, One, Seq, Alt, Star, NoPart, Part, Word, IsWord, Begins, Call}
+use Rattle.std.proofs.Common.{◌≡◌, ◌<◌, ℕ, suc, ◌+◌, ◌-◌, Bool, true, false, List, [], ◌∷◌, ◌++◌}
+use Rattle.std.proofs.Common.{length, get_or, Option, Some, None, IsNone, IsSome, zero, IsTrue, ◌↔◌}
+use Rattle.std.proofs.Common.{length-append, refl, ap, sym, subst, ◌∙◌, inl, inr, arith}
+use Rattle.std.proofs.Common.{append_assoc}
+use Rattle.pp_model.specs.Body.{Tree, Trees, Skip, One, Seq, Alt, Star, NoPart, Part, Word, IsWord}
+use Rattle.pp_model.specs.Body.{Begins, Call}
 use Rattle.pp_core.specs.Trees.{nodes}
 use Rattle.pp_body.specs.Positions.{reaches, shift, Rest, RestInTurn, RestOfSome}
 use Rattle.pp_body.specs.Walks.{IsTracked, sets_after, last_state}

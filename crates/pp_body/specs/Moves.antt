@@ -1,6 +1,7 @@
 -- Proof machinery: one call on a set of positions, whether the body is entered or not.
 use Rattle.std.specs.Prelude.{ℕ, ◌+◌, ◌^◌, Bool, true, false, ◌&&◌, ◌||◌, cond, bit_or}
-use Rattle.pp_core.specs.Trees.{Tree, Trees, Skip, One, Seq, Alt, Star, NoPart, Part, nodes, nodes_of_all}
+use Rattle.pp_core.specs.Trees.{Tree, Trees, Skip, One, Seq, Alt, Star, NoPart, Part, nodes}
+use Rattle.pp_core.specs.Trees.{nodes_of_all}
 use Rattle.pp_model.specs.Body.{Call, Pattern}
 use Rattle.pp_body.specs.declared.moving.Moves.{Moves}
 use Rattle.pp_body.specs.Patterns.{matches}

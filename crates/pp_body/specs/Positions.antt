@@ -1,9 +1,11 @@
 -- Proof machinery: sets of positions. Each node of a body has a place: its parts' places follow one another from its
 -- own. A set of places says which patterns may have matched the last call.
-use Rattle.std.specs.Prelude.{◌≡◌, ◌⊎◌, ℕ, ◌+◌, ◌^◌, ◌==◌, Bool, true, false, ◌&&◌, ◌||◌, if◌then◌else◌, List, [], ◌++◌, bit_or}
+use Rattle.std.specs.Prelude.{◌≡◌, ◌⊎◌, ℕ, ◌+◌, ◌^◌, ◌==◌, Bool, true, false, ◌&&◌, ◌||◌}
+use Rattle.std.specs.Prelude.{if◌then◌else◌, List, [], ◌++◌, bit_or}
 use Rattle.std.specs.Int.{bit_at}
 use Rattle.pp_body.specs.Patterns.{matches}
-use Rattle.pp_model.specs.Body.{Tree, Trees, Skip, One, Seq, Alt, Star, NoPart, Part, Word, WordInTurn, Repeats, Call}
+use Rattle.pp_model.specs.Body.{Tree, Trees, Skip, One, Seq, Alt, Star, NoPart, Part, Word}
+use Rattle.pp_model.specs.Body.{WordInTurn, Repeats, Call}
 use Rattle.pp_core.specs.Trees.{nodes, nodes_of_all}
 
 -- the place is in the set

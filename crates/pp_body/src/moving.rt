@@ -3,7 +3,8 @@ ghost use Rattle.std.specs.Prelude.{◌≡◌, ◌+◌, ◌≤◌};
 ghost use Rattle.pp_core.specs.declared.limits.TheConstants.{MOST_BODY_NODES};
 ghost use Rattle.pp_core.specs.Trees.{tree, trees_of, nodes, nodes_of_all};
 ghost use Rattle.pp_body.specs.Positions.{shift};
-ghost use Rattle.pp_body.specs.Moves.{when, after, ends, passing, nowhere, first_then, either, again};
+ghost use Rattle.pp_body.specs.Moves.{when, after, ends, passing, nowhere, first_then, either};
+ghost use Rattle.pp_body.specs.Moves.{again};
 ghost use Rattle.pp_body.specs.Moves.{moves, moves_in_turn_to, moves_of_some_to};
 
 use crate::matching::matches;

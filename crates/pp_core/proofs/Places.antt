@@ -1,5 +1,6 @@
 -- Where a name stands among distinct names.
-use Rattle.std.proofs.Common.{◌≡◌, ℕ, zero, suc, false, List, [], ◌∷◌, Option, None, Some, slice_get, position, refl, is_some, true≢false, subst}
+use Rattle.std.proofs.Common.{◌≡◌, ℕ, zero, suc, false, List, [], ◌∷◌, Option, None, Some}
+use Rattle.std.proofs.Common.{slice_get, position, refl, is_some, true≢false, subst}
 use Rattle.std.specs.List.{IsDistinct}
 use Rattle.std.specs.Map.{keys_of}
 use Rattle.std.specs.Str.{bytes_eq}

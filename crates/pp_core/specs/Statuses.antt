@@ -1,7 +1,9 @@
 -- Proof machinery: how the program ends.
 use Rattle.std.specs.Prelude.{ℕ}
 use Rattle.pp_core.specs.declared.status.Status.{Status}
-use Rattle.pp_core.specs.declared.status.Status.TheVariants.{Accepted, Rejected, BadWords, InputFault, ReadFault, WriteFault, OutOfMemory}
+use Rattle.pp_core.specs.declared.status.Status.TheVariants.{Accepted, Rejected, BadWords}
+use Rattle.pp_core.specs.declared.status.Status.TheVariants.{InputFault, ReadFault, WriteFault}
+use Rattle.pp_core.specs.declared.status.Status.TheVariants.{OutOfMemory}
 
 -- the number of a status
 abbrev pub code_of : Status → ℕ

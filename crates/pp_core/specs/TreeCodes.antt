@@ -1,6 +1,5 @@
 -- Proof machinery: trees as lists, so that models may hold trees: each part is written before the
--- part ahead of it, and
--- a stack gives all back.
+-- part ahead of it, and a stack gives all back.
 use Rattle.std.specs.Prelude.{◌≡◌, ◌⊎◌, ℕ, zero, suc, List, [], ◌∷◌, refl}
 use Rattle.std.specs.Coded.{Coded, code_by, coded⊎, coded_ℕ, coded_list}
 use Rattle.std.proofs.Common.{ap, ◌∙◌, inl, inr}
@@ -9,8 +8,7 @@ use Rattle.pp_core.specs.declared.body.Pattern.{Pattern}
 use Rattle.pp_core.specs.Trees.{Tree, Trees, Skip, One, Seq, Alt, Star, NoPart, Part}
 
 -- a pattern, or what is to be done: 0 no call, 1 a new row of parts, 2 a row in turn, 3 one of a
--- row,
--- 4 again and again
+-- row, 4 again and again
 abbrev pub Token : Type 0
 Token = ℕ ⊎ Pattern
 

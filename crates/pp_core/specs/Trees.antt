@@ -1,5 +1,6 @@
 -- Meaning: the plain data that a body stands for, and how large it is.
-use Rattle.std.specs.Prelude.{ℕ, ◌+◌, ◌≤◌, max, nat_le, ◌&&◌, Bool, List, [], ◌∷◌, map, Option, None, Some}
+use Rattle.std.specs.Prelude.{ℕ, ◌+◌, ◌≤◌, max, nat_le, ◌&&◌, Bool, List, [], ◌∷◌, map, Option}
+use Rattle.std.specs.Prelude.{None, Some}
 use Rattle.pp_core.specs.declared.body.Body.{Body, fold-Body}
 use Rattle.pp_core.specs.declared.body.Body.TheOpen.{Body-F}
 use Rattle.pp_core.specs.declared.body.Pattern.{Pattern}

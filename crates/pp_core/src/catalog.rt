@@ -1,5 +1,6 @@
 //! The objects of a run.
-ghost use Rattle.std.specs.Prelude.{◌≡◌, ◌<◌, ◌≤◌, [], ◌∷◌, ◌++◌, length, map, slice_get, is_none, if◌then◌else◌, Some, IfOk, IfSome, OnErr};
+ghost use Rattle.std.specs.Prelude.{◌≡◌, ◌<◌, ◌≤◌, [], ◌∷◌, ◌++◌, length, map, slice_get, is_none};
+ghost use Rattle.std.specs.Prelude.{if◌then◌else◌, Some, IfOk, IfSome, OnErr};
 
 use crate::answer::OutOfMemory;
 use crate::call::{Kind, Kinds};

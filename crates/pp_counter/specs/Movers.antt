@@ -1,7 +1,8 @@
 -- Meaning: which operations of a counter swap, by a table.
 use Rattle.std.specs.Prelude.{pos, ◌+ℤ◌, ℕ, Bool, List, [], ◌∷◌}
 use Rattle.pp_table.specs.declared.table.Condition.{Condition}
-use Rattle.pp_table.specs.declared.table.Condition.TheVariants.{Always, Chain, FirstStill, SecondStill}
+use Rattle.pp_table.specs.declared.table.Condition.TheVariants.{Always, Chain, FirstStill}
+use Rattle.pp_table.specs.declared.table.Condition.TheVariants.{SecondStill}
 use Rattle.pp_table.specs.declared.table.Figures.{Figures}
 use Rattle.pp_table.specs.Table.{condition_holds, entry}
 use Rattle.pp_counter.specs.declared.op.CounterOp.{CounterOp}

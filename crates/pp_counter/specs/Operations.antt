@@ -3,7 +3,8 @@ use Rattle.std.specs.Prelude.{ℤ, pos, ℕ, Bool, ◌&&◌}
 use Rattle.pp_core.specs.declared.answer.Answer.{Answer}
 use Rattle.pp_core.specs.declared.answer.Answer.TheVariants.{None as NoAnswer, Number}
 use Rattle.pp_core.specs.declared.call.Call.{Call}
-use Rattle.pp_core.specs.declared.call.Method.TheVariants.{Add as AddCall, Get as GetCall, FetchAdd as FetchAddCall}
+use Rattle.pp_core.specs.declared.call.Method.TheVariants.{Add as AddCall, Get as GetCall}
+use Rattle.pp_core.specs.declared.call.Method.TheVariants.{FetchAdd as FetchAddCall}
 use Rattle.pp_spec.specs.Numbers.{in_range}
 use Rattle.pp_counter.specs.declared.op.CounterOp.{CounterOp}
 use Rattle.pp_counter.specs.declared.op.CounterOp.TheVariants.{Add, Get, FetchAdd}
@@ -16,9 +17,12 @@ shift_of (FetchAdd by was) = by
 
 -- its method and its argument, at the object 0
 abbrev pub call_of : CounterOp → Call
-call_of (Add by) = record { object = 0; method = AddCall; first = by; second = pos 0; third = pos 0 }
-call_of (Get value) = record { object = 0; method = GetCall; first = pos 0; second = pos 0; third = pos 0 }
-call_of (FetchAdd by was) = record { object = 0; method = FetchAddCall; first = by; second = pos 0; third = pos 0 }
+call_of (Add by) =
+    record { object = 0; method = AddCall; first = by; second = pos 0; third = pos 0 }
+call_of (Get value) =
+    record { object = 0; method = GetCall; first = pos 0; second = pos 0; third = pos 0 }
+call_of (FetchAdd by was) =
+    record { object = 0; method = FetchAddCall; first = by; second = pos 0; third = pos 0 }
 
 -- the result that it records
 abbrev pub recorded_by : CounterOp → Answer

@@ -1,16 +1,20 @@
 -- Where the operations and the bodies of an expansion come from.
-use Rattle.std.specs.Prelude.{◌≡◌, ◌⊎◌, ℕ, Bool, true, false, List, [], ◌∷◌, ◌++◌, map, drop, if◌then◌else◌, Option, None, Some}
+use Rattle.std.specs.Prelude.{◌≡◌, ◌⊎◌, ℕ, Bool, true, false, List, [], ◌∷◌, ◌++◌, map, drop}
+use Rattle.std.specs.Prelude.{if◌then◌else◌, Option, None, Some}
 use Rattle.std.proofs.Common.{sym, subst}
 use mathlib.Core.Logic.{inl, inr}
 use Rattle.pp_core.specs.declared.call.Style.{Style}
-use Rattle.pp_core.specs.declared.call.Style.TheVariants.{Rules, Boosted, Optimistic, Hardware, Dependent}
-use Rattle.pp_model.specs.Config.{LocalEntry, Mark, Pulled, Pushed, SharedEntry, Step, Tx, Unpushed, App, Cmt, Note, Pull, Push, Quit, Unpull, tx}
+use Rattle.pp_core.specs.declared.call.Style.TheVariants.{Rules, Boosted, Optimistic, Hardware}
+use Rattle.pp_core.specs.declared.call.Style.TheVariants.{Dependent}
+use Rattle.pp_model.specs.Config.{LocalEntry, Mark, Pulled, Pushed, SharedEntry, Step, Tx, Unpushed}
+use Rattle.pp_model.specs.Config.{App, Cmt, Note, Pull, Push, Quit, Unpull, tx}
 use Rattle.pp_model.specs.Lists.{In}
 use Rattle.pp_model.specs.Names.{Name}
 use Rattle.pp_model.proofs.Lists.{from_map, in_cases}
 use Rattle.pp_front.specs.Records as records
 use Rattle.pp_front.specs.Asked.{AskedLaw, IsBare}
-use Rattle.pp_front.specs.Expansions.{back, commit_steps, hardware_op, op_steps, pulls, pushall, refresh, taken_at, taken_out, touches, steps_of_open}
+use Rattle.pp_front.specs.Expansions.{back, commit_steps, hardware_op, op_steps, pulls, pushall}
+use Rattle.pp_front.specs.Expansions.{refresh, taken_at, taken_out, touches, steps_of_open}
 use Rattle.pp_front.specs.Fronts.{Front, is_mem, mark_of}
 
 abbrev AllBare : {Op : Type 0} → List (Step Op) → Type 0

@@ -1,11 +1,13 @@
 -- Lists of steps up to and with the first that fails.
 use Rattle.std.specs.Prelude.{◌≡◌, ◌<◌, ◌≤◌, ◌+◌, ℕ, zero, suc, List, [], ◌∷◌, ◌++◌, length, take}
-use Rattle.std.proofs.Common.{refl, sym, ap, subst, ◌∙◌, arith, append_assoc, length-append, add-zero}
+use Rattle.std.proofs.Common.{refl, sym, ap, subst, ◌∙◌, arith, append_assoc, length-append}
+use Rattle.std.proofs.Common.{add-zero}
 use Rattle.std.proofs.lemmas.List.{map-append}
 use mathlib.Core.Logic.{inl, inr}
 use Rattle.pp_model.specs.Object.{Object}
 use Rattle.pp_model.specs.Config.{Config, Step, after_from, then}
-use Rattle.pp_model.specs.Rules.{Accepted, Breaks, Meets, IsVerdictFrom, Rejected, RunsFrom, Verdict}
+use Rattle.pp_model.specs.Rules.{Accepted, Breaks, Meets, IsVerdictFrom, Rejected, RunsFrom}
+use Rattle.pp_model.specs.Rules.{Verdict}
 use Rattle.pp_model.proofs.Parted.{one_number}
 use Rattle.pp_front.specs.Runs.{EndsAtFailure, HasOneMore, Lined, bare, on_line}
 

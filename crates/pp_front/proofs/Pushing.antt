@@ -6,7 +6,9 @@ use mathlib.Core.Logic.{inl, inr}
 use Rattle.pp_model.specs.Lists.{In}
 use Rattle.pp_model.specs.Names.{Name}
 use Rattle.pp_model.specs.Object.{Object}
-use Rattle.pp_model.specs.Config.{Config, LocalEntry, Push, Pushed, Step, Tx, Unpushed, after_from, at_mark, entry_of, is_mark, set_mark, push_effect, relog, then, tx}
+use Rattle.pp_model.specs.Config.{Config, LocalEntry, Push, Pushed, Step, Tx, Unpushed, after_from}
+use Rattle.pp_model.specs.Config.{at_mark, entry_of, is_mark, set_mark, push_effect, relog, then}
+use Rattle.pp_model.specs.Config.{tx}
 use Rattle.pp_model.specs.Rules.{RunsFrom}
 use Rattle.pp_model.proofs.Lists.{from_map, in_filter, in_map}
 use Rattle.pp_model.proofs.Steps.{there_holds}

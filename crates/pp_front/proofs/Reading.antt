@@ -7,9 +7,13 @@ use Rattle.pp_model.specs.Object.{Object}
 use Rattle.pp_model.specs.Config.{Config, Start, Step, after_from, first}
 use Rattle.pp_model.specs.Rules.{Accepted, Breaks, IsVerdict, IsVerdictFrom, Rejected, RunsFrom}
 use Rattle.pp_model.proofs.Verdict.{accepted_iff}
-use Rattle.pp_front.specs.Runs.{EndsAtFailure, HasOneMore, HasTooManySteps, IsRun, Lined, Standing, Translation, bare, joined_steps, after_records, on_line, outset, after_record, steps_at}
+use Rattle.pp_front.specs.Runs.{EndsAtFailure, HasOneMore, HasTooManySteps, IsRun, Lined, Standing}
+use Rattle.pp_front.specs.Runs.{Translation, bare, joined_steps, after_records, on_line, outset}
+use Rattle.pp_front.specs.Runs.{after_record, steps_at}
 use Rattle.pp_front.specs.Laws.{IsRejectedAt, ReadingLaw, StandsAt}
-use Rattle.pp_front.proofs.Ends.{after_append, bare_append, bare_on_line, ends_here, ends_whole, failing_first, few_steps, length_bare, length_on_line, rejected_here, runs_append}
+use Rattle.pp_front.proofs.Ends.{after_append, bare_append, bare_on_line, ends_here, ends_whole}
+use Rattle.pp_front.proofs.Ends.{failing_first, few_steps, length_bare, length_on_line}
+use Rattle.pp_front.proofs.Ends.{rejected_here, runs_append}
 use Rattle.pp_front.proofs.Whole.{joined_more, led_config, led_more, unbegun}
 
 on_line_append : {A : Type 0} (line : ℕ) (xs ys : List A) → on_line line (xs ++ ys) ≡ on_line line xs ++ on_line line ys

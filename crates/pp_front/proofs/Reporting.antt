@@ -1,5 +1,6 @@
 -- An input has one fault and one report at most.
-use Rattle.std.specs.Prelude.{◌≡◌, ◌≤◌, ◌↔◌, ℕ, zero, suc, List, [], ◌∷◌, ◌++◌, length, slice_get, take, Option, None, Some}
+use Rattle.std.specs.Prelude.{◌≡◌, ◌≤◌, ◌↔◌, ℕ, zero, suc, List, [], ◌∷◌, ◌++◌, length, slice_get}
+use Rattle.std.specs.Prelude.{take, Option, None, Some}
 use Rattle.std.proofs.Common.{refl, sym, ap, subst, ◌∙◌}
 use Rattle.std.proofs.lemmas.Option.{same_Some}
 use mathlib.Core.Logic.{inl, inr}
@@ -8,7 +9,9 @@ use Rattle.pp_model.specs.Rules.{Accepted, IsVerdict, Rejected, Verdict}
 use Rattle.pp_model.proofs.Verdict.{one_verdict}
 use Rattle.pp_front.specs.Records.{RunRecord}
 use Rattle.pp_front.specs.Fronts.{Front}
-use Rattle.pp_front.specs.Inputs.{InputLaw, IsFault, IsReport, IsReportBehind, IsReportOf, IsRunReport, OverrunsAt, Report, Scan, Setting, StepRejected, Widens, steps_of}
+use Rattle.pp_front.specs.Inputs.{InputLaw, IsFault, IsReport, IsReportBehind, IsReportOf}
+use Rattle.pp_front.specs.Inputs.{IsRunReport, OverrunsAt, Report, Scan, Setting, StepRejected}
+use Rattle.pp_front.specs.Inputs.{Widens, steps_of}
 use Rattle.pp_front.specs.Laws.{up_to}
 use Rattle.pp_front.specs.PlainInputs.{AreStyled, PlainInputLaw}
 use Rattle.pp_front.specs.Runs.{IsRun, Lined, Translation, bare, joined_steps, outset}

@@ -9,7 +9,8 @@ use Rattle.pp_model.specs.Object.{Object}
 use Rattle.pp_model.specs.Config.{Config, Start, Step, first, then}
 use Rattle.pp_model.specs.Rules.{Breaks, Meets, IsVerdict, RunsFrom, StartMeets, Verdict}
 use Rattle.pp_front.specs.Fronts.{Front}
-use Rattle.pp_front.specs.Runs.{EndsAtFailure, HasOneMore, HasTooManySteps, IsRun, Lined, Standing, Translation, bare, joined_steps, outset}
+use Rattle.pp_front.specs.Runs.{EndsAtFailure, HasOneMore, HasTooManySteps, IsRun, Lined, Standing}
+use Rattle.pp_front.specs.Runs.{Translation, bare, joined_steps, outset}
 use Rattle.pp_front.specs.Styles.{RestatedLaw, RulesLaw, numbered, plain, restated, translation}
 use Rattle.pp_front.proofs.Ends.{bare_append, few_steps, heads, length_bare, more_behind, tails}
 use Rattle.pp_front.proofs.Whole.{one_run_law, unbegun}

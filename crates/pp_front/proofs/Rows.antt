@@ -6,7 +6,8 @@ use Rattle.pp_core.specs.declared.call.Kind.{Kind}
 use Rattle.pp_core.specs.declared.call.Kind.TheVariants as kinds
 use Rattle.pp_core.specs.declared.call.Style.{Style}
 use Rattle.pp_core.specs.declared.call.Style.TheVariants.{Boosted, Optimistic, Hardware, Dependent}
-use Rattle.pp_model.specs.Config.{Step, Begin, App, Unapp, Push, Unpush, Pull, Unpull, Cmt, Quit, Note}
+use Rattle.pp_model.specs.Config.{Step, Begin, App, Unapp, Push, Unpush, Pull, Unpull, Cmt, Quit}
+use Rattle.pp_model.specs.Config.{Note}
 use Rattle.pp_model.specs.Names.{Name}
 use Rattle.pp_front.specs.Records.{RunRecord}
 use Rattle.pp_front.specs.Records as records

@@ -1,5 +1,6 @@
 -- What taking entries out of a local log, and pulling entries into it, leave.
-use Rattle.std.specs.Prelude.{◌≡◌, ◌≢◌, ℕ, eqb, Bool, true, false, not, cond, ◌&&◌, List, [], ◌∷◌, ◌++◌, map, take, drop, Option, Some}
+use Rattle.std.specs.Prelude.{◌≡◌, ◌≢◌, ℕ, eqb, Bool, true, false, not, cond, ◌&&◌, List, [], ◌∷◌}
+use Rattle.std.specs.Prelude.{◌++◌, map, take, drop, Option, Some}
 use Rattle.std.proofs.Common.{refl, sym, ap, subst, ◌∙◌, append_assoc, take-append-drop}
 use Rattle.std.proofs.lemmas.List.{append-nil}
 use Rattle.std.proofs.lemmas.Bool.Decides.{eqb_tells}
@@ -9,10 +10,13 @@ use mathlib.Core.Logic.{inl, inr}
 use Rattle.pp_model.specs.Lists.{Before, In}
 use Rattle.pp_model.specs.Names.{Name, ◌=ⁿ◌}
 use Rattle.pp_model.specs.Object.{Object}
-use Rattle.pp_model.specs.Config.{Config, LocalEntry, Mark, Pull, Pulled, Pushed, SharedEntry, Step, Tx, Unpushed, after_from, but_last, set_mark, of_other, on_log, pull_effect, relog, then, tx, without_local}
+use Rattle.pp_model.specs.Config.{Config, LocalEntry, Mark, Pull, Pulled, Pushed, SharedEntry, Step}
+use Rattle.pp_model.specs.Config.{Tx, Unpushed, after_from, but_last, set_mark, of_other, on_log}
+use Rattle.pp_model.specs.Config.{pull_effect, relog, then, tx, without_local}
 use Rattle.pp_model.specs.Rules.{RunsFrom}
 use Rattle.pp_model.specs.Sound.{Sound}
-use Rattle.pp_model.proofs.Lists.{before_across, by_key, from_filter, in_filter, in_left, in_map, in_right}
+use Rattle.pp_model.proofs.Lists.{before_across, by_key, from_filter, in_filter, in_left, in_map}
+use Rattle.pp_model.proofs.Lists.{in_right}
 use Rattle.pp_model.proofs.Logs.{found_other, found_tx}
 use Rattle.pp_model.proofs.Steps.{there_holds}
 use Rattle.pp_front.specs.Effects.{BackLaw, PullsLaw, as_pulled, missing}

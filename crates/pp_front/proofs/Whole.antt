@@ -4,11 +4,17 @@ use Rattle.std.proofs.Common.{refl, sym, ap, subst, ◌∙◌, arith, append_ass
 use mathlib.Core.Logic.{inl, inr}
 use Rattle.pp_model.specs.Object.{Object}
 use Rattle.pp_model.specs.Config.{Config, Start, Step, after_from, first}
-use Rattle.pp_model.specs.Rules.{Accepted, IsVerdict, Rejected, RunsFrom, StartBreaks, StartMeets, Verdict}
+use Rattle.pp_model.specs.Rules.{Accepted, IsVerdict, Rejected, RunsFrom, StartBreaks, StartMeets}
+use Rattle.pp_model.specs.Rules.{Verdict}
 use Rattle.pp_model.proofs.Parted.{one_number}
-use Rattle.pp_front.specs.Runs.{EndsAtFailure, HasOneMore, HasTooManySteps, IsRun, IsRunFrom, Lined, Standing, Translation, bare, joined_steps, after_records, on_line, outset, after_record, steps_at}
+use Rattle.pp_front.specs.Runs.{EndsAtFailure, HasOneMore, HasTooManySteps, IsRun, IsRunFrom, Lined}
+use Rattle.pp_front.specs.Runs.{Standing, Translation, bare, joined_steps, after_records, on_line}
+use Rattle.pp_front.specs.Runs.{outset, after_record, steps_at}
 use Rattle.pp_front.specs.Laws.{ExtendsLaw, OneRunLaw, up_to}
-use Rattle.pp_front.proofs.Ends.{accepted_ends, after_append, bare_append, bare_on_line, ends_behind, ends_once, ends_split, failed_stays, less_before, more_before, more_behind, one_line, rejected_from, verdict_off, verdict_on}
+use Rattle.pp_front.proofs.Ends.{accepted_ends, after_append, bare_append, bare_on_line}
+use Rattle.pp_front.proofs.Ends.{ends_behind, ends_once, ends_split, failed_stays, less_before}
+use Rattle.pp_front.proofs.Ends.{more_before, more_behind, one_line, rejected_from, verdict_off}
+use Rattle.pp_front.proofs.Ends.{verdict_on}
 
 pub unbegun : {Op State : Type 0} (O : Object Op State) (h : Option (Start Op)) (n : ℕ) → StartMeets O h → StartBreaks O h (suc n) → ⊥
 unbegun O h n a b = let e : zero ≡ suc n = one_number _ zero (suc n) a b in cc

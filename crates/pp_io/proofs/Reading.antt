@@ -1,15 +1,21 @@
 -- Feeding pieces and taking lines hands out the lines of the whole input, in order.
-use Rattle.std.proofs.Common.{◌≡◌, ◌≤◌, ℕ, suc, ◌+◌, ◌-◌, List, [], ◌∷◌, ◌++◌, length, map, Some, None, refl, ap, sym, ◌∙◌, subst, append_assoc, lit≤, arith}
+use Rattle.std.proofs.Common.{◌≡◌, ◌≤◌, ℕ, suc, ◌+◌, ◌-◌, List, [], ◌∷◌, ◌++◌, length, map, Some}
+use Rattle.std.proofs.Common.{None, refl, ap, sym, ◌∙◌, subst, append_assoc, lit≤, arith}
 use Rattle.std.proofs.lemmas.List.{append-nil, length-append, length-map, map-append}
 use Rattle.std.proofs.Math.Seq.{take-append_seam}
 use Rattle.pp_io.specs.declared.reach.Reach.{Reach}
 use Rattle.pp_io.specs.declared.fault.LineFault.{LineFault}
-use Rattle.pp_io.specs.Lines.{ended, rest, ended_behind, unended, without_return, numbered_from, numbered, ended_lines, numbered_lines}
+use Rattle.pp_io.specs.Lines.{ended, rest, ended_behind, unended, without_return, numbered_from}
+use Rattle.pp_io.specs.Lines.{numbered, ended_lines, numbered_lines}
 use Rattle.pp_io.specs.Reaches.{overrun_from, within_from, reach_from, start}
-use Rattle.pp_io.specs.Overruns.{reach_of, overrun, within, line_of, lines_before, scanned_lines, early_lines}
-use Rattle.pp_io.specs.Held.{Held, empty, fed, refused, finished, next_line, after_next, first_of, after_first}
+use Rattle.pp_io.specs.Overruns.{reach_of, overrun, within, line_of, lines_before, scanned_lines}
+use Rattle.pp_io.specs.Overruns.{early_lines}
+use Rattle.pp_io.specs.Held.{Held, empty, fed, refused, finished, next_line, after_next, first_of}
+use Rattle.pp_io.specs.Held.{after_first}
 use Rattle.pp_io.specs.Taken.{Hands, Took}
-use Rattle.pp_io.proofs.Limits.{ended_append, rest_append, overrun_stays, within_stays, within_front, line_is, reach_is, start_overrun, start_reach, within_all, bytes_bounded, within_more, overrun_more}
+use Rattle.pp_io.proofs.Limits.{ended_append, rest_append, overrun_stays, within_stays}
+use Rattle.pp_io.proofs.Limits.{within_front, line_is, reach_is, start_overrun, start_reach}
+use Rattle.pp_io.proofs.Limits.{within_all, bytes_bounded, within_more, overrun_more}
 
 -- ---- numbers
 

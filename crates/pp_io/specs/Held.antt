@@ -1,5 +1,6 @@
 -- Proof machinery: what `Lines` holds, as contracts see it.
-use Rattle.std.specs.Prelude.{◌≡◌, ℕ, ◌+◌, List, [], ◌∷◌, ◌++◌, map, Bool, true, false, Option, Some, None}
+use Rattle.std.specs.Prelude.{◌≡◌, ℕ, ◌+◌, List, [], ◌∷◌, ◌++◌, map, Bool, true, false, Option}
+use Rattle.std.specs.Prelude.{Some, None}
 use Rattle.pp_io.specs.declared.fault.LineFault.{LineFault}
 use Rattle.pp_io.specs.declared.fault.LineFault.TheVariants.{OutOfMemory}
 use Rattle.pp_io.specs.declared.reach.Reach.{Reach}

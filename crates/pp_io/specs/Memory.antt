@@ -1,5 +1,6 @@
 -- Proof machinery: sources and sinks in memory, as contracts see them.
-use Rattle.std.specs.Prelude.{ℕ, List, [], ◌++◌, length, drop, min, max, Option, Some, None, slice_get, Contains}
+use Rattle.std.specs.Prelude.{ℕ, List, [], ◌++◌, length, drop, min, max, Option, Some, None}
+use Rattle.std.specs.Prelude.{slice_get, Contains}
 use Rattle.pp_io.specs.Faults.{counted}
 
 -- the bytes that are left, how many bytes each call gives at most, the numbers of the calls that

@@ -1,14 +1,16 @@
 -- Meaning: the first byte of an input that passes a limit, and the lines before it.
-use Rattle.std.specs.Prelude.{ℕ, ◌-◌, List, [], ◌∷◌, ◌++◌, length, take, Option, Some, None, Result, Ok, Err}
+use Rattle.std.specs.Prelude.{ℕ, ◌-◌, List, [], ◌∷◌, ◌++◌, length, take, Option, Some, None, Result}
+use Rattle.std.specs.Prelude.{Ok, Err}
 use Rattle.std.specs.Option.{option_or}
 use Rattle.pp_io.specs.declared.reach.Reach.{Reach}
 use Rattle.pp_io.specs.declared.fault.LineFault.{LineFault}
-use Rattle.pp_io.specs.declared.fault.LineFault.TheVariants.{TooLong, TooManyLines, LineTooLong, OutOfMemory}
+use Rattle.pp_io.specs.declared.fault.LineFault.TheVariants.{TooLong, TooManyLines, LineTooLong}
+use Rattle.pp_io.specs.declared.fault.LineFault.TheVariants.{OutOfMemory}
 use Rattle.pp_io.specs.Lines.{NumberedLine, ended, rest, ended_lines, numbered_lines}
 use Rattle.pp_io.specs.Reaches.{passed, within_from, start}
 
--- how far bytes reach: how many they are, how many lines they end,
--- and how many bytes follow the last end
+-- how far bytes reach: how many they are, how many lines they end, and how many bytes follow the
+-- last end
 abbrev pub reach_of : List ℕ → Reach
 reach_of bytes = record {
   bytes = length bytes;

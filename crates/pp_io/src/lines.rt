@@ -1,5 +1,6 @@
 //! Whole lines out of pieces of bytes.
-ghost use Rattle.std.specs.Prelude.{◌≡◌, ◌≤◌, ◌+◌, ◌++◌, ◌∷◌, [], ℕ, List, IfNone, None, Some, Err, OnOk, IfErr, IsErrOf, option_map, IfSome, false};
+ghost use Rattle.std.specs.Prelude.{◌≡◌, ◌≤◌, ◌+◌, ◌++◌, ◌∷◌, [], ℕ, List, IfNone, None, Some, Err};
+ghost use Rattle.std.specs.Prelude.{OnOk, IfErr, IsErrOf, option_map, IfSome, false};
 ghost use Rattle.pp_io.specs.Lines.{NumberedLine, blank, numbered_lines};
 ghost use Rattle.pp_io.specs.Overruns.{overrun, answer_of};
 ghost use Rattle.pp_io.specs.Taken.{Hands, Took};

@@ -1,5 +1,6 @@
 //! A sink in memory, with calls that fail.
-ghost use Rattle.std.specs.Prelude.{◌≡◌, ◌≤◌, Some, [], Ok, Err, length, take, min, IfOk, OnErr, IsErrOf, IsTrue, ◌↔◌};
+ghost use Rattle.std.specs.Prelude.{◌≡◌, ◌≤◌, Some, [], Ok, Err, length, take, min, IfOk, OnErr};
+ghost use Rattle.std.specs.Prelude.{IsErrOf, IsTrue, ◌↔◌};
 ghost use Rattle.std.specs.Io.KnownBytes.{WriteAppends, Keeps};
 ghost use Rattle.pp_io.specs.Faults.{CountsNothing, HasRisen};
 ghost use Rattle.pp_io.specs.Memory.{WriteFails, after_write, after_failed_write, fresh_sink};

@@ -1,8 +1,10 @@
 //! Bytes in memory, in pieces, with calls that fail.
-ghost use Rattle.std.specs.Prelude.{◌≡◌, ◌≤◌, Some, Ok, IsErr, length, take, drop, slice_get, Contains, IfOk, OnErr, IsTrue, ◌↔◌};
+ghost use Rattle.std.specs.Prelude.{◌≡◌, ◌≤◌, Some, Ok, IsErr, length, take, drop, slice_get};
+ghost use Rattle.std.specs.Prelude.{Contains, IfOk, OnErr, IsTrue, ◌↔◌};
 ghost use Rattle.std.specs.Io.KnownBytes.{ReadConsumes};
 ghost use Rattle.pp_io.specs.Faults.{HasRisen};
-ghost use Rattle.pp_io.specs.Memory.{ReadFails, most_of, given_by, after_read, after_failed_read, fresh_source};
+ghost use Rattle.pp_io.specs.Memory.{ReadFails, most_of, given_by, after_read, after_failed_read};
+ghost use Rattle.pp_io.specs.Memory.{fresh_source};
 
 use crate::source::{Failed, Source};
 use std::marker::Model;

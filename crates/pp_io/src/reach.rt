@@ -1,6 +1,7 @@
 //! How far an input has come, and what it may not pass.
 ghost use Rattle.std.specs.Prelude.{◌≡◌, ◌≢◌, ◌<◌, ◌≤◌, ◌+◌, ◌↔◌, IsTrue, length, take, None, Some};
-ghost use Rattle.pp_io.specs.Reaches.{HasRoom, passed, past, overrun_from, within_from, reach_from, IsReach, IsSkipped};
+ghost use Rattle.pp_io.specs.Reaches.{HasRoom, passed, past, overrun_from, within_from, reach_from};
+ghost use Rattle.pp_io.specs.Reaches.{IsReach, IsSkipped};
 ghost use Rattle.pp_io.specs.declared.fault.LineFault.TheVariants.{OutOfMemory};
 
 use crate::fault::LineFault;

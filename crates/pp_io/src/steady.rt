@@ -1,5 +1,6 @@
 //! A source and a sink in memory that never fail.
-ghost use Rattle.std.specs.Prelude.{◌≡◌, ◌<◌, ◌≤◌, ◌++◌, ℕ, Some, [], Ok, Err, length, take, drop, min, IfOk, OnErr, IsErrOf};
+ghost use Rattle.std.specs.Prelude.{◌≡◌, ◌<◌, ◌≤◌, ◌++◌, ℕ, Some, [], Ok, Err, length, take, drop};
+ghost use Rattle.std.specs.Prelude.{min, IfOk, OnErr, IsErrOf};
 ghost use Rattle.std.specs.Io.KnownBytes.{ReadConsumes, WriteAppends, Keeps};
 ghost use Rattle.pp_io.specs.Faults.{HasRisen};
 ghost use Rattle.pp_io.specs.declared.sink.SinkFault.TheVariants.{Failed, OutOfMemory};

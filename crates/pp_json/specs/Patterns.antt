@@ -59,4 +59,10 @@ pattern_of objects value = do
   first ← wanted_at 0 list
   second ← wanted_at 1 list
   third ← wanted_at 2 list
-  Ok (record { object = target.0; method = target.2; first = first; second = second; third = third })
+  Ok (record {
+    object = target.0;
+    method = target.2;
+    first = first;
+    second = second;
+    third = third;
+  })

@@ -1,9 +1,12 @@
 -- Proof machinery: what operations on keys do one after another.
-use Rattle.std.proofs.Common.{◌≡◌, ℤ, int_eq, Bool, true, false, cond, if◌then◌else◌, List, [], ◌∷◌, ◌++◌, ◌↔◌, refl, sym, ◌∙◌, ap, subst}
+use Rattle.std.proofs.Common.{◌≡◌, ℤ, int_eq, Bool, true, false, cond, if◌then◌else◌, List, [], ◌∷◌}
+use Rattle.std.proofs.Common.{◌++◌, ◌↔◌, refl, sym, ◌∙◌, ap, subst}
 use Rattle.pp_spec.specs.Object.{Object, IsLegal, IsAllowed, state_after, Commutes}
 use Rattle.pp_spec.proofs.Lists.{allowed_is_state, allowed-append, allowed-second}
-use Rattle.pp_keyed.specs.Keys.{Keys, ToldKeys, IsKeyed, TurnsAt, may_swap, Shows, rule_lets, told_keys}
-use Rattle.pp_keyed.proofs.Rule.{same_key, key_is, other_key, turned_cells, lets_turned, refused_follows, refused_turned}
+use Rattle.pp_keyed.specs.Keys.{Keys, ToldKeys, IsKeyed, TurnsAt, may_swap, Shows, rule_lets}
+use Rattle.pp_keyed.specs.Keys.{told_keys}
+use Rattle.pp_keyed.proofs.Rule.{same_key, key_is, other_key, turned_cells, lets_turned}
+use Rattle.pp_keyed.proofs.Rule.{refused_follows, refused_turned}
 
 module _ {State Op Undo Cell : Type 0} (o : Object (Unit {0}) State Op Undo)
     (k : Keys State Op Cell) (acts : IsKeyed o k) where

@@ -1,5 +1,6 @@
 -- Proof machinery: an object that acts by its keys is lawful.
-use Rattle.std.proofs.Common.{◌≡◌, ℤ, int_eq, Bool, true, false, if◌then◌else◌, List, [], ◌∷◌, ◌++◌, refl, sym, ◌∙◌, subst}
+use Rattle.std.proofs.Common.{◌≡◌, ℤ, int_eq, Bool, true, false, if◌then◌else◌, List, [], ◌∷◌, ◌++◌}
+use Rattle.std.proofs.Common.{refl, sym, ◌∙◌, subst}
 use Rattle.pp_spec.specs.Object.{Object, IsLegal, IsAllowed, IsLawful, AllowsAllOf}
 use Rattle.pp_spec.proofs.Tests.{IsTold, unrefuted, refuted}
 use Rattle.pp_keyed.specs.Keys.{Keys, IsKeyed, may_swap, undone, IsShown}

@@ -1,5 +1,6 @@
 -- Proof machinery: the rule of two operations on one key.
-use Rattle.std.proofs.Common.{◌≡◌, ℤ, int_eq, Bool, true, false, not, cond, ◌&&◌, ◌||◌, ◌↔◌, refl, sym, ◌∙◌, ap, arith}
+use Rattle.std.proofs.Common.{◌≡◌, ℤ, int_eq, Bool, true, false, not, cond, ◌&&◌, ◌||◌, ◌↔◌, refl}
+use Rattle.std.proofs.Common.{sym, ◌∙◌, ap, arith}
 use Rattle.std.proofs.lemmas.Bool.{and_parts}
 use Rattle.std.proofs.lemmas.Int.{ints}
 use Rattle.pp_keyed.specs.Keys.{rule}

@@ -1,10 +1,13 @@
-use Rattle.std.proofs.Common.{◌≡◌, ℕ, ◌<◌, zero, suc, IsTrue, Bool, false, cond, List, [], ◌∷◌, ◌++◌, length, refl, sym, ◌∙◌, ap, subst, arith, inl, inr, Option, Some, None, nat_eq, ◌||◌, append-nil}
+use Rattle.std.proofs.Common.{◌≡◌, ℕ, ◌<◌, zero, suc, IsTrue, Bool, false, cond, List, [], ◌∷◌}
+use Rattle.std.proofs.Common.{◌++◌, length, refl, sym, ◌∙◌, ap, subst, arith, inl, inr, Option}
+use Rattle.std.proofs.Common.{Some, None, nat_eq, ◌||◌, append-nil}
 use Rattle.std.specs.List.{slice_get, slice_set, list_any, remove}
 use Rattle.std.proofs.lemmas.Bool.{ne_eqb}
 use Rattle.std.proofs.lemmas.Bool.Decides.{eqb_tells}
 use Rattle.std.proofs.lemmas.List.{length_push}
 use Rattle.pp_core.specs.declared.entry.Item.{Item}
-use Rattle.pp_spec.specs.Object.{Object, IsLegal, IsAllowed, IsReached, IsLawful, IsPlaced, AllRanged, state_after, state_from}
+use Rattle.pp_spec.specs.Object.{Object, IsLegal, IsAllowed, IsReached, IsLawful, IsPlaced}
+use Rattle.pp_spec.specs.Object.{AllRanged, state_after, state_from}
 use Rattle.pp_spec.proofs.Lists.{one_more, state_one_more, ranged-append}
 use Rattle.pp_log.specs.declared.place.Place.{Place}
 use Rattle.pp_model.specs.Object.{ops}

@@ -1,5 +1,7 @@
 -- Lists: where an element stands, and what a list is with one more, one less, or one set.
-use Rattle.std.proofs.Common.{◌≡◌, ℕ, ◌<◌, ◌≤◌, ◌+◌, zero, suc, Bool, not, cond, nat_lt, List, [], ◌∷◌, ◌++◌, length, take, drop, map, get_or, refl, sym, ◌∙◌, ap, arith, inl, inr, Some, None}
+use Rattle.std.proofs.Common.{◌≡◌, ℕ, ◌<◌, ◌≤◌, ◌+◌, zero, suc, Bool, not, cond, nat_lt, List, []}
+use Rattle.std.proofs.Common.{◌∷◌, ◌++◌, length, take, drop, map, get_or, refl, sym, ◌∙◌, ap, arith}
+use Rattle.std.proofs.Common.{inl, inr, Some, None}
 use Rattle.std.specs.List.{slice_get, slice_set, remove, insert, position, position_or_len}
 use Rattle.std.proofs.lemmas.List.{get_or_default, length-map}
 use Rattle.std.proofs.lemmas.Bool.{cases_lt}

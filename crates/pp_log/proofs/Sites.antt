@@ -1,4 +1,5 @@
-use Rattle.std.proofs.Common.{◌≡◌, ◌≢◌, ℕ, ◌<◌, ◌+◌, zero, suc, List, [], ◌∷◌, ◌++◌, length, take, drop, get_or, refl, sym, ◌∙◌, ap, subst, arith, inl, inr, Some}
+use Rattle.std.proofs.Common.{◌≡◌, ◌≢◌, ℕ, ◌<◌, ◌+◌, zero, suc, List, [], ◌∷◌, ◌++◌, length, take}
+use Rattle.std.proofs.Common.{drop, get_or, refl, sym, ◌∙◌, ap, subst, arith, inl, inr, Some}
 use Rattle.std.specs.List.{slice_get, slice_set, remove}
 use Rattle.std.proofs.lemmas.Option.{slice_get-get_or, slice_get_past}
 use Rattle.std.proofs.lemmas.List.Edits.{length-remove}
@@ -20,7 +21,8 @@ use Rattle.pp_log.specs.Logs.{DiffersFrom, DiffersFirst, RemovesEntry, from_plac
 use Rattle.pp_log.specs.TakesOut.{IsWhole, TakesOut, itself, takes_out_ticks}
 use Rattle.pp_log.proofs.Lists.{pair, cut_there, remove_mid, set_other, set_same}
 use Rattle.pp_log.proofs.Edits.{ranged-remove}
-use Rattle.pp_log.proofs.Parted.{there_at, there_off, elsewhere_at, elsewhere-append, there-append, there_count}
+use Rattle.pp_log.proofs.Parted.{there_at, there_off, elsewhere_at, elsewhere-append, there-append}
+use Rattle.pp_log.proofs.Parted.{there_count}
 use Rattle.pp_log.proofs.Whole.{base_allowed, log_of, differs_first}
 
 from_mid : {Op : Type 0} (place : Op → ℕ) (x : List (Item Op)) (i : ℕ) (e : Item Op) → i < length x → e ≡ get_or x i e → from_place place (ops x) i ≡ length (there place (place e.op) (e ∷ drop (i + 1) x))

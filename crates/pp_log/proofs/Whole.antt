@@ -1,10 +1,12 @@
-use Rattle.std.proofs.Common.{◌≡◌, ℕ, ◌≤◌, List, [], ◌∷◌, ◌++◌, length, take, refl, sym, ◌∙◌, ap, subst, arith, inl, inr, Some}
+use Rattle.std.proofs.Common.{◌≡◌, ℕ, ◌≤◌, List, [], ◌∷◌, ◌++◌, length, take, refl, sym, ◌∙◌, ap}
+use Rattle.std.proofs.Common.{subst, arith, inl, inr, Some}
 use Rattle.std.proofs.lemmas.Bool.Decides.{eqb_tells}
 use Rattle.std.proofs.Math.Seq.{take-length}
 use Rattle.std.specs.List.{slice_get}
 use Rattle.pp_core.specs.declared.entry.Item.{Item}
 use Rattle.pp_core.specs.declared.answer.Answer.{Answer}
-use Rattle.pp_spec.specs.Object.{Object, AllowedFrom, IsAllowed, AllRanged, IsLawful, IsPlaced, state_from, state_after}
+use Rattle.pp_spec.specs.Object.{Object, AllowedFrom, IsAllowed, AllRanged, IsLawful, IsPlaced}
+use Rattle.pp_spec.specs.Object.{state_from, state_after}
 use Rattle.pp_spec.proofs.Lists.{state-append, allowed-first}
 use Rattle.pp_spec.proofs.Places.{reached_shape}
 use Rattle.pp_log.specs.declared.place.Place.{Place}
@@ -16,8 +18,11 @@ use Rattle.pp_log.specs.Logs.{DiffersFrom, DiffersFirst}
 use Rattle.pp_log.specs.TakesOut.{IsWhole, itself}
 use Rattle.pp_model.proofs.Lists.{not_empty}
 use Rattle.pp_log.proofs.Runs.{length-ops, length-kept, run_shape}
-use Rattle.pp_log.proofs.Parted.{is_at, there_at, there_off, elsewhere_at, elsewhere_off, there-append, there_of_elsewhere, there_of_others, parted, length-parts, ops-append}
-use Rattle.pp_log.proofs.Apart.{same_run, allowed_there, allowed_same, kept_same, allowed_by_places, state_by_places, gives_at}
+use Rattle.pp_log.proofs.Parted.{is_at, there_at, there_off, elsewhere_at, elsewhere_off}
+use Rattle.pp_log.proofs.Parted.{there-append, there_of_elsewhere, there_of_others, parted}
+use Rattle.pp_log.proofs.Parted.{length-parts, ops-append}
+use Rattle.pp_log.proofs.Apart.{same_run, allowed_there, allowed_same, kept_same, allowed_by_places}
+use Rattle.pp_log.proofs.Apart.{state_by_places, gives_at}
 
 -- a list cut at an item of a place
 pub record IsCutThere {Op : Type 0} (place : Op → ℕ) (p : ℕ) (x w z : List (Item Op)) (f : Item Op) : Type 0 where

@@ -7,7 +7,8 @@ use Rattle.pp_spec.specs.Object.{Object}
 use Rattle.pp_keyed.specs.Keys.{ToldKeys}
 use Rattle.pp_map.specs.declared.op.MapOp.{MapOp}
 use Rattle.pp_map.specs.declared.op.MapOp.TheVariants.{Get}
-use Rattle.pp_map.specs.Operations.{key_of, found_by, left_by, values_after, values_before, call_of, recorded_by, given_by, is_ranged}
+use Rattle.pp_map.specs.Operations.{key_of, found_by, left_by, values_after, values_before, call_of}
+use Rattle.pp_map.specs.Operations.{recorded_by, given_by, is_ranged}
 use Rattle.pp_map.specs.Contexts.{refuting_lists}
 
 -- numbers at keys, at first none

@@ -5,7 +5,8 @@ use Rattle.std.specs.FinMap as map
 use Rattle.std.specs.FinMap.{FinMap}
 use Rattle.pp_core.specs.declared.answer.Answer.{Answer}
 use Rattle.pp_core.specs.declared.call.Call.{Call}
-use Rattle.pp_core.specs.declared.call.Method.TheVariants.{Put as PutCall, Get as GetCall, Remove as RemoveCall}
+use Rattle.pp_core.specs.declared.call.Method.TheVariants.{Put as PutCall, Get as GetCall}
+use Rattle.pp_core.specs.declared.call.Method.TheVariants.{Remove as RemoveCall}
 use Rattle.pp_spec.specs.Numbers.{in_range}
 use Rattle.pp_spec.specs.Found.{answer_of, is_ranged_found}
 use Rattle.pp_map.specs.declared.op.MapOp.{MapOp}
@@ -31,9 +32,12 @@ left_by (Remove key was) = None
 
 -- its method and its arguments, at the object 0
 abbrev pub call_of : MapOp → Call
-call_of (Put key value was) = record { object = 0; method = PutCall; first = key; second = value; third = pos 0 }
-call_of (Get key found) = record { object = 0; method = GetCall; first = key; second = pos 0; third = pos 0 }
-call_of (Remove key was) = record { object = 0; method = RemoveCall; first = key; second = pos 0; third = pos 0 }
+call_of (Put key value was) =
+    record { object = 0; method = PutCall; first = key; second = value; third = pos 0 }
+call_of (Get key found) =
+    record { object = 0; method = GetCall; first = key; second = pos 0; third = pos 0 }
+call_of (Remove key was) =
+    record { object = 0; method = RemoveCall; first = key; second = pos 0; third = pos 0 }
 
 -- the result that it records
 abbrev pub recorded_by : MapOp → Answer

@@ -82,8 +82,7 @@ fn mover_table() -> MoverTable<6>
     ])
 }
 
-/// Whether two operations swap: those on different keys always, and others by the
-/// table.
+/// Whether two operations swap: those on different keys always, and others by the table.
 pub fn may_swap(a: &MapOp, b: &MapOp) -> bool
     ensures { result ≡ may_swap a.now b.now }
 {

@@ -2,7 +2,9 @@
 use Rattle.std.specs.Prelude.{pos, ◌-ℤ◌, ℕ, Bool, true, false, if◌then◌else◌, List, [], ◌∷◌}
 use Rattle.std.specs.Ordering.{int_eq}
 use Rattle.pp_table.specs.declared.table.Condition.{Condition}
-use Rattle.pp_table.specs.declared.table.Condition.TheVariants.{Always, Equal, Unequal, Chain, Settled, Apart, FromApart, IntoApart}
+use Rattle.pp_table.specs.declared.table.Condition.TheVariants.{Always, Equal, Unequal, Chain}
+use Rattle.pp_table.specs.declared.table.Condition.TheVariants.{Settled, Apart, FromApart}
+use Rattle.pp_table.specs.declared.table.Condition.TheVariants.{IntoApart}
 use Rattle.pp_table.specs.declared.table.Figures.{Figures}
 use Rattle.pp_table.specs.Table.{condition_holds, entry}
 use Rattle.pp_mem.specs.declared.op.MemOp.{MemOp}

@@ -5,7 +5,8 @@ use Rattle.std.specs.FinMap.{FinMap}
 use Rattle.pp_core.specs.declared.answer.Answer.{Answer}
 use Rattle.pp_core.specs.declared.answer.Answer.TheVariants.{None as NoAnswer, Number, Truth}
 use Rattle.pp_core.specs.declared.call.Call.{Call}
-use Rattle.pp_core.specs.declared.call.Method.TheVariants.{Read as ReadCall, Write as WriteCall, Cas as CasCall}
+use Rattle.pp_core.specs.declared.call.Method.TheVariants.{Read as ReadCall, Write as WriteCall}
+use Rattle.pp_core.specs.declared.call.Method.TheVariants.{Cas as CasCall}
 use Rattle.pp_spec.specs.Numbers.{in_range}
 use Rattle.pp_mem.specs.declared.op.MemOp.{MemOp}
 use Rattle.pp_mem.specs.declared.op.MemOp.TheVariants.{Read, Write, Cas}
@@ -58,8 +59,8 @@ memory_after m (Read a v) = m
 memory_after m (Write a v) = written m a v
 memory_after m (Cas a e n done) = if int_eq (value_at m a) e then written m a n else m
 
--- the number that a write covers, and the memory that it brings back; a compare-and-swap tells itself
--- what it covered
+-- the number that a write covers, and the memory that it brings back; a compare-and-swap tells
+-- itself what it covered
 abbrev pub kept_by : FinMap int_cmp ℤ → MemOp → ℤ
 kept_by m (Read a v) = pos 0
 kept_by m (Write a v) = value_at m a

@@ -1,6 +1,7 @@
 //! The operations that show of a pair that it does not swap.
 ghost use Rattle.std.specs.Prelude.{◌≡◌, IfOk};
-ghost use Rattle.pp_mem.specs.Contexts.{number_after, number_before, other_than, read_of, write_of, lists_round};
+ghost use Rattle.pp_mem.specs.Contexts.{number_after, number_before, other_than, read_of, write_of};
+ghost use Rattle.pp_mem.specs.Contexts.{lists_round};
 
 use crate::op::MemOp;
 use pp_core::{Ops, OutOfMemory};

@@ -1,6 +1,7 @@
 -- The committed transactions of a run, each alone, make an accepted run.
 use mathlib.Core.List.{map-map}
-use Rattle.std.specs.Prelude.{◌≡◌, ◌≢◌, ◌⊎◌, ℕ, ◌==◌, Bool, true, false, not, cond, ◌&&◌, List, [], ◌∷◌, ◌++◌, map, find, Option, Some, None}
+use Rattle.std.specs.Prelude.{◌≡◌, ◌≢◌, ◌⊎◌, ℕ, ◌==◌, Bool, true, false, not, cond, ◌&&◌, List, []}
+use Rattle.std.specs.Prelude.{◌∷◌, ◌++◌, map, find, Option, Some, None}
 use Rattle.std.proofs.Common.{refl, sym, ap, subst, ◌∙◌, append_assoc}
 use Rattle.std.proofs.lemmas.List.{map-append, append-nil}
 use Rattle.std.proofs.lemmas.Bool.{and_parts, eqb-true, eq-eqb}
@@ -8,12 +9,21 @@ use mathlib.Core.Logic.{inl, inr}
 use Rattle.pp_model.specs.Lists.{In, Before, joined}
 use Rattle.pp_model.specs.Body.{Call, Tree, IsWord, Begins}
 use Rattle.pp_model.specs.Object.{Object, Allowed, Item, ops}
-use Rattle.pp_model.specs.Config.{after, Unpushed, Pushed, Pulled, is_own, is_mark, LocalEntry, SharedEntry, Tx, CommittedTx, Config, Start, Step, App, Push, Pull, Cmt, item, shared_item, own, own_items, local_ops, shared_ops, as_shared, tx, then, push_effect, pull_effect, commit_effect, entry_of, at_mark, of_other, on_log, set_mark, commit_all, first}
+use Rattle.pp_model.specs.Config.{after, Unpushed, Pushed, Pulled, is_own, is_mark, LocalEntry}
+use Rattle.pp_model.specs.Config.{SharedEntry, Tx, CommittedTx, Config, Start, Step, App, Push}
+use Rattle.pp_model.specs.Config.{Pull, Cmt, item, shared_item, own, own_items, local_ops}
+use Rattle.pp_model.specs.Config.{shared_ops, as_shared, tx, then, push_effect, pull_effect}
+use Rattle.pp_model.specs.Config.{commit_effect, entry_of, at_mark, of_other, on_log, set_mark}
+use Rattle.pp_model.specs.Config.{commit_all, first}
 use Rattle.pp_model.specs.Rules.{calls, FirstFalse, there, Meets, StartMeets, RunsFrom}
 use Rattle.pp_model.specs.Sound.{Sound}
-use Rattle.pp_model.specs.Serial.{Attempt, attempt_of, attempts, commits, start_attempts, committed_tx, serial}
+use Rattle.pp_model.specs.Serial.{Attempt, attempt_of, attempts, commits, start_attempts}
+use Rattle.pp_model.specs.Serial.{committed_tx, serial}
 use Rattle.pp_model.specs.Alone.{own_steps, one_alone, all_alone, alone, first_thread, threads_of}
-use Rattle.pp_model.proofs.Lists.{in_left, in_right, in_cases, before_cases, before_left, before_right, before_across, before_in_first, before_in_second, in_map, from_map, before_map, before_from_map, by_key, in_joined, before_from_joined}
+use Rattle.pp_model.proofs.Lists.{in_left, in_right, in_cases, before_cases, before_left}
+use Rattle.pp_model.proofs.Lists.{before_right, before_across, before_in_first, before_in_second}
+use Rattle.pp_model.proofs.Lists.{in_map, from_map, before_map, before_from_map, by_key, in_joined}
+use Rattle.pp_model.proofs.Lists.{before_from_joined}
 use Rattle.pp_model.proofs.Logs.{at_tx, is_mark-true}
 use Rattle.pp_model.proofs.Steps.{own_items-append}
 use Rattle.pp_model.proofs.Push.{mark_at, marked_other, remark}

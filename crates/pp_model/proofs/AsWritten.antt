@@ -3,11 +3,14 @@ use Rattle.std.specs.Prelude.{◌≡◌, ◌≢◌, Bool, List, map, true, false
 use Rattle.std.proofs.Common.{refl, sym, ap, subst, ◌∙◌}
 use mathlib.Core.Logic.{inl, inr}
 use Rattle.pp_model.specs.AsWritten.{AsWritten, StandsFor}
-use Rattle.pp_model.specs.Config.{Config, CommittedTx, LocalEntry, SharedEntry, Tx, is_own, item, shared_item, own_items, as_shared}
+use Rattle.pp_model.specs.Config.{Config, CommittedTx, LocalEntry, SharedEntry, Tx, is_own, item}
+use Rattle.pp_model.specs.Config.{shared_item, own_items, as_shared}
 use Rattle.pp_model.specs.Lists.{Before, In, joined}
 use Rattle.pp_model.specs.Object.{Item, Object}
 use Rattle.pp_model.specs.Sound.{OwnedAsMarked, Owns, Sound, serial_items}
-use Rattle.pp_model.proofs.Lists.{in_left, in_right, in_cases, before_left, before_right, before_across, before_cases, before_in_first, before_in_second, in_map, from_map, before_map, before_from_map, by_key}
+use Rattle.pp_model.proofs.Lists.{in_left, in_right, in_cases, before_left, before_right}
+use Rattle.pp_model.proofs.Lists.{before_across, before_cases, before_in_first, before_in_second}
+use Rattle.pp_model.proofs.Lists.{in_map, from_map, before_map, before_from_map, by_key}
 use Rattle.pp_model.proofs.Logs.{from_own, in_own}
 use Rattle.pp_model.proofs.Local.{shared_used}
 use Rattle.pp_model.proofs.Serial.{from_serial, to_serial, before_from_serial}

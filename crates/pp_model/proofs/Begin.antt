@@ -1,14 +1,19 @@
 -- The steps BEGIN, QUIT and NOTE keep a configuration sound, and the start is sound.
-use Rattle.std.specs.Prelude.{◌≡◌, ◌≢◌, ◌⊎◌, Bool, true, false, not, List, [], ◌∷◌, ◌++◌, map, Option, Some, None}
+use Rattle.std.specs.Prelude.{◌≡◌, ◌≢◌, ◌⊎◌, Bool, true, false, not, List, [], ◌∷◌, ◌++◌, map}
+use Rattle.std.specs.Prelude.{Option, Some, None}
 use Rattle.std.proofs.Common.{refl, sym, ap, subst, ◌∙◌}
 use mathlib.Core.Logic.{inl, inr}
 use Rattle.pp_model.specs.Lists.{In, Before}
 use Rattle.pp_model.specs.Body.{Tree, Begins}
 use Rattle.pp_model.specs.Object.{Object, Allowed, Swaps, Item, ops, HasDistinctIds}
-use Rattle.pp_model.specs.Config.{Pushed, Pulled, is_own, LocalEntry, SharedEntry, Tx, CommittedTx, Config, Start, Begin, Quit, item, own_items, local_ops, shared_ops, as_shared, tx, then, without_tx, first}
+use Rattle.pp_model.specs.Config.{Pushed, Pulled, is_own, LocalEntry, SharedEntry, Tx, CommittedTx}
+use Rattle.pp_model.specs.Config.{Config, Start, Begin, Quit, item, own_items, local_ops}
+use Rattle.pp_model.specs.Config.{shared_ops, as_shared, tx, then, without_tx, first}
 use Rattle.pp_model.specs.Rules.{calls, Meets, StartMeets}
 use Rattle.pp_model.specs.Sound.{Sound, Stands, StandsBefore, KeepsOrder, Owns, OwnedAsMarked}
-use Rattle.pp_model.proofs.Lists.{by_key, not_both, before_in_first, before_in_second, in_left, in_cases, before_cases, in_map, from_map, before_from_map, in_filter, from_filter, before_from_filter}
+use Rattle.pp_model.proofs.Lists.{by_key, not_both, before_in_first, before_in_second, in_left}
+use Rattle.pp_model.proofs.Lists.{in_cases, before_cases, in_map, from_map, before_from_map}
+use Rattle.pp_model.proofs.Lists.{in_filter, from_filter, before_from_filter}
 use Rattle.pp_model.proofs.Steps.{there_holds, only_one}
 use Rattle.pp_model.specs.Names.{Name, ◌=ⁿ◌}
 use Rattle.pp_model.proofs.Names.{names_not}

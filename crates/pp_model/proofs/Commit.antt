@@ -1,13 +1,18 @@
 -- The step CMT keeps a configuration sound.
-use Rattle.std.specs.Prelude.{◌≡◌, ◌≢◌, ◌⊎◌, ℕ, Bool, true, false, not, cond, List, [], ◌∷◌, ◌++◌, Option, Some}
+use Rattle.std.specs.Prelude.{◌≡◌, ◌≢◌, ◌⊎◌, ℕ, Bool, true, false, not, cond, List, [], ◌∷◌, ◌++◌}
+use Rattle.std.specs.Prelude.{Option, Some}
 use Rattle.std.proofs.Common.{refl, sym, ap, subst, ◌∙◌}
 use mathlib.Core.Logic.{inl, inr}
 use Rattle.pp_model.specs.Lists.{In, Before}
 use Rattle.pp_model.specs.Object.{Object, Allowed, Swaps, Item}
-use Rattle.pp_model.specs.Config.{Pushed, is_own, LocalEntry, SharedEntry, Tx, CommittedTx, Config, Cmt, item, own_items, shared_ops, as_shared, tx, then, commit_effect, without_tx, commit_all}
+use Rattle.pp_model.specs.Config.{Pushed, is_own, LocalEntry, SharedEntry, Tx, CommittedTx, Config}
+use Rattle.pp_model.specs.Config.{Cmt, item, own_items, shared_ops, as_shared, tx, then}
+use Rattle.pp_model.specs.Config.{commit_effect, without_tx, commit_all}
 use Rattle.pp_model.specs.Rules.{Meets}
 use Rattle.pp_model.specs.Sound.{Sound, Stands, StandsBefore, KeepsOrder, Owns, CommittedAfter}
-use Rattle.pp_model.proofs.Lists.{by_key, before_in_first, before_in_second, in_left, in_right, in_map, from_map, before_from_map, in_filter, from_filter, before_from_filter}
+use Rattle.pp_model.proofs.Lists.{by_key, before_in_first, before_in_second, in_left, in_right}
+use Rattle.pp_model.proofs.Lists.{in_map, from_map, before_from_map, in_filter, from_filter}
+use Rattle.pp_model.proofs.Lists.{before_from_filter}
 use Rattle.pp_model.proofs.Logs.{found_tx, from_own, in_own, before_from_own}
 use Rattle.pp_model.proofs.Steps.{there_holds}
 use Rattle.pp_model.proofs.Begin.{each_added, before_added}

@@ -1,21 +1,30 @@
 -- Each step that meets its criteria keeps what the steps say of the configuration.
-use Rattle.std.specs.Prelude.{◌≡◌, ◌≢◌, ℕ, Bool, true, false, not, cond, List, [], ◌∷◌, ◌++◌, map, Option, Some}
+use Rattle.std.specs.Prelude.{◌≡◌, ◌≢◌, ℕ, Bool, true, false, not, cond, List, [], ◌∷◌, ◌++◌, map}
+use Rattle.std.specs.Prelude.{Option, Some}
 use Rattle.std.proofs.Common.{refl, sym, ap, subst, ◌∙◌, append_assoc}
 use Rattle.std.proofs.lemmas.List.{map-append, append-nil}
 use mathlib.Core.Logic.{inl, inr}
 use Rattle.pp_model.specs.Lists.{In, Before}
 use Rattle.pp_model.specs.Body.{Tree, IsWord}
 use Rattle.pp_model.specs.Object.{Object, Item}
-use Rattle.pp_model.specs.Config.{Mark, Unpushed, Pushed, Pulled, is_own, LocalEntry, SharedEntry, Tx, CommittedTx, Config, Start, Step, Begin, App, Unapp, Push, Unpush, Pull, Unpull, Cmt, Quit, Note, item, own, own_items, tx, then, push_effect, pull_effect, commit_effect, entry_of, at_mark, of_other, on_log, set_mark, without_local, without_tx, but_last, last}
+use Rattle.pp_model.specs.Config.{Mark, Unpushed, Pushed, Pulled, is_own, LocalEntry, SharedEntry}
+use Rattle.pp_model.specs.Config.{Tx, CommittedTx, Config, Start, Step, Begin, App, Unapp, Push}
+use Rattle.pp_model.specs.Config.{Unpush, Pull, Unpull, Cmt, Quit, Note, item, own, own_items, tx}
+use Rattle.pp_model.specs.Config.{then, push_effect, pull_effect, commit_effect, entry_of, at_mark}
+use Rattle.pp_model.specs.Config.{of_other, on_log, set_mark, without_local, without_tx, but_last}
+use Rattle.pp_model.specs.Config.{last}
 use Rattle.pp_model.specs.Rules.{calls, Meets}
 use Rattle.pp_model.specs.Sound.{Sound}
-use Rattle.pp_model.specs.Serial.{unapplied_ids, own_of, bodies_of, first_body, commits, Attempt, attempt_of, start_attempts, attempts, committed_tx}
+use Rattle.pp_model.specs.Serial.{unapplied_ids, own_of, bodies_of, first_body, commits, Attempt}
+use Rattle.pp_model.specs.Serial.{attempt_of, start_attempts, attempts, committed_tx}
 use Rattle.pp_model.proofs.Lists.{by_key, in_right, in_cases, before_across, in_map, from_filter}
 use Rattle.pp_model.proofs.Logs.{found_tx, found_mark, on_each, but_last_is, from_own}
 use Rattle.pp_model.proofs.Steps.{there_holds, own_items-append, last_holds, own_without}
 use Rattle.pp_model.proofs.Begin.{each_added}
 use Rattle.pp_model.proofs.Push.{remarked}
-use Rattle.pp_model.proofs.Trace.{subject, quiet_applied, quiet_dropped, quiet_bodies, own_quiet, bodies_quiet, own_app, own_unapp, dropped-append, bodies-append, commits-append, Traced, old_attempts, subject_open}
+use Rattle.pp_model.proofs.Trace.{subject, quiet_applied, quiet_dropped, quiet_bodies, own_quiet}
+use Rattle.pp_model.proofs.Trace.{bodies_quiet, own_app, own_unapp, dropped-append, bodies-append}
+use Rattle.pp_model.proofs.Trace.{commits-append, Traced, old_attempts, subject_open}
 use Rattle.pp_model.specs.Names.{Name, ◌=ⁿ◌}
 use Rattle.pp_model.proofs.Names.{eq-names}
 

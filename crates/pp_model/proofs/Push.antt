@@ -1,5 +1,6 @@
 -- The steps PUSH and UNPUSH keep a configuration sound.
-use Rattle.std.specs.Prelude.{◌≡◌, ◌≢◌, ◌⊎◌, ℕ, Bool, true, false, not, cond, ◌==◌, List, [], ◌∷◌, ◌++◌, map, Option, Some}
+use Rattle.std.specs.Prelude.{◌≡◌, ◌≢◌, ◌⊎◌, ℕ, Bool, true, false, not, cond, ◌==◌, List, [], ◌∷◌}
+use Rattle.std.specs.Prelude.{◌++◌, map, Option, Some}
 use Rattle.std.proofs.Common.{refl, sym, ap, subst, ◌∙◌}
 use Rattle.std.proofs.lemmas.List.{map-append}
 use Rattle.std.proofs.lemmas.Bool.{cases_eq}
@@ -8,11 +9,17 @@ use mathlib.Core.Logic.{inl, inr}
 use Rattle.pp_model.specs.Lists.{In, Before}
 use Rattle.pp_model.specs.Body.{Begins}
 use Rattle.pp_model.specs.Object.{Object, Allowed, Swaps, Item}
-use Rattle.pp_model.specs.Config.{Mark, Unpushed, Pushed, Pulled, is_own, LocalEntry, SharedEntry, Tx, CommittedTx, Config, Push, item, own, own_items, local_ops, shared_ops, as_shared, tx, then, push_effect, entry_of, at_mark, on_log, relog, set_mark, without_shared}
+use Rattle.pp_model.specs.Config.{Mark, Unpushed, Pushed, Pulled, is_own, LocalEntry, SharedEntry}
+use Rattle.pp_model.specs.Config.{Tx, CommittedTx, Config, Push, item, own, own_items, local_ops}
+use Rattle.pp_model.specs.Config.{shared_ops, as_shared, tx, then, push_effect, entry_of, at_mark}
+use Rattle.pp_model.specs.Config.{on_log, relog, set_mark, without_shared}
 use Rattle.pp_model.specs.Rules.{calls, Meets}
 use Rattle.pp_model.specs.Sound.{Sound, Stands, StandsBefore, KeepsOrder, Owns, OwnedAsMarked}
-use Rattle.pp_model.proofs.Lists.{by_key, before_in_first, before_in_second, in_left, in_right, in_cases, in_map, from_map, before_from_map, in_filter, from_filter, before_from_filter}
-use Rattle.pp_model.proofs.Logs.{found_tx, found_mark, eqb_not, in_own, before_from_own, on_each, on_before, in_on_same, in_on_other}
+use Rattle.pp_model.proofs.Lists.{by_key, before_in_first, before_in_second, in_left, in_right}
+use Rattle.pp_model.proofs.Lists.{in_cases, in_map, from_map, before_from_map, in_filter}
+use Rattle.pp_model.proofs.Lists.{from_filter, before_from_filter}
+use Rattle.pp_model.proofs.Logs.{found_tx, found_mark, eqb_not, in_own, before_from_own, on_each}
+use Rattle.pp_model.proofs.Logs.{on_before, in_on_same, in_on_other}
 use Rattle.pp_model.proofs.Steps.{there_holds}
 use Rattle.pp_model.proofs.Begin.{before_added}
 use Rattle.pp_model.specs.Names.{Name}

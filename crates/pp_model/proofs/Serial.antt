@@ -1,14 +1,21 @@
 -- The shared log may be put into the order of the commits.
-use Rattle.std.specs.Prelude.{◌≡◌, ◌≢◌, ◌⊎◌, ℕ, Bool, true, false, not, cond, List, [], ◌∷◌, ◌++◌, map}
+use Rattle.std.specs.Prelude.{◌≡◌, ◌≢◌, ◌⊎◌, ℕ, Bool, true, false, not, cond, List, [], ◌∷◌, ◌++◌}
+use Rattle.std.specs.Prelude.{map}
 use Rattle.std.proofs.Common.{refl, sym, ap, subst, ◌∙◌, append_assoc}
 use Rattle.std.proofs.lemmas.Bool.{not-true}
 use Rattle.std.proofs.lemmas.List.{map-append, append-nil}
 use mathlib.Core.Logic.{inl, inr}
 use Rattle.pp_model.specs.Lists.{In, Before}
-use Rattle.pp_model.specs.Object.{Object, AllowedFrom, Allowed, Swaps, Item, ops, Reorders, TellsStates, state_from}
-use Rattle.pp_model.specs.Config.{SharedEntry, CommittedTx, Config, shared_item, shared_ops, as_shared, uncommitted, only_committed}
-use Rattle.pp_model.specs.Sound.{Sound, Stands, KeepsOrder, CommittedAfter, HasSerialState, MayRunSerially, serial_items, serial_ops}
-use Rattle.pp_model.proofs.Lists.{in_left, in_right, in_cases, before_cases, before_in_first, before_in_second, in_map, from_map, before_from_map, in_filter, from_filter, before_from_filter, from_joined, in_joined, before_from_joined, by_key, not_both}
+use Rattle.pp_model.specs.Object.{Object, AllowedFrom, Allowed, Swaps, Item, ops, Reorders}
+use Rattle.pp_model.specs.Object.{TellsStates, state_from}
+use Rattle.pp_model.specs.Config.{SharedEntry, CommittedTx, Config, shared_item, shared_ops}
+use Rattle.pp_model.specs.Config.{as_shared, uncommitted, only_committed}
+use Rattle.pp_model.specs.Sound.{Sound, Stands, KeepsOrder, CommittedAfter, HasSerialState}
+use Rattle.pp_model.specs.Sound.{MayRunSerially, serial_items, serial_ops}
+use Rattle.pp_model.proofs.Lists.{in_left, in_right, in_cases, before_cases, before_in_first}
+use Rattle.pp_model.proofs.Lists.{before_in_second, in_map, from_map, before_from_map, in_filter}
+use Rattle.pp_model.proofs.Lists.{from_filter, before_from_filter, from_joined, in_joined}
+use Rattle.pp_model.proofs.Lists.{before_from_joined, by_key, not_both}
 use Rattle.pp_model.proofs.Permute.{permuted}
 use Rattle.pp_model.proofs.Parted.{parted}
 

@@ -5,8 +5,10 @@ use Rattle.std.proofs.lemmas.List.{map-append, append-nil}
 use mathlib.Core.Logic.{inl, inr}
 use Rattle.pp_model.specs.Lists.{In, joined}
 use Rattle.pp_model.specs.Body.{IsWord}
-use Rattle.pp_model.specs.Object.{Object, Allowed, AllowedFrom, Item, ops, state, state_from, TellsStates}
-use Rattle.pp_model.specs.Config.{CommittedTx, Config, Start, Step, then, first, after, after_from, shared_ops, uncommitted}
+use Rattle.pp_model.specs.Object.{Object, Allowed, AllowedFrom, Item, ops, state, state_from}
+use Rattle.pp_model.specs.Object.{TellsStates}
+use Rattle.pp_model.specs.Config.{CommittedTx, Config, Start, Step, then, first, after, after_from}
+use Rattle.pp_model.specs.Config.{shared_ops, uncommitted}
 use Rattle.pp_model.specs.Rules.{calls, StartMeets, RunsFrom}
 use Rattle.pp_model.specs.Sound.{Sound, serial_items, serial_ops}
 use Rattle.pp_model.specs.Serial.{Attempt, attempts, serial, committed_tx, AtomicRun, Simulated}

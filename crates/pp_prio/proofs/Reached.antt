@@ -1,5 +1,6 @@
 -- Proof machinery: how many values a run leaves.
-use Rattle.std.proofs.Common.{◌≡◌, ℤ, suc, ◌≤◌, ◌<◌, ◌+◌, Bool, true, false, int_le, if◌then◌else◌, List, [], ◌∷◌, length, refl, ap, arith}
+use Rattle.std.proofs.Common.{◌≡◌, ℤ, suc, ◌≤◌, ◌<◌, ◌+◌, Bool, true, false, int_le, if◌then◌else◌}
+use Rattle.std.proofs.Common.{List, [], ◌∷◌, length, refl, ap, arith}
 use Rattle.pp_spec.specs.Object.{state_from, IsReached}
 use Rattle.pp_prio.specs.declared.op.PrioOp.{PrioOp}
 use Rattle.pp_prio.specs.declared.op.PrioOp.TheVariants.{Insert, Take, Least}

@@ -1,7 +1,8 @@
 -- Meaning: which operations of a priority queue swap, by a table.
 use Rattle.std.specs.Prelude.{ℤ, pos, ℕ, Bool, List, [], ◌∷◌, Some, None, unwrap_or}
 use Rattle.pp_table.specs.declared.table.Condition.{Condition}
-use Rattle.pp_table.specs.declared.table.Condition.TheVariants.{Always, Never, Unequal, Rising, Falling}
+use Rattle.pp_table.specs.declared.table.Condition.TheVariants.{Always, Never, Unequal, Rising}
+use Rattle.pp_table.specs.declared.table.Condition.TheVariants.{Falling}
 use Rattle.pp_table.specs.declared.table.Figures.{Figures}
 use Rattle.pp_table.specs.Table.{condition_holds, entry}
 use Rattle.pp_prio.specs.declared.op.PrioOp.{PrioOp}

@@ -3,7 +3,8 @@ use Rattle.std.specs.Prelude.{ℤ, pos, Bool, List, Option, Some, None}
 use Rattle.pp_core.specs.declared.answer.Answer.{Answer}
 use Rattle.pp_core.specs.declared.answer.Answer.TheVariants.{None as NoAnswer}
 use Rattle.pp_core.specs.declared.call.Call.{Call}
-use Rattle.pp_core.specs.declared.call.Method.TheVariants.{Insert as InsertCall, Take as TakeCall, Least as LeastCall}
+use Rattle.pp_core.specs.declared.call.Method.TheVariants.{Insert as InsertCall, Take as TakeCall}
+use Rattle.pp_core.specs.declared.call.Method.TheVariants.{Least as LeastCall}
 use Rattle.pp_spec.specs.Numbers.{in_range}
 use Rattle.pp_spec.specs.Found.{answer_of, is_ranged_found}
 use Rattle.pp_prio.specs.declared.op.PrioOp.{PrioOp}

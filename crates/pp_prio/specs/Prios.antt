@@ -3,7 +3,8 @@ use Rattle.std.specs.Prelude.{ℤ, List, [], true}
 use Rattle.pp_spec.specs.Object.{Object}
 use Rattle.pp_prio.specs.declared.op.PrioOp.{PrioOp}
 use Rattle.pp_prio.specs.Values.{IsAscending}
-use Rattle.pp_prio.specs.Operations.{values_after, values_before, call_of, recorded_by, given_by, is_ranged}
+use Rattle.pp_prio.specs.Operations.{values_after, values_before, call_of, recorded_by, given_by}
+use Rattle.pp_prio.specs.Operations.{is_ranged}
 use Rattle.pp_prio.specs.Contexts.{refuting_lists}
 
 -- the values in ascending order, at first none

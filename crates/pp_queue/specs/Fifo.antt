@@ -2,7 +2,8 @@
 use Rattle.std.specs.Prelude.{ℤ, List, [], true}
 use Rattle.pp_spec.specs.Object.{Object}
 use Rattle.pp_queue.specs.declared.op.QueueOp.{QueueOp}
-use Rattle.pp_queue.specs.Operations.{items_after, items_before, call_of, recorded_by, given_by, is_ranged}
+use Rattle.pp_queue.specs.Operations.{items_after, items_before, call_of, recorded_by, given_by}
+use Rattle.pp_queue.specs.Operations.{is_ranged}
 use Rattle.pp_queue.specs.Contexts.{refuting_lists}
 
 -- the items from front to back, at first none

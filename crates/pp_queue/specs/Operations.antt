@@ -1,5 +1,6 @@
 -- Meaning: the operations of a queue, and what they give and do.
-use Rattle.std.specs.Prelude.{ℤ, pos, ◌-◌, Bool, List, [], ◌∷◌, ◌++◌, length, take, Option, Some, None}
+use Rattle.std.specs.Prelude.{ℤ, pos, ◌-◌, Bool, List, [], ◌∷◌, ◌++◌, length, take, Option, Some}
+use Rattle.std.specs.Prelude.{None}
 use Rattle.pp_core.specs.declared.answer.Answer.{Answer}
 use Rattle.pp_core.specs.declared.answer.Answer.TheVariants.{None as NoAnswer}
 use Rattle.pp_core.specs.declared.call.Call.{Call}
@@ -25,8 +26,10 @@ without_last items = take (length items - 1) items
 
 -- its method and its argument, at the object 0
 abbrev pub call_of : QueueOp → Call
-call_of (Enq value) = record { object = 0; method = EnqCall; first = value; second = pos 0; third = pos 0 }
-call_of (Deq value) = record { object = 0; method = DeqCall; first = pos 0; second = pos 0; third = pos 0 }
+call_of (Enq value) =
+    record { object = 0; method = EnqCall; first = value; second = pos 0; third = pos 0 }
+call_of (Deq value) =
+    record { object = 0; method = DeqCall; first = pos 0; second = pos 0; third = pos 0 }
 
 -- the result that it records
 abbrev pub recorded_by : QueueOp → Answer

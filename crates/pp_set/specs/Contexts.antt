@@ -1,5 +1,6 @@
 -- Meaning: operations that show that a pair does not swap.
-use Rattle.std.specs.Prelude.{ℤ, Bool, true, false, if◌then◌else◌, List, [], ◌∷◌, Option, Some, None}
+use Rattle.std.specs.Prelude.{ℤ, Bool, true, false, if◌then◌else◌, List, [], ◌∷◌, Option, Some}
+use Rattle.std.specs.Prelude.{None}
 use Rattle.pp_set.specs.declared.op.SetOp.{SetOp}
 use Rattle.pp_set.specs.declared.op.SetOp.TheVariants.{Add}
 use Rattle.pp_set.specs.Operations.{key_of, bit_before}

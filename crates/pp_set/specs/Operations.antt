@@ -5,7 +5,8 @@ use Rattle.std.specs.FinSet.{FinSet}
 use Rattle.pp_core.specs.declared.answer.Answer.{Answer}
 use Rattle.pp_core.specs.declared.answer.Answer.TheVariants.{Truth}
 use Rattle.pp_core.specs.declared.call.Call.{Call}
-use Rattle.pp_core.specs.declared.call.Method.TheVariants.{Add as AddCall, Remove as RemoveCall, Contains as ContainsCall}
+use Rattle.pp_core.specs.declared.call.Method.TheVariants.{Add as AddCall, Remove as RemoveCall}
+use Rattle.pp_core.specs.declared.call.Method.TheVariants.{Contains as ContainsCall}
 use Rattle.pp_spec.specs.Numbers.{in_range}
 use Rattle.pp_set.specs.declared.op.SetOp.{SetOp}
 use Rattle.pp_set.specs.declared.op.SetOp.TheVariants.{Add, Remove, Contains}
@@ -30,8 +31,10 @@ bit_after (Contains k present) = present
 
 -- its method and its argument, at the object 0
 abbrev pub call_of : SetOp → Call
-call_of (Add k changed) = record { object = 0; method = AddCall; first = k; second = pos 0; third = pos 0 }
-call_of (Remove k changed) = record { object = 0; method = RemoveCall; first = k; second = pos 0; third = pos 0 }
+call_of (Add k changed) =
+    record { object = 0; method = AddCall; first = k; second = pos 0; third = pos 0 }
+call_of (Remove k changed) =
+    record { object = 0; method = RemoveCall; first = k; second = pos 0; third = pos 0 }
 call_of (Contains k present) =
     record { object = 0; method = ContainsCall; first = k; second = pos 0; third = pos 0 }
 

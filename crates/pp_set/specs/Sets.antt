@@ -8,7 +8,8 @@ use Rattle.pp_keyed.specs.Keys.{ToldKeys}
 use Rattle.pp_set.specs.declared.op.SetOp.{SetOp}
 use Rattle.pp_set.specs.declared.op.SetOp.TheVariants.{Contains}
 use Rattle.pp_set.specs.Keys.{contains}
-use Rattle.pp_set.specs.Operations.{key_of, bit_before, bit_after, call_of, recorded_by, given_by, set_after, set_before, is_ranged}
+use Rattle.pp_set.specs.Operations.{key_of, bit_before, bit_after, call_of, recorded_by, given_by}
+use Rattle.pp_set.specs.Operations.{set_after, set_before, is_ranged}
 use Rattle.pp_set.specs.Contexts.{refuting_lists}
 
 -- keys, at first none, which operations put in and take out

@@ -1,9 +1,11 @@
 -- Meaning: the operations of a stack, and what they give and do.
-use Rattle.std.specs.Prelude.{ℤ, pos, ◌-◌, Bool, List, [], ◌∷◌, ◌++◌, length, take, slice_get, Option, Some, None}
+use Rattle.std.specs.Prelude.{ℤ, pos, ◌-◌, Bool, List, [], ◌∷◌, ◌++◌, length, take, slice_get}
+use Rattle.std.specs.Prelude.{Option, Some, None}
 use Rattle.pp_core.specs.declared.answer.Answer.{Answer}
 use Rattle.pp_core.specs.declared.answer.Answer.TheVariants.{None as NoAnswer}
 use Rattle.pp_core.specs.declared.call.Call.{Call}
-use Rattle.pp_core.specs.declared.call.Method.TheVariants.{StackPush as PushCall, StackPop as PopCall}
+use Rattle.pp_core.specs.declared.call.Method.TheVariants.{StackPush as PushCall}
+use Rattle.pp_core.specs.declared.call.Method.TheVariants.{StackPop as PopCall}
 use Rattle.pp_spec.specs.Numbers.{in_range}
 use Rattle.pp_spec.specs.Found.{answer_of, is_ranged_found}
 use Rattle.pp_stack.specs.declared.op.StackOp.{StackOp}
@@ -19,8 +21,10 @@ without_top items = take (length items - 1) items
 
 -- its method and its argument, at the object 0
 abbrev pub call_of : StackOp → Call
-call_of (Push value) = record { object = 0; method = PushCall; first = value; second = pos 0; third = pos 0 }
-call_of (Pop value) = record { object = 0; method = PopCall; first = pos 0; second = pos 0; third = pos 0 }
+call_of (Push value) =
+    record { object = 0; method = PushCall; first = value; second = pos 0; third = pos 0 }
+call_of (Pop value) =
+    record { object = 0; method = PopCall; first = pos 0; second = pos 0; third = pos 0 }
 
 -- the result that it records
 abbrev pub recorded_by : StackOp → Answer

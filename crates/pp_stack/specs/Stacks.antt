@@ -2,7 +2,8 @@
 use Rattle.std.specs.Prelude.{ℤ, List, [], true}
 use Rattle.pp_spec.specs.Object.{Object}
 use Rattle.pp_stack.specs.declared.op.StackOp.{StackOp}
-use Rattle.pp_stack.specs.Operations.{items_after, items_before, call_of, recorded_by, given_by, is_ranged}
+use Rattle.pp_stack.specs.Operations.{items_after, items_before, call_of, recorded_by, given_by}
+use Rattle.pp_stack.specs.Operations.{is_ranged}
 use Rattle.pp_stack.specs.Contexts.{refuting_lists}
 
 -- the items from bottom to top, at first none

@@ -1,8 +1,12 @@
 -- Meaning: what the conditions mean, and the entries of a table.
-use Rattle.std.specs.Prelude.{pos, ℕ, Bool, true, false, not, ◌&&◌, ◌||◌, int_le, List, [], slice_index_or}
+use Rattle.std.specs.Prelude.{pos, ℕ, Bool, true, false, not, ◌&&◌, ◌||◌, int_le, List, []}
+use Rattle.std.specs.Prelude.{slice_index_or}
 use Rattle.std.specs.Ordering.{int_eq}
 use Rattle.pp_table.specs.declared.table.Condition.{Condition}
-use Rattle.pp_table.specs.declared.table.Condition.TheVariants.{Always, Never, Equal, Unequal, Chain, FirstStill, SecondStill, Settled, Apart, FromApart, IntoApart, Rising, Falling}
+use Rattle.pp_table.specs.declared.table.Condition.TheVariants.{Always, Never, Equal, Unequal}
+use Rattle.pp_table.specs.declared.table.Condition.TheVariants.{Chain, FirstStill, SecondStill}
+use Rattle.pp_table.specs.declared.table.Condition.TheVariants.{Settled, Apart, FromApart}
+use Rattle.pp_table.specs.declared.table.Condition.TheVariants.{IntoApart, Rising, Falling}
 use Rattle.pp_table.specs.declared.table.Figures.{Figures}
 
 -- whether a condition holds of the figures x of the first operation and y of the second

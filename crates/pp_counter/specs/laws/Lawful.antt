@@ -1,5 +1,6 @@
 -- Proof machinery: the laws of a counter.
-use Rattle.std.proofs.Common.{◌≡◌, ℤ, pos, ◌+ℤ◌, ◌-ℤ◌, Bool, [], ◌∷◌, ◌&&◌, refl, sym, ◌∙◌, ap, arith}
+use Rattle.std.proofs.Common.{◌≡◌, ℤ, pos, ◌+ℤ◌, ◌-ℤ◌, Bool, [], ◌∷◌, ◌&&◌, refl, sym, ◌∙◌, ap}
+use Rattle.std.proofs.Common.{arith}
 use Rattle.std.proofs.Math.Bool.{and-true}
 use Rattle.std.proofs.lemmas.Int.{ints}
 use Rattle.pp_spec.proofs.Numbers.{one_ranged}
@@ -8,7 +9,8 @@ use Rattle.pp_spec.specs.Object.{AllowsAllOf, IsLawful, IsPlaced}
 use Rattle.pp_spec.proofs.Tests.{unrefuted, refuted}
 use Rattle.pp_counter.specs.declared.op.CounterOp.{CounterOp}
 use Rattle.pp_counter.specs.declared.op.CounterOp.TheVariants.{Add, Get, FetchAdd}
-use Rattle.pp_counter.specs.Operations.{shift_of, call_of, given_by, recorded_by, is_ranged, place_of}
+use Rattle.pp_counter.specs.Operations.{shift_of, call_of, given_by, recorded_by, is_ranged}
+use Rattle.pp_counter.specs.Operations.{place_of}
 use Rattle.pp_counter.specs.Movers.{may_swap}
 use Rattle.pp_counter.specs.Contexts.{lists_round}
 use Rattle.pp_counter.specs.Count.{counter, SameAt}

@@ -1,5 +1,6 @@
 -- Proof machinery: a pair swaps exactly where the table lets it.
-use Rattle.std.proofs.Common.{◌≡◌, ℤ, pos, ◌+ℤ◌, true, false, [], ◌∷◌, ◌++◌, ◌↔◌, refl, sym, subst, arith, int_eq, int_lt, IsTrue}
+use Rattle.std.proofs.Common.{◌≡◌, ℤ, pos, ◌+ℤ◌, true, false, [], ◌∷◌, ◌++◌, ◌↔◌, refl, sym, subst}
+use Rattle.std.proofs.Common.{arith, int_eq, int_lt, IsTrue}
 use Rattle.std.proofs.lemmas.Int.{ints}
 use Rattle.pp_spec.specs.Numbers.{in_range}
 use Rattle.pp_spec.specs.Object.{AllowedFrom, AllRanged, state_after, Commutes, Swaps, SwapsNowhere}
@@ -11,8 +12,10 @@ use Rattle.pp_counter.specs.Movers.{may_swap}
 use Rattle.pp_counter.specs.Contexts.{reach, pair_begins, lists_round}
 use Rattle.pp_counter.specs.Count.{counter}
 use Rattle.pp_counter.specs.laws.Legal.{told, legal_where_told}
-use Rattle.pp_counter.specs.laws.Turning.{second_is_first, first_is_second, begins_first, begins_second, not_turned}
-use Rattle.pp_counter.specs.laws.Reaching.{reach_by_allowed, reach_state, reach_by_ranged, begins_low, begins_high}
+use Rattle.pp_counter.specs.laws.Turning.{second_is_first, first_is_second, begins_first}
+use Rattle.pp_counter.specs.laws.Turning.{begins_second, not_turned}
+use Rattle.pp_counter.specs.laws.Reaching.{reach_by_allowed, reach_state, reach_by_ranged}
+use Rattle.pp_counter.specs.laws.Reaching.{begins_low, begins_high}
 
 same_sum : (n x y : ℤ) → (n +ℤ y) +ℤ x ≡ (n +ℤ x) +ℤ y
 same_sum n x y = omega (arith, ints)

@@ -1,5 +1,6 @@
 -- Proof machinery: a map acts by its keys.
-use Rattle.std.proofs.Common.{◌≡◌, ℤ, int_eq, Bool, cond, Option, Some, None, refl, sym, ◌∙◌, ap, ◌&&◌}
+use Rattle.std.proofs.Common.{◌≡◌, ℤ, int_eq, Bool, cond, Option, Some, None, refl, sym, ◌∙◌, ap}
+use Rattle.std.proofs.Common.{◌&&◌}
 use Rattle.std.specs.Ordering.{int_cmp}
 use Rattle.std.specs.Cmp.{int_cmp_total}
 use Rattle.std.specs.FinMap.{FinMap, get, get-insert, get-remove, same_map, int_cmp-IsAntisymmetric}
@@ -13,7 +14,8 @@ use Rattle.pp_keyed.specs.Keys.{IsKeyed, told_keys}
 use Rattle.pp_keyed.proofs.Rule.{stands_at, covered}
 use Rattle.pp_map.specs.declared.op.MapOp.{MapOp}
 use Rattle.pp_map.specs.declared.op.MapOp.TheVariants.{Put, Get, Remove}
-use Rattle.pp_map.specs.Operations.{key_of, found_by, left_by, call_of, recorded_by, given_by, with_value, values_after, values_before, is_ranged}
+use Rattle.pp_map.specs.Operations.{key_of, found_by, left_by, call_of, recorded_by, given_by}
+use Rattle.pp_map.specs.Operations.{with_value, values_after, values_before, is_ranged}
 use Rattle.pp_map.specs.KeyMap.{key_map, map_keys}
 
 get-with_value : (values : FinMap int_cmp ℤ) (key : ℤ) (v : Option ℤ) (q : ℤ)

@@ -1,5 +1,6 @@
 -- Proof machinery: the laws of a map.
-use Rattle.std.proofs.Common.{◌≡◌, ℤ, true, false, IsTrue, ◌↔◌, Option, Some, None, refl, sym, ◌∙◌, ap, ◌&&◌}
+use Rattle.std.proofs.Common.{◌≡◌, ℤ, true, false, IsTrue, ◌↔◌, Option, Some, None, refl, sym, ◌∙◌}
+use Rattle.std.proofs.Common.{ap, ◌&&◌}
 use Rattle.std.proofs.lemmas.Bool.{and_parts, and_from}
 use Rattle.pp_spec.specs.Numbers.{in_range}
 use Rattle.pp_spec.specs.Found.{answer_of, is_ranged_found}

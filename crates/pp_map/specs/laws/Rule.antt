@@ -1,5 +1,6 @@
 -- Proof machinery: the table of a map is the rule of two operations on one key.
-use Rattle.std.proofs.Common.{◌≡◌, ℤ, int_eq, Bool, true, false, not, ◌&&◌, ◌||◌, ◌↔◌, Option, Some, None, refl, ap, arith}
+use Rattle.std.proofs.Common.{◌≡◌, ℤ, int_eq, Bool, true, false, not, ◌&&◌, ◌||◌, ◌↔◌, Option, Some}
+use Rattle.std.proofs.Common.{None, refl, ap, arith}
 use Rattle.std.proofs.lemmas.Int.{ints}
 use Rattle.std.specs.Option.{option_eq}
 use Rattle.pp_keyed.specs.Keys.{rule_lets}

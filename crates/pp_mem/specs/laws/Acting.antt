@@ -1,5 +1,6 @@
 -- Proof machinery: how the operations of a memory act at their addresses.
-use Rattle.std.proofs.Common.{◌≡◌, ◌≢◌, ℤ, Bool, true, false, cond, if◌then◌else◌, ◌&&◌, refl, sym, ◌∙◌, ap, int_eq}
+use Rattle.std.proofs.Common.{◌≡◌, ◌≢◌, ℤ, Bool, true, false, cond, if◌then◌else◌, ◌&&◌, refl, sym}
+use Rattle.std.proofs.Common.{◌∙◌, ap, int_eq}
 use Rattle.std.proofs.Math.Bool.{and-true}
 use Rattle.std.specs.Ordering.{int_cmp}
 use Rattle.std.specs.FinMap.{FinMap}
@@ -13,9 +14,11 @@ use Rattle.pp_keyed.proofs.Rule.{same_key, key_is, stands_at, covered}
 use Rattle.pp_mem.specs.declared.op.MemOp.{MemOp}
 use Rattle.pp_mem.specs.declared.op.MemOp.TheVariants.{Read, Write, Cas}
 use Rattle.pp_mem.specs.Values.{value_at, written, HasNoZero}
-use Rattle.pp_mem.specs.Operations.{address_of, Finds, left_by, call_of, recorded_by, given_by, is_ranged, memory_after, kept_by, memory_before}
+use Rattle.pp_mem.specs.Operations.{address_of, Finds, left_by, call_of, recorded_by, given_by}
+use Rattle.pp_mem.specs.Operations.{is_ranged, memory_after, kept_by, memory_before}
 use Rattle.pp_mem.specs.Memories.{memory, addresses}
-use Rattle.pp_mem.specs.laws.Written.{written_at, written_has_no_zero, empty_has_no_zero, one_memory}
+use Rattle.pp_mem.specs.laws.Written.{written_at, written_has_no_zero, empty_has_no_zero}
+use Rattle.pp_mem.specs.laws.Written.{one_memory}
 
 -- Whether the number is the expected one.
 told_equal : (v e : ℤ) → Truth (int_eq v e) ≡ Truth true → v ≡ e

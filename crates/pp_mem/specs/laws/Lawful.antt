@@ -1,12 +1,15 @@
 -- Proof machinery: the table of a memory says which pairs on one address swap, and so a memory is
 -- lawful.
-use Rattle.std.proofs.Common.{◌≡◌, ◌≢◌, ℤ, pos, ◌-ℤ◌, Bool, true, false, not, ◌&&◌, ◌||◌, IsTrue, if◌then◌else◌, List, [], ◌∷◌, ◌↔◌, Option, Some, None, refl, sym, ◌∙◌, int_eq, arith}
+use Rattle.std.proofs.Common.{◌≡◌, ◌≢◌, ℤ, pos, ◌-ℤ◌, Bool, true, false, not, ◌&&◌, ◌||◌, IsTrue}
+use Rattle.std.proofs.Common.{if◌then◌else◌, List, [], ◌∷◌, ◌↔◌, Option, Some, None, refl, sym, ◌∙◌}
+use Rattle.std.proofs.Common.{int_eq, arith}
 use Rattle.std.proofs.lemmas.Bool.{and_parts, and_from}
 use Rattle.std.proofs.lemmas.Int.{ints}
 use Rattle.std.specs.Ordering.{int_cmp}
 use Rattle.std.specs.FinMap.{FinMap, empty}
 use Rattle.pp_spec.specs.Numbers.{in_range}
-use Rattle.pp_spec.specs.Object.{AllowedFrom, IsAllowed, state_after, AllRanged, Swaps, SwapsNowhere, IsLawful}
+use Rattle.pp_spec.specs.Object.{AllowedFrom, IsAllowed, state_after, AllRanged, Swaps}
+use Rattle.pp_spec.specs.Object.{SwapsNowhere, IsLawful}
 use Rattle.pp_spec.proofs.Tests.{IsTold, swaps_exact, swaps_nowhere}
 use Rattle.pp_keyed.specs.Keys.{TurnsAt, Shows, IsShown}
 use Rattle.pp_keyed.proofs.Rule.{same_key}
@@ -17,7 +20,8 @@ use Rattle.pp_mem.specs.declared.op.MemOp.TheVariants.{Read, Write, Cas}
 use Rattle.pp_mem.specs.Values.{value_at}
 use Rattle.pp_mem.specs.Operations.{address_of, Finds, left_by, is_ranged}
 use Rattle.pp_mem.specs.Movers.{may_swap, may_swap_there}
-use Rattle.pp_mem.specs.Contexts.{other_than, number_before, number_after, write_of, read_of, lists_round}
+use Rattle.pp_mem.specs.Contexts.{other_than, number_before, number_after, write_of, read_of}
+use Rattle.pp_mem.specs.Contexts.{lists_round}
 use Rattle.pp_mem.specs.Memories.{memory, addresses}
 use Rattle.pp_mem.specs.laws.Written.{empty_at}
 use Rattle.pp_mem.specs.laws.Acting.{memory_keyed}

@@ -1,9 +1,11 @@
 -- Proof machinery: what a write leaves at each address.
-use Rattle.std.proofs.Common.{◌≡◌, ◌≢◌, ℤ, pos, Bool, true, false, cond, if◌then◌else◌, Option, Some, None, unwrap_or, refl, sym, ◌∙◌, ap, int_eq, arith}
+use Rattle.std.proofs.Common.{◌≡◌, ◌≢◌, ℤ, pos, Bool, true, false, cond, if◌then◌else◌, Option}
+use Rattle.std.proofs.Common.{Some, None, unwrap_or, refl, sym, ◌∙◌, ap, int_eq, arith}
 use Rattle.std.proofs.lemmas.Int.{ints}
 use Rattle.std.specs.Ordering.{int_cmp}
 use Rattle.std.specs.Cmp.{int_cmp_total}
-use Rattle.std.specs.FinMap.{FinMap, empty, insert, remove, get, get-empty, get-insert, get-remove, same_map, int_cmp-IsAntisymmetric}
+use Rattle.std.specs.FinMap.{FinMap, empty, insert, remove, get, get-empty, get-insert, get-remove}
+use Rattle.std.specs.FinMap.{same_map, int_cmp-IsAntisymmetric}
 use Rattle.pp_mem.specs.Values.{value_at, written, HasNoZero}
 
 kept_at : (zero : Bool) (m : FinMap int_cmp ℤ) (a v q : ℤ) → int_eq v (pos 0) ≡ zero

@@ -1,5 +1,6 @@
 -- Proof machinery: a pair swaps exactly where the table lets it.
-use Rattle.std.proofs.Common.{◌≡◌, ℤ, Bool, true, false, IsTrue, int_le, List, [], ◌∷◌, ◌++◌, ◌↔◌, if◌then◌else◌, refl, sym, ap, subst, arith, Option, Some, None}
+use Rattle.std.proofs.Common.{◌≡◌, ℤ, Bool, true, false, IsTrue, int_le, List, [], ◌∷◌, ◌++◌, ◌↔◌}
+use Rattle.std.proofs.Common.{if◌then◌else◌, refl, sym, ap, subst, arith, Option, Some, None}
 use Rattle.std.proofs.lemmas.Int.{ints}
 use Rattle.pp_spec.specs.Found.{is_ranged_found}
 use Rattle.pp_spec.specs.Object.{AllowedFrom, AllRanged, state_after, Commutes, Swaps, SwapsNowhere}

@@ -1,7 +1,9 @@
 -- Proof machinery: ascending lists with one value more or less.
-use Rattle.std.proofs.Common.{◌≡◌, ◌≢◌, ℤ, Bool, true, false, int_le, int_eq, IsTrue, if◌then◌else◌, List, [], ◌∷◌, Some, None, refl, sym, ◌∙◌, ap, arith}
+use Rattle.std.proofs.Common.{◌≡◌, ◌≢◌, ℤ, Bool, true, false, int_le, int_eq, IsTrue, if◌then◌else◌}
+use Rattle.std.proofs.Common.{List, [], ◌∷◌, Some, None, refl, sym, ◌∙◌, ap, arith}
 use Rattle.std.proofs.lemmas.Int.{ints}
-use Rattle.pp_prio.specs.Values.{least_of, without_least, with_one, without_one, BeginsAt, IsAscending}
+use Rattle.pp_prio.specs.Values.{least_of, without_least, with_one, without_one, BeginsAt}
+use Rattle.pp_prio.specs.Values.{IsAscending}
 
 -- A value goes before the first that is not less, and past one that is less.
 pub put_before : (v x : ℤ) (values : List ℤ) → int_le v x ≡ true

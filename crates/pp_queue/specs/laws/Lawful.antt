@@ -1,5 +1,6 @@
 -- Proof machinery: the laws of a queue.
-use Rattle.std.proofs.Common.{◌≡◌, ℕ, ℤ, pos, ◌-◌, List, [], ◌∷◌, ◌++◌, ◌&&◌, Some, None, refl, sym, ◌∙◌, ap, length, take, length-append, arith}
+use Rattle.std.proofs.Common.{◌≡◌, ℕ, ℤ, pos, ◌-◌, List, [], ◌∷◌, ◌++◌, ◌&&◌, Some, None, refl, sym}
+use Rattle.std.proofs.Common.{◌∙◌, ap, length, take, length-append, arith}
 use Rattle.std.proofs.Math.Bool.{and-true}
 use Rattle.std.proofs.Math.Seq.{take-append_seam}
 use Rattle.pp_spec.proofs.Numbers.{one_ranged}
@@ -9,7 +10,8 @@ use Rattle.pp_spec.proofs.Results.{found_numbers}
 use Rattle.pp_spec.proofs.Tests.{unrefuted, refuted}
 use Rattle.pp_queue.specs.declared.op.QueueOp.{QueueOp}
 use Rattle.pp_queue.specs.declared.op.QueueOp.TheVariants.{Enq, Deq}
-use Rattle.pp_queue.specs.Operations.{without_last, items_after, items_before, call_of, recorded_by, is_ranged}
+use Rattle.pp_queue.specs.Operations.{without_last, items_after, items_before, call_of, recorded_by}
+use Rattle.pp_queue.specs.Operations.{is_ranged}
 use Rattle.pp_queue.specs.Movers.{may_swap}
 use Rattle.pp_queue.specs.Contexts.{lists_round}
 use Rattle.pp_queue.specs.Fifo.{fifo}

@@ -1,5 +1,6 @@
 -- Proof machinery: how the operations of a set act at their keys.
-use Rattle.std.proofs.Common.{◌≡◌, ℤ, pos, Bool, true, false, not, cond, ◌&&◌, refl, sym, ◌∙◌, ap, int_eq}
+use Rattle.std.proofs.Common.{◌≡◌, ℤ, pos, Bool, true, false, not, cond, ◌&&◌, refl, sym, ◌∙◌, ap}
+use Rattle.std.proofs.Common.{int_eq}
 use Rattle.std.proofs.Math.Bool.{and-true}
 use Rattle.std.specs.Ordering.{int_cmp}
 use Rattle.std.specs.FinSet.{FinSet}
@@ -13,7 +14,8 @@ use Rattle.pp_keyed.proofs.Rule.{stands_at, covered}
 use Rattle.pp_set.specs.declared.op.SetOp.{SetOp}
 use Rattle.pp_set.specs.declared.op.SetOp.TheVariants.{Add, Remove, Contains}
 use Rattle.pp_set.specs.Keys.{contains, insert, remove}
-use Rattle.pp_set.specs.Operations.{key_of, bit_before, bit_after, call_of, recorded_by, given_by, set_after, set_before, is_ranged}
+use Rattle.pp_set.specs.Operations.{key_of, bit_before, bit_after, call_of, recorded_by, given_by}
+use Rattle.pp_set.specs.Operations.{set_after, set_before, is_ranged}
 use Rattle.pp_set.specs.Sets.{key_set, bits}
 use Rattle.pp_set.specs.laws.Bits.{inserted_at, removed_at, one_set}
 
@@ -80,7 +82,8 @@ numbers : (a : SetOp) → is_ranged a
     ≡ (has_ranged_arguments (call_of a) && is_ranged_answer (recorded_by a))
 numbers (Add k c) = sym (and-true (has_ranged_arguments (call_of (Add k c))) ∙ one_ranged k)
 numbers (Remove k c) = sym (and-true (has_ranged_arguments (call_of (Remove k c))) ∙ one_ranged k)
-numbers (Contains k c) = sym (and-true (has_ranged_arguments (call_of (Contains k c))) ∙ one_ranged k)
+numbers (Contains k c) =
+    sym (and-true (has_ranged_arguments (call_of (Contains k c))) ∙ one_ranged k)
 
 -- A set acts by its keys.
 pub set_keyed : IsKeyed key_set (told_keys bits)

@@ -1,9 +1,11 @@
 -- Proof machinery: what is in a set after an operation.
-use Rattle.std.proofs.Common.{◌≡◌, ℤ, Bool, true, false, cond, ◌↔◌, Option, Some, None, is_some, refl, sym, ◌∙◌, ap, int_eq}
+use Rattle.std.proofs.Common.{◌≡◌, ℤ, Bool, true, false, cond, ◌↔◌, Option, Some, None, is_some}
+use Rattle.std.proofs.Common.{refl, sym, ◌∙◌, ap, int_eq}
 use Rattle.std.specs.Ordering.{int_cmp}
 use Rattle.std.specs.Cmp.{int_cmp_total}
 use Rattle.std.specs.FinSet.{FinSet}
-use Rattle.std.specs.FinMap.{empty, get, get-empty, get-insert, get-remove, same_map, int_cmp-IsAntisymmetric}
+use Rattle.std.specs.FinMap.{empty, get, get-empty, get-insert, get-remove, same_map}
+use Rattle.std.specs.FinMap.{int_cmp-IsAntisymmetric}
 use Rattle.pp_set.specs.Keys.{contains, insert, remove}
 use Rattle.pp_set.specs.Sets.{same_bit}
 

@@ -1,5 +1,6 @@
 -- Proof machinery: the laws of a stack.
-use Rattle.std.proofs.Common.{◌≡◌, ℤ, pos, List, [], ◌∷◌, ◌++◌, reverse, ◌&&◌, Some, None, refl, sym, ◌∙◌, ap, subst}
+use Rattle.std.proofs.Common.{◌≡◌, ℤ, pos, List, [], ◌∷◌, ◌++◌, reverse, ◌&&◌, Some, None, refl}
+use Rattle.std.proofs.Common.{sym, ◌∙◌, ap, subst}
 use Rattle.std.proofs.lemmas.List.{reverse-append, reverse-reverse}
 use Rattle.std.proofs.Math.Bool.{and-true}
 use Rattle.pp_spec.proofs.Numbers.{one_ranged}
@@ -9,11 +10,13 @@ use Rattle.pp_spec.proofs.Results.{found_numbers}
 use Rattle.pp_spec.proofs.Tests.{unrefuted, refuted}
 use Rattle.pp_stack.specs.declared.op.StackOp.{StackOp}
 use Rattle.pp_stack.specs.declared.op.StackOp.TheVariants.{Push, Pop}
-use Rattle.pp_stack.specs.Operations.{without_top, items_after, items_before, call_of, recorded_by, is_ranged}
+use Rattle.pp_stack.specs.Operations.{without_top, items_after, items_before, call_of, recorded_by}
+use Rattle.pp_stack.specs.Operations.{is_ranged}
 use Rattle.pp_stack.specs.Movers.{may_swap}
 use Rattle.pp_stack.specs.Contexts.{lists_round}
 use Rattle.pp_stack.specs.Stacks.{stack}
-use Rattle.pp_stack.specs.laws.Legal.{top_pushed, rest_pushed, top_there, no_top, Tells, told, legal_where_told, same_given}
+use Rattle.pp_stack.specs.laws.Legal.{top_pushed, rest_pushed, top_there, no_top, Tells, told}
+use Rattle.pp_stack.specs.laws.Legal.{legal_where_told, same_given}
 use Rattle.pp_stack.specs.laws.Swapping.{table_tells}
 
 taken_back : (items : List ℤ) (op : StackOp) → Tells op items

@@ -1,5 +1,6 @@
 -- Proof machinery: the top of a list, and when an operation of a stack is legal.
-use Rattle.std.proofs.Common.{◌≡◌, ℕ, ℤ, suc, zero, ◌-◌, List, [], ◌∷◌, ◌++◌, Some, None, refl, ◌∙◌, ap, length, take, length-append, arith}
+use Rattle.std.proofs.Common.{◌≡◌, ℕ, ℤ, suc, zero, ◌-◌, List, [], ◌∷◌, ◌++◌, Some, None, refl, ◌∙◌}
+use Rattle.std.proofs.Common.{ap, length, take, length-append, arith}
 use Rattle.std.proofs.Math.Seq.{take-append_seam}
 use Rattle.std.specs.List.{slice_get}
 use Rattle.pp_core.specs.declared.call.Call.{Call}

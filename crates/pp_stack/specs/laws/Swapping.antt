@@ -1,5 +1,6 @@
 -- Proof machinery: a pair swaps exactly where the table lets it.
-use Rattle.std.proofs.Common.{◌≡◌, true, false, IsTrue, [], ◌∷◌, ◌++◌, ◌↔◌, refl, ap, arith, Some, None}
+use Rattle.std.proofs.Common.{◌≡◌, true, false, IsTrue, [], ◌∷◌, ◌++◌, ◌↔◌, refl, ap, arith, Some}
+use Rattle.std.proofs.Common.{None}
 use Rattle.std.proofs.lemmas.Int.{ints}
 use Rattle.pp_spec.specs.Object.{AllowedFrom, AllRanged, state_after, Commutes, Swaps, SwapsNowhere}
 use Rattle.pp_spec.proofs.Tests.{IsTold, swaps_exact, swaps_nowhere}

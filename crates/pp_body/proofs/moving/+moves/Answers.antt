@@ -1,5 +1,6 @@
 use Rattle.std.proofs.Common.{ap}
-use Rattle.pp_body.proofs.Items.{place_goes_on, place_ends, turn_goes_on, turn_ends, some_goes_on, some_ends, pair_is}
+use Rattle.pp_body.proofs.Items.{place_goes_on, place_ends, turn_goes_on, turn_ends, some_goes_on}
+use Rattle.pp_body.proofs.Items.{some_ends, pair_is}
 use Rattle.pp_body.proofs.moving.+moves.Goals as goal
 
 pub moves_in_turn-loop-part-preserved : goal.moves_in_turn-loop-part-preserved

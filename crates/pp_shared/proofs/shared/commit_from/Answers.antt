@@ -1,6 +1,7 @@
 use Rattle.std.proofs.Common.{◌≡◌, ◌≤◌, ◌+◌, suc, length, sym, ap, ◌∙◌, arith}
 use Rattle.std.proofs.lemmas.Option.{slice_get_within}
-use Rattle.pp_shared.proofs.Committing.{below_all, below_settled, below_length, one_committed, none_committed}
+use Rattle.pp_shared.proofs.Committing.{below_all, below_settled, below_length, one_committed}
+use Rattle.pp_shared.proofs.Committing.{none_committed}
 use Rattle.pp_log.proofs.Lists.{not_past, pair}
 use Rattle.pp_shared.proofs.shared.commit_from.Goals as goal
 use Rattle.pp_shared.proofs.shared.commit_from.Goals.{then-is_open, else-is_open}

@@ -10,7 +10,8 @@ use Rattle.pp_log.specs.Parts.{elsewhere}
 use Rattle.pp_log.specs.Room.{ids_of}
 use Rattle.pp_log.proofs.Grown.{ids-remove}
 use Rattle.pp_log.proofs.Whole.{whole_of}
-use Rattle.pp_log.proofs.Sites.{place_there, place_at, id_there, found_in, ticks_of, left, left_else, left_over}
+use Rattle.pp_log.proofs.Sites.{place_there, place_at, id_there, found_in, ticks_of, left}
+use Rattle.pp_log.proofs.Sites.{left_else, left_over}
 use Rattle.pp_log.proofs.Maps.{count_seen, entry_removed, inside, left_mapped, site_seen}
 use Rattle.pp_log.proofs.log.Log.remove.Goals as goal
 use Rattle.pp_log.proofs.log.Log.remove.Goals.{in-Done, in_default-removed}

@@ -1,4 +1,5 @@
-use Rattle.std.proofs.Common.{◌≡◌, ◌∙◌, sym, w64, rules, to_z, of_z, FitsSigned, Some, None, length, ap, arith}
+use Rattle.std.proofs.Common.{◌≡◌, ◌∙◌, sym, w64, rules, to_z, of_z, FitsSigned, Some, None, length}
+use Rattle.std.proofs.Common.{ap, arith}
 use Rattle.std.proofs.lemmas.Int.{to_z-of_z}
 use Rattle.pp_prio.specs.Copies.{spread}
 use Rattle.pp_prio.proofs.Copies.{room, added_seen}

@@ -1,4 +1,5 @@
-use Rattle.std.proofs.Common.{◌≡◌, ◌∙◌, ◌-◌, suc, sym, w64, rules, to_z, of_z, FitsSigned, Some, ap, arith}
+use Rattle.std.proofs.Common.{◌≡◌, ◌∙◌, ◌-◌, suc, sym, w64, rules, to_z, of_z, FitsSigned, Some, ap}
+use Rattle.std.proofs.Common.{arith}
 use Rattle.std.proofs.lemmas.Int.{to_z-of_z}
 use Rattle.pp_prio.proofs.Copies.{gone_seen, last_seen, fewer_seen}
 use Rattle.pp_prio.proofs.bag.Bag.remove.Goals as goal
