@@ -1,8 +1,8 @@
 //! Runs that are accepted, with their reports.
-use crate::tests::row::{COUNTER, MEMORY, QUEUE, Row};
+use crate::tests::row::{COUNTER, MEMORY, PRIORITY_QUEUE, QUEUE, Row, STACK};
 use pp_core::Status;
 
-pub(crate) const ACCEPTED: [Row; 15] = [
+pub(crate) const ACCEPTED: [Row; 19] = [
     Row {
         what: "a header alone",
         header: COUNTER,
@@ -231,6 +231,88 @@ op 3 m.read(0)=0
 tx t1_again
 op 4 m.write(0,8)=none
 state m 0=8
+"#,
+    },
+    Row {
+        what: "a compare-and-swap that succeeds, and one that fails",
+        header: MEMORY,
+        records: br#"{"step":"begin","tx":"t1","thread":"p1"}
+{"step":"app","tx":"t1","id":1,"on":"m","call":"cas","args":[0,0,5],"result":true}
+{"step":"app","tx":"t1","id":2,"on":"m","call":"cas","args":[0,0,6],"result":false}
+{"step":"push","tx":"t1","id":1}
+{"step":"push","tx":"t1","id":2}
+{"step":"cmt","tx":"t1"}
+"#,
+        status: Status::Accepted,
+        report: br#"accepted steps 6 committed 1
+tx t1
+op 1 m.cas(0,0,5)=true
+op 2 m.cas(0,0,6)=false
+state m 0=5
+"#,
+    },
+    Row {
+        what: "a compare-and-swap that fails beside one that succeeds",
+        header: MEMORY,
+        records: br#"{"step":"begin","tx":"t1","thread":"p1"}
+{"step":"app","tx":"t1","id":1,"on":"m","call":"cas","args":[0,0,5],"result":true}
+{"step":"push","tx":"t1","id":1}
+{"step":"begin","tx":"t2","thread":"p2"}
+{"step":"app","tx":"t2","id":2,"on":"m","call":"cas","args":[0,7,9],"result":false}
+{"step":"push","tx":"t2","id":2}
+"#,
+        status: Status::Accepted,
+        report: br#"accepted steps 6 committed 0
+state m
+"#,
+    },
+    Row {
+        what: "two transactions that push one item",
+        header: STACK,
+        records: br#"{"step":"begin","tx":"t1","thread":"p1"}
+{"step":"app","tx":"t1","id":1,"on":"k","call":"push","args":[4],"result":null}
+{"step":"push","tx":"t1","id":1}
+{"step":"begin","tx":"t2","thread":"p2"}
+{"step":"app","tx":"t2","id":2,"on":"k","call":"push","args":[4],"result":null}
+{"step":"push","tx":"t2","id":2}
+{"step":"cmt","tx":"t2"}
+{"step":"cmt","tx":"t1"}
+"#,
+        status: Status::Accepted,
+        report: br#"accepted steps 8 committed 2
+tx t2
+op 2 k.push(4)=none
+tx t1
+op 1 k.push(4)=none
+state k 4 4
+"#,
+    },
+    Row {
+        what: "a greater value inserted beside a take",
+        header: PRIORITY_QUEUE,
+        records: br#"{"step":"begin","tx":"t0","thread":"p0"}
+{"step":"app","tx":"t0","id":1,"on":"h","call":"insert","args":[3],"result":null}
+{"step":"push","tx":"t0","id":1}
+{"step":"cmt","tx":"t0"}
+{"step":"begin","tx":"t1","thread":"p1"}
+{"step":"pull","tx":"t1","id":1}
+{"step":"app","tx":"t1","id":2,"on":"h","call":"take","args":[],"result":3}
+{"step":"push","tx":"t1","id":2}
+{"step":"begin","tx":"t2","thread":"p2"}
+{"step":"app","tx":"t2","id":3,"on":"h","call":"insert","args":[7],"result":null}
+{"step":"push","tx":"t2","id":3}
+{"step":"cmt","tx":"t2"}
+{"step":"cmt","tx":"t1"}
+"#,
+        status: Status::Accepted,
+        report: br#"accepted steps 13 committed 3
+tx t0
+op 1 h.insert(3)=none
+tx t2
+op 3 h.insert(7)=none
+tx t1
+op 2 h.take()=3
+state h 7
 "#,
     },
 ];

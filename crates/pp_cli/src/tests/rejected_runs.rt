@@ -1,8 +1,8 @@
-//! Runs that are rejected, with the first line of their reports.
-use crate::tests::row::{COUNTER, MEMORY, QUEUE, Row};
+//! Runs that are rejected, with their reports.
+use crate::tests::row::{COUNTER, MEMORY, PRIORITY_QUEUE, QUEUE, Row, STACK};
 use pp_core::Status;
 
-pub(crate) const REJECTED: [Row; 31] = [
+pub(crate) const REJECTED: [Row; 35] = [
     Row {
         what: "a result that no counter gives",
         header: COUNTER,
@@ -10,7 +10,9 @@ pub(crate) const REJECTED: [Row; 31] = [
 {"step":"app","tx":"t1","id":1,"on":"c","call":"get","args":[],"result":1}
 "#,
         status: Status::Rejected,
-        report: b"rejected step 2 line 3 APP 4\n",
+        report: br#"rejected step 2 line 3 APP 4
+entry 1 gives 0
+"#,
     },
     Row {
         what: "two transactions that write other numbers",
@@ -25,7 +27,11 @@ pub(crate) const REJECTED: [Row; 31] = [
 {"step":"cmt","tx":"t1"}
 "#,
         status: Status::Rejected,
-        report: b"rejected step 6 line 7 PUSH 4\n",
+        report: br#"rejected step 6 line 7 PUSH 4
+entry 1
+before
+after m.read(0)=6
+"#,
     },
     Row {
         what: "a read of what an uncommitted write puts there too",
@@ -43,7 +49,11 @@ pub(crate) const REJECTED: [Row; 31] = [
 {"step":"push","tx":"t2","id":3}
 "#,
         status: Status::Rejected,
-        report: b"rejected step 11 line 12 PUSH 4\n",
+        report: br#"rejected step 11 line 12 PUSH 4
+entry 2
+before m.write(0,0)=none
+after
+"#,
     },
     Row {
         what: "an item that might be the uncommitted one",
@@ -63,7 +73,11 @@ pub(crate) const REJECTED: [Row; 31] = [
 {"step":"cmt","tx":"t1"}
 "#,
         status: Status::Rejected,
-        report: b"rejected step 11 line 12 PUSH 4\n",
+        report: br#"rejected step 11 line 12 PUSH 4
+entry 2
+before
+after
+"#,
     },
     Row {
         what: "a read that the shared log does not give",
@@ -81,7 +95,9 @@ pub(crate) const REJECTED: [Row; 31] = [
 {"step":"push","tx":"t2","id":3}
 "#,
         status: Status::Rejected,
-        report: b"rejected step 11 line 12 PUSH 5\n",
+        report: br#"rejected step 11 line 12 PUSH 5
+entry 3 gives 5
+"#,
     },
     Row {
         what: "a read published before the addition that it saw",
@@ -92,7 +108,11 @@ pub(crate) const REJECTED: [Row; 31] = [
 {"step":"push","tx":"t1","id":2}
 "#,
         status: Status::Rejected,
-        report: b"rejected step 4 line 5 PUSH 3\n",
+        report: br#"rejected step 4 line 5 PUSH 3
+entry 1
+before c.add(1)=none
+after
+"#,
     },
     Row {
         what: "a call that the body has not",
@@ -126,7 +146,9 @@ pub(crate) const REJECTED: [Row; 31] = [
 {"step":"cmt","tx":"t2"}
 "#,
         status: Status::Rejected,
-        report: b"rejected step 6 line 7 CMT 4\n",
+        report: br#"rejected step 6 line 7 CMT 4
+entry 1
+"#,
     },
     Row {
         what: "a name that was begun before",
@@ -172,7 +194,11 @@ pub(crate) const REJECTED: [Row; 31] = [
 {"step":"push","tx":"t1","id":2}
 "#,
         status: Status::Rejected,
-        report: b"rejected step 4 line 5 PUSH 3\n",
+        report: br#"rejected step 4 line 5 PUSH 3
+entry 1
+before
+after m.read(0)=1
+"#,
     },
     Row {
         what: "a pull of an unknown id",
@@ -210,7 +236,9 @@ pub(crate) const REJECTED: [Row; 31] = [
 {"step":"pull","tx":"t1","id":2}
 "#,
         status: Status::Rejected,
-        report: b"rejected step 8 line 9 PULL 4\n",
+        report: br#"rejected step 8 line 9 PULL 4
+entry 2 gives 0
+"#,
     },
     Row {
         what: "a pull over an own read",
@@ -224,7 +252,11 @@ pub(crate) const REJECTED: [Row; 31] = [
 {"step":"pull","tx":"t1","id":1}
 "#,
         status: Status::Rejected,
-        report: b"rejected step 7 line 8 PULL 5\n",
+        report: br#"rejected step 7 line 8 PULL 5
+entry 2
+before
+after
+"#,
     },
     Row {
         what: "a quit with a log that is not empty",
@@ -234,7 +266,9 @@ pub(crate) const REJECTED: [Row; 31] = [
 {"step":"quit","tx":"t1"}
 "#,
         status: Status::Rejected,
-        report: b"rejected step 3 line 4 QUIT 2\n",
+        report: br#"rejected step 3 line 4 QUIT 2
+entry 1
+"#,
     },
     Row {
         what: "a note of a transaction that is not open",
@@ -257,7 +291,11 @@ pub(crate) const REJECTED: [Row; 31] = [
 {"step":"push","tx":"t2","id":3}
 "#,
         status: Status::Rejected,
-        report: b"rejected step 8 line 9 PUSH 4\n",
+        report: br#"rejected step 8 line 9 PUSH 4
+entry 1
+before c.add(1000000000000000000)=none c.add(1000000000000000000)=none
+after
+"#,
     },
     Row {
         what: "a read that a commit made old",
@@ -272,7 +310,9 @@ pub(crate) const REJECTED: [Row; 31] = [
 {"id":1,"step":"push","tx":"t1"}
 "#,
         status: Status::Rejected,
-        report: b"rejected step 7 line 8 PUSH 5\n",
+        report: br#"rejected step 7 line 8 PUSH 5
+entry 1 gives 1
+"#,
     },
     Row {
         what: "a write that is withdrawn before the one behind it",
@@ -285,7 +325,11 @@ pub(crate) const REJECTED: [Row; 31] = [
 {"step":"unpush","tx":"t1","id":1}
 "#,
         status: Status::Rejected,
-        report: b"rejected step 6 line 7 UNPUSH 3\n",
+        report: br#"rejected step 6 line 7 UNPUSH 3
+entry 2
+before
+after m.read(0)=1
+"#,
     },
     Row {
         what: "a commit of a read that was not published, of a write that was withdrawn",
@@ -301,7 +345,9 @@ pub(crate) const REJECTED: [Row; 31] = [
 {"step":"cmt","tx":"t2"}
 "#,
         status: Status::Rejected,
-        report: b"rejected step 9 line 10 CMT 3\n",
+        report: br#"rejected step 9 line 10 CMT 3
+entry 2
+"#,
     },
     Row {
         what: "a commit on a write that was withdrawn",
@@ -318,7 +364,9 @@ pub(crate) const REJECTED: [Row; 31] = [
 {"step":"cmt","tx":"t2"}
 "#,
         status: Status::Rejected,
-        report: b"rejected step 10 line 11 CMT 4\n",
+        report: br#"rejected step 10 line 11 CMT 4
+entry 1
+"#,
     },
     Row {
         what: "an id that was taken back and is used again",
@@ -361,7 +409,9 @@ pub(crate) const REJECTED: [Row; 31] = [
 {"step":"unpush","tx":"t1","id":1}
 "#,
         status: Status::Rejected,
-        report: b"rejected step 6 line 7 UNPUSH 4\n",
+        report: br#"rejected step 6 line 7 UNPUSH 4
+entry 2 gives 0
+"#,
     },
     Row {
         what: "an unpull of an unknown id",
@@ -385,6 +435,86 @@ pub(crate) const REJECTED: [Row; 31] = [
 {"step":"unpull","tx":"t1","id":1}
 "#,
         status: Status::Rejected,
-        report: b"rejected step 8 line 9 UNPULL 3\n",
+        report: br#"rejected step 8 line 9 UNPULL 3
+entry 2 gives 0
+"#,
+    },
+    Row {
+        what: "a compare-and-swap that fails on what an uncommitted one put",
+        header: MEMORY,
+        records: br#"{"step":"begin","tx":"t1","thread":"p1"}
+{"step":"app","tx":"t1","id":1,"on":"m","call":"cas","args":[0,0,5],"result":true}
+{"step":"push","tx":"t1","id":1}
+{"step":"begin","tx":"t2","thread":"p2"}
+{"step":"pull","tx":"t2","id":1}
+{"step":"app","tx":"t2","id":2,"on":"m","call":"cas","args":[0,0,9],"result":false}
+{"step":"push","tx":"t2","id":2}
+"#,
+        status: Status::Rejected,
+        report: br#"rejected step 7 line 8 PUSH 4
+entry 1
+before m.write(0,0)=none
+after
+"#,
+    },
+    Row {
+        what: "a write of what an uncommitted compare-and-swap did not find",
+        header: MEMORY,
+        records: br#"{"step":"begin","tx":"t1","thread":"p1"}
+{"step":"app","tx":"t1","id":1,"on":"m","call":"cas","args":[0,5,1],"result":false}
+{"step":"push","tx":"t1","id":1}
+{"step":"begin","tx":"t2","thread":"p2"}
+{"step":"app","tx":"t2","id":2,"on":"m","call":"write","args":[0,5],"result":null}
+{"step":"push","tx":"t2","id":2}
+"#,
+        status: Status::Rejected,
+        report: br#"rejected step 6 line 7 PUSH 4
+entry 1
+before m.write(0,0)=none
+after
+"#,
+    },
+    Row {
+        what: "two transactions that push other items",
+        header: STACK,
+        records: br#"{"step":"begin","tx":"t1","thread":"p1"}
+{"step":"app","tx":"t1","id":1,"on":"k","call":"push","args":[4],"result":null}
+{"step":"push","tx":"t1","id":1}
+{"step":"begin","tx":"t2","thread":"p2"}
+{"step":"app","tx":"t2","id":2,"on":"k","call":"push","args":[5],"result":null}
+{"step":"push","tx":"t2","id":2}
+{"step":"cmt","tx":"t2"}
+{"step":"cmt","tx":"t1"}
+"#,
+        status: Status::Rejected,
+        report: br#"rejected step 6 line 7 PUSH 4
+entry 1
+before
+after k.pop()=5
+"#,
+    },
+    Row {
+        what: "a smaller value inserted beside a take",
+        header: PRIORITY_QUEUE,
+        records: br#"{"step":"begin","tx":"t0","thread":"p0"}
+{"step":"app","tx":"t0","id":1,"on":"h","call":"insert","args":[3],"result":null}
+{"step":"push","tx":"t0","id":1}
+{"step":"cmt","tx":"t0"}
+{"step":"begin","tx":"t1","thread":"p1"}
+{"step":"pull","tx":"t1","id":1}
+{"step":"app","tx":"t1","id":2,"on":"h","call":"take","args":[],"result":3}
+{"step":"push","tx":"t1","id":2}
+{"step":"begin","tx":"t2","thread":"p2"}
+{"step":"app","tx":"t2","id":3,"on":"h","call":"insert","args":[2],"result":null}
+{"step":"push","tx":"t2","id":3}
+{"step":"cmt","tx":"t2"}
+{"step":"cmt","tx":"t1"}
+"#,
+        status: Status::Rejected,
+        report: br#"rejected step 11 line 12 PUSH 4
+entry 2
+before h.insert(3)=none
+after
+"#,
     },
 ];

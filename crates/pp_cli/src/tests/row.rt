@@ -1,8 +1,7 @@
 //! A row of a table: an input, its status, and its report.
 use pp_core::Status;
 
-/// What is told of it, its lines, and what is answered. Of a rejected run the report is its first
-/// line.
+/// What is told of it, its lines, and what is answered.
 pub(crate) struct Row {
     pub(crate) what: &'static str,
     pub(crate) header: &'static [u8],
@@ -23,4 +22,14 @@ pub(crate) const MEMORY: &[u8] = br#"{"run":1,"style":"rules","objects":[{"name"
 /// The header of one queue.
 pub(crate) const QUEUE: &[u8] =
     br#"{"run":1,"style":"rules","objects":[{"name":"q","kind":"queue"}]}
+"#;
+
+/// The header of one stack.
+pub(crate) const STACK: &[u8] =
+    br#"{"run":1,"style":"rules","objects":[{"name":"k","kind":"stack"}]}
+"#;
+
+/// The header of one priority queue.
+pub(crate) const PRIORITY_QUEUE: &[u8] =
+    br#"{"run":1,"style":"rules","objects":[{"name":"h","kind":"prio"}]}
 "#;
