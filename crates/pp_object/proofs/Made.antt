@@ -33,6 +33,7 @@ memory_made : (o : ℕ) (m : Method) (x y z : ℤ) (answer : Answer) → IfSome 
 unfolding IsActOf called
 memory_made o methods.Read x y z (answers.Number v) = (refl, refl, refl)
 memory_made o methods.Write x y z answers.None = (refl, refl, refl)
+memory_made o methods.Cas x y z (answers.Truth t) = (refl, refl, refl)
 memory_made o m x y z answer = tt
 
 set_made : (o : ℕ) (m : Method) (x y z : ℤ) (answer : Answer) → IfSome (set_act m (called o m x y z) answer) (IsActOf kinds.KeySet (called o m x y z) answer)
@@ -79,6 +80,8 @@ unfolding IsActOf called
 prio_made o methods.Insert x y z answers.None = (refl, refl, refl)
 prio_made o methods.Take x y z answers.None = (refl, refl, refl)
 prio_made o methods.Take x y z (answers.Number v) = (refl, refl, refl)
+prio_made o methods.Least x y z answers.None = (refl, refl, refl)
+prio_made o methods.Least x y z (answers.Number v) = (refl, refl, refl)
 prio_made o m x y z answer = tt
 
 act_is : (kind : Kind) (c : Call) (answer : Answer) → IfSome (act_made kind c answer) (IsActOf kind c answer)
@@ -105,6 +108,7 @@ is_made kind c answer a e r =
 pub has_method : (a : Act) → HasMethod (kind_for a) (call_of a).method
 has_method (Memory (mem.Read x v)) = inl refl
 has_method (Memory (mem.Write x v)) = inr (inl refl)
+has_method (Memory (mem.Cas x e n t)) = inr (inr (inl refl))
 has_method (KeySet (set.Add x t)) = inl refl
 has_method (KeySet (set.Remove x t)) = inr (inl refl)
 has_method (KeySet (set.Contains x t)) = inr (inr (inl refl))
@@ -120,6 +124,7 @@ has_method (Stack (stacks.Push value)) = inl refl
 has_method (Stack (stacks.Pop found)) = inr (inl refl)
 has_method (PriorityQueue (prios.Insert value)) = inl refl
 has_method (PriorityQueue (prios.Take found)) = inr (inl refl)
+has_method (PriorityQueue (prios.Least found)) = inr (inr (inl refl))
 
 -- the kind has the method, and the result is of its form
 IsFormed : Kind → Method → Answer → Type 0
@@ -129,6 +134,7 @@ memory_formed : (m : Method) (c : Call) (answer : Answer) → IsSome (memory_act
 unfolding IsFormed
 memory_formed methods.Read c (answers.Number v) h = (inl refl, refl)
 memory_formed methods.Write c answers.None h = (inr (inl refl), refl)
+memory_formed methods.Cas c (answers.Truth t) h = (inr (inr (inl refl)), refl)
 memory_formed m c answer h = absurd (cc)
 
 memory_some : (m : Method) (c : Call) (answer : Answer) → HasMethod kinds.Memory m → IsTrue (has_form (form_of kinds.Memory m) answer) → IsSome (memory_act m c answer)
@@ -136,7 +142,9 @@ memory_some methods.Read c (answers.Number v) h form = refl
 memory_some methods.Read c answer h form = absurd (cc)
 memory_some methods.Write c answers.None h form = refl
 memory_some methods.Write c answer h form = absurd (cc)
-memory_some m c answer h form = elim h [ inl e ↦ absurd (cc) | inr h0 ↦ elim h0 [ inl e ↦ absurd (cc) | inr h1 ↦ absurd h1 ] ]
+memory_some methods.Cas c (answers.Truth t) h form = refl
+memory_some methods.Cas c answer h form = absurd (cc)
+memory_some m c answer h form = elim h [ inl e ↦ absurd (cc) | inr h0 ↦ elim h0 [ inl e ↦ absurd (cc) | inr h1 ↦ elim h1 [ inl e ↦ absurd (cc) | inr h2 ↦ absurd h2 ] ] ]
 
 set_formed : (m : Method) (c : Call) (answer : Answer) → IsSome (set_act m c answer) → IsFormed kinds.KeySet m answer
 unfolding IsFormed
@@ -212,6 +220,8 @@ unfolding IsFormed
 prio_formed methods.Insert c answers.None h = (inl refl, refl)
 prio_formed methods.Take c answers.None h = (inr (inl refl), refl)
 prio_formed methods.Take c (answers.Number v) h = (inr (inl refl), refl)
+prio_formed methods.Least c answers.None h = (inr (inr (inl refl)), refl)
+prio_formed methods.Least c (answers.Number v) h = (inr (inr (inl refl)), refl)
 prio_formed m c answer h = absurd (cc)
 
 queue_some : (m : Method) (c : Call) (answer : Answer) → HasMethod kinds.Queue m → IsTrue (has_form (form_of kinds.Queue m) answer) → IsSome (queue_act m c answer)
@@ -236,7 +246,10 @@ prio_some methods.Insert c answer h form = absurd (cc)
 prio_some methods.Take c answers.None h form = refl
 prio_some methods.Take c (answers.Number v) h form = refl
 prio_some methods.Take c answer h form = absurd (cc)
-prio_some m c answer h form = elim h [ inl e ↦ absurd (cc) | inr h0 ↦ elim h0 [ inl e ↦ absurd (cc) | inr h1 ↦ absurd h1 ] ]
+prio_some methods.Least c answers.None h form = refl
+prio_some methods.Least c (answers.Number v) h form = refl
+prio_some methods.Least c answer h form = absurd (cc)
+prio_some m c answer h form = elim h [ inl e ↦ absurd (cc) | inr h0 ↦ elim h0 [ inl e ↦ absurd (cc) | inr h1 ↦ elim h1 [ inl e ↦ absurd (cc) | inr h2 ↦ absurd h2 ] ] ]
 
 act_formed : (kind : Kind) (c : Call) (answer : Answer) → IsSome (act_made kind c answer) → IsFormed kind c.method answer
 act_formed kinds.Memory c answer h = memory_formed c.method c answer h

@@ -28,13 +28,13 @@ use Rattle.pp_object.specs.Objects.{objects, act_at}
 
 -- the methods of the objects of a kind
 abbrev pub methods_of : Kind → List Method
-methods_of kinds.Memory = methods.Read ∷ methods.Write ∷ []
+methods_of kinds.Memory = methods.Read ∷ methods.Write ∷ methods.Cas ∷ []
 methods_of kinds.KeySet = methods.Add ∷ methods.Remove ∷ methods.Contains ∷ []
 methods_of kinds.KeyMap = methods.Put ∷ methods.Get ∷ methods.Remove ∷ []
 methods_of kinds.Counter = methods.Add ∷ methods.Get ∷ methods.FetchAdd ∷ []
 methods_of kinds.Queue = methods.Enq ∷ methods.Deq ∷ []
 methods_of kinds.Stack = methods.StackPush ∷ methods.StackPop ∷ []
-methods_of kinds.PriorityQueue = methods.Insert ∷ methods.Take ∷ []
+methods_of kinds.PriorityQueue = methods.Insert ∷ methods.Take ∷ methods.Least ∷ []
 
 -- objects of the kind have the method
 abbrev pub HasMethod : Kind → Method → Type 0
@@ -131,6 +131,8 @@ pub record IsOpOf (kind : Kind) (c : Call) (answer : Answer) (op : Op) : Type 0 
 abbrev pub memory_act : Method → Call → Answer → Option Act
 memory_act methods.Read c (answers.Number value) = Some (Memory (mem.Read c.first value))
 memory_act methods.Write c answers.None = Some (Memory (mem.Write c.first c.second))
+memory_act methods.Cas c (answers.Truth done) =
+    Some (Memory (mem.Cas c.first c.second c.third done))
 memory_act method c answer = None
 
 abbrev pub set_act : Method → Call → Answer → Option Act
@@ -177,6 +179,8 @@ abbrev pub prio_act : Method → Call → Answer → Option Act
 prio_act methods.Insert c answers.None = Some (PriorityQueue (prios.Insert c.first))
 prio_act methods.Take c answers.None = Some (PriorityQueue (prios.Take None))
 prio_act methods.Take c (answers.Number value) = Some (PriorityQueue (prios.Take (Some value)))
+prio_act methods.Least c answers.None = Some (PriorityQueue (prios.Least None))
+prio_act methods.Least c (answers.Number value) = Some (PriorityQueue (prios.Least (Some value)))
 prio_act method c answer = None
 
 abbrev pub act_made : Kind → Call → Answer → Option Act

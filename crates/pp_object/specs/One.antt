@@ -145,7 +145,8 @@ state_before (states.KeyMap s) (KeyMap a) undo = states.KeyMap (key_map.upkeep.b
 state_before (states.Counter s) (Counter a) undo = states.Counter (counter.upkeep.back s a tt)
 state_before (states.Queue s) (Queue a) undo = states.Queue (fifo.upkeep.back s a tt)
 state_before (states.Stack s) (Stack a) undo = states.Stack (stack.upkeep.back s a tt)
-state_before (states.PriorityQueue s) (PriorityQueue a) undo = states.PriorityQueue (prio.upkeep.back s a tt)
+state_before (states.PriorityQueue s) (PriorityQueue a) undo =
+    states.PriorityQueue (prio.upkeep.back s a tt)
 state_before s a undo = s
 
 -- lists of a kind's operations, as lists of acts

@@ -22,13 +22,13 @@ fn methods(kind: Kind) -> &'static [Method]
     ensures { result.now ≡ methods_of kind }
 {
     match kind {
-        Kind::Memory => &[Method::Read, Method::Write],
+        Kind::Memory => &[Method::Read, Method::Write, Method::Cas],
         Kind::KeySet => &[Method::Add, Method::Remove, Method::Contains],
         Kind::KeyMap => &[Method::Put, Method::Get, Method::Remove],
         Kind::Counter => &[Method::Add, Method::Get, Method::FetchAdd],
         Kind::Queue => &[Method::Enq, Method::Deq],
         Kind::Stack => &[Method::StackPush, Method::StackPop],
-        Kind::PriorityQueue => &[Method::Insert, Method::Take],
+        Kind::PriorityQueue => &[Method::Insert, Method::Take, Method::Least],
     }
 }
 
@@ -95,6 +95,12 @@ fn memory_act(call: &Call, answer: &Answer) -> Option<Act>
         (Method::Write, Answer::None) => Some(Act::Memory(MemOp::Write {
             at: call.first,
             value: call.second,
+        })),
+        (Method::Cas, Answer::Truth(done)) => Some(Act::Memory(MemOp::Cas {
+            at: call.first,
+            expected: call.second,
+            new: call.third,
+            done,
         })),
         _ => None,
     }
@@ -204,6 +210,10 @@ fn prio_act(call: &Call, answer: &Answer) -> Option<Act>
         }
         (Method::Take, Answer::None) => Some(Act::PriorityQueue(PrioOp::Take { value: None })),
         (Method::Take, Answer::Number(value)) => Some(Act::PriorityQueue(PrioOp::Take {
+            value: Some(value as i64),
+        })),
+        (Method::Least, Answer::None) => Some(Act::PriorityQueue(PrioOp::Least { value: None })),
+        (Method::Least, Answer::Number(value)) => Some(Act::PriorityQueue(PrioOp::Least {
             value: Some(value as i64),
         })),
         _ => None,

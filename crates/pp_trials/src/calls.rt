@@ -20,6 +20,21 @@ macro_rules! writes {
     };
 }
 
+/// A compare-and-swap: the address, the number expected, the new number, and whether it was done.
+macro_rules! exchanges {
+    ($at:expr, $expected:expr, $new:expr, $done:expr) => {
+        Op {
+            object: HERE,
+            act: Act::Memory(MemOp::Cas {
+                at: $at,
+                expected: $expected,
+                new: $new,
+                done: $done,
+            }),
+        }
+    };
+}
+
 /// An addition to a set: the key, and whether it changed the set.
 macro_rules! adds {
     ($key:expr, $changed:expr) => {
@@ -137,6 +152,7 @@ pub(crate) use contains;
 pub(crate) use counts;
 pub(crate) use dequeues;
 pub(crate) use enqueues;
+pub(crate) use exchanges;
 pub(crate) use extracts;
 pub(crate) use fetches;
 pub(crate) use gets;

@@ -1,7 +1,7 @@
 //! Operations that take effect and are taken back.
 ghost use Rattle.std.specs.Prelude.{◌≡◌, ◌<◌};
 
-use crate::calls::{HERE, adds, enqueues, increases, inserts, pushes, puts, writes};
+use crate::calls::{HERE, adds, enqueues, exchanges, increases, inserts, pushes, puts, writes};
 use pp_core::{Kinds, Ticks};
 use pp_counter::CounterOp;
 use pp_map::MapOp;
@@ -24,8 +24,8 @@ pub struct Effect {
     pub after: &'static [Piece],
 }
 
-/// An operation of each kind.
-pub const EFFECTS: [Effect; 7] = [
+/// Operations of each kind.
+pub const EFFECTS: [Effect; 9] = [
     Effect {
         op: writes!(7, 5),
         before: &[],
@@ -33,6 +33,19 @@ pub const EFFECTS: [Effect; 7] = [
             key: Some(7),
             value: 5,
         }],
+    },
+    Effect {
+        op: exchanges!(7, 0, 5, true),
+        before: &[],
+        after: &[Piece {
+            key: Some(7),
+            value: 5,
+        }],
+    },
+    Effect {
+        op: exchanges!(7, 1, 5, false),
+        before: &[],
+        after: &[],
     },
     Effect {
         op: adds!(4, true),

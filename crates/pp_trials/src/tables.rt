@@ -1,7 +1,7 @@
 //! The pairs of operations that are tried.
 use crate::calls::{
-    HERE, adds, contains, counts, dequeues, enqueues, extracts, fetches, gets, increases, inserts,
-    least, pops, pushes, puts, reads, removes, takes, writes,
+    HERE, adds, contains, counts, dequeues, enqueues, exchanges, extracts, fetches, gets,
+    increases, inserts, least, pops, pushes, puts, reads, removes, takes, writes,
 };
 use crate::pairs::{Pair, stay, swap};
 use pp_counter::CounterOp;
@@ -16,21 +16,105 @@ use pp_stack::StackOp;
 /// The greatest number of a record.
 const MOST: i64 = 1_000_000_000_000_000_000;
 
-/// Each pair of a read and a write at one address, and a pair at two.
-const MEMORY: [Pair; 10] = [
-    // a read, and then a read or a write
+/// Each pair of a read, a write and a compare-and-swap with either result at one address, and pairs
+/// at two.
+const MEMORY: [Pair; 41] = [
+    // a read
     swap!(reads!(0, 5), reads!(0, 5)),
     swap!(reads!(0, 5), writes!(0, 5)),
     stay!(reads!(0, 5), writes!(0, 6), [writes!(0, 5)], []),
-    // a write, and then a read or a write
+    swap!(reads!(0, 5), exchanges!(0, 6, 7, true)),
+    swap!(reads!(0, 5), exchanges!(0, 5, 5, true)),
+    stay!(reads!(0, 5), exchanges!(0, 5, 6, true), [writes!(0, 5)], []),
+    swap!(reads!(0, 5), exchanges!(0, 6, 7, false)),
+    // a write
     swap!(writes!(0, 5), reads!(0, 6)),
     stay!(writes!(0, 5), reads!(0, 5), [writes!(0, 0)], []),
     stay!(writes!(0, 0), reads!(0, 0), [writes!(0, 1)], []),
     swap!(writes!(0, 5), writes!(0, 5)),
     stay!(writes!(0, 5), writes!(0, 6), [], [reads!(0, 6)]),
+    swap!(writes!(0, 5), exchanges!(0, 6, 7, true)),
+    stay!(
+        writes!(0, 5),
+        exchanges!(0, 5, 6, true),
+        [writes!(0, 0)],
+        []
+    ),
+    stay!(
+        writes!(0, 0),
+        exchanges!(0, 0, 6, true),
+        [writes!(0, 1)],
+        []
+    ),
+    swap!(writes!(0, 5), exchanges!(0, 5, 6, false)),
+    stay!(
+        writes!(0, 5),
+        exchanges!(0, 6, 7, false),
+        [writes!(0, 6)],
+        []
+    ),
+    // a compare-and-swap that is done
+    swap!(exchanges!(0, 5, 6, true), reads!(0, 7)),
+    swap!(exchanges!(0, 5, 5, true), reads!(0, 5)),
+    stay!(exchanges!(0, 5, 6, true), reads!(0, 6), [writes!(0, 5)], []),
+    swap!(exchanges!(0, 5, 5, true), writes!(0, 5)),
+    stay!(
+        exchanges!(0, 5, 6, true),
+        writes!(0, 6),
+        [writes!(0, 5)],
+        [reads!(0, 6)]
+    ),
+    stay!(
+        exchanges!(0, 5, 5, true),
+        writes!(0, 6),
+        [writes!(0, 5)],
+        [reads!(0, 6)]
+    ),
+    swap!(exchanges!(0, 5, 6, true), exchanges!(0, 7, 8, true)),
+    swap!(exchanges!(0, 5, 5, true), exchanges!(0, 5, 5, true)),
+    stay!(
+        exchanges!(0, 5, 6, true),
+        exchanges!(0, 6, 7, true),
+        [writes!(0, 5)],
+        []
+    ),
+    swap!(exchanges!(0, 5, 6, true), exchanges!(0, 7, 8, false)),
+    swap!(exchanges!(0, 5, 6, true), exchanges!(0, 6, 7, false)),
+    swap!(exchanges!(0, 5, 5, true), exchanges!(0, 5, 7, false)),
+    stay!(
+        exchanges!(0, 5, 6, true),
+        exchanges!(0, 5, 7, false),
+        [writes!(0, 5)],
+        []
+    ),
+    // a compare-and-swap that is not done
+    swap!(exchanges!(0, 5, 6, false), reads!(0, 5)),
+    swap!(exchanges!(0, 5, 6, false), writes!(0, 7)),
+    stay!(
+        exchanges!(0, 5, 6, false),
+        writes!(0, 5),
+        [writes!(0, 0)],
+        []
+    ),
+    stay!(
+        exchanges!(0, 0, 6, false),
+        writes!(0, 0),
+        [writes!(0, 1)],
+        []
+    ),
+    swap!(exchanges!(0, 5, 6, false), exchanges!(0, 7, 8, true)),
+    swap!(exchanges!(0, 5, 6, false), exchanges!(0, 5, 5, true)),
+    stay!(
+        exchanges!(0, 5, 6, false),
+        exchanges!(0, 7, 5, true),
+        [writes!(0, 7)],
+        []
+    ),
+    swap!(exchanges!(0, 5, 6, false), exchanges!(0, 5, 7, false)),
     // at two addresses
     swap!(writes!(0, 5), reads!(1, 5)),
     swap!(writes!(0, 5), writes!(1, 6)),
+    swap!(exchanges!(0, 5, 6, true), exchanges!(1, 6, 7, true)),
 ];
 
 /// Each pair of two of the six forms at one key, which are the three calls with either result, and

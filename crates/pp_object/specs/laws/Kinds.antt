@@ -157,6 +157,7 @@ unrefuted_apart a b h = refl
 pub no_place : (k : Kind) (a : Ops k) → ((object_of k).call a).object ≡ 0
 no_place kinds.Memory (mem.Read a v) = refl
 no_place kinds.Memory (mem.Write a v) = refl
+no_place kinds.Memory (mem.Cas a e n t) = refl
 no_place kinds.KeySet (set.Add a c) = refl
 no_place kinds.KeySet (set.Remove a c) = refl
 no_place kinds.KeySet (set.Contains a c) = refl
@@ -172,6 +173,7 @@ no_place kinds.Stack (stacks.Push v) = refl
 no_place kinds.Stack (stacks.Pop v) = refl
 no_place kinds.PriorityQueue (prios.Insert v) = refl
 no_place kinds.PriorityQueue (prios.Take v) = refl
+no_place kinds.PriorityQueue (prios.Least v) = refl
 
 -- What follows needs no arm of a new kind.
 
