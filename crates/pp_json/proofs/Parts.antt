@@ -1,5 +1,7 @@
 -- The parts of a body that is read.
-use Rattle.std.proofs.Common.{◌≡◌, ◌<◌, ◌≤◌, ℕ, zero, suc, ◌+◌, max, List, [], ◌∷◌, ◌++◌, codes, length, drop, get_or, Option, Some, None, option_map, Result, Ok, Err, refl, ap, sym, ◌∙◌, append_assoc, arith}
+use Rattle.std.proofs.Common.{◌≡◌, ◌<◌, ◌≤◌, ℕ, zero, suc, ◌+◌, max, List, [], ◌∷◌, ◌++◌, codes}
+use Rattle.std.proofs.Common.{length, drop, get_or, Option, Some, None, option_map, Result, Ok, Err}
+use Rattle.std.proofs.Common.{refl, ap, sym, ◌∙◌, append_assoc, arith}
 use Rattle.std.specs.Ordering.{nat_cmp, match_ordering}
 use Rattle.std.specs.declared.cmp.Ordering.{Ordering}
 use Rattle.std.specs.declared.cmp.Ordering.TheVariants.{Less, Equal, Greater}
@@ -7,7 +9,8 @@ use Rattle.std.specs.Cmp.Lexicographic.{slice_cmp}
 use Rattle.std.proofs.lemmas.List.{append-nil, drop_all}
 use Rattle.serde_json.specs.declared.value.Value.{Value}
 use Rattle.serde_json.specs.View.{view, items_view}
-use Rattle.serde_json.specs.Data.{Data, Items, Members, no_members, member, null, boolean, number, string, array, object, depth, items_depth, members_depth}
+use Rattle.serde_json.specs.Data.{Data, Items, Members, no_members, member, null, boolean, number}
+use Rattle.serde_json.specs.Data.{string, array, object, depth, items_depth, members_depth}
 use Rattle.serde_json.specs.Find.{get, get_member, as_array}
 use Rattle.pp_core.specs.Trees.{Tree}
 use Rattle.pp_core.specs.Catalogs.{Objects}
@@ -15,7 +18,8 @@ use Rattle.pp_json.specs.declared.fault.RecordFault.{RecordFault}
 use Rattle.pp_json.specs.declared.fault.RecordFault.TheVariants.{BodyBad}
 use Rattle.pp_json.specs.Reading.{◌>>=◌}
 use Rattle.pp_json.proofs.Objects.{item_at}
-use Rattle.pp_json.specs.Bodies.{forms, form_of, as_seq, as_alt, as_star, body_of, bodies_of, bodies_in, seq_among, alt_among, star_among}
+use Rattle.pp_json.specs.Bodies.{forms, form_of, as_seq, as_alt, as_star, body_of, bodies_of}
+use Rattle.pp_json.specs.Bodies.{bodies_in, seq_among, alt_among, star_among}
 
 -- what the members of an object are read as
 at_key : {A B : Type 0} (f : A → B) (o : Ordering) (x : A) (y : Option B) (z : Option A) → y ≡ option_map f z

@@ -1,5 +1,6 @@
 -- What `Name::read` answers, as `name_from`.
-use Rattle.std.proofs.Common.{◌≡◌, ◌≤◌, ◌↔◌, ℕ, List, Option, true, false, Some, None, IsTrue, length, refl, sym, ◌∙◌, ap, cond, arith, rules}
+use Rattle.std.proofs.Common.{◌≡◌, ◌≤◌, ◌↔◌, ℕ, List, Option, true, false, Some, None, IsTrue}
+use Rattle.std.proofs.Common.{length, refl, sym, ◌∙◌, ap, cond, arith, rules}
 use Rattle.std.specs.Prelude.{IsSome, IfSome}
 use Rattle.std.specs.List.{list_all}
 use Rattle.std.proofs.lemmas.Grind.{common_steps}

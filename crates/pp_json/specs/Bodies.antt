@@ -1,8 +1,10 @@
 -- Meaning: the body that a value is. Each fault in it at any depth is that the body is bad.
-use Rattle.std.specs.Prelude.{ℕ, ◌+◌, ◌==◌, List, [], ◌∷◌, codes, Bool, true, false, is_some, not, Option, Some, None, unwrap_or, Result, Ok, Err, if◌then◌else◌, cond}
+use Rattle.std.specs.Prelude.{ℕ, ◌+◌, ◌==◌, List, [], ◌∷◌, codes, Bool, true, false, is_some, not}
+use Rattle.std.specs.Prelude.{Option, Some, None, unwrap_or, Result, Ok, Err, if◌then◌else◌, cond}
 use Rattle.std.specs.Ordering.{nat_cmp, match_ordering}
 use Rattle.std.specs.Cmp.Lexicographic.{slice_cmp}
-use Rattle.serde_json.specs.Data.{Data, Items, no_items, item, Members, no_members, member, null, boolean, number, string, array, object}
+use Rattle.serde_json.specs.Data.{Data, Items, no_items, item, Members, no_members, member, null}
+use Rattle.serde_json.specs.Data.{boolean, number, string, array, object}
 use Rattle.serde_json.specs.Find.{get, as_bool}
 use Rattle.pp_core.specs.Catalogs.{Objects}
 use Rattle.pp_core.specs.Trees.{Tree, Skip, One, Seq, Alt, Star, trees, is_within}

@@ -1,5 +1,6 @@
 -- Meaning: the calls of objects, with their arguments and results.
-use Rattle.std.specs.Prelude.{◌≡◌, ℕ, ◌==◌, ℤ, pos, IsTrue, List, not, Option, Some, None, ok_or, option_map, option_and_then, slice_get, Result, Ok, if◌then◌else◌}
+use Rattle.std.specs.Prelude.{◌≡◌, ℕ, ◌==◌, ℤ, pos, IsTrue, List, not, Option, Some, None, ok_or}
+use Rattle.std.specs.Prelude.{option_map, option_and_then, slice_get, Result, Ok, if◌then◌else◌}
 use Rattle.serde_json.specs.Data.{Data, null}
 use Rattle.serde_json.specs.Find.{as_null, as_bool, as_array, at}
 use Rattle.pp_core.specs.Catalogs.{Objects, place_of}
@@ -17,7 +18,8 @@ use Rattle.pp_object.specs.declared.act.Op.{Op}
 use Rattle.pp_object.specs.declared.form.Form.{Form}
 use Rattle.pp_object.specs.declared.form.Form.TheVariants as forms
 use Rattle.pp_json.specs.declared.fault.RecordFault.{RecordFault}
-use Rattle.pp_json.specs.declared.fault.RecordFault.TheVariants.{WrongType, OutOfRange, UnknownObject, UnknownCall}
+use Rattle.pp_json.specs.declared.fault.RecordFault.TheVariants.{WrongType, OutOfRange}
+use Rattle.pp_json.specs.declared.fault.RecordFault.TheVariants.{UnknownObject, UnknownCall}
 use Rattle.pp_json.specs.Reading.{◌>>=◌, fault_if}
 use Rattle.pp_json.specs.Members.{member_of, text_of, name_from, whole}
 use Rattle.pp_json.specs.Headers.{count}

@@ -1,5 +1,6 @@
 -- Meaning: the first line of a run.
-use Rattle.std.specs.Prelude.{ℕ, suc, pos, List, [], ◌∷◌, ◌++◌, not, nat_lt, is_some, ok_or, Result, Ok}
+use Rattle.std.specs.Prelude.{ℕ, suc, pos, List, [], ◌∷◌, ◌++◌, not, nat_lt, is_some, ok_or, Result}
+use Rattle.std.specs.Prelude.{Ok}
 use Rattle.std.specs.Ordering.{int_eq}
 use Rattle.serde_json.specs.Data.{Data, Items, no_items, item}
 use Rattle.serde_json.specs.Find.{as_object}
@@ -10,7 +11,10 @@ use Rattle.pp_core.specs.declared.limits.TheConstants.{MOST_OBJECTS}
 use Rattle.pp_core.specs.declared.member.Member.TheVariants as members
 use Rattle.pp_json.specs.declared.header.Header.{Header}
 use Rattle.pp_json.specs.declared.fault.RecordFault.{RecordFault}
-use Rattle.pp_json.specs.declared.fault.RecordFault.TheVariants.{WrongType, OutOfRange, UnknownStyle, UnknownKind, RepeatedObject, TooManyObjects, NotYet}
+use Rattle.pp_json.specs.declared.fault.RecordFault.TheVariants.{WrongType, OutOfRange}
+use Rattle.pp_json.specs.declared.fault.RecordFault.TheVariants.{UnknownStyle, UnknownKind}
+use Rattle.pp_json.specs.declared.fault.RecordFault.TheVariants.{RepeatedObject, TooManyObjects}
+use Rattle.pp_json.specs.declared.fault.RecordFault.TheVariants.{NotYet}
 use Rattle.pp_json.specs.Reading.{◌>>=◌, fault_if}
 use Rattle.pp_json.specs.Members.{object_of, text_of, name_of, whole_of, array_of}
 use Rattle.pp_json.specs.Later.{is_built}

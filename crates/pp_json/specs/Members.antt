@@ -1,5 +1,6 @@
 -- Meaning: a line's value and its members, read in the order of the tests.
-use Rattle.std.specs.Prelude.{ℕ, ℤ, List, length, Bool, ◌&&◌, nat_le, Option, Some, None, ok_or, option_and_then, Result, Ok, Err, if◌then◌else◌}
+use Rattle.std.specs.Prelude.{ℕ, ℤ, List, length, Bool, ◌&&◌, nat_le, Option, Some, None, ok_or}
+use Rattle.std.specs.Prelude.{option_and_then, Result, Ok, Err, if◌then◌else◌}
 use Rattle.std.specs.List.{list_all}
 use Rattle.std.specs.Str.{is_utf8}
 use Rattle.serde_json.specs.Data.{Data, Items}
@@ -10,7 +11,8 @@ use Rattle.pp_core.specs.Words.{member_word}
 use Rattle.pp_core.specs.declared.member.Member.{Member}
 use Rattle.pp_core.specs.declared.limits.TheConstants.{LONGEST_NAME}
 use Rattle.pp_json.specs.declared.fault.RecordFault.{RecordFault}
-use Rattle.pp_json.specs.declared.fault.RecordFault.TheVariants.{NotJson, NotObject, Missing, WrongType, BadName}
+use Rattle.pp_json.specs.declared.fault.RecordFault.TheVariants.{NotJson, NotObject, Missing}
+use Rattle.pp_json.specs.declared.fault.RecordFault.TheVariants.{WrongType, BadName}
 use Rattle.pp_json.specs.Reading.{◌>>=◌}
 
 -- the value on a line

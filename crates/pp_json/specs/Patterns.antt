@@ -1,5 +1,6 @@
 -- Meaning: a pattern of calls in a body, where each fault is that the body is bad.
-use Rattle.std.specs.Prelude.{ℕ, ◌==◌, ℤ, pos, List, codes, not, Option, Some, None, ok_or, option_and_then, Result, Ok}
+use Rattle.std.specs.Prelude.{ℕ, ◌==◌, ℤ, pos, List, codes, not, Option, Some, None, ok_or}
+use Rattle.std.specs.Prelude.{option_and_then, Result, Ok}
 use Rattle.serde_json.specs.Data.{Data, null}
 use Rattle.serde_json.specs.Find.{get, at, as_str, as_array, as_number, as_integer}
 use Rattle.pp_core.specs.Catalogs.{Objects}

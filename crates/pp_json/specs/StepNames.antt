@@ -2,7 +2,8 @@
 use Rattle.std.specs.Prelude.{ℕ, List, codes, Option, Some, None, if◌then◌else◌}
 use Rattle.std.specs.Str.{bytes_eq}
 use Rattle.pp_core.specs.declared.call.Style.{Style}
-use Rattle.pp_core.specs.declared.call.Style.TheVariants.{Rules, Boosted, Optimistic, Hardware, Dependent}
+use Rattle.pp_core.specs.declared.call.Style.TheVariants.{Rules, Boosted, Optimistic, Hardware}
+use Rattle.pp_core.specs.declared.call.Style.TheVariants.{Dependent}
 use Rattle.pp_json.specs.declared.step_name.StepName.{StepName}
 use Rattle.pp_json.specs.declared.step_name.StepName.TheVariants as names
 

@@ -3,7 +3,8 @@ ghost use Rattle.std.specs.Prelude.{◌≡◌, map, option_map, IfOk};
 ghost use Rattle.serde_json.specs.View.{view};
 ghost use Rattle.pp_core.specs.Trees.{IsWithin, IsWithinLimits, tree};
 ghost use Rattle.pp_json.specs.Reading.{Gives};
-ghost use Rattle.pp_json.specs.Bodies.{forms, present, leaf_of, as_seq, as_alt, as_star, body_of, bodies_of, small_body_of, body_of_begin};
+ghost use Rattle.pp_json.specs.Bodies.{forms, present, leaf_of, as_seq, as_alt, as_star, body_of};
+ghost use Rattle.pp_json.specs.Bodies.{bodies_of, small_body_of, body_of_begin};
 
 use crate::fault::RecordFault;
 use crate::pattern::pattern_in;

@@ -3,10 +3,13 @@ ghost use Rattle.std.specs.Prelude.{◌≡◌, IsTrue, IfOk, IfSome, Some};
 ghost use Rattle.serde_json.specs.View.{view};
 ghost use Rattle.pp_spec.specs.Numbers.{in_range, has_ranged_arguments, is_ranged_answer};
 ghost use Rattle.pp_object.specs.Objects.{objects, kinds_of};
-ghost use Rattle.pp_object.specs.Calls.{HasMethod, method_named, has_form, op_made, IsCallOf, IsOpOf};
+ghost use Rattle.pp_object.specs.Calls.{HasMethod, method_named, has_form, op_made, IsCallOf};
+ghost use Rattle.pp_object.specs.Calls.{IsOpOf};
 ghost use Rattle.pp_json.specs.Reading.{Gives};
-ghost use Rattle.pp_json.specs.Calls.{number_from, number_of, object_named, object_called, IsThere, method_of};
-ghost use Rattle.pp_json.specs.Calls.{argument, arguments_of, call_of, number_answer, IsRangedNumber, answer_in, op_of};
+ghost use Rattle.pp_json.specs.Calls.{number_from, number_of, object_named, object_called, IsThere};
+ghost use Rattle.pp_json.specs.Calls.{method_of};
+ghost use Rattle.pp_json.specs.Calls.{argument, arguments_of, call_of, number_answer};
+ghost use Rattle.pp_json.specs.Calls.{IsRangedNumber, answer_in, op_of};
 
 use crate::fault::RecordFault;
 use crate::members::{member_in, name_with, text_in, whole_number};

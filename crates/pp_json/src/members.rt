@@ -2,7 +2,8 @@
 ghost use Rattle.std.specs.Prelude.{◌≡◌};
 ghost use Rattle.serde_json.specs.View.{view, items_view};
 ghost use Rattle.pp_json.specs.Reading.{Gives};
-ghost use Rattle.pp_json.specs.Members.{value_of, object_of, member_of, text_of, name_from, name_of};
+ghost use Rattle.pp_json.specs.Members.{value_of, object_of, member_of, text_of, name_from};
+ghost use Rattle.pp_json.specs.Members.{name_of};
 ghost use Rattle.pp_json.specs.Members.{whole, whole_of, array_of};
 
 use crate::fault::RecordFault;

@@ -3,7 +3,8 @@ ghost use Rattle.std.specs.Prelude.{◌≡◌, IfOk};
 ghost use Rattle.serde_json.specs.View.{view};
 ghost use Rattle.pp_object.specs.Calls.{HasMethod};
 ghost use Rattle.pp_json.specs.Reading.{Gives};
-ghost use Rattle.pp_json.specs.Patterns.{wanted, wanted_at, wanted_of, body_text, target_of, pattern_of};
+ghost use Rattle.pp_json.specs.Patterns.{wanted, wanted_at, wanted_of, body_text, target_of};
+ghost use Rattle.pp_json.specs.Patterns.{pattern_of};
 
 use crate::call::{method_named, number_from, object_named};
 use crate::fault::RecordFault;

@@ -3,7 +3,9 @@ ghost use Rattle.std.specs.Prelude.{◌≡◌, ◌≤◌, IfOk, IfSome};
 ghost use Rattle.serde_json.specs.View.{view};
 ghost use Rattle.pp_core.specs.Steps.{meaning};
 ghost use Rattle.pp_json.specs.Reading.{Gives};
-ghost use Rattle.pp_json.specs.Records.{id_from, id_of, begin_of, app_of, unapp_of, push_of, unpush_of, pull_of, unpull_of, cmt_of, quit_of, note_of, step_of, record_of, IsReadable, IsAlwaysReadable};
+ghost use Rattle.pp_json.specs.Records.{id_from, id_of, begin_of, app_of, unapp_of, push_of};
+ghost use Rattle.pp_json.specs.Records.{unpush_of, pull_of, unpull_of, cmt_of, quit_of, note_of};
+ghost use Rattle.pp_json.specs.Records.{step_of, record_of, IsReadable, IsAlwaysReadable};
 
 use crate::body::begin_body;
 use crate::call::op_in;

@@ -1,5 +1,7 @@
 -- What the calls of records make.
-use Rattle.std.proofs.Common.{◌≡◌, ℕ, ℤ, Bool, true, false, cond, ◌&&◌, IsTrue, Option, Some, None, IsSome, IfSome, option_and_then, ◌↔◌, refl, sym, ◌∙◌, ap, subst, inl, inr}
+use Rattle.std.proofs.Common.{◌≡◌, ℕ, ℤ, Bool, true, false, cond, ◌&&◌, IsTrue, Option, Some, None}
+use Rattle.std.proofs.Common.{IsSome, IfSome, option_and_then, ◌↔◌, refl, sym, ◌∙◌, ap, subst, inl}
+use Rattle.std.proofs.Common.{inr}
 use Rattle.pp_core.specs.declared.answer.Answer.{Answer}
 use Rattle.pp_core.specs.declared.answer.Answer.TheVariants as answers
 use Rattle.pp_core.specs.declared.call.Call.{Call}
@@ -16,11 +18,14 @@ use Rattle.pp_stack.specs.declared.op.StackOp.TheVariants as stacks
 use Rattle.pp_prio.specs.declared.op.PrioOp.TheVariants as prios
 use Rattle.pp_spec.specs.Numbers.{has_ranged_arguments, is_ranged_answer}
 use Rattle.pp_object.specs.declared.act.Act.{Act}
-use Rattle.pp_object.specs.declared.act.Act.TheVariants.{Memory, KeySet, KeyMap, Counter, Queue, Stack, PriorityQueue}
+use Rattle.pp_object.specs.declared.act.Act.TheVariants.{Memory, KeySet, KeyMap, Counter, Queue}
+use Rattle.pp_object.specs.declared.act.Act.TheVariants.{Stack, PriorityQueue}
 use Rattle.pp_object.specs.One.{is_ranged, kind_for, recorded_by, call_of, fits}
 use Rattle.pp_object.specs.laws.One.{one_lawful}
 use Rattle.pp_object.specs.Objects.{act_at}
-use Rattle.pp_object.specs.Calls.{HasMethod, form_of, has_form, with_used, IsCallOf, IsOpOf, op_made, ranged_op, memory_act, set_act, map_act, counter_act, queue_act, stack_act, prio_act, act_made}
+use Rattle.pp_object.specs.Calls.{HasMethod, form_of, has_form, with_used, IsCallOf, IsOpOf}
+use Rattle.pp_object.specs.Calls.{op_made, ranged_op, memory_act, set_act, map_act, counter_act}
+use Rattle.pp_object.specs.Calls.{queue_act, stack_act, prio_act, act_made}
 
 -- what an act has of a call
 IsActOf : Kind → Call → Answer → Act → Type 0

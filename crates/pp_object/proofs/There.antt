@@ -1,5 +1,6 @@
 -- Proof machinery: what was done to the object at a place, for all objects.
-use Rattle.std.proofs.Common.{◌≡◌, ℕ, Bool, true, IsTrue, List, set, ◌↔◌, Option, Some, None, Result, Ok, Err, OnOk, get_or, option_map, refl, sym, ◌∙◌, ap, subst}
+use Rattle.std.proofs.Common.{◌≡◌, ℕ, Bool, true, IsTrue, List, set, ◌↔◌, Option, Some, None}
+use Rattle.std.proofs.Common.{Result, Ok, Err, OnOk, get_or, option_map, refl, sym, ◌∙◌, ap, subst}
 use Rattle.std.proofs.lemmas.Option.{slice_get-map, get_or_from_slice_get}
 use Rattle.std.specs.List.{slice_get}
 use Rattle.pp_core.specs.declared.answer.OutOfMemory.{OutOfMemory}
@@ -15,7 +16,8 @@ use Rattle.pp_object.specs.declared.states.Undo.{Undo}
 use Rattle.pp_object.specs.One.{one}
 use Rattle.pp_object.specs.Objects.{objects, gives_in, kept_in, fits_in, put, act_at}
 use Rattle.pp_object.specs.laws.Elements.{set_own}
-use Rattle.pp_object.specs.laws.Places.{next_is, next_there, legal_there, others_swap, swaps_at, swaps_alone}
+use Rattle.pp_object.specs.laws.Places.{next_is, next_there, legal_there, others_swap, swaps_at}
+use Rattle.pp_object.specs.laws.Places.{swaps_alone}
 use Rattle.pp_object.specs.laws.One.{one_lawful}
 
 pub applies_there : (ss : List ObjectState) (x : Op) (s t : ObjectState)

@@ -1,6 +1,7 @@
 -- Meaning: the calls of the kinds: their words, their arguments, and the operations that records
 -- make of them.
-use Rattle.std.specs.Prelude.{◌≡◌, ℕ, ℤ, pos, nat_lt, Bool, true, false, IsTrue, if◌then◌else◌, List, [], ◌∷◌, Option, Some, None, option_and_then}
+use Rattle.std.specs.Prelude.{◌≡◌, ℕ, ℤ, pos, nat_lt, Bool, true, false, IsTrue, if◌then◌else◌}
+use Rattle.std.specs.Prelude.{List, [], ◌∷◌, Option, Some, None, option_and_then}
 use Rattle.pp_core.specs.declared.answer.Answer.{Answer}
 use Rattle.pp_core.specs.declared.answer.Answer.TheVariants as answers
 use Rattle.pp_core.specs.declared.call.Call.{Call}
@@ -19,7 +20,8 @@ use Rattle.pp_queue.specs.declared.op.QueueOp.TheVariants as queues
 use Rattle.pp_stack.specs.declared.op.StackOp.TheVariants as stacks
 use Rattle.pp_prio.specs.declared.op.PrioOp.TheVariants as prios
 use Rattle.pp_object.specs.declared.act.Act.{Act}
-use Rattle.pp_object.specs.declared.act.Act.TheVariants.{Memory, KeySet, KeyMap, Counter, Queue, Stack, PriorityQueue}
+use Rattle.pp_object.specs.declared.act.Act.TheVariants.{Memory, KeySet, KeyMap, Counter, Queue}
+use Rattle.pp_object.specs.declared.act.Act.TheVariants.{Stack, PriorityQueue}
 use Rattle.pp_object.specs.declared.act.Op.{Op}
 use Rattle.pp_object.specs.declared.form.Form.{Form}
 use Rattle.pp_object.specs.declared.form.Form.TheVariants as forms

@@ -1,6 +1,7 @@
 -- Meaning: what the objects of a run mean: at each place one object, of which an operation knows
 -- the place.
-use Rattle.std.specs.Prelude.{◌≡◌, ℕ, Bool, false, nat_eq, if◌then◌else◌, List, map, slice_set, Option, Some, None, option_map}
+use Rattle.std.specs.Prelude.{◌≡◌, ℕ, Bool, false, nat_eq, if◌then◌else◌, List, map, slice_set}
+use Rattle.std.specs.Prelude.{Option, Some, None, option_map}
 use Rattle.std.specs.List.{slice_get}
 use Rattle.pp_core.specs.Catalogs as catalogs
 use Rattle.pp_core.specs.declared.answer.Answer.{Answer}

@@ -1,5 +1,6 @@
 -- Meaning: what one object means, of whatever kind: what its kind means.
-use Rattle.std.specs.Prelude.{ℤ, Bool, true, false, List, map, Option, Some, None, pos, Result, Ok, Err}
+use Rattle.std.specs.Prelude.{ℤ, Bool, true, false, List, map, Option, Some, None, pos, Result, Ok}
+use Rattle.std.specs.Prelude.{Err}
 use Rattle.pp_core.specs.declared.answer.OutOfMemory.{OutOfMemory}
 use Rattle.pp_spec.specs.declared.spec.Applied.{Applied}
 use Rattle.pp_spec.specs.declared.spec.Applied.TheVariants.{Done, Differs}
@@ -17,7 +18,8 @@ use Rattle.pp_queue.specs.Fifo.{fifo}
 use Rattle.pp_stack.specs.Stacks.{stack}
 use Rattle.pp_prio.specs.Prios.{prio}
 use Rattle.pp_object.specs.declared.act.Act.{Act}
-use Rattle.pp_object.specs.declared.act.Act.TheVariants.{Memory, KeySet, KeyMap, Counter, Queue, Stack, PriorityQueue}
+use Rattle.pp_object.specs.declared.act.Act.TheVariants.{Memory, KeySet, KeyMap, Counter, Queue}
+use Rattle.pp_object.specs.declared.act.Act.TheVariants.{Stack, PriorityQueue}
 use Rattle.pp_object.specs.declared.states.ObjectState.{ObjectState}
 use Rattle.pp_object.specs.declared.states.ObjectState.TheVariants as states
 use Rattle.pp_object.specs.declared.states.Undo.{Undo}

@@ -3,7 +3,8 @@ ghost use Rattle.std.specs.Prelude.{◌≡◌, ◌↔◌, IsTrue, IsSome, IfSome
 ghost use Rattle.pp_core.specs.Words.{named, method_word};
 ghost use Rattle.pp_spec.specs.Numbers.{is_ranged_answer};
 ghost use Rattle.pp_object.specs.Calls.{methods_of, HasMethod, HasMethodNamed, method_named};
-ghost use Rattle.pp_object.specs.Calls.{arity_of, value_of, memory_act, set_act, map_act, counter_act, queue_act, stack_act, prio_act};
+ghost use Rattle.pp_object.specs.Calls.{arity_of, value_of, memory_act, set_act, map_act};
+ghost use Rattle.pp_object.specs.Calls.{counter_act, queue_act, stack_act, prio_act};
 ghost use Rattle.pp_object.specs.Calls.{act_made, op_made, IsCallOf, IsOpOf};
 
 use crate::act::{Act, Op};

@@ -1,5 +1,6 @@
 -- What follows where an object of the catalog has a state of its kind.
-use Rattle.std.proofs.Common.{◌≡◌, ◌<◌, ℕ, zero, suc, List, [], ◌∷◌, length, map, slice_get, Some, arith}
+use Rattle.std.proofs.Common.{◌≡◌, ◌<◌, ℕ, zero, suc, List, [], ◌∷◌, length, map, slice_get, Some}
+use Rattle.std.proofs.Common.{arith}
 use Rattle.pp_core.specs.Catalogs.{Objects}
 use Rattle.pp_object.specs.declared.states.ObjectState.{ObjectState}
 use Rattle.pp_text.specs.Texts.{IsObjectOf}

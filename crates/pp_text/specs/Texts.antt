@@ -1,5 +1,6 @@
 -- Meaning: the texts of results, operations and states.
-use Rattle.std.specs.Prelude.{◌≡◌, ℕ, ℤ, true, false, IsTrue, List, [], ◌∷◌, ◌++◌, take, Option, Some, None, option_map, unwrap_or, slice_get, codes}
+use Rattle.std.specs.Prelude.{◌≡◌, ℕ, ℤ, true, false, IsTrue, List, [], ◌∷◌, ◌++◌, take, Option}
+use Rattle.std.specs.Prelude.{Some, None, option_map, unwrap_or, slice_get, codes}
 use Rattle.std.specs.Fmt.{signed_decimal}
 use Rattle.std.specs.List.{flat_map}
 use Rattle.pp_core.specs.Calls.{arguments}

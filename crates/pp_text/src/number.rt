@@ -15,8 +15,7 @@ pub fn write_number(text: &mut Text, number: u64) -> Result<(), OutOfMemory>
 }
 
 /// Adds an integer in decimal digits, with a `-` where it is negative. The only error is that
-/// memory
-/// was refused.
+/// memory was refused.
 pub fn write_integer(text: &mut Text, integer: i128) -> Result<(), OutOfMemory>
     ensures ok { OnOk result (text.new ≡ text.old ++ signed_decimal integer) }
     ensures err { OnErr result (text.new ≡ text.old) }

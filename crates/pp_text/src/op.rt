@@ -1,7 +1,8 @@
 //! Operations as text.
 ghost use Rattle.std.specs.Prelude.{◌≡◌, ◌<◌, ◌++◌, codes, length, IfOk, OnOk};
 ghost use Rattle.std.specs.Fmt.{signed_decimal};
-ghost use Rattle.pp_text.specs.Texts.{IsNamed, name_at, more_bytes, arguments_bytes, call_bytes, op_bytes};
+ghost use Rattle.pp_text.specs.Texts.{IsNamed, name_at, more_bytes, arguments_bytes, call_bytes};
+ghost use Rattle.pp_text.specs.Texts.{op_bytes};
 
 use crate::answer::write_answer;
 use crate::number::write_integer;

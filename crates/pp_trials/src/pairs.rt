@@ -10,8 +10,7 @@ use std::test::Fail;
 pub struct Pair {
     pub first: Op,
     pub second: Op,
-    /// What stands before and after them where they do not swap, or nothing where they
-    /// do.
+    /// What stands before and after them where they do not swap, or nothing where they do.
     pub context: Option<(&'static [Op], &'static [Op])>,
 }
 

@@ -1,12 +1,15 @@
 -- Proof machinery: acts of one kind do on its states what its operations do by themselves.
 use Rattle.std.proofs.Common.{◌≡◌, IsTrue, List, [], ◌∷◌, map, refl, sym, ◌∙◌, ap, subst}
 use Rattle.pp_core.specs.declared.call.Kind.{Kind}
-use Rattle.pp_spec.specs.Object.{IsLegal, AllowedFrom, state_from, IsAllowed, state_after, AllRanged, Swaps}
+use Rattle.pp_spec.specs.Object.{IsLegal, AllowedFrom, state_from, IsAllowed, state_after}
+use Rattle.pp_spec.specs.Object.{AllRanged, Swaps}
 use Rattle.pp_spec.proofs.Lists.{MayTurn, turned_there, swaps_where_turned}
 use Rattle.pp_object.specs.declared.act.Act.{Act}
 use Rattle.pp_object.specs.declared.states.ObjectState.{ObjectState}
 use Rattle.pp_object.specs.One.{one}
-use Rattle.pp_object.specs.laws.Kinds.{Ops, States, act_of, asks_kind, fits, gives_is, has_kind, its_act, next_is, object_of, only_kind, ranged_is, recorded_is, start_is, state_of}
+use Rattle.pp_object.specs.laws.Kinds.{Ops, States, act_of, asks_kind, fits, gives_is, has_kind}
+use Rattle.pp_object.specs.laws.Kinds.{its_act, next_is, object_of, only_kind, ranged_is}
+use Rattle.pp_object.specs.laws.Kinds.{recorded_is, start_is, state_of}
 
 module _ (k : Kind) where
   pub legal_in : (s : States k) (a : Ops k) → IsLegal (object_of k) s a

@@ -1,6 +1,5 @@
 -- Proof machinery: the kinds, one by one. Each table has an arm for each kind, and what the laws
--- ask
--- of a kind holds case by case.
+-- ask of a kind holds case by case.
 use Rattle.std.proofs.Common.{◌≡◌, ℤ, false, IsTrue, List, None, refl, sym, ◌∙◌, subst}
 use Rattle.std.specs.Ordering.{int_cmp}
 use Rattle.std.specs.FinMap.{FinMap}
@@ -37,7 +36,8 @@ use Rattle.pp_prio.specs.laws.Lawful.{prio_lawful}
 use Rattle.pp_prio.specs.declared.op.PrioOp.{PrioOp}
 use Rattle.pp_prio.specs.declared.op.PrioOp.TheVariants as prios
 use Rattle.pp_object.specs.declared.act.Act.{Act}
-use Rattle.pp_object.specs.declared.act.Act.TheVariants.{Memory, KeySet, KeyMap, Counter, Queue, Stack, PriorityQueue}
+use Rattle.pp_object.specs.declared.act.Act.TheVariants.{Memory, KeySet, KeyMap, Counter, Queue}
+use Rattle.pp_object.specs.declared.act.Act.TheVariants.{Stack, PriorityQueue}
 use Rattle.pp_object.specs.declared.states.ObjectState.{ObjectState}
 use Rattle.pp_object.specs.declared.states.ObjectState.TheVariants as states
 use Rattle.pp_object.specs.declared.states.Undo.{Undo}

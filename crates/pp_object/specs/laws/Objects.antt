@@ -1,20 +1,27 @@
 -- Proof machinery: the objects of a run are lawful, and each operation has one place.
-use Rattle.std.proofs.Common.{◌≡◌, ℕ, zero, suc, Bool, true, false, nat_eq, IsTrue, List, [], ◌∷◌, ◌++◌, map, set, Option, Some, None, option_map, ◌↔◌, refl, sym, ◌∙◌, ap, subst, inl, inr, ◌⊎◌, if◌then◌else◌, arith}
+use Rattle.std.proofs.Common.{◌≡◌, ℕ, zero, suc, Bool, true, false, nat_eq, IsTrue, List, [], ◌∷◌}
+use Rattle.std.proofs.Common.{◌++◌, map, set, Option, Some, None, option_map, ◌↔◌, refl, sym, ◌∙◌}
+use Rattle.std.proofs.Common.{ap, subst, inl, inr, ◌⊎◌, if◌then◌else◌, arith}
 use Rattle.std.proofs.lemmas.Bool.Decides.{nat_tests}
 use Rattle.std.proofs.lemmas.List.{map-append, set-set}
 use Rattle.std.proofs.lemmas.Option.{slice_get-map}
 use Rattle.std.specs.List.{slice_get}
 use Rattle.pp_core.specs.declared.call.Call.{Call}
 use Rattle.pp_core.specs.declared.call.Kind.{Kind}
-use Rattle.pp_spec.specs.Object.{Object, IsLegal, IsAllowed, AllRanged, Swaps, IsRefutedBy, IsLawful, IsPlaced, AllowsAllOf}
+use Rattle.pp_spec.specs.Object.{Object, IsLegal, IsAllowed, AllRanged, Swaps, IsRefutedBy}
+use Rattle.pp_spec.specs.Object.{IsLawful, IsPlaced, AllowsAllOf}
 use Rattle.pp_object.specs.declared.act.Act.{Act}
 use Rattle.pp_object.specs.declared.act.Op.{Op}
 use Rattle.pp_object.specs.declared.states.ObjectState.{ObjectState}
 use Rattle.pp_object.specs.declared.states.Undo.{Undo}
 use Rattle.pp_object.specs.One.{one, both_as}
-use Rattle.pp_object.specs.Objects.{many, objects, place_of, SameAt, fits_in, gives_in, kept_in, put, act_at}
-use Rattle.pp_object.specs.laws.Elements.{same_place, same_some, set_own, same_list, get_put, put_other}
-use Rattle.pp_object.specs.laws.Places.{legal_there, next_is, next_there, next_other, next_shapes, start_shapes, start_at, allowed_at, allowed_alone, others_swap, swaps_at, swaps_alone}
+use Rattle.pp_object.specs.Objects.{many, objects, place_of, SameAt, fits_in, gives_in, kept_in}
+use Rattle.pp_object.specs.Objects.{put, act_at}
+use Rattle.pp_object.specs.laws.Elements.{same_place, same_some, set_own, same_list, get_put}
+use Rattle.pp_object.specs.laws.Elements.{put_other}
+use Rattle.pp_object.specs.laws.Places.{legal_there, next_is, next_there, next_other, next_shapes}
+use Rattle.pp_object.specs.laws.Places.{start_shapes, start_at, allowed_at, allowed_alone}
+use Rattle.pp_object.specs.laws.Places.{others_swap, swaps_at, swaps_alone}
 use Rattle.pp_object.specs.laws.One.{one_lawful, call_has_no_place, none_as}
 
 -- a call at the object 0 is told by its other parts

@@ -1,18 +1,25 @@
 -- Proof machinery: an object of any kind is lawful, since each kind is.
-use Rattle.std.proofs.Common.{◌≡◌, Bool, true, false, ◌&&◌, IsTrue, List, ◌∷◌, ◌++◌, map, Option, Some, None, ◌↔◌, refl, sym, ◌∙◌, ap, subst}
+use Rattle.std.proofs.Common.{◌≡◌, Bool, true, false, ◌&&◌, IsTrue, List, ◌∷◌, ◌++◌, map, Option}
+use Rattle.std.proofs.Common.{Some, None, ◌↔◌, refl, sym, ◌∙◌, ap, subst}
 use Rattle.std.proofs.lemmas.List.{map-append}
 use Rattle.pp_core.specs.declared.answer.Answer.{Answer}
 use Rattle.pp_core.specs.declared.call.Call.{Call}
 use Rattle.pp_core.specs.declared.call.Kind.{Kind}
 use Rattle.pp_spec.specs.Numbers.{has_ranged_arguments, is_ranged_answer}
-use Rattle.pp_spec.specs.Object.{IsLegal, AllowedFrom, IsAllowed, state_after, Swaps, IsRefutedBy, IsLawful, AllowsAllOf}
+use Rattle.pp_spec.specs.Object.{IsLegal, AllowedFrom, IsAllowed, state_after, Swaps, IsRefutedBy}
+use Rattle.pp_spec.specs.Object.{IsLawful, AllowsAllOf}
 use Rattle.pp_spec.proofs.Lists.{keeps_shape, swaps_where_turned}
 use Rattle.pp_object.specs.declared.act.Act.{Act}
 use Rattle.pp_object.specs.declared.states.ObjectState.{ObjectState}
 use Rattle.pp_object.specs.declared.states.Undo.{Undo}
 use Rattle.pp_object.specs.One.{one, both_as}
-use Rattle.pp_object.specs.laws.Kinds.{Ops, States, Undos, act_of, back_is, call_is, each_act, each_state, fits, from_state, has_kind, into_state, its_act, its_state, kept_is, lawful, next_is, no_place, object_of, one_undo, only_kind, other, ranged_is, recorded_is, refuting_is, start_is, state_of, undo_as}
-use Rattle.pp_object.specs.laws.Acts.{legal_out, legal_act, allowed_in, allowed_out, swaps_in, swaps_out, ranged_in}
+use Rattle.pp_object.specs.laws.Kinds.{Ops, States, Undos, act_of, back_is, call_is, each_act}
+use Rattle.pp_object.specs.laws.Kinds.{each_state, fits, from_state, has_kind, into_state, its_act}
+use Rattle.pp_object.specs.laws.Kinds.{its_state, kept_is, lawful, next_is, no_place, object_of}
+use Rattle.pp_object.specs.laws.Kinds.{one_undo, only_kind, other, ranged_is, recorded_is}
+use Rattle.pp_object.specs.laws.Kinds.{refuting_is, start_is, state_of, undo_as}
+use Rattle.pp_object.specs.laws.Acts.{legal_out, legal_act, allowed_in, allowed_out, swaps_in}
+use Rattle.pp_object.specs.laws.Acts.{swaps_out, ranged_in}
 
 -- What holds where an operation of a kind is legal by itself holds where an act is legal.
 pub each_legal : (P : ObjectState → Act → Type 0)

@@ -1,18 +1,23 @@
 -- Proof machinery: what an operation does at its place, and that it does nothing elsewhere.
-use Rattle.std.proofs.Common.{◌≡◌, ℕ, ◌≤◌, suc, IsTrue, List, [], ◌∷◌, length, map, set, replicate, Option, Some, None, option_map, refl, sym, ◌∙◌, ap, subst, inl, inr, ◌⊎◌, arith}
+use Rattle.std.proofs.Common.{◌≡◌, ℕ, ◌≤◌, suc, IsTrue, List, [], ◌∷◌, length, map, set, replicate}
+use Rattle.std.proofs.Common.{Option, Some, None, option_map, refl, sym, ◌∙◌, ap, subst, inl, inr}
+use Rattle.std.proofs.Common.{◌⊎◌, arith}
 use Rattle.std.proofs.lemmas.List.{set-set, set_comm}
 use Rattle.std.proofs.lemmas.Option.{slice_get-map}
 use Rattle.std.specs.List.{slice_get}
 use Rattle.pp_core.specs.declared.call.Kind.{Kind}
 use Rattle.pp_spec.specs.Calls.{WasApplied}
-use Rattle.pp_spec.specs.Object.{Object, IsLegal, AllowedFrom, state_from, state_after, AllRanged, IsLawful, IsReached, Swaps, Commutes, AllowsAllOf}
-use Rattle.pp_spec.proofs.Lists.{commuting_swap, keeps_shape, MayTurn, turned_there, swaps_where_turned}
+use Rattle.pp_spec.specs.Object.{Object, IsLegal, AllowedFrom, state_from, state_after, AllRanged}
+use Rattle.pp_spec.specs.Object.{IsLawful, IsReached, Swaps, Commutes, AllowsAllOf}
+use Rattle.pp_spec.proofs.Lists.{commuting_swap, keeps_shape, MayTurn, turned_there}
+use Rattle.pp_spec.proofs.Lists.{swaps_where_turned}
 use Rattle.pp_object.specs.declared.act.Act.{Act}
 use Rattle.pp_object.specs.declared.act.Op.{Op}
 use Rattle.pp_object.specs.declared.states.ObjectState.{ObjectState}
 use Rattle.pp_object.specs.declared.states.Undo.{Undo}
 use Rattle.pp_object.specs.Objects.{many, fits_in, gives_in, kept_in, put, act_at}
-use Rattle.pp_object.specs.laws.Elements.{same_place, same_some, get_set, get_other, map_set, get_replicate}
+use Rattle.pp_object.specs.laws.Elements.{same_place, same_some, get_set, get_other, map_set}
+use Rattle.pp_object.specs.laws.Elements.{get_replicate}
 
 module _ (o : Object Kind ObjectState Act Undo) (laws : IsLawful o) where
   -- an operation is legal where its act is legal at its place

@@ -8,7 +8,9 @@ use Rattle.pp_object.specs.declared.act.Act.{Act}
 use Rattle.pp_object.specs.declared.states.ObjectState.{ObjectState}
 use Rattle.pp_object.specs.declared.states.Undo.{Undo}
 use Rattle.pp_object.specs.One.{one}
-use Rattle.pp_object.specs.laws.Kinds.{Ops, States, act_of, has_kind, its_state, kept_is, next_is, object_of, one_state, one_undo, only_kind, ranged_is, state_of, undo_from}
+use Rattle.pp_object.specs.laws.Kinds.{Ops, States, act_of, has_kind, its_state, kept_is, next_is}
+use Rattle.pp_object.specs.laws.Kinds.{object_of, one_state, one_undo, only_kind, ranged_is}
+use Rattle.pp_object.specs.laws.Kinds.{state_of, undo_from}
 use Rattle.pp_object.specs.laws.Acts.{legal_out, reached_in, ranged_out}
 
 module _ (k : Kind) where
