@@ -75,12 +75,13 @@ CostsInVain place c (Quit t) old new = new ≡ old
 CostsInVain place c (Note t) old new = new ≡ old
 
 -- What a step costs by its outcome.
-abbrev pub CostsBy : {Op : Type 0} → (Op → ℕ) → Config Op → Step Op → Outcome → ℕ → ℕ → Type 0
+abbrev pub CostsBy : {Op : Type 0} → (Op → ℕ) → Config Op → Step Op → Outcome Op → ℕ →
+    ℕ → Type 0
 CostsBy place c step Done old new = new ≡ old + step_ticks place c step
-CostsBy place c step (False n) old new = CostsInVain place c step old new
+CostsBy place c step (False n detail) old new = CostsInVain place c step old new
 
 -- What a step costs by what it answers.
 abbrev pub Costs : {Shape Op A E : Type 0} → (Op → ℕ) → Seen Shape Op → Step Op →
-    Result (A × Outcome) E → ℕ → ℕ → Type 0
+    Result (A × Outcome Op) E → ℕ → ℕ → Type 0
 Costs place v step (Ok r) old new = CostsBy place v.config step r.1 old new
 Costs place v step (Err e) old new = new ≤ old + at_most place v.config step

@@ -1,5 +1,6 @@
 pub mod Costs
 pub mod Courses
+pub mod Evidence
 pub mod Finding
 pub mod Machines
 pub mod Removals

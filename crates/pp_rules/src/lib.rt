@@ -2,11 +2,13 @@
 #![tactic(auto)]
 
 mod course;
+mod detail;
 mod find;
 mod laws;
 mod machine;
 mod transactions;
 
+pub use detail::Detail;
 pub use laws::{
     alone_law, kept_law, same_state_law, serial_law, simulation_law, verdict_law, views_law,
     written_law,
