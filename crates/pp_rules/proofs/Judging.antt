@@ -1,6 +1,6 @@
 -- The first false criterion with its evidence, by what the tests of the machine say.
 use Rattle.std.proofs.Common.{◌≡◌, ◌≢◌, ◌&&◌, ℕ, suc, not, true, false, filter, List, [], ◌∷◌, ◌++◌, Option, Some, None, refl, sym, subst, arith}
-use Rattle.pp_model.specs.Config.{is_mark, own, Step, Begin, App, Unapp, Push, Unpush, Pull, Unpull, Cmt, Quit, Note, last, of_other, without_local, without_shared, Tx, tx, LocalEntry, SharedEntry, local_ops, shared_ops, is_own, Unpushed, Pushed, Pulled, at_mark}
+use Rattle.pp_model.specs.Config.{is_mark, item, own, shared_item, Step, Begin, App, Unapp, Push, Unpush, Pull, Unpull, Cmt, Quit, Note, last, of_other, without_local, without_shared, Tx, tx, LocalEntry, SharedEntry, local_ops, shared_ops, is_own, Unpushed, Pushed, Pulled, at_mark}
 use Rattle.pp_model.specs.Lists.{In, Before}
 use Rattle.pp_model.specs.Body.{Tree, IsWord}
 use Rattle.pp_model.specs.Names.{Name, ◌=ⁿ◌}
@@ -10,7 +10,7 @@ use Rattle.pp_rules.specs.Machines.{Seen}
 use Rattle.pp_model.specs.Rules.{Breaks, Meets, FirstFalse, IsLast, there}
 use Rattle.pp_log.specs.Logs.{answer_behind}
 use Rattle.pp_rules.specs.Courses.{MayFollow, own_calls}
-use Rattle.pp_rules.specs.Evidence.{entries_before, entries_behind, evidence, first_entry, first_swap, known, numbered}
+use Rattle.pp_rules.specs.Evidence.{entries_before, entries_behind, evidence, first_differing, first_entry, first_swap, known, numbered}
 use Rattle.pp_rules.specs.Finding.{stands_committed}
 use Rattle.pp_rules.specs.Stepping.{Refuses}
 use Rattle.pp_rules.specs.declared.detail.Detail.{Detail}
@@ -39,6 +39,9 @@ module _ {Shape State Op Undo : Type 0} (o : Object Shape State Op Undo) (v w : 
   refuse s n r d is h e =
       subst (λ (z : Refusal Op). Refuses o w s z) (sym is)
       (subst (λ (z : Seen Shape Op). Refuses o z s (record { criterion = suc n; detail = d })) same (record { breaks = h; numbered = omega arith; shown = e }))
+
+  lift_shown : (s : Step Op) (n : ℕ) (d : Detail Op) → d ≡ evidence o v.shape v.config s n → d ≡ evidence o w.shape w.config s n
+  lift_shown s n d h = subst (λ (z : Seen Shape Op). d ≡ evidence o z.shape z.config s n) same h
 
   lift : (s : Step Op) (n : ℕ) → Breaks (rules_of o v.shape) v.config s n → Breaks (rules_of o w.shape) w.config s n
   lift s n h = subst (λ (z : Seen Shape Op). Breaks (rules_of o z.shape) z.config s n) same h
@@ -185,6 +188,10 @@ module _ {Shape State Op Undo : Type 0} (o : Object Shape State Op Undo) (v w : 
       BehindSwap x p → (IsAllowed o v.shape (shared_ops (without_shared id v.config.shared)) → ⊥) → Breaks (rules_of o w.shape) w.config (Unpush t id) 4
   unpush_4 t id x p e h all n = lift (Unpush t id) 4 (there_more (tx t v.config.opened) _ x 2 e (there_more (at_mark id Pushed x.local) _ p 1 h (all, n)))
 
+  pub unpush_shown : (t : Name) (id : ℕ) (x : Tx Op) (p : LocalEntry Op) → tx t v.config.opened ≡ Some x → at_mark id Pushed x.local ≡ Some p →
+      (d : Detail Op) → d ≡ first_differing o shared_item (o.start v.shape) (without_shared id v.config.shared) → d ≡ evidence o w.shape w.config (Unpush t id) 4
+  unpush_shown t id x p e h d shown = lift_shown (Unpush t id) 4 d (known_more (tx t v.config.opened) _ x 2 e (known_more (at_mark id Pushed x.local) _ p 1 h shown))
+
   pub unpush_0 : (t : Name) (id : ℕ) (x : Tx Op) (p : LocalEntry Op) → tx t v.config.opened ≡ Some x → at_mark id Pushed x.local ≡ Some p →
       BehindSwap x p → IsAllowed o v.shape (shared_ops (without_shared id v.config.shared)) → Meets (rules_of o w.shape) w.config (Unpush t id)
   unpush_0 t id x p e h all k = lift (Unpush t id) 0 (there_0 (tx t v.config.opened) _ x e (there_0 (at_mark id Pushed x.local) _ p h (all, (k, refl))))
@@ -198,6 +205,10 @@ module _ {Shape State Op Undo : Type 0} (o : Object Shape State Op Undo) (v w : 
   pub unpull_3 : (t : Name) (id : ℕ) (x : Tx Op) (p : LocalEntry Op) → tx t v.config.opened ≡ Some x → at_mark id Pulled x.local ≡ Some p →
       (IsAllowed o v.shape (local_ops (without_local id x.local)) → ⊥) → Breaks (rules_of o w.shape) w.config (Unpull t id) 3
   unpull_3 t id x p e h n = lift (Unpull t id) 3 (there_more (tx t v.config.opened) _ x 1 e (there_more (at_mark id Pulled x.local) _ p 0 h n))
+
+  pub unpull_shown : (t : Name) (id : ℕ) (x : Tx Op) (p : LocalEntry Op) → tx t v.config.opened ≡ Some x → at_mark id Pulled x.local ≡ Some p →
+      (d : Detail Op) → d ≡ first_differing o item (o.start v.shape) (without_local id x.local) → d ≡ evidence o w.shape w.config (Unpull t id) 3
+  unpull_shown t id x p e h d shown = lift_shown (Unpull t id) 3 d (known_more (tx t v.config.opened) _ x 1 e (known_more (at_mark id Pulled x.local) _ p 0 h shown))
 
   pub unpull_0 : (t : Name) (id : ℕ) (x : Tx Op) (p : LocalEntry Op) → tx t v.config.opened ≡ Some x → at_mark id Pulled x.local ≡ Some p →
       IsAllowed o v.shape (local_ops (without_local id x.local)) → Meets (rules_of o w.shape) w.config (Unpull t id)

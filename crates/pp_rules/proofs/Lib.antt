@@ -9,6 +9,7 @@ pub mod Keeping
 pub mod Looking
 pub mod Opened
 pub mod Removing
+pub mod Showing
 pub mod Slots
 pub mod Swapping
 pub mod Testing

@@ -18,15 +18,27 @@ use Rattle.pp_log.specs.Logs.{removal_steps}
 use Rattle.pp_log.specs.Logs.{RemovesEntry, from_place}
 use Rattle.pp_spec.specs.Object.{Object, IsAllowed, SwapsIn, rules_of}
 use Rattle.pp_rules.specs.Costs.{behind, from_id, log_items}
+use Rattle.pp_rules.specs.Evidence.{evidence, first_differing}
+use Rattle.pp_rules.specs.declared.detail.Detail.{Detail}
+use Rattle.pp_rules.specs.declared.detail.Detail.TheVariants.{Nothing, Gives}
 use Rattle.pp_rules.specs.Machines.{Holds, Seen, config_of, tx_of}
 use Rattle.pp_rules.specs.Stepping.{FindsPushed, IsLastAt}
 use Rattle.pp_rules.specs.Transactions.{CostsAt, MayLeave, Open, RemovesAt, Txs, open_at, open_of, with_log}
 use Rattle.pp_rules.proofs.Finding.{placed, slice_within}
 use Rattle.pp_rules.proofs.Judged.{HasEntry}
-use Rattle.pp_rules.proofs.Judging.{unpush_4, unpush_0, unpull_3, unpull_0}
+use Rattle.pp_rules.proofs.Judging.{unpush_4, unpush_shown, unpush_0, unpull_3, unpull_shown, unpull_0}
 use Rattle.pp_rules.proofs.Keeping.{located_same, posted_at, relocated_is, unpulled}
 use Rattle.pp_rules.proofs.Opened.{HasLog, logged, opened}
 use Rattle.pp_rules.proofs.Removing.{differs_not, from_id_some, from_place_is, from_place_last, last_removed, never_differs}
+use Rattle.pp_rules.proofs.Showing.{differing_shown}
+
+-- what a removal that differs says is the evidence
+told : {Op : Type 0} {a c : ℕ} {b d : Answer} → Differs c d ≡ Differs a b → ◌≡◌ {A = Detail Op} (Gives a b) (Gives c d)
+told {Op} {a} {c} {b} {d} e = ap (λ (z : Removed). differing z) (sym e)
+  where
+    differing : Removed → Detail Op
+    differing Done = Nothing
+    differing (Differs i r) = Gives i r
 
 cost_done : (removed : Removed) (k a b : ℕ) → removed ≡ Done → 1 ≤ k → removal_steps removed k a b → b ≡ a + (2 * k - 1)
 cost_done Done k a b e s c = omega (arith, c, s)
@@ -127,11 +139,16 @@ module _ {Shape State Op Undo : Type 0} (o : Object Shape State Op Undo) (shape 
     unpull_done u (Differs a b) e r = absurd (cc)
 
     pub unpull_differs : (u : Txs Shape Op) (removed : Removed) (a : ℕ) (b : Answer) → removed ≡ Differs a b → RemovesAt o v t i u removed → (u ≡ v) × Breaks (rules_of o w.shape) w.config (Unpull t id) 3
+        × (Gives a b ≡ evidence o w.shape w.config (Unpull t id) 3)
     unpull_differs u Done a b e r = absurd (cc)
     unpull_differs u (Differs c d) a b e r =
         let q = r (open_of t (k.has).thread (k.has).body k.log) (k.has).at in (
           q.2 ∙ located_same o shape v ids G F n w same h t k.log k.has q.0 q.1.0,
           unpull_3 o _ w same t id _ p (k.has).is k.found (λ z. differs_not o item (k.log).0 (remove (k.log).1 i) c d q.1.1 (allowed_there z)),
+          told e
+              ∙ unpull_shown o _ w same t id _ p (k.has).is k.found (Gives c d)
+              (differing_shown o item (o.start (k.log).0) (remove (k.log).1 i) c d q.1.1
+              ∙ ap (λ (s : Shape). first_differing o item (o.start s) (remove (k.log).1 i)) ((k.has).fine).same_shape ∙ ap (first_differing o item (o.start shape)) without),
         )
 
     pub unpull_cost_done : (place : Op → ℕ) (removed : Removed) (a b : ℕ) → removed ≡ Done → CostsAt {E = ℕ} place v t i (Ok removed) a b → b ≡ a + (2 * behind place w.config (Unpull t id) - 1)
@@ -196,11 +213,16 @@ module _ {Shape State Op Undo : Type 0} (o : Object Shape State Op Undo) (shape 
     unpush_done H (Differs a b) e r = absurd (cc)
 
     pub unpush_differs : (H : Shape × List (SharedEntry Op)) (removed : Removed) (a : ℕ) (b : Answer) → removed ≡ Differs a b → RemovesEntry o shared_item G j H removed → (H ≡ G) × Breaks (rules_of o w.shape) w.config (Unpush t id) 4
+        × (Gives a b ≡ evidence o w.shape w.config (Unpush t id) 4)
     unpush_differs H Done a b e r = absurd (cc)
     unpush_differs H (Differs c d) a b e r = (
       r.0,
       unpush_4 o _ w same t id _ k.entry ((k.has).has).is (k.has).found k.swap (λ z. differs_not o shared_item G.0 (remove G.1 j) c d r.1
           (subst (λ (s : Shape). IsAllowed o s (shared_ops (remove G.1 j))) (sym h.shared_shape) (subst (λ (y : List (SharedEntry Op)). IsAllowed o shape (shared_ops y)) (sym unposted) z))),
+      told e
+          ∙ unpush_shown o _ w same t id _ k.entry ((k.has).has).is (k.has).found (Gives c d)
+          (differing_shown o shared_item (o.start G.0) (remove G.1 j) c d r.1
+          ∙ ap (λ (s : Shape). first_differing o shared_item (o.start s) (remove G.1 j)) h.shared_shape ∙ ap (first_differing o shared_item (o.start shape)) unposted),
     )
 
     unpush_behind : (place : Op → ℕ) → from_place place (shared_ops G.1) j ≡ behind place w.config (Unpush t id)

@@ -3,8 +3,8 @@ ghost use Rattle.std.specs.Prelude.{◌<◌};
 ghost use Rattle.pp_core.specs.Steps.{Cmt};
 ghost use Rattle.pp_rules.specs.Stepping.{Does, IsLocalOf, Judges};
 
-use crate::find::{first_not_standing, first_unpushed, own_items};
 use crate::detail::{Detail, Refusal, bare};
+use crate::find::{first_not_standing, first_unpushed, own_items};
 use crate::machine::{Machine, Outcome};
 use pp_core::{CommittedTx, Name, OutOfMemory};
 use pp_local::Local;

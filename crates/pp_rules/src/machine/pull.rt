@@ -4,8 +4,8 @@ ghost use Rattle.pp_core.specs.Steps.{Pull};
 ghost use Rattle.pp_rules.specs.Costs.{Costs};
 ghost use Rattle.pp_rules.specs.Stepping.{Does, JudgesPull};
 
-use crate::find::{first_not_before, other_at};
 use crate::detail::{Detail, Refusal, bare, swap_detail};
+use crate::find::{first_not_before, other_at};
 use crate::machine::{Machine, Outcome};
 use pp_core::{LocalEntry, Mark, Name, OutOfMemory, SharedEntry, Ticks};
 use pp_spec::Placed;
@@ -37,8 +37,9 @@ impl<S: Placed> Machine<S> {
                 detail: Detail::Gives { id, answer },
             }));
         }
-        if let Some(k) = first_not_before::<S>(local.entries(), &post.op) {
-            let own = &local.entries()[k];
+        let entries = local.entries();
+        if let Some(k) = first_not_before::<S>(entries, &post.op) {
+            let own = &entries[k];
             let detail = swap_detail::<S>(self.alloc, own.id, &own.op, &post.op)?;
             return Ok(Err(Refusal {
                 criterion: 5,

@@ -4,8 +4,8 @@ ghost use Rattle.pp_core.specs.Steps.{Push};
 ghost use Rattle.pp_rules.specs.Costs.{Costs};
 ghost use Rattle.pp_rules.specs.Stepping.{Does, JudgesPush};
 
-use crate::find::{first_holding_back, marked_at};
 use crate::detail::{Detail, Refusal, bare, swap_detail};
+use crate::find::{first_holding_back, marked_at};
 use crate::machine::{Machine, Outcome};
 use pp_core::{LocalEntry, Mark, Name, OutOfMemory, SharedEntry, Ticks};
 use pp_spec::Placed;

@@ -4,8 +4,8 @@ ghost use Rattle.pp_core.specs.Steps.{Unapp};
 ghost use Rattle.pp_rules.specs.Costs.{Costs};
 ghost use Rattle.pp_rules.specs.Stepping.{Does, JudgesUnapp};
 
-use crate::find::last_unpushed;
 use crate::detail::{Refusal, bare};
+use crate::find::last_unpushed;
 use crate::machine::{Machine, Outcome};
 use pp_core::{Name, OutOfMemory, Ticks};
 use pp_spec::Placed;

@@ -4,8 +4,8 @@ ghost use Rattle.pp_core.specs.Steps.{Unpull};
 ghost use Rattle.pp_rules.specs.Costs.{Costs, at_most};
 ghost use Rattle.pp_rules.specs.Stepping.{Does, JudgesUnpull};
 
-use crate::find::marked_at;
 use crate::detail::{Detail, Refusal, bare};
+use crate::find::marked_at;
 use crate::machine::{Machine, Outcome};
 use pp_core::{Mark, Name, OutOfMemory, Ticks};
 use pp_local::Removed;

@@ -4,8 +4,8 @@ ghost use Rattle.pp_core.specs.Steps.{Unpush};
 ghost use Rattle.pp_rules.specs.Costs.{Costs, at_most};
 ghost use Rattle.pp_rules.specs.Stepping.{Does, JudgesUnpush};
 
-use crate::find::{first_staying_behind, marked_at};
 use crate::detail::{Detail, Refusal, bare, swap_detail};
+use crate::find::{first_staying_behind, marked_at};
 use crate::machine::{Machine, Outcome};
 use pp_core::{Mark, Name, OutOfMemory, Ticks};
 use pp_shared::Removed;
