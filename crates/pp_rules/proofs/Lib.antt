@@ -12,5 +12,6 @@ pub mod Removing
 pub mod Showing
 pub mod Slots
 pub mod Swapping
+pub mod Telling
 pub mod Testing
 pub mod Undoing

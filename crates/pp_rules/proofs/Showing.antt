@@ -8,18 +8,14 @@ use Rattle.pp_core.specs.declared.entry.Item.{Item}
 use Rattle.pp_core.specs.declared.entry.LocalEntry.{LocalEntry}
 use Rattle.pp_log.specs.Logs.{DiffersFrom, entry_ops}
 use Rattle.pp_model.specs.Lists.{In}
-use Rattle.pp_model.proofs.Logs.{found}
+use Rattle.pp_model.proofs.Logs.{both_true, found}
 use Rattle.pp_spec.specs.Object.{Object, AllowedFrom, state_from}
 use Rattle.pp_rules.specs.Evidence.{first_differing, first_entry, first_swap, is_same, swap_or}
 use Rattle.pp_rules.specs.declared.detail.Detail.{Detail}
 use Rattle.pp_rules.specs.declared.detail.Detail.TheVariants.{Nothing, Entry, Gives}
 use Rattle.pp_rules.proofs.Finding.{find_nowhere, is_not_true, place_found, place_none, some_same}
 
--- two tests that both pass, and two of which the first passes and not both
-pub both : (a b : Bool) → (a && b) ≡ true → (a ≡ true) × (b ≡ true)
-both true b e = (refl, e)
-both false b e = absurd (cc)
-
+-- two tests of which the first passes and not both
 pub second_fails : (a b : Bool) → (a && b) ≡ false → a ≡ true → b ≡ false
 second_fails true b e t = e
 second_fails false b e t = absurd (cc)
@@ -51,7 +47,7 @@ module _ {Op E : Type 0} (passes : E → Bool) (refuting : E → Option (List Op
   pub stops_here : (l : List E) (k : ℕ) (e : E) → position stops l ≡ Some k → slice_get l k ≡ Some e → In e l × (passes e ≡ true) × (is_some (refuting e) ≡ true)
   stops_here l k e h at =
       let q = found stops l e (place_found stops l k e h at) in
-      let r = both (passes e) (is_some (refuting e)) q.1 in
+      let r = both_true (passes e) (is_some (refuting e)) q.1 in
       (q.0, r.0, r.1)
 
 -- the first entry that passes

@@ -4,12 +4,12 @@ use Rattle.std.proofs.lemmas.Bool.{eqb-true, eq-eqb}
 use Rattle.pp_model.specs.Config.{LocalEntry, SharedEntry, Mark, Unpushed, Pushed, Pulled, is_mark, is_own}
 use Rattle.pp_model.specs.Lists.{In}
 use Rattle.pp_model.proofs.Lists.{by_key}
-use Rattle.pp_model.proofs.Logs.{found, is_mark-true}
+use Rattle.pp_model.proofs.Logs.{both_true, found, is_mark-true}
 use Rattle.pp_rules.specs.Evidence.{first_entry}
 use Rattle.pp_rules.specs.Finding.{HaveOwnIds, is_committed, stands_committed}
 use Rattle.pp_rules.specs.declared.detail.Detail.TheVariants.{Entry}
 use Rattle.pp_rules.proofs.Finding.{find_nowhere, place_found, place_none, some_same}
-use Rattle.pp_rules.proofs.Showing.{both, entry_shown, second_fails}
+use Rattle.pp_rules.proofs.Showing.{entry_shown, second_fails}
 
 unpushed_own : (m : Mark) → is_mark m Unpushed ≡ true → (is_own m ≡ true) × (m ≡ Pushed → ⊥)
 unpushed_own Unpushed h = (refl, λ e. cc)
@@ -67,7 +67,7 @@ module _ {Op : Type 0} where
       let same = by_key (λ (z : SharedEntry Op). z.id) G d g s.0 k.0 s.1 (eqb-true g.id id k.1 ∙ sym s.2) in
       let z : true ≡ false = sym s.3 ∙ sym (ap (λ (z : SharedEntry Op). z.committed) same) ∙ h in cc
 
-  abbrev fallen : List (SharedEntry Op) → LocalEntry Op → Bool
+  abbrev pub fallen : List (SharedEntry Op) → LocalEntry Op → Bool
   fallen G e = is_mark e.mark Pulled && not (stands_committed e.id G)
 
   pub all_stand : (l ds : List (LocalEntry Op)) (G : List (SharedEntry Op)) → ds ≡ l → position (fallen G) ds ≡ None → (p : LocalEntry Op) → In p l → p.mark ≡ Pulled → Standing G p.id
@@ -81,7 +81,7 @@ module _ {Op : Type 0} where
   not_all_stand l ds G e d k p h at =
       let f = place_found (fallen G) ds k p h at in
       let r = found (fallen G) ds p f in
-      let b = both (is_mark p.mark Pulled) (not (stands_committed p.id G)) r.1 in (
+      let b = both_true (is_mark p.mark Pulled) (not (stands_committed p.id G)) r.1 in (
         subst (λ (z : List (LocalEntry Op)). In p z) e r.0,
         is_mark-true p.mark Pulled b.0,
         standing_not G p.id d (find (λ g. g.id == p.id) G) refl (not_true (stands_committed p.id G) b.1),

@@ -54,18 +54,18 @@ entries_before id l = take (position_or_len (λ e. e.id == id) l) l
 abbrev pub entries_behind : {Op : Type 0} → ℕ → List (LocalEntry Op) → List (LocalEntry Op)
 entries_behind id l = drop (position_or_len (λ e. e.id == id) l + 1) l
 
--- That it is not there has no evidence; where it is there, this is the evidence of what is asked
--- of it.
-abbrev pub known : {A Op : Type 0} → Option A → (A → List (Detail Op)) → List (Detail Op)
-known None f = Nothing ∷ []
-known (Some x) f = Nothing ∷ f x
+-- That it is not there has no evidence. Where it is there, this is the evidence of what is asked of
+-- it.
+abbrev pub if_there : {A Op : Type 0} → Option A → (A → List (Detail Op)) → List (Detail Op)
+if_there None f = Nothing ∷ []
+if_there (Some x) f = Nothing ∷ f x
 
 -- the evidence of this place, from 1
-abbrev pub numbered : {Op : Type 0} → List (Detail Op) → ℕ → Detail Op
-numbered [] n = Nothing
-numbered (d ∷ ds) zero = Nothing
-numbered (d ∷ ds) (suc zero) = d
-numbered (d ∷ ds) (suc (suc n)) = numbered ds (suc n)
+abbrev pub at_number : {Op : Type 0} → List (Detail Op) → ℕ → Detail Op
+at_number [] n = Nothing
+at_number (d ∷ ds) zero = Nothing
+at_number (d ∷ ds) (suc zero) = d
+at_number (d ∷ ds) (suc (suc n)) = at_number ds (suc n)
 
 module _ {Shape State Op Undo : Type 0} (o : Object Shape State Op Undo) (shape : Shape) where
   -- The operation of this id, with what the object gives for it behind these.
@@ -76,41 +76,41 @@ module _ {Shape State Op Undo : Type 0} (o : Object Shape State Op Undo) (shape 
   -- criteria.
   abbrev pub evidences : Config Op → Step Op → List (Detail Op)
   evidences c (Begin t p b) = Nothing ∷ Nothing ∷ []
-  evidences c (App t id op) = known (tx t c.opened) λ x.
+  evidences c (App t id op) = if_there (tx t c.opened) λ x.
       Nothing
       ∷ Nothing
       ∷ gives_behind id (local_ops x.local) op
       ∷ []
-  evidences c (Unapp t id) = known (tx t c.opened) λ x. Nothing ∷ []
-  evidences c (Push t id) = known (tx t c.opened) λ x. known (at_mark id Unpushed x.local) λ e.
+  evidences c (Unapp t id) = if_there (tx t c.opened) λ x. Nothing ∷ []
+  evidences c (Push t id) = if_there (tx t c.opened) λ x. if_there (at_mark id Unpushed x.local) λ e.
       first_swap (λ a. a.id) (λ a. o.refuting e.op a.op)
       (filter (λ a. is_mark a.mark Unpushed) (entries_before id x.local))
       ∷ first_swap (λ u. u.id) (λ u. o.refuting u.op e.op)
       (filter (λ u. not u.committed && not (u.owner =ⁿ t)) c.shared)
       ∷ gives_behind id (shared_ops c.shared) e.op
       ∷ []
-  evidences c (Unpush t id) = known (tx t c.opened) λ x. known (at_mark id Pushed x.local) λ e.
+  evidences c (Unpush t id) = if_there (tx t c.opened) λ x. if_there (at_mark id Pushed x.local) λ e.
       first_swap (λ b. b.id) (λ b. o.refuting b.op e.op)
       (filter (λ b. is_mark b.mark Pushed) (entries_behind id x.local))
       ∷ first_differing o shared_item (o.start shape) (without_shared id c.shared)
       ∷ []
-  evidences c (Pull t id) = known (tx t c.opened) λ x. known (of_other t id c.shared) λ g.
+  evidences c (Pull t id) = if_there (tx t c.opened) λ x. if_there (of_other t id c.shared) λ g.
       Nothing
       ∷ gives_behind id (local_ops x.local) g.op
       ∷ first_swap (λ a. a.id) (λ a. o.refuting a.op g.op) (own x.local)
       ∷ []
-  evidences c (Unpull t id) = known (tx t c.opened) λ x. known (at_mark id Pulled x.local) λ e.
+  evidences c (Unpull t id) = if_there (tx t c.opened) λ x. if_there (at_mark id Pulled x.local) λ e.
       first_differing o item (o.start shape) (without_local id x.local)
       ∷ []
-  evidences c (Cmt t) = known (tx t c.opened) λ x.
+  evidences c (Cmt t) = if_there (tx t c.opened) λ x.
       Nothing
       ∷ first_entry (filter (λ e. is_mark e.mark Unpushed) x.local)
       ∷ first_entry (filter (λ e. is_mark e.mark Pulled && not (stands_committed e.id c.shared))
       x.local)
       ∷ []
-  evidences c (Quit t) = known (tx t c.opened) λ x. first_entry x.local ∷ []
-  evidences c (Note t) = known (tx t c.opened) λ x. []
+  evidences c (Quit t) = if_there (tx t c.opened) λ x. first_entry x.local ∷ []
+  evidences c (Note t) = if_there (tx t c.opened) λ x. []
 
   -- The evidence of a step whose first false criterion has this number, from 1.
   abbrev pub evidence : Config Op → Step Op → ℕ → Detail Op
-  evidence c step n = numbered (evidences c step) n
+  evidence c step n = at_number (evidences c step) n

@@ -4,5 +4,6 @@ pub mod Evidence
 pub mod Finding
 pub mod Machines
 pub mod Removals
+pub mod Shown
 pub mod Stepping
 pub mod Transactions

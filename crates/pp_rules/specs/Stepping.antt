@@ -64,8 +64,8 @@ NeedsNoMemory (Note t) = Unit {0}
 pub record Refuses {Shape State Op Undo : Type 0} (o : Object Shape State Op Undo)
     (v : Seen Shape Op) (step : Step Op) (refusal : Refusal Op) : Type 0 where
   pub breaks : Breaks (rules_of o v.shape) v.config step refusal.criterion
-  pub numbered : 0 < refusal.criterion
-  pub shown : refusal.detail ≡ evidence o v.shape v.config step refusal.criterion
+  pub not_zero : 0 < refusal.criterion
+  pub is_evidence : refusal.detail ≡ evidence o v.shape v.config step refusal.criterion
 
 -- What judging a step answers: what its effect needs where each criterion holds, and else why the
 -- step is refused.

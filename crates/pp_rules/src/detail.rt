@@ -26,6 +26,9 @@ pub struct Refusal<O> {
     pub detail: Detail<O>,
 }
 
+/// What judging a step answers where it may take memory.
+pub type Judged<A, O> = Result<Result<A, Refusal<O>>, OutOfMemory>;
+
 /// The refusal by a criterion that has no evidence.
 pub fn bare<O>(criterion: u8) -> Refusal<O>
     ensures { result ≡ record { criterion = criterion; detail = Detail.Nothing } }

@@ -4,7 +4,7 @@ ghost use Rattle.pp_core.specs.Steps.{Pull};
 ghost use Rattle.pp_rules.specs.Costs.{Costs};
 ghost use Rattle.pp_rules.specs.Stepping.{Does, JudgesPull};
 
-use crate::detail::{Detail, Refusal, bare, swap_detail};
+use crate::detail::{Detail, Judged, Refusal, bare, swap_detail};
 use crate::find::{first_not_before, other_at};
 use crate::machine::{Machine, Outcome};
 use pp_core::{LocalEntry, Mark, Name, OutOfMemory, SharedEntry, Ticks};
@@ -14,11 +14,7 @@ use std::sync::ledger::Ledger;
 impl<S: Placed> Machine<S> {
     /// The entry that PULL takes over, or the refusal by its first false criterion. The only error
     /// is that memory was refused.
-    fn judge_pull(
-        &self,
-        tx: &Name,
-        id: u32,
-    ) -> Result<Result<SharedEntry<S::Op>, Refusal<S::Op>>, OutOfMemory>
+    fn judge_pull(&self, tx: &Name, id: u32) -> Judged<SharedEntry<S::Op>, S::Op>
         ensures { IfOk result (JudgesPull S.object self.now tx.now id) }
     {
         let Some(local) = self.transactions.local(tx) else {

@@ -4,7 +4,7 @@ ghost use Rattle.pp_core.specs.Steps.{Push};
 ghost use Rattle.pp_rules.specs.Costs.{Costs};
 ghost use Rattle.pp_rules.specs.Stepping.{Does, JudgesPush};
 
-use crate::detail::{Detail, Refusal, bare, swap_detail};
+use crate::detail::{Detail, Judged, Refusal, bare, swap_detail};
 use crate::find::{first_holding_back, marked_at};
 use crate::machine::{Machine, Outcome};
 use pp_core::{LocalEntry, Mark, Name, OutOfMemory, SharedEntry, Ticks};
@@ -14,11 +14,7 @@ use std::sync::ledger::Ledger;
 impl<S: Placed> Machine<S> {
     /// The entry that PUSH publishes, and where it stands in the local log, or the refusal by its
     /// first false criterion. The only error is that memory was refused.
-    fn judge_push(
-        &self,
-        tx: &Name,
-        id: u32,
-    ) -> Result<Result<(usize, LocalEntry<S::Op>), Refusal<S::Op>>, OutOfMemory>
+    fn judge_push(&self, tx: &Name, id: u32) -> Judged<(usize, LocalEntry<S::Op>), S::Op>
         ensures { IfOk result (JudgesPush S.object self.now tx.now id) }
     {
         let Some(local) = self.transactions.local(tx) else {

@@ -4,7 +4,7 @@ ghost use Rattle.pp_core.specs.Steps.{Unpush};
 ghost use Rattle.pp_rules.specs.Costs.{Costs, at_most};
 ghost use Rattle.pp_rules.specs.Stepping.{Does, JudgesUnpush};
 
-use crate::detail::{Detail, Refusal, bare, swap_detail};
+use crate::detail::{Detail, Judged, Refusal, bare, swap_detail};
 use crate::find::{first_staying_behind, marked_at};
 use crate::machine::{Machine, Outcome};
 use pp_core::{Mark, Name, OutOfMemory, Ticks};
@@ -16,11 +16,7 @@ impl<S: Placed> Machine<S> {
     /// Where the entry that UNPUSH takes back stands in the local and in the shared log, or the
     /// refusal by its first false criterion. The last criterion, that the shared log is allowed
     /// without the entry, is not asked here. The only error is that memory was refused.
-    fn judge_unpush(
-        &self,
-        tx: &Name,
-        id: u32,
-    ) -> Result<Result<(usize, usize), Refusal<S::Op>>, OutOfMemory>
+    fn judge_unpush(&self, tx: &Name, id: u32) -> Judged<(usize, usize), S::Op>
         ensures { IfOk result (JudgesUnpush S.object self.now tx.now id) }
     {
         let Some(local) = self.transactions.local(tx) else {
