@@ -1,5 +1,5 @@
 -- Meaning: the report of a run, line by line.
-use Rattle.std.specs.Prelude.{◌≡◌, ℕ, List, ◌++◌, length, codes}
+use Rattle.std.specs.Prelude.{◌≡◌, ℕ, List, [], ◌++◌, length, codes}
 use Rattle.std.specs.Fmt.{decimal}
 use Rattle.std.specs.List.{flat_map, range_with_len}
 use Rattle.pp_core.specs.Catalogs.{Objects}
@@ -10,7 +10,11 @@ use Rattle.pp_core.specs.declared.step.Rule.{Rule}
 use Rattle.pp_model.specs.Lists.{Each}
 use Rattle.pp_object.specs.declared.act.Op.{Op}
 use Rattle.pp_object.specs.declared.states.ObjectState.{ObjectState}
-use Rattle.pp_text.specs.Texts.{IsNamed, op_bytes, state_bytes}
+use Rattle.pp_object.specs.Objects.{kinds_of, objects}
+use Rattle.pp_rules.specs.Shown.{Fits}
+use Rattle.pp_rules.specs.declared.detail.Detail.{Detail}
+use Rattle.pp_rules.specs.declared.detail.Detail.TheVariants.{Nothing, Entry, Gives, Swap}
+use Rattle.pp_text.specs.Texts.{IsNamed, answer_bytes, op_bytes, state_bytes}
 use Rattle.pp_report.specs.declared.cause.Cause.{Cause}
 use Rattle.pp_report.specs.Words.{cause_bytes}
 
@@ -68,11 +72,49 @@ abbrev pub rejected_place : ℕ → ℕ → List ℕ
 rejected_place step at_line =
     codes "rejected step " ++ decimal step ++ codes " line " ++ decimal at_line
 
+-- its rule, and the number of the criterion that fails
+abbrev pub rejected_rule : Rule → ℕ → List ℕ
+rejected_rule rule criterion =
+    codes " " ++ rule_word rule ++ codes " " ++ decimal criterion
+
+-- the first line of a rejected run
+abbrev pub rejected_line : ℕ → ℕ → Rule → ℕ → List ℕ
+rejected_line step at_line rule criterion =
+    line (rejected_place step at_line ++ rejected_rule rule criterion)
+
+-- operations, each behind a space
+abbrev pub spaced_bytes : Objects → Op → List ℕ
+spaced_bytes catalog op = codes " " ++ op_bytes catalog op
+
+abbrev pub ops_bytes : Objects → List Op → List ℕ
+ops_bytes catalog ops = flat_map (spaced_bytes catalog) ops
+
+-- the entry that the evidence is of
+abbrev pub entry_bytes : ℕ → List ℕ
+entry_bytes id = codes "entry " ++ decimal id
+
+-- a line of operations behind a word
+abbrev pub ops_line : Objects → List ℕ → List Op → List ℕ
+ops_line catalog word ops = line (word ++ ops_bytes catalog ops)
+
+-- the lines of the evidence of a rejection
+abbrev pub detail_text : Objects → Detail Op → List ℕ
+detail_text catalog Nothing = []
+detail_text catalog (Entry id) = line (entry_bytes id)
+detail_text catalog (Gives id answer) =
+    line (entry_bytes id ++ codes " gives " ++ answer_bytes answer)
+detail_text catalog (Swap id context) =
+    line (entry_bytes id) ++ ops_line catalog (codes "before") context.before
+    ++ ops_line catalog (codes "after") context.after
+
+-- the objects that the evidence names are in the catalog, with the kinds of their acts
+abbrev pub IsDetailNamed : Objects → Detail Op → Type 0
+IsDetailNamed catalog detail = Fits objects (kinds_of catalog) detail
+
 -- the report of a rejected run
-abbrev pub rejected_text : ℕ → ℕ → Rule → ℕ → List ℕ
-rejected_text step at_line rule criterion =
-    line (rejected_place step at_line ++ codes " " ++ rule_word rule ++ codes " "
-    ++ decimal criterion)
+abbrev pub rejected_text : Objects → ℕ → ℕ → Rule → ℕ → Detail Op → List ℕ
+rejected_text catalog step at_line rule criterion detail =
+    rejected_line step at_line rule criterion ++ detail_text catalog detail
 
 -- the report of a fault of the input
 abbrev pub fault_text : ℕ → Cause → List ℕ

@@ -2,6 +2,7 @@
 #![tactic(auto)]
 
 mod cause;
+mod evidence;
 mod run;
 mod verdict;
 mod words;

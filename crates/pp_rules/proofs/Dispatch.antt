@@ -9,27 +9,27 @@ use Rattle.pp_rules.specs.Machines.{Seen}
 use Rattle.pp_rules.specs.Stepping.{Stepped}
 
 module _ {Shape State Op Undo : Type 0} (o : Object Shape State Op Undo) (v : Seen Shape Op) where
-  one_more : (s : Step Op) (out : Outcome) (w : Seen Shape Op) → Stepped o v s out w → w.count ≤ v.count + 1
+  one_more : (s : Step Op) (out : Outcome Op) (w : Seen Shape Op) → Stepped o v s out w → w.count ≤ v.count + 1
   one_more s Done w h = let e : w.count ≡ v.count + 1 = ap (λ (z : Seen Shape Op). z.count) h.1 in omega (arith, e)
-  one_more s (False n) w h = let e : w.count ≡ v.count = ap (λ (z : Seen Shape Op). z.count) h.2 in omega (arith, e)
+  one_more s (False n detail) w h = let e : w.count ≡ v.count = ap (λ (z : Seen Shape Op). z.count) h.2 in omega (arith, e)
 
-  module _ {E : Type 0} (r : Result (Seen Shape Op × Outcome) E) (s asked : Step Op) (is : asked ≡ s) where
+  module _ {E : Type 0} (r : Result (Seen Shape Op × Outcome Op) E) (s asked : Step Op) (is : asked ≡ s) where
     pub effect_of : IfOk r (λ k. Stepped o v s k.1 k.0) → IfOk r (λ k. Stepped o v asked k.1 k.0)
     effect_of h = subst (λ (z : Step Op). IfOk r (λ k. Stepped o v z k.1 k.0)) (sym is) h
 
-  pub count_of : {E : Type 0} (r : Result (Seen Shape Op × Outcome) E) (s : Step Op) → IfOk r (λ k. Stepped o v s k.1 k.0) → IfOk r (λ k. k.0.count ≤ v.count + 1)
+  pub count_of : {E : Type 0} (r : Result (Seen Shape Op × Outcome Op) E) (s : Step Op) → IfOk r (λ k. Stepped o v s k.1 k.0) → IfOk r (λ k. k.0.count ≤ v.count + 1)
   count_of (Ok k) s h = one_more s k.1 k.0 h
   count_of (Err e) s h = tt
 
 module _ {Shape Op : Type 0} (place : Op → ℕ) (v : Seen Shape Op) where
-  free_by : (s : Step Op) (out : Outcome) (a : ℕ) → step_ticks place v.config s ≡ 0 → CostsInVain place v.config s a a → CostsBy place v.config s out a a
+  free_by : (s : Step Op) (out : Outcome Op) (a : ℕ) → step_ticks place v.config s ≡ 0 → CostsInVain place v.config s a a → CostsBy place v.config s out a a
   free_by s Done a e h = omega (arith, e)
-  free_by s (False n) a e h = h
+  free_by s (False n detail) a e h = h
 
-  free : {A E : Type 0} (r : Result (A × Outcome) E) (s : Step Op) (a : ℕ) → step_ticks place v.config s ≡ 0 → CostsInVain place v.config s a a → Costs place v s r a a
+  free : {A E : Type 0} (r : Result (A × Outcome Op) E) (s : Step Op) (a : ℕ) → step_ticks place v.config s ≡ 0 → CostsInVain place v.config s a a → Costs place v s r a a
   free (Ok k) s a e h = free_by s k.1 a e h
   free (Err x) s a e h = omega arith
 
   -- a step whose function is not given the counter costs nothing
-  pub free_of : {A E : Type 0} (r : Result (A × Outcome) E) (s asked : Step Op) (a : ℕ) → asked ≡ s → step_ticks place v.config s ≡ 0 → CostsInVain place v.config s a a → Costs place v asked r a a
+  pub free_of : {A E : Type 0} (r : Result (A × Outcome Op) E) (s asked : Step Op) (a : ℕ) → asked ≡ s → step_ticks place v.config s ≡ 0 → CostsInVain place v.config s a a → Costs place v asked r a a
   free_of r s asked a is e h = subst (λ (z : Step Op). Costs place v z r a a) (sym is) (free r s a e h)

@@ -5,32 +5,13 @@ use Rattle.std.proofs.lemmas.Bool.{ltb-false, ltb-true, eqb-true, eq-eqb}
 use Rattle.std.proofs.lemmas.List.{length-drop, reverse-append, take_all}
 use Rattle.std.proofs.lemmas.List.Folds.{find_at}
 use Rattle.std.proofs.lemmas.List.Quantifiers.{position-Some}
-use Rattle.std.proofs.lemmas.Option.{slice_get_past}
+use Rattle.std.proofs.lemmas.Option.{get_or_from_slice_get, slice_get_past}
 use Rattle.std.specs.Option.{option_copied}
 use Rattle.pp_core.specs.declared.entry.LocalEntry.{LocalEntry}
 use Rattle.pp_model.specs.Config.{but_last, last}
 use Rattle.pp_model.specs.Lists.{In, Before}
 use Rattle.pp_model.proofs.Lists.{before_in_second, in_cases, in_left, in_right}
 use Rattle.pp_model.proofs.Logs.{found}
-use Rattle.pp_rules.specs.Finding.{HoldsAtPlace, HoldEverywhere}
-
--- places and elements
-pub in_at : {X : Type 0} (x : X) (xs : List X) → In x xs → (k : ℕ) × (k < length xs) × ((d : X) → get_or xs k d ≡ x)
-in_at x [] h = elim h [ ]
-in_at x (y ∷ ys) (inl e) = (zero, omega arith, λ d. sym e)
-in_at x (y ∷ ys) (inr j) = let r = in_at x ys j in (suc r.0, omega arith, r.2)
-
-pub at_in : {X : Type 0} (xs : List X) (k : ℕ) (d : X) → k < length xs → In (get_or xs k d) xs
-at_in [] k d h = absurd (omega arith)
-at_in (y ∷ ys) zero d h = inl refl
-at_in (y ∷ ys) (suc k) d h = inr (at_in ys k d (omega arith))
-
-pub everywhere : {X : Type 0} (P : X → Type 0) (xs : List X) → HoldEverywhere P xs → (x : X) → In x xs → P x
-everywhere P xs h x i = let r = in_at x xs i in subst P (r.2 x) (h r.0 x (omega arith) r.1)
-
-pub somewhere : {X : Type 0} (P : X → Type 0) (xs : List X) (i : ℕ) → HoldsAtPlace P xs i → (x : X) × In x xs × P x
-somewhere P [] i h = absurd (let k = h.0 in omega arith)
-somewhere P (y ∷ ys) i h = (get_or (y ∷ ys) i y, at_in (y ∷ ys) i y h.0, h.1 y)
 
 -- the first place of a test
 place_is : (n m i : ℕ) (b : Bool) → cond b (Some n) None ≡ Some i → n ≡ i
@@ -41,8 +22,11 @@ place_past : (n m : ℕ) (b : Bool) → nat_lt n m ≡ b → cond b (Some n) Non
 place_past n m true e k = absurd (cc)
 place_past n m false e k = ltb-false n m e
 
+pub place_or_len : {X : Type 0} (p : X → Bool) (xs : List X) (i : ℕ) → position p xs ≡ Some i → position_or_len p xs ≡ i
+place_or_len p xs i h = place_is (position_or_len p xs) (length xs) i (nat_lt (position_or_len p xs) (length xs)) h
+
 pub place_find : {X : Type 0} (p : X → Bool) (xs : List X) (i : ℕ) → position p xs ≡ Some i → find p xs ≡ slice_get xs i
-place_find p xs i h = find_at p xs ∙ ap (slice_get xs) (place_is (position_or_len p xs) (length xs) i (nat_lt (position_or_len p xs) (length xs)) h)
+place_find p xs i h = find_at p xs ∙ ap (slice_get xs) (place_or_len p xs i h)
 
 pub place_none : {X : Type 0} (p : X → Bool) (xs : List X) → position p xs ≡ None → find p xs ≡ None
 place_none p xs h = find_at p xs ∙ slice_get_past xs (position_or_len p xs) (place_past (position_or_len p xs) (length xs) (nat_lt (position_or_len p xs) (length xs)) refl h)
@@ -88,7 +72,7 @@ no_other : {X : Type 0} (p q : X → Bool) (ys : List X) → ((z : X) → In z y
 no_other p q [] n = refl
 no_other {X} p q (y ∷ ys) n = ap (λ (b : Bool). cond (b && q y) (Some y) (find (λ z. p z && q z) ys)) (n y (inl refl)) ∙ no_other p q ys (λ z i. n z (inr i))
 
-is_not_true : (b : Bool) → (b ≡ true → ⊥) → b ≡ false
+pub is_not_true : (b : Bool) → (b ≡ true → ⊥) → b ≡ false
 is_not_true true n = absurd (n refl)
 is_not_true false n = refl
 
@@ -163,19 +147,6 @@ none_in p [] h x i = elim i [ ]
 none_in p (y ∷ ys) h x (inl e) = ap p e ∙ (or_false (p y) (list_any p ys) h).0
 none_in p (y ∷ ys) h x (inr j) = none_in p ys (or_false (p y) (list_any p ys) h).1 x j
 
-pub all_in : {X : Type 0} (p : X → Bool) (xs : List X) → list_all p xs ≡ true → (x : X) → In x xs → p x ≡ true
-all_in p [] h x i = elim i [ ]
-all_in p (y ∷ ys) h x (inl e) = ap p e ∙ (and_true (p y) (list_all p ys) h).0
-all_in p (y ∷ ys) h x (inr j) = all_in p ys (and_true (p y) (list_all p ys) h).1 x j
-
-pub not_all_in : {X : Type 0} (p : X → Bool) (xs : List X) → list_all p xs ≡ false → (x : X) × In x xs × (p x ≡ false)
-not_all_in p [] h = absurd (cc)
-not_all_in {X} p (y ∷ ys) h = go (p y) refl h (λ k. not_all_in p ys k)
-  where
-    go : (b : Bool) → p y ≡ b → (b && list_all p ys) ≡ false → (list_all p ys ≡ false → (x : X) × In x ys × (p x ≡ false)) → (x : X) × In x (y ∷ ys) × (p x ≡ false)
-    go false e k f = (y, inl refl, e)
-    go true e k f = let r = f k in (r.0, inr r.1, r.2)
-
 -- a list turned round
 pub reverse_more : {X : Type 0} (xs : List X) (x : X) → reverse (xs ++ x ∷ []) ≡ x ∷ reverse xs
 reverse_more xs x = reverse-append xs (x ∷ [])
@@ -243,13 +214,6 @@ decided b P h e = h.0 e
 pub decided_not : (b : Bool) (P : Type 0) → IsTrue b ↔ P → b ≡ false → P → ⊥
 decided_not b P h e p = let k : true ≡ false = sym (h.1 p) ∙ e in cc
 
-pub not_empty : {A : Type 0} (l ds : List A) → ds ≡ l → (length ds == 0) ≡ false → l ≡ [] → ⊥
-not_empty {A} l ds e h k = let z : true ≡ false = sym (ap (λ (z : List A). length z == 0) (e ∙ k)) ∙ h in cc
-
-pub is_empty : {A : Type 0} (l ds : List A) → ds ≡ l → (length ds == 0) ≡ true → l ≡ []
-is_empty [] ds e h = refl
-is_empty {A} (y ∷ l) ds e h = let n : length (y ∷ l) ≡ 0 = ap length (sym e) ∙ eqb-true (length ds) 0 h in absurd (omega (arith, n))
-
 pub some_copied : {X : Type 0} (r : Option (Bor X)) → is_some r ≡ is_some (option_copied r)
 some_copied None = refl
 some_copied (Some x) = refl
@@ -267,14 +231,6 @@ some_holds (Some k) Q b e t h = (k, h)
 pub none_holds : (r : Option ℕ) (P : Type 0) (b : Bool) → b ≡ is_some r → b ≡ false → IfNone r P → P
 none_holds None P b e t h = h
 none_holds (Some k) P b e t h = let z : true ≡ false = sym e ∙ t in cc
-
-pub first_holds : (r : Option ℕ) (P : Type 0) (Q : ℕ → Type 0) (b : Bool) → b ≡ is_some r → b ≡ true → MatchOption r P Q → (k : ℕ) × Q k
-first_holds None P Q b e t h = let z : true ≡ false = sym t ∙ e in cc
-first_holds (Some k) P Q b e t h = (k, h)
-
-pub all_hold : (r : Option ℕ) (P : Type 0) (Q : ℕ → Type 0) (b : Bool) → b ≡ is_some r → b ≡ false → MatchOption r P Q → P
-all_hold None P Q b e t h = h
-all_hold (Some k) P Q b e t h = let z : true ≡ false = sym e ∙ t in cc
 
 pub a_place : (r : Option ℕ) (b : Bool) → b ≡ is_some r → b ≡ true → (k : ℕ) × (r ≡ Some k)
 a_place None b e t = let z : true ≡ false = sym t ∙ e in cc
@@ -363,3 +319,10 @@ pub some_is_none : {X : Type 0} (r s : Option X) → IsSome s → r ≡ s → r 
 some_is_none None None h e n = absurd (cc)
 some_is_none None (Some x) h e n = absurd (cc)
 some_is_none (Some x) s h e n = absurd (cc)
+
+-- what an index reads
+pub read_there : {X : Type 0} (xs : List X) (k : ℕ) (x y : X) → slice_get xs k ≡ Some y → x ≡ get_or xs k x → y ≡ x
+read_there xs k x y h e = sym (get_or_from_slice_get xs k y x h) ∙ sym e
+
+pub read_found : {X : Type 0} (p : X → Bool) (xs : List X) (k : ℕ) (x : X) → position p xs ≡ Some k → x ≡ get_or xs k x → slice_get xs k ≡ Some x
+read_found {X} p xs k x h e = let r = placed p xs k h in r.1 ∙ ap (λ (z : X). Some z) (read_there xs k x r.0 r.1 e)

@@ -9,7 +9,9 @@ pub mod Keeping
 pub mod Looking
 pub mod Opened
 pub mod Removing
+pub mod Showing
 pub mod Slots
 pub mod Swapping
+pub mod Telling
 pub mod Testing
 pub mod Undoing

@@ -17,7 +17,7 @@ use Rattle.pp_rules.specs.Machines.{Holds, IsFine, tx_of}
 use Rattle.pp_rules.specs.Courses.{Guided}
 use Rattle.pp_rules.specs.Transactions.{Open, Txs, course_of, is_begun, is_busy, open_at, open_of, threads_of}
 use Rattle.pp_rules.specs.Finding.{AreDistinct}
-use Rattle.pp_rules.proofs.Fitting.{fits_in}
+use Rattle.pp_rules.proofs.Fitting.{fits_in, ranged_in}
 use Rattle.pp_rules.proofs.Finding.{any_in, none_in, find_map, from_reverse, in_reverse, mapped_some, mapped_none}
 
 some_inj : {X : Type 0} (x y : X) → Some x ≡ Some y → x ≡ y
@@ -149,3 +149,9 @@ module _ {Shape State Op Undo : Type 0} (o : Object Shape State Op Undo) (shape 
 
   pub fits_shared : IsLawful o → (u : SharedEntry Op) → In u G.1 → IsTrue (o.fits shape u.op)
   fits_shared laws u i = fits_in o laws shape (shared_ops G.1) h.sound.shared_allowed u.op (in_map (λ (z : SharedEntry Op). z.op) u G.1 i)
+
+  pub ranged_local : (t : Name) (l : Shape × List (LocalEntry Op)) → HasLog t l → (p : LocalEntry Op) → In p l.1 → IsTrue (o.ranged p.op)
+  ranged_local t l r p i = ranged_in o (local_ops l.1) (r.fine).ranged p.op (in_map (λ (z : LocalEntry Op). z.op) p l.1 i)
+
+  pub ranged_shared : (u : SharedEntry Op) → In u G.1 → IsTrue (o.ranged u.op)
+  ranged_shared u i = ranged_in o (shared_ops G.1) h.shared_ranged u.op (in_map (λ (z : SharedEntry Op). z.op) u G.1 i)

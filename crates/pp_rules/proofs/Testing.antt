@@ -1,48 +1,56 @@
 -- What the tests of CMT say of a local log.
-use Rattle.std.proofs.Common.{◌≡◌, ◌==◌, ◌&&◌, ◌||◌, ℕ, Bool, true, false, not, List, Option, Some, None, find, refl, sym, ◌∙◌, ap}
-use Rattle.std.specs.List.{list_all}
+use Rattle.std.proofs.Common.{◌≡◌, ◌==◌, ◌&&◌, ℕ, Bool, true, false, not, filter, List, [], ◌∷◌, Option, Some, None, find, position, slice_get, refl, sym, ◌∙◌, ap, subst}
 use Rattle.std.proofs.lemmas.Bool.{eqb-true, eq-eqb}
 use Rattle.pp_model.specs.Config.{LocalEntry, SharedEntry, Mark, Unpushed, Pushed, Pulled, is_mark, is_own}
 use Rattle.pp_model.specs.Lists.{In}
 use Rattle.pp_model.proofs.Lists.{by_key}
-use Rattle.pp_model.proofs.Logs.{found}
+use Rattle.pp_model.proofs.Logs.{both_true, found, is_mark-true}
+use Rattle.pp_rules.specs.Evidence.{first_entry}
 use Rattle.pp_rules.specs.Finding.{HaveOwnIds, is_committed, stands_committed}
-use Rattle.pp_rules.proofs.Finding.{all_in, not_all_in, find_nowhere}
+use Rattle.pp_rules.specs.declared.detail.Detail.TheVariants.{Entry}
+use Rattle.pp_rules.proofs.Finding.{find_nowhere, place_found, place_none, some_same}
+use Rattle.pp_rules.proofs.Showing.{entry_shown, second_fails}
 
-own_pushed : (m : Mark) → not (is_mark m Unpushed) ≡ true → is_own m ≡ true → m ≡ Pushed
+unpushed_own : (m : Mark) → is_mark m Unpushed ≡ true → (is_own m ≡ true) × (m ≡ Pushed → ⊥)
+unpushed_own Unpushed h = (refl, λ e. cc)
+unpushed_own Pushed h = absurd (cc)
+unpushed_own Pulled h = absurd (cc)
+
+own_pushed : (m : Mark) → is_mark m Unpushed ≡ false → is_own m ≡ true → m ≡ Pushed
 own_pushed Unpushed h k = absurd (cc)
 own_pushed Pushed h k = refl
 own_pushed Pulled h k = absurd (cc)
 
-unpushed : (m : Mark) → not (is_mark m Unpushed) ≡ false → m ≡ Unpushed
-unpushed Unpushed h = refl
-unpushed Pushed h = absurd (cc)
-unpushed Pulled h = absurd (cc)
+not_false : (b : Bool) → not b ≡ false → b ≡ true
+not_false true e = refl
+not_false false e = absurd (cc)
 
-pulled : (m : Mark) (b : Bool) → (not (is_mark m Pulled) || b) ≡ true → m ≡ Pulled → b ≡ true
-pulled m true h k = refl
-pulled Unpushed false h k = absurd (cc)
-pulled Pushed false h k = absurd (cc)
-pulled Pulled false h k = h
-
-not_pulled : (m : Mark) (b : Bool) → (not (is_mark m Pulled) || b) ≡ false → (m ≡ Pulled) × (b ≡ false)
-not_pulled Unpushed b h = absurd (cc)
-not_pulled Pushed b h = absurd (cc)
-not_pulled Pulled b h = (refl, h)
-
-both : (a b : Bool) → (a && b) ≡ true → (a ≡ true) × (b ≡ true)
-both true b e = (refl, e)
-both false b e = absurd (cc)
+not_true : (b : Bool) → not b ≡ true → b ≡ false
+not_true true e = absurd (cc)
+not_true false e = refl
 
 module _ {Op : Type 0} where
-  pub all_pushed : (l ds : List (LocalEntry Op)) → ds ≡ l → true ≡ list_all (λ e. not (is_mark e.mark Unpushed)) ds → (p : LocalEntry Op) → In p l → is_own p.mark ≡ true → p.mark ≡ Pushed
-  all_pushed l ds e h p i m = own_pushed p.mark (all_in (λ (z : LocalEntry Op). not (is_mark z.mark Unpushed)) l (sym (h ∙ ap (list_all (λ (z : LocalEntry Op). not (is_mark z.mark Unpushed))) e)) p i) m
+  pub all_pushed : (l ds : List (LocalEntry Op)) → ds ≡ l → position (λ e. is_mark e.mark Unpushed) ds ≡ None → (p : LocalEntry Op) → In p l → is_own p.mark ≡ true → p.mark ≡ Pushed
+  all_pushed l ds e h p i m =
+      own_pushed p.mark (find_nowhere (λ z. is_mark z.mark Unpushed) ds (place_none (λ z. is_mark z.mark Unpushed) ds h) p (subst (λ (z : List (LocalEntry Op)). In p z) (sym e) i)) m
 
-  pub not_all_pushed : (l ds : List (LocalEntry Op)) → ds ≡ l → false ≡ list_all (λ e. not (is_mark e.mark Unpushed)) ds → (p : LocalEntry Op) × In p l × (is_own p.mark ≡ true) × (p.mark ≡ Pushed → ⊥)
-  not_all_pushed l ds e h =
-      let r = not_all_in (λ (z : LocalEntry Op). not (is_mark z.mark Unpushed)) l (sym (h ∙ ap (list_all (λ (z : LocalEntry Op). not (is_mark z.mark Unpushed))) e)) in
-      let m = unpushed (r.0).mark r.2 in
-      (r.0, r.1, ap is_own m, λ k. let z : Unpushed ≡ Pushed = sym m ∙ k in cc)
+  pub not_all_pushed : (l ds : List (LocalEntry Op)) → ds ≡ l → (k : ℕ) (p : LocalEntry Op) → position (λ e. is_mark e.mark Unpushed) ds ≡ Some k → slice_get ds k ≡ Some p →
+      In p l × (is_own p.mark ≡ true) × (p.mark ≡ Pushed → ⊥) × (Entry p.id ≡ first_entry (filter (λ e. is_mark e.mark Unpushed) l))
+  not_all_pushed l ds e k p h at =
+      let f = place_found (λ z. is_mark z.mark Unpushed) ds k p h at in
+      let r = found (λ z. is_mark z.mark Unpushed) ds p f in
+      let m = unpushed_own p.mark r.1 in
+      (subst (λ (z : List (LocalEntry Op)). In p z) e r.0, m.0, m.1, entry_shown (λ z. is_mark z.mark Unpushed) ds p f ∙ ap (λ (z : List (LocalEntry Op)). first_entry (filter (λ e. is_mark e.mark Unpushed) z)) e)
+
+  -- the first entry, and that there is none
+  pub head_shown : (l ds : List (LocalEntry Op)) (x : LocalEntry Op) → ds ≡ l → Some x ≡ slice_get ds 0 → (l ≡ [] → ⊥) × (Entry x.id ≡ first_entry l)
+  head_shown l [] x e h = absurd (cc)
+  head_shown l (y ∷ ds) x e h =
+      (λ k. let z : (y ∷ ds) ≡ [] = e ∙ k in cc, ap (λ (z : LocalEntry Op). Entry z.id) (some_same x y h) ∙ ap first_entry e)
+
+  pub none_there : (l ds : List (LocalEntry Op)) → ds ≡ l → None ≡ slice_get ds 0 → l ≡ []
+  none_there l [] e h = sym e
+  none_there l (y ∷ ds) e h = absurd (cc)
 
   -- an entry of this id stands committed
   abbrev pub Standing : List (SharedEntry Op) → ℕ → Type 0
@@ -59,14 +67,23 @@ module _ {Op : Type 0} where
       let same = by_key (λ (z : SharedEntry Op). z.id) G d g s.0 k.0 s.1 (eqb-true g.id id k.1 ∙ sym s.2) in
       let z : true ≡ false = sym s.3 ∙ sym (ap (λ (z : SharedEntry Op). z.committed) same) ∙ h in cc
 
-  abbrev passing : List (SharedEntry Op) → LocalEntry Op → Bool
-  passing G e = not (is_mark e.mark Pulled) || stands_committed e.id G
+  abbrev pub fallen : List (SharedEntry Op) → LocalEntry Op → Bool
+  fallen G e = is_mark e.mark Pulled && not (stands_committed e.id G)
 
-  pub all_stand : (l ds : List (LocalEntry Op)) (G : List (SharedEntry Op)) → ds ≡ l → true ≡ list_all (λ e. not (is_mark e.mark Pulled) || stands_committed e.id G) ds → (p : LocalEntry Op) → In p l → p.mark ≡ Pulled → Standing G p.id
-  all_stand l ds G e h p i m = standing_found G p.id (find (λ g. g.id == p.id) G) refl (pulled p.mark (stands_committed p.id G) (all_in (passing G) l (sym (h ∙ ap (list_all (passing G)) e)) p i) m)
+  pub all_stand : (l ds : List (LocalEntry Op)) (G : List (SharedEntry Op)) → ds ≡ l → position (fallen G) ds ≡ None → (p : LocalEntry Op) → In p l → p.mark ≡ Pulled → Standing G p.id
+  all_stand l ds G e h p i m =
+      let n = find_nowhere (fallen G) ds (place_none (fallen G) ds h) p (subst (λ (z : List (LocalEntry Op)). In p z) (sym e) i) in
+      let pulled : is_mark p.mark Pulled ≡ true = ap (λ (z : Mark). is_mark z Pulled) m in
+      standing_found G p.id (find (λ g. g.id == p.id) G) refl (not_false (stands_committed p.id G) (second_fails (is_mark p.mark Pulled) (not (stands_committed p.id G)) n pulled))
 
-  pub not_all_stand : (l ds : List (LocalEntry Op)) (G : List (SharedEntry Op)) → ds ≡ l → HaveOwnIds G → false ≡ list_all (λ e. not (is_mark e.mark Pulled) || stands_committed e.id G) ds → (p : LocalEntry Op) × In p l × (p.mark ≡ Pulled) × (Standing G p.id → ⊥)
-  not_all_stand l ds G e d h =
-      let r = not_all_in (passing G) l (sym (h ∙ ap (list_all (passing G)) e)) in
-      let k = not_pulled (r.0).mark (stands_committed (r.0).id G) r.2 in
-      (r.0, r.1, k.0, standing_not G (r.0).id d (find (λ g. g.id == (r.0).id) G) refl k.1)
+  pub not_all_stand : (l ds : List (LocalEntry Op)) (G : List (SharedEntry Op)) → ds ≡ l → HaveOwnIds G → (k : ℕ) (p : LocalEntry Op) → position (fallen G) ds ≡ Some k → slice_get ds k ≡ Some p →
+      In p l × (p.mark ≡ Pulled) × (Standing G p.id → ⊥) × (Entry p.id ≡ first_entry (filter (fallen G) l))
+  not_all_stand l ds G e d k p h at =
+      let f = place_found (fallen G) ds k p h at in
+      let r = found (fallen G) ds p f in
+      let b = both_true (is_mark p.mark Pulled) (not (stands_committed p.id G)) r.1 in (
+        subst (λ (z : List (LocalEntry Op)). In p z) e r.0,
+        is_mark-true p.mark Pulled b.0,
+        standing_not G p.id d (find (λ g. g.id == p.id) G) refl (not_true (stands_committed p.id G) b.1),
+        entry_shown (fallen G) ds p f ∙ ap (λ (z : List (LocalEntry Op)). first_entry (filter (fallen G) z)) e,
+      )

@@ -14,30 +14,42 @@ use Rattle.pp_model.specs.Rules.{Breaks, Meets}
 use Rattle.pp_model.proofs.Logs.{found_mark, found_tx}
 use Rattle.pp_log.specs.declared.place.Removed.{Removed}
 use Rattle.pp_log.specs.declared.place.Removed.TheVariants.{Done, Differs}
-use Rattle.pp_log.specs.Logs.{removal_steps}
+use Rattle.pp_log.specs.Logs.{removal_ticks}
 use Rattle.pp_log.specs.Logs.{RemovesEntry, from_place}
 use Rattle.pp_spec.specs.Object.{Object, IsAllowed, SwapsIn, rules_of}
 use Rattle.pp_rules.specs.Costs.{behind, from_id, log_items}
+use Rattle.pp_rules.specs.Evidence.{evidence, first_differing}
+use Rattle.pp_rules.specs.declared.detail.Detail.{Detail}
+use Rattle.pp_rules.specs.declared.detail.Detail.TheVariants.{Nothing, Gives}
 use Rattle.pp_rules.specs.Machines.{Holds, Seen, config_of, tx_of}
 use Rattle.pp_rules.specs.Stepping.{FindsPushed, IsLastAt}
 use Rattle.pp_rules.specs.Transactions.{CostsAt, MayLeave, Open, RemovesAt, Txs, open_at, open_of, with_log}
 use Rattle.pp_rules.proofs.Finding.{placed, slice_within}
 use Rattle.pp_rules.proofs.Judged.{HasEntry}
-use Rattle.pp_rules.proofs.Judging.{unpush_4, unpush_0, unpull_3, unpull_0}
+use Rattle.pp_rules.proofs.Judging.{unpush_4, unpush_shown, unpush_0, unpull_3, unpull_shown, unpull_0}
 use Rattle.pp_rules.proofs.Keeping.{located_same, posted_at, relocated_is, unpulled}
 use Rattle.pp_rules.proofs.Opened.{HasLog, logged, opened}
 use Rattle.pp_rules.proofs.Removing.{differs_not, from_id_some, from_place_is, from_place_last, last_removed, never_differs}
+use Rattle.pp_rules.proofs.Showing.{differing_shown}
 
-cost_done : (removed : Removed) (k a b : ℕ) → removed ≡ Done → 1 ≤ k → removal_steps removed k a b → b ≡ a + (2 * k - 1)
+-- what a removal that differs says is the evidence
+told : {Op : Type 0} {a c : ℕ} {b d : Answer} → Differs c d ≡ Differs a b → ◌≡◌ {A = Detail Op} (Gives a b) (Gives c d)
+told {Op} {a} {c} {b} {d} e = ap (λ (z : Removed). differing z) (sym e)
+  where
+    differing : Removed → Detail Op
+    differing Done = Nothing
+    differing (Differs i r) = Gives i r
+
+cost_done : (removed : Removed) (k a b : ℕ) → removed ≡ Done → 1 ≤ k → removal_ticks removed k a b → b ≡ a + (2 * k - 1)
 cost_done Done k a b e s c = omega (arith, c, s)
 cost_done (Differs id answer) k a b e s c = absurd (cc)
 
-cost_differs : (removed : Removed) (id : ℕ) (answer : Answer) (k a b : ℕ) → removed ≡ Differs id answer → 1 ≤ k → removal_steps removed k a b → b ≤ a + (4 * k - 3)
+cost_differs : (removed : Removed) (id : ℕ) (answer : Answer) (k a b : ℕ) → removed ≡ Differs id answer → 1 ≤ k → removal_ticks removed k a b → (a ≤ b) × (b ≤ a + (4 * k - 3))
 cost_differs Done id answer k a b e s c = absurd (cc)
-cost_differs (Differs i r) id answer k a b e s c = omega (arith, c, s)
+cost_differs (Differs i r) id answer k a b e s c = let most = c.1 in (c.0, omega (arith, most, s))
 
-cost_err : (k a b : ℕ) → 1 ≤ k → b + 3 ≤ a + 4 * k → b ≤ a + (4 * k - 3)
-cost_err k a b s c = omega (arith, c, s)
+cost_err : (k a b : ℕ) → 1 ≤ k → (a ≤ b) × (b + 3 ≤ a + 4 * k) → b ≤ a + (4 * k - 3)
+cost_err k a b s c = let most = c.1 in omega (arith, most, s)
 
 cost_more : (k a b : ℕ) → 1 ≤ k → b ≡ a + (2 * k - 1) → b ≤ a + (4 * k - 3)
 cost_more k a b s c = omega (arith, c, s)
@@ -86,7 +98,7 @@ module _ {Shape State Op Undo : Type 0} (o : Object Shape State Op Undo) (shape 
   unapp_cost place t i k u removed a b r c =
       let q = r (open_of t (k.has).thread (k.has).body k.log) (k.has).at in
       let done = never_differs o k.log i k.leaves k.end (log_allowed t k.log k.has) q.0 removed q.1 in
-      let steps = subst (λ (z : ℕ). removal_steps removed z a b) (one_behind place t i k) (c (open_of t (k.has).thread (k.has).body k.log) (k.has).at) in
+      let steps = subst (λ (z : ℕ). removal_ticks removed z a b) (one_behind place t i k) (c (open_of t (k.has).thread (k.has).body k.log) (k.has).at) in
       cost_done removed 1 a b done (omega arith) steps
 
   pub unapp_most : (place : Op → ℕ) (t : Name) (i : ℕ) (k : HasLast t i) (u : Txs Shape Op) (removed : Removed) (a b : ℕ) → RemovesAt o v t i u removed → CostsAt {E = ℕ} place v t i (Ok removed) a b → b ≤ a + 1
@@ -94,7 +106,7 @@ module _ {Shape State Op Undo : Type 0} (o : Object Shape State Op Undo) (shape 
 
   pub unapp_bound : (place : Op → ℕ) (t : Name) (i : ℕ) (k : HasLast t i) (a b : ℕ) → CostsAt {E = ℕ} place v t i (Err 0) a b → b ≤ a + 1
   unapp_bound place t i k a b c =
-      let s : b + 3 ≤ a + 4 * 1 = subst (λ (z : ℕ). b + 3 ≤ a + 4 * z) (one_behind place t i k) (c (open_of t (k.has).thread (k.has).body k.log) (k.has).at) in
+      let s : b + 3 ≤ a + 4 * 1 = subst (λ (z : ℕ). b + 3 ≤ a + 4 * z) (one_behind place t i k) (c (open_of t (k.has).thread (k.has).body k.log) (k.has).at).1 in
       omega (arith, s)
 
   -- UNPULL
@@ -127,31 +139,36 @@ module _ {Shape State Op Undo : Type 0} (o : Object Shape State Op Undo) (shape 
     unpull_done u (Differs a b) e r = absurd (cc)
 
     pub unpull_differs : (u : Txs Shape Op) (removed : Removed) (a : ℕ) (b : Answer) → removed ≡ Differs a b → RemovesAt o v t i u removed → (u ≡ v) × Breaks (rules_of o w.shape) w.config (Unpull t id) 3
+        × (Gives a b ≡ evidence o w.shape w.config (Unpull t id) 3)
     unpull_differs u Done a b e r = absurd (cc)
     unpull_differs u (Differs c d) a b e r =
         let q = r (open_of t (k.has).thread (k.has).body k.log) (k.has).at in (
           q.2 ∙ located_same o shape v ids G F n w same h t k.log k.has q.0 q.1.0,
           unpull_3 o _ w same t id _ p (k.has).is k.found (λ z. differs_not o item (k.log).0 (remove (k.log).1 i) c d q.1.1 (allowed_there z)),
+          told e
+              ∙ unpull_shown o _ w same t id _ p (k.has).is k.found (Gives c d)
+              (differing_shown o item (o.start (k.log).0) (remove (k.log).1 i) c d q.1.1
+              ∙ ap (λ (s : Shape). first_differing o item (o.start s) (remove (k.log).1 i)) ((k.has).fine).same_shape ∙ ap (first_differing o item (o.start shape)) without),
         )
 
     pub unpull_cost_done : (place : Op → ℕ) (removed : Removed) (a b : ℕ) → removed ≡ Done → CostsAt {E = ℕ} place v t i (Ok removed) a b → b ≡ a + (2 * behind place w.config (Unpull t id) - 1)
     unpull_cost_done place removed a b e c =
         cost_done removed (behind place w.config (Unpull t id)) a b e (from_id_some place id (log_items (tx t w.config.opened)))
-        (subst (λ (z : ℕ). removal_steps removed z a b) (unpull_behind place) (c (open_of t (k.has).thread (k.has).body k.log) (k.has).at))
+        (subst (λ (z : ℕ). removal_ticks removed z a b) (unpull_behind place) (c (open_of t (k.has).thread (k.has).body k.log) (k.has).at))
 
     pub unpull_cost_more : (place : Op → ℕ) (removed : Removed) (a b : ℕ) → removed ≡ Done → CostsAt {E = ℕ} place v t i (Ok removed) a b → b ≤ a + (4 * behind place w.config (Unpull t id) - 3)
     unpull_cost_more place removed a b e c =
         cost_more (behind place w.config (Unpull t id)) a b (from_id_some place id (log_items (tx t w.config.opened))) (unpull_cost_done place removed a b e c)
 
-    pub unpull_cost_differs : (place : Op → ℕ) (removed : Removed) (x : ℕ) (y : Answer) (a b : ℕ) → removed ≡ Differs x y → CostsAt {E = ℕ} place v t i (Ok removed) a b → b ≤ a + (4 * behind place w.config (Unpull t id) - 3)
+    pub unpull_cost_differs : (place : Op → ℕ) (removed : Removed) (x : ℕ) (y : Answer) (a b : ℕ) → removed ≡ Differs x y → CostsAt {E = ℕ} place v t i (Ok removed) a b → (a ≤ b) × (b ≤ a + (4 * behind place w.config (Unpull t id) - 3))
     unpull_cost_differs place removed x y a b e c =
         cost_differs removed x y (behind place w.config (Unpull t id)) a b e (from_id_some place id (log_items (tx t w.config.opened)))
-        (subst (λ (z : ℕ). removal_steps removed z a b) (unpull_behind place) (c (open_of t (k.has).thread (k.has).body k.log) (k.has).at))
+        (subst (λ (z : ℕ). removal_ticks removed z a b) (unpull_behind place) (c (open_of t (k.has).thread (k.has).body k.log) (k.has).at))
 
     pub unpull_cost_err : (place : Op → ℕ) (a b : ℕ) → CostsAt {E = ℕ} place v t i (Err 0) a b → b ≤ a + (4 * behind place w.config (Unpull t id) - 3)
     unpull_cost_err place a b c =
         cost_err (behind place w.config (Unpull t id)) a b (from_id_some place id (log_items (tx t w.config.opened)))
-        (subst (λ (z : ℕ). b + 3 ≤ a + 4 * z) (unpull_behind place) (c (open_of t (k.has).thread (k.has).body k.log) (k.has).at))
+        (subst (λ (z : ℕ). (a ≤ b) × (b + 3 ≤ a + 4 * z)) (unpull_behind place) (c (open_of t (k.has).thread (k.has).body k.log) (k.has).at))
 
   -- UNPUSH
   pub record HasPushed (t : Name) (id i j : ℕ) : Type 0 where
@@ -196,11 +213,16 @@ module _ {Shape State Op Undo : Type 0} (o : Object Shape State Op Undo) (shape 
     unpush_done H (Differs a b) e r = absurd (cc)
 
     pub unpush_differs : (H : Shape × List (SharedEntry Op)) (removed : Removed) (a : ℕ) (b : Answer) → removed ≡ Differs a b → RemovesEntry o shared_item G j H removed → (H ≡ G) × Breaks (rules_of o w.shape) w.config (Unpush t id) 4
+        × (Gives a b ≡ evidence o w.shape w.config (Unpush t id) 4)
     unpush_differs H Done a b e r = absurd (cc)
     unpush_differs H (Differs c d) a b e r = (
       r.0,
       unpush_4 o _ w same t id _ k.entry ((k.has).has).is (k.has).found k.swap (λ z. differs_not o shared_item G.0 (remove G.1 j) c d r.1
           (subst (λ (s : Shape). IsAllowed o s (shared_ops (remove G.1 j))) (sym h.shared_shape) (subst (λ (y : List (SharedEntry Op)). IsAllowed o shape (shared_ops y)) (sym unposted) z))),
+      told e
+          ∙ unpush_shown o _ w same t id _ k.entry ((k.has).has).is (k.has).found (Gives c d)
+          (differing_shown o shared_item (o.start G.0) (remove G.1 j) c d r.1
+          ∙ ap (λ (s : Shape). first_differing o shared_item (o.start s) (remove G.1 j)) h.shared_shape ∙ ap (first_differing o shared_item (o.start shape)) unposted),
     )
 
     unpush_behind : (place : Op → ℕ) → from_place place (shared_ops G.1) j ≡ behind place w.config (Unpush t id)
@@ -209,17 +231,17 @@ module _ {Shape State Op Undo : Type 0} (o : Object Shape State Op Undo) (shape 
         from_place_is shared_item place id G.1 h.sound.shared_ids j q.0 q.1 (eqb-true (q.0).id id q.2)
         ∙ ap (λ (z : Seen Shape Op). behind place z.config (Unpush t id)) same
 
-    pub unpush_cost_done : (place : Op → ℕ) (removed : Removed) (a b : ℕ) → removed ≡ Done → removal_steps removed (from_place place (shared_ops G.1) j) a b → b ≡ a + (2 * behind place w.config (Unpush t id) - 1)
+    pub unpush_cost_done : (place : Op → ℕ) (removed : Removed) (a b : ℕ) → removed ≡ Done → removal_ticks removed (from_place place (shared_ops G.1) j) a b → b ≡ a + (2 * behind place w.config (Unpush t id) - 1)
     unpush_cost_done place removed a b e c =
-        cost_done removed (behind place w.config (Unpush t id)) a b e (from_id_some place id (map shared_item w.config.shared)) (subst (λ (z : ℕ). removal_steps removed z a b) (unpush_behind place) c)
+        cost_done removed (behind place w.config (Unpush t id)) a b e (from_id_some place id (map shared_item w.config.shared)) (subst (λ (z : ℕ). removal_ticks removed z a b) (unpush_behind place) c)
 
-    pub unpush_cost_more : (place : Op → ℕ) (removed : Removed) (a b : ℕ) → removed ≡ Done → removal_steps removed (from_place place (shared_ops G.1) j) a b → b ≤ a + (4 * behind place w.config (Unpush t id) - 3)
+    pub unpush_cost_more : (place : Op → ℕ) (removed : Removed) (a b : ℕ) → removed ≡ Done → removal_ticks removed (from_place place (shared_ops G.1) j) a b → b ≤ a + (4 * behind place w.config (Unpush t id) - 3)
     unpush_cost_more place removed a b e c = cost_more (behind place w.config (Unpush t id)) a b (from_id_some place id (map shared_item w.config.shared)) (unpush_cost_done place removed a b e c)
 
-    pub unpush_cost_differs : (place : Op → ℕ) (removed : Removed) (x : ℕ) (y : Answer) (a b : ℕ) → removed ≡ Differs x y → removal_steps removed (from_place place (shared_ops G.1) j) a b → b ≤ a + (4 * behind place w.config (Unpush t id) - 3)
+    pub unpush_cost_differs : (place : Op → ℕ) (removed : Removed) (x : ℕ) (y : Answer) (a b : ℕ) → removed ≡ Differs x y → removal_ticks removed (from_place place (shared_ops G.1) j) a b → (a ≤ b) × (b ≤ a + (4 * behind place w.config (Unpush t id) - 3))
     unpush_cost_differs place removed x y a b e c =
-        cost_differs removed x y (behind place w.config (Unpush t id)) a b e (from_id_some place id (map shared_item w.config.shared)) (subst (λ (z : ℕ). removal_steps removed z a b) (unpush_behind place) c)
+        cost_differs removed x y (behind place w.config (Unpush t id)) a b e (from_id_some place id (map shared_item w.config.shared)) (subst (λ (z : ℕ). removal_ticks removed z a b) (unpush_behind place) c)
 
-    pub unpush_cost_err : (place : Op → ℕ) (a b : ℕ) → b + 3 ≤ a + 4 * from_place place (shared_ops G.1) j → b ≤ a + (4 * behind place w.config (Unpush t id) - 3)
+    pub unpush_cost_err : (place : Op → ℕ) (a b : ℕ) → (a ≤ b) × (b + 3 ≤ a + 4 * from_place place (shared_ops G.1) j) → b ≤ a + (4 * behind place w.config (Unpush t id) - 3)
     unpush_cost_err place a b c =
-        cost_err (behind place w.config (Unpush t id)) a b (from_id_some place id (map shared_item w.config.shared)) (subst (λ (z : ℕ). b + 3 ≤ a + 4 * z) (unpush_behind place) c)
+        cost_err (behind place w.config (Unpush t id)) a b (from_id_some place id (map shared_item w.config.shared)) (subst (λ (z : ℕ). (a ≤ b) × (b + 3 ≤ a + 4 * z)) (unpush_behind place) c)

@@ -61,26 +61,29 @@ at_most place c (Cmt t) = 0
 at_most place c (Quit t) = 0
 at_most place c (Note t) = 0
 
--- What a step costs that is not done: nothing, unless it is a removal.
+-- What a step costs that is not done: nothing, unless it is a removal. No tick is taken back.
 abbrev pub CostsInVain : {Op : Type 0} → (Op → ℕ) → Config Op → Step Op → ℕ → ℕ → Type 0
 CostsInVain place c (Begin t p b) old new = new ≡ old
 CostsInVain place c (App t id op) old new = new ≡ old
 CostsInVain place c (Unapp t id) old new = new ≡ old
 CostsInVain place c (Push t id) old new = new ≡ old
-CostsInVain place c (Unpush t id) old new = new ≤ old + at_most place c (Unpush t id)
+CostsInVain place c (Unpush t id) old new =
+    (old ≤ new) × (new ≤ old + at_most place c (Unpush t id))
 CostsInVain place c (Pull t id) old new = new ≡ old
-CostsInVain place c (Unpull t id) old new = new ≤ old + at_most place c (Unpull t id)
+CostsInVain place c (Unpull t id) old new =
+    (old ≤ new) × (new ≤ old + at_most place c (Unpull t id))
 CostsInVain place c (Cmt t) old new = new ≡ old
 CostsInVain place c (Quit t) old new = new ≡ old
 CostsInVain place c (Note t) old new = new ≡ old
 
 -- What a step costs by its outcome.
-abbrev pub CostsBy : {Op : Type 0} → (Op → ℕ) → Config Op → Step Op → Outcome → ℕ → ℕ → Type 0
+abbrev pub CostsBy : {Op : Type 0} → (Op → ℕ) → Config Op → Step Op → Outcome Op → ℕ →
+    ℕ → Type 0
 CostsBy place c step Done old new = new ≡ old + step_ticks place c step
-CostsBy place c step (False n) old new = CostsInVain place c step old new
+CostsBy place c step (False n detail) old new = CostsInVain place c step old new
 
 -- What a step costs by what it answers.
 abbrev pub Costs : {Shape Op A E : Type 0} → (Op → ℕ) → Seen Shape Op → Step Op →
-    Result (A × Outcome) E → ℕ → ℕ → Type 0
+    Result (A × Outcome Op) E → ℕ → ℕ → Type 0
 Costs place v step (Ok r) old new = CostsBy place v.config step r.1 old new
 Costs place v step (Err e) old new = new ≤ old + at_most place v.config step

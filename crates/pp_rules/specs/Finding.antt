@@ -1,41 +1,28 @@
 -- Proof machinery: what the look-ups in logs answer.
-use Rattle.std.specs.Prelude.{◌≡◌, ◌≢◌, ◌+◌, slice_get, ◌==◌, ◌<◌, ℕ, Bool, true, false, List, Option, None, Some, find, length}
-use Rattle.std.specs.List.{HoldsAt, AllWithin}
+use Rattle.std.specs.Prelude.{◌≡◌, ◌≢◌, ◌+◌, slice_get, ◌==◌, ◌&&◌, ℕ, Bool, false, not, List, Option, None, Some, find, is_some, length}
 use Rattle.pp_core.specs.declared.entry.LocalEntry.{LocalEntry}
 use Rattle.pp_core.specs.declared.entry.SharedEntry.{SharedEntry}
-use Rattle.pp_model.specs.Config.{Unpushed, Pushed, is_own}
+use Rattle.pp_model.specs.Config.{Unpushed, Pushed, is_mark, is_own}
 use Rattle.pp_model.specs.Lists.{Before}
-use Rattle.pp_spec.specs.Object.{Object, Swaps, SwapsNowhere}
+use Rattle.pp_model.specs.Names.{Name, ◌=ⁿ◌}
+use Rattle.pp_spec.specs.Object.{Object}
 
--- An own unpushed entry that the operation may not come before.
-abbrev pub HoldsBack : {Shape State Op Undo : Type 0} → Object Shape State Op Undo → Op →
-    LocalEntry Op → Type 0
-HoldsBack o op a = (a.mark ≡ Unpushed) × SwapsNowhere o op a.op
+module _ {Shape State Op Undo : Type 0} (o : Object Shape State Op Undo) where
+  -- whether this is an own unpushed entry that the operation may not come before
+  abbrev pub holds_back : Op → LocalEntry Op → Bool
+  holds_back op a = is_mark a.mark Unpushed && is_some (o.refuting op a.op)
 
--- If it is own and unpushed, the operation may come before it.
-abbrev pub LetsPass : {Shape State Op Undo : Type 0} → Object Shape State Op Undo → Op →
-    LocalEntry Op → Type 0
-LetsPass o op a = a.mark ≡ Unpushed → Swaps o op a.op
+  -- whether it is an own pushed entry that may not come before the operation
+  abbrev pub stays_behind : Op → LocalEntry Op → Bool
+  stays_behind op b = is_mark b.mark Pushed && is_some (o.refuting b.op op)
 
--- An own entry that may not come behind the operation.
-abbrev pub StandsFirst : {Shape State Op Undo : Type 0} → Object Shape State Op Undo → Op →
-    LocalEntry Op → Type 0
-StandsFirst o op a = (is_own a.mark ≡ true) × SwapsNowhere o a.op op
+  -- whether it is an own entry that may not come behind the operation
+  abbrev pub stands_first : Op → LocalEntry Op → Bool
+  stands_first op a = is_own a.mark && is_some (o.refuting a.op op)
 
--- If it is own, it may come behind the operation.
-abbrev pub GoesBehind : {Shape State Op Undo : Type 0} → Object Shape State Op Undo → Op →
-    LocalEntry Op → Type 0
-GoesBehind o op a = is_own a.mark ≡ true → Swaps o a.op op
-
--- An own pushed entry that may not come before the operation.
-abbrev pub StaysBehind : {Shape State Op Undo : Type 0} → Object Shape State Op Undo → Op →
-    LocalEntry Op → Type 0
-StaysBehind o op b = (b.mark ≡ Pushed) × SwapsNowhere o b.op op
-
--- If it is own and pushed, it may come before the operation.
-abbrev pub ComesForward : {Shape State Op Undo : Type 0} → Object Shape State Op Undo → Op →
-    LocalEntry Op → Type 0
-ComesForward o op b = b.mark ≡ Pushed → Swaps o b.op op
+  -- whether it is an uncommitted entry of another, which the operation may not come before
+  abbrev pub blocks : Name → Op → SharedEntry Op → Bool
+  blocks t op u = (not u.committed && not (u.owner =ⁿ t)) && is_some (o.refuting u.op op)
 
 -- At this place the log ends, with an own unpushed entry of this id.
 pub record IsLastUnpushed {Op : Type 0} (id : ℕ) (l : List (LocalEntry Op)) (i : ℕ) : Type 0 where
@@ -44,14 +31,6 @@ pub record IsLastUnpushed {Op : Type 0} (id : ℕ) (l : List (LocalEntry Op)) (i
   pub end : i + 1 ≡ length l
   pub id_is : entry.id ≡ id
   pub unpushed : entry.mark ≡ Unpushed
-
--- The fact holds at this place of the list.
-abbrev pub HoldsAtPlace : {A : Type 0} → (A → Type 0) → List A → ℕ → Type 0
-HoldsAtPlace P xs i = (i < length xs) × HoldsAt P xs i
-
--- The fact holds at each place of the list.
-abbrev pub HoldEverywhere : {A : Type 0} → (A → Type 0) → List A → Type 0
-HoldEverywhere P xs = AllWithin P xs 0 (length xs)
 
 -- No two entries of the local log have one id.
 abbrev pub AreDistinct : {Op : Type 0} → List (LocalEntry Op) → Type 0

@@ -11,6 +11,8 @@ use Rattle.pp_model.specs.Lists.{Before}
 use Rattle.pp_model.specs.Names.{Name}
 use Rattle.pp_model.specs.Rules.{Breaks, Meets}
 use Rattle.pp_spec.specs.Object.{Object, SwapsIn, rules_of}
+use Rattle.pp_rules.specs.Evidence.{evidence}
+use Rattle.pp_rules.specs.declared.detail.Refusal.{Refusal}
 use Rattle.pp_rules.specs.declared.machine.Outcome.{Outcome}
 use Rattle.pp_rules.specs.declared.machine.Outcome.TheVariants.{Done, False}
 use Rattle.pp_rules.specs.Machines.{Seen, stepped}
@@ -30,20 +32,19 @@ IsAsked o shape (Quit t) = Unit {0}
 IsAsked o shape (Note t) = Unit {0}
 
 -- Done comes with the effect where each criterion holds, and False with the number of the first
--- false one where the machine
--- is as it was.
+-- false one and its evidence, where the machine is as it was.
 abbrev pub Stepped : {Shape State Op Undo : Type 0} → Object Shape State Op Undo → Seen Shape Op →
-    Step Op → Outcome →
-    Seen Shape Op → Type 0
+    Step Op → Outcome Op → Seen Shape Op → Type 0
 Stepped o old step Done new =
     Meets (rules_of o old.shape) old.config step × (new ≡ stepped old step)
-Stepped o old step (False n) new =
+Stepped o old step (False n detail) new =
     Breaks (rules_of o old.shape) old.config step n × (0 < n) × (new ≡ old)
+    × (detail ≡ evidence o old.shape old.config step n)
 
 -- What doing a step answers, unless memory was refused: the machine behind it, and its outcome.
 abbrev pub Does : {Shape State Op Undo E : Type 0} → Object Shape State Op Undo → Seen Shape Op →
     Step Op →
-    Result (Seen Shape Op × Outcome) E → Type 0
+    Result (Seen Shape Op × Outcome Op) E → Type 0
 Does o old step result = IfOk result (λ r. Stepped o old step r.1 r.0)
 
 -- The step needs no memory.
@@ -59,18 +60,24 @@ NeedsNoMemory (Cmt t) = ⊥
 NeedsNoMemory (Quit t) = Unit {0}
 NeedsNoMemory (Note t) = Unit {0}
 
--- What judging a step answers: what its effect needs where each criterion holds, and else the
--- number of the first false one.
+-- The step breaks this criterion first, and this is the evidence.
+pub record Refuses {Shape State Op Undo : Type 0} (o : Object Shape State Op Undo)
+    (v : Seen Shape Op) (step : Step Op) (refusal : Refusal Op) : Type 0 where
+  pub breaks : Breaks (rules_of o v.shape) v.config step refusal.criterion
+  pub not_zero : 0 < refusal.criterion
+  pub is_evidence : refusal.detail ≡ evidence o v.shape v.config step refusal.criterion
+
+-- What judging a step answers: what its effect needs where each criterion holds, and else why the
+-- step is refused.
 abbrev pub Judges : {Shape State Op Undo A : Type 0} → Object Shape State Op Undo → Seen Shape Op →
-    Step Op → (A → Type 0) →
-    Result A ℕ → Type 0
+    Step Op → (A → Type 0) → Result A (Refusal Op) → Type 0
 Judges o v step Needed (Ok found) = Meets (rules_of o v.shape) v.config step × Needed found
-Judges o v step Needed (Err n) = Breaks (rules_of o v.shape) v.config step n × (0 < n)
+Judges o v step Needed (Err refusal) = Refuses o v step refusal
 
 -- A BEGIN is judged without its body, and needs nothing more.
 abbrev pub JudgesBegin : {Shape State Op Undo A : Type 0} → Object Shape State Op Undo →
     Seen Shape Op → Name → Name →
-    Result A ℕ → Type 0
+    Result A (Refusal Op) → Type 0
 JudgesBegin o v t p result =
     (body : Option Tree) → Judges o v (Begin t p body) (λ _. Unit {0}) result
 
@@ -121,31 +128,31 @@ pub record FindsPushed {Shape State Op Undo : Type 0} (o : Object Shape State Op
 -- UNPUSH is judged up to its last criterion, which its effect decides.
 abbrev pub JudgesUnpush : {Shape State Op Undo : Type 0} → Object Shape State Op Undo →
     Seen Shape Op → Name → ℕ →
-    Result (ℕ × ℕ) ℕ → Type 0
+    Result (ℕ × ℕ) (Refusal Op) → Type 0
 JudgesUnpush o v t id (Ok found) = FindsPushed o v t id found.0 found.1
-JudgesUnpush o v t id (Err n) = Breaks (rules_of o v.shape) v.config (Unpush t id) n × (0 < n)
+JudgesUnpush o v t id (Err refusal) = Refuses o v (Unpush t id) refusal
 
 -- So is UNPULL.
 abbrev pub JudgesUnpull : {Shape State Op Undo : Type 0} → Object Shape State Op Undo →
     Seen Shape Op → Name → ℕ →
-    Result ℕ ℕ → Type 0
+    Result ℕ (Refusal Op) → Type 0
 JudgesUnpull {Shape} {State} {Op} o v t id (Ok i) =
     (e : LocalEntry Op) × IsAt v.config t id Pulled i e
-JudgesUnpull o v t id (Err n) = Breaks (rules_of o v.shape) v.config (Unpull t id) n × (0 < n)
+JudgesUnpull o v t id (Err refusal) = Refuses o v (Unpull t id) refusal
 
 -- What judging hands on where all criteria hold: at PUSH and UNAPP where
 -- the entry stands, at PULL the entry.
 abbrev pub JudgesPush : {Shape State Op Undo : Type 0} → Object Shape State Op Undo →
     Seen Shape Op → Name → ℕ →
-    Result (ℕ × LocalEntry Op) ℕ → Type 0
+    Result (ℕ × LocalEntry Op) (Refusal Op) → Type 0
 JudgesPush o v t id result = Judges o v (Push t id) (StandsAt v.config t id Unpushed) result
 
 abbrev pub JudgesUnapp : {Shape State Op Undo : Type 0} → Object Shape State Op Undo →
     Seen Shape Op → Name → ℕ →
-    Result ℕ ℕ → Type 0
+    Result ℕ (Refusal Op) → Type 0
 JudgesUnapp o v t id result = Judges o v (Unapp t id) (IsLastAt v.config t) result
 
 abbrev pub JudgesPull : {Shape State Op Undo : Type 0} → Object Shape State Op Undo →
     Seen Shape Op → Name → ℕ →
-    Result (SharedEntry Op) ℕ → Type 0
+    Result (SharedEntry Op) (Refusal Op) → Type 0
 JudgesPull o v t id result = Judges o v (Pull t id) (IsOfOther v.config t id) result

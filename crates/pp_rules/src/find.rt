@@ -1,10 +1,9 @@
 //! What the machine looks up in logs.
-ghost use Rattle.std.specs.Prelude.{◌≡◌, ◌<◌, length, ◌==◌, ◌&&◌, ◌||◌, not, IsTrue, false, Some, None, slice_get, option_map, MatchOption, IfOk, IfSome};
-ghost use Rattle.std.specs.List.{list_all};
+ghost use Rattle.std.specs.Prelude.{◌≡◌, ◌<◌, length, ◌==◌, ◌&&◌, not, Some, None, is_some, position, slice_get, option_map, MatchOption, IfOk, IfSome};
 ghost use Rattle.pp_model.specs.Config.{is_mark, is_own, last, own_items, at_mark, of_other};
 ghost use Rattle.pp_core.specs.declared.entry.LocalEntry.{LocalEntry as EntryOf};
 ghost use Rattle.pp_model.specs.Rules.{IsLast};
-ghost use Rattle.pp_rules.specs.Finding.{ComesForward, IsLastUnpushed, StaysBehind, HoldsBack, LetsPass, StandsFirst, GoesBehind, HoldsAtPlace, HoldEverywhere, AreDistinct, HaveOwnIds, stands_committed};
+ghost use Rattle.pp_rules.specs.Finding.{AreDistinct, HaveOwnIds, IsLastUnpushed, holds_back, stands_committed, stands_first, stays_behind};
 
 use pp_core::{Item, Items, LocalEntry, Mark, Name, OutOfMemory, SharedEntry};
 use pp_local::Local;
@@ -35,6 +34,7 @@ pub fn marked_at<S: Placed>(
     requires { AreDistinct local.now.1 }
     ensures entry { option_map (λ r. r.1) result ≡ at_mark id mark local.now.1 }
     ensures place { IfSome result (λ r. slice_get local.now.1 r.0 ≡ Some r.1) }
+    ensures found { IfSome result (λ r. position (λ e. e.id == id) local.now.1 ≡ Some r.0) }
 {
     let i = local.find(id)?;
     let entry = local.entry(i)?;
@@ -81,13 +81,13 @@ pub fn other_at<S: Placed>(shared: &Shared<S>, owner: &Name, id: u32) -> Option<
     }
 }
 
-/// Whether no own entry is unpushed.
-pub fn all_pushed<O: Copy>(entries: &[LocalEntry<O>]) -> bool
-    ensures { result ≡ list_all (λ e. not (is_mark e.mark Mark.Unpushed)) entries.now }
+/// The place of the first own entry that is not pushed.
+pub fn first_unpushed<O: Copy>(entries: &[LocalEntry<O>]) -> Option<usize>
+    ensures { result ≡ position (λ e. is_mark e.mark Mark.Unpushed) entries.now }
 {
     entries
         .iter()
-        .all(|entry| !is_mark(entry.mark, Mark::Unpushed))
+        .position(|entry| is_mark(entry.mark, Mark::Unpushed))
 }
 
 /// Whether the entry of this id stands committed.
@@ -103,59 +103,63 @@ fn stands_committed<S: Placed>(shared: &Shared<S>, id: u32) -> bool
     entry.committed
 }
 
-/// Whether each pulled entry stands committed.
-pub fn all_stand<S: Placed>(entries: &[LocalEntry<S::Op>], shared: &Shared<S>) -> bool
-    ensures { result ≡ list_all (λ e. not (is_mark e.mark Mark.Pulled)
-        || stands_committed e.id shared.now.1) entries.now }
+/// The place of the first pulled entry that does not stand committed.
+pub fn first_not_standing<S: Placed>(
+    entries: &[LocalEntry<S::Op>],
+    shared: &Shared<S>,
+) -> Option<usize>
+    ensures { result ≡ position (λ e. is_mark e.mark Mark.Pulled
+        && not (stands_committed e.id shared.now.1)) entries.now }
 {
-    entries.iter().all(|entry| !is_mark(entry.mark, Mark::Pulled)
-        || stands_committed(shared, entry.id))
+    entries.iter().position(|entry| is_mark(entry.mark, Mark::Pulled)
+        && !stands_committed(shared, entry.id))
+}
+
+/// Whether the pair does not swap.
+fn is_refuted<S: Spec>(a: &S::Op, b: &S::Op) -> bool
+    ensures { result ≡ is_some (S.object.refuting a.now b.now) }
+{
+    !S::swaps(a, b)
 }
 
 /// Whether this is an own unpushed entry that the operation may not come before.
 fn holds_back<S: Spec>(entry: &LocalEntry<S::Op>, op: &S::Op) -> bool
-    ensures held { IsTrue result → HoldsBack S.object op.now entry.now }
-    ensures free { result ≡ false → LetsPass S.object op.now entry.now }
+    ensures { result ≡ holds_back S.object op.now entry.now }
 {
-    is_mark(entry.mark, Mark::Unpushed) && !S::swaps(op, &entry.op)
+    is_mark(entry.mark, Mark::Unpushed) && is_refuted::<S>(op, &entry.op)
 }
 
 /// The place of the first own unpushed entry that holds the operation back.
 pub fn first_holding_back<S: Spec>(before: &[LocalEntry<S::Op>], op: &S::Op) -> Option<usize>
-    ensures { MatchOption result (HoldEverywhere (LetsPass S.object op.now) before.now)
-        (HoldsAtPlace (HoldsBack S.object op.now) before.now) }
+    ensures { result ≡ position (holds_back S.object op.now) before.now }
 {
     before.iter().position(|entry| holds_back::<S>(entry, op))
 }
 
 /// Whether this is an own pushed entry that may not come before the operation.
 fn stays_behind<S: Spec>(entry: &LocalEntry<S::Op>, op: &S::Op) -> bool
-    ensures held { IsTrue result → StaysBehind S.object op.now entry.now }
-    ensures free { result ≡ false → ComesForward S.object op.now entry.now }
+    ensures { result ≡ stays_behind S.object op.now entry.now }
 {
-    is_mark(entry.mark, Mark::Pushed) && !S::swaps(&entry.op, op)
+    is_mark(entry.mark, Mark::Pushed) && is_refuted::<S>(&entry.op, op)
 }
 
 /// The place of the first own pushed entry that may not come before the operation.
 pub fn first_staying_behind<S: Spec>(after: &[LocalEntry<S::Op>], op: &S::Op) -> Option<usize>
-    ensures { MatchOption result (HoldEverywhere (ComesForward S.object op.now) after.now)
-        (HoldsAtPlace (StaysBehind S.object op.now) after.now) }
+    ensures { result ≡ position (stays_behind S.object op.now) after.now }
 {
     after.iter().position(|entry| stays_behind::<S>(entry, op))
 }
 
 /// Whether this is an own entry that may not come behind the operation.
 fn stands_first<S: Spec>(entry: &LocalEntry<S::Op>, op: &S::Op) -> bool
-    ensures held { IsTrue result → StandsFirst S.object op.now entry.now }
-    ensures free { result ≡ false → GoesBehind S.object op.now entry.now }
+    ensures { result ≡ stands_first S.object op.now entry.now }
 {
-    is_own(entry.mark) && !S::swaps(&entry.op, op)
+    is_own(entry.mark) && is_refuted::<S>(&entry.op, op)
 }
 
 /// The place of the first own entry that may not come behind the operation.
 pub fn first_not_before<S: Spec>(entries: &[LocalEntry<S::Op>], op: &S::Op) -> Option<usize>
-    ensures { MatchOption result (HoldEverywhere (GoesBehind S.object op.now) entries.now)
-        (HoldsAtPlace (StandsFirst S.object op.now) entries.now) }
+    ensures { result ≡ position (stands_first S.object op.now) entries.now }
 {
     entries
         .iter()

@@ -4,6 +4,7 @@ ghost use Rattle.pp_model.specs.AsWritten.{WrittenLaw};
 ghost use Rattle.pp_model.specs.Laws.{VerdictLaw, ViewsLaw};
 ghost use Rattle.pp_model.specs.Serial.{SimulationLaw};
 ghost use Rattle.pp_model.specs.Sound.{KeptLaw, SameStateLaw, SerialLaw};
+ghost use Rattle.pp_rules.specs.Shown.{EvidenceLaw};
 ghost use Rattle.pp_spec.specs.Object.{rules_of};
 
 use pp_spec::Spec;
@@ -48,4 +49,10 @@ pub fn alone_law<S: Spec>()
 /// criteria.
 pub fn verdict_law<S: Spec>()
     ensures { (shape : S.Shape) → VerdictLaw (rules_of S.object shape) }
+{}
+
+/// The evidence of the first false criterion of a step shows that it is false, and tells operations
+/// of the objects alone.
+pub fn evidence_law<S: Spec>()
+    ensures { (shape : S.Shape) → EvidenceLaw S.object shape }
 {}

@@ -2,14 +2,16 @@
 #![tactic(auto)]
 
 mod course;
+mod detail;
 mod find;
 mod laws;
 mod machine;
 mod transactions;
 
+pub use detail::Detail;
 pub use laws::{
-    alone_law, kept_law, same_state_law, serial_law, simulation_law, verdict_law, views_law,
-    written_law,
+    alone_law, evidence_law, kept_law, same_state_law, serial_law, simulation_law, verdict_law,
+    views_law, written_law,
 };
 pub use machine::{Machine, Outcome};
 pub use pp_core::{

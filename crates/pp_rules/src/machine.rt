@@ -21,6 +21,7 @@ mod unapp;
 mod unpull;
 mod unpush;
 
+use crate::detail::Detail;
 use crate::transactions::{OpenTx, Transactions};
 use indexmap::IndexSet;
 use pp_core::{Committed, Name, OutOfMemory, Step, Ticks};
@@ -32,12 +33,12 @@ use std::marker::Model;
 use std::sync::ledger::Ledger;
 
 /// What a step did.
-#[derive(Clone, Copy, Debug, PartialEq, Eq)]
-pub enum Outcome {
+#[derive(Drop)]
+pub enum Outcome<O> {
     /// Each criterion held, and the effect has happened.
     Done,
-    /// The first false criterion, from 1. Nothing has happened.
-    False { criterion: u8 },
+    /// The first false criterion, from 1, and what shows that it is false. Nothing has happened.
+    False { criterion: u8, detail: Detail<O> },
 }
 
 /// The machine: the transactions with their local logs, the shared log, and the committed
@@ -143,7 +144,7 @@ impl<S: Placed> Machine<S> {
         self,
         step: &Step<S::Op>,
         ticks: &mut Ticks<L>,
-    ) -> Result<(Self, Outcome), OutOfMemory>
+    ) -> Result<(Self, Outcome<S::Op>), OutOfMemory>
         requires asked { IsAsked S.object self.shape (meaning step.now) }
         requires few { self.count < 200_000 }
         ensures effect { IfOk result (λ r. Stepped S.object self (meaning step.now) r.1 r.0) }

@@ -3,20 +3,21 @@ ghost use Rattle.std.specs.Prelude.{◌<◌, option_map};
 ghost use Rattle.pp_core.specs.Trees.{IsWithinLimits, tree};
 ghost use Rattle.pp_rules.specs.Stepping.{Does, JudgesBegin, begin_of};
 
+use crate::detail::{Refusal, bare};
 use crate::machine::{Machine, Outcome};
 use pp_core::{Body, Name, OutOfMemory};
 use pp_spec::Placed;
 
 impl<S: Placed> Machine<S> {
-    /// Whether BEGIN may be done, or the number of its first false criterion.
-    fn judge_begin(&self, tx: &Name, thread: &Name) -> Result<(), u8>
+    /// Whether BEGIN may be done, or the refusal by its first false criterion.
+    fn judge_begin(&self, tx: &Name, thread: &Name) -> Result<(), Refusal<S::Op>>
         ensures { JudgesBegin S.object self.now tx.now thread.now result }
     {
         if self.transactions.is_begun(tx) {
-            return Err(1);
+            return Err(bare(1));
         }
         if self.transactions.is_busy(thread) {
-            return Err(2);
+            return Err(bare(2));
         }
         Ok(())
     }
@@ -27,13 +28,13 @@ impl<S: Placed> Machine<S> {
         tx: &Name,
         thread: &Name,
         body: &Option<Body>,
-    ) -> Result<(Self, Outcome), OutOfMemory>
+    ) -> Result<(Self, Outcome<S::Op>), OutOfMemory>
         requires within { IsWithinLimits (option_map tree body.now) }
         requires few { self.count < 200_000 }
         ensures { Does S.object self (begin_of tx.now thread.now body.now) result }
     {
-        if let Err(criterion) = self.judge_begin(tx, thread) {
-            return Ok((self, Outcome::False { criterion }));
+        if let Err(Refusal { criterion, detail }) = self.judge_begin(tx, thread) {
+            return Ok((self, Outcome::False { criterion, detail }));
         }
         self.transactions
             .begin(self.alloc, &self.shape, tx, thread, body)?;

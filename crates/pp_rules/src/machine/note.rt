@@ -3,28 +3,29 @@ ghost use Rattle.std.specs.Prelude.{◌<◌};
 ghost use Rattle.pp_core.specs.Steps.{Note};
 ghost use Rattle.pp_rules.specs.Stepping.{Judges, Stepped};
 
+use crate::detail::{Refusal, bare};
 use crate::machine::{Machine, Outcome};
 use pp_core::Name;
 use pp_spec::Placed;
 
 impl<S: Placed> Machine<S> {
-    /// Whether NOTE may be done, or the number of its false criterion.
-    fn judge_note(&self, tx: &Name) -> Result<(), u8>
+    /// Whether NOTE may be done, or the refusal by its criterion.
+    fn judge_note(&self, tx: &Name) -> Result<(), Refusal<S::Op>>
         ensures { Judges S.object self.now (Note tx.now) (λ _. Unit {0}) result }
     {
         if !self.is_open(tx) {
-            return Err(1);
+            return Err(bare(1));
         }
         Ok(())
     }
 
     /// Does NOTE where its criterion holds. It takes no memory.
-    pub(super) fn note(mut self, tx: &Name) -> (Self, Outcome)
+    pub(super) fn note(mut self, tx: &Name) -> (Self, Outcome<S::Op>)
         requires { self.count < 200_000 }
         ensures { Stepped S.object self (Note tx.now) result.1 result.0 }
     {
-        if let Err(criterion) = self.judge_note(tx) {
-            return (self, Outcome::False { criterion });
+        if let Err(Refusal { criterion, detail }) = self.judge_note(tx) {
+            return (self, Outcome::False { criterion, detail });
         }
         self.count += 1;
         (self, Outcome::Done)

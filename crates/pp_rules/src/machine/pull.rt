@@ -1,9 +1,10 @@
 //! PULL: its criteria and its effect.
-ghost use Rattle.std.specs.Prelude.{◌<◌, ◌≤◌, ◌+◌};
+ghost use Rattle.std.specs.Prelude.{◌<◌, ◌≤◌, ◌+◌, IfOk};
 ghost use Rattle.pp_core.specs.Steps.{Pull};
 ghost use Rattle.pp_rules.specs.Costs.{Costs};
 ghost use Rattle.pp_rules.specs.Stepping.{Does, JudgesPull};
 
+use crate::detail::{Detail, Judged, Refusal, bare, swap_detail};
 use crate::find::{first_not_before, other_at};
 use crate::machine::{Machine, Outcome};
 use pp_core::{LocalEntry, Mark, Name, OutOfMemory, SharedEntry, Ticks};
@@ -11,26 +12,37 @@ use pp_spec::Placed;
 use std::sync::ledger::Ledger;
 
 impl<S: Placed> Machine<S> {
-    /// The entry that PULL takes over, or the number of its first false criterion.
-    fn judge_pull(&self, tx: &Name, id: u32) -> Result<SharedEntry<S::Op>, u8>
-        ensures { JudgesPull S.object self.now tx.now id result }
+    /// The entry that PULL takes over, or the refusal by its first false criterion. The only error
+    /// is that memory was refused.
+    fn judge_pull(&self, tx: &Name, id: u32) -> Judged<SharedEntry<S::Op>, S::Op>
+        ensures { IfOk result (JudgesPull S.object self.now tx.now id) }
     {
         let Some(local) = self.transactions.local(tx) else {
-            return Err(1);
+            return Ok(Err(bare(1)));
         };
         let Some(post) = other_at(&self.shared, tx, id) else {
-            return Err(2);
+            return Ok(Err(bare(2)));
         };
         if local.find(id).is_some() {
-            return Err(3);
+            return Ok(Err(bare(3)));
         }
         if !local.legal(&post.op) {
-            return Err(4);
+            let answer = local.gives(&post.op);
+            return Ok(Err(Refusal {
+                criterion: 4,
+                detail: Detail::Gives { id, answer },
+            }));
         }
-        if first_not_before::<S>(local.entries(), &post.op).is_some() {
-            return Err(5);
+        let entries = local.entries();
+        if let Some(k) = first_not_before::<S>(entries, &post.op) {
+            let own = &entries[k];
+            let detail = swap_detail::<S>(self.alloc, own.id, &own.op, &post.op)?;
+            return Ok(Err(Refusal {
+                criterion: 5,
+                detail,
+            }));
         }
-        Ok(post)
+        Ok(Ok(post))
     }
 
     /// Does PULL where its criteria hold.
@@ -39,15 +51,17 @@ impl<S: Placed> Machine<S> {
         tx: &Name,
         id: u32,
         ticks: &mut Ticks<L>,
-    ) -> Result<(Self, Outcome), OutOfMemory>
+    ) -> Result<(Self, Outcome<S::Op>), OutOfMemory>
         requires few { self.count < 200_000 }
         ensures effect { Does S.object self (Pull tx.now id) result }
         ensures cost { Costs S.place_of self (Pull tx.now id) result ticks.old ticks.new }
         ensures bound { ticks.new ≤ ticks.old + 1 }
     {
-        let post = match self.judge_pull(tx, id) {
+        let post = match self.judge_pull(tx, id)? {
             Ok(post) => post,
-            Err(criterion) => return Ok((self, Outcome::False { criterion })),
+            Err(Refusal { criterion, detail }) => {
+                return Ok((self, Outcome::False { criterion, detail }));
+            }
         };
         let entry = LocalEntry {
             id: post.id,

@@ -1,9 +1,10 @@
 //! PUSH: its criteria and its effect.
-ghost use Rattle.std.specs.Prelude.{◌<◌, ◌≤◌, ◌+◌};
+ghost use Rattle.std.specs.Prelude.{◌<◌, ◌≤◌, ◌+◌, IfOk};
 ghost use Rattle.pp_core.specs.Steps.{Push};
 ghost use Rattle.pp_rules.specs.Costs.{Costs};
 ghost use Rattle.pp_rules.specs.Stepping.{Does, JudgesPush};
 
+use crate::detail::{Detail, Judged, Refusal, bare, swap_detail};
 use crate::find::{first_holding_back, marked_at};
 use crate::machine::{Machine, Outcome};
 use pp_core::{LocalEntry, Mark, Name, OutOfMemory, SharedEntry, Ticks};
@@ -11,27 +12,43 @@ use pp_spec::Placed;
 use std::sync::ledger::Ledger;
 
 impl<S: Placed> Machine<S> {
-    /// The entry that PUSH publishes, and where it stands in the local log, or the number of its
-    /// first false criterion.
-    fn judge_push(&self, tx: &Name, id: u32) -> Result<(usize, LocalEntry<S::Op>), u8>
-        ensures { JudgesPush S.object self.now tx.now id result }
+    /// The entry that PUSH publishes, and where it stands in the local log, or the refusal by its
+    /// first false criterion. The only error is that memory was refused.
+    fn judge_push(&self, tx: &Name, id: u32) -> Judged<(usize, LocalEntry<S::Op>), S::Op>
+        ensures { IfOk result (JudgesPush S.object self.now tx.now id) }
     {
         let Some(local) = self.transactions.local(tx) else {
-            return Err(1);
+            return Ok(Err(bare(1)));
         };
         let Some((i, entry)) = marked_at(local, id, Mark::Unpushed) else {
-            return Err(2);
+            return Ok(Err(bare(2)));
         };
-        if first_holding_back::<S>(&local.entries()[..i], &entry.op).is_some() {
-            return Err(3);
+        let op = &entry.op;
+        let before = &local.entries()[..i];
+        if let Some(k) = first_holding_back::<S>(before, op) {
+            let own = &before[k];
+            let detail = swap_detail::<S>(self.alloc, own.id, op, &own.op)?;
+            return Ok(Err(Refusal {
+                criterion: 3,
+                detail,
+            }));
         }
-        if self.shared.blocking(tx, &entry.op).is_some() {
-            return Err(4);
+        if let Some(k) = self.shared.blocking(tx, op) {
+            let other = &self.shared.entries()[k];
+            let detail = swap_detail::<S>(self.alloc, other.id, &other.op, op)?;
+            return Ok(Err(Refusal {
+                criterion: 4,
+                detail,
+            }));
         }
-        if !self.shared.legal(&entry.op) {
-            return Err(5);
+        if !self.shared.legal(op) {
+            let answer = self.shared.gives(op);
+            return Ok(Err(Refusal {
+                criterion: 5,
+                detail: Detail::Gives { id, answer },
+            }));
         }
-        Ok((i, entry))
+        Ok(Ok((i, entry)))
     }
 
     /// Does PUSH where its criteria hold.
@@ -40,15 +57,17 @@ impl<S: Placed> Machine<S> {
         tx: &Name,
         id: u32,
         ticks: &mut Ticks<L>,
-    ) -> Result<(Self, Outcome), OutOfMemory>
+    ) -> Result<(Self, Outcome<S::Op>), OutOfMemory>
         requires few { self.count < 200_000 }
         ensures effect { Does S.object self (Push tx.now id) result }
         ensures cost { Costs S.place_of self (Push tx.now id) result ticks.old ticks.new }
         ensures bound { ticks.new ≤ ticks.old + 1 }
     {
-        let (i, entry) = match self.judge_push(tx, id) {
+        let (i, entry) = match self.judge_push(tx, id)? {
             Ok(found) => found,
-            Err(criterion) => return Ok((self, Outcome::False { criterion })),
+            Err(Refusal { criterion, detail }) => {
+                return Ok((self, Outcome::False { criterion, detail }));
+            }
         };
         let posted = SharedEntry {
             id: entry.id,

@@ -4,6 +4,7 @@ ghost use Rattle.pp_core.specs.Steps.{Unapp};
 ghost use Rattle.pp_rules.specs.Costs.{Costs};
 ghost use Rattle.pp_rules.specs.Stepping.{Does, JudgesUnapp};
 
+use crate::detail::{Refusal, bare};
 use crate::find::last_unpushed;
 use crate::machine::{Machine, Outcome};
 use pp_core::{Name, OutOfMemory, Ticks};
@@ -11,15 +12,15 @@ use pp_spec::Placed;
 use std::sync::ledger::Ledger;
 
 impl<S: Placed> Machine<S> {
-    /// Where the entry stands that UNAPP drops, or the number of its first false criterion.
-    fn judge_unapp(&self, tx: &Name, id: u32) -> Result<usize, u8>
+    /// Where the entry stands that UNAPP drops, or the refusal by its first false criterion.
+    fn judge_unapp(&self, tx: &Name, id: u32) -> Result<usize, Refusal<S::Op>>
         ensures { JudgesUnapp S.object self.now tx.now id result }
     {
         let Some(local) = self.transactions.local(tx) else {
-            return Err(1);
+            return Err(bare(1));
         };
         let Some(i) = last_unpushed(local.entries(), id) else {
-            return Err(2);
+            return Err(bare(2));
         };
         Ok(i)
     }
@@ -30,7 +31,7 @@ impl<S: Placed> Machine<S> {
         tx: &Name,
         id: u32,
         ticks: &mut Ticks<L>,
-    ) -> Result<(Self, Outcome), OutOfMemory>
+    ) -> Result<(Self, Outcome<S::Op>), OutOfMemory>
         requires few { self.count < 200_000 }
         ensures effect { Does S.object self (Unapp tx.now id) result }
         ensures cost { Costs S.place_of self (Unapp tx.now id) result ticks.old ticks.new }
@@ -38,7 +39,9 @@ impl<S: Placed> Machine<S> {
     {
         let i = match self.judge_unapp(tx, id) {
             Ok(i) => i,
-            Err(criterion) => return Ok((self, Outcome::False { criterion })),
+            Err(Refusal { criterion, detail }) => {
+                return Ok((self, Outcome::False { criterion, detail }));
+            }
         };
         // The list without its last entry is always allowed.
         let (transactions, _done) = self.transactions.remove(tx, i, ticks)?;

@@ -1,6 +1,6 @@
-use Rattle.std.proofs.Common.{◌+◌, ◌*◌, ◌<◌, ◌≤◌, ◌∙◌, ℕ, ap, length, slice_get, subst, sym, Ok}
+use Rattle.std.proofs.Common.{◌<◌, ◌∙◌, ℕ, ap, length, slice_get, subst, sym, Ok}
 use Rattle.pp_model.specs.Config.{item, local_ops}
-use Rattle.pp_log.specs.Logs.{RemovesEntry, from_place}
+use Rattle.pp_log.specs.Logs.{RemovalBound, RemovesEntry}
 use Rattle.std.proofs.lemmas.Result.{err_from_is_err_and}
 use Rattle.pp_rules.specs.Removals.{CostsRemoval, answer_of}
 use Rattle.pp_rules.proofs.Courses.{goes_back, leaves_still, taken_removed}
@@ -42,4 +42,4 @@ pub returns-in_err-log-clause-cost : goal.returns-in_err-log-clause-cost
 returns-in_err-log-clause-cost g c =
     let p = err_from_is_err_and c.from_residual.result c.from_residual.ensures.1 in
     subst (λ z. CostsRemoval g.S.Placed.place_of (local_ops c.args.self.local.1) c.args.i (answer_of z) c.args.ticks.now c.remove.new.ticks) (sym p.1)
-    (subst (λ z. c.remove.new.ticks + 3 ≤ c.args.ticks.now + 4 * from_place g.S.Placed.place_of (local_ops z.local.1) c.args.i) c.self.view_is c.remove.ensures.bound)
+    (subst (λ z. RemovalBound g.S.Placed.place_of (local_ops z.local.1) c.args.i c.args.ticks.now c.remove.new.ticks) c.self.view_is c.remove.ensures.bound)

@@ -5,7 +5,7 @@ use Rattle.pp_rules.proofs.machine.Machine.begin.Goals as goal
 
 pub returns-in-Err : goal.returns-in-Err
 returns-in-Err g c =
-    let k = c.in-Err.ensures (option_map tree c.args.body.now) in (k.0, k.1, refl)
+    let k = c.in-Err.ensures (option_map tree c.args.body.now) in (k.breaks, k.not_zero, refl, k.is_evidence)
 
 pub begin-requires-clause-new : goal.begin-requires-clause-new
 begin-requires-clause-new g c =

@@ -6,7 +6,7 @@ use Rattle.pp_rules.proofs.machine.Machine.commit.Goals as goal
 
 pub returns-in-Err : goal.returns-in-Err
 returns-in-Err g c =
-    (c.in-Err.ensures.0, c.in-Err.ensures.1, refl)
+    let k = c.in-Err.ensures in (k.breaks, k.not_zero, refl, k.is_evidence)
 
 pub invariant_of-self : goal.invariant_of-self
 invariant_of-self g c =

@@ -1,30 +1,32 @@
-use Rattle.std.proofs.Common.{◌∙◌, ◌++◌, ◌∷◌, [], ◌==◌, sym, subst, IsTrue, arith}
+use Rattle.std.proofs.Common.{ap, ◌∙◌, ◌++◌, ◌∷◌, [], ◌==◌, sym, subst, IsTrue, arith}
 use Rattle.std.proofs.lemmas.Bool.{eqb-true}
+use Rattle.pp_log.specs.Logs.{answer_behind}
 use Rattle.pp_model.specs.Config.{local_ops}
+use Rattle.pp_rules.specs.declared.detail.Detail.TheVariants.{Gives}
 use Rattle.pp_model.proofs.Logs.{found_other}
 use Rattle.pp_spec.specs.Object.{IsAllowed}
-use Rattle.pp_rules.proofs.Finding.{a_place, all_hold, decided, decided_not, first_holds, no_place, place_in, not_placed}
+use Rattle.pp_rules.proofs.Finding.{a_place, decided, decided_not, no_place, place_in, not_placed, read_found}
 use Rattle.pp_rules.proofs.Judged.{of_other_is}
 use Rattle.pp_rules.proofs.Judging.{pull_1, pull_2, pull_3, pull_4, pull_5, pull_0}
-use Rattle.pp_rules.proofs.Opened.{fits_local, fits_shared, logged, unlogged}
-use Rattle.pp_rules.proofs.Swapping.{own_before, not_before}
+use Rattle.pp_rules.proofs.Opened.{fits_local, fits_shared, logged, ranged_local, ranged_shared, unlogged}
+use Rattle.pp_rules.proofs.Swapping.{before_shown, own_before, not_before}
 use Rattle.pp_rules.proofs.machine.Machine.judge_pull.Goals as goal
 
 pub returns-in_default : goal.returns-in_default
 returns-in_default g c =
-    (pull_1 g.S.Spec.object _ _ c.self.view_is c.args.tx.now c.args.id (unlogged g.S.Spec.object c.self.inside.shape c.self.inside.transactions c.self.inside.ids.keys c.self.inside.shared c.self.inside.committed c.self.inside.count c.self.invariant c.args.tx.now c.in_default.ensures), omega arith)
+    pull_1 g.S.Spec.object _ _ c.self.view_is c.args.tx.now c.args.id (unlogged g.S.Spec.object c.self.inside.shape c.self.inside.transactions c.self.inside.ids.keys c.self.inside.shared c.self.inside.committed c.self.inside.count c.self.invariant c.args.tx.now c.in_default.ensures) c.bare.result c.bare.ensures
 
 pub returns-in_default-other_at : goal.returns-in_default-other_at
 returns-in_default-other_at g c =
     let r = logged g.S.Spec.object c.self.inside.shape c.self.inside.transactions c.self.inside.ids.keys c.self.inside.shared c.self.inside.committed c.self.inside.count c.self.invariant c.args.tx.now c.in-Some.local.now c.in-Some.ensures in
-    (pull_2 g.S.Spec.object _ _ c.self.view_is c.args.tx.now c.args.id _ r.is (sym c.in_default-other_at.ensures), omega arith)
+    pull_2 g.S.Spec.object _ _ c.self.view_is c.args.tx.now c.args.id _ r.is (sym c.in_default-other_at.ensures) c.bare-in_default-other_at.result c.bare-in_default-other_at.ensures
 
 pub returns-then-is_some : goal.returns-then-is_some
 returns-then-is_some g c =
     let k = a_place c.find.result c.is_some.result c.is_some.ensures c.if-is_some.true in
     let r = logged g.S.Spec.object c.self.inside.shape c.self.inside.transactions c.self.inside.ids.keys c.self.inside.shared c.self.inside.committed c.self.inside.count c.self.invariant c.args.tx.now c.in-Some.local.now c.in-Some.ensures in
     let a = place_in (λ e. e.id == c.args.id) c.in-Some.local.now.1 k.0 (sym c.find.ensures ∙ k.1) in
-    (pull_3 g.S.Spec.object _ _ c.self.view_is c.args.tx.now c.args.id _ c.in-Some-other_at.post a.0 r.is (sym c.in-Some-other_at.ensures) a.1 (eqb-true (a.0).id c.args.id a.2), omega arith)
+    pull_3 g.S.Spec.object _ _ c.self.view_is c.args.tx.now c.args.id _ c.in-Some-other_at.post a.0 r.is (sym c.in-Some-other_at.ensures) a.1 (eqb-true (a.0).id c.args.id a.2) c.bare-then-is_some.result c.bare-then-is_some.ensures
 
 pub legal-requires : goal.legal-requires
 legal-requires g c =
@@ -32,33 +34,51 @@ legal-requires g c =
     let p = c.in-Some-other_at.post in
     subst (λ sh. IsTrue (g.S.Spec.object.fits sh p.op)) (sym (r.fine).same_shape) (fits_shared g.S.Spec.object c.self.inside.shape c.self.inside.transactions c.self.inside.ids.keys c.self.inside.shared c.self.inside.committed c.self.inside.count c.self.invariant g.met.S.Spec.lawful p (found_other c.args.tx.now c.args.id _ _ (sym c.in-Some-other_at.ensures)).0)
 
+pub gives-answer-requires : goal.gives-answer-requires
+gives-answer-requires g c =
+    let r = logged g.S.Spec.object c.self.inside.shape c.self.inside.transactions c.self.inside.ids.keys c.self.inside.shared c.self.inside.committed c.self.inside.count c.self.invariant c.args.tx.now c.in-Some.local.now c.in-Some.ensures in
+    let p = c.in-Some-other_at.post in
+    subst (λ sh. IsTrue (g.S.Spec.object.fits sh p.op)) (sym (r.fine).same_shape) (fits_shared g.S.Spec.object c.self.inside.shape c.self.inside.transactions c.self.inside.ids.keys c.self.inside.shared c.self.inside.committed c.self.inside.count c.self.invariant g.met.S.Spec.lawful p (found_other c.args.tx.now c.args.id _ _ (sym c.in-Some-other_at.ensures)).0)
+
 pub returns-then-not-legal : goal.returns-then-not-legal
 returns-then-not-legal g c =
     let r = logged g.S.Spec.object c.self.inside.shape c.self.inside.transactions c.self.inside.ids.keys c.self.inside.shared c.self.inside.committed c.self.inside.count c.self.invariant c.args.tx.now c.in-Some.local.now c.in-Some.ensures in
-    let p = c.in-Some-other_at.post in (
-      pull_4 g.S.Spec.object _ _ c.self.view_is c.args.tx.now c.args.id _ p r.is (sym c.in-Some-other_at.ensures) (not_placed c.in-Some.local.now.1 c.args.id (sym c.find.ensures ∙ no_place c.find.result c.is_some.result c.is_some.ensures c.if-is_some.false))
-          (λ k. decided_not c.legal.result _ c.legal.ensures c.if-not-legal.true (subst (λ sh. IsAllowed g.S.Spec.object sh (local_ops c.in-Some.local.now.1 ++ p.op ∷ [])) (sym (r.fine).same_shape) k)),
-      omega arith,
-    )
+    let p = c.in-Some-other_at.post in
+    pull_4 g.S.Spec.object _ _ c.self.view_is c.args.tx.now c.args.id _ p r.is (sym c.in-Some-other_at.ensures) (not_placed c.in-Some.local.now.1 c.args.id (sym c.find.ensures ∙ no_place c.find.result c.is_some.result c.is_some.ensures c.if-is_some.false))
+    (λ k. decided_not c.legal.result _ c.legal.ensures c.if-not-legal.true (subst (λ sh. IsAllowed g.S.Spec.object sh (local_ops c.in-Some.local.now.1 ++ p.op ∷ [])) (sym (r.fine).same_shape) k))
+    (Gives c.args.id c.gives-answer.result)
+    (ap (Gives c.args.id) (c.gives-answer.ensures ∙ ap (λ sh. answer_behind g.S.Spec.object sh (local_ops c.in-Some.local.now.1) p.op) (r.fine).same_shape))
 
-pub returns-then-is_some-2 : goal.returns-then-is_some-2
-returns-then-is_some-2 g c =
-    let k = first_holds c.first_not_before.result _ _ c.is_some-2.result c.is_some-2.ensures c.if-is_some-2.true c.first_not_before.ensures in
+pub swap_detail-requires-clause-first : goal.swap_detail-requires-clause-first
+swap_detail-requires-clause-first g c =
     let r = logged g.S.Spec.object c.self.inside.shape c.self.inside.transactions c.self.inside.ids.keys c.self.inside.shared c.self.inside.committed c.self.inside.count c.self.invariant c.args.tx.now c.in-Some.local.now c.in-Some.ensures in
     let p = c.in-Some-other_at.post in
     let fit = fits_local g.S.Spec.object c.self.inside.shape c.self.inside.transactions c.self.inside.ids.keys c.self.inside.shared c.self.inside.committed c.self.inside.count c.self.invariant g.met.S.Spec.lawful c.args.tx.now c.in-Some.local.now r in
-    let q = not_before g.S.Spec.object c.self.inside.shape c.in-Some.local.now.1 k.0 p.op c.entries.result.now fit (fits_shared g.S.Spec.object c.self.inside.shape c.self.inside.transactions c.self.inside.ids.keys c.self.inside.shared c.self.inside.committed c.self.inside.count c.self.invariant g.met.S.Spec.lawful p (found_other c.args.tx.now c.args.id _ _ (sym c.in-Some-other_at.ensures)).0) c.entries.ensures k.1 in (
-      pull_5 g.S.Spec.object _ _ c.self.view_is c.args.tx.now c.args.id _ p q.0 r.is (sym c.in-Some-other_at.ensures) (not_placed c.in-Some.local.now.1 c.args.id (sym c.find.ensures ∙ no_place c.find.result c.is_some.result c.is_some.ensures c.if-is_some.false))
-          (subst (λ sh. IsAllowed g.S.Spec.object sh (local_ops c.in-Some.local.now.1 ++ p.op ∷ [])) (r.fine).same_shape (decided c.legal.result _ c.legal.ensures c.if-not-legal.false)) q.1 q.2 q.3,
-      omega arith,
-    )
+    let here = read_found _ _ _ _ (sym c.in-Some-first_not_before.ensures) c.index-entries-k.is in
+    let q = not_before g.S.Spec.object g.met.S.Spec.lawful c.self.inside.shape c.in-Some.local.now.1 p.op c.entries-entries.result.now c.entries-entries.ensures c.in-Some-first_not_before.k c.index-entries-k.result fit (fits_shared g.S.Spec.object c.self.inside.shape c.self.inside.transactions c.self.inside.ids.keys c.self.inside.shared c.self.inside.committed c.self.inside.count c.self.invariant g.met.S.Spec.lawful p (found_other c.args.tx.now c.args.id _ _ (sym c.in-Some-other_at.ensures)).0) (sym c.in-Some-first_not_before.ensures) here in
+    ranged_local g.S.Spec.object c.self.inside.shape c.self.inside.transactions c.self.inside.ids.keys c.self.inside.shared c.self.inside.committed c.self.inside.count c.self.invariant c.args.tx.now c.in-Some.local.now r c.index-entries-k.result q.0
+
+pub swap_detail-requires-clause-second : goal.swap_detail-requires-clause-second
+swap_detail-requires-clause-second g c =
+    let p = c.in-Some-other_at.post in
+    ranged_shared g.S.Spec.object c.self.inside.shape c.self.inside.transactions c.self.inside.ids.keys c.self.inside.shared c.self.inside.committed c.self.inside.count c.self.invariant p (found_other c.args.tx.now c.args.id _ _ (sym c.in-Some-other_at.ensures)).0
+
+pub returns-in-Some-first_not_before : goal.returns-in-Some-first_not_before
+returns-in-Some-first_not_before g c =
+    let r = logged g.S.Spec.object c.self.inside.shape c.self.inside.transactions c.self.inside.ids.keys c.self.inside.shared c.self.inside.committed c.self.inside.count c.self.invariant c.args.tx.now c.in-Some.local.now c.in-Some.ensures in
+    let p = c.in-Some-other_at.post in
+    let fit = fits_local g.S.Spec.object c.self.inside.shape c.self.inside.transactions c.self.inside.ids.keys c.self.inside.shared c.self.inside.committed c.self.inside.count c.self.invariant g.met.S.Spec.lawful c.args.tx.now c.in-Some.local.now r in
+    let here = read_found _ _ _ _ (sym c.in-Some-first_not_before.ensures) c.index-entries-k.is in
+    let q = not_before g.S.Spec.object g.met.S.Spec.lawful c.self.inside.shape c.in-Some.local.now.1 p.op c.entries-entries.result.now c.entries-entries.ensures c.in-Some-first_not_before.k c.index-entries-k.result fit (fits_shared g.S.Spec.object c.self.inside.shape c.self.inside.transactions c.self.inside.ids.keys c.self.inside.shared c.self.inside.committed c.self.inside.count c.self.invariant g.met.S.Spec.lawful p (found_other c.args.tx.now c.args.id _ _ (sym c.in-Some-other_at.ensures)).0) (sym c.in-Some-first_not_before.ensures) here in
+    pull_5 g.S.Spec.object _ _ c.self.view_is c.args.tx.now c.args.id _ p c.index-entries-k.result r.is (sym c.in-Some-other_at.ensures) (not_placed c.in-Some.local.now.1 c.args.id (sym c.find.ensures ∙ no_place c.find.result c.is_some.result c.is_some.ensures c.if-is_some.false)) (subst (λ sh. IsAllowed g.S.Spec.object sh (local_ops c.in-Some.local.now.1 ++ p.op ∷ [])) (r.fine).same_shape (decided c.legal.result _ c.legal.ensures c.if-not-legal.false)) q.0 q.1 q.2
+    c.in_ok-detail.detail
+    (c.in_ok-detail.ensures ∙ before_shown g.S.Spec.object g.met.S.Spec.lawful c.self.inside.shape c.in-Some.local.now.1 p.op c.entries-entries.result.now c.entries-entries.ensures c.in-Some-first_not_before.k c.index-entries-k.result (sym c.in-Some-first_not_before.ensures) here)
 
 pub returns : goal.returns
 returns g c =
     let r = logged g.S.Spec.object c.self.inside.shape c.self.inside.transactions c.self.inside.ids.keys c.self.inside.shared c.self.inside.committed c.self.inside.count c.self.invariant c.args.tx.now c.in-Some.local.now c.in-Some.ensures in
     let p = c.in-Some-other_at.post in (
-      pull_0 g.S.Spec.object _ _ c.self.view_is c.args.tx.now c.args.id _ p r.is (sym c.in-Some-other_at.ensures) (not_placed c.in-Some.local.now.1 c.args.id (sym c.find.ensures ∙ no_place c.find.result c.is_some.result c.is_some.ensures c.if-is_some.false))
-          (subst (λ sh. IsAllowed g.S.Spec.object sh (local_ops c.in-Some.local.now.1 ++ p.op ∷ [])) (r.fine).same_shape (decided c.legal.result _ c.legal.ensures c.if-not-legal.false))
-          (own_before g.S.Spec.object c.self.inside.shape c.in-Some.local.now.1 p.op c.entries.result.now c.entries.ensures (all_hold c.first_not_before.result _ _ c.is_some-2.result c.is_some-2.ensures c.if-is_some-2.false c.first_not_before.ensures)),
+      pull_0 g.S.Spec.object _ _ c.self.view_is c.args.tx.now c.args.id _ p r.is (sym c.in-Some-other_at.ensures) (not_placed c.in-Some.local.now.1 c.args.id (sym c.find.ensures ∙ no_place c.find.result c.is_some.result c.is_some.ensures c.if-is_some.false)) (subst (λ sh. IsAllowed g.S.Spec.object sh (local_ops c.in-Some.local.now.1 ++ p.op ∷ [])) (r.fine).same_shape (decided c.legal.result _ c.legal.ensures c.if-not-legal.false))
+          (own_before g.S.Spec.object g.met.S.Spec.lawful c.self.inside.shape c.in-Some.local.now.1 p.op c.entries-entries.result.now c.entries-entries.ensures (sym c.in_default-first_not_before.ensures)),
       of_other_is g.S.Spec.object c.self.inside.shape c.self.inside.transactions c.self.inside.ids.keys c.self.inside.shared c.self.inside.committed c.self.inside.count c.self.invariant _ c.self.view_is c.args.tx.now c.args.id p (sym c.in-Some-other_at.ensures),
     )

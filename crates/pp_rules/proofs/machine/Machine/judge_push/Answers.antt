@@ -1,17 +1,21 @@
-use Rattle.std.proofs.Common.{◌++◌, ◌∷◌, [], arith, ◌<◌, take, length, sym, ap, subst, IsTrue}
+use Rattle.std.proofs.Common.{◌∙◌, ◌++◌, ◌∷◌, [], arith, ◌<◌, ◌≤◌, take, length, slice_get, sym, ap, subst, refl, IsTrue}
 use Rattle.std.proofs.lemmas.List.{length-take-le}
+use Rattle.pp_log.specs.Logs.{answer_behind}
 use Rattle.pp_model.specs.Config.{shared_ops}
+use Rattle.pp_rules.specs.declared.detail.Detail.TheVariants.{Gives, Nothing}
+use Rattle.pp_model.proofs.Lists.{before_in_first}
+use Rattle.pp_rules.specs.Evidence.{swap_or}
 use Rattle.pp_spec.specs.Object.{IsAllowed}
-use Rattle.pp_rules.proofs.Finding.{all_hold, decided, decided_not, first_holds, none_holds, slice_in, slice_within, some_holds}
+use Rattle.pp_rules.proofs.Finding.{decided, decided_not, read_found, read_there, slice_in, slice_within}
 use Rattle.pp_rules.proofs.Judged.{is_at}
 use Rattle.pp_rules.proofs.Judging.{push_1, push_2, push_3, push_4, push_5, push_0}
-use Rattle.pp_rules.proofs.Opened.{distinct, fits_local, fits_shared, logged, unlogged}
-use Rattle.pp_rules.proofs.Swapping.{own_swap, own_not}
+use Rattle.pp_rules.proofs.Opened.{distinct, fits_local, fits_shared, logged, ranged_local, ranged_shared, unlogged}
+use Rattle.pp_rules.proofs.Swapping.{blocking_shown, own_swap, own_not, own_shown}
 use Rattle.pp_rules.proofs.machine.Machine.judge_push.Goals as goal
 
 pub returns-in_default : goal.returns-in_default
 returns-in_default g c =
-    (push_1 g.S.Spec.object _ _ c.self.view_is c.args.tx.now c.args.id (unlogged g.S.Spec.object c.self.inside.shape c.self.inside.transactions c.self.inside.ids.keys c.self.inside.shared c.self.inside.committed c.self.inside.count c.self.invariant c.args.tx.now c.in_default.ensures), omega arith)
+    push_1 g.S.Spec.object _ _ c.self.view_is c.args.tx.now c.args.id (unlogged g.S.Spec.object c.self.inside.shape c.self.inside.transactions c.self.inside.ids.keys c.self.inside.shared c.self.inside.committed c.self.inside.count c.self.invariant c.args.tx.now c.in_default.ensures) c.bare.result c.bare.ensures
 
 pub marked_at-requires : goal.marked_at-requires
 marked_at-requires g c =
@@ -21,34 +25,76 @@ marked_at-requires g c =
 pub returns-in_default-marked_at : goal.returns-in_default-marked_at
 returns-in_default-marked_at g c =
     let r = logged g.S.Spec.object c.self.inside.shape c.self.inside.transactions c.self.inside.ids.keys c.self.inside.shared c.self.inside.committed c.self.inside.count c.self.invariant c.args.tx.now c.in-Some.local.now c.in-Some.ensures in
-    (push_2 g.S.Spec.object _ _ c.self.view_is c.args.tx.now c.args.id _ r.is (sym c.in_default-marked_at.ensures.entry), omega arith)
+    push_2 g.S.Spec.object _ _ c.self.view_is c.args.tx.now c.args.id _ r.is (sym c.in_default-marked_at.ensures.entry) c.bare-in_default-marked_at.result c.bare-in_default-marked_at.ensures
 
-pub slice_bounds-first_holding_back-end : goal.slice_bounds-first_holding_back-end
-slice_bounds-first_holding_back-end g c =
+pub slice_bounds-before-end : goal.slice_bounds-before-end
+slice_bounds-before-end g c =
     let w = slice_within c.in-Some.local.now.1 c.in-Some-marked_at.i c.in-Some-marked_at.entry c.in-Some-marked_at.ensures.place in
     let m : c.in-Some-marked_at.i < length c.entries.result.now = subst (λ l. c.in-Some-marked_at.i < length l) (sym c.entries.ensures) w in
     sym (length-take-le c.in-Some-marked_at.i c.entries.result.now (omega (arith, m)))
 
-pub returns-then-is_some : goal.returns-then-is_some
-returns-then-is_some g c =
-    let k = first_holds c.first_holding_back.result _ _ c.is_some.result c.is_some.ensures c.if-is_some.true c.first_holding_back.ensures in
+pub swap_detail-requires-clause-first : goal.swap_detail-requires-clause-first
+swap_detail-requires-clause-first g c =
     let r = logged g.S.Spec.object c.self.inside.shape c.self.inside.transactions c.self.inside.ids.keys c.self.inside.shared c.self.inside.committed c.self.inside.count c.self.invariant c.args.tx.now c.in-Some.local.now c.in-Some.ensures in
-    let fit = fits_local g.S.Spec.object c.self.inside.shape c.self.inside.transactions c.self.inside.ids.keys c.self.inside.shared c.self.inside.committed c.self.inside.count c.self.invariant g.met.S.Spec.lawful c.args.tx.now c.in-Some.local.now r in
     let p = c.in-Some-marked_at.entry in
-    let q = own_not g.S.Spec.object c.self.inside.shape c.in-Some.local.now.1 c.in-Some-marked_at.i k.0 p (take c.in-Some-marked_at.i c.entries.result.now) fit (fit p (slice_in c.in-Some.local.now.1 c.in-Some-marked_at.i p c.in-Some-marked_at.ensures.place)) c.in-Some-marked_at.ensures.place (ap (take c.in-Some-marked_at.i) c.entries.ensures) k.1 in
-    (push_3 g.S.Spec.object _ _ c.self.view_is c.args.tx.now c.args.id _ p q.0 r.is (sym c.in-Some-marked_at.ensures.entry) q.1 q.2 q.3, omega arith)
+    ranged_local g.S.Spec.object c.self.inside.shape c.self.inside.transactions c.self.inside.ids.keys c.self.inside.shared c.self.inside.committed c.self.inside.count c.self.invariant c.args.tx.now c.in-Some.local.now r p (slice_in c.in-Some.local.now.1 c.in-Some-marked_at.i p c.in-Some-marked_at.ensures.place)
 
-pub returns-then-is_some-2 : goal.returns-then-is_some-2
-returns-then-is_some-2 g c =
+pub swap_detail-requires-clause-second : goal.swap_detail-requires-clause-second
+swap_detail-requires-clause-second g c =
     let r = logged g.S.Spec.object c.self.inside.shape c.self.inside.transactions c.self.inside.ids.keys c.self.inside.shared c.self.inside.committed c.self.inside.count c.self.invariant c.args.tx.now c.in-Some.local.now c.in-Some.ensures in
     let p = c.in-Some-marked_at.entry in
-    let d = some_holds c.blocking.result _ c.is_some-2.result c.is_some-2.ensures c.if-is_some-2.true c.blocking.ensures.some in
-    let b = d.1 in
-    let inside = slice_in c.self.inside.shared.1 d.0 b.entry b.is in (
-      push_4 g.S.Spec.object _ _ c.self.view_is c.args.tx.now c.args.id _ p b.entry r.is (sym c.in-Some-marked_at.ensures.entry) (own_swap g.S.Spec.object c.self.inside.shape c.in-Some.local.now.1 c.in-Some-marked_at.i p (take c.in-Some-marked_at.i c.entries.result.now) (distinct g.S.Spec.object c.self.inside.shape c.self.inside.transactions c.self.inside.ids.keys c.self.inside.shared c.self.inside.committed c.self.inside.count c.self.invariant c.args.tx.now c.in-Some.local.now r) c.in-Some-marked_at.ensures.place (ap (take c.in-Some-marked_at.i) c.entries.ensures) (all_hold c.first_holding_back.result _ _ c.is_some.result c.is_some.ensures c.if-is_some.false c.first_holding_back.ensures)) inside b.blocks.uncommitted b.blocks.other
-          (b.blocks.stays c.self.inside.shape (fits_shared g.S.Spec.object c.self.inside.shape c.self.inside.transactions c.self.inside.ids.keys c.self.inside.shared c.self.inside.committed c.self.inside.count c.self.invariant g.met.S.Spec.lawful b.entry inside) (fits_local g.S.Spec.object c.self.inside.shape c.self.inside.transactions c.self.inside.ids.keys c.self.inside.shared c.self.inside.committed c.self.inside.count c.self.invariant g.met.S.Spec.lawful c.args.tx.now c.in-Some.local.now r p (slice_in c.in-Some.local.now.1 c.in-Some-marked_at.i p c.in-Some-marked_at.ensures.place))),
-      omega arith,
-    )
+    let before = ap (take c.in-Some-marked_at.i) c.entries.ensures in
+    let fit = fits_local g.S.Spec.object c.self.inside.shape c.self.inside.transactions c.self.inside.ids.keys c.self.inside.shared c.self.inside.committed c.self.inside.count c.self.invariant g.met.S.Spec.lawful c.args.tx.now c.in-Some.local.now r in
+    let q = own_not g.S.Spec.object g.met.S.Spec.lawful c.self.inside.shape c.in-Some.local.now.1 c.in-Some-marked_at.i p c.in-Some-marked_at.ensures.place (take c.in-Some-marked_at.i c.entries.result.now) c.in-Some-first_holding_back.k c.index-before-k.result fit (fit p (slice_in c.in-Some.local.now.1 c.in-Some-marked_at.i p c.in-Some-marked_at.ensures.place)) before (sym c.in-Some-first_holding_back.ensures) (read_found _ _ _ _ (sym c.in-Some-first_holding_back.ensures) c.index-before-k.is) in
+    ranged_local g.S.Spec.object c.self.inside.shape c.self.inside.transactions c.self.inside.ids.keys c.self.inside.shared c.self.inside.committed c.self.inside.count c.self.invariant c.args.tx.now c.in-Some.local.now r c.index-before-k.result (before_in_first c.index-before-k.result p c.in-Some.local.now.1 q.0)
+
+pub returns-in-Some-first_holding_back : goal.returns-in-Some-first_holding_back
+returns-in-Some-first_holding_back g c =
+    let r = logged g.S.Spec.object c.self.inside.shape c.self.inside.transactions c.self.inside.ids.keys c.self.inside.shared c.self.inside.committed c.self.inside.count c.self.invariant c.args.tx.now c.in-Some.local.now c.in-Some.ensures in
+    let p = c.in-Some-marked_at.entry in
+    let before = ap (take c.in-Some-marked_at.i) c.entries.ensures in
+    let fit = fits_local g.S.Spec.object c.self.inside.shape c.self.inside.transactions c.self.inside.ids.keys c.self.inside.shared c.self.inside.committed c.self.inside.count c.self.invariant g.met.S.Spec.lawful c.args.tx.now c.in-Some.local.now r in
+    let q = own_not g.S.Spec.object g.met.S.Spec.lawful c.self.inside.shape c.in-Some.local.now.1 c.in-Some-marked_at.i p c.in-Some-marked_at.ensures.place (take c.in-Some-marked_at.i c.entries.result.now) c.in-Some-first_holding_back.k c.index-before-k.result fit (fit p (slice_in c.in-Some.local.now.1 c.in-Some-marked_at.i p c.in-Some-marked_at.ensures.place)) before (sym c.in-Some-first_holding_back.ensures) (read_found _ _ _ _ (sym c.in-Some-first_holding_back.ensures) c.index-before-k.is) in
+    push_3 g.S.Spec.object _ _ c.self.view_is c.args.tx.now c.args.id _ p c.index-before-k.result r.is (sym c.in-Some-marked_at.ensures.entry) q.0 q.1 q.2 c.in_ok-detail.detail
+    (c.in_ok-detail.ensures ∙ own_shown g.S.Spec.object g.met.S.Spec.lawful c.self.inside.shape c.in-Some.local.now.1 c.in-Some-marked_at.i p c.in-Some-marked_at.ensures.place (take c.in-Some-marked_at.i c.entries.result.now) c.in-Some-first_holding_back.k c.index-before-k.result c.args.id before (sym c.in-Some-first_holding_back.ensures) (read_found _ _ _ _ (sym c.in-Some-first_holding_back.ensures) c.index-before-k.is) c.in-Some-marked_at.ensures.found)
+
+pub offset_bounds-entries-k : goal.offset_bounds-entries-k
+offset_bounds-entries-k g c =
+    let b = c.in-Some-blocking.ensures.some in
+    let w = slice_within c.self.inside.shared.1 c.in-Some-blocking.k b.entry b.is in
+    let m : c.in-Some-blocking.k < length c.entries-in-Some-blocking.result.now = subst (λ l. c.in-Some-blocking.k < length l) (sym c.entries-in-Some-blocking.ensures) w in omega (arith, m)
+
+pub bounds-entries-k : goal.bounds-entries-k
+bounds-entries-k g c =
+    let b = c.in-Some-blocking.ensures.some in
+    let w = slice_within c.self.inside.shared.1 c.in-Some-blocking.k b.entry b.is in
+    subst (λ l. c.in-Some-blocking.k < length l) (sym c.entries-in-Some-blocking.ensures) w
+
+pub swap_detail-requires-in-Some-blocking-clause-first : goal.swap_detail-requires-in-Some-blocking-clause-first
+swap_detail-requires-in-Some-blocking-clause-first g c =
+    let b = c.in-Some-blocking.ensures.some in
+    let u = read_there c.entries-in-Some-blocking.result.now c.in-Some-blocking.k c.index-entries-k.result b.entry (ap (λ l. slice_get l c.in-Some-blocking.k) c.entries-in-Some-blocking.ensures ∙ b.is) c.index-entries-k.is in
+    let inside = slice_in c.self.inside.shared.1 c.in-Some-blocking.k b.entry b.is in
+    subst (λ z. IsTrue (g.S.Spec.object.ranged z.op)) u (ranged_shared g.S.Spec.object c.self.inside.shape c.self.inside.transactions c.self.inside.ids.keys c.self.inside.shared c.self.inside.committed c.self.inside.count c.self.invariant b.entry inside)
+
+pub swap_detail-requires-in-Some-blocking-clause-second : goal.swap_detail-requires-in-Some-blocking-clause-second
+swap_detail-requires-in-Some-blocking-clause-second g c =
+    let r = logged g.S.Spec.object c.self.inside.shape c.self.inside.transactions c.self.inside.ids.keys c.self.inside.shared c.self.inside.committed c.self.inside.count c.self.invariant c.args.tx.now c.in-Some.local.now c.in-Some.ensures in
+    let p = c.in-Some-marked_at.entry in
+    ranged_local g.S.Spec.object c.self.inside.shape c.self.inside.transactions c.self.inside.ids.keys c.self.inside.shared c.self.inside.committed c.self.inside.count c.self.invariant c.args.tx.now c.in-Some.local.now r p (slice_in c.in-Some.local.now.1 c.in-Some-marked_at.i p c.in-Some-marked_at.ensures.place)
+
+pub returns-in-Some-blocking : goal.returns-in-Some-blocking
+returns-in-Some-blocking g c =
+    let r = logged g.S.Spec.object c.self.inside.shape c.self.inside.transactions c.self.inside.ids.keys c.self.inside.shared c.self.inside.committed c.self.inside.count c.self.invariant c.args.tx.now c.in-Some.local.now c.in-Some.ensures in
+    let p = c.in-Some-marked_at.entry in
+    let before = ap (take c.in-Some-marked_at.i) c.entries.ensures in
+    let b = c.in-Some-blocking.ensures.some in
+    let u = read_there c.entries-in-Some-blocking.result.now c.in-Some-blocking.k c.index-entries-k.result b.entry (ap (λ l. slice_get l c.in-Some-blocking.k) c.entries-in-Some-blocking.ensures ∙ b.is) c.index-entries-k.is in
+    let inside = slice_in c.self.inside.shared.1 c.in-Some-blocking.k b.entry b.is in
+    push_4 g.S.Spec.object _ _ c.self.view_is c.args.tx.now c.args.id _ p b.entry r.is (sym c.in-Some-marked_at.ensures.entry) (own_swap g.S.Spec.object g.met.S.Spec.lawful c.self.inside.shape c.in-Some.local.now.1 c.in-Some-marked_at.i p c.in-Some-marked_at.ensures.place (take c.in-Some-marked_at.i c.entries.result.now) (distinct g.S.Spec.object c.self.inside.shape c.self.inside.transactions c.self.inside.ids.keys c.self.inside.shared c.self.inside.committed c.self.inside.count c.self.invariant c.args.tx.now c.in-Some.local.now r) before (sym c.in_default-first_holding_back.ensures)) inside b.blocks.uncommitted b.blocks.other
+    (b.blocks.stays c.self.inside.shape (fits_shared g.S.Spec.object c.self.inside.shape c.self.inside.transactions c.self.inside.ids.keys c.self.inside.shared c.self.inside.committed c.self.inside.count c.self.invariant g.met.S.Spec.lawful b.entry inside) (fits_local g.S.Spec.object c.self.inside.shape c.self.inside.transactions c.self.inside.ids.keys c.self.inside.shared c.self.inside.committed c.self.inside.count c.self.invariant g.met.S.Spec.lawful c.args.tx.now c.in-Some.local.now r p (slice_in c.in-Some.local.now.1 c.in-Some-marked_at.i p c.in-Some-marked_at.ensures.place)))
+    c.in_ok-detail-2.detail
+    (c.in_ok-detail-2.ensures ∙ ap (λ z. swap_or z.id (g.S.Spec.object.refuting z.op p.op) Nothing) (sym u) ∙ blocking_shown g.S.Spec.object g.met.S.Spec.lawful c.self.inside.shape c.args.tx.now p.op c.self.inside.shared.1 c.in-Some-blocking.k b)
 
 pub legal-requires : goal.legal-requires
 legal-requires g c =
@@ -56,20 +102,28 @@ legal-requires g c =
     let p = c.in-Some-marked_at.entry in
     subst (λ sh. IsTrue (g.S.Spec.object.fits sh p.op)) (sym c.self.invariant.shared_shape) (fits_local g.S.Spec.object c.self.inside.shape c.self.inside.transactions c.self.inside.ids.keys c.self.inside.shared c.self.inside.committed c.self.inside.count c.self.invariant g.met.S.Spec.lawful c.args.tx.now c.in-Some.local.now r p (slice_in c.in-Some.local.now.1 c.in-Some-marked_at.i p c.in-Some-marked_at.ensures.place))
 
+pub gives-answer-requires : goal.gives-answer-requires
+gives-answer-requires g c =
+    let r = logged g.S.Spec.object c.self.inside.shape c.self.inside.transactions c.self.inside.ids.keys c.self.inside.shared c.self.inside.committed c.self.inside.count c.self.invariant c.args.tx.now c.in-Some.local.now c.in-Some.ensures in
+    let p = c.in-Some-marked_at.entry in
+    subst (λ sh. IsTrue (g.S.Spec.object.fits sh p.op)) (sym c.self.invariant.shared_shape) (fits_local g.S.Spec.object c.self.inside.shape c.self.inside.transactions c.self.inside.ids.keys c.self.inside.shared c.self.inside.committed c.self.inside.count c.self.invariant g.met.S.Spec.lawful c.args.tx.now c.in-Some.local.now r p (slice_in c.in-Some.local.now.1 c.in-Some-marked_at.i p c.in-Some-marked_at.ensures.place))
+
 pub returns-then-not-legal : goal.returns-then-not-legal
 returns-then-not-legal g c =
     let r = logged g.S.Spec.object c.self.inside.shape c.self.inside.transactions c.self.inside.ids.keys c.self.inside.shared c.self.inside.committed c.self.inside.count c.self.invariant c.args.tx.now c.in-Some.local.now c.in-Some.ensures in
-    let p = c.in-Some-marked_at.entry in (
-      push_5 g.S.Spec.object _ _ c.self.view_is c.args.tx.now c.args.id _ p r.is (sym c.in-Some-marked_at.ensures.entry) (own_swap g.S.Spec.object c.self.inside.shape c.in-Some.local.now.1 c.in-Some-marked_at.i p (take c.in-Some-marked_at.i c.entries.result.now) (distinct g.S.Spec.object c.self.inside.shape c.self.inside.transactions c.self.inside.ids.keys c.self.inside.shared c.self.inside.committed c.self.inside.count c.self.invariant c.args.tx.now c.in-Some.local.now r) c.in-Some-marked_at.ensures.place (ap (take c.in-Some-marked_at.i) c.entries.ensures) (all_hold c.first_holding_back.result _ _ c.is_some.result c.is_some.ensures c.if-is_some.false c.first_holding_back.ensures)) (λ u i w n. (none_holds c.blocking.result _ c.is_some-2.result c.is_some-2.ensures c.if-is_some-2.false c.blocking.ensures.none) u i w n c.self.inside.shape)
-          (λ k. decided_not c.legal.result _ c.legal.ensures c.if-not-legal.true (subst (λ sh. IsAllowed g.S.Spec.object sh (shared_ops c.self.inside.shared.1 ++ p.op ∷ [])) (sym c.self.invariant.shared_shape) k)),
-      omega arith,
-    )
+    let p = c.in-Some-marked_at.entry in
+    let before = ap (take c.in-Some-marked_at.i) c.entries.ensures in
+    push_5 g.S.Spec.object _ _ c.self.view_is c.args.tx.now c.args.id _ p r.is (sym c.in-Some-marked_at.ensures.entry) (own_swap g.S.Spec.object g.met.S.Spec.lawful c.self.inside.shape c.in-Some.local.now.1 c.in-Some-marked_at.i p c.in-Some-marked_at.ensures.place (take c.in-Some-marked_at.i c.entries.result.now) (distinct g.S.Spec.object c.self.inside.shape c.self.inside.transactions c.self.inside.ids.keys c.self.inside.shared c.self.inside.committed c.self.inside.count c.self.invariant c.args.tx.now c.in-Some.local.now r) before (sym c.in_default-first_holding_back.ensures)) (λ u i w n. c.in_default-blocking.ensures.none u i w n c.self.inside.shape)
+    (λ k. decided_not c.legal.result _ c.legal.ensures c.if-not-legal.true (subst (λ sh. IsAllowed g.S.Spec.object sh (shared_ops c.self.inside.shared.1 ++ p.op ∷ [])) (sym c.self.invariant.shared_shape) k))
+    (Gives c.args.id c.gives-answer.result)
+    (ap (Gives c.args.id) (c.gives-answer.ensures ∙ ap (λ sh. answer_behind g.S.Spec.object sh (shared_ops c.self.inside.shared.1) p.op) c.self.invariant.shared_shape))
 
 pub returns : goal.returns
 returns g c =
     let r = logged g.S.Spec.object c.self.inside.shape c.self.inside.transactions c.self.inside.ids.keys c.self.inside.shared c.self.inside.committed c.self.inside.count c.self.invariant c.args.tx.now c.in-Some.local.now c.in-Some.ensures in
-    let p = c.in-Some-marked_at.entry in (
-      push_0 g.S.Spec.object _ _ c.self.view_is c.args.tx.now c.args.id _ p r.is (sym c.in-Some-marked_at.ensures.entry) (own_swap g.S.Spec.object c.self.inside.shape c.in-Some.local.now.1 c.in-Some-marked_at.i p (take c.in-Some-marked_at.i c.entries.result.now) (distinct g.S.Spec.object c.self.inside.shape c.self.inside.transactions c.self.inside.ids.keys c.self.inside.shared c.self.inside.committed c.self.inside.count c.self.invariant c.args.tx.now c.in-Some.local.now r) c.in-Some-marked_at.ensures.place (ap (take c.in-Some-marked_at.i) c.entries.ensures) (all_hold c.first_holding_back.result _ _ c.is_some.result c.is_some.ensures c.if-is_some.false c.first_holding_back.ensures)) (λ u i w n. (none_holds c.blocking.result _ c.is_some-2.result c.is_some-2.ensures c.if-is_some-2.false c.blocking.ensures.none) u i w n c.self.inside.shape)
+    let p = c.in-Some-marked_at.entry in
+    let before = ap (take c.in-Some-marked_at.i) c.entries.ensures in (
+      push_0 g.S.Spec.object _ _ c.self.view_is c.args.tx.now c.args.id _ p r.is (sym c.in-Some-marked_at.ensures.entry) (own_swap g.S.Spec.object g.met.S.Spec.lawful c.self.inside.shape c.in-Some.local.now.1 c.in-Some-marked_at.i p c.in-Some-marked_at.ensures.place (take c.in-Some-marked_at.i c.entries.result.now) (distinct g.S.Spec.object c.self.inside.shape c.self.inside.transactions c.self.inside.ids.keys c.self.inside.shared c.self.inside.committed c.self.inside.count c.self.invariant c.args.tx.now c.in-Some.local.now r) before (sym c.in_default-first_holding_back.ensures)) (λ u i w n. c.in_default-blocking.ensures.none u i w n c.self.inside.shape)
           (subst (λ sh. IsAllowed g.S.Spec.object sh (shared_ops c.self.inside.shared.1 ++ p.op ∷ [])) c.self.invariant.shared_shape (decided c.legal.result _ c.legal.ensures c.if-not-legal.false)),
       is_at g.S.Spec.object c.self.inside.shape c.self.inside.transactions c.self.inside.ids.keys c.self.inside.shared c.self.inside.committed c.self.inside.count c.self.invariant _ c.self.view_is c.args.tx.now c.args.id _ c.in-Some-marked_at.i p c.in-Some.local.now r (sym c.in-Some-marked_at.ensures.entry) c.in-Some-marked_at.ensures.place,
     )

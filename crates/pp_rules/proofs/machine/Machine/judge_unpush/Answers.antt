@@ -1,14 +1,15 @@
-use Rattle.std.proofs.Common.{◌<◌, length, subst, sym, arith}
-use Rattle.pp_rules.proofs.Finding.{all_hold, first_holds, rest_is, slice_in, slice_within}
+use Rattle.std.proofs.Common.{◌∙◌, ◌<◌, length, subst, sym, arith}
+use Rattle.pp_model.proofs.Lists.{before_in_second}
+use Rattle.pp_rules.proofs.Finding.{read_found, rest_is, slice_in, slice_within}
 use Rattle.pp_rules.proofs.Judged.{finds_pushed, stands_posted}
 use Rattle.pp_rules.proofs.Judging.{unpush_1, unpush_2, unpush_3}
-use Rattle.pp_rules.proofs.Opened.{distinct, fits_local, logged, unlogged}
-use Rattle.pp_rules.proofs.Swapping.{behind_not, behind_swap}
+use Rattle.pp_rules.proofs.Opened.{distinct, fits_local, logged, ranged_local, unlogged}
+use Rattle.pp_rules.proofs.Swapping.{behind_not, behind_shown, behind_swap}
 use Rattle.pp_rules.proofs.machine.Machine.judge_unpush.Goals as goal
 
 pub returns-in_default : goal.returns-in_default
 returns-in_default g c =
-    (unpush_1 g.S.Spec.object _ _ c.self.view_is c.args.tx.now c.args.id (unlogged g.S.Spec.object c.self.inside.shape c.self.inside.transactions c.self.inside.ids.keys c.self.inside.shared c.self.inside.committed c.self.inside.count c.self.invariant c.args.tx.now c.in_default.ensures), omega arith)
+    unpush_1 g.S.Spec.object _ _ c.self.view_is c.args.tx.now c.args.id (unlogged g.S.Spec.object c.self.inside.shape c.self.inside.transactions c.self.inside.ids.keys c.self.inside.shared c.self.inside.committed c.self.inside.count c.self.invariant c.args.tx.now c.in_default.ensures) c.bare.result c.bare.ensures
 
 pub marked_at-requires : goal.marked_at-requires
 marked_at-requires g c =
@@ -18,20 +19,38 @@ marked_at-requires g c =
 pub returns-in_default-marked_at : goal.returns-in_default-marked_at
 returns-in_default-marked_at g c =
     let r = logged g.S.Spec.object c.self.inside.shape c.self.inside.transactions c.self.inside.ids.keys c.self.inside.shared c.self.inside.committed c.self.inside.count c.self.invariant c.args.tx.now c.in-Some.local.now c.in-Some.ensures in
-    (unpush_2 g.S.Spec.object _ _ c.self.view_is c.args.tx.now c.args.id _ r.is (sym c.in_default-marked_at.ensures.entry), omega arith)
+    unpush_2 g.S.Spec.object _ _ c.self.view_is c.args.tx.now c.args.id _ r.is (sym c.in_default-marked_at.ensures.entry) c.bare-in_default-marked_at.result c.bare-in_default-marked_at.ensures
 
-pub slice_bounds-first_staying_behind-start : goal.slice_bounds-first_staying_behind-start
-slice_bounds-first_staying_behind-start g c =
+pub slice_bounds-after-start : goal.slice_bounds-after-start
+slice_bounds-after-start g c =
     let k = slice_within c.in-Some.local.now.1 c.in-Some-marked_at.i c.in-Some-marked_at.entry c.in-Some-marked_at.ensures.place in
     let m : c.in-Some-marked_at.i < length c.entries.result.now = subst (λ l. c.in-Some-marked_at.i < length l) (sym c.entries.ensures) k in omega (arith, m)
 
-pub returns-then-is_some : goal.returns-then-is_some
-returns-then-is_some g c =
+pub swap_detail-requires-clause-first : goal.swap_detail-requires-clause-first
+swap_detail-requires-clause-first g c =
     let r = logged g.S.Spec.object c.self.inside.shape c.self.inside.transactions c.self.inside.ids.keys c.self.inside.shared c.self.inside.committed c.self.inside.count c.self.invariant c.args.tx.now c.in-Some.local.now c.in-Some.ensures in
+    let p = c.in-Some-marked_at.entry in
     let fit = fits_local g.S.Spec.object c.self.inside.shape c.self.inside.transactions c.self.inside.ids.keys c.self.inside.shared c.self.inside.committed c.self.inside.count c.self.invariant g.met.S.Spec.lawful c.args.tx.now c.in-Some.local.now r in
-    let k = first_holds c.first_staying_behind.result _ _ c.is_some.result c.is_some.ensures c.if-is_some.true c.first_staying_behind.ensures in
-    let q = behind_not g.S.Spec.object c.self.inside.shape c.in-Some.local.now.1 c.in-Some-marked_at.i k.0 c.in-Some-marked_at.entry _ fit (fit c.in-Some-marked_at.entry (slice_in c.in-Some.local.now.1 c.in-Some-marked_at.i c.in-Some-marked_at.entry c.in-Some-marked_at.ensures.place)) c.in-Some-marked_at.ensures.place (rest_is c.entries.result.now c.in-Some.local.now.1 c.in-Some-marked_at.i c.entries.ensures) k.1 in
-    (unpush_3 g.S.Spec.object _ _ c.self.view_is c.args.tx.now c.args.id _ c.in-Some-marked_at.entry q.0 r.is (sym c.in-Some-marked_at.ensures.entry) q.1 q.2 q.3, omega arith)
+    let here = read_found _ _ _ _ (sym c.in-Some-first_staying_behind.ensures) c.index-after-k.is in
+    let q = behind_not g.S.Spec.object g.met.S.Spec.lawful c.self.inside.shape c.in-Some.local.now.1 c.in-Some-marked_at.i p c.in-Some-marked_at.ensures.place _ c.in-Some-first_staying_behind.k c.index-after-k.result fit (fit p (slice_in c.in-Some.local.now.1 c.in-Some-marked_at.i p c.in-Some-marked_at.ensures.place)) (rest_is c.entries.result.now c.in-Some.local.now.1 c.in-Some-marked_at.i c.entries.ensures) (sym c.in-Some-first_staying_behind.ensures) here in
+    ranged_local g.S.Spec.object c.self.inside.shape c.self.inside.transactions c.self.inside.ids.keys c.self.inside.shared c.self.inside.committed c.self.inside.count c.self.invariant c.args.tx.now c.in-Some.local.now r c.index-after-k.result (before_in_second p c.index-after-k.result c.in-Some.local.now.1 q.0)
+
+pub swap_detail-requires-clause-second : goal.swap_detail-requires-clause-second
+swap_detail-requires-clause-second g c =
+    let r = logged g.S.Spec.object c.self.inside.shape c.self.inside.transactions c.self.inside.ids.keys c.self.inside.shared c.self.inside.committed c.self.inside.count c.self.invariant c.args.tx.now c.in-Some.local.now c.in-Some.ensures in
+    let p = c.in-Some-marked_at.entry in
+    ranged_local g.S.Spec.object c.self.inside.shape c.self.inside.transactions c.self.inside.ids.keys c.self.inside.shared c.self.inside.committed c.self.inside.count c.self.invariant c.args.tx.now c.in-Some.local.now r p (slice_in c.in-Some.local.now.1 c.in-Some-marked_at.i p c.in-Some-marked_at.ensures.place)
+
+pub returns-in-Some-first_staying_behind : goal.returns-in-Some-first_staying_behind
+returns-in-Some-first_staying_behind g c =
+    let r = logged g.S.Spec.object c.self.inside.shape c.self.inside.transactions c.self.inside.ids.keys c.self.inside.shared c.self.inside.committed c.self.inside.count c.self.invariant c.args.tx.now c.in-Some.local.now c.in-Some.ensures in
+    let p = c.in-Some-marked_at.entry in
+    let fit = fits_local g.S.Spec.object c.self.inside.shape c.self.inside.transactions c.self.inside.ids.keys c.self.inside.shared c.self.inside.committed c.self.inside.count c.self.invariant g.met.S.Spec.lawful c.args.tx.now c.in-Some.local.now r in
+    let here = read_found _ _ _ _ (sym c.in-Some-first_staying_behind.ensures) c.index-after-k.is in
+    let q = behind_not g.S.Spec.object g.met.S.Spec.lawful c.self.inside.shape c.in-Some.local.now.1 c.in-Some-marked_at.i p c.in-Some-marked_at.ensures.place _ c.in-Some-first_staying_behind.k c.index-after-k.result fit (fit p (slice_in c.in-Some.local.now.1 c.in-Some-marked_at.i p c.in-Some-marked_at.ensures.place)) (rest_is c.entries.result.now c.in-Some.local.now.1 c.in-Some-marked_at.i c.entries.ensures) (sym c.in-Some-first_staying_behind.ensures) here in
+    unpush_3 g.S.Spec.object _ _ c.self.view_is c.args.tx.now c.args.id _ p c.index-after-k.result r.is (sym c.in-Some-marked_at.ensures.entry) q.0 q.1 q.2
+    c.in_ok-detail.detail
+    (c.in_ok-detail.ensures ∙ behind_shown g.S.Spec.object g.met.S.Spec.lawful c.self.inside.shape c.in-Some.local.now.1 c.in-Some-marked_at.i p c.in-Some-marked_at.ensures.place _ c.in-Some-first_staying_behind.k c.index-after-k.result c.args.id (rest_is c.entries.result.now c.in-Some.local.now.1 c.in-Some-marked_at.i c.entries.ensures) (sym c.in-Some-first_staying_behind.ensures) here c.in-Some-marked_at.ensures.found)
 
 pub unreachable-requires : goal.unreachable-requires
 unreachable-requires g c =
@@ -42,4 +61,4 @@ pub returns : goal.returns
 returns g c =
     let r = logged g.S.Spec.object c.self.inside.shape c.self.inside.transactions c.self.inside.ids.keys c.self.inside.shared c.self.inside.committed c.self.inside.count c.self.invariant c.args.tx.now c.in-Some.local.now c.in-Some.ensures in
     finds_pushed g.S.Spec.object c.self.inside.shape c.self.inside.transactions c.self.inside.ids.keys c.self.inside.shared c.self.inside.committed c.self.inside.count c.self.invariant _ c.self.view_is c.args.tx.now c.args.id c.in-Some-marked_at.i c.in-Some-find.posted c.in-Some-marked_at.entry c.in-Some.local.now r (sym c.in-Some-marked_at.ensures.entry) c.in-Some-marked_at.ensures.place
-    (behind_swap g.S.Spec.object c.self.inside.shape c.in-Some.local.now.1 c.in-Some-marked_at.i c.in-Some-marked_at.entry _ (distinct g.S.Spec.object c.self.inside.shape c.self.inside.transactions c.self.inside.ids.keys c.self.inside.shared c.self.inside.committed c.self.inside.count c.self.invariant c.args.tx.now c.in-Some.local.now r) c.in-Some-marked_at.ensures.place (rest_is c.entries.result.now c.in-Some.local.now.1 c.in-Some-marked_at.i c.entries.ensures) (all_hold c.first_staying_behind.result _ _ c.is_some.result c.is_some.ensures c.if-is_some.false c.first_staying_behind.ensures)) (sym c.in-Some-find.ensures)
+    (behind_swap g.S.Spec.object g.met.S.Spec.lawful c.self.inside.shape c.in-Some.local.now.1 c.in-Some-marked_at.i c.in-Some-marked_at.entry c.in-Some-marked_at.ensures.place _ (distinct g.S.Spec.object c.self.inside.shape c.self.inside.transactions c.self.inside.ids.keys c.self.inside.shared c.self.inside.committed c.self.inside.count c.self.invariant c.args.tx.now c.in-Some.local.now r) (rest_is c.entries.result.now c.in-Some.local.now.1 c.in-Some-marked_at.i c.entries.ensures) (sym c.in_default-first_staying_behind.ensures)) (sym c.in-Some-find.ensures)

@@ -5,7 +5,7 @@ use Rattle.pp_rules.proofs.machine.Machine.pull.Goals as goal
 
 pub returns-in-Err-clause-effect : goal.returns-in-Err-clause-effect
 returns-in-Err-clause-effect g c =
-    (c.in-Err.ensures.0, c.in-Err.ensures.1, refl)
+    let k = c.in-Err.ensures in (k.breaks, k.not_zero, refl, k.is_evidence)
 
 pub append-requires : goal.append-requires
 append-requires g c =

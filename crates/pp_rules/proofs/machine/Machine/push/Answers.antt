@@ -5,7 +5,7 @@ use Rattle.pp_rules.proofs.machine.Machine.push.Goals as goal
 
 pub returns-in-Err-clause-effect : goal.returns-in-Err-clause-effect
 returns-in-Err-clause-effect g c =
-    (c.in-Err.ensures.0, c.in-Err.ensures.1, refl)
+    let k = c.in-Err.ensures in (k.breaks, k.not_zero, refl, k.is_evidence)
 
 pub push-requires-clause-allowed : goal.push-requires-clause-allowed
 push-requires-clause-allowed g c =

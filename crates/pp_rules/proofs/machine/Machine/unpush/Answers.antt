@@ -8,7 +8,7 @@ use Rattle.pp_rules.proofs.machine.Machine.unpush.Goals as goal
 
 pub returns-in-Err-clause-effect : goal.returns-in-Err-clause-effect
 returns-in-Err-clause-effect g c =
-    (c.in-Err.ensures.0, c.in-Err.ensures.1, refl)
+    let k = c.in-Err.ensures in (k.breaks, k.not_zero, refl, k.is_evidence)
 
 pub remove-requires : goal.remove-requires
 remove-requires g c =
@@ -63,7 +63,7 @@ pub returns-in-Differs-clause-effect : goal.returns-in-Differs-clause-effect
 returns-in-Differs-clause-effect g c =
     let k = pushed_of g.S.Spec.object c.self.inside.shape c.self.inside.transactions c.self.inside.ids.keys c.self.inside.shared c.self.inside.committed c.self.inside.count _ c.self.view_is c.self.invariant c.args.tx.now c.args.id c.in-Ok.found.0 c.in-Ok.found.1 c.in-Ok.ensures in
     let d = unpush_differs g.S.Spec.object c.self.inside.shape c.self.inside.transactions c.self.inside.ids.keys c.self.inside.shared c.self.inside.committed c.self.inside.count _ c.self.view_is c.self.invariant c.args.tx.now c.args.id c.in-Ok.found.0 c.in-Ok.found.1 k c.in_ok-shared.shared c.in_ok-shared.removed _ _ c.in-Differs.is c.in_ok-shared.ensures.removes in
-    (d.1, omega arith, seen_same_shared g.S.Spec.object c.self.inside.shape c.self.inside.transactions c.self.inside.ids.keys c.self.inside.shared c.self.inside.committed c.self.inside.count _ c.self.view_is c.self.invariant c.in_ok-shared.shared d.0)
+    (d.1, omega arith, seen_same_shared g.S.Spec.object c.self.inside.shape c.self.inside.transactions c.self.inside.ids.keys c.self.inside.shared c.self.inside.committed c.self.inside.count _ c.self.view_is c.self.invariant c.in_ok-shared.shared d.0, d.2)
 
 pub returns-in-Differs-clause-cost : goal.returns-in-Differs-clause-cost
 returns-in-Differs-clause-cost g c =
@@ -73,4 +73,4 @@ returns-in-Differs-clause-cost g c =
 pub returns-in-Differs-clause-bound : goal.returns-in-Differs-clause-bound
 returns-in-Differs-clause-bound g c =
     let k = pushed_of g.S.Spec.object c.self.inside.shape c.self.inside.transactions c.self.inside.ids.keys c.self.inside.shared c.self.inside.committed c.self.inside.count _ c.self.view_is c.self.invariant c.args.tx.now c.args.id c.in-Ok.found.0 c.in-Ok.found.1 c.in-Ok.ensures in
-    unpush_cost_differs g.S.Spec.object c.self.inside.shape c.self.inside.transactions c.self.inside.ids.keys c.self.inside.shared c.self.inside.committed c.self.inside.count _ c.self.view_is c.self.invariant c.args.tx.now c.args.id c.in-Ok.found.0 c.in-Ok.found.1 k g.S.Placed.place_of c.in_ok-shared.removed _ _ _ _ c.in-Differs.is c.in_ok-shared.ensures.cost
+    (unpush_cost_differs g.S.Spec.object c.self.inside.shape c.self.inside.transactions c.self.inside.ids.keys c.self.inside.shared c.self.inside.committed c.self.inside.count _ c.self.view_is c.self.invariant c.args.tx.now c.args.id c.in-Ok.found.0 c.in-Ok.found.1 k g.S.Placed.place_of c.in_ok-shared.removed _ _ _ _ c.in-Differs.is c.in_ok-shared.ensures.cost).1

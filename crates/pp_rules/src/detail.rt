@@ -1,0 +1,59 @@
+//! The evidence of a rejection, and why a step is not done.
+ghost use Rattle.std.specs.Prelude.{◌≡◌, IfOk, IsTrue};
+ghost use Rattle.pp_rules.specs.Evidence.{swap_or};
+
+use pp_core::{Answer, OutOfMemory};
+use pp_spec::{Context, Spec};
+use std::alloc::Global;
+
+/// What shows that a criterion is false.
+#[derive(Drop)]
+pub enum Detail<O> {
+    /// Nothing beside the number of the criterion.
+    Nothing,
+    /// The first entry that breaks it.
+    Entry { id: u32 },
+    /// The first operation whose recorded result is not the one that the object gives there.
+    Gives { id: u32, answer: Answer },
+    /// The first entry whose pair does not swap, and operations round the pair that show it.
+    Swap { id: u32, context: Context<O> },
+}
+
+/// Why a step is not done: its first false criterion, from 1, and what shows that it is false.
+#[derive(Drop)]
+pub struct Refusal<O> {
+    pub criterion: u8,
+    pub detail: Detail<O>,
+}
+
+/// What judging a step answers where it may take memory.
+pub type Judged<A, O> = Result<Result<A, Refusal<O>>, OutOfMemory>;
+
+/// The refusal by a criterion that has no evidence.
+pub fn bare<O>(criterion: u8) -> Refusal<O>
+    ensures { result ≡ record { criterion = criterion; detail = Detail.Nothing } }
+{
+    Refusal {
+        criterion,
+        detail: Detail::Nothing,
+    }
+}
+
+/// The evidence that the pair of the entry of this id does not swap. The only error is that memory
+/// was refused.
+pub fn swap_detail<S: Spec>(
+    alloc: Global,
+    id: u32,
+    a: &S::Op,
+    b: &S::Op,
+) -> Result<Detail<S::Op>, OutOfMemory>
+    requires first { IsTrue (S.object.ranged a.now) }
+    requires second { IsTrue (S.object.ranged b.now) }
+    ensures { IfOk result (λ detail. detail
+        ≡ swap_or id (S.object.refuting a.now b.now) Detail.Nothing) }
+{
+    match S::context(alloc, a, b)? {
+        Some(context) => Ok(Detail::Swap { id, context }),
+        None => Ok(Detail::Nothing),
+    }
+}
