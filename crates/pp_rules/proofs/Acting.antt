@@ -1,14 +1,20 @@
 -- The configurations after the steps.
-use Rattle.std.proofs.Common.{◌≡◌, ℕ, Bool, true, false, cond, not, filter, List, [], ◌∷◌, ◌++◌, map, Option, Some, reverse, refl, sym, ◌∙◌, ap}
+use Rattle.std.proofs.Common.{◌≡◌, ℕ, Bool, true, false, cond, not, filter, List, [], ◌∷◌, ◌++◌}
+use Rattle.std.proofs.Common.{map, Option, Some, reverse, refl, sym, ◌∙◌, ap}
 use Rattle.std.proofs.lemmas.List.{map-append}
 use Rattle.pp_core.specs.declared.entry.CommittedTx.{CommittedTx}
 use Rattle.pp_core.specs.declared.entry.LocalEntry.{LocalEntry}
 use Rattle.pp_core.specs.declared.entry.SharedEntry.{SharedEntry}
 use Rattle.pp_model.specs.Body.{Tree}
-use Rattle.pp_model.specs.Config.{Tx, Begin, App, Unapp, Push, Unpush, Pull, Unpull, Cmt, Quit, Unpushed, Pushed, Pulled, commit_all, at_mark, but_last, commit_effect, entry_of, item, set_mark, of_other, on_log, own_items, as_shared, pull_effect, push_effect, relog, then, tx, without_local, without_shared, without_tx}
+use Rattle.pp_model.specs.Config.{Tx, Begin, App, Unapp, Push, Unpush, Pull, Unpull, Cmt, Quit}
+use Rattle.pp_model.specs.Config.{Unpushed, Pushed, Pulled, commit_all, at_mark, but_last}
+use Rattle.pp_model.specs.Config.{commit_effect, entry_of, item, set_mark, of_other, on_log}
+use Rattle.pp_model.specs.Config.{own_items, as_shared, pull_effect, push_effect, relog, then, tx}
+use Rattle.pp_model.specs.Config.{without_local, without_shared, without_tx}
 use Rattle.pp_model.specs.Names.{Name, ◌=ⁿ◌}
 use Rattle.pp_rules.specs.Machines.{config_of, tx_of}
-use Rattle.pp_rules.specs.Transactions.{Open, Txs, open_of, relogged, with_log, with_open, without_open}
+use Rattle.pp_rules.specs.Transactions.{Open, Txs, open_of, relogged, with_log, with_open}
+use Rattle.pp_rules.specs.Transactions.{without_open}
 use Rattle.pp_rules.proofs.Finding.{reverse_more}
 
 module _ {Shape Op : Type 0} where

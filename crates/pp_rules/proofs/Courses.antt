@@ -1,10 +1,13 @@
 -- The own calls of a local log, as it grows and as its entries are marked.
-use Rattle.std.proofs.Common.{◌≡◌, ◌≢◌, ◌↔◌, ◌⊎◌, IsTrue, ℕ, zero, suc, Bool, true, false, cond, List, [], ◌∷◌, ◌++◌, map, Some, slice_get, refl, sym, ap, subst, ◌∙◌, inl, inr}
+use Rattle.std.proofs.Common.{◌≡◌, ◌≢◌, ◌↔◌, ◌⊎◌, IsTrue, ℕ, zero, suc, Bool, true, false, cond}
+use Rattle.std.proofs.Common.{List, [], ◌∷◌, ◌++◌, map, Some, slice_get, refl, sym, ap, subst, ◌∙◌}
+use Rattle.std.proofs.Common.{inl, inr}
 use Rattle.std.specs.List.{remove}
 use Rattle.std.proofs.lemmas.List.{map-append}
 use Rattle.pp_core.specs.declared.entry.LocalEntry.{LocalEntry}
 use Rattle.pp_model.specs.Body.{Call, Begins, IsWord}
-use Rattle.pp_model.specs.Config.{Mark, Unpushed, Pushed, Pulled, but_last, is_own, item, local_ops, set_mark, own, own_items}
+use Rattle.pp_model.specs.Config.{Mark, Unpushed, Pushed, Pulled, but_last, is_own, item, local_ops}
+use Rattle.pp_model.specs.Config.{set_mark, own, own_items}
 use Rattle.pp_model.specs.Lists.{In}
 use Rattle.pp_model.specs.Object.{Item}
 use Rattle.pp_model.proofs.Lists.{by_key}

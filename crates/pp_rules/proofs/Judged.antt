@@ -1,10 +1,12 @@
 -- What judging a step hands on to its effect.
-use Rattle.std.proofs.Common.{◌≡◌, ◌==◌, ◌-◌, ℕ, true, false, List, map, length, Option, Some, None, option_map, position, slice_get, sym, ap, subst, ◌∙◌, arith}
+use Rattle.std.proofs.Common.{◌≡◌, ◌==◌, ◌-◌, ℕ, true, false, List, map, length, Option, Some, None}
+use Rattle.std.proofs.Common.{option_map, position, slice_get, sym, ap, subst, ◌∙◌, arith}
 use Rattle.std.proofs.lemmas.Bool.{eq-eqb}
 use Rattle.pp_core.specs.declared.entry.CommittedTx.{CommittedTx}
 use Rattle.pp_core.specs.declared.entry.LocalEntry.{LocalEntry}
 use Rattle.pp_core.specs.declared.entry.SharedEntry.{SharedEntry}
-use Rattle.pp_model.specs.Config.{Mark, Tx, Unpushed, Pushed, at_mark, is_mark, item, last, of_other, as_shared}
+use Rattle.pp_model.specs.Config.{Mark, Tx, Unpushed, Pushed, at_mark, is_mark, item, last}
+use Rattle.pp_model.specs.Config.{of_other, as_shared}
 use Rattle.pp_model.specs.Lists.{Before}
 use Rattle.pp_model.specs.Names.{Name}
 use Rattle.pp_model.specs.Rules.{IsLast}

@@ -1,6 +1,10 @@
 -- The first false criterion with its evidence, by what the tests of the machine say.
-use Rattle.std.proofs.Common.{◌≡◌, ◌≢◌, ◌&&◌, ℕ, suc, not, true, false, filter, List, [], ◌∷◌, ◌++◌, Option, Some, None, refl, sym, subst, arith}
-use Rattle.pp_model.specs.Config.{is_mark, item, own, shared_item, Step, Begin, App, Unapp, Push, Unpush, Pull, Unpull, Cmt, Quit, Note, last, of_other, without_local, without_shared, Tx, tx, LocalEntry, SharedEntry, local_ops, shared_ops, is_own, Unpushed, Pushed, Pulled, at_mark}
+use Rattle.std.proofs.Common.{◌≡◌, ◌≢◌, ◌&&◌, ℕ, suc, not, true, false, filter, List, [], ◌∷◌, ◌++◌}
+use Rattle.std.proofs.Common.{Option, Some, None, refl, sym, subst, arith}
+use Rattle.pp_model.specs.Config.{is_mark, item, own, shared_item, Step, Begin, App, Unapp, Push}
+use Rattle.pp_model.specs.Config.{Unpush, Pull, Unpull, Cmt, Quit, Note, last, of_other}
+use Rattle.pp_model.specs.Config.{without_local, without_shared, Tx, tx, LocalEntry, SharedEntry}
+use Rattle.pp_model.specs.Config.{local_ops, shared_ops, is_own, Unpushed, Pushed, Pulled, at_mark}
 use Rattle.pp_model.specs.Lists.{In, Before}
 use Rattle.pp_model.specs.Body.{Tree, IsWord}
 use Rattle.pp_model.specs.Names.{Name, ◌=ⁿ◌}
@@ -10,7 +14,8 @@ use Rattle.pp_rules.specs.Machines.{Seen}
 use Rattle.pp_model.specs.Rules.{Breaks, Meets, FirstFalse, IsLast, there}
 use Rattle.pp_log.specs.Logs.{answer_behind}
 use Rattle.pp_rules.specs.Courses.{MayFollow, own_calls}
-use Rattle.pp_rules.specs.Evidence.{entries_before, entries_behind, evidence, first_differing, first_entry, first_swap, if_there, at_number}
+use Rattle.pp_rules.specs.Evidence.{entries_before, entries_behind, evidence, first_differing}
+use Rattle.pp_rules.specs.Evidence.{first_entry, first_swap, if_there, at_number}
 use Rattle.pp_rules.specs.Finding.{stands_committed}
 use Rattle.pp_rules.specs.Stepping.{Refuses}
 use Rattle.pp_rules.specs.declared.detail.Detail.{Detail}

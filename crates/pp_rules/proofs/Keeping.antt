@@ -1,28 +1,39 @@
 -- What each machine keeps holds after each step.
-use Rattle.std.proofs.Common.{◌≡◌, ◌≢◌, ◌==◌, ℕ, ◌<◌, ◌≤◌, ◌+◌, IsTrue, Bool, true, false, cond, not, List, [], ◌∷◌, ◌++◌, map, filter, length, Option, Some, None, position, slice_get, refl, sym, ◌∙◌, ap, subst, arith, inl, inr}
+use Rattle.std.proofs.Common.{◌≡◌, ◌≢◌, ◌==◌, ℕ, ◌<◌, ◌≤◌, ◌+◌, IsTrue, Bool, true, false, cond}
+use Rattle.std.proofs.Common.{not, List, [], ◌∷◌, ◌++◌, map, filter, length, Option, Some, None}
+use Rattle.std.proofs.Common.{position, slice_get, refl, sym, ◌∙◌, ap, subst, arith, inl, inr}
 use Rattle.std.proofs.lemmas.List.{length_push, length-map}
 use Rattle.std.proofs.lemmas.Bool.{eqb-true}
 use Rattle.pp_core.specs.declared.entry.CommittedTx.{CommittedTx}
 use Rattle.pp_core.specs.declared.entry.LocalEntry.{LocalEntry}
 use Rattle.pp_core.specs.declared.entry.SharedEntry.{SharedEntry}
 use Rattle.pp_model.specs.Body.{Tree}
-use Rattle.pp_model.specs.Config.{Config, Mark, Tx, Step, Begin, App, Unapp, Push, Unpush, Pull, Unpull, Cmt, Quit, Note, Unpushed, Pushed, Pulled, commit_all, at_mark, but_last, is_own, item, local_ops, set_mark, of_other, own_items, as_shared, shared_ops, then, tx, without_local, without_shared}
+use Rattle.pp_model.specs.Config.{Config, Mark, Tx, Step, Begin, App, Unapp, Push, Unpush, Pull}
+use Rattle.pp_model.specs.Config.{Unpull, Cmt, Quit, Note, Unpushed, Pushed, Pulled, commit_all}
+use Rattle.pp_model.specs.Config.{at_mark, but_last, is_own, item, local_ops, set_mark, of_other}
+use Rattle.pp_model.specs.Config.{own_items, as_shared, shared_ops, then, tx, without_local}
+use Rattle.pp_model.specs.Config.{without_shared}
 use Rattle.pp_model.specs.Lists.{In}
 use Rattle.pp_model.specs.Names.{Name, ◌=ⁿ◌}
 use Rattle.pp_model.specs.Rules.{Breaks, Meets}
 use Rattle.pp_model.specs.Sound.{Sound, serial_ops}
 use Rattle.pp_model.proofs.Begin.{empty_sound}
 use Rattle.pp_model.proofs.Keeps.{step_keeps}
-use Rattle.pp_model.proofs.Lists.{before_across, before_map, by_key, from_filter, from_map, in_cases, in_map}
+use Rattle.pp_model.proofs.Lists.{before_across, before_map, by_key, from_filter, from_map}
+use Rattle.pp_model.proofs.Lists.{in_cases, in_map}
 use Rattle.pp_model.proofs.Logs.{found, found_mark, found_other, found_tx, in_but_last}
 use Rattle.pp_model.proofs.Names.{names_tell}
 use Rattle.pp_model.proofs.Steps.{there_holds}
 use Rattle.pp_spec.specs.Object.{Object, AllRanged, IsAllowed, rules_of}
 use Rattle.pp_rules.specs.Courses.{FollowsIfOwn}
 use Rattle.pp_rules.specs.Machines.{Holds, IsFine, Seen, config_of, stepped, tx_of}
-use Rattle.pp_rules.specs.Transactions.{HasOwn, MayLeave, is_begun, is_busy, Open, Takes, Txs, open_at, open_of, relocated, relogged, with_local, with_log, with_open, without_open}
-use Rattle.pp_rules.proofs.Acting.{after_begin, after_app, after_unapp, after_pull, after_unpull, after_push, after_unpush, after_cmt, after_quit}
-use Rattle.pp_rules.proofs.Finding.{but_last_short, filter_short, place_nowhere, placed, removed_filter, slice_in, slice_within}
+use Rattle.pp_rules.specs.Transactions.{HasOwn, MayLeave, is_begun, is_busy, Open, Takes, Txs}
+use Rattle.pp_rules.specs.Transactions.{open_at, open_of, relocated, relogged, with_local, with_log}
+use Rattle.pp_rules.specs.Transactions.{with_open, without_open}
+use Rattle.pp_rules.proofs.Acting.{after_begin, after_app, after_unapp, after_pull, after_unpull}
+use Rattle.pp_rules.proofs.Acting.{after_push, after_unpush, after_cmt, after_quit}
+use Rattle.pp_rules.proofs.Finding.{but_last_short, filter_short, place_nowhere, placed}
+use Rattle.pp_rules.proofs.Finding.{removed_filter, slice_in, slice_within}
 use Rattle.pp_rules.proofs.Fitting.{in_ranged, ranged_in, ranged_more, serial_allowed, serial_more}
 use Rattle.pp_rules.proofs.Opened.{HasLog, begun_in, busy_in, distinct, opened, used_in}
 use Rattle.pp_rules.proofs.Removing.{ranged_posts}

@@ -1,5 +1,6 @@
 -- What the look-ups in logs answer.
-use Rattle.std.proofs.Common.{◌≡◌, ◌==◌, ℕ, true, false, not, List, Some, None, position, slice_get, sym, ◌∙◌, ap}
+use Rattle.std.proofs.Common.{◌≡◌, ◌==◌, ℕ, true, false, not, List, Some, None, position, slice_get}
+use Rattle.std.proofs.Common.{sym, ◌∙◌, ap}
 use Rattle.std.proofs.lemmas.Bool.{eqb-true}
 use Rattle.pp_core.specs.declared.entry.LocalEntry.{LocalEntry}
 use Rattle.pp_core.specs.declared.entry.SharedEntry.{SharedEntry}

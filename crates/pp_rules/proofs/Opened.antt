@@ -1,5 +1,7 @@
 -- The open transactions of a machine, as they stand in its configuration.
-use Rattle.std.proofs.Common.{IsTrue, ◌≡◌, ◌≢◌, ◌==◌, ℕ, true, false, List, [], ◌∷◌, ◌++◌, map, reverse, Option, Some, None, is_some, option_map, refl, sym, ap, subst, ◌∙◌}
+use Rattle.std.proofs.Common.{IsTrue, ◌≡◌, ◌≢◌, ◌==◌, ℕ, true, false, List, [], ◌∷◌, ◌++◌, map}
+use Rattle.std.proofs.Common.{reverse, Option, Some, None, is_some, option_map, refl, sym, ap}
+use Rattle.std.proofs.Common.{subst, ◌∙◌}
 use Rattle.std.specs.List.{list_any}
 use Rattle.std.proofs.lemmas.Bool.{eqb-true, eq-eqb}
 use Rattle.pp_core.specs.declared.entry.CommittedTx.{CommittedTx}
@@ -15,10 +17,12 @@ use Rattle.pp_model.proofs.Names.{eq-names, names-true}
 use Rattle.pp_spec.specs.Object.{Object, IsAllowed, IsLawful}
 use Rattle.pp_rules.specs.Machines.{Holds, IsFine, tx_of}
 use Rattle.pp_rules.specs.Courses.{Guided}
-use Rattle.pp_rules.specs.Transactions.{Open, Txs, course_of, is_begun, is_busy, open_at, open_of, threads_of}
+use Rattle.pp_rules.specs.Transactions.{Open, Txs, course_of, is_begun, is_busy, open_at, open_of}
+use Rattle.pp_rules.specs.Transactions.{threads_of}
 use Rattle.pp_rules.specs.Finding.{AreDistinct}
 use Rattle.pp_rules.proofs.Fitting.{fits_in, ranged_in}
-use Rattle.pp_rules.proofs.Finding.{any_in, none_in, find_map, from_reverse, in_reverse, mapped_some, mapped_none}
+use Rattle.pp_rules.proofs.Finding.{any_in, none_in, find_map, from_reverse, in_reverse}
+use Rattle.pp_rules.proofs.Finding.{mapped_some, mapped_none}
 
 some_inj : {X : Type 0} (x y : X) → Some x ≡ Some y → x ≡ y
 some_inj x y e = cc

@@ -1,5 +1,7 @@
 -- Taking an entry out of a log.
-use Rattle.std.proofs.Common.{◌≡◌, ◌==◌, ◌+◌, ◌-◌, ◌≤◌, ℕ, zero, suc, Bool, true, false, cond, not, List, [], ◌∷◌, ◌++◌, map, filter, length, Some, slice_get, refl, sym, ap, subst, ◌∙◌, arith, inl, inr}
+use Rattle.std.proofs.Common.{◌≡◌, ◌==◌, ◌+◌, ◌-◌, ◌≤◌, ℕ, zero, suc, Bool, true, false, cond, not}
+use Rattle.std.proofs.Common.{List, [], ◌∷◌, ◌++◌, map, filter, length, Some, slice_get, refl, sym}
+use Rattle.std.proofs.Common.{ap, subst, ◌∙◌, arith, inl, inr}
 use Rattle.std.specs.List.{remove}
 use Rattle.std.proofs.lemmas.Bool.{eqb-true, eq-eqb}
 use Rattle.std.proofs.lemmas.List.{map-append}
@@ -15,7 +17,8 @@ use Rattle.pp_model.proofs.Serial.{allowed_front}
 use Rattle.pp_log.specs.declared.place.Removed.{Removed}
 use Rattle.pp_log.specs.declared.place.Removed.TheVariants.{Done, Differs}
 use Rattle.pp_log.specs.Logs.{DiffersFirst, RemovesEntry, entry_ops, from_place}
-use Rattle.pp_spec.specs.Object.{Object, AllRanged, AllowedFrom, IsAllowed, IsLegal, rules_of, state_from}
+use Rattle.pp_spec.specs.Object.{Object, AllRanged, AllowedFrom, IsAllowed, IsLegal, rules_of}
+use Rattle.pp_spec.specs.Object.{state_from}
 use Rattle.pp_rules.specs.Costs.{from_id}
 use Rattle.pp_rules.specs.Transactions.{MayLeave}
 use Rattle.pp_rules.proofs.Finding.{last_at, removed_last, slice_in, some_same}

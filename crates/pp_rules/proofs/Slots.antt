@@ -1,5 +1,7 @@
 -- Slots, of which each has a name and may hold an open transaction.
-use Rattle.std.proofs.Common.{◌≡◌, ◌≢◌, Result, Ok, Err, OnOk, OnErr, option_map, Bool, true, false, cond, not, ◌||◌, List, [], ◌∷◌, ◌++◌, map, filter, Option, None, Some, is_some, refl, sym, ap, subst, ◌∙◌, inl, inr}
+use Rattle.std.proofs.Common.{◌≡◌, ◌≢◌, Result, Ok, Err, OnOk, OnErr, option_map, Bool, true, false}
+use Rattle.std.proofs.Common.{cond, not, ◌||◌, List, [], ◌∷◌, ◌++◌, map, filter, Option, None, Some}
+use Rattle.std.proofs.Common.{is_some, refl, sym, ap, subst, ◌∙◌, inl, inr}
 use Rattle.std.proofs.lemmas.List.{map-append}
 use Rattle.std.specs.List.{list_any}
 use Rattle.std.specs.Map.{keys_of, lookup, set_value}
@@ -9,7 +11,9 @@ use Rattle.pp_model.specs.Names.{Name, ◌=ⁿ◌}
 use Rattle.pp_model.proofs.Lists.{in_cases, before_cases, before_left, before_right, before_across}
 use Rattle.pp_model.proofs.Names.{eq-names, names_tell}
 use Rattle.pp_core.specs.declared.entry.LocalEntry.{LocalEntry}
-use Rattle.pp_rules.specs.Transactions.{Open, Txs, Kept, filled, threads_of, open_at, is_begun, is_busy, relocated, relogged, with_local, with_log, with_open, without_open}
+use Rattle.pp_rules.specs.Transactions.{Open, Txs, Kept, filled, threads_of, open_at, is_begun}
+use Rattle.pp_rules.specs.Transactions.{is_busy, relocated, relogged, with_local, with_log}
+use Rattle.pp_rules.specs.Transactions.{with_open, without_open}
 
 pub names_turned : (a b : Name) → (a =ⁿ b) ≡ (b =ⁿ a)
 names_turned a b = elim (names_tell a b) [

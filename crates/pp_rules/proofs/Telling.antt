@@ -1,5 +1,8 @@
 -- The evidence of a step shows its first false criterion, and tells operations of the objects.
-use Rattle.std.proofs.Common.{◌≡◌, ◌≢◌, ◌==◌, ◌&&◌, ◌+◌, ℕ, zero, suc, Bool, true, false, cond, not, filter, find, is_some, IsTrue, List, [], ◌∷◌, ◌++◌, take, drop, position, slice_get, Option, Some, None, refl, sym, ap, subst, ◌∙◌, add-one, inl, inr}
+use Rattle.std.proofs.Common.{◌≡◌, ◌≢◌, ◌==◌, ◌&&◌, ◌+◌, ℕ, zero, suc, Bool, true, false, cond, not}
+use Rattle.std.proofs.Common.{filter, find, is_some, IsTrue, List, [], ◌∷◌, ◌++◌, take, drop}
+use Rattle.std.proofs.Common.{position, slice_get, Option, Some, None, refl, sym, ap, subst, ◌∙◌}
+use Rattle.std.proofs.Common.{add-one, inl, inr}
 use Rattle.std.specs.List.{position_or_len}
 use Rattle.std.proofs.lemmas.Bool.{eqb-true, eq-eqb}
 use Rattle.std.proofs.lemmas.List.Folds.{find_at}
@@ -7,23 +10,31 @@ use Rattle.pp_core.specs.declared.entry.Item.{Item}
 use Rattle.pp_core.specs.declared.entry.LocalEntry.{LocalEntry}
 use Rattle.pp_core.specs.declared.entry.SharedEntry.{SharedEntry}
 use Rattle.pp_log.specs.Logs.{entry_ops}
-use Rattle.pp_model.specs.Config.{Config, Step, Begin, App, Unapp, Push, Unpush, Pull, Unpull, Cmt, Quit, Note, Mark, Unpushed, Pushed, Pulled, at_mark, is_mark, is_own, item, local_ops, of_other, own, shared_item, shared_ops, tx, Tx, without_local, without_shared}
+use Rattle.pp_model.specs.Config.{Config, Step, Begin, App, Unapp, Push, Unpush, Pull, Unpull, Cmt}
+use Rattle.pp_model.specs.Config.{Quit, Note, Mark, Unpushed, Pushed, Pulled, at_mark, is_mark}
+use Rattle.pp_model.specs.Config.{is_own, item, local_ops, of_other, own, shared_item, shared_ops}
+use Rattle.pp_model.specs.Config.{tx, Tx, without_local, without_shared}
 use Rattle.pp_model.specs.Lists.{Before, Each, In}
 use Rattle.pp_model.specs.Names.{◌=ⁿ◌}
 use Rattle.pp_model.specs.Rules.{FirstFalse, criteria, there}
 use Rattle.pp_model.specs.Sound.{Sound}
-use Rattle.pp_model.proofs.Lists.{before_in_first, before_in_second, by_key, each_from, from_filter, in_left, in_map, in_right}
+use Rattle.pp_model.proofs.Lists.{before_in_first, before_in_second, by_key, each_from, from_filter}
+use Rattle.pp_model.proofs.Lists.{in_left, in_map, in_right}
 use Rattle.pp_model.proofs.Logs.{both_true, found, found_mark, found_other, found_tx, is_mark-true}
 use Rattle.pp_model.proofs.Names.{eq-names, names_not}
-use Rattle.pp_spec.specs.Object.{Object, AllowedFrom, IsAllowed, IsLawful, IsRefutedBy, SwapsIn, rules_of, state_after, state_from}
-use Rattle.pp_rules.specs.Evidence.{entries_before, entries_behind, evidences, first_differing, first_entry, first_swap, at_number, gives_behind, if_there, is_same, swap_or}
+use Rattle.pp_spec.specs.Object.{Object, AllowedFrom, IsAllowed, IsLawful, IsRefutedBy, SwapsIn}
+use Rattle.pp_spec.specs.Object.{rules_of, state_after, state_from}
+use Rattle.pp_rules.specs.Evidence.{entries_before, entries_behind, evidences, first_differing}
+use Rattle.pp_rules.specs.Evidence.{first_entry, first_swap, at_number, gives_behind, if_there}
+use Rattle.pp_rules.specs.Evidence.{is_same, swap_or}
 use Rattle.pp_rules.specs.Finding.{AreDistinct}
 use Rattle.pp_rules.specs.Shown.{EvidenceLaw, Fits, HoldsAtNumber, TellsOther, TellsRefuted, facts}
 use Rattle.pp_rules.specs.Shown.{if_there as facts_there}
 use Rattle.pp_rules.specs.Stepping.{IsAsked}
 use Rattle.pp_rules.specs.declared.detail.Detail.{Detail}
 use Rattle.pp_rules.specs.declared.detail.Detail.TheVariants.{Nothing, Entry, Gives}
-use Rattle.pp_rules.proofs.Finding.{before_here, behind_here, find_nowhere, here_before, here_behind, in_dropped, in_taken, placed}
+use Rattle.pp_rules.proofs.Finding.{before_here, behind_here, find_nowhere, here_before}
+use Rattle.pp_rules.proofs.Finding.{here_behind, in_dropped, in_taken, placed}
 use Rattle.pp_rules.proofs.Fitting.{fits_in}
 use Rattle.pp_rules.proofs.Opened.{is_none, is_there}
 use Rattle.pp_rules.proofs.Showing.{answers_same, same_answer, second_fails, stops, swap_shown}

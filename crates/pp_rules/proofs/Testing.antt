@@ -1,7 +1,10 @@
 -- What the tests of CMT say of a local log.
-use Rattle.std.proofs.Common.{◌≡◌, ◌==◌, ◌&&◌, ℕ, Bool, true, false, not, filter, List, [], ◌∷◌, Option, Some, None, find, position, slice_get, refl, sym, ◌∙◌, ap, subst}
+use Rattle.std.proofs.Common.{◌≡◌, ◌==◌, ◌&&◌, ℕ, Bool, true, false, not, filter, List, [], ◌∷◌}
+use Rattle.std.proofs.Common.{Option, Some, None, find, position, slice_get, refl, sym, ◌∙◌, ap}
+use Rattle.std.proofs.Common.{subst}
 use Rattle.std.proofs.lemmas.Bool.{eqb-true, eq-eqb}
-use Rattle.pp_model.specs.Config.{LocalEntry, SharedEntry, Mark, Unpushed, Pushed, Pulled, is_mark, is_own}
+use Rattle.pp_model.specs.Config.{LocalEntry, SharedEntry, Mark, Unpushed, Pushed, Pulled, is_mark}
+use Rattle.pp_model.specs.Config.{is_own}
 use Rattle.pp_model.specs.Lists.{In}
 use Rattle.pp_model.proofs.Lists.{by_key}
 use Rattle.pp_model.proofs.Logs.{both_true, found, is_mark-true}

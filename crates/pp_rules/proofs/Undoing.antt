@@ -1,5 +1,7 @@
 -- What the steps that undo leave behind: UNAPP, UNPUSH and UNPULL.
-use Rattle.std.proofs.Common.{◌≡◌, ◌==◌, ◌<◌, ◌≤◌, ◌+◌, ◌*◌, ◌-◌, ℕ, List, map, length, Option, Some, option_map, position, slice_get, Ok, Err, sym, ap, subst, ◌∙◌, arith}
+use Rattle.std.proofs.Common.{◌≡◌, ◌==◌, ◌<◌, ◌≤◌, ◌+◌, ◌*◌, ◌-◌, ℕ, List, map, length, Option}
+use Rattle.std.proofs.Common.{Some, option_map, position, slice_get, Ok, Err, sym, ap, subst, ◌∙◌}
+use Rattle.std.proofs.Common.{arith}
 use Rattle.std.specs.List.{remove}
 use Rattle.std.proofs.lemmas.Bool.{eqb-true}
 use Rattle.std.proofs.lemmas.List.{length-map}
@@ -7,7 +9,9 @@ use Rattle.pp_core.specs.declared.answer.Answer.{Answer}
 use Rattle.pp_core.specs.declared.entry.CommittedTx.{CommittedTx}
 use Rattle.pp_core.specs.declared.entry.LocalEntry.{LocalEntry}
 use Rattle.pp_core.specs.declared.entry.SharedEntry.{SharedEntry}
-use Rattle.pp_model.specs.Config.{Tx, Unpush, Unpull, Unpushed, Pushed, Pulled, at_mark, but_last, item, local_ops, set_mark, shared_item, shared_ops, tx, without_local, without_shared}
+use Rattle.pp_model.specs.Config.{Tx, Unpush, Unpull, Unpushed, Pushed, Pulled, at_mark, but_last}
+use Rattle.pp_model.specs.Config.{item, local_ops, set_mark, shared_item, shared_ops, tx}
+use Rattle.pp_model.specs.Config.{without_local, without_shared}
 use Rattle.pp_model.specs.Lists.{Before}
 use Rattle.pp_model.specs.Names.{Name}
 use Rattle.pp_model.specs.Rules.{Breaks, Meets}
@@ -23,13 +27,16 @@ use Rattle.pp_rules.specs.declared.detail.Detail.{Detail}
 use Rattle.pp_rules.specs.declared.detail.Detail.TheVariants.{Nothing, Gives}
 use Rattle.pp_rules.specs.Machines.{Holds, Seen, config_of, tx_of}
 use Rattle.pp_rules.specs.Stepping.{FindsPushed, IsLastAt}
-use Rattle.pp_rules.specs.Transactions.{CostsAt, MayLeave, Open, RemovesAt, Txs, open_at, open_of, with_log}
+use Rattle.pp_rules.specs.Transactions.{CostsAt, MayLeave, Open, RemovesAt, Txs, open_at, open_of}
+use Rattle.pp_rules.specs.Transactions.{with_log}
 use Rattle.pp_rules.proofs.Finding.{placed, slice_within}
 use Rattle.pp_rules.proofs.Judged.{HasEntry}
-use Rattle.pp_rules.proofs.Judging.{unpush_4, unpush_shown, unpush_0, unpull_3, unpull_shown, unpull_0}
+use Rattle.pp_rules.proofs.Judging.{unpush_4, unpush_shown, unpush_0, unpull_3, unpull_shown}
+use Rattle.pp_rules.proofs.Judging.{unpull_0}
 use Rattle.pp_rules.proofs.Keeping.{located_same, posted_at, relocated_is, unpulled}
 use Rattle.pp_rules.proofs.Opened.{HasLog, logged, opened}
-use Rattle.pp_rules.proofs.Removing.{differs_not, from_id_some, from_place_is, from_place_last, last_removed, never_differs}
+use Rattle.pp_rules.proofs.Removing.{differs_not, from_id_some, from_place_is, from_place_last}
+use Rattle.pp_rules.proofs.Removing.{last_removed, never_differs}
 use Rattle.pp_rules.proofs.Showing.{differing_shown}
 
 -- what a removal that differs says is the evidence
@@ -61,8 +68,7 @@ module _ {Shape State Op Undo : Type 0} (o : Object Shape State Op Undo) (shape 
       subst (λ (s : Shape). IsAllowed o s (local_ops l.1)) (sym (r.fine).same_shape)
       (h.sound.local_allowed (record { name = t; thread = r.thread; body = r.body; local = l.1 }) (found_tx t (map tx_of v.opened) _ r.is).0)
 
-  -- UNAPP
-  -- the local log of the open transaction t, with its last entry
+  -- UNAPP the local log of the open transaction t, with its last entry
   pub record HasLast (t : Name) (i : ℕ) : Type 0 where
     pub log : Shape × List (LocalEntry Op)
     pub has : HasLog o shape v ids G F n h t log

@@ -1,6 +1,8 @@
 -- Meaning: what a step costs: how many operations it applies or takes back.
-use Rattle.std.specs.Prelude.{◌≡◌, ◌≤◌, ◌==◌, ◌+◌, ◌*◌, ◌-◌, ℕ, cond, List, [], ◌∷◌, map, filter, length, Option, None, Some, Result, Ok, Err}
-use Rattle.pp_core.specs.Steps.{Step, Begin, App, Unapp, Push, Unpush, Pull, Unpull, Cmt, Quit, Note}
+use Rattle.std.specs.Prelude.{◌≡◌, ◌≤◌, ◌==◌, ◌+◌, ◌*◌, ◌-◌, ℕ, cond, List, [], ◌∷◌, map, filter}
+use Rattle.std.specs.Prelude.{length, Option, None, Some, Result, Ok, Err}
+use Rattle.pp_core.specs.Steps.{Step, Begin, App, Unapp, Push, Unpush, Pull, Unpull, Cmt, Quit}
+use Rattle.pp_core.specs.Steps.{Note}
 use Rattle.pp_core.specs.declared.entry.Item.{Item}
 use Rattle.pp_model.specs.Config.{Config, Tx, item, shared_item, tx}
 use Rattle.pp_rules.specs.declared.machine.Outcome.{Outcome}

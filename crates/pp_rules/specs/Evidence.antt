@@ -1,11 +1,15 @@
 -- Meaning: the evidence of a rejection: what shows that a criterion of a step is false.
-use Rattle.std.specs.Prelude.{◌==◌, ◌&&◌, ◌+◌, ℕ, zero, suc, Bool, false, true, cond, not, List, [], ◌∷◌, Option, None, Some, take, drop, filter}
+use Rattle.std.specs.Prelude.{◌==◌, ◌&&◌, ◌+◌, ℕ, zero, suc, Bool, false, true, cond, not, List, []}
+use Rattle.std.specs.Prelude.{◌∷◌, Option, None, Some, take, drop, filter}
 use Rattle.std.specs.List.{position_or_len}
 use Rattle.std.specs.Ordering.{int_eq}
 use Rattle.pp_core.specs.declared.answer.Answer.{Answer}
 use Rattle.pp_core.specs.declared.answer.Answer.TheVariants as answers
 use Rattle.pp_core.specs.declared.entry.Item.{Item}
-use Rattle.pp_model.specs.Config.{Config, LocalEntry, Unpushed, Pushed, Pulled, Step, Begin, App, Unapp, Push, Unpush, Pull, Unpull, Cmt, Quit, Note, at_mark, is_mark, item, local_ops, of_other, own, shared_item, shared_ops, tx, without_local, without_shared}
+use Rattle.pp_model.specs.Config.{Config, LocalEntry, Unpushed, Pushed, Pulled, Step, Begin, App}
+use Rattle.pp_model.specs.Config.{Unapp, Push, Unpush, Pull, Unpull, Cmt, Quit, Note, at_mark}
+use Rattle.pp_model.specs.Config.{is_mark, item, local_ops, of_other, own, shared_item, shared_ops}
+use Rattle.pp_model.specs.Config.{tx, without_local, without_shared}
 use Rattle.pp_model.specs.Names.{◌=ⁿ◌}
 use Rattle.pp_spec.specs.Object.{Object, state_after}
 use Rattle.pp_rules.specs.declared.detail.Detail.{Detail}

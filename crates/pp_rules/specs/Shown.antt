@@ -1,7 +1,10 @@
 -- Meaning: what the evidence of a rejection shows.
-use Rattle.std.specs.Prelude.{◌≡◌, ◌≢◌, ℕ, zero, suc, true, false, IsTrue, List, [], ◌∷◌, Option, None, Some}
+use Rattle.std.specs.Prelude.{◌≡◌, ◌≢◌, ℕ, zero, suc, true, false, IsTrue, List, [], ◌∷◌, Option}
+use Rattle.std.specs.Prelude.{None, Some}
 use Rattle.pp_core.specs.declared.answer.Answer.{Answer}
-use Rattle.pp_model.specs.Config.{Config, LocalEntry, SharedEntry, Unpushed, Pushed, Pulled, Step, Begin, App, Unapp, Push, Unpush, Pull, Unpull, Cmt, Quit, Note, at_mark, is_own, of_other, tx, without_local, without_shared}
+use Rattle.pp_model.specs.Config.{Config, LocalEntry, SharedEntry, Unpushed, Pushed, Pulled, Step}
+use Rattle.pp_model.specs.Config.{Begin, App, Unapp, Push, Unpush, Pull, Unpull, Cmt, Quit, Note}
+use Rattle.pp_model.specs.Config.{at_mark, is_own, of_other, tx, without_local, without_shared}
 use Rattle.pp_model.specs.Lists.{Before, Each, In}
 use Rattle.pp_model.specs.Rules.{Breaks}
 use Rattle.pp_model.specs.Sound.{Sound}

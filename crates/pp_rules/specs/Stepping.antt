@@ -1,11 +1,13 @@
 -- Meaning: what a step answers.
-use Rattle.std.specs.Prelude.{◌≡◌, ◌==◌, ◌+◌, ◌<◌, length, position, ℕ, List, Option, Some, Result, Ok, Err, IfOk, IsTrue, option_map, slice_get}
+use Rattle.std.specs.Prelude.{◌≡◌, ◌==◌, ◌+◌, ◌<◌, length, position, ℕ, List, Option, Some, Result}
+use Rattle.std.specs.Prelude.{Ok, Err, IfOk, IsTrue, option_map, slice_get}
 use Rattle.pp_core.specs.Trees.{IsWithinLimits, Tree, tree}
 use Rattle.pp_core.specs.declared.body.Body.{Body}
 use Rattle.pp_core.specs.declared.entry.LocalEntry.{LocalEntry}
 use Rattle.pp_core.specs.declared.entry.Mark.{Mark}
 use Rattle.pp_core.specs.declared.entry.SharedEntry.{SharedEntry}
-use Rattle.pp_core.specs.Steps.{Step, Begin, App, Unapp, Push, Unpush, Pull, Unpull, Cmt, Quit, Note}
+use Rattle.pp_core.specs.Steps.{Step, Begin, App, Unapp, Push, Unpush, Pull, Unpull, Cmt, Quit}
+use Rattle.pp_core.specs.Steps.{Note}
 use Rattle.pp_model.specs.Config.{Config, Tx, Unpushed, Pushed, Pulled, at_mark, of_other, tx}
 use Rattle.pp_model.specs.Lists.{Before}
 use Rattle.pp_model.specs.Names.{Name}
@@ -140,8 +142,8 @@ JudgesUnpull {Shape} {State} {Op} o v t id (Ok i) =
     (e : LocalEntry Op) × IsAt v.config t id Pulled i e
 JudgesUnpull o v t id (Err refusal) = Refuses o v (Unpull t id) refusal
 
--- What judging hands on where all criteria hold: at PUSH and UNAPP where
--- the entry stands, at PULL the entry.
+-- What judging hands on where all criteria hold: at PUSH and UNAPP where the entry stands, at PULL
+-- the entry.
 abbrev pub JudgesPush : {Shape State Op Undo : Type 0} → Object Shape State Op Undo →
     Seen Shape Op → Name → ℕ →
     Result (ℕ × LocalEntry Op) (Refusal Op) → Type 0

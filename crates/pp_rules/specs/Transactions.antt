@@ -1,5 +1,7 @@
 -- Proof machinery: what contracts see of the transactions of a run.
-use Rattle.std.specs.Prelude.{◌≡◌, ◌≢◌, ◌+◌, true, Result, ℕ, Bool, not, cond, List, [], ◌∷◌, ◌++◌, map, filter, find, Option, None, Some, length, IsTrue, ◌<◌, ◌==◌, position, slice_get}
+use Rattle.std.specs.Prelude.{◌≡◌, ◌≢◌, ◌+◌, true, Result, ℕ, Bool, not, cond, List, [], ◌∷◌, ◌++◌}
+use Rattle.std.specs.Prelude.{map, filter, find, Option, None, Some, length, IsTrue, ◌<◌, ◌==◌}
+use Rattle.std.specs.Prelude.{position, slice_get}
 use Rattle.std.specs.List.{list_any}
 use Rattle.pp_core.specs.Trees.{Tree}
 use Rattle.pp_core.specs.declared.entry.LocalEntry.{LocalEntry}

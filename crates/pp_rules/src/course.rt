@@ -1,5 +1,6 @@
 //! The course of an open transaction: its local log, and how far it has come in its body.
-ghost use Rattle.std.specs.Prelude.{◌≡◌, ◌≢◌, false, ◌+◌, ◌≤◌, ◌↔◌, ◌++◌, ◌∷◌, [], Some, true, option_map, slice_get, IsTrue, IfOk, OnOk, OnErr};
+ghost use Rattle.std.specs.Prelude.{◌≡◌, ◌≢◌, false, ◌+◌, ◌≤◌, ◌↔◌, ◌++◌, ◌∷◌, [], Some, true};
+ghost use Rattle.std.specs.Prelude.{option_map, slice_get, IsTrue, IfOk, OnOk, OnErr};
 ghost use Rattle.pp_core.specs.declared.entry.LocalEntry.{LocalEntry};
 ghost use Rattle.pp_core.specs.declared.entry.Mark.TheVariants.{Pulled};
 ghost use Rattle.pp_core.specs.Trees.{IsWithinLimits, tree};
@@ -170,8 +171,8 @@ impl<S: Placed> Course<S> {
     }
 
     /// Takes an entry out of the local log, unless the list without it is not allowed. The walk
-    /// gives back the call of an own
-    /// one. The only error is that memory was refused, and the course is then lost.
+    /// gives back the call of an own one. The only error is that memory was refused, and the course
+    /// is then lost.
     pub fn remove<L: Ledger>(
         self,
         i: usize,

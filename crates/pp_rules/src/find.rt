@@ -1,9 +1,11 @@
 //! What the machine looks up in logs.
-ghost use Rattle.std.specs.Prelude.{◌≡◌, ◌<◌, length, ◌==◌, ◌&&◌, not, Some, None, is_some, position, slice_get, option_map, MatchOption, IfOk, IfSome};
+ghost use Rattle.std.specs.Prelude.{◌≡◌, ◌<◌, length, ◌==◌, ◌&&◌, not, Some, None, is_some};
+ghost use Rattle.std.specs.Prelude.{position, slice_get, option_map, MatchOption, IfOk, IfSome};
 ghost use Rattle.pp_model.specs.Config.{is_mark, is_own, last, own_items, at_mark, of_other};
 ghost use Rattle.pp_core.specs.declared.entry.LocalEntry.{LocalEntry as EntryOf};
 ghost use Rattle.pp_model.specs.Rules.{IsLast};
-ghost use Rattle.pp_rules.specs.Finding.{AreDistinct, HaveOwnIds, IsLastUnpushed, holds_back, stands_committed, stands_first, stays_behind};
+ghost use Rattle.pp_rules.specs.Finding.{AreDistinct, HaveOwnIds, IsLastUnpushed, holds_back};
+ghost use Rattle.pp_rules.specs.Finding.{stands_committed, stands_first, stays_behind};
 
 use pp_core::{Item, Items, LocalEntry, Mark, Name, OutOfMemory, SharedEntry};
 use pp_local::Local;

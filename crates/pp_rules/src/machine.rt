@@ -1,5 +1,6 @@
 //! The machine, what contracts see of it, and which file does which step.
-ghost use Rattle.std.specs.Prelude.{◌≡◌, ◌+◌, ◌<◌, ◌≤◌, IfOk, IsOk, None, is_some, option_map, length};
+ghost use Rattle.std.specs.Prelude.{◌≡◌, ◌+◌, ◌<◌, ◌≤◌, IfOk, IsOk, None, is_some, option_map};
+ghost use Rattle.std.specs.Prelude.{length};
 ghost use Rattle.std.specs.Option.{option_copied};
 ghost use Rattle.pp_model.specs.AsWritten.{AsWritten};
 ghost use Rattle.pp_model.specs.Config.{first, tx as open_tx};
@@ -125,8 +126,7 @@ impl<S: Placed> Machine<S> {
     }
 
     /// The committed transactions, in commit order. Their operations, joined, are allowed, may be
-    /// put
-    /// for the committed entries of the shared log, and lead to the state of those.
+    /// put for the committed entries of the shared log, and lead to the state of those.
     pub fn committed(&self) -> &Committed<S::Op>
         ensures done { result.now ≡ self.now.config.done }
         ensures allowed { IsAllowed S.object self.now.shape (serial_ops self.now.config.done) }
@@ -138,8 +138,7 @@ impl<S: Placed> Machine<S> {
     }
 
     /// Does a step where each of its criteria holds, and else gives the machine back as it was. The
-    /// only error is that memory
-    /// was refused, and the machine is then lost.
+    /// only error is that memory was refused, and the machine is then lost.
     pub fn step<L: Ledger>(
         self,
         step: &Step<S::Op>,

@@ -1,5 +1,6 @@
 //! The transactions of a run.
-ghost use Rattle.std.specs.Prelude.{◌≡◌, ◌≢◌, ◌+◌, ◌≤◌, IsSome, OnOk, OnErr, IfOk, IfSome, None, Some, [], ◌∷◌, ◌++◌, false, option_map, slice_get};
+ghost use Rattle.std.specs.Prelude.{◌≡◌, ◌≢◌, ◌+◌, ◌≤◌, IsSome, OnOk, OnErr, IfOk, IfSome, None};
+ghost use Rattle.std.specs.Prelude.{Some, [], ◌∷◌, ◌++◌, false, option_map, slice_get};
 ghost use Rattle.std.specs.Map.{lookup};
 ghost use Rattle.std.specs.Option.{option_copied};
 ghost use Rattle.std.specs.Str.{bytes_eq};
@@ -9,7 +10,9 @@ ghost use Rattle.pp_model.specs.Config.{set_mark};
 ghost use Rattle.pp_core.specs.Trees.{IsWithinLimits, tree};
 ghost use Rattle.pp_rules.specs.Removals.{answer_of};
 ghost use Rattle.pp_rules.specs.Courses.{FollowsIfOwn};
-ghost use Rattle.pp_rules.specs.Transactions.{Open, course_of, is_begun, is_busy, open_at, open_of, with_open, without_open, with_log, CostsAt, CostsIn, HasOwn, MayLeave, RemovesAt, RemovesIn, Takes};
+ghost use Rattle.pp_rules.specs.Transactions.{Open, course_of, is_begun, is_busy, open_at, open_of};
+ghost use Rattle.pp_rules.specs.Transactions.{with_open, without_open, with_log, CostsAt, CostsIn};
+ghost use Rattle.pp_rules.specs.Transactions.{HasOwn, MayLeave, RemovesAt, RemovesIn, Takes};
 
 use crate::course::Course;
 use indexmap::{IndexMap, IndexSet};
@@ -270,8 +273,7 @@ impl<S: Placed> Transactions<S> {
     }
 
     /// Takes an entry out of a local log, unless the list without it is not allowed. The only error
-    /// is that memory was
-    /// refused, and the transactions are then lost.
+    /// is that memory was refused, and the transactions are then lost.
     pub fn remove<L: Ledger>(
         self,
         tx: &Name,

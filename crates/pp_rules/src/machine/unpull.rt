@@ -14,8 +14,7 @@ use std::sync::ledger::Ledger;
 
 impl<S: Placed> Machine<S> {
     /// Where the entry stands that UNPULL takes out, or the refusal by its first false criterion.
-    /// The last criterion, that the
-    /// local log is allowed without the entry, is not asked here.
+    /// The last criterion, that the local log is allowed without the entry, is not asked here.
     fn judge_unpull(&self, tx: &Name, id: u32) -> Result<usize, Refusal<S::Op>>
         ensures { JudgesUnpull S.object self.now tx.now id result }
     {

@@ -5,7 +5,8 @@ use Rattle.pp_rules.specs.Courses.{MayFollow}
 use Rattle.pp_rules.specs.declared.detail.Detail.TheVariants.{Gives}
 use Rattle.pp_rules.proofs.Finding.{decided, decided_not}
 use Rattle.pp_rules.proofs.Judging.{app_1, app_2, app_3, app_4, app_0}
-use Rattle.pp_rules.proofs.Opened.{allowed_here, allowed_there, coursed, uncoursed, used_in, not_used}
+use Rattle.pp_rules.proofs.Opened.{allowed_here, allowed_there, coursed, uncoursed, used_in}
+use Rattle.pp_rules.proofs.Opened.{not_used}
 use Rattle.pp_rules.proofs.machine.Machine.judge_app.Goals as goal
 
 pub returns-in_default : goal.returns-in_default

@@ -5,10 +5,12 @@ use Rattle.pp_model.specs.Config.{local_ops}
 use Rattle.pp_rules.specs.declared.detail.Detail.TheVariants.{Gives}
 use Rattle.pp_model.proofs.Logs.{found_other}
 use Rattle.pp_spec.specs.Object.{IsAllowed}
-use Rattle.pp_rules.proofs.Finding.{a_place, decided, decided_not, no_place, place_in, not_placed, read_found}
+use Rattle.pp_rules.proofs.Finding.{a_place, decided, decided_not, no_place, place_in, not_placed}
+use Rattle.pp_rules.proofs.Finding.{read_found}
 use Rattle.pp_rules.proofs.Judged.{of_other_is}
 use Rattle.pp_rules.proofs.Judging.{pull_1, pull_2, pull_3, pull_4, pull_5, pull_0}
-use Rattle.pp_rules.proofs.Opened.{fits_local, fits_shared, logged, ranged_local, ranged_shared, unlogged}
+use Rattle.pp_rules.proofs.Opened.{fits_local, fits_shared, logged, ranged_local, ranged_shared}
+use Rattle.pp_rules.proofs.Opened.{unlogged}
 use Rattle.pp_rules.proofs.Swapping.{before_shown, own_before, not_before}
 use Rattle.pp_rules.proofs.machine.Machine.judge_pull.Goals as goal
 

@@ -1,4 +1,5 @@
-use Rattle.std.proofs.Common.{◌∙◌, ◌++◌, ◌∷◌, [], arith, ◌<◌, ◌≤◌, take, length, slice_get, sym, ap, subst, refl, IsTrue}
+use Rattle.std.proofs.Common.{◌∙◌, ◌++◌, ◌∷◌, [], arith, ◌<◌, ◌≤◌, take, length, slice_get, sym, ap}
+use Rattle.std.proofs.Common.{subst, refl, IsTrue}
 use Rattle.std.proofs.lemmas.List.{length-take-le}
 use Rattle.pp_log.specs.Logs.{answer_behind}
 use Rattle.pp_model.specs.Config.{shared_ops}
@@ -6,10 +7,12 @@ use Rattle.pp_rules.specs.declared.detail.Detail.TheVariants.{Gives, Nothing}
 use Rattle.pp_model.proofs.Lists.{before_in_first}
 use Rattle.pp_rules.specs.Evidence.{swap_or}
 use Rattle.pp_spec.specs.Object.{IsAllowed}
-use Rattle.pp_rules.proofs.Finding.{decided, decided_not, read_found, read_there, slice_in, slice_within}
+use Rattle.pp_rules.proofs.Finding.{decided, decided_not, read_found, read_there, slice_in}
+use Rattle.pp_rules.proofs.Finding.{slice_within}
 use Rattle.pp_rules.proofs.Judged.{is_at}
 use Rattle.pp_rules.proofs.Judging.{push_1, push_2, push_3, push_4, push_5, push_0}
-use Rattle.pp_rules.proofs.Opened.{distinct, fits_local, fits_shared, logged, ranged_local, ranged_shared, unlogged}
+use Rattle.pp_rules.proofs.Opened.{distinct, fits_local, fits_shared, logged, ranged_local}
+use Rattle.pp_rules.proofs.Opened.{ranged_shared, unlogged}
 use Rattle.pp_rules.proofs.Swapping.{blocking_shown, own_swap, own_not, own_shown}
 use Rattle.pp_rules.proofs.machine.Machine.judge_push.Goals as goal
 

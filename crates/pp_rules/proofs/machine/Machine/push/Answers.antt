@@ -1,6 +1,7 @@
 use Rattle.std.proofs.Common.{refl}
 use Rattle.pp_rules.proofs.Judged.{entry_at}
-use Rattle.pp_rules.proofs.Keeping.{entry_ranged, holds_push, owns, push_allowed, push_new, seen_push, unpushed_own}
+use Rattle.pp_rules.proofs.Keeping.{entry_ranged, holds_push, owns, push_allowed, push_new}
+use Rattle.pp_rules.proofs.Keeping.{seen_push, unpushed_own}
 use Rattle.pp_rules.proofs.machine.Machine.push.Goals as goal
 
 pub returns-in-Err-clause-effect : goal.returns-in-Err-clause-effect

@@ -3,7 +3,8 @@ use Rattle.std.proofs.lemmas.Result.{err_from_is_err_and}
 use Rattle.pp_rules.specs.Costs.{Costs}
 use Rattle.pp_model.specs.Config.{Unapp}
 use Rattle.pp_rules.proofs.Keeping.{holds_unapp, seen_unapp}
-use Rattle.pp_rules.proofs.Undoing.{last_of, unapp_bound, unapp_cost, unapp_most, unapp_leaves, unapplied}
+use Rattle.pp_rules.proofs.Undoing.{last_of, unapp_bound, unapp_cost, unapp_most, unapp_leaves}
+use Rattle.pp_rules.proofs.Undoing.{unapplied}
 use Rattle.pp_rules.proofs.machine.Machine.unapp.Goals as goal
 
 pub returns-in-Err-clause-effect : goal.returns-in-Err-clause-effect

@@ -3,8 +3,10 @@ use Rattle.std.proofs.lemmas.Result.{err_from_is_err_and}
 use Rattle.pp_rules.specs.Costs.{Costs}
 use Rattle.pp_model.specs.Config.{Unpull}
 use Rattle.pp_rules.proofs.Judged.{entry_at}
-use Rattle.pp_rules.proofs.Keeping.{holds_same_txs, holds_unpull, seen_same_txs, seen_unpull, unpull_leaves}
-use Rattle.pp_rules.proofs.Undoing.{unpull_cost_differs, unpull_cost_done, unpull_cost_err, unpull_cost_more, unpull_differs, unpull_done}
+use Rattle.pp_rules.proofs.Keeping.{holds_same_txs, holds_unpull, seen_same_txs, seen_unpull}
+use Rattle.pp_rules.proofs.Keeping.{unpull_leaves}
+use Rattle.pp_rules.proofs.Undoing.{unpull_cost_differs, unpull_cost_done, unpull_cost_err}
+use Rattle.pp_rules.proofs.Undoing.{unpull_cost_more, unpull_differs, unpull_done}
 use Rattle.pp_rules.proofs.machine.Machine.unpull.Goals as goal
 
 pub returns-in-Err-clause-effect : goal.returns-in-Err-clause-effect

@@ -2,8 +2,11 @@ use Rattle.std.proofs.Common.{refl, subst, sym, arith}
 use Rattle.std.proofs.lemmas.Result.{err_from_is_err_and}
 use Rattle.pp_rules.specs.Costs.{Costs}
 use Rattle.pp_model.specs.Config.{Unpush}
-use Rattle.pp_rules.proofs.Keeping.{holds_same_shared, holds_unpush, owns, pushed_own, seen_same_shared, seen_unpush}
-use Rattle.pp_rules.proofs.Undoing.{posted_within, pushed_of, unmarked, unpush_cost_differs, unpush_cost_done, unpush_cost_err, unpush_cost_more, unpush_differs, unpush_done}
+use Rattle.pp_rules.proofs.Keeping.{holds_same_shared, holds_unpush, owns, pushed_own}
+use Rattle.pp_rules.proofs.Keeping.{seen_same_shared, seen_unpush}
+use Rattle.pp_rules.proofs.Undoing.{posted_within, pushed_of, unmarked, unpush_cost_differs}
+use Rattle.pp_rules.proofs.Undoing.{unpush_cost_done, unpush_cost_err, unpush_cost_more}
+use Rattle.pp_rules.proofs.Undoing.{unpush_differs, unpush_done}
 use Rattle.pp_rules.proofs.machine.Machine.unpush.Goals as goal
 
 pub returns-in-Err-clause-effect : goal.returns-in-Err-clause-effect

@@ -3,7 +3,8 @@ use Rattle.std.specs.Map.{set_value}
 use Rattle.std.specs.Str.{bytes_eq}
 use Rattle.pp_rules.specs.Transactions.{open_of}
 use Rattle.pp_rules.proofs.Finding.{mapped_some, mapped_none}
-use Rattle.pp_rules.proofs.Slots.{seen_never, seen_empty, kept_empty, seen_ended, kept_ended, same_gone}
+use Rattle.pp_rules.proofs.Slots.{seen_never, seen_empty, kept_empty, seen_ended, kept_ended}
+use Rattle.pp_rules.proofs.Slots.{same_gone}
 use Rattle.pp_rules.proofs.transactions.Transactions.end.Goals as goal
 
 pub returns-in_default : goal.returns-in_default

@@ -1,4 +1,5 @@
-use Rattle.std.proofs.Common.{◌≡◌, refl, sym, ap, ◌∙◌, subst, Some, IsSome, IfSome, option_map, slice_get}
+use Rattle.std.proofs.Common.{◌≡◌, refl, sym, ap, ◌∙◌, subst, Some, IsSome, IfSome, option_map}
+use Rattle.std.proofs.Common.{slice_get}
 use Rattle.std.specs.Map.{set_value}
 use Rattle.std.specs.Str.{bytes_eq}
 use Rattle.pp_model.specs.Config.{set_mark}
