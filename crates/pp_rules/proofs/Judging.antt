@@ -16,7 +16,7 @@ use Rattle.pp_log.specs.Logs.{answer_behind}
 use Rattle.pp_rules.specs.Courses.{MayFollow, own_calls}
 use Rattle.pp_rules.specs.Evidence.{entries_before, entries_behind, evidence, first_differing}
 use Rattle.pp_rules.specs.Evidence.{first_entry, first_swap, if_there, at_number}
-use Rattle.pp_rules.specs.Finding.{stands_committed}
+use Rattle.pp_rules.specs.Standing.{stands_committed}
 use Rattle.pp_rules.specs.Stepping.{Refuses}
 use Rattle.pp_rules.specs.declared.detail.Detail.{Detail}
 use Rattle.pp_rules.specs.declared.detail.Detail.TheVariants.{Nothing, Gives}

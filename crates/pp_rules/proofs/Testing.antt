@@ -9,7 +9,8 @@ use Rattle.pp_model.specs.Lists.{In}
 use Rattle.pp_model.proofs.Lists.{by_key}
 use Rattle.pp_model.proofs.Logs.{both_true, found, is_mark-true}
 use Rattle.pp_rules.specs.Evidence.{first_entry}
-use Rattle.pp_rules.specs.Finding.{HaveOwnIds, is_committed, stands_committed}
+use Rattle.pp_rules.specs.Finding.{HaveOwnIds}
+use Rattle.pp_rules.specs.Standing.{is_committed, stands_committed}
 use Rattle.pp_rules.specs.declared.detail.Detail.TheVariants.{Entry}
 use Rattle.pp_rules.proofs.Finding.{find_nowhere, place_found, place_none, some_same}
 use Rattle.pp_rules.proofs.Showing.{entry_shown, second_fails}

@@ -40,12 +40,3 @@ AreDistinct {Op} l = (e f : LocalEntry Op) → Before e f l → e.id ≢ f.id
 -- No two entries of the shared log have one id.
 abbrev pub HaveOwnIds : {Op : Type 0} → List (SharedEntry Op) → Type 0
 HaveOwnIds {Op} l = (g h : SharedEntry Op) → Before g h l → g.id ≢ h.id
-
--- whether the entry that was found is committed
-abbrev pub is_committed : {Op : Type 0} → Option (SharedEntry Op) → Bool
-is_committed None = false
-is_committed (Some g) = g.committed
-
--- whether the entry of this id stands committed
-abbrev pub stands_committed : {Op : Type 0} → ℕ → List (SharedEntry Op) → Bool
-stands_committed id l = is_committed (find (λ g. g.id == id) l)

@@ -5,5 +5,6 @@ pub mod Finding
 pub mod Machines
 pub mod Removals
 pub mod Shown
+pub mod Standing
 pub mod Stepping
 pub mod Transactions

@@ -5,7 +5,8 @@ ghost use Rattle.pp_model.specs.Config.{is_mark, is_own, last, own_items, at_mar
 ghost use Rattle.pp_core.specs.declared.entry.LocalEntry.{LocalEntry as EntryOf};
 ghost use Rattle.pp_model.specs.Rules.{IsLast};
 ghost use Rattle.pp_rules.specs.Finding.{AreDistinct, HaveOwnIds, IsLastUnpushed, holds_back};
-ghost use Rattle.pp_rules.specs.Finding.{stands_committed, stands_first, stays_behind};
+ghost use Rattle.pp_rules.specs.Finding.{stands_first, stays_behind};
+ghost use Rattle.pp_rules.specs.Standing.{stands_committed};
 
 use pp_core::{Item, Items, LocalEntry, Mark, Name, OutOfMemory, SharedEntry};
 use pp_local::Local;
