@@ -122,9 +122,9 @@ fn room(alloc: Global) -> Result<Vec<u8>, AllocError>
     vec![in alloc; 0u8; LONGEST_PIECE]
 }
 
-/// Reads a source to its end, or to the first fault, in pieces of at most 65,536 bytes. Each line is
-/// taken before the next read, the first of them by `taker`.
-pub(crate) fn read_lines<S: Source, T: TakesLines, L: Ledger>(
+/// Reads a source to its end, or to the first fault, in pieces of at most 65,536 bytes, and takes
+/// each line before the next read.
+pub fn read_lines<S: Source, T: TakesLines, L: Ledger>(
     alloc: Global,
     source: &mut S,
     taker: T,
