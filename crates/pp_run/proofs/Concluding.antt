@@ -1,7 +1,6 @@
 -- What an examination concludes.
 use Rattle.std.proofs.lemmas.Option.{same_Some}
-use Rattle.std.specs.Prelude.{◌≡◌, ℕ, zero, suc, ◌+◌, List, [], ◌∷◌, length, map, take, Option, None, Some}
-use Rattle.std.specs.Option.{option_or}
+use Rattle.std.specs.Prelude.{◌≡◌, ℕ, zero, suc, List, [], ◌∷◌, length, map, take, Option, None, Some}
 use Rattle.std.proofs.Common.{refl, sym, ap, ◌∙◌, subst}
 use Rattle.std.proofs.lemmas.List.{append-nil}
 use mathlib.Core.Logic.{inr}
@@ -30,32 +29,26 @@ use Rattle.pp_model.specs.Object.{Item, ops, state}
 use Rattle.pp_model.specs.Rules.{Accepted, Rejected, RunsFrom, StartMeets}
 use Rattle.pp_model.proofs.Alone.{alone_attempts, alone_law}
 use Rattle.pp_model.proofs.Verdict.{accepted_iff}
-use Rattle.pp_io.specs.Overruns.{overrun, scanned_lines}
-use Rattle.pp_io.proofs.Reading.{scanned_all}
 use Rattle.pp_model.specs.Serial.{Attempt, attempts, committed_tx, serial, Simulated}
 use Rattle.pp_model.specs.Sound.{serial_ops}
 use Rattle.pp_model.proofs.Simulate.{finished_are, simulated}
 use Rattle.pp_report.specs.Reports.{accepted_text, fault_text, rejected_text}
 use Rattle.pp_report.specs.declared.cause.Cause.{Cause}
-use Rattle.pp_report.specs.declared.cause.Cause.TheVariants.{NoHeader, TooManySteps}
+use Rattle.pp_report.specs.declared.cause.Cause.TheVariants.{TooManySteps}
 use Rattle.pp_rules.specs.Machines.{Seen}
 use Rattle.pp_spec.specs.Object.{state_after}
 use Rattle.pp_spec.proofs.Places.{tells_states}
 use Rattle.pp_run.specs.Objects.{object_of, setting_of, start_of, translation_of}
 use Rattle.pp_run.specs.Accepted.{HasRun, IsAloneAccepted, IsSimulated, RunsAlone}
-use Rattle.pp_run.specs.Certified.{IsDecided}
-use Rattle.pp_run.specs.Inputs.{IsFaultOf, limit_fault, no_header, scan}
+use Rattle.pp_run.specs.Inputs.{IsFaultOf, scan}
 use Rattle.pp_run.specs.Outputs.{IsCertified, IsOutput, IsRunTold, IsTold, RunReport}
 use Rattle.pp_run.specs.declared.words.Command.{Command}
 use Rattle.pp_run.specs.declared.words.Command.TheVariants.{Certify}
 use Rattle.pp_run.specs.declared.progress.Rejection.{Rejection}
-use Rattle.pp_run.specs.Examined.{Leads}
-use Rattle.pp_run.specs.Progresses.{Covers, IfFault, IsRejected, IsRunning, lines_of, standing_of}
+use Rattle.pp_run.specs.Progresses.{Covers, IsRejected, IsRunning, standing_of}
 use Rattle.pp_run.specs.declared.progress.Progress.{Progress}
-use Rattle.pp_run.specs.declared.progress.Stop.{Stop}
-use Rattle.pp_run.specs.declared.progress.Stop.TheVariants.{Fault}
 use Rattle.pp_run.proofs.Covering.{covers_few, covers_sound}
-use Rattle.pp_run.specs.Scans.{InputScan, Numbered, scan_lines}
+use Rattle.pp_run.specs.Scans.{InputScan}
 use Rattle.pp_run.specs.declared.progress.Tally.{Tally}
 
 entries_of : (as' : List (Attempt Op)) → map (λ d. d.entries) (map committed_tx as') ≡ map (λ a. a.items) as'
@@ -122,49 +115,11 @@ told_fault (Some header) line cause text is = (refl, is)
 pub fault_report : (bytes : List ℕ) (line : ℕ) (cause : Cause) (text : List ℕ) → IsFaultOf (scan bytes) (Some (line, cause)) → text ≡ fault_text line cause → IsCertified bytes statuses.InputFault text
 fault_report bytes line cause text faulty is = (Faulty line cause, (Some (line, cause), faulty, refl), told_fault (scan bytes).header line cause text is)
 
--- the report of a fault that stopped the examination
-pub stop_report : (bytes : List ℕ) (stop : Stop) (status : Status) (text : List ℕ) → IfFault stop (λ at cause. IsFaultOf (scan bytes) (Some (at, cause)))
-    → (status ≡ statuses.InputFault) × ((line : ℕ) × (cause : Cause) × (stop ≡ Fault line cause) × (text ≡ fault_text line cause)) → IsCertified bytes status text
-stop_report bytes stop status text faulty told =
-    let line = told.1.0 in
-    let cause = told.1.1 in
-    let said = subst (λ (s : Stop). IfFault s (λ at cause. IsFaultOf (scan bytes) (Some (at, cause)))) told.1.2 faulty in
-    subst (λ (s : Status). IsCertified bytes s text) (sym told.0) (fault_report bytes line cause text said told.1.3)
-
--- an input that was read to its end with no fault
-module _ (bytes : List ℕ) (none : overrun bytes ≡ None) (progress : Progress) (leads : Leads (scanned_lines bytes) progress) where
-  scan_fault : (h : Option (Lined Header)) → (scan_lines (scanned_lines bytes)).header ≡ h → (scan bytes).fault ≡ no_header bytes h
-  scan_fault h is =
-      ap (λ o. option_or o (option_or (limit_fault (overrun bytes)) (no_header bytes (scan_lines (scanned_lines bytes)).header))) (covers_sound (scan_lines (scanned_lines bytes)) progress leads.covers)
-      ∙ ap (λ o. option_or (limit_fault o) (no_header bytes (scan_lines (scanned_lines bytes)).header)) none ∙ ap (no_header bytes) is
-
-  fault_is : (o : Option (ℕ × Cause)) → (scan bytes).fault ≡ o → IsFaultOf (scan bytes) o
-  fault_is o is = inr (covers_few (scan_lines (scanned_lines bytes)) progress leads.covers, sym is)
-
-  pub no_header_fault : (scan_lines (scanned_lines bytes)).header ≡ None → IsFaultOf (scan bytes) (Some (lines_of progress + 1, NoHeader))
-  no_header_fault is =
-      fault_is (Some (lines_of progress + 1, NoHeader))
-      (scan_fault None is ∙ ap (λ k. Some (k + 1, NoHeader)) (ap (λ (ls : List Numbered). length ls) (sym (scanned_all bytes none)) ∙ sym leads.count))
-
-  pub run_report : (status : Status) (text : List ℕ) → IsRunTold (scan_lines (scanned_lines bytes)) status text → IsCertified bytes status text
-  run_report status text told = by (scan_lines (scanned_lines bytes)).header refl told.1
-    where
-      by : (h : Option (Lined Header)) → (scan_lines (scanned_lines bytes)).header ≡ h → IsRunReport setting_of h (scan_lines (scanned_lines bytes)).records told.0 → IsCertified bytes status text
-      by None is r = absurd r
-      by (Some header) is r = (told.0, (None, fault_is None (scan_fault (Some header) is), told.1), told.2)
-
--- the report of a verdict has its status
-decided_by : (o : Option (Lined Header)) (records : Records (RunRecord Op)) (report : RunReport) (status : Status) (text : List ℕ) → IsRunReport setting_of o records report → IsTold o report status text → IsDecided status
-decided_by None records report status text r t = absurd r
-decided_by (Some h) records report status text (run, Accepted, is, v, r) t =
-    let told = subst (λ (w : RunReport). IsTold (Some h) w status text) r t in subst IsDecided (sym told.0) tt
-decided_by (Some h) records report status text (run, Rejected zero n, is, v, r) t =
-    let told = subst (λ (w : RunReport). IsTold (Some h) w status text) r t in subst IsDecided (sym told.0) tt
-decided_by (Some h) records report status text (run, Rejected (suc i) n, is, v, r) t =
-    let told = subst (λ (w : RunReport). IsTold (Some h) w status text) r.2 t in subst IsDecided (sym told.0) tt
-
-pub decided : (sc : InputScan) (status : Status) (text : List ℕ) → IsRunTold sc status text → IsDecided status
-decided sc status text told = decided_by sc.header sc.records told.0 status text told.1 told.2
+-- the report of a run without a fault
+pub run_report : (bytes : List ℕ) (progress : Progress) (status : Status) (text : List ℕ) → Covers (scan bytes) progress → IsRunTold (scan bytes) status text → IsCertified bytes status text
+run_report bytes progress status text covers told =
+    let none : IsFaultOf (scan bytes) None = inr (covers_few (scan bytes) progress covers, sym (covers_sound (scan bytes) progress covers)) in
+    (told.0, (None, none, told.1), told.2)
 
 -- ---- an accepted input
 
@@ -249,16 +204,3 @@ one_certified bytes s s' t t' a b =
 pub one_output : (command : Option Command) (bytes : List ℕ) (s s' : Status) (t t' : List ℕ) → IsOutput command bytes s t → IsOutput command bytes s' t' → (s ≡ s') × (t ≡ t')
 one_output None bytes s s' t t' a b = (a.0 ∙ sym b.0, a.1 ∙ sym b.1)
 one_output (Some Certify) bytes s s' t t' a b = one_certified bytes s s' t t' a b
-
--- an input without a header
-pub stopped_report : (bytes : List ℕ) (progress : Progress) (stop : Stop) (status : Status) (text : List ℕ) → overrun bytes ≡ None → Leads (scanned_lines bytes) progress
-    → IfFault stop (λ at cause. (at ≡ lines_of progress + 1) × (cause ≡ NoHeader) × ((sc : InputScan) → Covers sc progress → sc.header ≡ None))
-    → (status ≡ statuses.InputFault) × ((line : ℕ) × (cause : Cause) × (stop ≡ Fault line cause) × (text ≡ fault_text line cause)) → IsCertified bytes status text
-stopped_report bytes progress stop status text none leads no_header fault =
-    let line = fault.1.0 in
-    let cause = fault.1.1 in
-    let said = subst (λ s. IfFault s (λ at cause. (at ≡ lines_of progress + 1) × (cause ≡ NoHeader) × ((sc : InputScan) → Covers sc progress → sc.header ≡ None))) fault.1.2 no_header in
-    let there = no_header_fault bytes none progress leads (said.2 (scan_lines (scanned_lines bytes)) leads.covers) in
-    let same : Some (lines_of progress + 1, NoHeader) ≡ Some (line, cause) = ap (λ k. Some (k, NoHeader)) (sym said.0) ∙ ap (λ k. Some (line, k)) (sym said.1) in
-    let faulty : IsFaultOf (scan bytes) (Some (line, cause)) = subst (IsFaultOf (scan bytes)) same there in
-    subst (λ s. IsCertified bytes s text) (sym fault.0) (fault_report bytes line cause text faulty fault.1.3)

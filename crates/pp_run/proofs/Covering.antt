@@ -8,6 +8,7 @@ use Rattle.std.proofs.Math.Seq.{get_or-append_seam}
 use mathlib.Core.Logic.{inl, inr}
 use Rattle.pp_core.specs.declared.answer.OutOfMemory.{OutOfMemory}
 use Rattle.pp_core.specs.declared.call.Kind.{Kind}
+use Rattle.pp_core.specs.declared.limits.TheConstants.{MOST_TRANSACTIONS}
 use Rattle.pp_core.specs.Steps.{Step, rule_of}
 use Rattle.pp_front.specs.Inputs.{OverrunsAt}
 use Rattle.pp_front.specs.Laws.{IsRejectedAt}
@@ -16,7 +17,7 @@ use Rattle.pp_front.specs.Runs.{Lined, LinedSteps, Records, joined_steps, outset
 use Rattle.pp_front.proofs.Reading.{reading_law}
 use Rattle.pp_object.specs.declared.act.Op.{Op}
 use Rattle.pp_object.specs.Objects.{kinds_of, objects}
-use Rattle.pp_io.specs.Lines.{blank}
+use Rattle.pp_io.specs.Lines.{NumberedLine, blank}
 use Rattle.pp_json.specs.declared.fault.RecordFault.{RecordFault}
 use Rattle.pp_json.specs.declared.header.Header.{Header}
 use Rattle.pp_json.specs.Headers.{header_of}
@@ -29,10 +30,10 @@ use Rattle.pp_rules.specs.Machines.{Seen, stepped}
 use Rattle.pp_spec.specs.Object.{rules_of}
 use Rattle.pp_run.specs.Inputs.{IsFaultOf}
 use Rattle.pp_run.specs.Objects.{object_of, setting_of, start_of, translation_of}
-use Rattle.pp_run.specs.Scans.{InputScan, Numbered, begins, is_begin, is_begin_record, nothing, scan_line, stopped, with_header, with_step}
-use Rattle.pp_run.specs.Progresses.{Covers, EndsAt, IsTallied, IsRefused, IsRejected, IsRunning, StepTaken, is_too_many, skipped, standing_of, with_line, with_record}
+use Rattle.pp_run.specs.Scans.{InputScan, begins, is_begin, is_begin_record, nothing, scan_line, with_fault, with_header, with_step}
+use Rattle.pp_run.specs.Progresses.{Covers, EndsAt, IsTallied, IsRefused, IsRejected, IsRunning, StepTaken, is_too_many, lines_of, with_blank, standing_of, with_line, with_record}
 use Rattle.pp_run.specs.declared.progress.Progress.{Progress}
-use Rattle.pp_run.specs.declared.progress.Progress.TheVariants.{Waiting, Running, Stopped}
+use Rattle.pp_run.specs.declared.progress.Progress.TheVariants.{Waiting, Running, Rejected}
 use Rattle.pp_run.specs.declared.progress.Rejection.{Rejection}
 use Rattle.pp_run.specs.declared.progress.Tally.{Tally}
 use Rattle.pp_run.proofs.Scanning.{faulty_at, scan_blank, scan_header, scan_record, step_taken, too_many}
@@ -56,18 +57,18 @@ few_begins sc tally f = omega (arith, f.begun, f.fewer, length_filter test_begin
 follows_line : (sc : InputScan) (tally : Tally) → IsTallied sc tally → IsTallied sc (with_line tally)
 follows_line sc tally f = record { at = f.at; header = f.header; sound = f.sound; begun = f.begun; fewer = omega (arith, f.fewer) }
 
-skip_covers : (sc : InputScan) (p : Progress) → Covers sc p → Covers sc (skipped p)
+skip_covers : (sc : InputScan) (p : Progress) → Covers sc p → Covers sc (with_blank p)
 skip_covers sc (Waiting lines) c = c
 skip_covers sc (Running tally machine) c = record { follows = follows_line sc tally c.follows; shape = c.shape; stands = c.stands; count = c.count }
-skip_covers sc (Stopped tally rejection) c = record { follows = follows_line sc tally c.follows; ends = c.ends }
+skip_covers sc (Rejected tally rejection) c = record { follows = follows_line sc tally c.follows; ends = c.ends }
 
 pub covers_sound : (sc : InputScan) (p : Progress) → Covers sc p → sc.fault ≡ None
 covers_sound sc (Waiting lines) c = ap (λ (s : InputScan). s.fault) c
 covers_sound sc (Running tally machine) c = c.follows.sound
-covers_sound sc (Stopped tally rejection) c = c.follows.sound
+covers_sound sc (Rejected tally rejection) c = c.follows.sound
 
-pub cover_blank : (sc : InputScan) (line : Numbered) (p : Progress) → blank line.1 ≡ true → Covers sc p → Covers (scan_line sc line) (skipped p)
-cover_blank sc line p is c = subst (λ (s : InputScan). Covers s (skipped p)) (sym (scan_blank sc line (covers_sound sc p c) is)) (skip_covers sc p c)
+pub cover_blank : (sc : InputScan) (line : NumberedLine) (p : Progress) → blank line.1 ≡ true → Covers sc p → Covers (scan_line sc line) (with_blank p)
+cover_blank sc line p is c = subst (λ (s : InputScan). Covers s (with_blank p)) (sym (scan_blank sc line (covers_sound sc p c) is)) (skip_covers sc p c)
 
 -- ---- no step too many
 
@@ -81,7 +82,7 @@ covers_few sc (Running tally machine) c line over =
     let h = tally.header in
     few_of tally sc.header c.follows.at sc.records c.follows.header
     ((reading_law (object_of h) (translation_of h)).end (start_of h) sc.records (standing_of tally machine) machine.count c.stands).2 line over
-covers_few sc (Stopped tally rejection) c line over =
+covers_few sc (Rejected tally rejection) c line over =
     let h = tally.header in
     let rejected = subst (λ (w : Records (RunRecord Op)). IsRejectedAt (object_of h) (translation_of h) (start_of h) w c.ends.run (suc c.ends.place) c.ends.criterion) (append-nil sc.records) (c.ends.stays []) in
     few_of tally sc.header c.follows.at sc.records c.follows.header rejected.few line over
@@ -92,7 +93,7 @@ cover_fault sc p x c = inr (covers_few sc p c, refl)
 
 -- ---- the header
 
-pub cover_header : (sc : InputScan) (line : Numbered) (header : Header) → sc ≡ nothing → blank line.1 ≡ false → 0 < line.0 → header_of line.1 ≡ Ok header
+pub cover_header : (sc : InputScan) (line : NumberedLine) (header : Header) → sc ≡ nothing → blank line.1 ≡ false → 0 < line.0 → header_of line.1 ≡ Ok header
     → Covers (scan_line sc line) (Running (record { header = header; lines = line.0; begins = 0 }) (record { shape = kinds_of header.catalog; config = first (start_of header); count = 0 }))
 cover_header sc line header none other positive read =
     let tally : Tally = record { header = header; lines = line.0; begins = 0 } in
@@ -105,18 +106,18 @@ cover_header sc line header none other positive read =
     } in
     subst (λ (s : InputScan). Covers s (Running tally machine)) (sym (ap (λ (s : InputScan). scan_line s line) none ∙ scan_header nothing line (Ok header) refl refl other read)) running
 
-pub cover_header_fault : (sc : InputScan) (line : Numbered) (lines : ℕ) (fault : RecordFault) (cause : Cause) → sc ≡ nothing → blank line.1 ≡ false → header_of line.1 ≡ Err fault → cause_of fault ≡ Ok cause
+pub cover_header_fault : (sc : InputScan) (line : NumberedLine) (lines : ℕ) (fault : RecordFault) (cause : Cause) → sc ≡ nothing → blank line.1 ≡ false → header_of line.1 ≡ Err fault → cause_of fault ≡ Ok cause
     → IsFaultOf (scan_line sc line) (Some (line.0, cause))
 cover_header_fault sc line lines fault cause none other read caused =
     let is : scan_line sc line ≡ faulty_at nothing (line.0, cause) =
-    ap (λ (s : InputScan). scan_line s line) none ∙ scan_header nothing line (Err fault) refl refl other read ∙ ap (λ (r : Result Cause OutOfMemory). stopped nothing line.0 r) caused in
+    ap (λ (s : InputScan). scan_line s line) none ∙ scan_header nothing line (Err fault) refl refl other read ∙ ap (λ (r : Result Cause OutOfMemory). with_fault nothing line.0 r) caused in
     subst (λ (s : InputScan). IsFaultOf s (Some (line.0, cause))) (sym is) (cover_fault nothing (Waiting lines) (line.0, cause) refl)
 
 -- ---- a record
 
-module _ (sc : InputScan) (tally : Tally) (f : IsTallied sc tally) (line : Numbered) (other : blank line.1 ≡ false) where
-  test_same : (step : Step Op) (b : Bool) → is_too_many tally step ≡ b → (is_begin step && begins sc.records == 20_000) ≡ b
-  test_same step b test = ap (λ (n : ℕ). is_begin step && n == 20_000) (sym f.begun) ∙ test
+module _ (sc : InputScan) (tally : Tally) (f : IsTallied sc tally) (line : NumberedLine) (other : blank line.1 ≡ false) where
+  test_same : (step : Step Op) (b : Bool) → is_too_many tally step ≡ b → (is_begin step && begins sc.records == MOST_TRANSACTIONS) ≡ b
+  test_same step b test = ap (λ (n : ℕ). is_begin step && n == MOST_TRANSACTIONS) (sym f.begun) ∙ test
 
   pub scan_step : (step : Step Op) → record_of tally.header line.1 ≡ Ok step → is_too_many tally step ≡ false → scan_line sc line ≡ with_step sc line.0 step
   scan_step step read few = scan_record sc (record { line = f.at; what = tally.header }) line (Ok step) f.sound f.header other read ∙ step_taken sc line.0 step (test_same step false few)
@@ -148,7 +149,7 @@ module _ (sc : InputScan) (tally : Tally) (f : IsTallied sc tally) (line : Numbe
   }
 
 -- a record that is refused
-pub cover_refused : (sc : InputScan) (tally : Tally) (p : Progress) (line : Numbered) (r : Result (Step Op) RecordFault) (cause : Cause) → Covers sc p → IsTallied sc tally → blank line.1 ≡ false
+pub cover_refused : (sc : InputScan) (tally : Tally) (p : Progress) (line : NumberedLine) (r : Result (Step Op) RecordFault) (cause : Cause) → Covers sc p → IsTallied sc tally → blank line.1 ≡ false
     → record_of tally.header line.1 ≡ r → IsRefused tally r cause → IsFaultOf (scan_line sc line) (Some (line.0, cause))
 cover_refused sc tally p line r cause c f other read refused =
     subst (λ (s : InputScan). IsFaultOf s (Some (line.0, cause))) (sym (record_fault sc tally f line other r cause read refused)) (cover_fault sc p (line.0, cause) c)
@@ -189,7 +190,7 @@ ends_now sc tally machine line step n c few fails =
           (subst (λ (k : ℕ). IsRejectedAt (object_of h) (translation_of h) (start_of h) (sc.records ++ on_record line step ∷ more) run k n) named law);
     }
 
-pub cover_step : (sc : InputScan) (tally : Tally) (machine : Seen (List Kind) Op) (line : Numbered) (step : Step Op) (next : Progress) → IsRunning sc tally machine → length sc.records < 200_000 → blank line.1 ≡ false
+pub cover_step : (sc : InputScan) (tally : Tally) (machine : Seen (List Kind) Op) (line : NumberedLine) (step : Step Op) (next : Progress) → IsRunning sc tally machine → length sc.records < 200_000 → blank line.1 ≡ false
     → record_of tally.header line.1 ≡ Ok step → is_too_many tally step ≡ false → StepTaken (with_record tally step) machine step line.0 next → Covers (scan_line sc line) next
 cover_step sc tally machine line step next c few other read begun (inl done) =
     let h = tally.header in
@@ -212,9 +213,9 @@ cover_step sc tally machine line step next c few other read begun (inr (suc n, p
     subst (λ (p : Progress). Covers (scan_line sc line) p) (sym is)
     (subst (λ (s : InputScan). IsRejected s (with_record tally step) rejection) (sym (scan_step sc tally c.follows line other step read begun)) rejected)
 
-pub cover_stopped : (sc : InputScan) (tally : Tally) (rejection : Rejection) (line : Numbered) (step : Step Op) → IsRejected sc tally rejection → blank line.1 ≡ false
-    → record_of tally.header line.1 ≡ Ok step → is_too_many tally step ≡ false → Covers (scan_line sc line) (Stopped (with_record tally step) rejection)
-cover_stopped sc tally rejection line step c other read few =
+pub cover_rejected : (sc : InputScan) (tally : Tally) (rejection : Rejection) (line : NumberedLine) (step : Step Op) → IsRejected sc tally rejection → blank line.1 ≡ false
+    → record_of tally.header line.1 ≡ Ok step → is_too_many tally step ≡ false → Covers (scan_line sc line) (Rejected (with_record tally step) rejection)
+cover_rejected sc tally rejection line step c other read few =
     let h = tally.header in
     let e = c.ends in
     let rejected : IsRejected (with_step sc line.0 step) (with_record tally step) rejection = record {
@@ -232,3 +233,14 @@ cover_stopped sc tally rejection line step c other read few =
       };
     } in
     subst (λ (s : InputScan). IsRejected s (with_record tally step) rejection) (sym (scan_step sc tally c.follows line other step read few)) rejected
+
+-- ---- how many lines were taken
+
+pub blank_lines : (p : Progress) → lines_of (with_blank p) ≡ lines_of p + 1
+blank_lines (Waiting lines) = refl
+blank_lines (Running tally machine) = refl
+blank_lines (Rejected tally rejection) = refl
+
+pub step_lines : (tally : Tally) (machine : Seen (List Kind) Op) (step : Step Op) (line : ℕ) (next : Progress) → StepTaken tally machine step line next → lines_of next ≡ tally.lines
+step_lines tally machine step line next (inl done) = ap lines_of done.1
+step_lines tally machine step line next (inr (n, positive, fails, is)) = ap lines_of is

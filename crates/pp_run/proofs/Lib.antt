@@ -1,8 +1,9 @@
 pub mod Scanning
 pub mod Widening
 pub mod Covering
+pub mod Takers
 pub mod Examining
 pub mod Fitting
 pub mod Naming
 pub mod Concluding
-pub mod Sent
+pub mod Sending

@@ -4,12 +4,13 @@ use Rattle.std.specs.Option.{option_or}
 use Rattle.std.proofs.Common.{refl, sym, ap, subst, ◌∙◌, append_assoc}
 use Rattle.std.proofs.lemmas.List.{append-nil}
 use Rattle.pp_core.specs.declared.answer.OutOfMemory.{OutOfMemory}
+use Rattle.pp_core.specs.declared.limits.TheConstants.{MOST_TRANSACTIONS}
 use Rattle.pp_core.specs.Steps.{Step}
 use Rattle.pp_front.specs.Inputs.{Widens}
 use Rattle.pp_front.specs.Records.{RunRecord, Plain}
 use Rattle.pp_front.specs.Runs.{Lined, Records}
 use Rattle.pp_object.specs.declared.act.Op.{Op}
-use Rattle.pp_io.specs.Lines.{blank}
+use Rattle.pp_io.specs.Lines.{NumberedLine, blank}
 use Rattle.pp_json.specs.declared.header.Header.{Header}
 use Rattle.pp_json.specs.declared.fault.RecordFault.{RecordFault}
 use Rattle.pp_json.specs.Headers.{header_of}
@@ -18,7 +19,7 @@ use Rattle.pp_report.specs.declared.cause.Cause.{Cause}
 use Rattle.pp_report.specs.declared.cause.Cause.TheVariants.{TooManyTransactions}
 use Rattle.pp_run.specs.Causes.{cause_of}
 use Rattle.pp_run.specs.Inputs.{or_fault}
-use Rattle.pp_run.specs.Scans.{InputScan, Numbered, begins, is_begin, read_line, scan_line, scan_lines, stopped, with_header, with_record, with_step}
+use Rattle.pp_run.specs.Scans.{InputScan, begins, is_begin, read_line, scan_line, scan_lines, with_fault, with_header, with_record, with_step}
 use Rattle.pp_run.proofs.Scanning.{scan_append, skips}
 
 -- the second has the header of the first, if there is one, and its records before its own
@@ -33,9 +34,9 @@ extends_same sc wider header records =
       records = ([], records ∙ sym (append-nil sc.records));
     }
 
-extends_stopped : (sc : InputScan) (line : ℕ) (r : Result Cause OutOfMemory) → Extends sc (stopped sc line r)
-extends_stopped sc line (Ok cause) = extends_same sc (stopped sc line (Ok cause)) refl refl
-extends_stopped sc line (Err refused) = extends_same sc sc refl refl
+extends_fault : (sc : InputScan) (line : ℕ) (r : Result Cause OutOfMemory) → Extends sc (with_fault sc line r)
+extends_fault sc line (Ok cause) = extends_same sc (with_fault sc line (Ok cause)) refl refl
+extends_fault sc line (Err refused) = extends_same sc sc refl refl
 
 -- a header
 extends_header : (sc : InputScan) (line : ℕ) (r : Result Header RecordFault) → sc.header ≡ None → Extends sc (with_header sc line r)
@@ -44,26 +45,26 @@ extends_header sc line (Ok header) none =
       header = λ h is. absurd (let e : None ≡ Some h = sym none ∙ is in cc);
       records = ([], sym (append-nil sc.records));
     }
-extends_header sc line (Err fault) none = extends_stopped sc line (cause_of fault)
+extends_header sc line (Err fault) none = extends_fault sc line (cause_of fault)
 
 -- a record
 extends_record : (sc : InputScan) (line : ℕ) (r : Result (Step Op) RecordFault) → Extends sc (with_record sc line r)
-extends_record sc line (Err fault) = extends_stopped sc line (cause_of fault)
-extends_record sc line (Ok step) = by (is_begin step && begins sc.records == 20_000)
+extends_record sc line (Err fault) = extends_fault sc line (cause_of fault)
+extends_record sc line (Ok step) = by (is_begin step && begins sc.records == MOST_TRANSACTIONS)
   where
-    by : (b : Bool) → Extends sc (cond b (stopped sc line (Ok TooManyTransactions)) (with_step sc line step))
-    by true = extends_stopped sc line (Ok TooManyTransactions)
+    by : (b : Bool) → Extends sc (cond b (with_fault sc line (Ok TooManyTransactions)) (with_step sc line step))
+    by true = extends_fault sc line (Ok TooManyTransactions)
     by false =
         record {
           header = λ h is. is;
           records = (record { line = line; what = Plain step } ∷ [], refl);
         }
 
-extends_read : (sc : InputScan) (o : Option (Lined Header)) (line : Numbered) → sc.header ≡ o → Extends sc (read_line sc o line)
+extends_read : (sc : InputScan) (o : Option (Lined Header)) (line : NumberedLine) → sc.header ≡ o → Extends sc (read_line sc o line)
 extends_read sc None line is = extends_header sc line.0 (header_of line.1) is
 extends_read sc (Some header) line is = extends_record sc line.0 (record_of header.what line.1)
 
-extends_line : (sc : InputScan) (line : Numbered) → Extends sc (scan_line sc line)
+extends_line : (sc : InputScan) (line : NumberedLine) → Extends sc (scan_line sc line)
 extends_line sc line = by (is_some sc.fault || blank line.1)
   where
     by : (b : Bool) → Extends sc (cond b sc (read_line sc sc.header line))
@@ -80,17 +81,17 @@ extends_twice a b c x y =
       );
     }
 
-extends_lines : (sc : InputScan) (lines : List Numbered) → Extends sc (fold scan_line sc lines)
+extends_lines : (sc : InputScan) (lines : List NumberedLine) → Extends sc (fold scan_line sc lines)
 extends_lines sc [] = extends_same sc sc refl refl
 extends_lines sc (line ∷ lines) =
     extends_twice sc (scan_line sc line) (fold scan_line (scan_line sc line) lines) (extends_line sc line) (extends_lines (scan_line sc line) lines)
 
-stays : (sc : InputScan) (x : ℕ × Cause) (lines : List Numbered) → sc.fault ≡ Some x → fold scan_line sc lines ≡ sc
+stays : (sc : InputScan) (x : ℕ × Cause) (lines : List NumberedLine) → sc.fault ≡ Some x → fold scan_line sc lines ≡ sc
 stays sc x [] faulty = refl
 stays sc x (line ∷ lines) faulty = ap (λ (s : InputScan). fold scan_line s lines) (skips sc line x faulty) ∙ stays sc x lines faulty
 
 -- lines behind these
-pub widens_lines : (lines more : List Numbered) → Widens (scan_lines lines) (scan_lines (lines ++ more))
+pub widens_lines : (lines more : List NumberedLine) → Widens (scan_lines lines) (scan_lines (lines ++ more))
 widens_lines lines more =
     let e = extends_lines (scan_lines lines) more in
     let is : scan_lines (lines ++ more) ≡ fold scan_line (scan_lines lines) more = scan_append lines more in

@@ -6,6 +6,7 @@ pub mod Words
 pub mod Writing
 pub mod Outputs
 pub mod Progresses
-pub mod Examined
+pub mod Takers
+pub mod Findings
 pub mod Certified
 pub mod Accepted

@@ -1,11 +1,13 @@
 -- Proof machinery: where the examination of a run stands after some of its lines.
-use Rattle.std.specs.Prelude.{◌≡◌, ℕ, suc, ◌+◌, ◌<◌, Bool, true, ◌==◌, ◌&&◌, ◌⊎◌, List, ◌++◌, length, slice_get, if◌then◌else◌, None, Some, Result, Ok, Err}
+use Rattle.std.specs.Prelude.{◌≡◌, ℕ, suc, ◌+◌, ◌<◌, ◌≤◌, Bool, true, ◌==◌, ◌&&◌, ◌⊎◌, List, ◌++◌, length, slice_get, if◌then◌else◌, None, Some, Result, Ok, Err}
 use Rattle.pp_core.specs.declared.call.Kind.{Kind}
+use Rattle.pp_core.specs.declared.limits.TheConstants.{MOST_LINES, MOST_TRANSACTIONS}
 use Rattle.pp_core.specs.Steps.{Step, rule_of}
 use Rattle.pp_front.specs.Fronts.{Front, new_front}
 use Rattle.pp_front.specs.Laws.{IsRejectedAt, StandsAt}
 use Rattle.pp_front.specs.Records.{RunRecord}
 use Rattle.pp_front.specs.Runs.{LinedSteps, Records, Standing}
+use Rattle.pp_io.specs.Lines.{NumberedLine}
 use Rattle.pp_object.specs.declared.act.Op.{Op}
 use Rattle.pp_object.specs.Objects.{kinds_of, objects}
 use Rattle.pp_json.specs.declared.fault.RecordFault.{RecordFault}
@@ -17,19 +19,19 @@ use Rattle.pp_report.specs.declared.cause.Cause.TheVariants.{TooManyTransactions
 use Rattle.pp_rules.specs.Machines.{Seen, stepped}
 use Rattle.pp_spec.specs.Object.{rules_of}
 use Rattle.pp_run.specs.declared.progress.Progress.{Progress}
-use Rattle.pp_run.specs.declared.progress.Progress.TheVariants.{Waiting, Running, Stopped}
+use Rattle.pp_run.specs.declared.progress.Progress.TheVariants.{Waiting, Running, Rejected}
 use Rattle.pp_run.specs.declared.progress.Rejection.{Rejection}
 use Rattle.pp_run.specs.declared.progress.Tally.{Tally}
-use Rattle.pp_run.specs.declared.progress.Stop.{Stop}
-use Rattle.pp_run.specs.declared.progress.Stop.TheVariants.{Fault, OutOfMemory}
+use Rattle.pp_run.specs.Inputs.{IsFaultOf}
 use Rattle.pp_run.specs.Objects.{object_of, start_of, translation_of}
-use Rattle.pp_run.specs.Scans.{InputScan, nothing, begins, is_begin}
+use Rattle.pp_run.specs.Scans.{InputScan, nothing, begins, is_begin, scan_lines}
+use Rattle.pp_run.specs.Takers.{Reading}
 
 -- how many lines were taken
 abbrev pub lines_of : Progress → ℕ
 lines_of (Waiting lines) = lines
 lines_of (Running tally machine) = tally.lines
-lines_of (Stopped tally rejection) = tally.lines
+lines_of (Rejected tally rejection) = tally.lines
 
 -- one line more
 abbrev pub with_line : Tally → Tally
@@ -43,10 +45,10 @@ with_record tally step = record tally {
 }
 
 -- one blank line more
-abbrev pub skipped : Progress → Progress
-skipped (Waiting lines) = Waiting (lines + 1)
-skipped (Running tally machine) = Running (with_line tally) machine
-skipped (Stopped tally rejection) = Stopped (with_line tally) rejection
+abbrev pub with_blank : Progress → Progress
+with_blank (Waiting lines) = Waiting (lines + 1)
+with_blank (Running tally machine) = Running (with_line tally) machine
+with_blank (Rejected tally rejection) = Rejected (with_line tally) rejection
 
 -- the lines are a header and records, with no fault, and these are their counts
 pub record IsTallied (sc : InputScan) (tally : Tally) : Type 0 where
@@ -97,16 +99,24 @@ pub record IsRejected (sc : InputScan) (tally : Tally) (rejection : Rejection) :
 abbrev pub Covers : InputScan → Progress → Type 0
 Covers sc (Waiting lines) = sc ≡ nothing
 Covers sc (Running tally machine) = IsRunning sc tally machine
-Covers sc (Stopped tally rejection) = IsRejected sc tally rejection
+Covers sc (Rejected tally rejection) = IsRejected sc tally rejection
 
--- the fault, if it is one of the input
-abbrev pub IfFault : Stop → (ℕ → Cause → Type 0) → Type 0
-IfFault (Fault line cause) P = P line cause
-IfFault OutOfMemory P = Unit {0}
+-- these lines led to here
+pub record Leads (lines : List NumberedLine) (progress : Progress) : Type 0 where
+  pub covers : Covers (scan_lines lines) progress
+  pub count : lines_of progress ≡ length lines
+  pub few : lines_of progress ≤ MOST_LINES
+
+-- where the lines of a run lead to, and which fault they have
+abbrev pub run_reading : Reading Progress
+run_reading = record {
+  Leads = Leads;
+  HasFault = λ lines at cause. IsFaultOf (scan_lines lines) (Some (at, cause));
+}
 
 -- a record that may not begin another transaction
 abbrev pub is_too_many : Tally → Step Op → Bool
-is_too_many tally step = is_begin step && tally.begins == 20_000
+is_too_many tally step = is_begin step && tally.begins == MOST_TRANSACTIONS
 
 -- why a record is not taken: it can not be read, or it begins too many transactions
 abbrev pub IsRefused : Tally → Result (Step Op) RecordFault → Cause → Type 0
@@ -119,7 +129,7 @@ StepTaken tally machine step line next =
     (Meets (rules_of objects machine.shape) machine.config step
     × (next ≡ Running tally (stepped machine step)))
     ⊎ ((n : ℕ) × (0 < n) × Breaks (rules_of objects machine.shape) machine.config step n
-    × (next ≡ Stopped tally (record {
+    × (next ≡ Rejected tally (record {
       step = machine.count + 1;
       line = line;
       rule = rule_of step;

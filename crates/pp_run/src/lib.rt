@@ -7,7 +7,10 @@ mod examine;
 mod law;
 mod program;
 mod progress;
+mod read;
+mod stop;
 mod take;
+mod taker;
 mod words;
 mod write;
 

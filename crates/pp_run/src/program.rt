@@ -1,40 +1,23 @@
 //! The program but for its edge: from its words and its input to its status and what it writes.
-ghost use Rattle.std.specs.Prelude.{◌≡◌, ◌≤◌, ◌↔◌, ◌⊎◌, None, Some, OnOk, OnErr, IsErrOf};
-ghost use Rattle.std.specs.Io.KnownBytes.{Appends, IsAtEnd, Keeps};
+ghost use Rattle.std.specs.Prelude.{◌≡◌, ◌≤◌, ◌↔◌, ◌⊎◌, None, Some};
+ghost use Rattle.std.specs.Io.KnownBytes.{IsAtEnd, Keeps};
 ghost use Rattle.pp_core.specs.declared.status.Status.TheVariants as statuses;
 ghost use Rattle.pp_io.specs.Faults.{HasRisen};
 ghost use Rattle.pp_run.specs.declared.words.Command.TheVariants.{Certify};
-ghost use Rattle.pp_run.specs.declared.write.WriteError.TheVariants.{WriteFault};
 ghost use Rattle.pp_run.specs.Certified.{IsDecided, IsPrinted, IsUnwritten};
 ghost use Rattle.pp_run.specs.Inputs.{ReadsNoFault, scan};
 ghost use Rattle.pp_run.specs.Outputs.{Prints, PrintsPrefix, PrintsPrefixOnly, PrintsOnly, WhereTold};
 ghost use Rattle.pp_run.specs.Accepted.{IsAloneAccepted, IsSimulated};
 ghost use Rattle.pp_run.specs.Words.{command_of};
-ghost use Rattle.pp_run.specs.Writing.{AppendsPrefix};
 
-use crate::certify::{Failure, certify};
+use crate::certify::certify;
+use crate::stop::Failure;
 use crate::words::{Command, read_words};
-use crate::write::{WriteError, write_all};
+use crate::write::{WriteError, send};
 use pp_core::{Status, Ticks, Words};
-use pp_io::{Sink, SinkFault, Source};
+use pp_io::{Sink, Source};
 use std::alloc::Global;
 use std::sync::ledger::Ledger;
-
-/// Writes all of an output, and sends it on.
-fn send<K: Sink>(sink: &mut K, bytes: &[u8]) -> Result<(), WriteError>
-    ensures ok { OnOk result (Appends (K.held sink.old) (K.held sink.new) bytes.now) }
-    ensures err { OnErr result (AppendsPrefix (K.held sink.old) (K.held sink.new) bytes.now) }
-    ensures count { K.faults sink.old ≤ K.faults sink.new }
-    ensures write_fault { IsErrOf result WriteFault →
-        HasRisen (K.faults sink.old) (K.faults sink.new) }
-{
-    write_all(sink, bytes)?;
-    match sink.flush() {
-        Ok(()) => Ok(()),
-        Err(SinkFault::Failed) => Err(WriteError::WriteFault),
-        Err(SinkFault::OutOfMemory) => Err(WriteError::Memory),
-    }
-}
 
 /// Does a command: reads the source where the command has an input, and writes its output to the
 /// sink.
@@ -59,8 +42,9 @@ pub fn run<S: Source, K: Sink, L: Ledger>(
     ensures source_untouched { result ≡ statuses.BadWords → source.new ≡ source.old }
     ensures sink_untouched { result ≡ statuses.BadWords → sink.new ≡ sink.old }
 
-    // A verdict is given on the whole input.
-    ensures end { IsDecided result → IsAtEnd (S.left source.new) }
+    // A run is certified on the whole input: a source that tells its bytes has none left.
+    ensures end { command_of words.now ≡ Some Certify → IsDecided result →
+        IsAtEnd (S.left source.new) }
 
     // A failed read is told only where one failed, and no fault in what was read is hidden.
     ensures read_fault { result ≡ statuses.ReadFault →

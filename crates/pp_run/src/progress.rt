@@ -1,13 +1,8 @@
 //! Where the examination of a run stands after some of its lines.
-ghost use Rattle.std.specs.Prelude.{◌≡◌};
-ghost use Rattle.pp_run.specs.declared.progress.Stop.TheVariants.{OutOfMemory as NoMemory};
-
-use pp_core::{OutOfMemory, Rule};
+use pp_core::Rule;
 use pp_json::Header;
 use pp_object::Objects;
-use pp_report::Cause;
 use pp_rules::Machine;
-use std::alloc::AllocError;
 
 /// The header of a run, and how many of its lines, and of its begin records, were taken.
 #[derive(Drop)]
@@ -35,30 +30,5 @@ pub enum Progress {
     /// A header, and records whose steps meet their criteria.
     Running(Tally, Machine<Objects>),
     /// A header, and records of which one is rejected: those behind it are only read.
-    Stopped(Tally, Rejection),
-}
-
-/// Why an examination ends early.
-#[derive(Clone, Copy)]
-pub enum Stop {
-    /// The input has a fault on this line.
-    Fault(u32, Cause),
-    /// Memory was refused.
-    OutOfMemory,
-}
-
-impl From<OutOfMemory> for Stop {
-    ghost from_gives = { λ _ stop. stop ≡ NoMemory };
-
-    fn from(_refused: OutOfMemory) -> Stop {
-        Stop::OutOfMemory
-    }
-}
-
-impl From<AllocError> for Stop {
-    ghost from_gives = { λ _ stop. stop ≡ NoMemory };
-
-    fn from(_refused: AllocError) -> Stop {
-        Stop::OutOfMemory
-    }
+    Rejected(Tally, Rejection),
 }

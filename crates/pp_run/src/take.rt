@@ -1,11 +1,13 @@
 //! Taking the lines of a run, one after another.
 ghost use Rattle.std.specs.Prelude.{◌≡◌, ◌≤◌, ◌<◌, ◌+◌, false, ◌&&◌, ◌==◌, IfOk, IfErr, Some, None, Ok, Err};
-ghost use Rattle.pp_run.specs.declared.progress.Progress.TheVariants.{Running, Stopped};
-ghost use Rattle.pp_run.specs.declared.progress.Stop.TheVariants.{OutOfMemory as NoMemory};
-ghost use Rattle.pp_run.specs.Inputs.{IsFaultOf};
+ghost use Rattle.pp_run.specs.declared.progress.Progress.TheVariants.{Running, Rejected};
+ghost use Rattle.pp_run.specs.declared.stop.Failure.TheVariants as failures;
+ghost use Rattle.pp_run.specs.declared.stop.Stop.TheVariants as stops;
 ghost use Rattle.pp_run.specs.Objects.{start_of};
-ghost use Rattle.pp_run.specs.Scans.{InputScan, is_begin, scan_line};
-ghost use Rattle.pp_run.specs.Progresses.{Covers, IfFault, IsRefused, StepTaken, is_too_many, lines_of, skipped, with_line, with_record};
+ghost use Rattle.pp_run.specs.Scans.{is_begin};
+ghost use Rattle.pp_run.specs.Progresses.{IsRefused, StepTaken, is_too_many, lines_of, run_reading, with_blank, with_line, with_record};
+ghost use Rattle.pp_run.specs.Takers.{IfFault, IsNext, LeadsOn, StopsAt};
+ghost use Rattle.pp_core.specs.declared.limits.TheConstants.{MOST_LINES, MOST_STEPS};
 ghost use Rattle.pp_core.specs.Steps.{meaning, rule_of};
 ghost use Rattle.pp_io.specs.Lines.{blank};
 ghost use Rattle.pp_json.specs.Headers.{header_of};
@@ -17,7 +19,9 @@ ghost use Rattle.pp_object.specs.Objects.{kinds_of};
 ghost use Rattle.pp_run.specs.Causes.{cause_of};
 
 use crate::cause::cause_of;
-use crate::progress::{Progress, Rejection, Stop, Tally};
+use crate::progress::{Progress, Rejection, Tally};
+use crate::stop::{Failure, Stop};
+use crate::taker::TakesLines;
 use pp_core::{MOST_TRANSACTIONS, OutOfMemory, Step, Ticks, rule_of};
 use pp_io::{Line, is_blank};
 use pp_json::{RecordFault, read_header, read_record};
@@ -27,13 +31,13 @@ use pp_rules::{Machine, Outcome};
 use std::alloc::Global;
 use std::sync::ledger::Ledger;
 
-/// How an examination ends at a line that can not be read.
+/// The stop at a line that can not be read.
 fn stop_at(line: u32, fault: RecordFault) -> Stop
     ensures { IfFault result (λ at cause. (at ≡ line) × (cause_of fault ≡ Ok cause)) }
 {
     match cause_of(fault) {
         Ok(cause) => Stop::Fault(line, cause),
-        Err(OutOfMemory) => Stop::OutOfMemory,
+        Err(OutOfMemory) => Stop::Failure(Failure::OutOfMemory),
     }
 }
 
@@ -49,7 +53,7 @@ fn is_begin(step: &Step<Op>) -> bool
 
 /// One line more.
 fn with_line(mut tally: Tally) -> Tally
-    requires { tally.lines < 200_001 }
+    requires { tally.lines < MOST_LINES }
     ensures { result ≡ with_line tally }
 {
     tally.lines += 1;
@@ -58,7 +62,7 @@ fn with_line(mut tally: Tally) -> Tally
 
 /// One record more.
 fn with_record(mut tally: Tally, step: &Step<Op>) -> Tally
-    requires lines { tally.lines < 200_001 }
+    requires lines { tally.lines < MOST_LINES }
     requires begins { tally.begins < tally.lines }
     ensures { result ≡ with_record tally (meaning step.now) }
 {
@@ -70,14 +74,14 @@ fn with_record(mut tally: Tally, step: &Step<Op>) -> Tally
 }
 
 /// One blank line more.
-fn skip_line(progress: Progress) -> Progress
-    requires { lines_of progress < 200_001 }
-    ensures { result ≡ skipped progress }
+fn with_blank(progress: Progress) -> Progress
+    requires { lines_of progress < MOST_LINES }
+    ensures { result ≡ with_blank progress }
 {
     match progress {
         Progress::Waiting(lines) => Progress::Waiting(lines + 1),
         Progress::Running(tally, machine) => Progress::Running(with_line(tally), machine),
-        Progress::Stopped(tally, rejection) => Progress::Stopped(with_line(tally), rejection),
+        Progress::Rejected(tally, rejection) => Progress::Rejected(with_line(tally), rejection),
     }
 }
 
@@ -137,9 +141,9 @@ fn take_step<L: Ledger>(
 ) -> Result<Progress, Stop>
     requires shape { machine.shape ≡ kinds_of tally.header.catalog }
     requires readable { IsReadable tally.header.catalog (meaning step.now) }
-    requires few { machine.count < 200_000 }
+    requires few { machine.count < MOST_STEPS }
     ensures ok { IfOk result (λ next. StepTaken tally machine (meaning step.now) line next) }
-    ensures err { IfErr result (λ stop. stop ≡ NoMemory) }
+    ensures err { IfErr result (λ stop. stop ≡ stops.Failure failures.OutOfMemory) }
 {
     let number = machine.count() + 1;
     let (machine, outcome) = machine.step(step, ticks)?;
@@ -152,7 +156,7 @@ fn take_step<L: Ledger>(
                 rule: rule_of(step),
                 criterion,
             };
-            Ok(Progress::Stopped(tally, rejection))
+            Ok(Progress::Rejected(tally, rejection))
         }
     }
 }
@@ -165,16 +169,12 @@ fn take_record<L: Ledger>(
     line: &Line,
     ticks: &mut Ticks<L>,
 ) -> Result<Progress, Stop>
-    requires next { line.now.number ≡ tally.lines + 1 }
-    requires few { line.now.number ≤ 200_001 }
-    requires covers { (sc : InputScan) × Covers sc (Running tally machine) }
+    requires next { IsNext run_reading (Running tally machine) (line.now.number, line.now.text) }
     requires other { blank line.now.text ≡ false }
-    ensures lines { IfOk result (λ next. lines_of next ≡ line.now.number) }
-    ensures ok { IfOk result (λ next. (sc : InputScan) → Covers sc (Running tally machine) →
-        Covers (scan_line sc (line.now.number, line.now.text)) next) }
-    ensures fault { IfErr result (λ stop. IfFault stop (λ at cause. (sc : InputScan) →
-        Covers sc (Running tally machine) →
-        IsFaultOf (scan_line sc (line.now.number, line.now.text)) (Some (at, cause)))) }
+    ensures ok { IfOk result
+        (LeadsOn run_reading (Running tally machine) (line.now.number, line.now.text)) }
+    ensures stop { IfErr result
+        (StopsAt run_reading (Running tally machine) (line.now.number, line.now.text)) }
 {
     let step = read_step(alloc, &tally, line)?;
     take_step(
@@ -193,44 +193,35 @@ fn pass_record(
     rejection: Rejection,
     line: &Line,
 ) -> Result<Progress, Stop>
-    requires next { line.now.number ≡ tally.lines + 1 }
-    requires few { line.now.number ≤ 200_001 }
-    requires covers { (sc : InputScan) × Covers sc (Stopped tally rejection) }
+    requires next { IsNext run_reading (Rejected tally rejection) (line.now.number, line.now.text) }
     requires other { blank line.now.text ≡ false }
-    ensures lines { IfOk result (λ next. lines_of next ≡ line.now.number) }
-    ensures ok { IfOk result (λ next. (sc : InputScan) → Covers sc (Stopped tally rejection) →
-        Covers (scan_line sc (line.now.number, line.now.text)) next) }
-    ensures fault { IfErr result (λ stop. IfFault stop (λ at cause. (sc : InputScan) →
-        Covers sc (Stopped tally rejection) →
-        IsFaultOf (scan_line sc (line.now.number, line.now.text)) (Some (at, cause)))) }
+    ensures ok { IfOk result
+        (LeadsOn run_reading (Rejected tally rejection) (line.now.number, line.now.text)) }
+    ensures stop { IfErr result
+        (StopsAt run_reading (Rejected tally rejection) (line.now.number, line.now.text)) }
 {
     let step = read_step(alloc, &tally, line)?;
-    Ok(Progress::Stopped(with_record(tally, &step), rejection))
+    Ok(Progress::Rejected(with_record(tally, &step), rejection))
 }
 
-/// Takes the next line.
-pub fn take_line<L: Ledger>(
-    alloc: Global,
-    progress: Progress,
-    line: &Line,
-    ticks: &mut Ticks<L>,
-) -> Result<Progress, Stop>
-    requires next { line.now.number ≡ lines_of progress + 1 }
-    requires few { line.now.number ≤ 200_001 }
-    requires covers { (sc : InputScan) × Covers sc progress }
-    ensures lines { IfOk result (λ next. lines_of next ≡ line.now.number) }
-    ensures ok { IfOk result (λ next. (sc : InputScan) → Covers sc progress →
-        Covers (scan_line sc (line.now.number, line.now.text)) next) }
-    ensures fault { IfErr result (λ stop. IfFault stop (λ at cause. (sc : InputScan) →
-        Covers sc progress →
-        IsFaultOf (scan_line sc (line.now.number, line.now.text)) (Some (at, cause)))) }
-{
-    if is_blank(line.text.bytes()) {
-        return Ok(skip_line(progress));
-    }
-    match progress {
-        Progress::Waiting(_) => take_header(alloc, line),
-        Progress::Running(tally, machine) => take_record(alloc, tally, machine, line, ticks),
-        Progress::Stopped(tally, rejection) => pass_record(alloc, tally, rejection, line),
+impl TakesLines for Progress {
+    ghost use Rattle.pp_run.specs.Progresses.{run_reading};
+
+    ghost reading = { run_reading };
+
+    fn take<L: Ledger>(
+        self,
+        alloc: Global,
+        line: &Line,
+        ticks: &mut Ticks<L>,
+    ) -> Result<Progress, Stop> {
+        if is_blank(line.text.bytes()) {
+            return Ok(with_blank(self));
+        }
+        match self {
+            Progress::Waiting(_) => take_header(alloc, line),
+            Progress::Running(tally, machine) => take_record(alloc, tally, machine, line, ticks),
+            Progress::Rejected(tally, rejection) => pass_record(alloc, tally, rejection, line),
+        }
     }
 }

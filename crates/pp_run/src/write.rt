@@ -16,8 +16,9 @@ pub enum WriteError {
     WriteFault,
 }
 
-/// Writes all of these bytes. What was written when a write fails is a prefix of them.
-pub fn write_all<K: Sink>(sink: &mut K, bytes: &[u8]) -> Result<(), WriteError>
+/// Writes all of these bytes, and sends them on. What was written when a write fails is a prefix of
+/// them.
+pub fn send<K: Sink>(sink: &mut K, bytes: &[u8]) -> Result<(), WriteError>
     ensures ok { OnOk result (Appends (K.held sink.old) (K.held sink.new) bytes.now) }
     ensures err { OnErr result (AppendsPrefix (K.held sink.old) (K.held sink.new) bytes.now) }
     ensures count { K.faults sink.old ≤ K.faults sink.new }
@@ -33,5 +34,9 @@ pub fn write_all<K: Sink>(sink: &mut K, bytes: &[u8]) -> Result<(), WriteError>
             Err(SinkFault::OutOfMemory) => return Err(WriteError::Memory),
         }
     }
-    Ok(())
+    match sink.flush() {
+        Ok(()) => Ok(()),
+        Err(SinkFault::Failed) => Err(WriteError::WriteFault),
+        Err(SinkFault::OutOfMemory) => Err(WriteError::Memory),
+    }
 }

@@ -1,9 +1,9 @@
-use Rattle.std.proofs.Common.{◌≡◌, List, length, sym, ◌∙◌, ap, arith, rules}
+use Rattle.std.proofs.Common.{◌≡◌, List, length, sym, ◌∙◌, ap, arith}
+use Rattle.std.proofs.lemmas.Result.{IfOk-weaker}
 use Rattle.pp_core.specs.declared.entry.CommittedTx.{CommittedTx}
 use Rattle.pp_model.specs.Sound.{serial_ops}
 use Rattle.pp_object.specs.Objects.{kinds_of, objects}
 use Rattle.pp_object.specs.declared.act.Op.{Op}
-use Rattle.pp_report.specs.Reports.{accepted_text}
 use Rattle.pp_spec.specs.Object.{rules_of, state_after}
 use Rattle.pp_run.proofs.Concluding.{accepted_told}
 use Rattle.pp_run.proofs.Fitting.{serial_fits}
@@ -14,21 +14,21 @@ pub serial-requires-clause-allowed : goal.serial-requires-clause-allowed
 serial-requires-clause-allowed g c =
     let machine = c.args.machine.now in
     allowed_over c.in_ok-kinds.kinds machine.shape c.committed-committed.result.now machine.config.done
-    (c.requires.running.1.shape ∙ sym c.in_ok-kinds.ensures) c.committed-committed.ensures.done c.committed-committed.ensures.allowed
+    (c.requires.1.shape ∙ sym c.in_ok-kinds.ensures) c.committed-committed.ensures.done c.committed-committed.ensures.allowed
 
 pub serial-requires-clause-few : goal.serial-requires-clause-few
 serial-requires-clause-few g c =
-    let r = c.requires.running.1 in
+    let r = c.requires.1 in
     let machine = c.args.machine.now in
     let same : length (serial_ops c.committed-committed.result.now) ≡ length (serial_ops machine.config.done) = ap (λ (D : List (CommittedTx Op)). length (serial_ops D)) c.committed-committed.ensures.done in
-    omega (arith, same, serial_fits (rules_of objects machine.shape) machine.config c.count-count.ensures.sound, c.count-count.ensures.short, r.count, r.follows.fewer, c.requires.few)
+    omega (arith, same, serial_fits (rules_of objects machine.shape) machine.config c.count-count.ensures.sound, c.count-count.ensures.short, r.stands.few)
 
 pub accepted-requires-clause-named : goal.accepted-requires-clause-named
 accepted-requires-clause-named g c =
     let machine = c.args.machine.now in
     committed_named c.args.tally.now.header.catalog c.committed-committed.result.now
     (allowed_over (kinds_of c.args.tally.now.header.catalog) machine.shape c.committed-committed.result.now machine.config.done
-    c.requires.running.1.shape c.committed-committed.ensures.done c.committed-committed.ensures.allowed)
+    c.requires.1.shape c.committed-committed.ensures.done c.committed-committed.ensures.allowed)
 
 pub accepted-requires-clause-states : goal.accepted-requires-clause-states
 accepted-requires-clause-states g c =
@@ -36,13 +36,13 @@ accepted-requires-clause-states g c =
     let catalog = c.args.tally.now.header.catalog in
     let committed = c.committed-committed.result.now in
     states_named catalog committed c.in_ok-_list.states
-    (allowed_over (kinds_of catalog) machine.shape committed machine.config.done c.requires.running.1.shape c.committed-committed.ensures.done c.committed-committed.ensures.allowed)
+    (allowed_over (kinds_of catalog) machine.shape committed machine.config.done c.requires.1.shape c.committed-committed.ensures.done c.committed-committed.ensures.allowed)
     (c.in_ok-_list.ensures.state ∙ ap (λ k. state_after objects k (serial_ops committed)) c.in_ok-kinds.ensures)
 
 pub returns : goal.returns
-returns g c = λ sc r.
-    let catalog = c.args.tally.now.header.catalog in
+returns g c =
     let committed = c.committed-committed.result.now in
-    let text_is : c.in_ok-text.text ≡ accepted_text catalog c.count-count.result committed c.in_ok-_list.states = search rules in
-    accepted_told sc c.args.tally.now c.args.machine.now r c.count-count.result committed c.in_ok-_list.states c.in_ok-text.text c.count-count.ensures.count c.committed-committed.ensures.done
-    (c.in_ok-_list.ensures.state ∙ ap (λ k. state_after objects k (serial_ops committed)) c.in_ok-kinds.ensures) text_is
+    IfOk-weaker c.accepted.result _ _ (λ text text_is sc r.
+    accepted_told sc c.args.tally.now c.args.machine.now r c.count-count.result committed c.in_ok-_list.states text c.count-count.ensures.count c.committed-committed.ensures.done
+    (c.in_ok-_list.ensures.state ∙ ap (λ k. state_after objects k (serial_ops committed)) c.in_ok-kinds.ensures) text_is)
+    c.accepted.ensures

@@ -1,29 +1,38 @@
-use Rattle.std.proofs.Common.{ℕ, Some, refl, subst, sym}
+use Rattle.std.proofs.Common.{refl, subst, sym, ap, ◌∙◌}
 use Rattle.std.proofs.lemmas.Result.{err_from_is_err_and}
 use Rattle.pp_core.specs.Steps.{meaning}
-use Rattle.pp_run.specs.Inputs.{IsFaultOf}
-use Rattle.pp_run.specs.Progresses.{IsRejected}
-use Rattle.pp_run.specs.declared.progress.Progress.TheVariants.{Stopped}
-use Rattle.pp_run.specs.Scans.{Numbered, scan_line}
-use Rattle.pp_run.proofs.Covering.{cover_refused, cover_stopped, few_begins}
-use Rattle.pp_run.proofs.Examining.{if_fault}
+use Rattle.pp_json.specs.Records.{record_of}
+use Rattle.pp_io.specs.Lines.{NumberedLine}
+use Rattle.pp_run.specs.Progresses.{IsRefused, IsRejected}
+use Rattle.pp_run.specs.declared.progress.Progress.{Progress}
+use Rattle.pp_run.specs.declared.progress.Progress.TheVariants.{Rejected}
+use Rattle.pp_run.specs.Scans.{scan_line}
+use Rattle.pp_run.proofs.Covering.{cover_refused, cover_rejected, few_begins}
+use Rattle.pp_run.proofs.Examining.{leads_on, next_number, some_cover, stops_at}
 use Rattle.pp_run.proofs.take.pass_record.Goals as goal
 
 pub with_record-requires-clause-begins : goal.with_record-requires-clause-begins
-with_record-requires-clause-begins c = few_begins _ _ c.requires.covers.1.follows
+with_record-requires-clause-begins c =
+    let from : Progress = Rejected c.args.tally c.args.rejection in
+    let covers = some_cover from (c.args.line.now.number, c.args.line.now.text) c.requires.next in
+    few_begins _ _ covers.1.follows
 
 pub returns-clause-ok : goal.returns-clause-ok
-returns-clause-ok c = λ sc covers.
-    let line : Numbered = (c.args.line.now.number, c.args.line.now.text) in
+returns-clause-ok c =
+    let line : NumberedLine = (c.args.line.now.number, c.args.line.now.text) in
+    let from : Progress = Rejected c.args.tally c.args.rejection in
+    let to : Progress = Rejected c.with_record.result c.args.rejection in
+    leads_on from line c.requires.next to
+    (λ sc covers.
     subst (λ t. IsRejected (scan_line sc line) t c.args.rejection) (sym c.with_record.ensures)
-    (cover_stopped sc c.args.tally c.args.rejection line (meaning c.in_ok-step.step) covers c.requires.other c.in_ok-step.ensures.read c.in_ok-step.ensures.few)
+    (cover_rejected sc c.args.tally c.args.rejection line (meaning c.in_ok-step.step) covers c.requires.other c.in_ok-step.ensures.read c.in_ok-step.ensures.few))
+    (ap (λ t. t.lines) c.with_record.ensures ∙ sym (next_number from line c.requires.next))
 
-pub returns-in_err-step-clause-fault : goal.returns-in_err-step-clause-fault
-returns-in_err-step-clause-fault c =
-    let line : Numbered = (c.args.line.now.number, c.args.line.now.text) in
+pub returns-in_err-step-clause-stop : goal.returns-in_err-step-clause-stop
+returns-in_err-step-clause-stop c =
+    let line : NumberedLine = (c.args.line.now.number, c.args.line.now.text) in
+    let from : Progress = Rejected c.args.tally c.args.rejection in
     let p = err_from_is_err_and c.from_residual.result c.from_residual.ensures.1 in
-    rw (p.1, p.2) (if_fault c.in_err-step.field-0.0 _ _
-    (λ at cause refused sc covers.
-    subst (λ (n : ℕ). IsFaultOf (scan_line sc line) (Some (n, cause))) (sym refused.0)
-    (cover_refused sc c.args.tally (Stopped c.args.tally c.args.rejection) line _ cause covers covers.follows c.requires.other refl refused.1))
+    rw (p.1, p.2) (stops_at from line c.in_err-step.field-0.0 (IsRefused c.args.tally (record_of c.args.tally.header line.1))
+    (λ sc cause covers refused. cover_refused sc c.args.tally from line _ cause covers covers.follows c.requires.other refl refused)
     c.in_err-step.ensures.err)

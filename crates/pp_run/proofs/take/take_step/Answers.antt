@@ -2,7 +2,7 @@ use Rattle.std.proofs.Common.{◌+◌, inr, ap, subst, ◌∙◌}
 use Rattle.pp_core.specs.Steps.{meaning}
 use Rattle.pp_object.specs.Objects.{objects}
 use Rattle.pp_rules.specs.Stepping.{Stepped}
-use Rattle.pp_run.specs.declared.progress.Progress.TheVariants.{Stopped}
+use Rattle.pp_run.specs.declared.progress.Progress.TheVariants.{Rejected}
 use Rattle.pp_run.proofs.take.take_step.Goals as goal
 
 pub returns-in-False-clause-ok : goal.returns-in-False-clause-ok
@@ -14,6 +14,6 @@ returns-in-False-clause-ok g c =
       n,
       effect.1,
       effect.0,
-      ap (λ k. Stopped c.args.tally (record { step = k + 1; line = c.args.line; rule = c.rule_of.result; criterion = n })) c.count-number.ensures.count
-          ∙ ap (λ r. Stopped c.args.tally (record { step = c.args.machine.count + 1; line = c.args.line; rule = r; criterion = n })) c.rule_of.ensures,
+      ap (λ k. Rejected c.args.tally (record { step = k + 1; line = c.args.line; rule = c.rule_of.result; criterion = n })) c.count-number.ensures.count
+          ∙ ap (λ r. Rejected c.args.tally (record { step = c.args.machine.count + 1; line = c.args.line; rule = r; criterion = n })) c.rule_of.ensures,
     )

@@ -1,0 +1,191 @@
+-- Lines that come in pieces, taken one after another.
+use Rattle.std.specs.Prelude.{◌≡◌, ◌≤◌, ℕ, ◌+◌, List, [], ◌∷◌, ◌++◌, length, Option, None, Some, option_map, Result, Ok, Err, IfOk, IfErr, OnOk}
+use Rattle.std.specs.Io.KnownBytes.{Consumes, IsAtEnd}
+use Rattle.std.proofs.Common.{refl, sym, ap, ◌∙◌, subst, arith, append_assoc}
+use Rattle.std.proofs.lemmas.List.{append-nil}
+use mathlib.Core.Logic.{inl, inr}
+use Rattle.pp_core.specs.declared.limits.TheConstants.{MOST_LINES}
+use Rattle.pp_io.specs.declared.fault.LineFault.{LineFault}
+use Rattle.pp_io.specs.declared.reach.Reach.{Reach}
+use Rattle.pp_io.specs.Held.{Held, after_first, after_next, empty, fed, finished, first_of, next_line}
+use Rattle.pp_io.specs.Lines.{NumberedLine}
+use Rattle.pp_io.specs.Overruns.{early_lines, line_of, overrun, scanned_lines}
+use Rattle.pp_io.specs.Reaches.{overrun_from}
+use Rattle.pp_io.specs.Taken.{Hands}
+use Rattle.pp_io.proofs.Limits.{within_all}
+use Rattle.pp_io.proofs.Reading.{hands_all, hands_finished, hands_front, hands_next, overrun_kept, scanned_front, scanned_kept, took_bytes, took_empty, took_fed, took_overrun}
+use Rattle.pp_report.specs.declared.cause.Cause.{Cause}
+use Rattle.pp_run.specs.declared.stop.Failure.TheVariants.{OutOfMemory, ReadFault}
+use Rattle.pp_run.specs.declared.stop.Stop.{Stop}
+use Rattle.pp_run.specs.declared.stop.Stop.TheVariants as stops
+use Rattle.pp_run.specs.Inputs.{cause_of_limit, limit_fault}
+use Rattle.pp_run.specs.Takers.{Follows, HasEarlyFault, HasFaultBehind, HasInputFault, IfFault, IfInputFault, IsAt, IsNext, LeadsOn, PassesLimit, Reading, ReadsSoFar}
+
+-- ---- line by line
+
+number_at : (handed : ℕ) (whole : List (List ℕ)) (line : NumberedLine) → first_of handed whole ≡ Some line → line.0 ≡ handed + 1
+number_at handed [] line h = absurd (cc)
+number_at handed (x ∷ xs) line h = let e : (handed + 1, x) ≡ line = cc in ap (λ (l : NumberedLine). l.0) (sym e)
+
+module _ {T : Type 0} (R : Reading T) (all : List NumberedLine) (held : Held) (taker : T) (f : Follows R all held taker) where
+  -- the next line is the one behind those that were taken
+  pub follows_is_next : (line : NumberedLine) → next_line held ≡ Some line → line.0 ≤ MOST_LINES → IsNext R taker line
+  follows_is_next line h few = (f.0, f.2, omega (arith, number_at held.handed held.whole line h, f.1.handed), few)
+
+  -- it is taken
+  pub follows_next : (line : NumberedLine) (next : T) → next_line held ≡ Some line → LeadsOn R taker line next → Follows R all (after_next held) next
+  follows_next line next h on = (f.0 ++ line ∷ [], hands_next all f.0 line held f.1 h, on f.0 f.2)
+
+  -- it has a fault
+  pub follows_fault : (line : NumberedLine) (at : ℕ) (cause : Cause) → next_line held ≡ Some line → ((lines : List NumberedLine) → R.Leads lines taker → HasFaultBehind R (lines ++ line ∷ []) at cause) → HasFaultBehind R all at cause
+  follows_fault line at cause h faulty more =
+      let front = hands_front all f.0 line held f.1 h in
+      let is : all ++ more ≡ (f.0 ++ line ∷ []) ++ front.0 ++ more =
+      ap (λ (ls : List NumberedLine). ls ++ more) (front.1 ∙ sym (append_assoc f.0 (line ∷ []) front.0)) in
+      let apart : (f.0 ++ line ∷ []) ++ front.0 ++ more ≡ (f.0 ++ line ∷ []) ++ (front.0 ++ more) = append_assoc (f.0 ++ line ∷ []) front.0 more in
+      subst (λ (ls : List NumberedLine). R.HasFault ls at cause) (sym (is ∙ apart)) (faulty f.0 f.2 (front.0 ++ more))
+
+  -- there is none
+  pub follows_all : held.whole ≡ [] → f.0 ≡ all
+  follows_all none = hands_all all f.0 held f.1 (ap (first_of held.handed) none)
+
+  pub follows_done : held.whole ≡ [] → R.Leads all taker
+  follows_done none = subst (λ ls. R.Leads ls taker) (follows_all none) f.2
+
+-- ---- what was taken
+
+pub consumes_more : (a b c : Option (List ℕ)) (x y : List ℕ) → Consumes a b x → Consumes b c y → Consumes a c (x ++ y)
+consumes_more None b c x y h k = tt
+consumes_more (Some a) None c x y h k = absurd h
+consumes_more (Some a) (Some b) None x y h k = absurd k
+consumes_more (Some a) (Some b) (Some c) x y h k = h ∙ ap (λ zs. x ++ zs) k ∙ sym (append_assoc x y c)
+
+-- what was taken stands at the front of what was left
+pub consumed_front : (a b : Option (List ℕ)) (taken bytes : List ℕ) → Consumes a b taken → a ≡ Some bytes → (left : List ℕ) × (bytes ≡ taken ++ left)
+consumed_front None b taken bytes h is = absurd (cc)
+consumed_front (Some a) None taken bytes h is = absurd h
+consumed_front (Some a) (Some b) taken bytes h is = let e : a ≡ bytes = cc in (b, sym e ∙ h)
+
+-- what was taken is all
+pub taken_all : (a b : Option (List ℕ)) (taken bytes : List ℕ) → Consumes a b taken → IsAtEnd b → a ≡ Some bytes → taken ≡ bytes
+taken_all None b taken bytes h end is = absurd (cc)
+taken_all (Some a) None taken bytes h end is = absurd h
+taken_all (Some a) (Some b) taken bytes h end is = let e : a ≡ bytes = cc in sym (append-nil taken) ∙ ap (λ zs. taken ++ zs) (sym end) ∙ sym h ∙ e
+
+-- ---- piece by piece
+
+module _ {T : Type 0} (R : Reading T) where
+  pub at_start : (taker : T) → R.Leads [] taker → IsAt R [] empty taker
+  at_start taker leads = record { took = took_empty; sound = refl; leads = leads }
+
+  module _ (bytes piece : List ℕ) (held : Held) (taker : T) (at : IsAt R bytes held taker) where
+    -- a piece was fed
+    pub piece_follows : Follows R (early_lines (bytes ++ piece)) (fed held piece) taker
+    piece_follows = (early_lines bytes, (took_fed bytes piece (early_lines bytes) held at.took at.sound).hands, at.leads)
+
+    -- and each line that it ends was taken
+    pub piece_taken : (new : Held) (next : T) → overrun_from held.reach piece ≡ None → Follows R (early_lines (bytes ++ piece)) new next
+        → new.whole ≡ [] → new.rest ≡ (fed held piece).rest → new.reach ≡ (fed held piece).reach → new.fault ≡ (fed held piece).fault → new.closed ≡ (fed held piece).closed → IsAt R (bytes ++ piece) new next
+    piece_taken new next none follows whole rest reach fault closed =
+        let took = took_fed bytes piece (early_lines bytes) held at.took at.sound in
+        let all = follows_all R (early_lines (bytes ++ piece)) new next follows whole in
+        record {
+          took = record {
+            hands = subst (λ ls. Hands (early_lines (bytes ++ piece)) ls new) all follows.1;
+            rest = rest ∙ took.rest;
+            reach = reach ∙ took.reach;
+            fault = fault ∙ took.fault;
+            unclosed = closed ∙ took.unclosed;
+          };
+          sound = fault ∙ none;
+          leads = follows_done R (early_lines (bytes ++ piece)) new next follows whole;
+        }
+
+    -- the piece passes a limit, and the lines before have no fault
+    pub piece_passes : (next : T) (fault : LineFault) (cause : Cause) → overrun_from held.reach piece ≡ Some fault → cause_of_limit fault ≡ Some cause
+        → R.Leads (early_lines (bytes ++ piece)) next → HasEarlyFault R (bytes ++ piece) (line_of fault) cause
+    piece_passes next fault cause passes caused leads =
+        let over : overrun (bytes ++ piece) ≡ Some fault = sym (took_overrun bytes piece (early_lines bytes) held at.took at.sound) ∙ passes in
+        inr (next, leads, ap limit_fault over ∙ ap (λ o. option_map (λ c. (line_of fault, c)) o) caused)
+
+  -- ---- faults
+
+  limit_is_final : (bytes left : List ℕ) (at : ℕ) (cause : Cause) (o : Option LineFault) → overrun bytes ≡ o → PassesLimit R (early_lines bytes) o at cause → PassesLimit R (scanned_lines (bytes ++ left)) (overrun (bytes ++ left)) at cause
+  limit_is_final bytes left at cause None is (taker, leads, limit) = absurd (cc)
+  limit_is_final bytes left at cause (Some fault) is (taker, leads, limit) = (
+    taker,
+    subst (λ ls. R.Leads ls taker) (sym (scanned_kept bytes left fault is)) leads,
+    ap limit_fault (overrun_kept bytes left fault is) ∙ limit,
+  )
+
+  -- an early fault is the fault of the whole input
+  early_is_final : (bytes left : List ℕ) (at : ℕ) (cause : Cause) → HasEarlyFault R bytes at cause → HasInputFault R (bytes ++ left) at cause
+  early_is_final bytes left at cause (inl faulty) =
+      let front = scanned_front bytes left in
+      inl (subst (λ ls. R.HasFault ls at cause) (sym front.1) (faulty front.0))
+  early_is_final bytes left at cause (inr limit) = inr (limit_is_final bytes left at cause (overrun bytes) refl limit)
+
+  -- a fault in what was taken
+  pub taken_fault : (a b : Option (List ℕ)) (taken bytes : List ℕ) (at : ℕ) (cause : Cause) → Consumes a b taken → a ≡ Some bytes → HasEarlyFault R taken at cause → HasInputFault R bytes at cause
+  taken_fault a b taken bytes at cause h is fault =
+      let front = consumed_front a b taken bytes h is in
+      subst (λ (bs : List ℕ). HasInputFault R bs at cause) (sym front.1) (early_is_final taken front.0 at cause fault)
+
+  -- nothing was wrong so far
+  pub at_sound : (old new : Option (List ℕ)) (bytes : List ℕ) (held : Held) (taker : T) → Consumes old new bytes → IsAt R bytes held taker → ReadsSoFar R old new
+  at_sound old new bytes held taker read at = (bytes, read, sym at.took.fault ∙ at.sound, (taker, at.leads))
+
+  -- ---- the end
+
+  pub rest_follows : (bytes : List ℕ) (held : Held) (taker : T) → IsAt R bytes held taker → Follows R (scanned_lines bytes) (finished held) taker
+  rest_follows bytes held taker at = (early_lines bytes, hands_finished bytes (early_lines bytes) held at.took at.sound, at.leads)
+
+  -- a fault that a line has with nothing behind it
+  pub fault_here : (lines : List NumberedLine) (at : ℕ) (cause : Cause) → HasFaultBehind R lines at cause → R.HasFault lines at cause
+  fault_here lines at cause faulty = subst (λ ls. R.HasFault ls at cause) (append-nil lines) (faulty [])
+
+  -- the bytes so far are counted
+  pub at_bytes : (bytes : List ℕ) (held : Held) (taker : T) → IsAt R bytes held taker → (held.reach.bytes ≡ length bytes) × (length bytes ≤ 268_435_456)
+  at_bytes bytes held taker at =
+      let none : overrun bytes ≡ None = sym at.took.fault ∙ at.sound in
+      let count : held.reach.bytes ≡ length bytes = ap (λ (r : Reach). r.bytes) at.took.reach ∙ ap (λ (bs : List ℕ). length bs) (within_all bytes none) in
+      (count, omega (arith, count, took_bytes bytes (early_lines bytes) held at.took))
+
+-- ---- what stays
+
+kept_by : (held : Held) (whole : List (List ℕ)) → ((after_first held whole).rest ≡ held.rest) × ((after_first held whole).reach ≡ held.reach) × ((after_first held whole).fault ≡ held.fault) × ((after_first held whole).closed ≡ held.closed)
+kept_by held [] = (refl, refl, refl, refl)
+kept_by held (line ∷ lines) = (refl, refl, refl, refl)
+
+pub next_keeps : (held : Held) → ((after_next held).rest ≡ held.rest) × ((after_next held).reach ≡ held.reach) × ((after_next held).fault ≡ held.fault) × ((after_next held).closed ≡ held.closed)
+next_keeps held = kept_by held held.whole
+
+none_by : (held : Held) (whole : List (List ℕ)) → first_of held.handed whole ≡ None → after_first held whole ≡ held
+none_by held [] h = refl
+none_by held (line ∷ lines) h = absurd (cc)
+
+pub none_left : (held : Held) → next_line held ≡ None → after_next held ≡ held
+none_left held h = none_by held held.whole h
+
+-- ---- stops
+
+pub if_fault : (stop : Stop) (P Q : ℕ → Cause → Type 0) → ((at : ℕ) (cause : Cause) → P at cause → Q at cause) → IfFault stop P → IfFault stop Q
+if_fault (stops.Fault at cause) P Q f h = f at cause h
+if_fault (stops.Failure failure) P Q f h = h
+
+-- a stop of a line is no failed read
+pub if_input_fault : (stop : Stop) (P Q : ℕ → Cause → Type 0) → ((at : ℕ) (cause : Cause) → P at cause → Q at cause) → IfFault stop P → IfInputFault stop Q
+if_input_fault (stops.Fault at cause) P Q f h = f at cause h
+if_input_fault (stops.Failure failure) P Q f h = tt
+
+pub no_read_fault : (stop : Stop) (P : ℕ → Cause → Type 0) → IfFault stop P → stop ≡ stops.Failure ReadFault → ⊥
+no_read_fault (stops.Fault at cause) P h is = cc
+no_read_fault (stops.Failure failure) P h is = let e : stops.Failure OutOfMemory ≡ stops.Failure ReadFault = ap (λ f. stops.Failure f) (sym h) ∙ is in cc
+
+pub if_ok_and : {T E : Type 0} (r : Result T E) (P : T → Type 0) (Q : Type 0) (R : T → Type 0) → ((x : T) → P x → Q → R x) → IfOk r P → OnOk r Q → IfOk r R
+if_ok_and (Ok x) P Q R f p q = f x p q
+if_ok_and (Err e) P Q R f p q = tt
+
+pub if_err_fault : {T : Type 0} (r : Result T Stop) (P Q : ℕ → Cause → Type 0) → ((at : ℕ) (cause : Cause) → P at cause → Q at cause) → IfErr r (λ stop. IfFault stop P) → IfErr r (λ stop. IfFault stop Q)
+if_err_fault (Ok x) P Q f h = tt
+if_err_fault (Err stop) P Q f h = if_fault stop P Q f h

@@ -1,0 +1,31 @@
+-- Proof machinery: what the examination of an input finds.
+use Rattle.std.specs.Prelude.{ℕ, ◌+◌, List, Option, Some}
+use Rattle.std.specs.Io.KnownBytes.{Consumes, IsAtEnd}
+use Rattle.pp_report.specs.declared.cause.Cause.TheVariants.{NoHeader}
+use Rattle.pp_run.specs.declared.examine.Finding.{Finding}
+use Rattle.pp_run.specs.declared.examine.Finding.TheVariants as findings
+use Rattle.pp_run.specs.declared.progress.Progress.{Progress}
+use Rattle.pp_run.specs.declared.progress.Progress.TheVariants as progresses
+use Rattle.pp_run.specs.Inputs.{IsFaultOf, scan}
+use Rattle.pp_run.specs.Outputs.{WhereTold}
+use Rattle.pp_run.specs.Progresses.{IsRejected, IsRunning}
+use Rattle.pp_run.specs.Scans.{InputScan}
+
+-- what is found where all lines lead to here: without a header there is a fault behind them
+abbrev pub finding_of : Progress → Finding
+finding_of (progresses.Waiting lines) = findings.Fault (lines + 1) NoHeader
+finding_of (progresses.Running tally machine) = findings.Accepted tally machine
+finding_of (progresses.Rejected tally rejection) = findings.Rejected tally rejection
+
+-- the whole input was read, and this holds of its scan
+abbrev pub ReadsWhole : Option (List ℕ) → Option (List ℕ) → (InputScan → Type 0) → Type 0
+ReadsWhole old new P = (bytes : List ℕ) × Consumes old new bytes × IsAtEnd new × P (scan bytes)
+
+-- the finding is that of the input
+abbrev pub Finds : Option (List ℕ) → Option (List ℕ) → Finding → Type 0
+Finds old new (findings.Fault line cause) =
+    WhereTold old λ bytes. IsFaultOf (scan bytes) (Some (line, cause))
+Finds old new (findings.Rejected tally rejection) =
+    ReadsWhole old new λ sc. IsRejected sc tally rejection
+Finds old new (findings.Accepted tally machine) =
+    ReadsWhole old new λ sc. IsRunning sc tally machine

@@ -1,0 +1,93 @@
+-- Proof machinery: what takes the lines of an input, and what reading them comes to.
+use Rattle.std.specs.Prelude.{◌≡◌, ◌≤◌, ◌+◌, ◌⊎◌, ℕ, List, ◌∷◌, [], ◌++◌, length, Option, None, Some}
+use Rattle.std.specs.Io.KnownBytes.{Consumes}
+use Rattle.pp_core.specs.declared.limits.TheConstants.{MOST_LINES}
+use Rattle.pp_io.specs.declared.fault.LineFault.{LineFault}
+use Rattle.pp_io.specs.Held.{Held}
+use Rattle.pp_io.specs.Lines.{NumberedLine}
+use Rattle.pp_io.specs.Overruns.{early_lines, overrun, scanned_lines}
+use Rattle.pp_io.specs.Taken.{Hands, Took}
+use Rattle.pp_report.specs.declared.cause.Cause.{Cause}
+use Rattle.pp_run.specs.declared.stop.Failure.TheVariants as failures
+use Rattle.pp_run.specs.declared.stop.Stop.{Stop}
+use Rattle.pp_run.specs.declared.stop.Stop.TheVariants as stops
+use Rattle.pp_run.specs.Inputs.{limit_fault}
+
+-- where lines lead to, and which fault they have
+pub record Reading (T : Type 0) : Type 1 where
+  -- these lines have no fault, and lead to here
+  pub Leads : List NumberedLine → T → Type 0
+  -- the first fault of these lines is of this line, with this cause
+  pub HasFault : List NumberedLine → ℕ → Cause → Type 0
+
+-- a fault of which this holds; the only other stop is that memory was refused
+abbrev pub IfFault : Stop → (ℕ → Cause → Type 0) → Type 0
+IfFault (stops.Fault line cause) P = P line cause
+IfFault (stops.Failure failure) P = failure ≡ failures.OutOfMemory
+
+-- a fault of which this holds, if it is one
+abbrev pub IfInputFault : Stop → (ℕ → Cause → Type 0) → Type 0
+IfInputFault (stops.Fault line cause) P = P line cause
+IfInputFault (stops.Failure failure) P = Unit {0}
+
+-- ---- a line
+
+-- this line comes next, behind lines that led to here
+abbrev pub IsNext : {T : Type 0} → Reading T → T → NumberedLine → Type 0
+IsNext R from line = (lines : List NumberedLine) × R.Leads lines from
+    × (line.0 ≡ length lines + 1) × (line.0 ≤ MOST_LINES)
+
+-- it leads from here to there
+abbrev pub LeadsOn : {T : Type 0} → Reading T → T → NumberedLine → T → Type 0
+LeadsOn R from line to =
+    (lines : List NumberedLine) → R.Leads lines from → R.Leads (lines ++ line ∷ []) to
+
+-- these lines have this fault, whatever lines come behind them
+abbrev pub HasFaultBehind : {T : Type 0} → Reading T → List NumberedLine → ℕ → Cause → Type 0
+HasFaultBehind R lines at cause = (more : List NumberedLine) → R.HasFault (lines ++ more) at cause
+
+-- it is not taken: it has a fault, or memory was refused
+abbrev pub StopsAt : {T : Type 0} → Reading T → T → NumberedLine → Stop → Type 0
+StopsAt R from line stop = IfFault stop (λ at cause. (lines : List NumberedLine) →
+    R.Leads lines from → HasFaultBehind R (lines ++ line ∷ []) at cause)
+
+-- ---- an input that comes in pieces
+
+-- of these lines those that are not held any more led to here
+abbrev pub Follows : {T : Type 0} → Reading T → List NumberedLine → Held → T → Type 0
+Follows R lines held taker = (out : List NumberedLine) × Hands lines out held × R.Leads out taker
+
+-- these bytes were taken, with no fault, and each line that they end
+pub record IsAt {T : Type 0} (R : Reading T) (bytes : List ℕ) (held : Held) (taker : T) :
+    Type 0 where
+  pub took : Took bytes (early_lines bytes) held
+  pub sound : held.fault ≡ None
+  pub leads : R.Leads (early_lines bytes) taker
+
+-- the lines have no fault, and behind them a limit is passed, which is this fault
+abbrev pub PassesLimit : {T : Type 0} → Reading T → List NumberedLine → Option LineFault → ℕ →
+    Cause → Type 0
+PassesLimit {T} R lines limit at cause =
+    (taker : T) × R.Leads lines taker × (limit_fault limit ≡ Some (at, cause))
+
+-- the first fault of an input: of its lines, or that a limit is passed
+abbrev pub HasInputFault : {T : Type 0} → Reading T → List ℕ → ℕ → Cause → Type 0
+HasInputFault R bytes at cause = R.HasFault (scanned_lines bytes) at cause
+    ⊎ PassesLimit R (scanned_lines bytes) (overrun bytes) at cause
+
+-- this fault of an input no further byte can change
+abbrev pub HasEarlyFault : {T : Type 0} → Reading T → List ℕ → ℕ → Cause → Type 0
+HasEarlyFault R bytes at cause = HasFaultBehind R (early_lines bytes) at cause
+    ⊎ PassesLimit R (early_lines bytes) (overrun bytes) at cause
+
+-- ---- a source
+
+-- what was read passes no limit, and its lines lead to here
+abbrev pub ReadsAll : {T : Type 0} → Reading T → Option (List ℕ) → Option (List ℕ) → T → Type 0
+ReadsAll R old new taker = (bytes : List ℕ) × Consumes old new bytes × (overrun bytes ≡ None)
+    × R.Leads (scanned_lines bytes) taker
+
+-- what was read has no fault that no further byte can change
+abbrev pub ReadsSoFar : {T : Type 0} → Reading T → Option (List ℕ) → Option (List ℕ) → Type 0
+ReadsSoFar {T} R old new = (bytes : List ℕ) × Consumes old new bytes × (overrun bytes ≡ None)
+    × ((taker : T) × R.Leads (early_lines bytes) taker)
