@@ -17,7 +17,6 @@ use Rattle.pp_front.specs.Runs.{IsRun, Lined, LinedSteps, Records, Standing, bar
 use Rattle.pp_front.specs.Fronts.{Front}
 use Rattle.pp_front.proofs.Reading.{reading_law}
 use Rattle.pp_front.proofs.Reporting.{input_law}
-use Rattle.pp_front.proofs.Whole.{extends_law}
 use Rattle.pp_object.specs.Objects.{kinds_of, objects}
 use Rattle.pp_object.specs.laws.Objects.{objects_lawful}
 use Rattle.pp_object.specs.declared.act.Op.{Op}
@@ -33,6 +32,7 @@ use Rattle.pp_model.specs.Serial.{Attempt, attempts, committed_tx, serial, Simul
 use Rattle.pp_model.specs.Sound.{serial_ops}
 use Rattle.pp_model.proofs.Simulate.{finished_are, simulated}
 use Rattle.pp_report.specs.Reports.{accepted_text, fault_text, rejected_text}
+use Rattle.pp_rules.specs.Evidence.{evidence}
 use Rattle.pp_report.specs.declared.cause.Cause.{Cause}
 use Rattle.pp_report.specs.declared.cause.Cause.TheVariants.{TooManySteps}
 use Rattle.pp_rules.specs.Machines.{Seen}
@@ -47,7 +47,7 @@ use Rattle.pp_run.specs.declared.words.Command.TheVariants.{Certify}
 use Rattle.pp_run.specs.declared.progress.Rejection.{Rejection}
 use Rattle.pp_run.specs.Progresses.{Covers, IsRejected, IsRunning, standing_of}
 use Rattle.pp_run.specs.declared.progress.Progress.{Progress}
-use Rattle.pp_run.proofs.Covering.{covers_few, covers_sound}
+use Rattle.pp_run.proofs.Covering.{config_is, covers_few, covers_sound}
 use Rattle.pp_run.specs.Scans.{InputScan}
 use Rattle.pp_run.specs.declared.progress.Tally.{Tally}
 
@@ -69,13 +69,8 @@ module _ (sc : InputScan) (tally : Tally) (machine : Seen (List Kind) Op) (r : I
   abbrev run : LinedSteps Op
   run = joined_steps (translation_of tally.header) (outset (translation_of tally.header) (start_of tally.header)) sc.records
 
-  config_is : machine.config ≡ after (start_of tally.header) (bare run)
-  config_is =
-      let h = tally.header in
-      ap (λ (p : Standing Front Op). p.config) r.stands.place ∙ (extends_law (object_of h) (translation_of h)).config (outset (translation_of h) (start_of h)) sc.records
-
   committed_are : machine.config.done ≡ map committed_tx (attempts (start_of tally.header) (bare run))
-  committed_are = ap (λ c. c.done) config_is ∙ finished_are (object_of tally.header) (start_of tally.header) (bare run) r.stands.begun r.stands.hold
+  committed_are = ap (λ c. c.done) (config_is sc tally machine r) ∙ finished_are (object_of tally.header) (start_of tally.header) (bare run) r.stands.begun r.stands.hold
 
   pub accepted_told : (count : ℕ) (D : List (CommittedTx Op)) (states : List ObjectState) (text : List ℕ) → count ≡ machine.count → D ≡ machine.config.done
       → states ≡ state_after objects (kinds_of tally.header.catalog) (serial_ops D) → text ≡ accepted_text tally.header.catalog count D states → IsRunTold sc statuses.Accepted text
@@ -94,13 +89,14 @@ module _ (sc : InputScan) (tally : Tally) (machine : Seen (List Kind) Op) (r : I
 
 -- a rejected run
 pub rejected_told : (sc : InputScan) (tally : Tally) (rejection : Rejection) (text : List ℕ) → IsRejected sc tally rejection
-    → text ≡ rejected_text rejection.step rejection.line rejection.rule rejection.criterion → IsRunTold sc statuses.Rejected text
+    → text ≡ rejected_text tally.header.catalog rejection.step rejection.line rejection.rule rejection.criterion rejection.detail → IsRunTold sc statuses.Rejected text
 rejected_told sc tally rejection text r text_is =
     let h = tally.header in
     let e = r.ends in
     let here = subst (λ (w : Records (RunRecord Op)). IsRejectedAt (object_of h) (translation_of h) (start_of h) w e.run (suc e.place) e.criterion) (append-nil sc.records) (e.stays []) in
-    let printed : text ≡ rejected_text (suc e.place) rejection.line (rule_of e.last) (suc e.criterion) =
-    text_is ∙ ap (λ (w : Rejection). rejected_text w.step w.line w.rule w.criterion) e.is in
+    let before = after (start_of h) (bare (take e.place e.run)) in
+    let printed : text ≡ rejected_text h.catalog (suc e.place) rejection.line (rule_of e.last) (suc e.criterion) (evidence objects (kinds_of h.catalog) before e.last (suc e.criterion)) =
+    text_is ∙ ap (λ (w : Rejection). rejected_text h.catalog w.step w.line w.rule w.criterion w.detail) e.is in
     told_of sc (Some (record { line = r.follows.at; what = h })) statuses.Rejected text r.follows.header (
       StepRejected (suc e.place) rejection.line (suc e.criterion) (after (start_of h) (bare (take e.place e.run))) e.last,
       (e.run, Rejected (suc e.place) (suc e.criterion), here.run_is, here.verdict, (record { line = rejection.line; what = e.last }, e.there, refl)),
@@ -193,7 +189,7 @@ told_once None (Accepts n committed final) s s' t t' a b = absurd a
 told_once (Some h) (Accepts n committed final) s s' t t' a b = (a.0 ∙ sym b.0, a.1 ∙ sym b.1)
 told_once None (StartRejected line n) s s' t t' a b = (a.0 ∙ sym b.0, a.1 ∙ sym b.1)
 told_once (Some h) (StartRejected line n) s s' t t' a b = (a.0 ∙ sym b.0, a.1 ∙ sym b.1)
-told_once None (StepRejected i line n before step) s s' t t' a b = (a.0 ∙ sym b.0, a.1 ∙ sym b.1)
+told_once None (StepRejected i line n before step) s s' t t' a b = absurd a
 told_once (Some h) (StepRejected i line n before step) s s' t t' a b = (a.0 ∙ sym b.0, a.1 ∙ sym b.1)
 
 one_certified : (bytes : List ℕ) (s s' : Status) (t t' : List ℕ) → IsCertified bytes s t → IsCertified bytes s' t' → (s ≡ s') × (t ≡ t')

@@ -1,10 +1,10 @@
 -- One line more, seen from the progress of an examination.
-use Rattle.std.specs.Prelude.{◌≡◌, ◌≤◌, ◌<◌, ℕ, zero, suc, ◌+◌, ◌==◌, ◌&&◌, Bool, true, false, List, [], ◌∷◌, ◌++◌, length, filter, slice_get, cond, Option, None, Some, Result, Ok, Err}
+use Rattle.std.specs.Prelude.{◌≡◌, ◌≤◌, ◌<◌, ℕ, zero, suc, ◌+◌, ◌==◌, ◌&&◌, Bool, true, false, List, [], ◌∷◌, ◌++◌, length, filter, slice_get, take, cond, Option, None, Some, Result, Ok, Err}
 use Rattle.std.proofs.Common.{refl, sym, ap, ◌∙◌, subst, arith, length-append, append_assoc}
 use Rattle.std.proofs.lemmas.List.{append-nil}
 use Rattle.std.proofs.lemmas.List.Elements.{filter-append}
 use Rattle.std.proofs.lemmas.Option.{slice_get-get_or}
-use Rattle.std.proofs.Math.Seq.{get_or-append_seam}
+use Rattle.std.proofs.Math.Seq.{get_or-append_seam, take-append_seam}
 use mathlib.Core.Logic.{inl, inr}
 use Rattle.pp_core.specs.declared.answer.OutOfMemory.{OutOfMemory}
 use Rattle.pp_core.specs.declared.call.Kind.{Kind}
@@ -13,8 +13,10 @@ use Rattle.pp_core.specs.Steps.{Step, rule_of}
 use Rattle.pp_front.specs.Inputs.{OverrunsAt}
 use Rattle.pp_front.specs.Laws.{IsRejectedAt}
 use Rattle.pp_front.specs.Records.{RunRecord, Plain}
-use Rattle.pp_front.specs.Runs.{Lined, LinedSteps, Records, joined_steps, outset}
+use Rattle.pp_front.specs.Fronts.{Front}
+use Rattle.pp_front.specs.Runs.{Lined, LinedSteps, Records, Standing, bare, joined_steps, outset}
 use Rattle.pp_front.proofs.Reading.{reading_law}
+use Rattle.pp_front.proofs.Whole.{extends_law}
 use Rattle.pp_object.specs.declared.act.Op.{Op}
 use Rattle.pp_object.specs.Objects.{kinds_of, objects}
 use Rattle.pp_io.specs.Lines.{NumberedLine, blank}
@@ -22,16 +24,19 @@ use Rattle.pp_json.specs.declared.fault.RecordFault.{RecordFault}
 use Rattle.pp_json.specs.declared.header.Header.{Header}
 use Rattle.pp_json.specs.Headers.{header_of}
 use Rattle.pp_json.specs.Records.{record_of}
-use Rattle.pp_model.specs.Config.{first}
+use Rattle.pp_model.specs.Config.{Config, after, first}
 use Rattle.pp_model.specs.Rules.{Breaks, Meets}
 use Rattle.pp_run.specs.Causes.{cause_of}
 use Rattle.pp_report.specs.declared.cause.Cause.{Cause}
+use Rattle.pp_rules.specs.Evidence.{evidence}
 use Rattle.pp_rules.specs.Machines.{Seen, stepped}
+use Rattle.pp_rules.specs.Shown.{Fits}
+use Rattle.pp_rules.specs.declared.detail.Detail.{Detail}
 use Rattle.pp_spec.specs.Object.{rules_of}
 use Rattle.pp_run.specs.Inputs.{IsFaultOf}
 use Rattle.pp_run.specs.Objects.{object_of, setting_of, start_of, translation_of}
 use Rattle.pp_run.specs.Scans.{InputScan, begins, is_begin, is_begin_record, nothing, scan_line, with_fault, with_header, with_step}
-use Rattle.pp_run.specs.Progresses.{Covers, EndsAt, IsTallied, IsRefused, IsRejected, IsRunning, StepTaken, is_too_many, lines_of, with_blank, standing_of, with_line, with_record}
+use Rattle.pp_run.specs.Progresses.{Covers, EndsAt, IsTallied, IsRefused, IsRejected, IsRunning, StepTaken, is_too_many, lines_of, rejection_of, with_blank, standing_of, with_line, with_record}
 use Rattle.pp_run.specs.declared.progress.Progress.{Progress}
 use Rattle.pp_run.specs.declared.progress.Progress.TheVariants.{Waiting, Running, Rejected}
 use Rattle.pp_run.specs.declared.progress.Rejection.{Rejection}
@@ -166,10 +171,27 @@ at_shape machine tally step n shape fails = subst (λ (k : List Kind). Breaks (r
 abbrev on_record : ℕ → Step Op → Lined (RunRecord Op)
 on_record line step = record { line = line; what = Plain step }
 
+-- the machine stands where the steps so far lead
+pub config_is : (sc : InputScan) (tally : Tally) (machine : Seen (List Kind) Op) → IsRunning sc tally machine → machine.config
+    ≡ after (start_of tally.header) (bare (joined_steps (translation_of tally.header) (outset (translation_of tally.header) (start_of tally.header)) sc.records))
+config_is sc tally machine r =
+    let h = tally.header in
+    ap (λ (p : Standing Front Op). p.config) r.stands.place ∙ (extends_law (object_of h) (translation_of h)).config (outset (translation_of h) (start_of h)) sc.records
+
+-- the same where one more step stands behind them
+config_before : (sc : InputScan) (tally : Tally) (machine : Seen (List Kind) Op) → IsRunning sc tally machine → (one : Lined (Step Op)) → machine.config
+    ≡ after (start_of tally.header) (bare (take machine.count (joined_steps (translation_of tally.header) (outset (translation_of tally.header) (start_of tally.header)) sc.records ++ one ∷ [])))
+config_before sc tally machine c one =
+    let h = tally.header in
+    let before : LinedSteps Op = joined_steps (translation_of h) (outset (translation_of h) (start_of h)) sc.records in
+    config_is sc tally machine c
+    ∙ ap (λ (w : LinedSteps Op). after (start_of h) (bare w)) (sym (take-append_seam before (one ∷ [])))
+    ∙ ap (λ (k : ℕ). after (start_of h) (bare (take k (before ++ one ∷ [])))) (sym c.stands.number)
+
 -- the step is the first that fails
 ends_now : (sc : InputScan) (tally : Tally) (machine : Seen (List Kind) Op) (line : ℕ) (step : Step Op) (n : ℕ) → IsRunning sc tally machine → length sc.records < 200_000
-    → Breaks (object_of tally.header) machine.config step (suc n) → EndsAt tally.header (with_step sc line step).records (record { step = machine.count + 1; line = line; rule = rule_of step; criterion = suc n })
-ends_now sc tally machine line step n c few fails =
+    → Breaks (object_of tally.header) machine.config step (suc n) → Fits objects machine.shape (evidence objects machine.shape machine.config step (suc n)) → EndsAt tally.header (with_step sc line step).records (rejection_of machine step line (suc n))
+ends_now sc tally machine line step n c few fails fits =
     let h = tally.header in
     let before : LinedSteps Op = joined_steps (translation_of h) (outset (translation_of h) (start_of h)) sc.records in
     let one : Lined (Step Op) = record { line = line; what = step } in
@@ -177,12 +199,17 @@ ends_now sc tally machine line step n c few fails =
     let number : suc machine.count ≡ machine.count + 1 = omega arith in
     let named : machine.count + 0 + 1 ≡ suc machine.count = omega arith in
     let room : machine.count + 0 < 200_000 = omega (arith, c.count, few) in
+    let told : evidence objects machine.shape machine.config step (suc n) ≡ evidence objects (kinds_of h.catalog) (after (start_of h) (bare (take machine.count run))) step (suc n) =
+    ap (λ (k : List Kind). evidence objects k machine.config step (suc n)) c.shape
+    ∙ ap (λ (w : Config Op). evidence objects (kinds_of h.catalog) w step (suc n)) (config_before sc tally machine c one) in
     record {
       run = run;
       place = machine.count;
       criterion = n;
       last = step;
-      is = ap (λ (k : ℕ). let r : Rejection = record { step = k; line = line; rule = rule_of step; criterion = suc n } in r) (sym number);
+      is = ap (λ (k : ℕ). let r : Rejection = record { step = k; line = line; rule = rule_of step; criterion = suc n; detail = evidence objects machine.shape machine.config step (suc n) } in r) (sym number)
+          ∙ ap (λ (d : Detail Op). let r : Rejection = record { step = suc machine.count; line = line; rule = rule_of step; criterion = suc n; detail = d } in r) told;
+      named = subst (λ (k : List Kind). Fits objects k (evidence objects machine.shape machine.config step (suc n))) c.shape fits;
       there = get_last before one machine.count c.stands.number;
       stays = λ more.
           let law = (reading_law (object_of h) (translation_of h)).fails (start_of h) sc.records more (standing_of tally machine) machine.count (on_record line step) [] [] step n c.stands refl tt room fails in
@@ -203,12 +230,12 @@ cover_step sc tally machine line step next c few other read begun (inl done) =
       count = omega (arith, c.count, length-append sc.records (on_record line.0 step ∷ []));
     } in
     subst (λ (p : Progress). Covers (scan_line sc line) p) (sym done.1) (subst (λ (s : InputScan). Covers s (Running (with_record tally step) (stepped machine step))) (sym (scan_step sc tally c.follows line other step read begun)) running)
-cover_step sc tally machine line step next c few other read begun (inr (zero, positive, fails, is)) = absurd (omega arith)
-cover_step sc tally machine line step next c few other read begun (inr (suc n, positive, fails, is)) =
-    let rejection : Rejection = record { step = machine.count + 1; line = line.0; rule = rule_of step; criterion = suc n } in
+cover_step sc tally machine line step next c few other read begun (inr (zero, positive, fails, is, fits)) = absurd (omega arith)
+cover_step sc tally machine line step next c few other read begun (inr (suc n, positive, fails, is, fits)) =
+    let rejection : Rejection = rejection_of machine step line.0 (suc n) in
     let rejected : IsRejected (with_step sc line.0 step) (with_record tally step) rejection = record {
       follows = follows_step sc tally c.follows line other step;
-      ends = ends_now sc tally machine line.0 step n c few (at_shape machine tally step (suc n) c.shape fails);
+      ends = ends_now sc tally machine line.0 step n c few (at_shape machine tally step (suc n) c.shape fails) fits;
     } in
     subst (λ (p : Progress). Covers (scan_line sc line) p) (sym is)
     (subst (λ (s : InputScan). IsRejected s (with_record tally step) rejection) (sym (scan_step sc tally c.follows line other step read begun)) rejected)
@@ -226,6 +253,7 @@ cover_rejected sc tally rejection line step c other read few =
         criterion = e.criterion;
         last = e.last;
         is = e.is;
+        named = e.named;
         there = e.there;
         stays = λ more.
             subst (λ (w : Records (RunRecord Op)). IsRejectedAt (object_of h) (translation_of h) (start_of h) w e.run (suc e.place) e.criterion)

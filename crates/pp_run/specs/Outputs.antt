@@ -9,11 +9,13 @@ use Rattle.pp_front.specs.Inputs.{Accepts, Faulty, IsReport, IsRunReport, Report
 use Rattle.pp_front.specs.Runs.{Lined}
 use Rattle.pp_json.specs.declared.header.Header.{Header}
 use Rattle.pp_model.specs.Serial.{committed_tx}
+use Rattle.pp_object.specs.Objects.{kinds_of, objects}
 use Rattle.pp_object.specs.declared.act.Op.{Op}
 use Rattle.pp_object.specs.declared.states.ObjectState.{ObjectState}
 use Rattle.pp_report.specs.Reports.{accepted_text, fault_text, line, rejected_text}
 use Rattle.pp_report.specs.declared.cause.Cause.{Cause}
 use Rattle.pp_report.specs.declared.cause.Cause.TheVariants.{TooManySteps}
+use Rattle.pp_rules.specs.Evidence.{evidence}
 use Rattle.pp_run.specs.declared.words.Command.{Command}
 use Rattle.pp_run.specs.declared.words.Command.TheVariants.{Certify}
 use Rattle.pp_run.specs.Inputs.{scan}
@@ -31,7 +33,8 @@ rejected_start_text at_line criterion =
     line (codes "rejected step 0 line " ++ decimal at_line ++ codes " START " ++ decimal criterion)
 
 -- The status and the text of a report. Accepted: the committed transactions, each with its own
--- operations, and the state that they lead to one after another.
+-- operations, and the state that they lead to one after another. Rejected: the step and its least
+-- false criterion, with the evidence in the configuration before it.
 abbrev pub IsTold : Option (Lined Header) → RunReport → Status → List ℕ → Type 0
 IsTold header (Faulty at_line cause) status text =
     (status ≡ statuses.InputFault) × (text ≡ fault_text at_line cause)
@@ -40,8 +43,11 @@ IsTold (Some header) (Accepts steps committed final) status text = (status ≡ s
     × (text ≡ accepted_text header.what.catalog steps (map committed_tx committed) final)
 IsTold header (StartRejected at_line criterion) status text =
     (status ≡ statuses.Rejected) × (text ≡ rejected_start_text at_line criterion)
-IsTold header (StepRejected number at_line criterion before step) status text =
-    (status ≡ statuses.Rejected) × (text ≡ rejected_text number at_line (rule_of step) criterion)
+IsTold None (StepRejected number at_line criterion before step) status text = ⊥
+IsTold (Some header) (StepRejected number at_line criterion before step) status text =
+    let kinds = kinds_of header.what.catalog in (status ≡ statuses.Rejected)
+    × (text ≡ rejected_text header.what.catalog number at_line (rule_of step) criterion
+    (evidence objects kinds before step criterion))
 
 -- the status and the text of records without a fault
 abbrev pub IsRunTold : InputScan → Status → List ℕ → Type 0

@@ -1,22 +1,26 @@
 -- Proof machinery: where the examination of a run stands after some of its lines.
-use Rattle.std.specs.Prelude.{◌≡◌, ℕ, suc, ◌+◌, ◌<◌, ◌≤◌, Bool, true, ◌==◌, ◌&&◌, ◌⊎◌, List, ◌++◌, length, slice_get, if◌then◌else◌, None, Some, Result, Ok, Err}
+use Rattle.std.specs.Prelude.{◌≡◌, ℕ, suc, ◌+◌, ◌<◌, ◌≤◌, Bool, true, ◌==◌, ◌&&◌, ◌⊎◌, List, ◌++◌, length, slice_get, take, if◌then◌else◌, None, Some, Result, Ok, Err}
 use Rattle.pp_core.specs.declared.call.Kind.{Kind}
 use Rattle.pp_core.specs.declared.limits.TheConstants.{MOST_LINES, MOST_TRANSACTIONS}
 use Rattle.pp_core.specs.Steps.{Step, rule_of}
 use Rattle.pp_front.specs.Fronts.{Front, new_front}
 use Rattle.pp_front.specs.Laws.{IsRejectedAt, StandsAt}
 use Rattle.pp_front.specs.Records.{RunRecord}
-use Rattle.pp_front.specs.Runs.{LinedSteps, Records, Standing}
+use Rattle.pp_front.specs.Runs.{LinedSteps, Records, Standing, bare}
 use Rattle.pp_io.specs.Lines.{NumberedLine}
 use Rattle.pp_object.specs.declared.act.Op.{Op}
 use Rattle.pp_object.specs.Objects.{kinds_of, objects}
 use Rattle.pp_json.specs.declared.fault.RecordFault.{RecordFault}
 use Rattle.pp_json.specs.declared.header.Header.{Header}
+use Rattle.pp_model.specs.Config.{after}
 use Rattle.pp_model.specs.Rules.{Breaks, Meets}
 use Rattle.pp_run.specs.Causes.{cause_of}
 use Rattle.pp_report.specs.declared.cause.Cause.{Cause}
 use Rattle.pp_report.specs.declared.cause.Cause.TheVariants.{TooManyTransactions}
+use Rattle.pp_report.specs.Reports.{IsDetailNamed}
+use Rattle.pp_rules.specs.Evidence.{evidence}
 use Rattle.pp_rules.specs.Machines.{Seen, stepped}
+use Rattle.pp_rules.specs.Shown.{Fits}
 use Rattle.pp_spec.specs.Object.{rules_of}
 use Rattle.pp_run.specs.declared.progress.Progress.{Progress}
 use Rattle.pp_run.specs.declared.progress.Progress.TheVariants.{Waiting, Running, Rejected}
@@ -85,7 +89,11 @@ pub record EndsAt (header : Header) (records : Records (RunRecord Op)) (rejectio
     line = rejection.line;
     rule = rule_of last;
     criterion = suc criterion;
+    detail = evidence objects (kinds_of header.catalog)
+        (after (start_of header) (bare (take place run))) last (suc criterion);
   }
+  -- the objects that its evidence names are those of the header
+  pub named : IsDetailNamed header.catalog rejection.detail
   pub there : slice_get run place ≡ Some (record { line = rejection.line; what = last })
   pub stays : (more : Records (RunRecord Op)) → IsRejectedAt (object_of header)
       (translation_of header) (start_of header) (records ++ more) run (suc place) criterion
@@ -123,15 +131,21 @@ abbrev pub IsRefused : Tally → Result (Step Op) RecordFault → Cause → Type
 IsRefused tally (Err fault) cause = cause_of fault ≡ Ok cause
 IsRefused tally (Ok step) cause = (is_too_many tally step ≡ true) × (cause ≡ TooManyTransactions)
 
+-- the rejection of a step, of which this is the first false criterion
+abbrev pub rejection_of : Seen (List Kind) Op → Step Op → ℕ → ℕ → Rejection
+rejection_of machine step line n = record {
+  step = machine.count + 1;
+  line = line;
+  rule = rule_of step;
+  criterion = n;
+  detail = evidence objects machine.shape machine.config step n;
+}
+
 -- a step is taken: it meets its criteria, or it is the first that does not
 abbrev pub StepTaken : Tally → Seen (List Kind) Op → Step Op → ℕ → Progress → Type 0
 StepTaken tally machine step line next =
     (Meets (rules_of objects machine.shape) machine.config step
     × (next ≡ Running tally (stepped machine step)))
     ⊎ ((n : ℕ) × (0 < n) × Breaks (rules_of objects machine.shape) machine.config step n
-    × (next ≡ Rejected tally (record {
-      step = machine.count + 1;
-      line = line;
-      rule = rule_of step;
-      criterion = n;
-    })))
+    × (next ≡ Rejected tally (rejection_of machine step line n))
+    × Fits objects machine.shape (evidence objects machine.shape machine.config step n))

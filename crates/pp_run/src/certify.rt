@@ -43,15 +43,18 @@ fn report_accepted<L: Ledger>(
 
 /// The report of a run of which a step is rejected.
 fn report_rejected(alloc: Global, tally: &Tally, rejection: &Rejection) -> Result<Text, OutOfMemory>
+    requires { (sc : InputScan) × IsRejected sc tally.now rejection.now }
     ensures { IfOk result (λ text. (sc : InputScan) → IsRejected sc tally.now rejection.now →
         IsRunTold sc statuses.Rejected text) }
 {
     rejected(
         alloc,
+        &tally.header.catalog,
         rejection.step,
         rejection.line,
         rejection.rule,
         rejection.criterion,
+        &rejection.detail,
     )
 }
 

@@ -1,8 +1,8 @@
 //! Where the examination of a run stands after some of its lines.
 use pp_core::Rule;
 use pp_json::Header;
-use pp_object::Objects;
-use pp_rules::Machine;
+use pp_object::{Objects, Op};
+use pp_rules::{Detail, Machine};
 
 /// The header of a run, and how many of its lines, and of its begin records, were taken.
 #[derive(Drop)]
@@ -12,14 +12,15 @@ pub struct Tally {
     pub begins: u32,
 }
 
-/// The first step that does not meet its criteria, the line of its record, its rule, and its first
-/// false criterion.
-#[derive(Clone, Copy)]
+/// The first step that does not meet its criteria, the line of its record, its rule, its first
+/// false criterion, and the evidence of it.
+#[derive(Drop)]
 pub struct Rejection {
     pub step: u32,
     pub line: u32,
     pub rule: Rule,
     pub criterion: u8,
+    pub detail: Detail<Op>,
 }
 
 /// What the lines so far lead to.

@@ -149,12 +149,13 @@ fn take_step<L: Ledger>(
     let (machine, outcome) = machine.step(step, ticks)?;
     match outcome {
         Outcome::Done => Ok(Progress::Running(tally, machine)),
-        Outcome::False { criterion } => {
+        Outcome::False { criterion, detail } => {
             let rejection = Rejection {
                 step: number,
                 line,
                 rule: rule_of(step),
                 criterion,
+                detail,
             };
             Ok(Progress::Rejected(tally, rejection))
         }
