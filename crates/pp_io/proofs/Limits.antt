@@ -6,6 +6,7 @@ use Rattle.std.proofs.lemmas.List.{append-nil, length-append}
 use Rattle.std.proofs.lemmas.Bool.{leb-false}
 use Rattle.std.proofs.lemmas.Option.{same_Some}
 use Rattle.std.specs.Option.{option_or}
+use Rattle.pp_core.specs.declared.limits.TheConstants.{MOST_BYTES}
 use Rattle.pp_io.specs.declared.reach.Reach.{Reach}
 use Rattle.pp_io.specs.declared.fault.LineFault.{LineFault}
 use Rattle.pp_io.specs.declared.fault.LineFault.TheVariants.{TooLong, TooManyLines, LineTooLong}
@@ -150,12 +151,12 @@ bytes_counted at (b ∷ bs) none =
     rw first.0 (omega (arith, bytes_counted (past at b) bs first.1, past_bytes at b))
 
 -- and no more than may be are taken
-pub bytes_bounded : (at : Reach) (bytes : List ℕ) → at.bytes ≤ 268_435_456 → (reach_from at bytes).bytes ≤ 268_435_456
+pub bytes_bounded : (at : Reach) (bytes : List ℕ) → at.bytes ≤ MOST_BYTES → (reach_from at bytes).bytes ≤ MOST_BYTES
 bytes_bounded at [] le = le
 bytes_bounded at (b ∷ bs) le =
-    elim (passed at b) as (λ o. passed at b ≡ o → (cond {A = Reach} (is_some o) at (reach_from (past at b) bs)).bytes ≤ 268_435_456) [
+    elim (passed at b) as (λ o. passed at b ≡ o → (cond {A = Reach} (is_some o) at (reach_from (past at b) bs)).bytes ≤ MOST_BYTES) [
       | None ↦ λ none.
-          let lt : at.bytes < 268_435_456 = leb-false 268_435_456 at.bytes (not_first _ _ _ none) in
+          let lt : at.bytes < MOST_BYTES = leb-false MOST_BYTES at.bytes (not_first _ _ _ none) in
           bytes_bounded (past at b) bs (omega (arith, past_bytes at b))
       | Some fault ↦ λ h. le
     ] refl

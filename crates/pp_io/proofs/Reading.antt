@@ -3,6 +3,7 @@ use Rattle.std.proofs.Common.{◌≡◌, ◌≤◌, ℕ, suc, ◌+◌, ◌-◌, 
 use Rattle.std.proofs.Common.{None, refl, ap, sym, ◌∙◌, subst, append_assoc, lit≤, arith}
 use Rattle.std.proofs.lemmas.List.{append-nil, length-append, length-map, map-append}
 use Rattle.std.proofs.Math.Seq.{take-append_seam}
+use Rattle.pp_core.specs.declared.limits.TheConstants.{MOST_BYTES}
 use Rattle.pp_io.specs.declared.reach.Reach.{Reach}
 use Rattle.pp_io.specs.declared.fault.LineFault.{LineFault}
 use Rattle.pp_io.specs.Lines.{ended, rest, ended_behind, unended, without_return, numbered_from}
@@ -181,8 +182,8 @@ took_overrun bytes piece out held is sound =
     ap (λ at. overrun_from at piece) (is.reach ∙ ap reach_of (within_all bytes none)) ∙ overrun_more bytes piece none
 
 -- a bound on how far an input comes
-pub took_bytes : (bytes : List ℕ) (out : List (ℕ × List ℕ)) (held : Held) → Took bytes out held → held.reach.bytes ≤ 268_435_456
-took_bytes bytes out held is = subst (λ (at : Reach). at.bytes ≤ 268_435_456) (start_reach bytes ∙ sym is.reach) (bytes_bounded start bytes (lit≤ tt))
+pub took_bytes : (bytes : List ℕ) (out : List (ℕ × List ℕ)) (held : Held) → Took bytes out held → held.reach.bytes ≤ MOST_BYTES
+took_bytes bytes out held is = subst (λ (at : Reach). at.bytes ≤ MOST_BYTES) (start_reach bytes ∙ sym is.reach) (bytes_bounded start bytes (lit≤ tt))
 
 -- the lines that are examined begin with those that the first pieces end
 pub scanned_front : (bytes left : List ℕ) → (more : List (ℕ × List ℕ)) × (scanned_lines (bytes ++ left) ≡ early_lines bytes ++ more)

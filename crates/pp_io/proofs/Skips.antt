@@ -5,6 +5,7 @@ use Rattle.std.proofs.Common.{append_assoc, subst, add-one, arith}
 use Rattle.std.proofs.lemmas.List.{drop-drop}
 use Rattle.std.proofs.Math.Seq.{take-add}
 use Rattle.std.proofs.lemmas.Bool.{false_from_ne_true, lt-leb}
+use Rattle.pp_core.specs.declared.limits.TheConstants.{LONGEST_LINE, MOST_BYTES, MOST_LINES}
 use Rattle.pp_io.specs.declared.reach.Reach.{Reach}
 use Rattle.pp_io.specs.Reaches.{passed, past, overrun_from, within_from, reach_from, IsSkipped}
 
@@ -14,11 +15,11 @@ reach_same a b p q r =
     ∙ ap (λ x. let at : Reach = record { bytes = b.bytes; lines = x; column = a.column } in at) q
     ∙ ap (λ x. let at : Reach = record { bytes = b.bytes; lines = b.lines; column = x } in at) r
 
-passed_end : (at : Reach) (b : ℕ) → (b == 10) ≡ true → at.bytes < 268_435_456 → at.lines < 200_001 → passed at b ≡ None
-passed_end at b end bytes lines = rw (lt-leb 268_435_456 at.bytes bytes, lt-leb 200_001 at.lines lines, end) refl
+passed_end : (at : Reach) (b : ℕ) → (b == 10) ≡ true → at.bytes < MOST_BYTES → at.lines < MOST_LINES → passed at b ≡ None
+passed_end at b end bytes lines = rw (lt-leb MOST_BYTES at.bytes bytes, lt-leb MOST_LINES at.lines lines, end) refl
 
-passed_byte : (at : Reach) (b : ℕ) → (b == 10) ≡ false → at.bytes < 268_435_456 → at.lines < 200_001 → at.column < 65_536 → passed at b ≡ None
-passed_byte at b inner bytes lines column = rw (lt-leb 268_435_456 at.bytes bytes, lt-leb 200_001 at.lines lines, inner, lt-leb 65_536 at.column column) refl
+passed_byte : (at : Reach) (b : ℕ) → (b == 10) ≡ false → at.bytes < MOST_BYTES → at.lines < MOST_LINES → at.column < LONGEST_LINE → passed at b ≡ None
+passed_byte at b inner bytes lines column = rw (lt-leb MOST_BYTES at.bytes bytes, lt-leb MOST_LINES at.lines lines, inner, lt-leb LONGEST_LINE at.column column) refl
 
 -- one byte, and those that follow it
 skip_one : (at to : Reach) (b : ℕ) (bs : List ℕ) (n : ℕ) → passed at b ≡ None → IsSkipped (past at b) bs n to → IsSkipped at (b ∷ bs) (suc n) to
@@ -32,7 +33,7 @@ skip_none : (at to : Reach) (bs : List ℕ) → at ≡ to → IsSkipped at bs 0 
 skip_none at to bs same = record { within = ap (λ r. within_from r bs) same; reach = ap (λ r. reach_from r bs) same; overrun = ap (λ r. overrun_from r bs) same }
 
 pub line_skipped : (at to : Reach) (bytes : List ℕ) (k : ℕ) → k < length bytes → (slice_index bytes k == 10) ≡ true → ((j : ℕ) → 0 ≤ j → j < k → (slice_index bytes j == 10) ≡ true → ⊥)
-    → at.bytes + k < 268_435_456 → at.lines < 200_001 → at.column + k ≤ 65_536 → to.bytes ≡ at.bytes + k + 1 → to.lines ≡ at.lines + 1 → to.column ≡ 0
+    → at.bytes + k < MOST_BYTES → at.lines < MOST_LINES → at.column + k ≤ LONGEST_LINE → to.bytes ≡ at.bytes + k + 1 → to.lines ≡ at.lines + 1 → to.column ≡ 0
     → IsSkipped at bytes (suc k) to
 line_skipped at to [] k lt end inner b l c tb tl tc = absurd (omega arith)
 line_skipped at to (x ∷ xs) zero lt end inner b l c tb tl tc =
@@ -57,7 +58,7 @@ skipped_more from at to bytes n k first next = record {
 -- and one more line, where these bytes are left
 pub line_more : (from at to : Reach) (bytes left : List ℕ) (n k : ℕ) → IsSkipped from bytes n at → left ≡ drop n bytes
     → k < length left → (slice_index left k == 10) ≡ true → ((j : ℕ) → 0 ≤ j → j < k → (slice_index left j == 10) ≡ true → ⊥)
-    → at.bytes + k < 268_435_456 → at.lines < 200_001 → at.column + k ≤ 65_536 → to.bytes ≡ at.bytes + k + 1 → to.lines ≡ at.lines + 1 → to.column ≡ 0
+    → at.bytes + k < MOST_BYTES → at.lines < MOST_LINES → at.column + k ≤ LONGEST_LINE → to.bytes ≡ at.bytes + k + 1 → to.lines ≡ at.lines + 1 → to.column ≡ 0
     → IsSkipped from bytes (n + (k + 1)) to
 line_more from at to bytes left n k first is lt end inner b l c tb tl tc =
     rw add-one (skipped_more from at to bytes n (suc k) first (subst (λ ls. IsSkipped at ls (suc k) to) is (line_skipped at to left k lt end inner b l c tb tl tc)))

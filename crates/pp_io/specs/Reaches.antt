@@ -2,6 +2,7 @@
 use Rattle.std.specs.Prelude.{◌≡◌, ℕ, ◌+◌, ◌≤◌, ◌<◌, List, [], ◌∷◌, ◌++◌, take, drop, ◌==◌, ◌&&◌}
 use Rattle.std.specs.Prelude.{not, nat_le, is_some, Option, Some, None, if◌then◌else◌}
 use Rattle.std.specs.Option.{option_or}
+use Rattle.pp_core.specs.declared.limits.TheConstants.{LONGEST_LINE, MOST_BYTES, MOST_LINES}
 use Rattle.pp_io.specs.declared.reach.Reach.{Reach}
 use Rattle.pp_io.specs.declared.fault.LineFault.{LineFault}
 use Rattle.pp_io.specs.declared.fault.LineFault.TheVariants.{TooLong, TooManyLines, LineTooLong}
@@ -10,9 +11,9 @@ use Rattle.pp_io.specs.declared.fault.LineFault.TheVariants.{TooLong, TooManyLin
 -- lines, or of a line's bytes, the first of them if it passes several
 abbrev pub passed : Reach → ℕ → Option LineFault
 passed at byte =
-    if nat_le 268_435_456 at.bytes then Some (TooLong (at.lines + 1)) else
-    (if nat_le 200_001 at.lines then Some (TooManyLines (at.lines + 1)) else
-    (if not (byte == 10) && nat_le 65_536 at.column
+    if nat_le MOST_BYTES at.bytes then Some (TooLong (at.lines + 1)) else
+    (if nat_le MOST_LINES at.lines then Some (TooManyLines (at.lines + 1)) else
+    (if not (byte == 10) && nat_le LONGEST_LINE at.column
     then Some (LineTooLong (at.lines + 1)) else None))
 
 -- where the input reaches behind a byte
@@ -46,11 +47,11 @@ start = record { bytes = 0; lines = 0; column = 0 }
 -- a line of so many bytes, and its end, pass no limit
 abbrev pub HasRoom : Reach → ℕ → Type 0
 HasRoom at len =
-    (at.bytes + len < 268_435_456) × (at.lines < 200_001) × (at.column + len ≤ 65_536)
+    (at.bytes + len < MOST_BYTES) × (at.lines < MOST_LINES) × (at.column + len ≤ LONGEST_LINE)
 
 -- no byte follows the last line that may be
 abbrev pub IsReach : Reach → Type 0
-IsReach at = (at.lines ≤ 200_001) × (0 < at.column → at.lines ≤ 200_000)
+IsReach at = (at.lines ≤ MOST_LINES) × (0 < at.column → at.lines < MOST_LINES)
 
 -- so many bytes pass no limit, and reach to there
 pub record IsSkipped (at : Reach) (bytes : List ℕ) (n : ℕ) (to : Reach) : Type 0 where

@@ -1,6 +1,7 @@
 //! Whole lines out of pieces of bytes.
 ghost use Rattle.std.specs.Prelude.{◌≡◌, ◌≤◌, ◌+◌, ◌++◌, ◌∷◌, [], ℕ, List, IfNone, None, Some, Err};
 ghost use Rattle.std.specs.Prelude.{OnOk, IfErr, IsErrOf, option_map, IfSome, false};
+ghost use Rattle.pp_core.specs.declared.limits.TheConstants.{MOST_LINES};
 ghost use Rattle.pp_io.specs.Lines.{NumberedLine, blank, numbered_lines};
 ghost use Rattle.pp_io.specs.Overruns.{overrun, answer_of};
 ghost use Rattle.pp_io.specs.Taken.{Hands, Took};
@@ -136,7 +137,7 @@ impl Lines {
         ensures number { IfSome result (λ line.
             (line.number ≡ self.old.handed + 1)
             × (self.new.handed ≡ line.number)
-            × (line.number ≤ 200_001)) }
+            × (line.number ≤ MOST_LINES)) }
         ensures input { (bytes : List ℕ) (out : List NumberedLine) → Took bytes out self.old →
             IfSome result (λ line. Took bytes (out ++ (line.number, line.text) ∷ []) self.new) }
         ensures some { (lines out : List NumberedLine) → Hands lines out self.old →

@@ -4,7 +4,7 @@ use Rattle.std.specs.Io.KnownBytes.{Consumes, IsAtEnd}
 use Rattle.std.proofs.Common.{refl, sym, ap, ◌∙◌, subst, arith, append_assoc}
 use Rattle.std.proofs.lemmas.List.{append-nil}
 use mathlib.Core.Logic.{inl, inr}
-use Rattle.pp_core.specs.declared.limits.TheConstants.{MOST_LINES}
+use Rattle.pp_core.specs.declared.limits.TheConstants.{MOST_BYTES, MOST_LINES}
 use Rattle.pp_io.specs.declared.fault.LineFault.{LineFault}
 use Rattle.pp_io.specs.declared.reach.Reach.{Reach}
 use Rattle.pp_io.specs.Held.{Held, after_first, after_next, empty, fed, finished, first_of, next_line}
@@ -145,7 +145,7 @@ module _ {T : Type 0} (R : Reading T) where
   fault_here lines at cause faulty = subst (λ ls. R.HasFault ls at cause) (append-nil lines) (faulty [])
 
   -- the bytes so far are counted
-  pub at_bytes : (bytes : List ℕ) (held : Held) (taker : T) → IsAt R bytes held taker → (held.reach.bytes ≡ length bytes) × (length bytes ≤ 268_435_456)
+  pub at_bytes : (bytes : List ℕ) (held : Held) (taker : T) → IsAt R bytes held taker → (held.reach.bytes ≡ length bytes) × (length bytes ≤ MOST_BYTES)
   at_bytes bytes held taker at =
       let none : overrun bytes ≡ None = sym at.took.fault ∙ at.sound in
       let count : held.reach.bytes ≡ length bytes = ap (λ (r : Reach). r.bytes) at.took.reach ∙ ap (λ (bs : List ℕ). length bs) (within_all bytes none) in

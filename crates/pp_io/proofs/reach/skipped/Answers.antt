@@ -1,5 +1,6 @@
 use Rattle.std.proofs.Common.{◌≤◌, ◌<◌, ◌+◌, length, drop, refl, ap, ◌∙◌, arith, rules}
 use Rattle.std.proofs.lemmas.List.{take_rest, drop-drop, length-drop}
+use Rattle.pp_core.specs.declared.limits.TheConstants.{LONGEST_LINE, MOST_BYTES, MOST_LINES}
 use Rattle.pp_io.specs.declared.reach.Reach.{Reach}
 use Rattle.pp_io.proofs.Skips.{line_more}
 use Rattle.pp_io.proofs.reach.skipped.Goals as goal
@@ -12,7 +13,7 @@ lines-preserved c =
     let inv = c.lines.invariant in
     let first = c.in-Some.ensures.0 in
     let to : Reach = record { bytes = at.bytes + k + 1; lines = at.lines + 1; column = 0 } in
-    let room : (at.bytes + k < 268_435_456) × (at.lines < 200_001) × (at.column + k ≤ 65_536) = search rules in
+    let room : (at.bytes + k < MOST_BYTES) × (at.lines < MOST_LINES) × (at.column + k ≤ LONGEST_LINE) = search rules in
     record {
       left = take_rest left (k + 1) ∙ ap (drop (k + 1)) inv.left ∙ drop-drop (k + 1) c.lines.done c.args.piece.now;
       within = omega (arith, first.high, ap length inv.left, length-drop c.lines.done c.args.piece.now);
