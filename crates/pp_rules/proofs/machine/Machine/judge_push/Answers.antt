@@ -1,4 +1,4 @@
-use Rattle.std.proofs.Common.{◌∙◌, ◌++◌, ◌∷◌, [], arith, ◌<◌, ◌≤◌, take, length, slice_get, sym, ap, subst, refl, IsTrue}
+use Rattle.std.proofs.Common.{◌∙◌, ◌++◌, ◌∷◌, [], arith, ◌<◌, take, length, slice_get, sym, ap, subst, IsTrue}
 use Rattle.std.proofs.lemmas.List.{length-take-le}
 use Rattle.pp_log.specs.Logs.{answer_behind}
 use Rattle.pp_model.specs.Config.{shared_ops}
