@@ -1,5 +1,6 @@
 -- The objects of a catalog, and their states.
-use Rattle.std.proofs.Common.{◌≡◌, ◌<◌, ℕ, zero, suc, List, [], ◌∷◌, length, slice_get, Some, refl, ◌∙◌, ap, arith}
+use Rattle.std.proofs.Common.{◌≡◌, ◌<◌, ℕ, zero, suc, List, [], ◌∷◌, length, slice_get, Some, refl}
+use Rattle.std.proofs.Common.{◌∙◌, ap, arith}
 use Rattle.pp_core.specs.Catalogs.{Objects}
 use Rattle.pp_core.specs.declared.call.Kind.{Kind}
 use Rattle.pp_object.specs.declared.states.ObjectState.{ObjectState}

@@ -1,7 +1,8 @@
 //! The evidence of a rejected run.
 ghost use Rattle.std.specs.Prelude.{◌≡◌, ◌++◌, OnOk};
 ghost use Rattle.pp_model.specs.Lists.{Each};
-ghost use Rattle.pp_report.specs.Reports.{IsDetailNamed, detail_text, entry_bytes, line, ops_bytes, ops_line, spaced_bytes};
+ghost use Rattle.pp_report.specs.Reports.{IsDetailNamed, detail_text, entry_bytes, line, ops_bytes};
+ghost use Rattle.pp_report.specs.Reports.{ops_line, spaced_bytes};
 ghost use Rattle.pp_text.specs.Texts.{IsNamed};
 
 use pp_core::{Catalog, OutOfMemory, Text};

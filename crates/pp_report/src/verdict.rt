@@ -1,6 +1,7 @@
 //! The reports of rejected runs and of faults.
 ghost use Rattle.std.specs.Prelude.{◌≡◌, ◌++◌, IfOk, OnOk};
-ghost use Rattle.pp_report.specs.Reports.{IsDetailNamed, rejected_place, rejected_rule, rejected_text, fault_text};
+ghost use Rattle.pp_report.specs.Reports.{IsDetailNamed, rejected_place, rejected_rule};
+ghost use Rattle.pp_report.specs.Reports.{rejected_text, fault_text};
 
 use crate::cause::Cause;
 use crate::evidence::write_detail;

@@ -2,9 +2,9 @@
 use Rattle.std.proofs.Common.{◌≡◌, ◌≢◌, ◌-◌, drop, filter, Bor, is_some, ◌==◌, ◌↔◌, IsTrue, ℕ, zero}
 use Rattle.std.proofs.Common.{suc, ◌<◌, ◌≤◌, ◌+◌, Bool, true, false, cond, not, ◌||◌, ◌&&◌, List}
 use Rattle.std.proofs.Common.{[], ◌∷◌, ◌++◌, map, take, length, get_or, Option, Some, None, IfNone}
-use Rattle.std.proofs.Common.{IfSome, MatchOption, option_map, add-one, IsSome, position, nat_lt}
-use Rattle.std.proofs.Common.{find, slice_get, reverse, refl, sym, ◌∙◌, ap, subst, arith, inl, inr}
-use Rattle.std.specs.List.{list_any, list_all, position_or_len, remove}
+use Rattle.std.proofs.Common.{IfSome, option_map, add-one, IsSome, position, nat_lt, find}
+use Rattle.std.proofs.Common.{slice_get, reverse, refl, sym, ◌∙◌, ap, subst, arith, inl, inr}
+use Rattle.std.specs.List.{list_any, position_or_len, remove}
 use Rattle.std.proofs.lemmas.Bool.{ltb-false, ltb-true, eqb-true, eq-eqb}
 use Rattle.std.proofs.lemmas.List.{length-drop, reverse-append, take_all}
 use Rattle.std.proofs.lemmas.List.Folds.{find_at}

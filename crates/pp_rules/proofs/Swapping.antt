@@ -1,8 +1,7 @@
 -- Which operations swap, by what the tests of the movers say.
-use Rattle.std.proofs.Common.{◌≡◌, ◌≢◌, ◌==◌, ◌&&◌, ◌+◌, false, ℕ, IsTrue, true, suc, zero, Bool}
-use Rattle.std.proofs.Common.{cond, not, filter, find, is_some, List, [], ◌∷◌, Option, Some, None}
-use Rattle.std.proofs.Common.{drop, take, position, slice_get, refl, sym, ap, subst, ◌∙◌, ◌<◌}
-use Rattle.std.proofs.Common.{arith}
+use Rattle.std.proofs.Common.{◌≡◌, ◌==◌, ◌&&◌, ◌+◌, false, ℕ, IsTrue, true, suc, zero, Bool, cond}
+use Rattle.std.proofs.Common.{not, filter, find, is_some, List, [], ◌∷◌, Some, None, drop, take}
+use Rattle.std.proofs.Common.{position, slice_get, refl, sym, ap, subst, ◌∙◌, ◌<◌, arith}
 use Rattle.std.specs.List.{position_or_len}
 use Rattle.pp_core.specs.declared.entry.LocalEntry.{LocalEntry}
 use Rattle.pp_core.specs.declared.entry.SharedEntry.{SharedEntry}
@@ -17,7 +16,7 @@ use Rattle.pp_rules.specs.Evidence.{entries_before, entries_behind, first_swap, 
 use Rattle.pp_rules.specs.Finding.{AreDistinct, blocks, holds_back, stands_first, stays_behind}
 use Rattle.pp_rules.specs.declared.detail.Detail.TheVariants.{Nothing}
 use Rattle.pp_rules.proofs.Finding.{before_here, behind_here, here_behind, in_dropped, here_before}
-use Rattle.pp_rules.proofs.Finding.{in_taken, is_not_true, place_found, place_or_len, some_same}
+use Rattle.pp_rules.proofs.Finding.{in_taken, place_found, place_or_len, some_same}
 use Rattle.pp_rules.proofs.Opened.{is_none, is_there}
 use Rattle.pp_rules.proofs.Showing.{none_stops, stops_here, swap_shown}
 

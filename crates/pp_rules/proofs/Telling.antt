@@ -1,8 +1,8 @@
 -- The evidence of a step shows its first false criterion, and tells operations of the objects.
-use Rattle.std.proofs.Common.{◌≡◌, ◌≢◌, ◌==◌, ◌&&◌, ◌+◌, ℕ, zero, suc, Bool, true, false, cond, not}
-use Rattle.std.proofs.Common.{filter, find, is_some, IsTrue, List, [], ◌∷◌, ◌++◌, take, drop}
-use Rattle.std.proofs.Common.{position, slice_get, Option, Some, None, refl, sym, ap, subst, ◌∙◌}
-use Rattle.std.proofs.Common.{add-one, inl, inr}
+use Rattle.std.proofs.Common.{◌≡◌, ◌==◌, ◌&&◌, ◌+◌, ℕ, zero, suc, Bool, true, false, cond, not}
+use Rattle.std.proofs.Common.{filter, find, is_some, IsTrue, List, [], ◌∷◌, ◌++◌, drop, position}
+use Rattle.std.proofs.Common.{slice_get, Option, Some, None, refl, sym, ap, subst, ◌∙◌, add-one}
+use Rattle.std.proofs.Common.{inl, inr}
 use Rattle.std.specs.List.{position_or_len}
 use Rattle.std.proofs.lemmas.Bool.{eqb-true, eq-eqb}
 use Rattle.std.proofs.lemmas.List.Folds.{find_at}
@@ -18,8 +18,7 @@ use Rattle.pp_model.specs.Lists.{Before, Each, In}
 use Rattle.pp_model.specs.Names.{◌=ⁿ◌}
 use Rattle.pp_model.specs.Rules.{FirstFalse, criteria, there}
 use Rattle.pp_model.specs.Sound.{Sound}
-use Rattle.pp_model.proofs.Lists.{before_in_first, before_in_second, by_key, each_from, from_filter}
-use Rattle.pp_model.proofs.Lists.{in_left, in_map, in_right}
+use Rattle.pp_model.proofs.Lists.{by_key, each_from, from_filter, in_left, in_map, in_right}
 use Rattle.pp_model.proofs.Logs.{both_true, found, found_mark, found_other, found_tx, is_mark-true}
 use Rattle.pp_model.proofs.Names.{eq-names, names_not}
 use Rattle.pp_spec.specs.Object.{Object, AllowedFrom, IsAllowed, IsLawful, IsRefutedBy, SwapsIn}

@@ -86,27 +86,28 @@ module _ {Shape State Op Undo : Type 0} (o : Object Shape State Op Undo) (shape 
       ∷ gives_behind id (local_ops x.local) op
       ∷ []
   evidences c (Unapp t id) = if_there (tx t c.opened) λ x. Nothing ∷ []
-  evidences c (Push t id) =
-      if_there (tx t c.opened) λ x. if_there (at_mark id Unpushed x.local) λ e.
+  evidences c (Push t id) = if_there (tx t c.opened) λ x.
+      if_there (at_mark id Unpushed x.local) λ e.
       first_swap (λ a. a.id) (λ a. o.refuting e.op a.op)
       (filter (λ a. is_mark a.mark Unpushed) (entries_before id x.local))
       ∷ first_swap (λ u. u.id) (λ u. o.refuting u.op e.op)
       (filter (λ u. not u.committed && not (u.owner =ⁿ t)) c.shared)
       ∷ gives_behind id (shared_ops c.shared) e.op
       ∷ []
-  evidences c (Unpush t id) =
-      if_there (tx t c.opened) λ x. if_there (at_mark id Pushed x.local) λ e.
+  evidences c (Unpush t id) = if_there (tx t c.opened) λ x.
+      if_there (at_mark id Pushed x.local) λ e.
       first_swap (λ b. b.id) (λ b. o.refuting b.op e.op)
       (filter (λ b. is_mark b.mark Pushed) (entries_behind id x.local))
       ∷ first_differing o shared_item (o.start shape) (without_shared id c.shared)
       ∷ []
-  evidences c (Pull t id) = if_there (tx t c.opened) λ x. if_there (of_other t id c.shared) λ g.
+  evidences c (Pull t id) = if_there (tx t c.opened) λ x.
+      if_there (of_other t id c.shared) λ g.
       Nothing
       ∷ gives_behind id (local_ops x.local) g.op
       ∷ first_swap (λ a. a.id) (λ a. o.refuting a.op g.op) (own x.local)
       ∷ []
-  evidences c (Unpull t id) =
-      if_there (tx t c.opened) λ x. if_there (at_mark id Pulled x.local) λ e.
+  evidences c (Unpull t id) = if_there (tx t c.opened) λ x.
+      if_there (at_mark id Pulled x.local) λ e.
       first_differing o item (o.start shape) (without_local id x.local)
       ∷ []
   evidences c (Cmt t) = if_there (tx t c.opened) λ x.

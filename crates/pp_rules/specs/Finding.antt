@@ -1,6 +1,6 @@
 -- Proof machinery: what the look-ups in logs answer.
-use Rattle.std.specs.Prelude.{◌≡◌, ◌≢◌, ◌+◌, slice_get, ◌==◌, ◌&&◌, ℕ, Bool, false, not, List}
-use Rattle.std.specs.Prelude.{Option, None, Some, find, is_some, length}
+use Rattle.std.specs.Prelude.{◌≡◌, ◌≢◌, ◌+◌, slice_get, ◌&&◌, ℕ, Bool, not, List, Some, is_some}
+use Rattle.std.specs.Prelude.{length}
 use Rattle.pp_core.specs.declared.entry.LocalEntry.{LocalEntry}
 use Rattle.pp_core.specs.declared.entry.SharedEntry.{SharedEntry}
 use Rattle.pp_model.specs.Config.{Unpushed, Pushed, is_mark, is_own}

@@ -1,6 +1,7 @@
 -- What an examination concludes.
 use Rattle.std.proofs.lemmas.Option.{same_Some}
-use Rattle.std.specs.Prelude.{◌≡◌, ℕ, zero, suc, List, [], ◌∷◌, length, map, take, Option, None, Some}
+use Rattle.std.specs.Prelude.{◌≡◌, ℕ, zero, suc, List, [], ◌∷◌, length, map, take, Option, None}
+use Rattle.std.specs.Prelude.{Some}
 use Rattle.std.proofs.Common.{refl, sym, ap, ◌∙◌, subst}
 use Rattle.std.proofs.lemmas.List.{append-nil}
 use mathlib.Core.Logic.{inr}
@@ -10,10 +11,12 @@ use Rattle.pp_core.specs.declared.status.Status.{Status}
 use Rattle.pp_core.specs.declared.status.Status.TheVariants as statuses
 use Rattle.pp_core.specs.Steps.{rule_of}
 use Rattle.pp_front.proofs.Whole.{one_run_law}
-use Rattle.pp_front.specs.Inputs.{Accepts, Faulty, IsReportBehind, IsRunReport, StartRejected, StepRejected}
+use Rattle.pp_front.specs.Inputs.{Accepts, Faulty, IsReportBehind, IsRunReport, StartRejected}
+use Rattle.pp_front.specs.Inputs.{StepRejected}
 use Rattle.pp_front.specs.Laws.{IsRejectedAt}
 use Rattle.pp_front.specs.Records.{RunRecord}
-use Rattle.pp_front.specs.Runs.{IsRun, Lined, LinedSteps, Records, Standing, bare, joined_steps, outset}
+use Rattle.pp_front.specs.Runs.{IsRun, Lined, LinedSteps, Records, Standing, bare, joined_steps}
+use Rattle.pp_front.specs.Runs.{outset}
 use Rattle.pp_front.specs.Fronts.{Front}
 use Rattle.pp_front.proofs.Reading.{reading_law}
 use Rattle.pp_front.proofs.Reporting.{input_law}

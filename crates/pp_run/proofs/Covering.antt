@@ -1,5 +1,7 @@
 -- One line more, seen from the progress of an examination.
-use Rattle.std.specs.Prelude.{◌≡◌, ◌≤◌, ◌<◌, ℕ, zero, suc, ◌+◌, ◌==◌, ◌&&◌, Bool, true, false, List, [], ◌∷◌, ◌++◌, length, filter, slice_get, take, cond, Option, None, Some, Result, Ok, Err}
+use Rattle.std.specs.Prelude.{◌≡◌, ◌≤◌, ◌<◌, ℕ, zero, suc, ◌+◌, ◌==◌, ◌&&◌, Bool, true, false, List}
+use Rattle.std.specs.Prelude.{[], ◌∷◌, ◌++◌, length, filter, slice_get, take, cond, Option, None}
+use Rattle.std.specs.Prelude.{Some, Result, Ok, Err}
 use Rattle.std.proofs.Common.{refl, sym, ap, ◌∙◌, subst, arith, length-append, append_assoc}
 use Rattle.std.proofs.lemmas.List.{append-nil}
 use Rattle.std.proofs.lemmas.List.Elements.{filter-append}
@@ -35,13 +37,17 @@ use Rattle.pp_rules.specs.declared.detail.Detail.{Detail}
 use Rattle.pp_spec.specs.Object.{rules_of}
 use Rattle.pp_run.specs.Inputs.{IsFaultOf}
 use Rattle.pp_run.specs.Objects.{object_of, setting_of, start_of, translation_of}
-use Rattle.pp_run.specs.Scans.{InputScan, begins, is_begin, is_begin_record, nothing, scan_line, with_fault, with_header, with_step}
-use Rattle.pp_run.specs.Progresses.{Covers, EndsAt, IsTallied, IsRefused, IsRejected, IsRunning, StepTaken, is_too_many, lines_of, rejection_of, with_blank, standing_of, with_line, with_record}
+use Rattle.pp_run.specs.Scans.{InputScan, begins, is_begin, is_begin_record, nothing, scan_line}
+use Rattle.pp_run.specs.Scans.{with_fault, with_header, with_step}
+use Rattle.pp_run.specs.Progresses.{Covers, EndsAt, IsTallied, IsRefused, IsRejected, IsRunning}
+use Rattle.pp_run.specs.Progresses.{StepTaken, is_too_many, lines_of, rejection_of, with_blank}
+use Rattle.pp_run.specs.Progresses.{standing_of, with_line, with_record}
 use Rattle.pp_run.specs.declared.progress.Progress.{Progress}
 use Rattle.pp_run.specs.declared.progress.Progress.TheVariants.{Waiting, Running, Rejected}
 use Rattle.pp_run.specs.declared.progress.Rejection.{Rejection}
 use Rattle.pp_run.specs.declared.progress.Tally.{Tally}
-use Rattle.pp_run.proofs.Scanning.{faulty_at, scan_blank, scan_header, scan_record, step_taken, too_many}
+use Rattle.pp_run.proofs.Scanning.{faulty_at, scan_blank, scan_header, scan_record, step_taken}
+use Rattle.pp_run.proofs.Scanning.{too_many}
 
 length_filter : {A : Type 0} (test : A → Bool) (xs : List A) → length (filter test xs) ≤ length xs
 length_filter test [] = omega arith

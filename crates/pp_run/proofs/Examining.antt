@@ -18,7 +18,8 @@ use Rattle.pp_run.specs.Inputs.{IsFaultOf, ReadsNoFault, early_scan, limit_fault
 use Rattle.pp_run.specs.Objects.{setting_of}
 use Rattle.pp_run.specs.Progresses.{Covers, Leads, lines_of, run_reading}
 use Rattle.pp_run.specs.Scans.{InputScan, scan_line, scan_lines}
-use Rattle.pp_run.specs.Takers.{HasFaultBehind, HasInputFault, IfFault, IsNext, LeadsOn, ReadsAll, ReadsSoFar, StopsAt}
+use Rattle.pp_run.specs.Takers.{HasFaultBehind, HasInputFault, IfFault, IsNext, LeadsOn, ReadsAll}
+use Rattle.pp_run.specs.Takers.{ReadsSoFar, StopsAt}
 use Rattle.pp_run.specs.declared.progress.Progress.{Progress}
 use Rattle.pp_run.specs.declared.progress.Progress.TheVariants.{Waiting, Running, Rejected}
 use Rattle.pp_run.specs.declared.stop.Stop.{Stop}

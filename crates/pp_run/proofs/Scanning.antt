@@ -1,5 +1,6 @@
 -- What one line more makes of a scan.
-use Rattle.std.specs.Prelude.{◌≡◌, ℕ, ◌==◌, ◌&&◌, ◌||◌, true, false, List, [], ◌∷◌, ◌++◌, fold, is_some, cond, Option, None, Some, Result, Ok}
+use Rattle.std.specs.Prelude.{◌≡◌, ℕ, ◌==◌, ◌&&◌, ◌||◌, true, false, List, [], ◌∷◌, ◌++◌, fold}
+use Rattle.std.specs.Prelude.{is_some, cond, Option, None, Some, Result, Ok}
 use Rattle.std.proofs.Common.{refl, ap, ◌∙◌}
 use Rattle.pp_core.specs.declared.limits.TheConstants.{MOST_TRANSACTIONS}
 use Rattle.pp_core.specs.Steps.{Step}
@@ -12,7 +13,8 @@ use Rattle.pp_json.specs.Records.{record_of}
 use Rattle.pp_report.specs.declared.cause.Cause.{Cause}
 use Rattle.pp_report.specs.declared.cause.Cause.TheVariants.{TooManyTransactions}
 use Rattle.pp_front.specs.Runs.{Lined}
-use Rattle.pp_run.specs.Scans.{InputScan, begins, is_begin, nothing, read_line, scan_line, scan_lines, with_header, with_record, with_step}
+use Rattle.pp_run.specs.Scans.{InputScan, begins, is_begin, nothing, read_line, scan_line}
+use Rattle.pp_run.specs.Scans.{scan_lines, with_header, with_record, with_step}
 
 fold_append : {A B : Type 0} (f : B → A → B) (b : B) (xs ys : List A) → fold f b (xs ++ ys) ≡ fold f (fold f b xs) ys
 fold_append f b [] ys = refl

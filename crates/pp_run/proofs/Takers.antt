@@ -1,5 +1,6 @@
 -- Lines that come in pieces, taken one after another.
-use Rattle.std.specs.Prelude.{◌≡◌, ◌≤◌, ℕ, ◌+◌, List, [], ◌∷◌, ◌++◌, length, Option, None, Some, option_map, Result, Ok, Err, IfOk, IfErr, OnOk}
+use Rattle.std.specs.Prelude.{◌≡◌, ◌≤◌, ℕ, ◌+◌, List, [], ◌∷◌, ◌++◌, length, Option, None, Some}
+use Rattle.std.specs.Prelude.{option_map, Result, Ok, Err, IfOk, IfErr, OnOk}
 use Rattle.std.specs.Io.KnownBytes.{Consumes, IsAtEnd}
 use Rattle.std.proofs.Common.{refl, sym, ap, ◌∙◌, subst, arith, append_assoc}
 use Rattle.std.proofs.lemmas.List.{append-nil}
@@ -7,19 +8,24 @@ use mathlib.Core.Logic.{inl, inr}
 use Rattle.pp_core.specs.declared.limits.TheConstants.{MOST_BYTES, MOST_LINES}
 use Rattle.pp_io.specs.declared.fault.LineFault.{LineFault}
 use Rattle.pp_io.specs.declared.reach.Reach.{Reach}
-use Rattle.pp_io.specs.Held.{Held, after_first, after_next, empty, fed, finished, first_of, next_line}
+use Rattle.pp_io.specs.Held.{Held, after_first, after_next, empty, fed, finished, first_of}
+use Rattle.pp_io.specs.Held.{next_line}
 use Rattle.pp_io.specs.Lines.{NumberedLine}
 use Rattle.pp_io.specs.Overruns.{early_lines, line_of, overrun, scanned_lines}
 use Rattle.pp_io.specs.Reaches.{overrun_from}
 use Rattle.pp_io.specs.Taken.{Hands}
 use Rattle.pp_io.proofs.Limits.{within_all}
-use Rattle.pp_io.proofs.Reading.{hands_all, hands_finished, hands_front, hands_next, overrun_kept, scanned_front, scanned_kept, took_bytes, took_empty, took_fed, took_overrun}
+use Rattle.pp_io.proofs.Reading.{hands_all, hands_finished, hands_front, hands_next, overrun_kept}
+use Rattle.pp_io.proofs.Reading.{scanned_front, scanned_kept, took_bytes, took_empty, took_fed}
+use Rattle.pp_io.proofs.Reading.{took_overrun}
 use Rattle.pp_report.specs.declared.cause.Cause.{Cause}
 use Rattle.pp_run.specs.declared.stop.Failure.TheVariants.{OutOfMemory, ReadFault}
 use Rattle.pp_run.specs.declared.stop.Stop.{Stop}
 use Rattle.pp_run.specs.declared.stop.Stop.TheVariants as stops
 use Rattle.pp_run.specs.Inputs.{cause_of_limit, limit_fault}
-use Rattle.pp_run.specs.Takers.{Follows, HasEarlyFault, HasFaultBehind, HasInputFault, IfFault, IfInputFault, IsAt, IsNext, LeadsOn, PassesLimit, Reading, ReadsSoFar}
+use Rattle.pp_run.specs.Takers.{Follows, HasEarlyFault, HasFaultBehind, HasInputFault, IfFault}
+use Rattle.pp_run.specs.Takers.{IfInputFault, IsAt, IsNext, LeadsOn, PassesLimit, Reading}
+use Rattle.pp_run.specs.Takers.{ReadsSoFar}
 
 -- ---- line by line
 

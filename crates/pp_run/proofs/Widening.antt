@@ -1,5 +1,6 @@
 -- More lines and more bytes widen a scan.
-use Rattle.std.specs.Prelude.{◌≡◌, ℕ, ◌==◌, ◌&&◌, ◌||◌, Bool, true, false, List, [], ◌∷◌, ◌++◌, fold, is_some, cond, Option, None, Some, Result, Ok, Err}
+use Rattle.std.specs.Prelude.{◌≡◌, ℕ, ◌==◌, ◌&&◌, ◌||◌, Bool, true, false, List, [], ◌∷◌, ◌++◌}
+use Rattle.std.specs.Prelude.{fold, is_some, cond, Option, None, Some, Result, Ok, Err}
 use Rattle.std.specs.Option.{option_or}
 use Rattle.std.proofs.Common.{refl, sym, ap, subst, ◌∙◌, append_assoc}
 use Rattle.std.proofs.lemmas.List.{append-nil}
@@ -19,7 +20,8 @@ use Rattle.pp_report.specs.declared.cause.Cause.{Cause}
 use Rattle.pp_report.specs.declared.cause.Cause.TheVariants.{TooManyTransactions}
 use Rattle.pp_run.specs.Causes.{cause_of}
 use Rattle.pp_run.specs.Inputs.{or_fault}
-use Rattle.pp_run.specs.Scans.{InputScan, begins, is_begin, read_line, scan_line, scan_lines, with_fault, with_header, with_record, with_step}
+use Rattle.pp_run.specs.Scans.{InputScan, begins, is_begin, read_line, scan_line, scan_lines}
+use Rattle.pp_run.specs.Scans.{with_fault, with_header, with_record, with_step}
 use Rattle.pp_run.proofs.Scanning.{scan_append, skips}
 
 -- the second has the header of the first, if there is one, and its records before its own

@@ -10,7 +10,8 @@ use Rattle.pp_io.specs.Lines.{numbered_lines}
 use Rattle.pp_io.specs.Overruns.{early_lines, line_of, overrun, scanned_lines}
 use Rattle.pp_json.specs.declared.header.Header.{Header}
 use Rattle.pp_report.specs.declared.cause.Cause.{Cause}
-use Rattle.pp_report.specs.declared.cause.Cause.TheVariants.{LineTooLong, NoHeader, TooLong, TooManyLines, TooManySteps}
+use Rattle.pp_report.specs.declared.cause.Cause.TheVariants.{LineTooLong, NoHeader, TooLong}
+use Rattle.pp_report.specs.declared.cause.Cause.TheVariants.{TooManyLines, TooManySteps}
 use Rattle.pp_run.specs.Objects.{setting_of}
 use Rattle.pp_run.specs.Scans.{InputScan, scan_lines}
 

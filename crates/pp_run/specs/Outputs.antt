@@ -5,7 +5,8 @@ use Rattle.std.specs.Io.KnownBytes.{Appends}
 use Rattle.pp_core.specs.declared.status.Status.{Status}
 use Rattle.pp_core.specs.declared.status.Status.TheVariants as statuses
 use Rattle.pp_core.specs.Steps.{rule_of}
-use Rattle.pp_front.specs.Inputs.{Accepts, Faulty, IsReport, IsRunReport, Report, StartRejected, StepRejected}
+use Rattle.pp_front.specs.Inputs.{Accepts, Faulty, IsReport, IsRunReport, Report, StartRejected}
+use Rattle.pp_front.specs.Inputs.{StepRejected}
 use Rattle.pp_front.specs.Runs.{Lined}
 use Rattle.pp_json.specs.declared.header.Header.{Header}
 use Rattle.pp_model.specs.Serial.{committed_tx}

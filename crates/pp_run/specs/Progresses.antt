@@ -1,5 +1,6 @@
 -- Proof machinery: where the examination of a run stands after some of its lines.
-use Rattle.std.specs.Prelude.{◌≡◌, ℕ, suc, ◌+◌, ◌<◌, ◌≤◌, Bool, true, ◌==◌, ◌&&◌, ◌⊎◌, List, ◌++◌, length, slice_get, take, if◌then◌else◌, None, Some, Result, Ok, Err}
+use Rattle.std.specs.Prelude.{◌≡◌, ℕ, suc, ◌+◌, ◌<◌, ◌≤◌, Bool, true, ◌==◌, ◌&&◌, ◌⊎◌, List, ◌++◌}
+use Rattle.std.specs.Prelude.{length, slice_get, take, if◌then◌else◌, None, Some, Result, Ok, Err}
 use Rattle.pp_core.specs.declared.call.Kind.{Kind}
 use Rattle.pp_core.specs.declared.limits.TheConstants.{MOST_LINES, MOST_TRANSACTIONS}
 use Rattle.pp_core.specs.Steps.{Step, rule_of}

@@ -6,7 +6,8 @@ ghost use Rattle.pp_io.specs.Faults.{HasRisen};
 ghost use Rattle.pp_run.specs.declared.words.Command.TheVariants.{Certify};
 ghost use Rattle.pp_run.specs.Certified.{IsDecided, IsPrinted, IsUnwritten};
 ghost use Rattle.pp_run.specs.Inputs.{ReadsNoFault, scan};
-ghost use Rattle.pp_run.specs.Outputs.{Prints, PrintsPrefix, PrintsPrefixOnly, PrintsOnly, WhereTold};
+ghost use Rattle.pp_run.specs.Outputs.{Prints, PrintsPrefix, PrintsPrefixOnly, PrintsOnly};
+ghost use Rattle.pp_run.specs.Outputs.{WhereTold};
 ghost use Rattle.pp_run.specs.Accepted.{IsAloneAccepted, IsSimulated};
 ghost use Rattle.pp_run.specs.Words.{command_of};
 

@@ -1,5 +1,6 @@
 //! Reading the lines of a source, however it is cut.
-ghost use Rattle.std.specs.Prelude.{◌≡◌, ◌≤◌, ℕ, List, [], ◌++◌, length, false, None, Some, IfOk, IfErr, OnOk, IsErrOf};
+ghost use Rattle.std.specs.Prelude.{◌≡◌, ◌≤◌, ℕ, List, [], ◌++◌, length, false, None, Some, IfOk};
+ghost use Rattle.std.specs.Prelude.{IfErr, OnOk, IsErrOf};
 ghost use Rattle.std.specs.Io.KnownBytes.{IsAtEnd};
 ghost use Rattle.pp_io.specs.Faults.{HasRisen};
 ghost use Rattle.pp_io.specs.Held.{fed};
@@ -9,7 +10,8 @@ ghost use Rattle.pp_io.specs.Reaches.{overrun_from};
 ghost use Rattle.pp_run.specs.declared.stop.Failure.TheVariants.{ReadFault};
 ghost use Rattle.pp_run.specs.declared.stop.Stop.TheVariants.{Failure as StopsByFailure};
 ghost use Rattle.pp_run.specs.Inputs.{cause_of_limit};
-ghost use Rattle.pp_run.specs.Takers.{Follows, HasEarlyFault, HasFaultBehind, HasInputFault, IfFault, IfInputFault, IsAt, ReadsAll, ReadsSoFar};
+ghost use Rattle.pp_run.specs.Takers.{Follows, HasEarlyFault, HasFaultBehind, HasInputFault};
+ghost use Rattle.pp_run.specs.Takers.{IfFault, IfInputFault, IsAt, ReadsAll, ReadsSoFar};
 
 use crate::stop::{Failure, Stop};
 use crate::taker::TakesLines;

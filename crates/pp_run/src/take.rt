@@ -1,11 +1,13 @@
 //! Taking the lines of a run, one after another.
-ghost use Rattle.std.specs.Prelude.{◌≡◌, ◌≤◌, ◌<◌, ◌+◌, false, ◌&&◌, ◌==◌, IfOk, IfErr, Some, None, Ok, Err};
+ghost use Rattle.std.specs.Prelude.{◌≡◌, ◌≤◌, ◌<◌, ◌+◌, false, ◌&&◌, ◌==◌, IfOk, IfErr, Some, None};
+ghost use Rattle.std.specs.Prelude.{Ok, Err};
 ghost use Rattle.pp_run.specs.declared.progress.Progress.TheVariants.{Running, Rejected};
 ghost use Rattle.pp_run.specs.declared.stop.Failure.TheVariants as failures;
 ghost use Rattle.pp_run.specs.declared.stop.Stop.TheVariants as stops;
 ghost use Rattle.pp_run.specs.Objects.{start_of};
 ghost use Rattle.pp_run.specs.Scans.{is_begin};
-ghost use Rattle.pp_run.specs.Progresses.{IsRefused, StepTaken, is_too_many, lines_of, run_reading, with_blank, with_line, with_record};
+ghost use Rattle.pp_run.specs.Progresses.{IsRefused, StepTaken, is_too_many, lines_of, run_reading};
+ghost use Rattle.pp_run.specs.Progresses.{with_blank, with_line, with_record};
 ghost use Rattle.pp_run.specs.Takers.{IfFault, IsNext, LeadsOn, StopsAt};
 ghost use Rattle.pp_core.specs.declared.limits.TheConstants.{MOST_LINES, MOST_STEPS};
 ghost use Rattle.pp_core.specs.Steps.{meaning, rule_of};

@@ -57,7 +57,8 @@ impl<S: Placed> Machine<S> {
         ensures cost { Costs S.place_of self (Pull tx.now id) result ticks.old ticks.new }
         ensures bound { ticks.new ≤ ticks.old + 1 }
     {
-        let post = match self.judge_pull(tx, id)? {
+        let judged = self.judge_pull(tx, id)?;
+        let post = match judged {
             Ok(post) => post,
             Err(Refusal { criterion, detail }) => {
                 return Ok((self, Outcome::False { criterion, detail }));

@@ -63,7 +63,8 @@ impl<S: Placed> Machine<S> {
         ensures cost { Costs S.place_of self (Push tx.now id) result ticks.old ticks.new }
         ensures bound { ticks.new ≤ ticks.old + 1 }
     {
-        let (i, entry) = match self.judge_push(tx, id)? {
+        let judged = self.judge_push(tx, id)?;
+        let (i, entry) = match judged {
             Ok(found) => found,
             Err(Refusal { criterion, detail }) => {
                 return Ok((self, Outcome::False { criterion, detail }));

@@ -53,7 +53,8 @@ impl<S: Placed> Machine<S> {
         ensures cost { Costs S.place_of self (Unpush tx.now id) result ticks.old ticks.new }
         ensures bound { ticks.new ≤ ticks.old + at_most S.place_of self.config (Unpush tx.now id) }
     {
-        let (i, posted) = match self.judge_unpush(tx, id)? {
+        let judged = self.judge_unpush(tx, id)?;
+        let (i, posted) = match judged {
             Ok(found) => found,
             Err(Refusal { criterion, detail }) => {
                 return Ok((self, Outcome::False { criterion, detail }));

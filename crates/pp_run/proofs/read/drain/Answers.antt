@@ -3,7 +3,8 @@ use Rattle.std.proofs.lemmas.Result.{err_from_is_err_and}
 use Rattle.pp_io.specs.declared.lines.Line.{Line}
 use Rattle.pp_io.specs.Lines.{NumberedLine}
 use Rattle.pp_run.specs.Takers.{Follows}
-use Rattle.pp_run.proofs.Takers.{follows_fault, follows_is_next, follows_next, if_fault, next_keeps, none_left}
+use Rattle.pp_run.proofs.Takers.{follows_fault, follows_is_next, follows_next, if_fault, next_keeps}
+use Rattle.pp_run.proofs.Takers.{none_left}
 use Rattle.pp_run.proofs.read.drain.Goals as goal
 
 pub take-requires : goal.take-requires

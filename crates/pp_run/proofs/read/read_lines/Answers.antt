@@ -1,12 +1,14 @@
 use Rattle.std.specs.Io.KnownBytes.{Consumes, IsAtEnd}
-use Rattle.std.proofs.Common.{◌≡◌, ◌<◌, ◌≤◌, ◌-◌, ◌^◌, ℕ, List, [], ◌++◌, ap, ◌∙◌, length, inl, inr, length-append, take, drop, arith, rules, subst, sym}
+use Rattle.std.proofs.Common.{◌≡◌, ◌<◌, ◌≤◌, ◌-◌, ◌^◌, ℕ, List, [], ◌++◌, ap, ◌∙◌, length, inl, inr}
+use Rattle.std.proofs.Common.{length-append, take, drop, arith, rules, subst, sym}
 use Rattle.std.proofs.lemmas.Bool.Decides.{leb_tells}
 use Rattle.std.proofs.KnownBytes.{Consumes-kept}
 use Rattle.std.proofs.Math.Seq.{take-append_seam}
 use Rattle.std.proofs.lemmas.List.{append-nil, length-take}
 use Rattle.std.proofs.lemmas.Result.{err_from_is_err_and}
 use Rattle.pp_run.specs.Takers.{HasInputFault}
-use Rattle.pp_run.proofs.Takers.{at_bytes, at_sound, consumes_more, if_input_fault, taken_all, taken_fault}
+use Rattle.pp_run.proofs.Takers.{at_bytes, at_sound, consumes_more, if_input_fault, taken_all}
+use Rattle.pp_run.proofs.Takers.{taken_fault}
 use Rattle.pp_run.proofs.read.read_lines.Goals as goal
 
 -- a count that rises behind one that did not fall

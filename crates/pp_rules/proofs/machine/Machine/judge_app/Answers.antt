@@ -1,4 +1,4 @@
-use Rattle.std.proofs.Common.{◌∙◌, ap, subst, sym, IsTrue, arith}
+use Rattle.std.proofs.Common.{◌∙◌, ap, subst, sym, IsTrue}
 use Rattle.pp_log.specs.Logs.{answer_behind}
 use Rattle.pp_model.specs.Config.{local_ops}
 use Rattle.pp_rules.specs.Courses.{MayFollow}

@@ -1,4 +1,3 @@
-use Rattle.std.proofs.Common.{arith}
 use Rattle.pp_rules.proofs.Judging.{begin_1, begin_2, begin_0}
 use Rattle.pp_rules.proofs.Opened.{begun_in, not_begun, busy_in, not_busy}
 use Rattle.pp_rules.proofs.machine.Machine.judge_begin.Goals as goal

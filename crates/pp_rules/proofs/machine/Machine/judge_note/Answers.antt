@@ -1,4 +1,4 @@
-use Rattle.std.proofs.Common.{refl, sym, ◌∙◌, arith}
+use Rattle.std.proofs.Common.{refl, sym, ◌∙◌}
 use Rattle.pp_rules.proofs.Judging.{note_1, note_0}
 use Rattle.pp_rules.proofs.Opened.{is_none, is_there}
 use Rattle.pp_rules.proofs.machine.Machine.judge_note.Goals as goal

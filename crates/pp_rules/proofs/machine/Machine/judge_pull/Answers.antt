@@ -1,4 +1,4 @@
-use Rattle.std.proofs.Common.{ap, ◌∙◌, ◌++◌, ◌∷◌, [], ◌==◌, sym, subst, IsTrue, arith}
+use Rattle.std.proofs.Common.{ap, ◌∙◌, ◌++◌, ◌∷◌, [], ◌==◌, sym, subst, IsTrue}
 use Rattle.std.proofs.lemmas.Bool.{eqb-true}
 use Rattle.pp_log.specs.Logs.{answer_behind}
 use Rattle.pp_model.specs.Config.{local_ops}

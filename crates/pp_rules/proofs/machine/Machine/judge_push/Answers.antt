@@ -1,5 +1,5 @@
-use Rattle.std.proofs.Common.{◌∙◌, ◌++◌, ◌∷◌, [], arith, ◌<◌, ◌≤◌, take, length, slice_get, sym, ap}
-use Rattle.std.proofs.Common.{subst, refl, IsTrue}
+use Rattle.std.proofs.Common.{◌∙◌, ◌++◌, ◌∷◌, [], arith, ◌<◌, take, length, slice_get, sym, ap}
+use Rattle.std.proofs.Common.{subst, IsTrue}
 use Rattle.std.proofs.lemmas.List.{length-take-le}
 use Rattle.pp_log.specs.Logs.{answer_behind}
 use Rattle.pp_model.specs.Config.{shared_ops}

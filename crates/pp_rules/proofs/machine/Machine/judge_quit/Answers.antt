@@ -1,4 +1,3 @@
-use Rattle.std.proofs.Common.{sym, ◌∙◌, arith}
 use Rattle.pp_rules.proofs.Judging.{quit_1, quit_2, quit_0}
 use Rattle.pp_rules.proofs.Opened.{logged, unlogged}
 use Rattle.pp_rules.proofs.Testing.{head_shown, none_there}

@@ -1,4 +1,4 @@
-use Rattle.std.proofs.Common.{subst, arith}
+use Rattle.std.proofs.Common.{subst}
 use Rattle.pp_model.specs.Config.{last}
 use Rattle.pp_model.specs.Rules.{IsLast}
 use Rattle.pp_rules.specs.Finding.{IsLastUnpushed}

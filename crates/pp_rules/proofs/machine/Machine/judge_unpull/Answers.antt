@@ -1,4 +1,4 @@
-use Rattle.std.proofs.Common.{sym, arith}
+use Rattle.std.proofs.Common.{sym}
 use Rattle.pp_rules.proofs.Judged.{is_at}
 use Rattle.pp_rules.proofs.Judging.{unpull_1, unpull_2}
 use Rattle.pp_rules.proofs.Opened.{distinct, logged, unlogged}
