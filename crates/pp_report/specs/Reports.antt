@@ -11,7 +11,7 @@ use Rattle.pp_model.specs.Lists.{Each}
 use Rattle.pp_object.specs.declared.act.Op.{Op}
 use Rattle.pp_object.specs.declared.states.ObjectState.{ObjectState}
 use Rattle.pp_object.specs.Objects.{kinds_of, objects}
-use Rattle.pp_rules.specs.Shown.{Fits}
+use Rattle.pp_rules.specs.Evidence.{Fits}
 use Rattle.pp_rules.specs.declared.detail.Detail.{Detail}
 use Rattle.pp_rules.specs.declared.detail.Detail.TheVariants.{Nothing, Entry, Gives, Swap}
 use Rattle.pp_text.specs.Texts.{IsNamed, answer_bytes, op_bytes, state_bytes}

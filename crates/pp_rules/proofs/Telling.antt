@@ -23,11 +23,11 @@ use Rattle.pp_model.proofs.Logs.{both_true, found, found_mark, found_other, foun
 use Rattle.pp_model.proofs.Names.{eq-names, names_not}
 use Rattle.pp_spec.specs.Object.{Object, AllowedFrom, IsAllowed, IsLawful, IsRefutedBy, SwapsIn}
 use Rattle.pp_spec.specs.Object.{rules_of, state_after, state_from}
-use Rattle.pp_rules.specs.Evidence.{entries_before, entries_behind, evidences, first_differing}
+use Rattle.pp_rules.specs.Evidence.{Fits, entries_before, entries_behind, evidences, first_differing}
 use Rattle.pp_rules.specs.Evidence.{first_entry, first_swap, at_number, gives_behind, if_there}
 use Rattle.pp_rules.specs.Evidence.{is_same, swap_or}
 use Rattle.pp_rules.specs.Finding.{AreDistinct}
-use Rattle.pp_rules.specs.Shown.{EvidenceLaw, Fits, HoldsAtNumber, TellsOther, TellsRefuted, facts}
+use Rattle.pp_rules.specs.Shown.{EvidenceLaw, HoldsAtNumber, TellsOther, TellsRefuted, facts}
 use Rattle.pp_rules.specs.Shown.{if_there as facts_there}
 use Rattle.pp_rules.specs.Stepping.{IsAsked}
 use Rattle.pp_rules.specs.declared.detail.Detail.{Detail}

@@ -1,6 +1,6 @@
 -- Meaning: the evidence of a rejection: what shows that a criterion of a step is false.
 use Rattle.std.specs.Prelude.{◌==◌, ◌&&◌, ◌+◌, ℕ, zero, suc, Bool, false, true, cond, not, List, []}
-use Rattle.std.specs.Prelude.{◌∷◌, Option, None, Some, take, drop, filter}
+use Rattle.std.specs.Prelude.{◌∷◌, IsTrue, Option, None, Some, take, drop, filter}
 use Rattle.std.specs.List.{position_or_len}
 use Rattle.std.specs.Ordering.{int_eq}
 use Rattle.pp_core.specs.declared.answer.Answer.{Answer}
@@ -10,6 +10,7 @@ use Rattle.pp_model.specs.Config.{Config, LocalEntry, Unpushed, Pushed, Pulled, 
 use Rattle.pp_model.specs.Config.{Unapp, Push, Unpush, Pull, Unpull, Cmt, Quit, Note, at_mark}
 use Rattle.pp_model.specs.Config.{is_mark, item, local_ops, of_other, own, shared_item, shared_ops}
 use Rattle.pp_model.specs.Config.{tx, without_local, without_shared}
+use Rattle.pp_model.specs.Lists.{Each}
 use Rattle.pp_model.specs.Names.{◌=ⁿ◌}
 use Rattle.pp_spec.specs.Object.{Object, state_after}
 use Rattle.pp_rules.specs.declared.detail.Detail.{Detail}
@@ -70,6 +71,16 @@ at_number [] n = Nothing
 at_number (d ∷ ds) zero = Nothing
 at_number (d ∷ ds) (suc zero) = d
 at_number (d ∷ ds) (suc (suc n)) = at_number ds (suc n)
+
+module _ {Shape State Op Undo : Type 0} (o : Object Shape State Op Undo) where
+  -- The operations that the evidence tells are of the objects of the shape.
+  abbrev pub Fits : Shape → Detail Op → Type 0
+  Fits shape Nothing = Unit {0}
+  Fits shape (Entry id) = Unit {0}
+  Fits shape (Gives id answer) = Unit {0}
+  Fits shape (Swap id context) =
+      Each (λ op. IsTrue (o.fits shape op)) context.before
+      × Each (λ op. IsTrue (o.fits shape op)) context.after
 
 module _ {Shape State Op Undo : Type 0} (o : Object Shape State Op Undo) (shape : Shape) where
   -- The operation of this id, with what the object gives for it behind these.

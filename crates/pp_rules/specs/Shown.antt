@@ -5,25 +5,16 @@ use Rattle.pp_core.specs.declared.answer.Answer.{Answer}
 use Rattle.pp_model.specs.Config.{Config, LocalEntry, SharedEntry, Unpushed, Pushed, Pulled, Step}
 use Rattle.pp_model.specs.Config.{Begin, App, Unapp, Push, Unpush, Pull, Unpull, Cmt, Quit, Note}
 use Rattle.pp_model.specs.Config.{at_mark, is_own, of_other, tx, without_local, without_shared}
-use Rattle.pp_model.specs.Lists.{Before, Each, In}
+use Rattle.pp_model.specs.Lists.{Before, In}
 use Rattle.pp_model.specs.Rules.{Breaks}
 use Rattle.pp_model.specs.Sound.{Sound}
 use Rattle.pp_spec.specs.Object.{Object, Refutes, rules_of}
-use Rattle.pp_rules.specs.Evidence.{evidence}
+use Rattle.pp_rules.specs.Evidence.{Fits, evidence}
 use Rattle.pp_rules.specs.Stepping.{IsAsked}
 use Rattle.pp_rules.specs.declared.detail.Detail.{Detail}
 use Rattle.pp_rules.specs.declared.detail.Detail.TheVariants.{Nothing, Entry, Gives, Swap}
 
 module _ {Shape State Op Undo : Type 0} (o : Object Shape State Op Undo) where
-  -- The operations that the evidence tells are of the objects of the shape.
-  abbrev pub Fits : Shape → Detail Op → Type 0
-  Fits shape Nothing = Unit {0}
-  Fits shape (Entry id) = Unit {0}
-  Fits shape (Gives id answer) = Unit {0}
-  Fits shape (Swap id context) =
-      Each (λ op. IsTrue (o.fits shape op)) context.before
-      × Each (λ op. IsTrue (o.fits shape op)) context.after
-
   -- It tells the entry of this id, and lists which show that b may not move left over a.
   abbrev pub TellsRefuted : ℕ → Op → Op → Detail Op → Type 0
   TellsRefuted id a b detail =
@@ -101,4 +92,4 @@ module _ {Shape State Op Undo : Type 0} (o : Object Shape State Op Undo) where
         → IsAsked o shape step → Breaks (rules_of o shape) c step (suc n)
         → HoldsAtNumber (facts c step) (suc n) (evidence o shape c step (suc n))
     pub fits : (c : Config Op) (step : Step Op) (n : ℕ) → Sound (rules_of o shape) c
-        → Fits shape (evidence o shape c step n)
+        → Fits o shape (evidence o shape c step n)

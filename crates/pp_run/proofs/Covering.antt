@@ -30,9 +30,8 @@ use Rattle.pp_model.specs.Config.{Config, after, first}
 use Rattle.pp_model.specs.Rules.{Breaks, Meets}
 use Rattle.pp_run.specs.Causes.{cause_of}
 use Rattle.pp_report.specs.declared.cause.Cause.{Cause}
-use Rattle.pp_rules.specs.Evidence.{evidence}
 use Rattle.pp_rules.specs.Machines.{Seen, stepped}
-use Rattle.pp_rules.specs.Shown.{Fits}
+use Rattle.pp_rules.specs.Evidence.{Fits, evidence}
 use Rattle.pp_rules.specs.declared.detail.Detail.{Detail}
 use Rattle.pp_spec.specs.Object.{rules_of}
 use Rattle.pp_run.specs.Inputs.{IsFaultOf}

@@ -19,9 +19,8 @@ use Rattle.pp_run.specs.Causes.{cause_of}
 use Rattle.pp_report.specs.declared.cause.Cause.{Cause}
 use Rattle.pp_report.specs.declared.cause.Cause.TheVariants.{TooManyTransactions}
 use Rattle.pp_report.specs.Reports.{IsDetailNamed}
-use Rattle.pp_rules.specs.Evidence.{evidence}
 use Rattle.pp_rules.specs.Machines.{Seen, stepped}
-use Rattle.pp_rules.specs.Shown.{Fits}
+use Rattle.pp_rules.specs.Evidence.{Fits, evidence}
 use Rattle.pp_spec.specs.Object.{rules_of}
 use Rattle.pp_run.specs.declared.progress.Progress.{Progress}
 use Rattle.pp_run.specs.declared.progress.Progress.TheVariants.{Waiting, Running, Rejected}
