@@ -2,6 +2,7 @@
 use Rattle.std.proofs.Common.{◌≡◌, ◌≢◌, ◌&&◌, ℕ, Bool, true, false, cond, filter, find, List, []}
 use Rattle.std.proofs.Common.{◌∷◌, ◌++◌, Option, Some, None, is_some, position, slice_get, refl}
 use Rattle.std.proofs.Common.{sym, ap, subst, ◌∙◌}
+use Rattle.std.proofs.lemmas.Bool.{and_parts}
 use Rattle.std.proofs.lemmas.Bool.Decides.{Decides-int_eq}
 use Rattle.pp_core.specs.declared.answer.Answer.{Answer}
 use Rattle.pp_core.specs.declared.answer.Answer.TheVariants as answers
@@ -9,7 +10,7 @@ use Rattle.pp_core.specs.declared.entry.Item.{Item}
 use Rattle.pp_core.specs.declared.entry.LocalEntry.{LocalEntry}
 use Rattle.pp_log.specs.Logs.{DiffersFrom, entry_ops}
 use Rattle.pp_model.specs.Lists.{In}
-use Rattle.pp_model.proofs.Logs.{both_true, found}
+use Rattle.pp_model.proofs.Logs.{found}
 use Rattle.pp_spec.specs.Object.{Object, AllowedFrom, state_from}
 use Rattle.pp_rules.specs.Evidence.{first_differing, first_entry, first_swap, is_same, swap_or}
 use Rattle.pp_rules.specs.declared.detail.Detail.{Detail}
@@ -48,7 +49,7 @@ module _ {Op E : Type 0} (passes : E → Bool) (refuting : E → Option (List Op
   pub stops_here : (l : List E) (k : ℕ) (e : E) → position stops l ≡ Some k → slice_get l k ≡ Some e → In e l × (passes e ≡ true) × (is_some (refuting e) ≡ true)
   stops_here l k e h at =
       let q = found stops l e (place_found stops l k e h at) in
-      let r = both_true (passes e) (is_some (refuting e)) q.1 in
+      let r = and_parts (passes e) (is_some (refuting e)) q.1 in
       (q.0, r.0, r.1)
 
 -- the first entry that passes

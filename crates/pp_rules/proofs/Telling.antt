@@ -4,7 +4,7 @@ use Rattle.std.proofs.Common.{filter, find, is_some, IsTrue, List, [], ◌∷◌
 use Rattle.std.proofs.Common.{slice_get, Option, Some, None, refl, sym, ap, subst, ◌∙◌, add-one}
 use Rattle.std.proofs.Common.{inl, inr}
 use Rattle.std.specs.List.{position_or_len}
-use Rattle.std.proofs.lemmas.Bool.{eqb-true, eq-eqb}
+use Rattle.std.proofs.lemmas.Bool.{and_parts, eqb-true, eq-eqb}
 use Rattle.std.proofs.lemmas.List.Folds.{find_at}
 use Rattle.pp_core.specs.declared.entry.Item.{Item}
 use Rattle.pp_core.specs.declared.entry.LocalEntry.{LocalEntry}
@@ -19,7 +19,7 @@ use Rattle.pp_model.specs.Names.{◌=ⁿ◌}
 use Rattle.pp_model.specs.Rules.{FirstFalse, criteria, there}
 use Rattle.pp_model.specs.Sound.{Sound}
 use Rattle.pp_model.proofs.Lists.{by_key, each_from, from_filter, in_left, in_map, in_right}
-use Rattle.pp_model.proofs.Logs.{both_true, found, found_mark, found_other, found_tx, is_mark-true}
+use Rattle.pp_model.proofs.Logs.{found, found_mark, found_other, found_tx, is_mark-true}
 use Rattle.pp_model.proofs.Names.{eq-names, names_not}
 use Rattle.pp_spec.specs.Object.{Object, AllowedFrom, IsAllowed, IsLawful, IsRefutedBy, SwapsIn}
 use Rattle.pp_spec.specs.Object.{rules_of, state_after, state_from}
@@ -119,7 +119,7 @@ module _ {Shape State Op Undo : Type 0} (o : Object Shape State Op Undo) (laws :
             absurd (n (λ y i p. (laws.unrefuted (a y) (b y)).0 (is_none (o.refuting (a y) (b y)) (second_fails (passes y) (is_some (o.refuting (a y) (b y))) (find_nowhere (stops passes (λ z. o.refuting (a z) (b z))) l h y i) p)) shape))
         go (Some y) h =
             let q = found (stops passes (λ z. o.refuting (a z) (b z))) l y h in
-            let t = both_true (passes y) (is_some (o.refuting (a y) (b y))) q.1 in
+            let t = and_parts (passes y) (is_some (o.refuting (a y) (b y))) q.1 in
             let r = is_there (o.refuting (a y) (b y)) t.1 in (
               y,
               q.0,
@@ -256,7 +256,7 @@ module _ {Shape State Op Undo : Type 0} (o : Object Shape State Op Undo) (laws :
           (
             (λ n.
                 let r = refuted_first (λ z. z.id) (λ z. z.op) (λ z. e.op) (λ z. not z.committed && not (z.owner =ⁿ t)) c.shared (λ all. n (λ u i w q. all u i (is_others t u w q))) in
-                let b = both_true (not (r.0).committed) (not ((r.0).owner =ⁿ t)) r.2 in
+                let b = and_parts (not (r.0).committed) (not ((r.0).owner =ⁿ t)) r.2 in
                 (r.0, r.1, not_true (r.0).committed b.0, (λ same. let z : not true ≡ true = sym (ap not (eq-names (r.0).owner t same)) ∙ b.1 in cc), r.3)),
             ((λ n. other id (shared_ops c.shared) e.op s.shared_allowed (marked_fits t x h id Unpushed e k) n), tt),
           ),

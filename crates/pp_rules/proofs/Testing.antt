@@ -2,12 +2,12 @@
 use Rattle.std.proofs.Common.{◌≡◌, ◌==◌, ◌&&◌, ℕ, Bool, true, false, not, filter, List, [], ◌∷◌}
 use Rattle.std.proofs.Common.{Option, Some, None, find, position, slice_get, refl, sym, ◌∙◌, ap}
 use Rattle.std.proofs.Common.{subst}
-use Rattle.std.proofs.lemmas.Bool.{eqb-true, eq-eqb}
+use Rattle.std.proofs.lemmas.Bool.{and_parts, eqb-true, eq-eqb}
 use Rattle.pp_model.specs.Config.{LocalEntry, SharedEntry, Mark, Unpushed, Pushed, Pulled, is_mark}
 use Rattle.pp_model.specs.Config.{is_own}
 use Rattle.pp_model.specs.Lists.{In}
 use Rattle.pp_model.proofs.Lists.{by_key}
-use Rattle.pp_model.proofs.Logs.{both_true, found, is_mark-true}
+use Rattle.pp_model.proofs.Logs.{found, is_mark-true}
 use Rattle.pp_rules.specs.Evidence.{first_entry}
 use Rattle.pp_rules.specs.Finding.{HaveOwnIds}
 use Rattle.pp_rules.specs.Standing.{is_committed, stands_committed}
@@ -85,7 +85,7 @@ module _ {Op : Type 0} where
   not_all_stand l ds G e d k p h at =
       let f = place_found (fallen G) ds k p h at in
       let r = found (fallen G) ds p f in
-      let b = both_true (is_mark p.mark Pulled) (not (stands_committed p.id G)) r.1 in (
+      let b = and_parts (is_mark p.mark Pulled) (not (stands_committed p.id G)) r.1 in (
         subst (λ (z : List (LocalEntry Op)). In p z) e r.0,
         is_mark-true p.mark Pulled b.0,
         standing_not G p.id d (find (λ g. g.id == p.id) G) refl (not_true (stands_committed p.id G) b.1),
