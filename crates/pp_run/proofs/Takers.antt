@@ -8,18 +8,15 @@ use mathlib.Core.Logic.{inl, inr}
 use Rattle.pp_core.specs.declared.limits.TheConstants.{MOST_BYTES, MOST_LINES}
 use Rattle.pp_io.specs.declared.fault.LineFault.{LineFault}
 use Rattle.pp_io.specs.declared.reach.Reach.{Reach}
-use Rattle.pp_io.specs.Held.{Held, after_first, after_next, empty, fed, finished, first_of}
-use Rattle.pp_io.specs.Held.{next_line}
+use Rattle.pp_io.specs.Held.{Held, after_first, after_next, fed, finished, first_of, next_line}
 use Rattle.pp_io.specs.Lines.{NumberedLine}
 use Rattle.pp_io.specs.Overruns.{early_lines, line_of, overrun, scanned_lines}
 use Rattle.pp_io.specs.Reaches.{overrun_from}
 use Rattle.pp_io.specs.Taken.{Hands}
 use Rattle.pp_io.proofs.Limits.{within_all}
 use Rattle.pp_io.proofs.Reading.{hands_all, hands_finished, hands_front, hands_next, overrun_kept}
-use Rattle.pp_io.proofs.Reading.{scanned_front, scanned_kept, took_bytes, took_empty, took_fed}
-use Rattle.pp_io.proofs.Reading.{took_overrun}
+use Rattle.pp_io.proofs.Reading.{scanned_front, scanned_kept, took_bytes, took_fed, took_overrun}
 use Rattle.pp_report.specs.declared.cause.Cause.{Cause}
-use Rattle.pp_run.specs.declared.stop.Failure.TheVariants.{OutOfMemory, ReadFault}
 use Rattle.pp_run.specs.declared.stop.Stop.{Stop}
 use Rattle.pp_run.specs.declared.stop.Stop.TheVariants as stops
 use Rattle.pp_run.specs.Inputs.{cause_of_limit, limit_fault}
@@ -81,9 +78,6 @@ taken_all (Some a) (Some b) taken bytes h end is = let e : a ≡ bytes = cc in s
 -- ---- piece by piece
 
 module _ {T : Type 0} (R : Reading T) where
-  pub at_start : (taker : T) → R.Leads [] taker → IsAt R [] empty taker
-  at_start taker leads = record { took = took_empty; sound = refl; leads = leads }
-
   module _ (bytes piece : List ℕ) (held : Held) (taker : T) (at : IsAt R bytes held taker) where
     -- a piece was fed
     pub piece_follows : Follows R (early_lines (bytes ++ piece)) (fed held piece) taker
@@ -183,10 +177,6 @@ if_fault (stops.Failure failure) P Q f h = h
 pub if_input_fault : (stop : Stop) (P Q : ℕ → Cause → Type 0) → ((at : ℕ) (cause : Cause) → P at cause → Q at cause) → IfFault stop P → IfInputFault stop Q
 if_input_fault (stops.Fault at cause) P Q f h = f at cause h
 if_input_fault (stops.Failure failure) P Q f h = tt
-
-pub no_read_fault : (stop : Stop) (P : ℕ → Cause → Type 0) → IfFault stop P → stop ≡ stops.Failure ReadFault → ⊥
-no_read_fault (stops.Fault at cause) P h is = cc
-no_read_fault (stops.Failure failure) P h is = let e : stops.Failure OutOfMemory ≡ stops.Failure ReadFault = ap (λ f. stops.Failure f) (sym h) ∙ is in cc
 
 pub if_ok_and : {T E : Type 0} (r : Result T E) (P : T → Type 0) (Q : Type 0) (R : T → Type 0) → ((x : T) → P x → Q → R x) → IfOk r P → OnOk r Q → IfOk r R
 if_ok_and (Ok x) P Q R f p q = f x p q
