@@ -22,7 +22,7 @@ use std::sync::ledger::{Blank, Ledger};
 /// The status where the system does not give the words.
 const NO_WORDS: u8 = 8;
 
-/// Does a command with a step counter of its own.
+/// Does a command with a counter of ticks of its own.
 fn run_counted<L: Ledger, S: Source, K: Sink>(
     alloc: Global,
     words: &Words,

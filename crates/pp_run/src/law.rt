@@ -1,4 +1,8 @@
-//! What every input of records that are steps has: one run, which is its steps.
+//! Laws of the definitions: what every input of records that are steps has, and the limits.
+ghost use Rattle.std.specs.Prelude.{◌≡◌};
+ghost use Rattle.pp_core.specs.declared.limits.TheConstants.{LONGEST_LINE, LONGEST_NAME, MOST_BODY_NODES};
+ghost use Rattle.pp_core.specs.declared.limits.TheConstants.{MOST_BYTES, MOST_DEPTH, MOST_LINES, MOST_OBJECTS};
+ghost use Rattle.pp_core.specs.declared.limits.TheConstants.{MOST_STEPS, MOST_TRANSACTIONS};
 ghost use Rattle.pp_front.specs.Laws.{OneRunLaw};
 ghost use Rattle.pp_front.specs.PlainInputs.{AreStyled, PlainInputLaw};
 ghost use Rattle.pp_json.specs.declared.header.Header.{Header as HeaderOf};
@@ -12,4 +16,18 @@ pub fn records_are_steps()
     ensures one_run { (header : HeaderOf) → OneRunLaw (object_of header) (translation_of header) }
     ensures styled { AreStyled setting_of }
     ensures plain { PlainInputLaw setting_of TooManySteps }
+{}
+
+/// The limits of an input, by their numbers. It is a law of the definitions, which name them, and
+/// does nothing.
+pub fn limits_law()
+    ensures bytes { MOST_BYTES ≡ 268_435_456 }
+    ensures lines { MOST_LINES ≡ 200_001 }
+    ensures line { LONGEST_LINE ≡ 65_536 }
+    ensures objects { MOST_OBJECTS ≡ 256 }
+    ensures transactions { MOST_TRANSACTIONS ≡ 20_000 }
+    ensures steps { MOST_STEPS ≡ 200_000 }
+    ensures nodes { MOST_BODY_NODES ≡ 64 }
+    ensures depth { MOST_DEPTH ≡ 16 }
+    ensures name { LONGEST_NAME ≡ 24 }
 {}

@@ -14,5 +14,5 @@ mod taker;
 mod words;
 mod write;
 
-pub use law::records_are_steps;
+pub use law::{limits_law, records_are_steps};
 pub use program::run;
