@@ -276,4 +276,4 @@ blank_lines (Rejected tally rejection) = refl
 
 pub step_lines : (tally : Tally) (machine : Seen (List Kind) Op) (step : Step Op) (line : ℕ) (next : Progress) → StepTaken tally machine step line next → lines_of next ≡ tally.lines
 step_lines tally machine step line next (inl done) = ap lines_of done.1
-step_lines tally machine step line next (inr (n, positive, fails, is)) = ap lines_of is
+step_lines tally machine step line next (inr (n, positive, fails, is, fits)) = ap lines_of is
