@@ -2,7 +2,7 @@
 use crate::tests::row::{COUNTER, MEMORY, PRIORITY_QUEUE, QUEUE, Row, STACK};
 use pp_core::Status;
 
-pub(crate) const ACCEPTED: [Row; 19] = [
+pub(crate) const ACCEPTED: [Row; 21] = [
     Row {
         what: "a header alone",
         header: COUNTER,
@@ -313,6 +313,54 @@ op 3 h.insert(7)=none
 tx t1
 op 2 h.take()=3
 state h 7
+"#,
+    },
+    Row {
+        what: "of a priority queue the least is taken, and one of two that are equal",
+        header: PRIORITY_QUEUE,
+        records: br#"{"step":"begin","tx":"t1","thread":"p1"}
+{"step":"app","tx":"t1","id":1,"on":"h","call":"insert","args":[3],"result":null}
+{"step":"app","tx":"t1","id":2,"on":"h","call":"insert","args":[1],"result":null}
+{"step":"app","tx":"t1","id":3,"on":"h","call":"insert","args":[1],"result":null}
+{"step":"app","tx":"t1","id":4,"on":"h","call":"take","args":[],"result":1}
+{"step":"app","tx":"t1","id":5,"on":"h","call":"least","args":[],"result":1}
+{"step":"push","tx":"t1","id":1}
+{"step":"push","tx":"t1","id":2}
+{"step":"push","tx":"t1","id":3}
+{"step":"push","tx":"t1","id":4}
+{"step":"push","tx":"t1","id":5}
+{"step":"cmt","tx":"t1"}
+"#,
+        status: Status::Accepted,
+        report: br#"accepted steps 12 committed 1
+tx t1
+op 1 h.insert(3)=none
+op 2 h.insert(1)=none
+op 3 h.insert(1)=none
+op 4 h.take()=1
+op 5 h.least()=1
+state h 1 3
+"#,
+    },
+    Row {
+        what: "of a stack the last item is popped",
+        header: STACK,
+        records: br#"{"step":"begin","tx":"t1","thread":"p1"}
+{"step":"app","tx":"t1","id":1,"on":"k","call":"push","args":[3],"result":null}
+{"step":"app","tx":"t1","id":2,"on":"k","call":"push","args":[1],"result":null}
+{"step":"app","tx":"t1","id":3,"on":"k","call":"pop","args":[],"result":1}
+{"step":"push","tx":"t1","id":1}
+{"step":"push","tx":"t1","id":2}
+{"step":"push","tx":"t1","id":3}
+{"step":"cmt","tx":"t1"}
+"#,
+        status: Status::Accepted,
+        report: br#"accepted steps 8 committed 1
+tx t1
+op 1 k.push(3)=none
+op 2 k.push(1)=none
+op 3 k.pop()=1
+state k 3
 "#,
     },
 ];
