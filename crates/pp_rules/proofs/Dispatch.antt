@@ -1,12 +1,18 @@
 -- What the function of a rule says of its own step, said of the step that was asked.
-use Rattle.std.proofs.Common.{◌≡◌, ◌≤◌, ◌+◌, ℕ, Result, Ok, Err, IfOk, sym, ap, subst, arith}
+use Rattle.std.proofs.Common.{◌≡◌, ◌≤◌, ◌+◌, ℕ, zero, suc, Result, Ok, Err, IfOk, sym, ap, subst}
+use Rattle.std.proofs.Common.{arith}
 use Rattle.pp_model.specs.Config.{Step}
-use Rattle.pp_spec.specs.Object.{Object}
+use Rattle.pp_model.specs.Sound.{Sound}
+use Rattle.pp_spec.specs.Object.{Object, IsLawful, rules_of}
+use Rattle.pp_rules.specs.Evidence.{Fits}
+use Rattle.pp_rules.specs.Shown.{HoldsAtNumber, IsShown, facts}
+use Rattle.pp_rules.specs.declared.detail.Detail.{Detail}
 use Rattle.pp_rules.specs.declared.machine.Outcome.{Outcome}
 use Rattle.pp_rules.specs.declared.machine.Outcome.TheVariants.{Done, False}
 use Rattle.pp_rules.specs.Costs.{Costs, CostsBy, CostsInVain, step_ticks}
 use Rattle.pp_rules.specs.Machines.{Seen}
-use Rattle.pp_rules.specs.Stepping.{Stepped}
+use Rattle.pp_rules.specs.Stepping.{IsAsked, Stepped}
+use Rattle.pp_rules.proofs.Telling.{evidence_law}
 
 module _ {Shape State Op Undo : Type 0} (o : Object Shape State Op Undo) (v : Seen Shape Op) where
   one_more : (s : Step Op) (out : Outcome Op) (w : Seen Shape Op) → Stepped o v s out w → w.count ≤ v.count + 1
@@ -16,6 +22,19 @@ module _ {Shape State Op Undo : Type 0} (o : Object Shape State Op Undo) (v : Se
   module _ {E : Type 0} (r : Result (Seen Shape Op × Outcome Op) E) (s asked : Step Op) (is : asked ≡ s) where
     pub effect_of : IfOk r (λ k. Stepped o v s k.1 k.0) → IfOk r (λ k. Stepped o v asked k.1 k.0)
     effect_of h = subst (λ (z : Step Op). IfOk r (λ k. Stepped o v z k.1 k.0)) (sym is) h
+
+  module _ (laws : IsLawful o) (sound : Sound (rules_of o v.shape) v.config) (s : Step Op) (asks : IsAsked o v.shape s) where
+    -- what the evidence of the asked step shows
+    pub shows_by : (out : Outcome Op) (w : Seen Shape Op) → Stepped o v s out w → IsShown o v s out
+    shows_by Done w h = tt
+    shows_by (False zero detail) w h = absurd (omega (arith, h.1))
+    shows_by (False (suc n) detail) w h =
+        let law = evidence_law o laws v.shape in
+        subst (λ (d : Detail Op). HoldsAtNumber o (facts o v.shape v.config s) (suc n) d × Fits o v.shape d) (sym h.3) (law.shows v.config s n sound asks h.0, law.fits v.config s (suc n) sound)
+
+    pub shown_of : {E : Type 0} (r : Result (Seen Shape Op × Outcome Op) E) → IfOk r (λ k. Stepped o v s k.1 k.0) → IfOk r (λ k. IsShown o v s k.1)
+    shown_of (Ok k) h = shows_by k.1 k.0 h
+    shown_of (Err e) h = tt
 
   pub count_of : {E : Type 0} (r : Result (Seen Shape Op × Outcome Op) E) (s : Step Op) → IfOk r (λ k. Stepped o v s k.1 k.0) → IfOk r (λ k. k.0.count ≤ v.count + 1)
   count_of (Ok k) s h = one_more s k.1 k.0 h

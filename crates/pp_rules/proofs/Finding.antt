@@ -185,15 +185,10 @@ before_here (y ∷ ys) zero x a h j = elim j [ ]
 before_here (y ∷ ys) (suc i) x a h (inl e) = inl (e, slice_in ys i x h)
 before_here (y ∷ ys) (suc i) x a h (inr j) = inr (before_here ys i x a h j)
 
-in_second : {X : Type 0} (x a : X) (ys : List X) → Before a x ys → In x ys
-in_second x a [] b = elim b [ ]
-in_second x a (z ∷ zs) (inl k) = inr k.1
-in_second x a (z ∷ zs) (inr k) = inr (in_second x a zs k)
-
 pub here_before : {X K : Type 0} (f : X → K) (xs : List X) → ((p q : X) → Before p q xs → f p ≡ f q → ⊥) → (i : ℕ) (x a : X) → slice_get xs i ≡ Some x → Before a x xs → In a (take i xs)
 here_before f [] d i x a h b = elim b [ ]
 here_before f (y ∷ ys) d zero x a h (inl k) = absurd (d y x (inl (refl, k.1)) (ap f (some_same y x h)))
-here_before f (y ∷ ys) d zero x a h (inr b) = absurd (d y x (inl (refl, in_second x a ys b)) (ap f (some_same y x h)))
+here_before f (y ∷ ys) d zero x a h (inr b) = absurd (d y x (inl (refl, before_in_second a x ys b)) (ap f (some_same y x h)))
 here_before f (y ∷ ys) d (suc i) x a h (inl k) = inl k.0
 here_before f (y ∷ ys) d (suc i) x a h (inr b) = inr (here_before f ys (λ p q w. d p q (inr w)) i x a h b)
 
@@ -268,6 +263,45 @@ behind_here f (y ∷ ys) d zero x b h (inl k) = k.1
 behind_here f (y ∷ ys) d zero x b h (inr k) = before_in_second x b ys k
 behind_here f (y ∷ ys) d (suc i) x b h (inl k) = absurd (d y x (inl (refl, slice_in ys i x h)) (ap f (sym k.0)))
 behind_here f (y ∷ ys) d (suc i) x b h (inr k) = behind_here f ys (λ p q w. d p q (inr w)) i x b h k
+
+-- of two elements the part before a place, or behind it, keeps which is the first
+pub before_taken : {X : Type 0} (i : ℕ) (a b : X) (xs : List X) → Before a b (take i xs) → Before a b xs
+before_taken zero a b xs h = elim h [ ]
+before_taken (suc i) a b [] h = elim h [ ]
+before_taken (suc i) a b (y ∷ ys) (inl k) = inl (k.0, in_taken i b ys k.1)
+before_taken (suc i) a b (y ∷ ys) (inr k) = inr (before_taken i a b ys k)
+
+pub taken_before : {X K : Type 0} (f : X → K) (xs : List X) → ((p q : X) → Before p q xs → f p ≡ f q → ⊥) → (i : ℕ) (a b : X) → In b (take i xs) → Before a b xs → Before a b (take i xs)
+taken_before f [] d i a b j k = elim k [ ]
+taken_before f (y ∷ ys) d zero a b j k = elim j [ ]
+taken_before f (y ∷ ys) d (suc i) a b (inl e) (inl k) = absurd (d y b (inl (refl, k.1)) (ap f (sym e)))
+taken_before f (y ∷ ys) d (suc i) a b (inl e) (inr k) = absurd (d y b (inl (refl, before_in_second a b ys k)) (ap f (sym e)))
+taken_before f (y ∷ ys) d (suc i) a b (inr j) (inl k) = inl (k.0, j)
+taken_before f (y ∷ ys) d (suc i) a b (inr j) (inr k) = inr (taken_before f ys (λ p q w. d p q (inr w)) i a b j k)
+
+pub before_dropped : {X : Type 0} (i : ℕ) (a b : X) (xs : List X) → Before a b (drop i xs) → Before a b xs
+before_dropped zero a b xs h = h
+before_dropped (suc i) a b [] h = elim h [ ]
+before_dropped (suc i) a b (y ∷ ys) h = inr (before_dropped i a b ys h)
+
+pub dropped_before : {X K : Type 0} (f : X → K) (xs : List X) → ((p q : X) → Before p q xs → f p ≡ f q → ⊥) → (i : ℕ) (x a b : X) → slice_get xs i ≡ Some x → Before x a xs → Before a b xs → Before a b (drop (suc i) xs)
+dropped_before f [] d i x a b h j k = elim k [ ]
+dropped_before f (y ∷ ys) d i x a b h (inl j) (inl k) = absurd (d y a (inl (refl, j.1)) (ap f (sym k.0)))
+dropped_before f (y ∷ ys) d i x a b h (inr j) (inl k) = absurd (d y a (inl (refl, before_in_second x a ys j)) (ap f (sym k.0)))
+dropped_before f (y ∷ ys) d zero x a b h j (inr k) = k
+dropped_before f (y ∷ ys) d (suc i) x a b h (inl j) (inr k) = absurd (d y x (inl (refl, slice_in ys i x h)) (ap f (sym j.0)))
+dropped_before f (y ∷ ys) d (suc i) x a b h (inr j) (inr k) = dropped_before f ys (λ p q w. d p q (inr w)) i x a b h j k
+
+-- what is found is the first that passes
+pub before_found : {X K : Type 0} (f : X → K) (p : X → Bool) (xs : List X) → ((u v : X) → Before u v xs → f u ≡ f v → ⊥) → (x z : X) → find p xs ≡ Some x → Before z x xs → p z ≡ false
+before_found f p [] d x z h b = elim b [ ]
+before_found {X} f p (y ∷ ys) d x z h b = go (p y) refl h b (λ k w. before_found f p ys (λ u v q. d u v (inr q)) x z k w)
+  where
+    go : (c : Bool) → p y ≡ c → cond c (Some y) (find p ys) ≡ Some x → Before z x (y ∷ ys) → (find p ys ≡ Some x → Before z x ys → p z ≡ false) → p z ≡ false
+    go true e k (inl w) more = absurd (d y x (inl (refl, w.1)) (ap f (some_same y x k)))
+    go true e k (inr w) more = absurd (d y x (inl (refl, before_in_second z x ys w)) (ap f (some_same y x k)))
+    go false e k (inl w) more = ap p w.0 ∙ e
+    go false e k (inr w) more = more k w
 
 -- a list without the element at a place
 pub keeps_all : {X : Type 0} (p : X → Bool) (xs : List X) → ((x : X) → In x xs → p x ≡ true) → filter p xs ≡ xs

@@ -1,12 +1,13 @@
 -- Operations of an allowed list fit its shape, and lists of ranged operations.
-use Rattle.std.proofs.Common.{◌≡◌, IsTrue, List, [], ◌∷◌, ◌++◌, refl, ap, sym, ◌∙◌, subst, inl, inr}
+use Rattle.std.proofs.Common.{ℕ, Some, ◌≡◌, IsTrue, List, [], ◌∷◌, ◌++◌, refl, ap, sym, ◌∙◌, subst, inl, inr}
 use Rattle.pp_core.specs.declared.entry.CommittedTx.{CommittedTx}
 use Rattle.pp_core.specs.declared.entry.LocalEntry.{LocalEntry}
-use Rattle.pp_model.specs.Config.{local_ops, own_items}
+use Rattle.pp_core.specs.declared.entry.SharedEntry.{SharedEntry}
+use Rattle.pp_model.specs.Config.{Mark, Tx, at_mark, local_ops, own_items, tx}
 use Rattle.pp_model.specs.Lists.{In}
 use Rattle.pp_model.specs.Sound.{serial_items, serial_ops}
 use Rattle.pp_model.proofs.Lists.{in_map, from_map, in_cases}
-use Rattle.pp_model.proofs.Logs.{from_own}
+use Rattle.pp_model.proofs.Logs.{found_mark, found_tx, from_own}
 use Rattle.pp_model.specs.Config.{Config, shared_ops, uncommitted}
 use Rattle.pp_model.specs.Sound.{Sound}
 use Rattle.pp_model.proofs.Serial.{allowed_front, from_serial, ordered, serial_law, to_serial}
@@ -22,6 +23,17 @@ module _ {Shape State Op Undo : Type 0} (o : Object Shape State Op Undo) where
   -- each operation of an allowed list fits
   pub fits_in : IsLawful o → (shape : Shape) (l : List Op) → IsAllowed o shape l → (a : Op) → In a l → IsTrue (o.fits shape a)
   fits_in laws shape l h a i = fits_from laws shape (o.start shape) l (laws.start_shape shape) h a i
+
+  -- each operation of a log of a sound configuration fits
+  module _ (laws : IsLawful o) (shape : Shape) (c : Config Op) (s : Sound (rules_of o shape) c) where
+    pub local_fits : (t : _) (x : Tx Op) → tx t c.opened ≡ Some x → (e : LocalEntry Op) → In e x.local → IsTrue (o.fits shape e.op)
+    local_fits t x h e i = fits_in laws shape (local_ops x.local) (s.local_allowed x (found_tx t c.opened x h).0) e.op (in_map (λ (z : LocalEntry Op). z.op) e x.local i)
+
+    pub shared_fits : (u : SharedEntry Op) → In u c.shared → IsTrue (o.fits shape u.op)
+    shared_fits u i = fits_in laws shape (shared_ops c.shared) s.shared_allowed u.op (in_map (λ (z : SharedEntry Op). z.op) u c.shared i)
+
+    pub marked_fits : (t : _) (x : Tx Op) → tx t c.opened ≡ Some x → (id : ℕ) (m : Mark) (e : LocalEntry Op) → at_mark id m x.local ≡ Some e → IsTrue (o.fits shape e.op)
+    marked_fits t x h id m e k = local_fits t x h e (found_mark id m x.local e k).0
 
   pub ranged_in : (l : List Op) → AllRanged o l → (a : Op) → In a l → IsTrue (o.ranged a)
   ranged_in [] h a i = elim i [ ]

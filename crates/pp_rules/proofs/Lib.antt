@@ -8,6 +8,7 @@ pub mod Judging
 pub mod Keeping
 pub mod Looking
 pub mod Opened
+pub mod Refuting
 pub mod Removing
 pub mod Showing
 pub mod Slots

@@ -17,24 +17,20 @@ use Rattle.pp_model.proofs.Serial.{allowed_front}
 use Rattle.pp_log.specs.declared.place.Removed.{Removed}
 use Rattle.pp_log.specs.declared.place.Removed.TheVariants.{Done, Differs}
 use Rattle.pp_log.specs.Logs.{DiffersFirst, RemovesEntry, entry_ops, from_place}
-use Rattle.pp_spec.specs.Object.{Object, AllRanged, AllowedFrom, IsAllowed, IsLegal, rules_of}
-use Rattle.pp_spec.specs.Object.{state_from}
+use Rattle.pp_spec.specs.Object.{Object, AllRanged, IsAllowed, rules_of}
+use Rattle.pp_spec.proofs.Lists.{allowed-second}
 use Rattle.pp_rules.specs.Costs.{from_id}
 use Rattle.pp_rules.specs.Transactions.{MayLeave}
 use Rattle.pp_rules.proofs.Finding.{last_at, removed_last, slice_in, some_same}
 use Rattle.pp_rules.proofs.Fitting.{in_ranged, ranged_in}
 
 module _ {Shape State Op Undo : Type 0} (o : Object Shape State Op Undo) where
-  legal_within : (before after : List Op) (op : Op) (s : State) → AllowedFrom o s (before ++ op ∷ after) → IsLegal o (state_from o s before) op
-  legal_within [] after op s h = h.0
-  legal_within (a ∷ before) after op s h = legal_within before after op (o.next s a) h.1
-
   -- a list with an entry whose result differs is not allowed
   pub differs_not : {E : Type 0} (f : E → Item Op) (shape : Shape) (log : List E) (id : ℕ) (answer : Answer) → DiffersFirst o f shape log id answer → IsAllowed o shape (entry_ops f log) → ⊥
   differs_not {E} f shape log id answer d h =
       let is : entry_ops f log ≡ entry_ops f d.before ++ (f d.entry).op ∷ entry_ops f d.after = ap (entry_ops f) d.is ∙ map-append (λ (e : E). (f e).op) d.before (d.entry ∷ d.after) in
-      let legal = legal_within (entry_ops f d.before) (entry_ops f d.after) (f d.entry).op (o.start shape) (subst (λ (z : List Op). IsAllowed o shape z) is h) in
-      d.differs (sym d.gives ∙ legal.1)
+      let rest = allowed-second o (o.start shape) (entry_ops f d.before) ((f d.entry).op ∷ entry_ops f d.after) (subst (λ (z : List Op). IsAllowed o shape z) is h) in
+      d.differs (sym d.gives ∙ rest.0.1)
 
   pub ranged_posts : (id : ℕ) (l : List (SharedEntry Op)) → AllRanged o (shared_ops l) → AllRanged o (shared_ops (without_shared id l))
   ranged_posts id l r = in_ranged o (shared_ops (without_shared id l)) (λ a j.

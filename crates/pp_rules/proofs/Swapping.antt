@@ -12,6 +12,7 @@ use Rattle.pp_model.proofs.Logs.{is_mark-true}
 use Rattle.pp_model.proofs.Names.{eq-names, names-true}
 use Rattle.pp_shared.specs.Blocking.{GivesWay, IsFirstBlocking}
 use Rattle.pp_spec.specs.Object.{Object, IsLawful, IsRefutedBy, Swaps, SwapsIn}
+use Rattle.pp_spec.proofs.Lists.{refuted_nowhere}
 use Rattle.pp_rules.specs.Evidence.{entries_before, entries_behind, first_swap, swap_or}
 use Rattle.pp_rules.specs.Finding.{AreDistinct, blocks, holds_back, stands_first, stays_behind}
 use Rattle.pp_rules.specs.declared.detail.Detail.TheVariants.{Nothing}
@@ -36,8 +37,7 @@ module _ {Shape State Op Undo : Type 0} (o : Object Shape State Op Undo) (laws :
   refuted_in : (a b : Op) → IsTrue (o.fits shape a) → IsTrue (o.fits shape b) → is_some (o.refuting a b) ≡ true → SwapsIn o shape a b → ⊥
   refuted_in a b f g h s =
       let r = is_there (o.refuting a b) h in
-      let k = subst (IsRefutedBy o a b) r.1 (laws.refuted a b) in
-      k.changed shape f g (s.always (r.0).0 (r.0).1 (k.allowed shape f g))
+      refuted_nowhere o a b r.0 (subst (IsRefutedBy o a b) r.1 (laws.refuted a b)) shape f g s
 
   module _ (l : List (LocalEntry Op)) where
     -- each operation of the log fits

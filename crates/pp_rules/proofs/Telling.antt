@@ -6,38 +6,45 @@ use Rattle.std.proofs.Common.{inl, inr}
 use Rattle.std.specs.List.{position_or_len}
 use Rattle.std.proofs.lemmas.Bool.{and_parts, eqb-true, eq-eqb}
 use Rattle.std.proofs.lemmas.List.Folds.{find_at}
+use Rattle.pp_core.specs.declared.answer.Answer.{Answer}
 use Rattle.pp_core.specs.declared.entry.Item.{Item}
 use Rattle.pp_core.specs.declared.entry.LocalEntry.{LocalEntry}
 use Rattle.pp_core.specs.declared.entry.SharedEntry.{SharedEntry}
-use Rattle.pp_log.specs.Logs.{entry_ops}
+use Rattle.pp_log.specs.Logs.{DiffersFrom, entry_ops}
 use Rattle.pp_model.specs.Config.{Config, Step, Begin, App, Unapp, Push, Unpush, Pull, Unpull, Cmt}
 use Rattle.pp_model.specs.Config.{Quit, Note, Mark, Unpushed, Pushed, Pulled, at_mark, is_mark}
 use Rattle.pp_model.specs.Config.{is_own, item, local_ops, of_other, own, shared_item, shared_ops}
-use Rattle.pp_model.specs.Config.{tx, Tx, without_local, without_shared}
+use Rattle.pp_model.specs.Config.{tx, without_local, without_shared}
 use Rattle.pp_model.specs.Lists.{Before, Each, In}
 use Rattle.pp_model.specs.Names.{◌=ⁿ◌}
 use Rattle.pp_model.specs.Rules.{FirstFalse, criteria, there}
 use Rattle.pp_model.specs.Sound.{Sound}
-use Rattle.pp_model.proofs.Lists.{by_key, each_from, from_filter, in_left, in_map, in_right}
+use Rattle.pp_model.proofs.Lists.{by_key, each_from, from_filter, in_left, in_right}
 use Rattle.pp_model.proofs.Logs.{found, found_mark, found_other, found_tx, is_mark-true}
 use Rattle.pp_model.proofs.Names.{eq-names, names_not}
-use Rattle.pp_spec.specs.Object.{Object, AllowedFrom, IsAllowed, IsLawful, IsRefutedBy, SwapsIn}
-use Rattle.pp_spec.specs.Object.{rules_of, state_after, state_from}
+use Rattle.pp_spec.specs.Object.{Object, AllowedFrom, IsAllowed, IsLawful, IsLegal, IsRefutedBy}
+use Rattle.pp_spec.specs.Object.{Swaps, SwapsIn, rules_of}
+use Rattle.pp_spec.proofs.Lists.{allowed-append, keeps_shape}
 use Rattle.pp_rules.specs.Evidence.{Fits, entries_before, entries_behind, evidences, first_differing}
 use Rattle.pp_rules.specs.Evidence.{first_entry, first_swap, at_number, gives_behind, if_there}
 use Rattle.pp_rules.specs.Evidence.{is_same, swap_or}
 use Rattle.pp_rules.specs.Finding.{AreDistinct}
 use Rattle.pp_rules.specs.Shown.{EvidenceLaw, HoldsAtNumber, TellsOther, TellsRefuted, facts}
 use Rattle.pp_rules.specs.Shown.{if_there as facts_there}
+use Rattle.pp_rules.specs.Standing.{StandsCommitted}
 use Rattle.pp_rules.specs.Stepping.{IsAsked}
 use Rattle.pp_rules.specs.declared.detail.Detail.{Detail}
 use Rattle.pp_rules.specs.declared.detail.Detail.TheVariants.{Nothing, Entry, Gives}
-use Rattle.pp_rules.proofs.Finding.{before_here, behind_here, find_nowhere, here_before}
-use Rattle.pp_rules.proofs.Finding.{here_behind, in_dropped, in_taken, placed}
-use Rattle.pp_rules.proofs.Fitting.{fits_in}
+use Rattle.pp_rules.proofs.Finding.{before_dropped, before_found, before_here, before_taken}
+use Rattle.pp_rules.proofs.Finding.{behind_here, dropped_before, find_nowhere, here_before}
+use Rattle.pp_rules.proofs.Finding.{here_behind, in_dropped, in_taken, place_found, placed}
+use Rattle.pp_rules.proofs.Finding.{taken_before}
+use Rattle.pp_rules.proofs.Fitting.{fits_in, local_fits, marked_fits, shared_fits}
 use Rattle.pp_rules.proofs.Opened.{is_none, is_there}
 use Rattle.pp_rules.proofs.Showing.{answers_same, same_answer, second_fails, stops, swap_shown}
+use Rattle.pp_rules.proofs.Refuting.{refutes}
 use Rattle.pp_rules.proofs.Testing.{all_pushed, all_stand, fallen, not_all_pushed, not_all_stand}
+use Rattle.pp_rules.proofs.Testing.{stands}
 
 -- Where the entry of an id stands, by the place that the evidence begins at.
 module _ {Op : Type 0} (l : List (LocalEntry Op)) (d : AreDistinct l) (e : LocalEntry Op) (id : ℕ) (i : In e l) (is : e.id ≡ id) where
@@ -62,6 +69,18 @@ module _ {Op : Type 0} (l : List (LocalEntry Op)) (d : AreDistinct l) (e : Local
   pub behind_in : (b : LocalEntry Op) → In b (entries_behind id l) → Before e b l
   behind_in b j = here_behind l place e b at_place (subst (λ (n : ℕ). In b (drop n l)) (add-one place) j)
 
+  pub first_before : (z a : LocalEntry Op) → In a (entries_before id l) → Before z a l → Before z a (entries_before id l)
+  first_before z a j b = taken_before (λ (z : LocalEntry Op). z.id) l d place z a j b
+
+  pub distinct_before : AreDistinct (entries_before id l)
+  distinct_before p q b = d p q (before_taken place p q l b)
+
+  pub first_behind : (z b : LocalEntry Op) → Before e z l → Before z b l → Before z b (entries_behind id l)
+  first_behind z b j k = subst (λ (n : ℕ). Before z b (drop n l)) (sym (add-one place)) (dropped_before (λ (z : LocalEntry Op). z.id) l d place e z b at_place j k)
+
+  pub distinct_behind : AreDistinct (entries_behind id l)
+  distinct_behind p q b = d p q (before_dropped (place + 1) p q l b)
+
   pub in_behind : (b : LocalEntry Op) → Before e b l → In b (entries_behind id l)
   in_behind b j = subst (λ (n : ℕ). In b (drop n l)) (sym (add-one place)) (behind_here (λ (z : LocalEntry Op). z.id) l d place e b at_place j)
 
@@ -84,39 +103,64 @@ module _ {Shape State Op Undo : Type 0} (o : Object Shape State Op Undo) (laws :
   tied_there None f g k h = ((λ n. refl), tt)
   tied_there (Some x) f g k h = ((λ n. refl), h x refl)
 
-  -- an operation that does not go behind a list gives another result there
-  more_from : (s : State) (l : List Op) (op : Op) → o.shape s ≡ shape → AllowedFrom o s l → IsTrue (o.fits shape op) → o.gives (state_from o s l) op ≡ o.recorded op → AllowedFrom o s (l ++ op ∷ [])
-  more_from s [] op e h f g = ((subst (λ (z : Shape). IsTrue (o.fits z op)) (sym e) f, g), tt)
-  more_from s (b ∷ l) op e h f g = (h.0, more_from (o.next s b) l op (laws.next_shape s b h.0 ∙ e) h.1 f g)
+  -- an operation that does not go behind an allowed list has another result there
+  other : (id : ℕ) (l : List Op) (op : Op) → IsAllowed o shape l → IsTrue (o.fits shape op) → (IsAllowed o shape (l ++ op ∷ []) → ⊥) → TellsOther o shape l id op (gives_behind o shape id l op)
+  other id l op h f n =
+      let e = keeps_shape o laws.next_shape (o.start shape) l h ∙ laws.start_shape shape in
+      (h, (λ g. n (allowed-append o (o.start shape) l (op ∷ []) h ((subst (λ (z : Shape). IsTrue (o.fits z op)) (sym e) f, g), tt))), refl)
 
-  other : (id : ℕ) (l : List Op) (op : Op) → IsAllowed o shape l → IsTrue (o.fits shape op) → (IsAllowed o shape (l ++ op ∷ []) → ⊥) → TellsOther o id op (gives_behind o shape id l op)
-  other id l op h f n = (o.gives (state_after o shape l) op, (λ g. n (more_from (o.start shape) l op (laws.start_shape shape) h f g)), refl)
+  -- behind a legal entry, the first that differs is the same
+  behind_legal : {E : Type 0} (item_of : E → Item Op) (s : State) (y : E) (l : List E) (id : ℕ) (answer : Answer) → IsLegal o s (item_of y).op → DiffersFrom o item_of (o.next s (item_of y).op) l id answer → DiffersFrom o item_of s (y ∷ l) id answer
+  behind_legal {E} item_of s y l id answer h d =
+      record {
+        before = y ∷ d.before;
+        entry = d.entry;
+        after = d.after;
+        is = ap (λ (z : List E). y ∷ z) d.is;
+        id_is = d.id_is;
+        allowed = (h, d.allowed);
+        gives = d.gives;
+        differs = d.differs;
+      }
 
-  -- in a list that is not allowed, an item gives another result
-  differing : {E : Type 0} (item_of : E → Item Op) (s : State) (l : List E) → o.shape s ≡ shape → ((e : E) → In e l → IsTrue (o.fits shape (item_of e).op)) → (AllowedFrom o s (entry_ops item_of l) → ⊥) → (e : E) × In e l × TellsOther o (item_of e).id (item_of e).op (first_differing o item_of s l)
+  -- in a list that is not allowed there is a first entry that differs, and the evidence tells it
+  abbrev FirstOther : {E : Type 0} → (E → Item Op) → State → List E → Detail Op → Type 0
+  FirstOther item_of s l detail = (id : ℕ) × (answer : Answer) × DiffersFrom o item_of s l id answer × (detail ≡ Gives id answer)
+
+  differing : {E : Type 0} (item_of : E → Item Op) (s : State) (l : List E) → o.shape s ≡ shape → ((e : E) → In e l → IsTrue (o.fits shape (item_of e).op)) → (AllowedFrom o s (entry_ops item_of l) → ⊥) → FirstOther item_of s l (first_differing o item_of s l)
   differing item_of s [] e f n = absurd (n tt)
   differing {E} item_of s (y ∷ l) e f n = go (is_same (o.gives s (item_of y).op) (o.recorded (item_of y).op)) refl
       (λ legal. differing item_of (o.next s (item_of y).op) l (laws.next_shape s (item_of y).op legal ∙ e) (λ z i. f z (inr i)) (λ h. n (legal, h)))
     where
-      legal_if : is_same (o.gives s (item_of y).op) (o.recorded (item_of y).op) ≡ true → IsTrue (o.fits (o.shape s) (item_of y).op) × (o.gives s (item_of y).op ≡ o.recorded (item_of y).op)
+      legal_if : is_same (o.gives s (item_of y).op) (o.recorded (item_of y).op) ≡ true → IsLegal o s (item_of y).op
       legal_if h = (subst (λ (z : Shape). IsTrue (o.fits z (item_of y).op)) (sym e) (f y (inl refl)), answers_same (o.gives s (item_of y).op) (o.recorded (item_of y).op) h)
 
-      go : (b : Bool) → is_same (o.gives s (item_of y).op) (o.recorded (item_of y).op) ≡ b
-          → (IsTrue (o.fits (o.shape s) (item_of y).op) × (o.gives s (item_of y).op ≡ o.recorded (item_of y).op) → (e : E) × In e l × TellsOther o (item_of e).id (item_of e).op (first_differing o item_of (o.next s (item_of y).op) l))
-          → (e : E) × In e (y ∷ l) × TellsOther o (item_of e).id (item_of e).op (cond b (first_differing o item_of (o.next s (item_of y).op) l) (Gives (item_of y).id (o.gives s (item_of y).op)))
-      go true h more = let r = more (legal_if h) in (r.0, inr r.1, r.2)
-      go false h more = (y, inl refl, (o.gives s (item_of y).op, (λ k. let z : true ≡ false = sym (same_answer (o.gives s (item_of y).op) (o.recorded (item_of y).op) k) ∙ h in cc), refl))
+      go : (b : Bool) → is_same (o.gives s (item_of y).op) (o.recorded (item_of y).op) ≡ b → (IsLegal o s (item_of y).op → FirstOther item_of (o.next s (item_of y).op) l (first_differing o item_of (o.next s (item_of y).op) l))
+          → FirstOther item_of s (y ∷ l) (cond b (first_differing o item_of (o.next s (item_of y).op) l) (Gives (item_of y).id (o.gives s (item_of y).op)))
+      go true h more = let r = more (legal_if h) in (r.0, r.1, behind_legal item_of s y l r.0 r.1 (legal_if h) r.2, r.3)
+      go false h more = (
+        (item_of y).id,
+        o.gives s (item_of y).op,
+        record { before = []; entry = y; after = l; is = refl; id_is = refl; allowed = tt; gives = refl; differs = λ k. let z : true ≡ false = sym (same_answer (o.gives s (item_of y).op) (o.recorded (item_of y).op) k) ∙ h in cc },
+        refl,
+      )
 
   -- where not all pairs swap, the first that does not is refuted
   module _ {E : Type 0} (id_of : E → ℕ) (a b : E → Op) (passes : E → Bool) where
-    refuted_first : (l : List E) → (((e : E) → In e l → passes e ≡ true → SwapsIn o shape (a e) (b e)) → ⊥) →
-        (e : E) × In e l × (passes e ≡ true) × TellsRefuted o (id_of e) (a e) (b e) (first_swap id_of (λ z. o.refuting (a z) (b z)) (filter passes l))
-    refuted_first l n = go (find (stops passes (λ z. o.refuting (a z) (b z))) l) refl
+    abbrev FirstRefuted : List E → Type 0
+    FirstRefuted l =
+        (e : E) × In e l × (passes e ≡ true) × ((z : E) → Before z e l → passes z ≡ true → Swaps o (a z) (b z))
+        × TellsRefuted o (id_of e) (a e) (b e) (first_swap id_of (λ z. o.refuting (a z) (b z)) (filter passes l))
+
+    swaps_if : (z : E) → stops passes (λ z. o.refuting (a z) (b z)) z ≡ false → passes z ≡ true → Swaps o (a z) (b z)
+    swaps_if z h p = (laws.unrefuted (a z) (b z)).0 (is_none (o.refuting (a z) (b z)) (second_fails (passes z) (is_some (o.refuting (a z) (b z))) h p))
+
+    refuted_first : (l : List E) → ((p q : E) → Before p q l → id_of p ≡ id_of q → ⊥) → (((e : E) → In e l → passes e ≡ true → SwapsIn o shape (a e) (b e)) → ⊥) → FirstRefuted l
+    refuted_first l d n = go (find (stops passes (λ z. o.refuting (a z) (b z))) l) refl
       where
-        go : (r : Option E) → find (stops passes (λ z. o.refuting (a z) (b z))) l ≡ r →
-            (e : E) × In e l × (passes e ≡ true) × TellsRefuted o (id_of e) (a e) (b e) (first_swap id_of (λ z. o.refuting (a z) (b z)) (filter passes l))
+        go : (r : Option E) → find (stops passes (λ z. o.refuting (a z) (b z))) l ≡ r → FirstRefuted l
         go None h =
-            absurd (n (λ y i p. (laws.unrefuted (a y) (b y)).0 (is_none (o.refuting (a y) (b y)) (second_fails (passes y) (is_some (o.refuting (a y) (b y))) (find_nowhere (stops passes (λ z. o.refuting (a z) (b z))) l h y i) p)) shape))
+            absurd (n (λ y i p. swaps_if y (find_nowhere (stops passes (λ z. o.refuting (a z) (b z))) l h y i) p shape))
         go (Some y) h =
             let q = found (stops passes (λ z. o.refuting (a z) (b z))) l y h in
             let t = and_parts (passes y) (is_some (o.refuting (a y) (b y))) q.1 in
@@ -124,6 +168,7 @@ module _ {Shape State Op Undo : Type 0} (o : Object Shape State Op Undo) (laws :
               y,
               q.0,
               t.0,
+              (λ z w p. swaps_if z (before_found id_of (stops passes (λ z. o.refuting (a z) (b z))) l d y z h w) p),
               (
                 (r.0).0,
                 (r.0).1,
@@ -171,31 +216,22 @@ module _ {Shape State Op Undo : Type 0} (o : Object Shape State Op Undo) (laws :
   there_fits (Some x) f k = (tt, k x refl)
 
   module _ (c : Config Op) (s : Sound (rules_of o shape) c) where
-    local_fits : (t : _) (x : Tx Op) → tx t c.opened ≡ Some x → (e : LocalEntry Op) → In e x.local → IsTrue (o.fits shape e.op)
-    local_fits t x h e i = fits_in o laws shape (local_ops x.local) (s.local_allowed x (found_tx t c.opened x h).0) e.op (in_map (λ (z : LocalEntry Op). z.op) e x.local i)
-
-    shared_fits : (u : SharedEntry Op) → In u c.shared → IsTrue (o.fits shape u.op)
-    shared_fits u i = fits_in o laws shape (shared_ops c.shared) s.shared_allowed u.op (in_map (λ (z : SharedEntry Op). z.op) u c.shared i)
-
-    marked_fits : (t : _) (x : Tx Op) → tx t c.opened ≡ Some x → (id : ℕ) (m : Mark) (e : LocalEntry Op) → at_mark id m x.local ≡ Some e → IsTrue (o.fits shape e.op)
-    marked_fits t x h id m e k = local_fits t x h e (found_mark id m x.local e k).0
-
     all_fit : (step : Step Op) → Each (Fits o shape) (evidences o shape c step)
     all_fit (Begin t p b) = (tt, (tt, tt))
     all_fit (App t id op) = there_fits (tx t c.opened) _ (λ x h. (tt, (tt, (tt, tt))))
     all_fit (Unapp t id) = there_fits (tx t c.opened) _ (λ x h. (tt, tt))
     all_fit (Push t id) = there_fits (tx t c.opened) _ (λ x h. there_fits (at_mark id Unpushed x.local) _ (λ e k. (
       swap_fits (λ a. a.id) (λ a. e.op) (λ a. a.op) (λ a. true) (filter (λ a. is_mark a.mark Unpushed) (entries_before id x.local))
-          (λ a i. (marked_fits t x h id Unpushed e k, local_fits t x h a (in_taken (position_or_len (λ z. z.id == id) x.local) a x.local (from_filter (λ a. is_mark a.mark Unpushed) a (entries_before id x.local) i).0))),
+          (λ a i. (marked_fits o laws shape c s t x h id Unpushed e k, local_fits o laws shape c s t x h a (in_taken (position_or_len (λ z. z.id == id) x.local) a x.local (from_filter (λ a. is_mark a.mark Unpushed) a (entries_before id x.local) i).0))),
       (
         swap_fits (λ u. u.id) (λ u. u.op) (λ u. e.op) (λ u. true) (filter (λ u. not u.committed && not (u.owner =ⁿ t)) c.shared)
-            (λ u i. (shared_fits u (from_filter (λ u. not u.committed && not (u.owner =ⁿ t)) u c.shared i).0, marked_fits t x h id Unpushed e k)),
+            (λ u i. (shared_fits o laws shape c s u (from_filter (λ u. not u.committed && not (u.owner =ⁿ t)) u c.shared i).0, marked_fits o laws shape c s t x h id Unpushed e k)),
         (tt, tt),
       ),
     )))
     all_fit (Unpush t id) = there_fits (tx t c.opened) _ (λ x h. there_fits (at_mark id Pushed x.local) _ (λ e k. (
       swap_fits (λ b. b.id) (λ b. b.op) (λ b. e.op) (λ b. true) (filter (λ b. is_mark b.mark Pushed) (entries_behind id x.local))
-          (λ b i. (local_fits t x h b (in_dropped (position_or_len (λ z. z.id == id) x.local + 1) b x.local (from_filter (λ b. is_mark b.mark Pushed) b (entries_behind id x.local) i).0), marked_fits t x h id Pushed e k)),
+          (λ b i. (local_fits o laws shape c s t x h b (in_dropped (position_or_len (λ z. z.id == id) x.local + 1) b x.local (from_filter (λ b. is_mark b.mark Pushed) b (entries_behind id x.local) i).0), marked_fits o laws shape c s t x h id Pushed e k)),
       (differing_fits shared_item (o.start shape) (without_shared id c.shared), tt),
     )))
     all_fit (Pull t id) = there_fits (tx t c.opened) _ (λ x h. there_fits (of_other t id c.shared) _ (λ g k. (
@@ -204,7 +240,7 @@ module _ {Shape State Op Undo : Type 0} (o : Object Shape State Op Undo) (laws :
         tt,
         (
           swap_fits (λ a. a.id) (λ a. a.op) (λ a. g.op) (λ a. true) (own x.local)
-              (λ a i. (local_fits t x h a (from_filter (λ a. is_own a.mark) a x.local i).0, shared_fits g (found_other t id c.shared g k).0)),
+              (λ a i. (local_fits o laws shape c s t x h a (from_filter (λ a. is_own a.mark) a x.local i).0, shared_fits o laws shape c s g (found_other t id c.shared g k).0)),
           tt,
         ),
       ),
@@ -215,32 +251,46 @@ module _ {Shape State Op Undo : Type 0} (o : Object Shape State Op Undo) (laws :
     all_fit (Note t) = there_fits (tx t c.opened) _ (λ x h. tt)
 
     -- CMT 3, CMT 4 and QUIT 2
-    unpushed_told : (l : List (LocalEntry Op)) → (((e : LocalEntry Op) → In e l → is_own e.mark ≡ true → e.mark ≡ Pushed) → ⊥) → (e : LocalEntry Op) × In e l × (e.mark ≡ Unpushed) × (first_entry (filter (λ z. is_mark z.mark Unpushed) l) ≡ Entry e.id)
-    unpushed_told l n = go (position (λ z. is_mark z.mark Unpushed) l) refl
+    abbrev FirstUnpushed : List (LocalEntry Op) → Detail Op → Type 0
+    FirstUnpushed l detail =
+        (e : LocalEntry Op) × In e l × (e.mark ≡ Unpushed) × ((z : LocalEntry Op) → Before z e l → z.mark ≡ Unpushed → ⊥) × (detail ≡ Entry e.id)
+
+    unpushed_told : (l : List (LocalEntry Op)) → AreDistinct l → (((e : LocalEntry Op) → In e l → is_own e.mark ≡ true → e.mark ≡ Pushed) → ⊥) → FirstUnpushed l (first_entry (filter (λ z. is_mark z.mark Unpushed) l))
+    unpushed_told l d n = go (position (λ z. is_mark z.mark Unpushed) l) refl
       where
-        go : (r : Option ℕ) → position (λ z. is_mark z.mark Unpushed) l ≡ r → (e : LocalEntry Op) × In e l × (e.mark ≡ Unpushed) × (first_entry (filter (λ z. is_mark z.mark Unpushed) l) ≡ Entry e.id)
+        go : (r : Option ℕ) → position (λ z. is_mark z.mark Unpushed) l ≡ r → FirstUnpushed l (first_entry (filter (λ z. is_mark z.mark Unpushed) l))
         go None h = absurd (n (all_pushed l l refl h))
         go (Some k) h =
             let r = placed (λ z. is_mark z.mark Unpushed) l k h in
-            let q = not_all_pushed l l refl k r.0 h r.1 in
-            (r.0, q.0, is_mark-true (r.0).mark Unpushed r.2, sym q.3)
+            let q = not_all_pushed l l refl k r.0 h r.1 in (
+              r.0,
+              q.0,
+              is_mark-true (r.0).mark Unpushed r.2,
+              (λ z b m.
+                  let f = before_found (λ z. z.id) (λ z. is_mark z.mark Unpushed) l d r.0 z (place_found (λ z. is_mark z.mark Unpushed) l k r.0 h r.1) b in
+                  let w : true ≡ false = sym (ap (λ (w : Mark). is_mark w Unpushed) m) ∙ f in cc),
+              sym q.3,
+            )
 
-    fallen_told : (l : List (LocalEntry Op)) → (((e : LocalEntry Op) → In e l → e.mark ≡ Pulled → (g : SharedEntry Op) × In g c.shared × (g.id ≡ e.id) × (g.committed ≡ true)) → ⊥) →
-        (e : LocalEntry Op) × In e l × (e.mark ≡ Pulled) × ((g : SharedEntry Op) → In g c.shared → g.id ≡ e.id → g.committed ≡ true → ⊥) × (first_entry (filter (fallen c.shared) l) ≡ Entry e.id)
-    fallen_told l n = go (position (fallen c.shared) l) refl
+    abbrev FirstFallen : List (LocalEntry Op) → Detail Op → Type 0
+    FirstFallen l detail =
+        (e : LocalEntry Op) × In e l × (e.mark ≡ Pulled) × (StandsCommitted e.id c.shared → ⊥) × ((z : LocalEntry Op) → Before z e l → z.mark ≡ Pulled → StandsCommitted z.id c.shared) × (detail ≡ Entry e.id)
+
+    fallen_told : (l : List (LocalEntry Op)) → AreDistinct l → (((e : LocalEntry Op) → In e l → e.mark ≡ Pulled → StandsCommitted e.id c.shared) → ⊥) → FirstFallen l (first_entry (filter (fallen c.shared) l))
+    fallen_told l d n = go (position (fallen c.shared) l) refl
       where
-        go : (r : Option ℕ) → position (fallen c.shared) l ≡ r → (e : LocalEntry Op) × In e l × (e.mark ≡ Pulled) × ((g : SharedEntry Op) → In g c.shared → g.id ≡ e.id → g.committed ≡ true → ⊥) × (first_entry (filter (fallen c.shared) l) ≡ Entry e.id)
+        go : (r : Option ℕ) → position (fallen c.shared) l ≡ r → FirstFallen l (first_entry (filter (fallen c.shared) l))
         go None h = absurd (n (all_stand l l c.shared refl h))
         go (Some k) h =
             let r = placed (fallen c.shared) l k h in
             let q = not_all_stand l l c.shared refl s.shared_ids k r.0 h r.1 in
-            (r.0, q.0, q.1, (λ g i same m. q.2 (g, i, same, m)), sym q.3)
+            (r.0, q.0, q.1, q.2, (λ z b m. stands c.shared z (before_found (λ z. z.id) (fallen c.shared) l d r.0 z (place_found (fallen c.shared) l k r.0 h r.1) b) m), sym q.3)
 
-    first_told : (l : List (LocalEntry Op)) → (l ≡ [] → ⊥) → (e : LocalEntry Op) × In e l × (first_entry l ≡ Entry e.id)
+    first_told : (l : List (LocalEntry Op)) → (l ≡ [] → ⊥) → (e : LocalEntry Op) × (rest : List (LocalEntry Op)) × (l ≡ e ∷ rest) × (first_entry l ≡ Entry e.id)
     first_told [] n = absurd (n refl)
-    first_told (e ∷ l) n = (e, inl refl, refl)
+    first_told (e ∷ l) n = (e, l, refl, refl)
 
-    all_tied : (step : Step Op) → IsAsked o shape step → Tied (criteria (rules_of o shape) c step) (evidences o shape c step) (facts o c step)
+    all_tied : (step : Step Op) → IsAsked o shape step → Tied (criteria (rules_of o shape) c step) (evidences o shape c step) (facts o shape c step)
     all_tied (Begin t p b) a = ((λ n. refl), ((λ n. refl), tt))
     all_tied (App t id op) a = tied_there (tx t c.opened) _ _ _ (λ x h. (
       (λ n. refl),
@@ -251,14 +301,14 @@ module _ {Shape State Op Undo : Type 0} (o : Object Shape State Op Undo) (laws :
         let m = found_mark id Unpushed x.local e k in
         let d = s.local_ids x (found_tx t c.opened x h).0 in (
           (λ n.
-              let r = refuted_first (λ z. z.id) (λ z. e.op) (λ z. z.op) (λ z. is_mark z.mark Unpushed) (entries_before id x.local) (λ all. n (λ y b q. all y (in_before x.local d e id m.0 m.1 y b) (ap (λ (w : Mark). is_mark w Unpushed) q))) in
-              (r.0, before_in x.local d e id m.0 m.1 r.0 r.1, is_mark-true (r.0).mark Unpushed r.2, r.3)),
+              let r = refuted_first (λ z. z.id) (λ z. e.op) (λ z. z.op) (λ z. is_mark z.mark Unpushed) (entries_before id x.local) (distinct_before x.local d e id m.0 m.1) (λ all. n (λ y b q. all y (in_before x.local d e id m.0 m.1 y b) (ap (λ (w : Mark). is_mark w Unpushed) q))) in
+              (r.0, before_in x.local d e id m.0 m.1 r.0 r.1, is_mark-true (r.0).mark Unpushed r.2, (λ z b q. r.3 z (first_before x.local d e id m.0 m.1 z r.0 r.1 b) (ap (λ (w : Mark). is_mark w Unpushed) q)), r.4)),
           (
             (λ n.
-                let r = refuted_first (λ z. z.id) (λ z. z.op) (λ z. e.op) (λ z. not z.committed && not (z.owner =ⁿ t)) c.shared (λ all. n (λ u i w q. all u i (is_others t u w q))) in
+                let r = refuted_first (λ z. z.id) (λ z. z.op) (λ z. e.op) (λ z. not z.committed && not (z.owner =ⁿ t)) c.shared s.shared_ids (λ all. n (λ u i w q. all u i (is_others t u w q))) in
                 let b = and_parts (not (r.0).committed) (not ((r.0).owner =ⁿ t)) r.2 in
-                (r.0, r.1, not_true (r.0).committed b.0, (λ same. let z : not true ≡ true = sym (ap not (eq-names (r.0).owner t same)) ∙ b.1 in cc), r.3)),
-            ((λ n. other id (shared_ops c.shared) e.op s.shared_allowed (marked_fits t x h id Unpushed e k) n), tt),
+                (r.0, r.1, not_true (r.0).committed b.0, (λ same. let z : not true ≡ true = sym (ap not (eq-names (r.0).owner t same)) ∙ b.1 in cc), (λ z k w q. r.3 z k (is_others t z w q)), r.4)),
+            ((λ n. other id (shared_ops c.shared) e.op s.shared_allowed (marked_fits o laws shape c s t x h id Unpushed e k) n), tt),
           ),
         )))
       where
@@ -272,27 +322,28 @@ module _ {Shape State Op Undo : Type 0} (o : Object Shape State Op Undo) (laws :
         let m = found_mark id Pushed x.local e k in
         let d = s.local_ids x (found_tx t c.opened x h).0 in (
           (λ n.
-              let r = refuted_first (λ z. z.id) (λ z. z.op) (λ z. e.op) (λ z. is_mark z.mark Pushed) (entries_behind id x.local) (λ all. n (λ y b q. all y (in_behind x.local d e id m.0 m.1 y b) (ap (λ (w : Mark). is_mark w Pushed) q))) in
-              (r.0, behind_in x.local d e id m.0 m.1 r.0 r.1, is_mark-true (r.0).mark Pushed r.2, r.3)),
-          ((λ n. differing shared_item (o.start shape) (without_shared id c.shared) (laws.start_shape shape) (λ u i. shared_fits u (from_filter (λ u. not (u.id == id)) u c.shared i).0) n), tt),
+              let r = refuted_first (λ z. z.id) (λ z. z.op) (λ z. e.op) (λ z. is_mark z.mark Pushed) (entries_behind id x.local) (distinct_behind x.local d e id m.0 m.1) (λ all. n (λ y b q. all y (in_behind x.local d e id m.0 m.1 y b) (ap (λ (w : Mark). is_mark w Pushed) q))) in
+              (r.0, behind_in x.local d e id m.0 m.1 r.0 r.1, is_mark-true (r.0).mark Pushed r.2, (λ z j k q. r.3 z (first_behind x.local d e id m.0 m.1 z r.0 j k) (ap (λ (w : Mark). is_mark w Pushed) q)), r.4)),
+          ((λ n. differing shared_item (o.start shape) (without_shared id c.shared) (laws.start_shape shape) (λ u i. shared_fits o laws shape c s u (from_filter (λ u. not (u.id == id)) u c.shared i).0) n), tt),
         )))
     all_tied (Pull t id) a = tied_there (tx t c.opened) _ _ _ (λ x h. tied_there (of_other t id c.shared) _ _ _ (λ g k. (
       (λ n. refl),
       (
-        (λ n. other id (local_ops x.local) g.op (s.local_allowed x (found_tx t c.opened x h).0) (shared_fits g (found_other t id c.shared g k).0) n),
-        ((λ n. refuted_first (λ z. z.id) (λ z. z.op) (λ z. g.op) (λ z. is_own z.mark) x.local n), tt),
+        (λ n. other id (local_ops x.local) g.op (s.local_allowed x (found_tx t c.opened x h).0) (shared_fits o laws shape c s g (found_other t id c.shared g k).0) n),
+        ((λ n. refuted_first (λ z. z.id) (λ z. z.op) (λ z. g.op) (λ z. is_own z.mark) x.local (s.local_ids x (found_tx t c.opened x h).0) n), tt),
       ),
     )))
     all_tied (Unpull t id) a = tied_there (tx t c.opened) _ _ _ (λ x h. tied_there (at_mark id Pulled x.local) _ _ _ (λ e k. (
-      (λ n. differing item (o.start shape) (without_local id x.local) (laws.start_shape shape) (λ u i. local_fits t x h u (from_filter (λ u. not (u.id == id)) u x.local i).0) n),
+      (λ n. differing item (o.start shape) (without_local id x.local) (laws.start_shape shape) (λ u i. local_fits o laws shape c s t x h u (from_filter (λ u. not (u.id == id)) u x.local i).0) n),
       tt,
     )))
-    all_tied (Cmt t) a = tied_there (tx t c.opened) _ _ _ (λ x h. ((λ n. refl), ((λ n. unpushed_told x.local n), ((λ n. fallen_told x.local n), tt))))
+    all_tied (Cmt t) a = tied_there (tx t c.opened) _ _ _ (λ x h. ((λ n. refl), ((λ n. unpushed_told x.local (s.local_ids x (found_tx t c.opened x h).0) n), ((λ n. fallen_told x.local (s.local_ids x (found_tx t c.opened x h).0) n), tt))))
     all_tied (Quit t) a = tied_there (tx t c.opened) _ _ _ (λ x h. ((λ n. first_told x.local n), tt))
     all_tied (Note t) a = tied_there (tx t c.opened) _ _ _ (λ x h. tt)
 
   pub evidence_law : EvidenceLaw o shape
   evidence_law = record {
-    shows = λ c step n s a h. tied_at (criteria (rules_of o shape) c step) (evidences o shape c step) (facts o c step) n (all_tied c s step a) h;
+    shows = λ c step n s a h. tied_at (criteria (rules_of o shape) c step) (evidences o shape c step) (facts o shape c step) n (all_tied c s step a) h;
+    refutes = refutes o laws shape;
     fits = λ c step n s. number_fits (evidences o shape c step) n (all_fit c s step);
   }

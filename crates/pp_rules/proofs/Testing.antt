@@ -10,7 +10,7 @@ use Rattle.pp_model.proofs.Lists.{by_key}
 use Rattle.pp_model.proofs.Logs.{found, is_mark-true}
 use Rattle.pp_rules.specs.Evidence.{first_entry}
 use Rattle.pp_rules.specs.Finding.{HaveOwnIds}
-use Rattle.pp_rules.specs.Standing.{is_committed, stands_committed}
+use Rattle.pp_rules.specs.Standing.{StandsCommitted, is_committed, stands_committed}
 use Rattle.pp_rules.specs.declared.detail.Detail.TheVariants.{Entry}
 use Rattle.pp_rules.proofs.Finding.{find_nowhere, place_found, place_none, some_same}
 use Rattle.pp_rules.proofs.Showing.{entry_shown, second_fails}
@@ -56,15 +56,11 @@ module _ {Op : Type 0} where
   none_there l [] e h = sym e
   none_there l (y ∷ ds) e h = absurd (cc)
 
-  -- an entry of this id stands committed
-  abbrev pub Standing : List (SharedEntry Op) → ℕ → Type 0
-  Standing G id = (g : SharedEntry Op) × In g G × (g.id ≡ id) × (g.committed ≡ true)
-
-  standing_found : (G : List (SharedEntry Op)) (id : ℕ) (r : Option (SharedEntry Op)) → find (λ g. g.id == id) G ≡ r → is_committed r ≡ true → Standing G id
+  standing_found : (G : List (SharedEntry Op)) (id : ℕ) (r : Option (SharedEntry Op)) → find (λ g. g.id == id) G ≡ r → is_committed r ≡ true → StandsCommitted id G
   standing_found G id None e h = absurd (cc)
   standing_found G id (Some g) e h = let k = found (λ (z : SharedEntry Op). z.id == id) G g e in (g, k.0, eqb-true g.id id k.1, h)
 
-  standing_not : (G : List (SharedEntry Op)) (id : ℕ) → HaveOwnIds G → (r : Option (SharedEntry Op)) → find (λ g. g.id == id) G ≡ r → is_committed r ≡ false → Standing G id → ⊥
+  standing_not : (G : List (SharedEntry Op)) (id : ℕ) → HaveOwnIds G → (r : Option (SharedEntry Op)) → find (λ g. g.id == id) G ≡ r → is_committed r ≡ false → StandsCommitted id G → ⊥
   standing_not G id d None e h s = let k = find_nowhere (λ (z : SharedEntry Op). z.id == id) G e s.0 s.1 in let z : true ≡ false = sym (eq-eqb (s.0).id id s.2) ∙ k in cc
   standing_not G id d (Some g) e h s =
       let k = found (λ (z : SharedEntry Op). z.id == id) G g e in
@@ -74,14 +70,17 @@ module _ {Op : Type 0} where
   abbrev pub fallen : List (SharedEntry Op) → LocalEntry Op → Bool
   fallen G e = is_mark e.mark Pulled && not (stands_committed e.id G)
 
-  pub all_stand : (l ds : List (LocalEntry Op)) (G : List (SharedEntry Op)) → ds ≡ l → position (fallen G) ds ≡ None → (p : LocalEntry Op) → In p l → p.mark ≡ Pulled → Standing G p.id
-  all_stand l ds G e h p i m =
-      let n = find_nowhere (fallen G) ds (place_none (fallen G) ds h) p (subst (λ (z : List (LocalEntry Op)). In p z) (sym e) i) in
+  -- a pulled entry that has not fallen stands committed
+  pub stands : (G : List (SharedEntry Op)) (p : LocalEntry Op) → fallen G p ≡ false → p.mark ≡ Pulled → StandsCommitted p.id G
+  stands G p n m =
       let pulled : is_mark p.mark Pulled ≡ true = ap (λ (z : Mark). is_mark z Pulled) m in
       standing_found G p.id (find (λ g. g.id == p.id) G) refl (not_false (stands_committed p.id G) (second_fails (is_mark p.mark Pulled) (not (stands_committed p.id G)) n pulled))
 
+  pub all_stand : (l ds : List (LocalEntry Op)) (G : List (SharedEntry Op)) → ds ≡ l → position (fallen G) ds ≡ None → (p : LocalEntry Op) → In p l → p.mark ≡ Pulled → StandsCommitted p.id G
+  all_stand l ds G e h p i m = stands G p (find_nowhere (fallen G) ds (place_none (fallen G) ds h) p (subst (λ (z : List (LocalEntry Op)). In p z) (sym e) i)) m
+
   pub not_all_stand : (l ds : List (LocalEntry Op)) (G : List (SharedEntry Op)) → ds ≡ l → HaveOwnIds G → (k : ℕ) (p : LocalEntry Op) → position (fallen G) ds ≡ Some k → slice_get ds k ≡ Some p →
-      In p l × (p.mark ≡ Pulled) × (Standing G p.id → ⊥) × (Entry p.id ≡ first_entry (filter (fallen G) l))
+      In p l × (p.mark ≡ Pulled) × (StandsCommitted p.id G → ⊥) × (Entry p.id ≡ first_entry (filter (fallen G) l))
   not_all_stand l ds G e d k p h at =
       let f = place_found (fallen G) ds k p h at in
       let r = found (fallen G) ds p f in

@@ -9,6 +9,7 @@ ghost use Rattle.pp_core.specs.Steps.{meaning};
 ghost use Rattle.pp_model.specs.Sound.{HasSerialState, MayRunSerially, Sound, serial_ops};
 ghost use Rattle.pp_spec.specs.Object.{AllRanged, IsAllowed, rules_of};
 ghost use Rattle.pp_rules.specs.Costs.{Costs, at_most};
+ghost use Rattle.pp_rules.specs.Shown.{IsShown};
 ghost use Rattle.pp_rules.specs.Stepping.{IsAsked, NeedsNoMemory, Stepped};
 
 mod app;
@@ -137,8 +138,9 @@ impl<S: Placed> Machine<S> {
         &self.committed
     }
 
-    /// Does a step where each of its criteria holds, and else gives the machine back as it was. The
-    /// only error is that memory was refused, and the machine is then lost.
+    /// Does a step where each of its criteria holds, and else gives the machine back as it was, with
+    /// what shows that a criterion is false. The only error is that memory was refused, and the
+    /// machine is then lost.
     pub fn step<L: Ledger>(
         self,
         step: &Step<S::Op>,
@@ -147,11 +149,13 @@ impl<S: Placed> Machine<S> {
         requires asked { IsAsked S.object self.shape (meaning step.now) }
         requires few { self.count < 200_000 }
         ensures effect { IfOk result (λ r. Stepped S.object self (meaning step.now) r.1 r.0) }
+        ensures shown { IfOk result (λ r. IsShown S.object self (meaning step.now) r.1) }
         ensures one_more { IfOk result (λ r. r.0.count ≤ self.count + 1) }
         ensures cost { Costs S.place_of self (meaning step.now) result ticks.old ticks.new }
         ensures bound { ticks.new ≤ ticks.old + at_most S.place_of self.config (meaning step.now) }
         ensures sure { NeedsNoMemory (meaning step.now) → IsOk result }
     {
+        let _sound = self.count();
         match step {
             Step::Begin { tx, thread, body } => self.begin(tx, thread, body),
             Step::App { tx, id, op } => self.app(tx, *id, op, ticks),
