@@ -1,9 +1,9 @@
 use Rattle.std.proofs.Common.{◌+◌, inr, ap, subst, ◌∙◌}
 use Rattle.pp_core.specs.Steps.{meaning}
 use Rattle.pp_object.specs.Objects.{objects}
-use Rattle.pp_object.specs.laws.Objects.{objects_lawful}
+use Rattle.pp_rules.specs.Evidence.{Fits}
+use Rattle.pp_rules.specs.Shown.{IsShown}
 use Rattle.pp_rules.specs.Stepping.{Stepped}
-use Rattle.pp_rules.proofs.Telling.{evidence_law}
 use Rattle.pp_run.specs.Progresses.{rejection_of}
 use Rattle.pp_run.specs.declared.progress.Progress.TheVariants.{Rejected}
 use Rattle.pp_run.proofs.take.take_step.Goals as goal
@@ -15,6 +15,7 @@ returns-in-False-clause-ok g c =
     let n = c.in-False.criterion in
     let detail = c.in-False.detail in
     let effect = subst (λ o. Stepped objects machine step o c.in_ok-machine.machine) c.in-False.is c.in_ok-machine.ensures.effect in
+    let shown = subst (λ o. IsShown objects machine step o) c.in-False.is c.in_ok-machine.ensures.shown in
     inr (
       n,
       effect.1,
@@ -22,5 +23,5 @@ returns-in-False-clause-ok g c =
       ap (λ k. Rejected c.args.tally (record { step = k + 1; line = c.args.line; rule = c.rule_of.result; criterion = n; detail = detail })) c.count-number.ensures.count
           ∙ ap (λ r. Rejected c.args.tally (record { step = machine.count + 1; line = c.args.line; rule = r; criterion = n; detail = detail })) c.rule_of.ensures
           ∙ ap (λ d. Rejected c.args.tally (record (rejection_of machine step c.args.line n) { detail = d })) effect.3,
-      (evidence_law objects objects_lawful machine.shape).fits machine.config step n c.count-number.ensures.sound,
+      subst (λ d. Fits objects machine.shape d) effect.3 shown.1,
     )
