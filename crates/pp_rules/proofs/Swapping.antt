@@ -17,9 +17,11 @@ use Rattle.pp_rules.specs.Evidence.{entries_before, entries_behind, first_swap, 
 use Rattle.pp_rules.specs.Finding.{AreDistinct, blocks, holds_back, stands_first, stays_behind}
 use Rattle.pp_rules.specs.declared.detail.Detail.TheVariants.{Nothing}
 use Rattle.pp_rules.proofs.Finding.{before_here, behind_here, here_behind, in_dropped, here_before}
-use Rattle.pp_rules.proofs.Finding.{in_taken, place_found, place_or_len, some_same}
-use Rattle.pp_rules.proofs.Opened.{is_none, is_there}
+use Rattle.pp_rules.proofs.Finding.{in_taken, place_found, place_or_len}
+use Rattle.pp_rules.proofs.Opened.{is_there}
 use Rattle.pp_rules.proofs.Showing.{none_stops, stops_here, swap_shown}
+use Rattle.std.proofs.lemmas.Option.{same_Some}
+use Rattle.pp_core.proofs.Places.{is_none_of}
 
 mark_is : (m n : Mark) → m ≡ n → is_mark m n ≡ true
 mark_is m n e = subst (λ (z : Mark). is_mark z n ≡ true) (sym e) (itself n)
@@ -32,7 +34,7 @@ mark_is m n e = subst (λ (z : Mark). is_mark z n ≡ true) (sym e) (itself n)
 module _ {Shape State Op Undo : Type 0} (o : Object Shape State Op Undo) (laws : IsLawful o) (shape : Shape) where
   -- a pair that no lists refute swaps, and one that lists refute does not
   unrefuted_in : (a b : Op) → is_some (o.refuting a b) ≡ false → SwapsIn o shape a b
-  unrefuted_in a b h = (laws.unrefuted a b).0 (is_none (o.refuting a b) h) shape
+  unrefuted_in a b h = (laws.unrefuted a b).0 (is_none_of (o.refuting a b) h) shape
 
   refuted_in : (a b : Op) → IsTrue (o.fits shape a) → IsTrue (o.fits shape b) → is_some (o.refuting a b) ≡ true → SwapsIn o shape a b → ⊥
   refuted_in a b f g h s =
@@ -113,7 +115,7 @@ module _ {Shape State Op Undo : Type 0} (o : Object Shape State Op Undo) (laws :
   -- the first that blocks is the one that a walk finds
   first_blocks : (p : SharedEntry Op → Bool) (l : List (SharedEntry Op)) (k : ℕ) (u : SharedEntry Op) → slice_get l k ≡ Some u → p u ≡ true → ((j : ℕ) (z : SharedEntry Op) → j < k → slice_get l j ≡ Some z → p z ≡ false) → find p l ≡ Some u
   first_blocks p [] k u at h n = absurd (cc)
-  first_blocks p (y ∷ l) zero u at h n = ap (λ (b : Bool). cond b (Some y) (find p l)) (ap p (some_same y u at) ∙ h) ∙ at
+  first_blocks p (y ∷ l) zero u at h n = ap (λ (b : Bool). cond b (Some y) (find p l)) (ap p (same_Some y u at) ∙ h) ∙ at
   first_blocks p (y ∷ l) (suc k) u at h n =
       ap (λ (b : Bool). cond b (Some y) (find p l)) (n 0 y (omega arith) refl)
       ∙ first_blocks p l k u at h (λ j z b w. n (suc j) z (omega arith) w)
@@ -135,4 +137,4 @@ module _ {Shape State Op Undo : Type 0} (o : Object Shape State Op Undo) (laws :
           go : (b c : Bool) → (d.entry).committed ≡ b → ((d.entry).owner =ⁿ t) ≡ c → ((not b && not c) && is_some (o.refuting (d.entry).op op)) ≡ false → Swaps o (d.entry).op op
           go true c eb ec h = let z : true ≡ false = sym eb ∙ d.blocks.uncommitted in absurd (cc)
           go false true eb ec h = absurd (d.blocks.other (names-true (d.entry).owner t ec))
-          go false false eb ec h = (laws.unrefuted (d.entry).op op).0 (is_none (o.refuting (d.entry).op op) h)
+          go false false eb ec h = (laws.unrefuted (d.entry).op op).0 (is_none_of (o.refuting (d.entry).op op) h)

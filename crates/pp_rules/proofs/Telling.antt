@@ -40,11 +40,12 @@ use Rattle.pp_rules.proofs.Finding.{behind_here, dropped_before, find_nowhere, h
 use Rattle.pp_rules.proofs.Finding.{here_behind, in_dropped, in_taken, place_found, placed}
 use Rattle.pp_rules.proofs.Finding.{taken_before}
 use Rattle.pp_rules.proofs.Fitting.{fits_in, local_fits, marked_fits, shared_fits}
-use Rattle.pp_rules.proofs.Opened.{is_none, is_there}
+use Rattle.pp_rules.proofs.Opened.{is_there}
 use Rattle.pp_rules.proofs.Showing.{answers_same, same_answer, second_fails, stops, swap_shown}
 use Rattle.pp_rules.proofs.Refuting.{refutes}
 use Rattle.pp_rules.proofs.Testing.{all_pushed, all_stand, fallen, not_all_pushed, not_all_stand}
 use Rattle.pp_rules.proofs.Testing.{stands}
+use Rattle.pp_core.proofs.Places.{is_none_of}
 
 -- Where the entry of an id stands, by the place that the evidence begins at.
 module _ {Op : Type 0} (l : List (LocalEntry Op)) (d : AreDistinct l) (e : LocalEntry Op) (id : ℕ) (i : In e l) (is : e.id ≡ id) where
@@ -153,7 +154,7 @@ module _ {Shape State Op Undo : Type 0} (o : Object Shape State Op Undo) (laws :
         × TellsRefuted o (id_of e) (a e) (b e) (first_swap id_of (λ z. o.refuting (a z) (b z)) (filter passes l))
 
     swaps_if : (z : E) → stops passes (λ z. o.refuting (a z) (b z)) z ≡ false → passes z ≡ true → Swaps o (a z) (b z)
-    swaps_if z h p = (laws.unrefuted (a z) (b z)).0 (is_none (o.refuting (a z) (b z)) (second_fails (passes z) (is_some (o.refuting (a z) (b z))) h p))
+    swaps_if z h p = (laws.unrefuted (a z) (b z)).0 (is_none_of (o.refuting (a z) (b z)) (second_fails (passes z) (is_some (o.refuting (a z) (b z))) h p))
 
     refuted_first : (l : List E) → ((p q : E) → Before p q l → id_of p ≡ id_of q → ⊥) → (((e : E) → In e l → passes e ≡ true → SwapsIn o shape (a e) (b e)) → ⊥) → FirstRefuted l
     refuted_first l d n = go (find (stops passes (λ z. o.refuting (a z) (b z))) l) refl

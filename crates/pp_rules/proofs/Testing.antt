@@ -12,8 +12,9 @@ use Rattle.pp_rules.specs.Evidence.{first_entry}
 use Rattle.pp_rules.specs.Finding.{HaveOwnIds}
 use Rattle.pp_rules.specs.Standing.{StandsCommitted, is_committed, stands_committed}
 use Rattle.pp_rules.specs.declared.detail.Detail.TheVariants.{Entry}
-use Rattle.pp_rules.proofs.Finding.{find_nowhere, place_found, place_none, some_same}
+use Rattle.pp_rules.proofs.Finding.{find_nowhere, place_found, place_none}
 use Rattle.pp_rules.proofs.Showing.{entry_shown, second_fails}
+use Rattle.std.proofs.lemmas.Option.{same_Some}
 
 unpushed_own : (m : Mark) → is_mark m Unpushed ≡ true → (is_own m ≡ true) × (m ≡ Pushed → ⊥)
 unpushed_own Unpushed h = (refl, λ e. cc)
@@ -50,7 +51,7 @@ module _ {Op : Type 0} where
   pub head_shown : (l ds : List (LocalEntry Op)) (x : LocalEntry Op) → ds ≡ l → Some x ≡ slice_get ds 0 → (l ≡ [] → ⊥) × (Entry x.id ≡ first_entry l)
   head_shown l [] x e h = absurd (cc)
   head_shown l (y ∷ ds) x e h =
-      (λ k. let z : (y ∷ ds) ≡ [] = e ∙ k in cc, ap (λ (z : LocalEntry Op). Entry z.id) (some_same x y h) ∙ ap first_entry e)
+      (λ k. let z : (y ∷ ds) ≡ [] = e ∙ k in cc, ap (λ (z : LocalEntry Op). Entry z.id) (same_Some x y h) ∙ ap first_entry e)
 
   pub none_there : (l ds : List (LocalEntry Op)) → ds ≡ l → None ≡ slice_get ds 0 → l ≡ []
   none_there l [] e h = sym e
