@@ -4,6 +4,7 @@ use Rattle.std.proofs.Common.{List, [], ◌∷◌, ◌++◌, map, Some, slice_ge
 use Rattle.std.proofs.Common.{inl, inr}
 use Rattle.std.specs.List.{remove}
 use Rattle.std.proofs.lemmas.List.{map-append}
+use Rattle.std.proofs.lemmas.Option.{same_Some}
 use Rattle.pp_core.specs.declared.entry.LocalEntry.{LocalEntry}
 use Rattle.pp_model.specs.Body.{Call, Begins, IsWord}
 use Rattle.pp_model.specs.Config.{Mark, Unpushed, Pushed, Pulled, but_last, is_own, item, local_ops}
@@ -11,18 +12,17 @@ use Rattle.pp_model.specs.Config.{set_mark, own, own_items}
 use Rattle.pp_model.specs.Object.{Item}
 use Rattle.pp_model.proofs.Lists.{by_key}
 use Rattle.pp_model.proofs.Steps.{own_items-append}
+use Rattle.pp_model.proofs.Push.{own_marked}
 use Rattle.pp_log.specs.declared.place.Removed.{Removed}
 use Rattle.pp_log.specs.declared.place.Removed.TheVariants.{Done, Differs}
 use Rattle.pp_log.specs.Logs.{RemovesEntry}
+use Rattle.pp_log.proofs.Lists.{stands_in}
 use Rattle.pp_spec.specs.Object.{Object, IsAllowed}
 use Rattle.pp_body.specs.Walks.{Walked, HasTaken, MayGoBack}
 use Rattle.pp_rules.specs.Courses.{Guided, IsGivenBack, MayFollow, own_calls}
 use Rattle.pp_rules.specs.Finding.{AreDistinct}
 use Rattle.pp_rules.specs.Transactions.{HasOwn, MayLeave, Takes}
 use Rattle.pp_rules.proofs.Removing.{front_is, last_removed}
-use Rattle.std.proofs.lemmas.Option.{same_Some}
-use Rattle.pp_log.proofs.Lists.{stands_in}
-use Rattle.pp_model.proofs.Push.{own_marked}
 
 pub own_mark : (m : Mark) → m ≢ Pulled → is_own m ≡ true
 own_mark Unpushed n = refl

@@ -5,21 +5,19 @@ use Rattle.std.proofs.Common.{[], ◌∷◌, ◌++◌, map, take, length, get_or
 use Rattle.std.proofs.Common.{IfSome, option_map, add-one, IsSome, position, nat_lt, find}
 use Rattle.std.proofs.Common.{slice_get, reverse, refl, sym, ◌∙◌, ap, subst, arith, inl, inr}
 use Rattle.std.specs.List.{list_any, position_or_len, remove}
-use Rattle.std.proofs.lemmas.Bool.{ltb-false, ltb-true, eqb-true, eq-eqb}
+use Rattle.std.proofs.lemmas.Bool.{ltb-false, ltb-true, eqb-true, eq-eqb, false_from_ne_true}
 use Rattle.std.proofs.lemmas.List.{length-drop, reverse-append, take_all}
 use Rattle.std.proofs.lemmas.List.Folds.{find_at}
 use Rattle.std.proofs.lemmas.List.Quantifiers.{position-Some}
-use Rattle.std.proofs.lemmas.Option.{get_or_from_slice_get, slice_get_past}
+use Rattle.std.proofs.lemmas.Option.{get_or_from_slice_get, slice_get_past, same_Some}
 use Rattle.std.specs.Option.{option_copied}
 use Rattle.pp_core.specs.declared.entry.LocalEntry.{LocalEntry}
 use Rattle.pp_model.specs.Config.{but_last, last}
 use Rattle.pp_model.specs.Lists.{In, Before}
 use Rattle.pp_model.proofs.Lists.{before_in_second, in_cases, in_left, in_right}
 use Rattle.pp_model.proofs.Logs.{found}
-use Rattle.std.proofs.lemmas.Option.{same_Some}
-use Rattle.pp_log.proofs.Lists.{stands_in}
-use Rattle.pp_log.proofs.Lists.{not_past}
 use Rattle.pp_model.proofs.Trace.{keep_all}
+use Rattle.pp_log.proofs.Lists.{stands_in, not_past}
 
 -- the first place of a test
 place_is : (n m i : ℕ) (b : Bool) → cond b (Some n) None ≡ Some i → n ≡ i
@@ -72,10 +70,6 @@ no_other : {X : Type 0} (p q : X → Bool) (ys : List X) → ((z : X) → In z y
 no_other p q [] n = refl
 no_other {X} p q (y ∷ ys) n = ap (λ (b : Bool). cond (b && q y) (Some y) (find (λ z. p z && q z) ys)) (n y (inl refl)) ∙ no_other p q ys (λ z i. n z (inr i))
 
-pub is_not_true : (b : Bool) → (b ≡ true → ⊥) → b ≡ false
-is_not_true true n = absurd (n refl)
-is_not_true false n = refl
-
 found_one : {X : Type 0} (p q : X → Bool) (y x : X) (ys : List X) → q x ≡ false → (p y ≡ true → (z : X) → In z ys → p z ≡ false) → (find p ys ≡ Some x → find (λ z. p z && q z) ys ≡ None) →
     (b : Bool) → p y ≡ b → cond b (Some y) (find p ys) ≡ Some x → cond (b && q y) (Some y) (find (λ z. p z && q z) ys) ≡ None
 found_one {X} p q y x ys t d f true e h = ap (λ (c : Bool). cond c (Some y) (find (λ z. p z && q z) ys)) (ap q (same_Some y x h) ∙ t) ∙ no_other p q ys (d e)
@@ -83,7 +77,7 @@ found_one p q y x ys t d f false e h = f h
 
 pub find_one : {X : Type 0} (p q : X → Bool) (xs : List X) (x : X) → ((y z : X) → Before y z xs → p y ≡ true → p z ≡ true → ⊥) → find p xs ≡ Some x → q x ≡ false → find (λ z. p z && q z) xs ≡ None
 find_one p q [] x d h t = refl
-find_one p q (y ∷ ys) x d h t = found_one p q y x ys t (λ e z i. is_not_true (p z) (d y z (inl (refl, i)) e)) (λ k. find_one p q ys x (λ u v b. d u v (inr b)) k t) (p y) refl h
+find_one p q (y ∷ ys) x d h t = found_one p q y x ys t (λ e z i. false_from_ne_true (p z) (d y z (inl (refl, i)) e)) (λ k. find_one p q ys x (λ u v b. d u v (inr b)) k t) (p y) refl h
 
 -- options
 pub mapped_some : {X Y : Type 0} (f : X → Y) (o : Option X) (y : Y) → Some y ≡ option_map f o → (x : X) × (o ≡ Some x) × (f x ≡ y)
@@ -292,7 +286,7 @@ before_found {X} f p (y ∷ ys) d x z h b = go (p y) refl h b (λ k w. before_fo
 
 -- a list without the element at a place
 differs_in : (a b : ℕ) → a ≢ b → not (a == b) ≡ true
-differs_in a b n = ap not (is_not_true (a == b) (λ e. n (eqb-true a b e)))
+differs_in a b n = ap not (false_from_ne_true (a == b) (λ e. n (eqb-true a b e)))
 
 pub removed_filter : {X : Type 0} (key : X → ℕ) (id : ℕ) (xs : List X) → ((p q : X) → Before p q xs → key p ≡ key q → ⊥) → (i : ℕ) (x : X) → slice_get xs i ≡ Some x → key x ≡ id → remove xs i ≡ filter (λ z. not (key z == id)) xs
 removed_filter key id [] d i x h e = absurd (cc)

@@ -9,10 +9,11 @@ use Rattle.pp_model.specs.Lists.{In, Before}
 use Rattle.pp_model.specs.Body.{Tree, IsWord}
 use Rattle.pp_model.specs.Names.{Name, ◌=ⁿ◌}
 use Rattle.pp_model.specs.Object as model
-use Rattle.pp_spec.specs.Object.{Object, IsAllowed, rules_of}
-use Rattle.pp_rules.specs.Machines.{Seen}
 use Rattle.pp_model.specs.Rules.{Breaks, Meets, FirstFalse, IsLast, there}
+use Rattle.pp_model.proofs.Alone.{there_is}
+use Rattle.pp_spec.specs.Object.{Object, IsAllowed, rules_of}
 use Rattle.pp_log.specs.Logs.{answer_behind}
+use Rattle.pp_rules.specs.Machines.{Seen}
 use Rattle.pp_rules.specs.Courses.{MayFollow, own_calls}
 use Rattle.pp_rules.specs.Evidence.{entries_before, entries_behind, evidence, first_differing}
 use Rattle.pp_rules.specs.Evidence.{first_entry, first_swap, if_there, at_number}
@@ -21,7 +22,6 @@ use Rattle.pp_rules.specs.Stepping.{Refuses}
 use Rattle.pp_rules.specs.declared.detail.Detail.{Detail}
 use Rattle.pp_rules.specs.declared.detail.Detail.TheVariants.{Nothing, Gives}
 use Rattle.pp_rules.specs.declared.detail.Refusal.{Refusal}
-use Rattle.pp_model.proofs.Alone.{there_is}
 
 pub there_1 : {A : Type 0} (o : Option A) (f : A → List (Type 0)) → o ≡ None → FirstFalse (there o f) 1
 there_1 {A} o f e = subst (λ (w : Option A). FirstFalse (there w f) 1) (sym e) (λ z. z)

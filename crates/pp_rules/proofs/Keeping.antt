@@ -3,7 +3,9 @@ use Rattle.std.proofs.Common.{◌≡◌, ◌≢◌, ◌==◌, ℕ, ◌<◌, ◌�
 use Rattle.std.proofs.Common.{not, List, [], ◌∷◌, ◌++◌, map, filter, length, Option, Some, None}
 use Rattle.std.proofs.Common.{position, slice_get, refl, sym, ◌∙◌, ap, subst, arith, inl, inr}
 use Rattle.std.proofs.lemmas.List.{length_push, length-map}
-use Rattle.std.proofs.lemmas.Bool.{eqb-true}
+use Rattle.std.proofs.lemmas.Bool.{eqb-true, false_from_ne_true}
+use Rattle.std.specs.List.{list_any, remove}
+use Rattle.std.proofs.lemmas.Option.{same_Some}
 use Rattle.pp_core.specs.declared.entry.CommittedTx.{CommittedTx}
 use Rattle.pp_core.specs.declared.entry.LocalEntry.{LocalEntry}
 use Rattle.pp_core.specs.declared.entry.SharedEntry.{SharedEntry}
@@ -24,7 +26,11 @@ use Rattle.pp_model.proofs.Lists.{in_cases, in_map}
 use Rattle.pp_model.proofs.Logs.{found, found_mark, found_other, found_tx, in_but_last}
 use Rattle.pp_model.proofs.Names.{names_tell}
 use Rattle.pp_model.proofs.Steps.{there_holds}
+use Rattle.pp_model.proofs.Push.{ops_marked}
+use Rattle.pp_model.proofs.Commit.{ops_committed}
 use Rattle.pp_spec.specs.Object.{Object, AllRanged, IsAllowed, rules_of}
+use Rattle.indexmap.specs.IndexSet.{insert_key}
+use Rattle.pp_log.proofs.Lists.{stands_in}
 use Rattle.pp_rules.specs.Courses.{FollowsIfOwn}
 use Rattle.pp_rules.specs.Machines.{Holds, IsFine, Seen, config_of, stepped, tx_of}
 use Rattle.pp_rules.specs.Transactions.{HasOwn, MayLeave, is_begun, is_busy, Open, Takes, Txs}
@@ -37,13 +43,6 @@ use Rattle.pp_rules.proofs.Finding.{removed_filter, slice_within}
 use Rattle.pp_rules.proofs.Fitting.{in_ranged, ranged_in, ranged_more, serial_allowed, serial_more}
 use Rattle.pp_rules.proofs.Opened.{HasLog, begun_in, busy_in, distinct, opened, used_in}
 use Rattle.pp_rules.proofs.Removing.{ranged_posts}
-use Rattle.indexmap.specs.IndexSet.{insert_key}
-use Rattle.std.specs.List.{list_any, remove}
-use Rattle.pp_log.proofs.Lists.{stands_in}
-use Rattle.std.proofs.lemmas.Option.{same_Some}
-use Rattle.pp_model.proofs.Push.{ops_marked}
-use Rattle.pp_model.proofs.Commit.{ops_committed}
-use Rattle.pp_rules.proofs.Finding.{is_not_true}
 
 pub unpushed_own : Unpushed ≢ Pulled
 unpushed_own e = cc
@@ -177,16 +176,16 @@ module _ {Shape State Op Undo : Type 0} (o : Object Shape State Op Undo) (shape 
   }
 
   pub begin_free : (t p : Name) (b : Option Tree) → Meets (rules_of o w.shape) w.config (Begin t p b) → is_begun v t ≡ false
-  begin_free t p b f = is_not_true (is_begun v t) (λ k. (lower (Begin t p b) 0 f).0 (begun_in v t (sym k)))
+  begin_free t p b f = false_from_ne_true (is_begun v t) (λ k. (lower (Begin t p b) 0 f).0 (begun_in v t (sym k)))
 
   pub begin_idle : (t p : Name) (b : Option Tree) → Meets (rules_of o w.shape) w.config (Begin t p b) → is_busy v p ≡ false
-  begin_idle t p b f = is_not_true (is_busy v p) (λ k. let x = busy_in v p (sym k) in (lower (Begin t p b) 0 f).1.0 x.0 x.1 x.2)
+  begin_idle t p b f = false_from_ne_true (is_busy v p) (λ k. let x = busy_in v p (sym k) in (lower (Begin t p b) 0 f).1.0 x.0 x.1 x.2)
 
   -- APP
   pub ids_more : (t : Name) (id : ℕ) (op : Op) (ks : List ℕ) → Meets (rules_of o w.shape) w.config (App t id op) → ks ≡ insert_key (λ a b. a == b) ids id → ks ≡ ids ++ id ∷ []
   ids_more t id op ks f i =
       let k = there_holds (tx t (map tx_of v.opened)) _ (lower (App t id op) 0 f) in
-      let u : list_any (λ j. id == j) ids ≡ false = is_not_true (list_any (λ j. id == j) ids) (λ m. k.2.0 (used_in ids id (sym m))) in
+      let u : list_any (λ j. id == j) ids ≡ false = false_from_ne_true (list_any (λ j. id == j) ids) (λ m. k.2.0 (used_in ids id (sym m))) in
       i ∙ ap (λ (b : Bool). cond b ids (ids ++ id ∷ [])) u
 
   app_is : (t : Name) (id : ℕ) (op : Op) (u : Txs Shape Op) (js : List ℕ) → u ≡ with_log t (λ l. l ++ record { id = id; owner = t; mark = Unpushed; op = op } ∷ []) v → js ≡ ids ++ id ∷ [] → config_of u js G.1 F ≡ then (config_of v ids G.1 F) (App t id op)
@@ -224,7 +223,7 @@ module _ {Shape State Op Undo : Type 0} (o : Object Shape State Op Undo) (shape 
         record {
           allowed = subst (λ (z : Shape). IsAllowed o z (local_ops (y.0).local.1 ++ e.op ∷ [])) (sym fine.same_shape) (subst (λ (z : List (LocalEntry Op)). IsAllowed o shape (local_ops z ++ e.op ∷ [])) (sym local) a);
           ranged = r;
-          new = place_nowhere (λ z. z.id == e.id) (y.0).local.1 (λ z i. is_not_true (z.id == e.id) (λ k. d z (subst (λ (l : List (LocalEntry Op)). In z l) local i) (eqb-true z.id e.id k)));
+          new = place_nowhere (λ z. z.id == e.id) (y.0).local.1 (λ z i. false_from_ne_true (z.id == e.id) (λ k. d z (subst (λ (l : List (LocalEntry Op)). In z l) local i) (eqb-true z.id e.id k)));
           few = (let s = fine.short in omega (arith, s, few));
         },
         subst (λ (z : Tx Op). FollowsIfOwn o z.body z.local e) (sym y.2) follows,
@@ -283,7 +282,7 @@ module _ {Shape State Op Undo : Type 0} (o : Object Shape State Op Undo) (shape 
   pub push_new : (t : Name) (id : ℕ) → Meets (rules_of o w.shape) w.config (Push t id) → (l : Shape × List (LocalEntry Op)) → HasLog o shape v ids G F n h t l → (p : LocalEntry Op) → at_mark id Unpushed l.1 ≡ Some p → position (λ g. g.id == p.id) G.1 ≡ None
   push_new t id f l r p q =
       let s = subst (λ (c : Config Op). Sound (rules_of o shape) c) (sym (after_push v ids G.1 F t id _ p r.is q)) (sound_then (Push t id) f) in
-      place_nowhere (λ g. g.id == p.id) G.1 (λ g i. is_not_true (g.id == p.id) (λ k. s.shared_ids g (as_shared t false (item p)) (before_across g (as_shared t false (item p)) G.1 (as_shared t false (item p) ∷ []) i (inl refl)) (eqb-true g.id p.id k)))
+      place_nowhere (λ g. g.id == p.id) G.1 (λ g i. false_from_ne_true (g.id == p.id) (λ k. s.shared_ids g (as_shared t false (item p)) (before_across g (as_shared t false (item p)) G.1 (as_shared t false (item p) ∷ []) i (inl refl)) (eqb-true g.id p.id k)))
 
   push_is : (t : Name) (id : ℕ) (l : Shape × List (LocalEntry Op)) → HasLog o shape v ids G F n h t l → (p : LocalEntry Op) → at_mark id Unpushed l.1 ≡ Some p → (u : Txs Shape Op) (H : List (SharedEntry Op)) → u ≡ with_log t (set_mark p.id Pushed) v → H ≡ G.1 ++ as_shared t false (item p) ∷ [] →
       config_of u ids H F ≡ then (config_of v ids G.1 F) (Push t id)

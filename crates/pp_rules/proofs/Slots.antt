@@ -6,16 +6,16 @@ use Rattle.std.proofs.lemmas.List.{map-append}
 use Rattle.std.specs.List.{list_any}
 use Rattle.std.specs.Map.{keys_of, lookup, set_value}
 use Rattle.std.proofs.lemmas.Map.Steps.{set_value_same}
+use Rattle.std.proofs.lemmas.Option.{same_Some}
 use Rattle.pp_model.specs.Lists.{In, Before}
 use Rattle.pp_model.specs.Names.{Name, ◌=ⁿ◌}
 use Rattle.pp_model.proofs.Lists.{in_cases, before_cases, before_left, before_right, before_across}
 use Rattle.pp_model.proofs.Names.{eq-names, names_tell}
 use Rattle.pp_core.specs.declared.entry.LocalEntry.{LocalEntry}
+use Rattle.pp_core.proofs.Places.{is_none_of}
 use Rattle.pp_rules.specs.Transactions.{Open, Txs, Kept, filled, threads_of, open_at, is_begun}
 use Rattle.pp_rules.specs.Transactions.{is_busy, relocated, relogged, with_local, with_log}
 use Rattle.pp_rules.specs.Transactions.{with_open, without_open}
-use Rattle.std.proofs.lemmas.Option.{same_Some}
-use Rattle.pp_core.proofs.Places.{is_none_of}
 
 pub names_turned : (a b : Name) → (a =ⁿ b) ≡ (b =ⁿ a)
 names_turned a b = elim (names_tell a b) [

@@ -3,8 +3,11 @@ use Rattle.std.proofs.Common.{◌≡◌, ◌==◌, ◌&&◌, ◌+◌, false, ℕ
 use Rattle.std.proofs.Common.{not, filter, find, is_some, List, [], ◌∷◌, Some, None, drop, take}
 use Rattle.std.proofs.Common.{position, slice_get, refl, sym, ap, subst, ◌∙◌, ◌<◌, arith}
 use Rattle.std.specs.List.{position_or_len}
+use Rattle.std.proofs.lemmas.Option.{same_Some}
+use Rattle.std.proofs.lemmas.Bool.{true_from_ne_false}
 use Rattle.pp_core.specs.declared.entry.LocalEntry.{LocalEntry}
 use Rattle.pp_core.specs.declared.entry.SharedEntry.{SharedEntry}
+use Rattle.pp_core.proofs.Places.{is_none_of}
 use Rattle.pp_model.specs.Names.{Name, ◌=ⁿ◌}
 use Rattle.pp_model.specs.Config.{Mark, Unpushed, Pushed, Pulled, is_mark, is_own, own}
 use Rattle.pp_model.specs.Lists.{In, Before}
@@ -20,8 +23,6 @@ use Rattle.pp_rules.proofs.Finding.{before_here, behind_here, here_behind, in_dr
 use Rattle.pp_rules.proofs.Finding.{in_taken, place_found, place_or_len}
 use Rattle.pp_rules.proofs.Opened.{is_there}
 use Rattle.pp_rules.proofs.Showing.{none_stops, stops_here, swap_shown}
-use Rattle.std.proofs.lemmas.Option.{same_Some}
-use Rattle.pp_core.proofs.Places.{is_none_of}
 
 mark_is : (m n : Mark) → m ≡ n → is_mark m n ≡ true
 mark_is m n e = subst (λ (z : Mark). is_mark z n ≡ true) (sym e) (itself n)
@@ -125,12 +126,8 @@ module _ {Shape State Op Undo : Type 0} (o : Object Shape State Op Undo) (laws :
   blocking_shown t op l k d =
       let u = d.entry in
       swap_shown (λ z. not z.committed && not (z.owner =ⁿ t)) (λ z. o.refuting z.op op) (λ z. z.id) l u
-      (first_blocks (blocks o t op) l k u d.is (not_false (blocks o t op u) (λ e. d.blocks.unswapped (swaps_if e))) (λ j z b w. gives_way t op z (d.first j z b w)))
+      (first_blocks (blocks o t op) l k u d.is (true_from_ne_false (blocks o t op u) (λ e. d.blocks.unswapped (swaps_if e))) (λ j z b w. gives_way t op z (d.first j z b w)))
     where
-      not_false : (b : Bool) → (b ≡ false → ⊥) → b ≡ true
-      not_false true n = refl
-      not_false false n = absurd (n refl)
-
       swaps_if : blocks o t op d.entry ≡ false → Swaps o (d.entry).op op
       swaps_if e = go (d.entry).committed ((d.entry).owner =ⁿ t) refl refl e
         where

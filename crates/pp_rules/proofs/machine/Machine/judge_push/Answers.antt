@@ -2,20 +2,19 @@ use Rattle.std.proofs.Common.{◌∙◌, ◌++◌, ◌∷◌, [], arith, ◌<◌
 use Rattle.std.proofs.Common.{subst, IsTrue}
 use Rattle.std.proofs.lemmas.List.{length-take-le}
 use Rattle.pp_log.specs.Logs.{answer_behind}
+use Rattle.pp_log.proofs.Lists.{stands_in}
 use Rattle.pp_model.specs.Config.{shared_ops}
-use Rattle.pp_rules.specs.declared.detail.Detail.TheVariants.{Gives, Nothing}
 use Rattle.pp_model.proofs.Lists.{before_in_first}
-use Rattle.pp_rules.specs.Evidence.{swap_or}
 use Rattle.pp_spec.specs.Object.{IsAllowed}
-use Rattle.pp_rules.proofs.Finding.{decided, decided_not, read_found, read_there}
-use Rattle.pp_rules.proofs.Finding.{slice_within}
+use Rattle.pp_rules.specs.declared.detail.Detail.TheVariants.{Gives, Nothing}
+use Rattle.pp_rules.specs.Evidence.{swap_or}
+use Rattle.pp_rules.proofs.Finding.{decided, decided_not, read_found, read_there, slice_within}
 use Rattle.pp_rules.proofs.Judged.{is_at}
 use Rattle.pp_rules.proofs.Judging.{push_1, push_2, push_3, push_4, push_5, push_0}
 use Rattle.pp_rules.proofs.Opened.{distinct, fits_local, fits_shared, logged, ranged_local}
 use Rattle.pp_rules.proofs.Opened.{ranged_shared, unlogged}
 use Rattle.pp_rules.proofs.Swapping.{blocking_shown, own_swap, own_not, own_shown}
 use Rattle.pp_rules.proofs.machine.Machine.judge_push.Goals as goal
-use Rattle.pp_log.proofs.Lists.{stands_in}
 
 pub returns-in_default : goal.returns-in_default
 returns-in_default g c =

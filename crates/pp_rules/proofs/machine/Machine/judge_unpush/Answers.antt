@@ -1,12 +1,12 @@
 use Rattle.std.proofs.Common.{◌∙◌, ◌<◌, length, subst, sym, arith}
 use Rattle.pp_model.proofs.Lists.{before_in_second}
+use Rattle.pp_log.proofs.Lists.{stands_in}
 use Rattle.pp_rules.proofs.Finding.{read_found, rest_is, slice_within}
 use Rattle.pp_rules.proofs.Judged.{finds_pushed, stands_posted}
 use Rattle.pp_rules.proofs.Judging.{unpush_1, unpush_2, unpush_3}
 use Rattle.pp_rules.proofs.Opened.{distinct, fits_local, logged, ranged_local, unlogged}
 use Rattle.pp_rules.proofs.Swapping.{behind_not, behind_shown, behind_swap}
 use Rattle.pp_rules.proofs.machine.Machine.judge_unpush.Goals as goal
-use Rattle.pp_log.proofs.Lists.{stands_in}
 
 pub returns-in_default : goal.returns-in_default
 returns-in_default g c =
