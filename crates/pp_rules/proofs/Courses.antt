@@ -37,9 +37,6 @@ map_cond true e w = refl
 map_cond false e w = refl
 
 module _ {Shape State Op Undo : Type 0} (o : Object Shape State Op Undo) where
-  calls_of : List (Item Op) → List Call
-  calls_of l = map (λ p. o.call p.op) l
-
   pub calls_own : (l : List (LocalEntry Op)) (e : LocalEntry Op) → is_own e.mark ≡ true → own_calls o (l ++ e ∷ []) ≡ own_calls o l ++ o.call e.op ∷ []
   calls_own l e h =
       ap (map (λ (p : Item Op). o.call p.op)) (own_items-append l (e ∷ []) ∙ ap (λ (w : List (Item Op)). own_items l ++ w) (own_of e true h))

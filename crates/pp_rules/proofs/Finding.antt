@@ -1,8 +1,8 @@
 -- What tests, places and lookups say of a list.
 use Rattle.std.proofs.Common.{◌≡◌, ◌≢◌, ◌-◌, drop, filter, Bor, is_some, ◌==◌, ◌↔◌, IsTrue, ℕ, zero}
 use Rattle.std.proofs.Common.{suc, ◌<◌, ◌≤◌, ◌+◌, Bool, true, false, cond, not, ◌||◌, ◌&&◌, List}
-use Rattle.std.proofs.Common.{[], ◌∷◌, ◌++◌, map, take, length, get_or, Option, Some, None, IfNone}
-use Rattle.std.proofs.Common.{IfSome, option_map, add-one, IsSome, position, nat_lt, find}
+use Rattle.std.proofs.Common.{[], ◌∷◌, ◌++◌, map, take, length, get_or, Option, Some, None}
+use Rattle.std.proofs.Common.{option_map, add-one, IsSome, position, nat_lt, find}
 use Rattle.std.proofs.Common.{slice_get, reverse, refl, sym, ◌∙◌, ap, subst, arith, inl, inr}
 use Rattle.std.specs.List.{list_any, position_or_len, remove}
 use Rattle.std.proofs.lemmas.Bool.{ltb-false, ltb-true, eqb-true, eq-eqb, false_from_ne_true}
@@ -43,10 +43,6 @@ place_there p (y ∷ ys) i h e = not_past (y ∷ ys) i (position-Some p (y ∷ y
 
 pub place_found : {X : Type 0} (p : X → Bool) (xs : List X) (i : ℕ) (x : X) → position p xs ≡ Some i → slice_get xs i ≡ Some x → find p xs ≡ Some x
 place_found p xs i x h e = place_find p xs i h ∙ e
-
-pub if_none : {X : Type 0} (r : Option X) (P : Type 0) → P → IfNone r P
-if_none None P p = p
-if_none (Some x) P p = tt
 
 -- what is found by a key, and then has to pass another test
 found_both : {X : Type 0} (p q : X → Bool) (y x : X) (ys : List X) → q x ≡ true → (find p ys ≡ Some x → find (λ z. p z && q z) ys ≡ Some x) →
@@ -203,15 +199,7 @@ not_placed {Op} l id h a i e =
     let n = find_nowhere (λ (z : LocalEntry Op). z.id == id) l (place_none (λ (z : LocalEntry Op). z.id == id) l h) a i in
     let z : true ≡ false = sym (eq-eqb a.id id e) ∙ n in cc
 
--- what is said of an option that holds something, and of one that does not
-pub some_holds : (r : Option ℕ) (Q : ℕ → Type 0) (b : Bool) → b ≡ is_some r → b ≡ true → IfSome r Q → (k : ℕ) × Q k
-some_holds None Q b e t h = let z : true ≡ false = sym t ∙ e in cc
-some_holds (Some k) Q b e t h = (k, h)
-
-pub none_holds : (r : Option ℕ) (P : Type 0) (b : Bool) → b ≡ is_some r → b ≡ false → IfNone r P → P
-none_holds None P b e t h = h
-none_holds (Some k) P b e t h = let z : true ≡ false = sym e ∙ t in cc
-
+-- what is said of a place that is there, and of one that is not
 pub a_place : (r : Option ℕ) (b : Bool) → b ≡ is_some r → b ≡ true → (k : ℕ) × (r ≡ Some k)
 a_place None b e t = let z : true ≡ false = sym t ∙ e in cc
 a_place (Some k) b e t = (k, refl)

@@ -425,9 +425,6 @@ module _ {A Shape Op : Type 0} (f : Name → A → Open Shape Op) (named : (n : 
     pub seen_same : (fs : List (Name × Option A)) → fs ≡ es → ◌≡◌ {A = Txs Shape Op} (record { names = keys_of fs; opened = filled f fs }) v
     seen_same fs m = ap seen m ∙ same
 
-    pub kept_same_slots : (fs : List (Name × Option A)) (us : List Name) → fs ≡ es → us ≡ ts → Kept (keys_of fs) us (threads_of (filled f fs))
-    kept_same_slots fs us m e = subst (λ (z : List (Name × Option A)). Kept (keys_of z) us (threads_of (filled f z))) (sym m) (kept_threads (keys_of es) ts (threads_of (filled f es)) us kept e)
-
     pub seen_err : {X E : Type 0} (r : Result X E) (s w : Option A) (fs : List (Name × Option A)) → OnErr r (w ≡ s) → lookup (λ n. t =ⁿ n) es ≡ Some s → fs ≡ set_value (λ n. t =ⁿ n) es w → OnErr r (◌≡◌ {A = Txs Shape Op} (record { names = keys_of fs; opened = filled f fs }) v)
     seen_err (Ok x) s w fs err k m = tt
     seen_err (Err x) s w fs err k m = seen_same fs (m ∙ ap (set_value (λ n. t =ⁿ n) es) err ∙ set_value_same (λ n. t =ⁿ n) es s k)
