@@ -4,24 +4,24 @@ use Rattle.std.proofs.Common.{List, [], ◌∷◌, ◌++◌, map, Some, slice_ge
 use Rattle.std.proofs.Common.{inl, inr}
 use Rattle.std.specs.List.{remove}
 use Rattle.std.proofs.lemmas.List.{map-append}
+use Rattle.std.proofs.lemmas.Option.{same_Some}
 use Rattle.pp_core.specs.declared.entry.LocalEntry.{LocalEntry}
 use Rattle.pp_model.specs.Body.{Call, Begins, IsWord}
 use Rattle.pp_model.specs.Config.{Mark, Unpushed, Pushed, Pulled, but_last, is_own, item, local_ops}
 use Rattle.pp_model.specs.Config.{set_mark, own, own_items}
-use Rattle.pp_model.specs.Lists.{In}
 use Rattle.pp_model.specs.Object.{Item}
 use Rattle.pp_model.proofs.Lists.{by_key}
-use Rattle.pp_model.proofs.Push.{mark_cases, remark}
 use Rattle.pp_model.proofs.Steps.{own_items-append}
+use Rattle.pp_model.proofs.Push.{own_marked}
 use Rattle.pp_log.specs.declared.place.Removed.{Removed}
 use Rattle.pp_log.specs.declared.place.Removed.TheVariants.{Done, Differs}
 use Rattle.pp_log.specs.Logs.{RemovesEntry}
+use Rattle.pp_log.proofs.Lists.{stands_in}
 use Rattle.pp_spec.specs.Object.{Object, IsAllowed}
 use Rattle.pp_body.specs.Walks.{Walked, HasTaken, MayGoBack}
 use Rattle.pp_rules.specs.Courses.{Guided, IsGivenBack, MayFollow, own_calls}
 use Rattle.pp_rules.specs.Finding.{AreDistinct}
 use Rattle.pp_rules.specs.Transactions.{HasOwn, MayLeave, Takes}
-use Rattle.pp_rules.proofs.Finding.{slice_in, some_same}
 use Rattle.pp_rules.proofs.Removing.{front_is, last_removed}
 
 pub own_mark : (m : Mark) → m ≢ Pulled → is_own m ≡ true
@@ -36,24 +36,7 @@ map_cond : {Op : Type 0} (b : Bool) (e : LocalEntry Op) (w : List (LocalEntry Op
 map_cond true e w = refl
 map_cond false e w = refl
 
--- the own items stay where the entries of this id are own and stay so
-own_marked : {Op : Type 0} (id : ℕ) (m : Mark) → is_own m ≡ true → (l : List (LocalEntry Op)) → ((e : LocalEntry Op) → In e l → e.id ≡ id → is_own e.mark ≡ true) → own_items (set_mark id m l) ≡ own_items l
-own_marked id m k [] h = refl
-own_marked {Op} id m k (e ∷ l) h = elim (mark_cases id m e) [
-  | inl r ↦ ap (λ (w : LocalEntry Op). own_items (w ∷ set_mark id m l)) r.1
-      ∙ ap (λ (b : Bool). map item (cond b (remark m e ∷ own (set_mark id m l)) (own (set_mark id m l)))) k
-      ∙ ap (λ (w : List (Item Op)). item e ∷ w) (own_marked id m k l (λ a i. h a (inr i)))
-      ∙ ap (λ (b : Bool). map item (cond b (e ∷ own l) (own l))) (sym (h e (inl refl) r.0))
-  | inr r ↦ ap (λ (w : LocalEntry Op). own_items (w ∷ set_mark id m l)) r.1
-      ∙ map_cond (is_own e.mark) e (own (set_mark id m l))
-      ∙ ap (λ (w : List (Item Op)). cond (is_own e.mark) (item e ∷ w) w) (own_marked id m k l (λ a i. h a (inr i)))
-      ∙ sym (map_cond (is_own e.mark) e (own l))
-]
-
 module _ {Shape State Op Undo : Type 0} (o : Object Shape State Op Undo) where
-  calls_of : List (Item Op) → List Call
-  calls_of l = map (λ p. o.call p.op) l
-
   pub calls_own : (l : List (LocalEntry Op)) (e : LocalEntry Op) → is_own e.mark ≡ true → own_calls o (l ++ e ∷ []) ≡ own_calls o l ++ o.call e.op ∷ []
   calls_own l e h =
       ap (map (λ (p : Item Op). o.call p.op)) (own_items-append l (e ∷ []) ∙ ap (λ (w : List (Item Op)). own_items l ++ w) (own_of e true h))
@@ -62,7 +45,7 @@ module _ {Shape State Op Undo : Type 0} (o : Object Shape State Op Undo) where
   pub calls_marked : (l : List (LocalEntry Op)) (i : ℕ) (e : LocalEntry Op) (m : Mark) → AreDistinct l → slice_get l i ≡ Some e → e.mark ≢ Pulled → m ≢ Pulled → own_calls o (set_mark e.id m l) ≡ own_calls o l
   calls_marked l i e m d h own to =
       ap (map (λ (p : Item Op). o.call p.op)) (own_marked e.id m (own_mark m to) l (λ a j s.
-      ap (λ (z : LocalEntry Op). is_own z.mark) (by_key (λ (z : LocalEntry Op). z.id) l d a e j (slice_in l i e h) s) ∙ own_mark e.mark own))
+      ap (λ (z : LocalEntry Op). is_own z.mark) (by_key (λ (z : LocalEntry Op). z.id) l d a e j (stands_in l i e h) s) ∙ own_mark e.mark own))
 
 -- the course as it is seen
 module _ {Shape State Op Undo : Type 0} (o : Object Shape State Op Undo) (w : Walked) (log : Shape × List (LocalEntry Op)) (v : Guided Shape Op) (same : ◌≡◌ {A = Guided Shape Op} (record { body = w.body; local = log }) v) (taken : HasTaken w (own_calls o log.1)) where
@@ -92,7 +75,7 @@ module _ {Shape State Op Undo : Type 0} (o : Object Shape State Op Undo) (w : Wa
 own_removed : {Op : Type 0} (l : List (LocalEntry Op)) (i : ℕ) (e : LocalEntry Op) → slice_get l i ≡ Some e → is_own e.mark ≡ false → own_items (remove l i) ≡ own_items l
 own_removed [] i e h p = absurd (cc)
 own_removed {Op} (a ∷ l) zero e h p =
-    let k : is_own a.mark ≡ false = ap (λ (z : LocalEntry Op). is_own z.mark) (some_same a e h) ∙ p in
+    let k : is_own a.mark ≡ false = ap (λ (z : LocalEntry Op). is_own z.mark) (same_Some a e h) ∙ p in
     sym (ap (λ (b : Bool). map item (cond b (a ∷ own l) (own l))) k)
 own_removed {Op} (a ∷ l) (suc i) e h p =
     map_cond (is_own a.mark) a (own (remove l i))

@@ -1,21 +1,23 @@
 -- What tests, places and lookups say of a list.
 use Rattle.std.proofs.Common.{◌≡◌, ◌≢◌, ◌-◌, drop, filter, Bor, is_some, ◌==◌, ◌↔◌, IsTrue, ℕ, zero}
 use Rattle.std.proofs.Common.{suc, ◌<◌, ◌≤◌, ◌+◌, Bool, true, false, cond, not, ◌||◌, ◌&&◌, List}
-use Rattle.std.proofs.Common.{[], ◌∷◌, ◌++◌, map, take, length, get_or, Option, Some, None, IfNone}
-use Rattle.std.proofs.Common.{IfSome, option_map, add-one, IsSome, position, nat_lt, find}
+use Rattle.std.proofs.Common.{[], ◌∷◌, ◌++◌, map, take, length, get_or, Option, Some, None}
+use Rattle.std.proofs.Common.{option_map, add-one, IsSome, position, nat_lt, find}
 use Rattle.std.proofs.Common.{slice_get, reverse, refl, sym, ◌∙◌, ap, subst, arith, inl, inr}
 use Rattle.std.specs.List.{list_any, position_or_len, remove}
-use Rattle.std.proofs.lemmas.Bool.{ltb-false, ltb-true, eqb-true, eq-eqb}
+use Rattle.std.proofs.lemmas.Bool.{ltb-false, ltb-true, eqb-true, eq-eqb, false_from_ne_true}
 use Rattle.std.proofs.lemmas.List.{length-drop, reverse-append, take_all}
 use Rattle.std.proofs.lemmas.List.Folds.{find_at}
 use Rattle.std.proofs.lemmas.List.Quantifiers.{position-Some}
-use Rattle.std.proofs.lemmas.Option.{get_or_from_slice_get, slice_get_past}
+use Rattle.std.proofs.lemmas.Option.{get_or_from_slice_get, slice_get_past, same_Some}
 use Rattle.std.specs.Option.{option_copied}
 use Rattle.pp_core.specs.declared.entry.LocalEntry.{LocalEntry}
 use Rattle.pp_model.specs.Config.{but_last, last}
 use Rattle.pp_model.specs.Lists.{In, Before}
 use Rattle.pp_model.proofs.Lists.{before_in_second, in_cases, in_left, in_right}
 use Rattle.pp_model.proofs.Logs.{found}
+use Rattle.pp_model.proofs.Trace.{keep_all}
+use Rattle.pp_log.proofs.Lists.{stands_in, not_past}
 
 -- the first place of a test
 place_is : (n m i : ℕ) (b : Bool) → cond b (Some n) None ≡ Some i → n ≡ i
@@ -35,29 +37,17 @@ place_find p xs i h = find_at p xs ∙ ap (slice_get xs) (place_or_len p xs i h)
 pub place_none : {X : Type 0} (p : X → Bool) (xs : List X) → position p xs ≡ None → find p xs ≡ None
 place_none p xs h = find_at p xs ∙ slice_get_past xs (position_or_len p xs) (place_past (position_or_len p xs) (length xs) (nat_lt (position_or_len p xs) (length xs)) refl h)
 
-pub there_within : {X : Type 0} (xs : List X) (i : ℕ) → i < length xs → slice_get xs i ≡ None → ⊥
-there_within [] i h e = absurd (omega arith)
-there_within (y ∷ ys) zero h e = absurd (cc)
-there_within (y ∷ ys) (suc i) h e = there_within ys i (omega arith) e
-
 pub place_there : {X : Type 0} (p : X → Bool) (xs : List X) (i : ℕ) → position p xs ≡ Some i → slice_get xs i ≡ None → ⊥
 place_there p [] i h e = absurd (cc)
-place_there p (y ∷ ys) i h e = there_within (y ∷ ys) i (position-Some p (y ∷ ys) i y h).0 e
+place_there p (y ∷ ys) i h e = not_past (y ∷ ys) i (position-Some p (y ∷ ys) i y h).0 e
 
 pub place_found : {X : Type 0} (p : X → Bool) (xs : List X) (i : ℕ) (x : X) → position p xs ≡ Some i → slice_get xs i ≡ Some x → find p xs ≡ Some x
 place_found p xs i x h e = place_find p xs i h ∙ e
 
-pub if_none : {X : Type 0} (r : Option X) (P : Type 0) → P → IfNone r P
-if_none None P p = p
-if_none (Some x) P p = tt
-
 -- what is found by a key, and then has to pass another test
-pub some_same : {X : Type 0} (x y : X) → Some x ≡ Some y → x ≡ y
-some_same x y e = cc
-
 found_both : {X : Type 0} (p q : X → Bool) (y x : X) (ys : List X) → q x ≡ true → (find p ys ≡ Some x → find (λ z. p z && q z) ys ≡ Some x) →
     (b : Bool) → p y ≡ b → cond b (Some y) (find p ys) ≡ Some x → cond (b && q y) (Some y) (find (λ z. p z && q z) ys) ≡ Some x
-found_both {X} p q y x ys t f true e h = let k = some_same y x h in ap (λ (c : Bool). cond c (Some y) (find (λ z. p z && q z) ys)) (ap q k ∙ t) ∙ ap (λ (z : X). Some z) k
+found_both {X} p q y x ys t f true e h = let k = same_Some y x h in ap (λ (c : Bool). cond c (Some y) (find (λ z. p z && q z) ys)) (ap q k ∙ t) ∙ ap (λ (z : X). Some z) k
 found_both p q y x ys t f false e h = f h
 
 pub find_both : {X : Type 0} (p q : X → Bool) (xs : List X) (x : X) → find p xs ≡ Some x → q x ≡ true → find (λ z. p z && q z) xs ≡ Some x
@@ -76,23 +66,19 @@ no_other : {X : Type 0} (p q : X → Bool) (ys : List X) → ((z : X) → In z y
 no_other p q [] n = refl
 no_other {X} p q (y ∷ ys) n = ap (λ (b : Bool). cond (b && q y) (Some y) (find (λ z. p z && q z) ys)) (n y (inl refl)) ∙ no_other p q ys (λ z i. n z (inr i))
 
-pub is_not_true : (b : Bool) → (b ≡ true → ⊥) → b ≡ false
-is_not_true true n = absurd (n refl)
-is_not_true false n = refl
-
 found_one : {X : Type 0} (p q : X → Bool) (y x : X) (ys : List X) → q x ≡ false → (p y ≡ true → (z : X) → In z ys → p z ≡ false) → (find p ys ≡ Some x → find (λ z. p z && q z) ys ≡ None) →
     (b : Bool) → p y ≡ b → cond b (Some y) (find p ys) ≡ Some x → cond (b && q y) (Some y) (find (λ z. p z && q z) ys) ≡ None
-found_one {X} p q y x ys t d f true e h = ap (λ (c : Bool). cond c (Some y) (find (λ z. p z && q z) ys)) (ap q (some_same y x h) ∙ t) ∙ no_other p q ys (d e)
+found_one {X} p q y x ys t d f true e h = ap (λ (c : Bool). cond c (Some y) (find (λ z. p z && q z) ys)) (ap q (same_Some y x h) ∙ t) ∙ no_other p q ys (d e)
 found_one p q y x ys t d f false e h = f h
 
 pub find_one : {X : Type 0} (p q : X → Bool) (xs : List X) (x : X) → ((y z : X) → Before y z xs → p y ≡ true → p z ≡ true → ⊥) → find p xs ≡ Some x → q x ≡ false → find (λ z. p z && q z) xs ≡ None
 find_one p q [] x d h t = refl
-find_one p q (y ∷ ys) x d h t = found_one p q y x ys t (λ e z i. is_not_true (p z) (d y z (inl (refl, i)) e)) (λ k. find_one p q ys x (λ u v b. d u v (inr b)) k t) (p y) refl h
+find_one p q (y ∷ ys) x d h t = found_one p q y x ys t (λ e z i. false_from_ne_true (p z) (d y z (inl (refl, i)) e)) (λ k. find_one p q ys x (λ u v b. d u v (inr b)) k t) (p y) refl h
 
 -- options
 pub mapped_some : {X Y : Type 0} (f : X → Y) (o : Option X) (y : Y) → Some y ≡ option_map f o → (x : X) × (o ≡ Some x) × (f x ≡ y)
 mapped_some f None y e = absurd (cc)
-mapped_some f (Some x) y e = (x, refl, some_same (f x) y (sym e))
+mapped_some f (Some x) y e = (x, refl, same_Some (f x) y (sym e))
 
 pub mapped_none : {X Y : Type 0} (f : X → Y) (o : Option X) → None ≡ option_map f o → o ≡ None
 mapped_none f None e = refl
@@ -142,10 +128,6 @@ or_false : (a b : Bool) → (a || b) ≡ false → (a ≡ false) × (b ≡ false
 or_false true b e = absurd (cc)
 or_false false b e = (refl, e)
 
-and_true : (a b : Bool) → (a && b) ≡ true → (a ≡ true) × (b ≡ true)
-and_true true b e = (refl, e)
-and_true false b e = absurd (cc)
-
 pub none_in : {X : Type 0} (p : X → Bool) (xs : List X) → list_any p xs ≡ false → (x : X) → In x xs → p x ≡ false
 none_in p [] h x i = elim i [ ]
 none_in p (y ∷ ys) h x (inl e) = ap p e ∙ (or_false (p y) (list_any p ys) h).0
@@ -169,11 +151,6 @@ in_reverse {X} x (y ∷ ys) (inl e) = subst (λ (w : List X). In x w) (sym (reve
 in_reverse {X} x (y ∷ ys) (inr j) = subst (λ (w : List X). In x w) (sym (reverse-append (y ∷ []) ys)) (in_left x (reverse ys) (y ∷ []) (in_reverse x ys j))
 
 -- what stands at a place, and before it
-pub slice_in : {X : Type 0} (xs : List X) (i : ℕ) (x : X) → slice_get xs i ≡ Some x → In x xs
-slice_in [] i x h = absurd (cc)
-slice_in {X} (y ∷ ys) zero x h = inl (sym (some_same y x h))
-slice_in (y ∷ ys) (suc i) x h = inr (slice_in ys i x h)
-
 pub slice_within : {X : Type 0} (xs : List X) (i : ℕ) (x : X) → slice_get xs i ≡ Some x → i < length xs
 slice_within [] i x h = absurd (cc)
 slice_within (y ∷ ys) zero x h = omega arith
@@ -182,13 +159,13 @@ slice_within (y ∷ ys) (suc i) x h = let k = slice_within ys i x h in omega (ar
 pub before_here : {X : Type 0} (xs : List X) (i : ℕ) (x a : X) → slice_get xs i ≡ Some x → In a (take i xs) → Before a x xs
 before_here [] i x a h j = absurd (cc)
 before_here (y ∷ ys) zero x a h j = elim j [ ]
-before_here (y ∷ ys) (suc i) x a h (inl e) = inl (e, slice_in ys i x h)
+before_here (y ∷ ys) (suc i) x a h (inl e) = inl (e, stands_in ys i x h)
 before_here (y ∷ ys) (suc i) x a h (inr j) = inr (before_here ys i x a h j)
 
 pub here_before : {X K : Type 0} (f : X → K) (xs : List X) → ((p q : X) → Before p q xs → f p ≡ f q → ⊥) → (i : ℕ) (x a : X) → slice_get xs i ≡ Some x → Before a x xs → In a (take i xs)
 here_before f [] d i x a h b = elim b [ ]
-here_before f (y ∷ ys) d zero x a h (inl k) = absurd (d y x (inl (refl, k.1)) (ap f (some_same y x h)))
-here_before f (y ∷ ys) d zero x a h (inr b) = absurd (d y x (inl (refl, before_in_second a x ys b)) (ap f (some_same y x h)))
+here_before f (y ∷ ys) d zero x a h (inl k) = absurd (d y x (inl (refl, k.1)) (ap f (same_Some y x h)))
+here_before f (y ∷ ys) d zero x a h (inr b) = absurd (d y x (inl (refl, before_in_second a x ys b)) (ap f (same_Some y x h)))
 here_before f (y ∷ ys) d (suc i) x a h (inl k) = inl k.0
 here_before f (y ∷ ys) d (suc i) x a h (inr b) = inr (here_before f ys (λ p q w. d p q (inr w)) i x a h b)
 
@@ -222,15 +199,7 @@ not_placed {Op} l id h a i e =
     let n = find_nowhere (λ (z : LocalEntry Op). z.id == id) l (place_none (λ (z : LocalEntry Op). z.id == id) l h) a i in
     let z : true ≡ false = sym (eq-eqb a.id id e) ∙ n in cc
 
--- what is said of an option that holds something, and of one that does not
-pub some_holds : (r : Option ℕ) (Q : ℕ → Type 0) (b : Bool) → b ≡ is_some r → b ≡ true → IfSome r Q → (k : ℕ) × Q k
-some_holds None Q b e t h = let z : true ≡ false = sym t ∙ e in cc
-some_holds (Some k) Q b e t h = (k, h)
-
-pub none_holds : (r : Option ℕ) (P : Type 0) (b : Bool) → b ≡ is_some r → b ≡ false → IfNone r P → P
-none_holds None P b e t h = h
-none_holds (Some k) P b e t h = let z : true ≡ false = sym e ∙ t in cc
-
+-- what is said of a place that is there, and of one that is not
 pub a_place : (r : Option ℕ) (b : Bool) → b ≡ is_some r → b ≡ true → (k : ℕ) × (r ≡ Some k)
 a_place None b e t = let z : true ≡ false = sym t ∙ e in cc
 a_place (Some k) b e t = (k, refl)
@@ -254,14 +223,14 @@ in_dropped (suc i) a (y ∷ ys) h = inr (in_dropped i a ys h)
 
 pub here_behind : {X : Type 0} (xs : List X) (i : ℕ) (x b : X) → slice_get xs i ≡ Some x → In b (drop (suc i) xs) → Before x b xs
 here_behind [] i x b h j = absurd (cc)
-here_behind {X} (y ∷ ys) zero x b h j = inl (sym (some_same y x h), j)
+here_behind {X} (y ∷ ys) zero x b h j = inl (sym (same_Some y x h), j)
 here_behind (y ∷ ys) (suc i) x b h j = inr (here_behind ys i x b h j)
 
 pub behind_here : {X K : Type 0} (f : X → K) (xs : List X) → ((p q : X) → Before p q xs → f p ≡ f q → ⊥) → (i : ℕ) (x b : X) → slice_get xs i ≡ Some x → Before x b xs → In b (drop (suc i) xs)
 behind_here f [] d i x b h k = elim k [ ]
 behind_here f (y ∷ ys) d zero x b h (inl k) = k.1
 behind_here f (y ∷ ys) d zero x b h (inr k) = before_in_second x b ys k
-behind_here f (y ∷ ys) d (suc i) x b h (inl k) = absurd (d y x (inl (refl, slice_in ys i x h)) (ap f (sym k.0)))
+behind_here f (y ∷ ys) d (suc i) x b h (inl k) = absurd (d y x (inl (refl, stands_in ys i x h)) (ap f (sym k.0)))
 behind_here f (y ∷ ys) d (suc i) x b h (inr k) = behind_here f ys (λ p q w. d p q (inr w)) i x b h k
 
 -- of two elements the part before a place, or behind it, keeps which is the first
@@ -289,7 +258,7 @@ dropped_before f [] d i x a b h j k = elim k [ ]
 dropped_before f (y ∷ ys) d i x a b h (inl j) (inl k) = absurd (d y a (inl (refl, j.1)) (ap f (sym k.0)))
 dropped_before f (y ∷ ys) d i x a b h (inr j) (inl k) = absurd (d y a (inl (refl, before_in_second x a ys j)) (ap f (sym k.0)))
 dropped_before f (y ∷ ys) d zero x a b h j (inr k) = k
-dropped_before f (y ∷ ys) d (suc i) x a b h (inl j) (inr k) = absurd (d y x (inl (refl, slice_in ys i x h)) (ap f (sym j.0)))
+dropped_before f (y ∷ ys) d (suc i) x a b h (inl j) (inr k) = absurd (d y x (inl (refl, stands_in ys i x h)) (ap f (sym j.0)))
 dropped_before f (y ∷ ys) d (suc i) x a b h (inr j) (inr k) = dropped_before f ys (λ p q w. d p q (inr w)) i x a b h j k
 
 -- what is found is the first that passes
@@ -298,28 +267,24 @@ before_found f p [] d x z h b = elim b [ ]
 before_found {X} f p (y ∷ ys) d x z h b = go (p y) refl h b (λ k w. before_found f p ys (λ u v q. d u v (inr q)) x z k w)
   where
     go : (c : Bool) → p y ≡ c → cond c (Some y) (find p ys) ≡ Some x → Before z x (y ∷ ys) → (find p ys ≡ Some x → Before z x ys → p z ≡ false) → p z ≡ false
-    go true e k (inl w) more = absurd (d y x (inl (refl, w.1)) (ap f (some_same y x k)))
-    go true e k (inr w) more = absurd (d y x (inl (refl, before_in_second z x ys w)) (ap f (some_same y x k)))
+    go true e k (inl w) more = absurd (d y x (inl (refl, w.1)) (ap f (same_Some y x k)))
+    go true e k (inr w) more = absurd (d y x (inl (refl, before_in_second z x ys w)) (ap f (same_Some y x k)))
     go false e k (inl w) more = ap p w.0 ∙ e
     go false e k (inr w) more = more k w
 
 -- a list without the element at a place
-pub keeps_all : {X : Type 0} (p : X → Bool) (xs : List X) → ((x : X) → In x xs → p x ≡ true) → filter p xs ≡ xs
-keeps_all p [] n = refl
-keeps_all {X} p (y ∷ ys) n = ap (λ (b : Bool). cond b (y ∷ filter p ys) (filter p ys)) (n y (inl refl)) ∙ ap (λ (z : List X). y ∷ z) (keeps_all p ys (λ x i. n x (inr i)))
-
 differs_in : (a b : ℕ) → a ≢ b → not (a == b) ≡ true
-differs_in a b n = ap not (is_not_true (a == b) (λ e. n (eqb-true a b e)))
+differs_in a b n = ap not (false_from_ne_true (a == b) (λ e. n (eqb-true a b e)))
 
 pub removed_filter : {X : Type 0} (key : X → ℕ) (id : ℕ) (xs : List X) → ((p q : X) → Before p q xs → key p ≡ key q → ⊥) → (i : ℕ) (x : X) → slice_get xs i ≡ Some x → key x ≡ id → remove xs i ≡ filter (λ z. not (key z == id)) xs
 removed_filter key id [] d i x h e = absurd (cc)
 removed_filter {X} key id (y ∷ ys) d zero x h e =
-    let k : key y ≡ id = ap key (some_same y x h) ∙ e in
+    let k : key y ≡ id = ap key (same_Some y x h) ∙ e in
     sym (ap (λ (b : Bool). cond (not b) (y ∷ filter (λ z. not (key z == id)) ys) (filter (λ z. not (key z == id)) ys)) (eq-eqb (key y) id k)
-    ∙ keeps_all (λ z. not (key z == id)) ys (λ z j. differs_in (key z) id (λ q. d y z (inl (refl, j)) (k ∙ sym q))))
+    ∙ keep_all (λ z. not (key z == id)) ys (λ z j. differs_in (key z) id (λ q. d y z (inl (refl, j)) (k ∙ sym q))))
 removed_filter {X} key id (y ∷ ys) d (suc i) x h e =
     ap (λ (z : List X). y ∷ z) (removed_filter key id ys (λ p q w. d p q (inr w)) i x h e)
-    ∙ sym (ap (λ (b : Bool). cond b (y ∷ filter (λ z. not (key z == id)) ys) (filter (λ z. not (key z == id)) ys)) (differs_in (key y) id (λ q. d y x (inl (refl, slice_in ys i x h)) (q ∙ sym e))))
+    ∙ sym (ap (λ (b : Bool). cond b (y ∷ filter (λ z. not (key z == id)) ys) (filter (λ z. not (key z == id)) ys)) (differs_in (key y) id (λ q. d y x (inl (refl, stands_in ys i x h)) (q ∙ sym e))))
 
 pub removed_last : {X : Type 0} (xs : List X) (i : ℕ) → i + 1 ≡ length xs → remove xs i ≡ but_last xs
 removed_last [] i e = absurd (omega arith)

@@ -1,17 +1,17 @@
 -- Operations of an allowed list fit its shape, and lists of ranged operations.
-use Rattle.std.proofs.Common.{ℕ, Some, ◌≡◌, IsTrue, List, [], ◌∷◌, ◌++◌, refl, ap, sym, ◌∙◌, subst, inl, inr}
+use Rattle.std.proofs.Common.{ℕ, Some, ◌≡◌, IsTrue, List, [], ◌∷◌, ◌++◌, refl, ap, sym, ◌∙◌, subst}
+use Rattle.std.proofs.Common.{inl, inr}
+use Rattle.std.proofs.lemmas.List.{append-nil}
 use Rattle.pp_core.specs.declared.entry.CommittedTx.{CommittedTx}
 use Rattle.pp_core.specs.declared.entry.LocalEntry.{LocalEntry}
 use Rattle.pp_core.specs.declared.entry.SharedEntry.{SharedEntry}
-use Rattle.pp_model.specs.Config.{Mark, Tx, at_mark, local_ops, own_items, tx}
+use Rattle.pp_model.specs.Config.{Mark, Tx, at_mark, local_ops, own_items, tx, Config, shared_ops}
+use Rattle.pp_model.specs.Config.{uncommitted}
 use Rattle.pp_model.specs.Lists.{In}
-use Rattle.pp_model.specs.Sound.{serial_items, serial_ops}
+use Rattle.pp_model.specs.Sound.{serial_items, serial_ops, Sound}
 use Rattle.pp_model.proofs.Lists.{in_map, from_map, in_cases}
 use Rattle.pp_model.proofs.Logs.{found_mark, found_tx, from_own}
-use Rattle.pp_model.specs.Config.{Config, shared_ops, uncommitted}
-use Rattle.pp_model.specs.Sound.{Sound}
 use Rattle.pp_model.proofs.Serial.{allowed_front, from_serial, ordered, serial_law, to_serial}
-use Rattle.std.proofs.lemmas.List.{append-nil}
 use Rattle.pp_spec.specs.Object.{Object, AllowedFrom, AllRanged, IsAllowed, IsLawful, rules_of}
 
 module _ {Shape State Op Undo : Type 0} (o : Object Shape State Op Undo) where

@@ -9,10 +9,11 @@ use Rattle.pp_model.specs.Lists.{In, Before}
 use Rattle.pp_model.specs.Body.{Tree, IsWord}
 use Rattle.pp_model.specs.Names.{Name, ◌=ⁿ◌}
 use Rattle.pp_model.specs.Object as model
-use Rattle.pp_spec.specs.Object.{Object, IsAllowed, rules_of}
-use Rattle.pp_rules.specs.Machines.{Seen}
 use Rattle.pp_model.specs.Rules.{Breaks, Meets, FirstFalse, IsLast, there}
+use Rattle.pp_model.proofs.Alone.{there_is}
+use Rattle.pp_spec.specs.Object.{Object, IsAllowed, rules_of}
 use Rattle.pp_log.specs.Logs.{answer_behind}
+use Rattle.pp_rules.specs.Machines.{Seen}
 use Rattle.pp_rules.specs.Courses.{MayFollow, own_calls}
 use Rattle.pp_rules.specs.Evidence.{entries_before, entries_behind, evidence, first_differing}
 use Rattle.pp_rules.specs.Evidence.{first_entry, first_swap, if_there, at_number}
@@ -27,9 +28,6 @@ there_1 {A} o f e = subst (λ (w : Option A). FirstFalse (there w f) 1) (sym e) 
 
 pub there_more : {A : Type 0} (o : Option A) (f : A → List (Type 0)) (x : A) (n : ℕ) → o ≡ Some x → FirstFalse (f x) (suc n) → FirstFalse (there o f) (suc (suc n))
 there_more {A} o f x n e h = subst (λ (w : Option A). FirstFalse (there w f) (suc (suc n))) (sym e) (tt, h)
-
-pub there_0 : {A : Type 0} (o : Option A) (f : A → List (Type 0)) (x : A) → o ≡ Some x → FirstFalse (f x) 0 → FirstFalse (there o f) 0
-there_0 {A} o f x e h = subst (λ (w : Option A). FirstFalse (there w f) 0) (sym e) (tt, h)
 
 -- the evidence beside it
 pub there_shown_1 : {A Op : Type 0} (q : Option A) (f : A → List (Detail Op)) → Nothing ≡ at_number (if_there q f) 1
@@ -64,7 +62,7 @@ module _ {Shape State Op Undo : Type 0} (o : Object Shape State Op Undo) (v w : 
   app_4 t id op x e n b k d shown = refuse (App t id op) 3 (record { criterion = 4; detail = d }) d refl (there_more (tx t v.config.opened) _ x 2 e (n, (b, k))) (there_shown_more (tx t v.config.opened) _ x 2 e shown)
 
   pub app_0 : (t : Name) (id : ℕ) (op : Op) (x : Tx Op) → tx t v.config.opened ≡ Some x → (In id v.config.ids → ⊥) → MayFollow o x.body x.local op → IsAllowed o v.shape (local_ops x.local ++ op ∷ []) → Meets (rules_of o w.shape) w.config (App t id op)
-  app_0 t id op x e n b k = lift (App t id op) 0 (there_0 (tx t v.config.opened) _ x e (n, (b, (k, refl))))
+  app_0 t id op x e n b k = lift (App t id op) 0 (there_is (tx t v.config.opened) _ x e (n, (b, (k, refl))))
 
   pub push_1 : (t : Name) (id : ℕ) → tx t v.config.opened ≡ None → (r : Refusal Op) → r ≡ record { criterion = 1; detail = Nothing } → Refuses o w (Push t id) r
   push_1 t id e r is = refuse (Push t id) 0 r Nothing is (there_1 (tx t v.config.opened) _ e) (there_shown_1 (tx t v.config.opened) _)
@@ -92,7 +90,7 @@ module _ {Shape State Op Undo : Type 0} (o : Object Shape State Op Undo) (v w : 
 
   pub push_0 : (t : Name) (id : ℕ) (x : Tx Op) (p : LocalEntry Op) → tx t v.config.opened ≡ Some x → at_mark id Unpushed x.local ≡ Some p →
       OwnSwap x p → OthersSwap t p → IsAllowed o v.shape (shared_ops v.config.shared ++ p.op ∷ []) → Meets (rules_of o w.shape) w.config (Push t id)
-  push_0 t id x p e h own others k = lift (Push t id) 0 (there_0 (tx t v.config.opened) _ x e (there_0 (at_mark id Unpushed x.local) _ p h (own, (others, (k, refl)))))
+  push_0 t id x p e h own others k = lift (Push t id) 0 (there_is (tx t v.config.opened) _ x e (there_is (at_mark id Unpushed x.local) _ p h (own, (others, (k, refl)))))
 
   pub cmt_1 : (t : Name) → tx t v.config.opened ≡ None → (r : Refusal Op) → r ≡ record { criterion = 1; detail = Nothing } → Refuses o w (Cmt t) r
   cmt_1 t e r is = refuse (Cmt t) 0 r Nothing is (there_1 (tx t v.config.opened) _ e) (there_shown_1 (tx t v.config.opened) _)
@@ -116,7 +114,7 @@ module _ {Shape State Op Undo : Type 0} (o : Object Shape State Op Undo) (v w : 
   cmt_4 t x p e b all i m n d shown = refuse (Cmt t) 3 (record { criterion = 4; detail = d }) d refl (there_more (tx t v.config.opened) _ x 2 e (b, (all, (λ h. n (h p i m))))) (there_shown_more (tx t v.config.opened) _ x 2 e shown)
 
   pub cmt_0 : (t : Name) (x : Tx Op) → tx t v.config.opened ≡ Some x → IsComplete x → AllPushed x → ((p : LocalEntry Op) → In p x.local → p.mark ≡ Pulled → StandsCommitted p.id) → Meets (rules_of o w.shape) w.config (Cmt t)
-  cmt_0 t x e b all h = lift (Cmt t) 0 (there_0 (tx t v.config.opened) _ x e (b, (all, (h, refl))))
+  cmt_0 t x e b all h = lift (Cmt t) 0 (there_is (tx t v.config.opened) _ x e (b, (all, (h, refl))))
 
   pub begin_1 : (t p : Name) (b : Option Tree) → In t v.config.names → (r : Refusal Op) → r ≡ record { criterion = 1; detail = Nothing } → Refuses o w (Begin t p b) r
   begin_1 t p b i r is = refuse (Begin t p b) 0 r Nothing is (λ n. n i) refl
@@ -134,13 +132,13 @@ module _ {Shape State Op Undo : Type 0} (o : Object Shape State Op Undo) (v w : 
   quit_2 t x e n d shown = refuse (Quit t) 1 (record { criterion = 2; detail = d }) d refl (there_more (tx t v.config.opened) _ x 0 e n) (there_shown_more (tx t v.config.opened) _ x 0 e shown)
 
   pub quit_0 : (t : Name) (x : Tx Op) → tx t v.config.opened ≡ Some x → x.local ≡ [] → Meets (rules_of o w.shape) w.config (Quit t)
-  quit_0 t x e h = lift (Quit t) 0 (there_0 (tx t v.config.opened) _ x e (h, refl))
+  quit_0 t x e h = lift (Quit t) 0 (there_is (tx t v.config.opened) _ x e (h, refl))
 
   pub note_1 : (t : Name) → tx t v.config.opened ≡ None → (r : Refusal Op) → r ≡ record { criterion = 1; detail = Nothing } → Refuses o w (Note t) r
   note_1 t e r is = refuse (Note t) 0 r Nothing is (there_1 (tx t v.config.opened) _ e) (there_shown_1 (tx t v.config.opened) _)
 
   pub note_0 : (t : Name) (x : Tx Op) → tx t v.config.opened ≡ Some x → Meets (rules_of o w.shape) w.config (Note t)
-  note_0 t x e = lift (Note t) 0 (there_0 (tx t v.config.opened) _ x e refl)
+  note_0 t x e = lift (Note t) 0 (there_is (tx t v.config.opened) _ x e refl)
 
   pub pull_1 : (t : Name) (id : ℕ) → tx t v.config.opened ≡ None → (r : Refusal Op) → r ≡ record { criterion = 1; detail = Nothing } → Refuses o w (Pull t id) r
   pull_1 t id e r is = refuse (Pull t id) 0 r Nothing is (there_1 (tx t v.config.opened) _ e) (there_shown_1 (tx t v.config.opened) _)
@@ -165,7 +163,7 @@ module _ {Shape State Op Undo : Type 0} (o : Object Shape State Op Undo) (v w : 
   pull_5 t id x g a e h n k i m z d shown = refuse (Pull t id) 4 (record { criterion = 5; detail = d }) d refl (there_more (tx t v.config.opened) _ x 3 e (there_more (of_other t id v.config.shared) _ g 2 h (n, (k, λ all. z (all a i m))))) (there_shown_more (tx t v.config.opened) _ x 3 e (there_shown_more (of_other t id v.config.shared) _ g 2 h shown))
 
   pub pull_0 : (t : Name) (id : ℕ) (x : Tx Op) (g : SharedEntry Op) → tx t v.config.opened ≡ Some x → of_other t id v.config.shared ≡ Some g → NotThere id x → IsAllowed o v.shape (local_ops x.local ++ g.op ∷ []) → OwnBefore x g → Meets (rules_of o w.shape) w.config (Pull t id)
-  pull_0 t id x g e h n k b = lift (Pull t id) 0 (there_0 (tx t v.config.opened) _ x e (there_0 (of_other t id v.config.shared) _ g h (n, (k, (b, refl)))))
+  pull_0 t id x g e h n k b = lift (Pull t id) 0 (there_is (tx t v.config.opened) _ x e (there_is (of_other t id v.config.shared) _ g h (n, (k, (b, refl)))))
 
   pub unapp_1 : (t : Name) (id : ℕ) → tx t v.config.opened ≡ None → (r : Refusal Op) → r ≡ record { criterion = 1; detail = Nothing } → Refuses o w (Unapp t id) r
   unapp_1 t id e r is = refuse (Unapp t id) 0 r Nothing is (there_1 (tx t v.config.opened) _ e) (there_shown_1 (tx t v.config.opened) _)
@@ -174,7 +172,7 @@ module _ {Shape State Op Undo : Type 0} (o : Object Shape State Op Undo) (v w : 
   unapp_2 t id x e n r is = refuse (Unapp t id) 1 r Nothing is (there_more (tx t v.config.opened) _ x 0 e n) (there_shown_more (tx t v.config.opened) _ x 0 e refl)
 
   pub unapp_0 : (t : Name) (id : ℕ) (x : Tx Op) → tx t v.config.opened ≡ Some x → IsLast id (last x.local) → Meets (rules_of o w.shape) w.config (Unapp t id)
-  unapp_0 t id x e k = lift (Unapp t id) 0 (there_0 (tx t v.config.opened) _ x e (k, refl))
+  unapp_0 t id x e k = lift (Unapp t id) 0 (there_is (tx t v.config.opened) _ x e (k, refl))
 
   pub unpush_1 : (t : Name) (id : ℕ) → tx t v.config.opened ≡ None → (r : Refusal Op) → r ≡ record { criterion = 1; detail = Nothing } → Refuses o w (Unpush t id) r
   unpush_1 t id e r is = refuse (Unpush t id) 0 r Nothing is (there_1 (tx t v.config.opened) _ e) (there_shown_1 (tx t v.config.opened) _)
@@ -199,7 +197,7 @@ module _ {Shape State Op Undo : Type 0} (o : Object Shape State Op Undo) (v w : 
 
   pub unpush_0 : (t : Name) (id : ℕ) (x : Tx Op) (p : LocalEntry Op) → tx t v.config.opened ≡ Some x → at_mark id Pushed x.local ≡ Some p →
       BehindSwap x p → IsAllowed o v.shape (shared_ops (without_shared id v.config.shared)) → Meets (rules_of o w.shape) w.config (Unpush t id)
-  unpush_0 t id x p e h all k = lift (Unpush t id) 0 (there_0 (tx t v.config.opened) _ x e (there_0 (at_mark id Pushed x.local) _ p h (all, (k, refl))))
+  unpush_0 t id x p e h all k = lift (Unpush t id) 0 (there_is (tx t v.config.opened) _ x e (there_is (at_mark id Pushed x.local) _ p h (all, (k, refl))))
 
   pub unpull_1 : (t : Name) (id : ℕ) → tx t v.config.opened ≡ None → (r : Refusal Op) → r ≡ record { criterion = 1; detail = Nothing } → Refuses o w (Unpull t id) r
   unpull_1 t id e r is = refuse (Unpull t id) 0 r Nothing is (there_1 (tx t v.config.opened) _ e) (there_shown_1 (tx t v.config.opened) _)
@@ -217,4 +215,4 @@ module _ {Shape State Op Undo : Type 0} (o : Object Shape State Op Undo) (v w : 
 
   pub unpull_0 : (t : Name) (id : ℕ) (x : Tx Op) (p : LocalEntry Op) → tx t v.config.opened ≡ Some x → at_mark id Pulled x.local ≡ Some p →
       IsAllowed o v.shape (local_ops (without_local id x.local)) → Meets (rules_of o w.shape) w.config (Unpull t id)
-  unpull_0 t id x p e h k = lift (Unpull t id) 0 (there_0 (tx t v.config.opened) _ x e (there_0 (at_mark id Pulled x.local) _ p h (k, refl)))
+  unpull_0 t id x p e h k = lift (Unpull t id) 0 (there_is (tx t v.config.opened) _ x e (there_is (at_mark id Pulled x.local) _ p h (k, refl)))

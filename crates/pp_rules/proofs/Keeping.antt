@@ -3,7 +3,9 @@ use Rattle.std.proofs.Common.{◌≡◌, ◌≢◌, ◌==◌, ℕ, ◌<◌, ◌�
 use Rattle.std.proofs.Common.{not, List, [], ◌∷◌, ◌++◌, map, filter, length, Option, Some, None}
 use Rattle.std.proofs.Common.{position, slice_get, refl, sym, ◌∙◌, ap, subst, arith, inl, inr}
 use Rattle.std.proofs.lemmas.List.{length_push, length-map}
-use Rattle.std.proofs.lemmas.Bool.{eqb-true}
+use Rattle.std.proofs.lemmas.Bool.{eqb-true, false_from_ne_true}
+use Rattle.std.specs.List.{list_any, remove}
+use Rattle.std.proofs.lemmas.Option.{same_Some}
 use Rattle.pp_core.specs.declared.entry.CommittedTx.{CommittedTx}
 use Rattle.pp_core.specs.declared.entry.LocalEntry.{LocalEntry}
 use Rattle.pp_core.specs.declared.entry.SharedEntry.{SharedEntry}
@@ -24,7 +26,11 @@ use Rattle.pp_model.proofs.Lists.{in_cases, in_map}
 use Rattle.pp_model.proofs.Logs.{found, found_mark, found_other, found_tx, in_but_last}
 use Rattle.pp_model.proofs.Names.{names_tell}
 use Rattle.pp_model.proofs.Steps.{there_holds}
+use Rattle.pp_model.proofs.Push.{ops_marked}
+use Rattle.pp_model.proofs.Commit.{ops_committed}
 use Rattle.pp_spec.specs.Object.{Object, AllRanged, IsAllowed, rules_of}
+use Rattle.indexmap.specs.IndexSet.{insert_key}
+use Rattle.pp_log.proofs.Lists.{stands_in}
 use Rattle.pp_rules.specs.Courses.{FollowsIfOwn}
 use Rattle.pp_rules.specs.Machines.{Holds, IsFine, Seen, config_of, stepped, tx_of}
 use Rattle.pp_rules.specs.Transactions.{HasOwn, MayLeave, is_begun, is_busy, Open, Takes, Txs}
@@ -33,15 +39,10 @@ use Rattle.pp_rules.specs.Transactions.{with_open, without_open}
 use Rattle.pp_rules.proofs.Acting.{after_begin, after_app, after_unapp, after_pull, after_unpull}
 use Rattle.pp_rules.proofs.Acting.{after_push, after_unpush, after_cmt, after_quit}
 use Rattle.pp_rules.proofs.Finding.{but_last_short, filter_short, place_nowhere, placed}
-use Rattle.pp_rules.proofs.Finding.{removed_filter, slice_in, slice_within}
+use Rattle.pp_rules.proofs.Finding.{removed_filter, slice_within}
 use Rattle.pp_rules.proofs.Fitting.{in_ranged, ranged_in, ranged_more, serial_allowed, serial_more}
 use Rattle.pp_rules.proofs.Opened.{HasLog, begun_in, busy_in, distinct, opened, used_in}
 use Rattle.pp_rules.proofs.Removing.{ranged_posts}
-use Rattle.indexmap.specs.IndexSet.{insert_key}
-use Rattle.std.specs.List.{list_any, remove}
-
-some_inj : {X : Type 0} (x y : X) → Some x ≡ Some y → x ≡ y
-some_inj x y e = cc
 
 pub unpushed_own : Unpushed ≢ Pulled
 unpushed_own e = cc
@@ -51,28 +52,6 @@ pushed_own e = cc
 
 pulled_other : is_own Pulled ≡ true → ⊥
 pulled_other e = cc
-
-not_equal : (b : Bool) → (b ≡ true → ⊥) → b ≡ false
-not_equal true n = absurd (n refl)
-not_equal false n = refl
-
-same_ops : {Op : Type 0} (m : Mark) (e : LocalEntry Op) (b : Bool) → (cond b (record { id = e.id; owner = e.owner; mark = m; op = e.op }) e).op ≡ e.op
-same_ops m e true = refl
-same_ops m e false = refl
-
-marked_ops : {Op : Type 0} (id : ℕ) (m : Mark) (l : List (LocalEntry Op)) → local_ops (set_mark id m l) ≡ local_ops l
-marked_ops id m [] = refl
-marked_ops {Op} id m (e ∷ l) =
-    ap (λ (z : Op). z ∷ local_ops (set_mark id m l)) (same_ops m e (e.id == id)) ∙ ap (λ (z : List Op). e.op ∷ z) (marked_ops id m l)
-
-committed_op : {Op : Type 0} (g : SharedEntry Op) (b : Bool) → (cond b (record { id = g.id; owner = g.owner; committed = true; op = g.op }) g).op ≡ g.op
-committed_op g true = refl
-committed_op g false = refl
-
-committed_ops : {Op : Type 0} (t : Name) (l : List (SharedEntry Op)) → shared_ops (commit_all t l) ≡ shared_ops l
-committed_ops t [] = refl
-committed_ops {Op} t (g ∷ l) =
-    ap (λ (z : Op). z ∷ shared_ops (commit_all t l)) (committed_op g (g.owner =ⁿ t)) ∙ ap (λ (z : List Op). g.op ∷ z) (committed_ops t l)
 
 ops_more : {Op : Type 0} (l : List (LocalEntry Op)) (e : LocalEntry Op) → local_ops (l ++ e ∷ []) ≡ local_ops l ++ e.op ∷ []
 ops_more [] e = refl
@@ -149,7 +128,7 @@ module _ {Shape State Op Undo : Type 0} (o : Object Shape State Op Undo) (shape 
       record {
         same_shape = h.same_shape;
         short = (let s = h.short in let k : length (set_mark id m x.local.1) ≡ length x.local.1 = length-map x.local.1 _ in omega (arith, s, k));
-        ranged = subst (AllRanged o) (sym (marked_ops id m x.local.1)) h.ranged;
+        ranged = subst (AllRanged o) (sym (ops_marked id m x.local.1)) h.ranged;
       }
 
   fine_part : (k : List (LocalEntry Op) → List (LocalEntry Op)) → ((m : List (LocalEntry Op)) → length (k m) ≤ length m) → ((m : List (LocalEntry Op)) (e : LocalEntry Op) → In e (k m) → In e m) → (x : Open Shape Op) → In x l → IsFine o shape (n + 1) (relogged k x)
@@ -197,16 +176,16 @@ module _ {Shape State Op Undo : Type 0} (o : Object Shape State Op Undo) (shape 
   }
 
   pub begin_free : (t p : Name) (b : Option Tree) → Meets (rules_of o w.shape) w.config (Begin t p b) → is_begun v t ≡ false
-  begin_free t p b f = not_equal (is_begun v t) (λ k. (lower (Begin t p b) 0 f).0 (begun_in v t (sym k)))
+  begin_free t p b f = false_from_ne_true (is_begun v t) (λ k. (lower (Begin t p b) 0 f).0 (begun_in v t (sym k)))
 
   pub begin_idle : (t p : Name) (b : Option Tree) → Meets (rules_of o w.shape) w.config (Begin t p b) → is_busy v p ≡ false
-  begin_idle t p b f = not_equal (is_busy v p) (λ k. let x = busy_in v p (sym k) in (lower (Begin t p b) 0 f).1.0 x.0 x.1 x.2)
+  begin_idle t p b f = false_from_ne_true (is_busy v p) (λ k. let x = busy_in v p (sym k) in (lower (Begin t p b) 0 f).1.0 x.0 x.1 x.2)
 
   -- APP
   pub ids_more : (t : Name) (id : ℕ) (op : Op) (ks : List ℕ) → Meets (rules_of o w.shape) w.config (App t id op) → ks ≡ insert_key (λ a b. a == b) ids id → ks ≡ ids ++ id ∷ []
   ids_more t id op ks f i =
       let k = there_holds (tx t (map tx_of v.opened)) _ (lower (App t id op) 0 f) in
-      let u : list_any (λ j. id == j) ids ≡ false = not_equal (list_any (λ j. id == j) ids) (λ m. k.2.0 (used_in ids id (sym m))) in
+      let u : list_any (λ j. id == j) ids ≡ false = false_from_ne_true (list_any (λ j. id == j) ids) (λ m. k.2.0 (used_in ids id (sym m))) in
       i ∙ ap (λ (b : Bool). cond b ids (ids ++ id ∷ [])) u
 
   app_is : (t : Name) (id : ℕ) (op : Op) (u : Txs Shape Op) (js : List ℕ) → u ≡ with_log t (λ l. l ++ record { id = id; owner = t; mark = Unpushed; op = op } ∷ []) v → js ≡ ids ++ id ∷ [] → config_of u js G.1 F ≡ then (config_of v ids G.1 F) (App t id op)
@@ -244,7 +223,7 @@ module _ {Shape State Op Undo : Type 0} (o : Object Shape State Op Undo) (shape 
         record {
           allowed = subst (λ (z : Shape). IsAllowed o z (local_ops (y.0).local.1 ++ e.op ∷ [])) (sym fine.same_shape) (subst (λ (z : List (LocalEntry Op)). IsAllowed o shape (local_ops z ++ e.op ∷ [])) (sym local) a);
           ranged = r;
-          new = place_nowhere (λ z. z.id == e.id) (y.0).local.1 (λ z i. not_equal (z.id == e.id) (λ k. d z (subst (λ (l : List (LocalEntry Op)). In z l) local i) (eqb-true z.id e.id k)));
+          new = place_nowhere (λ z. z.id == e.id) (y.0).local.1 (λ z i. false_from_ne_true (z.id == e.id) (λ k. d z (subst (λ (l : List (LocalEntry Op)). In z l) local i) (eqb-true z.id e.id k)));
           few = (let s = fine.short in omega (arith, s, few));
         },
         subst (λ (z : Tx Op). FollowsIfOwn o z.body z.local e) (sym y.2) follows,
@@ -283,7 +262,7 @@ module _ {Shape State Op Undo : Type 0} (o : Object Shape State Op Undo) (shape 
   takes_pull t id g f q few =
       let k = there_holds (tx t (map tx_of v.opened)) _ (lower (Pull t id) 0 f) in
       let m = there_holds (of_other t id G.1) _ k.2 in
-      let e = some_inj m.0 g (sym m.1 ∙ q) in
+      let e = same_Some m.0 g (sym m.1 ∙ q) in
       let i = found_other t id G.1 g q in
       takes t k.0 (record { id = g.id; owner = g.owner; mark = Pulled; op = g.op }) k.1 (subst (λ (z : SharedEntry Op). IsAllowed o shape (local_ops (k.0).local ++ z.op ∷ [])) e m.2.1.0) (post_ranged g i.0) (λ a j d. m.2.0 a j (d ∙ i.1))
       (subst (λ (z : ℕ). z < 200_000) (sym (ap (λ (z : Seen Shape Op). z.count) same)) few) (λ own. absurd (cc))
@@ -294,16 +273,16 @@ module _ {Shape State Op Undo : Type 0} (o : Object Shape State Op Undo) (shape 
   push_allowed t id f l r p q =
       let k = there_holds (tx t (map tx_of v.opened)) _ (lower (Push t id) 0 f) in
       let m = there_holds (at_mark id Unpushed (k.0).local) _ k.2 in
-      let z : Some m.0 ≡ Some p = sym m.1 ∙ ap (λ (y : Tx Op). at_mark id Unpushed y.local) (some_inj k.0 _ (sym k.1 ∙ r.is)) ∙ q in
-      subst (λ (s : Shape). IsAllowed o s (shared_ops G.1 ++ p.op ∷ [])) (sym h.shared_shape) (subst (λ (y : LocalEntry Op). IsAllowed o shape (shared_ops G.1 ++ y.op ∷ [])) (some_inj m.0 p z) m.2.1.1.0)
+      let z : Some m.0 ≡ Some p = sym m.1 ∙ ap (λ (y : Tx Op). at_mark id Unpushed y.local) (same_Some k.0 _ (sym k.1 ∙ r.is)) ∙ q in
+      subst (λ (s : Shape). IsAllowed o s (shared_ops G.1 ++ p.op ∷ [])) (sym h.shared_shape) (subst (λ (y : LocalEntry Op). IsAllowed o shape (shared_ops G.1 ++ y.op ∷ [])) (same_Some m.0 p z) m.2.1.1.0)
 
   pub entry_ranged : (t : Name) (l : Shape × List (LocalEntry Op)) → HasLog o shape v ids G F n h t l → (p : LocalEntry Op) (i : ℕ) → slice_get l.1 i ≡ Some p → IsTrue (o.ranged p.op)
-  entry_ranged t l r p i q = ranged_in o (local_ops l.1) (r.fine).ranged p.op (in_map (λ (z : LocalEntry Op). z.op) p l.1 (slice_in l.1 i p q))
+  entry_ranged t l r p i q = ranged_in o (local_ops l.1) (r.fine).ranged p.op (in_map (λ (z : LocalEntry Op). z.op) p l.1 (stands_in l.1 i p q))
 
   pub push_new : (t : Name) (id : ℕ) → Meets (rules_of o w.shape) w.config (Push t id) → (l : Shape × List (LocalEntry Op)) → HasLog o shape v ids G F n h t l → (p : LocalEntry Op) → at_mark id Unpushed l.1 ≡ Some p → position (λ g. g.id == p.id) G.1 ≡ None
   push_new t id f l r p q =
       let s = subst (λ (c : Config Op). Sound (rules_of o shape) c) (sym (after_push v ids G.1 F t id _ p r.is q)) (sound_then (Push t id) f) in
-      place_nowhere (λ g. g.id == p.id) G.1 (λ g i. not_equal (g.id == p.id) (λ k. s.shared_ids g (as_shared t false (item p)) (before_across g (as_shared t false (item p)) G.1 (as_shared t false (item p) ∷ []) i (inl refl)) (eqb-true g.id p.id k)))
+      place_nowhere (λ g. g.id == p.id) G.1 (λ g i. false_from_ne_true (g.id == p.id) (λ k. s.shared_ids g (as_shared t false (item p)) (before_across g (as_shared t false (item p)) G.1 (as_shared t false (item p) ∷ []) i (inl refl)) (eqb-true g.id p.id k)))
 
   push_is : (t : Name) (id : ℕ) (l : Shape × List (LocalEntry Op)) → HasLog o shape v ids G F n h t l → (p : LocalEntry Op) → at_mark id Unpushed l.1 ≡ Some p → (u : Txs Shape Op) (H : List (SharedEntry Op)) → u ≡ with_log t (set_mark p.id Pushed) v → H ≡ G.1 ++ as_shared t false (item p) ∷ [] →
       config_of u ids H F ≡ then (config_of v ids G.1 F) (Push t id)
@@ -455,7 +434,7 @@ module _ {Shape State Op Undo : Type 0} (o : Object Shape State Op Undo) (shape 
         fine = fine_without t u e;
         shared_shape = ap (λ (z : Shape × List (SharedEntry Op)). z.0) k ∙ h.shared_shape;
         shared_short = (let s = h.shared_short in let m : length H.1 ≡ length G.1 = ap length posts ∙ length-map G.1 _ in omega (arith, s, m));
-        shared_ranged = subst (AllRanged o) (sym (ap shared_ops posts ∙ committed_ops t G.1)) h.shared_ranged;
+        shared_ranged = subst (AllRanged o) (sym (ap shared_ops posts ∙ ops_committed t G.1)) h.shared_ranged;
         serial_ranged = subst (λ (z : List (CommittedTx Op)). AllRanged o (serial_ops z)) (sym d) (serial_more o F (record { name = t; entries = own_items l.1 }) l.1 h.serial_ranged (r.fine).ranged refl);
       }
 

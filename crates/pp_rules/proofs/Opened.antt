@@ -15,21 +15,14 @@ use Rattle.pp_model.proofs.Lists.{in_map, from_map}
 use Rattle.pp_model.proofs.Logs.{found, found_tx}
 use Rattle.pp_model.proofs.Names.{eq-names, names-true}
 use Rattle.pp_spec.specs.Object.{Object, IsAllowed, IsLawful}
-use Rattle.pp_rules.specs.Machines.{Holds, IsFine, tx_of}
+use Rattle.pp_rules.specs.Machines.{Holds, IsFine, config_of, tx_of}
 use Rattle.pp_rules.specs.Courses.{Guided}
 use Rattle.pp_rules.specs.Transactions.{Open, Txs, course_of, is_begun, is_busy, open_at, open_of}
 use Rattle.pp_rules.specs.Transactions.{threads_of}
 use Rattle.pp_rules.specs.Finding.{AreDistinct}
-use Rattle.pp_rules.proofs.Fitting.{fits_in, ranged_in}
+use Rattle.pp_rules.proofs.Fitting.{local_fits, ranged_in, shared_fits}
 use Rattle.pp_rules.proofs.Finding.{any_in, none_in, find_map, from_reverse, in_reverse}
 use Rattle.pp_rules.proofs.Finding.{mapped_some, mapped_none}
-
-some_inj : {X : Type 0} (x y : X) → Some x ≡ Some y → x ≡ y
-some_inj x y e = cc
-
-pub is_none : {X : Type 0} (r : Option X) → is_some r ≡ false → r ≡ None
-is_none None e = refl
-is_none (Some x) e = absurd (cc)
 
 pub is_there : {X : Type 0} (r : Option X) → is_some r ≡ true → (x : X) × (r ≡ Some x)
 is_there None e = absurd (cc)
@@ -145,14 +138,13 @@ module _ {Shape State Op Undo : Type 0} (o : Object Shape State Op Undo) (shape 
 
   -- what the log of an open transaction keeps
   pub fits_local : IsLawful o → (t : Name) (l : Shape × List (LocalEntry Op)) → HasLog t l → (p : LocalEntry Op) → In p l.1 → IsTrue (o.fits shape p.op)
-  fits_local laws t l r p i =
-      fits_in o laws shape (local_ops l.1) (h.sound.local_allowed (record { name = t; thread = r.thread; body = r.body; local = l.1 }) (found_tx t (map tx_of v.opened) _ r.is).0) p.op (in_map (λ (z : LocalEntry Op). z.op) p l.1 i)
+  fits_local laws t l r p i = local_fits o laws shape (config_of v ids G.1 F) h.sound t _ r.is p i
 
   pub distinct : (t : Name) (l : Shape × List (LocalEntry Op)) → HasLog t l → AreDistinct l.1
   distinct t l r = h.sound.local_ids (record { name = t; thread = r.thread; body = r.body; local = l.1 }) (found_tx t (map tx_of v.opened) _ r.is).0
 
   pub fits_shared : IsLawful o → (u : SharedEntry Op) → In u G.1 → IsTrue (o.fits shape u.op)
-  fits_shared laws u i = fits_in o laws shape (shared_ops G.1) h.sound.shared_allowed u.op (in_map (λ (z : SharedEntry Op). z.op) u G.1 i)
+  fits_shared laws u i = shared_fits o laws shape (config_of v ids G.1 F) h.sound u i
 
   pub ranged_local : (t : Name) (l : Shape × List (LocalEntry Op)) → HasLog t l → (p : LocalEntry Op) → In p l.1 → IsTrue (o.ranged p.op)
   ranged_local t l r p i = ranged_in o (local_ops l.1) (r.fine).ranged p.op (in_map (λ (z : LocalEntry Op). z.op) p l.1 i)

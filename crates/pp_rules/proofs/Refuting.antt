@@ -1,6 +1,6 @@
 -- Where the fact of a criterion holds of a detail that tells something, the criterion is false.
-use Rattle.std.proofs.Common.{◌≡◌, ◌≢◌, ℕ, zero, suc, IsTrue, List, [], ◌∷◌, ◌++◌, Option}
-use Rattle.std.proofs.Common.{Some, None, refl, sym, ap, ◌∙◌}
+use Rattle.std.proofs.Common.{◌≡◌, ◌≢◌, ℕ, zero, suc, IsTrue, List, [], ◌∷◌, ◌++◌, Option, Some}
+use Rattle.std.proofs.Common.{None, refl, sym, ap, ◌∙◌}
 use Rattle.pp_model.specs.Config.{Config, Step, Begin, App, Unapp, Push, Unpush, Pull, Unpull, Cmt}
 use Rattle.pp_model.specs.Config.{Quit, Note, Unpushed, Pushed, Pulled, at_mark, is_own, item}
 use Rattle.pp_model.specs.Config.{local_ops, of_other, shared_item, shared_ops, tx, without_local}

@@ -3,8 +3,9 @@ use Rattle.std.proofs.Common.{◌≡◌, ◌==◌, ◌+◌, ◌-◌, ◌≤◌, 
 use Rattle.std.proofs.Common.{List, [], ◌∷◌, ◌++◌, map, filter, length, Some, slice_get, refl, sym}
 use Rattle.std.proofs.Common.{ap, subst, ◌∙◌, arith, inl, inr}
 use Rattle.std.specs.List.{remove}
-use Rattle.std.proofs.lemmas.Bool.{eqb-true, eq-eqb}
+use Rattle.std.proofs.lemmas.Bool.{eqb-true, eq-eqb, false_from_ne_true}
 use Rattle.std.proofs.lemmas.List.{map-append}
+use Rattle.std.proofs.lemmas.Option.{same_Some}
 use Rattle.pp_core.specs.declared.answer.Answer.{Answer}
 use Rattle.pp_core.specs.declared.entry.Item.{Item}
 use Rattle.pp_core.specs.declared.entry.LocalEntry.{LocalEntry}
@@ -17,11 +18,12 @@ use Rattle.pp_model.proofs.Serial.{allowed_front}
 use Rattle.pp_log.specs.declared.place.Removed.{Removed}
 use Rattle.pp_log.specs.declared.place.Removed.TheVariants.{Done, Differs}
 use Rattle.pp_log.specs.Logs.{DiffersFirst, RemovesEntry, entry_ops, from_place}
+use Rattle.pp_log.proofs.Lists.{stands_in}
 use Rattle.pp_spec.specs.Object.{Object, AllRanged, IsAllowed, rules_of}
 use Rattle.pp_spec.proofs.Lists.{allowed-second}
 use Rattle.pp_rules.specs.Costs.{from_id}
 use Rattle.pp_rules.specs.Transactions.{MayLeave}
-use Rattle.pp_rules.proofs.Finding.{last_at, removed_last, slice_in, some_same}
+use Rattle.pp_rules.proofs.Finding.{last_at, removed_last}
 use Rattle.pp_rules.proofs.Fitting.{in_ranged, ranged_in}
 
 module _ {Shape State Op Undo : Type 0} (o : Object Shape State Op Undo) where
@@ -46,20 +48,16 @@ passing {X} {Y} f t (x ∷ xs) = go (t (f x)) (passing f t xs)
     go true e = omega (arith, e)
     go false e = e
 
-not_same : (b : Bool) → (b ≡ true → ⊥) → b ≡ false
-not_same true n = absurd (n refl)
-not_same false n = refl
-
 module _ {Op E : Type 0} (f : E → Item Op) (place : Op → ℕ) (id : ℕ) where
   pub from_place_is : (l : List E) → ((p q : E) → Before p q l → (f p).id ≡ (f q).id → ⊥) → (i : ℕ) (e : E) → slice_get l i ≡ Some e → (f e).id ≡ id → from_place place (entry_ops f l) i ≡ from_id place id (map f l)
   from_place_is [] d i e h k = absurd (cc)
   from_place_is (a ∷ l) d zero e h k =
-      let same : (f a).id ≡ id = ap (λ (z : E). (f z).id) (some_same a e h) ∙ k in
+      let same : (f a).id ≡ id = ap (λ (z : E). (f z).id) (same_Some a e h) ∙ k in
       passing (λ (z : E). (f z).op) (λ b. place b == place (f a).op) (a ∷ l)
       ∙ sym (passing f (λ q. place q.op == place (f a).op) (a ∷ l))
       ∙ sym (ap (λ (b : Bool). cond b (length (filter (λ q. place q.op == place (f a).op) (map f (a ∷ l)))) (from_id place id (map f l))) (eq-eqb (f a).id id same))
   from_place_is (a ∷ l) d (suc i) e h k =
-      let other : ((f a).id == id) ≡ false = not_same ((f a).id == id) (λ t. d a e (inl (refl, slice_in l i e h)) (eqb-true (f a).id id t ∙ sym k)) in
+      let other : ((f a).id == id) ≡ false = false_from_ne_true ((f a).id == id) (λ t. d a e (inl (refl, stands_in l i e h)) (eqb-true (f a).id id t ∙ sym k)) in
       from_place_is l (λ p q w. d p q (inr w)) i e h k
       ∙ sym (ap (λ (b : Bool). cond b (length (filter (λ q. place q.op == place (f a).op) (map f (a ∷ l)))) (from_id place id (map f l))) other)
 

@@ -2,8 +2,9 @@
 use Rattle.std.proofs.Common.{◌≡◌, ◌≢◌, ◌&&◌, ℕ, Bool, true, false, cond, filter, find, List, []}
 use Rattle.std.proofs.Common.{◌∷◌, ◌++◌, Option, Some, None, is_some, position, slice_get, refl}
 use Rattle.std.proofs.Common.{sym, ap, subst, ◌∙◌}
-use Rattle.std.proofs.lemmas.Bool.{and_parts}
+use Rattle.std.proofs.lemmas.Bool.{and_parts, false_from_ne_true}
 use Rattle.std.proofs.lemmas.Bool.Decides.{Decides-int_eq}
+use Rattle.std.proofs.lemmas.Option.{same_Some}
 use Rattle.pp_core.specs.declared.answer.Answer.{Answer}
 use Rattle.pp_core.specs.declared.answer.Answer.TheVariants as answers
 use Rattle.pp_core.specs.declared.entry.Item.{Item}
@@ -15,7 +16,7 @@ use Rattle.pp_spec.specs.Object.{Object, AllowedFrom, state_from}
 use Rattle.pp_rules.specs.Evidence.{first_differing, first_entry, first_swap, is_same, swap_or}
 use Rattle.pp_rules.specs.declared.detail.Detail.{Detail}
 use Rattle.pp_rules.specs.declared.detail.Detail.TheVariants.{Nothing, Entry, Gives}
-use Rattle.pp_rules.proofs.Finding.{find_nowhere, is_not_true, place_found, place_none, some_same}
+use Rattle.pp_rules.proofs.Finding.{find_nowhere, place_found, place_none}
 
 -- two tests of which the first passes and not both
 pub second_fails : (a b : Bool) → (a && b) ≡ false → a ≡ true → b ≡ false
@@ -39,7 +40,7 @@ module _ {Op E : Type 0} (passes : E → Bool) (refuting : E → Option (List Op
       go false q is more k = more k
       go true None is more k = more k ∙ sym (ap (λ (z : Option (List Op × List Op)). swap_or (id_of y) z rest) is)
       go true (Some lists) is more k =
-          subst (λ (z : E). swap_or (id_of z) (refuting z) Nothing ≡ swap_or (id_of y) (refuting y) rest) (some_same y e k)
+          subst (λ (z : E). swap_or (id_of z) (refuting z) Nothing ≡ swap_or (id_of y) (refuting y) rest) (same_Some y e k)
           (ap (λ (z : Option (List Op × List Op)). swap_or (id_of y) z Nothing) is ∙ sym (ap (λ (z : Option (List Op × List Op)). swap_or (id_of y) z rest) is))
 
   -- where the walk does not stop, no pair of an entry that passes is refuted
@@ -59,7 +60,7 @@ entry_shown {Op} passes (y ∷ l) e h = go (passes y) (λ k. entry_shown passes 
   where
     go : (b : Bool) → (find passes l ≡ Some e → Entry e.id ≡ first_entry (filter passes l)) → cond b (Some y) (find passes l) ≡ Some e → Entry e.id ≡ first_entry (cond b (y ∷ filter passes l) (filter passes l))
     go false more k = more k
-    go true more k = ap (λ (z : LocalEntry Op). Entry z.id) (sym (some_same y e k))
+    go true more k = ap (λ (z : LocalEntry Op). Entry z.id) (sym (same_Some y e k))
 
 -- results that are one, and results that differ
 pub same_answer : (a b : Answer) → a ≡ b → is_same a b ≡ true
@@ -93,7 +94,7 @@ module _ {Shape State Op Undo E : Type 0} (o : Object Shape State Op Undo) (item
   skipped s [] e after h answer g d =
       subst (λ (z : Answer). Gives (item_of e).id z ≡ first_differing o item_of s (e ∷ after)) g
       (sym (ap (λ (b : Bool). cond b (first_differing o item_of (o.next s (item_of e).op) after) (Gives (item_of e).id (o.gives s (item_of e).op)))
-      (is_not_true (is_same (o.gives s (item_of e).op) (o.recorded (item_of e).op)) (λ k. d (sym g ∙ answers_same (o.gives s (item_of e).op) (o.recorded (item_of e).op) k)))))
+      (false_from_ne_true (is_same (o.gives s (item_of e).op) (o.recorded (item_of e).op)) (λ k. d (sym g ∙ answers_same (o.gives s (item_of e).op) (o.recorded (item_of e).op) k)))))
   skipped s (y ∷ before) e after h answer g d =
       skipped (o.next s (item_of y).op) before e after h.1 answer g d
       ∙ sym (ap (λ (b : Bool). cond b (first_differing o item_of (o.next s (item_of y).op) (before ++ e ∷ after)) (Gives (item_of y).id (o.gives s (item_of y).op))) (same_answer (o.gives s (item_of y).op) (o.recorded (item_of y).op) h.0.1))

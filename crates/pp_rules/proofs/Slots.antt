@@ -6,11 +6,13 @@ use Rattle.std.proofs.lemmas.List.{map-append}
 use Rattle.std.specs.List.{list_any}
 use Rattle.std.specs.Map.{keys_of, lookup, set_value}
 use Rattle.std.proofs.lemmas.Map.Steps.{set_value_same}
+use Rattle.std.proofs.lemmas.Option.{same_Some}
 use Rattle.pp_model.specs.Lists.{In, Before}
 use Rattle.pp_model.specs.Names.{Name, ◌=ⁿ◌}
 use Rattle.pp_model.proofs.Lists.{in_cases, before_cases, before_left, before_right, before_across}
 use Rattle.pp_model.proofs.Names.{eq-names, names_tell}
 use Rattle.pp_core.specs.declared.entry.LocalEntry.{LocalEntry}
+use Rattle.pp_core.proofs.Places.{is_none_of}
 use Rattle.pp_rules.specs.Transactions.{Open, Txs, Kept, filled, threads_of, open_at, is_begun}
 use Rattle.pp_rules.specs.Transactions.{is_busy, relocated, relogged, with_local, with_log}
 use Rattle.pp_rules.specs.Transactions.{with_open, without_open}
@@ -111,9 +113,6 @@ same_gone ts us p r e u q = u q ∙ ap (λ (z : Name). cond (z =ⁿ q) false (li
 
 pub kept_same : (ns ts bs ms cs : List Name) → Kept ns ts bs → ms ≡ ns → cs ≡ bs → Kept ms ts cs
 kept_same ns ts bs ms cs h e d = subst (λ (z : List Name). Kept z ts cs) (sym e) (subst (λ (z : List Name). Kept ns ts z) (sym d) h)
-
-some_inj : {X : Type 0} (x y : X) → Some x ≡ Some y → x ≡ y
-some_inj x y e = cc
 
 module _ {Shape Op : Type 0} where
   -- none of the transactions has the name t
@@ -220,7 +219,7 @@ module _ {A Shape Op : Type 0} (f : Name → A → Open Shape Op) (named : (n : 
     after = filled f es;
     off_before = λ x i. absurd i;
     off_after = off;
-    is = filled_first n o es ∙ ap (λ (z : Option A). slot n z ++ filled f es) (some_inj o s h) ∙ ap (λ (z : Name). slot z s ++ filled f es) (sym e);
+    is = filled_first n o es ∙ ap (λ (z : Option A). slot n z ++ filled f es) (same_Some o s h) ∙ ap (λ (z : Name). slot z s ++ filled f es) (sym e);
     changed = λ r.
         ap (λ (c : Bool). filled f (cond c ((n, r) ∷ es) ((n, o) ∷ set_value (λ n. t =ⁿ n) es r))) b
         ∙ filled_first n r es
@@ -317,14 +316,10 @@ module _ {A Shape Op : Type 0} (f : Name → A → Open Shape Op) (named : (n : 
   pub opened_slot : (es : List (Name × Option A)) (t : Name) (s : Option A) → lookup (λ n. t =ⁿ n) es ≡ Some s → ((u v : Name) → Before u v (keys_of es) → u ≢ v) → (x : Open Shape Op) → open_at t (filled f es) ≡ Some x →
       (a : A) × (s ≡ Some a) × (f t a ≡ x)
   opened_slot es t None h d x e = let k : None ≡ Some x = sym (not_open es t h d) ∙ e in absurd (cc)
-  opened_slot es t (Some a) h d x e = (a, refl, some_inj (f t a) x (sym (is_open es t a h d) ∙ e))
+  opened_slot es t (Some a) h d x e = (a, refl, same_Some (f t a) x (sym (is_open es t a h d) ∙ e))
 
   abbrev seen : List (Name × Option A) → Txs Shape Op
   seen es = record { names = keys_of es; opened = filled f es }
-
-  none_of : {X : Type 0} (o : Option X) → is_some o ≡ false → o ≡ None
-  none_of None h = refl
-  none_of (Some x) h = absurd (cc)
 
   pub kept_none : (es : List (Name × Option A)) (ts : List Name) → es ≡ [] → ts ≡ [] → Kept (keys_of es) ts (threads_of (filled f es))
   kept_none es ts e h =
@@ -400,7 +395,7 @@ module _ {A Shape Op : Type 0} (f : Name → A → Open Shape Op) (named : (n : 
 
     -- after a transaction has begun
     pub not_there : is_begun v t ≡ false → lookup (λ n. t =ⁿ n) es ≡ None
-    not_there h = none_of (lookup (λ n. t =ⁿ n) es) (begun_is es t ∙ ap (λ (w : Txs Shape Op). is_begun w t) same ∙ h)
+    not_there h = is_none_of (lookup (λ n. t =ⁿ n) es) (begun_is es t ∙ ap (λ (w : Txs Shape Op). is_begun w t) same ∙ h)
 
     pub seen_begun : (a : A) (fs : List (Name × Option A)) → fs ≡ es ++ (t, Some a) ∷ [] → ◌≡◌ {A = Txs Shape Op} (record { names = keys_of fs; opened = filled f fs }) (with_open (f t a) v)
     seen_begun a fs m =
@@ -429,9 +424,6 @@ module _ {A Shape Op : Type 0} (f : Name → A → Open Shape Op) (named : (n : 
 
     pub seen_same : (fs : List (Name × Option A)) → fs ≡ es → ◌≡◌ {A = Txs Shape Op} (record { names = keys_of fs; opened = filled f fs }) v
     seen_same fs m = ap seen m ∙ same
-
-    pub kept_same_slots : (fs : List (Name × Option A)) (us : List Name) → fs ≡ es → us ≡ ts → Kept (keys_of fs) us (threads_of (filled f fs))
-    kept_same_slots fs us m e = subst (λ (z : List (Name × Option A)). Kept (keys_of z) us (threads_of (filled f z))) (sym m) (kept_threads (keys_of es) ts (threads_of (filled f es)) us kept e)
 
     pub seen_err : {X E : Type 0} (r : Result X E) (s w : Option A) (fs : List (Name × Option A)) → OnErr r (w ≡ s) → lookup (λ n. t =ⁿ n) es ≡ Some s → fs ≡ set_value (λ n. t =ⁿ n) es w → OnErr r (◌≡◌ {A = Txs Shape Op} (record { names = keys_of fs; opened = filled f fs }) v)
     seen_err (Ok x) s w fs err k m = tt

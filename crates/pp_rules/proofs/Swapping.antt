@@ -3,8 +3,11 @@ use Rattle.std.proofs.Common.{◌≡◌, ◌==◌, ◌&&◌, ◌+◌, false, ℕ
 use Rattle.std.proofs.Common.{not, filter, find, is_some, List, [], ◌∷◌, Some, None, drop, take}
 use Rattle.std.proofs.Common.{position, slice_get, refl, sym, ap, subst, ◌∙◌, ◌<◌, arith}
 use Rattle.std.specs.List.{position_or_len}
+use Rattle.std.proofs.lemmas.Option.{same_Some}
+use Rattle.std.proofs.lemmas.Bool.{true_from_ne_false}
 use Rattle.pp_core.specs.declared.entry.LocalEntry.{LocalEntry}
 use Rattle.pp_core.specs.declared.entry.SharedEntry.{SharedEntry}
+use Rattle.pp_core.proofs.Places.{is_none_of}
 use Rattle.pp_model.specs.Names.{Name, ◌=ⁿ◌}
 use Rattle.pp_model.specs.Config.{Mark, Unpushed, Pushed, Pulled, is_mark, is_own, own}
 use Rattle.pp_model.specs.Lists.{In, Before}
@@ -17,8 +20,8 @@ use Rattle.pp_rules.specs.Evidence.{entries_before, entries_behind, first_swap, 
 use Rattle.pp_rules.specs.Finding.{AreDistinct, blocks, holds_back, stands_first, stays_behind}
 use Rattle.pp_rules.specs.declared.detail.Detail.TheVariants.{Nothing}
 use Rattle.pp_rules.proofs.Finding.{before_here, behind_here, here_behind, in_dropped, here_before}
-use Rattle.pp_rules.proofs.Finding.{in_taken, place_found, place_or_len, some_same}
-use Rattle.pp_rules.proofs.Opened.{is_none, is_there}
+use Rattle.pp_rules.proofs.Finding.{in_taken, place_found, place_or_len}
+use Rattle.pp_rules.proofs.Opened.{is_there}
 use Rattle.pp_rules.proofs.Showing.{none_stops, stops_here, swap_shown}
 
 mark_is : (m n : Mark) → m ≡ n → is_mark m n ≡ true
@@ -32,7 +35,7 @@ mark_is m n e = subst (λ (z : Mark). is_mark z n ≡ true) (sym e) (itself n)
 module _ {Shape State Op Undo : Type 0} (o : Object Shape State Op Undo) (laws : IsLawful o) (shape : Shape) where
   -- a pair that no lists refute swaps, and one that lists refute does not
   unrefuted_in : (a b : Op) → is_some (o.refuting a b) ≡ false → SwapsIn o shape a b
-  unrefuted_in a b h = (laws.unrefuted a b).0 (is_none (o.refuting a b) h) shape
+  unrefuted_in a b h = (laws.unrefuted a b).0 (is_none_of (o.refuting a b) h) shape
 
   refuted_in : (a b : Op) → IsTrue (o.fits shape a) → IsTrue (o.fits shape b) → is_some (o.refuting a b) ≡ true → SwapsIn o shape a b → ⊥
   refuted_in a b f g h s =
@@ -113,7 +116,7 @@ module _ {Shape State Op Undo : Type 0} (o : Object Shape State Op Undo) (laws :
   -- the first that blocks is the one that a walk finds
   first_blocks : (p : SharedEntry Op → Bool) (l : List (SharedEntry Op)) (k : ℕ) (u : SharedEntry Op) → slice_get l k ≡ Some u → p u ≡ true → ((j : ℕ) (z : SharedEntry Op) → j < k → slice_get l j ≡ Some z → p z ≡ false) → find p l ≡ Some u
   first_blocks p [] k u at h n = absurd (cc)
-  first_blocks p (y ∷ l) zero u at h n = ap (λ (b : Bool). cond b (Some y) (find p l)) (ap p (some_same y u at) ∙ h) ∙ at
+  first_blocks p (y ∷ l) zero u at h n = ap (λ (b : Bool). cond b (Some y) (find p l)) (ap p (same_Some y u at) ∙ h) ∙ at
   first_blocks p (y ∷ l) (suc k) u at h n =
       ap (λ (b : Bool). cond b (Some y) (find p l)) (n 0 y (omega arith) refl)
       ∙ first_blocks p l k u at h (λ j z b w. n (suc j) z (omega arith) w)
@@ -123,16 +126,12 @@ module _ {Shape State Op Undo : Type 0} (o : Object Shape State Op Undo) (laws :
   blocking_shown t op l k d =
       let u = d.entry in
       swap_shown (λ z. not z.committed && not (z.owner =ⁿ t)) (λ z. o.refuting z.op op) (λ z. z.id) l u
-      (first_blocks (blocks o t op) l k u d.is (not_false (blocks o t op u) (λ e. d.blocks.unswapped (swaps_if e))) (λ j z b w. gives_way t op z (d.first j z b w)))
+      (first_blocks (blocks o t op) l k u d.is (true_from_ne_false (blocks o t op u) (λ e. d.blocks.unswapped (swaps_if e))) (λ j z b w. gives_way t op z (d.first j z b w)))
     where
-      not_false : (b : Bool) → (b ≡ false → ⊥) → b ≡ true
-      not_false true n = refl
-      not_false false n = absurd (n refl)
-
       swaps_if : blocks o t op d.entry ≡ false → Swaps o (d.entry).op op
       swaps_if e = go (d.entry).committed ((d.entry).owner =ⁿ t) refl refl e
         where
           go : (b c : Bool) → (d.entry).committed ≡ b → ((d.entry).owner =ⁿ t) ≡ c → ((not b && not c) && is_some (o.refuting (d.entry).op op)) ≡ false → Swaps o (d.entry).op op
           go true c eb ec h = let z : true ≡ false = sym eb ∙ d.blocks.uncommitted in absurd (cc)
           go false true eb ec h = absurd (d.blocks.other (names-true (d.entry).owner t ec))
-          go false false eb ec h = (laws.unrefuted (d.entry).op op).0 (is_none (o.refuting (d.entry).op op) h)
+          go false false eb ec h = (laws.unrefuted (d.entry).op op).0 (is_none_of (o.refuting (d.entry).op op) h)

@@ -4,12 +4,13 @@ use Rattle.std.proofs.Common.{filter, find, is_some, IsTrue, List, [], ◌∷◌
 use Rattle.std.proofs.Common.{slice_get, Option, Some, None, refl, sym, ap, subst, ◌∙◌, add-one}
 use Rattle.std.proofs.Common.{inl, inr}
 use Rattle.std.specs.List.{position_or_len}
-use Rattle.std.proofs.lemmas.Bool.{and_parts, eqb-true, eq-eqb}
+use Rattle.std.proofs.lemmas.Bool.{and_parts, eqb-true, eq-eqb, not-true}
 use Rattle.std.proofs.lemmas.List.Folds.{find_at}
 use Rattle.pp_core.specs.declared.answer.Answer.{Answer}
 use Rattle.pp_core.specs.declared.entry.Item.{Item}
 use Rattle.pp_core.specs.declared.entry.LocalEntry.{LocalEntry}
 use Rattle.pp_core.specs.declared.entry.SharedEntry.{SharedEntry}
+use Rattle.pp_core.proofs.Places.{is_none_of}
 use Rattle.pp_log.specs.Logs.{DiffersFrom, entry_ops}
 use Rattle.pp_model.specs.Config.{Config, Step, Begin, App, Unapp, Push, Unpush, Pull, Unpull, Cmt}
 use Rattle.pp_model.specs.Config.{Quit, Note, Mark, Unpushed, Pushed, Pulled, at_mark, is_mark}
@@ -25,9 +26,9 @@ use Rattle.pp_model.proofs.Names.{eq-names, names_not}
 use Rattle.pp_spec.specs.Object.{Object, AllowedFrom, IsAllowed, IsLawful, IsLegal, IsRefutedBy}
 use Rattle.pp_spec.specs.Object.{Swaps, SwapsIn, rules_of}
 use Rattle.pp_spec.proofs.Lists.{allowed-append, keeps_shape}
-use Rattle.pp_rules.specs.Evidence.{Fits, entries_before, entries_behind, evidences, first_differing}
-use Rattle.pp_rules.specs.Evidence.{first_entry, first_swap, at_number, gives_behind, if_there}
-use Rattle.pp_rules.specs.Evidence.{is_same, swap_or}
+use Rattle.pp_rules.specs.Evidence.{Fits, entries_before, entries_behind, evidences}
+use Rattle.pp_rules.specs.Evidence.{first_differing, first_entry, first_swap, at_number}
+use Rattle.pp_rules.specs.Evidence.{gives_behind, if_there, is_same, swap_or}
 use Rattle.pp_rules.specs.Finding.{AreDistinct}
 use Rattle.pp_rules.specs.Shown.{EvidenceLaw, HoldsAtNumber, TellsOther, TellsRefuted, facts}
 use Rattle.pp_rules.specs.Shown.{if_there as facts_there}
@@ -40,7 +41,7 @@ use Rattle.pp_rules.proofs.Finding.{behind_here, dropped_before, find_nowhere, h
 use Rattle.pp_rules.proofs.Finding.{here_behind, in_dropped, in_taken, place_found, placed}
 use Rattle.pp_rules.proofs.Finding.{taken_before}
 use Rattle.pp_rules.proofs.Fitting.{fits_in, local_fits, marked_fits, shared_fits}
-use Rattle.pp_rules.proofs.Opened.{is_none, is_there}
+use Rattle.pp_rules.proofs.Opened.{is_there}
 use Rattle.pp_rules.proofs.Showing.{answers_same, same_answer, second_fails, stops, swap_shown}
 use Rattle.pp_rules.proofs.Refuting.{refutes}
 use Rattle.pp_rules.proofs.Testing.{all_pushed, all_stand, fallen, not_all_pushed, not_all_stand}
@@ -153,7 +154,7 @@ module _ {Shape State Op Undo : Type 0} (o : Object Shape State Op Undo) (laws :
         × TellsRefuted o (id_of e) (a e) (b e) (first_swap id_of (λ z. o.refuting (a z) (b z)) (filter passes l))
 
     swaps_if : (z : E) → stops passes (λ z. o.refuting (a z) (b z)) z ≡ false → passes z ≡ true → Swaps o (a z) (b z)
-    swaps_if z h p = (laws.unrefuted (a z) (b z)).0 (is_none (o.refuting (a z) (b z)) (second_fails (passes z) (is_some (o.refuting (a z) (b z))) h p))
+    swaps_if z h p = (laws.unrefuted (a z) (b z)).0 (is_none_of (o.refuting (a z) (b z)) (second_fails (passes z) (is_some (o.refuting (a z) (b z))) h p))
 
     refuted_first : (l : List E) → ((p q : E) → Before p q l → id_of p ≡ id_of q → ⊥) → (((e : E) → In e l → passes e ≡ true → SwapsIn o shape (a e) (b e)) → ⊥) → FirstRefuted l
     refuted_first l d n = go (find (stops passes (λ z. o.refuting (a z) (b z))) l) refl
@@ -307,15 +308,11 @@ module _ {Shape State Op Undo : Type 0} (o : Object Shape State Op Undo) (laws :
             (λ n.
                 let r = refuted_first (λ z. z.id) (λ z. z.op) (λ z. e.op) (λ z. not z.committed && not (z.owner =ⁿ t)) c.shared s.shared_ids (λ all. n (λ u i w q. all u i (is_others t u w q))) in
                 let b = and_parts (not (r.0).committed) (not ((r.0).owner =ⁿ t)) r.2 in
-                (r.0, r.1, not_true (r.0).committed b.0, (λ same. let z : not true ≡ true = sym (ap not (eq-names (r.0).owner t same)) ∙ b.1 in cc), (λ z k w q. r.3 z k (is_others t z w q)), r.4)),
+                (r.0, r.1, not-true (r.0).committed b.0, (λ same. let z : not true ≡ true = sym (ap not (eq-names (r.0).owner t same)) ∙ b.1 in cc), (λ z k w q. r.3 z k (is_others t z w q)), r.4)),
             ((λ n. other id (shared_ops c.shared) e.op s.shared_allowed (marked_fits o laws shape c s t x h id Unpushed e k) n), tt),
           ),
         )))
       where
-        not_true : (b : Bool) → not b ≡ true → b ≡ false
-        not_true true e = absurd (cc)
-        not_true false e = refl
-
         is_others : (t : _) (u : SharedEntry Op) → u.committed ≡ false → (u.owner ≡ t → ⊥) → (not u.committed && not (u.owner =ⁿ t)) ≡ true
         is_others t u w q = ap (λ (b : Bool). not b && not (u.owner =ⁿ t)) w ∙ names_not u.owner t q
     all_tied (Unpush t id) a = tied_there (tx t c.opened) _ _ _ (λ x h. tied_there (at_mark id Pushed x.local) _ _ _ (λ e k.

@@ -2,7 +2,8 @@
 use Rattle.std.proofs.Common.{◌≡◌, ◌==◌, ◌&&◌, ℕ, Bool, true, false, not, filter, List, [], ◌∷◌}
 use Rattle.std.proofs.Common.{Option, Some, None, find, position, slice_get, refl, sym, ◌∙◌, ap}
 use Rattle.std.proofs.Common.{subst}
-use Rattle.std.proofs.lemmas.Bool.{and_parts, eqb-true, eq-eqb}
+use Rattle.std.proofs.lemmas.Bool.{and_parts, eqb-true, eq-eqb, not-false, not-true}
+use Rattle.std.proofs.lemmas.Option.{same_Some}
 use Rattle.pp_model.specs.Config.{LocalEntry, SharedEntry, Mark, Unpushed, Pushed, Pulled, is_mark}
 use Rattle.pp_model.specs.Config.{is_own}
 use Rattle.pp_model.specs.Lists.{In}
@@ -12,7 +13,7 @@ use Rattle.pp_rules.specs.Evidence.{first_entry}
 use Rattle.pp_rules.specs.Finding.{HaveOwnIds}
 use Rattle.pp_rules.specs.Standing.{StandsCommitted, is_committed, stands_committed}
 use Rattle.pp_rules.specs.declared.detail.Detail.TheVariants.{Entry}
-use Rattle.pp_rules.proofs.Finding.{find_nowhere, place_found, place_none, some_same}
+use Rattle.pp_rules.proofs.Finding.{find_nowhere, place_found, place_none}
 use Rattle.pp_rules.proofs.Showing.{entry_shown, second_fails}
 
 unpushed_own : (m : Mark) → is_mark m Unpushed ≡ true → (is_own m ≡ true) × (m ≡ Pushed → ⊥)
@@ -24,14 +25,6 @@ own_pushed : (m : Mark) → is_mark m Unpushed ≡ false → is_own m ≡ true �
 own_pushed Unpushed h k = absurd (cc)
 own_pushed Pushed h k = refl
 own_pushed Pulled h k = absurd (cc)
-
-not_false : (b : Bool) → not b ≡ false → b ≡ true
-not_false true e = refl
-not_false false e = absurd (cc)
-
-not_true : (b : Bool) → not b ≡ true → b ≡ false
-not_true true e = absurd (cc)
-not_true false e = refl
 
 module _ {Op : Type 0} where
   pub all_pushed : (l ds : List (LocalEntry Op)) → ds ≡ l → position (λ e. is_mark e.mark Unpushed) ds ≡ None → (p : LocalEntry Op) → In p l → is_own p.mark ≡ true → p.mark ≡ Pushed
@@ -50,7 +43,7 @@ module _ {Op : Type 0} where
   pub head_shown : (l ds : List (LocalEntry Op)) (x : LocalEntry Op) → ds ≡ l → Some x ≡ slice_get ds 0 → (l ≡ [] → ⊥) × (Entry x.id ≡ first_entry l)
   head_shown l [] x e h = absurd (cc)
   head_shown l (y ∷ ds) x e h =
-      (λ k. let z : (y ∷ ds) ≡ [] = e ∙ k in cc, ap (λ (z : LocalEntry Op). Entry z.id) (some_same x y h) ∙ ap first_entry e)
+      (λ k. let z : (y ∷ ds) ≡ [] = e ∙ k in cc, ap (λ (z : LocalEntry Op). Entry z.id) (same_Some x y h) ∙ ap first_entry e)
 
   pub none_there : (l ds : List (LocalEntry Op)) → ds ≡ l → None ≡ slice_get ds 0 → l ≡ []
   none_there l [] e h = sym e
@@ -74,7 +67,7 @@ module _ {Op : Type 0} where
   pub stands : (G : List (SharedEntry Op)) (p : LocalEntry Op) → fallen G p ≡ false → p.mark ≡ Pulled → StandsCommitted p.id G
   stands G p n m =
       let pulled : is_mark p.mark Pulled ≡ true = ap (λ (z : Mark). is_mark z Pulled) m in
-      standing_found G p.id (find (λ g. g.id == p.id) G) refl (not_false (stands_committed p.id G) (second_fails (is_mark p.mark Pulled) (not (stands_committed p.id G)) n pulled))
+      standing_found G p.id (find (λ g. g.id == p.id) G) refl (not-false (stands_committed p.id G) (second_fails (is_mark p.mark Pulled) (not (stands_committed p.id G)) n pulled))
 
   pub all_stand : (l ds : List (LocalEntry Op)) (G : List (SharedEntry Op)) → ds ≡ l → position (fallen G) ds ≡ None → (p : LocalEntry Op) → In p l → p.mark ≡ Pulled → StandsCommitted p.id G
   all_stand l ds G e h p i m = stands G p (find_nowhere (fallen G) ds (place_none (fallen G) ds h) p (subst (λ (z : List (LocalEntry Op)). In p z) (sym e) i)) m
@@ -87,6 +80,6 @@ module _ {Op : Type 0} where
       let b = and_parts (is_mark p.mark Pulled) (not (stands_committed p.id G)) r.1 in (
         subst (λ (z : List (LocalEntry Op)). In p z) e r.0,
         is_mark-true p.mark Pulled b.0,
-        standing_not G p.id d (find (λ g. g.id == p.id) G) refl (not_true (stands_committed p.id G) b.1),
+        standing_not G p.id d (find (λ g. g.id == p.id) G) refl (not-true (stands_committed p.id G) b.1),
         entry_shown (fallen G) ds p f ∙ ap (λ (z : List (LocalEntry Op)). first_entry (filter (fallen G) z)) e,
       )

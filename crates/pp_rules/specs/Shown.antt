@@ -1,6 +1,6 @@
 -- Meaning: what the evidence of a rejection shows, and that it shows a criterion to be false.
-use Rattle.std.specs.Prelude.{◌≡◌, ◌≢◌, ℕ, zero, suc, true, false, List, [], ◌∷◌, Option}
-use Rattle.std.specs.Prelude.{None, Some}
+use Rattle.std.specs.Prelude.{◌≡◌, ◌≢◌, ℕ, zero, suc, true, false, List, [], ◌∷◌, Option, None}
+use Rattle.std.specs.Prelude.{Some}
 use Rattle.pp_core.specs.declared.answer.Answer.{Answer}
 use Rattle.pp_core.specs.declared.entry.Item.{Item}
 use Rattle.pp_log.specs.Logs.{DiffersFirst, answer_behind}
@@ -43,8 +43,8 @@ module _ {Shape State Op Undo : Type 0} (o : Object Shape State Op Undo) where
       IsAllowed o shape ops × (answer_behind o shape ops op ≢ o.recorded op)
       × (detail ≡ Gives id (answer_behind o shape ops op))
 
-  -- It tells the first entry of the log whose recorded result is not the object's behind the
-  -- entries before it, which are allowed, and the object's.
+  -- It tells the first entry of the log that records another result than the object gives behind
+  -- those before it, which are allowed, and the result that the object gives.
   abbrev pub TellsFirstOther : {E : Type 0} → (E → Item Op) → Shape → List E → Detail Op → Type 0
   TellsFirstOther item_of shape log detail =
       (id : ℕ) × (answer : Answer) × DiffersFirst o item_of shape log id answer

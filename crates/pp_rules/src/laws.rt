@@ -51,9 +51,9 @@ pub fn verdict_law<S: Spec>()
     ensures { (shape : S.Shape) → VerdictLaw (rules_of S.object shape) }
 {}
 
-/// What is shown of the evidence of a criterion holds of that of the first false one. Where it holds
-/// of a detail that tells something, the criterion is false. Evidence tells operations of the
-/// objects alone.
+/// What is shown of the evidence of a criterion holds of that of the first false one. Where it
+/// holds of a detail that tells something, the criterion is false. Evidence tells operations of
+/// the objects alone.
 pub fn evidence_law<S: Spec>()
     ensures { (shape : S.Shape) → EvidenceLaw S.object shape }
 {}

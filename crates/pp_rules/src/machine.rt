@@ -138,9 +138,9 @@ impl<S: Placed> Machine<S> {
         &self.committed
     }
 
-    /// Does a step where each of its criteria holds, and else gives the machine back as it was, with
-    /// what shows that a criterion is false. The only error is that memory was refused, and the
-    /// machine is then lost.
+    /// Does a step where each of its criteria holds, and else gives the machine back as it was,
+    /// with what shows that a criterion is false. The only error is that memory was refused, and
+    /// the machine is then lost.
     pub fn step<L: Ledger>(
         self,
         step: &Step<S::Op>,

@@ -1,10 +1,11 @@
 use Rattle.std.proofs.Common.{refl, sym, ◌∙◌}
+use Rattle.pp_core.proofs.Places.{is_none_of}
 use Rattle.pp_rules.proofs.Judging.{note_1, note_0}
-use Rattle.pp_rules.proofs.Opened.{is_none, is_there}
+use Rattle.pp_rules.proofs.Opened.{is_there}
 use Rattle.pp_rules.proofs.machine.Machine.judge_note.Goals as goal
 
 pub returns-then-not-is_open : goal.returns-then-not-is_open
-returns-then-not-is_open g c = note_1 g.S.Spec.object c.args.self.now c.args.self.now refl c.args.tx.now (is_none _ (sym c.is_open.ensures ∙ c.if-not-is_open.true)) c.bare.result c.bare.ensures
+returns-then-not-is_open g c = note_1 g.S.Spec.object c.args.self.now c.args.self.now refl c.args.tx.now (is_none_of _ (sym c.is_open.ensures ∙ c.if-not-is_open.true)) c.bare.result c.bare.ensures
 
 pub returns : goal.returns
 returns g c =

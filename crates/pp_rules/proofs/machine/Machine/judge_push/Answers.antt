@@ -2,13 +2,13 @@ use Rattle.std.proofs.Common.{◌∙◌, ◌++◌, ◌∷◌, [], arith, ◌<◌
 use Rattle.std.proofs.Common.{subst, IsTrue}
 use Rattle.std.proofs.lemmas.List.{length-take-le}
 use Rattle.pp_log.specs.Logs.{answer_behind}
+use Rattle.pp_log.proofs.Lists.{stands_in}
 use Rattle.pp_model.specs.Config.{shared_ops}
-use Rattle.pp_rules.specs.declared.detail.Detail.TheVariants.{Gives, Nothing}
 use Rattle.pp_model.proofs.Lists.{before_in_first}
-use Rattle.pp_rules.specs.Evidence.{swap_or}
 use Rattle.pp_spec.specs.Object.{IsAllowed}
-use Rattle.pp_rules.proofs.Finding.{decided, decided_not, read_found, read_there, slice_in}
-use Rattle.pp_rules.proofs.Finding.{slice_within}
+use Rattle.pp_rules.specs.declared.detail.Detail.TheVariants.{Gives, Nothing}
+use Rattle.pp_rules.specs.Evidence.{swap_or}
+use Rattle.pp_rules.proofs.Finding.{decided, decided_not, read_found, read_there, slice_within}
 use Rattle.pp_rules.proofs.Judged.{is_at}
 use Rattle.pp_rules.proofs.Judging.{push_1, push_2, push_3, push_4, push_5, push_0}
 use Rattle.pp_rules.proofs.Opened.{distinct, fits_local, fits_shared, logged, ranged_local}
@@ -40,7 +40,7 @@ pub swap_detail-requires-clause-first : goal.swap_detail-requires-clause-first
 swap_detail-requires-clause-first g c =
     let r = logged g.S.Spec.object c.self.inside.shape c.self.inside.transactions c.self.inside.ids.keys c.self.inside.shared c.self.inside.committed c.self.inside.count c.self.invariant c.args.tx.now c.in-Some.local.now c.in-Some.ensures in
     let p = c.in-Some-marked_at.entry in
-    ranged_local g.S.Spec.object c.self.inside.shape c.self.inside.transactions c.self.inside.ids.keys c.self.inside.shared c.self.inside.committed c.self.inside.count c.self.invariant c.args.tx.now c.in-Some.local.now r p (slice_in c.in-Some.local.now.1 c.in-Some-marked_at.i p c.in-Some-marked_at.ensures.place)
+    ranged_local g.S.Spec.object c.self.inside.shape c.self.inside.transactions c.self.inside.ids.keys c.self.inside.shared c.self.inside.committed c.self.inside.count c.self.invariant c.args.tx.now c.in-Some.local.now r p (stands_in c.in-Some.local.now.1 c.in-Some-marked_at.i p c.in-Some-marked_at.ensures.place)
 
 pub swap_detail-requires-clause-second : goal.swap_detail-requires-clause-second
 swap_detail-requires-clause-second g c =
@@ -48,7 +48,7 @@ swap_detail-requires-clause-second g c =
     let p = c.in-Some-marked_at.entry in
     let before = ap (take c.in-Some-marked_at.i) c.entries.ensures in
     let fit = fits_local g.S.Spec.object c.self.inside.shape c.self.inside.transactions c.self.inside.ids.keys c.self.inside.shared c.self.inside.committed c.self.inside.count c.self.invariant g.met.S.Spec.lawful c.args.tx.now c.in-Some.local.now r in
-    let q = own_not g.S.Spec.object g.met.S.Spec.lawful c.self.inside.shape c.in-Some.local.now.1 c.in-Some-marked_at.i p c.in-Some-marked_at.ensures.place (take c.in-Some-marked_at.i c.entries.result.now) c.in-Some-first_holding_back.k c.index-before-k.result fit (fit p (slice_in c.in-Some.local.now.1 c.in-Some-marked_at.i p c.in-Some-marked_at.ensures.place)) before (sym c.in-Some-first_holding_back.ensures) (read_found _ _ _ _ (sym c.in-Some-first_holding_back.ensures) c.index-before-k.is) in
+    let q = own_not g.S.Spec.object g.met.S.Spec.lawful c.self.inside.shape c.in-Some.local.now.1 c.in-Some-marked_at.i p c.in-Some-marked_at.ensures.place (take c.in-Some-marked_at.i c.entries.result.now) c.in-Some-first_holding_back.k c.index-before-k.result fit (fit p (stands_in c.in-Some.local.now.1 c.in-Some-marked_at.i p c.in-Some-marked_at.ensures.place)) before (sym c.in-Some-first_holding_back.ensures) (read_found _ _ _ _ (sym c.in-Some-first_holding_back.ensures) c.index-before-k.is) in
     ranged_local g.S.Spec.object c.self.inside.shape c.self.inside.transactions c.self.inside.ids.keys c.self.inside.shared c.self.inside.committed c.self.inside.count c.self.invariant c.args.tx.now c.in-Some.local.now r c.index-before-k.result (before_in_first c.index-before-k.result p c.in-Some.local.now.1 q.0)
 
 pub returns-in-Some-first_holding_back : goal.returns-in-Some-first_holding_back
@@ -57,7 +57,7 @@ returns-in-Some-first_holding_back g c =
     let p = c.in-Some-marked_at.entry in
     let before = ap (take c.in-Some-marked_at.i) c.entries.ensures in
     let fit = fits_local g.S.Spec.object c.self.inside.shape c.self.inside.transactions c.self.inside.ids.keys c.self.inside.shared c.self.inside.committed c.self.inside.count c.self.invariant g.met.S.Spec.lawful c.args.tx.now c.in-Some.local.now r in
-    let q = own_not g.S.Spec.object g.met.S.Spec.lawful c.self.inside.shape c.in-Some.local.now.1 c.in-Some-marked_at.i p c.in-Some-marked_at.ensures.place (take c.in-Some-marked_at.i c.entries.result.now) c.in-Some-first_holding_back.k c.index-before-k.result fit (fit p (slice_in c.in-Some.local.now.1 c.in-Some-marked_at.i p c.in-Some-marked_at.ensures.place)) before (sym c.in-Some-first_holding_back.ensures) (read_found _ _ _ _ (sym c.in-Some-first_holding_back.ensures) c.index-before-k.is) in
+    let q = own_not g.S.Spec.object g.met.S.Spec.lawful c.self.inside.shape c.in-Some.local.now.1 c.in-Some-marked_at.i p c.in-Some-marked_at.ensures.place (take c.in-Some-marked_at.i c.entries.result.now) c.in-Some-first_holding_back.k c.index-before-k.result fit (fit p (stands_in c.in-Some.local.now.1 c.in-Some-marked_at.i p c.in-Some-marked_at.ensures.place)) before (sym c.in-Some-first_holding_back.ensures) (read_found _ _ _ _ (sym c.in-Some-first_holding_back.ensures) c.index-before-k.is) in
     push_3 g.S.Spec.object _ _ c.self.view_is c.args.tx.now c.args.id _ p c.index-before-k.result r.is (sym c.in-Some-marked_at.ensures.entry) q.0 q.1 q.2 c.in_ok-detail.detail
     (c.in_ok-detail.ensures ∙ own_shown g.S.Spec.object g.met.S.Spec.lawful c.self.inside.shape c.in-Some.local.now.1 c.in-Some-marked_at.i p c.in-Some-marked_at.ensures.place (take c.in-Some-marked_at.i c.entries.result.now) c.in-Some-first_holding_back.k c.index-before-k.result c.args.id before (sym c.in-Some-first_holding_back.ensures) (read_found _ _ _ _ (sym c.in-Some-first_holding_back.ensures) c.index-before-k.is) c.in-Some-marked_at.ensures.found)
 
@@ -77,14 +77,14 @@ pub swap_detail-requires-in-Some-blocking-clause-first : goal.swap_detail-requir
 swap_detail-requires-in-Some-blocking-clause-first g c =
     let b = c.in-Some-blocking.ensures.some in
     let u = read_there c.entries-in-Some-blocking.result.now c.in-Some-blocking.k c.index-entries-k.result b.entry (ap (λ l. slice_get l c.in-Some-blocking.k) c.entries-in-Some-blocking.ensures ∙ b.is) c.index-entries-k.is in
-    let inside = slice_in c.self.inside.shared.1 c.in-Some-blocking.k b.entry b.is in
+    let inside = stands_in c.self.inside.shared.1 c.in-Some-blocking.k b.entry b.is in
     subst (λ z. IsTrue (g.S.Spec.object.ranged z.op)) u (ranged_shared g.S.Spec.object c.self.inside.shape c.self.inside.transactions c.self.inside.ids.keys c.self.inside.shared c.self.inside.committed c.self.inside.count c.self.invariant b.entry inside)
 
 pub swap_detail-requires-in-Some-blocking-clause-second : goal.swap_detail-requires-in-Some-blocking-clause-second
 swap_detail-requires-in-Some-blocking-clause-second g c =
     let r = logged g.S.Spec.object c.self.inside.shape c.self.inside.transactions c.self.inside.ids.keys c.self.inside.shared c.self.inside.committed c.self.inside.count c.self.invariant c.args.tx.now c.in-Some.local.now c.in-Some.ensures in
     let p = c.in-Some-marked_at.entry in
-    ranged_local g.S.Spec.object c.self.inside.shape c.self.inside.transactions c.self.inside.ids.keys c.self.inside.shared c.self.inside.committed c.self.inside.count c.self.invariant c.args.tx.now c.in-Some.local.now r p (slice_in c.in-Some.local.now.1 c.in-Some-marked_at.i p c.in-Some-marked_at.ensures.place)
+    ranged_local g.S.Spec.object c.self.inside.shape c.self.inside.transactions c.self.inside.ids.keys c.self.inside.shared c.self.inside.committed c.self.inside.count c.self.invariant c.args.tx.now c.in-Some.local.now r p (stands_in c.in-Some.local.now.1 c.in-Some-marked_at.i p c.in-Some-marked_at.ensures.place)
 
 pub returns-in-Some-blocking : goal.returns-in-Some-blocking
 returns-in-Some-blocking g c =
@@ -93,9 +93,9 @@ returns-in-Some-blocking g c =
     let before = ap (take c.in-Some-marked_at.i) c.entries.ensures in
     let b = c.in-Some-blocking.ensures.some in
     let u = read_there c.entries-in-Some-blocking.result.now c.in-Some-blocking.k c.index-entries-k.result b.entry (ap (λ l. slice_get l c.in-Some-blocking.k) c.entries-in-Some-blocking.ensures ∙ b.is) c.index-entries-k.is in
-    let inside = slice_in c.self.inside.shared.1 c.in-Some-blocking.k b.entry b.is in
+    let inside = stands_in c.self.inside.shared.1 c.in-Some-blocking.k b.entry b.is in
     push_4 g.S.Spec.object _ _ c.self.view_is c.args.tx.now c.args.id _ p b.entry r.is (sym c.in-Some-marked_at.ensures.entry) (own_swap g.S.Spec.object g.met.S.Spec.lawful c.self.inside.shape c.in-Some.local.now.1 c.in-Some-marked_at.i p c.in-Some-marked_at.ensures.place (take c.in-Some-marked_at.i c.entries.result.now) (distinct g.S.Spec.object c.self.inside.shape c.self.inside.transactions c.self.inside.ids.keys c.self.inside.shared c.self.inside.committed c.self.inside.count c.self.invariant c.args.tx.now c.in-Some.local.now r) before (sym c.in_default-first_holding_back.ensures)) inside b.blocks.uncommitted b.blocks.other
-    (b.blocks.stays c.self.inside.shape (fits_shared g.S.Spec.object c.self.inside.shape c.self.inside.transactions c.self.inside.ids.keys c.self.inside.shared c.self.inside.committed c.self.inside.count c.self.invariant g.met.S.Spec.lawful b.entry inside) (fits_local g.S.Spec.object c.self.inside.shape c.self.inside.transactions c.self.inside.ids.keys c.self.inside.shared c.self.inside.committed c.self.inside.count c.self.invariant g.met.S.Spec.lawful c.args.tx.now c.in-Some.local.now r p (slice_in c.in-Some.local.now.1 c.in-Some-marked_at.i p c.in-Some-marked_at.ensures.place)))
+    (b.blocks.stays c.self.inside.shape (fits_shared g.S.Spec.object c.self.inside.shape c.self.inside.transactions c.self.inside.ids.keys c.self.inside.shared c.self.inside.committed c.self.inside.count c.self.invariant g.met.S.Spec.lawful b.entry inside) (fits_local g.S.Spec.object c.self.inside.shape c.self.inside.transactions c.self.inside.ids.keys c.self.inside.shared c.self.inside.committed c.self.inside.count c.self.invariant g.met.S.Spec.lawful c.args.tx.now c.in-Some.local.now r p (stands_in c.in-Some.local.now.1 c.in-Some-marked_at.i p c.in-Some-marked_at.ensures.place)))
     c.in_ok-detail-2.detail
     (c.in_ok-detail-2.ensures ∙ ap (λ z. swap_or z.id (g.S.Spec.object.refuting z.op p.op) Nothing) (sym u) ∙ blocking_shown g.S.Spec.object g.met.S.Spec.lawful c.self.inside.shape c.args.tx.now p.op c.self.inside.shared.1 c.in-Some-blocking.k b)
 
@@ -103,13 +103,13 @@ pub legal-requires : goal.legal-requires
 legal-requires g c =
     let r = logged g.S.Spec.object c.self.inside.shape c.self.inside.transactions c.self.inside.ids.keys c.self.inside.shared c.self.inside.committed c.self.inside.count c.self.invariant c.args.tx.now c.in-Some.local.now c.in-Some.ensures in
     let p = c.in-Some-marked_at.entry in
-    subst (λ sh. IsTrue (g.S.Spec.object.fits sh p.op)) (sym c.self.invariant.shared_shape) (fits_local g.S.Spec.object c.self.inside.shape c.self.inside.transactions c.self.inside.ids.keys c.self.inside.shared c.self.inside.committed c.self.inside.count c.self.invariant g.met.S.Spec.lawful c.args.tx.now c.in-Some.local.now r p (slice_in c.in-Some.local.now.1 c.in-Some-marked_at.i p c.in-Some-marked_at.ensures.place))
+    subst (λ sh. IsTrue (g.S.Spec.object.fits sh p.op)) (sym c.self.invariant.shared_shape) (fits_local g.S.Spec.object c.self.inside.shape c.self.inside.transactions c.self.inside.ids.keys c.self.inside.shared c.self.inside.committed c.self.inside.count c.self.invariant g.met.S.Spec.lawful c.args.tx.now c.in-Some.local.now r p (stands_in c.in-Some.local.now.1 c.in-Some-marked_at.i p c.in-Some-marked_at.ensures.place))
 
 pub gives-answer-requires : goal.gives-answer-requires
 gives-answer-requires g c =
     let r = logged g.S.Spec.object c.self.inside.shape c.self.inside.transactions c.self.inside.ids.keys c.self.inside.shared c.self.inside.committed c.self.inside.count c.self.invariant c.args.tx.now c.in-Some.local.now c.in-Some.ensures in
     let p = c.in-Some-marked_at.entry in
-    subst (λ sh. IsTrue (g.S.Spec.object.fits sh p.op)) (sym c.self.invariant.shared_shape) (fits_local g.S.Spec.object c.self.inside.shape c.self.inside.transactions c.self.inside.ids.keys c.self.inside.shared c.self.inside.committed c.self.inside.count c.self.invariant g.met.S.Spec.lawful c.args.tx.now c.in-Some.local.now r p (slice_in c.in-Some.local.now.1 c.in-Some-marked_at.i p c.in-Some-marked_at.ensures.place))
+    subst (λ sh. IsTrue (g.S.Spec.object.fits sh p.op)) (sym c.self.invariant.shared_shape) (fits_local g.S.Spec.object c.self.inside.shape c.self.inside.transactions c.self.inside.ids.keys c.self.inside.shared c.self.inside.committed c.self.inside.count c.self.invariant g.met.S.Spec.lawful c.args.tx.now c.in-Some.local.now r p (stands_in c.in-Some.local.now.1 c.in-Some-marked_at.i p c.in-Some-marked_at.ensures.place))
 
 pub returns-then-not-legal : goal.returns-then-not-legal
 returns-then-not-legal g c =

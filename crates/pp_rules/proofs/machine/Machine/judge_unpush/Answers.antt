@@ -1,6 +1,7 @@
 use Rattle.std.proofs.Common.{◌∙◌, ◌<◌, length, subst, sym, arith}
 use Rattle.pp_model.proofs.Lists.{before_in_second}
-use Rattle.pp_rules.proofs.Finding.{read_found, rest_is, slice_in, slice_within}
+use Rattle.pp_log.proofs.Lists.{stands_in}
+use Rattle.pp_rules.proofs.Finding.{read_found, rest_is, slice_within}
 use Rattle.pp_rules.proofs.Judged.{finds_pushed, stands_posted}
 use Rattle.pp_rules.proofs.Judging.{unpush_1, unpush_2, unpush_3}
 use Rattle.pp_rules.proofs.Opened.{distinct, fits_local, logged, ranged_local, unlogged}
@@ -32,14 +33,14 @@ swap_detail-requires-clause-first g c =
     let p = c.in-Some-marked_at.entry in
     let fit = fits_local g.S.Spec.object c.self.inside.shape c.self.inside.transactions c.self.inside.ids.keys c.self.inside.shared c.self.inside.committed c.self.inside.count c.self.invariant g.met.S.Spec.lawful c.args.tx.now c.in-Some.local.now r in
     let here = read_found _ _ _ _ (sym c.in-Some-first_staying_behind.ensures) c.index-after-k.is in
-    let q = behind_not g.S.Spec.object g.met.S.Spec.lawful c.self.inside.shape c.in-Some.local.now.1 c.in-Some-marked_at.i p c.in-Some-marked_at.ensures.place _ c.in-Some-first_staying_behind.k c.index-after-k.result fit (fit p (slice_in c.in-Some.local.now.1 c.in-Some-marked_at.i p c.in-Some-marked_at.ensures.place)) (rest_is c.entries.result.now c.in-Some.local.now.1 c.in-Some-marked_at.i c.entries.ensures) (sym c.in-Some-first_staying_behind.ensures) here in
+    let q = behind_not g.S.Spec.object g.met.S.Spec.lawful c.self.inside.shape c.in-Some.local.now.1 c.in-Some-marked_at.i p c.in-Some-marked_at.ensures.place _ c.in-Some-first_staying_behind.k c.index-after-k.result fit (fit p (stands_in c.in-Some.local.now.1 c.in-Some-marked_at.i p c.in-Some-marked_at.ensures.place)) (rest_is c.entries.result.now c.in-Some.local.now.1 c.in-Some-marked_at.i c.entries.ensures) (sym c.in-Some-first_staying_behind.ensures) here in
     ranged_local g.S.Spec.object c.self.inside.shape c.self.inside.transactions c.self.inside.ids.keys c.self.inside.shared c.self.inside.committed c.self.inside.count c.self.invariant c.args.tx.now c.in-Some.local.now r c.index-after-k.result (before_in_second p c.index-after-k.result c.in-Some.local.now.1 q.0)
 
 pub swap_detail-requires-clause-second : goal.swap_detail-requires-clause-second
 swap_detail-requires-clause-second g c =
     let r = logged g.S.Spec.object c.self.inside.shape c.self.inside.transactions c.self.inside.ids.keys c.self.inside.shared c.self.inside.committed c.self.inside.count c.self.invariant c.args.tx.now c.in-Some.local.now c.in-Some.ensures in
     let p = c.in-Some-marked_at.entry in
-    ranged_local g.S.Spec.object c.self.inside.shape c.self.inside.transactions c.self.inside.ids.keys c.self.inside.shared c.self.inside.committed c.self.inside.count c.self.invariant c.args.tx.now c.in-Some.local.now r p (slice_in c.in-Some.local.now.1 c.in-Some-marked_at.i p c.in-Some-marked_at.ensures.place)
+    ranged_local g.S.Spec.object c.self.inside.shape c.self.inside.transactions c.self.inside.ids.keys c.self.inside.shared c.self.inside.committed c.self.inside.count c.self.invariant c.args.tx.now c.in-Some.local.now r p (stands_in c.in-Some.local.now.1 c.in-Some-marked_at.i p c.in-Some-marked_at.ensures.place)
 
 pub returns-in-Some-first_staying_behind : goal.returns-in-Some-first_staying_behind
 returns-in-Some-first_staying_behind g c =
@@ -47,7 +48,7 @@ returns-in-Some-first_staying_behind g c =
     let p = c.in-Some-marked_at.entry in
     let fit = fits_local g.S.Spec.object c.self.inside.shape c.self.inside.transactions c.self.inside.ids.keys c.self.inside.shared c.self.inside.committed c.self.inside.count c.self.invariant g.met.S.Spec.lawful c.args.tx.now c.in-Some.local.now r in
     let here = read_found _ _ _ _ (sym c.in-Some-first_staying_behind.ensures) c.index-after-k.is in
-    let q = behind_not g.S.Spec.object g.met.S.Spec.lawful c.self.inside.shape c.in-Some.local.now.1 c.in-Some-marked_at.i p c.in-Some-marked_at.ensures.place _ c.in-Some-first_staying_behind.k c.index-after-k.result fit (fit p (slice_in c.in-Some.local.now.1 c.in-Some-marked_at.i p c.in-Some-marked_at.ensures.place)) (rest_is c.entries.result.now c.in-Some.local.now.1 c.in-Some-marked_at.i c.entries.ensures) (sym c.in-Some-first_staying_behind.ensures) here in
+    let q = behind_not g.S.Spec.object g.met.S.Spec.lawful c.self.inside.shape c.in-Some.local.now.1 c.in-Some-marked_at.i p c.in-Some-marked_at.ensures.place _ c.in-Some-first_staying_behind.k c.index-after-k.result fit (fit p (stands_in c.in-Some.local.now.1 c.in-Some-marked_at.i p c.in-Some-marked_at.ensures.place)) (rest_is c.entries.result.now c.in-Some.local.now.1 c.in-Some-marked_at.i c.entries.ensures) (sym c.in-Some-first_staying_behind.ensures) here in
     unpush_3 g.S.Spec.object _ _ c.self.view_is c.args.tx.now c.args.id _ p c.index-after-k.result r.is (sym c.in-Some-marked_at.ensures.entry) q.0 q.1 q.2
     c.in_ok-detail.detail
     (c.in_ok-detail.ensures ∙ behind_shown g.S.Spec.object g.met.S.Spec.lawful c.self.inside.shape c.in-Some.local.now.1 c.in-Some-marked_at.i p c.in-Some-marked_at.ensures.place _ c.in-Some-first_staying_behind.k c.index-after-k.result c.args.id (rest_is c.entries.result.now c.in-Some.local.now.1 c.in-Some-marked_at.i c.entries.ensures) (sym c.in-Some-first_staying_behind.ensures) here c.in-Some-marked_at.ensures.found)
