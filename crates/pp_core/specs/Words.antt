@@ -77,9 +77,12 @@ member_word member.Call = codes "call"
 member_word member.Args = codes "args"
 member_word member.Answer = codes "result"
 member_word member.Source = codes "source"
+member_word member.Start = codes "start"
+member_word member.Ops = codes "ops"
 
 -- the name of a rule in a report
 abbrev pub rule_word : Rule → List ℕ
+rule_word rule.Start = codes "START"
 rule_word rule.Begin = codes "BEGIN"
 rule_word rule.App = codes "APP"
 rule_word rule.Unapp = codes "UNAPP"

@@ -12,6 +12,9 @@ pub const LONGEST_LINE: u64 = 65_536;
 /// The most objects of a run.
 pub const MOST_OBJECTS: usize = 256;
 
+/// The most operations of a start.
+pub const MOST_START: usize = 256;
+
 /// The most begin records of an input.
 pub const MOST_TRANSACTIONS: u32 = 20_000;
 

@@ -20,6 +20,8 @@ pub enum Member {
     /// The member `result`.
     Answer,
     Source,
+    Start,
+    Ops,
 }
 
 impl Member {
@@ -42,6 +44,8 @@ impl Member {
             Member::Args => "args",
             Member::Answer => "result",
             Member::Source => "source",
+            Member::Start => "start",
+            Member::Ops => "ops",
         }
     }
 }

@@ -50,9 +50,10 @@ pub enum Step<O> {
     },
 }
 
-/// The rule that a step follows.
+/// The rule that a step follows, or the start of a run.
 #[derive(Clone, Copy, Debug, PartialEq, Eq)]
 pub enum Rule {
+    Start,
     Begin,
     App,
     Unapp,
@@ -71,6 +72,7 @@ impl Rule {
         ensures { result.now ≡ rule_word self }
     {
         match self {
+            Rule::Start => "START",
             Rule::Begin => "BEGIN",
             Rule::App => "APP",
             Rule::Unapp => "UNAPP",
