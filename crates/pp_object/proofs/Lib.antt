@@ -3,3 +3,4 @@ pub mod There
 pub mod Items
 pub mod Made
 pub mod Named
+pub mod Standing

@@ -5,3 +5,4 @@ pub mod Reached
 pub mod Elements
 pub mod Places
 pub mod Objects
+pub mod Parts

@@ -2,6 +2,7 @@
 ghost use Rattle.std.specs.Prelude.{◌≡◌};
 ghost use Rattle.pp_object.specs.Calls.{arity_of};
 ghost use Rattle.pp_object.specs.One.{is_ranged, kind_for, recorded_by, call_of};
+ghost use Rattle.pp_object.specs.Parts.{key_of};
 
 use crate::calls::arity;
 use pp_core::{Answer, Call, Kind};
@@ -46,6 +47,21 @@ impl Act {
             Act::Queue(_) => Kind::Queue,
             Act::Stack(_) => Kind::Stack,
             Act::PriorityQueue(_) => Kind::PriorityQueue,
+        }
+    }
+
+    /// The key that it is on, or 0 where its kind has none.
+    pub fn key(&self) -> i64
+        ensures { result ≡ key_of self.now }
+    {
+        match self {
+            Act::Memory(op) => op.address(),
+            Act::KeySet(op) => op.key(),
+            Act::KeyMap(op) => op.key(),
+            Act::Counter(_) => 0,
+            Act::Queue(_) => 0,
+            Act::Stack(_) => 0,
+            Act::PriorityQueue(_) => 0,
         }
     }
 

@@ -8,6 +8,7 @@ mod calls;
 mod form;
 mod objects;
 mod one;
+mod parts;
 mod pieces;
 mod states;
 

@@ -1,0 +1,27 @@
+-- Meaning: what the operations of a run are about: an object, and a key where its kind has keys.
+use Rattle.std.specs.Prelude.{ℤ, pos, Bool, false, not}
+use Rattle.std.specs.Ordering.{int_eq}
+use Rattle.pp_parts.specs.declared.part.Part.{Part}
+use Rattle.pp_mem.specs.Operations as memories
+use Rattle.pp_set.specs.Operations as sets
+use Rattle.pp_map.specs.Operations as maps
+use Rattle.pp_counter.specs.declared.op.CounterOp.TheVariants.{Add}
+use Rattle.pp_object.specs.declared.act.Act.{Act}
+use Rattle.pp_object.specs.declared.act.Act.TheVariants.{Memory, KeySet, KeyMap, Counter}
+use Rattle.pp_object.specs.declared.act.Op.{Op}
+
+-- the key that an act is on, or 0 where its kind has none
+abbrev pub key_of : Act → ℤ
+key_of (Memory a) = memories.address_of a
+key_of (KeySet a) = sets.key_of a
+key_of (KeyMap a) = maps.key_of a
+key_of a = pos 0
+
+-- the object of an operation, and the key there
+abbrev pub part_of : Op → Part
+part_of op = record { object = op.object; key = key_of op.act }
+
+-- both add to a counter, and the first adds another number than 0
+abbrev pub both_add : Act → Act → Bool
+both_add (Counter (Add by)) (Counter (Add more)) = not (int_eq by (pos 0))
+both_add a b = false

@@ -1,0 +1,138 @@
+//! What operations are about, and which stand for others.
+ghost use Rattle.std.specs.Prelude.{◌≡◌, IsTrue};
+ghost use Rattle.pp_parts.specs.Parts.{StandsFor};
+ghost use Rattle.pp_object.specs.Objects.{objects};
+ghost use Rattle.pp_object.specs.Parts.{both_add, part_of};
+ghost use Rattle.pp_object.specs.laws.Parts.{other_parts_swap};
+
+use crate::act::{Act, Op};
+use crate::objects::Objects;
+use pp_counter::CounterOp;
+use pp_map::MapOp;
+use pp_mem::MemOp;
+use pp_parts::{Part, Parted};
+
+/// Whether both add to a counter, and the first adds another number than 0.
+fn both_add(a: &Act, b: &Act) -> bool
+    ensures { result ≡ both_add a.now b.now }
+{
+    match (a, b) {
+        (Act::Counter(CounterOp::Add { by }), Act::Counter(CounterOp::Add { by: _ })) => *by != 0,
+        _ => false,
+    }
+}
+
+/// Whether two operations of a memory are equal.
+fn is_same_on_memory(a: &MemOp, b: &MemOp) -> bool
+    ensures { IsTrue result → a.now ≡ b.now }
+{
+    match (a, b) {
+        (
+            MemOp::Read { at, value },
+            MemOp::Read {
+                at: that_at,
+                value: that_value,
+            },
+        ) => at == that_at && value == that_value,
+        (
+            MemOp::Write { at, value },
+            MemOp::Write {
+                at: that_at,
+                value: that_value,
+            },
+        ) => at == that_at && value == that_value,
+        (
+            MemOp::Cas {
+                at,
+                expected,
+                new,
+                done,
+            },
+            MemOp::Cas {
+                at: that_at,
+                expected: that_expected,
+                new: that_new,
+                done: that_done,
+            },
+        ) => at == that_at && expected == that_expected && new == that_new && done == that_done,
+        _ => false,
+    }
+}
+
+/// Whether two operations of a map are equal.
+fn is_same_on_map(a: &MapOp, b: &MapOp) -> bool
+    ensures { IsTrue result → a.now ≡ b.now }
+{
+    match (a, b) {
+        (
+            MapOp::Put { key, value, was },
+            MapOp::Put {
+                key: that_key,
+                value: that_value,
+                was: that_was,
+            },
+        ) => key == that_key && value == that_value && was == that_was,
+        (
+            MapOp::Get { key, found },
+            MapOp::Get {
+                key: that_key,
+                found: that_found,
+            },
+        ) => key == that_key && found == that_found,
+        (
+            MapOp::Remove { key, was },
+            MapOp::Remove {
+                key: that_key,
+                was: that_was,
+            },
+        ) => key == that_key && was == that_was,
+        _ => false,
+    }
+}
+
+/// Whether they are equal.
+fn is_same(a: &Act, b: &Act) -> bool
+    ensures { IsTrue result → a.now ≡ b.now }
+{
+    match (a, b) {
+        (Act::Memory(a), Act::Memory(b)) => is_same_on_memory(a, b),
+        (Act::KeySet(a), Act::KeySet(b)) => a == b,
+        (Act::KeyMap(a), Act::KeyMap(b)) => is_same_on_map(a, b),
+        (Act::Counter(a), Act::Counter(b)) => a == b,
+        (Act::Queue(a), Act::Queue(b)) => a == b,
+        (Act::Stack(a), Act::Stack(b)) => a == b,
+        (Act::PriorityQueue(a), Act::PriorityQueue(b)) => a == b,
+        _ => false,
+    }
+}
+
+/// Whether the first is known to stand for the second: an addition to a counter stands for all
+/// others there, unless it adds 0, and every operation for its equals.
+fn may_stand_for(a: &Op, b: &Op) -> bool
+    ensures { IsTrue result → StandsFor objects a.now b.now }
+{
+    if a.object != b.object {
+        return false;
+    }
+    if both_add(&a.act, &b.act) {
+        return true;
+    }
+    is_same(&a.act, &b.act)
+}
+
+impl Parted for Objects {
+    ghost part_of = { part_of };
+
+    fn part(op: &Op) -> Part {
+        Part {
+            object: op.object,
+            key: op.act.key(),
+        }
+    }
+
+    fn stands_for(a: &Op, b: &Op) -> bool {
+        may_stand_for(a, b)
+    }
+
+    ghost parted = { other_parts_swap };
+}

@@ -1,0 +1,32 @@
+-- Meaning: operations that are about different things, and operations that stand for others.
+use Rattle.std.specs.Prelude.{◌≡◌, ◌≢◌, Bool, false, List, []}
+use Rattle.pp_model.specs.Lists.{In}
+use Rattle.pp_spec.specs.Object.{Object, Swaps}
+use Rattle.pp_parts.specs.declared.part.Part.{Part}
+
+-- Operations that stand for all that were added; cut says that there were too many of them, so that
+-- of some it is not known what stands for them.
+pub record SampleList (Op : Type 0) : Type 0 where
+  pub ops : List Op
+  pub cut : Bool
+
+-- Nothing was added.
+abbrev pub no_samples : {Op : Type 0} → SampleList Op
+no_samples = record { ops = []; cut = false }
+
+module _ {Shape State Op Undo : Type 0} (o : Object Shape State Op Undo) where
+  -- Operations of different parts swap.
+  abbrev pub PartsSwap : (Op → Part) → Type 0
+  PartsSwap part_of = (a b : Op) → part_of a ≢ part_of b → Swaps o a b
+
+  -- Each operation that a swaps with, before it or behind it, b swaps with too.
+  abbrev pub StandsFor : Op → Op → Type 0
+  StandsFor a b = ((c : Op) → Swaps o a c → Swaps o b c) × ((c : Op) → Swaps o c a → Swaps o c b)
+
+  -- One of these stands for the operation.
+  abbrev pub IsStoodForBy : List Op → Op → Type 0
+  IsStoodForBy ops op = (s : Op) × In s ops × StandsFor s op
+
+  -- Unless they were cut, one of the samples stands for the operation.
+  abbrev pub Covers : SampleList Op → Op → Type 0
+  Covers samples op = samples.cut ≡ false → IsStoodForBy samples.ops op

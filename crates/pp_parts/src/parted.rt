@@ -1,0 +1,33 @@
+//! The trait of kinds that tell apart what their operations are about.
+ghost use Rattle.std.specs.Prelude.{◌≡◌, ◌≢◌, IsTrue};
+ghost use Rattle.pp_spec.specs.Object.{Swaps};
+ghost use Rattle.pp_parts.specs.Parts.{StandsFor, PartsSwap};
+
+use crate::part::Part;
+use pp_spec::Placed;
+
+/// A kind of several objects, of which each operation has one, and there one part.
+pub trait Parted: Placed {
+    ghost use Rattle.std.specs.Prelude.{◌≡◌, IsTrue};
+    ghost use Rattle.pp_parts.specs.declared.part.Part.{Part as PartOf};
+    ghost use Rattle.pp_parts.specs.Parts.{StandsFor, PartsSwap};
+
+    /// The part that an operation is about.
+    ghost part_of: { Self.Op → PartOf };
+
+    /// The part that it is about.
+    fn part(op: &Self::Op) -> Part
+        ensures { result ≡ part_of op.now };
+
+    /// Whether the first may stand for the second: wherever it swaps, the second is known to swap.
+    fn stands_for(a: &Self::Op, b: &Self::Op) -> bool
+        ensures { IsTrue result → StandsFor Self.object a.now b.now };
+
+    /// Operations of different parts swap.
+    ghost parted: { PartsSwap Self.object part_of };
+}
+
+/// Operations of different parts swap.
+pub fn other_parts_swap<S: Parted>()
+    ensures { (a b : S.Op) → S.part_of a ≢ S.part_of b → Swaps S.object a b }
+{}
