@@ -63,7 +63,7 @@ pub one_id_less : {Op : Type 0} (x : List (Item Op)) (i : ℕ) → HasDistinctId
 one_id_less x i h = told (remove x i) (distinct_remove x i (apart x h))
 
 -- where an id stands
-new_not : {Op : Type 0} (id : ℕ) (v : List (Item Op)) (k : ℕ) (f : Item Op) → IsNew id v → slice_get v k ≡ Some f → id ≡ f.id → ⊥
+pub new_not : {Op : Type 0} (id : ℕ) (v : List (Item Op)) (k : ℕ) (f : Item Op) → IsNew id v → slice_get v k ≡ Some f → id ≡ f.id → ⊥
 new_not id [] k f h e is = cc
 new_not id (g ∷ v) zero f h e is = let same : g ≡ f = cc in h.0 (is ∙ ap (λ (k : Item _). k.id) (sym same))
 new_not id (g ∷ v) (suc k) f h e is = new_not id v k f h.1 e is

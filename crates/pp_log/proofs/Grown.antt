@@ -1,8 +1,7 @@
-use Rattle.std.proofs.Common.{◌≡◌, ℕ, ◌<◌, zero, suc, IsTrue, Bool, false, cond, List, [], ◌∷◌}
+use Rattle.std.proofs.Common.{◌≡◌, ℕ, ◌<◌, zero, suc, IsTrue, List, [], ◌∷◌}
 use Rattle.std.proofs.Common.{◌++◌, length, refl, sym, ◌∙◌, ap, subst, arith, inl, inr, Option}
-use Rattle.std.proofs.Common.{Some, None, nat_eq, ◌||◌, append-nil}
-use Rattle.std.specs.List.{slice_get, slice_set, list_any, remove}
-use Rattle.std.proofs.lemmas.Bool.{ne_eqb}
+use Rattle.std.proofs.Common.{Some, None, append-nil}
+use Rattle.std.specs.List.{slice_get, slice_set, remove}
 use Rattle.std.proofs.lemmas.Bool.Decides.{eqb_tells}
 use Rattle.std.proofs.lemmas.List.{length_push}
 use Rattle.pp_core.specs.declared.entry.Item.{Item}
@@ -15,9 +14,11 @@ use Rattle.pp_log.specs.Parts.{there}
 use Rattle.pp_log.proofs.Distinct.{IsNew, one_more_id}
 use Rattle.pp_log.specs.Runs.{kept_along}
 use Rattle.pp_log.specs.Keeps.{IsKept, KeptIn, Keeps, KeepsAll}
-use Rattle.indexmap.specs.IndexSet.{insert_key}
+use Rattle.pp_log.specs.declared.index.Index.{Index}
+use Rattle.pp_log.specs.Index.{IsSameIndex}
 use Rattle.pp_log.specs.Room.{ids_of, SameIn, ArePlacesSame}
 use Rattle.pp_log.proofs.Lists.{set_same, set_other}
+use Rattle.pp_log.proofs.Numbers.{index_same}
 use Rattle.pp_log.proofs.Runs.{kept-push, length-ops}
 use Rattle.pp_log.proofs.Parted.{ops-append, there_at, there_off, there-append}
 use Rattle.pp_log.proofs.Apart.{same_run, kept_at}
@@ -33,13 +34,6 @@ ids-remove [] (suc i) = refl
 ids-remove (e ∷ x) zero = refl
 ids-remove (e ∷ x) (suc i) = ap (λ (z : List ℕ). e.id ∷ z) (ids-remove x i)
 
-any_rest : {X : Type 0} (test : X → Bool) (a : X) (x : List X) → test a ≡ false → list_any test (a ∷ x) ≡ list_any test x
-any_rest test a x h = ap (λ (b : Bool). b || list_any test x) h
-
-pub id_absent : {Op : Type 0} (x : List (Item Op)) (id : ℕ) → IsNew id x → list_any (nat_eq id) (ids_of x) ≡ false
-id_absent [] id h = refl
-id_absent (e ∷ x) id h = any_rest (nat_eq id) e.id (ids_of x) (ne_eqb id e.id h.0) ∙ id_absent x id h.1
-
 module _ {Shape State Op Undo : Type 0} (o : Object Shape State Op Undo) where
   pub kept_still : (b : State) (x : List (Item Op)) (old new : Option (Place Op Undo)) → KeptIn o b x old → SameIn old new → KeptIn o b x new
   kept_still b x None None h k = h
@@ -51,9 +45,9 @@ module _ {Shape State Op Undo : Type 0} (o : Object Shape State Op Undo) where
   roomy : (place : Op → ℕ) (s : State) (log : List (Item Op)) (ps qs : List (Place Op Undo)) → Keeps o place s log ps → ArePlacesSame ps qs → Keeps o place s log qs
   roomy place s log ps qs h k = record { allowed = h.allowed; is = h.is; ranged = h.ranged; few = h.few; distinct = h.distinct; kept = λ r. kept_still (o.start (o.shape s)) (there place r log) (slice_get ps r) (slice_get qs r) (h.kept r) (k r) }
 
-  pub with_room : (place : Op → ℕ) (s : State) (log new : List (Item Op)) (ps qs : List (Place Op Undo)) (ids keys : List ℕ) → KeepsAll o place s log ps ids → new ≡ log → ArePlacesSame ps qs → keys ≡ ids → KeepsAll o place s new qs keys
-  with_room place s log new ps qs ids keys h is k same =
-      subst (λ (z : List (Item Op)). KeepsAll o place s z qs keys) (sym is) (record { keeps = roomy place s log ps qs h.keeps k; index = same ∙ h.index })
+  pub with_room : (place : Op → ℕ) (s : State) (log new : List (Item Op)) (ps qs : List (Place Op Undo)) (ids more : Index) → KeepsAll o place s log ps ids → new ≡ log → ArePlacesSame ps qs → IsSameIndex ids more → KeepsAll o place s new qs more
+  with_room place s log new ps qs ids more h is k same =
+      subst (λ (z : List (Item Op)). KeepsAll o place s z qs more) (sym is) (record { keeps = roomy place s log ps qs h.keeps k; index = index_same ids more (ids_of log) h.index same })
 
   pub keeps_reached : (place : Op → ℕ) (s : State) (log : List (Item Op)) (ps : List (Place Op Undo)) → Keeps o place s log ps → length log < 1_000_000 → IsReached o s
   keeps_reached place s log ps h k = record {
@@ -96,11 +90,6 @@ module _ {Shape State Op Undo : Type 0} (o : Object Shape State Op Undo) (place 
         kept = subst (λ (k : Shape). (j : ℕ) → KeptIn o (o.start k) (there place j (log ++ e ∷ [])) (slice_get (slice_set ps p r) j)) (sym shape) all;
       } in
       (keeps, shape)
-
-pub new_key : {Op : Type 0} (keys : List ℕ) (log : List (Item Op)) (e : Item Op) → keys ≡ ids_of log → IsNew e.id log → insert_key nat_eq keys e.id ≡ ids_of (log ++ e ∷ [])
-new_key keys log e h n =
-    let absent : list_any (nat_eq e.id) keys ≡ false = ap (list_any (nat_eq e.id)) h ∙ id_absent log e.id n in
-    ap (λ (b : Bool). cond b keys (keys ++ e.id ∷ [])) absent ∙ ap (λ (z : List ℕ). z ++ e.id ∷ []) h ∙ sym (ids-append log (e ∷ []))
 
 pub seen_more : {Shape E : Type 0} (sh k : Shape) (log now : List E) (e : E) (seen : Shape × List E) → ◌≡◌ {A = Shape × List E} (sh, log) seen → k ≡ sh → now ≡ log ++ e ∷ [] → ◌≡◌ {A = Shape × List E} (k, now) (seen.0, seen.1 ++ e ∷ [])
 seen_more {Shape} {E} sh k log now e seen is f g =

@@ -46,7 +46,7 @@ pub position_seen : {Op E : Type 0} (f : E → Item Op) (y : List (Item Op)) (x 
 position_seen {Op} {E} f y x id h =
     ap (position (λ (e : Item Op). e.id == id)) h ∙ same_position f (λ (e : Item Op). e.id == id) (λ (e : E). (f e).id == id) (λ e. refl) x
 
-new_len : {Op : Type 0} (x : List (Item Op)) (id : ℕ) → length x ≤ position_or_len (λ (e : Item Op). e.id == id) x → IsNew id x
+pub new_len : {Op : Type 0} (x : List (Item Op)) (id : ℕ) → length x ≤ position_or_len (λ (e : Item Op). e.id == id) x → IsNew id x
 new_len [] id h = tt
 new_len {Op} (e ∷ x) id h =
     let rest = position_or_len (λ (d : Item Op). d.id == id) x in

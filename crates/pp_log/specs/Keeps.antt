@@ -3,7 +3,9 @@ use Rattle.std.specs.Prelude.{◌≡◌, ◌≤◌, ℕ, List, [], length, slice
 use Rattle.pp_core.specs.declared.entry.Item.{Item}
 use Rattle.pp_model.specs.Object.{HasDistinctIds, ops}
 use Rattle.pp_spec.specs.Object.{Object, AllRanged, IsAllowed, state_after}
+use Rattle.pp_log.specs.declared.index.Index.{Index}
 use Rattle.pp_log.specs.declared.place.Place.{Place}
+use Rattle.pp_log.specs.Index.{IsIndexOf}
 use Rattle.pp_log.specs.Parts.{there}
 use Rattle.pp_log.specs.Room.{ids_of}
 use Rattle.pp_log.specs.Runs.{kept_along}
@@ -32,9 +34,9 @@ pub record Keeps {Shape State Op Undo : Type 0} (o : Object Shape State Op Undo)
   pub distinct : HasDistinctIds log
   pub kept : (p : ℕ) → KeptIn o (o.start (o.shape s)) (there place p log) (slice_get places p)
 
--- And the index has its ids.
+-- And the index is of its ids.
 pub record KeepsAll {Shape State Op Undo : Type 0} (o : Object Shape State Op Undo)
     (place : Op → ℕ) (s : State) (log : List (Item Op)) (places : List (Place Op Undo))
-    (ids : List ℕ) : Type 0 where
+    (ids : Index) : Type 0 where
   pub keeps : Keeps o place s log places
-  pub index : ids ≡ ids_of log
+  pub index : IsIndexOf ids (ids_of log)

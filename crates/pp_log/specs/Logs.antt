@@ -1,7 +1,7 @@
 -- Meaning: what a log says of its entries: their operations, and what it is to add one and to take
 -- one out. item_of gives the id and the operation of an entry.
-use Rattle.std.specs.Prelude.{◌≡◌, ◌≢◌, ◌==◌, ◌≤◌, ◌+◌, ◌*◌, ℕ, zero, suc, List, [], ◌∷◌, ◌++◌}
-use Rattle.std.specs.Prelude.{map, filter, length, remove, slice_get, Some, Result, IfOk}
+use Rattle.std.specs.Prelude.{◌≡◌, ◌≢◌, ◌==◌, ◌<◌, ◌≤◌, ◌+◌, ◌*◌, ℕ, zero, suc, List, []}
+use Rattle.std.specs.Prelude.{◌∷◌, ◌++◌, map, filter, length, remove, slice_get, Some, Result, IfOk}
 use Rattle.pp_core.specs.declared.answer.Answer.{Answer}
 use Rattle.pp_core.specs.declared.entry.Item.{Item}
 use Rattle.pp_spec.specs.Object.{Object, IsAllowed, AllowedFrom, state_after, state_from}
@@ -26,6 +26,23 @@ answer_behind o shape ops op = o.gives (state_after o shape ops) op
 abbrev pub HasItemAt : {Op E : Type 0} → (E → Item Op) → List E → ℕ → E → Type 0
 HasItemAt {Op} {E} item_of log i entry =
     (e : E) → slice_get log i ≡ Some e → item_of entry ≡ item_of e
+
+-- The operation of an entry has this place.
+abbrev pub IsOn : {Op E : Type 0} → (Op → ℕ) → (E → Item Op) → ℕ → E → Type 0
+IsOn place_of item_of place entry = place_of (item_of entry).op ≡ place
+
+-- The k-th entry is the first one at `from` or behind it of which this holds.
+pub record IsFirstFrom {E : Type 0} (Holds : E → Type 0) (log : List E) (from k : ℕ) : Type 0 where
+  pub entry : E
+  pub is : slice_get log k ≡ Some entry
+  pub behind : from ≤ k
+  pub holds : Holds entry
+  pub first : (j : ℕ) (e : E) → from ≤ j → j < k → slice_get log j ≡ Some e → Holds e → ⊥
+
+-- It holds of no entry at `from` or behind it.
+abbrev pub NoneFrom : {E : Type 0} → (E → Type 0) → List E → ℕ → Type 0
+NoneFrom {E} Holds log from =
+    (j : ℕ) (e : E) → from ≤ j → slice_get log j ≡ Some e → Holds e → ⊥
 
 -- From the state b on, the first entry that is not legal where it stands has this id, and this is
 -- the object's result there.

@@ -1,4 +1,4 @@
--- Proof machinery: room for one more entry, and the index of ids.
+-- Proof machinery: room for one more entry, and the ids of the items.
 use Rattle.std.specs.Prelude.{◌≡◌, ◌<◌, ℕ, List, [], map, slice_get, Option, Some, None, vec_len}
 use Rattle.std.specs.Vec.{vec_capacity}
 use Rattle.pp_core.specs.declared.entry.Item.{Item}

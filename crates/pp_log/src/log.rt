@@ -1,19 +1,20 @@
 //! The one log, whoever's it is.
 ghost use Rattle.std.specs.Prelude.{◌≡◌, ◌==◌, ◌<◌, ◌≤◌, ◌+◌, ◌↔◌, IfOk, OnOk, OnErr, IsTrue};
 ghost use Rattle.std.specs.Prelude.{None, List, [], ◌∷◌, ◌++◌, length, map, position};
-ghost use Rattle.std.specs.Prelude.{slice_get, slice_set};
+ghost use Rattle.std.specs.Prelude.{slice_get, slice_set, IfSome, IfNone};
 ghost use Rattle.std.specs.Option.{option_copied};
 ghost use Rattle.pp_model.specs.Object.{HasDistinctIds};
 ghost use Rattle.pp_spec.specs.Object.{IsAllowed, AllRanged};
 ghost use Rattle.pp_log.specs.Keeps.{KeepsAll};
-ghost use Rattle.pp_log.specs.Logs.{GoesBehind, HasItemAt, RemovalBound, RemovalCosts};
-ghost use Rattle.pp_log.specs.Logs.{RemovesEntry, answer_behind, entry_ops};
+ghost use Rattle.pp_log.specs.Logs.{GoesBehind, HasItemAt, IsFirstFrom, IsOn, NoneFrom};
+ghost use Rattle.pp_log.specs.Logs.{RemovalBound, RemovalCosts, RemovesEntry};
+ghost use Rattle.pp_log.specs.Logs.{answer_behind, entry_ops};
 
+use crate::index::Index;
 use crate::place::{Place, Removed};
 use crate::room::make_room;
 use crate::sides::Side;
 use crate::take_out::{last_with, take_out};
-use indexmap::IndexSet;
 use pp_core::{Answer, OutOfMemory, Ticks};
 use pp_spec::{Applied, Placed};
 use std::alloc::Global;
@@ -26,7 +27,7 @@ use std::sync::ledger::Ledger;
 #[derive(Drop)]
 pub struct Log<S: Placed, T: Side<S::Op>> {
     entries: Vec<T::Entry>,
-    ids: IndexSet<u32>,
+    ids: Index,
     places: Vec<Place<S::Op, S::Undo>>,
     state: S::State,
     alloc: Global,
@@ -38,7 +39,7 @@ impl<S: Placed, T: Side<S::Op>> Model for Log<S, T> {
     ghost view = { λ a. (S.object.shape a.state, a.entries.items) };
 
     ghost invariant = { λ a. KeepsAll S.object S.place_of a.state (map T.item_of a.entries.items)
-        a.places.items a.ids.keys };
+        a.places.items a.ids };
 }
 
 impl<S: Placed, T: Side<S::Op>> Log<S, T> {
@@ -49,7 +50,7 @@ impl<S: Placed, T: Side<S::Op>> Log<S, T> {
         let state = S::empty(alloc, shape)?;
         Ok(Log {
             entries: Vec::new(alloc),
-            ids: IndexSet::new(alloc),
+            ids: Index::new(alloc),
             places: Vec::new(alloc),
             state,
             alloc,
@@ -85,7 +86,32 @@ impl<S: Placed, T: Side<S::Op>> Log<S, T> {
     pub fn find(&self, id: u32) -> Option<usize>
         ensures { result ≡ position (λ e. (T.item_of e).id == id) self.now.1 }
     {
-        self.ids.get_index_of(&id)
+        self.ids.find(id)
+    }
+
+    /// The first position at `from` or behind it whose operation has this place. It halves over the
+    /// items of the place, and takes no memory.
+    pub fn next_on(&self, place: u16, from: usize) -> Option<usize>
+        ensures found { IfSome result
+            (IsFirstFrom (IsOn S.place_of T.item_of place) self.now.1 from) }
+        ensures none { IfNone result (NoneFrom (IsOn S.place_of T.item_of place) self.now.1 from) }
+    {
+        let items = &self.places.get(usize::from(place))?.items;
+        let mut low = 0;
+        let mut high = items.len();
+        'halve: while low < high {
+            let middle = low + (high - low) / 2;
+            let Some(at) = self.find(items[middle].id) else {
+                unreachable!()
+            };
+            if at < from {
+                low = middle + 1;
+            } else {
+                high = middle;
+            }
+        }
+        let next = items.get(low)?;
+        self.find(next.id)
     }
 
     /// Whether the log stays allowed with the operation behind it.
@@ -140,9 +166,7 @@ impl<S: Placed, T: Side<S::Op>> Log<S, T> {
         let Ok(()) = self.entries.push(entry) else {
             unreachable!()
         };
-        let Ok(_) = self.ids.insert(item.id) else {
-            unreachable!()
-        };
+        self.ids.push(item.id);
         Ok(())
     }
 
@@ -185,7 +209,7 @@ impl<S: Placed, T: Side<S::Op>> Log<S, T> {
         let removed = take_out::<S, L>(place, from, &mut state, ticks)?;
         if let Removed::Done = removed {
             let _ = entries.remove(i);
-            let _ = ids.shift_remove_index(i);
+            ids.remove(i, item.id);
         }
         let log = Log {
             entries,

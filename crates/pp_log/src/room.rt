@@ -1,11 +1,11 @@
 //! Room for one more entry, so that nothing is refused once its operation was applied.
 ghost use Rattle.std.specs.Prelude.{◌≡◌, ◌<◌, ◌≤◌, OnOk, length, vec_len};
 ghost use Rattle.std.specs.Vec.{vec_capacity};
-ghost use Rattle.indexmap.specs.IndexSet.{spare};
+ghost use Rattle.pp_log.specs.Index.{HasIndexRoom, IsSameIndex};
 ghost use Rattle.pp_log.specs.Room.{ArePlacesSame, HasRoom, HasRoomAt};
 
+use crate::index::Index;
 use crate::place::Place;
-use indexmap::IndexSet;
 use pp_core::{Item, OutOfMemory};
 use std::alloc::Global;
 
@@ -45,22 +45,22 @@ fn make_room_there<O: Copy, U: Drop>(place: &mut Place<O, U>) -> Result<(), OutO
 /// Makes room for one more entry, whose item is of the p-th place.
 pub fn make_room<E: Copy, O: Copy, U: Drop>(
     entries: &mut Vec<E>,
-    ids: &mut IndexSet<u32>,
+    ids: &mut Index,
     places: &mut Vec<Place<O, U>>,
     p: usize,
     alloc: Global,
 ) -> Result<(), OutOfMemory>
     requires { p < 65536 }
     ensures entries { entries.new.items ≡ entries.old.items }
-    ensures ids { ids.new.keys ≡ ids.old.keys }
+    ensures ids { IsSameIndex ids.old ids.new }
     ensures same { ArePlacesSame places.old.items places.new.items }
     ensures there { OnOk result (p < length places.new.items) }
     ensures room { OnOk result (vec_len entries.new < vec_capacity entries.new) }
-    ensures id_room { OnOk result (0 < spare ids.new) }
+    ensures id_room { OnOk result (HasIndexRoom ids.new) }
     ensures place_room { OnOk result (HasRoomAt places.new.items p) }
 {
     entries.reserve(1)?;
-    ids.reserve(1)?;
+    ids.reserve()?;
     make_places(places, p, alloc)?;
     make_room_there(&mut places[p])?;
     Ok(())

@@ -1,9 +1,12 @@
 use Rattle.std.proofs.Common.{◌≡◌, [], ◌∷◌, ◌++◌, IsTrue, map, sym, ◌∙◌, ap, subst, Some, refl}
 use Rattle.std.specs.List.{slice_get, slice_set}
 use Rattle.std.proofs.lemmas.Option.{slice_get-get_or}
+use Rattle.pp_log.specs.Index.{IsIndexOf}
 use Rattle.pp_log.specs.Keeps.{KeepsAll}
+use Rattle.pp_log.specs.Room.{ids_of}
 use Rattle.pp_log.proofs.Distinct.{IsNew}
-use Rattle.pp_log.proofs.Grown.{grown, with_room, keeps_reached, new_key, seen_more}
+use Rattle.pp_log.proofs.Grown.{grown, ids-append, with_room, keeps_reached, seen_more}
+use Rattle.pp_log.proofs.Ids.{new_id}
 use Rattle.pp_log.proofs.Maps.{legal_seen, new_seen, few_seen}
 use Rattle.std.proofs.lemmas.List.{map_push}
 use Rattle.pp_log.proofs.log.Log.append.Goals as goal
@@ -26,7 +29,7 @@ pub invariant_of-self-in_err-undo : goal.invariant_of-self-in_err-undo
 invariant_of-self-in_err-undo g c =
     let room = c.in_ok-make_room.ensures in
     let keeps = with_room g.S.Spec.object g.S.Placed.place_of c.self.inside.state _ _ _ _ _ _ c.self.invariant (ap (map g.T.Side.item_of) room.entries) room.same room.ids in
-    subst (λ t. KeepsAll g.S.Spec.object g.S.Placed.place_of t (map g.T.Side.item_of c.make_room.new.entries.items) c.make_room.new.places.items c.make_room.new.ids.keys) (sym c.in_err-undo.ensures.applied) keeps
+    subst (λ t. KeepsAll g.S.Spec.object g.S.Placed.place_of t (map g.T.Side.item_of c.make_room.new.entries.items) c.make_room.new.places.items c.make_room.new.ids) (sym c.in_err-undo.ensures.applied) keeps
 
 pub unreachable-requires : goal.unreachable-requires
 unreachable-requires g c =
@@ -54,14 +57,14 @@ invariant_of-self-2 g c =
     let ranged = subst (λ d. IsTrue (o.ranged d.op)) (sym c.item-item.ensures) c.requires.ranged in
     let new : IsNew e.id (map f x) = new_seen f (o.shape s) x c.args.self.now c.args.entry e c.self.view_is c.item-item.ensures c.requires.new in
     let few = few_seen f _ x c.args.self.now c.self.view_is c.requires.few in
-    let same = with_room o g.S.Placed.place_of s _ _ _ _ _ _ c.self.invariant refl room.same refl in
+    let same = with_room o g.S.Placed.place_of s _ _ _ _ _ _ c.self.invariant refl room.same room.ids in
     let at : slice_get ps c.from-p.result ≡ Some q = slice_get-get_or ps c.from-p.result q room.there ∙ ap Some (sym c.index_mut.ensures.value) in
     let applied = rw c.in-Done.is at c.in_ok-undo.ensures.applied in
     let more = grown o g.S.Placed.place_of g.S.Placed.SameAt g.met.S.Spec.lawful g.met.S.Placed.placed s c.apply.new.state (map f x) ps e c.from-p.result q c.keep.new.self c.in-Done.undo same.keeps legal ranged new few (sym (c.from-p.ensures ∙ c.place.ensures)) room.there at applied.2 applied.1 c.keep.ensures.items c.keep.ensures.undos in
     let items : map f c.push.new.self.items ≡ map f x ++ e ∷ [] =
     ap (map f) (c.in-Ok.ensures.items ∙ ap (λ z. z ++ c.args.entry ∷ []) room.entries) ∙ map_push f x c.args.entry ∙ ap (λ d. map f x ++ d ∷ []) (sym c.item-item.ensures) in
-    let keys = c.in-Ok-insert.ensures.keys ∙ new_key c.make_room.new.ids.keys (map f x) e (room.ids ∙ c.self.invariant.index) new in
-    subst (λ z. KeepsAll o g.S.Placed.place_of c.apply.new.state z (slice_set ps c.from-p.result c.keep.new.self) c.insert.new.self.keys) (sym items) (record { keeps = more.0; index = keys })
+    let index = subst (λ z. IsIndexOf c.push-2.new.self z) (sym (ids-append (map f x) (e ∷ []))) (c.push-2.ensures (ids_of (map f x)) same.index (new_id (map f x) e.id new)) in
+    subst (λ z. KeepsAll o g.S.Placed.place_of c.apply.new.state z (slice_set ps c.from-p.result c.keep.new.self) c.push-2.new.self) (sym items) (record { keeps = more.0; index = index })
 
 pub returns-clause-ok : goal.returns-clause-ok
 returns-clause-ok g c =

@@ -1,14 +1,17 @@
 use Rattle.std.proofs.Common.{◌≡◌, length, map, sym, ◌∙◌, ap, subst, arith}
-use Rattle.std.specs.List.{slice_get, slice_set, remove}
+use Rattle.std.specs.List.{slice_get, slice_set}
 use Rattle.std.proofs.lemmas.Option.{slice_get_within}
 use Rattle.pp_model.specs.Lists.{In}
 use Rattle.pp_model.specs.Object.{ops}
 use Rattle.pp_spec.specs.Object.{state_after}
+use Rattle.pp_log.specs.Index.{IsIndexOf}
 use Rattle.pp_log.specs.Keeps.{KeepsAll}
 use Rattle.pp_log.specs.Logs.{RemovesEntry, from_place, removal_ticks}
 use Rattle.pp_log.specs.Parts.{elsewhere}
 use Rattle.pp_log.specs.Room.{ids_of}
+use Rattle.pp_log.proofs.Distinct.{apart}
 use Rattle.pp_log.proofs.Grown.{ids-remove}
+use Rattle.pp_log.proofs.Ids.{id_stands, ids_once}
 use Rattle.pp_log.proofs.Whole.{whole_of}
 use Rattle.pp_log.proofs.Sites.{place_there, place_at, id_there, found_in, ticks_of, left}
 use Rattle.pp_log.proofs.Sites.{left_else, left_over}
@@ -122,11 +125,16 @@ invariant_of-log g c =
       | in-Done w ↦ ap (λ v. v.items) w.entries-is ∙ w.remove.ensures.items ∙ ap (λ r. left r x c.args.i) (sym w.in-Done.is)
       | in_default-removed w ↦ ap (λ v. v.items) w.entries-is ∙ sym (left_else removed x c.args.i w.in_default-removed.not-Done)
     ] in
-    let ids : c.match-removed.ids.keys ≡ ids_of (left removed log c.args.i) = elim c.match-removed.branch [
-      | in-Done w ↦ ap (λ v. v.keys) w.ids-is ∙ w.shift_remove_index.ensures.keys ∙ ap (λ z. remove z c.args.i) c.self.invariant.index ∙ ids-remove log c.args.i ∙ ap (λ r. ids_of (left r log c.args.i)) (sym w.in-Done.is)
-      | in_default-removed w ↦ ap (λ v. v.keys) w.ids-is ∙ c.self.invariant.index ∙ ap (λ z. ids_of z) (sym (left_else removed log c.args.i w.in_default-removed.not-Done))
+    let index = c.self.invariant.index in
+    let once = ids_once log (apart log keeps.distinct) in
+    let stands_there = id_stands f (o.shape s) x c.args.self c.args.i c.index.result.now e c.self.view_is c.requires c.index.ensures c.item-item.ensures in
+    let ids : IsIndexOf c.match-removed.ids (ids_of (left removed log c.args.i)) = elim c.match-removed.branch [
+      | in-Done w ↦ subst (λ z. IsIndexOf z (ids_of (left removed log c.args.i))) (sym w.ids-is)
+          (subst (λ z. IsIndexOf w.remove-in-Done.new.self z) (ids-remove log c.args.i ∙ ap (λ r. ids_of (left r log c.args.i)) (sym w.in-Done.is)) (w.remove-in-Done.ensures (ids_of log) index once stands_there))
+      | in_default-removed w ↦ subst (λ z. IsIndexOf z (ids_of (left removed log c.args.i))) (sym w.ids-is)
+          (subst (λ z. IsIndexOf c.self.inside.ids (ids_of z)) (sym (left_else removed log c.args.i w.in_default-removed.not-Done)) index)
     ] in
-    subst (λ z. KeepsAll o place c.take_out.new.state z (slice_set ps p c.take_out.new.place) c.match-removed.ids.keys) (sym (ap (map f) entries ∙ left_mapped f removed x c.args.i)) (record { keeps = done.0; index = ids })
+    subst (λ z. KeepsAll o place c.take_out.new.state z (slice_set ps p c.take_out.new.place) c.match-removed.ids) (sym (ap (map f) entries ∙ left_mapped f removed x c.args.i)) (record { keeps = done.0; index = ids })
 
 pub returns-clause-removes : goal.returns-clause-removes
 returns-clause-removes g c =
