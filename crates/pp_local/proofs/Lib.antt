@@ -1,1 +1,4 @@
 pub mod Marking
+pub mod Places
+pub mod Known
+pub mod Searching

@@ -36,3 +36,7 @@ seen_marked {Shape} {Op} m i log seen new d e is distinct at found set =
     (set
     ∙ ap (λ (z : List (LocalEntry Op)). pair log.0 z) (set_is_marked m log.1 i d distinct (sym at))
     ∙ ap (λ (b : LocalEntry Op). pair log.0 (set_mark b.id m log.1)) one)
+
+-- and what stood there is seen there
+pub seen_there : {Shape Op : Type 0} (log seen : Shape × List (LocalEntry Op)) (i : ℕ) (d : LocalEntry Op) → log ≡ seen → Some d ≡ slice_get log.1 i → slice_get seen.1 i ≡ Some d
+seen_there {Shape} {Op} log seen i d is at = subst (λ (p : Shape × List (LocalEntry Op)). slice_get p.1 i ≡ Some d) is (sym at)

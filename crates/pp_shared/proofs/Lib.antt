@@ -1,3 +1,5 @@
 pub mod Settled
 pub mod Committing
 pub mod Blocked
+pub mod Uncommitted
+pub mod Nexts

@@ -1,1 +1,3 @@
 pub mod Blocking
+pub mod Committing
+pub mod Uncommitted

@@ -1,6 +1,7 @@
 //! The shared log of a run.
 #![tactic(auto)]
 
+mod open;
 mod shared;
 
 pub use pp_core::SharedEntry;

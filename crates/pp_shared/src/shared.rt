@@ -9,13 +9,17 @@ ghost use Rattle.pp_model.specs.Names.{◌=ⁿ◌};
 ghost use Rattle.pp_model.specs.Object.{HasDistinctIds};
 ghost use Rattle.pp_spec.specs.Object.{IsAllowed, AllRanged};
 ghost use Rattle.pp_log.specs.Logs.{GoesBehind, RemovesEntry, RemovalCosts, RemovalBound};
-ghost use Rattle.pp_log.specs.Logs.{answer_behind};
+ghost use Rattle.pp_log.specs.Logs.{IsFirstFrom, IsOn, NoneFrom, answer_behind};
 ghost use Rattle.pp_shared.specs.Blocking.{AllGiveWay, Blocks, GivesWay, IsFirstBlocking};
 ghost use Rattle.pp_shared.specs.Blocking.{IsSettled};
+ghost use Rattle.pp_shared.specs.Committing.{HoldsIdsOf, IsCommittedOn};
+ghost use Rattle.pp_shared.specs.Uncommitted.{CommitsOne, KeepsShared};
 
-use pp_core::{Answer, Name, OutOfMemory, SharedEntry, Ticks};
+use crate::open::OpenParts;
+use pp_core::{Answer, Items, Name, OutOfMemory, SharedEntry, Ticks};
 use pp_log::{Log, Removed, SharedSide};
-use pp_spec::{Placed, Spec};
+use pp_parts::Parted;
+use pp_spec::Spec;
 use std::alloc::Global;
 use std::marker::Model;
 use std::sync::ledger::Ledger;
@@ -23,18 +27,21 @@ use std::sync::ledger::Ledger;
 /// The shared log: the operations that transactions pushed, which are allowed one after another.
 /// Contracts see the objects of the run, and the entries in order.
 #[derive(Drop)]
-pub struct Shared<S: Placed> {
+pub struct Shared<S: Parted> {
     log: Log<S, SharedSide>,
+    /// What is known of the uncommitted entries.
+    open: OpenParts<S>,
     /// All entries before this position are committed.
     settled: usize,
 }
 
-impl<S: Placed> Model for Shared<S> {
+impl<S: Parted> Model for Shared<S> {
     ghost Value = { S.Shape × List (EntryOf S.Op) };
 
     ghost view = { λ a. a.log };
 
-    ghost invariant = { λ a. IsSettled a.log.1 a.settled };
+    ghost invariant = { λ a. KeepsShared S.object S.part_of a.log.1 a.open.slots.entries
+        a.settled };
 }
 
 /// Whether an entry is uncommitted, of another owner, and may not change places with an operation
@@ -53,27 +60,6 @@ fn is_open<O: Copy>(owner: &Name, entry: &SharedEntry<O>) -> bool
     !entry.committed && entry.owner.same(owner)
 }
 
-/// Commits the entries of an owner. All entries before the position are committed.
-fn commit_from<S: Placed>(log: &mut Log<S, SharedSide>, from: usize, owner: &Name)
-    requires { IsSettled log.old.1 from }
-    ensures { log.new ≡ (log.old.0, commit_all owner.now log.old.1) }
-{
-    for k in from..log.len() {
-        let Some(&entry) = log.get(k) else {
-            unreachable!()
-        };
-        if is_open(owner, &entry) {
-            log.set(
-                k,
-                SharedEntry {
-                    committed: true,
-                    ..entry
-                },
-            );
-        }
-    }
-}
-
 /// The first position from one on whose entry is uncommitted.
 fn settle<O: Copy>(entries: &[SharedEntry<O>], from: usize) -> usize
     requires { IsSettled entries.now from }
@@ -87,13 +73,17 @@ fn settle<O: Copy>(entries: &[SharedEntry<O>], from: usize) -> usize
     entries.len()
 }
 
-impl<S: Placed> Shared<S> {
+impl<S: Parted> Shared<S> {
     /// The empty log. The only error is that memory was refused.
     pub fn new(alloc: Global, shape: &S::Shape) -> Result<Self, OutOfMemory>
         ensures { IfOk result (λ log. log ≡ (shape.now, [])) }
     {
         let log = Log::new(alloc, shape)?;
-        Ok(Shared { log, settled: 0 })
+        Ok(Shared {
+            log,
+            open: OpenParts::new(alloc),
+            settled: 0,
+        })
     }
 
     /// How many entries there are.
@@ -125,6 +115,38 @@ impl<S: Placed> Shared<S> {
         ensures { result ≡ position (λ e. e.id == id) self.now.1 }
     {
         self.log.find(id)
+    }
+
+    /// The first position at `from` or behind it whose operation has this place. It walks over
+    /// nothing, and takes no memory.
+    pub fn next_on(&self, place: u16, from: usize) -> Option<usize>
+        ensures found { IfSome result
+            (IsFirstFrom (IsOn S.place_of shared_item place) self.now.1 from) }
+        ensures none { IfNone result
+            (NoneFrom (IsOn S.place_of shared_item place) self.now.1 from) }
+    {
+        self.log.next_on(place, from)
+    }
+
+    /// The first position at `from` or behind it whose entry is committed and whose operation has
+    /// this place. It goes from one entry of the place to the next, and takes no memory.
+    pub fn next_committed(&self, place: u16, from: usize) -> Option<usize>
+        ensures found { IfSome result
+            (IsFirstFrom (IsCommittedOn S.place_of place) self.now.1 from) }
+        ensures none { IfNone result (NoneFrom (IsCommittedOn S.place_of place) self.now.1 from) }
+    {
+        let entries = self.log.entries();
+        let mut at = from;
+        'step: while at < self.log.len() {
+            let Some(k) = self.log.next_on(place, at) else {
+                return None;
+            };
+            if entries[k].committed {
+                return Some(k);
+            }
+            at = k + 1;
+        }
+        None
     }
 
     /// Whether the log stays allowed with the operation behind it.
@@ -161,15 +183,22 @@ impl<S: Placed> Shared<S> {
         ensures rises { ticks.old ≤ ticks.new }
         ensures bound { ticks.new ≤ ticks.old + 1 }
     {
-        self.log.append(entry, ticks)
+        self.open.make_room()?;
+        self.log.append(entry, ticks)?;
+        self.open.add(&entry);
+        Ok(())
     }
 
     /// The first uncommitted entry of another owner that may not change places with the operation
-    /// behind it, whatever the objects are. It passes over the committed entries at the front.
+    /// behind it, whatever the objects are. It walks over the entries only where what is known of
+    /// the uncommitted ones of the operation's part leaves the answer open.
     pub fn blocking(&self, owner: &Name, op: &S::Op) -> Option<usize>
         ensures some { IfSome result (λ k. IsFirstBlocking S.object owner.now op.now self.now.1 k) }
         ensures none { IfNone result (AllGiveWay S.object owner.now op.now self.now.1) }
     {
+        if self.open.lets(owner, op) {
+            return None;
+        }
         let entries = self.log.entries();
         for k in self.settled..self.log.len() {
             if blocks::<S>(owner, op, &entries[k]) {
@@ -179,12 +208,50 @@ impl<S: Placed> Shared<S> {
         None
     }
 
-    /// Commits all entries of an owner. It passes over the committed entries at the front.
-    pub fn commit(&mut self, owner: &Name)
+    /// Commits the entry with this id, where it is an uncommitted one of the owner.
+    fn commit_entry(&mut self, owner: &Name, id: u32)
+        requires { HasDistinctIds (map shared_item self.old.1) }
+        ensures { CommitsOne owner.now id self.old self.new }
+    {
+        let Some(k) = self.log.find(id) else {
+            return;
+        };
+        let Some(&entry) = self.log.get(k) else {
+            unreachable!()
+        };
+        if !is_open(owner, &entry) {
+            return;
+        }
+        self.log.set(
+            k,
+            SharedEntry {
+                committed: true,
+                ..entry
+            },
+        );
+        self.open.take(&entry);
+    }
+
+    /// Moves the position on before which all entries are committed.
+    fn settle_front(&mut self)
+        ensures { self.new ≡ self.old }
+    {
+        self.settled = settle(self.log.entries(), self.settled);
+    }
+
+    /// Commits all entries of an owner, who says which these are. It looks at no others, but for
+    /// the committed ones that now stand at the front.
+    pub fn commit(&mut self, owner: &Name, own: &Items<S::Op>)
+        requires { HoldsIdsOf owner.now own.now self.old.1 }
         ensures { self.new ≡ (self.old.0, commit_all owner.now self.old.1) }
     {
-        commit_from(&mut self.log, self.settled, owner);
-        self.settled = settle(self.log.entries(), self.settled);
+        if self.len() == 0 {
+            return;
+        }
+        for item in own.as_slice() {
+            self.commit_entry(owner, item.id);
+        }
+        self.settle_front();
     }
 
     /// Takes out the i-th entry, unless the list without it is not allowed. The ticks are those of
@@ -202,9 +269,20 @@ impl<S: Placed> Shared<S> {
         ensures cost { RemovalCosts S.place_of (shared_ops self.1) i result ticks.old ticks.new }
         ensures bound { RemovalBound S.place_of (shared_ops self.1) i ticks.old ticks.new }
     {
-        let Shared { log, settled } = self;
+        let Shared {
+            log,
+            mut open,
+            settled,
+        } = self;
+        let Some(&entry) = log.get(i) else {
+            unreachable!()
+        };
         let (log, removed) = log.remove(i, ticks)?;
+        let Removed::Done = removed else {
+            return Ok((Shared { log, open, settled }, removed));
+        };
+        open.take(&entry);
         let settled = settled.min(i);
-        Ok((Shared { log, settled }, removed))
+        Ok((Shared { log, open, settled }, removed))
     }
 }

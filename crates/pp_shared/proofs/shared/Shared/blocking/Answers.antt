@@ -30,7 +30,7 @@ pub returns-clause-none : goal.returns-clause-none
 returns-clause-none g c =
     let size = ap (λ z. length z.1) c.self.view_is in
     let all = c.len-k-end.ensures.len in
-    let settled = c.self.invariant.within in
+    let settled = c.self.invariant.settles.within in
     let end : c.loop-k.k ≡ length c.args.self.now.1 = omega arith in
     all_give_way g.S.Spec.object c.args.owner.now c.args.op.now c.args.self.now.1
     (subst (λ n. AllGiveWayBelow g.S.Spec.object c.args.owner.now c.args.op.now c.args.self.now.1 n) end c.loop-k.invariant)

@@ -1,0 +1,138 @@
+//! What the shared log knows of its uncommitted entries, part by part.
+ghost use Rattle.std.specs.Prelude.{◌≡◌, ◌<◌, OnOk, IsTrue, false, List, [], ◌∷◌, ◌++◌, length};
+ghost use Rattle.indexmap.specs.IndexMap.{spare};
+ghost use Rattle.pp_core.specs.declared.entry.SharedEntry.{SharedEntry as EntryOf};
+ghost use Rattle.pp_shared.specs.Blocking.{AllGiveWay};
+ghost use Rattle.pp_shared.specs.Uncommitted.{KeepsOpen, LeavesOut, LosesOne, Tells, TellsLess};
+
+use indexmap::IndexMap;
+use pp_core::{Name, OutOfMemory, SharedEntry};
+use pp_parts::{Part, Parted, Samples};
+use std::alloc::Global;
+
+/// What is known of the uncommitted entries of one part. The samples are of their operations.
+#[derive(Drop)]
+pub struct OpenPart<T> {
+    /// How many there are.
+    pub count: usize,
+    pub owner: Name,
+    /// Whether all of them are the owner's.
+    pub alone: bool,
+    pub samples: T,
+}
+
+/// What is known where the entry is the only one.
+fn first<S: Parted>(alloc: Global, entry: &SharedEntry<S::Op>) -> OpenPart<Samples<S>>
+    ensures { Tells S.object result (entry.now ∷ []) }
+{
+    let mut samples = Samples::<S>::new(alloc);
+    samples.add(&entry.op);
+    OpenPart {
+        count: 1,
+        owner: entry.owner,
+        alone: true,
+        samples,
+    }
+}
+
+/// One more entry.
+fn note<S: Parted>(slot: &mut OpenPart<Samples<S>>, entry: &SharedEntry<S::Op>)
+    requires { slot.old.count < 1_000_000 }
+    ensures { (x : List (EntryOf S.Op)) → Tells S.object slot.old x →
+        Tells S.object slot.new (x ++ entry.now ∷ []) }
+{
+    slot.count += 1;
+    slot.alone = slot.alone && slot.owner.same(&entry.owner);
+    slot.samples.add(&entry.op);
+}
+
+/// One entry less. It says whether that was the last one.
+fn forget<S: Parted>(slot: &mut OpenPart<Samples<S>>) -> bool
+    ensures { (x y : List (EntryOf S.Op)) → Tells S.object slot.old x → LosesOne x y →
+        TellsLess S.object result slot.new y }
+{
+    slot.count = slot.count.saturating_sub(1);
+    slot.count == 0
+}
+
+/// What is known of the uncommitted entries of a log: for each part that has some, how many there
+/// are, whose, and operations that stand for theirs.
+#[derive(Drop)]
+pub struct OpenParts<S: Parted> {
+    pub slots: IndexMap<Part, OpenPart<Samples<S>>>,
+    pub alloc: Global,
+}
+
+impl<S: Parted> OpenParts<S> {
+    /// No entry. It takes no memory.
+    pub fn new(alloc: Global) -> Self
+        ensures { result.slots.entries ≡ [] }
+    {
+        OpenParts {
+            slots: IndexMap::new(alloc),
+            alloc,
+        }
+    }
+
+    /// Makes room for one more entry. The only error is that memory was refused.
+    pub fn make_room(&mut self) -> Result<(), OutOfMemory>
+        ensures same { self.new.slots.entries ≡ self.old.slots.entries }
+        ensures room { OnOk result (0 < spare self.new.slots) }
+    {
+        self.slots.reserve(1)?;
+        Ok(())
+    }
+
+    /// Adds an entry, for which there is room.
+    pub fn add(&mut self, entry: &SharedEntry<S::Op>)
+        requires room { 0 < spare self.old.slots }
+        requires few { (x : List (EntryOf S.Op))
+            × KeepsOpen S.object S.part_of self.old.slots.entries x × (length x < 1_000_000) }
+        ensures { entry.now.committed ≡ false → (x : List (EntryOf S.Op)) →
+            KeepsOpen S.object S.part_of self.old.slots.entries x →
+            KeepsOpen S.object S.part_of self.new.slots.entries (x ++ entry.now ∷ []) }
+    {
+        let part = S::part(&entry.op);
+        if let Some(slot) = self.slots.get_mut(&part) {
+            note::<S>(slot, entry);
+            return;
+        }
+        let slot = first::<S>(self.alloc, entry);
+        let Ok(_) = self.slots.insert(part, slot) else {
+            unreachable!()
+        };
+    }
+
+    /// Leaves out an entry that was committed or taken out. Nothing is known of committed ones.
+    pub fn take(&mut self, entry: &SharedEntry<S::Op>)
+        ensures { (x y : List (EntryOf S.Op)) →
+            KeepsOpen S.object S.part_of self.old.slots.entries x →
+            LeavesOut S.part_of entry.now x y →
+            KeepsOpen S.object S.part_of self.new.slots.entries y }
+    {
+        if entry.committed {
+            return;
+        }
+        let part = S::part(&entry.op);
+        let Some(slot) = self.slots.get_mut(&part) else {
+            return;
+        };
+        if forget::<S>(slot) {
+            self.slots.swap_remove(&part);
+        }
+    }
+
+    /// Whether each uncommitted entry of another owner is known to change places with the operation
+    /// behind it. False says nothing.
+    pub fn lets(&self, owner: &Name, op: &S::Op) -> bool
+        ensures { IsTrue result → (x : List (EntryOf S.Op)) →
+            KeepsOpen S.object S.part_of self.now.slots.entries x →
+            AllGiveWay S.object owner.now op.now x }
+    {
+        let part = S::part(op);
+        match self.slots.get(&part) {
+            None => true,
+            Some(slot) => slot.alone && slot.owner.same(owner) || slot.samples.all_before(op),
+        }
+    }
+}
