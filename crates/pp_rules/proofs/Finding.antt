@@ -9,7 +9,8 @@ use Rattle.std.proofs.lemmas.Bool.{ltb-false, ltb-true, eqb-true, eq-eqb, false_
 use Rattle.std.proofs.lemmas.List.{length-drop, reverse-append, take_all}
 use Rattle.std.proofs.lemmas.List.Folds.{find_at}
 use Rattle.std.proofs.lemmas.List.Quantifiers.{position-Some}
-use Rattle.std.proofs.lemmas.Option.{get_or_from_slice_get, slice_get_past, same_Some}
+use Rattle.std.proofs.lemmas.Option.{get_or_from_slice_get, slice_get_past, slice_get_read}
+use Rattle.std.proofs.lemmas.Option.{same_Some}
 use Rattle.std.specs.Option.{option_copied}
 use Rattle.pp_core.specs.declared.entry.LocalEntry.{LocalEntry}
 use Rattle.pp_model.specs.Config.{but_last, last}
@@ -18,6 +19,7 @@ use Rattle.pp_model.proofs.Lists.{before_in_second, in_cases, in_left, in_right}
 use Rattle.pp_model.proofs.Logs.{found}
 use Rattle.pp_model.proofs.Trace.{keep_all}
 use Rattle.pp_log.proofs.Lists.{stands_in, not_past}
+use Rattle.pp_local.proofs.Places.{from_within, get_taken, place_within, stands_from}
 
 -- the first place of a test
 place_is : (n m i : ℕ) (b : Bool) → cond b (Some n) None ≡ Some i → n ≡ i
@@ -91,20 +93,6 @@ map_cond f x r false = refl
 pub find_map : {X Y : Type 0} (f : X → Y) (p : Y → Bool) (xs : List X) → find p (map f xs) ≡ option_map f (find (λ x. p (f x)) xs)
 find_map f p [] = refl
 find_map {X} {Y} f p (x ∷ xs) = ap (λ (r : Option Y). cond (p (f x)) (Some (f x)) r) (find_map f p xs) ∙ map_cond f x (find (λ y. p (f y)) xs) (p (f x))
-
--- no place where nothing passes
-prefix_all : {X : Type 0} (p : X → Bool) (xs : List X) → ((x : X) → In x xs → p x ≡ false) → position_or_len p xs ≡ length xs
-prefix_all p [] n = refl
-prefix_all p (x ∷ xs) n = let e = prefix_all p xs (λ y i. n y (inr i)) in let k : cond (not (p x)) (1 + position_or_len p xs) 0 ≡ 1 + position_or_len p xs = ap (λ (b : Bool). cond (not b) (1 + position_or_len p xs) 0) (n x (inl refl)) in k ∙ omega (arith, e)
-
-not_below : (n : ℕ) (b : Bool) → nat_lt n n ≡ b → b ≡ false
-not_below n true h = let k = ltb-true n n h in absurd (omega (arith, k))
-not_below n false h = refl
-
-pub place_nowhere : {X : Type 0} (p : X → Bool) (xs : List X) → ((x : X) → In x xs → p x ≡ false) → position p xs ≡ None
-place_nowhere p xs n =
-    let e = prefix_all p xs n in
-    ap (λ (k : ℕ). cond (nat_lt k (length xs)) (Some k) None) e ∙ ap (λ (b : Bool). cond b (Some (length xs)) None) (not_below (length xs) (nat_lt (length xs) (length xs)) refl)
 
 pub find_nowhere : {X : Type 0} (p : X → Bool) (xs : List X) → find p xs ≡ None → (x : X) → In x xs → p x ≡ false
 find_nowhere p [] h x i = elim i [ ]
@@ -313,11 +301,6 @@ filter_short {X} p (x ∷ xs) = go (p x) (filter_short p xs)
     go true k = omega (arith, k)
     go false k = omega (arith, k)
 
-pub rest_is : {X : Type 0} (xs l : List X) (i : ℕ) → xs ≡ l → take (length xs - (i + 1)) (drop (i + 1) xs) ≡ drop (suc i) l
-rest_is {X} xs l i e =
-    let n : length (drop (i + 1) xs) ≡ length xs - (i + 1) = length-drop (i + 1) xs in
-    take_all (length xs - (i + 1)) (drop (i + 1) xs) (omega (arith, n)) ∙ ap (λ (k : ℕ). drop k xs) (add-one i) ∙ ap (drop (suc i)) e
-
 pub some_is_none : {X : Type 0} (r s : Option X) → IsSome s → r ≡ s → r ≡ None → ⊥
 some_is_none None None h e n = absurd (cc)
 some_is_none None (Some x) h e n = absurd (cc)
@@ -329,3 +312,29 @@ read_there xs k x y h e = sym (get_or_from_slice_get xs k y x h) ∙ sym e
 
 pub read_found : {X : Type 0} (p : X → Bool) (xs : List X) (k : ℕ) (x : X) → position p xs ≡ Some k → x ≡ get_or xs k x → slice_get xs k ≡ Some x
 read_found {X} p xs k x h e = let r = placed p xs k h in r.1 ∙ ap (λ (z : X). Some z) (read_there xs k x r.0 r.1 e)
+
+-- what an index reads at a place that was found in a list, before a place of it, or behind that
+module _ {X : Type 0} (p : X → Bool) (xs l : List X) (e : xs ≡ l) where
+  pub found_within : (k : ℕ) → position p l ≡ Some k → k < length xs
+  found_within k h = subst (λ (z : List X). k < length z) (sym e) (place_within p l k h)
+
+  pub read_place : (k : ℕ) (x : X) → position p l ≡ Some k → x ≡ get_or xs k x → slice_get l k ≡ Some x
+  read_place k x h is = ap (λ (z : List X). slice_get z k) (sym e) ∙ slice_get_read xs (length xs) k x refl (found_within k h) is
+
+  pub taken_within : (i k : ℕ) → position p (take i l) ≡ Some k → k < length xs
+  taken_within i k h = let r = placed p (take i l) k h in subst (λ (z : List X). k < length z) (sym e) (slice_within l k r.0 (get_taken l i k r.0 r.1))
+
+  pub read_taken : (i k : ℕ) (x : X) → position p (take i l) ≡ Some k → x ≡ get_or xs k x → slice_get (take i l) k ≡ Some x
+  read_taken i k x h is =
+      let r = placed p (take i l) k h in
+      r.1 ∙ ap (λ (z : X). Some z) (read_there xs k x r.0 (ap (λ (z : List X). slice_get z k) e ∙ get_taken l i k r.0 r.1) is)
+
+  pub behind_within : (n k : ℕ) → Some k ≡ option_map (λ j. n + j) (position p (drop n l)) → k < length xs
+  behind_within n k h = subst (λ (z : List X). k < length z) (sym e) (from_within p l n k h)
+
+  pub read_behind : (n k : ℕ) (x : X) → Some k ≡ option_map (λ j. n + j) (position p (drop n l)) → x ≡ get_or xs k x → (j : ℕ) × (position p (drop n l) ≡ Some j) × (slice_get (drop n l) j ≡ Some x)
+  read_behind n k x h is =
+      stands_from p l n k x h (ap (λ (z : List X). slice_get z k) (sym e) ∙ slice_get_read xs (length xs) k x refl (behind_within n k h) is)
+
+pub drop_next : {X : Type 0} (i : ℕ) (l : List X) → drop (i + 1) l ≡ drop (suc i) l
+drop_next {X} i l = ap (λ (n : ℕ). drop n l) (add-one i)

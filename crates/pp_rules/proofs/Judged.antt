@@ -6,11 +6,13 @@ use Rattle.pp_core.specs.declared.entry.CommittedTx.{CommittedTx}
 use Rattle.pp_core.specs.declared.entry.LocalEntry.{LocalEntry}
 use Rattle.pp_core.specs.declared.entry.SharedEntry.{SharedEntry}
 use Rattle.pp_model.specs.Config.{Mark, Tx, Unpushed, Pushed, at_mark, is_mark, item, last}
-use Rattle.pp_model.specs.Config.{of_other, as_shared}
-use Rattle.pp_model.specs.Lists.{Before}
+use Rattle.pp_model.specs.Config.{of_other, as_shared, is_own, own_items}
+use Rattle.pp_model.specs.Lists.{Before, In}
 use Rattle.pp_model.specs.Names.{Name}
 use Rattle.pp_model.specs.Rules.{IsLast}
-use Rattle.pp_model.proofs.Logs.{found_mark, found_tx}
+use Rattle.pp_model.proofs.Lists.{by_key}
+use Rattle.pp_model.proofs.Logs.{found_mark, found_tx, in_own}
+use Rattle.pp_shared.specs.Committing.{HoldsIdsOf}
 use Rattle.pp_spec.specs.Object.{Object, SwapsIn}
 use Rattle.pp_rules.specs.Finding.{IsLastUnpushed}
 use Rattle.pp_rules.specs.Machines.{Holds, Seen, config_of, tx_of}
@@ -77,6 +79,15 @@ module _ {Shape State Op Undo : Type 0} (o : Object Shape State Op Undo) (shape 
       let k = found_mark id Pushed l.1 e q in
       let i = h.sound.pushed_stand (record { name = t; thread = r.thread; body = r.body; local = l.1 }) (found_tx t (map tx_of v.opened) _ r.is).0 e k.0 k.2 in
       not_both (sym (eq-eqb e.id id k.1) ∙ find_nowhere (λ (g : SharedEntry Op). g.id == id) G.1 (place_none (λ (g : SharedEntry Op). g.id == id) G.1 none) (as_shared t false (item e)) i)
+
+module _ {Shape State Op Undo : Type 0} (o : Object Shape State Op Undo) (shape : Shape) (v : Txs Shape Op) (ids : List ℕ) (G : Shape × List (SharedEntry Op)) (F : List (CommittedTx Op)) (n : ℕ) (h : Holds o shape v ids G F n) where
+  -- the uncommitted entries of an open transaction are own in its log
+  pub holds_ids : (t : Name) (l : Shape × List (LocalEntry Op)) → HasLog o shape v ids G F n h t l → HoldsIdsOf t (own_items l.1) G.1
+  holds_ids t l r g i u owner =
+      let x : Tx Op = record { name = t; thread = r.thread; body = r.body; local = l.1 } in
+      let k = h.sound.uncommitted_from g i u in
+      let same : k.0 ≡ x = by_key (λ (w : Tx Op). w.name) (map tx_of v.opened) h.sound.open_names k.0 x k.1 (found_tx t (map tx_of v.opened) x r.is).0 (ap (λ (w : SharedEntry Op). w.owner) (sym k.5) ∙ owner) in
+      (item k.2, subst (λ (w : Tx Op). In (item k.2) (own_items w.local)) same (in_own (k.0).local k.2 k.3 (ap is_own k.4)), ap (λ (w : SharedEntry Op). w.id) (sym k.5))
 
 pub ends_with : {Op : Type 0} (id i : ℕ) (l : List (LocalEntry Op)) → IsLastUnpushed id l i → IsLast id (last l)
 ends_with {Op} id i l q =

@@ -38,7 +38,8 @@ use Rattle.pp_rules.specs.Transactions.{open_at, open_of, relocated, relogged, w
 use Rattle.pp_rules.specs.Transactions.{with_open, without_open}
 use Rattle.pp_rules.proofs.Acting.{after_begin, after_app, after_unapp, after_pull, after_unpull}
 use Rattle.pp_rules.proofs.Acting.{after_push, after_unpush, after_cmt, after_quit}
-use Rattle.pp_rules.proofs.Finding.{but_last_short, filter_short, place_nowhere, placed}
+use Rattle.pp_local.proofs.Places.{nowhere}
+use Rattle.pp_rules.proofs.Finding.{but_last_short, filter_short, placed}
 use Rattle.pp_rules.proofs.Finding.{removed_filter, slice_within}
 use Rattle.pp_rules.proofs.Fitting.{in_ranged, ranged_in, ranged_more, serial_allowed, serial_more}
 use Rattle.pp_rules.proofs.Opened.{HasLog, begun_in, busy_in, distinct, opened, used_in}
@@ -223,7 +224,7 @@ module _ {Shape State Op Undo : Type 0} (o : Object Shape State Op Undo) (shape 
         record {
           allowed = subst (λ (z : Shape). IsAllowed o z (local_ops (y.0).local.1 ++ e.op ∷ [])) (sym fine.same_shape) (subst (λ (z : List (LocalEntry Op)). IsAllowed o shape (local_ops z ++ e.op ∷ [])) (sym local) a);
           ranged = r;
-          new = place_nowhere (λ z. z.id == e.id) (y.0).local.1 (λ z i. false_from_ne_true (z.id == e.id) (λ k. d z (subst (λ (l : List (LocalEntry Op)). In z l) local i) (eqb-true z.id e.id k)));
+          new = nowhere (λ z. z.id == e.id) (y.0).local.1 (λ z i. false_from_ne_true (z.id == e.id) (λ k. d z (subst (λ (l : List (LocalEntry Op)). In z l) local i) (eqb-true z.id e.id k)));
           few = (let s = fine.short in omega (arith, s, few));
         },
         subst (λ (z : Tx Op). FollowsIfOwn o z.body z.local e) (sym y.2) follows,
@@ -282,7 +283,7 @@ module _ {Shape State Op Undo : Type 0} (o : Object Shape State Op Undo) (shape 
   pub push_new : (t : Name) (id : ℕ) → Meets (rules_of o w.shape) w.config (Push t id) → (l : Shape × List (LocalEntry Op)) → HasLog o shape v ids G F n h t l → (p : LocalEntry Op) → at_mark id Unpushed l.1 ≡ Some p → position (λ g. g.id == p.id) G.1 ≡ None
   push_new t id f l r p q =
       let s = subst (λ (c : Config Op). Sound (rules_of o shape) c) (sym (after_push v ids G.1 F t id _ p r.is q)) (sound_then (Push t id) f) in
-      place_nowhere (λ g. g.id == p.id) G.1 (λ g i. false_from_ne_true (g.id == p.id) (λ k. s.shared_ids g (as_shared t false (item p)) (before_across g (as_shared t false (item p)) G.1 (as_shared t false (item p) ∷ []) i (inl refl)) (eqb-true g.id p.id k)))
+      nowhere (λ g. g.id == p.id) G.1 (λ g i. false_from_ne_true (g.id == p.id) (λ k. s.shared_ids g (as_shared t false (item p)) (before_across g (as_shared t false (item p)) G.1 (as_shared t false (item p) ∷ []) i (inl refl)) (eqb-true g.id p.id k)))
 
   push_is : (t : Name) (id : ℕ) (l : Shape × List (LocalEntry Op)) → HasLog o shape v ids G F n h t l → (p : LocalEntry Op) → at_mark id Unpushed l.1 ≡ Some p → (u : Txs Shape Op) (H : List (SharedEntry Op)) → u ≡ with_log t (set_mark p.id Pushed) v → H ≡ G.1 ++ as_shared t false (item p) ∷ [] →
       config_of u ids H F ≡ then (config_of v ids G.1 F) (Push t id)

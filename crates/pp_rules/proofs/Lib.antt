@@ -1,4 +1,5 @@
 pub mod Acting
+pub mod Begun
 pub mod Courses
 pub mod Dispatch
 pub mod Finding
@@ -12,6 +13,7 @@ pub mod Refuting
 pub mod Removing
 pub mod Showing
 pub mod Slots
+pub mod Starting
 pub mod Swapping
 pub mod Telling
 pub mod Testing

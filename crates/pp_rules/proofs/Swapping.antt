@@ -13,11 +13,12 @@ use Rattle.pp_model.specs.Config.{Mark, Unpushed, Pushed, Pulled, is_mark, is_ow
 use Rattle.pp_model.specs.Lists.{In, Before}
 use Rattle.pp_model.proofs.Logs.{is_mark-true}
 use Rattle.pp_model.proofs.Names.{eq-names, names-true}
+use Rattle.pp_local.specs.Movers.{holds_back, stands_first, stays_behind}
 use Rattle.pp_shared.specs.Blocking.{GivesWay, IsFirstBlocking}
 use Rattle.pp_spec.specs.Object.{Object, IsLawful, IsRefutedBy, Swaps, SwapsIn}
 use Rattle.pp_spec.proofs.Lists.{refuted_nowhere}
 use Rattle.pp_rules.specs.Evidence.{entries_before, entries_behind, first_swap, swap_or}
-use Rattle.pp_rules.specs.Finding.{AreDistinct, blocks, holds_back, stands_first, stays_behind}
+use Rattle.pp_rules.specs.Finding.{AreDistinct, blocks}
 use Rattle.pp_rules.specs.declared.detail.Detail.TheVariants.{Nothing}
 use Rattle.pp_rules.proofs.Finding.{before_here, behind_here, here_behind, in_dropped, here_before}
 use Rattle.pp_rules.proofs.Finding.{in_taken, place_found, place_or_len}

@@ -105,7 +105,7 @@ module _ {Shape State Op Undo : Type 0} (o : Object Shape State Op Undo) (laws :
   tied_there (Some x) f g k h = ((λ n. refl), h x refl)
 
   -- an operation that does not go behind an allowed list has another result there
-  other : (id : ℕ) (l : List Op) (op : Op) → IsAllowed o shape l → IsTrue (o.fits shape op) → (IsAllowed o shape (l ++ op ∷ []) → ⊥) → TellsOther o shape l id op (gives_behind o shape id l op)
+  pub other : (id : ℕ) (l : List Op) (op : Op) → IsAllowed o shape l → IsTrue (o.fits shape op) → (IsAllowed o shape (l ++ op ∷ []) → ⊥) → TellsOther o shape l id op (gives_behind o shape id l op)
   other id l op h f n =
       let e = keeps_shape o laws.next_shape (o.start shape) l h ∙ laws.start_shape shape in
       (h, (λ g. n (allowed-append o (o.start shape) l (op ∷ []) h ((subst (λ (z : Shape). IsTrue (o.fits z op)) (sym e) f, g), tt))), refl)
@@ -125,10 +125,10 @@ module _ {Shape State Op Undo : Type 0} (o : Object Shape State Op Undo) (laws :
       }
 
   -- in a list that is not allowed there is a first entry that differs, and the evidence tells it
-  abbrev FirstOther : {E : Type 0} → (E → Item Op) → State → List E → Detail Op → Type 0
+  abbrev pub FirstOther : {E : Type 0} → (E → Item Op) → State → List E → Detail Op → Type 0
   FirstOther item_of s l detail = (id : ℕ) × (answer : Answer) × DiffersFrom o item_of s l id answer × (detail ≡ Gives id answer)
 
-  differing : {E : Type 0} (item_of : E → Item Op) (s : State) (l : List E) → o.shape s ≡ shape → ((e : E) → In e l → IsTrue (o.fits shape (item_of e).op)) → (AllowedFrom o s (entry_ops item_of l) → ⊥) → FirstOther item_of s l (first_differing o item_of s l)
+  pub differing : {E : Type 0} (item_of : E → Item Op) (s : State) (l : List E) → o.shape s ≡ shape → ((e : E) → In e l → IsTrue (o.fits shape (item_of e).op)) → (AllowedFrom o s (entry_ops item_of l) → ⊥) → FirstOther item_of s l (first_differing o item_of s l)
   differing item_of s [] e f n = absurd (n tt)
   differing {E} item_of s (y ∷ l) e f n = go (is_same (o.gives s (item_of y).op) (o.recorded (item_of y).op)) refl
       (λ legal. differing item_of (o.next s (item_of y).op) l (laws.next_shape s (item_of y).op legal ∙ e) (λ z i. f z (inr i)) (λ h. n (legal, h)))
@@ -194,7 +194,7 @@ module _ {Shape State Op Undo : Type 0} (o : Object Shape State Op Undo) (laws :
     swap_fits [] f = tt
     swap_fits (e ∷ l) f = lists_fit e (f e (inl refl)).0 (f e (inl refl)).1 (first_swap id_of (λ z. o.refuting (a z) (b z)) l) (swap_fits l (λ z i. f z (inr i)))
 
-  differing_fits : {E : Type 0} (item_of : E → Item Op) (s : State) (l : List E) → Fits o shape (first_differing o item_of s l)
+  pub differing_fits : {E : Type 0} (item_of : E → Item Op) (s : State) (l : List E) → Fits o shape (first_differing o item_of s l)
   differing_fits item_of s [] = tt
   differing_fits {E} item_of s (y ∷ l) = go (is_same (o.gives s (item_of y).op) (o.recorded (item_of y).op)) (differing_fits item_of (o.next s (item_of y).op) l)
     where

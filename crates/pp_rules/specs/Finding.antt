@@ -3,24 +3,12 @@ use Rattle.std.specs.Prelude.{◌≡◌, ◌≢◌, ◌+◌, slice_get, ◌&&◌
 use Rattle.std.specs.Prelude.{length}
 use Rattle.pp_core.specs.declared.entry.LocalEntry.{LocalEntry}
 use Rattle.pp_core.specs.declared.entry.SharedEntry.{SharedEntry}
-use Rattle.pp_model.specs.Config.{Unpushed, Pushed, is_mark, is_own}
+use Rattle.pp_model.specs.Config.{Unpushed}
 use Rattle.pp_model.specs.Lists.{Before}
 use Rattle.pp_model.specs.Names.{Name, ◌=ⁿ◌}
 use Rattle.pp_spec.specs.Object.{Object}
 
 module _ {Shape State Op Undo : Type 0} (o : Object Shape State Op Undo) where
-  -- whether this is an own unpushed entry that the operation may not come before
-  abbrev pub holds_back : Op → LocalEntry Op → Bool
-  holds_back op a = is_mark a.mark Unpushed && is_some (o.refuting op a.op)
-
-  -- whether it is an own pushed entry that may not come before the operation
-  abbrev pub stays_behind : Op → LocalEntry Op → Bool
-  stays_behind op b = is_mark b.mark Pushed && is_some (o.refuting b.op op)
-
-  -- whether it is an own entry that may not come behind the operation
-  abbrev pub stands_first : Op → LocalEntry Op → Bool
-  stands_first op a = is_own a.mark && is_some (o.refuting a.op op)
-
   -- whether it is an uncommitted entry of another, which the operation may not come before
   abbrev pub blocks : Name → Op → SharedEntry Op → Bool
   blocks t op u = (not u.committed && not (u.owner =ⁿ t)) && is_some (o.refuting u.op op)

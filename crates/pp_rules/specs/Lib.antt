@@ -6,5 +6,8 @@ pub mod Machines
 pub mod Removals
 pub mod Shown
 pub mod Standing
+pub mod StartAnswers
+pub mod Starting
+pub mod Starts
 pub mod Stepping
 pub mod Transactions

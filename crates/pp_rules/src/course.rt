@@ -16,7 +16,7 @@ use crate::find::{is_own, is_own_at};
 use pp_body::Walk;
 use pp_core::{Body, LocalEntry, Mark, OutOfMemory, Ticks};
 use pp_local::{Local, Removed};
-use pp_spec::Placed;
+use pp_parts::Parted;
 use std::alloc::Global;
 use std::marker::Model;
 use std::sync::ledger::Ledger;
@@ -30,11 +30,11 @@ struct Walked<T> {
 
 /// The local log of an open transaction, and how far its own calls have come in its body.
 #[derive(Drop)]
-pub struct Course<S: Placed> {
+pub struct Course<S: Parted> {
     walked: Walked<Local<S>>,
 }
 
-impl<S: Placed> Model for Course<S> {
+impl<S: Parted> Model for Course<S> {
     ghost use Rattle.pp_core.specs.TreeCodes.{tree_code};
     ghost use Rattle.std.specs.Coded.{codes};
     ghost use Rattle.pp_body.specs.Walks.{HasTaken};
@@ -60,7 +60,7 @@ fn copied(body: &Option<Body>, alloc: Global) -> Result<Option<Body>, OutOfMemor
 }
 
 /// Adds an own entry at the end of a local log, and its call to the walk.
-fn append_own<S: Placed, L: Ledger>(
+fn append_own<S: Parted, L: Ledger>(
     walked: &mut Walked<Local<S>>,
     entry: LocalEntry<S::Op>,
     ticks: &mut Ticks<L>,
@@ -94,7 +94,7 @@ fn given_back(walk: Walk, asked: bool) -> Walk
     if asked { walk.back() } else { walk }
 }
 
-impl<S: Placed> Course<S> {
+impl<S: Parted> Course<S> {
     /// The course of a transaction that begins.
     pub fn start(alloc: Global, shape: &S::Shape, body: &Option<Body>) -> Result<Self, OutOfMemory>
         requires { IsWithinLimits (option_map tree body.now) }

@@ -1,17 +1,16 @@
 //! What the machine looks up in logs.
-ghost use Rattle.std.specs.Prelude.{◌≡◌, ◌<◌, length, ◌==◌, ◌&&◌, not, Some, None, is_some};
+ghost use Rattle.std.specs.Prelude.{◌≡◌, ◌<◌, length, ◌==◌, ◌&&◌, not, Some, None};
 ghost use Rattle.std.specs.Prelude.{position, slice_get, option_map, MatchOption, IfOk, IfSome};
 ghost use Rattle.pp_model.specs.Config.{is_mark, is_own, last, own_items, at_mark, of_other};
 ghost use Rattle.pp_core.specs.declared.entry.LocalEntry.{LocalEntry as EntryOf};
 ghost use Rattle.pp_model.specs.Rules.{IsLast};
-ghost use Rattle.pp_rules.specs.Finding.{AreDistinct, HaveOwnIds, IsLastUnpushed, holds_back};
-ghost use Rattle.pp_rules.specs.Finding.{stands_first, stays_behind};
+ghost use Rattle.pp_rules.specs.Finding.{AreDistinct, HaveOwnIds, IsLastUnpushed};
 ghost use Rattle.pp_rules.specs.Standing.{stands_committed};
 
 use pp_core::{Item, Items, LocalEntry, Mark, Name, OutOfMemory, SharedEntry};
 use pp_local::Local;
+use pp_parts::Parted;
 use pp_shared::Shared;
-use pp_spec::{Placed, Spec};
 use std::alloc::Global;
 
 /// Whether two marks are one.
@@ -29,7 +28,7 @@ pub fn is_own(mark: Mark) -> bool
 }
 
 /// The entry of this id and mark, with its place.
-pub fn marked_at<S: Placed>(
+pub fn marked_at<S: Parted>(
     local: &Local<S>,
     id: u32,
     mark: Mark,
@@ -71,7 +70,7 @@ pub fn is_own_at<O: Copy>(entries: &[LocalEntry<O>], i: usize) -> bool
 }
 
 /// The entry of this id that another owns.
-pub fn other_at<S: Placed>(shared: &Shared<S>, owner: &Name, id: u32) -> Option<SharedEntry<S::Op>>
+pub fn other_at<S: Parted>(shared: &Shared<S>, owner: &Name, id: u32) -> Option<SharedEntry<S::Op>>
     requires { HaveOwnIds shared.now.1 }
     ensures { result ≡ of_other owner.now id shared.now.1 }
 {
@@ -94,7 +93,7 @@ pub fn first_unpushed<O: Copy>(entries: &[LocalEntry<O>]) -> Option<usize>
 }
 
 /// Whether the entry of this id stands committed.
-fn stands_committed<S: Placed>(shared: &Shared<S>, id: u32) -> bool
+fn stands_committed<S: Parted>(shared: &Shared<S>, id: u32) -> bool
     ensures { result ≡ stands_committed id shared.now.1 }
 {
     let Some(i) = shared.find(id) else {
@@ -107,7 +106,7 @@ fn stands_committed<S: Placed>(shared: &Shared<S>, id: u32) -> bool
 }
 
 /// The place of the first pulled entry that does not stand committed.
-pub fn first_not_standing<S: Placed>(
+pub fn first_not_standing<S: Parted>(
     entries: &[LocalEntry<S::Op>],
     shared: &Shared<S>,
 ) -> Option<usize>
@@ -116,57 +115,6 @@ pub fn first_not_standing<S: Placed>(
 {
     entries.iter().position(|entry| is_mark(entry.mark, Mark::Pulled)
         && !stands_committed(shared, entry.id))
-}
-
-/// Whether the pair does not swap.
-fn is_refuted<S: Spec>(a: &S::Op, b: &S::Op) -> bool
-    ensures { result ≡ is_some (S.object.refuting a.now b.now) }
-{
-    !S::swaps(a, b)
-}
-
-/// Whether this is an own unpushed entry that the operation may not come before.
-fn holds_back<S: Spec>(entry: &LocalEntry<S::Op>, op: &S::Op) -> bool
-    ensures { result ≡ holds_back S.object op.now entry.now }
-{
-    is_mark(entry.mark, Mark::Unpushed) && is_refuted::<S>(op, &entry.op)
-}
-
-/// The place of the first own unpushed entry that holds the operation back.
-pub fn first_holding_back<S: Spec>(before: &[LocalEntry<S::Op>], op: &S::Op) -> Option<usize>
-    ensures { result ≡ position (holds_back S.object op.now) before.now }
-{
-    before.iter().position(|entry| holds_back::<S>(entry, op))
-}
-
-/// Whether this is an own pushed entry that may not come before the operation.
-fn stays_behind<S: Spec>(entry: &LocalEntry<S::Op>, op: &S::Op) -> bool
-    ensures { result ≡ stays_behind S.object op.now entry.now }
-{
-    is_mark(entry.mark, Mark::Pushed) && is_refuted::<S>(&entry.op, op)
-}
-
-/// The place of the first own pushed entry that may not come before the operation.
-pub fn first_staying_behind<S: Spec>(after: &[LocalEntry<S::Op>], op: &S::Op) -> Option<usize>
-    ensures { result ≡ position (stays_behind S.object op.now) after.now }
-{
-    after.iter().position(|entry| stays_behind::<S>(entry, op))
-}
-
-/// Whether this is an own entry that may not come behind the operation.
-fn stands_first<S: Spec>(entry: &LocalEntry<S::Op>, op: &S::Op) -> bool
-    ensures { result ≡ stands_first S.object op.now entry.now }
-{
-    is_own(entry.mark) && is_refuted::<S>(&entry.op, op)
-}
-
-/// The place of the first own entry that may not come behind the operation.
-pub fn first_not_before<S: Spec>(entries: &[LocalEntry<S::Op>], op: &S::Op) -> Option<usize>
-    ensures { result ≡ position (stands_first S.object op.now) entries.now }
-{
-    entries
-        .iter()
-        .position(|entry| stands_first::<S>(entry, op))
 }
 
 /// The own entries.

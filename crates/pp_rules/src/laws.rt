@@ -5,6 +5,7 @@ ghost use Rattle.pp_model.specs.Laws.{VerdictLaw, ViewsLaw};
 ghost use Rattle.pp_model.specs.Serial.{SimulationLaw};
 ghost use Rattle.pp_model.specs.Sound.{KeptLaw, SameStateLaw, SerialLaw};
 ghost use Rattle.pp_rules.specs.Shown.{EvidenceLaw};
+ghost use Rattle.pp_rules.specs.StartAnswers.{StartEvidenceLaw};
 ghost use Rattle.pp_spec.specs.Object.{rules_of};
 
 use pp_spec::Spec;
@@ -56,4 +57,9 @@ pub fn verdict_law<S: Spec>()
 /// the objects alone.
 pub fn evidence_law<S: Spec>()
     ensures { (shape : S.Shape) → EvidenceLaw S.object shape }
+{}
+
+/// So it is with the evidence of the criteria of a start.
+pub fn start_evidence_law<S: Spec>()
+    ensures { (shape : S.Shape) → StartEvidenceLaw S.object shape }
 {}

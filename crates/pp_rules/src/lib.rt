@@ -10,8 +10,8 @@ mod transactions;
 
 pub use detail::Detail;
 pub use laws::{
-    alone_law, evidence_law, kept_law, same_state_law, serial_law, simulation_law, verdict_law,
-    views_law, written_law,
+    alone_law, evidence_law, kept_law, same_state_law, serial_law, simulation_law,
+    start_evidence_law, verdict_law, views_law, written_law,
 };
 pub use machine::{Machine, Outcome};
 pub use pp_core::{

@@ -19,6 +19,7 @@ mod note;
 mod pull;
 mod push;
 mod quit;
+mod start;
 mod unapp;
 mod unpull;
 mod unpush;
@@ -28,8 +29,8 @@ use crate::transactions::{OpenTx, Transactions};
 use indexmap::IndexSet;
 use pp_core::{Committed, Name, OutOfMemory, Step, Ticks};
 use pp_local::Local;
+use pp_parts::Parted;
 use pp_shared::Shared;
-use pp_spec::Placed;
 use std::alloc::Global;
 use std::marker::Model;
 use std::sync::ledger::Ledger;
@@ -46,7 +47,7 @@ pub enum Outcome<O> {
 /// The machine: the transactions with their local logs, the shared log, and the committed
 /// transactions.
 #[derive(Drop)]
-pub struct Machine<S: Placed> {
+pub struct Machine<S: Parted> {
     alloc: Global,
     shape: S::Shape,
     transactions: Transactions<S>,
@@ -56,7 +57,7 @@ pub struct Machine<S: Placed> {
     count: u32,
 }
 
-impl<S: Placed> Model for Machine<S> {
+impl<S: Parted> Model for Machine<S> {
     ghost use Rattle.pp_rules.specs.Machines.{Seen, Holds, config_of};
     ghost use Rattle.pp_core.specs.TreeCodes.{tree_code};
     ghost use Rattle.std.specs.Coded.{codes};
@@ -75,7 +76,7 @@ impl<S: Placed> Model for Machine<S> {
         Holds S.object a.shape a.transactions a.ids.keys a.shared a.committed a.count };
 }
 
-impl<S: Placed> Machine<S> {
+impl<S: Parted> Machine<S> {
     /// A machine with no transaction and empty logs. The only error is that memory was refused.
     pub fn new(alloc: Global, shape: S::Shape) -> Result<Self, OutOfMemory>
         ensures { IfOk result (λ m. m ≡ record { shape = shape; config = first None; count = 0 }) }

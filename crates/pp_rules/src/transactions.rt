@@ -18,7 +18,7 @@ use crate::course::Course;
 use indexmap::{IndexMap, IndexSet};
 use pp_core::{Body, LocalEntry, Mark, Name, OutOfMemory, Ticks};
 use pp_local::{Local, Removed};
-use pp_spec::Placed;
+use pp_parts::Parted;
 use std::alloc::Global;
 use std::marker::Model;
 use std::sync::ledger::Ledger;
@@ -32,12 +32,12 @@ pub struct OpenTx<T> {
 
 /// The transactions of a run: the names begun, and those that are open.
 #[derive(Drop)]
-pub struct Transactions<S: Placed> {
+pub struct Transactions<S: Parted> {
     slots: IndexMap<Name, Option<OpenTx<Course<S>>>>,
     threads: IndexSet<Name>,
 }
 
-impl<S: Placed> Model for Transactions<S> {
+impl<S: Parted> Model for Transactions<S> {
     ghost use Rattle.pp_rules.specs.Transactions.{Txs, filled, open_of, threads_of, Kept};
     ghost use Rattle.pp_core.specs.TreeCodes.{tree_code};
     ghost use Rattle.std.specs.Coded.{codes};
@@ -81,7 +81,7 @@ fn empty<T: Drop>(slot: &mut Option<OpenTx<T>>) -> Option<Name>
 }
 
 /// Adds an entry to the local log in a slot.
-fn append_in<S: Placed, L: Ledger>(
+fn append_in<S: Parted, L: Ledger>(
     slot: &mut Option<OpenTx<Course<S>>>,
     entry: LocalEntry<S::Op>,
     ticks: &mut Ticks<L>,
@@ -110,7 +110,7 @@ fn append_in<S: Placed, L: Ledger>(
 }
 
 /// Marks an entry of the local log in a slot.
-fn mark_in<S: Placed>(slot: &mut Option<OpenTx<Course<S>>>, i: usize, mark: Mark)
+fn mark_in<S: Parted>(slot: &mut Option<OpenTx<Course<S>>>, i: usize, mark: Mark)
     requires held { IsSome slot.old }
     requires own { IfSome slot.old (λ t. HasOwn t.course.local.1 i) }
     requires to_own { mark ≢ Pulled }
@@ -132,7 +132,7 @@ fn mark_in<S: Placed>(slot: &mut Option<OpenTx<Course<S>>>, i: usize, mark: Mark
 }
 
 /// Takes an entry out of the local log in a slot, unless the list without it is not allowed.
-fn remove_in<S: Placed, L: Ledger>(
+fn remove_in<S: Parted, L: Ledger>(
     slot: &mut Option<OpenTx<Course<S>>>,
     i: usize,
     ticks: &mut Ticks<L>,
@@ -151,7 +151,7 @@ fn remove_in<S: Placed, L: Ledger>(
     Ok(removed)
 }
 
-impl<S: Placed> Transactions<S> {
+impl<S: Parted> Transactions<S> {
     /// No transaction.
     pub fn new(alloc: Global) -> Self
         ensures { result ≡ record { names = []; opened = [] } }

@@ -7,10 +7,10 @@ ghost use Rattle.pp_rules.specs.Stepping.{Does, Judges};
 use crate::detail::{Detail, Refusal, bare};
 use crate::machine::{Machine, Outcome};
 use pp_core::{LocalEntry, Mark, Name, OutOfMemory, Ticks};
-use pp_spec::Placed;
+use pp_parts::Parted;
 use std::sync::ledger::Ledger;
 
-impl<S: Placed> Machine<S> {
+impl<S: Parted> Machine<S> {
     /// Whether APP may be done, or the refusal by its first false criterion.
     fn judge_app(&self, tx: &Name, id: u32, op: &S::Op) -> Result<(), Refusal<S::Op>>
         requires { IsTrue (S.object.fits self.now.shape op.now) }

@@ -6,9 +6,9 @@ ghost use Rattle.pp_rules.specs.Stepping.{Does, JudgesBegin, begin_of};
 use crate::detail::{Refusal, bare};
 use crate::machine::{Machine, Outcome};
 use pp_core::{Body, Name, OutOfMemory};
-use pp_spec::Placed;
+use pp_parts::Parted;
 
-impl<S: Placed> Machine<S> {
+impl<S: Parted> Machine<S> {
     /// Whether BEGIN may be done, or the refusal by its first false criterion.
     fn judge_begin(&self, tx: &Name, thread: &Name) -> Result<(), Refusal<S::Op>>
         ensures { JudgesBegin S.object self.now tx.now thread.now result }

@@ -8,9 +8,9 @@ use crate::find::{first_not_standing, first_unpushed, own_items};
 use crate::machine::{Machine, Outcome};
 use pp_core::{CommittedTx, Name, OutOfMemory};
 use pp_local::Local;
-use pp_spec::Placed;
+use pp_parts::Parted;
 
-impl<S: Placed> Machine<S> {
+impl<S: Parted> Machine<S> {
     /// The local log that CMT commits, or the refusal by its first false criterion.
     fn judge_cmt(&self, tx: &Name) -> Result<&Local<S>, Refusal<S::Op>>
         ensures { Judges S.object self.now (Cmt tx.now)
@@ -51,9 +51,9 @@ impl<S: Placed> Machine<S> {
             }
         };
         let entries = own_items(self.alloc, local.entries())?;
+        self.shared.commit(tx, &entries);
         self.committed.push(CommittedTx { name: *tx, entries })?;
         self.transactions.end(tx);
-        self.shared.commit(tx);
         self.count += 1;
         Ok((self, Outcome::Done))
     }

@@ -5,13 +5,13 @@ ghost use Rattle.pp_rules.specs.Costs.{Costs};
 ghost use Rattle.pp_rules.specs.Stepping.{Does, JudgesPull};
 
 use crate::detail::{Detail, Judged, Refusal, bare, swap_detail};
-use crate::find::{first_not_before, other_at};
+use crate::find::other_at;
 use crate::machine::{Machine, Outcome};
 use pp_core::{LocalEntry, Mark, Name, OutOfMemory, SharedEntry, Ticks};
-use pp_spec::Placed;
+use pp_parts::Parted;
 use std::sync::ledger::Ledger;
 
-impl<S: Placed> Machine<S> {
+impl<S: Parted> Machine<S> {
     /// The entry that PULL takes over, or the refusal by its first false criterion. The only error
     /// is that memory was refused.
     fn judge_pull(&self, tx: &Name, id: u32) -> Judged<SharedEntry<S::Op>, S::Op>
@@ -33,9 +33,8 @@ impl<S: Placed> Machine<S> {
                 detail: Detail::Gives { id, answer },
             }));
         }
-        let entries = local.entries();
-        if let Some(k) = first_not_before::<S>(entries, &post.op) {
-            let own = &entries[k];
+        if let Some(k) = local.first_not_before(&post.op) {
+            let own = &local.entries()[k];
             let detail = swap_detail::<S>(self.alloc, own.id, &own.op, &post.op)?;
             return Ok(Err(Refusal {
                 criterion: 5,

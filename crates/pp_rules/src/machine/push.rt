@@ -5,13 +5,13 @@ ghost use Rattle.pp_rules.specs.Costs.{Costs};
 ghost use Rattle.pp_rules.specs.Stepping.{Does, JudgesPush};
 
 use crate::detail::{Detail, Judged, Refusal, bare, swap_detail};
-use crate::find::{first_holding_back, marked_at};
+use crate::find::marked_at;
 use crate::machine::{Machine, Outcome};
 use pp_core::{LocalEntry, Mark, Name, OutOfMemory, SharedEntry, Ticks};
-use pp_spec::Placed;
+use pp_parts::Parted;
 use std::sync::ledger::Ledger;
 
-impl<S: Placed> Machine<S> {
+impl<S: Parted> Machine<S> {
     /// The entry that PUSH publishes, and where it stands in the local log, or the refusal by its
     /// first false criterion. The only error is that memory was refused.
     fn judge_push(&self, tx: &Name, id: u32) -> Judged<(usize, LocalEntry<S::Op>), S::Op>
@@ -24,9 +24,8 @@ impl<S: Placed> Machine<S> {
             return Ok(Err(bare(2)));
         };
         let op = &entry.op;
-        let before = &local.entries()[..i];
-        if let Some(k) = first_holding_back::<S>(before, op) {
-            let own = &before[k];
+        if let Some(k) = local.first_holding_back(i, op) {
+            let own = &local.entries()[k];
             let detail = swap_detail::<S>(self.alloc, own.id, op, &own.op)?;
             return Ok(Err(Refusal {
                 criterion: 3,

@@ -6,9 +6,9 @@ ghost use Rattle.pp_rules.specs.Stepping.{Judges, Stepped};
 use crate::detail::{Detail, Refusal, bare};
 use crate::machine::{Machine, Outcome};
 use pp_core::Name;
-use pp_spec::Placed;
+use pp_parts::Parted;
 
-impl<S: Placed> Machine<S> {
+impl<S: Parted> Machine<S> {
     /// Whether QUIT may be done, or the refusal by its first false criterion.
     fn judge_quit(&self, tx: &Name) -> Result<(), Refusal<S::Op>>
         ensures { Judges S.object self.now (Quit tx.now) (λ _. Unit {0}) result }

@@ -8,10 +8,10 @@ use crate::detail::{Refusal, bare};
 use crate::find::last_unpushed;
 use crate::machine::{Machine, Outcome};
 use pp_core::{Name, OutOfMemory, Ticks};
-use pp_spec::Placed;
+use pp_parts::Parted;
 use std::sync::ledger::Ledger;
 
-impl<S: Placed> Machine<S> {
+impl<S: Parted> Machine<S> {
     /// Where the entry stands that UNAPP drops, or the refusal by its first false criterion.
     fn judge_unapp(&self, tx: &Name, id: u32) -> Result<usize, Refusal<S::Op>>
         ensures { JudgesUnapp S.object self.now tx.now id result }

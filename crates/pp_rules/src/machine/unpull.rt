@@ -9,10 +9,10 @@ use crate::find::marked_at;
 use crate::machine::{Machine, Outcome};
 use pp_core::{Mark, Name, OutOfMemory, Ticks};
 use pp_local::Removed;
-use pp_spec::Placed;
+use pp_parts::Parted;
 use std::sync::ledger::Ledger;
 
-impl<S: Placed> Machine<S> {
+impl<S: Parted> Machine<S> {
     /// Where the entry stands that UNPULL takes out, or the refusal by its first false criterion.
     /// The last criterion, that the local log is allowed without the entry, is not asked here.
     fn judge_unpull(&self, tx: &Name, id: u32) -> Result<usize, Refusal<S::Op>>

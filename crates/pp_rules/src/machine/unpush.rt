@@ -5,14 +5,14 @@ ghost use Rattle.pp_rules.specs.Costs.{Costs, at_most};
 ghost use Rattle.pp_rules.specs.Stepping.{Does, JudgesUnpush};
 
 use crate::detail::{Detail, Judged, Refusal, bare, swap_detail};
-use crate::find::{first_staying_behind, marked_at};
+use crate::find::marked_at;
 use crate::machine::{Machine, Outcome};
 use pp_core::{Mark, Name, OutOfMemory, Ticks};
+use pp_parts::Parted;
 use pp_shared::Removed;
-use pp_spec::Placed;
 use std::sync::ledger::Ledger;
 
-impl<S: Placed> Machine<S> {
+impl<S: Parted> Machine<S> {
     /// Where the entry that UNPUSH takes back stands in the local and in the shared log, or the
     /// refusal by its first false criterion. The last criterion, that the shared log is allowed
     /// without the entry, is not asked here. The only error is that memory was refused.
@@ -25,9 +25,8 @@ impl<S: Placed> Machine<S> {
         let Some((i, entry)) = marked_at(local, id, Mark::Pushed) else {
             return Ok(Err(bare(2)));
         };
-        let after = &local.entries()[i + 1..];
-        if let Some(k) = first_staying_behind::<S>(after, &entry.op) {
-            let own = &after[k];
+        if let Some(k) = local.first_staying_behind(i, &entry.op) {
+            let own = &local.entries()[k];
             let detail = swap_detail::<S>(self.alloc, own.id, &own.op, &entry.op)?;
             return Ok(Err(Refusal {
                 criterion: 3,

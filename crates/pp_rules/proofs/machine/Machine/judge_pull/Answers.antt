@@ -1,4 +1,4 @@
-use Rattle.std.proofs.Common.{ap, ◌∙◌, ◌++◌, ◌∷◌, [], ◌==◌, sym, subst, IsTrue}
+use Rattle.std.proofs.Common.{ap, refl, ◌∙◌, ◌++◌, ◌∷◌, [], ◌==◌, sym, subst, IsTrue}
 use Rattle.std.proofs.lemmas.Bool.{eqb-true}
 use Rattle.pp_log.specs.Logs.{answer_behind}
 use Rattle.pp_model.specs.Config.{local_ops}
@@ -6,7 +6,7 @@ use Rattle.pp_rules.specs.declared.detail.Detail.TheVariants.{Gives}
 use Rattle.pp_model.proofs.Logs.{found_other}
 use Rattle.pp_spec.specs.Object.{IsAllowed}
 use Rattle.pp_rules.proofs.Finding.{a_place, decided, decided_not, no_place, place_in, not_placed}
-use Rattle.pp_rules.proofs.Finding.{read_found}
+use Rattle.pp_rules.proofs.Finding.{found_within, read_place}
 use Rattle.pp_rules.proofs.Judged.{of_other_is}
 use Rattle.pp_rules.proofs.Judging.{pull_1, pull_2, pull_3, pull_4, pull_5, pull_0}
 use Rattle.pp_rules.proofs.Opened.{fits_local, fits_shared, logged, ranged_local, ranged_shared}
@@ -51,13 +51,17 @@ returns-then-not-legal g c =
     (Gives c.args.id c.gives-answer.result)
     (ap (Gives c.args.id) (c.gives-answer.ensures ∙ ap (λ sh. answer_behind g.S.Spec.object sh (local_ops c.in-Some.local.now.1) p.op) (r.fine).same_shape))
 
+pub bounds-entries-k : goal.bounds-entries-k
+bounds-entries-k g c =
+    found_within _ c.entries.result.now c.in-Some.local.now.1 c.entries.ensures c.in-Some-first_not_before.k (sym c.in-Some-first_not_before.ensures)
+
 pub swap_detail-requires-clause-first : goal.swap_detail-requires-clause-first
 swap_detail-requires-clause-first g c =
     let r = logged g.S.Spec.object c.self.inside.shape c.self.inside.transactions c.self.inside.ids.keys c.self.inside.shared c.self.inside.committed c.self.inside.count c.self.invariant c.args.tx.now c.in-Some.local.now c.in-Some.ensures in
     let p = c.in-Some-other_at.post in
     let fit = fits_local g.S.Spec.object c.self.inside.shape c.self.inside.transactions c.self.inside.ids.keys c.self.inside.shared c.self.inside.committed c.self.inside.count c.self.invariant g.met.S.Spec.lawful c.args.tx.now c.in-Some.local.now r in
-    let here = read_found _ _ _ _ (sym c.in-Some-first_not_before.ensures) c.index-entries-k.is in
-    let q = not_before g.S.Spec.object g.met.S.Spec.lawful c.self.inside.shape c.in-Some.local.now.1 p.op c.entries-entries.result.now c.entries-entries.ensures c.in-Some-first_not_before.k c.index-entries-k.result fit (fits_shared g.S.Spec.object c.self.inside.shape c.self.inside.transactions c.self.inside.ids.keys c.self.inside.shared c.self.inside.committed c.self.inside.count c.self.invariant g.met.S.Spec.lawful p (found_other c.args.tx.now c.args.id _ _ (sym c.in-Some-other_at.ensures)).0) (sym c.in-Some-first_not_before.ensures) here in
+    let here = read_place _ c.entries.result.now c.in-Some.local.now.1 c.entries.ensures c.in-Some-first_not_before.k c.index-entries-k.result (sym c.in-Some-first_not_before.ensures) c.index-entries-k.is in
+    let q = not_before g.S.Spec.object g.met.S.Spec.lawful c.self.inside.shape c.in-Some.local.now.1 p.op c.in-Some.local.now.1 refl c.in-Some-first_not_before.k c.index-entries-k.result fit (fits_shared g.S.Spec.object c.self.inside.shape c.self.inside.transactions c.self.inside.ids.keys c.self.inside.shared c.self.inside.committed c.self.inside.count c.self.invariant g.met.S.Spec.lawful p (found_other c.args.tx.now c.args.id _ _ (sym c.in-Some-other_at.ensures)).0) (sym c.in-Some-first_not_before.ensures) here in
     ranged_local g.S.Spec.object c.self.inside.shape c.self.inside.transactions c.self.inside.ids.keys c.self.inside.shared c.self.inside.committed c.self.inside.count c.self.invariant c.args.tx.now c.in-Some.local.now r c.index-entries-k.result q.0
 
 pub swap_detail-requires-clause-second : goal.swap_detail-requires-clause-second
@@ -70,17 +74,17 @@ returns-in-Some-first_not_before g c =
     let r = logged g.S.Spec.object c.self.inside.shape c.self.inside.transactions c.self.inside.ids.keys c.self.inside.shared c.self.inside.committed c.self.inside.count c.self.invariant c.args.tx.now c.in-Some.local.now c.in-Some.ensures in
     let p = c.in-Some-other_at.post in
     let fit = fits_local g.S.Spec.object c.self.inside.shape c.self.inside.transactions c.self.inside.ids.keys c.self.inside.shared c.self.inside.committed c.self.inside.count c.self.invariant g.met.S.Spec.lawful c.args.tx.now c.in-Some.local.now r in
-    let here = read_found _ _ _ _ (sym c.in-Some-first_not_before.ensures) c.index-entries-k.is in
-    let q = not_before g.S.Spec.object g.met.S.Spec.lawful c.self.inside.shape c.in-Some.local.now.1 p.op c.entries-entries.result.now c.entries-entries.ensures c.in-Some-first_not_before.k c.index-entries-k.result fit (fits_shared g.S.Spec.object c.self.inside.shape c.self.inside.transactions c.self.inside.ids.keys c.self.inside.shared c.self.inside.committed c.self.inside.count c.self.invariant g.met.S.Spec.lawful p (found_other c.args.tx.now c.args.id _ _ (sym c.in-Some-other_at.ensures)).0) (sym c.in-Some-first_not_before.ensures) here in
+    let here = read_place _ c.entries.result.now c.in-Some.local.now.1 c.entries.ensures c.in-Some-first_not_before.k c.index-entries-k.result (sym c.in-Some-first_not_before.ensures) c.index-entries-k.is in
+    let q = not_before g.S.Spec.object g.met.S.Spec.lawful c.self.inside.shape c.in-Some.local.now.1 p.op c.in-Some.local.now.1 refl c.in-Some-first_not_before.k c.index-entries-k.result fit (fits_shared g.S.Spec.object c.self.inside.shape c.self.inside.transactions c.self.inside.ids.keys c.self.inside.shared c.self.inside.committed c.self.inside.count c.self.invariant g.met.S.Spec.lawful p (found_other c.args.tx.now c.args.id _ _ (sym c.in-Some-other_at.ensures)).0) (sym c.in-Some-first_not_before.ensures) here in
     pull_5 g.S.Spec.object _ _ c.self.view_is c.args.tx.now c.args.id _ p c.index-entries-k.result r.is (sym c.in-Some-other_at.ensures) (not_placed c.in-Some.local.now.1 c.args.id (sym c.find.ensures ∙ no_place c.find.result c.is_some.result c.is_some.ensures c.if-is_some.false)) (subst (λ sh. IsAllowed g.S.Spec.object sh (local_ops c.in-Some.local.now.1 ++ p.op ∷ [])) (r.fine).same_shape (decided c.legal.result _ c.legal.ensures c.if-not-legal.false)) q.0 q.1 q.2
     c.in_ok-detail.detail
-    (c.in_ok-detail.ensures ∙ before_shown g.S.Spec.object g.met.S.Spec.lawful c.self.inside.shape c.in-Some.local.now.1 p.op c.entries-entries.result.now c.entries-entries.ensures c.in-Some-first_not_before.k c.index-entries-k.result (sym c.in-Some-first_not_before.ensures) here)
+    (c.in_ok-detail.ensures ∙ before_shown g.S.Spec.object g.met.S.Spec.lawful c.self.inside.shape c.in-Some.local.now.1 p.op c.in-Some.local.now.1 refl c.in-Some-first_not_before.k c.index-entries-k.result (sym c.in-Some-first_not_before.ensures) here)
 
 pub returns : goal.returns
 returns g c =
     let r = logged g.S.Spec.object c.self.inside.shape c.self.inside.transactions c.self.inside.ids.keys c.self.inside.shared c.self.inside.committed c.self.inside.count c.self.invariant c.args.tx.now c.in-Some.local.now c.in-Some.ensures in
     let p = c.in-Some-other_at.post in (
       pull_0 g.S.Spec.object _ _ c.self.view_is c.args.tx.now c.args.id _ p r.is (sym c.in-Some-other_at.ensures) (not_placed c.in-Some.local.now.1 c.args.id (sym c.find.ensures ∙ no_place c.find.result c.is_some.result c.is_some.ensures c.if-is_some.false)) (subst (λ sh. IsAllowed g.S.Spec.object sh (local_ops c.in-Some.local.now.1 ++ p.op ∷ [])) (r.fine).same_shape (decided c.legal.result _ c.legal.ensures c.if-not-legal.false))
-          (own_before g.S.Spec.object g.met.S.Spec.lawful c.self.inside.shape c.in-Some.local.now.1 p.op c.entries-entries.result.now c.entries-entries.ensures (sym c.in_default-first_not_before.ensures)),
+          (own_before g.S.Spec.object g.met.S.Spec.lawful c.self.inside.shape c.in-Some.local.now.1 p.op c.in-Some.local.now.1 refl (sym c.in_default-first_not_before.ensures)),
       of_other_is g.S.Spec.object c.self.inside.shape c.self.inside.transactions c.self.inside.ids.keys c.self.inside.shared c.self.inside.committed c.self.inside.count c.self.invariant _ c.self.view_is c.args.tx.now c.args.id p (sym c.in-Some-other_at.ensures),
     )

@@ -1,6 +1,5 @@
-use Rattle.std.proofs.Common.{◌∙◌, ◌++◌, ◌∷◌, [], arith, ◌<◌, take, length, slice_get, sym, ap}
+use Rattle.std.proofs.Common.{◌∙◌, ◌++◌, ◌∷◌, [], arith, ◌<◌, take, length, slice_get, sym, ap, refl}
 use Rattle.std.proofs.Common.{subst, IsTrue}
-use Rattle.std.proofs.lemmas.List.{length-take-le}
 use Rattle.pp_log.specs.Logs.{answer_behind}
 use Rattle.pp_log.proofs.Lists.{stands_in}
 use Rattle.pp_model.specs.Config.{shared_ops}
@@ -8,7 +7,8 @@ use Rattle.pp_model.proofs.Lists.{before_in_first}
 use Rattle.pp_spec.specs.Object.{IsAllowed}
 use Rattle.pp_rules.specs.declared.detail.Detail.TheVariants.{Gives, Nothing}
 use Rattle.pp_rules.specs.Evidence.{swap_or}
-use Rattle.pp_rules.proofs.Finding.{decided, decided_not, read_found, read_there, slice_within}
+use Rattle.pp_rules.proofs.Finding.{decided, decided_not, read_taken, read_there, slice_within}
+use Rattle.pp_rules.proofs.Finding.{taken_within}
 use Rattle.pp_rules.proofs.Judged.{is_at}
 use Rattle.pp_rules.proofs.Judging.{push_1, push_2, push_3, push_4, push_5, push_0}
 use Rattle.pp_rules.proofs.Opened.{distinct, fits_local, fits_shared, logged, ranged_local}
@@ -30,11 +30,17 @@ returns-in_default-marked_at g c =
     let r = logged g.S.Spec.object c.self.inside.shape c.self.inside.transactions c.self.inside.ids.keys c.self.inside.shared c.self.inside.committed c.self.inside.count c.self.invariant c.args.tx.now c.in-Some.local.now c.in-Some.ensures in
     push_2 g.S.Spec.object _ _ c.self.view_is c.args.tx.now c.args.id _ r.is (sym c.in_default-marked_at.ensures.entry) c.bare-in_default-marked_at.result c.bare-in_default-marked_at.ensures
 
-pub slice_bounds-before-end : goal.slice_bounds-before-end
-slice_bounds-before-end g c =
-    let w = slice_within c.in-Some.local.now.1 c.in-Some-marked_at.i c.in-Some-marked_at.entry c.in-Some-marked_at.ensures.place in
-    let m : c.in-Some-marked_at.i < length c.entries.result.now = subst (λ l. c.in-Some-marked_at.i < length l) (sym c.entries.ensures) w in
-    sym (length-take-le c.in-Some-marked_at.i c.entries.result.now (omega (arith, m)))
+pub first_holding_back-requires : goal.first_holding_back-requires
+first_holding_back-requires g c =
+    let w = slice_within c.in-Some.local.now.1 c.in-Some-marked_at.i c.in-Some-marked_at.entry c.in-Some-marked_at.ensures.place in omega (arith, w)
+
+pub offset_bounds-entries-k : goal.offset_bounds-entries-k
+offset_bounds-entries-k g c =
+    let w = taken_within _ c.entries.result.now c.in-Some.local.now.1 c.entries.ensures c.in-Some-marked_at.i c.in-Some-first_holding_back.k (sym c.in-Some-first_holding_back.ensures) in omega (arith, w)
+
+pub bounds-entries-k : goal.bounds-entries-k
+bounds-entries-k g c =
+    taken_within _ c.entries.result.now c.in-Some.local.now.1 c.entries.ensures c.in-Some-marked_at.i c.in-Some-first_holding_back.k (sym c.in-Some-first_holding_back.ensures)
 
 pub swap_detail-requires-clause-first : goal.swap_detail-requires-clause-first
 swap_detail-requires-clause-first g c =
@@ -46,29 +52,27 @@ pub swap_detail-requires-clause-second : goal.swap_detail-requires-clause-second
 swap_detail-requires-clause-second g c =
     let r = logged g.S.Spec.object c.self.inside.shape c.self.inside.transactions c.self.inside.ids.keys c.self.inside.shared c.self.inside.committed c.self.inside.count c.self.invariant c.args.tx.now c.in-Some.local.now c.in-Some.ensures in
     let p = c.in-Some-marked_at.entry in
-    let before = ap (take c.in-Some-marked_at.i) c.entries.ensures in
     let fit = fits_local g.S.Spec.object c.self.inside.shape c.self.inside.transactions c.self.inside.ids.keys c.self.inside.shared c.self.inside.committed c.self.inside.count c.self.invariant g.met.S.Spec.lawful c.args.tx.now c.in-Some.local.now r in
-    let q = own_not g.S.Spec.object g.met.S.Spec.lawful c.self.inside.shape c.in-Some.local.now.1 c.in-Some-marked_at.i p c.in-Some-marked_at.ensures.place (take c.in-Some-marked_at.i c.entries.result.now) c.in-Some-first_holding_back.k c.index-before-k.result fit (fit p (stands_in c.in-Some.local.now.1 c.in-Some-marked_at.i p c.in-Some-marked_at.ensures.place)) before (sym c.in-Some-first_holding_back.ensures) (read_found _ _ _ _ (sym c.in-Some-first_holding_back.ensures) c.index-before-k.is) in
-    ranged_local g.S.Spec.object c.self.inside.shape c.self.inside.transactions c.self.inside.ids.keys c.self.inside.shared c.self.inside.committed c.self.inside.count c.self.invariant c.args.tx.now c.in-Some.local.now r c.index-before-k.result (before_in_first c.index-before-k.result p c.in-Some.local.now.1 q.0)
+    let q = own_not g.S.Spec.object g.met.S.Spec.lawful c.self.inside.shape c.in-Some.local.now.1 c.in-Some-marked_at.i p c.in-Some-marked_at.ensures.place (take c.in-Some-marked_at.i c.in-Some.local.now.1) c.in-Some-first_holding_back.k c.index-entries-k.result fit (fit p (stands_in c.in-Some.local.now.1 c.in-Some-marked_at.i p c.in-Some-marked_at.ensures.place)) refl (sym c.in-Some-first_holding_back.ensures) (read_taken _ c.entries.result.now c.in-Some.local.now.1 c.entries.ensures c.in-Some-marked_at.i c.in-Some-first_holding_back.k c.index-entries-k.result (sym c.in-Some-first_holding_back.ensures) c.index-entries-k.is) in
+    ranged_local g.S.Spec.object c.self.inside.shape c.self.inside.transactions c.self.inside.ids.keys c.self.inside.shared c.self.inside.committed c.self.inside.count c.self.invariant c.args.tx.now c.in-Some.local.now r c.index-entries-k.result (before_in_first c.index-entries-k.result p c.in-Some.local.now.1 q.0)
 
 pub returns-in-Some-first_holding_back : goal.returns-in-Some-first_holding_back
 returns-in-Some-first_holding_back g c =
     let r = logged g.S.Spec.object c.self.inside.shape c.self.inside.transactions c.self.inside.ids.keys c.self.inside.shared c.self.inside.committed c.self.inside.count c.self.invariant c.args.tx.now c.in-Some.local.now c.in-Some.ensures in
     let p = c.in-Some-marked_at.entry in
-    let before = ap (take c.in-Some-marked_at.i) c.entries.ensures in
     let fit = fits_local g.S.Spec.object c.self.inside.shape c.self.inside.transactions c.self.inside.ids.keys c.self.inside.shared c.self.inside.committed c.self.inside.count c.self.invariant g.met.S.Spec.lawful c.args.tx.now c.in-Some.local.now r in
-    let q = own_not g.S.Spec.object g.met.S.Spec.lawful c.self.inside.shape c.in-Some.local.now.1 c.in-Some-marked_at.i p c.in-Some-marked_at.ensures.place (take c.in-Some-marked_at.i c.entries.result.now) c.in-Some-first_holding_back.k c.index-before-k.result fit (fit p (stands_in c.in-Some.local.now.1 c.in-Some-marked_at.i p c.in-Some-marked_at.ensures.place)) before (sym c.in-Some-first_holding_back.ensures) (read_found _ _ _ _ (sym c.in-Some-first_holding_back.ensures) c.index-before-k.is) in
-    push_3 g.S.Spec.object _ _ c.self.view_is c.args.tx.now c.args.id _ p c.index-before-k.result r.is (sym c.in-Some-marked_at.ensures.entry) q.0 q.1 q.2 c.in_ok-detail.detail
-    (c.in_ok-detail.ensures ∙ own_shown g.S.Spec.object g.met.S.Spec.lawful c.self.inside.shape c.in-Some.local.now.1 c.in-Some-marked_at.i p c.in-Some-marked_at.ensures.place (take c.in-Some-marked_at.i c.entries.result.now) c.in-Some-first_holding_back.k c.index-before-k.result c.args.id before (sym c.in-Some-first_holding_back.ensures) (read_found _ _ _ _ (sym c.in-Some-first_holding_back.ensures) c.index-before-k.is) c.in-Some-marked_at.ensures.found)
+    let q = own_not g.S.Spec.object g.met.S.Spec.lawful c.self.inside.shape c.in-Some.local.now.1 c.in-Some-marked_at.i p c.in-Some-marked_at.ensures.place (take c.in-Some-marked_at.i c.in-Some.local.now.1) c.in-Some-first_holding_back.k c.index-entries-k.result fit (fit p (stands_in c.in-Some.local.now.1 c.in-Some-marked_at.i p c.in-Some-marked_at.ensures.place)) refl (sym c.in-Some-first_holding_back.ensures) (read_taken _ c.entries.result.now c.in-Some.local.now.1 c.entries.ensures c.in-Some-marked_at.i c.in-Some-first_holding_back.k c.index-entries-k.result (sym c.in-Some-first_holding_back.ensures) c.index-entries-k.is) in
+    push_3 g.S.Spec.object _ _ c.self.view_is c.args.tx.now c.args.id _ p c.index-entries-k.result r.is (sym c.in-Some-marked_at.ensures.entry) q.0 q.1 q.2 c.in_ok-detail.detail
+    (c.in_ok-detail.ensures ∙ own_shown g.S.Spec.object g.met.S.Spec.lawful c.self.inside.shape c.in-Some.local.now.1 c.in-Some-marked_at.i p c.in-Some-marked_at.ensures.place (take c.in-Some-marked_at.i c.in-Some.local.now.1) c.in-Some-first_holding_back.k c.index-entries-k.result c.args.id refl (sym c.in-Some-first_holding_back.ensures) (read_taken _ c.entries.result.now c.in-Some.local.now.1 c.entries.ensures c.in-Some-marked_at.i c.in-Some-first_holding_back.k c.index-entries-k.result (sym c.in-Some-first_holding_back.ensures) c.index-entries-k.is) c.in-Some-marked_at.ensures.found)
 
-pub offset_bounds-entries-k : goal.offset_bounds-entries-k
-offset_bounds-entries-k g c =
+pub offset_bounds-entries-k-in-Some-blocking : goal.offset_bounds-entries-k-in-Some-blocking
+offset_bounds-entries-k-in-Some-blocking g c =
     let b = c.in-Some-blocking.ensures.some in
     let w = slice_within c.self.inside.shared.1 c.in-Some-blocking.k b.entry b.is in
     let m : c.in-Some-blocking.k < length c.entries-in-Some-blocking.result.now = subst (λ l. c.in-Some-blocking.k < length l) (sym c.entries-in-Some-blocking.ensures) w in omega (arith, m)
 
-pub bounds-entries-k : goal.bounds-entries-k
-bounds-entries-k g c =
+pub bounds-entries-k-in-Some-blocking : goal.bounds-entries-k-in-Some-blocking
+bounds-entries-k-in-Some-blocking g c =
     let b = c.in-Some-blocking.ensures.some in
     let w = slice_within c.self.inside.shared.1 c.in-Some-blocking.k b.entry b.is in
     subst (λ l. c.in-Some-blocking.k < length l) (sym c.entries-in-Some-blocking.ensures) w
@@ -76,7 +80,7 @@ bounds-entries-k g c =
 pub swap_detail-requires-in-Some-blocking-clause-first : goal.swap_detail-requires-in-Some-blocking-clause-first
 swap_detail-requires-in-Some-blocking-clause-first g c =
     let b = c.in-Some-blocking.ensures.some in
-    let u = read_there c.entries-in-Some-blocking.result.now c.in-Some-blocking.k c.index-entries-k.result b.entry (ap (λ l. slice_get l c.in-Some-blocking.k) c.entries-in-Some-blocking.ensures ∙ b.is) c.index-entries-k.is in
+    let u = read_there c.entries-in-Some-blocking.result.now c.in-Some-blocking.k c.index-entries-k-in-Some-blocking.result b.entry (ap (λ l. slice_get l c.in-Some-blocking.k) c.entries-in-Some-blocking.ensures ∙ b.is) c.index-entries-k-in-Some-blocking.is in
     let inside = stands_in c.self.inside.shared.1 c.in-Some-blocking.k b.entry b.is in
     subst (λ z. IsTrue (g.S.Spec.object.ranged z.op)) u (ranged_shared g.S.Spec.object c.self.inside.shape c.self.inside.transactions c.self.inside.ids.keys c.self.inside.shared c.self.inside.committed c.self.inside.count c.self.invariant b.entry inside)
 
@@ -90,11 +94,10 @@ pub returns-in-Some-blocking : goal.returns-in-Some-blocking
 returns-in-Some-blocking g c =
     let r = logged g.S.Spec.object c.self.inside.shape c.self.inside.transactions c.self.inside.ids.keys c.self.inside.shared c.self.inside.committed c.self.inside.count c.self.invariant c.args.tx.now c.in-Some.local.now c.in-Some.ensures in
     let p = c.in-Some-marked_at.entry in
-    let before = ap (take c.in-Some-marked_at.i) c.entries.ensures in
     let b = c.in-Some-blocking.ensures.some in
-    let u = read_there c.entries-in-Some-blocking.result.now c.in-Some-blocking.k c.index-entries-k.result b.entry (ap (λ l. slice_get l c.in-Some-blocking.k) c.entries-in-Some-blocking.ensures ∙ b.is) c.index-entries-k.is in
+    let u = read_there c.entries-in-Some-blocking.result.now c.in-Some-blocking.k c.index-entries-k-in-Some-blocking.result b.entry (ap (λ l. slice_get l c.in-Some-blocking.k) c.entries-in-Some-blocking.ensures ∙ b.is) c.index-entries-k-in-Some-blocking.is in
     let inside = stands_in c.self.inside.shared.1 c.in-Some-blocking.k b.entry b.is in
-    push_4 g.S.Spec.object _ _ c.self.view_is c.args.tx.now c.args.id _ p b.entry r.is (sym c.in-Some-marked_at.ensures.entry) (own_swap g.S.Spec.object g.met.S.Spec.lawful c.self.inside.shape c.in-Some.local.now.1 c.in-Some-marked_at.i p c.in-Some-marked_at.ensures.place (take c.in-Some-marked_at.i c.entries.result.now) (distinct g.S.Spec.object c.self.inside.shape c.self.inside.transactions c.self.inside.ids.keys c.self.inside.shared c.self.inside.committed c.self.inside.count c.self.invariant c.args.tx.now c.in-Some.local.now r) before (sym c.in_default-first_holding_back.ensures)) inside b.blocks.uncommitted b.blocks.other
+    push_4 g.S.Spec.object _ _ c.self.view_is c.args.tx.now c.args.id _ p b.entry r.is (sym c.in-Some-marked_at.ensures.entry) (own_swap g.S.Spec.object g.met.S.Spec.lawful c.self.inside.shape c.in-Some.local.now.1 c.in-Some-marked_at.i p c.in-Some-marked_at.ensures.place (take c.in-Some-marked_at.i c.in-Some.local.now.1) (distinct g.S.Spec.object c.self.inside.shape c.self.inside.transactions c.self.inside.ids.keys c.self.inside.shared c.self.inside.committed c.self.inside.count c.self.invariant c.args.tx.now c.in-Some.local.now r) refl (sym c.in_default-first_holding_back.ensures)) inside b.blocks.uncommitted b.blocks.other
     (b.blocks.stays c.self.inside.shape (fits_shared g.S.Spec.object c.self.inside.shape c.self.inside.transactions c.self.inside.ids.keys c.self.inside.shared c.self.inside.committed c.self.inside.count c.self.invariant g.met.S.Spec.lawful b.entry inside) (fits_local g.S.Spec.object c.self.inside.shape c.self.inside.transactions c.self.inside.ids.keys c.self.inside.shared c.self.inside.committed c.self.inside.count c.self.invariant g.met.S.Spec.lawful c.args.tx.now c.in-Some.local.now r p (stands_in c.in-Some.local.now.1 c.in-Some-marked_at.i p c.in-Some-marked_at.ensures.place)))
     c.in_ok-detail-2.detail
     (c.in_ok-detail-2.ensures ∙ ap (λ z. swap_or z.id (g.S.Spec.object.refuting z.op p.op) Nothing) (sym u) ∙ blocking_shown g.S.Spec.object g.met.S.Spec.lawful c.self.inside.shape c.args.tx.now p.op c.self.inside.shared.1 c.in-Some-blocking.k b)
@@ -115,8 +118,7 @@ pub returns-then-not-legal : goal.returns-then-not-legal
 returns-then-not-legal g c =
     let r = logged g.S.Spec.object c.self.inside.shape c.self.inside.transactions c.self.inside.ids.keys c.self.inside.shared c.self.inside.committed c.self.inside.count c.self.invariant c.args.tx.now c.in-Some.local.now c.in-Some.ensures in
     let p = c.in-Some-marked_at.entry in
-    let before = ap (take c.in-Some-marked_at.i) c.entries.ensures in
-    push_5 g.S.Spec.object _ _ c.self.view_is c.args.tx.now c.args.id _ p r.is (sym c.in-Some-marked_at.ensures.entry) (own_swap g.S.Spec.object g.met.S.Spec.lawful c.self.inside.shape c.in-Some.local.now.1 c.in-Some-marked_at.i p c.in-Some-marked_at.ensures.place (take c.in-Some-marked_at.i c.entries.result.now) (distinct g.S.Spec.object c.self.inside.shape c.self.inside.transactions c.self.inside.ids.keys c.self.inside.shared c.self.inside.committed c.self.inside.count c.self.invariant c.args.tx.now c.in-Some.local.now r) before (sym c.in_default-first_holding_back.ensures)) (λ u i w n. c.in_default-blocking.ensures.none u i w n c.self.inside.shape)
+    push_5 g.S.Spec.object _ _ c.self.view_is c.args.tx.now c.args.id _ p r.is (sym c.in-Some-marked_at.ensures.entry) (own_swap g.S.Spec.object g.met.S.Spec.lawful c.self.inside.shape c.in-Some.local.now.1 c.in-Some-marked_at.i p c.in-Some-marked_at.ensures.place (take c.in-Some-marked_at.i c.in-Some.local.now.1) (distinct g.S.Spec.object c.self.inside.shape c.self.inside.transactions c.self.inside.ids.keys c.self.inside.shared c.self.inside.committed c.self.inside.count c.self.invariant c.args.tx.now c.in-Some.local.now r) refl (sym c.in_default-first_holding_back.ensures)) (λ u i w n. c.in_default-blocking.ensures.none u i w n c.self.inside.shape)
     (λ k. decided_not c.legal.result _ c.legal.ensures c.if-not-legal.true (subst (λ sh. IsAllowed g.S.Spec.object sh (shared_ops c.self.inside.shared.1 ++ p.op ∷ [])) (sym c.self.invariant.shared_shape) k))
     (Gives c.args.id c.gives-answer.result)
     (ap (Gives c.args.id) (c.gives-answer.ensures ∙ ap (λ sh. answer_behind g.S.Spec.object sh (shared_ops c.self.inside.shared.1) p.op) c.self.invariant.shared_shape))
@@ -124,9 +126,8 @@ returns-then-not-legal g c =
 pub returns : goal.returns
 returns g c =
     let r = logged g.S.Spec.object c.self.inside.shape c.self.inside.transactions c.self.inside.ids.keys c.self.inside.shared c.self.inside.committed c.self.inside.count c.self.invariant c.args.tx.now c.in-Some.local.now c.in-Some.ensures in
-    let p = c.in-Some-marked_at.entry in
-    let before = ap (take c.in-Some-marked_at.i) c.entries.ensures in (
-      push_0 g.S.Spec.object _ _ c.self.view_is c.args.tx.now c.args.id _ p r.is (sym c.in-Some-marked_at.ensures.entry) (own_swap g.S.Spec.object g.met.S.Spec.lawful c.self.inside.shape c.in-Some.local.now.1 c.in-Some-marked_at.i p c.in-Some-marked_at.ensures.place (take c.in-Some-marked_at.i c.entries.result.now) (distinct g.S.Spec.object c.self.inside.shape c.self.inside.transactions c.self.inside.ids.keys c.self.inside.shared c.self.inside.committed c.self.inside.count c.self.invariant c.args.tx.now c.in-Some.local.now r) before (sym c.in_default-first_holding_back.ensures)) (λ u i w n. c.in_default-blocking.ensures.none u i w n c.self.inside.shape)
+    let p = c.in-Some-marked_at.entry in (
+      push_0 g.S.Spec.object _ _ c.self.view_is c.args.tx.now c.args.id _ p r.is (sym c.in-Some-marked_at.ensures.entry) (own_swap g.S.Spec.object g.met.S.Spec.lawful c.self.inside.shape c.in-Some.local.now.1 c.in-Some-marked_at.i p c.in-Some-marked_at.ensures.place (take c.in-Some-marked_at.i c.in-Some.local.now.1) (distinct g.S.Spec.object c.self.inside.shape c.self.inside.transactions c.self.inside.ids.keys c.self.inside.shared c.self.inside.committed c.self.inside.count c.self.invariant c.args.tx.now c.in-Some.local.now r) refl (sym c.in_default-first_holding_back.ensures)) (λ u i w n. c.in_default-blocking.ensures.none u i w n c.self.inside.shape)
           (subst (λ sh. IsAllowed g.S.Spec.object sh (shared_ops c.self.inside.shared.1 ++ p.op ∷ [])) c.self.invariant.shared_shape (decided c.legal.result _ c.legal.ensures c.if-not-legal.false)),
       is_at g.S.Spec.object c.self.inside.shape c.self.inside.transactions c.self.inside.ids.keys c.self.inside.shared c.self.inside.committed c.self.inside.count c.self.invariant _ c.self.view_is c.args.tx.now c.args.id _ c.in-Some-marked_at.i p c.in-Some.local.now r (sym c.in-Some-marked_at.ensures.entry) c.in-Some-marked_at.ensures.place,
     )
