@@ -18,6 +18,9 @@ HEADING = "## What the clauses of `run` reach"
 MEANING = "-- Meaning:"
 # The files of memories, sets and maps import it, and no clause speaks of it: their laws are proved from it.
 SHARED_BY_PROOFS = {"pp_keyed/specs/Keys.antt"}
+# Of this file the clauses name what steps cost at most alone, which speaks of steps and configurations. The machine, which it imports too, is
+# for the costs of an answer of the machine.
+NAMED_IN_PART = {"pp_rules/specs/Costs.antt"}
 IMPORT = re.compile(r"^(\s*)(?:pub |ghost )*use Rattle\.(pp_\w+)\.specs\.([\w.]+)", re.MULTILINE)
 
 
@@ -35,6 +38,8 @@ def file_of(crate, path):
 
 def imports(file):
     """The files that a file imports: of the code of a type only those that its view imports."""
+    if str(file.relative_to(ROOT / "crates")) in NAMED_IN_PART:
+        return
     own_lines = file.suffix == ".antt" or file == ENTRY
     for indent, crate, path in IMPORT.findall(file.read_text()):
         if own_lines or indent:

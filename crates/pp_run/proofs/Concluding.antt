@@ -15,9 +15,8 @@ use Rattle.pp_front.specs.Inputs.{Accepts, Faulty, IsReportBehind, IsRunReport, 
 use Rattle.pp_front.specs.Inputs.{StepRejected}
 use Rattle.pp_front.specs.Laws.{IsRejectedAt}
 use Rattle.pp_front.specs.Records.{RunRecord}
-use Rattle.pp_front.specs.Runs.{IsRun, Lined, LinedSteps, Records, Standing, bare, joined_steps}
+use Rattle.pp_front.specs.Runs.{IsRun, Lined, LinedSteps, Records, bare, joined_steps}
 use Rattle.pp_front.specs.Runs.{outset}
-use Rattle.pp_front.specs.Fronts.{Front}
 use Rattle.pp_front.proofs.Reading.{reading_law}
 use Rattle.pp_front.proofs.Reporting.{input_law}
 use Rattle.pp_object.specs.Objects.{kinds_of, objects}
@@ -72,7 +71,7 @@ module _ (sc : InputScan) (tally : Tally) (machine : Seen (List Kind) Op) (r : I
   abbrev run : LinedSteps Op
   run = joined_steps (translation_of tally.header) (outset (translation_of tally.header) (start_of tally.header)) sc.records
 
-  committed_are : machine.config.done ≡ map committed_tx (attempts (start_of tally.header) (bare run))
+  pub committed_are : machine.config.done ≡ map committed_tx (attempts (start_of tally.header) (bare run))
   committed_are = ap (λ c. c.done) (config_is sc tally machine r) ∙ finished_are (object_of tally.header) (start_of tally.header) (bare run) r.stands.begun r.stands.hold
 
   pub accepted_told : (count : ℕ) (D : List (CommittedTx Op)) (states : List ObjectState) (text : List ℕ) → count ≡ machine.count → D ≡ machine.config.done

@@ -173,7 +173,7 @@ get_last {A} xs x n is =
 at_shape : (machine : Seen (List Kind) Op) (tally : Tally) (step : Step Op) (n : ℕ) → machine.shape ≡ kinds_of tally.header.catalog → Breaks (rules_of objects machine.shape) machine.config step n → Breaks (object_of tally.header) machine.config step n
 at_shape machine tally step n shape fails = subst (λ (k : List Kind). Breaks (rules_of objects k) machine.config step n) shape fails
 
-abbrev on_record : ℕ → Step Op → Lined (RunRecord Op)
+abbrev pub on_record : ℕ → Step Op → Lined (RunRecord Op)
 on_record line step = record { line = line; what = Plain step }
 
 -- the machine stands where the steps so far lead

@@ -1,9 +1,11 @@
 pub mod Scanning
 pub mod Widening
 pub mod Covering
+pub mod Counting
 pub mod Takers
 pub mod Examining
 pub mod Fitting
 pub mod Naming
 pub mod Concluding
+pub mod Summing
 pub mod Sending

@@ -1,6 +1,6 @@
 -- Lines that come in pieces, taken one after another.
 use Rattle.std.specs.Prelude.{◌≡◌, ◌≤◌, ℕ, ◌+◌, List, [], ◌∷◌, ◌++◌, length, Option, None, Some}
-use Rattle.std.specs.Prelude.{option_map, Result, Ok, Err, IfOk, IfErr, OnOk}
+use Rattle.std.specs.Prelude.{option_map, Result, Ok, Err, IfOk, IsErrOf, OnErr, OnOk}
 use Rattle.std.specs.Io.KnownBytes.{Consumes, IsAtEnd}
 use Rattle.std.proofs.Common.{refl, sym, ap, ◌∙◌, subst, arith, append_assoc}
 use Rattle.std.proofs.lemmas.List.{append-nil}
@@ -17,12 +17,13 @@ use Rattle.pp_io.proofs.Limits.{within_all}
 use Rattle.pp_io.proofs.Reading.{hands_all, hands_finished, hands_front, hands_next, overrun_kept}
 use Rattle.pp_io.proofs.Reading.{scanned_front, scanned_kept, took_bytes, took_fed, took_overrun}
 use Rattle.pp_report.specs.declared.cause.Cause.{Cause}
+use Rattle.pp_run.specs.declared.stop.Failure.TheVariants as failures
 use Rattle.pp_run.specs.declared.stop.Stop.{Stop}
 use Rattle.pp_run.specs.declared.stop.Stop.TheVariants as stops
 use Rattle.pp_run.specs.Inputs.{cause_of_limit, limit_fault}
-use Rattle.pp_run.specs.Takers.{Follows, HasEarlyFault, HasFaultBehind, HasInputFault, IfFault}
-use Rattle.pp_run.specs.Takers.{IfInputFault, IsAt, IsNext, LeadsOn, PassesLimit, Reading}
-use Rattle.pp_run.specs.Takers.{ReadsSoFar}
+use Rattle.pp_run.specs.Takers.{CountsEarly, CountsTo, Follows, HasEarlyFault, HasFaultBehind}
+use Rattle.pp_run.specs.Takers.{HasInputFault, IfFault, IfInputFault, IsAt, IsNext, LeadsOn}
+use Rattle.pp_run.specs.Takers.{PassesLimit, Reading, ReadsSoFar, StopsWith}
 
 -- ---- line by line
 
@@ -55,6 +56,31 @@ module _ {T : Type 0} (R : Reading T) (all : List NumberedLine) (held : Held) (t
   pub follows_done : held.whole ≡ [] → R.Leads all taker
   follows_done none = subst (λ ls. R.Leads ls taker) (follows_all none) f.2
 
+-- ---- what the counter shows
+
+module _ {T : Type 0} (R : Reading (T × ℕ)) where
+  -- all of them were taken
+  pub counts_all : (lines : List NumberedLine) (taker : T) (now : ℕ) → R.Leads lines (taker, now) → CountsTo R lines now
+  counts_all lines taker now leads = (lines, [], sym (append-nil lines), inl (taker, leads))
+
+  -- the next one is not taken
+  pub follows_stop : (all : List NumberedLine) (held : Held) (taker : T × ℕ) (line : NumberedLine) (new : ℕ) → Follows R all held taker → next_line held ≡ Some line → StopsWith R taker line new → CountsTo R all new
+  follows_stop all held taker line new f h stops =
+      let front = hands_front all f.0 line held f.1 h in
+      (f.0 ++ line ∷ [], front.0, front.1 ∙ sym (append_assoc f.0 (line ∷ []) front.0), inr (stops f.0 f.2))
+
+  counts_more : (lines more : List NumberedLine) (new : ℕ) → CountsTo R lines new → CountsTo R (lines ++ more) new
+  counts_more lines more new c = (c.0, c.1 ++ more, ap (λ (ls : List NumberedLine). ls ++ more) c.2 ∙ append_assoc c.0 c.1 more, c.3)
+
+  pub counts_early : (bytes : List ℕ) (new : ℕ) → CountsTo R (early_lines bytes) new → CountsEarly R bytes new
+  counts_early bytes new c left =
+      let front = scanned_front bytes left in
+      subst (λ (ls : List NumberedLine). CountsTo R ls new) (sym front.1) (counts_more (early_lines bytes) front.0 new c)
+
+  -- of more bytes only those before them were taken
+  pub counts_before : (bytes piece : List ℕ) (new : ℕ) → CountsEarly R bytes new → CountsEarly R (bytes ++ piece) new
+  counts_before bytes piece new c left = subst (λ (bs : List ℕ). CountsTo R (scanned_lines bs) new) (sym (append_assoc bytes piece left)) (c (piece ++ left))
+
 -- ---- what was taken
 
 pub consumes_more : (a b c : Option (List ℕ)) (x y : List ℕ) → Consumes a b x → Consumes b c y → Consumes a c (x ++ y)
@@ -74,6 +100,12 @@ pub taken_all : (a b : Option (List ℕ)) (taken bytes : List ℕ) → Consumes 
 taken_all None b taken bytes h end is = absurd (cc)
 taken_all (Some a) None taken bytes h end is = absurd h
 taken_all (Some a) (Some b) taken bytes h end is = let e : a ≡ bytes = cc in sym (append-nil taken) ∙ ap (λ zs. taken ++ zs) (sym end) ∙ sym h ∙ e
+
+-- what holds of the lines whatever comes behind what was taken
+pub taken_lines : (a b : Option (List ℕ)) (taken bytes : List ℕ) (P : List NumberedLine → Type 0) → Consumes a b taken → a ≡ Some bytes → ((left : List ℕ) → P (scanned_lines (taken ++ left))) → P (scanned_lines bytes)
+taken_lines a b taken bytes P h is f =
+    let front = consumed_front a b taken bytes h is in
+    subst (λ (bs : List ℕ). P (scanned_lines bs)) (sym front.1) (f front.0)
 
 -- ---- piece by piece
 
@@ -178,10 +210,23 @@ pub if_input_fault : (stop : Stop) (P Q : ℕ → Cause → Type 0) → ((at : �
 if_input_fault (stops.Fault at cause) P Q f h = f at cause h
 if_input_fault (stops.Failure failure) P Q f h = tt
 
+pub no_read_fault : {T : Type 0} (stop : Stop) (P : ℕ → Cause → Type 0) → IfFault stop P → (r : Result T Stop) → r ≡ Err stop → IsErrOf r (stops.Failure failures.ReadFault) → ⊥
+no_read_fault (stops.Fault at cause) P h r is told = let same : r ≡ Err (stops.Failure failures.ReadFault) = told in cc
+no_read_fault (stops.Failure failure) P h r is told = let refused : failure ≡ failures.OutOfMemory = h in let same : r ≡ Err (stops.Failure failures.ReadFault) = told in cc
+
 pub if_ok_and : {T E : Type 0} (r : Result T E) (P : T → Type 0) (Q : Type 0) (R : T → Type 0) → ((x : T) → P x → Q → R x) → IfOk r P → OnOk r Q → IfOk r R
 if_ok_and (Ok x) P Q R f p q = f x p q
 if_ok_and (Err e) P Q R f p q = tt
 
-pub if_err_fault : {T : Type 0} (r : Result T Stop) (P Q : ℕ → Cause → Type 0) → ((at : ℕ) (cause : Cause) → P at cause → Q at cause) → IfErr r (λ stop. IfFault stop P) → IfErr r (λ stop. IfFault stop Q)
-if_err_fault (Ok x) P Q f h = tt
-if_err_fault (Err stop) P Q f h = if_fault stop P Q f h
+-- two facts of one answer
+pub if_ok_two : {T E : Type 0} (r : Result T E) (P Q R : T → Type 0) → ((x : T) → P x → Q x → R x) → IfOk r P → IfOk r Q → IfOk r R
+if_ok_two (Ok x) P Q R f p q = f x p q
+if_ok_two (Err e) P Q R f p q = tt
+
+pub on_ok : {T E : Type 0} (r : Result T E) (P : Type 0) → P → OnOk r P
+on_ok (Ok x) P p = p
+on_ok (Err e) P p = tt
+
+pub on_err : {T E : Type 0} (r : Result T E) (P : Type 0) → P → OnErr r P
+on_err (Ok x) P p = tt
+on_err (Err e) P p = p

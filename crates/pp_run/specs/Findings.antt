@@ -1,11 +1,13 @@
 -- Proof machinery: what the examination of an input finds.
-use Rattle.std.specs.Prelude.{ℕ, ◌+◌, List, Option, Some}
+use Rattle.std.specs.Prelude.{ℕ, ◌+◌, ◌≤◌, List, Option, Some}
 use Rattle.std.specs.Io.KnownBytes.{Consumes, IsAtEnd}
+use Rattle.pp_model.specs.Config.{but_last}
 use Rattle.pp_report.specs.declared.cause.Cause.TheVariants.{NoHeader}
 use Rattle.pp_run.specs.declared.examine.Finding.{Finding}
 use Rattle.pp_run.specs.declared.examine.Finding.TheVariants as findings
 use Rattle.pp_run.specs.declared.progress.Progress.{Progress}
 use Rattle.pp_run.specs.declared.progress.Progress.TheVariants as progresses
+use Rattle.pp_run.specs.Costs.{OfRun, singles}
 use Rattle.pp_run.specs.Inputs.{IsFaultOf, scan}
 use Rattle.pp_run.specs.Outputs.{WhereTold}
 use Rattle.pp_run.specs.Progresses.{IsRejected, IsRunning}
@@ -29,3 +31,12 @@ Finds old new (findings.Rejected tally rejection) =
     ReadsWhole old new λ sc. IsRejected sc tally rejection
 Finds old new (findings.Accepted tally machine) =
     ReadsWhole old new λ sc. IsRunning sc tally machine
+
+-- the counter rose by one at least for each step that applies or takes back one operation and meets
+-- its criteria, where there is a verdict
+abbrev pub StepsCounted : InputScan → Finding → (old new : ℕ) → Type 0
+StepsCounted sc (findings.Fault line cause) old new = Unit {0}
+StepsCounted sc (findings.Rejected tally rejection) old new =
+    OfRun sc.header sc.records λ start steps. old + singles (but_last steps) ≤ new
+StepsCounted sc (findings.Accepted tally machine) old new =
+    OfRun sc.header sc.records λ start steps. old + singles steps ≤ new

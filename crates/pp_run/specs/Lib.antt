@@ -5,6 +5,7 @@ pub mod Inputs
 pub mod Words
 pub mod Writing
 pub mod Outputs
+pub mod Costs
 pub mod Progresses
 pub mod Takers
 pub mod Findings

@@ -13,7 +13,7 @@ use Rattle.pp_object.specs.declared.act.Op.{Op}
 use Rattle.pp_object.specs.Objects.{kinds_of, objects}
 use Rattle.pp_json.specs.declared.fault.RecordFault.{RecordFault}
 use Rattle.pp_json.specs.declared.header.Header.{Header}
-use Rattle.pp_model.specs.Config.{after}
+use Rattle.pp_model.specs.Config.{after, but_last}
 use Rattle.pp_model.specs.Rules.{Breaks, Meets}
 use Rattle.pp_run.specs.Causes.{cause_of}
 use Rattle.pp_report.specs.declared.cause.Cause.{Cause}
@@ -26,6 +26,7 @@ use Rattle.pp_run.specs.declared.progress.Progress.{Progress}
 use Rattle.pp_run.specs.declared.progress.Progress.TheVariants.{Waiting, Running, Rejected}
 use Rattle.pp_run.specs.declared.progress.Rejection.{Rejection}
 use Rattle.pp_run.specs.declared.progress.Tally.{Tally}
+use Rattle.pp_run.specs.Costs.{OfRun, StepsCostAtMost, singles}
 use Rattle.pp_run.specs.Inputs.{IsFaultOf}
 use Rattle.pp_run.specs.Objects.{object_of, start_of, translation_of}
 use Rattle.pp_run.specs.Scans.{InputScan, nothing, begins, is_begin, scan_lines}
@@ -109,17 +110,32 @@ Covers sc (Waiting lines) = sc ≡ nothing
 Covers sc (Running tally machine) = IsRunning sc tally machine
 Covers sc (Rejected tally rejection) = IsRejected sc tally rejection
 
--- these lines led to here
-pub record Leads (lines : List NumberedLine) (progress : Progress) : Type 0 where
+-- the steps of a run that meet their criteria, where its lines lead to here
+abbrev pub steps_done : Progress → List (Step Op) → List (Step Op)
+steps_done (Waiting lines) steps = steps
+steps_done (Running tally machine) steps = steps
+steps_done (Rejected tally rejection) steps = but_last steps
+
+-- the steps so far raised the counter, and each by what it costs
+pub record Counts (sc : InputScan) (progress : Progress) (old new : ℕ) : Type 0 where
+  pub most : StepsCostAtMost sc old new
+  pub least : OfRun sc.header sc.records λ start steps.
+      old + singles (steps_done progress steps) ≤ new
+
+-- these lines led to here, and raised the counter
+pub record Leads (lines : List NumberedLine) (progress : Progress) (old new : ℕ) : Type 0 where
   pub covers : Covers (scan_lines lines) progress
   pub count : lines_of progress ≡ length lines
   pub few : lines_of progress ≤ MOST_LINES
+  pub counts : Counts (scan_lines lines) progress old new
 
--- where the lines of a run lead to, and which fault they have
-abbrev pub run_reading : Reading Progress
-run_reading = record {
-  Leads = Leads;
+-- where the lines of a run lead to, with what the counter then shows, which fault they have, and
+-- what they cost, by what the counter shows before the first
+abbrev pub run_reading : ℕ → Reading (Progress × ℕ)
+run_reading old = record {
+  Leads = λ lines at. Leads lines at.0 old at.1;
   HasFault = λ lines at cause. IsFaultOf (scan_lines lines) (Some (at, cause));
+  Stops = λ lines new. StepsCostAtMost (scan_lines lines) old new;
 }
 
 -- a record that may not begin another transaction

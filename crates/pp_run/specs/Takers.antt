@@ -14,12 +14,14 @@ use Rattle.pp_run.specs.declared.stop.Stop.{Stop}
 use Rattle.pp_run.specs.declared.stop.Stop.TheVariants as stops
 use Rattle.pp_run.specs.Inputs.{limit_fault}
 
--- where lines lead to, and which fault they have
+-- where lines lead to, which fault they have, and what they cost
 pub record Reading (T : Type 0) : Type 1 where
   -- these lines have no fault, and lead to here
   pub Leads : List NumberedLine → T → Type 0
   -- the first fault of these lines is of this line, with this cause
   pub HasFault : List NumberedLine → ℕ → Cause → Type 0
+  -- all of these lines but the last were taken, and behind it the counter of operations shows this
+  pub Stops : List NumberedLine → ℕ → Type 0
 
 -- a fault of which this holds; the only other stop is that memory was refused
 abbrev pub IfFault : Stop → (ℕ → Cause → Type 0) → Type 0
@@ -52,6 +54,16 @@ abbrev pub StopsAt : {T : Type 0} → Reading T → T → NumberedLine → Stop 
 StopsAt R from line stop = IfFault stop (λ at cause. (lines : List NumberedLine) →
     R.Leads lines from → HasFaultBehind R (lines ++ line ∷ []) at cause)
 
+-- it is not taken, and the counter shows this
+abbrev pub StopsWith : {T : Type 0} → Reading T → T → NumberedLine → ℕ → Type 0
+StopsWith R from line new =
+    (lines : List NumberedLine) → R.Leads lines from → R.Stops (lines ++ line ∷ []) new
+
+-- what the counter shows where some of these lines were taken, from the first on
+abbrev pub CountsTo : {T : Type 0} → Reading (T × ℕ) → List NumberedLine → ℕ → Type 0
+CountsTo {T} R lines new = (front : List NumberedLine) × (back : List NumberedLine)
+    × (lines ≡ front ++ back) × (((taker : T) × R.Leads front (taker, new)) ⊎ R.Stops front new)
+
 -- ---- an input that comes in pieces
 
 -- of these lines those that are not held any more led to here
@@ -80,6 +92,10 @@ HasInputFault R bytes at cause = R.HasFault (scanned_lines bytes) at cause
 abbrev pub HasEarlyFault : {T : Type 0} → Reading T → List ℕ → ℕ → Cause → Type 0
 HasEarlyFault R bytes at cause = HasFaultBehind R (early_lines bytes) at cause
     ⊎ PassesLimit R (early_lines bytes) (overrun bytes) at cause
+
+-- what the counter shows where these bytes were read, whatever bytes come behind them
+abbrev pub CountsEarly : {T : Type 0} → Reading (T × ℕ) → List ℕ → ℕ → Type 0
+CountsEarly R bytes new = (left : List ℕ) → CountsTo R (scanned_lines (bytes ++ left)) new
 
 -- ---- a source
 

@@ -1,12 +1,14 @@
 //! Certifying an input: its status and its report.
-ghost use Rattle.std.specs.Prelude.{◌≡◌, ◌≤◌, ℕ, List, Some, IfOk, IsErrOf, ◌⊎◌};
+ghost use Rattle.std.specs.Prelude.{◌≡◌, ◌≤◌, ◌+◌, ℕ, List, length, Some, IfOk, OnOk, IsErrOf, ◌⊎◌};
 ghost use Rattle.std.specs.Io.KnownBytes.{IsAtEnd};
 ghost use Rattle.pp_core.specs.declared.status.Status.TheVariants as statuses;
 ghost use Rattle.pp_io.specs.Faults.{HasRisen};
 ghost use Rattle.pp_run.specs.declared.stop.Failure.TheVariants.{ReadFault};
+ghost use Rattle.pp_model.specs.Sound.{serial_ops};
 ghost use Rattle.pp_run.specs.Certified.{IsDecided};
-ghost use Rattle.pp_run.specs.Inputs.{ReadsNoFault};
-ghost use Rattle.pp_run.specs.Outputs.{IsCertified, IsRunTold};
+ghost use Rattle.pp_run.specs.Costs.{CostsAtLeast, CostsAtMost};
+ghost use Rattle.pp_run.specs.Inputs.{ReadsNoFault, scan};
+ghost use Rattle.pp_run.specs.Outputs.{IsCertified, IsRunTold, WhereTold};
 ghost use Rattle.pp_run.specs.Progresses.{IsRejected, IsRunning};
 ghost use Rattle.pp_run.specs.Scans.{InputScan};
 
@@ -30,8 +32,11 @@ fn report_accepted<L: Ledger>(
     ticks: &mut Ticks<L>,
 ) -> Result<Text, OutOfMemory>
     requires { (sc : InputScan) × IsRunning sc tally.now machine.now }
-    ensures { IfOk result (λ text. (sc : InputScan) → IsRunning sc tally.now machine.now →
+    ensures report { IfOk result (λ text. (sc : InputScan) → IsRunning sc tally.now machine.now →
         IsRunTold sc statuses.Accepted text) }
+    ensures cost { OnOk result
+        (ticks.new ≡ ticks.old + length (serial_ops machine.now.config.done)) }
+    ensures bound { ticks.new ≤ ticks.old + length (serial_ops machine.now.config.done) }
 {
     let catalog = &tally.header.catalog;
     let kinds = catalog.kinds(alloc)?;
@@ -72,6 +77,10 @@ pub fn certify<S: Source, L: Ledger>(
         HasRisen (S.faults source.old) (S.faults source.new)
         × ReadsNoFault (S.left source.old) (S.left source.new) }
     ensures count { S.faults source.old ≤ S.faults source.new }
+    ensures most { WhereTold (S.left source.old) λ bytes.
+        CostsAtMost (scan bytes) ticks.old ticks.new }
+    ensures least { IfOk result (λ r. IsDecided r.0 → WhereTold (S.left source.old) λ bytes.
+        CostsAtLeast r.0 (scan bytes) ticks.old ticks.new) }
 {
     match examine(alloc, source, ticks)? {
         Finding::Fault(line, cause) => {

@@ -3,8 +3,10 @@ ghost use Rattle.std.specs.Prelude.{◌≡◌, ◌≤◌, IfOk, IsErrOf};
 ghost use Rattle.pp_core.specs.declared.limits.TheConstants.{MOST_LINES};
 ghost use Rattle.pp_io.specs.Faults.{HasRisen};
 ghost use Rattle.pp_run.specs.declared.stop.Failure.TheVariants.{ReadFault};
-ghost use Rattle.pp_run.specs.Findings.{Finds, finding_of};
-ghost use Rattle.pp_run.specs.Inputs.{ReadsNoFault};
+ghost use Rattle.pp_run.specs.Costs.{StepsCostAtMost};
+ghost use Rattle.pp_run.specs.Findings.{Finds, StepsCounted, finding_of};
+ghost use Rattle.pp_run.specs.Inputs.{ReadsNoFault, scan};
+ghost use Rattle.pp_run.specs.Outputs.{WhereTold};
 ghost use Rattle.pp_run.specs.Progresses.{lines_of};
 
 use crate::progress::{Progress, Rejection, Tally};
@@ -52,6 +54,10 @@ pub fn examine<S: Source, L: Ledger>(
         HasRisen (S.faults source.old) (S.faults source.new)
         × ReadsNoFault (S.left source.old) (S.left source.new) }
     ensures count { S.faults source.old ≤ S.faults source.new }
+    ensures most { WhereTold (S.left source.old) λ bytes.
+        StepsCostAtMost (scan bytes) ticks.old ticks.new }
+    ensures least { IfOk result (λ finding. WhereTold (S.left source.old) λ bytes.
+        StepsCounted (scan bytes) finding ticks.old ticks.new) }
 {
     match read_lines(alloc, source, Progress::Waiting(0), ticks) {
         Ok(progress) => Ok(conclude(progress)),

@@ -5,6 +5,7 @@ ghost use Rattle.pp_core.specs.declared.status.Status.TheVariants as statuses;
 ghost use Rattle.pp_io.specs.Faults.{HasRisen};
 ghost use Rattle.pp_run.specs.declared.words.Command.TheVariants.{Certify};
 ghost use Rattle.pp_run.specs.Certified.{IsDecided, IsPrinted, IsUnwritten};
+ghost use Rattle.pp_run.specs.Costs.{CostsAtLeast, CostsAtMost};
 ghost use Rattle.pp_run.specs.Inputs.{ReadsNoFault, scan};
 ghost use Rattle.pp_run.specs.Outputs.{Prints, PrintsPrefix, PrintsPrefixOnly, PrintsOnly};
 ghost use Rattle.pp_run.specs.Outputs.{WhereTold};
@@ -42,6 +43,7 @@ pub fn run<S: Source, K: Sink, L: Ledger>(
     ensures bad_words { (result ≡ statuses.BadWords) ↔ (command_of words.now ≡ None) }
     ensures source_untouched { result ≡ statuses.BadWords → source.new ≡ source.old }
     ensures sink_untouched { result ≡ statuses.BadWords → sink.new ≡ sink.old }
+    ensures ticks_untouched { result ≡ statuses.BadWords → ticks.new ≡ ticks.old }
 
     // A run is certified on the whole input: a source that tells its bytes has none left.
     ensures end { command_of words.now ≡ Some Certify → IsDecided result →
@@ -81,6 +83,15 @@ pub fn run<S: Source, K: Sink, L: Ledger>(
         WhereTold (S.left source.old) λ bytes. IsSimulated (scan bytes) }
     ensures alone { command_of words.now ≡ Some Certify → result ≡ statuses.Accepted →
         WhereTold (S.left source.old) λ bytes. IsAloneAccepted (scan bytes) }
+
+    // The counter rises at most by what the steps of the input's run and its serial run cost at
+    // most, whatever is answered; and where there is a verdict, at least by one for each step that
+    // applies or takes back one operation and meets its criteria, and by the serial run.
+    ensures most { command_of words.now ≡ Some Certify → WhereTold (S.left source.old) λ bytes.
+        CostsAtMost (scan bytes) ticks.old ticks.new }
+    ensures least { command_of words.now ≡ Some Certify → IsDecided result →
+        WhereTold (S.left source.old) λ bytes.
+        CostsAtLeast result (scan bytes) ticks.old ticks.new }
 {
     let Some(Command::Certify) = read_words(words) else {
         return Status::BadWords;

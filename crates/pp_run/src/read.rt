@@ -1,6 +1,6 @@
 //! Reading the lines of a source, however it is cut.
 ghost use Rattle.std.specs.Prelude.{◌≡◌, ◌≤◌, ℕ, List, [], ◌++◌, length, false, None, Some, IfOk};
-ghost use Rattle.std.specs.Prelude.{IfErr, OnOk, IsErrOf};
+ghost use Rattle.std.specs.Prelude.{IfErr, OnOk, OnErr, IsErrOf};
 ghost use Rattle.std.specs.Io.KnownBytes.{IsAtEnd};
 ghost use Rattle.pp_io.specs.Faults.{HasRisen};
 ghost use Rattle.pp_io.specs.Held.{fed};
@@ -10,8 +10,9 @@ ghost use Rattle.pp_io.specs.Reaches.{overrun_from};
 ghost use Rattle.pp_run.specs.declared.stop.Failure.TheVariants.{ReadFault};
 ghost use Rattle.pp_run.specs.declared.stop.Stop.TheVariants.{Failure as StopsByFailure};
 ghost use Rattle.pp_run.specs.Inputs.{cause_of_limit};
-ghost use Rattle.pp_run.specs.Takers.{Follows, HasEarlyFault, HasFaultBehind, HasInputFault};
-ghost use Rattle.pp_run.specs.Takers.{IfFault, IfInputFault, IsAt, ReadsAll, ReadsSoFar};
+ghost use Rattle.pp_run.specs.Takers.{CountsEarly, CountsTo, Follows, HasEarlyFault};
+ghost use Rattle.pp_run.specs.Takers.{HasFaultBehind, HasInputFault, IfFault, IfInputFault};
+ghost use Rattle.pp_run.specs.Takers.{IsAt, ReadsAll, ReadsSoFar};
 
 use crate::stop::{Failure, Stop};
 use crate::taker::TakesLines;
@@ -44,16 +45,23 @@ fn drain<T: TakesLines, L: Ledger>(
     taker: T,
     ticks: &mut Ticks<L>,
 ) -> Result<T, Stop>
-    requires { (all : List NumberedLine) × Follows T.reading all lines.old taker }
-    ensures ok { IfOk result (λ next. (all : List NumberedLine) →
-        Follows T.reading all lines.old taker → Follows T.reading all lines.new next) }
+    requires { (first : ℕ) × (all : List NumberedLine)
+        × Follows (T.reading first) all lines.old (taker, ticks.old) }
+    ensures ok { IfOk result (λ next. (first : ℕ) (all : List NumberedLine) →
+        Follows (T.reading first) all lines.old (taker, ticks.old) →
+        Follows (T.reading first) all lines.new (next, ticks.new)) }
     ensures whole { OnOk result (lines.new.whole ≡ []) }
     ensures rest { lines.new.rest ≡ lines.old.rest }
     ensures reach { lines.new.reach ≡ lines.old.reach }
     ensures fault { lines.new.fault ≡ lines.old.fault }
     ensures closed { lines.new.closed ≡ lines.old.closed }
-    ensures stop { IfErr result (λ stop. IfFault stop (λ at cause. (all : List NumberedLine) →
-        Follows T.reading all lines.old taker → HasFaultBehind T.reading all at cause)) }
+    ensures stop { IfErr result (λ stop. (first : ℕ) →
+        IfFault stop (λ at cause. (all : List NumberedLine) →
+        Follows (T.reading first) all lines.old (taker, ticks.old) →
+        HasFaultBehind (T.reading first) all at cause)) }
+    ensures cost { OnErr result ((first : ℕ) (all : List NumberedLine) →
+        Follows (T.reading first) all lines.old (taker, ticks.old) →
+        CountsTo (T.reading first) all ticks.new) }
 {
     let mut taker = taker;
     'lines: while let Some(line) = lines.next() {
@@ -84,12 +92,18 @@ fn take_piece<T: TakesLines, L: Ledger>(
     piece: &[u8],
     ticks: &mut Ticks<L>,
 ) -> Result<T, Stop>
-    requires { (bytes : List ℕ) × IsAt T.reading bytes lines.old taker }
-    ensures ok { IfOk result (λ next. (bytes : List ℕ) → IsAt T.reading bytes lines.old taker →
-        IsAt T.reading (bytes ++ piece.now) lines.new next) }
-    ensures stop { IfErr result (λ stop. IfFault stop (λ at cause. (bytes : List ℕ) →
-        IsAt T.reading bytes lines.old taker →
-        HasEarlyFault T.reading (bytes ++ piece.now) at cause)) }
+    requires { (first : ℕ) × (bytes : List ℕ)
+        × IsAt (T.reading first) bytes lines.old (taker, ticks.old) }
+    ensures ok { IfOk result (λ next. (first : ℕ) (bytes : List ℕ) →
+        IsAt (T.reading first) bytes lines.old (taker, ticks.old) →
+        IsAt (T.reading first) (bytes ++ piece.now) lines.new (next, ticks.new)) }
+    ensures stop { IfErr result (λ stop. (first : ℕ) →
+        IfFault stop (λ at cause. (bytes : List ℕ) →
+        IsAt (T.reading first) bytes lines.old (taker, ticks.old) →
+        HasEarlyFault (T.reading first) (bytes ++ piece.now) at cause)) }
+    ensures cost { OnErr result ((first : ℕ) (bytes : List ℕ) →
+        IsAt (T.reading first) bytes lines.old (taker, ticks.old) →
+        CountsEarly (T.reading first) (bytes ++ piece.now) ticks.new) }
 {
     let limit = feed(lines, piece)?;
     let taker = drain(alloc, lines, taker, ticks)?;
@@ -106,12 +120,18 @@ fn take_rest<T: TakesLines, L: Ledger>(
     taker: T,
     ticks: &mut Ticks<L>,
 ) -> Result<T, Stop>
-    requires { (bytes : List ℕ) × IsAt T.reading bytes lines.old taker }
-    ensures ok { IfOk result (λ next. (bytes : List ℕ) → IsAt T.reading bytes lines.old taker →
-        T.reading.Leads (scanned_lines bytes) next) }
-    ensures stop { IfErr result (λ stop. IfFault stop (λ at cause. (bytes : List ℕ) →
-        IsAt T.reading bytes lines.old taker →
-        HasInputFault T.reading bytes at cause)) }
+    requires { (first : ℕ) × (bytes : List ℕ)
+        × IsAt (T.reading first) bytes lines.old (taker, ticks.old) }
+    ensures ok { IfOk result (λ next. (first : ℕ) (bytes : List ℕ) →
+        IsAt (T.reading first) bytes lines.old (taker, ticks.old) →
+        (T.reading first).Leads (scanned_lines bytes) (next, ticks.new)) }
+    ensures stop { IfErr result (λ stop. (first : ℕ) →
+        IfFault stop (λ at cause. (bytes : List ℕ) →
+        IsAt (T.reading first) bytes lines.old (taker, ticks.old) →
+        HasInputFault (T.reading first) bytes at cause)) }
+    ensures cost { OnErr result ((first : ℕ) (bytes : List ℕ) →
+        IsAt (T.reading first) bytes lines.old (taker, ticks.old) →
+        CountsTo (T.reading first) (scanned_lines bytes) ticks.new) }
 {
     lines.finish();
     drain(alloc, lines, taker, ticks)
@@ -132,15 +152,18 @@ pub fn read_lines<S: Source, T: TakesLines, L: Ledger>(
     taker: T,
     ticks: &mut Ticks<L>,
 ) -> Result<T, Stop>
-    requires { T.reading.Leads [] taker }
-    ensures ok { IfOk result (ReadsAll T.reading (S.left source.old) (S.left source.new)) }
+    requires { (T.reading ticks.old).Leads [] (taker, ticks.old) }
+    ensures ok { IfOk result (λ last. ReadsAll (T.reading ticks.old)
+        (S.left source.old) (S.left source.new) (last, ticks.new)) }
     ensures end { OnOk result (IsAtEnd (S.left source.new)) }
     ensures stop { IfErr result (λ stop. IfInputFault stop (λ at cause. (bytes : List ℕ) →
-        S.left source.old ≡ Some bytes → HasInputFault T.reading bytes at cause)) }
+        S.left source.old ≡ Some bytes → HasInputFault (T.reading ticks.old) bytes at cause)) }
     ensures read_fault { IsErrOf result (StopsByFailure ReadFault) →
         HasRisen (S.faults source.old) (S.faults source.new)
-        × ReadsSoFar T.reading (S.left source.old) (S.left source.new) }
+        × ReadsSoFar (T.reading ticks.old) (S.left source.old) (S.left source.new) }
     ensures count { S.faults source.old ≤ S.faults source.new }
+    ensures cost { (bytes : List ℕ) → S.left source.old ≡ Some bytes →
+        CountsTo (T.reading ticks.old) (scanned_lines bytes) ticks.new }
 {
     let mut buffer = room(alloc)?;
     let mut lines = Lines::new(alloc);

@@ -1,14 +1,15 @@
 //! Taking the lines of a run, one after another.
-ghost use Rattle.std.specs.Prelude.{◌≡◌, ◌≤◌, ◌<◌, ◌+◌, false, ◌&&◌, ◌==◌, IfOk, IfErr, Some, None};
-ghost use Rattle.std.specs.Prelude.{Ok, Err};
+ghost use Rattle.std.specs.Prelude.{◌≡◌, ◌≤◌, ◌<◌, ◌+◌, ℕ, false, ◌&&◌, ◌==◌, [], ◌∷◌, IfOk, IfErr};
+ghost use Rattle.std.specs.Prelude.{OnErr, Some, None, Ok, Err};
 ghost use Rattle.pp_run.specs.declared.progress.Progress.TheVariants.{Running, Rejected};
 ghost use Rattle.pp_run.specs.declared.stop.Failure.TheVariants as failures;
 ghost use Rattle.pp_run.specs.declared.stop.Stop.TheVariants as stops;
+ghost use Rattle.pp_run.specs.Costs.{singles};
 ghost use Rattle.pp_run.specs.Objects.{start_of};
 ghost use Rattle.pp_run.specs.Scans.{is_begin};
 ghost use Rattle.pp_run.specs.Progresses.{IsRefused, StepTaken, is_too_many, lines_of, run_reading};
-ghost use Rattle.pp_run.specs.Progresses.{with_blank, with_line, with_record};
-ghost use Rattle.pp_run.specs.Takers.{IfFault, IsNext, LeadsOn, StopsAt};
+ghost use Rattle.pp_run.specs.Progresses.{steps_done, with_blank, with_line, with_record};
+ghost use Rattle.pp_run.specs.Takers.{IfFault, IsNext, LeadsOn, StopsAt, StopsWith};
 ghost use Rattle.pp_core.specs.declared.limits.TheConstants.{MOST_LINES, MOST_STEPS};
 ghost use Rattle.pp_core.specs.Steps.{meaning, rule_of};
 ghost use Rattle.pp_io.specs.Lines.{blank};
@@ -17,7 +18,8 @@ ghost use Rattle.pp_json.specs.Records.{IsReadable, record_of};
 ghost use Rattle.pp_json.specs.declared.header.Header.{Header as HeaderOf};
 ghost use Rattle.pp_json.specs.declared.fault.RecordFault.{RecordFault as FaultOf};
 ghost use Rattle.pp_model.specs.Config.{first};
-ghost use Rattle.pp_object.specs.Objects.{kinds_of};
+ghost use Rattle.pp_object.specs.Objects.{kinds_of, place_of};
+ghost use Rattle.pp_rules.specs.Costs.{at_most};
 ghost use Rattle.pp_run.specs.Causes.{cause_of};
 
 use crate::cause::cause_of;
@@ -146,6 +148,9 @@ fn take_step<L: Ledger>(
     requires few { machine.count < MOST_STEPS }
     ensures ok { IfOk result (λ next. StepTaken tally machine (meaning step.now) line next) }
     ensures err { IfErr result (λ stop. stop ≡ stops.Failure failures.OutOfMemory) }
+    ensures most { ticks.new ≤ ticks.old + at_most place_of machine.config (meaning step.now) }
+    ensures least { IfOk result (λ next.
+        ticks.old + singles (steps_done next (meaning step.now ∷ [])) ≤ ticks.new) }
 {
     let number = machine.count() + 1;
     let (machine, outcome) = machine.step(step, ticks)?;
@@ -172,12 +177,18 @@ fn take_record<L: Ledger>(
     line: &Line,
     ticks: &mut Ticks<L>,
 ) -> Result<Progress, Stop>
-    requires next { IsNext run_reading (Running tally machine) (line.now.number, line.now.text) }
+    requires next { (first : ℕ) × IsNext (run_reading first) (Running tally machine, ticks.old)
+        (line.now.number, line.now.text) }
     requires other { blank line.now.text ≡ false }
-    ensures ok { IfOk result
-        (LeadsOn run_reading (Running tally machine) (line.now.number, line.now.text)) }
-    ensures stop { IfErr result
-        (StopsAt run_reading (Running tally machine) (line.now.number, line.now.text)) }
+    ensures ok { IfOk result (λ next. (first : ℕ) →
+        LeadsOn (run_reading first) (Running tally machine, ticks.old)
+        (line.now.number, line.now.text) (next, ticks.new)) }
+    ensures stop { IfErr result (λ stop. (first : ℕ) →
+        StopsAt (run_reading first) (Running tally machine, ticks.old)
+        (line.now.number, line.now.text) stop) }
+    ensures cost { OnErr result ((first : ℕ) →
+        StopsWith (run_reading first) (Running tally machine, ticks.old)
+        (line.now.number, line.now.text) ticks.new) }
 {
     let step = read_step(alloc, &tally, line)?;
     take_step(
@@ -196,12 +207,16 @@ fn pass_record(
     rejection: Rejection,
     line: &Line,
 ) -> Result<Progress, Stop>
-    requires next { IsNext run_reading (Rejected tally rejection) (line.now.number, line.now.text) }
+    requires next { (first : ℕ) × (now : ℕ)
+        × IsNext (run_reading first) (Rejected tally rejection, now)
+        (line.now.number, line.now.text) }
     requires other { blank line.now.text ≡ false }
-    ensures ok { IfOk result
-        (LeadsOn run_reading (Rejected tally rejection) (line.now.number, line.now.text)) }
-    ensures stop { IfErr result
-        (StopsAt run_reading (Rejected tally rejection) (line.now.number, line.now.text)) }
+    ensures ok { IfOk result (λ next. (first now : ℕ) →
+        LeadsOn (run_reading first) (Rejected tally rejection, now)
+        (line.now.number, line.now.text) (next, now)) }
+    ensures stop { IfErr result (λ stop. (first now : ℕ) →
+        StopsAt (run_reading first) (Rejected tally rejection, now)
+        (line.now.number, line.now.text) stop) }
 {
     let step = read_step(alloc, &tally, line)?;
     Ok(Progress::Rejected(with_record(tally, &step), rejection))

@@ -1,6 +1,6 @@
 //! What takes the lines of an input, one after another.
-ghost use Rattle.std.specs.Prelude.{IfOk, IfErr};
-ghost use Rattle.pp_run.specs.Takers.{IsNext, LeadsOn, Reading, StopsAt};
+ghost use Rattle.std.specs.Prelude.{ℕ, IfOk, IfErr, OnErr};
+ghost use Rattle.pp_run.specs.Takers.{IsNext, LeadsOn, Reading, StopsAt, StopsWith};
 
 use crate::stop::Stop;
 use pp_core::Ticks;
@@ -10,13 +10,19 @@ use std::sync::ledger::Ledger;
 
 /// What takes the lines of an input, one after another.
 pub trait TakesLines: Drop {
-    /// Where lines lead to, and which fault they have.
-    ghost reading: { Reading Self };
+    /// Where lines lead to, with what the counter then shows, which fault they have, and what they
+    /// cost, by what the counter shows before the first.
+    ghost reading: { ℕ → Reading (Self × ℕ) };
 
     /// Takes the next line. It stops at a fault, which no line behind it changes, or where memory
     /// is refused.
     fn take<L: Ledger>(self, alloc: Global, line: &Line, ticks: &mut Ticks<L>) -> Result<Self, Stop>
-        requires { IsNext reading self (line.now.number, line.now.text) }
-        ensures ok { IfOk result (LeadsOn reading self (line.now.number, line.now.text)) }
-        ensures stop { IfErr result (StopsAt reading self (line.now.number, line.now.text)) };
+        requires { (first : ℕ)
+            × IsNext (reading first) (self, ticks.old) (line.now.number, line.now.text) }
+        ensures ok { IfOk result (λ next. (first : ℕ) → LeadsOn (reading first) (self, ticks.old)
+            (line.now.number, line.now.text) (next, ticks.new)) }
+        ensures stop { IfErr result (λ stop. (first : ℕ) →
+            StopsAt (reading first) (self, ticks.old) (line.now.number, line.now.text) stop) }
+        ensures cost { OnErr result ((first : ℕ) → StopsWith (reading first) (self, ticks.old)
+            (line.now.number, line.now.text) ticks.new) };
 }

@@ -1,4 +1,4 @@
-use Rattle.std.proofs.Common.{◌≡◌, List, length, sym, ◌∙◌, ap, arith}
+use Rattle.std.proofs.Common.{◌≡◌, ◌+◌, List, length, sym, ◌∙◌, ap, arith}
 use Rattle.std.proofs.lemmas.Result.{IfOk-weaker}
 use Rattle.pp_core.specs.declared.entry.CommittedTx.{CommittedTx}
 use Rattle.pp_model.specs.Sound.{serial_ops}
@@ -7,6 +7,7 @@ use Rattle.pp_object.specs.declared.act.Op.{Op}
 use Rattle.pp_spec.specs.Object.{rules_of, state_after}
 use Rattle.pp_run.proofs.Concluding.{accepted_told}
 use Rattle.pp_run.proofs.Fitting.{serial_fits}
+use Rattle.pp_run.proofs.Takers.{on_ok}
 use Rattle.pp_run.proofs.Naming.{allowed_over, committed_named, states_named}
 use Rattle.pp_run.proofs.certify.report_accepted.Goals as goal
 
@@ -39,10 +40,25 @@ accepted-requires-clause-states g c =
     (allowed_over (kinds_of catalog) machine.shape committed machine.config.done c.requires.1.shape c.committed-committed.ensures.done c.committed-committed.ensures.allowed)
     (c.in_ok-_list.ensures.state ∙ ap (λ k. state_after objects k (serial_ops committed)) c.in_ok-kinds.ensures)
 
-pub returns : goal.returns
-returns g c =
+pub returns-clause-report : goal.returns-clause-report
+returns-clause-report g c =
     let committed = c.committed-committed.result.now in
     IfOk-weaker c.accepted.result _ _ (λ text text_is sc r.
     accepted_told sc c.args.tally.now c.args.machine.now r c.count-count.result committed c.in_ok-_list.states text c.count-count.ensures.count c.committed-committed.ensures.done
     (c.in_ok-_list.ensures.state ∙ ap (λ k. state_after objects k (serial_ops committed)) c.in_ok-kinds.ensures) text_is)
     c.accepted.ensures
+
+pub returns-clause-cost : goal.returns-clause-cost
+returns-clause-cost g c =
+    let same : length (serial_ops c.committed-committed.result.now) ≡ length (serial_ops c.args.machine.now.config.done) = ap (λ (D : List (CommittedTx Op)). length (serial_ops D)) c.committed-committed.ensures.done in
+    on_ok c.accepted.result _ (c.in_ok-_list.ensures.cost ∙ ap (λ n. c.args.ticks.now + n) same)
+
+pub returns-clause-bound : goal.returns-clause-bound
+returns-clause-bound g c =
+    let same : length (serial_ops c.committed-committed.result.now) ≡ length (serial_ops c.args.machine.now.config.done) = ap (λ (D : List (CommittedTx Op)). length (serial_ops D)) c.committed-committed.ensures.done in
+    omega (arith, same, c.serial.ensures.bound)
+
+pub returns-in_err-_list-clause-bound : goal.returns-in_err-_list-clause-bound
+returns-in_err-_list-clause-bound g c =
+    let same : length (serial_ops c.committed-committed.result.now) ≡ length (serial_ops c.args.machine.now.config.done) = ap (λ (D : List (CommittedTx Op)). length (serial_ops D)) c.committed-committed.ensures.done in
+    omega (arith, same, c.serial.ensures.bound)

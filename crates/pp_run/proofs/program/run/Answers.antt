@@ -52,3 +52,17 @@ returns-in-Ok-send-clause-output g c = λ printed bytes is.
       subst (λ o. IsOutput o bytes c.in-Ok.report.0 c.in-Ok.report.1) (sym command) (c.in-Ok.ensures.report bytes is),
       subst (Appends (g.K.Sink.held c.args.sink.now) (g.K.Sink.held c.send.new.sink)) c.bytes.ensures c.in-Ok-send.ensures.ok,
     )
+
+-- ---- what the counter shows
+
+pub returns-in-Ok-send-clause-most : goal.returns-in-Ok-send-clause-most
+returns-in-Ok-send-clause-most g c = λ certify bytes is. c.certify.ensures.most bytes is
+
+pub returns-in-Ok-send-clause-least : goal.returns-in-Ok-send-clause-least
+returns-in-Ok-send-clause-least g c = λ certify decided bytes is. c.in-Ok.ensures.least decided bytes is
+
+pub returns-in-Err-WriteFault-clause-most : goal.returns-in-Err-WriteFault-clause-most
+returns-in-Err-WriteFault-clause-most g c = λ certify bytes is. c.certify.ensures.most bytes is
+
+pub returns-clause-most : goal.returns-clause-most
+returns-clause-most g c = λ certify bytes is. c.certify.ensures.most bytes is

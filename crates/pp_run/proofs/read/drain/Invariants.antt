@@ -1,12 +1,12 @@
-use Rattle.std.proofs.Common.{◌≡◌, List, length}
+use Rattle.std.proofs.Common.{◌≡◌, ℕ, List, length}
 use Rattle.pp_io.specs.Lines.{NumberedLine}
 use Rattle.pp_run.specs.Takers.{Follows}
 use Rattle.pp_run.proofs.read.drain.Given as goal
 
 abbrev pub invariant-lines : goal.invariant-lines
 invariant-lines g l = record {
-  some : (all : List NumberedLine) × Follows g.T.TakesLines.reading all l.lines l.taker;
-  follows : (all : List NumberedLine) → Follows g.T.TakesLines.reading all l.fn.lines l.fn.taker → Follows g.T.TakesLines.reading all l.lines l.taker;
+  some : (first : ℕ) × (all : List NumberedLine) × Follows (g.T.TakesLines.reading first) all l.lines (l.taker, l.ticks);
+  follows : (first : ℕ) (all : List NumberedLine) → Follows (g.T.TakesLines.reading first) all l.fn.lines (l.fn.taker, l.fn.ticks) → Follows (g.T.TakesLines.reading first) all l.lines (l.taker, l.ticks);
   rest : l.lines.rest ≡ l.fn.lines.rest;
   reach : l.lines.reach ≡ l.fn.lines.reach;
   fault : l.lines.fault ≡ l.fn.lines.fault;

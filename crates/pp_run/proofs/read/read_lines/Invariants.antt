@@ -8,7 +8,7 @@ use Rattle.pp_run.proofs.read.read_lines.Given as goal
 abbrev pub invariant-pieces : goal.invariant-pieces
 invariant-pieces g l = record {
   room : length l.buffer.items ≡ LONGEST_PIECE;
-  at : (bytes : List ℕ) × IsAt g.T.TakesLines.reading bytes l.lines l.taker × Consumes (g.S.Source.left l.fn.source) (g.S.Source.left l.source) bytes;
+  at : (bytes : List ℕ) × IsAt (g.T.TakesLines.reading l.fn.ticks) bytes l.lines (l.taker, l.ticks) × Consumes (g.S.Source.left l.fn.source) (g.S.Source.left l.source) bytes;
   count : g.S.Source.faults l.fn.source ≤ g.S.Source.faults l.source;
 }
 

@@ -1,32 +1,47 @@
-use Rattle.std.proofs.Common.{refl, subst, sym, ap, ◌∙◌}
+use Rattle.std.proofs.Common.{refl, subst, sym, ap, ◌∙◌, arith}
 use Rattle.std.proofs.lemmas.Result.{err_from_is_err_and}
 use Rattle.pp_core.specs.Steps.{meaning}
 use Rattle.pp_json.specs.Records.{record_of}
 use Rattle.pp_io.specs.Lines.{NumberedLine}
-use Rattle.pp_run.specs.Progresses.{IsRefused, IsRejected}
+use Rattle.pp_run.specs.Progresses.{Counts, IsRefused, IsRejected}
 use Rattle.pp_run.specs.declared.progress.Progress.{Progress}
 use Rattle.pp_run.specs.declared.progress.Progress.TheVariants.{Rejected}
 use Rattle.pp_run.specs.Scans.{scan_line}
+use Rattle.pp_run.proofs.Counting.{counts_rejected}
 use Rattle.pp_run.proofs.Covering.{cover_refused, cover_rejected, few_begins}
-use Rattle.pp_run.proofs.Examining.{leads_on, next_number, some_cover, stops_at}
+use Rattle.pp_run.proofs.Examining.{leads_on, next_few, next_number, some_cover, stops_at}
 use Rattle.pp_run.proofs.take.pass_record.Goals as goal
+
+pub with_record-requires-clause-lines : goal.with_record-requires-clause-lines
+with_record-requires-clause-lines c =
+    let line : NumberedLine = (c.args.line.now.number, c.args.line.now.text) in
+    let from : Progress = Rejected c.args.tally c.args.rejection in
+    let n = c.requires.next in
+    omega (arith, next_number n.0 n.1 from line n.2, next_few n.0 n.1 from line n.2)
 
 pub with_record-requires-clause-begins : goal.with_record-requires-clause-begins
 with_record-requires-clause-begins c =
     let from : Progress = Rejected c.args.tally c.args.rejection in
-    let covers = some_cover from (c.args.line.now.number, c.args.line.now.text) c.requires.next in
+    let n = c.requires.next in
+    let covers = some_cover n.0 n.1 from (c.args.line.now.number, c.args.line.now.text) n.2 in
     few_begins _ _ covers.1.follows
 
 pub returns-clause-ok : goal.returns-clause-ok
-returns-clause-ok c =
+returns-clause-ok c = λ first now.
     let line : NumberedLine = (c.args.line.now.number, c.args.line.now.text) in
     let from : Progress = Rejected c.args.tally c.args.rejection in
     let to : Progress = Rejected c.with_record.result c.args.rejection in
-    leads_on from line c.requires.next to
+    let n = c.requires.next in
+    let step = meaning c.in_ok-step.step in
+    leads_on from line (next_number n.0 n.1 from line n.2) (next_few n.0 n.1 from line n.2) to now now
     (λ sc covers.
     subst (λ t. IsRejected (scan_line sc line) t c.args.rejection) (sym c.with_record.ensures)
-    (cover_rejected sc c.args.tally c.args.rejection line (meaning c.in_ok-step.step) covers c.requires.other c.in_ok-step.ensures.read c.in_ok-step.ensures.few))
-    (ap (λ t. t.lines) c.with_record.ensures ∙ sym (next_number from line c.requires.next))
+    (cover_rejected sc c.args.tally c.args.rejection line step covers c.requires.other c.in_ok-step.ensures.read c.in_ok-step.ensures.few))
+    (ap (λ t. t.lines) c.with_record.ensures ∙ sym (next_number n.0 n.1 from line n.2))
+    (λ sc old covers counts.
+    subst (λ t. Counts (scan_line sc line) (Rejected t c.args.rejection) old now) (sym c.with_record.ensures)
+    (counts_rejected sc c.args.tally c.args.rejection line step old now covers c.requires.other c.in_ok-step.ensures.read c.in_ok-step.ensures.few counts))
+    first
 
 pub returns-in_err-step-clause-stop : goal.returns-in_err-step-clause-stop
 returns-in_err-step-clause-stop c =

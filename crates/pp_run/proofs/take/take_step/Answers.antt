@@ -1,11 +1,13 @@
 use Rattle.std.proofs.Common.{◌+◌, inr, ap, subst, ◌∙◌}
 use Rattle.pp_core.specs.Steps.{meaning}
-use Rattle.pp_object.specs.Objects.{objects}
+use Rattle.pp_object.specs.Objects.{objects, place_of}
+use Rattle.pp_rules.specs.Costs.{CostsBy}
 use Rattle.pp_rules.specs.Evidence.{Fits}
 use Rattle.pp_rules.specs.Shown.{IsShown}
 use Rattle.pp_rules.specs.Stepping.{Stepped}
 use Rattle.pp_run.specs.Progresses.{rejection_of}
 use Rattle.pp_run.specs.declared.progress.Progress.TheVariants.{Rejected}
+use Rattle.pp_run.proofs.Counting.{done_least, vain_least}
 use Rattle.pp_run.proofs.take.take_step.Goals as goal
 
 pub returns-in-False-clause-ok : goal.returns-in-False-clause-ok
@@ -25,3 +27,17 @@ returns-in-False-clause-ok g c =
           ∙ ap (λ d. Rejected c.args.tally (record (rejection_of machine step c.args.line n) { detail = d })) effect.3,
       subst (λ d. Fits objects machine.shape d) effect.3 shown.1,
     )
+
+pub returns-in-Done-clause-least : goal.returns-in-Done-clause-least
+returns-in-Done-clause-least g c =
+    let config = c.args.machine.config in
+    let step = meaning c.args.step.now in
+    done_least config step c.args.ticks.now c.step.new.ticks
+    (subst (λ o. CostsBy place_of config step o c.args.ticks.now c.step.new.ticks) c.in-Done.is c.in_ok-machine.ensures.cost)
+
+pub returns-in-False-clause-least : goal.returns-in-False-clause-least
+returns-in-False-clause-least g c =
+    let config = c.args.machine.config in
+    let step = meaning c.args.step.now in
+    vain_least config step c.args.ticks.now c.step.new.ticks
+    (subst (λ o. CostsBy place_of config step o c.args.ticks.now c.step.new.ticks) c.in-False.is c.in_ok-machine.ensures.cost)
