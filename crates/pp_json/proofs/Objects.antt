@@ -7,7 +7,8 @@ use Rattle.serde_json.specs.View.{view, items_view}
 use Rattle.serde_json.specs.Data.{item}
 use Rattle.pp_core.specs.Catalogs.{Objects}
 use Rattle.pp_json.specs.declared.fault.RecordFault.{RecordFault}
-use Rattle.pp_json.specs.Headers.{count, with_object, objects_in}
+use Rattle.pp_json.specs.Members.{count}
+use Rattle.pp_json.specs.Headers.{with_object, objects_in}
 
 pub count_view : (values : List Value) → count (items_view values) ≡ length values
 count_view [] = refl
@@ -39,3 +40,5 @@ unfolding objects_in
 ends before values i total le so_far =
     let one : objects_in before (items_view (drop i values)) ≡ Ok before = rw (drop_all i values le) refl in
     sym so_far ∙ one
+
+pub ruleset walk = (goes_on, stops, ends)

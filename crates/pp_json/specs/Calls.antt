@@ -21,8 +21,7 @@ use Rattle.pp_json.specs.declared.fault.RecordFault.{RecordFault}
 use Rattle.pp_json.specs.declared.fault.RecordFault.TheVariants.{WrongType, OutOfRange}
 use Rattle.pp_json.specs.declared.fault.RecordFault.TheVariants.{UnknownObject, UnknownCall}
 use Rattle.pp_json.specs.Reading.{◌>>=◌, fault_if}
-use Rattle.pp_json.specs.Members.{member_of, text_of, name_from, whole}
-use Rattle.pp_json.specs.Headers.{count}
+use Rattle.pp_json.specs.Members.{member_of, text_of, name_from, whole, count}
 
 -- the number, where it lies in -10^18 to 10^18
 unfoldable pub number_from : ℤ → Option ℤ

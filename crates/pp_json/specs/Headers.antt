@@ -1,6 +1,6 @@
 -- Meaning: the first line of a run.
-use Rattle.std.specs.Prelude.{ℕ, suc, pos, List, [], ◌∷◌, ◌++◌, not, nat_lt, is_some, ok_or, Result}
-use Rattle.std.specs.Prelude.{Ok}
+use Rattle.std.specs.Prelude.{ℕ, ℤ, pos, List, [], ◌∷◌, ◌++◌, not, nat_lt, is_some, ok_or, Option}
+use Rattle.std.specs.Prelude.{Some, None, Result, Ok, if◌then◌else◌}
 use Rattle.std.specs.Ordering.{int_eq}
 use Rattle.serde_json.specs.Data.{Data, Items, no_items, item}
 use Rattle.serde_json.specs.Find.{as_object}
@@ -10,14 +10,18 @@ use Rattle.pp_core.specs.declared.call.Kind.{Kind}
 use Rattle.pp_core.specs.declared.limits.TheConstants.{MOST_OBJECTS}
 use Rattle.pp_core.specs.declared.member.Member.TheVariants as members
 use Rattle.pp_json.specs.declared.header.Header.{Header}
+use Rattle.pp_json.specs.declared.header.Version.{Version}
+use Rattle.pp_json.specs.declared.header.Version.TheVariants.{First, Second}
+use Rattle.pp_json.specs.declared.start.Start.{Start}
 use Rattle.pp_json.specs.declared.fault.RecordFault.{RecordFault}
 use Rattle.pp_json.specs.declared.fault.RecordFault.TheVariants.{WrongType, OutOfRange}
 use Rattle.pp_json.specs.declared.fault.RecordFault.TheVariants.{UnknownStyle, UnknownKind}
 use Rattle.pp_json.specs.declared.fault.RecordFault.TheVariants.{RepeatedObject, TooManyObjects}
 use Rattle.pp_json.specs.declared.fault.RecordFault.TheVariants.{NotYet}
 use Rattle.pp_json.specs.Reading.{◌>>=◌, fault_if}
-use Rattle.pp_json.specs.Members.{object_of, text_of, name_of, whole_of, array_of}
+use Rattle.pp_json.specs.Members.{object_of, text_of, name_of, whole_of, array_of, count}
 use Rattle.pp_json.specs.Later.{is_built}
+use Rattle.pp_json.specs.Starts.{optional_start}
 
 -- an object, whose name no earlier one has
 unfoldable pub object_in : Objects → Data → Result (List ℕ × Kind) RecordFault
@@ -42,11 +46,6 @@ objects_in before (item value values) = do
   longer ← with_object before value
   objects_in longer values
 
--- how many elements an array has
-abbrev pub count : Items → ℕ
-count no_items = 0
-count (item value values) = suc (count values)
-
 -- all objects, at most 256
 unfoldable pub catalog_of : Data → Result Objects RecordFault
 catalog_of value = do
@@ -54,14 +53,30 @@ catalog_of value = do
   few ← fault_if (nat_lt MOST_OBJECTS (count values)) TooManyObjects
   objects_in [] values
 
+-- the version of this number
+unfoldable pub version_from : ℤ → Option Version
+version_from run =
+    if int_eq run (pos 1) then Some First else if int_eq run (pos 2) then Some Second else None
+
+-- the version of the format
+unfoldable pub version_of : Data → Result Version RecordFault
+version_of value = do
+  run ← whole_of members.Run value
+  ok_or (version_from run) (OutOfRange members.Run)
+
+-- Version 2 alone has a start. In version 1 the member is one that is not known.
+abbrev pub versioned_start : Version → Objects → Data → Result (Option Start) RecordFault
+versioned_start First catalog value = Ok None
+versioned_start Second catalog value = optional_start catalog value
+
 -- the header that a line is
 unfoldable pub header_of : List ℕ → Result Header RecordFault
 header_of line = do
   value ← object_of line
-  run ← whole_of members.Run value
-  one ← fault_if (not (int_eq run (pos 1))) (OutOfRange members.Run)
+  version ← version_of value
   word ← text_of members.Style value
   style ← ok_or (named style_word styles word) UnknownStyle
   catalog ← catalog_of value
+  start ← versioned_start version catalog value
   built ← fault_if (not (is_built style)) NotYet
-  Ok (record { style = style; catalog = catalog })
+  Ok (record { style = style; catalog = catalog; start = start })

@@ -3,9 +3,11 @@ pub use Rattle.pp_core.specs.Steps
 pub mod Reading
 pub mod Members
 pub mod Later
+pub mod Calls
+pub mod Items
+pub mod Starts
 pub mod Headers
 pub mod StepNames
-pub mod Calls
 pub mod Patterns
 pub mod Bodies
 pub mod Records

@@ -1,9 +1,9 @@
 -- Meaning: a line's value and its members, read in the order of the tests.
-use Rattle.std.specs.Prelude.{ℕ, ℤ, List, length, Bool, ◌&&◌, nat_le, Option, Some, None, ok_or}
+use Rattle.std.specs.Prelude.{ℕ, suc, ℤ, List, length, Bool, ◌&&◌, nat_le, Option, Some, None, ok_or}
 use Rattle.std.specs.Prelude.{option_and_then, Result, Ok, Err, if◌then◌else◌}
 use Rattle.std.specs.List.{list_all}
 use Rattle.std.specs.Str.{is_utf8}
-use Rattle.serde_json.specs.Data.{Data, Items}
+use Rattle.serde_json.specs.Data.{Data, Items, no_items, item}
 use Rattle.serde_json.specs.Read.{read}
 use Rattle.serde_json.specs.Find.{get, as_str, as_number, as_integer, as_array, as_object}
 use Rattle.pp_core.specs.Names.{is_name_byte}
@@ -66,3 +66,8 @@ unfoldable pub array_of : Member → Data → Result Items RecordFault
 array_of member value = do
   found ← member_of member value
   ok_or (as_array found) (WrongType member)
+
+-- how many elements an array has
+abbrev pub count : Items → ℕ
+count no_items = 0
+count (item value values) = suc (count values)

@@ -11,7 +11,7 @@ use Rattle.pp_object.specs.Calls.{method_named, arity_of}
 use Rattle.pp_json.specs.declared.fault.RecordFault.{RecordFault}
 use Rattle.pp_json.specs.declared.fault.RecordFault.TheVariants.{BodyBad}
 use Rattle.pp_json.specs.Reading.{◌>>=◌, fault_if}
-use Rattle.pp_json.specs.Headers.{count}
+use Rattle.pp_json.specs.Members.{count}
 use Rattle.pp_json.specs.Calls.{number_from, object_named}
 
 -- a whole number in -10^18 to 10^18, or null for any number

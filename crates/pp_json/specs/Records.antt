@@ -1,6 +1,5 @@
 -- Meaning: the lines behind the header.
-use Rattle.std.specs.Prelude.{◌≤◌, ℕ, ℤ, pos, negsuc, List, nat_le, IsTrue, Option, Some, None}
-use Rattle.std.specs.Prelude.{ok_or, Result, Ok, Err, if◌then◌else◌}
+use Rattle.std.specs.Prelude.{◌≤◌, ℕ, List, IsTrue, ok_or, Result, Ok, Err}
 use Rattle.serde_json.specs.Data.{Data}
 use Rattle.pp_core.specs.Catalogs.{Objects}
 use Rattle.pp_core.specs.Trees.{IsWithinLimits}
@@ -13,23 +12,12 @@ use Rattle.pp_json.specs.declared.header.Header.{Header}
 use Rattle.pp_json.specs.declared.step_name.StepName.{StepName}
 use Rattle.pp_json.specs.declared.step_name.StepName.TheVariants as names
 use Rattle.pp_json.specs.declared.fault.RecordFault.{RecordFault}
-use Rattle.pp_json.specs.declared.fault.RecordFault.TheVariants.{OutOfRange, UnknownStep, NotYet}
+use Rattle.pp_json.specs.declared.fault.RecordFault.TheVariants.{UnknownStep, NotYet}
 use Rattle.pp_json.specs.Reading.{◌>>=◌}
-use Rattle.pp_json.specs.Members.{object_of, text_of, name_of, whole_of}
+use Rattle.pp_json.specs.Members.{object_of, text_of, name_of}
 use Rattle.pp_json.specs.StepNames.{step_from}
-use Rattle.pp_json.specs.Calls.{op_of}
+use Rattle.pp_json.specs.Items.{id_of, item_of}
 use Rattle.pp_json.specs.Bodies.{body_of_begin}
-
--- an id, 0 to 999,999,999
-unfoldable pub id_from : ℤ → Option ℕ
-id_from (pos n) = if nat_le n 999_999_999 then Some n else None
-id_from (negsuc n) = None
-
--- the record's id
-unfoldable pub id_of : Data → Result ℕ RecordFault
-id_of value = do
-  n ← whole_of members.Id value
-  ok_or (id_from n) (OutOfRange members.Id)
 
 -- a begin, with the body that it gives
 unfoldable pub begin_of : Objects → Data → Result (Step Op) RecordFault
@@ -43,9 +31,8 @@ begin_of catalog value = do
 unfoldable pub app_of : Objects → Data → Result (Step Op) RecordFault
 app_of catalog value = do
   tx ← name_of members.Tx value
-  id ← id_of value
-  op ← op_of catalog value
-  Ok (App tx id op)
+  item ← item_of catalog value
+  Ok (App tx item.id item.op)
 
 -- an operation that is taken back
 unfoldable pub unapp_of : Data → Result (Step Op) RecordFault

@@ -29,6 +29,8 @@ pub enum RecordFault {
     RepeatedObject,
     #[error("there are more than 256 objects")]
     TooManyObjects,
+    #[error("the start has more than 256 operations")]
+    TooManyStart,
     #[error("no object has this name")]
     UnknownObject,
     #[error("the object has no such call")]

@@ -1,43 +1,22 @@
 //! The lines behind the header.
-ghost use Rattle.std.specs.Prelude.{◌≡◌, ◌≤◌, IfOk, IfSome};
+ghost use Rattle.std.specs.Prelude.{IfOk};
 ghost use Rattle.serde_json.specs.View.{view};
 ghost use Rattle.pp_core.specs.Steps.{meaning};
 ghost use Rattle.pp_json.specs.Reading.{Gives};
-ghost use Rattle.pp_json.specs.Records.{id_from, id_of, begin_of, app_of, unapp_of, push_of};
+ghost use Rattle.pp_json.specs.Records.{begin_of, app_of, unapp_of, push_of};
 ghost use Rattle.pp_json.specs.Records.{unpush_of, pull_of, unpull_of, cmt_of, quit_of, note_of};
 ghost use Rattle.pp_json.specs.Records.{step_of, record_of, IsReadable, IsAlwaysReadable};
 
 use crate::body::begin_body;
-use crate::call::op_in;
 use crate::fault::RecordFault;
 use crate::header::Header;
-use crate::members::{name_in, object_on, text_in, whole_in};
+use crate::item::{id_in, item_in};
+use crate::members::{name_in, object_on, text_in};
 use crate::step_name::{StepName, step_named};
 use pp_core::{Catalog, Member, Step};
 use pp_object::Op;
 use serde_json::Value;
 use std::alloc::Global;
-
-#[tactic(auto, unfolding(crate::specs::Records::id_from))]
-fn id_that_is(n: i128) -> Option<u32>
-    ensures id { result ≡ id_from n }
-    ensures small { IfSome result (λ id. id ≤ 999_999_999) }
-{
-    if 0 <= n && n <= 999_999_999 {
-        Some(n as u32)
-    } else {
-        None
-    }
-}
-
-#[tactic(auto, unfolding(crate::specs::Records::id_of))]
-fn id_in(value: &Value) -> Result<u32, RecordFault>
-    ensures reads { Gives (λ n. n) result (id_of (view value.now)) }
-    ensures small { IfOk result (λ id. id ≤ 999_999_999) }
-{
-    let n = whole_in(value, Member::Id)?;
-    id_that_is(n).ok_or(RecordFault::OutOfRange(Member::Id))
-}
 
 #[tactic(auto, unfolding(crate::specs::Records::begin_of))]
 fn begin_in(alloc: Global, catalog: &Catalog, value: &Value) -> Result<Step<Op>, RecordFault>
@@ -56,9 +35,12 @@ fn app_in(catalog: &Catalog, value: &Value) -> Result<Step<Op>, RecordFault>
     ensures readable { IfOk result (λ step. IsReadable catalog.now (meaning step)) }
 {
     let tx = name_in(value, Member::Tx)?;
-    let id = id_in(value)?;
-    let op = op_in(catalog, value)?;
-    Ok(Step::App { tx, id, op })
+    let item = item_in(catalog, value)?;
+    Ok(Step::App {
+        tx,
+        id: item.id,
+        op: item.op,
+    })
 }
 
 #[tactic(auto, unfolding(crate::specs::Records::unapp_of))]
