@@ -14,6 +14,7 @@ pub enum Cause {
     UnknownKind,
     RepeatedObject,
     TooManyObjects,
+    TooManyStart,
     UnknownObject,
     UnknownCall,
     UnknownStep,

@@ -30,6 +30,7 @@ pub(crate) fn write_cause(text: &mut Text, cause: Cause) -> Result<(), OutOfMemo
         Cause::UnknownKind => text.append(b"UnknownKind"),
         Cause::RepeatedObject => text.append(b"RepeatedObject"),
         Cause::TooManyObjects => text.append(b"TooManyObjects"),
+        Cause::TooManyStart => text.append(b"TooManyStart"),
         Cause::UnknownObject => text.append(b"UnknownObject"),
         Cause::UnknownCall => text.append(b"UnknownCall"),
         Cause::UnknownStep => text.append(b"UnknownStep"),

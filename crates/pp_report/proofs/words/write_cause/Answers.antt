@@ -30,6 +30,9 @@ returns-in-RepeatedObject c = rw c.in-RepeatedObject.is c.append-in-RepeatedObje
 pub returns-in-TooManyObjects : goal.returns-in-TooManyObjects
 returns-in-TooManyObjects c = rw c.in-TooManyObjects.is c.append-in-TooManyObjects.ensures.ok
 
+pub returns-in-TooManyStart : goal.returns-in-TooManyStart
+returns-in-TooManyStart c = rw c.in-TooManyStart.is c.append-in-TooManyStart.ensures.ok
+
 pub returns-in-UnknownObject : goal.returns-in-UnknownObject
 returns-in-UnknownObject c = rw c.in-UnknownObject.is c.append-in-UnknownObject.ensures.ok
 
