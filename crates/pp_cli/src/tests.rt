@@ -5,6 +5,7 @@ mod given_words;
 mod long_inputs;
 mod rejected_runs;
 mod row;
+mod starts;
 
 use crate::run_counted;
 use crate::tests::accepted_runs::ACCEPTED;
@@ -13,6 +14,7 @@ use crate::tests::given_words::GivenWords;
 use crate::tests::long_inputs::{LONG, bytes_of};
 use crate::tests::rejected_runs::REJECTED;
 use crate::tests::row::{COUNTER, Row};
+use crate::tests::starts::STARTS;
 use crate::words::collect_words;
 use pp_core::{Status, Words};
 use pp_io::{MemorySink, MemorySource, Source};
@@ -87,7 +89,12 @@ fn assert_answer(
 #[test]
 fn runs_have_their_reports(rt: HostRuntime) -> Result<(), Fail> {
     let alloc = rt.alloc();
-    for table in [ACCEPTED.as_slice(), REJECTED.as_slice(), FAULTY.as_slice()] {
+    for table in [
+        ACCEPTED.as_slice(),
+        REJECTED.as_slice(),
+        FAULTY.as_slice(),
+        STARTS.as_slice(),
+    ] {
         for row in table {
             let answer = certified_bytes(alloc, input_of(alloc, row)?, true)?;
             assert_answer(&rt, row.what, &answer, row.status, row.report);

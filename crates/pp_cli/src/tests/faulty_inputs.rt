@@ -154,7 +154,7 @@ oops
     Row {
         what: "another version",
         header: b"",
-        records: br#"{"run":2,"style":"rules","objects":[]}
+        records: br#"{"run":3,"style":"rules","objects":[]}
 "#,
         status: Status::InputFault,
         report: b"fault line 1 OutOfRange(run)\n",

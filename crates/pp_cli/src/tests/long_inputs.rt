@@ -17,7 +17,7 @@ pub(crate) struct Long {
     pub(crate) report: &'static [u8],
 }
 
-pub(crate) const LONG: [Long; 5] = [
+pub(crate) const LONG: [Long; 7] = [
     Long {
         what: "an object too many",
         front: br#"{"run":1,"style":"rules","objects":[{"name":"c","kind":"counter"}"#,
@@ -27,6 +27,26 @@ pub(crate) const LONG: [Long; 5] = [
         end: b"]}\n",
         status: Status::InputFault,
         report: b"fault line 1 TooManyObjects\n",
+    },
+    Long {
+        what: "the most operations of a start",
+        front: br#"{"run":2,"style":"rules","objects":[{"name":"c","kind":"counter"}],"start":{"tx":"t0","ops":[{"id":0,"on":"c","call":"get","args":[],"result":1}"#,
+        piece: br#",{"id":"#,
+        behind: Some(br#","on":"c","call":"add","args":[7],"result":null}"#),
+        times: 255,
+        end: b"]}}\n",
+        status: Status::Rejected,
+        report: b"rejected step 0 line 1 START 2\nentry 0 gives 0\n",
+    },
+    Long {
+        what: "an operation of a start too many",
+        front: br#"{"run":2,"style":"rules","objects":[{"name":"c","kind":"counter"}],"start":{"tx":"t0","ops":[{"id":0,"on":"c","call":"add","args":[7],"result":null}"#,
+        piece: br#",{"id":"#,
+        behind: Some(br#","on":"c","call":"add","args":[7],"result":null}"#),
+        times: 256,
+        end: b"]}}\n",
+        status: Status::InputFault,
+        report: b"fault line 1 TooManyStart\n",
     },
     Long {
         what: "a transaction too many",
