@@ -1,3 +1,7 @@
 //! The records of a run, and the steps that they stand for: the definitions, and proofs of their
 //! laws.
 #![tactic(auto)]
+
+mod run_record;
+
+pub use run_record::RunRecord;
