@@ -18,9 +18,9 @@ HEADING = "## What the clauses of `run` reach"
 MEANING = "-- Meaning:"
 # The files of memories, sets and maps import it, and no clause speaks of it: their laws are proved from it.
 SHARED_BY_PROOFS = {"pp_keyed/specs/Keys.antt"}
-# Of this file the clauses name what steps cost at most alone, which speaks of steps and configurations. The machine, which it imports too, is
-# for the costs of an answer of the machine.
-NAMED_IN_PART = {"pp_rules/specs/Costs.antt"}
+# What the machine asks and answers. No clause speaks of it: of the files of costs and of evidence, which import these, the clauses name what
+# speaks of steps, starts and configurations alone.
+OF_THE_MACHINE = {"pp_rules/specs/Machines.antt", "pp_rules/specs/Stepping.antt", "pp_rules/src/machine.rt"}
 IMPORT = re.compile(r"^(\s*)(?:pub |ghost )*use Rattle\.(pp_\w+)\.specs\.([\w.]+)", re.MULTILINE)
 
 
@@ -38,8 +38,6 @@ def file_of(crate, path):
 
 def imports(file):
     """The files that a file imports: of the code of a type only those that its view imports."""
-    if str(file.relative_to(ROOT / "crates")) in NAMED_IN_PART:
-        return
     own_lines = file.suffix == ".antt" or file == ENTRY
     for indent, crate, path in IMPORT.findall(file.read_text()):
         if own_lines or indent:
@@ -50,7 +48,7 @@ def reached():
     done, left = set(), [ENTRY]
     while left:
         file = left.pop()
-        if file is not None and file not in done:
+        if file is not None and file not in done and str(file.relative_to(ROOT / "crates")) not in OF_THE_MACHINE:
             done.add(file)
             left.extend(imports(file))
     return {str(file.relative_to(ROOT / "crates")) for file in done if file.suffix == ".antt"}

@@ -9,7 +9,6 @@ use Rattle.pp_core.specs.declared.call.Kind.{Kind}
 use Rattle.pp_core.specs.declared.entry.CommittedTx.{CommittedTx}
 use Rattle.pp_core.specs.declared.status.Status.{Status}
 use Rattle.pp_core.specs.declared.status.Status.TheVariants as statuses
-use Rattle.pp_core.specs.Steps.{rule_of}
 use Rattle.pp_front.proofs.Whole.{one_run_law}
 use Rattle.pp_front.specs.Inputs.{Accepts, Faulty, IsReportBehind, IsRunReport, StartRejected}
 use Rattle.pp_front.specs.Inputs.{StepRejected}
@@ -34,7 +33,6 @@ use Rattle.pp_model.specs.Serial.{Attempt, attempts, committed_tx, serial, Simul
 use Rattle.pp_model.specs.Sound.{serial_ops}
 use Rattle.pp_model.proofs.Simulate.{finished_are, simulated}
 use Rattle.pp_report.specs.Reports.{accepted_text, fault_text, rejected_text}
-use Rattle.pp_rules.specs.Evidence.{evidence}
 use Rattle.pp_report.specs.declared.cause.Cause.{Cause}
 use Rattle.pp_report.specs.declared.cause.Cause.TheVariants.{TooManySteps}
 use Rattle.pp_rules.specs.Machines.{Seen}
@@ -47,8 +45,10 @@ use Rattle.pp_run.specs.Outputs.{IsCertified, IsOutput, IsRunTold, IsTold, RunRe
 use Rattle.pp_run.specs.declared.words.Command.{Command}
 use Rattle.pp_run.specs.declared.words.Command.TheVariants.{Certify}
 use Rattle.pp_run.specs.declared.progress.Rejection.{Rejection}
-use Rattle.pp_run.specs.Progresses.{Covers, IsRejected, IsRunning, standing_of}
+use Rattle.pp_run.specs.Progresses.{Covers, EndsAt, IsRejected, IsRejectionOf, IsRunning, standing_of}
+use Rattle.pp_run.specs.Rejected.{IsEvident, TellsEvident}
 use Rattle.pp_run.specs.declared.progress.Progress.{Progress}
+use Rattle.pp_run.specs.declared.progress.Progress.TheVariants.{Rejected as Rejecting}
 use Rattle.pp_run.proofs.Covering.{config_is, covers_few, covers_sound}
 use Rattle.pp_run.specs.Scans.{InputScan}
 use Rattle.pp_run.specs.declared.progress.Tally.{Tally}
@@ -60,11 +60,12 @@ entries_of (a ∷ as') = ap (λ l. a.items ∷ l) (entries_of as')
 pub serial_is : (as' : List (Attempt Op)) → serial_ops (map committed_tx as') ≡ serial as'
 serial_is as' = ap (λ (ls : List (List (Item Op))). ops (joined ls)) (entries_of as')
 
--- a report, told of a scan with this header
-told_of : (sc : InputScan) (o : Option (Lined Header)) (status : Status) (text : List ℕ) → sc.header ≡ o
-    → (report : RunReport) × IsRunReport setting_of o sc.records report × IsTold o report status text → IsRunTold sc status text
-told_of sc o status text is t =
-    subst (λ (w : Option (Lined Header)). (report : RunReport) × IsRunReport setting_of w sc.records report × IsTold w report status text) (sym is) t
+-- the report of a scan, of which this holds
+abbrev Reports : InputScan → Option (Lined Header) → (Option (Lined Header) → RunReport → Type 0) → Type 0
+Reports sc o P = (report : RunReport) × IsRunReport setting_of o sc.records report × P o report
+
+reported : (sc : InputScan) (o : Option (Lined Header)) (P : Option (Lined Header) → RunReport → Type 0) → sc.header ≡ o → Reports sc o P → Reports sc sc.header P
+reported sc o P is r = subst (λ (w : Option (Lined Header)). Reports sc w P) (sym is) r
 
 -- an accepted run: its committed transactions are its attempts
 module _ (sc : InputScan) (tally : Tally) (machine : Seen (List Kind) Op) (r : IsRunning sc tally machine) where
@@ -86,24 +87,55 @@ module _ (sc : InputScan) (tally : Tally) (machine : Seen (List Kind) Op) (r : I
       let end = (reading_law (object_of h) (translation_of h)).end (start_of h) sc.records (standing_of tally machine) machine.count r.stands in
       let printed : text ≡ accepted_text h.catalog (length run) (map committed_tx as') (state (object_of h) (serial as')) =
       text_is ∙ ap (λ k. accepted_text h.catalog k D states) (count_is ∙ r.stands.number) ∙ ap (λ E. accepted_text h.catalog (length run) E states) committed ∙ ap (accepted_text h.catalog (length run) (map committed_tx as')) same in
-      told_of sc (Some (record { line = r.follows.at; what = h })) statuses.Accepted text r.follows.header
+      reported sc (Some (record { line = r.follows.at; what = h })) (λ o report. IsTold o report statuses.Accepted text) r.follows.header
       (Accepts (length run) as' (state (object_of h) (serial as')), (run, Accepted, end.0, end.1, refl), (refl, printed))
 
--- a rejected run
-pub rejected_told : (sc : InputScan) (tally : Tally) (rejection : Rejection) (text : List ℕ) → IsRejected sc tally rejection
-    → text ≡ rejected_text tally.header.catalog rejection.step rejection.line rejection.rule rejection.criterion rejection.detail → IsRunTold sc statuses.Rejected text
-rejected_told sc tally rejection text r text_is =
-    let h = tally.header in
-    let e = r.ends in
-    let here = subst (λ (w : Records (RunRecord Op)). IsRejectedAt (object_of h) (translation_of h) (start_of h) w e.run (suc e.place) e.criterion) (append-nil sc.records) (e.stays []) in
-    let before = after (start_of h) (bare (take e.place e.run)) in
-    let printed : text ≡ rejected_text h.catalog (suc e.place) rejection.line (rule_of e.last) (suc e.criterion) (evidence objects (kinds_of h.catalog) before e.last (suc e.criterion)) =
-    text_is ∙ ap (λ (w : Rejection). rejected_text h.catalog w.step w.line w.rule w.criterion w.detail) e.is in
-    told_of sc (Some (record { line = r.follows.at; what = h })) statuses.Rejected text r.follows.header (
-      StepRejected (suc e.place) rejection.line (suc e.criterion) (after (start_of h) (bare (take e.place e.run))) e.last,
-      (e.run, Rejected (suc e.place) (suc e.criterion), here.run_is, here.verdict, (record { line = rejection.line; what = e.last }, e.there, refl)),
-      (refl, printed),
-    )
+-- a rejected run: what is printed, and what its evidence shows
+abbrev printed_of : Header → Rejection → List ℕ
+printed_of h w = rejected_text h.catalog w.step w.line w.rule w.criterion w.detail
+
+abbrev RejectedTold : Header → Rejection → Option (Lined Header) → RunReport → Type 0
+RejectedTold h rejection o report =
+    ((text : List ℕ) → text ≡ printed_of h rejection → IsTold o report statuses.Rejected text)
+    × TellsEvident o report
+
+module _ (sc : InputScan) (tally : Tally) (rejection : Rejection) (r : IsRejected sc tally rejection) where
+  rejected_report : Reports sc sc.header (RejectedTold tally.header rejection)
+  rejected_report = reported sc (Some head) (RejectedTold h rejection) r.follows.header (go e.number e.is here)
+    where
+      h : Header
+      h = tally.header
+
+      head : Lined Header
+      head = record { line = r.follows.at; what = h }
+
+      e : EndsAt tally.header r.follows.at sc.records rejection
+      e = r.ends
+
+      here : IsRejectedAt (object_of h) (translation_of h) (start_of h) sc.records e.run e.number e.criterion
+      here = subst (λ (w : Records (RunRecord Op)). IsRejectedAt (object_of h) (translation_of h) (start_of h) w e.run e.number e.criterion) (append-nil sc.records) (e.stays [])
+
+      go : (i : ℕ) → IsRejectionOf h r.follows.at e.run i (suc e.criterion) rejection → IsRejectedAt (object_of h) (translation_of h) (start_of h) sc.records e.run i e.criterion
+          → Reports sc (Some head) (RejectedTold h rejection)
+      go zero is at =
+          (StartRejected r.follows.at (suc e.criterion), (e.run, Rejected 0 (suc e.criterion), at.run_is, at.verdict, refl), (λ text printed. (refl, printed ∙ ap (printed_of h) is.0), is.1))
+      go (suc i) is at = (
+        StepRejected (suc i) rejection.line (suc e.criterion) (after (start_of h) (bare (take i e.run))) is.0,
+        (e.run, Rejected (suc i) (suc e.criterion), at.run_is, at.verdict, (record { line = rejection.line; what = is.0 }, is.1, refl)),
+        (λ text printed. (refl, printed ∙ ap (printed_of h) is.2), is.3),
+      )
+
+  pub rejected_told : (text : List ℕ) → text ≡ rejected_text tally.header.catalog rejection.step rejection.line rejection.rule rejection.criterion rejection.detail → IsRunTold sc statuses.Rejected text
+  rejected_told text is = let k = rejected_report in (k.0, k.1, k.2.0 text is)
+
+  -- every report of it tells such evidence, since there is one at most
+  pub rejected_evident : IsEvident sc
+  rejected_evident report is =
+      let k = rejected_report in
+      let p : Progress = Rejecting tally rejection in
+      let none : IsFaultOf sc None = inr (covers_few sc p r, sym (covers_sound sc p r)) in
+      let same : k.0 ≡ report = (input_law setting_of TooManySteps).one_report sc k.0 report (None, none, k.1) is in
+      subst (λ (w : RunReport). TellsEvident sc.header w) same k.2.1
 
 -- a fault
 told_fault : (o : Option (Lined Header)) (line : ℕ) (cause : Cause) (text : List ℕ) → text ≡ fault_text line cause → IsTold o (Faulty line cause) statuses.InputFault text
@@ -189,7 +221,7 @@ told_once None (Faulty line cause) s s' t t' a b = (a.0 ∙ sym b.0, a.1 ∙ sym
 told_once (Some h) (Faulty line cause) s s' t t' a b = (a.0 ∙ sym b.0, a.1 ∙ sym b.1)
 told_once None (Accepts n committed final) s s' t t' a b = absurd a
 told_once (Some h) (Accepts n committed final) s s' t t' a b = (a.0 ∙ sym b.0, a.1 ∙ sym b.1)
-told_once None (StartRejected line n) s s' t t' a b = (a.0 ∙ sym b.0, a.1 ∙ sym b.1)
+told_once None (StartRejected line n) s s' t t' a b = absurd a
 told_once (Some h) (StartRejected line n) s s' t t' a b = (a.0 ∙ sym b.0, a.1 ∙ sym b.1)
 told_once None (StepRejected i line n before step) s s' t t' a b = absurd a
 told_once (Some h) (StepRejected i line n before step) s s' t t' a b = (a.0 ∙ sym b.0, a.1 ∙ sym b.1)

@@ -1,10 +1,11 @@
 -- How far the counter of operations rises, line by line.
 use Rattle.std.specs.Prelude.{◌≡◌, ◌≤◌, ◌<◌, ◌+◌, ℕ, zero, suc, true, false, List, [], ◌∷◌}
-use Rattle.std.specs.Prelude.{◌++◌, length, filter, take, Option, None, Some, Ok}
+use Rattle.std.specs.Prelude.{◌++◌, length, filter, take, Option, None, Some, Result, Ok, Err}
 use Rattle.std.proofs.Common.{refl, sym, ap, ◌∙◌, subst, arith, length-append}
 use Rattle.std.proofs.lemmas.List.{append-nil, take_all}
 use Rattle.std.proofs.lemmas.List.Elements.{filter-append}
 use mathlib.Core.Logic.{inl, inr}
+use Rattle.pp_core.specs.declared.answer.OutOfMemory.{OutOfMemory}
 use Rattle.pp_core.specs.declared.call.Kind.{Kind}
 use Rattle.pp_core.specs.Steps.{Step, Begin, App, Unapp, Push, Unpush, Pull, Unpull, Cmt, Quit}
 use Rattle.pp_core.specs.Steps.{Note}
@@ -15,6 +16,7 @@ use Rattle.pp_front.proofs.Ends.{bare_append, length_bare}
 use Rattle.pp_front.proofs.Reading.{reading_law}
 use Rattle.pp_front.proofs.Whole.{extends_law, joined_more, one_run_law, unbegun}
 use Rattle.pp_io.specs.Lines.{NumberedLine, blank}
+use Rattle.pp_json.specs.declared.fault.RecordFault.{RecordFault}
 use Rattle.pp_json.specs.declared.header.Header.{Header}
 use Rattle.pp_json.specs.Headers.{header_of}
 use Rattle.pp_json.specs.Records.{record_of}
@@ -22,14 +24,16 @@ use Rattle.pp_model.specs.Config.{Config, Start, after_from, but_last, first, th
 use Rattle.pp_model.specs.Object.{Object}
 use Rattle.pp_object.specs.Objects.{place_of}
 use Rattle.pp_object.specs.declared.act.Op.{Op}
+use Rattle.pp_report.specs.declared.cause.Cause.{Cause}
 use Rattle.pp_rules.specs.Costs.{CostsInVain, at_most, step_ticks}
 use Rattle.pp_rules.specs.Machines.{Seen}
+use Rattle.pp_run.specs.Causes.{cause_of}
 use Rattle.pp_run.specs.Costs.{OfRun, StepsCostAtMost, is_single, most_ticks, singles}
-use Rattle.pp_run.specs.Costs.{start_behind, steps_at_most}
+use Rattle.pp_run.specs.Costs.{start_at_most, start_behind, steps_at_most}
 use Rattle.pp_run.specs.Objects.{object_of, start_of, translation_of}
-use Rattle.pp_run.specs.Progresses.{Counts, Covers, IsRejected, IsRunning, is_too_many, standing_of}
-use Rattle.pp_run.specs.Progresses.{steps_done, with_blank, with_record}
-use Rattle.pp_run.specs.Scans.{InputScan, nothing, scan_line, with_header, with_step}
+use Rattle.pp_run.specs.Progresses.{Counts, Covers, IsRejected, IsRunning, header_at_most}
+use Rattle.pp_run.specs.Progresses.{is_too_many, standing_of, steps_done, with_blank, with_record}
+use Rattle.pp_run.specs.Scans.{InputScan, nothing, scan_line, with_fault, with_header, with_step}
 use Rattle.pp_run.specs.declared.progress.Progress.{Progress}
 use Rattle.pp_run.specs.declared.progress.Progress.TheVariants.{Waiting, Running, Rejected}
 use Rattle.pp_run.specs.declared.progress.Rejection.{Rejection}
@@ -75,14 +79,19 @@ most_append c (x ∷ xs) ys =
     ap (λ (k : ℕ). at_most place_of c x + k) (most_append (then c x) xs ys)
     ∙ plus_more (at_most place_of c x) (most_ticks (then c x) xs) (most_ticks (after_from (then c x) xs) ys)
 
+-- where the steps are not too many, all of them cost
+few_steps : (start : Option (Start Op)) (xs : List (Step Op)) → length xs ≤ 200_000 → steps_at_most start xs ≡ start_at_most start + most_ticks (first start) xs
+few_steps start xs few = ap (λ (l : List (Step Op)). start_at_most start + most_ticks (first start) l) (take_all 200_000 xs few)
+
 -- the first steps of a list cost no more than those of a longer one
 most_front : (k : ℕ) (c : Config Op) (xs ys : List (Step Op)) → most_ticks c (take k xs) ≤ most_ticks c (take k (xs ++ ys))
 most_front zero c xs ys = nothing_less (most_ticks c (take zero (xs ++ ys)))
 most_front (suc k) c [] ys = nothing_less (most_ticks c (take (suc k) ys))
 most_front (suc k) c (x ∷ xs) ys = add_le (at_most place_of c x) (most_ticks (then c x) (take k xs)) (most_ticks (then c x) (take k (xs ++ ys))) (most_front k (then c x) xs ys)
 
-pub no_steps : (start : Option (Start Op)) → steps_at_most start [] ≡ 0
-no_steps start = ap (most_ticks (first start)) (take_all 200_000 [] (nothing_less 200_000))
+-- of a run without a step the start is all that costs
+no_steps : (start : Option (Start Op)) → steps_at_most start [] ≡ start_at_most start
+no_steps start = few_steps start [] (nothing_less 200_000) ∙ sym (plus_zero (start_at_most start))
 
 singles_append : (xs ys : List (Step Op)) → singles (xs ++ ys) ≡ singles xs + singles ys
 singles_append xs ys = ap (λ (l : List (Step Op)). length l) (filter-append is_single xs ys) ∙ length-append (filter is_single xs) (filter is_single ys)
@@ -184,7 +193,8 @@ most_wider sc wider more old new (Some h) is headers records most =
     let s = start_of h.what in
     let f = run_front h.what sc.records more run (subst (λ (w : Records (RunRecord Op)). IsRun (object_of h.what) (translation_of h.what) s w run) records r) in
     let here : new ≤ old + steps_at_most s (bare f.0) = subst (λ (w : Option (Lined Header)). OfRun w sc.records (Most old new)) is most f.0 f.2 in
-    let wide : steps_at_most s (bare f.0) ≤ steps_at_most s (bare f.0 ++ bare f.1) = most_front 200_000 (first s) (bare f.0) (bare f.1) in
+    let wide : steps_at_most s (bare f.0) ≤ steps_at_most s (bare f.0 ++ bare f.1) =
+    add_le (start_at_most s) (most_ticks (first s) (take 200_000 (bare f.0))) (most_ticks (first s) (take 200_000 (bare f.0 ++ bare f.1))) (most_front 200_000 (first s) (bare f.0) (bare f.1)) in
     let all : bare run ≡ bare f.0 ++ bare f.1 = ap (λ (w : LinedSteps Op). bare w) f.3 ∙ bare_append f.0 f.1 in
     up_more old new (steps_at_most s (bare f.0)) (steps_at_most s (bare run)) here (subst (λ (w : List (Step Op)). steps_at_most s (bare f.0) ≤ steps_at_most s w) (sym all) wide))
 
@@ -223,13 +233,16 @@ module _ (sc : InputScan) (tally : Tally) (machine : Seen (List Kind) Op) (r : I
         let ys : List (Step Op) = xs ++ step ∷ [] in
         let size : length xs ≡ machine.count = length_bare run_so_far ∙ sym r.stands.number in
         let here : now ≤ old + steps_at_most s xs = subst (λ (w : Option (Lined Header)). OfRun w sc.records (Most old now)) r.follows.header most run_so_far is_run_so_far in
-        let all : steps_at_most s xs ≡ most_ticks c xs = ap (most_ticks c) (take_all 200_000 xs (omega (arith, size, few))) in
-        let all' : steps_at_most s ys ≡ most_ticks c ys = ap (most_ticks c) (take_all 200_000 ys (omega (arith, size, few, length-append xs (step ∷ [])))) in
+        let z : ℕ = start_at_most s in
+        let all : steps_at_most s xs ≡ z + most_ticks c xs = few_steps s xs (omega (arith, size, few)) in
+        let all' : steps_at_most s ys ≡ z + most_ticks c ys = few_steps s ys (omega (arith, size, few, length-append xs (step ∷ []))) in
         let parts : most_ticks c ys ≡ most_ticks c xs + (at_most place_of (after_from c xs) step + 0) = most_append c xs (step ∷ []) in
         let there : after_from c xs ≡ machine.config = sym (config_is sc tally machine r) in
         let parts' : most_ticks c ys ≡ most_ticks c xs + (at_most place_of machine.config step + 0) = parts ∙ ap (λ (w : Config Op). most_ticks c xs + (at_most place_of w step + 0)) there in
+        let sum : z + most_ticks c ys ≡ (z + most_ticks c xs) + (at_most place_of machine.config step + 0) =
+        ap (λ (k : ℕ). z + k) parts' ∙ plus_more z (most_ticks c xs) (at_most place_of machine.config step + 0) in
         let bound : new ≤ old + steps_at_most s ys =
-        one_more_most old now new (most_ticks c xs) (most_ticks c ys) (steps_at_most s xs) (steps_at_most s ys) (at_most place_of machine.config step) cost here all all' parts' in
+        one_more_most old now new (z + most_ticks c xs) (z + most_ticks c ys) (steps_at_most s xs) (steps_at_most s ys) (at_most place_of machine.config step) cost here all all' sum in
         subst (λ (w : List (Step Op)). new ≤ old + steps_at_most s w) (sym (step_run run is)) bound)
 
     least_step : (next : Progress) (old now new : ℕ) → OfRun sc.header sc.records (Least (Running tally machine) old now) → now + singles (steps_done next (step ∷ [])) ≤ new
@@ -286,19 +299,66 @@ pub counts_blank : (sc : InputScan) (line : NumberedLine) (p : Progress) (old no
 counts_blank sc line p old now is c counts =
     subst (λ (s : InputScan). Counts s (with_blank p) old now) (sym (scan_blank sc line (covers_sound sc p c) is)) (blank_counts sc p old now counts)
 
-pub counts_header : (sc : InputScan) (line : NumberedLine) (header : Header) (lines : ℕ) (machine : Seen (List Kind) Op) (tally : Tally) (old now : ℕ) → sc ≡ nothing → blank line.1 ≡ false → header_of line.1 ≡ Ok header
-    → Counts sc (Waiting lines) old now → Counts (scan_line sc line) (Running tally machine) old now
-counts_header sc line header lines machine tally old now none other read counts =
-    let here = subst (λ (s : InputScan). Counts s (Waiting lines) old now) none counts in
-    let most : now ≤ old + steps_at_most None [] = here.most [] refl in
-    let least : old + singles [] ≤ now = here.least [] refl in
+-- ---- the header
+
+more_twice : (old now new a b : ℕ) → now ≤ old + 0 → new ≤ now + b → a ≡ b → new ≤ old + a
+more_twice old now new a b x y e = omega (arith, x, y, e)
+
+least_on : (old now new : ℕ) → old + 0 ≤ now → now ≤ new → old + 0 ≤ new
+least_on old now new x y = omega (arith, x, y)
+
+-- before the header nothing costs
+nothing_most : (old now : ℕ) → StepsCostAtMost nothing old now → now ≤ old + 0
+nothing_most old now most = subst (λ (k : ℕ). now ≤ old + k) (no_steps None) (most [] refl)
+
+-- no step is done where there is none
+none_done : (next : Progress) → singles (steps_done next []) ≡ 0
+none_done (Waiting lines) = refl
+none_done (Running tally machine) = refl
+none_done (Rejected tally rejection) = refl
+
+-- what the start costs, where the header was read
+start_most : (line : ℕ) (header : Header) (old now new : ℕ) → StepsCostAtMost nothing old now → new ≤ now + start_at_most (start_of header) → StepsCostAtMost (with_header nothing line (Ok header)) old new
+start_most line header old now new most cost = λ run is.
     let s = start_of header in
-    let none_more : now ≤ old + steps_at_most s [] = up_more old now (steps_at_most None []) (steps_at_most s []) most (subst (λ (k : ℕ). k ≤ steps_at_most s []) (sym (no_steps None)) (nothing_less (steps_at_most s []))) in
-    let more : Counts (with_header nothing line.0 (Ok header)) (Running tally machine) old now = record {
-      most = λ run is. subst (λ (w : LinedSteps Op). now ≤ old + steps_at_most s (bare w)) (sym (empty_run header run is)) none_more;
-      least = λ run is. subst (λ (w : LinedSteps Op). old + singles (bare w) ≤ now) (sym (empty_run header run is)) least;
-    } in
-    subst (λ (s : InputScan). Counts s (Running tally machine) old now) (sym (ap (λ (s : InputScan). scan_line s line) none ∙ scan_header nothing line (Ok header) refl refl other read)) more
+    subst (λ (w : LinedSteps Op). new ≤ old + steps_at_most s (bare w)) (sym (empty_run header run is))
+    (more_twice old now new (steps_at_most s []) (start_at_most s) (nothing_most old now most) cost (no_steps s))
+
+no_start_most : (line : ℕ) (r : Result Cause OutOfMemory) (old now new : ℕ) → StepsCostAtMost nothing old now → new ≤ now + 0 → StepsCostAtMost (with_fault nothing line r) old new
+no_start_most line r old now new most cost = go r
+  where
+    bound : OfRun None [] (Most old new)
+    bound = λ run is. subst (λ (w : LinedSteps Op). new ≤ old + steps_at_most None (bare w)) (sym is)
+        (more_twice old now new (steps_at_most None []) 0 (nothing_most old now most) cost (no_steps None))
+
+    go : (q : Result Cause OutOfMemory) → StepsCostAtMost (with_fault nothing line q) old new
+    go (Ok cause) = bound
+    go (Err refused) = bound
+
+header_most : (line : ℕ) (r : Result Header RecordFault) (old now new : ℕ) → StepsCostAtMost nothing old now → new ≤ now + header_at_most r → StepsCostAtMost (with_header nothing line r) old new
+header_most line (Ok header) old now new most cost = start_most line header old now new most cost
+header_most line (Err fault) old now new most cost = no_start_most line (cause_of fault) old now new most cost
+
+-- its line, whether it is taken or memory is refused at it
+pub header_taken : (sc : InputScan) (line : NumberedLine) (lines : ℕ) (old now new : ℕ) → sc ≡ nothing → blank line.1 ≡ false → new ≤ now + header_at_most (header_of line.1)
+    → Counts sc (Waiting lines) old now → StepsCostAtMost (scan_line sc line) old new
+header_taken sc line lines old now new none other cost counts =
+    let before : StepsCostAtMost nothing old now = subst (λ (s : InputScan). StepsCostAtMost s old now) none counts.most in
+    subst (λ (s : InputScan). StepsCostAtMost s old new) (sym (ap (λ (s : InputScan). scan_line s line) none ∙ scan_header nothing line (header_of line.1) refl refl other refl))
+    (header_most line.0 (header_of line.1) old now new before cost)
+
+pub counts_header : (sc : InputScan) (line : NumberedLine) (header : Header) (lines : ℕ) (next : Progress) (old now new : ℕ) → sc ≡ nothing → blank line.1 ≡ false → header_of line.1 ≡ Ok header
+    → now ≤ new → new ≤ now + header_at_most (header_of line.1) → Counts sc (Waiting lines) old now → Counts (scan_line sc line) next old new
+counts_header sc line header lines next old now new none other read rises cost counts =
+    let here = subst (λ (s : InputScan). Counts s (Waiting lines) old now) none counts in
+    let least : old + singles (steps_done next []) ≤ new = subst (λ (k : ℕ). old + k ≤ new) (sym (none_done next)) (least_on old now new (here.least [] refl) rises) in
+    let there : InputScan = with_header nothing line.0 (Ok header) in
+    let after_it : scan_line sc line ≡ there = ap (λ (s : InputScan). scan_line s line) none ∙ scan_header nothing line (Ok header) refl refl other read in
+    record {
+      most = header_taken sc line lines old now new none other cost counts;
+      least = subst (λ (s : InputScan). OfRun s.header s.records (Least next old new)) (sym after_it)
+          (λ run is. subst (λ (w : LinedSteps Op). old + singles (steps_done next (bare w)) ≤ new) (sym (empty_run header run is)) least);
+    }
 
 pub counts_nothing : (old : ℕ) → Counts nothing (Waiting 0) old old
 counts_nothing old =

@@ -13,7 +13,7 @@ use Rattle.pp_core.specs.declared.call.Kind.{Kind}
 use Rattle.pp_core.specs.declared.limits.TheConstants.{MOST_TRANSACTIONS}
 use Rattle.pp_core.specs.Steps.{Step, rule_of}
 use Rattle.pp_front.specs.Inputs.{OverrunsAt}
-use Rattle.pp_front.specs.Laws.{IsRejectedAt}
+use Rattle.pp_front.specs.Laws.{IsRejectedAt, ReadingLaw}
 use Rattle.pp_front.specs.Records.{RunRecord, Plain}
 use Rattle.pp_front.specs.Fronts.{Front}
 use Rattle.pp_front.specs.Runs.{Lined, LinedSteps, Records, Standing, bare, joined_steps, outset}
@@ -39,8 +39,9 @@ use Rattle.pp_run.specs.Objects.{object_of, setting_of, start_of, translation_of
 use Rattle.pp_run.specs.Scans.{InputScan, begins, is_begin, is_begin_record, nothing, scan_line}
 use Rattle.pp_run.specs.Scans.{with_fault, with_header, with_step}
 use Rattle.pp_run.specs.Progresses.{Covers, EndsAt, IsTallied, IsRefused, IsRejected, IsRunning}
-use Rattle.pp_run.specs.Progresses.{StepTaken, is_too_many, lines_of, rejection_of, with_blank}
-use Rattle.pp_run.specs.Progresses.{standing_of, with_line, with_record}
+use Rattle.pp_run.specs.Progresses.{StartTaken, StepTaken, is_too_many, lines_of, rejection_of}
+use Rattle.pp_run.specs.Progresses.{standing_of, start_rejection, with_blank, with_line, with_record}
+use Rattle.pp_run.specs.Rejected.{IsStepEvident}
 use Rattle.pp_run.specs.declared.progress.Progress.{Progress}
 use Rattle.pp_run.specs.declared.progress.Progress.TheVariants.{Waiting, Running, Rejected}
 use Rattle.pp_run.specs.declared.progress.Rejection.{Rejection}
@@ -68,6 +69,7 @@ follows_line : (sc : InputScan) (tally : Tally) → IsTallied sc tally → IsTal
 follows_line sc tally f = record { at = f.at; header = f.header; sound = f.sound; begun = f.begun; fewer = omega (arith, f.fewer) }
 
 skip_covers : (sc : InputScan) (p : Progress) → Covers sc p → Covers sc (with_blank p)
+unfolding follows_line
 skip_covers sc (Waiting lines) c = c
 skip_covers sc (Running tally machine) c = record { follows = follows_line sc tally c.follows; shape = c.shape; stands = c.stands; count = c.count }
 skip_covers sc (Rejected tally rejection) c = record { follows = follows_line sc tally c.follows; ends = c.ends }
@@ -94,7 +96,7 @@ covers_few sc (Running tally machine) c line over =
     ((reading_law (object_of h) (translation_of h)).end (start_of h) sc.records (standing_of tally machine) machine.count c.stands).2 line over
 covers_few sc (Rejected tally rejection) c line over =
     let h = tally.header in
-    let rejected = subst (λ (w : Records (RunRecord Op)). IsRejectedAt (object_of h) (translation_of h) (start_of h) w c.ends.run (suc c.ends.place) c.ends.criterion) (append-nil sc.records) (c.ends.stays []) in
+    let rejected = subst (λ (w : Records (RunRecord Op)). IsRejectedAt (object_of h) (translation_of h) (start_of h) w c.ends.run c.ends.number c.ends.criterion) (append-nil sc.records) (c.ends.stays []) in
     few_of tally sc.header c.follows.at sc.records c.follows.header rejected.few line over
 
 -- the fault of a scan, where the lines before it led to here
@@ -103,18 +105,39 @@ cover_fault sc p x c = inr (covers_few sc p c, refl)
 
 -- ---- the header
 
-pub cover_header : (sc : InputScan) (line : NumberedLine) (header : Header) → sc ≡ nothing → blank line.1 ≡ false → 0 < line.0 → header_of line.1 ≡ Ok header
-    → Covers (scan_line sc line) (Running (record { header = header; lines = line.0; begins = 0 }) (record { shape = kinds_of header.catalog; config = first (start_of header); count = 0 }))
-cover_header sc line header none other positive read =
-    let tally : Tally = record { header = header; lines = line.0; begins = 0 } in
-    let machine : Seen (List Kind) Op = record { shape = kinds_of header.catalog; config = first (start_of header); count = 0 } in
-    let running : IsRunning (with_header nothing line.0 (Ok header)) tally machine = record {
-      follows = record { at = line.0; header = refl; sound = refl; begun = refl; fewer = positive };
-      shape = refl;
-      stands = (reading_law (object_of header) (translation_of header)).nothing (start_of header) refl;
-      count = refl;
-    } in
-    subst (λ (s : InputScan). Covers s (Running tally machine)) (sym (ap (λ (s : InputScan). scan_line s line) none ∙ scan_header nothing line (Ok header) refl refl other read)) running
+pub cover_header : (sc : InputScan) (line : NumberedLine) (header : Header) (next : Progress) → sc ≡ nothing → blank line.1 ≡ false → 0 < line.0 → header_of line.1 ≡ Ok header
+    → StartTaken (record { header = header; lines = line.0; begins = 0 }) line.0 next → Covers (scan_line sc line) next
+cover_header sc line header next none other positive read taken =
+    subst (λ (s : InputScan). Covers s next) (sym (ap (λ (s : InputScan). scan_line s line) none ∙ scan_header nothing line (Ok header) refl refl other read)) (go next taken)
+  where
+    tally : Tally
+    tally = record { header = header; lines = line.0; begins = 0 }
+
+    law : ReadingLaw (object_of header) (translation_of header)
+    law = reading_law (object_of header) (translation_of header)
+
+    follows : IsTallied (with_header nothing line.0 (Ok header)) tally
+    follows = record { at = line.0; header = refl; sound = refl; begun = refl; fewer = positive }
+
+    go : (p : Progress) → StartTaken tally line.0 p → Covers (with_header nothing line.0 (Ok header)) p
+    go p (inl done) =
+        let machine : Seen (List Kind) Op = record { shape = kinds_of header.catalog; config = first (start_of header); count = 0 } in
+        let running : IsRunning (with_header nothing line.0 (Ok header)) tally machine = record { follows = follows; shape = refl; stands = law.nothing (start_of header) done.0; count = refl } in
+        subst (λ (w : Progress). Covers (with_header nothing line.0 (Ok header)) w) (sym done.1) running
+    go p (inr (zero, some, fails, is, fits, evident)) = absurd (omega arith)
+    go p (inr (suc n, some, fails, is, fits, evident)) =
+        let rejected : IsRejected (with_header nothing line.0 (Ok header)) tally (start_rejection header line.0 (suc n)) = record {
+          follows = follows;
+          ends = record {
+            run = [];
+            number = 0;
+            criterion = n;
+            is = (refl, evident);
+            named = fits;
+            stays = λ more. law.unbegun (start_of header) more n fails;
+          };
+        } in
+        subst (λ (w : Progress). Covers (with_header nothing line.0 (Ok header)) w) (sym is) rejected
 
 pub cover_header_fault : (sc : InputScan) (line : NumberedLine) (lines : ℕ) (fault : RecordFault) (cause : Cause) → sc ≡ nothing → blank line.1 ≡ false → header_of line.1 ≡ Err fault → cause_of fault ≡ Ok cause
     → IsFaultOf (scan_line sc line) (Some (line.0, cause))
@@ -194,9 +217,10 @@ config_before sc tally machine c one =
     ∙ ap (λ (k : ℕ). after (start_of h) (bare (take k (before ++ one ∷ [])))) (sym c.stands.number)
 
 -- the step is the first that fails
-ends_now : (sc : InputScan) (tally : Tally) (machine : Seen (List Kind) Op) (line : ℕ) (step : Step Op) (n : ℕ) → IsRunning sc tally machine → length sc.records < 200_000
-    → Breaks (object_of tally.header) machine.config step (suc n) → Fits objects machine.shape (evidence objects machine.shape machine.config step (suc n)) → EndsAt tally.header (with_step sc line step).records (rejection_of machine step line (suc n))
-ends_now sc tally machine line step n c few fails fits =
+ends_now : (sc : InputScan) (tally : Tally) (machine : Seen (List Kind) Op) (line : ℕ) (step : Step Op) (n : ℕ) (c : IsRunning sc tally machine) → length sc.records < 200_000
+    → Breaks (object_of tally.header) machine.config step (suc n) → Fits objects machine.shape (evidence objects machine.shape machine.config step (suc n)) → IsStepEvident machine.shape machine.config step (suc n)
+    → EndsAt tally.header c.follows.at (with_step sc line step).records (rejection_of machine step line (suc n))
+ends_now sc tally machine line step n c few fails fits evident =
     let h = tally.header in
     let before : LinedSteps Op = joined_steps (translation_of h) (outset (translation_of h) (start_of h)) sc.records in
     let one : Lined (Step Op) = record { line = line; what = step } in
@@ -209,13 +233,17 @@ ends_now sc tally machine line step n c few fails fits =
     ∙ ap (λ (w : Config Op). evidence objects (kinds_of h.catalog) w step (suc n)) (config_before sc tally machine c one) in
     record {
       run = run;
-      place = machine.count;
+      number = suc machine.count;
       criterion = n;
-      last = step;
-      is = ap (λ (k : ℕ). let r : Rejection = record { step = k; line = line; rule = rule_of step; criterion = suc n; detail = evidence objects machine.shape machine.config step (suc n) } in r) (sym number)
-          ∙ ap (λ (d : Detail Op). let r : Rejection = record { step = suc machine.count; line = line; rule = rule_of step; criterion = suc n; detail = d } in r) told;
+      is = (
+        step,
+        get_last before one machine.count c.stands.number,
+        ap (λ (k : ℕ). let r : Rejection = record { step = k; line = line; rule = rule_of step; criterion = suc n; detail = evidence objects machine.shape machine.config step (suc n) } in r) (sym number)
+            ∙ ap (λ (d : Detail Op). let r : Rejection = record { step = suc machine.count; line = line; rule = rule_of step; criterion = suc n; detail = d } in r) told,
+        subst (λ (w : Config Op). IsStepEvident (kinds_of h.catalog) w step (suc n)) (config_before sc tally machine c one)
+            (subst (λ (k : List Kind). IsStepEvident k machine.config step (suc n)) c.shape evident),
+      );
       named = subst (λ (k : List Kind). Fits objects k (evidence objects machine.shape machine.config step (suc n))) c.shape fits;
-      there = get_last before one machine.count c.stands.number;
       stays = λ more.
           let law = (reading_law (object_of h) (translation_of h)).fails (start_of h) sc.records more (standing_of tally machine) machine.count (on_record line step) [] [] step n c.stands refl tt room fails in
           subst (λ (w : Records (RunRecord Op)). IsRejectedAt (object_of h) (translation_of h) (start_of h) w run (suc machine.count) n) (sym (append_assoc sc.records (on_record line step ∷ []) more))
@@ -224,6 +252,7 @@ ends_now sc tally machine line step n c few fails fits =
 
 pub cover_step : (sc : InputScan) (tally : Tally) (machine : Seen (List Kind) Op) (line : NumberedLine) (step : Step Op) (next : Progress) → IsRunning sc tally machine → length sc.records < 200_000 → blank line.1 ≡ false
     → record_of tally.header line.1 ≡ Ok step → is_too_many tally step ≡ false → StepTaken (with_record tally step) machine step line.0 next → Covers (scan_line sc line) next
+unfolding follows_step
 cover_step sc tally machine line step next c few other read begun (inl done) =
     let h = tally.header in
     let holds : Meets (object_of h) machine.config step = at_shape machine tally step 0 c.shape done.0 in
@@ -235,18 +264,19 @@ cover_step sc tally machine line step next c few other read begun (inl done) =
       count = omega (arith, c.count, length-append sc.records (on_record line.0 step ∷ []));
     } in
     subst (λ (p : Progress). Covers (scan_line sc line) p) (sym done.1) (subst (λ (s : InputScan). Covers s (Running (with_record tally step) (stepped machine step))) (sym (scan_step sc tally c.follows line other step read begun)) running)
-cover_step sc tally machine line step next c few other read begun (inr (zero, positive, fails, is, fits)) = absurd (omega arith)
-cover_step sc tally machine line step next c few other read begun (inr (suc n, positive, fails, is, fits)) =
+cover_step sc tally machine line step next c few other read begun (inr (zero, positive, fails, is, fits, evident)) = absurd (omega arith)
+cover_step sc tally machine line step next c few other read begun (inr (suc n, positive, fails, is, fits, evident)) =
     let rejection : Rejection = rejection_of machine step line.0 (suc n) in
     let rejected : IsRejected (with_step sc line.0 step) (with_record tally step) rejection = record {
       follows = follows_step sc tally c.follows line other step;
-      ends = ends_now sc tally machine line.0 step n c few (at_shape machine tally step (suc n) c.shape fails) fits;
+      ends = ends_now sc tally machine line.0 step n c few (at_shape machine tally step (suc n) c.shape fails) fits evident;
     } in
     subst (λ (p : Progress). Covers (scan_line sc line) p) (sym is)
     (subst (λ (s : InputScan). IsRejected s (with_record tally step) rejection) (sym (scan_step sc tally c.follows line other step read begun)) rejected)
 
 pub cover_rejected : (sc : InputScan) (tally : Tally) (rejection : Rejection) (line : NumberedLine) (step : Step Op) → IsRejected sc tally rejection → blank line.1 ≡ false
     → record_of tally.header line.1 ≡ Ok step → is_too_many tally step ≡ false → Covers (scan_line sc line) (Rejected (with_record tally step) rejection)
+unfolding follows_step
 cover_rejected sc tally rejection line step c other read few =
     let h = tally.header in
     let e = c.ends in
@@ -254,14 +284,12 @@ cover_rejected sc tally rejection line step c other read few =
       follows = follows_step sc tally c.follows line other step;
       ends = record {
         run = e.run;
-        place = e.place;
+        number = e.number;
         criterion = e.criterion;
-        last = e.last;
         is = e.is;
         named = e.named;
-        there = e.there;
         stays = λ more.
-            subst (λ (w : Records (RunRecord Op)). IsRejectedAt (object_of h) (translation_of h) (start_of h) w e.run (suc e.place) e.criterion)
+            subst (λ (w : Records (RunRecord Op)). IsRejectedAt (object_of h) (translation_of h) (start_of h) w e.run e.number e.criterion)
             (sym (append_assoc sc.records (on_record line.0 step ∷ []) more)) (e.stays (on_record line.0 step ∷ more));
       };
     } in
@@ -276,4 +304,8 @@ blank_lines (Rejected tally rejection) = refl
 
 pub step_lines : (tally : Tally) (machine : Seen (List Kind) Op) (step : Step Op) (line : ℕ) (next : Progress) → StepTaken tally machine step line next → lines_of next ≡ tally.lines
 step_lines tally machine step line next (inl done) = ap lines_of done.1
-step_lines tally machine step line next (inr (n, positive, fails, is, fits)) = ap lines_of is
+step_lines tally machine step line next (inr (n, positive, fails, is, fits, evident)) = ap lines_of is
+
+pub start_lines : (tally : Tally) (line : ℕ) (next : Progress) → StartTaken tally line next → lines_of next ≡ tally.lines
+start_lines tally line next (inl done) = ap lines_of done.1
+start_lines tally line next (inr (n, positive, fails, is, fits, evident)) = ap lines_of is

@@ -2,6 +2,7 @@ pub mod Scanning
 pub mod Widening
 pub mod Covering
 pub mod Counting
+pub mod Starting
 pub mod Takers
 pub mod Examining
 pub mod Fitting

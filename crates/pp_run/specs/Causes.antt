@@ -18,6 +18,7 @@ cause_of faults.UnknownStyle = Ok causes.UnknownStyle
 cause_of faults.UnknownKind = Ok causes.UnknownKind
 cause_of faults.RepeatedObject = Ok causes.RepeatedObject
 cause_of faults.TooManyObjects = Ok causes.TooManyObjects
+cause_of faults.TooManyStart = Ok causes.TooManyStart
 cause_of faults.UnknownObject = Ok causes.UnknownObject
 cause_of faults.UnknownCall = Ok causes.UnknownCall
 cause_of faults.UnknownStep = Ok causes.UnknownStep

@@ -1,10 +1,11 @@
 -- Meaning: how far a command raises the counter of operations that are applied or taken back.
-use Rattle.std.specs.Prelude.{◌≡◌, ◌≤◌, ◌+◌, ℕ, Bool, true, false, List, [], ◌∷◌, filter, length}
-use Rattle.std.specs.Prelude.{take, Option, None, Some}
+use Rattle.std.specs.Prelude.{◌≡◌, ◌≤◌, ◌+◌, ◌*◌, ℕ, Bool, true, false, List, [], ◌∷◌, filter}
+use Rattle.std.specs.Prelude.{length, take, Option, None, Some}
 use Rattle.pp_core.specs.declared.limits.TheConstants.{MOST_STEPS}
 use Rattle.pp_core.specs.declared.status.Status.{Status}
 use Rattle.pp_core.specs.declared.status.Status.TheVariants as statuses
-use Rattle.pp_core.specs.Steps.{Step, App, Unapp, Push, Pull}
+use Rattle.pp_core.specs.Steps.{Step, Begin, App, Unapp, Push, Unpush, Pull, Unpull, Cmt, Quit}
+use Rattle.pp_core.specs.Steps.{Note}
 use Rattle.pp_front.specs.Records.{RunRecord}
 use Rattle.pp_front.specs.Runs.{IsRun, Lined, LinedSteps, Records, bare}
 use Rattle.pp_json.specs.declared.header.Header.{Header}
@@ -42,17 +43,27 @@ abbrev pub most_ticks : Config Op → List (Step Op) → ℕ
 most_ticks c [] = 0
 most_ticks c (step ∷ steps) = at_most place_of c step + most_ticks (then c step) steps
 
--- what the first 200,000 steps of a run cost at most
+-- what the start costs at most: two for each of its operations
+abbrev pub start_at_most : Option (Start Op) → ℕ
+start_at_most None = 0
+start_at_most (Some z) = 2 * length z.items
+
+-- what the start and the first 200,000 steps of a run cost at most
 abbrev pub steps_at_most : Option (Start Op) → List (Step Op) → ℕ
-steps_at_most start steps = most_ticks (first start) (take MOST_STEPS steps)
+steps_at_most start steps = start_at_most start + most_ticks (first start) (take MOST_STEPS steps)
 
 -- a step that applies or takes back one operation where it meets its criteria
 abbrev pub is_single : Step Op → Bool
+is_single (Begin t p b) = false
 is_single (App t id op) = true
 is_single (Unapp t id) = true
 is_single (Push t id) = true
+is_single (Unpush t id) = false
 is_single (Pull t id) = true
-is_single _ = false
+is_single (Unpull t id) = false
+is_single (Cmt t) = false
+is_single (Quit t) = false
+is_single (Note t) = false
 
 -- how many of the steps are such
 abbrev pub singles : List (Step Op) → ℕ
@@ -69,11 +80,16 @@ abbrev pub most_of_run : Option (Start Op) → List (Step Op) → ℕ
 most_of_run start steps = steps_at_most start steps + serial_length start steps
 
 -- What certifying a run costs at least, by its verdict. Of an accepted run each step meets its
--- criteria, and of a rejected one each but the last.
+-- criteria, and of a rejected one each but the last; a start counts nothing here. Without a verdict
+-- it is 0, which says only that no count is taken back.
 abbrev pub least_of_run : Status → Option (Start Op) → List (Step Op) → ℕ
 least_of_run statuses.Accepted start steps = singles steps + serial_length start steps
 least_of_run statuses.Rejected start steps = singles (but_last steps)
-least_of_run _ start steps = 0
+least_of_run statuses.BadWords start steps = 0
+least_of_run statuses.InputFault start steps = 0
+least_of_run statuses.ReadFault start steps = 0
+least_of_run statuses.WriteFault start steps = 0
+least_of_run statuses.OutOfMemory start steps = 0
 
 -- ---- the bounds
 
@@ -87,7 +103,7 @@ abbrev pub CostsAtLeast : Status → InputScan → (old new : ℕ) → Type 0
 CostsAtLeast status sc old new =
     OfRun sc.header sc.records λ start steps. old + least_of_run status start steps ≤ new
 
--- the same of its steps alone, without the serial run
+-- the same of its start and its steps alone, without the serial run
 abbrev pub StepsCostAtMost : InputScan → (old new : ℕ) → Type 0
 StepsCostAtMost sc old new =
     OfRun sc.header sc.records λ start steps. new ≤ old + steps_at_most start steps

@@ -11,3 +11,4 @@ pub mod Takers
 pub mod Findings
 pub mod Certified
 pub mod Accepted
+pub mod Rejected

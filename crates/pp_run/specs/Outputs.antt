@@ -1,26 +1,31 @@
 -- Meaning: what a command prints, and how it ends.
-use Rattle.std.specs.Prelude.{◌≡◌, ℕ, List, [], ◌++◌, codes, map, Option, None, Some}
-use Rattle.std.specs.Fmt.{decimal}
+use Rattle.std.specs.Prelude.{◌≡◌, ℕ, List, [], map, Option, None, Some}
 use Rattle.std.specs.Io.KnownBytes.{Appends}
+use Rattle.pp_core.specs.declared.call.Kind.{Kind}
 use Rattle.pp_core.specs.declared.status.Status.{Status}
 use Rattle.pp_core.specs.declared.status.Status.TheVariants as statuses
+use Rattle.pp_core.specs.declared.step.Rule.TheVariants as rules
 use Rattle.pp_core.specs.Steps.{rule_of}
 use Rattle.pp_front.specs.Inputs.{Accepts, Faulty, IsReport, IsRunReport, Report, StartRejected}
 use Rattle.pp_front.specs.Inputs.{StepRejected}
 use Rattle.pp_front.specs.Runs.{Lined}
 use Rattle.pp_json.specs.declared.header.Header.{Header}
+use Rattle.pp_model.specs.Config.{Start}
 use Rattle.pp_model.specs.Serial.{committed_tx}
 use Rattle.pp_object.specs.Objects.{kinds_of, objects}
 use Rattle.pp_object.specs.declared.act.Op.{Op}
 use Rattle.pp_object.specs.declared.states.ObjectState.{ObjectState}
-use Rattle.pp_report.specs.Reports.{accepted_text, fault_text, line, rejected_text}
+use Rattle.pp_report.specs.Reports.{accepted_text, fault_text, rejected_text}
 use Rattle.pp_report.specs.declared.cause.Cause.{Cause}
 use Rattle.pp_report.specs.declared.cause.Cause.TheVariants.{TooManySteps}
 use Rattle.pp_rules.specs.Evidence.{evidence}
+use Rattle.pp_rules.specs.Starts.{start_evidence}
+use Rattle.pp_rules.specs.declared.detail.Detail.{Detail}
+use Rattle.pp_rules.specs.declared.detail.Detail.TheVariants.{Nothing}
 use Rattle.pp_run.specs.declared.words.Command.{Command}
 use Rattle.pp_run.specs.declared.words.Command.TheVariants.{Certify}
 use Rattle.pp_run.specs.Inputs.{scan}
-use Rattle.pp_run.specs.Objects.{setting_of}
+use Rattle.pp_run.specs.Objects.{setting_of, start_of}
 use Rattle.pp_run.specs.Scans.{InputScan}
 use Rattle.pp_run.specs.Writing.{AppendsPrefix}
 
@@ -28,22 +33,26 @@ use Rattle.pp_run.specs.Writing.{AppendsPrefix}
 abbrev pub RunReport : Type 0
 RunReport = Report Op (List ObjectState) Cause
 
--- the text of a start that is rejected, with the line of the header
-abbrev pub rejected_start_text : ℕ → ℕ → List ℕ
-rejected_start_text at_line criterion =
-    line (codes "rejected step 0 line " ++ decimal at_line ++ codes " START " ++ decimal criterion)
+-- the evidence of a start over objects of these kinds, whose first false criterion has this number
+abbrev pub detail_of_start : List Kind → Option (Start Op) → ℕ → Detail Op
+detail_of_start kinds None criterion = Nothing
+detail_of_start kinds (Some z) criterion = start_evidence objects kinds z criterion
 
 -- The status and the text of a report. Accepted: the committed transactions, each with its own
 -- operations, and the state that they lead to one after another. Rejected: the step and its least
--- false criterion, with the evidence in the configuration before it.
+-- false criterion, with the evidence in the configuration before it; step 0 is the start, and its
+-- line is that of the header.
 abbrev pub IsTold : Option (Lined Header) → RunReport → Status → List ℕ → Type 0
 IsTold header (Faulty at_line cause) status text =
     (status ≡ statuses.InputFault) × (text ≡ fault_text at_line cause)
 IsTold None (Accepts steps committed final) status text = ⊥
 IsTold (Some header) (Accepts steps committed final) status text = (status ≡ statuses.Accepted)
     × (text ≡ accepted_text header.what.catalog steps (map committed_tx committed) final)
-IsTold header (StartRejected at_line criterion) status text =
-    (status ≡ statuses.Rejected) × (text ≡ rejected_start_text at_line criterion)
+IsTold None (StartRejected at_line criterion) status text = ⊥
+IsTold (Some header) (StartRejected at_line criterion) status text =
+    let kinds = kinds_of header.what.catalog in (status ≡ statuses.Rejected)
+    × (text ≡ rejected_text header.what.catalog 0 at_line rules.Start criterion
+    (detail_of_start kinds (start_of header.what) criterion))
 IsTold None (StepRejected number at_line criterion before step) status text = ⊥
 IsTold (Some header) (StepRejected number at_line criterion before step) status text =
     let kinds = kinds_of header.what.catalog in (status ≡ statuses.Rejected)

@@ -1,8 +1,10 @@
 -- Proof machinery: where the examination of a run stands after some of its lines.
-use Rattle.std.specs.Prelude.{◌≡◌, ℕ, suc, ◌+◌, ◌<◌, ◌≤◌, Bool, true, ◌==◌, ◌&&◌, ◌⊎◌, List, ◌++◌}
-use Rattle.std.specs.Prelude.{length, slice_get, take, if◌then◌else◌, None, Some, Result, Ok, Err}
+use Rattle.std.specs.Prelude.{◌≡◌, ℕ, zero, suc, ◌+◌, ◌<◌, ◌≤◌, Bool, true, ◌==◌, ◌&&◌, ◌⊎◌, List}
+use Rattle.std.specs.Prelude.{◌++◌, length, slice_get, take, if◌then◌else◌, None, Some, Result, Ok}
+use Rattle.std.specs.Prelude.{Err}
 use Rattle.pp_core.specs.declared.call.Kind.{Kind}
 use Rattle.pp_core.specs.declared.limits.TheConstants.{MOST_LINES, MOST_TRANSACTIONS}
+use Rattle.pp_core.specs.declared.step.Rule.TheVariants as rules
 use Rattle.pp_core.specs.Steps.{Step, rule_of}
 use Rattle.pp_front.specs.Fronts.{Front, new_front}
 use Rattle.pp_front.specs.Laws.{IsRejectedAt, StandsAt}
@@ -13,22 +15,26 @@ use Rattle.pp_object.specs.declared.act.Op.{Op}
 use Rattle.pp_object.specs.Objects.{kinds_of, objects}
 use Rattle.pp_json.specs.declared.fault.RecordFault.{RecordFault}
 use Rattle.pp_json.specs.declared.header.Header.{Header}
-use Rattle.pp_model.specs.Config.{after, but_last}
-use Rattle.pp_model.specs.Rules.{Breaks, Meets}
+use Rattle.pp_model.specs.Config.{after, but_last, first}
+use Rattle.pp_model.specs.Rules.{Breaks, Meets, StartBreaks, StartMeets}
 use Rattle.pp_run.specs.Causes.{cause_of}
 use Rattle.pp_report.specs.declared.cause.Cause.{Cause}
 use Rattle.pp_report.specs.declared.cause.Cause.TheVariants.{TooManyTransactions}
 use Rattle.pp_report.specs.Reports.{IsDetailNamed}
 use Rattle.pp_rules.specs.Machines.{Seen, stepped}
 use Rattle.pp_rules.specs.Evidence.{Fits, evidence}
+use Rattle.pp_rules.specs.declared.machine.Outcome.{Outcome}
+use Rattle.pp_rules.specs.declared.machine.Outcome.TheVariants.{Done, False}
 use Rattle.pp_spec.specs.Object.{rules_of}
 use Rattle.pp_run.specs.declared.progress.Progress.{Progress}
 use Rattle.pp_run.specs.declared.progress.Progress.TheVariants.{Waiting, Running, Rejected}
 use Rattle.pp_run.specs.declared.progress.Rejection.{Rejection}
 use Rattle.pp_run.specs.declared.progress.Tally.{Tally}
-use Rattle.pp_run.specs.Costs.{OfRun, StepsCostAtMost, singles}
+use Rattle.pp_run.specs.Costs.{OfRun, StepsCostAtMost, singles, start_at_most}
 use Rattle.pp_run.specs.Inputs.{IsFaultOf}
 use Rattle.pp_run.specs.Objects.{object_of, start_of, translation_of}
+use Rattle.pp_run.specs.Outputs.{detail_of_start}
+use Rattle.pp_run.specs.Rejected.{IsStartEvident, IsStepEvident}
 use Rattle.pp_run.specs.Scans.{InputScan, nothing, begins, is_begin, scan_lines}
 use Rattle.pp_run.specs.Takers.{Reading}
 
@@ -77,32 +83,51 @@ pub record IsRunning (sc : InputScan) (tally : Tally) (machine : Seen (List Kind
       (start_of tally.header) sc.records (standing_of tally machine) machine.count
   pub count : machine.count ≡ length sc.records
 
+-- the rejection of a start, of which this is the first false criterion
+abbrev pub start_rejection : Header → ℕ → ℕ → Rejection
+start_rejection header line n = record {
+  step = 0;
+  line = line;
+  rule = rules.Start;
+  criterion = n;
+  detail = detail_of_start (kinds_of header.catalog) (start_of header) n;
+}
+
+-- the rejection of the step of this number, of which this is the first false criterion; 0 is the
+-- start of the header, which stands on this line
+abbrev pub IsRejectionOf : Header → ℕ → LinedSteps Op → ℕ → ℕ → Rejection → Type 0
+IsRejectionOf header at run zero n rejection =
+    (rejection ≡ start_rejection header at n)
+    × IsStartEvident (kinds_of header.catalog) (start_of header) n
+IsRejectionOf header at run (suc i) n rejection = (last : Step Op)
+    × (slice_get run i ≡ Some (record { line = rejection.line; what = last }))
+    × (rejection ≡ record {
+      step = suc i;
+      line = rejection.line;
+      rule = rule_of last;
+      criterion = n;
+      detail = evidence objects (kinds_of header.catalog)
+          (after (start_of header) (bare (take i run))) last n;
+    })
+    × IsStepEvident (kinds_of header.catalog) (after (start_of header) (bare (take i run))) last n
+
 -- the run of these records and of any behind them, which this step of it ends
-pub record EndsAt (header : Header) (records : Records (RunRecord Op)) (rejection : Rejection) :
-    Type 0 where
+pub record EndsAt (header : Header) (at : ℕ) (records : Records (RunRecord Op))
+    (rejection : Rejection) : Type 0 where
   pub run : LinedSteps Op
-  -- its place in the run, from 0, and the number of its first false criterion, from 0
-  pub place : ℕ
+  -- its number in the run, where 0 is the start, and that of its first false criterion, from 0
+  pub number : ℕ
   pub criterion : ℕ
-  pub last : Step Op
-  pub is : rejection ≡ record {
-    step = suc place;
-    line = rejection.line;
-    rule = rule_of last;
-    criterion = suc criterion;
-    detail = evidence objects (kinds_of header.catalog)
-        (after (start_of header) (bare (take place run))) last (suc criterion);
-  }
+  pub is : IsRejectionOf header at run number (suc criterion) rejection
   -- the objects that its evidence names are those of the header
   pub named : IsDetailNamed header.catalog rejection.detail
-  pub there : slice_get run place ≡ Some (record { line = rejection.line; what = last })
   pub stays : (more : Records (RunRecord Op)) → IsRejectedAt (object_of header)
-      (translation_of header) (start_of header) (records ++ more) run (suc place) criterion
+      (translation_of header) (start_of header) (records ++ more) run number criterion
 
 -- the run is rejected at this step, whatever follows
 pub record IsRejected (sc : InputScan) (tally : Tally) (rejection : Rejection) : Type 0 where
   pub follows : IsTallied sc tally
-  pub ends : EndsAt tally.header sc.records rejection
+  pub ends : EndsAt tally.header follows.at sc.records rejection
 
 -- the lines so far, which are scanned so, lead to here
 abbrev pub Covers : InputScan → Progress → Type 0
@@ -157,6 +182,42 @@ rejection_of machine step line n = record {
   detail = evidence objects machine.shape machine.config step n;
 }
 
+-- what the start of a header, if it has one, leaves of a machine that is as `new` made it
+abbrev pub HasStarted : Header → Outcome Op → Seen (List Kind) Op → Type 0
+HasStarted header Done machine =
+    StartMeets (object_of header) (start_of header)
+    × (machine ≡ record {
+      shape = kinds_of header.catalog;
+      config = first (start_of header);
+      count = 0;
+    })
+HasStarted header (False n detail) machine =
+    StartBreaks (object_of header) (start_of header) n × (0 < n)
+    × (detail ≡ detail_of_start (kinds_of header.catalog) (start_of header) n)
+    × Fits objects (kinds_of header.catalog) detail
+    × IsStartEvident (kinds_of header.catalog) (start_of header) n
+
+-- what the line of a header costs at most: its start, where the header is read
+abbrev pub header_at_most : Result Header RecordFault → ℕ
+header_at_most (Ok header) = start_at_most (start_of header)
+header_at_most (Err fault) = 0
+
+-- a start is taken, if there is one: it meets its criteria, or it does not
+abbrev pub StartTaken : Tally → ℕ → Progress → Type 0
+StartTaken tally line next =
+    let header = tally.header in
+    let kinds = kinds_of header.catalog in
+    (StartMeets (object_of header) (start_of header)
+    × (next ≡ Running tally (record {
+      shape = kinds;
+      config = first (start_of header);
+      count = 0;
+    })))
+    ⊎ ((n : ℕ) × (0 < n) × StartBreaks (object_of header) (start_of header) n
+    × (next ≡ Rejected tally (start_rejection header line n))
+    × Fits objects kinds (detail_of_start kinds (start_of header) n)
+    × IsStartEvident kinds (start_of header) n)
+
 -- a step is taken: it meets its criteria, or it is the first that does not
 abbrev pub StepTaken : Tally → Seen (List Kind) Op → Step Op → ℕ → Progress → Type 0
 StepTaken tally machine step line next =
@@ -164,4 +225,5 @@ StepTaken tally machine step line next =
     × (next ≡ Running tally (stepped machine step)))
     ⊎ ((n : ℕ) × (0 < n) × Breaks (rules_of objects machine.shape) machine.config step n
     × (next ≡ Rejected tally (rejection_of machine step line n))
-    × Fits objects machine.shape (evidence objects machine.shape machine.config step n))
+    × Fits objects machine.shape (evidence objects machine.shape machine.config step n)
+    × IsStepEvident machine.shape machine.config step n)

@@ -21,6 +21,7 @@ pub(crate) fn cause_of(fault: RecordFault) -> Result<Cause, OutOfMemory>
         RecordFault::UnknownKind => Ok(Cause::UnknownKind),
         RecordFault::RepeatedObject => Ok(Cause::RepeatedObject),
         RecordFault::TooManyObjects => Ok(Cause::TooManyObjects),
+        RecordFault::TooManyStart => Ok(Cause::TooManyStart),
         RecordFault::UnknownObject => Ok(Cause::UnknownObject),
         RecordFault::UnknownCall => Ok(Cause::UnknownCall),
         RecordFault::UnknownStep => Ok(Cause::UnknownStep),

@@ -10,6 +10,7 @@ ghost use Rattle.pp_run.specs.Costs.{CostsAtLeast, CostsAtMost};
 ghost use Rattle.pp_run.specs.Inputs.{ReadsNoFault, scan};
 ghost use Rattle.pp_run.specs.Outputs.{IsCertified, IsRunTold, WhereTold};
 ghost use Rattle.pp_run.specs.Progresses.{IsRejected, IsRunning};
+ghost use Rattle.pp_run.specs.Rejected.{IsEvident};
 ghost use Rattle.pp_run.specs.Scans.{InputScan};
 
 use crate::examine::{Finding, examine};
@@ -73,6 +74,8 @@ pub fn certify<S: Source, L: Ledger>(
         IsCertified bytes r.0 r.1) }
     ensures status { IfOk result (λ r. IsDecided r.0 ⊎ (r.0 ≡ statuses.InputFault)) }
     ensures end { IfOk result (λ r. IsDecided r.0 → IsAtEnd (S.left source.new)) }
+    ensures shown { IfOk result (λ r. r.0 ≡ statuses.Rejected →
+        WhereTold (S.left source.old) λ bytes. IsEvident (scan bytes)) }
     ensures read_fault { IsErrOf result ReadFault →
         HasRisen (S.faults source.old) (S.faults source.new)
         × ReadsNoFault (S.left source.old) (S.left source.new) }

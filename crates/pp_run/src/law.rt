@@ -1,8 +1,10 @@
 //! Laws of the definitions: what every input of records that are steps has, and the limits.
 ghost use Rattle.std.specs.Prelude.{◌≡◌};
-ghost use Rattle.pp_core.specs.declared.limits.TheConstants.{LONGEST_LINE, LONGEST_NAME, MOST_BODY_NODES};
-ghost use Rattle.pp_core.specs.declared.limits.TheConstants.{MOST_BYTES, MOST_DEPTH, MOST_LINES, MOST_OBJECTS};
-ghost use Rattle.pp_core.specs.declared.limits.TheConstants.{MOST_STEPS, MOST_TRANSACTIONS};
+ghost use Rattle.pp_core.specs.declared.limits.TheConstants.{LONGEST_LINE, LONGEST_NAME};
+ghost use Rattle.pp_core.specs.declared.limits.TheConstants.{MOST_BODY_NODES, MOST_BYTES};
+ghost use Rattle.pp_core.specs.declared.limits.TheConstants.{MOST_DEPTH, MOST_LINES, MOST_OBJECTS};
+ghost use Rattle.pp_core.specs.declared.limits.TheConstants.{MOST_START, MOST_STEPS};
+ghost use Rattle.pp_core.specs.declared.limits.TheConstants.{MOST_TRANSACTIONS};
 ghost use Rattle.pp_front.specs.Laws.{OneRunLaw};
 ghost use Rattle.pp_front.specs.PlainInputs.{AreStyled, PlainInputLaw};
 ghost use Rattle.pp_json.specs.declared.header.Header.{Header as HeaderOf};
@@ -25,6 +27,7 @@ pub fn limits_law()
     ensures lines { MOST_LINES ≡ 200_001 }
     ensures line { LONGEST_LINE ≡ 65_536 }
     ensures objects { MOST_OBJECTS ≡ 256 }
+    ensures start { MOST_START ≡ 256 }
     ensures transactions { MOST_TRANSACTIONS ≡ 20_000 }
     ensures steps { MOST_STEPS ≡ 200_000 }
     ensures nodes { MOST_BODY_NODES ≡ 64 }

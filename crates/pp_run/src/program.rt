@@ -10,6 +10,7 @@ ghost use Rattle.pp_run.specs.Inputs.{ReadsNoFault, scan};
 ghost use Rattle.pp_run.specs.Outputs.{Prints, PrintsPrefix, PrintsPrefixOnly, PrintsOnly};
 ghost use Rattle.pp_run.specs.Outputs.{WhereTold};
 ghost use Rattle.pp_run.specs.Accepted.{IsAloneAccepted, IsSimulated};
+ghost use Rattle.pp_run.specs.Rejected.{IsEvident};
 ghost use Rattle.pp_run.specs.Words.{command_of};
 
 use crate::certify::certify;
@@ -84,9 +85,14 @@ pub fn run<S: Source, K: Sink, L: Ledger>(
     ensures alone { command_of words.now ≡ Some Certify → result ≡ statuses.Accepted →
         WhereTold (S.left source.old) λ bytes. IsAloneAccepted (scan bytes) }
 
-    // The counter rises at most by what the steps of the input's run and its serial run cost at
-    // most, whatever is answered; and where there is a verdict, at least by one for each step that
-    // applies or takes back one operation and meets its criteria, and by the serial run.
+    // Of a run that is rejected, at its start or at a step, the evidence shows that a criterion is
+    // false.
+    ensures shown { command_of words.now ≡ Some Certify → result ≡ statuses.Rejected →
+        WhereTold (S.left source.old) λ bytes. IsEvident (scan bytes) }
+
+    // The counter rises at most by what the start, the steps and the serial run of the input cost
+    // at most, whatever is answered; and where there is a verdict, at least by one for each step
+    // that applies or takes back one operation and meets its criteria, and by the serial run.
     ensures most { command_of words.now ≡ Some Certify → WhereTold (S.left source.old) λ bytes.
         CostsAtMost (scan bytes) ticks.old ticks.new }
     ensures least { command_of words.now ≡ Some Certify → IsDecided result →

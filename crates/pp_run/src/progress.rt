@@ -13,7 +13,7 @@ pub struct Tally {
 }
 
 /// The first step that does not meet its criteria, the line of its record, its rule, its first
-/// false criterion, and the evidence of it.
+/// false criterion, and the evidence of it. The start is step 0, on the line of the header.
 #[derive(Drop)]
 pub struct Rejection {
     pub step: u32,
@@ -30,6 +30,6 @@ pub enum Progress {
     Waiting(u32),
     /// A header, and records whose steps meet their criteria.
     Running(Tally, Machine<Objects>),
-    /// A header, and records of which one is rejected: those behind it are only read.
+    /// A header whose start is rejected, or of whose records one is: those behind it are only read.
     Rejected(Tally, Rejection),
 }

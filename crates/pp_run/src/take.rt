@@ -4,10 +4,11 @@ ghost use Rattle.std.specs.Prelude.{OnErr, Some, None, Ok, Err};
 ghost use Rattle.pp_run.specs.declared.progress.Progress.TheVariants.{Running, Rejected};
 ghost use Rattle.pp_run.specs.declared.stop.Failure.TheVariants as failures;
 ghost use Rattle.pp_run.specs.declared.stop.Stop.TheVariants as stops;
-ghost use Rattle.pp_run.specs.Costs.{singles};
+ghost use Rattle.pp_run.specs.Costs.{singles, start_at_most};
 ghost use Rattle.pp_run.specs.Objects.{start_of};
 ghost use Rattle.pp_run.specs.Scans.{is_begin};
-ghost use Rattle.pp_run.specs.Progresses.{IsRefused, StepTaken, is_too_many, lines_of, run_reading};
+ghost use Rattle.pp_run.specs.Progresses.{HasStarted, IsRefused, StartTaken, StepTaken};
+ghost use Rattle.pp_run.specs.Progresses.{header_at_most, is_too_many, lines_of, run_reading};
 ghost use Rattle.pp_run.specs.Progresses.{steps_done, with_blank, with_line, with_record};
 ghost use Rattle.pp_run.specs.Takers.{IfFault, IsNext, LeadsOn, StopsAt, StopsWith};
 ghost use Rattle.pp_core.specs.declared.limits.TheConstants.{MOST_LINES, MOST_STEPS};
@@ -15,6 +16,7 @@ ghost use Rattle.pp_core.specs.Steps.{meaning, rule_of};
 ghost use Rattle.pp_io.specs.Lines.{blank};
 ghost use Rattle.pp_json.specs.Headers.{header_of};
 ghost use Rattle.pp_json.specs.Records.{IsReadable, record_of};
+ghost use Rattle.pp_json.specs.Starts.{IsReadableStart};
 ghost use Rattle.pp_json.specs.declared.header.Header.{Header as HeaderOf};
 ghost use Rattle.pp_json.specs.declared.fault.RecordFault.{RecordFault as FaultOf};
 ghost use Rattle.pp_model.specs.Config.{first};
@@ -26,9 +28,9 @@ use crate::cause::cause_of;
 use crate::progress::{Progress, Rejection, Tally};
 use crate::stop::{Failure, Stop};
 use crate::taker::TakesLines;
-use pp_core::{MOST_TRANSACTIONS, OutOfMemory, Step, Ticks, rule_of};
+use pp_core::{MOST_TRANSACTIONS, OutOfMemory, Rule, Step, Ticks, rule_of};
 use pp_io::{Line, is_blank};
-use pp_json::{RecordFault, read_header, read_record};
+use pp_json::{Header, RecordFault, read_header, read_record};
 use pp_object::{Objects, Op};
 use pp_report::Cause;
 use pp_rules::{Machine, Outcome};
@@ -89,31 +91,85 @@ fn with_blank(progress: Progress) -> Progress
     }
 }
 
+/// A machine that is as `new` made it, with the start of a header where the header has one. It is
+/// as it was where the start fails.
+fn with_start<L: Ledger>(
+    machine: Machine<Objects>,
+    header: &Header,
+    ticks: &mut Ticks<L>,
+) -> Result<(Machine<Objects>, Outcome<Op>), OutOfMemory>
+    requires new { machine ≡ record {
+      shape = kinds_of header.now.catalog;
+      config = first None;
+      count = 0;
+    } }
+    requires readable { IsReadableStart header.now.catalog header.now.start }
+    ensures starts { IfOk result (λ r. HasStarted header.now r.1 r.0) }
+    ensures rises { ticks.old ≤ ticks.new }
+    ensures bound { ticks.new ≤ ticks.old + start_at_most (start_of header.now) }
+{
+    match &header.start {
+        None => Ok((machine, Outcome::Done)),
+        Some(start) => machine.start(start.tx, &start.ops, ticks),
+    }
+}
+
+/// A run whose header, which stands on this line, was read.
+fn start_run<L: Ledger>(
+    alloc: Global,
+    tally: Tally,
+    line: u32,
+    ticks: &mut Ticks<L>,
+) -> Result<Progress, OutOfMemory>
+    requires { IsReadableStart tally.header.catalog tally.header.start }
+    ensures taken { IfOk result (λ next. StartTaken tally line next) }
+    ensures rises { ticks.old ≤ ticks.new }
+    ensures bound { ticks.new ≤ ticks.old + start_at_most (start_of tally.header) }
+{
+    let machine = Machine::new(alloc, tally.header.catalog.kinds(alloc)?)?;
+    let (machine, outcome) = with_start(machine, &tally.header, ticks)?;
+    match outcome {
+        Outcome::Done => Ok(Progress::Running(tally, machine)),
+        Outcome::False { criterion, detail } => {
+            let rejection = Rejection {
+                step: 0,
+                line,
+                rule: Rule::Start,
+                criterion,
+                detail,
+            };
+            Ok(Progress::Rejected(tally, rejection))
+        }
+    }
+}
+
 /// The line that is the header.
-fn take_header(alloc: Global, line: &Line) -> Result<Progress, Stop>
+fn take_header<L: Ledger>(
+    alloc: Global,
+    line: &Line,
+    ticks: &mut Ticks<L>,
+) -> Result<Progress, Stop>
     ensures ok { IfOk result (λ next. (header : HeaderOf)
         × (header_of line.now.text ≡ Ok header)
-        × (next ≡ Running (record { header = header; lines = line.now.number; begins = 0 })
-        (record {
-          shape = kinds_of header.catalog;
-          config = first (start_of header);
-          count = 0;
-        }))) }
+        × StartTaken (record { header = header; lines = line.now.number; begins = 0 })
+        line.now.number next) }
     ensures err { IfErr result (λ stop. IfFault stop (λ at cause. (at ≡ line.now.number)
         × ((fault : FaultOf) × (header_of line.now.text ≡ Err fault)
         × (cause_of fault ≡ Ok cause)))) }
+    ensures rises { ticks.old ≤ ticks.new }
+    ensures bound { ticks.new ≤ ticks.old + header_at_most (header_of line.now.text) }
 {
     let header = match read_header(alloc, line.text.bytes()) {
         Ok(header) => header,
         Err(fault) => return Err(stop_at(line.number, fault)),
     };
-    let machine = Machine::new(alloc, header.catalog.kinds(alloc)?)?;
     let tally = Tally {
         header,
         lines: line.number,
         begins: 0,
     };
-    Ok(Progress::Running(tally, machine))
+    let progress = start_run(alloc, tally, line.number, ticks)?;
+    Ok(progress)
 }
 
 /// The step of a line behind the header.
@@ -237,7 +293,7 @@ impl TakesLines for Progress {
             return Ok(with_blank(self));
         }
         match self {
-            Progress::Waiting(_) => take_header(alloc, line),
+            Progress::Waiting(_) => take_header(alloc, line, ticks),
             Progress::Running(tally, machine) => take_record(alloc, tally, machine, line, ticks),
             Progress::Rejected(tally, rejection) => pass_record(alloc, tally, rejection, line),
         }

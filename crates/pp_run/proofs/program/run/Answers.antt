@@ -21,6 +21,9 @@ pub returns-in-Ok-send-clause-alone : goal.returns-in-Ok-send-clause-alone
 returns-in-Ok-send-clause-alone g c = λ certify accepted bytes is.
     accepted_alone bytes c.in-Ok.report.1 (subst (λ s. IsCertified bytes s c.in-Ok.report.1) accepted (c.in-Ok.ensures.report bytes is))
 
+pub returns-in-Ok-send-clause-shown : goal.returns-in-Ok-send-clause-shown
+returns-in-Ok-send-clause-shown g c = λ certify rejected bytes is. c.in-Ok.ensures.shown rejected bytes is
+
 pub returns-in-Err-WriteFault-clause-prefix : goal.returns-in-Err-WriteFault-clause-prefix
 returns-in-Err-WriteFault-clause-prefix g c = λ unwritten bytes is status text output.
     let command : command_of c.args.words.now ≡ Some Certify = search rules in

@@ -3,7 +3,7 @@ use Rattle.pp_core.specs.Steps.{meaning}
 use Rattle.pp_object.specs.Objects.{objects, place_of}
 use Rattle.pp_rules.specs.Costs.{CostsBy}
 use Rattle.pp_rules.specs.Evidence.{Fits}
-use Rattle.pp_rules.specs.Shown.{IsShown}
+use Rattle.pp_rules.specs.Shown.{HoldsAtNumber, IsShown, facts}
 use Rattle.pp_rules.specs.Stepping.{Stepped}
 use Rattle.pp_run.specs.Progresses.{rejection_of}
 use Rattle.pp_run.specs.declared.progress.Progress.TheVariants.{Rejected}
@@ -26,6 +26,7 @@ returns-in-False-clause-ok g c =
           ∙ ap (λ r. Rejected c.args.tally (record { step = machine.count + 1; line = c.args.line; rule = r; criterion = n; detail = detail })) c.rule_of.ensures
           ∙ ap (λ d. Rejected c.args.tally (record (rejection_of machine step c.args.line n) { detail = d })) effect.3,
       subst (λ d. Fits objects machine.shape d) effect.3 shown.1,
+      (c.count-number.ensures.sound, subst (λ d. HoldsAtNumber objects (facts objects machine.shape machine.config step) n d) effect.3 shown.0),
     )
 
 pub returns-in-Done-clause-least : goal.returns-in-Done-clause-least

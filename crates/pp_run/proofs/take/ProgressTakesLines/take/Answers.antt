@@ -1,17 +1,19 @@
-use Rattle.std.proofs.Common.{◌≡◌, ◌<◌, true, false, arith, rules, subst, sym, ap, ◌∙◌, Err, Ok}
+use Rattle.std.proofs.Common.{◌≡◌, ◌<◌, true, false, arith, rules, subst, sym, ◌∙◌, Err, Ok}
 use Rattle.std.proofs.lemmas.Result.{IfErr-weaker, IfOk-weaker, on_err_weaker}
 use Rattle.pp_io.specs.Lines.{NumberedLine, blank}
 use Rattle.pp_json.specs.Headers.{header_of}
 use Rattle.pp_json.specs.declared.fault.RecordFault.{RecordFault}
 use Rattle.pp_report.specs.declared.cause.Cause.{Cause}
 use Rattle.pp_run.specs.Causes.{cause_of}
-use Rattle.pp_run.specs.Progresses.{Counts, Covers, lines_of, run_reading}
+use Rattle.pp_run.specs.Progresses.{Counts, Covers, run_reading}
 use Rattle.pp_run.specs.Takers.{IsNext, LeadsOn, StopsAt, StopsWith}
 use Rattle.pp_run.specs.declared.progress.Progress.{Progress}
-use Rattle.pp_run.specs.Scans.{nothing, scan_line}
-use Rattle.pp_run.proofs.Counting.{counts_blank, counts_header}
+use Rattle.pp_run.specs.Scans.{nothing}
+use Rattle.pp_run.proofs.Counting.{counts_blank, counts_header, header_taken}
 use Rattle.pp_run.proofs.Covering.{blank_lines, cover_blank, cover_header, cover_header_fault}
+use Rattle.pp_run.proofs.Covering.{start_lines}
 use Rattle.pp_run.proofs.Examining.{leads_on, next_few, next_number, stops_at, stops_still}
+use Rattle.pp_run.proofs.Examining.{stops_with}
 use Rattle.pp_run.proofs.Takers.{on_err}
 use Rattle.pp_run.proofs.take.ProgressTakesLines.take.Goals as goal
 
@@ -49,19 +51,20 @@ returns-in-Waiting-clause-ok g c =
     let line : NumberedLine = (c.args.line.now.number, c.args.line.now.text) in
     let self = c.args.self in
     let now = c.args.ticks.now in
+    let new = c.take_header.new.ticks in
     let other : blank c.args.line.now.text ≡ false = search rules in
     let number = next_number c.requires.0 now self line c.requires.1 in
     let positive : 0 < line.0 = omega (arith, number) in
     IfOk-weaker c.take_header.result _ _ (λ next taken first.
-    leads_on self line number (next_few c.requires.0 now self line c.requires.1) next now now
+    leads_on self line number (next_few c.requires.0 now self line c.requires.1) next now new
     (λ sc covers.
     let none : sc ≡ nothing = subst (Covers sc) c.in-Waiting.is covers in
-    subst (λ (p : Progress). Covers (scan_line sc line) p) (sym taken.2) (cover_header sc line taken.0 none other positive taken.1))
-    (ap lines_of taken.2)
+    cover_header sc line taken.0 next none other positive taken.1 taken.2)
+    (start_lines _ line.0 next taken.2)
     (λ sc old covers counts.
     let none : sc ≡ nothing = subst (Covers sc) c.in-Waiting.is covers in
-    subst (λ (p : Progress). Counts (scan_line sc line) p old now) (sym taken.2)
-    (counts_header sc line taken.0 _ _ _ old now none other taken.1 (subst (λ (p : Progress). Counts sc p old now) c.in-Waiting.is counts)))
+    counts_header sc line taken.0 _ next old now new none other taken.1 c.take_header.ensures.rises c.take_header.ensures.bound
+    (subst (λ (p : Progress). Counts sc p old now) c.in-Waiting.is counts))
     first)
     c.take_header.ensures.ok
 
@@ -80,7 +83,12 @@ returns-in-Waiting-clause-stop g c =
 pub returns-in-Waiting-clause-cost : goal.returns-in-Waiting-clause-cost
 returns-in-Waiting-clause-cost g c =
     let line : NumberedLine = (c.args.line.now.number, c.args.line.now.text) in
-    on_err c.take_header.result _ (λ first. stops_still first c.args.ticks.now c.args.self line)
+    let now = c.args.ticks.now in
+    let new = c.take_header.new.ticks in
+    let other : blank c.args.line.now.text ≡ false = search rules in
+    on_err c.take_header.result _ (λ first. stops_with first now new c.args.self line (λ sc covers counts.
+    let none : sc ≡ nothing = subst (Covers sc) c.in-Waiting.is covers in
+    header_taken sc line _ first now new none other c.take_header.ensures.bound (subst (λ (p : Progress). Counts sc p first now) c.in-Waiting.is counts)))
 
 pub returns-in-Running-clause-ok : goal.returns-in-Running-clause-ok
 returns-in-Running-clause-ok g c =
