@@ -1,0 +1,267 @@
+-- How far a machine was driven, from step to step.
+use Rattle.std.proofs.Common.{◌≡◌, ◌<◌, ◌≤◌, ◌+◌, ℕ, zero, suc, List, [], ◌∷◌, ◌++◌, length, map, drop}
+use Rattle.std.proofs.Common.{filter, Option, None, Some, refl, sym, ap, subst, ◌∙◌, arith, inl, inr}
+use Rattle.std.proofs.Common.{append_assoc, length-append}
+use Rattle.std.specs.List.{slice_get}
+use Rattle.std.proofs.lemmas.List.{drop_all}
+use Rattle.std.proofs.lemmas.List.Elements.{filter-append}
+use Rattle.std.proofs.lemmas.Option.{same_Some}
+use Rattle.pp_core.specs.Steps.{Step, Begin, App, Unapp, Push, Unpush, Pull, Unpull, Cmt, Quit, Note}
+use Rattle.pp_core.specs.Steps.{meaning}
+use Rattle.pp_core.specs.declared.limits.TheConstants.{MOST_STEPS}
+use Rattle.pp_core.specs.declared.step.Step.{Step as StepOf}
+use Rattle.pp_model.specs.Config.{Config, after_from, then}
+use Rattle.pp_model.specs.Lists.{In}
+use Rattle.pp_model.specs.Rules.{Meets}
+use Rattle.pp_front.proofs.Ends.{after_append, runs_append}
+use Rattle.pp_rules.specs.Costs.{CostsInVain, at_most, step_ticks}
+use Rattle.pp_rules.specs.Machines.{Seen, stepped}
+use Rattle.pp_spec.specs.Object.{Object, rules_of}
+use Rattle.pp_styles.specs.declared.drive.Halt.{Halt}
+use Rattle.pp_styles.specs.Costs.{is_single, most_ticks, singles}
+use Rattle.pp_styles.specs.Driving.{CostAtMost, CostsOne, Drives, Goes, Halts, HasDone, after_steps}
+use Rattle.pp_styles.specs.Meanings.{meanings}
+use Rattle.pp_styles.proofs.Growing.{drop_there}
+
+-- ---- lists
+
+-- the step at a place is one of them
+pub element : {A B : Type 0} (f : A → B) (xs : List A) (i : ℕ) (x : A) → slice_get xs i ≡ Some x → In (f x) (map f xs)
+element f [] i x h = absurd (cc)
+element f (y ∷ xs) zero x h = inl (ap f (sym (same_Some y x h)))
+element f (y ∷ xs) (suc i) x h = inr (element f xs i x h)
+
+-- the steps from a place on
+pub from_there : {Op : Type 0} (list : List (StepOf Op)) (i next : ℕ) (s : StepOf Op) → slice_get list i ≡ Some s → next ≡ suc i → meanings (drop i list) ≡ meaning s ∷ meanings (drop next list)
+from_there list i next s here is_next =
+    ap meanings (drop_there list i s here) ∙ ap (λ (n : ℕ). meaning s ∷ meanings (drop n list)) (sym is_next)
+
+pub none_left : {Op : Type 0} (list : List (StepOf Op)) (i : ℕ) → length list ≤ i → meanings (drop i list) ≡ []
+none_left list i past = ap meanings (drop_all i list past)
+
+-- ---- numbers
+
+zero_plus : (a : ℕ) → a ≡ 0 + a
+zero_plus a = omega arith
+
+plus_zero : (a : ℕ) → a ≡ a + 0
+plus_zero a = omega arith
+
+plus_more : (a b d : ℕ) → a + (b + d) ≡ (a + b) + d
+plus_more a b d = omega arith
+
+same_le : (a : ℕ) → a ≤ a
+same_le a = omega arith
+
+nothing_less : (n : ℕ) → 0 ≤ n
+nothing_less n = omega arith
+
+no_more : (a : ℕ) → a + 0 ≤ a
+no_more a = omega arith
+
+no_less : (a : ℕ) → a ≤ a + 0
+no_less a = omega arith
+
+counted : (a b c : ℕ) → c ≡ b + 1 → (a + b) + 1 ≡ a + c
+counted a b c e = omega (arith, e)
+
+one_more : (n m most : ℕ) → n ≡ m + 1 → m < most → n ≤ most
+one_more n m most e l = omega (arith, e, l)
+
+with_one : (old b c n most : ℕ) → n ≡ old + b → n < most → c ≡ b + 1 → old + c ≤ most
+with_one old b c n most x l e = omega (arith, x, l, e)
+
+not_more : (old b n most : ℕ) → n ≡ old + b → n ≤ most → old + b ≤ most
+not_more old b n most x l = omega (arith, x, l)
+
+adds_least : (from now to a b k : ℕ) → from + a ≤ now → now + b ≤ to → k ≡ a + b → from + k ≤ to
+adds_least from now to a b k x y z = omega (arith, x, y, z)
+
+still_least : (from now to a : ℕ) → from + a ≤ now → now ≤ to → from + a ≤ to
+still_least from now to a x y = omega (arith, x, y)
+
+adds_most : (from now to a w k : ℕ) → now ≤ from + a → to ≤ now + w → k ≡ a + (w + 0) → to ≤ from + k
+adds_most from now to a w k x y z = omega (arith, x, y, z)
+
+same_most : (from now to a : ℕ) → now ≤ from + a → to ≡ now → to ≤ from + a
+same_most from now to a x y = omega (arith, x, y)
+
+raised : (old new a b : ℕ) → a ≤ b → new ≡ old + b → old + a ≤ new
+raised old new a b x y = omega (arith, x, y)
+
+-- ---- costs
+
+module _ {Op : Type 0} where
+  pub singles_append : (xs ys : List (Step Op)) → singles (xs ++ ys) ≡ singles xs + singles ys
+  singles_append xs ys = ap (λ (l : List (Step Op)). length l) (filter-append is_single xs ys) ∙ length-append (filter is_single xs) (filter is_single ys)
+
+  module _ (place : Op → ℕ) where
+    pub most_append : (c : Config Op) (xs ys : List (Step Op)) → most_ticks place c (xs ++ ys) ≡ most_ticks place c xs + most_ticks place (after_from c xs) ys
+    most_append c [] ys = zero_plus (most_ticks place c ys)
+    most_append c (x ∷ xs) ys =
+        ap (λ (k : ℕ). at_most place c x + k) (most_append (then c x) xs ys)
+        ∙ plus_more (at_most place c x) (most_ticks place (then c x) xs) (most_ticks place (after_from (then c x) xs) ys)
+
+    -- a step that is done costs one at least where it is single
+    single_cost : (c : Config Op) (step : Step Op) → singles (step ∷ []) ≤ step_ticks place c step
+    single_cost c (Begin t p b) = same_le 0
+    single_cost c (App t id op) = same_le 1
+    single_cost c (Unapp t id) = same_le 1
+    single_cost c (Push t id) = same_le 1
+    single_cost c (Unpush t id) = nothing_less (step_ticks place c (Unpush t id))
+    single_cost c (Pull t id) = same_le 1
+    single_cost c (Unpull t id) = nothing_less (step_ticks place c (Unpull t id))
+    single_cost c (Cmt t) = same_le 0
+    single_cost c (Quit t) = same_le 0
+    single_cost c (Note t) = same_le 0
+
+    pub done_least : (c : Config Op) (step : Step Op) (old new : ℕ) → new ≡ old + step_ticks place c step → old + singles (step ∷ []) ≤ new
+    done_least c step old new cost = raised old new (singles (step ∷ [])) (step_ticks place c step) (single_cost c step) cost
+
+    stays : (old new : ℕ) → new ≡ old → old ≤ new
+    stays old new e = omega (arith, e)
+
+    -- a step that is not done takes no tick back
+    pub vain_least : (c : Config Op) (step : Step Op) (old new : ℕ) → CostsInVain place c step old new → old ≤ new
+    vain_least c (Begin t p b) old new e = stays old new e
+    vain_least c (App t id op) old new e = stays old new e
+    vain_least c (Unapp t id) old new e = stays old new e
+    vain_least c (Push t id) old new e = stays old new e
+    vain_least c (Unpush t id) old new e = e.0
+    vain_least c (Pull t id) old new e = stays old new e
+    vain_least c (Unpull t id) old new e = e.0
+    vain_least c (Cmt t) old new e = stays old new e
+    vain_least c (Quit t) old new e = stays old new e
+    vain_least c (Note t) old new e = stays old new e
+
+-- where a step was done, a run may have it
+pub done_cost : {Shape State Op Undo : Type 0} (o : Object Shape State Op Undo) (place : Op → ℕ) (v new : Seen Shape Op) (s : Step Op) (from to : ℕ) → Goes o v s from None new to → CostsOne place v s from to → to ≤ from + at_most place v.config s
+done_cost o place v new s from to g (inl full) = absurd (not_full v.count MOST_STEPS g.0 full.0)
+  where
+    not_full : (n most : ℕ) → n < most → n ≡ most → ⊥
+    not_full n most l e = omega (arith, l, e)
+done_cost o place v new s from to g (inr one) = one.1
+
+-- ---- a walk over the steps
+
+module _ {Shape State Op Undo : Type 0} (o : Object Shape State Op Undo) (place : Op → ℕ) (old : Seen Shape Op) (steps : List (Step Op)) (from : ℕ) where
+  -- so far these were done, and cost this at most
+  pub record SoFar (rest : List (Step Op)) (mid : Seen Shape Op) (now : ℕ) : Type 0 where
+    pub done : HasDone o old steps rest mid from now
+    pub most : now ≤ from + most_ticks place old.config done.before
+
+  pub at_first : old.count ≤ MOST_STEPS → SoFar steps old from
+  at_first few =
+      record {
+        done = record {
+          before = [];
+          parts = refl;
+          hold = tt;
+          is = λ i. record { shape = old.shape; config = old.config; count = (plus_zero old.count) i };
+          few = few;
+          least = no_more from;
+        };
+        most = no_less from;
+      }
+
+  -- the rest in other words
+  pub at_rest : (rest other : List (Step Op)) (mid : Seen Shape Op) (now : ℕ) → rest ≡ other → SoFar rest mid now → SoFar other mid now
+  at_rest rest other mid now same so = subst (λ (w : List (Step Op)). SoFar w mid now) same so
+
+  module _ (s : Step Op) (rest : List (Step Op)) (mid new : Seen Shape Op) (now to : ℕ) (so : SoFar (s ∷ rest) mid now) where
+    whole : steps ≡ (so.done.before ++ s ∷ []) ++ rest
+    whole = so.done.parts ∙ sym (append_assoc so.done.before (s ∷ []) rest)
+
+    longer : length (so.done.before ++ s ∷ []) ≡ length so.done.before + 1
+    longer = length-append so.done.before (s ∷ [])
+
+    number : mid.count ≡ old.count + length so.done.before
+    number = ap (λ (v : Seen Shape Op). v.count) so.done.is
+
+    cost : most_ticks place old.config (so.done.before ++ s ∷ []) ≡ most_ticks place old.config so.done.before + (at_most place mid.config s + 0)
+    cost =
+        most_append place old.config so.done.before (s ∷ [])
+        ∙ ap (λ (v : Seen Shape Op). most_ticks place old.config so.done.before + (at_most place v.config s + 0)) (sym so.done.is)
+
+    led : stepped (after_steps old so.done.before) s ≡ after_steps old (so.done.before ++ s ∷ [])
+    led = λ i.
+        record {
+          shape = old.shape;
+          config = (sym (after_append old.config so.done.before (s ∷ []))) i;
+          count = (counted old.count (length so.done.before) (length (so.done.before ++ s ∷ [])) longer) i;
+        }
+
+    goes_on : Goes o mid s now None new to → to ≤ now + at_most place mid.config s → SoFar rest new to
+    goes_on g most =
+        record {
+          done = record {
+            before = so.done.before ++ s ∷ [];
+            parts = whole;
+            hold = runs_append (rules_of o old.shape) old.config so.done.before (s ∷ []) so.done.hold
+                (subst (λ (v : Seen Shape Op). Meets (rules_of o v.shape) v.config s) so.done.is g.1, tt);
+            is = g.2 ∙ ap (λ (v : Seen Shape Op). stepped v s) so.done.is ∙ led;
+            few = one_more new.count mid.count MOST_STEPS (ap (λ (v : Seen Shape Op). v.count) g.2) g.0;
+            least = adds_least from now to (singles so.done.before) (singles (s ∷ [])) (singles (so.done.before ++ s ∷ [])) so.done.least g.3 (singles_append so.done.before (s ∷ []));
+          };
+          most = adds_most from now to (most_ticks place old.config so.done.before) (at_most place mid.config s) (most_ticks place old.config (so.done.before ++ s ∷ [])) so.most most cost;
+        }
+
+    halts : (halt : Halt Op) → Goes o mid s now (Some halt) new to → Drives o old steps from (Some halt) new to
+    halts halt g = (
+      s,
+      rest,
+      record {
+        before = so.done.before;
+        parts = so.done.parts;
+        hold = so.done.hold;
+        is = g.1 ∙ so.done.is;
+        few = subst (λ (v : Seen Shape Op). v.count ≤ MOST_STEPS) (sym g.1) so.done.few;
+        least = still_least from now to (singles so.done.before) so.done.least g.2;
+      },
+      subst (λ (v : Seen Shape Op). Halts o v s halt) (sym g.1) g.0,
+    )
+
+    pub went_on : (r : Option (Halt Op)) → r ≡ None → Goes o mid s now r new to → CostsOne place mid s now to → SoFar rest new to
+    went_on r is g cost =
+        let done : Goes o mid s now None new to = subst (λ (w : Option (Halt Op)). Goes o mid s now w new to) is g in
+        goes_on done (done_cost o place mid new s now to done cost)
+
+    pub halted : (r : Option (Halt Op)) (halt : Halt Op) → r ≡ Some halt → Goes o mid s now r new to → Drives o old steps from (Some halt) new to
+    halted r halt is g = halts halt (subst (λ (w : Option (Halt Op)). Goes o mid s now w new to) is g)
+
+    pub tried : CostsOne place mid s now to → CostAtMost o place old steps from to
+    tried (inl full) =
+        record {
+          before = so.done.before;
+          tried = so.done.before;
+          behind = s ∷ rest;
+          parts = so.done.parts;
+          hold = so.done.hold;
+          last = inl refl;
+          few = not_more old.count (length so.done.before) mid.count MOST_STEPS number so.done.few;
+          most = same_most from now to (most_ticks place old.config so.done.before) so.most full.1;
+        }
+    tried (inr one) =
+        record {
+          before = so.done.before;
+          tried = so.done.before ++ s ∷ [];
+          behind = rest;
+          parts = whole;
+          hold = so.done.hold;
+          last = inr (s, refl);
+          few = with_one old.count (length so.done.before) (length (so.done.before ++ s ∷ [])) mid.count MOST_STEPS number one.0 longer;
+          most = adds_most from now to (most_ticks place old.config so.done.before) (at_most place mid.config s) (most_ticks place old.config (so.done.before ++ s ∷ [])) so.most one.1 cost;
+        }
+
+  pub all_tried : (mid : Seen Shape Op) (now : ℕ) → SoFar [] mid now → CostAtMost o place old steps from now
+  all_tried mid now so =
+      record {
+        before = so.done.before;
+        tried = so.done.before;
+        behind = [];
+        parts = so.done.parts;
+        hold = so.done.hold;
+        last = inl refl;
+        few = not_more old.count (length so.done.before) mid.count MOST_STEPS (ap (λ (v : Seen Shape Op). v.count) so.done.is) so.done.few;
+        most = so.most;
+      }

@@ -1,0 +1,10 @@
+pub mod Growing
+pub mod Pulling
+pub mod Outs
+pub mod Standing
+pub mod Keeping
+pub mod Touching
+pub mod Driven
+pub mod Asking
+pub mod Trying
+pub mod Arms

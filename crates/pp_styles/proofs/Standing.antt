@@ -1,0 +1,27 @@
+-- An id is told to stand in a log where its place is found.
+use Rattle.std.specs.Prelude.{◌≡◌, ◌==◌, eqb, ◌||◌, ℕ, Bool, true, false, cond, List, [], ◌∷◌}
+use Rattle.std.specs.Prelude.{position, find, slice_get, is_some, Option, Some, None}
+use Rattle.std.proofs.Common.{refl, ap, sym, ◌∙◌}
+use Rattle.pp_model.specs.Config.{LocalEntry}
+use Rattle.pp_front.specs.Expansions.{stands_in}
+use Rattle.pp_rules.proofs.Finding.{place_found, place_none, place_there}
+
+module _ {Op : Type 0} (i : ℕ) where
+  told : (l : List (LocalEntry Op)) → is_some (find (λ e. e.id == i) l) ≡ stands_in l i
+  told [] = refl
+  told (e ∷ l) = step (eqb e.id i) e (find (λ (e : LocalEntry Op). e.id == i) l) (stands_in l i) (told l)
+    where
+      step : (b : Bool) (e : LocalEntry Op) (o : Option (LocalEntry Op)) (r : Bool) → is_some o ≡ r → is_some (cond b (Some e) o) ≡ (b || r)
+      step true e o r h = refl
+      step false e o r h = h
+
+  by_entry : (l : List (LocalEntry Op)) (k : ℕ) (o : Option (LocalEntry Op)) → slice_get l k ≡ o → position (λ e. e.id == i) l ≡ Some k → true ≡ is_some (find (λ e. e.id == i) l)
+  by_entry l k None h p = absurd (place_there (λ (e : LocalEntry Op). e.id == i) l k p h)
+  by_entry l k (Some e) h p = ap (λ (w : Option (LocalEntry Op)). is_some w) (sym (place_found (λ (e : LocalEntry Op). e.id == i) l k e p h))
+
+  by_place : (l : List (LocalEntry Op)) (o : Option ℕ) → position (λ e. e.id == i) l ≡ o → is_some o ≡ is_some (find (λ e. e.id == i) l)
+  by_place l None p = ap (λ (w : Option (LocalEntry Op)). is_some w) (sym (place_none (λ (e : LocalEntry Op). e.id == i) l p))
+  by_place l (Some k) p = by_entry l k (slice_get l k) refl p
+
+  pub standing : (l : List (LocalEntry Op)) → is_some (position (λ e. e.id == i) l) ≡ stands_in l i
+  standing l = by_place l (position (λ (e : LocalEntry Op). e.id == i) l) refl ∙ told l

@@ -1,0 +1,27 @@
+use Rattle.std.proofs.Common.{[], IfOk, ap, subst, ◌∙◌}
+use Rattle.pp_front.specs.Records.{record_meaning}
+use Rattle.pp_styles.specs.Driving.{CostAtMost, Drives}
+use Rattle.pp_styles.specs.Meanings.{meanings}
+use Rattle.pp_styles.proofs.Asking.{record_asked, untried}
+use Rattle.pp_styles.proofs.Keeping.{whenever}
+use Rattle.pp_styles.proofs.drive.do_record.Goals as goal
+
+pub returns-in_err-list-clause-most : goal.returns-in_err-list-clause-most
+returns-in_err-list-clause-most g c kinds =
+    untried g.S.Spec.object g.S.Placed.place_of c.args.machine _ c.args.ticks.now c.requires.few
+
+pub do_steps-requires-clause-asked : goal.do_steps-requires-clause-asked
+do_steps-requires-clause-asked g c =
+    record_asked g.S.Spec.object c.args.machine.shape g.S.Placed.place_of (g.F.Front.style c.args.front.now) (g.F.Front.state [] c.args.front.now) c.args.machine.config (record_meaning c.args.recorded.now) (meanings c.as_slice.result.now) c.requires.asked
+    (ap meanings c.as_slice.ensures ∙ c.in_ok-list.ensures.steps [])
+
+pub returns-clause-drives : goal.returns-clause-drives
+returns-clause-drives g c kinds =
+    subst (λ w. IfOk c.do_steps.result (λ r. Drives g.S.Spec.object c.args.machine w c.args.ticks.now r.1 r.0 c.do_steps.new.ticks)) (ap meanings c.as_slice.ensures ∙ c.in_ok-list.ensures.steps kinds) c.do_steps.ensures.drives
+
+pub returns-clause-kept : goal.returns-clause-kept
+returns-clause-kept g c kinds = whenever c.do_steps.result (c.in_ok-list.ensures.kept kinds)
+
+pub returns-clause-most : goal.returns-clause-most
+returns-clause-most g c kinds =
+    subst (λ w. CostAtMost g.S.Spec.object g.S.Placed.place_of c.args.machine w c.args.ticks.now c.do_steps.new.ticks) (ap meanings c.as_slice.ensures ∙ c.in_ok-list.ensures.steps kinds) c.do_steps.ensures.most

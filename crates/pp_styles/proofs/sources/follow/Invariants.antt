@@ -1,0 +1,14 @@
+use Rattle.std.proofs.Common.{◌≡◌, ◌≤◌, ◌-◌, ◌++◌, take}
+use Rattle.pp_front.specs.Expansions.{follow}
+use Rattle.pp_styles.specs.Meanings.{meanings}
+use Rattle.pp_styles.proofs.sources.follow.Given as goal
+
+abbrev pub decreases-pulls : goal.decreases-pulls
+decreases-pulls g l = l.len - l.from
+
+abbrev pub invariant-pulls : goal.invariant-pulls
+invariant-pulls g l =
+    (l.from ≤ l.len)
+    × (meanings l.list
+    ≡ meanings l.fn.list
+    ++ follow g.S.Placed.place_of l.tx l.object l.sources (take l.from l.shared.1) l.local.1)

@@ -1,0 +1,12 @@
+use Rattle.std.proofs.Common.{◌≡◌, ◌≤◌, ◌++◌, length, drop}
+use Rattle.pp_front.specs.Expansions.{taken_out}
+use Rattle.pp_styles.specs.Meanings.{meanings}
+use Rattle.pp_styles.proofs.walks.take_back.Given as goal
+
+abbrev pub decreases-walk : goal.decreases-walk
+decreases-walk g l = l.at
+
+abbrev pub invariant-walk : goal.invariant-walk
+invariant-walk g l =
+    (l.at ≤ length l.entries) × (l.to ≤ l.at)
+    × (meanings l.list ≡ meanings l.fn.list ++ taken_out l.tx (drop l.at l.entries))

@@ -1,0 +1,92 @@
+-- Meaning: how far a machine goes through the steps of a record, and what that costs. The counter
+-- of operations goes from one number to another.
+use Rattle.std.specs.Prelude.{◌≡◌, ◌⊎◌, ◌≤◌, ◌<◌, ◌+◌, ℕ, List, [], ◌∷◌, ◌++◌, length, Option, None}
+use Rattle.std.specs.Prelude.{Some, IsTrue}
+use Rattle.pp_core.specs.Steps.{Step, rule_of}
+use Rattle.pp_core.specs.declared.limits.TheConstants.{MOST_STEPS}
+use Rattle.pp_model.specs.Config.{after_from}
+use Rattle.pp_model.specs.Rules.{Meets, RunsFrom}
+use Rattle.pp_front.specs.Records.{RunRecord}
+use Rattle.pp_front.specs.Records as records
+use Rattle.pp_rules.specs.Costs.{at_most}
+use Rattle.pp_rules.specs.Machines.{Seen, stepped}
+use Rattle.pp_rules.specs.Shown.{IsShown}
+use Rattle.pp_rules.specs.Stepping.{IsAsked, Stepped}
+use Rattle.pp_rules.specs.declared.machine.Outcome.TheVariants.{False}
+use Rattle.pp_spec.specs.Object.{Object, rules_of}
+use Rattle.pp_styles.specs.Costs.{most_ticks, singles}
+use Rattle.pp_styles.specs.declared.drive.Halt.{Halt}
+use Rattle.pp_styles.specs.declared.drive.Halt.TheVariants.{Failed, TooMany}
+
+-- the effect of these steps, and so many steps more
+abbrev pub after_steps : {Shape Op : Type 0} → Seen Shape Op → List (Step Op) → Seen Shape Op
+after_steps v ss =
+    record {
+      shape = v.shape;
+      config = after_from v.config ss;
+      count = v.count + length ss;
+    }
+
+-- Of the steps those before the rest were done. Each of them holds, a run may have so many, and
+-- each that is single raised the counter.
+pub record HasDone {Shape State Op Undo : Type 0} (o : Object Shape State Op Undo)
+    (old : Seen Shape Op) (steps rest : List (Step Op)) (new : Seen Shape Op) (from to : ℕ) :
+    Type 0 where
+  pub before : List (Step Op)
+  pub parts : steps ≡ before ++ rest
+  pub hold : RunsFrom (rules_of o old.shape) old.config before
+  pub is : new ≡ after_steps old before
+  pub few : new.count ≤ MOST_STEPS
+  pub least : from + singles before ≤ to
+
+-- Why a machine halts before a step: this is its first false criterion, with what shows that; or a
+-- run may have no step more.
+abbrev pub Halts : {Shape State Op Undo : Type 0} → Object Shape State Op Undo → Seen Shape Op →
+    Step Op → Halt Op → Type 0
+Halts o v step (Failed rule n detail) =
+    (v.count < MOST_STEPS) × (rule ≡ rule_of step) × Stepped o v step (False n detail) v
+    × IsShown o v step (False n detail)
+Halts o v step TooMany = v.count ≡ MOST_STEPS
+
+-- All steps were done; or those before one were, and the machine halts before that one.
+abbrev pub Drives : {Shape State Op Undo : Type 0} → Object Shape State Op Undo → Seen Shape Op →
+    List (Step Op) → ℕ → Option (Halt Op) → Seen Shape Op → ℕ → Type 0
+Drives o old steps from None new to = HasDone o old steps [] new from to
+Drives {Op = Op} o old steps from (Some halt) new to =
+    (step : Step Op) × (behind : List (Step Op))
+    × HasDone o old steps (step ∷ behind) new from to × Halts o new step halt
+
+-- What the steps cost at most that were tried: those that were done, and one more at most, which a
+-- run may have.
+pub record CostAtMost {Shape State Op Undo : Type 0} (o : Object Shape State Op Undo)
+    (place : Op → ℕ) (old : Seen Shape Op) (steps : List (Step Op)) (from to : ℕ) : Type 0 where
+  pub before : List (Step Op)
+  pub tried : List (Step Op)
+  pub behind : List (Step Op)
+  pub parts : steps ≡ tried ++ behind
+  pub hold : RunsFrom (rules_of o old.shape) old.config before
+  pub last : (tried ≡ before) ⊎ ((step : Step Op) × (tried ≡ before ++ step ∷ []))
+  pub few : old.count + length tried ≤ MOST_STEPS
+  pub most : to ≤ from + most_ticks place old.config tried
+
+-- One step: it is done, or the machine halts before it and is as it was.
+abbrev pub Goes : {Shape State Op Undo : Type 0} → Object Shape State Op Undo → Seen Shape Op →
+    Step Op → ℕ → Option (Halt Op) → Seen Shape Op → ℕ → Type 0
+Goes o v step from None new to =
+    (v.count < MOST_STEPS) × Meets (rules_of o v.shape) v.config step × (new ≡ stepped v step)
+    × (from + singles (step ∷ []) ≤ to)
+Goes o v step from (Some halt) new to = Halts o v step halt × (new ≡ v) × (from ≤ to)
+
+-- What trying one step costs at most: nothing, where a run may have no step more.
+abbrev pub CostsOne : {Shape Op : Type 0} → (Op → ℕ) → Seen Shape Op → Step Op → ℕ → ℕ → Type 0
+CostsOne place v step from to =
+    ((v.count ≡ MOST_STEPS) × (to ≡ from))
+    ⊎ ((v.count < MOST_STEPS) × (to ≤ from + at_most place v.config step))
+
+-- What a record asks of the machine: that its operation is of the shape, and a body of its step
+-- within the limits.
+abbrev pub IsRecordAsked : {Shape State Op Undo : Type 0} → Object Shape State Op Undo → Shape →
+    RunRecord Op → Type 0
+IsRecordAsked o shape (records.Plain step) = IsAsked o shape step
+IsRecordAsked o shape (records.Op t id op) = IsTrue (o.fits shape op) × IsTrue (o.ranged op)
+IsRecordAsked o shape _ = Unit {0}

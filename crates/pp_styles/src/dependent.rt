@@ -1,0 +1,263 @@
+//! Style dependent: a transaction may read what others published and have not committed.
+ghost use Rattle.std.specs.Prelude.{◌≡◌, ◌∷◌, [], IfOk, List, OnOk};
+ghost use Rattle.pp_core.specs.Steps.{App, Note};
+ghost use Rattle.pp_core.specs.declared.call.Kind.{Kind};
+ghost use Rattle.pp_core.specs.declared.call.Style.TheVariants as styles;
+ghost use Rattle.pp_front.specs.Expansions.{changed_where_open, dependent_op, unpulls, where_open};
+ghost use Rattle.pp_front.specs.Fronts.{at_name, new_front, with_source, with_sources};
+ghost use Rattle.pp_front.specs.Fronts.{without_source};
+ghost use Rattle.pp_model.specs.Names.{Name as NameOf};
+ghost use Rattle.pp_styles.specs.Meanings.{meanings};
+ghost use Rattle.pp_styles.specs.Sources.{sources_in};
+
+use crate::front::Front;
+use crate::recorded::{abort, back_to, commit, publish, unopened};
+use crate::sources::{follow, is_among, unpull_all};
+use crate::step_list::{StepList, add, only, only_copied};
+use indexmap::IndexMap;
+use pp_core::{Name, OutOfMemory, Sequence, Step};
+use pp_front::RunRecord;
+use pp_parts::Parted;
+use pp_rules::Machine;
+use std::alloc::Global;
+
+/// The transactions whose published entries a transaction reads, in the order of their records.
+type Names = Sequence<Name>;
+
+/// The sources of each transaction that has some.
+type Sources = IndexMap<Name, Names>;
+
+/// The front of style dependent, which keeps the sources.
+#[derive(Drop)]
+pub struct Dependent {
+    alloc: Global,
+    sources: Sources,
+}
+
+/// Adds a source that is not there.
+fn add_source(names: &mut Names, source: &Name) -> Result<(), OutOfMemory>
+    ensures { OnOk result (names.new ≡ with_source source.now names.old) }
+{
+    if !is_among(names.as_slice(), source) {
+        names.push(*source)?;
+    }
+    Ok(())
+}
+
+/// The sources without one of them.
+fn without(alloc: Global, names: &[Name], source: &Name) -> Result<Names, OutOfMemory>
+    ensures { IfOk result (λ left. left ≡ without_source source.now names.now) }
+{
+    let mut left = Sequence::new(alloc);
+    for name in names {
+        if !name.same(source) {
+            left.push(*name)?;
+        }
+    }
+    Ok(left)
+}
+
+/// Gives a transaction one more source.
+fn depend(alloc: Global, sources: &mut Sources, tx: &Name, source: &Name) -> Result<(), OutOfMemory>
+    ensures { OnOk result ((u : NameOf) → sources_in u sources.new.entries
+        ≡ at_name tx.now (with_source source.now (sources_in tx.now sources.old.entries))
+        (λ v. sources_in v sources.old.entries) u) }
+{
+    let mut names = match sources.swap_remove(tx) {
+        Some(names) => names,
+        None => Sequence::new(alloc),
+    };
+    add_source(&mut names, source)?;
+    sources.insert(*tx, names)?;
+    Ok(())
+}
+
+/// Takes one source from a transaction.
+fn give_up(
+    alloc: Global,
+    sources: &mut Sources,
+    tx: &Name,
+    source: &Name,
+) -> Result<(), OutOfMemory>
+    ensures { OnOk result ((u : NameOf) → sources_in u sources.new.entries
+        ≡ at_name tx.now (without_source source.now (sources_in tx.now sources.old.entries))
+        (λ v. sources_in v sources.old.entries) u) }
+{
+    let Some(names) = sources.swap_remove(tx) else {
+        return Ok(());
+    };
+    let left = without(alloc, names.as_slice(), source)?;
+    sources.insert(*tx, left)?;
+    Ok(())
+}
+
+/// Takes all sources from a transaction.
+fn forget(sources: &mut Sources, tx: &Name)
+    ensures { (u : NameOf) → sources_in u sources.new.entries
+        ≡ at_name tx.now [] (λ v. sources_in v sources.old.entries) u }
+{
+    sources.swap_remove(tx);
+}
+
+/// The steps of a record that gives up a source.
+fn drop_steps<S: Parted>(
+    alloc: Global,
+    machine: &Machine<S>,
+    tx: &Name,
+    source: &Name,
+) -> Result<StepList<S::Op>, OutOfMemory>
+    ensures { IfOk result (λ list. meanings list ≡ where_open machine.now.config tx.now
+        (Note tx.now) (λ l. Note tx.now ∷ unpulls tx.now source.now l)) }
+{
+    let mut list = only(alloc, Step::Note { tx: *tx })?;
+    let Some(local) = machine.local(tx) else {
+        return Ok(list);
+    };
+    unpull_all(&mut list, tx, source, local.entries())?;
+    Ok(list)
+}
+
+impl Dependent {
+    ghost use Rattle.pp_styles.specs.States.{dependent_state};
+
+    /// No transaction has a source.
+    pub fn new(alloc: Global) -> Dependent
+        ensures { (kinds : List Kind) → dependent_state kinds result ≡ new_front kinds }
+    {
+        Dependent {
+            alloc,
+            sources: IndexMap::new(alloc),
+        }
+    }
+
+    /// The sources of a transaction.
+    fn sources(&self, tx: &Name) -> &[Name]
+        ensures { result.now ≡ sources_in tx.now self.now.sources.entries }
+    {
+        match self.sources.get(tx) {
+            Some(names) => names.as_slice(),
+            None => &[],
+        }
+    }
+
+    /// The steps of an operation.
+    fn op_steps<S: Parted>(
+        &self,
+        machine: &Machine<S>,
+        tx: &Name,
+        id: u32,
+        op: &S::Op,
+    ) -> Result<StepList<S::Op>, OutOfMemory>
+        ensures { IfOk result (λ list. meanings list ≡ where_open machine.now.config tx.now
+            (App tx.now id op.now) (λ l. dependent_op S.place_of
+            (sources_in tx.now self.now.sources.entries) machine.now.config.shared l tx.now id
+            op.now)) }
+    {
+        let Some(local) = machine.local(tx) else {
+            return unopened(self.alloc, tx, id, op);
+        };
+        let mut list = StepList::new(self.alloc);
+        let sources = self.sources(tx);
+        follow(
+            &mut list,
+            tx,
+            S::place(op),
+            sources,
+            machine.shared(),
+            local,
+        )?;
+        add(
+            &mut list,
+            Step::App {
+                tx: *tx,
+                id,
+                op: *op,
+            },
+        )?;
+        Ok(list)
+    }
+
+    /// Gives an open transaction one more source.
+    fn depend<S: Parted>(
+        &mut self,
+        machine: &Machine<S>,
+        tx: &Name,
+        source: &Name,
+    ) -> Result<(), OutOfMemory>
+        ensures { (kinds : List Kind) → OnOk result (dependent_state kinds self.new
+            ≡ changed_where_open machine.now.config tx.now (dependent_state kinds self.old)
+            (λ l. with_sources (dependent_state kinds self.old) tx.now
+            (with_source source.now ((dependent_state kinds self.old).sources tx.now)))) }
+    {
+        if machine.is_open(tx) {
+            depend(self.alloc, &mut self.sources, tx, source)?;
+        }
+        Ok(())
+    }
+
+    /// Takes one source from an open transaction.
+    fn give_up<S: Parted>(
+        &mut self,
+        machine: &Machine<S>,
+        tx: &Name,
+        source: &Name,
+    ) -> Result<(), OutOfMemory>
+        ensures { (kinds : List Kind) → OnOk result (dependent_state kinds self.new
+            ≡ changed_where_open machine.now.config tx.now (dependent_state kinds self.old)
+            (λ l. with_sources (dependent_state kinds self.old) tx.now
+            (without_source source.now ((dependent_state kinds self.old).sources tx.now)))) }
+    {
+        if machine.is_open(tx) {
+            give_up(self.alloc, &mut self.sources, tx, source)?;
+        }
+        Ok(())
+    }
+
+    /// Takes all sources from an open transaction.
+    fn forget<S: Parted>(&mut self, machine: &Machine<S>, tx: &Name)
+        ensures { (kinds : List Kind) → dependent_state kinds self.new
+            ≡ changed_where_open machine.now.config tx.now (dependent_state kinds self.old)
+            (λ l. with_sources (dependent_state kinds self.old) tx.now []) }
+    {
+        if machine.is_open(tx) {
+            forget(&mut self.sources, tx);
+        }
+    }
+}
+
+impl<S: Parted> Front<S> for Dependent {
+    ghost use Rattle.pp_styles.specs.States.{dependent_state};
+
+    ghost style = { λ f. styles.Dependent };
+
+    ghost state = { λ kinds f. dependent_state kinds f };
+
+    fn expand(
+        &mut self,
+        recorded: &RunRecord<S::Op>,
+        machine: &Machine<S>,
+    ) -> Result<StepList<S::Op>, OutOfMemory> {
+        match recorded {
+            RunRecord::Plain(step) => only_copied(self.alloc, step),
+            RunRecord::Op { tx, id, op } => self.op_steps(machine, tx, *id, op),
+            RunRecord::Commit { tx } => commit(self.alloc, machine, tx),
+            RunRecord::Abort { tx } => abort(self.alloc, machine, tx),
+            RunRecord::Retry { tx } => {
+                let list = back_to(self.alloc, machine, tx, 0)?;
+                self.forget(machine, tx);
+                Ok(list)
+            }
+            RunRecord::Depend { tx, source } => {
+                self.depend(machine, tx, source)?;
+                only(self.alloc, Step::Note { tx: *tx })
+            }
+            RunRecord::Publish { tx } => publish(self.alloc, machine, tx),
+            RunRecord::DropSource { tx, source } => {
+                let list = drop_steps(self.alloc, machine, tx, source)?;
+                self.give_up(machine, tx, source)?;
+                Ok(list)
+            }
+            _ => unreachable!(),
+        }
+    }
+}

@@ -1,0 +1,111 @@
+//! Driving a machine through the steps of a record.
+ghost use Rattle.std.specs.Prelude.{◌≡◌, ◌≤◌, IfOk, List, OnOk};
+ghost use Rattle.pp_core.specs.Steps.{Step as StepOf, meaning};
+ghost use Rattle.pp_core.specs.declared.call.Kind.{Kind};
+ghost use Rattle.pp_core.specs.declared.limits.TheConstants.{MOST_STEPS};
+ghost use Rattle.pp_front.specs.Expansions.{IsOfStyle, expand, front_after};
+ghost use Rattle.pp_front.specs.Records.{record_meaning};
+ghost use Rattle.pp_model.specs.Lists.{In};
+ghost use Rattle.pp_rules.specs.Stepping.{IsAsked};
+ghost use Rattle.pp_styles.specs.Driving.{CostAtMost, CostsOne, Drives, Goes, IsRecordAsked};
+ghost use Rattle.pp_styles.specs.Meanings.{meanings};
+
+use crate::front::Front;
+use pp_core::{MOST_STEPS, OutOfMemory, Rule, Step, Ticks, rule_of};
+use pp_front::RunRecord;
+use pp_parts::Parted;
+use pp_rules::{Detail, Machine, Outcome};
+use std::sync::ledger::Ledger;
+
+/// Why not all steps of a record were done.
+#[derive(Drop)]
+pub enum Halt<O> {
+    /// A step of this rule fails: its first false criterion, from 1, and what shows that.
+    Failed {
+        rule: Rule,
+        criterion: u8,
+        detail: Detail<O>,
+    },
+    /// There is one step more than a run may have.
+    TooMany,
+}
+
+/// Does a step, unless it fails or a run may have no step more. The only error is that memory was
+/// refused, and the machine is then lost.
+fn try_step<S: Parted, L: Ledger>(
+    machine: Machine<S>,
+    step: &Step<S::Op>,
+    ticks: &mut Ticks<L>,
+) -> Result<(Machine<S>, Option<Halt<S::Op>>), OutOfMemory>
+    requires asked { IsAsked S.object machine.shape (meaning step.now) }
+    requires few { machine.count ≤ MOST_STEPS }
+    ensures goes { IfOk result (λ r.
+        Goes S.object machine (meaning step.now) ticks.old r.1 r.0 ticks.new) }
+    ensures most { CostsOne S.place_of machine (meaning step.now) ticks.old ticks.new }
+{
+    if machine.count() == MOST_STEPS {
+        return Ok((machine, Some(Halt::TooMany)));
+    }
+    let (machine, outcome) = machine.step(step, ticks)?;
+    match outcome {
+        Outcome::Done => Ok((machine, None)),
+        Outcome::False { criterion, detail } => {
+            let halt = Halt::Failed {
+                rule: rule_of(step),
+                criterion,
+                detail,
+            };
+            Ok((machine, Some(halt)))
+        }
+    }
+}
+
+/// Does the steps up to the first that fails, and no more than a run may have. The only error is
+/// that memory was refused, and the machine is then lost.
+pub fn do_steps<S: Parted, L: Ledger>(
+    machine: Machine<S>,
+    list: &[Step<S::Op>],
+    ticks: &mut Ticks<L>,
+) -> Result<(Machine<S>, Option<Halt<S::Op>>), OutOfMemory>
+    requires asked { (step : StepOf S.Op) → In step (meanings list.now) →
+        IsAsked S.object machine.shape step }
+    requires few { machine.count ≤ MOST_STEPS }
+    ensures drives { IfOk result (λ r.
+        Drives S.object machine (meanings list.now) ticks.old r.1 r.0 ticks.new) }
+    ensures most { CostAtMost S.object S.place_of machine (meanings list.now) ticks.old ticks.new }
+{
+    let mut machine = machine;
+    for step in list {
+        let (next, halt) = try_step(machine, step, ticks)?;
+        machine = next;
+        if let Some(halt) = halt {
+            return Ok((machine, Some(halt)));
+        }
+    }
+    Ok((machine, None))
+}
+
+/// Does the steps of a record up to the first that fails, and no more than a run may have. The only
+/// error is that memory was refused: the machine is then lost, and the front is of no more use.
+pub fn do_record<S: Parted, F: Front<S>, L: Ledger>(
+    front: &mut F,
+    machine: Machine<S>,
+    recorded: &RunRecord<S::Op>,
+    ticks: &mut Ticks<L>,
+) -> Result<(Machine<S>, Option<Halt<S::Op>>), OutOfMemory>
+    requires style { IsOfStyle (F.style front.old) (record_meaning recorded.now) }
+    requires asked { IsRecordAsked S.object machine.shape (record_meaning recorded.now) }
+    requires few { machine.count ≤ MOST_STEPS }
+    ensures drives { (kinds : List Kind) → IfOk result (λ r. Drives S.object machine
+        (expand S.place_of (F.style front.old) (F.state kinds front.old) machine.config
+        (record_meaning recorded.now)) ticks.old r.1 r.0 ticks.new) }
+    ensures kept { (kinds : List Kind) → OnOk result (F.state kinds front.new
+        ≡ front_after (F.state kinds front.old) machine.config (record_meaning recorded.now)) }
+    ensures same { F.style front.new ≡ F.style front.old }
+    ensures most { (kinds : List Kind) → CostAtMost S.object S.place_of machine
+        (expand S.place_of (F.style front.old) (F.state kinds front.old) machine.config
+        (record_meaning recorded.now)) ticks.old ticks.new }
+{
+    let list = front.expand(recorded, &machine)?;
+    do_steps(machine, list.as_slice(), ticks)
+}

@@ -1,0 +1,28 @@
+//! The styles of recording: from the records of a run to the steps of the machine that they stand
+//! for.
+#![tactic(auto)]
+
+mod any_front;
+mod boosted;
+mod dependent;
+mod drive;
+mod front;
+mod hardware;
+mod optimistic;
+mod pulls;
+mod recorded;
+mod rules;
+mod sources;
+mod step_list;
+mod walks;
+
+pub use any_front::AnyFront;
+pub use boosted::Boosted;
+pub use dependent::Dependent;
+pub use drive::{Halt, do_record, do_steps};
+pub use front::Front;
+pub use hardware::Hardware;
+pub use optimistic::Optimistic;
+pub use pp_front::RunRecord;
+pub use rules::Rules;
+pub use step_list::StepList;

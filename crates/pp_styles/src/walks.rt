@@ -1,0 +1,89 @@
+//! Walks over a local log: what pushes its entries, and what takes them out.
+ghost use Rattle.std.specs.Prelude.{◌≡◌, ◌++◌, OnOk};
+ghost use Rattle.pp_core.specs.declared.entry.Mark.TheVariants.{Unpushed};
+ghost use Rattle.pp_model.specs.Config.{is_mark};
+ghost use Rattle.pp_front.specs.Expansions.{back, pushall, taken_at};
+ghost use Rattle.pp_styles.specs.Meanings.{meanings};
+ghost use Rattle.pp_styles.specs.Walking.{push_of};
+
+use crate::step_list::{StepList, add};
+use pp_core::{LocalEntry, Mark, Name, OutOfMemory, Step};
+
+/// Whether two marks are one.
+pub fn is_mark(mark: Mark, other: Mark) -> bool
+    ensures { result ≡ is_mark mark other }
+{
+    mark == other
+}
+
+/// Adds PUSH of an entry that is own and unpushed.
+fn push_one<O: Copy>(
+    list: &mut StepList<O>,
+    tx: &Name,
+    entry: &LocalEntry<O>,
+) -> Result<(), OutOfMemory>
+    ensures { OnOk result (meanings list.new ≡ meanings list.old ++ push_of tx.now entry.now) }
+{
+    if !is_mark(entry.mark, Mark::Unpushed) {
+        return Ok(());
+    }
+    add(
+        list,
+        Step::Push {
+            tx: *tx,
+            id: entry.id,
+        },
+    )
+}
+
+/// Adds PUSH of each own unpushed entry, in order.
+pub fn push_all<O: Copy>(
+    list: &mut StepList<O>,
+    tx: &Name,
+    entries: &[LocalEntry<O>],
+) -> Result<(), OutOfMemory>
+    ensures { OnOk result (meanings list.new ≡ meanings list.old ++ pushall tx.now entries.now) }
+{
+    for entry in entries {
+        push_one(list, tx, entry)?;
+    }
+    Ok(())
+}
+
+/// Adds what takes an entry of this mark out.
+fn take_out<O: Copy>(
+    list: &mut StepList<O>,
+    tx: &Name,
+    id: u32,
+    mark: Mark,
+) -> Result<(), OutOfMemory>
+    ensures { OnOk result (meanings list.new ≡ meanings list.old ++ taken_at tx.now id mark) }
+{
+    match mark {
+        Mark::Pulled => add(list, Step::Unpull { tx: *tx, id }),
+        Mark::Pushed => {
+            add(list, Step::Unpush { tx: *tx, id })?;
+            add(list, Step::Unapp { tx: *tx, id })
+        }
+        Mark::Unpushed => add(list, Step::Unapp { tx: *tx, id }),
+    }
+}
+
+/// Adds what takes the log back to this length, from the end.
+pub fn take_back<O: Copy>(
+    list: &mut StepList<O>,
+    tx: &Name,
+    to: usize,
+    entries: &[LocalEntry<O>],
+) -> Result<(), OutOfMemory>
+    ensures { OnOk result (meanings list.new ≡ meanings list.old ++ back tx.now to entries.now) }
+{
+    let to = to.min(entries.len());
+    let mut at = entries.len();
+    'walk: while at > to {
+        at -= 1;
+        let entry = &entries[at];
+        take_out(list, tx, entry.id, entry.mark)?;
+    }
+    Ok(())
+}
