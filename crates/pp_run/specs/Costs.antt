@@ -81,7 +81,7 @@ most_of_run start steps = steps_at_most start steps + serial_length start steps
 
 -- What certifying a run costs at least, by its verdict. Of an accepted run each step meets its
 -- criteria, and of a rejected one each but the last; a start counts nothing here. Without a verdict
--- it is 0, which says only that no count is taken back.
+-- nothing is asked.
 abbrev pub least_of_run : Status → Option (Start Op) → List (Step Op) → ℕ
 least_of_run statuses.Accepted start steps = singles steps + serial_length start steps
 least_of_run statuses.Rejected start steps = singles (but_last steps)

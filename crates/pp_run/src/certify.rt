@@ -47,7 +47,7 @@ fn report_accepted<L: Ledger>(
     accepted(alloc, catalog, count, committed, &states)
 }
 
-/// The report of a run of which a step is rejected.
+/// The report of a run of which the start or a step is rejected.
 fn report_rejected(alloc: Global, tally: &Tally, rejection: &Rejection) -> Result<Text, OutOfMemory>
     requires { (sc : InputScan) × IsRejected sc tally.now rejection.now }
     ensures { IfOk result (λ text. (sc : InputScan) → IsRejected sc tally.now rejection.now →

@@ -25,7 +25,7 @@ use std::sync::ledger::Ledger;
 pub enum Finding {
     /// It has a fault on this line.
     Fault(u32, Cause),
-    /// Its run is rejected at this step.
+    /// Its start, or its run at this step, is rejected.
     Rejected(Tally, Rejection),
     /// Each step of its run meets its criteria, and the machine is where they lead.
     Accepted(Tally, Machine<Objects>),

@@ -85,8 +85,9 @@ pub fn run<S: Source, K: Sink, L: Ledger>(
     ensures alone { command_of words.now ≡ Some Certify → result ≡ statuses.Accepted →
         WhereTold (S.left source.old) λ bytes. IsAloneAccepted (scan bytes) }
 
-    // Of a run that is rejected, at its start or at a step, the evidence shows that a criterion is
-    // false.
+    // Of a run that is rejected, at its start or at a step, the fact of the criterion that is told
+    // holds of its evidence. Where the evidence tells something, the criterion is false by
+    // `start_evidence_law` or `evidence_law` of `pp_rules`.
     ensures shown { command_of words.now ≡ Some Certify → result ≡ statuses.Rejected →
         WhereTold (S.left source.old) λ bytes. IsEvident (scan bytes) }
 
