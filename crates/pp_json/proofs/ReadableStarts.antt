@@ -25,6 +25,7 @@ use Rattle.pp_json.specs.declared.fault.RecordFault.TheVariants.{OutOfRange, Wro
 use Rattle.pp_json.specs.declared.fault.RecordFault.TheVariants.{UnknownObject, UnknownStyle, NotYet}
 use Rattle.pp_json.specs.declared.header.Header.{Header}
 use Rattle.pp_json.specs.declared.header.Version.{Version}
+use Rattle.pp_json.specs.declared.start.Start.{Start}
 use Rattle.pp_json.specs.declared.header.Version.TheVariants.{First, Second}
 use Rattle.pp_json.specs.Reading.{◌>>=◌, fault_if}
 use Rattle.pp_json.specs.Members.{object_of, member_of, text_of, name_of, name_from, whole_of, array_of, count}
@@ -38,18 +39,18 @@ use Rattle.pp_json.specs.Headers.{version_of, catalog_of, versioned_start, heade
 use Rattle.pp_json.proofs.Calls.{fits_there}
 
 -- what holds behind a step of reading, by what holds of what the step read
-behind : {A B : Type 0} (r : Result A RecordFault) (f : A → Result B RecordFault) (P : A → Type 0) (Q : B → Type 0) → IfOk r P
+pub behind : {A B : Type 0} (r : Result A RecordFault) (f : A → Result B RecordFault) (P : A → Type 0) (Q : B → Type 0) → IfOk r P
     → ((a : A) → P a → IfOk (f a) Q) → IfOk (r >>= f) Q
 behind (Ok a) f P Q p h = h a p
 behind (Err e) f P Q p h = tt
 
 -- the same, whatever the step read
-behind_any : {A B : Type 0} (r : Result A RecordFault) (f : A → Result B RecordFault) (Q : B → Type 0) → ((a : A) → IfOk (f a) Q)
+pub behind_any : {A B : Type 0} (r : Result A RecordFault) (f : A → Result B RecordFault) (Q : B → Type 0) → ((a : A) → IfOk (f a) Q)
     → IfOk (r >>= f) Q
 behind_any (Ok a) f Q h = h a
 behind_any (Err e) f Q h = tt
 
-found : {A : Type 0} (o : Option A) (fault : RecordFault) (P : A → Type 0) → IfSome o P → IfOk (ok_or o fault) P
+pub found : {A : Type 0} (o : Option A) (fault : RecordFault) (P : A → Type 0) → IfSome o P → IfOk (ok_or o fault) P
 found (Some a) fault P p = p
 found None fault P p = tt
 
@@ -63,7 +64,7 @@ small_number (pos n) = by (nat_le n 999_999_999) refl
     by true e = let small : n ≤ 999_999_999 = grind (arith, common_steps) in small
     by false e = tt
 
-small_id : (value : Data) → IfOk (id_of value) (λ id. id ≤ 999_999_999)
+pub small_id : (value : Data) → IfOk (id_of value) (λ id. id ≤ 999_999_999)
 unfolding id_of
 small_id value =
     behind_any (whole_of members.Id value) _ _ (λ n. found (id_from n) (OutOfRange members.Id) _ (small_number n))
@@ -85,7 +86,7 @@ under_name catalog text one h =
     option_and_then_some (λ name. option_and_then (object_at catalog) (place_of name catalog)) (name_from text) one h
     (λ name is found. option_and_then_some (object_at catalog) (place_of name catalog) one found (λ place at there. at_place catalog place one there))
 
-named_there : (catalog : Objects) (text : List ℕ) → IfSome (object_named catalog text) (IsThere catalog)
+pub named_there : (catalog : Objects) (text : List ℕ) → IfSome (object_named catalog text) (IsThere catalog)
 named_there catalog text = by (object_named catalog text) refl
   where
     by : (o : Option (ℕ × Kind)) → object_named catalog text ≡ o → IfSome o (IsThere catalog)
@@ -104,10 +105,10 @@ call_there place kind value =
     behind_any (arguments_of kind method value) _ _ (λ list.
     behind_any (argument 0 list) _ _ (λ first. behind_any (argument 1 list) _ _ (λ second. behind_any (argument 2 list) _ _ (λ third. refl)))))
 
-abbrev IsReadableOp : Objects → Op → Type 0
+abbrev pub IsReadableOp : Objects → Op → Type 0
 IsReadableOp catalog op = IsTrue (objects.fits (kinds_of catalog) op) × IsTrue (objects.ranged op)
 
-readable_op : (catalog : Objects) (value : Data) → IfOk (op_of catalog value) (IsReadableOp catalog)
+pub readable_op : (catalog : Objects) (value : Data) → IfOk (op_of catalog value) (IsReadableOp catalog)
 unfolding op_of
 readable_op catalog value =
     behind (object_called catalog value) _ (IsThere catalog) _ (called_there catalog value) (λ one there.
@@ -118,7 +119,7 @@ readable_op catalog value =
     let stands : slice_get (kinds_of catalog) c.object ≡ Some one.1 = subst (λ (k : ℕ). slice_get (kinds_of catalog) k ≡ Some one.1) (sym place) there in
     (fits_there (kinds_of catalog) one.1 c answer op stands made, made.ranged)))))))
 
-readable_item : (catalog : Objects) (value : Data) → IfOk (item_of catalog value) (IsReadableItem catalog)
+pub readable_item : (catalog : Objects) (value : Data) → IfOk (item_of catalog value) (IsReadableItem catalog)
 unfolding item_of
 readable_item catalog value =
     behind (id_of value) _ (λ id. id ≤ 999_999_999) _ (small_id value) (λ id small.
@@ -147,14 +148,14 @@ all_more catalog before (item value values) all =
     (λ items more. (omega (arith, h.0, more.0), more.1))
     (all_more catalog longer values h.1))
 
-within : (most n : ℕ) (fault : RecordFault) → IfOk (fault_if (nat_lt most n) fault) (λ _. n ≤ most)
+pub within : (most n : ℕ) (fault : RecordFault) → IfOk (fault_if (nat_lt most n) fault) (λ _. n ≤ most)
 within most n fault = by (nat_lt most n) refl
   where
     by : (b : Bool) → nat_lt most n ≡ b → IfOk (fault_if b fault) (λ _. n ≤ most)
     by true e = tt
     by false e = let few : n ≤ most = grind (arith, common_steps) in few
 
-readable_ops : (catalog : Objects) (value : Data) → IfOk (ops_of catalog value) (AreReadable catalog)
+pub readable_ops : (catalog : Objects) (value : Data) → IfOk (ops_of catalog value) (AreReadable catalog)
 unfolding ops_of
 readable_ops catalog value =
     behind_any (array_of members.Ops value) _ _ (λ values.
@@ -182,10 +183,16 @@ given_readable catalog (Some (string s)) = one_readable catalog (string s)
 given_readable catalog (Some (array ds)) = one_readable catalog (array ds)
 given_readable catalog (Some (object ms)) = one_readable catalog (object ms)
 
+-- what holds of no start and of the start of version 2 holds in either version
+pub in_either_version : (P : Option Start → Type 0) (version : Version) (catalog : Objects) (value : Data) → P None → IfOk (optional_start catalog value) P
+    → IfOk (versioned_start version catalog value) P
+in_either_version P First catalog value none some = none
+in_either_version P Second catalog value none some = some
+
 pub versioned_readable : (version : Version) (catalog : Objects) (value : Data) → IfOk (versioned_start version catalog value) (IsReadableStart catalog)
 unfolding optional_start
-versioned_readable First catalog value = tt
-versioned_readable Second catalog value = given_readable catalog (get (member_word members.Start) value)
+versioned_readable version catalog value =
+    in_either_version (IsReadableStart catalog) version catalog value tt (given_readable catalog (get (member_word members.Start) value))
 
 pub header_readable : (line : List ℕ) → IfOk (header_of line) (λ h. IsReadableStart h.catalog h.start)
 unfolding header_of

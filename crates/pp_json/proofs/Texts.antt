@@ -15,7 +15,7 @@ is_name_test text h =
     let bytes = h.bytes in
     grind (arith, common_steps)
 
-is_name_fact : (text : List ℕ) → is_name text ≡ true → IsName text
+pub is_name_fact : (text : List ℕ) → is_name text ≡ true → IsName text
 is_name_fact text e =
     let some : 1 ≤ length text = grind (arith, common_steps) in
     let few : length text ≤ LONGEST_NAME = grind (arith, common_steps) in

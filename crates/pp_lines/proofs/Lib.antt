@@ -1,0 +1,16 @@
+pub mod Words
+pub mod Texts
+pub mod Names
+pub mod Operations
+pub mod Bodies
+pub mod Parts
+pub mod Steps
+pub mod Headers
+pub mod NamesBack
+pub mod OperationsBack
+pub mod BodiesBack
+pub mod StepsBack
+pub mod HeadersBack
+pub mod BodiesRead
+pub mod StepsRead
+pub mod HeadersRead

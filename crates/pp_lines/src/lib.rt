@@ -1,0 +1,14 @@
+//! Writing the lines of a run: its header, and its steps as records of style rules.
+#![tactic(auto)]
+
+mod body;
+mod call;
+mod header;
+mod law;
+mod line;
+mod name;
+mod step;
+
+pub use header::{header_line, header_line_2};
+pub use law::{header_law, length_law, read_header_law, read_step_law, start_law, step_law};
+pub use step::step_line;
