@@ -53,8 +53,7 @@ pub fn read_step_law()
         → IsStatable header.catalog step }
 {}
 
-/// The lines of a header and of a step that can be stated are short: 200,000 lines of steps, at
-/// most 20,000 of them with a body, and a header have less than 200,000,000 bytes.
+/// The lines of a header and of a step that can be stated are short.
 #[tactic(auto, using(crate::proofs::Headers::short, crate::proofs::Headers::short_2, crate::proofs::Steps::statable_short))]
 pub fn length_law()
     ensures header { (catalog : Objects) → IsCatalog catalog
