@@ -1,5 +1,5 @@
--- Where a name stands among distinct names.
-use Rattle.std.proofs.Common.{◌≡◌, ℕ, zero, suc, false, List, [], ◌∷◌, Option, None, Some}
+-- Where a name stands among distinct names, and that each object has one.
+use Rattle.std.proofs.Common.{◌≡◌, ℕ, zero, suc, false, List, [], ◌∷◌, ◌++◌, Option, None, Some}
 use Rattle.std.proofs.Common.{slice_get, position, refl, is_some, true≢false, subst}
 use Rattle.std.specs.List.{IsDistinct}
 use Rattle.std.specs.Map.{keys_of}
@@ -7,6 +7,9 @@ use Rattle.std.specs.Str.{bytes_eq}
 use Rattle.std.proofs.lemmas.Cmp.{nat_list_eq_equiv}
 use Rattle.indexmap.proofs.MapLemmas.{index-first}
 use Rattle.indexmap.proofs.RemoveLemmas.{own_first}
+use Rattle.pp_core.specs.Catalogs.{Objects, HasNames}
+use Rattle.pp_core.specs.Names.{IsName}
+use Rattle.pp_core.specs.declared.call.Kind.{Kind}
 
 -- an object is found at its place
 pub found_at_place : {K : Type 0} (es : List (List ℕ × K)) (i : ℕ) (e : List ℕ × K) → IsDistinct bytes_eq (keys_of es) → slice_get es i ≡ Some e → position (bytes_eq e.0) (keys_of es) ≡ Some i
@@ -37,3 +40,8 @@ one_place es distinct name i j at_i at_j =
 pub is_none_of : {A : Type 0} (o : Option A) → is_some o ≡ false → o ≡ None
 is_none_of None h = refl
 is_none_of (Some x) h = absurd (true≢false h)
+
+-- objects that are named, with one more
+pub with_named : (before : Objects) (e : List ℕ × Kind) → HasNames before → IsName e.0 → HasNames (before ++ e ∷ [])
+with_named [] e h name = (name, tt)
+with_named (x ∷ xs) e h name = (h.0, with_named xs e h.1 name)

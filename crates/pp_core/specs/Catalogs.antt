@@ -5,6 +5,7 @@ use Rattle.std.specs.Map.{keys_of}
 use Rattle.std.specs.Str.{bytes_eq}
 use Rattle.pp_core.specs.declared.call.Kind.{Kind}
 use Rattle.pp_core.specs.declared.limits.TheConstants.{MOST_OBJECTS}
+use Rattle.pp_core.specs.Names.{IsName}
 
 -- the names of the objects with their kinds
 abbrev pub Objects : Type 0
@@ -17,6 +18,11 @@ place_of name objects = position (bytes_eq name) (keys_of objects)
 -- as many as a run may have
 abbrev pub AreFew : Objects → Type 0
 AreFew objects = length objects ≤ MOST_OBJECTS
+
+-- each object has a name
+abbrev pub HasNames : Objects → Type 0
+HasNames [] = Unit {0}
+HasNames (entry ∷ objects) = IsName entry.0 × HasNames objects
 
 -- each object is the only one of its name: two places with one name are one place
 abbrev pub HasDistinctNames : Objects → Type 0

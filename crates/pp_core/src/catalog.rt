@@ -21,17 +21,19 @@ impl Model for Catalog {
     ghost use Rattle.std.specs.Str.{bytes_eq};
     ghost use Rattle.indexmap.specs.IndexMap.{IsUnique};
     ghost use Rattle.pp_core.specs.declared.call.Kind.{Kind};
-    ghost use Rattle.pp_core.specs.Catalogs.{AreFew};
+    ghost use Rattle.pp_core.specs.Catalogs.{AreFew, HasNames};
 
     ghost Value = { List (List ℕ × Kind) };
 
     ghost view = { λ c. c.objects.entries };
 
-    ghost invariant = { λ c. IsUnique bytes_eq c.objects × AreFew c.objects.entries };
+    ghost invariant = { λ c. IsUnique bytes_eq c.objects × AreFew c.objects.entries
+        × HasNames c.objects.entries };
 }
 
 impl Catalog {
     ghost use Rattle.pp_core.specs.Catalogs.{place_of, with_one_more, HasDistinctNames};
+    ghost use Rattle.pp_core.specs.Catalogs.{HasNames};
 
     /// No object.
     pub fn new(alloc: Global) -> Catalog
@@ -47,6 +49,7 @@ impl Catalog {
         ensures len { result ≡ length self.now }
         ensures few { result ≤ MOST_OBJECTS }
         ensures distinct { HasDistinctNames self.now }
+        ensures names { HasNames self.now }
     {
         self.objects.len()
     }
@@ -61,6 +64,8 @@ impl Catalog {
         if self.objects.get_index_of(&name).is_some() {
             return Ok(false);
         }
+        // (its text is that of a name)
+        let _ = name.text();
         let _ = self.objects.insert(name, kind)?;
         Ok(true)
     }

@@ -106,7 +106,8 @@ impl Name {
 
     /// Its text.
     pub fn text(&self) -> &[u8]
-        ensures { result.now ≡ self.now }
+        ensures text { result.now ≡ self.now }
+        ensures name { IsName self.now }
     {
         &self.bytes[..self.len]
     }
