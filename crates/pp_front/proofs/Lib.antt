@@ -4,7 +4,7 @@ pub mod Reading
 pub mod Restating
 pub mod Taking
 pub mod Reporting
-pub mod Asking
+pub mod Carrying
 pub mod Pushing
 pub mod Keepless
 pub mod Reprinting

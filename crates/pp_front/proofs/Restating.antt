@@ -71,7 +71,7 @@ ends_again {Op} O c (s ∷ ss) run (x ∷ again) (inr e) same =
     inr (subst (λ (w : Step Op). Meets O c w) (sym here) e.0, (again, subst (λ (w : Step Op). EndsAtFailure O (then c w) again again) (sym here) rest, refl))
 
 -- a run is a front of the steps
-run_front : {Op State : Type 0} (O : Object Op State) (c : Config Op) (ss run : List (Lined (Step Op))) → EndsAtFailure O c ss run → (rest : List (Lined (Step Op))) × (ss ≡ run ++ rest)
+pub run_front : {Op State : Type 0} (O : Object Op State) (c : Config Op) (ss run : List (Lined (Step Op))) → EndsAtFailure O c ss run → (rest : List (Lined (Step Op))) × (ss ≡ run ++ rest)
 run_front O c [] run e = ([], ap (λ (w : List (Lined (Step _))). w ++ []) (sym e))
 run_front {Op} O c (s ∷ ss) run (inl e) = (ss, ap (λ (w : List (Lined (Step Op))). w ++ ss) (sym e.2))
 run_front {Op} O c (s ∷ ss) run (inr e) =

@@ -7,6 +7,6 @@ pub mod Styles
 pub mod Effects
 pub mod Inputs
 pub mod PlainInputs
-pub mod Asked
+pub mod Carried
 pub mod Stateless
 pub mod Reprints

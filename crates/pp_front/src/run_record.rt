@@ -20,7 +20,7 @@ pub enum RunRecord<O> {
     XBegin { tx: Name },
     /// The section ends, and all is published.
     XEnd { tx: Name },
-    /// The section is taken back.
+    /// The section is taken back, and ends.
     XAbort { tx: Name },
     /// The transaction reads from now on what another published.
     Depend { tx: Name, source: Name },
