@@ -4,3 +4,4 @@ pub mod Given
 pub mod Limits
 pub mod Reading
 pub mod Skips
+pub mod Joined

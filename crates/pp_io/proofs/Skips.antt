@@ -9,16 +9,16 @@ use Rattle.pp_core.specs.declared.limits.TheConstants.{LONGEST_LINE, MOST_BYTES,
 use Rattle.pp_io.specs.declared.reach.Reach.{Reach}
 use Rattle.pp_io.specs.Reaches.{passed, past, overrun_from, within_from, reach_from, IsSkipped}
 
-reach_same : (a b : Reach) → a.bytes ≡ b.bytes → a.lines ≡ b.lines → a.column ≡ b.column → a ≡ b
+pub reach_same : (a b : Reach) → a.bytes ≡ b.bytes → a.lines ≡ b.lines → a.column ≡ b.column → a ≡ b
 reach_same a b p q r =
     ap (λ x. let at : Reach = record { bytes = x; lines = a.lines; column = a.column } in at) p
     ∙ ap (λ x. let at : Reach = record { bytes = b.bytes; lines = x; column = a.column } in at) q
     ∙ ap (λ x. let at : Reach = record { bytes = b.bytes; lines = b.lines; column = x } in at) r
 
-passed_end : (at : Reach) (b : ℕ) → (b == 10) ≡ true → at.bytes < MOST_BYTES → at.lines < MOST_LINES → passed at b ≡ None
+pub passed_end : (at : Reach) (b : ℕ) → (b == 10) ≡ true → at.bytes < MOST_BYTES → at.lines < MOST_LINES → passed at b ≡ None
 passed_end at b end bytes lines = rw (lt-leb MOST_BYTES at.bytes bytes, lt-leb MOST_LINES at.lines lines, end) refl
 
-passed_byte : (at : Reach) (b : ℕ) → (b == 10) ≡ false → at.bytes < MOST_BYTES → at.lines < MOST_LINES → at.column < LONGEST_LINE → passed at b ≡ None
+pub passed_byte : (at : Reach) (b : ℕ) → (b == 10) ≡ false → at.bytes < MOST_BYTES → at.lines < MOST_LINES → at.column < LONGEST_LINE → passed at b ≡ None
 passed_byte at b inner bytes lines column = rw (lt-leb MOST_BYTES at.bytes bytes, lt-leb MOST_LINES at.lines lines, inner, lt-leb LONGEST_LINE at.column column) refl
 
 -- one byte, and those that follow it

@@ -1,6 +1,7 @@
 pub mod Lines
 pub mod Reaches
 pub mod Overruns
+pub mod Joined
 pub mod Held
 pub mod Taken
 pub mod Counted

@@ -3,6 +3,7 @@
 
 mod cut;
 mod fault;
+mod law;
 mod lines;
 mod memory_sink;
 mod memory_source;
@@ -13,6 +14,7 @@ mod steady;
 mod tail;
 
 pub use fault::LineFault;
+pub use law::joined_law;
 pub use lines::{Line, Lines, is_blank};
 pub use memory_sink::MemorySink;
 pub use memory_source::MemorySource;
