@@ -5,8 +5,8 @@ use Rattle.std.proofs.Common.{[], ◌∷◌, ◌++◌, map, take, length, get_or
 use Rattle.std.proofs.Common.{option_map, add-one, IsSome, position, nat_lt, find}
 use Rattle.std.proofs.Common.{slice_get, reverse, refl, sym, ◌∙◌, ap, subst, arith, inl, inr}
 use Rattle.std.specs.List.{list_any, position_or_len, remove}
-use Rattle.std.proofs.lemmas.Bool.{ltb-false, ltb-true, eqb-true, eq-eqb, false_from_ne_true}
-use Rattle.std.proofs.lemmas.List.{length-drop, reverse-append, take_all}
+use Rattle.std.proofs.lemmas.Bool.{ltb-false, eqb-true, eq-eqb, false_from_ne_true}
+use Rattle.std.proofs.lemmas.List.{reverse-append}
 use Rattle.std.proofs.lemmas.List.Folds.{find_at}
 use Rattle.std.proofs.lemmas.List.Quantifiers.{position-Some}
 use Rattle.std.proofs.lemmas.Option.{get_or_from_slice_get, slice_get_past, slice_get_read}

@@ -6,7 +6,7 @@ use Rattle.pp_core.specs.declared.entry.CommittedTx.{CommittedTx}
 use Rattle.pp_core.specs.declared.entry.LocalEntry.{LocalEntry}
 use Rattle.pp_core.specs.declared.entry.SharedEntry.{SharedEntry}
 use Rattle.pp_model.specs.Config.{Mark, Tx, Unpushed, Pushed, at_mark, is_mark, item, last}
-use Rattle.pp_model.specs.Config.{of_other, as_shared, is_own, own_items}
+use Rattle.pp_model.specs.Config.{Step, of_other, as_shared, is_own, own_items}
 use Rattle.pp_model.specs.Lists.{Before, In}
 use Rattle.pp_model.specs.Names.{Name}
 use Rattle.pp_model.specs.Rules.{IsLast}
@@ -16,13 +16,26 @@ use Rattle.pp_shared.specs.Committing.{HoldsIdsOf}
 use Rattle.pp_spec.specs.Object.{Object, SwapsIn}
 use Rattle.pp_rules.specs.Finding.{IsLastUnpushed}
 use Rattle.pp_rules.specs.Machines.{Holds, Seen, config_of, tx_of}
-use Rattle.pp_rules.specs.Stepping.{FindsPushed, IsAt, IsLastAt, IsLocalOf, IsOfOther}
+use Rattle.pp_rules.specs.Costs.{CostsBy, CostsInVain}
+use Rattle.pp_rules.specs.Stepping.{FindsPushed, IsAt, IsLastAt, IsOfOther}
+use Rattle.pp_rules.specs.Stepping.{Refuses, Stepped}
+use Rattle.pp_rules.specs.declared.detail.Refusal.{Refusal}
+use Rattle.pp_rules.specs.declared.machine.Outcome.{Outcome}
+use Rattle.pp_rules.specs.declared.machine.Outcome.TheVariants.{False}
 use Rattle.pp_rules.specs.Transactions.{Open, Txs}
 use Rattle.pp_rules.proofs.Finding.{find_nowhere, last_at, place_none}
-use Rattle.pp_rules.proofs.Opened.{HasLog, local_seen, logged, opened}
+use Rattle.pp_rules.proofs.Opened.{HasLog, logged, opened}
 
 not_both : true ≡ false → ⊥
 not_both e = cc
+
+-- a step that is refused has done nothing
+module _ {Shape State Op Undo : Type 0} (o : Object Shape State Op Undo) (old new : Seen Shape Op) (step : Step Op) (refusal : Refusal Op) (out : Outcome Op) (is : out ≡ False refusal.criterion refusal.detail) where
+  pub refused_step : Refuses o old step refusal → new ≡ old → Stepped o old step out new
+  refused_step k same = subst (λ (z : Outcome Op). Stepped o old step z new) (sym is) (k.breaks, k.not_zero, same, k.is_evidence)
+
+pub refused_cost : {Shape Op : Type 0} (place : Op → ℕ) (v : Seen Shape Op) (step : Step Op) (refusal : Refusal Op) (out : Outcome Op) → out ≡ False refusal.criterion refusal.detail → (a b : ℕ) → CostsInVain place v.config step a b → CostsBy place v.config step out a b
+refused_cost {Shape} {Op} place v step refusal out is a b h = subst (λ (z : Outcome Op). CostsBy place v.config step z a b) (sym is) h
 
 module _ {Shape State Op Undo : Type 0} (o : Object Shape State Op Undo) (shape : Shape) (v : Txs Shape Op) (ids : List ℕ) (G : Shape × List (SharedEntry Op)) (F : List (CommittedTx Op)) (n : ℕ) (h : Holds o shape v ids G F n) (w : Seen Shape Op)
     (same : ◌≡◌ {A = Seen Shape Op} (record { shape = shape; config = config_of v ids G.1 F; count = n }) w) where
@@ -53,16 +66,6 @@ module _ {Shape State Op Undo : Type 0} (o : Object Shape State Op Undo) (shape 
 
   pub is_of_other : (t : Name) (id : ℕ) (g : SharedEntry Op) → IsOfOther w.config t id g → of_other t id G.1 ≡ Some g
   is_of_other t id g e = subst (λ (z : Seen Shape Op). IsOfOther z.config t id g) (sym same) e
-
-  pub is_local : (t : Name) (l m : Shape × List (LocalEntry Op)) → HasLog o shape v ids G F n h t l → m ≡ l → IsLocalOf w t m
-  is_local t l m r e =
-      subst (λ (z : Seen Shape Op). IsLocalOf z t m) same
-      (ap (option_map (λ (x : Tx Op). (shape, x.local))) r.is ∙ ap (λ (s : Shape). Some (s, l.1)) (sym (r.fine).same_shape) ∙ ap (λ (k : Shape × List (LocalEntry Op)). Some k) (sym e))
-
-  pub local_log : (t : Name) (l : Shape × List (LocalEntry Op)) → IsLocalOf w t l → HasLog o shape v ids G F n h t l
-  local_log t l e =
-      let k = subst (λ (z : Seen Shape Op). IsLocalOf z t l) (sym same) e in
-      logged o shape v ids G F n h t l (sym (local_seen o shape v ids G F n h t ∙ k))
 
   pub is_last_at : (t : Name) (id i : ℕ) (l : Shape × List (LocalEntry Op)) → HasLog o shape v ids G F n h t l → IsLastUnpushed id l.1 i → IsLastAt w.config t i
   is_last_at t id i l r q = subst (λ (z : Seen Shape Op). IsLastAt z.config t i) same (record { holder = _; is_open = r.is; entry = q.entry; here = q.here; end = q.end; own = q.unpushed })

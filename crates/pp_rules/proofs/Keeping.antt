@@ -31,18 +31,19 @@ use Rattle.pp_model.proofs.Commit.{ops_committed}
 use Rattle.pp_spec.specs.Object.{Object, AllRanged, IsAllowed, rules_of}
 use Rattle.indexmap.specs.IndexSet.{insert_key}
 use Rattle.pp_log.proofs.Lists.{stands_in}
-use Rattle.pp_rules.specs.Courses.{FollowsIfOwn}
+use Rattle.pp_rules.specs.Courses.{FollowsIfOwn, Guided}
 use Rattle.pp_rules.specs.Machines.{Holds, IsFine, Seen, config_of, stepped, tx_of}
 use Rattle.pp_rules.specs.Transactions.{HasOwn, MayLeave, is_begun, is_busy, Open, Takes, Txs}
-use Rattle.pp_rules.specs.Transactions.{open_at, open_of, relocated, relogged, with_local, with_log}
-use Rattle.pp_rules.specs.Transactions.{with_open, without_open}
+use Rattle.pp_rules.specs.Transactions.{course_of, open_at, open_of, recoursed, relogged}
+use Rattle.pp_rules.specs.Transactions.{with_course, with_log, with_open, without_open}
 use Rattle.pp_rules.proofs.Acting.{after_begin, after_app, after_unapp, after_pull, after_unpull}
 use Rattle.pp_rules.proofs.Acting.{after_push, after_unpush, after_cmt, after_quit}
 use Rattle.pp_local.proofs.Places.{nowhere}
 use Rattle.pp_rules.proofs.Finding.{but_last_short, filter_short, placed}
 use Rattle.pp_rules.proofs.Finding.{removed_filter, slice_within}
 use Rattle.pp_rules.proofs.Fitting.{in_ranged, ranged_in, ranged_more, serial_allowed, serial_more}
-use Rattle.pp_rules.proofs.Opened.{HasLog, begun_in, busy_in, distinct, opened, used_in}
+use Rattle.pp_rules.proofs.Opened.{HasCourse, HasLog, begun_in, busy_in, distinct, opened, ranged_local}
+use Rattle.pp_rules.proofs.Opened.{ranged_shared, used_in}
 use Rattle.pp_rules.proofs.Removing.{ranged_posts}
 
 pub unpushed_own : Unpushed ≢ Pulled
@@ -62,29 +63,29 @@ posts_more : {Op : Type 0} (l : List (SharedEntry Op)) (g : SharedEntry Op) → 
 posts_more [] g = refl
 posts_more {Op} (x ∷ l) g = ap (λ (z : List Op). x.op ∷ z) (posts_more l g)
 
-relocated_one : {Shape Op : Type 0} (t : Name) (k : List (LocalEntry Op) → List (LocalEntry Op)) (l : Shape × List (LocalEntry Op)) (x : Open Shape Op) → (x.name ≡ t → (x.local.0, k x.local.1) ≡ l) →
-    cond (x.name =ⁿ t) (relocated l x) x ≡ cond (x.name =ⁿ t) (relogged k x) x
-relocated_one {Shape} {Op} t k l x f = elim (names_tell x.name t) [
-  | inl r ↦ ap (λ (b : Bool). cond b (relocated l x) x) r.0 ∙ ap (λ (z : Shape × List (LocalEntry Op)). relocated z x) (sym (f r.1)) ∙ sym (ap (λ (b : Bool). cond b (relogged k x) x) r.0)
-  | inr r ↦ ap (λ (b : Bool). cond b (relocated l x) x) r.0 ∙ sym (ap (λ (b : Bool). cond b (relogged k x) x) r.0)
+coursed_one : {Shape Op : Type 0} (t : Name) (k : Guided Shape Op) (f : Open Shape Op → Open Shape Op) (x : Open Shape Op) → (x.name ≡ t → recoursed k x ≡ f x) →
+    cond (x.name =ⁿ t) (recoursed k x) x ≡ cond (x.name =ⁿ t) (f x) x
+coursed_one {Shape} {Op} t k f x e = elim (names_tell x.name t) [
+  | inl r ↦ ap (λ (b : Bool). cond b (recoursed k x) x) r.0 ∙ e r.1 ∙ sym (ap (λ (b : Bool). cond b (f x) x) r.0)
+  | inr r ↦ ap (λ (b : Bool). cond b (recoursed k x) x) r.0 ∙ sym (ap (λ (b : Bool). cond b (f x) x) r.0)
 ]
 
-relocated_all : {Shape Op : Type 0} (xs : List (Open Shape Op)) (t : Name) (k : List (LocalEntry Op) → List (LocalEntry Op)) (l : Shape × List (LocalEntry Op)) → ((x : Open Shape Op) → In x xs → x.name ≡ t → (x.local.0, k x.local.1) ≡ l) →
-    map (λ x. cond (x.name =ⁿ t) (relocated l x) x) xs ≡ map (λ x. cond (x.name =ⁿ t) (relogged k x) x) xs
-relocated_all [] t k l f = refl
-relocated_all {Shape} {Op} (x ∷ xs) t k l f =
-    ap (λ (z : Open Shape Op). z ∷ map (λ x. cond (x.name =ⁿ t) (relocated l x) x) xs) (relocated_one t k l x (λ e. f x (inl refl) e))
-    ∙ ap (λ (z : List (Open Shape Op)). cond (x.name =ⁿ t) (relogged k x) x ∷ z) (relocated_all xs t k l (λ y i e. f y (inr i) e))
+coursed_all : {Shape Op : Type 0} (xs : List (Open Shape Op)) (t : Name) (k : Guided Shape Op) (f : Open Shape Op → Open Shape Op) → ((x : Open Shape Op) → In x xs → x.name ≡ t → recoursed k x ≡ f x) →
+    map (λ x. cond (x.name =ⁿ t) (recoursed k x) x) xs ≡ map (λ x. cond (x.name =ⁿ t) (f x) x) xs
+coursed_all [] t k f e = refl
+coursed_all {Shape} {Op} (x ∷ xs) t k f e =
+    ap (λ (z : Open Shape Op). z ∷ map (λ x. cond (x.name =ⁿ t) (recoursed k x) x) xs) (coursed_one t k f x (λ i. e x (inl refl) i))
+    ∙ ap (λ (z : List (Open Shape Op)). cond (x.name =ⁿ t) (f x) x ∷ z) (coursed_all xs t k f (λ y i m. e y (inr i) m))
 
 cond_same : {X : Type 0} (b : Bool) (x : X) → cond b x x ≡ x
 cond_same true x = refl
 cond_same false x = refl
 
-log_same : {Shape Op : Type 0} (xs : List (Open Shape Op)) (t : Name) → map (λ x. cond (x.name =ⁿ t) (relogged (λ l. l) x) x) xs ≡ xs
-log_same [] t = refl
-log_same {Shape} {Op} (x ∷ xs) t =
-    ap (λ (z : Open Shape Op). z ∷ map (λ x. cond (x.name =ⁿ t) (relogged (λ l. l) x) x) xs) (cond_same (x.name =ⁿ t) x)
-    ∙ ap (λ (z : List (Open Shape Op)). x ∷ z) (log_same xs t)
+all_same : {Shape Op : Type 0} (xs : List (Open Shape Op)) (t : Name) → map (λ x. cond (x.name =ⁿ t) x x) xs ≡ xs
+all_same [] t = refl
+all_same {Shape} {Op} (x ∷ xs) t =
+    ap (λ (z : Open Shape Op). z ∷ map (λ x. cond (x.name =ⁿ t) x x) xs) (cond_same (x.name =ⁿ t) x)
+    ∙ ap (λ (z : List (Open Shape Op)). x ∷ z) (all_same xs t)
 
 module _ {Shape State Op Undo : Type 0} (o : Object Shape State Op Undo) (shape : Shape) (n : ℕ) where
   -- one step later an open transaction is as fine
@@ -245,13 +246,10 @@ module _ {Shape State Op Undo : Type 0} (o : Object Shape State Op Undo) (shape 
       ◌≡◌ {A = Seen Shape Op} (record { shape = shape; config = config_of u ids G.1 F; count = n + 1 }) (stepped w (Pull t id))
   seen_pull t id g u q e = seen_as (Pull t id) (config_of u ids G.1 F) (pull_is t id g u q e)
 
-  post_ranged : (g : SharedEntry Op) → In g G.1 → IsTrue (o.ranged g.op)
-  post_ranged g i = ranged_in o (shared_ops G.1) h.shared_ranged g.op (in_map (λ (z : SharedEntry Op). z.op) g G.1 i)
-
   pub holds_pull : (t : Name) (id : ℕ) (g : SharedEntry Op) (u : Txs Shape Op) → Meets (rules_of o w.shape) w.config (Pull t id) → of_other t id G.1 ≡ Some g → u ≡ with_log t (λ l. l ++ record { id = g.id; owner = g.owner; mark = Pulled; op = g.op } ∷ []) v → Holds o shape u ids G F (n + 1)
   holds_pull t id g u f q e = record {
     sound = sound_as (Pull t id) (config_of u ids G.1 F) f (pull_is t id g u q e);
-    fine = fine_after t (λ l. l ++ record { id = g.id; owner = g.owner; mark = Pulled; op = g.op } ∷ []) u e (fine_entry o shape n v.opened h.fine (record { id = g.id; owner = g.owner; mark = Pulled; op = g.op }) (post_ranged g (found_other t id G.1 g q).0));
+    fine = fine_after t (λ l. l ++ record { id = g.id; owner = g.owner; mark = Pulled; op = g.op } ∷ []) u e (fine_entry o shape n v.opened h.fine (record { id = g.id; owner = g.owner; mark = Pulled; op = g.op }) (ranged_shared o shape v ids G F n h g (found_other t id G.1 g q).0));
     shared_shape = h.shared_shape;
     shared_short = (let s = h.shared_short in omega (arith, s));
     shared_ranged = h.shared_ranged;
@@ -265,7 +263,7 @@ module _ {Shape State Op Undo : Type 0} (o : Object Shape State Op Undo) (shape 
       let m = there_holds (of_other t id G.1) _ k.2 in
       let e = same_Some m.0 g (sym m.1 ∙ q) in
       let i = found_other t id G.1 g q in
-      takes t k.0 (record { id = g.id; owner = g.owner; mark = Pulled; op = g.op }) k.1 (subst (λ (z : SharedEntry Op). IsAllowed o shape (local_ops (k.0).local ++ z.op ∷ [])) e m.2.1.0) (post_ranged g i.0) (λ a j d. m.2.0 a j (d ∙ i.1))
+      takes t k.0 (record { id = g.id; owner = g.owner; mark = Pulled; op = g.op }) k.1 (subst (λ (z : SharedEntry Op). IsAllowed o shape (local_ops (k.0).local ++ z.op ∷ [])) e m.2.1.0) (ranged_shared o shape v ids G F n h g i.0) (λ a j d. m.2.0 a j (d ∙ i.1))
       (subst (λ (z : ℕ). z < 200_000) (sym (ap (λ (z : Seen Shape Op). z.count) same)) few) (λ own. absurd (cc))
 
   -- PUSH
@@ -276,9 +274,6 @@ module _ {Shape State Op Undo : Type 0} (o : Object Shape State Op Undo) (shape 
       let m = there_holds (at_mark id Unpushed (k.0).local) _ k.2 in
       let z : Some m.0 ≡ Some p = sym m.1 ∙ ap (λ (y : Tx Op). at_mark id Unpushed y.local) (same_Some k.0 _ (sym k.1 ∙ r.is)) ∙ q in
       subst (λ (s : Shape). IsAllowed o s (shared_ops G.1 ++ p.op ∷ [])) (sym h.shared_shape) (subst (λ (y : LocalEntry Op). IsAllowed o shape (shared_ops G.1 ++ y.op ∷ [])) (same_Some m.0 p z) m.2.1.1.0)
-
-  pub entry_ranged : (t : Name) (l : Shape × List (LocalEntry Op)) → HasLog o shape v ids G F n h t l → (p : LocalEntry Op) (i : ℕ) → slice_get l.1 i ≡ Some p → IsTrue (o.ranged p.op)
-  entry_ranged t l r p i q = ranged_in o (local_ops l.1) (r.fine).ranged p.op (in_map (λ (z : LocalEntry Op). z.op) p l.1 (stands_in l.1 i p q))
 
   pub push_new : (t : Name) (id : ℕ) → Meets (rules_of o w.shape) w.config (Push t id) → (l : Shape × List (LocalEntry Op)) → HasLog o shape v ids G F n h t l → (p : LocalEntry Op) → at_mark id Unpushed l.1 ≡ Some p → position (λ g. g.id == p.id) G.1 ≡ None
   push_new t id f l r p q =
@@ -305,7 +300,7 @@ module _ {Shape State Op Undo : Type 0} (o : Object Shape State Op Undo) (shape 
         fine = fine_after t (set_mark p.id Pushed) u e (fine_mark o shape n v.opened h.fine p.id Pushed);
         shared_shape = ap (λ (z : Shape × List (SharedEntry Op)). z.0) k ∙ h.shared_shape;
         shared_short = (let s = h.shared_short in let m = ap length posts ∙ length_push G.1 (as_shared t false (item p)) in omega (arith, s, m));
-        shared_ranged = subst (AllRanged o) (sym (ap shared_ops posts ∙ posts_more G.1 (as_shared t false (item p)))) (ranged_more o (shared_ops G.1) p.op h.shared_ranged (entry_ranged t l r p i at));
+        shared_ranged = subst (AllRanged o) (sym (ap shared_ops posts ∙ posts_more G.1 (as_shared t false (item p)))) (ranged_more o (shared_ops G.1) p.op h.shared_ranged (ranged_local o shape v ids G F n h t l r p (stands_in l.1 i p at)));
         serial_ranged = h.serial_ranged;
       }
 
@@ -313,19 +308,30 @@ module _ {Shape State Op Undo : Type 0} (o : Object Shape State Op Undo) (shape 
   owns t id m d l r p i q at =
       (open_of t r.thread r.body l, r.at, record { within = slice_within l.1 i p at; entry = p; here = at; own = λ e. d (sym (found_mark id m l.1 p q).2 ∙ e) })
 
-  -- the local log of t, where t is one of the transactions
-  same_log : (t : Name) (l : Shape × List (LocalEntry Op)) → HasLog o shape v ids G F n h t l → (x : Open Shape Op) → In x v.opened → x.name ≡ t → x.local ≡ l
-  same_log t l r x i e =
-      let k = found (λ (z : Open Shape Op). z.name =ⁿ t) v.opened _ r.at in
-      ap (λ (z : Open Shape Op). z.local) (by_key (λ (z : Open Shape Op). z.name) v.opened (λ p q b. h.sound.open_names (tx_of p) (tx_of q) (before_map tx_of p q v.opened b)) x _ i k.0 e)
+  -- the course of t, where t is one of the transactions
+  same_course : (t : Name) (k : Guided Shape Op) → HasCourse o shape v ids G F n h t k → (x : Open Shape Op) → In x v.opened → x.name ≡ t → course_of x ≡ k
+  same_course t k r x i e =
+      let q = found (λ (z : Open Shape Op). z.name =ⁿ t) v.opened _ (r.log).at in
+      ap (λ (z : Open Shape Op). course_of z) (by_key (λ (z : Open Shape Op). z.name) v.opened (λ p q b. h.sound.open_names (tx_of p) (tx_of q) (before_map tx_of p q v.opened b)) x _ i q.0 e)
+      ∙ ap (λ (b : Option Tree). record { body = b; local = k.local }) r.body_is
 
-  pub relocated_is : (t : Name) (l : Shape × List (LocalEntry Op)) → HasLog o shape v ids G F n h t l → (k : List (LocalEntry Op) → List (LocalEntry Op)) (new : Shape × List (LocalEntry Op)) → new ≡ (l.0, k l.1) → with_local t new v ≡ with_log t k v
-  relocated_is t l r k new e =
+  with_course_is : (t : Name) (k new : Guided Shape Op) → HasCourse o shape v ids G F n h t k → (f : Guided Shape Op → Guided Shape Op) → new ≡ f k → with_course t new v ≡ record { names = v.names; opened = map (λ x. cond (x.name =ⁿ t) (recoursed (f (course_of x)) x) x) v.opened }
+  with_course_is t k new r f e =
       ap (λ (z : List (Open Shape Op)). record { names = v.names; opened = z })
-      (relocated_all v.opened t k new (λ x i is. ap (λ (z : Shape × List (LocalEntry Op)). (z.0, k z.1)) (same_log t l r x i is) ∙ sym e))
+      (coursed_all v.opened t new (λ x. recoursed (f (course_of x)) x) (λ x i is. ap (λ (z : Guided Shape Op). recoursed z x) (e ∙ ap f (sym (same_course t k r x i is)))))
 
-  pub located_same : (t : Name) (l : Shape × List (LocalEntry Op)) → HasLog o shape v ids G F n h t l → (new : Shape × List (LocalEntry Op)) → new ≡ l → with_local t new v ≡ v
-  located_same t l r new e = relocated_is t l r (λ z. z) new e ∙ ap (λ (z : List (Open Shape Op)). record { names = v.names; opened = z }) (log_same v.opened t)
+  -- the transactions with what became of the course of t: another log, or what it was
+  pub relogged_is : (t : Name) (k new : Guided Shape Op) → HasCourse o shape v ids G F n h t k → (f : List (LocalEntry Op) → List (LocalEntry Op)) → new ≡ record { body = k.body; local = (k.local.0, f k.local.1) } → with_course t new v ≡ with_log t f v
+  relogged_is t k new r f e = with_course_is t k new r (λ z. record { body = z.body; local = (z.local.0, f z.local.1) }) e
+
+  pub course_same : (t : Name) (k new : Guided Shape Op) → HasCourse o shape v ids G F n h t k → new ≡ k → with_course t new v ≡ v
+  course_same t k new r e = with_course_is t k new r (λ z. z) e ∙ ap (λ (z : List (Open Shape Op)). record { names = v.names; opened = z }) (all_same v.opened t)
+
+  -- what is said of the open transaction t holds of its course
+  pub of_course : (t : Name) (k : Guided Shape Op) → HasCourse o shape v ids G F n h t k → (x : Open Shape Op) → open_at t v.opened ≡ Some x → course_of x ≡ k
+  of_course t k r x e =
+      ap (λ (z : Open Shape Op). course_of z) (same_Some x _ (sym e ∙ (r.log).at))
+      ∙ ap (λ (b : Option Tree). record { body = b; local = k.local }) r.body_is
 
   -- UNAPP
   unapp_is : (t : Name) (id : ℕ) (u : Txs Shape Op) → u ≡ with_log t but_last v → config_of u ids G.1 F ≡ then (config_of v ids G.1 F) (Unapp t id)
@@ -397,18 +403,17 @@ module _ {Shape State Op Undo : Type 0} (o : Object Shape State Op Undo) (shape 
         serial_ranged = h.serial_ranged;
       }
 
-  -- a removal that was refused leaves all as it was
-  pub seen_same_txs : (u : Txs Shape Op) → u ≡ v → ◌≡◌ {A = Seen Shape Op} (record { shape = shape; config = config_of u ids G.1 F; count = n }) w
-  seen_same_txs u e = ap (λ (z : Txs Shape Op). record { shape = shape; config = config_of z ids G.1 F; count = n }) e ∙ same
+  -- where nothing has happened
+  pub seen_same : (u : Txs Shape Op) (H : Shape × List (SharedEntry Op)) → u ≡ v → H ≡ G → ◌≡◌ {A = Seen Shape Op} (record { shape = shape; config = config_of u ids H.1 F; count = n }) w
+  seen_same u H e k =
+      ap (λ (z : Txs Shape Op). record { shape = shape; config = config_of z ids H.1 F; count = n }) e
+      ∙ ap (λ (z : Shape × List (SharedEntry Op)). record { shape = shape; config = config_of v ids z.1 F; count = n }) k
+      ∙ same
 
-  pub holds_same_txs : (u : Txs Shape Op) → u ≡ v → Holds o shape u ids G F n
-  holds_same_txs u e = subst (λ (z : Txs Shape Op). Holds o shape z ids G F n) (sym e) h
-
-  pub seen_same_shared : (H : Shape × List (SharedEntry Op)) → H ≡ G → ◌≡◌ {A = Seen Shape Op} (record { shape = shape; config = config_of v ids H.1 F; count = n }) w
-  seen_same_shared H e = ap (λ (z : Shape × List (SharedEntry Op)). record { shape = shape; config = config_of v ids z.1 F; count = n }) e ∙ same
-
-  pub holds_same_shared : (H : Shape × List (SharedEntry Op)) → H ≡ G → Holds o shape v ids H F n
-  holds_same_shared H e = subst (λ (z : Shape × List (SharedEntry Op)). Holds o shape v ids z F n) (sym e) h
+  pub holds_same : (u : Txs Shape Op) (H : Shape × List (SharedEntry Op)) → u ≡ v → H ≡ G → Holds o shape u ids H F n
+  holds_same u H e k =
+      subst (λ (z : Txs Shape Op). Holds o shape z ids H F n) (sym e)
+      (subst (λ (z : Shape × List (SharedEntry Op)). Holds o shape v ids z F n) (sym k) h)
 
   -- CMT
   cmt_is : (t : Name) (l : Shape × List (LocalEntry Op)) → HasLog o shape v ids G F n h t l → (u : Txs Shape Op) (H : List (SharedEntry Op)) (D : List (CommittedTx Op)) → u ≡ without_open t v → H ≡ commit_all t G.1 → D ≡ F ++ record { name = t; entries = own_items l.1 } ∷ [] →

@@ -1,5 +1,4 @@
 pub mod Acting
-pub mod Begun
 pub mod Courses
 pub mod Dispatch
 pub mod Finding
@@ -13,6 +12,7 @@ pub mod Refuting
 pub mod Removing
 pub mod Showing
 pub mod Slots
+pub mod Started
 pub mod Starting
 pub mod Swapping
 pub mod Telling

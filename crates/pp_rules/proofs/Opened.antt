@@ -17,6 +17,7 @@ use Rattle.pp_model.proofs.Names.{eq-names, names-true}
 use Rattle.pp_spec.specs.Object.{Object, IsAllowed, IsLawful}
 use Rattle.pp_rules.specs.Machines.{Holds, IsFine, config_of, tx_of}
 use Rattle.pp_rules.specs.Courses.{Guided}
+use Rattle.pp_rules.specs.Sites.{HoldsCourse, HoldsLocal, Rest}
 use Rattle.pp_rules.specs.Transactions.{Open, Txs, course_of, is_begun, is_busy, open_at, open_of}
 use Rattle.pp_rules.specs.Transactions.{threads_of}
 use Rattle.pp_rules.specs.Finding.{AreDistinct}
@@ -151,3 +152,17 @@ module _ {Shape State Op Undo : Type 0} (o : Object Shape State Op Undo) (shape 
 
   pub ranged_shared : (u : SharedEntry Op) → In u G.1 → IsTrue (o.ranged u.op)
   ranged_shared u i = ranged_in o (shared_ops G.1) h.shared_ranged u.op (in_map (λ (z : SharedEntry Op). z.op) u G.1 i)
+
+  -- the machine that judging a step is about
+  abbrev pub rest : Rest Shape Op
+  rest = record { shape = shape; txs = v; ids = ids; done = F; count = n }
+
+  pub holds_course : (t : Name) (k : Guided Shape Op) → Some k ≡ option_map course_of (open_at t v.opened) → HoldsCourse o rest G t k
+  holds_course t k e = record { holds = h; is_open = e }
+
+  local_mapped : (x : Option (Open Shape Op)) → option_map (λ (z : Guided Shape Op). z.local) (option_map course_of x) ≡ option_map (λ x. x.local) x
+  local_mapped None = refl
+  local_mapped (Some x) = refl
+
+  pub holds_local : (t : Name) (k : Guided Shape Op) → Some k ≡ option_map course_of (open_at t v.opened) → (l : Shape × List (LocalEntry Op)) → l ≡ k.local → HoldsLocal o rest G t l
+  holds_local t k e l is = record { holds = h; is_open = ap (λ (z : Shape × List (LocalEntry Op)). Some z) is ∙ ap (option_map (λ (z : Guided Shape Op). z.local)) e ∙ local_mapped (open_at t v.opened) }

@@ -1,21 +1,23 @@
 -- Slots, of which each has a name and may hold an open transaction.
-use Rattle.std.proofs.Common.{◌≡◌, ◌≢◌, Result, Ok, Err, OnOk, OnErr, option_map, Bool, true, false}
+use Rattle.std.proofs.Common.{◌≡◌, ◌≢◌, ◌⊎◌, ℕ, zero, suc, position, slice_get, Bool, true, false}
 use Rattle.std.proofs.Common.{cond, not, ◌||◌, List, [], ◌∷◌, ◌++◌, map, filter, Option, None, Some}
 use Rattle.std.proofs.Common.{is_some, refl, sym, ap, subst, ◌∙◌, inl, inr}
 use Rattle.std.proofs.lemmas.List.{map-append}
 use Rattle.std.specs.List.{list_any}
-use Rattle.std.specs.Map.{keys_of, lookup, set_value}
+use Rattle.std.specs.Map.{keys_of, lookup, set_value, values_of}
+use Rattle.indexmap.specs.Layout.{set_value_at}
 use Rattle.std.proofs.lemmas.Map.Steps.{set_value_same}
 use Rattle.std.proofs.lemmas.Option.{same_Some}
 use Rattle.pp_model.specs.Lists.{In, Before}
 use Rattle.pp_model.specs.Names.{Name, ◌=ⁿ◌}
 use Rattle.pp_model.proofs.Lists.{in_cases, before_cases, before_left, before_right, before_across}
-use Rattle.pp_model.proofs.Names.{eq-names, names_tell}
-use Rattle.pp_core.specs.declared.entry.LocalEntry.{LocalEntry}
+use Rattle.pp_model.proofs.Names.{eq-names, names-true, names_tell}
 use Rattle.pp_core.proofs.Places.{is_none_of}
+use Rattle.pp_log.proofs.Lists.{stands_in}
+use Rattle.pp_rules.proofs.Finding.{placed}
 use Rattle.pp_rules.specs.Transactions.{Open, Txs, Kept, filled, threads_of, open_at, is_begun}
-use Rattle.pp_rules.specs.Transactions.{is_busy, relocated, relogged, with_local, with_log}
-use Rattle.pp_rules.specs.Transactions.{with_open, without_open}
+use Rattle.pp_rules.specs.Courses.{Guided}
+use Rattle.pp_rules.specs.Transactions.{is_busy, recoursed, with_course, with_open, without_open}
 
 pub names_turned : (a b : Name) → (a =ⁿ b) ≡ (b =ⁿ a)
 names_turned a b = elim (names_tell a b) [
@@ -113,6 +115,54 @@ same_gone ts us p r e u q = u q ∙ ap (λ (z : Name). cond (z =ⁿ q) false (li
 
 pub kept_same : (ns ts bs ms cs : List Name) → Kept ns ts bs → ms ≡ ns → cs ≡ bs → Kept ms ts cs
 kept_same ns ts bs ms cs h e d = subst (λ (z : List Name). Kept z ts cs) (sym e) (subst (λ (z : List Name). Kept ns ts z) (sym d) h)
+
+-- what is lent, where two functions of what is last written agree
+pub lends_as : {N E D : Type 0} (n : N) {f h : E → D} → ((w : E) → f w ≡ h w) → ◌≡◌ {A = (N × (E → D)) ⊎ D} (inl (n, f)) (inl (n, h))
+lends_as n e = λ i. inl (n, λ w. e w i)
+
+-- the entry at a place
+module _ {X : Type 0} where
+  pub key_at : (es : List (Name × X)) (i : ℕ) (x : X) → slice_get (values_of es) i ≡ Some x → (t : Name) × (slice_get (keys_of es) i ≡ Some t)
+  key_at [] i x h = absurd (cc)
+  key_at (e ∷ es) zero x h = (e.0, refl)
+  key_at (e ∷ es) (suc i) x h = key_at es i x h
+
+  pub value_at : (es : List (Name × X)) (i : ℕ) (t : Name) → slice_get (keys_of es) i ≡ Some t → (x : X) × (slice_get (values_of es) i ≡ Some x)
+  value_at [] i t h = absurd (cc)
+  value_at (e ∷ es) zero t h = (e.1, refl)
+  value_at (e ∷ es) (suc i) t h = value_at es i t h
+
+  -- where the names are told apart, it is the one that is found by its name
+  pub lookup_at : (es : List (Name × X)) (i : ℕ) (t : Name) (x : X) → slice_get (keys_of es) i ≡ Some t → slice_get (values_of es) i ≡ Some x → ((u v : Name) → Before u v (keys_of es) → u ≢ v) → lookup (λ n. t =ⁿ n) es ≡ Some x
+  lookup_at [] i t x h k d = absurd (cc)
+  lookup_at (e ∷ es) zero t x h k d = ap (λ (b : Bool). cond b (Some e.1) (lookup (λ n. t =ⁿ n) es)) (eq-names t e.0 (sym (same_Some e.0 t h))) ∙ k
+  lookup_at (e ∷ es) (suc i) t x h k d = elim (names_tell t e.0) [
+    | inl r ↦ absurd (d e.0 t (inl (refl, stands_in (keys_of es) i t h)) (sym r.1))
+    | inr r ↦ ap (λ (b : Bool). cond b (Some e.1) (lookup (λ n. t =ⁿ n) es)) r.0 ∙ lookup_at es i t x h k (λ u v b. d u v (inr b))
+  ]
+
+  pub set_at : (es : List (Name × X)) (i : ℕ) (t : Name) (x : X) → slice_get (keys_of es) i ≡ Some t → ((u v : Name) → Before u v (keys_of es) → u ≢ v) → set_value_at es i x ≡ set_value (λ n. t =ⁿ n) es x
+  set_at [] i t x h d = refl
+  set_at (e ∷ es) zero t x h d = sym (ap (λ (b : Bool). cond b ((e.0, x) ∷ es) (e ∷ set_value (λ n. t =ⁿ n) es x)) (eq-names t e.0 (sym (same_Some e.0 t h))))
+  set_at (e ∷ es) (suc i) t x h d = elim (names_tell t e.0) [
+    | inl r ↦ absurd (d e.0 t (inl (refl, stands_in (keys_of es) i t h)) (sym r.1))
+    | inr r ↦
+        ap (λ (z : List (Name × X)). e ∷ z) (set_at es i t x h (λ u v b. d u v (inr b)))
+        ∙ sym (ap (λ (b : Bool). cond b ((e.0, x) ∷ es) (e ∷ set_value (λ n. t =ⁿ n) es x)) r.0)
+  ]
+
+pub placed_name : (ns : List Name) (t : Name) (i : ℕ) → Some i ≡ position (λ n. t =ⁿ n) ns → slice_get ns i ≡ Some t
+placed_name ns t i e =
+    let p = placed (λ (n : Name). t =ⁿ n) ns i (sym e) in
+    p.1 ∙ ap (λ (n : Name). Some n) (sym (names-true t p.0 p.2))
+
+cond_back : (b c : Bool) → (b ≡ true → c ≡ false) → cond b false (cond b true c) ≡ c
+cond_back true c h = sym (h refl)
+cond_back false c h = refl
+
+-- a name that came and went
+taken_back : (p q : Name) (c : Bool) → (p ≡ q → c ≡ false) → cond (p =ⁿ q) false (cond (p =ⁿ q) true c) ≡ c
+taken_back p q c h = cond_back (p =ⁿ q) c (λ e. h (names-true p q e))
 
 module _ {Shape Op : Type 0} where
   -- none of the transactions has the name t
@@ -312,12 +362,6 @@ module _ {A Shape Op : Type 0} (f : Name → A → Open Shape Op) (named : (n : 
       ∙ sym (map-append (λ x. x.thread) r.before (f t a ∷ r.after))
       ∙ sym (ap (λ (z : List (Open Shape Op)). threads_of z) r.is)
 
-  -- the slot of a name that is open
-  pub opened_slot : (es : List (Name × Option A)) (t : Name) (s : Option A) → lookup (λ n. t =ⁿ n) es ≡ Some s → ((u v : Name) → Before u v (keys_of es) → u ≢ v) → (x : Open Shape Op) → open_at t (filled f es) ≡ Some x →
-      (a : A) × (s ≡ Some a) × (f t a ≡ x)
-  opened_slot es t None h d x e = let k : None ≡ Some x = sym (not_open es t h d) ∙ e in absurd (cc)
-  opened_slot es t (Some a) h d x e = (a, refl, same_Some (f t a) x (sym (is_open es t a h d) ∙ e))
-
   abbrev seen : List (Name × Option A) → Txs Shape Op
   seen es = record { names = keys_of es; opened = filled f es }
 
@@ -328,12 +372,6 @@ module _ {A Shape Op : Type 0} (f : Name → A → Open Shape Op) (named : (n : 
 
   -- the same of the transactions as they are seen
   module _ (es : List (Name × Option A)) (ts : List Name) (v : Txs Shape Op) (same : ◌≡◌ {A = Txs Shape Op} (record { names = keys_of es; opened = filled f es }) v) (kept : Kept (keys_of es) ts (threads_of (filled f es))) (t : Name) where
-    pub never : lookup (λ n. t =ⁿ n) es ≡ None → (x : Open Shape Op) → open_at t v.opened ≡ Some x → ⊥
-    never h x e = let k : None ≡ Some x = sym (not_begun es t h) ∙ ap (λ (w : Txs Shape Op). open_at t w.opened) same ∙ e in cc
-
-    pub held : (s : Option A) → lookup (λ n. t =ⁿ n) es ≡ Some s → (x : Open Shape Op) → open_at t v.opened ≡ Some x → (a : A) × (s ≡ Some a) × (f t a ≡ x)
-    held s h x e = opened_slot es t s h kept.names_apart x (ap (λ (w : Txs Shape Op). open_at t w.opened) same ∙ e)
-
     pub no_log : lookup (λ n. t =ⁿ n) es ≡ None → open_at t v.opened ≡ None
     no_log h = ap (λ (w : Txs Shape Op). open_at t w.opened) (sym same) ∙ not_begun es t h
 
@@ -344,21 +382,13 @@ module _ {A Shape Op : Type 0} (f : Name → A → Open Shape Op) (named : (n : 
     open_log a h = ap (λ (w : Txs Shape Op). open_at t w.opened) (sym same) ∙ is_open es t a h kept.names_apart
 
     -- after a change of the slot of t
-    pub seen_changed : (a b : A) (h : List (LocalEntry Op) → List (LocalEntry Op)) (fs : List (Name × Option A)) → lookup (λ n. t =ⁿ n) es ≡ Some (Some a) → f t b ≡ relogged h (f t a) → fs ≡ set_value (λ n. t =ⁿ n) es (Some b) → keys_of fs ≡ keys_of es →
-        ◌≡◌ {A = Txs Shape Op} (record { names = keys_of fs; opened = filled f fs }) (with_log t h v)
-    seen_changed a b h fs k e m n =
-        let opened : filled f fs ≡ map (λ x. cond (x.name =ⁿ t) (relogged h x) x) (filled f es) = ap (filled f) m ∙ changed_log es t a b (relogged h) k kept.names_apart e in
+    pub seen_coursed : (a b : A) (k : Guided Shape Op) (fs : List (Name × Option A)) → lookup (λ n. t =ⁿ n) es ≡ Some (Some a) → f t b ≡ recoursed k (f t a) → fs ≡ set_value (λ n. t =ⁿ n) es (Some b) → keys_of fs ≡ keys_of es →
+        ◌≡◌ {A = Txs Shape Op} (record { names = keys_of fs; opened = filled f fs }) (with_course t k v)
+    seen_coursed a b k fs l e m n =
+        let opened : filled f fs ≡ map (λ x. cond (x.name =ⁿ t) (recoursed k x) x) (filled f es) = ap (filled f) m ∙ changed_log es t a b (recoursed k) l kept.names_apart e in
         ap (λ (z : List Name). record { names = z; opened = filled f fs }) n
         ∙ ap (λ (z : List (Open Shape Op)). record { names = keys_of es; opened = z }) opened
-        ∙ ap (with_log t h) same
-
-    pub seen_relocated : (a b : A) (l : Shape × List (LocalEntry Op)) (fs : List (Name × Option A)) → lookup (λ n. t =ⁿ n) es ≡ Some (Some a) → f t b ≡ relocated l (f t a) → fs ≡ set_value (λ n. t =ⁿ n) es (Some b) → keys_of fs ≡ keys_of es →
-        ◌≡◌ {A = Txs Shape Op} (record { names = keys_of fs; opened = filled f fs }) (with_local t l v)
-    seen_relocated a b l fs k e m n =
-        let opened : filled f fs ≡ map (λ x. cond (x.name =ⁿ t) (relocated l x) x) (filled f es) = ap (filled f) m ∙ changed_log es t a b (relocated l) k kept.names_apart e in
-        ap (λ (z : List Name). record { names = z; opened = filled f fs }) n
-        ∙ ap (λ (z : List (Open Shape Op)). record { names = keys_of es; opened = z }) opened
-        ∙ ap (with_local t l) same
+        ∙ ap (with_course t k) same
 
     pub kept_changed : (a b : A) (fs : List (Name × Option A)) → lookup (λ n. t =ⁿ n) es ≡ Some (Some a) → (f t b).thread ≡ (f t a).thread → fs ≡ set_value (λ n. t =ⁿ n) es (Some b) → keys_of fs ≡ keys_of es → Kept (keys_of fs) ts (threads_of (filled f fs))
     kept_changed a b fs k e m n =
@@ -387,11 +417,8 @@ module _ {A Shape Op : Type 0} (f : Name → A → Open Shape Op) (named : (n : 
         let r = located es t None k kept.names_apart in
         kept_same (keys_of es) ts (threads_of (filled f es)) (keys_of fs) (threads_of (filled f fs)) kept n (ap (λ (z : List (Name × Option A)). threads_of (filled f z)) m ∙ ap (λ (z : List (Open Shape Op)). threads_of z) (r.changed None ∙ sym r.is))
 
-    pub seen_never : (fs : List (Name × Option A)) → lookup (λ n. t =ⁿ n) es ≡ None → fs ≡ es → ◌≡◌ {A = Txs Shape Op} (record { names = keys_of fs; opened = filled f fs }) (without_open t v)
-    seen_never fs k m =
-        ap seen m
-        ∙ ap (λ (z : List (Open Shape Op)). record { names = keys_of es; opened = z }) (ended_none es t (absent es t k))
-        ∙ ap (without_open t) same
+    pub seen_never : lookup (λ n. t =ⁿ n) es ≡ None → ◌≡◌ {A = Txs Shape Op} v (without_open t v)
+    seen_never k = sym same ∙ ap (λ (z : List (Open Shape Op)). record { names = keys_of es; opened = z }) (ended_none es t (absent es t k)) ∙ ap (without_open t) same
 
     -- after a transaction has begun
     pub not_there : is_begun v t ≡ false → lookup (λ n. t =ⁿ n) es ≡ None
@@ -411,20 +438,19 @@ module _ {A Shape Op : Type 0} (f : Name → A → Open Shape Op) (named : (n : 
         subst (λ (z : List Name). Kept (keys_of fs) us z) (sym busy) (kept_more (keys_of es) ts (threads_of (filled f es)) (keys_of fs) us t (f t a).thread kept
         (ap (λ (w : Txs Shape Op). is_begun w t) same ∙ n) (ap (λ (w : Txs Shape Op). is_busy w (f t a).thread) same ∙ i) (ap (λ (z : List (Name × Option A)). keys_of z) m ∙ map-append (λ e. e.0) es ((t, Some a) ∷ [])) u)
 
-    pub kept_either : {X E : Type 0} (r : Result X E) (s w : Option A) (h : A → A) (a : A) (fs : List (Name × Option A)) → OnOk r (w ≡ option_map h s) → OnErr r (w ≡ s) → lookup (λ n. t =ⁿ n) es ≡ Some s → s ≡ Some a → (f t (h a)).thread ≡ (f t a).thread →
-        fs ≡ set_value (λ n. t =ⁿ n) es w → keys_of fs ≡ keys_of es → Kept (keys_of fs) ts (threads_of (filled f fs))
-    kept_either (Ok x) s w h a fs ok err k e d m n =
-        kept_changed a (h a) fs (k ∙ ap (λ (z : Option A). Some z) e) d (m ∙ ap (set_value (λ n. t =ⁿ n) es) (ok ∙ ap (option_map h) e)) n
-    kept_either (Err x) s w h a fs ok err k e d m n = kept_changed a a fs (k ∙ ap (λ (z : Option A). Some z) e) refl (m ∙ ap (set_value (λ n. t =ⁿ n) es) (err ∙ e)) n
-
-    pub seen_ok : {X E : Type 0} (r : Result X E) (s w : Option A) (g : A → A) (a : A) (h : List (LocalEntry Op) → List (LocalEntry Op)) (fs : List (Name × Option A)) → OnOk r (w ≡ option_map g s) → lookup (λ n. t =ⁿ n) es ≡ Some s → s ≡ Some a → f t (g a) ≡ relogged h (f t a) →
-        fs ≡ set_value (λ n. t =ⁿ n) es w → keys_of fs ≡ keys_of es → OnOk r (◌≡◌ {A = Txs Shape Op} (record { names = keys_of fs; opened = filled f fs }) (with_log t h v))
-    seen_ok (Ok x) s w g a h fs ok k e d m n = seen_changed a (g a) h fs (k ∙ ap (λ (z : Option A). Some z) e) d (m ∙ ap (set_value (λ n. t =ⁿ n) es) (ok ∙ ap (option_map g) e)) n
-    seen_ok (Err x) s w g a h fs ok k e d m n = tt
-
     pub seen_same : (fs : List (Name × Option A)) → fs ≡ es → ◌≡◌ {A = Txs Shape Op} (record { names = keys_of fs; opened = filled f fs }) v
     seen_same fs m = ap seen m ∙ same
 
-    pub seen_err : {X E : Type 0} (r : Result X E) (s w : Option A) (fs : List (Name × Option A)) → OnErr r (w ≡ s) → lookup (λ n. t =ⁿ n) es ≡ Some s → fs ≡ set_value (λ n. t =ⁿ n) es w → OnErr r (◌≡◌ {A = Txs Shape Op} (record { names = keys_of fs; opened = filled f fs }) v)
-    seen_err (Ok x) s w fs err k m = tt
-    seen_err (Err x) s w fs err k m = seen_same fs (m ∙ ap (set_value (λ n. t =ⁿ n) es) err ∙ set_value_same (λ n. t =ⁿ n) es s k)
+    pub seen_closed : (fs : List (Name × Option A)) → lookup (λ n. t =ⁿ n) es ≡ Some None → fs ≡ set_value (λ n. t =ⁿ n) es None → ◌≡◌ {A = Txs Shape Op} (record { names = keys_of fs; opened = filled f fs }) v
+    seen_closed fs k m = seen_same fs (m ∙ set_value_same (λ n. t =ⁿ n) es None k)
+
+    -- where a thread was busy for no slot
+    pub kept_back : (p : Name) (us ws : List Name) → is_busy v p ≡ false → ((q : Name) → list_any (λ z. q =ⁿ z) us ≡ cond (p =ⁿ q) true (list_any (λ z. q =ⁿ z) ts)) →
+        ((q : Name) → list_any (λ z. q =ⁿ z) ws ≡ cond (p =ⁿ q) false (list_any (λ z. q =ⁿ z) us)) → (fs : List (Name × Option A)) → fs ≡ es → Kept (keys_of fs) ws (threads_of (filled f fs))
+    kept_back p us ws idle come gone fs m =
+        subst (λ (z : List (Name × Option A)). Kept (keys_of z) ws (threads_of (filled f z))) (sym m)
+        (record {
+          names_apart = kept.names_apart;
+          busy_apart = kept.busy_apart;
+          threads_are = λ q. gone q ∙ ap (cond (p =ⁿ q) false) (come q) ∙ taken_back p q (list_any (λ z. q =ⁿ z) ts) (λ e. kept.threads_are q ∙ ap (λ (z : Name). list_any (λ w. w =ⁿ z) (threads_of (filled f es))) (sym e) ∙ ap (λ (w : Txs Shape Op). is_busy w p) same ∙ idle) ∙ kept.threads_are q;
+        })

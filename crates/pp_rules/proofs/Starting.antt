@@ -267,6 +267,10 @@ module _ {Shape State Op Undo : Type 0} (o : Object Shape State Op Undo) (laws :
       let e = get_or_from_slice_get z.items m.0 p p m.2 in
       (subst (IsAskedItem o shape) e (All-get_or (IsAskedItem o shape) z.items m.0 p m.1 asked)).0
 
+-- a start that is refused has done nothing
+pub refused_start : {Shape State Op Undo : Type 0} (o : Object Shape State Op Undo) (old : Seen Shape Op) (z : Start Op) (refusal : Refusal Op) (out : Outcome Op) → out ≡ False refusal.criterion refusal.detail → RefusesStart o old.shape z refusal → Started o old z out old
+refused_start {Shape} {State} {Op} o old z refusal out is k = subst (λ (d : Outcome Op). Started o old z d old) (sym is) (k.breaks, k.not_zero, refl, k.is_evidence)
+
 pub start_shown : {Shape State Op Undo : Type 0} (o : Object Shape State Op Undo) → IsLawful o → (old : Seen Shape Op) (z : Start Op) → All (IsAskedItem o old.shape) z.items → (new : Seen Shape Op) (outcome : Outcome Op) → Started o old z outcome new → IsStartShown o old z outcome
 start_shown o laws old z asked new Done h = tt
 start_shown o laws old z asked new (False zero detail) h = absurd (let e = h.1 in omega (arith, e))

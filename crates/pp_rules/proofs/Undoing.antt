@@ -1,6 +1,6 @@
 -- What the steps that undo leave behind: UNAPP, UNPUSH and UNPULL.
 use Rattle.std.proofs.Common.{◌≡◌, ◌==◌, ◌<◌, ◌≤◌, ◌+◌, ◌*◌, ◌-◌, ℕ, List, map, length, Option}
-use Rattle.std.proofs.Common.{Some, option_map, position, slice_get, Ok, Err, sym, ap, subst, ◌∙◌}
+use Rattle.std.proofs.Common.{Some, Result, option_map, position, slice_get, Ok, Err, refl, sym, ap, subst, ◌∙◌}
 use Rattle.std.proofs.Common.{arith}
 use Rattle.std.specs.List.{remove}
 use Rattle.std.proofs.lemmas.Bool.{eqb-true}
@@ -12,6 +12,7 @@ use Rattle.pp_core.specs.declared.entry.SharedEntry.{SharedEntry}
 use Rattle.pp_model.specs.Config.{Tx, Unpush, Unpull, Unpushed, Pushed, Pulled, at_mark, but_last}
 use Rattle.pp_model.specs.Config.{item, local_ops, set_mark, shared_item, shared_ops, tx}
 use Rattle.pp_model.specs.Config.{without_local, without_shared}
+use Rattle.pp_model.specs.Body.{Tree}
 use Rattle.pp_model.specs.Lists.{Before}
 use Rattle.pp_model.specs.Names.{Name}
 use Rattle.pp_model.specs.Rules.{Breaks, Meets}
@@ -27,17 +28,32 @@ use Rattle.pp_rules.specs.declared.detail.Detail.{Detail}
 use Rattle.pp_rules.specs.declared.detail.Detail.TheVariants.{Nothing, Gives}
 use Rattle.pp_rules.specs.Machines.{Holds, Seen, config_of, tx_of}
 use Rattle.pp_rules.specs.Stepping.{FindsPushed, IsLastAt}
-use Rattle.pp_rules.specs.Transactions.{CostsAt, MayLeave, Open, RemovesAt, Txs, open_at, open_of}
+use Rattle.pp_rules.specs.Courses.{Guided}
+use Rattle.pp_rules.specs.Removals.{CostsRemoval}
+use Rattle.pp_rules.specs.Transactions.{MayLeave, Open, Txs, open_at, open_of, with_course}
 use Rattle.pp_rules.specs.Transactions.{with_log}
 use Rattle.pp_rules.proofs.Finding.{placed, slice_within}
 use Rattle.pp_rules.proofs.Judged.{HasEntry}
 use Rattle.pp_rules.proofs.Judging.{unpush_4, unpush_shown, unpush_0, unpull_3, unpull_shown}
 use Rattle.pp_rules.proofs.Judging.{unpull_0}
-use Rattle.pp_rules.proofs.Keeping.{located_same, posted_at, relocated_is, unpulled}
-use Rattle.pp_rules.proofs.Opened.{HasLog, logged, opened}
+use Rattle.pp_rules.proofs.Keeping.{course_same, of_course, posted_at, relogged_is, unpulled}
+use Rattle.pp_rules.proofs.Opened.{HasCourse, HasLog, logged, opened}
 use Rattle.pp_rules.proofs.Removing.{differs_not, from_id_some, from_place_is, from_place_last}
 use Rattle.pp_rules.proofs.Removing.{last_removed, never_differs}
 use Rattle.pp_rules.proofs.Showing.{differing_shown}
+
+-- What a removal at this place of the local log of t answers, and the transactions that it leaves.
+abbrev pub RemovesAt : {Shape State Op Undo : Type 0} → Object Shape State Op Undo → Txs Shape Op → Name → ℕ → Txs Shape Op → Removed → Type 0
+RemovesAt {Shape} {State} {Op} o old t i new removed =
+    (x : Open Shape Op) → open_at t old.opened ≡ Some x →
+    (l : Shape × List (LocalEntry Op)) × RemovesEntry o item x.local i l removed
+    × (new ≡ with_course t (record { body = x.body; local = l }) old)
+
+-- What it costs.
+abbrev pub CostsAt : {Shape Op E : Type 0} → (Op → ℕ) → Txs Shape Op → Name → ℕ → Result Removed E → ℕ → ℕ → Type 0
+CostsAt {Shape} {Op} place v t i result old new =
+    (x : Open Shape Op) → open_at t v.opened ≡ Some x →
+    CostsRemoval place (local_ops x.local.1) i result old new
 
 -- what a removal that differs says is the evidence
 told : {Op : Type 0} {a c : ℕ} {b d : Answer} → Differs c d ≡ Differs a b → ◌≡◌ {A = Detail Op} (Gives a b) (Gives c d)
@@ -68,6 +84,26 @@ module _ {Shape State Op Undo : Type 0} (o : Object Shape State Op Undo) (shape 
       subst (λ (s : Shape). IsAllowed o s (local_ops l.1)) (sym (r.fine).same_shape)
       (h.sound.local_allowed (record { name = t; thread = r.thread; body = r.body; local = l.1 }) (found_tx t (map tx_of v.opened) _ r.is).0)
 
+  -- The removal from a course, as one of the open transactions'.
+  pub removes_at : (t : Name) (k new : Guided Shape Op) → HasCourse o shape v ids G F n h t k → (i : ℕ) (removed : Removed) → new.body ≡ k.body → RemovesEntry o item k.local i new.local removed → RemovesAt o v t i (with_course t new v) removed
+  removes_at t k new r i removed b q x e =
+      let is = of_course o shape v ids G F n w same h t k r x e in (
+        new.local,
+        subst (λ (z : Guided Shape Op). RemovesEntry o item z.local i new.local removed) (sym is) q,
+        ap (λ (z : Option Tree). with_course t (record { body = z; local = new.local }) v) (b ∙ sym (ap (λ (z : Guided Shape Op). z.body) is)),
+      )
+
+  pub costs_at : {E : Type 0} (place : Op → ℕ) (t : Name) (k : Guided Shape Op) → HasCourse o shape v ids G F n h t k → (i : ℕ) (r : Result Removed E) (a b : ℕ) → CostsRemoval place (local_ops k.local.1) i r a b → CostsAt place v t i r a b
+  costs_at place t k c i r a b q x e = subst (λ (z : Guided Shape Op). CostsRemoval place (local_ops z.local.1) i r a b) (sym (of_course o shape v ids G F n w same h t k c x e)) q
+
+  relog : (t : Name) (l : Shape × List (LocalEntry Op)) (r : HasLog o shape v ids G F n h t l) (f : List (LocalEntry Op) → List (LocalEntry Op)) (new : Shape × List (LocalEntry Op)) → new ≡ (l.0, f l.1) → with_course t (record { body = r.body; local = new }) v ≡ with_log t f v
+  relog t l r f new e =
+      relogged_is o shape v ids G F n w same h t (record { body = r.body; local = l }) (record { body = r.body; local = new }) (record { log = r; body_is = refl }) f (ap (λ (z : Shape × List (LocalEntry Op)). record { body = r.body; local = z }) e)
+
+  unchanged : (t : Name) (l : Shape × List (LocalEntry Op)) (r : HasLog o shape v ids G F n h t l) (new : Shape × List (LocalEntry Op)) → new ≡ l → with_course t (record { body = r.body; local = new }) v ≡ v
+  unchanged t l r new e =
+      course_same o shape v ids G F n w same h t (record { body = r.body; local = l }) (record { body = r.body; local = new }) (record { log = r; body_is = refl }) (ap (λ (z : Shape × List (LocalEntry Op)). record { body = r.body; local = z }) e)
+
   -- UNAPP the local log of the open transaction t, with its last entry
   pub record HasLast (t : Name) (i : ℕ) : Type 0 where
     pub log : Shape × List (LocalEntry Op)
@@ -95,7 +131,7 @@ module _ {Shape State Op Undo : Type 0} (o : Object Shape State Op Undo) (shape 
   pub unapplied : (t : Name) (i : ℕ) (k : HasLast t i) (u : Txs Shape Op) (removed : Removed) → RemovesAt o v t i u removed → u ≡ with_log t but_last v
   unapplied t i k u removed r =
       let q = r (open_of t (k.has).thread (k.has).body k.log) (k.has).at in
-      q.2 ∙ relocated_is o shape v ids G F n w same h t k.log k.has but_last q.0 (last_removed o k.log i k.leaves k.end (log_allowed t k.log k.has) q.0 removed q.1)
+      q.2 ∙ relog t k.log k.has but_last q.0 (last_removed o k.log i k.leaves k.end (log_allowed t k.log k.has) q.0 removed q.1)
 
   one_behind : (place : Op → ℕ) (t : Name) (i : ℕ) (k : HasLast t i) → from_place place (local_ops (k.log).1) i ≡ 1
   one_behind place t i k = from_place_last place (local_ops (k.log).1) i (k.end ∙ sym (length-map (k.log).1 _))
@@ -139,7 +175,7 @@ module _ {Shape State Op Undo : Type 0} (o : Object Shape State Op Undo) (shape 
     pub unpull_done : (u : Txs Shape Op) (removed : Removed) → removed ≡ Done → RemovesAt o v t i u removed → (u ≡ with_log t (without_local id) v) × Meets (rules_of o w.shape) w.config (Unpull t id)
     unpull_done u Done e r =
         let q = r (open_of t (k.has).thread (k.has).body k.log) (k.has).at in (
-          q.2 ∙ relocated_is o shape v ids G F n w same h t k.log k.has (without_local id) q.0 (q.1.0 ∙ ap (λ (z : List (LocalEntry Op)). ((k.log).0, z)) without),
+          q.2 ∙ relog t k.log k.has (without_local id) q.0 (q.1.0 ∙ ap (λ (z : List (LocalEntry Op)). ((k.log).0, z)) without),
           unpull_0 o _ w same t id _ p (k.has).is k.found (allowed_here q.1.1),
         )
     unpull_done u (Differs a b) e r = absurd (cc)
@@ -149,7 +185,7 @@ module _ {Shape State Op Undo : Type 0} (o : Object Shape State Op Undo) (shape 
     unpull_differs u Done a b e r = absurd (cc)
     unpull_differs u (Differs c d) a b e r =
         let q = r (open_of t (k.has).thread (k.has).body k.log) (k.has).at in (
-          q.2 ∙ located_same o shape v ids G F n w same h t k.log k.has q.0 q.1.0,
+          q.2 ∙ unchanged t k.log k.has q.0 q.1.0,
           unpull_3 o _ w same t id _ p (k.has).is k.found (λ z. differs_not o item (k.log).0 (remove (k.log).1 i) c d q.1.1 (allowed_there z)),
           told e
               ∙ unpull_shown o _ w same t id _ p (k.has).is k.found (Gives c d)

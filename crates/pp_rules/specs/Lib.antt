@@ -2,9 +2,11 @@ pub mod Costs
 pub mod Courses
 pub mod Evidence
 pub mod Finding
+pub mod Lending
 pub mod Machines
 pub mod Removals
 pub mod Shown
+pub mod Sites
 pub mod Standing
 pub mod StartAnswers
 pub mod Starting

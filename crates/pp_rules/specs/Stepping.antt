@@ -1,5 +1,5 @@
 -- Meaning: what a step answers.
-use Rattle.std.specs.Prelude.{◌≡◌, ◌==◌, ◌+◌, ◌<◌, length, position, ℕ, List, Option, Some, Result}
+use Rattle.std.specs.Prelude.{◌≡◌, ◌==◌, ◌+◌, ◌<◌, length, position, ℕ, Option, Some, Result}
 use Rattle.std.specs.Prelude.{Ok, Err, IfOk, IsTrue, option_map, slice_get}
 use Rattle.pp_core.specs.Trees.{IsWithinLimits, Tree, tree}
 use Rattle.pp_core.specs.declared.body.Body.{Body}
@@ -101,11 +101,6 @@ StandsAt c t id m found = IsAt c t id m found.0 found.1
 -- The entry of this id in the shared log is this one, of another than t.
 abbrev pub IsOfOther : {Op : Type 0} → Config Op → Name → ℕ → SharedEntry Op → Type 0
 IsOfOther c t id post = of_other t id c.shared ≡ Some post
-
--- This is the local log of the open transaction t.
-abbrev pub IsLocalOf : {Shape Op : Type 0} → Seen Shape Op → Name → Shape × List (LocalEntry Op) →
-    Type 0
-IsLocalOf v t log = option_map (λ x. (v.shape, x.local)) (tx t v.config.opened) ≡ Some log
 
 -- The last entry of the open transaction t's local log, at this position, is its own.
 pub record IsLastAt {Op : Type 0} (c : Config Op) (t : Name) (i : ℕ) : Type 0 where

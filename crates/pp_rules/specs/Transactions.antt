@@ -1,16 +1,12 @@
 -- Proof machinery: what contracts see of the transactions of a run.
-use Rattle.std.specs.Prelude.{◌≡◌, ◌≢◌, ◌+◌, true, Result, ℕ, Bool, not, cond, List, [], ◌∷◌, ◌++◌}
+use Rattle.std.specs.Prelude.{◌≡◌, ◌≢◌, ◌+◌, true, ℕ, Bool, not, cond, List, [], ◌∷◌, ◌++◌}
 use Rattle.std.specs.Prelude.{map, filter, find, Option, None, Some, length, IsTrue, ◌<◌, ◌==◌}
 use Rattle.std.specs.Prelude.{position, slice_get}
 use Rattle.std.specs.List.{list_any}
 use Rattle.pp_core.specs.Trees.{Tree}
 use Rattle.pp_core.specs.declared.entry.LocalEntry.{LocalEntry}
 use Rattle.pp_core.specs.declared.entry.Mark.TheVariants.{Pulled}
-use Rattle.pp_model.specs.Config.{is_own, item, local_ops}
-use Rattle.pp_log.specs.declared.place.Removed.{Removed}
-use Rattle.pp_log.specs.Logs.{RemovesEntry}
-use Rattle.pp_rules.specs.Removals.{CostsRemoval}
-use Rattle.pp_rules.specs.declared.transactions.OpenTx.{OpenTx}
+use Rattle.pp_model.specs.Config.{is_own, local_ops}
 use Rattle.pp_model.specs.Lists.{Before}
 use Rattle.pp_model.specs.Names.{Name, ◌=ⁿ◌}
 use Rattle.pp_spec.specs.Object.{Object, IsAllowed}
@@ -60,15 +56,13 @@ abbrev pub with_log : {Shape Op : Type 0} → Name → (List (LocalEntry Op) →
 with_log t f v =
     record { names = v.names; opened = map (λ x. cond (x.name =ⁿ t) (relogged f x) x) v.opened }
 
--- with this local log of the open transaction t
-abbrev pub relocated : {Shape Op : Type 0} → Shape × List (LocalEntry Op) → Open Shape Op →
-    Open Shape Op
-relocated l x = record { name = x.name; thread = x.thread; body = x.body; local = l }
+-- with this course of the open transaction t
+abbrev pub recoursed : {Shape Op : Type 0} → Guided Shape Op → Open Shape Op → Open Shape Op
+recoursed k x = record { name = x.name; thread = x.thread; body = k.body; local = k.local }
 
-abbrev pub with_local : {Shape Op : Type 0} → Name → Shape × List (LocalEntry Op) → Txs Shape Op →
-    Txs Shape Op
-with_local t l v =
-    record { names = v.names; opened = map (λ x. cond (x.name =ⁿ t) (relocated l x) x) v.opened }
+abbrev pub with_course : {Shape Op : Type 0} → Name → Guided Shape Op → Txs Shape Op → Txs Shape Op
+with_course t k v =
+    record { names = v.names; opened = map (λ x. cond (x.name =ⁿ t) (recoursed k x) x) v.opened }
 
 -- with one more transaction at the end
 abbrev pub with_open : {Shape Op : Type 0} → Open Shape Op → Txs Shape Op → Txs Shape Op
@@ -116,34 +110,3 @@ pub record MayLeave {Op : Type 0} (log : List (LocalEntry Op)) (i : ℕ) : Type 
   pub entry : LocalEntry Op
   pub here : slice_get log i ≡ Some entry
   pub own_last : is_own entry.mark ≡ true → i + 1 ≡ length log
-
--- What a removal at this place of the local log of t answers, and the transactions that it leaves.
-abbrev pub RemovesAt : {Shape State Op Undo : Type 0} → Object Shape State Op Undo → Txs Shape Op →
-    Name → ℕ →
-    Txs Shape Op → Removed → Type 0
-RemovesAt {Shape} {State} {Op} o old t i new removed =
-    (x : Open Shape Op) → open_at t old.opened ≡ Some x →
-    (l : Shape × List (LocalEntry Op)) × RemovesEntry o item x.local i l removed
-    × (new ≡ with_local t l old)
-
--- What it costs.
-abbrev pub CostsAt : {Shape Op E : Type 0} → (Op → ℕ) → Txs Shape Op → Name → ℕ → Result Removed E →
-    ℕ → ℕ → Type 0
-CostsAt {Shape} {Op} place v t i result old new =
-    (x : Open Shape Op) → open_at t v.opened ≡ Some x →
-    CostsRemoval place (local_ops x.local.1) i result old new
-
--- The same in a slot.
-abbrev pub RemovesIn : {Shape State Op Undo : Type 0} → Object Shape State Op Undo →
-    OpenTx (Guided Shape Op) → ℕ →
-    Option (OpenTx (Guided Shape Op)) → Removed → Type 0
-RemovesIn {Shape} {State} {Op} o old i new removed =
-    (l : Shape × List (LocalEntry Op)) × RemovesEntry o item old.course.local i l removed
-    ×
-    (new
-    ≡ Some
-    (record { thread = old.thread; course = record { body = old.course.body; local = l } }))
-
-abbrev pub CostsIn : {Shape Op E : Type 0} → (Op → ℕ) → OpenTx (Guided Shape Op) → ℕ →
-    Result Removed E → ℕ → ℕ → Type 0
-CostsIn place t i result old new = CostsRemoval place (local_ops t.course.local.1) i result old new

@@ -19,6 +19,7 @@ use pp_local::{Local, Removed};
 use pp_parts::Parted;
 use std::alloc::Global;
 use std::marker::Model;
+use std::mem;
 use std::sync::ledger::Ledger;
 
 /// A log, and the walk of its own calls.
@@ -170,10 +171,10 @@ impl<S: Parted> Course<S> {
         self.walked.log.mark(i, mark);
     }
 
-    /// Takes an entry out of the local log, unless the list without it is not allowed. The walk
-    /// gives back the call of an own one. The only error is that memory was refused, and the course
-    /// is then lost.
-    pub fn remove<L: Ledger>(
+    /// The course without an entry of its local log, unless the list without it is not allowed. The
+    /// walk gives back the call of an own one. The only error is that memory was refused, and the
+    /// course is then lost.
+    fn without<L: Ledger>(
         self,
         i: usize,
         ticks: &mut Ticks<L>,
@@ -196,5 +197,29 @@ impl<S: Parted> Course<S> {
             },
             removed,
         ))
+    }
+
+    /// Takes an entry out of the local log, unless the list without it is not allowed. The only
+    /// error is that memory was refused, and the log may then be lost: meanwhile an empty course of
+    /// the shape stands here.
+    pub fn remove<L: Ledger>(
+        &mut self,
+        alloc: Global,
+        shape: &S::Shape,
+        i: usize,
+        ticks: &mut Ticks<L>,
+    ) -> Result<Removed, OutOfMemory>
+        requires { MayLeave self.old.local.1 i }
+        ensures body { OnOk result (self.new.body ≡ self.old.body) }
+        ensures removes { IfOk result (λ r. RemovesEntry S.object item self.old.local i
+            self.new.local r) }
+        ensures cost { CostsRemoval S.place_of (local_ops self.old.local.1) i result
+            ticks.old ticks.new }
+    {
+        let empty = Course::start(alloc, shape, &None)?;
+        let course = mem::replace(self, empty);
+        let (course, removed) = course.without(i, ticks)?;
+        *self = course;
+        Ok(removed)
     }
 }

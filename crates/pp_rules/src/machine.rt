@@ -24,7 +24,7 @@ mod unapp;
 mod unpull;
 mod unpush;
 
-use crate::detail::Detail;
+use crate::detail::{Detail, Refusal};
 use crate::transactions::{OpenTx, Transactions};
 use indexmap::IndexSet;
 use pp_core::{Committed, Name, OutOfMemory, Step, Ticks};
@@ -42,6 +42,14 @@ pub enum Outcome<O> {
     Done,
     /// The first false criterion, from 1, and what shows that it is false. Nothing has happened.
     False { criterion: u8, detail: Detail<O> },
+}
+
+/// The outcome of a step that is refused.
+fn refused<O>(refusal: Refusal<O>) -> Outcome<O>
+    ensures { result ≡ Outcome.False refusal.criterion refusal.detail }
+{
+    let Refusal { criterion, detail } = refusal;
+    Outcome::False { criterion, detail }
 }
 
 /// The machine: the transactions with their local logs, the shared log, and the committed
@@ -156,6 +164,7 @@ impl<S: Parted> Machine<S> {
         ensures bound { ticks.new ≤ ticks.old + at_most S.place_of self.config (meaning step.now) }
         ensures sure { NeedsNoMemory (meaning step.now) → IsOk result }
     {
+        // It stands here for what its clauses say of each machine.
         let _sound = self.count();
         match step {
             Step::Begin { tx, thread, body } => self.begin(tx, thread, body),

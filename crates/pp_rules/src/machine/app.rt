@@ -1,42 +1,51 @@
 //! APP: its criteria and its effect.
-ghost use Rattle.std.specs.Prelude.{◌<◌, ◌≤◌, ◌+◌, IsTrue};
+ghost use Rattle.std.specs.Prelude.{◌≡◌, ◌==◌, ◌<◌, ◌≤◌, ◌+◌, IsTrue, List};
+ghost use Rattle.std.specs.List.{list_any};
+ghost use Rattle.pp_core.specs.declared.entry.SharedEntry.{SharedEntry};
 ghost use Rattle.pp_core.specs.Steps.{App};
+ghost use Rattle.pp_model.specs.Names.{Name as NameOf};
 ghost use Rattle.pp_rules.specs.Costs.{Costs};
+ghost use Rattle.pp_rules.specs.Sites.{HoldsCourse, Rest, seen_with};
 ghost use Rattle.pp_rules.specs.Stepping.{Does, Judges};
 
+use crate::course::Course;
 use crate::detail::{Detail, Refusal, bare};
-use crate::machine::{Machine, Outcome};
+use crate::machine::{Machine, Outcome, refused};
 use pp_core::{LocalEntry, Mark, Name, OutOfMemory, Ticks};
 use pp_parts::Parted;
 use std::sync::ledger::Ledger;
 
-impl<S: Parted> Machine<S> {
-    /// Whether APP may be done, or the refusal by its first false criterion.
-    fn judge_app(&self, tx: &Name, id: u32, op: &S::Op) -> Result<(), Refusal<S::Op>>
-        requires { IsTrue (S.object.fits self.now.shape op.now) }
-        ensures { Judges S.object self.now (App tx.now id op.now) (λ _. Unit {0}) result }
-    {
-        let Some(course) = self.transactions.course(tx) else {
-            return Err(bare(1));
-        };
-        if self.ids.contains(&id) {
-            return Err(bare(2));
-        }
-        if !course.can(op) {
-            return Err(bare(3));
-        }
-        if !course.local().legal(op) {
-            return Err(Refusal {
-                criterion: 4,
-                detail: Detail::Gives {
-                    id,
-                    answer: course.local().gives(op),
-                },
-            });
-        }
-        Ok(())
+/// Whether APP may be done, or the refusal by its first false criterion behind the first one, that
+/// the transaction is open. It is told whether the id was used.
+fn judge_app<S: Parted>(
+    course: &Course<S>,
+    used: bool,
+    id: u32,
+    op: &S::Op,
+) -> Result<(), Refusal<S::Op>>
+    requires { IsTrue (S.object.fits course.now.local.0 op.now) }
+    ensures { (m : Rest S.Shape S.Op) (shared : S.Shape × List (SharedEntry S.Op)) (t : NameOf) →
+        HoldsCourse S.object m shared t course.now → used ≡ list_any (λ i. id == i) m.ids →
+        Judges S.object (seen_with m shared) (App t id op.now) (λ _. Unit {0}) result }
+{
+    if used {
+        return Err(bare(2));
     }
+    if !course.can(op) {
+        return Err(bare(3));
+    }
+    let local = course.local();
+    if !local.legal(op) {
+        let answer = local.gives(op);
+        return Err(Refusal {
+            criterion: 4,
+            detail: Detail::Gives { id, answer },
+        });
+    }
+    Ok(())
+}
 
+impl<S: Parted> Machine<S> {
     /// Does APP where its criteria hold.
     pub(super) fn app<L: Ledger>(
         mut self,
@@ -52,8 +61,12 @@ impl<S: Parted> Machine<S> {
         ensures cost { Costs S.place_of self (App tx.now id op.now) result ticks.old ticks.new }
         ensures bound { ticks.new ≤ ticks.old + 1 }
     {
-        if let Err(Refusal { criterion, detail }) = self.judge_app(tx, id, op) {
-            return Ok((self, Outcome::False { criterion, detail }));
+        let used = self.ids.contains(&id);
+        let Some(course) = self.transactions.course_mut(tx) else {
+            return Ok((self, refused(bare(1))));
+        };
+        if let Err(refusal) = judge_app(course, used, id, op) {
+            return Ok((self, refused(refusal)));
         }
         let entry = LocalEntry {
             id,
@@ -61,7 +74,7 @@ impl<S: Parted> Machine<S> {
             mark: Mark::Unpushed,
             op: *op,
         };
-        self.transactions.append(tx, entry, ticks)?;
+        course.append(entry, ticks)?;
         self.ids.insert(id)?;
         self.count += 1;
         Ok((self, Outcome::Done))

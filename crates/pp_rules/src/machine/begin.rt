@@ -4,7 +4,7 @@ ghost use Rattle.pp_core.specs.Trees.{IsWithinLimits, tree};
 ghost use Rattle.pp_rules.specs.Stepping.{Does, JudgesBegin, begin_of};
 
 use crate::detail::{Refusal, bare};
-use crate::machine::{Machine, Outcome};
+use crate::machine::{Machine, Outcome, refused};
 use pp_core::{Body, Name, OutOfMemory};
 use pp_parts::Parted;
 
@@ -33,8 +33,8 @@ impl<S: Parted> Machine<S> {
         requires few { self.count < 200_000 }
         ensures { Does S.object self (begin_of tx.now thread.now body.now) result }
     {
-        if let Err(Refusal { criterion, detail }) = self.judge_begin(tx, thread) {
-            return Ok((self, Outcome::False { criterion, detail }));
+        if let Err(refusal) = self.judge_begin(tx, thread) {
+            return Ok((self, refused(refusal)));
         }
         self.transactions
             .begin(self.alloc, &self.shape, tx, thread, body)?;

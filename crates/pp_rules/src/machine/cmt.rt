@@ -1,59 +1,60 @@
 //! CMT: its criteria and its effect.
 ghost use Rattle.std.specs.Prelude.{◌<◌};
 ghost use Rattle.pp_core.specs.Steps.{Cmt};
-ghost use Rattle.pp_rules.specs.Stepping.{Does, IsLocalOf, Judges};
+ghost use Rattle.pp_model.specs.Names.{Name as NameOf};
+ghost use Rattle.pp_rules.specs.Sites.{HoldsCourse, Rest, seen_with};
+ghost use Rattle.pp_rules.specs.Stepping.{Does, Judges};
 
+use crate::course::Course;
 use crate::detail::{Detail, Refusal, bare};
 use crate::find::{first_not_standing, first_unpushed, own_items};
-use crate::machine::{Machine, Outcome};
+use crate::machine::{Machine, Outcome, refused};
 use pp_core::{CommittedTx, Name, OutOfMemory};
-use pp_local::Local;
 use pp_parts::Parted;
+use pp_shared::Shared;
+
+/// Whether CMT may be done, or the refusal by its first false criterion behind the first one, that
+/// the transaction is open.
+fn judge_cmt<S: Parted>(course: &Course<S>, shared: &Shared<S>) -> Result<(), Refusal<S::Op>>
+    ensures { (m : Rest S.Shape S.Op) (t : NameOf) →
+        HoldsCourse S.object m shared.now t course.now →
+        Judges S.object (seen_with m shared.now) (Cmt t) (λ _. Unit {0}) result }
+{
+    if !course.complete() {
+        return Err(bare(2));
+    }
+    let entries = course.local().entries();
+    if let Some(k) = first_unpushed(entries) {
+        return Err(Refusal {
+            criterion: 3,
+            detail: Detail::Entry { id: entries[k].id },
+        });
+    }
+    if let Some(k) = first_not_standing(entries, shared) {
+        return Err(Refusal {
+            criterion: 4,
+            detail: Detail::Entry { id: entries[k].id },
+        });
+    }
+    Ok(())
+}
 
 impl<S: Parted> Machine<S> {
-    /// The local log that CMT commits, or the refusal by its first false criterion.
-    fn judge_cmt(&self, tx: &Name) -> Result<&Local<S>, Refusal<S::Op>>
-        ensures { Judges S.object self.now (Cmt tx.now)
-            (λ log. IsLocalOf self.now tx.now log.now) result }
-    {
-        let Some(course) = self.transactions.course(tx) else {
-            return Err(bare(1));
-        };
-        if !course.complete() {
-            return Err(bare(2));
-        }
-        let local = course.local();
-        let entries = local.entries();
-        if let Some(k) = first_unpushed(entries) {
-            return Err(Refusal {
-                criterion: 3,
-                detail: Detail::Entry { id: entries[k].id },
-            });
-        }
-        if let Some(k) = first_not_standing(entries, &self.shared) {
-            return Err(Refusal {
-                criterion: 4,
-                detail: Detail::Entry { id: entries[k].id },
-            });
-        }
-        Ok(local)
-    }
-
     /// Does CMT where its criteria hold.
     pub(super) fn commit(mut self, tx: &Name) -> Result<(Self, Outcome<S::Op>), OutOfMemory>
         requires few { self.count < 200_000 }
         ensures { Does S.object self (Cmt tx.now) result }
     {
-        let local = match self.judge_cmt(tx) {
-            Ok(local) => local,
-            Err(Refusal { criterion, detail }) => {
-                return Ok((self, Outcome::False { criterion, detail }));
-            }
+        let Some((place, course)) = self.transactions.find(tx) else {
+            return Ok((self, refused(bare(1))));
         };
-        let entries = own_items(self.alloc, local.entries())?;
+        if let Err(refusal) = judge_cmt(course, &self.shared) {
+            return Ok((self, refused(refusal)));
+        }
+        let entries = own_items(self.alloc, course.local().entries())?;
         self.shared.commit(tx, &entries);
         self.committed.push(CommittedTx { name: *tx, entries })?;
-        self.transactions.end(tx);
+        self.transactions.end_at(place);
         self.count += 1;
         Ok((self, Outcome::Done))
     }

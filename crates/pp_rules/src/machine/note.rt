@@ -4,7 +4,7 @@ ghost use Rattle.pp_core.specs.Steps.{Note};
 ghost use Rattle.pp_rules.specs.Stepping.{Judges, Stepped};
 
 use crate::detail::{Refusal, bare};
-use crate::machine::{Machine, Outcome};
+use crate::machine::{Machine, Outcome, refused};
 use pp_core::Name;
 use pp_parts::Parted;
 
@@ -24,8 +24,8 @@ impl<S: Parted> Machine<S> {
         requires { self.count < 200_000 }
         ensures { Stepped S.object self (Note tx.now) result.1 result.0 }
     {
-        if let Err(Refusal { criterion, detail }) = self.judge_note(tx) {
-            return (self, Outcome::False { criterion, detail });
+        if let Err(refusal) = self.judge_note(tx) {
+            return (self, refused(refusal));
         }
         self.count += 1;
         (self, Outcome::Done)

@@ -1,49 +1,62 @@
 //! PULL: its criteria and its effect.
-ghost use Rattle.std.specs.Prelude.{◌<◌, ◌≤◌, ◌+◌, IfOk};
+ghost use Rattle.std.specs.Prelude.{◌<◌, ◌≤◌, ◌+◌, ◌≡◌, IfOk, List};
+ghost use Rattle.pp_core.specs.declared.entry.SharedEntry.{SharedEntry as EntryOf};
 ghost use Rattle.pp_core.specs.Steps.{Pull};
+ghost use Rattle.pp_model.specs.Config.{of_other};
+ghost use Rattle.pp_model.specs.Names.{Name as NameOf};
 ghost use Rattle.pp_rules.specs.Costs.{Costs};
+ghost use Rattle.pp_rules.specs.Sites.{HoldsLocal, IsOfMachine, Rest, seen_with};
 ghost use Rattle.pp_rules.specs.Stepping.{Does, JudgesPull};
 
 use crate::detail::{Detail, Judged, Refusal, bare, swap_detail};
 use crate::find::other_at;
-use crate::machine::{Machine, Outcome};
+use crate::machine::{Machine, Outcome, refused};
 use pp_core::{LocalEntry, Mark, Name, OutOfMemory, SharedEntry, Ticks};
+use pp_local::Local;
 use pp_parts::Parted;
+use std::alloc::Global;
 use std::sync::ledger::Ledger;
 
-impl<S: Parted> Machine<S> {
-    /// The entry that PULL takes over, or the refusal by its first false criterion. The only error
-    /// is that memory was refused.
-    fn judge_pull(&self, tx: &Name, id: u32) -> Judged<SharedEntry<S::Op>, S::Op>
-        ensures { IfOk result (JudgesPull S.object self.now tx.now id) }
-    {
-        let Some(local) = self.transactions.local(tx) else {
-            return Ok(Err(bare(1)));
-        };
-        let Some(post) = other_at(&self.shared, tx, id) else {
-            return Ok(Err(bare(2)));
-        };
-        if local.find(id).is_some() {
-            return Ok(Err(bare(3)));
-        }
-        if !local.legal(&post.op) {
-            let answer = local.gives(&post.op);
-            return Ok(Err(Refusal {
-                criterion: 4,
-                detail: Detail::Gives { id, answer },
-            }));
-        }
-        if let Some(k) = local.first_not_before(&post.op) {
-            let own = &local.entries()[k];
-            let detail = swap_detail::<S>(self.alloc, own.id, &own.op, &post.op)?;
-            return Ok(Err(Refusal {
-                criterion: 5,
-                detail,
-            }));
-        }
-        Ok(Ok(post))
+/// The entry that PULL takes over, or the refusal by its first false criterion behind the first one,
+/// that the transaction is open. It is told the entry of this id that another owns. The only error is
+/// that memory was refused.
+fn judge_pull<S: Parted>(
+    local: &Local<S>,
+    found: Option<SharedEntry<S::Op>>,
+    alloc: Global,
+    id: u32,
+) -> Judged<SharedEntry<S::Op>, S::Op>
+    requires { (shared : S.Shape × List (EntryOf S.Op)) × (t : NameOf)
+        × (found ≡ of_other t id shared.1) × IsOfMachine S.object shared t local.now }
+    ensures { IfOk result (λ r. (m : Rest S.Shape S.Op) (shared : S.Shape × List (EntryOf S.Op))
+        (t : NameOf) → found ≡ of_other t id shared.1 → HoldsLocal S.object m shared t local.now →
+        JudgesPull S.object (seen_with m shared) t id r) }
+{
+    let Some(post) = found else {
+        return Ok(Err(bare(2)));
+    };
+    if local.find(id).is_some() {
+        return Ok(Err(bare(3)));
     }
+    if !local.legal(&post.op) {
+        let answer = local.gives(&post.op);
+        return Ok(Err(Refusal {
+            criterion: 4,
+            detail: Detail::Gives { id, answer },
+        }));
+    }
+    if let Some(k) = local.first_not_before(&post.op) {
+        let own = &local.entries()[k];
+        let detail = swap_detail::<S>(alloc, own.id, &own.op, &post.op)?;
+        return Ok(Err(Refusal {
+            criterion: 5,
+            detail,
+        }));
+    }
+    Ok(Ok(post))
+}
 
+impl<S: Parted> Machine<S> {
     /// Does PULL where its criteria hold.
     pub(super) fn pull<L: Ledger>(
         mut self,
@@ -56,12 +69,15 @@ impl<S: Parted> Machine<S> {
         ensures cost { Costs S.place_of self (Pull tx.now id) result ticks.old ticks.new }
         ensures bound { ticks.new ≤ ticks.old + 1 }
     {
-        let judged = self.judge_pull(tx, id)?;
+        let alloc = self.alloc;
+        let found = other_at(&self.shared, tx, id);
+        let Some(course) = self.transactions.course_mut(tx) else {
+            return Ok((self, refused(bare(1))));
+        };
+        let judged = judge_pull(course.local(), found, alloc, id)?;
         let post = match judged {
             Ok(post) => post,
-            Err(Refusal { criterion, detail }) => {
-                return Ok((self, Outcome::False { criterion, detail }));
-            }
+            Err(refusal) => return Ok((self, refused(refusal))),
         };
         let entry = LocalEntry {
             id: post.id,
@@ -69,7 +85,7 @@ impl<S: Parted> Machine<S> {
             mark: Mark::Pulled,
             op: post.op,
         };
-        self.transactions.append(tx, entry, ticks)?;
+        course.append(entry, ticks)?;
         self.count += 1;
         Ok((self, Outcome::Done))
     }

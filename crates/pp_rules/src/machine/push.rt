@@ -2,54 +2,65 @@
 ghost use Rattle.std.specs.Prelude.{◌<◌, ◌≤◌, ◌+◌, IfOk};
 ghost use Rattle.pp_core.specs.Steps.{Push};
 ghost use Rattle.pp_rules.specs.Costs.{Costs};
+ghost use Rattle.pp_rules.specs.Sites.{HoldsLocal, IsOfMachine, Rest, seen_with};
 ghost use Rattle.pp_rules.specs.Stepping.{Does, JudgesPush};
 
 use crate::detail::{Detail, Judged, Refusal, bare, swap_detail};
 use crate::find::marked_at;
-use crate::machine::{Machine, Outcome};
+use crate::machine::{Machine, Outcome, refused};
 use pp_core::{LocalEntry, Mark, Name, OutOfMemory, SharedEntry, Ticks};
+use pp_local::Local;
 use pp_parts::Parted;
+use pp_shared::Shared;
+use std::alloc::Global;
 use std::sync::ledger::Ledger;
 
-impl<S: Parted> Machine<S> {
-    /// The entry that PUSH publishes, and where it stands in the local log, or the refusal by its
-    /// first false criterion. The only error is that memory was refused.
-    fn judge_push(&self, tx: &Name, id: u32) -> Judged<(usize, LocalEntry<S::Op>), S::Op>
-        ensures { IfOk result (JudgesPush S.object self.now tx.now id) }
-    {
-        let Some(local) = self.transactions.local(tx) else {
-            return Ok(Err(bare(1)));
-        };
-        let Some((i, entry)) = marked_at(local, id, Mark::Unpushed) else {
-            return Ok(Err(bare(2)));
-        };
-        let op = &entry.op;
-        if let Some(k) = local.first_holding_back(i, op) {
-            let own = &local.entries()[k];
-            let detail = swap_detail::<S>(self.alloc, own.id, op, &own.op)?;
-            return Ok(Err(Refusal {
-                criterion: 3,
-                detail,
-            }));
-        }
-        if let Some(k) = self.shared.blocking(tx, op) {
-            let other = &self.shared.entries()[k];
-            let detail = swap_detail::<S>(self.alloc, other.id, &other.op, op)?;
-            return Ok(Err(Refusal {
-                criterion: 4,
-                detail,
-            }));
-        }
-        if !self.shared.legal(op) {
-            let answer = self.shared.gives(op);
-            return Ok(Err(Refusal {
-                criterion: 5,
-                detail: Detail::Gives { id, answer },
-            }));
-        }
-        Ok(Ok((i, entry)))
+/// The entry that PUSH publishes, and where it stands in the local log, or the refusal by its first
+/// false criterion behind the first one, that the transaction is open. The only error is that memory
+/// was refused.
+fn judge_push<S: Parted>(
+    local: &Local<S>,
+    shared: &Shared<S>,
+    alloc: Global,
+    tx: &Name,
+    id: u32,
+) -> Judged<(usize, LocalEntry<S::Op>), S::Op>
+    requires { IsOfMachine S.object shared.now tx.now local.now }
+    ensures { IfOk result (λ r. (m : Rest S.Shape S.Op) →
+        HoldsLocal S.object m shared.now tx.now local.now →
+        JudgesPush S.object (seen_with m shared.now) tx.now id r) }
+{
+    let Some((i, entry)) = marked_at(local, id, Mark::Unpushed) else {
+        return Ok(Err(bare(2)));
+    };
+    let op = &entry.op;
+    if let Some(k) = local.first_holding_back(i, op) {
+        let own = &local.entries()[k];
+        let detail = swap_detail::<S>(alloc, own.id, op, &own.op)?;
+        return Ok(Err(Refusal {
+            criterion: 3,
+            detail,
+        }));
     }
+    if let Some(k) = shared.blocking(tx, op) {
+        let other = &shared.entries()[k];
+        let detail = swap_detail::<S>(alloc, other.id, &other.op, op)?;
+        return Ok(Err(Refusal {
+            criterion: 4,
+            detail,
+        }));
+    }
+    if !shared.legal(op) {
+        let answer = shared.gives(op);
+        return Ok(Err(Refusal {
+            criterion: 5,
+            detail: Detail::Gives { id, answer },
+        }));
+    }
+    Ok(Ok((i, entry)))
+}
 
+impl<S: Parted> Machine<S> {
     /// Does PUSH where its criteria hold.
     pub(super) fn push<L: Ledger>(
         mut self,
@@ -62,12 +73,15 @@ impl<S: Parted> Machine<S> {
         ensures cost { Costs S.place_of self (Push tx.now id) result ticks.old ticks.new }
         ensures bound { ticks.new ≤ ticks.old + 1 }
     {
-        let judged = self.judge_push(tx, id)?;
+        let alloc = self.alloc;
+        let shared = &mut self.shared;
+        let Some(course) = self.transactions.course_mut(tx) else {
+            return Ok((self, refused(bare(1))));
+        };
+        let judged = judge_push(course.local(), shared, alloc, tx, id)?;
         let (i, entry) = match judged {
             Ok(found) => found,
-            Err(Refusal { criterion, detail }) => {
-                return Ok((self, Outcome::False { criterion, detail }));
-            }
+            Err(refusal) => return Ok((self, refused(refusal))),
         };
         let posted = SharedEntry {
             id: entry.id,
@@ -75,8 +89,8 @@ impl<S: Parted> Machine<S> {
             committed: false,
             op: entry.op,
         };
-        self.shared.push(posted, ticks)?;
-        self.transactions.mark(tx, i, Mark::Pushed);
+        shared.push(posted, ticks)?;
+        course.mark(i, Mark::Pushed);
         self.count += 1;
         Ok((self, Outcome::Done))
     }

@@ -10,7 +10,7 @@ ghost use Rattle.pp_rules.specs.StartAnswers.{IsAskedItem, IsStartShown, Started
 ghost use Rattle.pp_rules.specs.Starts.{first_repeated, has_id, start_of};
 
 use crate::detail::{Detail, Judged, Refusal};
-use crate::machine::{Machine, Outcome};
+use crate::machine::{Machine, Outcome, refused};
 use indexmap::IndexSet;
 use pp_core::{CommittedTx, Item, Items, Name, OutOfMemory, SharedEntry, Ticks};
 use pp_parts::Parted;
@@ -150,6 +150,7 @@ impl<S: Parted> Machine<S> {
         shared.commit(&tx, &entries);
         self.shared = shared;
         self.committed.push(CommittedTx { name: tx, entries })?;
+        // A start has no thread: its name stands for one until it has ended, just below.
         self.transactions
             .begin(self.alloc, &self.shape, &tx, &tx, &None)?;
         self.transactions.end(&tx);
@@ -186,7 +187,7 @@ impl<S: Parted> Machine<S> {
                 let machine = self.with_start(tx, items.as_slice(), shared)?;
                 Ok((machine, Outcome::Done))
             }
-            Err(Refusal { criterion, detail }) => Ok((self, Outcome::False { criterion, detail })),
+            Err(refusal) => Ok((self, refused(refusal))),
         }
     }
 }

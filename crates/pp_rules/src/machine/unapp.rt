@@ -1,30 +1,34 @@
 //! UNAPP: its criteria and its effect.
-ghost use Rattle.std.specs.Prelude.{◌<◌, ◌≤◌, ◌+◌};
+ghost use Rattle.std.specs.Prelude.{◌<◌, ◌≤◌, ◌+◌, List};
+ghost use Rattle.pp_core.specs.declared.entry.SharedEntry.{SharedEntry};
 ghost use Rattle.pp_core.specs.Steps.{Unapp};
+ghost use Rattle.pp_model.specs.Names.{Name as NameOf};
 ghost use Rattle.pp_rules.specs.Costs.{Costs};
+ghost use Rattle.pp_rules.specs.Sites.{HoldsLocal, Rest, seen_with};
 ghost use Rattle.pp_rules.specs.Stepping.{Does, JudgesUnapp};
 
 use crate::detail::{Refusal, bare};
 use crate::find::last_unpushed;
-use crate::machine::{Machine, Outcome};
+use crate::machine::{Machine, Outcome, refused};
 use pp_core::{Name, OutOfMemory, Ticks};
+use pp_local::Local;
 use pp_parts::Parted;
 use std::sync::ledger::Ledger;
 
-impl<S: Parted> Machine<S> {
-    /// Where the entry stands that UNAPP drops, or the refusal by its first false criterion.
-    fn judge_unapp(&self, tx: &Name, id: u32) -> Result<usize, Refusal<S::Op>>
-        ensures { JudgesUnapp S.object self.now tx.now id result }
-    {
-        let Some(local) = self.transactions.local(tx) else {
-            return Err(bare(1));
-        };
-        let Some(i) = last_unpushed(local.entries(), id) else {
-            return Err(bare(2));
-        };
-        Ok(i)
-    }
+/// Where the entry stands that UNAPP drops, or the refusal by its first false criterion behind the
+/// first one, that the transaction is open.
+fn judge_unapp<S: Parted>(local: &Local<S>, id: u32) -> Result<usize, Refusal<S::Op>>
+    ensures { (m : Rest S.Shape S.Op) (shared : S.Shape × List (SharedEntry S.Op)) (t : NameOf) →
+        HoldsLocal S.object m shared t local.now →
+        JudgesUnapp S.object (seen_with m shared) t id result }
+{
+    let Some(i) = last_unpushed(local.entries(), id) else {
+        return Err(bare(2));
+    };
+    Ok(i)
+}
 
+impl<S: Parted> Machine<S> {
     /// Does UNAPP where its criteria hold.
     pub(super) fn unapp<L: Ledger>(
         mut self,
@@ -37,15 +41,18 @@ impl<S: Parted> Machine<S> {
         ensures cost { Costs S.place_of self (Unapp tx.now id) result ticks.old ticks.new }
         ensures bound { ticks.new ≤ ticks.old + 1 }
     {
-        let i = match self.judge_unapp(tx, id) {
+        let alloc = self.alloc;
+        // Only read: beside a field lent as `&mut`, the others are lent as `&mut` too.
+        let shape = &mut self.shape;
+        let Some(course) = self.transactions.course_mut(tx) else {
+            return Ok((self, refused(bare(1))));
+        };
+        let i = match judge_unapp(course.local(), id) {
             Ok(i) => i,
-            Err(Refusal { criterion, detail }) => {
-                return Ok((self, Outcome::False { criterion, detail }));
-            }
+            Err(refusal) => return Ok((self, refused(refusal))),
         };
         // The list without its last entry is always allowed.
-        let (transactions, _done) = self.transactions.remove(tx, i, ticks)?;
-        self.transactions = transactions;
+        let _done = course.remove(alloc, shape, i, ticks)?;
         self.count += 1;
         Ok((self, Outcome::Done))
     }

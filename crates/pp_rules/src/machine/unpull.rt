@@ -1,32 +1,37 @@
 //! UNPULL: its criteria and its effect.
-ghost use Rattle.std.specs.Prelude.{◌<◌, ◌≤◌, ◌+◌};
+ghost use Rattle.std.specs.Prelude.{◌<◌, ◌≤◌, ◌+◌, List};
+ghost use Rattle.pp_core.specs.declared.entry.SharedEntry.{SharedEntry};
 ghost use Rattle.pp_core.specs.Steps.{Unpull};
+ghost use Rattle.pp_model.specs.Names.{Name as NameOf};
 ghost use Rattle.pp_rules.specs.Costs.{Costs, at_most};
+ghost use Rattle.pp_rules.specs.Finding.{AreDistinct};
+ghost use Rattle.pp_rules.specs.Sites.{HoldsLocal, Rest, seen_with};
 ghost use Rattle.pp_rules.specs.Stepping.{Does, JudgesUnpull};
 
 use crate::detail::{Detail, Refusal, bare};
 use crate::find::marked_at;
-use crate::machine::{Machine, Outcome};
+use crate::machine::{Machine, Outcome, refused};
 use pp_core::{Mark, Name, OutOfMemory, Ticks};
-use pp_local::Removed;
+use pp_local::{Local, Removed};
 use pp_parts::Parted;
 use std::sync::ledger::Ledger;
 
-impl<S: Parted> Machine<S> {
-    /// Where the entry stands that UNPULL takes out, or the refusal by its first false criterion.
-    /// The last criterion, that the local log is allowed without the entry, is not asked here.
-    fn judge_unpull(&self, tx: &Name, id: u32) -> Result<usize, Refusal<S::Op>>
-        ensures { JudgesUnpull S.object self.now tx.now id result }
-    {
-        let Some(local) = self.transactions.local(tx) else {
-            return Err(bare(1));
-        };
-        let Some((i, _pulled)) = marked_at(local, id, Mark::Pulled) else {
-            return Err(bare(2));
-        };
-        Ok(i)
-    }
+/// Where the entry stands that UNPULL takes out, or the refusal by its first false criterion behind
+/// the first one, that the transaction is open. The last criterion, that the local log is allowed
+/// without the entry, is not asked here.
+fn judge_unpull<S: Parted>(local: &Local<S>, id: u32) -> Result<usize, Refusal<S::Op>>
+    requires { AreDistinct local.now.1 }
+    ensures { (m : Rest S.Shape S.Op) (shared : S.Shape × List (SharedEntry S.Op)) (t : NameOf) →
+        HoldsLocal S.object m shared t local.now →
+        JudgesUnpull S.object (seen_with m shared) t id result }
+{
+    let Some((i, _pulled)) = marked_at(local, id, Mark::Pulled) else {
+        return Err(bare(2));
+    };
+    Ok(i)
+}
 
+impl<S: Parted> Machine<S> {
     /// Does UNPULL where its criteria hold. The removal decides the last.
     pub(super) fn unpull<L: Ledger>(
         mut self,
@@ -39,14 +44,17 @@ impl<S: Parted> Machine<S> {
         ensures cost { Costs S.place_of self (Unpull tx.now id) result ticks.old ticks.new }
         ensures bound { ticks.new ≤ ticks.old + at_most S.place_of self.config (Unpull tx.now id) }
     {
-        let i = match self.judge_unpull(tx, id) {
-            Ok(i) => i,
-            Err(Refusal { criterion, detail }) => {
-                return Ok((self, Outcome::False { criterion, detail }));
-            }
+        let alloc = self.alloc;
+        // Only read: beside a field lent as `&mut`, the others are lent as `&mut` too.
+        let shape = &mut self.shape;
+        let Some(course) = self.transactions.course_mut(tx) else {
+            return Ok((self, refused(bare(1))));
         };
-        let (transactions, removed) = self.transactions.remove(tx, i, ticks)?;
-        self.transactions = transactions;
+        let i = match judge_unpull(course.local(), id) {
+            Ok(i) => i,
+            Err(refusal) => return Ok((self, refused(refusal))),
+        };
+        let removed = course.remove(alloc, shape, i, ticks)?;
         match removed {
             Removed::Done => {
                 self.count += 1;

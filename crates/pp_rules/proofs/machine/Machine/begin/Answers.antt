@@ -1,11 +1,13 @@
 use Rattle.std.proofs.Common.{option_map, refl}
 use Rattle.pp_core.specs.Trees.{tree}
+use Rattle.pp_rules.specs.Stepping.{begin_of}
+use Rattle.pp_rules.proofs.Judged.{refused_step}
 use Rattle.pp_rules.proofs.Keeping.{begin_free, begin_idle, holds_begin, seen_begin}
 use Rattle.pp_rules.proofs.machine.Machine.begin.Goals as goal
 
 pub returns-in-Err : goal.returns-in-Err
 returns-in-Err g c =
-    let k = c.in-Err.ensures (option_map tree c.args.body.now) in (k.breaks, k.not_zero, refl, k.is_evidence)
+    refused_step g.S.Spec.object c.args.self _ (begin_of c.args.tx.now c.args.thread.now c.args.body.now) c.in-Err.refusal c.refused.result c.refused.ensures (c.in-Err.ensures (option_map tree c.args.body.now)) refl
 
 pub begin-requires-clause-new : goal.begin-requires-clause-new
 begin-requires-clause-new g c =

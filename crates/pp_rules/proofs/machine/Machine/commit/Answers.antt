@@ -1,24 +1,36 @@
 use Rattle.std.proofs.Common.{refl, subst, sym, ap, ◌∙◌, ◌++◌, ◌∷◌, []}
-use Rattle.pp_model.specs.Config.{own_items}
+use Rattle.pp_model.specs.Config.{Cmt, own_items}
+use Rattle.pp_model.specs.Rules.{Meets}
 use Rattle.pp_shared.specs.Committing.{HoldsIdsOf}
-use Rattle.pp_rules.proofs.Judged.{holds_ids, local_log}
+use Rattle.pp_spec.specs.Object.{rules_of}
+use Rattle.pp_rules.specs.Stepping.{Refuses}
+use Rattle.pp_rules.proofs.Judged.{holds_ids, refused_step}
+use Rattle.pp_rules.proofs.Judging.{cmt_1}
 use Rattle.pp_rules.proofs.Keeping.{holds_cmt, seen_cmt}
+use Rattle.pp_rules.proofs.Opened.{coursed, holds_course, rest, uncoursed}
 use Rattle.pp_rules.proofs.machine.Machine.commit.Goals as goal
+
+pub returns-in_default : goal.returns-in_default
+returns-in_default g c =
+    refused_step g.S.Spec.object c.args.self _ (Cmt c.args.tx.now) c.bare.result c.refused.result c.refused.ensures (cmt_1 g.S.Spec.object _ _ c.self.view_is c.args.tx.now (uncoursed g.S.Spec.object c.self.inside.shape c.self.inside.transactions c.self.inside.ids.keys c.self.inside.shared c.self.inside.committed c.self.inside.count c.self.invariant c.args.tx.now c.in_default.ensures.course) c.bare.result c.bare.ensures) refl
 
 pub returns-in-Err : goal.returns-in-Err
 returns-in-Err g c =
-    let k = c.in-Err.ensures in (k.breaks, k.not_zero, refl, k.is_evidence)
+    refused_step g.S.Spec.object c.args.self _ (Cmt c.args.tx.now) c.in-Err.refusal c.refused-in-Err.result c.refused-in-Err.ensures (subst (λ z. Refuses g.S.Spec.object z (Cmt c.args.tx.now) c.in-Err.refusal) c.self.view_is (c.in-Err.ensures (rest g.S.Spec.object c.self.inside.shape c.self.inside.transactions c.self.inside.ids.keys c.self.inside.shared c.self.inside.committed c.self.inside.count c.self.invariant) c.args.tx.now (holds_course g.S.Spec.object c.self.inside.shape c.self.inside.transactions c.self.inside.ids.keys c.self.inside.shared c.self.inside.committed c.self.inside.count c.self.invariant c.args.tx.now c.in-Some.course.now c.in-Some.ensures.course))) refl
 
 pub invariant_of-self : goal.invariant_of-self
 invariant_of-self g c =
-    holds_cmt g.S.Spec.object c.self.inside.shape c.self.inside.transactions c.self.inside.ids.keys c.self.inside.shared c.self.inside.committed c.self.inside.count _ c.self.view_is c.self.invariant c.args.tx.now c.in-Ok.ensures.0 c.in-Ok.local.now (local_log g.S.Spec.object c.self.inside.shape c.self.inside.transactions c.self.inside.ids.keys c.self.inside.shared c.self.inside.committed c.self.inside.count c.self.invariant _ c.self.view_is c.args.tx.now c.in-Ok.local.now c.in-Ok.ensures.1) c.end.new.self c.commit.new.self c.push.new.self c.end.ensures c.commit.ensures (c.in_ok-push.ensures.ok ∙ ap (λ l. c.self.inside.committed ++ record { name = c.args.tx.now; entries = l } ∷ []) (c.in_ok-entries.ensures ∙ ap own_items c.entries.ensures))
+    let m = subst (λ z. Meets (rules_of g.S.Spec.object z.shape) z.config (Cmt c.args.tx.now)) c.self.view_is (c.in_default-judge_cmt.ensures (rest g.S.Spec.object c.self.inside.shape c.self.inside.transactions c.self.inside.ids.keys c.self.inside.shared c.self.inside.committed c.self.inside.count c.self.invariant) c.args.tx.now (holds_course g.S.Spec.object c.self.inside.shape c.self.inside.transactions c.self.inside.ids.keys c.self.inside.shared c.self.inside.committed c.self.inside.count c.self.invariant c.args.tx.now c.in-Some.course.now c.in-Some.ensures.course)).0 in
+    let k = (coursed g.S.Spec.object c.self.inside.shape c.self.inside.transactions c.self.inside.ids.keys c.self.inside.shared c.self.inside.committed c.self.inside.count c.self.invariant c.args.tx.now c.in-Some.course.now c.in-Some.ensures.course) in
+    holds_cmt g.S.Spec.object c.self.inside.shape c.self.inside.transactions c.self.inside.ids.keys c.self.inside.shared c.self.inside.committed c.self.inside.count _ c.self.view_is c.self.invariant c.args.tx.now m (c.in-Some.course.now).local k.log c.end_at.new.self c.commit.new.self c.push.new.self (c.end_at.ensures c.args.tx.now c.in-Some.ensures.place) c.commit.ensures (c.in_ok-push.ensures.ok ∙ ap (λ l. c.self.inside.committed ++ record { name = c.args.tx.now; entries = l } ∷ []) (c.in_ok-entries.ensures ∙ ap own_items c.entries.ensures ∙ ap (λ l. own_items l.1) c.local.ensures))
 
 pub returns : goal.returns
 returns g c =
-    (c.in-Ok.ensures.0, seen_cmt g.S.Spec.object c.self.inside.shape c.self.inside.transactions c.self.inside.ids.keys c.self.inside.shared c.self.inside.committed c.self.inside.count _ c.self.view_is c.self.invariant c.args.tx.now c.in-Ok.local.now (local_log g.S.Spec.object c.self.inside.shape c.self.inside.transactions c.self.inside.ids.keys c.self.inside.shared c.self.inside.committed c.self.inside.count c.self.invariant _ c.self.view_is c.args.tx.now c.in-Ok.local.now c.in-Ok.ensures.1) c.end.new.self c.commit.new.self c.push.new.self c.end.ensures c.commit.ensures (c.in_ok-push.ensures.ok ∙ ap (λ l. c.self.inside.committed ++ record { name = c.args.tx.now; entries = l } ∷ []) (c.in_ok-entries.ensures ∙ ap own_items c.entries.ensures)))
+    let m = subst (λ z. Meets (rules_of g.S.Spec.object z.shape) z.config (Cmt c.args.tx.now)) c.self.view_is (c.in_default-judge_cmt.ensures (rest g.S.Spec.object c.self.inside.shape c.self.inside.transactions c.self.inside.ids.keys c.self.inside.shared c.self.inside.committed c.self.inside.count c.self.invariant) c.args.tx.now (holds_course g.S.Spec.object c.self.inside.shape c.self.inside.transactions c.self.inside.ids.keys c.self.inside.shared c.self.inside.committed c.self.inside.count c.self.invariant c.args.tx.now c.in-Some.course.now c.in-Some.ensures.course)).0 in
+    let k = (coursed g.S.Spec.object c.self.inside.shape c.self.inside.transactions c.self.inside.ids.keys c.self.inside.shared c.self.inside.committed c.self.inside.count c.self.invariant c.args.tx.now c.in-Some.course.now c.in-Some.ensures.course) in
+    (m, seen_cmt g.S.Spec.object c.self.inside.shape c.self.inside.transactions c.self.inside.ids.keys c.self.inside.shared c.self.inside.committed c.self.inside.count _ c.self.view_is c.self.invariant c.args.tx.now (c.in-Some.course.now).local k.log c.end_at.new.self c.commit.new.self c.push.new.self (c.end_at.ensures c.args.tx.now c.in-Some.ensures.place) c.commit.ensures (c.in_ok-push.ensures.ok ∙ ap (λ l. c.self.inside.committed ++ record { name = c.args.tx.now; entries = l } ∷ []) (c.in_ok-entries.ensures ∙ ap own_items c.entries.ensures ∙ ap (λ l. own_items l.1) c.local.ensures)))
 
 pub commit-requires : goal.commit-requires
 commit-requires g c =
-    let l = local_log g.S.Spec.object c.self.inside.shape c.self.inside.transactions c.self.inside.ids.keys c.self.inside.shared c.self.inside.committed c.self.inside.count c.self.invariant _ c.self.view_is c.args.tx.now c.in-Ok.local.now c.in-Ok.ensures.1 in
-    subst (λ k. HoldsIdsOf c.args.tx.now k c.self.inside.shared.1) (sym (c.in_ok-entries.ensures ∙ ap own_items c.entries.ensures))
-    (holds_ids g.S.Spec.object c.self.inside.shape c.self.inside.transactions c.self.inside.ids.keys c.self.inside.shared c.self.inside.committed c.self.inside.count c.self.invariant c.args.tx.now c.in-Ok.local.now l)
+    let k = (coursed g.S.Spec.object c.self.inside.shape c.self.inside.transactions c.self.inside.ids.keys c.self.inside.shared c.self.inside.committed c.self.inside.count c.self.invariant c.args.tx.now c.in-Some.course.now c.in-Some.ensures.course) in
+    subst (λ l. HoldsIdsOf c.args.tx.now l c.self.inside.shared.1) (sym (c.in_ok-entries.ensures ∙ ap own_items c.entries.ensures ∙ ap (λ l. own_items l.1) c.local.ensures)) (holds_ids g.S.Spec.object c.self.inside.shape c.self.inside.transactions c.self.inside.ids.keys c.self.inside.shared c.self.inside.committed c.self.inside.count c.self.invariant c.args.tx.now (c.in-Some.course.now).local k.log)

@@ -1,10 +1,12 @@
 use Rattle.std.proofs.Common.{refl}
+use Rattle.pp_model.specs.Config.{Note}
+use Rattle.pp_rules.proofs.Judged.{refused_step}
 use Rattle.pp_rules.proofs.Keeping.{holds_note, seen_note}
 use Rattle.pp_rules.proofs.machine.Machine.note.Goals as goal
 
 pub returns-in-Err : goal.returns-in-Err
 returns-in-Err g c =
-    let k = c.in-Err.ensures in (k.breaks, k.not_zero, refl, k.is_evidence)
+    refused_step g.S.Spec.object c.args.self _ (Note c.args.tx.now) c.in-Err.refusal c.refused.result c.refused.ensures (c.in-Err.ensures) refl
 
 pub invariant_of-self : goal.invariant_of-self
 invariant_of-self g c =

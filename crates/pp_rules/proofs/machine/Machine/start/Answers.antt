@@ -1,11 +1,9 @@
-use Rattle.std.proofs.Common.{◌≡◌, Some, refl, subst, sym}
+use Rattle.std.proofs.Common.{◌≡◌, Some, subst, sym}
 use Rattle.pp_model.specs.Rules.{StartMeets}
 use Rattle.pp_spec.specs.Object.{rules_of}
 use Rattle.pp_rules.specs.Starting.{JudgesStart, posted}
-use Rattle.pp_rules.specs.StartAnswers.{Started}
 use Rattle.pp_rules.specs.Starts.{start_of}
-use Rattle.pp_rules.specs.declared.machine.Outcome.TheVariants.{False}
-use Rattle.pp_rules.proofs.Starting.{start_shown}
+use Rattle.pp_rules.proofs.Starting.{refused_start, start_shown}
 use Rattle.pp_rules.proofs.machine.Machine.start.Goals as goal
 
 pub with_start-requires-clause-meets : goal.with_start-requires-clause-meets
@@ -20,11 +18,9 @@ with_start-requires-clause-log g c =
 
 pub returns-in-Err-clause-effect : goal.returns-in-Err-clause-effect
 returns-in-Err-clause-effect g c =
-    let k = subst (JudgesStart g.S.Spec.object c.args.self.shape (start_of c.args.tx c.args.items.now)) c.in-Err.is c.in_ok-judged.ensures.judges in
-    (k.breaks, k.not_zero, refl, k.is_evidence)
+    refused_start g.S.Spec.object c.args.self (start_of c.args.tx c.args.items.now) c.in-Err.refusal c.refused.result c.refused.ensures (subst (JudgesStart g.S.Spec.object c.args.self.shape (start_of c.args.tx c.args.items.now)) c.in-Err.is c.in_ok-judged.ensures.judges)
 
 pub returns-in-Err-clause-shown : goal.returns-in-Err-clause-shown
 returns-in-Err-clause-shown g c =
-    let k = subst (JudgesStart g.S.Spec.object c.args.self.shape (start_of c.args.tx c.args.items.now)) c.in-Err.is c.in_ok-judged.ensures.judges in
-    let e : Started g.S.Spec.object c.args.self (start_of c.args.tx c.args.items.now) (False (c.in-Err.field-0).criterion (c.in-Err.field-0).detail) c.args.self = (k.breaks, k.not_zero, refl, k.is_evidence) in
-    start_shown g.S.Spec.object g.met.S.Spec.lawful c.args.self (start_of c.args.tx c.args.items.now) c.requires.asked c.args.self (False (c.in-Err.field-0).criterion (c.in-Err.field-0).detail) e
+    start_shown g.S.Spec.object g.met.S.Spec.lawful c.args.self (start_of c.args.tx c.args.items.now) c.requires.asked c.args.self c.refused.result
+    (refused_start g.S.Spec.object c.args.self (start_of c.args.tx c.args.items.now) c.in-Err.refusal c.refused.result c.refused.ensures (subst (JudgesStart g.S.Spec.object c.args.self.shape (start_of c.args.tx c.args.items.now)) c.in-Err.is c.in_ok-judged.ensures.judges))

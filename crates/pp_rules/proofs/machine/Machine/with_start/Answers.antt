@@ -3,7 +3,7 @@ use Rattle.pp_model.specs.Config.{commit_all}
 use Rattle.pp_rules.specs.Starts.{start_of}
 use Rattle.pp_rules.specs.Transactions.{without_open}
 use Rattle.pp_shared.specs.Committing.{HoldsIdsOf}
-use Rattle.pp_rules.proofs.Begun.{holds_started, ids_posted, not_begun, not_busy, seen_started}
+use Rattle.pp_rules.proofs.Started.{holds_started, ids_posted, not_begun, not_busy, seen_started}
 use Rattle.pp_rules.proofs.machine.Machine.with_start.Goals as goal
 
 pub begin-requires-clause-new : goal.begin-requires-clause-new
