@@ -5,4 +5,5 @@ pub mod Parts
 pub mod Starts
 pub mod Calls
 pub mod Readable
+pub mod Styled
 pub mod ReadableStarts

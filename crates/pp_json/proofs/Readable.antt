@@ -6,10 +6,10 @@ use Rattle.pp_core.specs.Steps.{meaning}
 use Rattle.pp_core.specs.declared.step.Step.{Step}
 use Rattle.pp_object.specs.declared.act.Op.{Op}
 use Rattle.pp_json.specs.declared.fault.RecordFault.{RecordFault}
-use Rattle.pp_json.specs.Records.{IsReadable, IsAlwaysReadable}
+use Rattle.pp_json.specs.Rules.{IsReadableStep, IsAlwaysReadable}
 
 -- they are readable over these objects
 pub over : (catalog : Objects) (r : Result (Step Op) RecordFault) → IfOk r (λ step. IsAlwaysReadable (meaning step))
-    → IfOk r (λ step. IsReadable catalog (meaning step))
+    → IfOk r (λ step. IsReadableStep catalog (meaning step))
 over catalog r always =
-    IfOk-weaker r (λ step. IsAlwaysReadable (meaning step)) (λ step. IsReadable catalog (meaning step)) (λ step h. h catalog) always
+    IfOk-weaker r (λ step. IsAlwaysReadable (meaning step)) (λ step. IsReadableStep catalog (meaning step)) (λ step h. h catalog) always

@@ -1,5 +1,5 @@
 -- A start that is read keeps to the ranges and the limit.
-use Rattle.std.proofs.Common.{◌≡◌, ◌≤◌, ℕ, suc, ◌+◌, ℤ, pos, negsuc, Bool, true, false, cond, not, IsTrue, List, [], length, nat_le, nat_lt}
+use Rattle.std.proofs.Common.{◌≡◌, ◌≤◌, ℕ, suc, ◌+◌, ℤ, pos, negsuc, Bool, true, false, cond, IsTrue, List, [], length, nat_le, nat_lt}
 use Rattle.std.proofs.Common.{Option, Some, None, option_map, ok_or, Result, Ok, Err, refl, ap, subst, sym, ◌∙◌, arith}
 use Rattle.std.specs.Prelude.{option_and_then, slice_get, IfOk, IfSome}
 use Rattle.std.specs.List.{All}
@@ -22,7 +22,7 @@ use Rattle.pp_object.specs.declared.act.Op.{Op}
 use Rattle.pp_object.proofs.Made.{made_is}
 use Rattle.pp_json.specs.declared.fault.RecordFault.{RecordFault}
 use Rattle.pp_json.specs.declared.fault.RecordFault.TheVariants.{OutOfRange, WrongType, TooManyStart}
-use Rattle.pp_json.specs.declared.fault.RecordFault.TheVariants.{UnknownObject, UnknownStyle, NotYet}
+use Rattle.pp_json.specs.declared.fault.RecordFault.TheVariants.{UnknownObject, UnknownStyle}
 use Rattle.pp_json.specs.declared.header.Header.{Header}
 use Rattle.pp_json.specs.declared.header.Version.{Version}
 use Rattle.pp_json.specs.declared.start.Start.{Start}
@@ -34,7 +34,6 @@ use Rattle.pp_json.specs.Calls.{arguments_of, call_of, answer_in, op_of}
 use Rattle.pp_json.specs.Items.{id_from, id_of, item_of, IsReadableItem}
 use Rattle.pp_json.specs.Starts.{element_of, with_element, elements_in, ops_of, start_from, start_given}
 use Rattle.pp_json.specs.Starts.{optional_start, AreReadable, IsReadableStart}
-use Rattle.pp_json.specs.Later.{is_built}
 use Rattle.pp_json.specs.Headers.{version_of, catalog_of, versioned_start, header_of}
 use Rattle.pp_json.proofs.Calls.{fits_there}
 
@@ -202,8 +201,7 @@ header_readable line =
     behind_any (text_of members.Style value) _ _ (λ word.
     behind_any (ok_or (named style_word styles word) UnknownStyle) _ _ (λ style.
     behind_any (catalog_of value) _ _ (λ catalog.
-    behind (versioned_start version catalog value) _ (IsReadableStart catalog) _ (versioned_readable version catalog value) (λ start h.
-    behind_any (fault_if (not (is_built style)) NotYet) _ _ (λ built. h)))))))
+    behind (versioned_start version catalog value) _ (IsReadableStart catalog) _ (versioned_readable version catalog value) (λ start h. h))))))
 
 pub start_law : (line : List ℕ) (h : Header) → header_of line ≡ Ok h → IsReadableStart h.catalog h.start
 start_law line h read = IfOk-at_ok (λ h. IsReadableStart h.catalog h.start) read (header_readable line)

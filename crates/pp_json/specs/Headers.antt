@@ -1,5 +1,5 @@
 -- Meaning: the first line of a run.
-use Rattle.std.specs.Prelude.{ℕ, ℤ, pos, List, [], ◌∷◌, ◌++◌, not, nat_lt, is_some, ok_or, Option}
+use Rattle.std.specs.Prelude.{ℕ, ℤ, pos, List, [], ◌∷◌, ◌++◌, nat_lt, is_some, ok_or, Option}
 use Rattle.std.specs.Prelude.{Some, None, Result, Ok, if◌then◌else◌}
 use Rattle.std.specs.Ordering.{int_eq}
 use Rattle.serde_json.specs.Data.{Data, Items, no_items, item}
@@ -17,10 +17,8 @@ use Rattle.pp_json.specs.declared.fault.RecordFault.{RecordFault}
 use Rattle.pp_json.specs.declared.fault.RecordFault.TheVariants.{WrongType, OutOfRange}
 use Rattle.pp_json.specs.declared.fault.RecordFault.TheVariants.{UnknownStyle, UnknownKind}
 use Rattle.pp_json.specs.declared.fault.RecordFault.TheVariants.{RepeatedObject, TooManyObjects}
-use Rattle.pp_json.specs.declared.fault.RecordFault.TheVariants.{NotYet}
 use Rattle.pp_json.specs.Reading.{◌>>=◌, fault_if}
 use Rattle.pp_json.specs.Members.{object_of, text_of, name_of, whole_of, array_of, count}
-use Rattle.pp_json.specs.Later.{is_built}
 use Rattle.pp_json.specs.Starts.{optional_start}
 
 -- an object, whose name no earlier one has
@@ -78,5 +76,4 @@ header_of line = do
   style ← ok_or (named style_word styles word) UnknownStyle
   catalog ← catalog_of value
   start ← versioned_start version catalog value
-  built ← fault_if (not (is_built style)) NotYet
   Ok (record { style = style; catalog = catalog; start = start })

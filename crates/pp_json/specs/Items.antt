@@ -31,9 +31,12 @@ item_of catalog value = do
   op ← op_of catalog value
   Ok (record { id = id; op = op })
 
--- What an item that was read keeps to: its id lies in the range of ids, and its operation is one on
--- an object of the run, with numbers in the range of records.
+-- What an operation that was read keeps to: its id lies in the range of ids, and it is one on an
+-- object of the run, with numbers in the range of records.
+abbrev pub IsReadableCall : Objects → ℕ → Op → Type 0
+IsReadableCall catalog id op =
+    (id ≤ 999_999_999) × IsTrue (objects.fits (kinds_of catalog) op) × IsTrue (objects.ranged op)
+
+-- the same of an operation with its id
 abbrev pub IsReadableItem : Objects → Item Op → Type 0
-IsReadableItem catalog p =
-    (p.id ≤ 999_999_999) × IsTrue (objects.fits (kinds_of catalog) p.op)
-    × IsTrue (objects.ranged p.op)
+IsReadableItem catalog p = IsReadableCall catalog p.id p.op

@@ -2,12 +2,15 @@ pub use Rattle.pp_core.specs.Catalogs
 pub use Rattle.pp_core.specs.Steps
 pub mod Reading
 pub mod Members
-pub mod Later
 pub mod Calls
 pub mod Items
 pub mod Starts
 pub mod Headers
-pub mod StepNames
 pub mod Patterns
 pub mod Bodies
+pub mod Rules
+pub mod Boosted
+pub mod Optimistic
+pub mod Hardware
+pub mod Dependent
 pub mod Records

@@ -51,8 +51,9 @@ pub(crate) fn object_named(catalog: &Catalog, text: &str) -> Option<(u16, Kind)>
     Some((place, kind))
 }
 
+/// The place and the kind of the object that a record names.
 #[tactic(auto, unfolding(crate::specs::Calls::object_called))]
-fn object_in(catalog: &Catalog, value: &Value) -> Result<(u16, Kind), RecordFault>
+pub(crate) fn object_in(catalog: &Catalog, value: &Value) -> Result<(u16, Kind), RecordFault>
     ensures reads { Gives (λ object. object) result (object_called catalog.now (view value.now)) }
     ensures there { IfOk result (IsThere catalog.now) }
 {

@@ -41,9 +41,6 @@ pub enum RecordFault {
     BodyBad,
     #[error("the body is too large")]
     BodyTooLarge,
-    /// The line is well formed, and what it asks for is not built.
-    #[error("this is not built yet")]
-    NotYet,
     #[error("out of memory")]
     OutOfMemory,
 }

@@ -6,11 +6,9 @@ ghost use Rattle.pp_json.specs.Reading.{Gives};
 ghost use Rattle.pp_json.specs.Headers.{object_in, with_object, objects_in, catalog_of, header_of};
 ghost use Rattle.pp_json.specs.Headers.{version_from, version_of, versioned_start};
 ghost use Rattle.pp_json.specs.Starts.{IsReadableStart};
-ghost use Rattle.pp_json.specs.Later.{IsBuilt};
 ghost use Rattle.pp_json.specs.declared.header.Header.{Header as HeaderOf};
 
 use crate::fault::RecordFault;
-use crate::later::is_built;
 use crate::members::{array_in, name_in, object_on, text_in, whole_in};
 use crate::start::{Start, optional_start};
 use pp_core::{Catalog, Kind, MOST_OBJECTS, Member, Name, Style};
@@ -117,12 +115,10 @@ fn versioned_start(
     }
 }
 
-/// Reads the first line of a run. Of several faults it answers the one that is tested first, and
-/// `NotYet` only where there is no other.
+/// Reads the first line of a run. Of several faults it answers the one that is tested first.
 #[tactic(auto, unfolding(crate::specs::Headers::header_of))]
 pub fn read_header(alloc: Global, line: &[u8]) -> Result<Header, RecordFault>
     ensures reads { Gives (λ h. h) result (header_of line.now) }
-    ensures built { IfOk result IsBuilt }
     ensures readable { IfOk result (λ h. IsReadableStart h.catalog h.start) }
 {
     let value = object_on(alloc, line)?;
@@ -131,9 +127,6 @@ pub fn read_header(alloc: Global, line: &[u8]) -> Result<Header, RecordFault>
     let style = Style::named(word).ok_or(RecordFault::UnknownStyle)?;
     let catalog = catalog_in(alloc, &value)?;
     let start = versioned_start(alloc, version, &catalog, &value)?;
-    if !is_built(style) {
-        return Err(RecordFault::NotYet);
-    }
     Ok(Header {
         style,
         catalog,

@@ -2,16 +2,19 @@
 #![tactic(auto)]
 
 mod body;
+mod boosted;
 mod call;
+mod dependent;
 mod fault;
+mod hardware;
 mod header;
 mod item;
-mod later;
 mod members;
+mod optimistic;
 mod pattern;
 mod record;
+mod rules;
 mod start;
-mod step_name;
 
 pub use fault::RecordFault;
 pub use header::{Header, read_header, start_law};
