@@ -1,6 +1,7 @@
 -- Meaning: what steps cost, each in the configuration before it.
 use Rattle.std.specs.Prelude.{◌+◌, ℕ, Bool, true, false, List, [], ◌∷◌, filter, length}
-use Rattle.pp_core.specs.Steps.{Step, App, Unapp, Push, Pull}
+use Rattle.pp_core.specs.Steps.{Step, Begin, App, Unapp, Push, Unpush, Pull, Unpull, Cmt, Quit}
+use Rattle.pp_core.specs.Steps.{Note}
 use Rattle.pp_model.specs.Config.{Config, then}
 use Rattle.pp_rules.specs.Costs.{at_most}
 
@@ -15,7 +16,12 @@ is_single (App t id op) = true
 is_single (Unapp t id) = true
 is_single (Push t id) = true
 is_single (Pull t id) = true
-is_single _ = false
+is_single (Begin t p b) = false
+is_single (Unpush t id) = false
+is_single (Unpull t id) = false
+is_single (Cmt t) = false
+is_single (Quit t) = false
+is_single (Note t) = false
 
 -- how many of the steps are such
 abbrev pub singles : {Op : Type 0} → List (Step Op) → ℕ

@@ -89,4 +89,13 @@ abbrev pub IsRecordAsked : {Shape State Op Undo : Type 0} → Object Shape State
     RunRecord Op → Type 0
 IsRecordAsked o shape (records.Plain step) = IsAsked o shape step
 IsRecordAsked o shape (records.Op t id op) = IsTrue (o.fits shape op) × IsTrue (o.ranged op)
-IsRecordAsked o shape _ = Unit {0}
+IsRecordAsked o shape (records.Commit t) = Unit {0}
+IsRecordAsked o shape (records.Abort t) = Unit {0}
+IsRecordAsked o shape (records.Retry t) = Unit {0}
+IsRecordAsked o shape (records.Refresh t object) = Unit {0}
+IsRecordAsked o shape (records.XBegin t) = Unit {0}
+IsRecordAsked o shape (records.XEnd t) = Unit {0}
+IsRecordAsked o shape (records.XAbort t) = Unit {0}
+IsRecordAsked o shape (records.Depend t source) = Unit {0}
+IsRecordAsked o shape (records.Publish t) = Unit {0}
+IsRecordAsked o shape (records.DropSource t source) = Unit {0}
