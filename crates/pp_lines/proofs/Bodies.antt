@@ -4,7 +4,7 @@ use Rattle.std.proofs.Common.{map, take, [], ◌∷◌, Option, Some, None, refl
 use Rattle.serde_json.specs.Data.{Num, object, items_depth}
 use Rattle.serde_json.specs.Data.{depth as data_depth}
 use Rattle.serde_json.specs.View.{items_of}
-use Rattle.pp_core.specs.Catalogs.{Objects}
+use Rattle.pp_core.specs.Catalogs.{Objects, HasNames}
 use Rattle.pp_core.specs.Trees.{Tree, Trees, Skip, One, Seq, Alt, Star, NoPart, Part, nodes, depth}
 use Rattle.pp_core.specs.Trees.{nodes_of_all, depth_of_all}
 use Rattle.pp_core.specs.Words.{method_word}
@@ -18,7 +18,7 @@ use Rattle.pp_spec.specs.Found.{is_ranged_found}
 use Rattle.pp_lines.specs.Bodies.{pattern_arity, pattern_members, body_value}
 use Rattle.pp_lines.specs.Bodies.{part_values, arity_on}
 use Rattle.pp_lines.specs.Operations.{number_or_null, arguments_value}
-use Rattle.pp_lines.specs.Statable.{HasNames, IsKnown, IsStatablePattern, EachCall, EachCallIn}
+use Rattle.pp_lines.specs.Statable.{IsKnown, IsStatablePattern, EachCall, EachCallIn}
 use Rattle.pp_lines.proofs.Texts.{IsTidy, AreTidy, HasTidy, IsWhole, IsNear, width, items_width}
 use Rattle.pp_lines.proofs.Names.{named_at}
 use Rattle.pp_lines.proofs.Operations.{below, method_is_word, whole_integer, near_integer}

@@ -1,5 +1,5 @@
 -- The line of a header.
-use Rattle.std.proofs.Common.{◌≡◌, ◌≤◌, ◌<◌, ◌+◌, ◌*◌, ℕ, false, zero, suc, List, [], ◌∷◌, ◌++◌, map, take, length, get_or, slice_get, Some, option_map, refl, sym, ap, ◌∙◌, subst, arith}
+use Rattle.std.proofs.Common.{◌≡◌, ◌≤◌, ◌<◌, ◌+◌, ◌*◌, ℕ, false, zero, suc, List, [], ◌∷◌, ◌++◌, map, take, length, get_or, slice_get, Option, Some, None, option_map, refl, sym, ap, ◌∙◌, subst, arith}
 use Rattle.std.proofs.lemmas.List.{map-append}
 use Rattle.pp_core.specs.Names.{IsName}
 use Rattle.serde_json.specs.Data.{Num, unsigned, Data, no_members, depth, items_depth}
@@ -7,7 +7,7 @@ use Rattle.serde_json.specs.Read.{max_depth}
 use Rattle.serde_json.specs.View.{view, items_of}
 use Rattle.serde_json.specs.declared.value.Value.{Value}
 use Rattle.serde_json.specs.Written.{has_float}
-use Rattle.pp_core.specs.Catalogs.{Objects}
+use Rattle.pp_core.specs.Catalogs.{Objects, HasNames}
 use Rattle.pp_core.specs.Words.{kind_word}
 use Rattle.pp_core.specs.declared.call.Kind.{Kind}
 use Rattle.pp_core.specs.declared.call.Kind.TheVariants as kinds
@@ -20,7 +20,8 @@ use Rattle.pp_lines.specs.Operations.{arity_in, op_members}
 use Rattle.pp_lines.specs.Headers.{object_value, header_value, header_bytes}
 use Rattle.pp_lines.specs.Headers.{item_value, header_value_2, header_bytes_2}
 use Rattle.pp_lines.specs.Lines.{IsOneLine}
-use Rattle.pp_lines.specs.Statable.{HasNames, IsCatalog, IsId, IsOpOn, AreWritable, IsStatableStart}
+use Rattle.pp_lines.specs.RunTexts.{printed_header}
+use Rattle.pp_lines.specs.Statable.{IsCatalog, IsId, IsOpOn, AreWritable, IsStatableStart, CanStart}
 use Rattle.pp_lines.proofs.Words.{IsWord}
 use Rattle.pp_lines.proofs.Texts.{IsTidy, AreTidy, HasTidy, IsWhole, IsNear, width, items_width, short_text, one_line_text}
 use Rattle.pp_lines.proofs.Texts as texts
@@ -55,11 +56,6 @@ pub near_header : (catalog : Objects) → HasNames catalog → IsTidy IsNear (he
 near_header catalog h = header_tidy IsNear catalog h (omega arith)
 
 -- ---- object by object
-pub named_there : (catalog : Objects) (i : ℕ) (entry : List ℕ × Kind) → HasNames catalog → slice_get catalog i ≡ Some entry → IsName entry.0
-named_there [] i entry h at = absurd (cc)
-named_there (e ∷ es) zero entry h at = let same : e ≡ entry = cc in subst (λ (x : List ℕ × Kind). IsName x.0) same h.0
-named_there (e ∷ es) (suc i) entry h at = named_there es i entry h.1 at
-
 one_more : (catalog : Objects) (i : ℕ) (d : Data) → option_map object_value (slice_get catalog i) ≡ Some d → map object_value (take (suc i) catalog) ≡ map object_value (take i catalog) ++ d ∷ []
 one_more [] i d at = absurd (cc)
 one_more (e ∷ es) zero d at = ap (λ (x : Data). x ∷ []) (cc)
@@ -92,8 +88,8 @@ objects_wide : (catalog : Objects) → HasNames catalog → items_width (items_o
 objects_wide [] h = omega arith
 objects_wide (e ∷ es) h = let few = h.0.few in omega (arith, kind_wide e.1, objects_wide es h.1)
 
-pub short : (catalog : Objects) → IsCatalog catalog → length (header_bytes catalog) < 60_000
-short catalog h = let few = h.few in omega (arith, short_text (header_value catalog) (near_header catalog h.named), objects_wide catalog h.named)
+short_1 : (catalog : Objects) → IsCatalog catalog → length (header_bytes catalog) < 60_000
+short_1 catalog h = let few = h.few in omega (arith, short_text (header_value catalog) (near_header catalog h.named), objects_wide catalog h.named)
 
 -- ---- with a start
 ops_tidy : (P : Num → Type 0) (catalog : Objects) (Q : Item Op → Type 0) → ((p : Item Op) → Q p → HasTidy P (op_members catalog p.id p.op no_members))
@@ -151,10 +147,14 @@ ops_wide : (catalog : Objects) (ops : List (Item Op)) → HasNames catalog → E
 ops_wide catalog [] names h = omega arith
 ops_wide catalog (p ∷ ps) names h = omega (arith, item_wide catalog p names h.0.1, ops_wide catalog ps names h.1)
 
-pub short_2 : (catalog : Objects) (start : Start) → IsCatalog catalog → IsStatableStart catalog start → length (header_bytes_2 catalog start.tx start.ops) < 60_000
+short_2 : (catalog : Objects) (start : Start) → IsCatalog catalog → IsStatableStart catalog start → length (header_bytes_2 catalog start.tx start.ops) < 60_000
 short_2 catalog start cat h =
     let few = cat.few in let also = h.few in let name = h.named.few in
     omega (arith, short_text (header_value_2 catalog start.tx start.ops) (near_header_2 catalog start cat.named h), objects_wide catalog cat.named, ops_wide catalog start.ops cat.named h.each)
+
+pub short : (catalog : Objects) (start : Option Start) → IsCatalog catalog → CanStart catalog start → length (printed_header catalog start) < 60_000
+short catalog None cat h = short_1 catalog cat
+short catalog (Some start) cat h = short_2 catalog start cat h
 
 -- ---- operation by operation
 pub writable_at : (catalog : Objects) (ops : List (Item Op)) (i : ℕ) (p : Item Op) → AreWritable catalog ops → i < length ops → p ≡ get_or ops i p → IsOpOn catalog p.op

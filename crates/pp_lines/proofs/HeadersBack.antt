@@ -5,7 +5,7 @@ use Rattle.std.proofs.lemmas.Option.{slice_get_within}
 use Rattle.std.proofs.lemmas.Map.Entries.{length-keys_of}
 use Rattle.serde_json.specs.Data.{no_members}
 use Rattle.serde_json.specs.View.{items_of}
-use Rattle.pp_core.specs.Catalogs.{Objects, place_of, HasDistinctNames}
+use Rattle.pp_core.specs.Catalogs.{Objects, HasNames, place_of, HasDistinctNames}
 use Rattle.pp_core.specs.Names.{IsName}
 use Rattle.pp_core.specs.Words.{named, kind_word, kinds}
 use Rattle.pp_core.specs.declared.call.Kind.{Kind}
@@ -20,8 +20,9 @@ use Rattle.pp_json.specs.Items.{id_of, item_of}
 use Rattle.pp_json.specs.Starts.{element_of, with_element, elements_in, ops_of, start_from, optional_start}
 use Rattle.pp_json.specs.Members.{value_of, object_of, member_of, text_of, name_of, whole, whole_of, array_of, count}
 use Rattle.pp_json.specs.Headers.{object_in, with_object, objects_in, catalog_of, version_from, version_of, header_of}
-use Rattle.pp_lines.specs.Headers.{object_value, header_value, header_bytes, item_value, start_value, header_value_2, header_bytes_2, rules_header}
-use Rattle.pp_lines.specs.Statable.{HasNames, IsCatalog, IsId, IsOpOn, IsStatableStart}
+use Rattle.pp_lines.specs.Headers.{object_value, header_value, item_value, start_value, header_value_2, rules_header}
+use Rattle.pp_lines.specs.RunTexts.{printed_header}
+use Rattle.pp_lines.specs.Statable.{IsCatalog, IsId, IsOpOn, IsStatableStart, CanStart}
 use Rattle.pp_lines.proofs.Texts.{value_back}
 use Rattle.pp_lines.proofs.Headers.{near_header, shallow, near_header_2, shallow_2}
 use Rattle.pp_lines.proofs.OperationsBack.{op_back}
@@ -86,9 +87,6 @@ header_read : (line : List ℕ) (catalog : Objects) → IsCatalog catalog → va
 unfolding header_of version_of version_from object_of text_of member_of whole_of whole
 header_read line catalog h is = rw (is, catalog_back catalog h) refl
 
-pub reads_back : (catalog : Objects) → IsCatalog catalog → header_of (header_bytes catalog) ≡ Ok (rules_header catalog None)
-reads_back catalog h = header_read (header_bytes catalog) catalog h (value_back (header_value catalog) (near_header catalog h.named) (shallow catalog))
-
 -- ---- with a start
 module _ (catalog : Objects) (cat : IsCatalog catalog) where
   element_back : (p : Item Op) → IsId p.id → IsOpOn catalog p.op → element_of catalog (item_value catalog p) ≡ Ok p
@@ -124,7 +122,10 @@ module _ (catalog : Objects) (cat : IsCatalog catalog) where
   unfolding header_of version_of version_from object_of text_of member_of whole_of whole
   header_read_2 line start h is = rw (is, catalog_back_2 start, optional_back start h) refl
 
-pub reads_back_2 : (catalog : Objects) (start : Start) → IsCatalog catalog → IsStatableStart catalog start → header_of (header_bytes_2 catalog start.tx start.ops) ≡ Ok (rules_header catalog (Some start))
-reads_back_2 catalog start cat h =
-    header_read_2 catalog cat (header_bytes_2 catalog start.tx start.ops) start h
+-- ---- in either version
+pub reads_back : (catalog : Objects) (start : Option Start) → IsCatalog catalog → CanStart catalog start → header_of (printed_header catalog start) ≡ Ok (rules_header catalog start)
+reads_back catalog None cat h =
+    header_read (printed_header catalog None) catalog cat (value_back (header_value catalog) (near_header catalog cat.named) (shallow catalog))
+reads_back catalog (Some start) cat h =
+    header_read_2 catalog cat (printed_header catalog (Some start)) start h
     (value_back (header_value_2 catalog start.tx start.ops) (near_header_2 catalog start cat.named h) (shallow_2 catalog start.tx start.ops))

@@ -1,13 +1,14 @@
 -- What was read as a header can be stated.
 use Rattle.std.proofs.Common.{◌≡◌, ◌≤◌, ◌+◌, ◌⊎◌, ℕ, zero, suc, List, [], ◌∷◌, ◌++◌, length, slice_get, Option, Some, None}
-use Rattle.std.proofs.Common.{Ok, ok_or, not, nat_lt, is_some, refl, sym, ap, ◌∙◌, arith, inl, inr, length-append}
+use Rattle.std.proofs.Common.{Ok, ok_or, nat_lt, is_some, refl, sym, ap, ◌∙◌, arith, inl, inr, length-append}
 use Rattle.std.specs.Prelude.{IfOk}
 use Rattle.std.specs.List.{All}
 use Rattle.std.specs.Map.{keys_of}
 use Rattle.std.proofs.lemmas.Result.{IfOk-at_ok, IfOk-weaker}
 use Rattle.serde_json.specs.Data.{Data, Items, no_items, item, null, boolean, number, string, array, object}
 use Rattle.serde_json.specs.Find.{as_object, get}
-use Rattle.pp_core.specs.Catalogs.{Objects, place_of, HasDistinctNames}
+use Rattle.pp_core.specs.Catalogs.{Objects, place_of, HasNames, HasDistinctNames}
+use Rattle.pp_core.proofs.Places.{with_named}
 use Rattle.pp_core.specs.Names.{IsName}
 use Rattle.pp_core.specs.Words.{member_word, named, kind_word, kinds, style_word, styles}
 use Rattle.pp_core.specs.declared.call.Kind.{Kind}
@@ -15,16 +16,15 @@ use Rattle.pp_core.specs.declared.limits.TheConstants.{MOST_OBJECTS}
 use Rattle.pp_core.specs.declared.member.Member.TheVariants as members
 use Rattle.pp_model.specs.Lists.{Each}
 use Rattle.pp_json.specs.declared.fault.RecordFault.TheVariants.{WrongType, RepeatedObject, UnknownKind}
-use Rattle.pp_json.specs.declared.fault.RecordFault.TheVariants.{TooManyObjects, UnknownStyle, NotYet}
+use Rattle.pp_json.specs.declared.fault.RecordFault.TheVariants.{TooManyObjects, UnknownStyle}
 use Rattle.pp_json.specs.declared.header.Header.{Header}
 use Rattle.pp_json.specs.Reading.{◌>>=◌, fault_if}
 use Rattle.pp_json.specs.Members.{object_of, text_of, name_of, array_of, count}
 use Rattle.pp_json.specs.Items.{IsReadableItem}
 use Rattle.pp_json.specs.Starts.{ops_of, start_from, start_given, optional_start, AreReadable}
-use Rattle.pp_json.specs.Later.{is_built}
 use Rattle.pp_json.specs.Headers.{object_in, with_object, objects_in, catalog_of, version_of, versioned_start, header_of}
 use Rattle.pp_json.proofs.ReadableStarts.{behind, behind_any, within, readable_ops, in_either_version}
-use Rattle.pp_lines.specs.Statable.{HasNames, IsCatalog, IsId, IsOpOn, IsStatableStart, CanStart}
+use Rattle.pp_lines.specs.Statable.{IsCatalog, IsId, IsOpOn, IsStatableStart, CanStart}
 use Rattle.pp_lines.proofs.NamesBack.{found}
 use Rattle.pp_lines.proofs.StepsRead.{name_read}
 
@@ -51,10 +51,6 @@ still_distinct before e distinct new name i j at_i at_j = by (place before e i n
     by (inr a) (inl b) = absurd (not_there before name j (fresh a.1) b)
     by (inr a) (inr b) = a.0 ∙ sym b.0
 
-still_named : (before : Objects) (e : List ℕ × Kind) → HasNames before → IsName e.0 → HasNames (before ++ e ∷ [])
-still_named [] e h name = (name, tt)
-still_named (x ∷ xs) e h name = (h.0, still_named xs e h.1 name)
-
 -- ---- the objects
 record AreMore (n : ℕ) (catalog : Objects) : Type 0 where
   many : length catalog ≡ n
@@ -80,7 +76,7 @@ one_more n before value h =
     behind (object_in before value) _ (λ e. IsName e.0 × (place_of e.0 before ≡ None)) _ (object_read before value) (λ e k. record {
       many = omega (arith, h.many, length-append before (e ∷ []));
       distinct = still_distinct before e h.distinct k.1;
-      named = still_named before e h.named k.0;
+      named = with_named before e h.named k.0;
     })
 
 all_more : (n : ℕ) (before : Objects) (values : Items) → AreMore n before → IfOk (objects_in before values) (AreMore (n + count values))
@@ -140,8 +136,7 @@ header_read line =
     behind_any (text_of members.Style value) _ _ (λ word.
     behind_any (ok_or (named style_word styles word) UnknownStyle) _ _ (λ style.
     behind (catalog_of value) _ IsCatalog _ (catalog_read value) (λ catalog h.
-    behind (versioned_start version catalog value) _ (CanStart catalog) _ (in_either_version (CanStart catalog) version catalog value tt (start_read catalog value)) (λ start k.
-    behind_any (fault_if (not (is_built style)) NotYet) _ _ (λ built. (h, k))))))))
+    behind (versioned_start version catalog value) _ (CanStart catalog) _ (in_either_version (CanStart catalog) version catalog value tt (start_read catalog value)) (λ start k. (h, k)))))))
 
 pub is_catalog : (line : List ℕ) (header : Header) → header_of line ≡ Ok header → IsCatalog header.catalog
 is_catalog line header read = (IfOk-at_ok (λ h. IsCatalog h.catalog × CanStart h.catalog h.start) read (header_read line)).0

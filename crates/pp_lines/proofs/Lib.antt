@@ -6,6 +6,7 @@ pub mod Bodies
 pub mod Parts
 pub mod Steps
 pub mod Headers
+pub mod RunTexts
 pub mod NamesBack
 pub mod OperationsBack
 pub mod BodiesBack

@@ -1,10 +1,9 @@
 -- The names of a catalog, and where they stand.
 use Rattle.std.proofs.Common.{◌<◌, ℕ, zero, suc, [], ◌∷◌, length}
 use Rattle.std.proofs.Common.{arith}
-use Rattle.pp_core.specs.Catalogs.{Objects}
+use Rattle.pp_core.specs.Catalogs.{Objects, HasNames}
 use Rattle.pp_core.specs.Names.{IsName}
 use Rattle.pp_text.specs.Texts.{name_at}
-use Rattle.pp_lines.specs.Statable.{HasNames}
 
 pub named_at : (catalog : Objects) (i : ℕ) → HasNames catalog → i < length catalog → IsName (name_at catalog i)
 named_at [] i h lt = absurd (omega arith)

@@ -3,7 +3,7 @@ use Rattle.std.proofs.Common.{◌≡◌, ◌≤◌, ℕ, false, List, [], codes,
 use Rattle.serde_json.specs.Data.{Num, unsigned, depth}
 use Rattle.serde_json.specs.Read.{max_depth}
 use Rattle.serde_json.specs.Written.{has_float}
-use Rattle.pp_core.specs.Catalogs.{Objects}
+use Rattle.pp_core.specs.Catalogs.{Objects, HasNames}
 use Rattle.pp_core.specs.Names.{IsName}
 use Rattle.pp_core.specs.Steps.{Step, Begin, App, Unapp, Push, Unpush, Pull, Unpull, Cmt, Quit, Note}
 use Rattle.pp_core.specs.declared.answer.Answer.{Answer}
@@ -12,7 +12,7 @@ use Rattle.pp_object.specs.One.{kind_for, call_of, recorded_by}
 use Rattle.pp_object.specs.declared.act.Op.{Op}
 use Rattle.pp_lines.specs.Lines.{IsOneLine, most_bytes}
 use Rattle.pp_lines.specs.Operations.{answer_value, arity_in}
-use Rattle.pp_lines.specs.Statable.{HasNames, IsCatalog, IsWritable, IsStatable}
+use Rattle.pp_lines.specs.Statable.{IsCatalog, IsNamed, IsWritable, IsStatable}
 use Rattle.pp_lines.specs.Steps.{tx_members, tx_value, entry_value, begin_members, step_value, step_bytes}
 use Rattle.pp_lines.proofs.Words.{IsWord}
 use Rattle.pp_lines.proofs.Texts.{IsTidy, HasTidy, IsWhole, IsNear, width, members_width, short_text, one_line_text}
@@ -35,20 +35,20 @@ module _ (P : Num → Type 0) (tx : List ℕ) (name : IsName tx) where
   begin_tidy : (thread : List ℕ) → IsName thread → HasTidy P (begin_members [] tx thread None)
   begin_tidy thread h = (refl, refl, (refl, h.bytes, (refl, name.bytes, tt)))
 
-pub whole_step : (catalog : Objects) (step : Step Op) → HasNames catalog → IsWritable catalog step → IsTidy IsWhole (step_value catalog step)
-whole_step catalog (Begin tx thread None) names h = (refl, begin_tidy IsWhole tx h.0 thread h.1)
-whole_step catalog (Begin tx thread (Some b)) names h = (refl, (refl, whole_body catalog b names h.2, begin_tidy IsWhole tx h.0 thread h.1))
-whole_step catalog (App tx id op) names h =
-    let name = named_at catalog op.object names (there catalog op h.1) in
-    (refl, op_tidy IsWhole catalog id op (tx_members (codes "app") tx) name (whole_numbers id (call_of op.act) (recorded_by op.act)) (tx_has IsWhole tx h.0 (codes "app") refl))
-whole_step catalog (Unapp tx id) names h = entry_tidy IsWhole tx h (codes "unapp") id refl tt
-whole_step catalog (Push tx id) names h = entry_tidy IsWhole tx h (codes "push") id refl tt
-whole_step catalog (Unpush tx id) names h = entry_tidy IsWhole tx h (codes "unpush") id refl tt
-whole_step catalog (Pull tx id) names h = entry_tidy IsWhole tx h (codes "pull") id refl tt
-whole_step catalog (Unpull tx id) names h = entry_tidy IsWhole tx h (codes "unpull") id refl tt
-whole_step catalog (Cmt tx) names h = tx_tidy IsWhole tx h (codes "cmt") refl
-whole_step catalog (Quit tx) names h = tx_tidy IsWhole tx h (codes "quit") refl
-whole_step catalog (Note tx) names h = tx_tidy IsWhole tx h (codes "note") refl
+pub whole_step : (catalog : Objects) (step : Step Op) → HasNames catalog → IsNamed step → IsWritable catalog step → IsTidy IsWhole (step_value catalog step)
+whole_step catalog (Begin tx thread None) names n h = (refl, begin_tidy IsWhole tx n.0 thread n.1)
+whole_step catalog (Begin tx thread (Some b)) names n h = (refl, (refl, whole_body catalog b names h, begin_tidy IsWhole tx n.0 thread n.1))
+whole_step catalog (App tx id op) names n h =
+    let name = named_at catalog op.object names (there catalog op h) in
+    (refl, op_tidy IsWhole catalog id op (tx_members (codes "app") tx) name (whole_numbers id (call_of op.act) (recorded_by op.act)) (tx_has IsWhole tx n (codes "app") refl))
+whole_step catalog (Unapp tx id) names n h = entry_tidy IsWhole tx n (codes "unapp") id refl tt
+whole_step catalog (Push tx id) names n h = entry_tidy IsWhole tx n (codes "push") id refl tt
+whole_step catalog (Unpush tx id) names n h = entry_tidy IsWhole tx n (codes "unpush") id refl tt
+whole_step catalog (Pull tx id) names n h = entry_tidy IsWhole tx n (codes "pull") id refl tt
+whole_step catalog (Unpull tx id) names n h = entry_tidy IsWhole tx n (codes "unpull") id refl tt
+whole_step catalog (Cmt tx) names n h = tx_tidy IsWhole tx n (codes "cmt") refl
+whole_step catalog (Quit tx) names n h = tx_tidy IsWhole tx n (codes "quit") refl
+whole_step catalog (Note tx) names n h = tx_tidy IsWhole tx n (codes "note") refl
 
 near_id : (id : ℕ) → id ≤ 999_999_999 → IsNear (unsigned id)
 near_id id h = omega arith
@@ -68,11 +68,11 @@ near_step catalog (Cmt tx) names h = tx_tidy IsNear tx h (codes "cmt") refl
 near_step catalog (Quit tx) names h = tx_tidy IsNear tx h (codes "quit") refl
 near_step catalog (Note tx) names h = tx_tidy IsNear tx h (codes "note") refl
 
-pub no_float : (catalog : Objects) (step : Step Op) → HasNames catalog → IsWritable catalog step → has_float (step_value catalog step) ≡ false
-no_float catalog step names h = texts.no_float (step_value catalog step) (whole_step catalog step names h)
+pub no_float : (catalog : Objects) (step : Step Op) → HasNames catalog → IsNamed step → IsWritable catalog step → has_float (step_value catalog step) ≡ false
+no_float catalog step names n h = texts.no_float (step_value catalog step) (whole_step catalog step names n h)
 
-pub one_line : (catalog : Objects) (step : Step Op) → HasNames catalog → IsWritable catalog step → IsOneLine (step_bytes catalog step)
-one_line catalog step names h = one_line_text (step_value catalog step) (whole_step catalog step names h)
+pub one_line : (catalog : Objects) (step : Step Op) → HasNames catalog → IsNamed step → IsWritable catalog step → IsOneLine (step_bytes catalog step)
+one_line catalog step names n h = one_line_text (step_value catalog step) (whole_step catalog step names n h)
 
 -- ---- how deep and how long it is
 pub answer_flat : (r : Answer) → depth (answer_value r) ≡ 0

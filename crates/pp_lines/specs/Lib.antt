@@ -4,3 +4,4 @@ pub mod Bodies
 pub mod Steps
 pub mod Headers
 pub mod Statable
+pub mod RunTexts

@@ -1,8 +1,7 @@
 -- Meaning: what a line can be written of, and what is read back from it.
 use Rattle.std.specs.Prelude.{◌≡◌, ◌≤◌, ℕ, ℤ, pos, nat_lt, IsTrue, if◌then◌else◌, Option}
-use Rattle.std.specs.Prelude.{Some, None}
-use Rattle.std.specs.Prelude.{List, length, slice_get}
-use Rattle.pp_core.specs.Catalogs.{Objects, AreFew, HasDistinctNames}
+use Rattle.std.specs.Prelude.{Some, None, Bool, true, false, List, length, slice_get, count_by}
+use Rattle.pp_core.specs.Catalogs.{Objects, AreFew, HasDistinctNames, HasNames}
 use Rattle.pp_core.specs.Names.{IsName}
 use Rattle.pp_core.specs.Steps.{Step, Begin, App, Unapp, Push, Unpush, Pull, Unpull, Cmt, Quit}
 use Rattle.pp_core.specs.Steps.{Note}
@@ -10,17 +9,16 @@ use Rattle.pp_core.specs.Trees.{Tree, Trees, Skip, One, Seq, Alt, Star, NoPart, 
 use Rattle.pp_core.specs.declared.body.Pattern.{Pattern}
 use Rattle.pp_core.specs.declared.call.Kind.{Kind}
 use Rattle.pp_core.specs.declared.entry.Item.{Item}
-use Rattle.pp_core.specs.declared.limits.TheConstants.{MOST_START}
+use Rattle.pp_core.specs.declared.limits.TheConstants.{MOST_START, MOST_STEPS}
+use Rattle.pp_core.specs.declared.limits.TheConstants.{MOST_TRANSACTIONS}
+use Rattle.pp_front.specs.Records.{RunRecord, Plain}
+use Rattle.pp_front.specs.Records as records
 use Rattle.pp_model.specs.Lists.{Each}
 use Rattle.pp_object.specs.Calls.{HasMethod, arity_of}
 use Rattle.pp_object.specs.Objects.{objects, kinds_of}
 use Rattle.pp_object.specs.declared.act.Op.{Op}
 use Rattle.pp_json.specs.declared.start.Start.{Start}
 use Rattle.pp_spec.specs.Found.{is_ranged_found}
-
--- each object has a name
-abbrev pub HasNames : Objects → Type 0
-HasNames catalog = Each (λ entry. IsName entry.0) catalog
 
 -- The objects of a run: there are at most 256, and each has a name, which no other has.
 pub record IsCatalog (catalog : Objects) : Type 0 where
@@ -104,22 +102,35 @@ IfGiven P (Some b) = P b
 abbrev pub IsId : ℕ → Type 0
 IsId id = id ≤ 999_999_999
 
--- The names are names, the operation is one on an object of the run, and each call of the body is
--- one of its object's kind.
-abbrev pub IsWritable : Objects → Step Op → Type 0
-IsWritable catalog (Begin tx thread body) =
-    IsName tx × IsName thread × IfGiven (EachCall (IsKnown catalog)) body
-IsWritable catalog (App tx id op) = IsName tx × IsOpOn catalog op
-IsWritable catalog (Unapp tx id) = IsName tx
-IsWritable catalog (Push tx id) = IsName tx
-IsWritable catalog (Unpush tx id) = IsName tx
-IsWritable catalog (Pull tx id) = IsName tx
-IsWritable catalog (Unpull tx id) = IsName tx
-IsWritable catalog (Cmt tx) = IsName tx
-IsWritable catalog (Quit tx) = IsName tx
-IsWritable catalog (Note tx) = IsName tx
+-- the names of a step are names
+abbrev pub IsNamed : Step Op → Type 0
+IsNamed (Begin tx thread body) = IsName tx × IsName thread
+IsNamed (App tx id op) = IsName tx
+IsNamed (Unapp tx id) = IsName tx
+IsNamed (Push tx id) = IsName tx
+IsNamed (Unpush tx id) = IsName tx
+IsNamed (Pull tx id) = IsName tx
+IsNamed (Unpull tx id) = IsName tx
+IsNamed (Cmt tx) = IsName tx
+IsNamed (Quit tx) = IsName tx
+IsNamed (Note tx) = IsName tx
 
--- The step can be stated: besides, its id is an id of a record, and its body can be stated.
+-- The step can be written: its operation is one on an object of the run, and each call of its body
+-- is one of its object's kind.
+abbrev pub IsWritable : Objects → Step Op → Type 0
+IsWritable catalog (Begin tx thread body) = IfGiven (EachCall (IsKnown catalog)) body
+IsWritable catalog (App tx id op) = IsOpOn catalog op
+IsWritable catalog (Unapp tx id) = Unit {0}
+IsWritable catalog (Push tx id) = Unit {0}
+IsWritable catalog (Unpush tx id) = Unit {0}
+IsWritable catalog (Pull tx id) = Unit {0}
+IsWritable catalog (Unpull tx id) = Unit {0}
+IsWritable catalog (Cmt tx) = Unit {0}
+IsWritable catalog (Quit tx) = Unit {0}
+IsWritable catalog (Note tx) = Unit {0}
+
+-- The step can be stated: besides, its names are names, its id is an id of a record, and its body
+-- can be stated.
 abbrev pub IsStatable : Objects → Step Op → Type 0
 IsStatable catalog (Begin tx thread body) =
     IsName tx × IsName thread × IfGiven (IsStatableBody catalog) body
@@ -133,9 +144,30 @@ IsStatable catalog (Cmt tx) = IsName tx
 IsStatable catalog (Quit tx) = IsName tx
 IsStatable catalog (Note tx) = IsName tx
 
+-- What a record that was read keeps to: its names are names, its step can be stated, and its
+-- operation is one that a step could have.
+abbrev pub IsStatableRecord : Objects → RunRecord Op → Type 0
+IsStatableRecord catalog (Plain step) = IsStatable catalog step
+IsStatableRecord catalog (records.Op tx id op) = IsName tx × IsId id × IsOpOn catalog op
+IsStatableRecord catalog (records.Commit tx) = IsName tx
+IsStatableRecord catalog (records.Abort tx) = IsName tx
+IsStatableRecord catalog (records.Retry tx) = IsName tx
+IsStatableRecord catalog (records.Refresh tx object) = IsName tx
+IsStatableRecord catalog (records.XBegin tx) = IsName tx
+IsStatableRecord catalog (records.XEnd tx) = IsName tx
+IsStatableRecord catalog (records.XAbort tx) = IsName tx
+IsStatableRecord catalog (records.Depend tx source) = IsName tx × IsName source
+IsStatableRecord catalog (records.Publish tx) = IsName tx
+IsStatableRecord catalog (records.DropSource tx source) = IsName tx × IsName source
+
 -- the operations of a start can be written: each is one on an object of the run
 abbrev pub AreWritable : Objects → List (Item Op) → Type 0
 AreWritable catalog ops = Each (λ p. IsOpOn catalog p.op) ops
+
+-- the same of the operations of a start, where there is one
+abbrev pub IsWritableStart : Objects → Option Start → Type 0
+IsWritableStart catalog None = Unit {0}
+IsWritableStart catalog (Some start) = AreWritable catalog start.ops
 
 -- The start can be stated: its transaction has a name, it has at most 256 operations, and each has
 -- an id of a record and is one on an object of the run.
@@ -148,3 +180,18 @@ pub record IsStatableStart (catalog : Objects) (start : Start) : Type 0 where
 abbrev pub CanStart : Objects → Option Start → Type 0
 CanStart catalog None = Unit {0}
 CanStart catalog (Some start) = IsStatableStart catalog start
+
+-- the step is a begin
+abbrev pub is_begin : Step Op → Bool
+is_begin (Begin tx thread body) = true
+is_begin step = false
+
+-- The run can be stated: its objects, its start and each of its steps can, and it has at most
+-- 200,000 steps, of which at most 20,000 are begins.
+pub record IsStatableRun (catalog : Objects) (start : Option Start) (steps : List (Step Op)) :
+    Type 0 where
+  pub over : IsCatalog catalog
+  pub begun : CanStart catalog start
+  pub each : Each (IsStatable catalog) steps
+  pub few : length steps ≤ MOST_STEPS
+  pub begins : count_by is_begin steps ≤ MOST_TRANSACTIONS

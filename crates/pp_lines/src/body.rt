@@ -5,7 +5,7 @@ ghost use Rattle.serde_json.specs.View.{view};
 ghost use Rattle.pp_core.specs.Trees.{tree, trees_of};
 ghost use Rattle.pp_lines.specs.Bodies.{pattern_arity, pattern_members, seq_value, alt_value};
 ghost use Rattle.pp_lines.specs.Bodies.{body_value};
-ghost use Rattle.pp_lines.specs.Statable.{HasNames, IsKnown, EachCall, EachCallIn};
+ghost use Rattle.pp_lines.specs.Statable.{IsKnown, EachCall, EachCallIn};
 
 use crate::call::arguments_value;
 use crate::name::{name_at, name_text};
@@ -29,8 +29,7 @@ fn pattern_arity(catalog: &Catalog, pattern: &Pattern) -> usize
 
 #[tactic(auto, using(crate::proofs::Parts::known_below))]
 fn pattern_value(alloc: Global, catalog: &Catalog, pattern: &Pattern) -> Result<Value, OutOfMemory>
-    requires names { HasNames catalog.now }
-    requires known { IsKnown catalog.now pattern.now }
+    requires { IsKnown catalog.now pattern.now }
     ensures { IfOk result (λ value. view value ≡ object (pattern_members catalog.now pattern.now)) }
 {
     let wanted = [pattern.first, pattern.second, pattern.third];
@@ -57,8 +56,7 @@ fn alt_value(alloc: Global, values: Vec<Value>) -> Result<Value, OutOfMemory>
 
 #[cycle(body)]
 fn value_of(alloc: Global, catalog: &Catalog, body: &Body) -> Result<Value, OutOfMemory>
-    requires names { HasNames catalog.now }
-    requires known { EachCall (IsKnown catalog.now) (tree body.now) }
+    requires { EachCall (IsKnown catalog.now) (tree body.now) }
     ensures { IfOk result (λ value. view value ≡ body_value catalog.now (tree body.now)) }
 {
     match body {
@@ -81,8 +79,7 @@ fn value_of(alloc: Global, catalog: &Catalog, body: &Body) -> Result<Value, OutO
 
 #[cycle(body)]
 fn values_of(alloc: Global, catalog: &Catalog, parts: &[Body]) -> Result<Vec<Value>, OutOfMemory>
-    requires names { HasNames catalog.now }
-    requires known { EachCallIn (IsKnown catalog.now) (trees_of parts.now) }
+    requires { EachCallIn (IsKnown catalog.now) (trees_of parts.now) }
     ensures { IfOk result
         (λ values. map view values.items ≡ map (λ b. body_value catalog.now (tree b)) parts.now) }
 {
@@ -99,8 +96,7 @@ pub(crate) fn body_value(
     catalog: &Catalog,
     body: &Body,
 ) -> Result<Value, OutOfMemory>
-    requires names { HasNames catalog.now }
-    requires known { EachCall (IsKnown catalog.now) (tree body.now) }
+    requires { EachCall (IsKnown catalog.now) (tree body.now) }
     ensures { IfOk result (λ value. view value ≡ body_value catalog.now (tree body.now)) }
 {
     value_of(alloc, catalog, body)

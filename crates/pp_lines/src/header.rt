@@ -1,11 +1,12 @@
 //! The line of a header.
 ghost use Rattle.std.specs.Prelude.{◌≡◌, ◌<◌, map, length, slice_get, option_map, Some, IfOk};
 ghost use Rattle.serde_json.specs.View.{view};
+ghost use Rattle.pp_core.specs.Catalogs.{HasNames};
 ghost use Rattle.pp_core.specs.Names.{IsName};
 ghost use Rattle.pp_lines.specs.Headers.{object_value, header_value, header_bytes, item_value};
 ghost use Rattle.pp_lines.specs.Headers.{start_value, header_value_2, header_bytes_2};
 ghost use Rattle.pp_lines.specs.Lines.{IsOneLine};
-ghost use Rattle.pp_lines.specs.Statable.{HasNames, IsOpOn, AreWritable};
+ghost use Rattle.pp_lines.specs.Statable.{IsOpOn, AreWritable};
 
 use crate::call::{answer_value, call_value};
 use crate::line::line_of;
@@ -15,10 +16,8 @@ use pp_object::Op;
 use serde_json::{Value, json};
 use std::alloc::Global;
 
-#[tactic(auto, using(crate::proofs::Headers::named_there))]
 fn object_value(alloc: Global, catalog: &Catalog, object: u16) -> Result<Value, OutOfMemory>
-    requires there { object < length catalog.now }
-    requires names { HasNames catalog.now }
+    requires { object < length catalog.now }
     ensures { IfOk result
         (λ value. option_map object_value (slice_get catalog.now object) ≡ Some (view value)) }
 {
@@ -30,8 +29,9 @@ fn object_value(alloc: Global, catalog: &Catalog, object: u16) -> Result<Value, 
 
 #[tactic(auto, using(crate::proofs::Headers::goes_on))]
 fn object_values(alloc: Global, catalog: &Catalog) -> Result<Vec<Value>, OutOfMemory>
-    requires { HasNames catalog.now }
-    ensures { IfOk result (λ values. map view values.items ≡ map object_value catalog.now) }
+    ensures values { IfOk result
+        (λ values. map view values.items ≡ map object_value catalog.now) }
+    ensures names { HasNames catalog.now }
 {
     let mut values = Vec::new(alloc);
     for object in 0..catalog.len() {
@@ -41,8 +41,8 @@ fn object_values(alloc: Global, catalog: &Catalog) -> Result<Vec<Value>, OutOfMe
 }
 
 fn header_value(alloc: Global, catalog: &Catalog) -> Result<Value, OutOfMemory>
-    requires names { HasNames catalog.now }
-    ensures { IfOk result (λ value. view value ≡ header_value catalog.now) }
+    ensures value { IfOk result (λ value. view value ≡ header_value catalog.now) }
+    ensures names { HasNames catalog.now }
 {
     let objects = Value::Array(object_values(alloc, catalog)?);
     Ok(json!(in alloc; {"objects": objects, "run": 1, "style": "rules"})?)
@@ -50,8 +50,7 @@ fn header_value(alloc: Global, catalog: &Catalog) -> Result<Value, OutOfMemory>
 
 #[tactic(auto, using(crate::proofs::Operations::few, crate::proofs::Operations::there, crate::proofs::Operations::answer_ranged))]
 fn item_value(alloc: Global, catalog: &Catalog, item: &Item<Op>) -> Result<Value, OutOfMemory>
-    requires names { HasNames catalog.now }
-    requires op { IsOpOn catalog.now item.now.op }
+    requires { IsOpOn catalog.now item.now.op }
     ensures { IfOk result (λ value. view value ≡ item_value catalog.now item.now) }
 {
     let call = item.op.act.call();
@@ -72,8 +71,7 @@ fn item_values(
     catalog: &Catalog,
     ops: &[Item<Op>],
 ) -> Result<Vec<Value>, OutOfMemory>
-    requires names { HasNames catalog.now }
-    requires ops { AreWritable catalog.now ops.now }
+    requires { AreWritable catalog.now ops.now }
     ensures { IfOk result
         (λ values. map view values.items ≡ map (item_value catalog.now) ops.now) }
 {
@@ -90,10 +88,9 @@ fn start_value(
     tx: &Name,
     ops: &Items<Op>,
 ) -> Result<Value, OutOfMemory>
-    requires names { HasNames catalog.now }
-    requires tx { IsName tx.now }
-    requires ops { AreWritable catalog.now ops.now }
-    ensures { IfOk result (λ value. view value ≡ start_value catalog.now tx.now ops.now) }
+    requires { AreWritable catalog.now ops.now }
+    ensures value { IfOk result (λ value. view value ≡ start_value catalog.now tx.now ops.now) }
+    ensures named { IfOk result (λ _. IsName tx.now) }
 {
     let items = Value::Array(item_values(alloc, catalog, ops.as_slice())?);
     Ok(json!(in alloc; {"ops": items, "tx": name_text(tx)})?)
@@ -105,10 +102,10 @@ fn header_value_2(
     tx: &Name,
     ops: &Items<Op>,
 ) -> Result<Value, OutOfMemory>
-    requires names { HasNames catalog.now }
-    requires tx { IsName tx.now }
-    requires ops { AreWritable catalog.now ops.now }
-    ensures { IfOk result (λ value. view value ≡ header_value_2 catalog.now tx.now ops.now) }
+    requires { AreWritable catalog.now ops.now }
+    ensures value { IfOk result (λ value. view value ≡ header_value_2 catalog.now tx.now ops.now) }
+    ensures names { HasNames catalog.now }
+    ensures named { IfOk result (λ _. IsName tx.now) }
 {
     let objects = Value::Array(object_values(alloc, catalog)?);
     let start = start_value(alloc, catalog, tx, ops)?;
@@ -119,7 +116,6 @@ fn header_value_2(
 /// without a line end. The only error is that memory was refused.
 #[tactic(auto, using(crate::proofs::Headers::no_float, crate::proofs::Headers::one_line))]
 pub fn header_line(alloc: Global, catalog: &Catalog) -> Result<Text, OutOfMemory>
-    requires names { HasNames catalog.now }
     ensures text { IfOk result (λ text. text ≡ header_bytes catalog.now) }
     ensures one_line { IfOk result IsOneLine }
 {
@@ -137,9 +133,7 @@ pub fn header_line_2(
     tx: &Name,
     ops: &Items<Op>,
 ) -> Result<Text, OutOfMemory>
-    requires names { HasNames catalog.now }
-    requires tx { IsName tx.now }
-    requires ops { AreWritable catalog.now ops.now }
+    requires { AreWritable catalog.now ops.now }
     ensures text { IfOk result (λ text. text ≡ header_bytes_2 catalog.now tx.now ops.now) }
     ensures one_line { IfOk result IsOneLine }
 {

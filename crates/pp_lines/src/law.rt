@@ -1,33 +1,30 @@
 //! What is read back from the lines that are written. Each law is a fact of the definitions, and
 //! does nothing.
-ghost use Rattle.std.specs.Prelude.{◌≡◌, ◌≤◌, ◌<◌, ℕ, List, length, None, Some, Ok};
+ghost use Rattle.std.specs.Prelude.{◌≡◌, ◌≤◌, ◌<◌, ℕ, List, length, Option, None, Ok, false};
 ghost use Rattle.pp_core.specs.Catalogs.{Objects};
 ghost use Rattle.pp_core.specs.Steps.{Step};
 ghost use Rattle.pp_core.specs.declared.call.Style.TheVariants.{Rules};
+ghost use Rattle.pp_front.specs.Records.{RunRecord, Plain};
+ghost use Rattle.pp_io.specs.Lines.{blank, numbered_from};
+ghost use Rattle.pp_io.specs.Overruns.{overrun, scanned_lines};
 ghost use Rattle.pp_json.specs.Headers.{header_of};
 ghost use Rattle.pp_json.specs.Records.{record_of};
 ghost use Rattle.pp_json.specs.declared.header.Header.{Header};
 ghost use Rattle.pp_json.specs.declared.start.Start.{Start};
-ghost use Rattle.pp_lines.specs.Headers.{header_bytes, header_bytes_2, rules_header};
+ghost use Rattle.pp_lines.specs.Headers.{rules_header};
 ghost use Rattle.pp_lines.specs.Lines.{most_bytes};
-ghost use Rattle.pp_lines.specs.Statable.{IsCatalog, IsStatable, IsStatableStart, CanStart};
+ghost use Rattle.pp_lines.specs.RunTexts.{printed_header, run_lines, run_text};
+ghost use Rattle.pp_lines.specs.Statable.{IsCatalog, IsStatable, CanStart, IsStatableRecord};
+ghost use Rattle.pp_lines.specs.Statable.{IsStatableRun};
 ghost use Rattle.pp_lines.specs.Steps.{step_bytes};
+ghost use Rattle.pp_model.specs.Lists.{Each};
 ghost use Rattle.pp_object.specs.declared.act.Op.{Op};
 
-/// The line of a header is read as that header.
-#[tactic(auto, using(crate::proofs::HeadersBack::reads_back))]
+/// The line of a header that can be stated, with its start if it has one, is read as that header.
 pub fn header_law()
-    ensures { (catalog : Objects) → IsCatalog catalog
-        → header_of (header_bytes catalog) ≡ Ok (rules_header catalog None) }
-{}
-
-/// The line of a header with a start that can be stated is read as that header.
-#[tactic(auto, using(crate::proofs::HeadersBack::reads_back_2))]
-pub fn start_law()
-    ensures { (catalog : Objects) (start : Start) → IsCatalog catalog
-        → IsStatableStart catalog start
-        → header_of (header_bytes_2 catalog start.tx start.ops)
-        ≡ Ok (rules_header catalog (Some start)) }
+    ensures { (catalog : Objects) (start : Option Start) → IsCatalog catalog
+        → CanStart catalog start
+        → header_of (printed_header catalog start) ≡ Ok (rules_header catalog start) }
 {}
 
 /// The line of a step that can be stated is read as that step.
@@ -35,7 +32,7 @@ pub fn start_law()
 pub fn step_law()
     ensures { (header : Header) (step : Step Op) → header.style ≡ Rules → IsCatalog header.catalog
         → IsStatable header.catalog step
-        → record_of header (step_bytes header.catalog step) ≡ Ok step }
+        → record_of header (step_bytes header.catalog step) ≡ Ok (Plain step) }
 {}
 
 /// The objects and the start of a header that was read can be stated.
@@ -46,21 +43,31 @@ pub fn read_header_law()
         → CanStart header.catalog header.start }
 {}
 
-/// A step that was read can be stated.
-#[tactic(auto, using(crate::proofs::StepsRead::is_statable))]
-pub fn read_step_law()
-    ensures { (header : Header) (line : List ℕ) (step : Step Op) → record_of header line ≡ Ok step
-        → IsStatable header.catalog step }
+/// A record that was read can be stated, of whichever style it is.
+pub fn read_record_law()
+    ensures { (header : Header) (line : List ℕ) (r : RunRecord Op)
+        → record_of header line ≡ Ok r → IsStatableRecord header.catalog r }
 {}
 
 /// The lines of a header and of a step that can be stated are short.
-#[tactic(auto, using(crate::proofs::Headers::short, crate::proofs::Headers::short_2, crate::proofs::Steps::statable_short))]
 pub fn length_law()
-    ensures header { (catalog : Objects) → IsCatalog catalog
-        → length (header_bytes catalog) < 60_000 }
-    ensures start { (catalog : Objects) (start : Start) → IsCatalog catalog
-        → IsStatableStart catalog start
-        → length (header_bytes_2 catalog start.tx start.ops) < 60_000 }
+    ensures header { (catalog : Objects) (start : Option Start) → IsCatalog catalog
+        → CanStart catalog start → length (printed_header catalog start) < 60_000 }
     ensures step { (catalog : Objects) (step : Step Op) → IsCatalog catalog
         → IsStatable catalog step → length (step_bytes catalog step) ≤ most_bytes step }
+{}
+
+/// Where a run can be stated, its text is an input of which each line is examined: the line of its
+/// header, numbered 1, and the line of its step i, numbered i + 1. None of these lines is blank,
+/// and the input passes no limit and has less than 200,000,000 bytes.
+pub fn run_text_law()
+    ensures lines { (catalog : Objects) (start : Option Start) (steps : List (Step Op))
+        → IsStatableRun catalog start steps → scanned_lines (run_text catalog start steps)
+        ≡ numbered_from 1 (run_lines catalog start steps) }
+    ensures shown { (catalog : Objects) (start : Option Start) (steps : List (Step Op))
+        → Each (λ line. blank line ≡ false) (run_lines catalog start steps) }
+    ensures limits { (catalog : Objects) (start : Option Start) (steps : List (Step Op))
+        → IsStatableRun catalog start steps → overrun (run_text catalog start steps) ≡ None }
+    ensures short { (catalog : Objects) (start : Option Start) (steps : List (Step Op))
+        → IsStatableRun catalog start steps → length (run_text catalog start steps) < 200_000_000 }
 {}

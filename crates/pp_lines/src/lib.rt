@@ -7,8 +7,10 @@ mod header;
 mod law;
 mod line;
 mod name;
+mod run;
 mod step;
 
 pub use header::{header_line, header_line_2};
-pub use law::{header_law, length_law, read_header_law, read_step_law, start_law, step_law};
+pub use law::{header_law, length_law, read_header_law, read_record_law, run_text_law, step_law};
+pub use run::run_text;
 pub use step::step_line;

@@ -7,7 +7,8 @@ ghost use Rattle.pp_core.specs.Steps.{meaning};
 ghost use Rattle.pp_core.specs.Trees.{tree};
 ghost use Rattle.pp_lines.specs.Lines.{IsOneLine};
 ghost use Rattle.pp_lines.specs.Operations.{op_members};
-ghost use Rattle.pp_lines.specs.Statable.{HasNames, IsKnown, IsOpOn, EachCall, IfGiven, IsWritable};
+ghost use Rattle.pp_lines.specs.Statable.{IsKnown, IsOpOn, EachCall, IfGiven};
+ghost use Rattle.pp_lines.specs.Statable.{IsNamed, IsWritable};
 ghost use Rattle.pp_lines.specs.Steps.{tx_members, tx_value, entry_value, begin_members};
 ghost use Rattle.pp_lines.specs.Steps.{step_value, step_bytes};
 
@@ -27,12 +28,10 @@ fn begin_value(
     thread: &Name,
     body: &Option<Body>,
 ) -> Result<Value, OutOfMemory>
-    requires names { HasNames catalog.now }
-    requires tx { IsName tx.now }
-    requires thread { IsName thread.now }
-    requires known { IfGiven (EachCall (IsKnown catalog.now)) (option_map tree body.now) }
-    ensures { IfOk result (λ value. view value ≡ object
+    requires { IfGiven (EachCall (IsKnown catalog.now)) (option_map tree body.now) }
+    ensures value { IfOk result (λ value. view value ≡ object
         (begin_members catalog.now tx.now thread.now (option_map tree body.now))) }
+    ensures named { IsName tx.now × IsName thread.now }
 {
     let (tx, thread) = (name_text(tx), name_text(thread));
     let value = match body {
@@ -53,11 +52,10 @@ fn app_value(
     id: u32,
     op: &Op,
 ) -> Result<Value, OutOfMemory>
-    requires names { HasNames catalog.now }
-    requires tx { IsName tx.now }
-    requires op { IsOpOn catalog.now op.now }
-    ensures { IfOk result (λ value. view value
+    requires { IsOpOn catalog.now op.now }
+    ensures value { IfOk result (λ value. view value
         ≡ object (op_members catalog.now id op.now (tx_members (codes "app") tx.now))) }
+    ensures named { IfOk result (λ _. IsName tx.now) }
 {
     let call = op.act.call();
     let args = call_value(alloc, op.act.arity(), &call)?;
@@ -74,23 +72,23 @@ fn app_value(
 }
 
 fn entry_value(alloc: Global, word: &str, tx: &Name, id: u32) -> Result<Value, OutOfMemory>
-    requires { IsName tx.now }
-    ensures { IfOk result (λ value. view value ≡ entry_value word.now tx.now id) }
+    ensures value { IfOk result (λ value. view value ≡ entry_value word.now tx.now id) }
+    ensures named { IfOk result (λ _. IsName tx.now) }
 {
     Ok(json!(in alloc; {"id": id, "step": word, "tx": name_text(tx)})?)
 }
 
 fn tx_value(alloc: Global, word: &str, tx: &Name) -> Result<Value, OutOfMemory>
-    requires { IsName tx.now }
-    ensures { IfOk result (λ value. view value ≡ tx_value word.now tx.now) }
+    ensures value { IfOk result (λ value. view value ≡ tx_value word.now tx.now) }
+    ensures named { IfOk result (λ _. IsName tx.now) }
 {
     Ok(json!(in alloc; {"step": word, "tx": name_text(tx)})?)
 }
 
 fn step_value(alloc: Global, catalog: &Catalog, step: &Step<Op>) -> Result<Value, OutOfMemory>
-    requires names { HasNames catalog.now }
-    requires writable { IsWritable catalog.now (meaning step.now) }
-    ensures { IfOk result (λ value. view value ≡ step_value catalog.now (meaning step.now)) }
+    requires { IsWritable catalog.now (meaning step.now) }
+    ensures value { IfOk result (λ value. view value ≡ step_value catalog.now (meaning step.now)) }
+    ensures named { IfOk result (λ _. IsNamed (meaning step.now)) }
 {
     match step {
         Step::Begin { tx, thread, body } => begin_value(alloc, catalog, tx, thread, body),
@@ -110,11 +108,12 @@ fn step_value(alloc: Global, catalog: &Catalog, step: &Step<Op>) -> Result<Value
 /// was refused.
 #[tactic(auto, using(crate::proofs::Steps::no_float, crate::proofs::Steps::one_line))]
 pub fn step_line(alloc: Global, catalog: &Catalog, step: &Step<Op>) -> Result<Text, OutOfMemory>
-    requires names { HasNames catalog.now }
-    requires writable { IsWritable catalog.now (meaning step.now) }
+    requires { IsWritable catalog.now (meaning step.now) }
     ensures text { IfOk result (λ text. text ≡ step_bytes catalog.now (meaning step.now)) }
     ensures one_line { IfOk result IsOneLine }
 {
+    // It stands here for what its clauses say of each catalog.
+    let _named = catalog.len();
     let value = step_value(alloc, catalog, step)?;
     line_of(alloc, &value)
 }

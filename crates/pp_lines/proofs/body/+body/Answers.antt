@@ -10,7 +10,7 @@ use Rattle.pp_lines.proofs.body.+body.Goals as goal
 
 pub values_of-value_of-requires : goal.values_of-value_of-requires
 values_of-value_of-requires t c =
-    (search (rules, the_lemmas), (c.requires.names, known_at c.args.catalog.now c.args.parts.now c.loop-part.part-index c.part-item.result c.requires.known c.loop-part-test.true c.part-item.is))
+    (search (rules, the_lemmas), known_at c.args.catalog.now c.args.parts.now c.loop-part.part-index c.part-item.result c.requires c.loop-part-test.true c.part-item.is)
 
 pub value_of-returns-in_ok-values-in-Seq : goal.value_of-returns-in_ok-values-in-Seq
 value_of-returns-in_ok-values-in-Seq t c =

@@ -1,0 +1,67 @@
+//! The text of a run.
+ghost use Rattle.std.specs.Prelude.{◌≡◌, [], ◌∷◌, ◌++◌, map, OnOk, IfOk};
+ghost use Rattle.pp_core.specs.Steps.{meaning};
+ghost use Rattle.pp_lines.specs.RunTexts.{printed_header, run_text};
+ghost use Rattle.pp_lines.specs.Statable.{IsWritable, IsWritableStart};
+ghost use Rattle.pp_lines.specs.Steps.{step_bytes};
+ghost use Rattle.pp_model.specs.Lists.{Each};
+
+use crate::header::{header_line, header_line_2};
+use crate::step::step_line;
+use pp_core::{Catalog, OutOfMemory, Step, Text};
+use pp_json::Start;
+use pp_object::Op;
+use std::alloc::Global;
+
+/// The line of the header: of version 1 of the format without a start, of version 2 with one.
+fn printed_header(
+    alloc: Global,
+    catalog: &Catalog,
+    start: &Option<Start>,
+) -> Result<Text, OutOfMemory>
+    requires { IsWritableStart catalog.now start.now }
+    ensures { IfOk result (λ text. text ≡ printed_header catalog.now start.now) }
+{
+    match start {
+        None => header_line(alloc, catalog),
+        Some(start) => header_line_2(alloc, catalog, &start.tx, &start.ops),
+    }
+}
+
+/// Adds the line of a step with its end.
+fn add_step(
+    alloc: Global,
+    catalog: &Catalog,
+    step: &Step<Op>,
+    text: &mut Text,
+) -> Result<(), OutOfMemory>
+    requires { IsWritable catalog.now (meaning step.now) }
+    ensures { OnOk result
+        (text.new ≡ text.old ++ step_bytes catalog.now (meaning step.now) ++ 10 ∷ []) }
+{
+    let line = step_line(alloc, catalog, step)?;
+    text.append(line.bytes())?;
+    text.push(b'\n')
+}
+
+/// The text of a run of style rules over these objects, with this start if there is one: the line
+/// of its header and then a line for each step, each with a byte 10 behind it. The only error is
+/// that memory was refused.
+pub fn run_text(
+    alloc: Global,
+    catalog: &Catalog,
+    start: &Option<Start>,
+    steps: &[Step<Op>],
+) -> Result<Text, OutOfMemory>
+    requires start { IsWritableStart catalog.now start.now }
+    requires steps { Each (IsWritable catalog.now) (map meaning steps.now) }
+    ensures { IfOk result
+        (λ text. text ≡ run_text catalog.now start.now (map meaning steps.now)) }
+{
+    let mut text = printed_header(alloc, catalog, start)?;
+    text.push(b'\n')?;
+    for step in steps {
+        add_step(alloc, catalog, step, &mut text)?;
+    }
+    Ok(text)
+}
