@@ -6,6 +6,8 @@ mod long_inputs;
 mod rejected_runs;
 mod row;
 mod starts;
+mod style_faults;
+mod styled_runs;
 
 use crate::run_counted;
 use crate::tests::accepted_runs::ACCEPTED;
@@ -15,6 +17,8 @@ use crate::tests::long_inputs::{LONG, bytes_of};
 use crate::tests::rejected_runs::REJECTED;
 use crate::tests::row::{COUNTER, Row};
 use crate::tests::starts::STARTS;
+use crate::tests::style_faults::STYLE_FAULTS;
+use crate::tests::styled_runs::STYLED;
 use crate::words::collect_words;
 use pp_core::{Status, Words};
 use pp_io::{MemorySink, MemorySource, Source};
@@ -94,6 +98,8 @@ fn runs_have_their_reports(rt: HostRuntime) -> Result<(), Fail> {
         REJECTED.as_slice(),
         FAULTY.as_slice(),
         STARTS.as_slice(),
+        STYLE_FAULTS.as_slice(),
+        STYLED.as_slice(),
     ] {
         for row in table {
             let answer = certified_bytes(alloc, input_of(alloc, row)?, true)?;
@@ -115,8 +121,9 @@ fn the_last_line_may_lack_its_end(rt: HostRuntime) -> Result<(), Fail> {
 fn long_inputs_have_their_reports(rt: HostRuntime) -> Result<(), Fail> {
     let alloc = rt.alloc();
     for long in &LONG {
-        let answer = certified_bytes(alloc, bytes_of(alloc, long)?, false)?;
-        assert_answer(&rt, long.what, &answer, long.status, long.report);
+        let answer = certified_bytes(alloc, bytes_of(alloc, long.input)?, false)?;
+        let report = bytes_of(alloc, long.report)?;
+        assert_answer(&rt, long.what, &answer, long.status, report.as_slice());
     }
     Ok(())
 }

@@ -20,8 +20,6 @@ pub enum Cause {
     UnknownStep,
     BodyBad,
     BodyTooLarge,
-    /// The input asks for what this version does not do.
-    NotYet,
     LineTooLong,
     TooManyLines,
     TooLong,

@@ -36,7 +36,6 @@ pub(crate) fn write_cause(text: &mut Text, cause: Cause) -> Result<(), OutOfMemo
         Cause::UnknownStep => text.append(b"UnknownStep"),
         Cause::BodyBad => text.append(b"BodyBad"),
         Cause::BodyTooLarge => text.append(b"BodyTooLarge"),
-        Cause::NotYet => text.append(b"NotYet"),
         Cause::LineTooLong => text.append(b"LineTooLong"),
         Cause::TooManyLines => text.append(b"TooManyLines"),
         Cause::TooLong => text.append(b"TooLong"),

@@ -4,7 +4,6 @@ use Rattle.std.specs.Prelude.{◌≡◌, ℕ, zero, suc, List, [], ◌∷◌, le
 use Rattle.std.specs.Prelude.{Some}
 use Rattle.std.proofs.Common.{refl, sym, ap, ◌∙◌, subst}
 use Rattle.std.proofs.lemmas.List.{append-nil}
-use mathlib.Core.Logic.{inr}
 use Rattle.pp_core.specs.declared.call.Kind.{Kind}
 use Rattle.pp_core.specs.declared.entry.CommittedTx.{CommittedTx}
 use Rattle.pp_core.specs.declared.status.Status.{Status}
@@ -23,7 +22,7 @@ use Rattle.pp_object.specs.laws.Objects.{objects_lawful}
 use Rattle.pp_object.specs.declared.act.Op.{Op}
 use Rattle.pp_object.specs.declared.states.ObjectState.{ObjectState}
 use Rattle.pp_json.specs.declared.header.Header.{Header}
-use Rattle.pp_model.specs.Config.{after, first}
+use Rattle.pp_model.specs.Config.{Config, Start, Step, after, first}
 use Rattle.pp_model.specs.Lists.{joined}
 use Rattle.pp_model.specs.Object.{Item, ops, state}
 use Rattle.pp_model.specs.Rules.{Accepted, Rejected, RunsFrom, StartMeets}
@@ -36,6 +35,8 @@ use Rattle.pp_report.specs.Reports.{accepted_text, fault_text, rejected_text}
 use Rattle.pp_report.specs.declared.cause.Cause.{Cause}
 use Rattle.pp_report.specs.declared.cause.Cause.TheVariants.{TooManySteps}
 use Rattle.pp_rules.specs.Machines.{Seen}
+use Rattle.pp_rules.proofs.Refuting.{refutes}
+use Rattle.pp_rules.proofs.Starting.{start_evidence_law}
 use Rattle.pp_spec.specs.Object.{state_after}
 use Rattle.pp_spec.proofs.Places.{tells_states}
 use Rattle.pp_run.specs.Objects.{object_of, setting_of, start_of, translation_of}
@@ -45,11 +46,10 @@ use Rattle.pp_run.specs.Outputs.{IsCertified, IsOutput, IsRunTold, IsTold, RunRe
 use Rattle.pp_run.specs.declared.words.Command.{Command}
 use Rattle.pp_run.specs.declared.words.Command.TheVariants.{Certify}
 use Rattle.pp_run.specs.declared.progress.Rejection.{Rejection}
-use Rattle.pp_run.specs.Progresses.{Covers, EndsAt, IsRejected, IsRejectionOf, IsRunning, standing_of}
-use Rattle.pp_run.specs.Rejected.{IsEvident, TellsEvident}
-use Rattle.pp_run.specs.declared.progress.Progress.{Progress}
-use Rattle.pp_run.specs.declared.progress.Progress.TheVariants.{Rejected as Rejecting}
-use Rattle.pp_run.proofs.Covering.{config_is, covers_few, covers_sound}
+use Rattle.pp_run.specs.Progresses.{EndsAt, IsRejected, IsRejectionOf, IsRunning, standing_of}
+use Rattle.pp_run.specs.Rejected.{IsEvident, IsStartEvident, IsStepEvident, StartFactRefutes}
+use Rattle.pp_run.specs.Rejected.{StepFactRefutes, TellsEvident}
+use Rattle.pp_run.proofs.Covering.{config_is, rejected_sound}
 use Rattle.pp_run.specs.Scans.{InputScan}
 use Rattle.pp_run.specs.declared.progress.Tally.{Tally}
 
@@ -84,11 +84,19 @@ module _ (sc : InputScan) (tally : Tally) (machine : Seen (List Kind) Op) (r : I
       let committed : D ≡ map committed_tx as' = D_is ∙ committed_are in
       let same : states ≡ state (object_of h) (serial as') =
       state_is ∙ ap (λ E. state_after objects kinds (serial_ops E)) committed ∙ ap (λ k. state_after objects kinds k) (serial_is as') in
-      let end = (reading_law (object_of h) (translation_of h)).end (start_of h) sc.records (standing_of tally machine) machine.count r.stands in
+      let end = (reading_law (object_of h) (translation_of h)).end (start_of h) sc.records (standing_of r.state machine) machine.count r.stands in
       let printed : text ≡ accepted_text h.catalog (length run) (map committed_tx as') (state (object_of h) (serial as')) =
       text_is ∙ ap (λ k. accepted_text h.catalog k D states) (count_is ∙ r.stands.number) ∙ ap (λ E. accepted_text h.catalog (length run) E states) committed ∙ ap (accepted_text h.catalog (length run) (map committed_tx as')) same in
       reported sc (Some (record { line = r.follows.at; what = h })) (λ o report. IsTold o report statuses.Accepted text) r.follows.header
       (Accepts (length run) as' (state (object_of h) (serial as')), (run, Accepted, end.0, end.1, refl), (refl, printed))
+
+-- where the fact of a criterion holds, the criterion is false
+start_refuting : (kinds : List Kind) (h : Option (Start Op)) (n : ℕ) → IsStartEvident kinds h (suc n) → StartFactRefutes kinds h (suc n)
+start_refuting kinds None n h = h
+start_refuting kinds (Some z) n h = (start_evidence_law objects objects_lawful kinds).refutes z n
+
+step_refuting : (kinds : List Kind) (before : Config Op) (step : Step Op) (n : ℕ) → IsStepEvident kinds before step (suc n) → StepFactRefutes kinds before step (suc n)
+step_refuting kinds before step n h = λ detail. refutes objects objects_lawful kinds before step n detail h.0
 
 -- a rejected run: what is printed, and what its evidence shows
 abbrev printed_of : Header → Rejection → List ℕ
@@ -118,11 +126,11 @@ module _ (sc : InputScan) (tally : Tally) (rejection : Rejection) (r : IsRejecte
       go : (i : ℕ) → IsRejectionOf h r.follows.at e.run i (suc e.criterion) rejection → IsRejectedAt (object_of h) (translation_of h) (start_of h) sc.records e.run i e.criterion
           → Reports sc (Some head) (RejectedTold h rejection)
       go zero is at =
-          (StartRejected r.follows.at (suc e.criterion), (e.run, Rejected 0 (suc e.criterion), at.run_is, at.verdict, refl), (λ text printed. (refl, printed ∙ ap (printed_of h) is.0), is.1))
+          (StartRejected r.follows.at (suc e.criterion), (e.run, Rejected 0 (suc e.criterion), at.run_is, at.verdict, refl), (λ text printed. (refl, printed ∙ ap (printed_of h) is.0), (is.1, start_refuting (kinds_of h.catalog) (start_of h) e.criterion is.1)))
       go (suc i) is at = (
         StepRejected (suc i) rejection.line (suc e.criterion) (after (start_of h) (bare (take i e.run))) is.0,
         (e.run, Rejected (suc i) (suc e.criterion), at.run_is, at.verdict, (record { line = rejection.line; what = is.0 }, is.1, refl)),
-        (λ text printed. (refl, printed ∙ ap (printed_of h) is.2), is.3),
+        (λ text printed. (refl, printed ∙ ap (printed_of h) is.2), (is.3, step_refuting (kinds_of h.catalog) (after (start_of h) (bare (take i e.run))) is.0 e.criterion is.3)),
       )
 
   pub rejected_told : (text : List ℕ) → text ≡ rejected_text tally.header.catalog rejection.step rejection.line rejection.rule rejection.criterion rejection.detail → IsRunTold sc statuses.Rejected text
@@ -132,9 +140,7 @@ module _ (sc : InputScan) (tally : Tally) (rejection : Rejection) (r : IsRejecte
   pub rejected_evident : IsEvident sc
   rejected_evident report is =
       let k = rejected_report in
-      let p : Progress = Rejecting tally rejection in
-      let none : IsFaultOf sc None = inr (covers_few sc p r, sym (covers_sound sc p r)) in
-      let same : k.0 ≡ report = (input_law setting_of TooManySteps).one_report sc k.0 report (None, none, k.1) is in
+      let same : k.0 ≡ report = (input_law setting_of TooManySteps).one_report sc k.0 report (None, rejected_sound sc tally rejection r, k.1) is in
       subst (λ (w : RunReport). TellsEvident sc.header w) same k.2.1
 
 -- a fault
@@ -146,10 +152,8 @@ pub fault_report : (bytes : List ℕ) (line : ℕ) (cause : Cause) (text : List 
 fault_report bytes line cause text faulty is = (Faulty line cause, (Some (line, cause), faulty, refl), told_fault (scan bytes).header line cause text is)
 
 -- the report of a run without a fault
-pub run_report : (bytes : List ℕ) (progress : Progress) (status : Status) (text : List ℕ) → Covers (scan bytes) progress → IsRunTold (scan bytes) status text → IsCertified bytes status text
-run_report bytes progress status text covers told =
-    let none : IsFaultOf (scan bytes) None = inr (covers_few (scan bytes) progress covers, sym (covers_sound (scan bytes) progress covers)) in
-    (told.0, (None, none, told.1), told.2)
+pub run_report : (bytes : List ℕ) (status : Status) (text : List ℕ) → IsFaultOf (scan bytes) None → IsRunTold (scan bytes) status text → IsCertified bytes status text
+run_report bytes status text none told = (told.0, (None, none, told.1), told.2)
 
 -- ---- an accepted input
 

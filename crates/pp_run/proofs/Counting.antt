@@ -1,44 +1,42 @@
 -- How far the counter of operations rises, line by line.
 use Rattle.std.specs.Prelude.{◌≡◌, ◌≤◌, ◌<◌, ◌+◌, ℕ, zero, suc, true, false, List, [], ◌∷◌}
-use Rattle.std.specs.Prelude.{◌++◌, length, filter, take, Option, None, Some, Result, Ok, Err}
-use Rattle.std.proofs.Common.{refl, sym, ap, ◌∙◌, subst, arith, length-append}
+use Rattle.std.specs.Prelude.{◌++◌, length, take, Option, None, Some, Result, Ok, Err}
+use Rattle.std.proofs.Common.{refl, sym, ap, ◌∙◌, subst, arith}
 use Rattle.std.proofs.lemmas.List.{append-nil, take_all}
-use Rattle.std.proofs.lemmas.List.Elements.{filter-append}
 use mathlib.Core.Logic.{inl, inr}
 use Rattle.pp_core.specs.declared.answer.OutOfMemory.{OutOfMemory}
 use Rattle.pp_core.specs.declared.call.Kind.{Kind}
-use Rattle.pp_core.specs.Steps.{Step, Begin, App, Unapp, Push, Unpush, Pull, Unpull, Cmt, Quit}
-use Rattle.pp_core.specs.Steps.{Note}
+use Rattle.pp_core.specs.Steps.{Step}
 use Rattle.pp_front.specs.Records.{RunRecord}
 use Rattle.pp_front.specs.Runs.{EndsAtFailure, IsRun, Lined, LinedSteps, Records}
 use Rattle.pp_front.specs.Runs.{after_records, bare, joined_steps, outset}
-use Rattle.pp_front.proofs.Ends.{bare_append, length_bare}
+use Rattle.pp_front.proofs.Ends.{bare_append}
 use Rattle.pp_front.proofs.Reading.{reading_law}
-use Rattle.pp_front.proofs.Whole.{extends_law, joined_more, one_run_law, unbegun}
+use Rattle.pp_front.proofs.Whole.{joined_more, one_run_law}
 use Rattle.pp_io.specs.Lines.{NumberedLine, blank}
 use Rattle.pp_json.specs.declared.fault.RecordFault.{RecordFault}
 use Rattle.pp_json.specs.declared.header.Header.{Header}
 use Rattle.pp_json.specs.Headers.{header_of}
 use Rattle.pp_json.specs.Records.{record_of}
-use Rattle.pp_model.specs.Config.{Config, Start, after_from, but_last, first, then}
+use Rattle.pp_model.specs.Config.{Config, Start, but_last, first, then}
 use Rattle.pp_model.specs.Object.{Object}
 use Rattle.pp_object.specs.Objects.{place_of}
 use Rattle.pp_object.specs.declared.act.Op.{Op}
 use Rattle.pp_report.specs.declared.cause.Cause.{Cause}
-use Rattle.pp_rules.specs.Costs.{CostsInVain, at_most, step_ticks}
+use Rattle.pp_rules.specs.Costs.{at_most}
 use Rattle.pp_rules.specs.Machines.{Seen}
+use Rattle.pp_styles.specs.Costs.{most_ticks, singles}
 use Rattle.pp_run.specs.Causes.{cause_of}
-use Rattle.pp_run.specs.Costs.{OfRun, StepsCostAtMost, is_single, most_ticks, singles}
-use Rattle.pp_run.specs.Costs.{start_at_most, start_behind, steps_at_most}
+use Rattle.pp_run.specs.Costs.{OfRun, StepsCostAtMost, start_at_most, start_behind, steps_at_most}
 use Rattle.pp_run.specs.Objects.{object_of, start_of, translation_of}
 use Rattle.pp_run.specs.Progresses.{Counts, Covers, IsRejected, IsRunning, header_at_most}
 use Rattle.pp_run.specs.Progresses.{is_too_many, standing_of, steps_done, with_blank, with_record}
-use Rattle.pp_run.specs.Scans.{InputScan, nothing, scan_line, with_fault, with_header, with_step}
+use Rattle.pp_run.specs.Scans.{InputScan, nothing, scan_line, with_fault, with_header, with_next}
 use Rattle.pp_run.specs.declared.progress.Progress.{Progress}
 use Rattle.pp_run.specs.declared.progress.Progress.TheVariants.{Waiting, Running, Rejected}
 use Rattle.pp_run.specs.declared.progress.Rejection.{Rejection}
 use Rattle.pp_run.specs.declared.progress.Tally.{Tally}
-use Rattle.pp_run.proofs.Covering.{config_is, covers_sound, on_record, scan_step}
+use Rattle.pp_run.proofs.Covering.{covers_sound, on_record, scan_next}
 use Rattle.pp_run.proofs.Scanning.{scan_blank, scan_header}
 
 -- ---- numbers
@@ -49,100 +47,37 @@ nothing_less n = omega arith
 same_le : (n : ℕ) → n ≤ n
 same_le n = omega arith
 
-add_le : (a b c : ℕ) → b ≤ c → a + b ≤ a + c
+pub add_le : (a b c : ℕ) → b ≤ c → a + b ≤ a + c
 add_le a b c h = omega (arith, h)
-
-zero_plus : (a : ℕ) → a ≡ 0 + a
-zero_plus a = omega arith
 
 plus_zero : (a : ℕ) → a ≡ a + 0
 plus_zero a = omega arith
 
-plus_more : (a b d : ℕ) → a + (b + d) ≡ (a + b) + d
+pub plus_more : (a b d : ℕ) → a + (b + d) ≡ (a + b) + d
 plus_more a b d = omega arith
 
-up_more : (old new a b : ℕ) → new ≤ old + a → a ≤ b → new ≤ old + b
+pub up_more : (old new a b : ℕ) → new ≤ old + a → a ≤ b → new ≤ old + b
 up_more old new a b x y = omega (arith, x, y)
-
--- a bound, and one step more
-one_more_most : (old now new m m1 k k1 w : ℕ) → new ≤ now + w → now ≤ old + k → k ≡ m → k1 ≡ m1 → m1 ≡ m + (w + 0) → new ≤ old + k1
-one_more_most old now new m m1 k k1 w a b c d e = omega (arith, a, b, c, d, e)
-
-one_more_least : (old now new a b k : ℕ) → old + a ≤ now → now + b ≤ new → k ≡ a + b → old + k ≤ new
-one_more_least old now new a b k x y z = omega (arith, x, y, z)
 
 -- ---- steps
 
-most_append : (c : Config Op) (xs ys : List (Step Op)) → most_ticks c (xs ++ ys) ≡ most_ticks c xs + most_ticks (after_from c xs) ys
-most_append c [] ys = zero_plus (most_ticks c ys)
-most_append c (x ∷ xs) ys =
-    ap (λ (k : ℕ). at_most place_of c x + k) (most_append (then c x) xs ys)
-    ∙ plus_more (at_most place_of c x) (most_ticks (then c x) xs) (most_ticks (after_from (then c x) xs) ys)
-
 -- where the steps are not too many, all of them cost
-few_steps : (start : Option (Start Op)) (xs : List (Step Op)) → length xs ≤ 200_000 → steps_at_most start xs ≡ start_at_most start + most_ticks (first start) xs
-few_steps start xs few = ap (λ (l : List (Step Op)). start_at_most start + most_ticks (first start) l) (take_all 200_000 xs few)
+pub few_steps : (start : Option (Start Op)) (xs : List (Step Op)) → length xs ≤ 200_000 → steps_at_most start xs ≡ start_at_most start + most_ticks place_of (first start) xs
+few_steps start xs few = ap (λ (l : List (Step Op)). start_at_most start + most_ticks place_of (first start) l) (take_all 200_000 xs few)
 
 -- the first steps of a list cost no more than those of a longer one
-most_front : (k : ℕ) (c : Config Op) (xs ys : List (Step Op)) → most_ticks c (take k xs) ≤ most_ticks c (take k (xs ++ ys))
-most_front zero c xs ys = nothing_less (most_ticks c (take zero (xs ++ ys)))
-most_front (suc k) c [] ys = nothing_less (most_ticks c (take (suc k) ys))
-most_front (suc k) c (x ∷ xs) ys = add_le (at_most place_of c x) (most_ticks (then c x) (take k xs)) (most_ticks (then c x) (take k (xs ++ ys))) (most_front k (then c x) xs ys)
+pub most_front : (k : ℕ) (c : Config Op) (xs ys : List (Step Op)) → most_ticks place_of c (take k xs) ≤ most_ticks place_of c (take k (xs ++ ys))
+most_front zero c xs ys = nothing_less (most_ticks place_of c (take zero (xs ++ ys)))
+most_front (suc k) c [] ys = nothing_less (most_ticks place_of c (take (suc k) ys))
+most_front (suc k) c (x ∷ xs) ys =
+    add_le (at_most place_of c x) (most_ticks place_of (then c x) (take k xs)) (most_ticks place_of (then c x) (take k (xs ++ ys))) (most_front k (then c x) xs ys)
 
 -- of a run without a step the start is all that costs
 no_steps : (start : Option (Start Op)) → steps_at_most start [] ≡ start_at_most start
 no_steps start = few_steps start [] (nothing_less 200_000) ∙ sym (plus_zero (start_at_most start))
 
-singles_append : (xs ys : List (Step Op)) → singles (xs ++ ys) ≡ singles xs + singles ys
-singles_append xs ys = ap (λ (l : List (Step Op)). length l) (filter-append is_single xs ys) ∙ length-append (filter is_single xs) (filter is_single ys)
-
-but_last_end : (xs : List (Step Op)) (x : Step Op) → but_last (xs ++ x ∷ []) ≡ xs
-but_last_end [] x = refl
-but_last_end (y ∷ []) x = refl
-but_last_end (y ∷ z ∷ ys) x = ap (λ (l : List (Step Op)). y ∷ l) (but_last_end (z ∷ ys) x)
-
-done_more : (next : Progress) (xs : List (Step Op)) (step : Step Op) → singles (steps_done next (xs ++ step ∷ [])) ≡ singles xs + singles (steps_done next (step ∷ []))
-done_more (Waiting lines) xs step = singles_append xs (step ∷ [])
-done_more (Running tally machine) xs step = singles_append xs (step ∷ [])
-done_more (Rejected tally rejection) xs step = ap singles (but_last_end xs step) ∙ plus_zero (singles xs)
-
--- a step that is done costs one at least where it is single
-single_cost : (c : Config Op) (step : Step Op) → singles (step ∷ []) ≤ step_ticks place_of c step
-single_cost c (Begin t p b) = same_le 0
-single_cost c (App t id op) = same_le 1
-single_cost c (Unapp t id) = same_le 1
-single_cost c (Push t id) = same_le 1
-single_cost c (Unpush t id) = nothing_less (step_ticks place_of c (Unpush t id))
-single_cost c (Pull t id) = same_le 1
-single_cost c (Unpull t id) = nothing_less (step_ticks place_of c (Unpull t id))
-single_cost c (Cmt t) = same_le 0
-single_cost c (Quit t) = same_le 0
-single_cost c (Note t) = same_le 0
-
-raised : (old new a b : ℕ) → a ≤ b → new ≡ old + b → old + a ≤ new
-raised old new a b x y = omega (arith, x, y)
-
-pub done_least : (c : Config Op) (step : Step Op) (old new : ℕ) → new ≡ old + step_ticks place_of c step → old + singles (step ∷ []) ≤ new
-done_least c step old new cost = raised old new (singles (step ∷ [])) (step_ticks place_of c step) (single_cost c step) cost
-
 stood : (old new : ℕ) → new ≡ old → old + 0 ≤ new
 stood old new e = omega (arith, e)
-
-rose : (old new : ℕ) → old ≤ new → old + 0 ≤ new
-rose old new e = omega (arith, e)
-
--- one that is not done takes no tick back
-pub vain_least : (c : Config Op) (step : Step Op) (old new : ℕ) → CostsInVain place_of c step old new → old + 0 ≤ new
-vain_least c (Begin t p b) old new cost = stood old new cost
-vain_least c (App t id op) old new cost = stood old new cost
-vain_least c (Unapp t id) old new cost = stood old new cost
-vain_least c (Push t id) old new cost = stood old new cost
-vain_least c (Unpush t id) old new cost = rose old new cost.0
-vain_least c (Pull t id) old new cost = stood old new cost
-vain_least c (Unpull t id) old new cost = rose old new cost.0
-vain_least c (Cmt t) old new cost = stood old new cost
-vain_least c (Quit t) old new cost = stood old new cost
-vain_least c (Note t) old new cost = stood old new cost
 
 -- ---- runs
 
@@ -165,20 +100,16 @@ run_front h records more run (inr e) =
     (subst (λ (w : LinedSteps Op). EndsAtFailure (object_of h) (first (start_of h)) w run) (joined_more (object_of h) T p records more) e.1) in
     (k.0, k.1, inr (e.0, k.2), k.3)
 
-one_step : {A State : Type 0} (O : Object A State) (c : Config A) (s : Lined (Step A)) (run : LinedSteps A) → EndsAtFailure O c (s ∷ []) run → run ≡ s ∷ []
-one_step O c s run (inl e) = e.2
-one_step {A} O c s run (inr e) = e.1.2 ∙ ap (λ (w : LinedSteps A). s ∷ w) e.1.1
-
 empty_run : (h : Header) (run : LinedSteps Op) → IsRun (object_of h) (translation_of h) (start_of h) [] run → run ≡ []
 empty_run h run (inl e) = e.2
 empty_run h run (inr e) = e.1
 
 -- ---- more records
 
-abbrev Most : ℕ → ℕ → Option (Start Op) → List (Step Op) → Type 0
+abbrev pub Most : ℕ → ℕ → Option (Start Op) → List (Step Op) → Type 0
 Most old new start steps = new ≤ old + steps_at_most start steps
 
-abbrev Least : Progress → ℕ → ℕ → Option (Start Op) → List (Step Op) → Type 0
+abbrev pub Least : Progress → ℕ → ℕ → Option (Start Op) → List (Step Op) → Type 0
 Least p old new start steps = old + singles (steps_done p steps) ≤ new
 
 most_wider : (sc wider : InputScan) (more : Records (RunRecord Op)) (old new : ℕ) → (o : Option (Lined Header)) → sc.header ≡ o
@@ -194,7 +125,7 @@ most_wider sc wider more old new (Some h) is headers records most =
     let f = run_front h.what sc.records more run (subst (λ (w : Records (RunRecord Op)). IsRun (object_of h.what) (translation_of h.what) s w run) records r) in
     let here : new ≤ old + steps_at_most s (bare f.0) = subst (λ (w : Option (Lined Header)). OfRun w sc.records (Most old new)) is most f.0 f.2 in
     let wide : steps_at_most s (bare f.0) ≤ steps_at_most s (bare f.0 ++ bare f.1) =
-    add_le (start_at_most s) (most_ticks (first s) (take 200_000 (bare f.0))) (most_ticks (first s) (take 200_000 (bare f.0 ++ bare f.1))) (most_front 200_000 (first s) (bare f.0) (bare f.1)) in
+    add_le (start_at_most s) (most_ticks place_of (first s) (take 200_000 (bare f.0))) (most_ticks place_of (first s) (take 200_000 (bare f.0 ++ bare f.1))) (most_front 200_000 (first s) (bare f.0) (bare f.1)) in
     let all : bare run ≡ bare f.0 ++ bare f.1 = ap (λ (w : LinedSteps Op). bare w) f.3 ∙ bare_append f.0 f.1 in
     up_more old new (steps_at_most s (bare f.0)) (steps_at_most s (bare run)) here (subst (λ (w : List (Step Op)). steps_at_most s (bare f.0) ≤ steps_at_most s w) (sym all) wide))
 
@@ -202,97 +133,38 @@ pub most_widens : (sc wider : InputScan) (more : Records (RunRecord Op)) (old ne
     → ((h : Lined Header) → sc.header ≡ Some h → wider.header ≡ Some h) → wider.records ≡ sc.records ++ more → StepsCostAtMost sc old new → StepsCostAtMost wider old new
 most_widens sc wider more old new headers records most = most_wider sc wider more old new sc.header refl headers records most
 
--- ---- one step more
+-- ---- the run so far
 
 module _ (sc : InputScan) (tally : Tally) (machine : Seen (List Kind) Op) (r : IsRunning sc tally machine) where
   abbrev pub run_so_far : LinedSteps Op
   run_so_far = joined_steps (translation_of tally.header) (outset (translation_of tally.header) (start_of tally.header)) sc.records
 
   pub is_run_so_far : IsRun (object_of tally.header) (translation_of tally.header) (start_of tally.header) sc.records run_so_far
-  is_run_so_far = ((reading_law (object_of tally.header) (translation_of tally.header)).end (start_of tally.header) sc.records (standing_of tally machine) machine.count r.stands).0
-
-  module _ (line : ℕ) (step : Step Op) where
-    step_run : (run : LinedSteps Op) → IsRun (object_of tally.header) (translation_of tally.header) (start_of tally.header) (sc.records ++ on_record line step ∷ []) run
-        → bare run ≡ bare run_so_far ++ step ∷ []
-    step_run run (inl e) = absurd (unbegun (object_of tally.header) (start_of tally.header) e.0 r.stands.begun e.1)
-    step_run run (inr e) =
-        let O = object_of tally.header in
-        let T = translation_of tally.header in
-        let p = outset T (start_of tally.header) in
-        let one : Lined (Step Op) = record { line = line; what = step } in
-        let k = ((extends_law O T).run p sc.records (on_record line step ∷ []) run r.stands.hold).0 e.1 in
-        let last : k.0 ≡ one ∷ [] = one_step O (after_records T p sc.records).config one k.0 k.1 in
-        ap (λ (w : LinedSteps Op). bare w) (k.2 ∙ ap (λ (w : LinedSteps Op). run_so_far ++ w) last) ∙ bare_append run_so_far (one ∷ [])
-
-    most_step : (old now new : ℕ) → machine.count < 200_000 → StepsCostAtMost sc old now → new ≤ now + at_most place_of machine.config step → StepsCostAtMost (with_step sc line step) old new
-    most_step old now new few most cost =
-        subst (λ (w : Option (Lined Header)). OfRun w (with_step sc line step).records (Most old new)) (sym r.follows.header) (λ run is.
-        let s = start_of tally.header in
-        let c = first s in
-        let xs : List (Step Op) = bare run_so_far in
-        let ys : List (Step Op) = xs ++ step ∷ [] in
-        let size : length xs ≡ machine.count = length_bare run_so_far ∙ sym r.stands.number in
-        let here : now ≤ old + steps_at_most s xs = subst (λ (w : Option (Lined Header)). OfRun w sc.records (Most old now)) r.follows.header most run_so_far is_run_so_far in
-        let z : ℕ = start_at_most s in
-        let all : steps_at_most s xs ≡ z + most_ticks c xs = few_steps s xs (omega (arith, size, few)) in
-        let all' : steps_at_most s ys ≡ z + most_ticks c ys = few_steps s ys (omega (arith, size, few, length-append xs (step ∷ []))) in
-        let parts : most_ticks c ys ≡ most_ticks c xs + (at_most place_of (after_from c xs) step + 0) = most_append c xs (step ∷ []) in
-        let there : after_from c xs ≡ machine.config = sym (config_is sc tally machine r) in
-        let parts' : most_ticks c ys ≡ most_ticks c xs + (at_most place_of machine.config step + 0) = parts ∙ ap (λ (w : Config Op). most_ticks c xs + (at_most place_of w step + 0)) there in
-        let sum : z + most_ticks c ys ≡ (z + most_ticks c xs) + (at_most place_of machine.config step + 0) =
-        ap (λ (k : ℕ). z + k) parts' ∙ plus_more z (most_ticks c xs) (at_most place_of machine.config step + 0) in
-        let bound : new ≤ old + steps_at_most s ys =
-        one_more_most old now new (z + most_ticks c xs) (z + most_ticks c ys) (steps_at_most s xs) (steps_at_most s ys) (at_most place_of machine.config step) cost here all all' sum in
-        subst (λ (w : List (Step Op)). new ≤ old + steps_at_most s w) (sym (step_run run is)) bound)
-
-    least_step : (next : Progress) (old now new : ℕ) → OfRun sc.header sc.records (Least (Running tally machine) old now) → now + singles (steps_done next (step ∷ [])) ≤ new
-        → OfRun (with_step sc line step).header (with_step sc line step).records (Least next old new)
-    least_step next old now new least cost =
-        subst (λ (w : Option (Lined Header)). OfRun w (with_step sc line step).records (Least next old new)) (sym r.follows.header) (λ run is.
-        let xs : List (Step Op) = bare run_so_far in
-        let here : old + singles xs ≤ now = subst (λ (w : Option (Lined Header)). OfRun w sc.records (Least (Running tally machine) old now)) r.follows.header least run_so_far is_run_so_far in
-        subst (λ (w : List (Step Op)). old + singles (steps_done next w) ≤ new) (sym (step_run run is))
-        (one_more_least old now new (singles xs) (singles (steps_done next (step ∷ []))) (singles (steps_done next (xs ++ step ∷ []))) here cost (done_more next xs step)))
-
--- a record is taken as a step, or memory is refused at it
-pub most_taken : (sc : InputScan) (tally : Tally) (machine : Seen (List Kind) Op) (line : NumberedLine) (step : Step Op) (old now new : ℕ) → IsRunning sc tally machine → machine.count < 200_000 → blank line.1 ≡ false
-    → record_of tally.header line.1 ≡ Ok step → is_too_many tally step ≡ false → StepsCostAtMost sc old now → new ≤ now + at_most place_of machine.config step → StepsCostAtMost (scan_line sc line) old new
-most_taken sc tally machine line step old now new r few other read begun most cost =
-    subst (λ (s : InputScan). StepsCostAtMost s old new) (sym (scan_step sc tally r.follows line other step read begun)) (most_step sc tally machine r line.0 step old now new few most cost)
-
-pub counts_step : (sc : InputScan) (tally : Tally) (machine : Seen (List Kind) Op) (line : NumberedLine) (step : Step Op) (next : Progress) (old now new : ℕ) → IsRunning sc tally machine → machine.count < 200_000 → blank line.1 ≡ false
-    → record_of tally.header line.1 ≡ Ok step → is_too_many tally step ≡ false → Counts sc (Running tally machine) old now → new ≤ now + at_most place_of machine.config step
-    → now + singles (steps_done next (step ∷ [])) ≤ new → Counts (scan_line sc line) next old new
-counts_step sc tally machine line step next old now new r few other read begun counts most least =
-    let more : Counts (with_step sc line.0 step) next old new = record {
-      most = most_step sc tally machine r line.0 step old now new few counts.most most;
-      least = least_step sc tally machine r line.0 step next old now new counts.least least;
-    } in
-    subst (λ (s : InputScan). Counts s next old new) (sym (scan_step sc tally r.follows line other step read begun)) more
+  is_run_so_far = ((reading_law (object_of tally.header) (translation_of tally.header)).end (start_of tally.header) sc.records (standing_of r.state machine) machine.count r.stands).0
 
 -- a record behind a rejection
-pub counts_rejected : (sc : InputScan) (tally : Tally) (rejection : Rejection) (line : NumberedLine) (step : Step Op) (old now : ℕ) → IsRejected sc tally rejection → blank line.1 ≡ false
-    → record_of tally.header line.1 ≡ Ok step → is_too_many tally step ≡ false → Counts sc (Rejected tally rejection) old now → Counts (scan_line sc line) (Rejected (with_record tally step) rejection) old now
-counts_rejected sc tally rejection line step old now c other read begun counts =
+pub counts_rejected : (sc : InputScan) (tally : Tally) (rejection : Rejection) (line : NumberedLine) (r : RunRecord Op) (old now : ℕ) → IsRejected sc tally rejection → blank line.1 ≡ false
+    → record_of tally.header line.1 ≡ Ok r → is_too_many tally r ≡ false → Counts sc (Rejected tally rejection) old now → Counts (scan_line sc line) (Rejected (with_record tally r) rejection) old now
+counts_rejected sc tally rejection line r old now c other read begun counts =
     let h = tally.header in
     let e = c.ends in
-    let next : Progress = Rejected (with_record tally step) rejection in
-    let wider : InputScan = with_step sc line.0 step in
+    let next : Progress = Rejected (with_record tally r) rejection in
+    let wider : InputScan = with_next sc line.0 r in
     let here : IsRun (object_of h) (translation_of h) (start_of h) sc.records e.run = subst (λ (w : Records (RunRecord Op)). IsRun (object_of h) (translation_of h) (start_of h) w e.run) (append-nil sc.records) (e.stays []).run_is in
     let least : old + singles (but_last (bare e.run)) ≤ now = subst (λ (w : Option (Lined Header)). OfRun w sc.records (Least (Rejected tally rejection) old now)) c.follows.header counts.least e.run here in
     let more : Counts wider next old now = record {
-      most = most_widens sc wider (on_record line.0 step ∷ []) old now (λ o is. is) refl counts.most;
+      most = most_widens sc wider (on_record line.0 r ∷ []) old now (λ o is. is) refl counts.most;
       least = subst (λ (w : Option (Lined Header)). OfRun w wider.records (Least next old now)) (sym c.follows.header) (λ run is.
-          let same : e.run ≡ run = (one_run_law (object_of h) (translation_of h)).run (start_of h) wider.records e.run run (e.stays (on_record line.0 step ∷ [])).run_is is in
+          let same : e.run ≡ run = (one_run_law (object_of h) (translation_of h)).run (start_of h) wider.records e.run run (e.stays (on_record line.0 r ∷ [])).run_is is in
           subst (λ (w : LinedSteps Op). old + singles (but_last (bare w)) ≤ now) same least);
     } in
-    subst (λ (s : InputScan). Counts s next old now) (sym (scan_step sc tally c.follows line other step read begun)) more
+    subst (λ (s : InputScan). Counts s next old now) (sym (scan_next sc tally c.follows line other r read begun)) more
 
 -- ---- other lines
 
 blank_counts : (sc : InputScan) (p : Progress) (old now : ℕ) → Counts sc p old now → Counts sc (with_blank p) old now
 blank_counts sc (Waiting lines) old now k = record { most = k.most; least = k.least }
-blank_counts sc (Running tally machine) old now k = record { most = k.most; least = k.least }
+blank_counts sc (Running tally front machine) old now k = record { most = k.most; least = k.least }
 blank_counts sc (Rejected tally rejection) old now k = record { most = k.most; least = k.least }
 
 pub counts_blank : (sc : InputScan) (line : NumberedLine) (p : Progress) (old now : ℕ) → blank line.1 ≡ true → Covers sc p → Counts sc p old now → Counts (scan_line sc line) (with_blank p) old now
@@ -314,7 +186,7 @@ nothing_most old now most = subst (λ (k : ℕ). now ≤ old + k) (no_steps None
 -- no step is done where there is none
 none_done : (next : Progress) → singles (steps_done next []) ≡ 0
 none_done (Waiting lines) = refl
-none_done (Running tally machine) = refl
+none_done (Running tally front machine) = refl
 none_done (Rejected tally rejection) = refl
 
 -- what the start costs, where the header was read

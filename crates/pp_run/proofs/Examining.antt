@@ -18,7 +18,7 @@ use Rattle.pp_run.specs.Costs.{StepsCostAtMost}
 use Rattle.pp_run.specs.Findings.{Finds, StepsCounted, finding_of}
 use Rattle.pp_run.specs.Inputs.{IsFaultOf, ReadsNoFault, early_scan, limit_fault, no_header, scan}
 use Rattle.pp_run.specs.Objects.{setting_of}
-use Rattle.pp_run.specs.Progresses.{Counts, Covers, Leads, lines_of, run_reading}
+use Rattle.pp_run.specs.Progresses.{Counts, Covers, IsRunning, Leads, lines_of, run_reading}
 use Rattle.pp_run.specs.Scans.{InputScan, scan_line, scan_lines}
 use Rattle.pp_run.specs.Takers.{HasFaultBehind, HasInputFault, IfFault, IsNext, LeadsOn, ReadsAll}
 use Rattle.pp_run.specs.Takers.{CountsTo, ReadsSoFar, StopsAt, StopsWith}
@@ -143,9 +143,10 @@ finds first now old new (Waiting lines) end (taken, read, none, leads) = λ byte
     let all = taken_all old new taken bytes read end is in
     subst (λ bs. IsFaultOf (scan bs) (Some (lines + 1, NoHeader))) all
     (no_header_fault taken none (Waiting lines) first now leads (ap (λ (s : InputScan). s.header) leads.covers))
-finds first now old new (Running tally machine) end (taken, read, none, leads) =
-    let is = scan_is taken none (Running tally machine) first now leads (record { line = leads.covers.follows.at; what = tally.header }) leads.covers.follows.header in
-    (taken, read, end, subst (λ (s : InputScan). Covers s (Running tally machine)) (sym is) leads.covers)
+finds first now old new (Running tally front machine) end (taken, read, none, leads) =
+    let run = leads.covers.run in
+    let is = scan_is taken none (Running tally front machine) first now leads (record { line = run.follows.at; what = tally.header }) run.follows.header in
+    (taken, read, end, subst (λ (s : InputScan). IsRunning s tally machine) (sym is) run)
 finds first now old new (Rejected tally rejection) end (taken, read, none, leads) =
     let is = scan_is taken none (Rejected tally rejection) first now leads (record { line = leads.covers.follows.at; what = tally.header }) leads.covers.follows.header in
     (taken, read, end, subst (λ (s : InputScan). Covers s (Rejected tally rejection)) (sym is) leads.covers)
@@ -162,7 +163,7 @@ steps_cost first new bytes (front, back, is, taken) =
 -- where all lines were taken
 pub steps_counted : (first new : ℕ) (bytes : List ℕ) (progress : Progress) → Leads (scanned_lines bytes) progress first new → StepsCounted (scan bytes) (finding_of progress) first new
 steps_counted first new bytes (Waiting lines) leads = tt
-steps_counted first new bytes (Running tally machine) leads = leads.counts.least
+steps_counted first new bytes (Running tally front machine) leads = leads.counts.least
 steps_counted first new bytes (Rejected tally rejection) leads = leads.counts.least
 
 pub finding_counted : (first now : ℕ) (old new : Option (List ℕ)) (bytes : List ℕ) (progress : Progress) → IsAtEnd new → old ≡ Some bytes → ReadsAll (run_reading first) old new (progress, now) → StepsCounted (scan bytes) (finding_of progress) first now

@@ -1,7 +1,10 @@
 pub mod Scanning
 pub mod Widening
 pub mod Covering
+pub mod Recorded
+pub mod Driving
 pub mod Counting
+pub mod RecordCosts
 pub mod Starting
 pub mod Takers
 pub mod Examining

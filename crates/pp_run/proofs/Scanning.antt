@@ -3,7 +3,6 @@ use Rattle.std.specs.Prelude.{◌≡◌, ℕ, ◌==◌, ◌&&◌, ◌||◌, true
 use Rattle.std.specs.Prelude.{is_some, cond, Option, None, Some, Result, Ok}
 use Rattle.std.proofs.Common.{refl, ap, ◌∙◌}
 use Rattle.pp_core.specs.declared.limits.TheConstants.{MOST_TRANSACTIONS}
-use Rattle.pp_core.specs.Steps.{Step}
 use Rattle.pp_object.specs.declared.act.Op.{Op}
 use Rattle.pp_io.specs.Lines.{NumberedLine, blank}
 use Rattle.pp_json.specs.declared.header.Header.{Header}
@@ -12,9 +11,10 @@ use Rattle.pp_json.specs.Headers.{header_of}
 use Rattle.pp_json.specs.Records.{record_of}
 use Rattle.pp_report.specs.declared.cause.Cause.{Cause}
 use Rattle.pp_report.specs.declared.cause.Cause.TheVariants.{TooManyTransactions}
+use Rattle.pp_front.specs.Records.{RunRecord}
 use Rattle.pp_front.specs.Runs.{Lined}
-use Rattle.pp_run.specs.Scans.{InputScan, begins, is_begin, nothing, read_line, scan_line}
-use Rattle.pp_run.specs.Scans.{scan_lines, with_header, with_record, with_step}
+use Rattle.pp_run.specs.Scans.{InputScan, begins, is_begin_record, nothing, read_line, scan_line}
+use Rattle.pp_run.specs.Scans.{scan_lines, with_header, with_next, with_record}
 
 fold_append : {A B : Type 0} (f : B → A → B) (b : B) (xs ys : List A) → fold f b (xs ++ ys) ≡ fold f (fold f b xs) ys
 fold_append f b [] ys = refl
@@ -43,15 +43,15 @@ pub scan_header : (sc : InputScan) (line : NumberedLine) (r : Result Header Reco
 scan_header sc line r sound none is read = scan_other sc line sound is ∙ rw (none, read) refl
 
 -- a record
-pub scan_record : (sc : InputScan) (header : Lined Header) (line : NumberedLine) (r : Result (Step Op) RecordFault) → sc.fault ≡ None → sc.header ≡ Some header → blank line.1 ≡ false → record_of header.what line.1 ≡ r → scan_line sc line ≡ with_record sc line.0 r
+pub scan_record : (sc : InputScan) (header : Lined Header) (line : NumberedLine) (r : Result (RunRecord Op) RecordFault) → sc.fault ≡ None → sc.header ≡ Some header → blank line.1 ≡ false → record_of header.what line.1 ≡ r → scan_line sc line ≡ with_record sc line.0 r
 scan_record sc header line r sound there is read = scan_other sc line sound is ∙ rw (there, read) refl
 
-pub step_taken : (sc : InputScan) (line : ℕ) (step : Step Op) → (is_begin step && begins sc.records == MOST_TRANSACTIONS) ≡ false → with_record sc line (Ok step) ≡ with_step sc line step
-step_taken sc line step few = rw few refl
+pub next_taken : (sc : InputScan) (line : ℕ) (r : RunRecord Op) → (is_begin_record r && begins sc.records == MOST_TRANSACTIONS) ≡ false → with_record sc line (Ok r) ≡ with_next sc line r
+next_taken sc line r few = rw few refl
 
 -- the same lines with this fault
 abbrev pub faulty_at : InputScan → ℕ × Cause → InputScan
 faulty_at sc x = record sc { fault = Some x }
 
-pub too_many : (sc : InputScan) (line : ℕ) (step : Step Op) → (is_begin step && begins sc.records == MOST_TRANSACTIONS) ≡ true → with_record sc line (Ok step) ≡ faulty_at sc (line, TooManyTransactions)
-too_many sc line step many = rw many refl
+pub too_many : (sc : InputScan) (line : ℕ) (r : RunRecord Op) → (is_begin_record r && begins sc.records == MOST_TRANSACTIONS) ≡ true → with_record sc line (Ok r) ≡ faulty_at sc (line, TooManyTransactions)
+too_many sc line r many = rw many refl

@@ -26,10 +26,11 @@ use Rattle.pp_rules.specs.declared.detail.Detail.{Detail}
 use Rattle.pp_rules.specs.declared.machine.Outcome.{Outcome}
 use Rattle.pp_rules.specs.declared.machine.Outcome.TheVariants.{Done, False}
 use Rattle.pp_spec.specs.Object.{rules_of}
+use Rattle.pp_styles.specs.declared.any_front.AnyFront.{AnyFront}
 use Rattle.pp_run.specs.Costs.{start_at_most}
 use Rattle.pp_run.specs.Objects.{start_of}
 use Rattle.pp_run.specs.Outputs.{detail_of_start}
-use Rattle.pp_run.specs.Progresses.{HasStarted, StartTaken}
+use Rattle.pp_run.specs.Progresses.{HasStarted, IsFirstFront, StartTaken}
 use Rattle.pp_run.specs.Rejected.{IsStartEvident}
 use Rattle.pp_run.specs.declared.progress.Progress.TheVariants.{Running, Rejected}
 use Rattle.pp_run.specs.declared.progress.Rejection.{Rejection}
@@ -99,8 +100,8 @@ module _ (header : Header) (machine : Seen (List Kind) Op) (new : machine ≡ ma
   start_bound z is old new bound = subst (λ (h : Option (Start Op)). new ≤ old + start_at_most h) (sym (one z is)) (twice_as_many old new (length z.ops) bound)
 
 -- the progress behind the line of a header
-pub started : (tally : Tally) (line : ℕ) (machine : Seen (List Kind) Op) → HasStarted tally.header Done machine → StartTaken tally line (Running tally machine)
-started tally line machine h = inl (h.0, ap (λ (m : Seen (List Kind) Op). Running tally m) h.1)
+pub started : (tally : Tally) (line : ℕ) (front : AnyFront) (machine : Seen (List Kind) Op) → IsFirstFront tally.header front → HasStarted tally.header Done machine → StartTaken tally line (Running tally front machine)
+started tally line front machine first_one h = inl (h.0, (front, first_one, ap (λ (m : Seen (List Kind) Op). Running tally front m) h.1))
 
 pub refused : (tally : Tally) (line n : ℕ) (detail : Detail Op) (machine : Seen (List Kind) Op) → HasStarted tally.header (False n detail) machine
     → StartTaken tally line (Rejected tally (record { step = 0; line = line; rule = rules.Start; criterion = n; detail = detail }))

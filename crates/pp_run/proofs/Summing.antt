@@ -12,8 +12,9 @@ use Rattle.pp_model.specs.Serial.{attempts}
 use Rattle.pp_model.specs.Sound.{serial_ops}
 use Rattle.pp_object.specs.declared.act.Op.{Op}
 use Rattle.pp_rules.specs.Machines.{Seen}
+use Rattle.pp_styles.specs.Costs.{singles}
 use Rattle.pp_run.specs.Costs.{CostsAtLeast, CostsAtMost, OfRun, StepsCostAtMost, serial_length}
-use Rattle.pp_run.specs.Costs.{singles, start_behind, steps_at_most}
+use Rattle.pp_run.specs.Costs.{start_behind, steps_at_most}
 use Rattle.pp_run.specs.Findings.{StepsCounted}
 use Rattle.pp_run.specs.Objects.{object_of, start_of, translation_of}
 use Rattle.pp_run.specs.Progresses.{IsRunning}

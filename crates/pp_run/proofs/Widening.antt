@@ -6,9 +6,8 @@ use Rattle.std.proofs.Common.{refl, sym, ap, subst, ◌∙◌, append_assoc}
 use Rattle.std.proofs.lemmas.List.{append-nil}
 use Rattle.pp_core.specs.declared.answer.OutOfMemory.{OutOfMemory}
 use Rattle.pp_core.specs.declared.limits.TheConstants.{MOST_TRANSACTIONS}
-use Rattle.pp_core.specs.Steps.{Step}
 use Rattle.pp_front.specs.Inputs.{Widens}
-use Rattle.pp_front.specs.Records.{RunRecord, Plain}
+use Rattle.pp_front.specs.Records.{RunRecord}
 use Rattle.pp_front.specs.Runs.{Lined, Records}
 use Rattle.pp_object.specs.declared.act.Op.{Op}
 use Rattle.pp_io.specs.Lines.{NumberedLine, blank}
@@ -20,8 +19,8 @@ use Rattle.pp_report.specs.declared.cause.Cause.{Cause}
 use Rattle.pp_report.specs.declared.cause.Cause.TheVariants.{TooManyTransactions}
 use Rattle.pp_run.specs.Causes.{cause_of}
 use Rattle.pp_run.specs.Inputs.{or_fault}
-use Rattle.pp_run.specs.Scans.{InputScan, begins, is_begin, read_line, scan_line, scan_lines}
-use Rattle.pp_run.specs.Scans.{with_fault, with_header, with_record, with_step}
+use Rattle.pp_run.specs.Scans.{InputScan, begins, is_begin_record, read_line, scan_line, scan_lines}
+use Rattle.pp_run.specs.Scans.{with_fault, with_header, with_next, with_record}
 use Rattle.pp_run.proofs.Scanning.{scan_append, skips}
 
 -- the second has the header of the first, if there is one, and its records before its own
@@ -50,16 +49,16 @@ extends_header sc line (Ok header) none =
 extends_header sc line (Err fault) none = extends_fault sc line (cause_of fault)
 
 -- a record
-extends_record : (sc : InputScan) (line : ℕ) (r : Result (Step Op) RecordFault) → Extends sc (with_record sc line r)
+extends_record : (sc : InputScan) (line : ℕ) (r : Result (RunRecord Op) RecordFault) → Extends sc (with_record sc line r)
 extends_record sc line (Err fault) = extends_fault sc line (cause_of fault)
-extends_record sc line (Ok step) = by (is_begin step && begins sc.records == MOST_TRANSACTIONS)
+extends_record sc line (Ok r) = by (is_begin_record r && begins sc.records == MOST_TRANSACTIONS)
   where
-    by : (b : Bool) → Extends sc (cond b (with_fault sc line (Ok TooManyTransactions)) (with_step sc line step))
+    by : (b : Bool) → Extends sc (cond b (with_fault sc line (Ok TooManyTransactions)) (with_next sc line r))
     by true = extends_fault sc line (Ok TooManyTransactions)
     by false =
         record {
           header = λ h is. is;
-          records = (record { line = line; what = Plain step } ∷ [], refl);
+          records = (record { line = line; what = r } ∷ [], refl);
         }
 
 extends_read : (sc : InputScan) (o : Option (Lined Header)) (line : NumberedLine) → sc.header ≡ o → Extends sc (read_line sc o line)

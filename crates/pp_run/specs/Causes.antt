@@ -24,5 +24,4 @@ cause_of faults.UnknownCall = Ok causes.UnknownCall
 cause_of faults.UnknownStep = Ok causes.UnknownStep
 cause_of faults.BodyBad = Ok causes.BodyBad
 cause_of faults.BodyTooLarge = Ok causes.BodyTooLarge
-cause_of faults.NotYet = Ok causes.NotYet
 cause_of faults.OutOfMemory = Err (record {})

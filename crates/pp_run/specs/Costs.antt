@@ -1,19 +1,17 @@
 -- Meaning: how far a command raises the counter of operations that are applied or taken back.
-use Rattle.std.specs.Prelude.{◌≡◌, ◌≤◌, ◌+◌, ◌*◌, ℕ, Bool, true, false, List, [], ◌∷◌, filter}
-use Rattle.std.specs.Prelude.{length, take, Option, None, Some}
+use Rattle.std.specs.Prelude.{◌≡◌, ◌≤◌, ◌+◌, ◌*◌, ℕ, List, [], length, take, Option, None, Some}
 use Rattle.pp_core.specs.declared.limits.TheConstants.{MOST_STEPS}
 use Rattle.pp_core.specs.declared.status.Status.{Status}
 use Rattle.pp_core.specs.declared.status.Status.TheVariants as statuses
-use Rattle.pp_core.specs.Steps.{Step, Begin, App, Unapp, Push, Unpush, Pull, Unpull, Cmt, Quit}
-use Rattle.pp_core.specs.Steps.{Note}
+use Rattle.pp_core.specs.Steps.{Step}
 use Rattle.pp_front.specs.Records.{RunRecord}
 use Rattle.pp_front.specs.Runs.{IsRun, Lined, LinedSteps, Records, bare}
 use Rattle.pp_json.specs.declared.header.Header.{Header}
-use Rattle.pp_model.specs.Config.{Config, Start, but_last, first, then}
+use Rattle.pp_model.specs.Config.{Start, but_last, first}
 use Rattle.pp_model.specs.Serial.{attempts, serial}
 use Rattle.pp_object.specs.Objects.{place_of}
 use Rattle.pp_object.specs.declared.act.Op.{Op}
-use Rattle.pp_rules.specs.Costs.{at_most}
+use Rattle.pp_styles.specs.Costs.{most_ticks, singles}
 use Rattle.pp_run.specs.Objects.{object_of, start_of, translation_of}
 use Rattle.pp_run.specs.Scans.{InputScan}
 
@@ -38,11 +36,6 @@ OfRun header records P = (run : LinedSteps Op) → IsRunBehind header records ru
 
 -- ---- the parts
 
--- what the steps cost at most, each in the configuration before it
-abbrev pub most_ticks : Config Op → List (Step Op) → ℕ
-most_ticks c [] = 0
-most_ticks c (step ∷ steps) = at_most place_of c step + most_ticks (then c step) steps
-
 -- what the start costs at most: two for each of its operations
 abbrev pub start_at_most : Option (Start Op) → ℕ
 start_at_most None = 0
@@ -50,24 +43,8 @@ start_at_most (Some z) = 2 * length z.items
 
 -- what the start and the first 200,000 steps of a run cost at most
 abbrev pub steps_at_most : Option (Start Op) → List (Step Op) → ℕ
-steps_at_most start steps = start_at_most start + most_ticks (first start) (take MOST_STEPS steps)
-
--- a step that applies or takes back one operation where it meets its criteria
-abbrev pub is_single : Step Op → Bool
-is_single (Begin t p b) = false
-is_single (App t id op) = true
-is_single (Unapp t id) = true
-is_single (Push t id) = true
-is_single (Unpush t id) = false
-is_single (Pull t id) = true
-is_single (Unpull t id) = false
-is_single (Cmt t) = false
-is_single (Quit t) = false
-is_single (Note t) = false
-
--- how many of the steps are such
-abbrev pub singles : List (Step Op) → ℕ
-singles steps = length (filter is_single steps)
+steps_at_most start steps =
+    start_at_most start + most_ticks place_of (first start) (take MOST_STEPS steps)
 
 -- how many operations the serial run of the steps has
 abbrev pub serial_length : Option (Start Op) → List (Step Op) → ℕ

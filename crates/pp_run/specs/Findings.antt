@@ -3,11 +3,12 @@ use Rattle.std.specs.Prelude.{ℕ, ◌+◌, ◌≤◌, List, Option, Some}
 use Rattle.std.specs.Io.KnownBytes.{Consumes, IsAtEnd}
 use Rattle.pp_model.specs.Config.{but_last}
 use Rattle.pp_report.specs.declared.cause.Cause.TheVariants.{NoHeader}
+use Rattle.pp_styles.specs.Costs.{singles}
 use Rattle.pp_run.specs.declared.examine.Finding.{Finding}
 use Rattle.pp_run.specs.declared.examine.Finding.TheVariants as findings
 use Rattle.pp_run.specs.declared.progress.Progress.{Progress}
 use Rattle.pp_run.specs.declared.progress.Progress.TheVariants as progresses
-use Rattle.pp_run.specs.Costs.{OfRun, singles}
+use Rattle.pp_run.specs.Costs.{OfRun}
 use Rattle.pp_run.specs.Inputs.{IsFaultOf, scan}
 use Rattle.pp_run.specs.Outputs.{WhereTold}
 use Rattle.pp_run.specs.Progresses.{IsRejected, IsRunning}
@@ -16,7 +17,7 @@ use Rattle.pp_run.specs.Scans.{InputScan}
 -- what is found where all lines lead to here: without a header there is a fault behind them
 abbrev pub finding_of : Progress → Finding
 finding_of (progresses.Waiting lines) = findings.Fault (lines + 1) NoHeader
-finding_of (progresses.Running tally machine) = findings.Accepted tally machine
+finding_of (progresses.Running tally front machine) = findings.Accepted tally machine
 finding_of (progresses.Rejected tally rejection) = findings.Rejected tally rejection
 
 -- the whole input was read, and this holds of its scan

@@ -1,47 +1,53 @@
 -- Proof machinery: where the examination of a run stands after some of its lines.
 use Rattle.std.specs.Prelude.{◌≡◌, ℕ, zero, suc, ◌+◌, ◌<◌, ◌≤◌, Bool, true, ◌==◌, ◌&&◌, ◌⊎◌, List}
-use Rattle.std.specs.Prelude.{◌++◌, length, slice_get, take, if◌then◌else◌, None, Some, Result, Ok}
-use Rattle.std.specs.Prelude.{Err}
+use Rattle.std.specs.Prelude.{[], ◌∷◌, ◌++◌, length, slice_get, take, if◌then◌else◌, None, Some}
+use Rattle.std.specs.Prelude.{Result, Ok, Err}
 use Rattle.pp_core.specs.declared.call.Kind.{Kind}
-use Rattle.pp_core.specs.declared.limits.TheConstants.{MOST_LINES, MOST_TRANSACTIONS}
+use Rattle.pp_core.specs.declared.limits.TheConstants.{MOST_LINES, MOST_STEPS}
+use Rattle.pp_core.specs.declared.limits.TheConstants.{MOST_TRANSACTIONS}
 use Rattle.pp_core.specs.declared.step.Rule.TheVariants as rules
 use Rattle.pp_core.specs.Steps.{Step, rule_of}
+use Rattle.pp_front.specs.Expansions.{expand, front_after}
 use Rattle.pp_front.specs.Fronts.{Front, new_front}
 use Rattle.pp_front.specs.Laws.{IsRejectedAt, StandsAt}
 use Rattle.pp_front.specs.Records.{RunRecord}
 use Rattle.pp_front.specs.Runs.{LinedSteps, Records, Standing, bare}
 use Rattle.pp_io.specs.Lines.{NumberedLine}
 use Rattle.pp_object.specs.declared.act.Op.{Op}
-use Rattle.pp_object.specs.Objects.{kinds_of, objects}
+use Rattle.pp_object.specs.Objects.{kinds_of, objects, place_of}
 use Rattle.pp_json.specs.declared.fault.RecordFault.{RecordFault}
 use Rattle.pp_json.specs.declared.header.Header.{Header}
 use Rattle.pp_model.specs.Config.{after, but_last, first}
-use Rattle.pp_model.specs.Rules.{Breaks, Meets, StartBreaks, StartMeets}
+use Rattle.pp_model.specs.Rules.{Breaks, StartBreaks, StartMeets}
 use Rattle.pp_run.specs.Causes.{cause_of}
 use Rattle.pp_report.specs.declared.cause.Cause.{Cause}
 use Rattle.pp_report.specs.declared.cause.Cause.TheVariants.{TooManyTransactions}
 use Rattle.pp_report.specs.Reports.{IsDetailNamed}
-use Rattle.pp_rules.specs.Machines.{Seen, stepped}
+use Rattle.pp_rules.specs.Machines.{Seen}
 use Rattle.pp_rules.specs.Evidence.{Fits, evidence}
 use Rattle.pp_rules.specs.declared.machine.Outcome.{Outcome}
 use Rattle.pp_rules.specs.declared.machine.Outcome.TheVariants.{Done, False}
 use Rattle.pp_spec.specs.Object.{rules_of}
+use Rattle.pp_styles.specs.AnyFronts.{any_state, any_style}
+use Rattle.pp_styles.specs.Costs.{singles}
+use Rattle.pp_styles.specs.Driving.{HasDone}
+use Rattle.pp_styles.specs.declared.any_front.AnyFront.{AnyFront}
 use Rattle.pp_run.specs.declared.progress.Progress.{Progress}
 use Rattle.pp_run.specs.declared.progress.Progress.TheVariants.{Waiting, Running, Rejected}
 use Rattle.pp_run.specs.declared.progress.Rejection.{Rejection}
 use Rattle.pp_run.specs.declared.progress.Tally.{Tally}
-use Rattle.pp_run.specs.Costs.{OfRun, StepsCostAtMost, singles, start_at_most}
+use Rattle.pp_run.specs.Costs.{OfRun, StepsCostAtMost, start_at_most}
 use Rattle.pp_run.specs.Inputs.{IsFaultOf}
 use Rattle.pp_run.specs.Objects.{object_of, start_of, translation_of}
 use Rattle.pp_run.specs.Outputs.{detail_of_start}
 use Rattle.pp_run.specs.Rejected.{IsStartEvident, IsStepEvident}
-use Rattle.pp_run.specs.Scans.{InputScan, nothing, begins, is_begin, scan_lines}
+use Rattle.pp_run.specs.Scans.{InputScan, nothing, begins, is_begin_record, scan_lines}
 use Rattle.pp_run.specs.Takers.{Reading}
 
 -- how many lines were taken
 abbrev pub lines_of : Progress → ℕ
 lines_of (Waiting lines) = lines
-lines_of (Running tally machine) = tally.lines
+lines_of (Running tally front machine) = tally.lines
 lines_of (Rejected tally rejection) = tally.lines
 
 -- one line more
@@ -49,16 +55,16 @@ abbrev pub with_line : Tally → Tally
 with_line tally = record tally { lines = tally.lines + 1 }
 
 -- one record more
-abbrev pub with_record : Tally → Step Op → Tally
-with_record tally step = record tally {
+abbrev pub with_record : Tally → RunRecord Op → Tally
+with_record tally r = record tally {
   lines = tally.lines + 1;
-  begins = if is_begin step then tally.begins + 1 else tally.begins;
+  begins = if is_begin_record r then tally.begins + 1 else tally.begins;
 }
 
 -- one blank line more
 abbrev pub with_blank : Progress → Progress
 with_blank (Waiting lines) = Waiting (lines + 1)
-with_blank (Running tally machine) = Running (with_line tally) machine
+with_blank (Running tally front machine) = Running (with_line tally) front machine
 with_blank (Rejected tally rejection) = Rejected (with_line tally) rejection
 
 -- the lines are a header and records, with no fault, and these are their counts
@@ -70,18 +76,25 @@ pub record IsTallied (sc : InputScan) (tally : Tally) : Type 0 where
   pub begun : tally.begins ≡ begins sc.records
   pub fewer : length sc.records < tally.lines
 
--- the configuration of the machine, and the state of the front, which no record changes so far
-abbrev pub standing_of : Tally → Seen (List Kind) Op → Standing Front Op
-standing_of tally machine =
-    record { front = new_front (kinds_of tally.header.catalog); config = machine.config }
+-- where the run stands: a state of its front, and the configuration of the machine
+abbrev pub standing_of : Front → Seen (List Kind) Op → Standing Front Op
+standing_of state machine = record { front = state; config = machine.config }
 
 -- each step so far meets its criteria, and the machine is where they lead
 pub record IsRunning (sc : InputScan) (tally : Tally) (machine : Seen (List Kind) Op) : Type 0 where
   pub follows : IsTallied sc tally
   pub shape : machine.shape ≡ kinds_of tally.header.catalog
+  -- what the records leave of the front
+  pub state : Front
   pub stands : StandsAt (object_of tally.header) (translation_of tally.header)
-      (start_of tally.header) sc.records (standing_of tally machine) machine.count
-  pub count : machine.count ≡ length sc.records
+      (start_of tally.header) sc.records (standing_of state machine) machine.count
+
+-- and the front is of the style, and keeps what the records leave
+pub record GoesOn (sc : InputScan) (tally : Tally) (front : AnyFront)
+    (machine : Seen (List Kind) Op) : Type 0 where
+  pub run : IsRunning sc tally machine
+  pub style : any_style front ≡ tally.header.style
+  pub kept : any_state (kinds_of tally.header.catalog) front ≡ run.state
 
 -- the rejection of a start, of which this is the first false criterion
 abbrev pub start_rejection : Header → ℕ → ℕ → Rejection
@@ -132,13 +145,13 @@ pub record IsRejected (sc : InputScan) (tally : Tally) (rejection : Rejection) :
 -- the lines so far, which are scanned so, lead to here
 abbrev pub Covers : InputScan → Progress → Type 0
 Covers sc (Waiting lines) = sc ≡ nothing
-Covers sc (Running tally machine) = IsRunning sc tally machine
+Covers sc (Running tally front machine) = GoesOn sc tally front machine
 Covers sc (Rejected tally rejection) = IsRejected sc tally rejection
 
 -- the steps of a run that meet their criteria, where its lines lead to here
 abbrev pub steps_done : Progress → List (Step Op) → List (Step Op)
 steps_done (Waiting lines) steps = steps
-steps_done (Running tally machine) steps = steps
+steps_done (Running tally front machine) steps = steps
 steps_done (Rejected tally rejection) steps = but_last steps
 
 -- the steps so far raised the counter, and each by what it costs
@@ -164,13 +177,13 @@ run_reading old = record {
 }
 
 -- a record that may not begin another transaction
-abbrev pub is_too_many : Tally → Step Op → Bool
-is_too_many tally step = is_begin step && tally.begins == MOST_TRANSACTIONS
+abbrev pub is_too_many : Tally → RunRecord Op → Bool
+is_too_many tally r = is_begin_record r && tally.begins == MOST_TRANSACTIONS
 
 -- why a record is not taken: it can not be read, or it begins too many transactions
-abbrev pub IsRefused : Tally → Result (Step Op) RecordFault → Cause → Type 0
+abbrev pub IsRefused : Tally → Result (RunRecord Op) RecordFault → Cause → Type 0
 IsRefused tally (Err fault) cause = cause_of fault ≡ Ok cause
-IsRefused tally (Ok step) cause = (is_too_many tally step ≡ true) × (cause ≡ TooManyTransactions)
+IsRefused tally (Ok r) cause = (is_too_many tally r ≡ true) × (cause ≡ TooManyTransactions)
 
 -- the rejection of a step, of which this is the first false criterion
 abbrev pub rejection_of : Seen (List Kind) Op → Step Op → ℕ → ℕ → Rejection
@@ -202,28 +215,68 @@ abbrev pub header_at_most : Result Header RecordFault → ℕ
 header_at_most (Ok header) = start_at_most (start_of header)
 header_at_most (Err fault) = 0
 
+-- a front of the style of a header, which keeps nothing yet
+abbrev pub IsFirstFront : Header → AnyFront → Type 0
+IsFirstFront header front =
+    let kinds = kinds_of header.catalog in
+    (any_style front ≡ header.style) × (any_state kinds front ≡ new_front kinds)
+
 -- a start is taken, if there is one: it meets its criteria, or it does not
 abbrev pub StartTaken : Tally → ℕ → Progress → Type 0
 StartTaken tally line next =
     let header = tally.header in
     let kinds = kinds_of header.catalog in
     (StartMeets (object_of header) (start_of header)
-    × (next ≡ Running tally (record {
+    × ((front : AnyFront) × IsFirstFront header front × (next ≡ Running tally front (record {
       shape = kinds;
       config = first (start_of header);
       count = 0;
-    })))
+    }))))
     ⊎ ((n : ℕ) × (0 < n) × StartBreaks (object_of header) (start_of header) n
     × (next ≡ Rejected tally (start_rejection header line n))
     × Fits objects kinds (detail_of_start kinds (start_of header) n)
     × IsStartEvident kinds (start_of header) n)
 
--- a step is taken: it meets its criteria, or it is the first that does not
-abbrev pub StepTaken : Tally → Seen (List Kind) Op → Step Op → ℕ → Progress → Type 0
-StepTaken tally machine step line next =
-    (Meets (rules_of objects machine.shape) machine.config step
-    × (next ≡ Running tally (stepped machine step)))
-    ⊎ ((n : ℕ) × (0 < n) × Breaks (rules_of objects machine.shape) machine.config step n
-    × (next ≡ Rejected tally (rejection_of machine step line n))
-    × Fits objects machine.shape (evidence objects machine.shape machine.config step n)
-    × IsStepEvident machine.shape machine.config step n)
+-- the steps of a record, where the front and the machine stand
+abbrev pub steps_here : Tally → AnyFront → Seen (List Kind) Op → RunRecord Op → List (Step Op)
+steps_here tally front machine r =
+    expand place_of (any_style front) (any_state (kinds_of tally.header.catalog) front)
+    machine.config r
+
+-- Of these steps those before one are done, and that one is the first that does not meet its
+-- criteria.
+pub record FailsWithin (machine : Seen (List Kind) Op) (steps : List (Step Op)) (line from to : ℕ)
+    (rejection : Rejection) : Type 0 where
+  pub step : Step Op
+  pub behind : List (Step Op)
+  pub at : Seen (List Kind) Op
+  pub done : HasDone objects machine steps (step ∷ behind) at from to
+  pub few : at.count < MOST_STEPS
+  pub criterion : ℕ
+  pub some : 0 < criterion
+  pub breaks : Breaks (rules_of objects at.shape) at.config step criterion
+  pub is : rejection ≡ rejection_of at step line criterion
+  pub fits : Fits objects at.shape (evidence objects at.shape at.config step criterion)
+  pub evident : IsStepEvident at.shape at.config step criterion
+
+-- Of these steps those before one are done, and a run may have no step more.
+pub record Overruns (machine : Seen (List Kind) Op) (steps : List (Step Op)) (from to : ℕ) :
+    Type 0 where
+  pub step : Step Op
+  pub behind : List (Step Op)
+  pub at : Seen (List Kind) Op
+  pub done : HasDone objects machine steps (step ∷ behind) at from to
+  pub full : at.count ≡ MOST_STEPS
+
+-- A record is taken: each of its steps meets its criteria, and the front keeps what it leaves; or
+-- one of them is the first that does not. The counter goes from one number to another.
+abbrev pub RecordTaken : Tally → AnyFront → Seen (List Kind) Op → RunRecord Op → (line from : ℕ) →
+    Progress → ℕ → Type 0
+RecordTaken tally front machine r line from (Waiting lines) to = ⊥
+RecordTaken tally front machine r line from (Running after next new) to =
+    let kinds = kinds_of tally.header.catalog in
+    (after ≡ tally) × (any_style next ≡ any_style front)
+    × (any_state kinds next ≡ front_after (any_state kinds front) machine.config r)
+    × HasDone objects machine (steps_here tally front machine r) [] new from to
+RecordTaken tally front machine r line from (Rejected after rejection) to = (after ≡ tally)
+    × FailsWithin machine (steps_here tally front machine r) line from to rejection

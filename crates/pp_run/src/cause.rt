@@ -27,7 +27,6 @@ pub(crate) fn cause_of(fault: RecordFault) -> Result<Cause, OutOfMemory>
         RecordFault::UnknownStep => Ok(Cause::UnknownStep),
         RecordFault::BodyBad => Ok(Cause::BodyBad),
         RecordFault::BodyTooLarge => Ok(Cause::BodyTooLarge),
-        RecordFault::NotYet => Ok(Cause::NotYet),
         RecordFault::OutOfMemory => Err(OutOfMemory),
     }
 }

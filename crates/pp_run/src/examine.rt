@@ -38,7 +38,7 @@ fn conclude(progress: Progress) -> Finding
 {
     match progress {
         Progress::Waiting(lines) => Finding::Fault(lines + 1, Cause::NoHeader),
-        Progress::Running(tally, machine) => Finding::Accepted(tally, machine),
+        Progress::Running(tally, _front, machine) => Finding::Accepted(tally, machine),
         Progress::Rejected(tally, rejection) => Finding::Rejected(tally, rejection),
     }
 }

@@ -86,8 +86,8 @@ pub fn run<S: Source, K: Sink, L: Ledger>(
         WhereTold (S.left source.old) λ bytes. IsAloneAccepted (scan bytes) }
 
     // Of a run that is rejected, at its start or at a step, the fact of the criterion that is told
-    // holds of its evidence. Where the evidence tells something, the criterion is false by
-    // `start_evidence_law` or `evidence_law` of `pp_rules`.
+    // holds of its evidence; and where it holds of any detail that tells something, the criterion
+    // is false.
     ensures shown { command_of words.now ≡ Some Certify → result ≡ statuses.Rejected →
         WhereTold (S.left source.old) λ bytes. IsEvident (scan bytes) }
 

@@ -3,6 +3,7 @@ use pp_core::Rule;
 use pp_json::Header;
 use pp_object::{Objects, Op};
 use pp_rules::{Detail, Machine};
+use pp_styles::AnyFront;
 
 /// The header of a run, and how many of its lines, and of its begin records, were taken.
 #[derive(Drop)]
@@ -29,7 +30,7 @@ pub enum Progress {
     /// Only blank lines, so many.
     Waiting(u32),
     /// A header, and records whose steps meet their criteria.
-    Running(Tally, Machine<Objects>),
+    Running(Tally, AnyFront, Machine<Objects>),
     /// A header whose start is rejected, or of whose records one is: those behind it are only read.
     Rejected(Tally, Rejection),
 }

@@ -1,18 +1,19 @@
 //! Taking the lines of a run, one after another.
-ghost use Rattle.std.specs.Prelude.{◌≡◌, ◌≤◌, ◌<◌, ◌+◌, ℕ, false, ◌&&◌, ◌==◌, [], ◌∷◌, IfOk, IfErr};
-ghost use Rattle.std.specs.Prelude.{OnErr, Some, None, Ok, Err};
+ghost use Rattle.std.specs.Prelude.{◌≡◌, ◌≤◌, ◌<◌, ◌+◌, ℕ, false, ◌&&◌, ◌==◌, IfOk, IfErr, OnErr};
+ghost use Rattle.std.specs.Prelude.{Some, None, Ok, Err};
 ghost use Rattle.pp_run.specs.declared.progress.Progress.TheVariants.{Running, Rejected};
-ghost use Rattle.pp_run.specs.declared.stop.Failure.TheVariants as failures;
-ghost use Rattle.pp_run.specs.declared.stop.Stop.TheVariants as stops;
-ghost use Rattle.pp_run.specs.Costs.{singles, start_at_most};
+ghost use Rattle.pp_run.specs.Costs.{start_at_most};
 ghost use Rattle.pp_run.specs.Objects.{start_of};
-ghost use Rattle.pp_run.specs.Scans.{is_begin};
-ghost use Rattle.pp_run.specs.Progresses.{HasStarted, IsRefused, StartTaken, StepTaken};
-ghost use Rattle.pp_run.specs.Progresses.{header_at_most, is_too_many, lines_of, run_reading};
-ghost use Rattle.pp_run.specs.Progresses.{steps_done, with_blank, with_line, with_record};
+ghost use Rattle.pp_run.specs.Scans.{is_begin, is_begin_record};
+ghost use Rattle.pp_run.specs.Progresses.{HasStarted, IsFirstFront, IsRefused, Overruns};
+ghost use Rattle.pp_run.specs.Progresses.{RecordTaken, StartTaken, header_at_most, is_too_many};
+ghost use Rattle.pp_run.specs.Progresses.{lines_of, run_reading, steps_here, with_blank, with_line};
+ghost use Rattle.pp_run.specs.Progresses.{with_record};
 ghost use Rattle.pp_run.specs.Takers.{IfFault, IsNext, LeadsOn, StopsAt, StopsWith};
 ghost use Rattle.pp_core.specs.declared.limits.TheConstants.{MOST_LINES, MOST_STEPS};
-ghost use Rattle.pp_core.specs.Steps.{meaning, rule_of};
+ghost use Rattle.pp_core.specs.Steps.{meaning};
+ghost use Rattle.pp_front.specs.Expansions.{IsOfStyle};
+ghost use Rattle.pp_front.specs.Records.{record_meaning};
 ghost use Rattle.pp_io.specs.Lines.{blank};
 ghost use Rattle.pp_json.specs.Headers.{header_of};
 ghost use Rattle.pp_json.specs.Records.{IsReadable, record_of};
@@ -20,20 +21,23 @@ ghost use Rattle.pp_json.specs.Starts.{IsReadableStart};
 ghost use Rattle.pp_json.specs.declared.header.Header.{Header as HeaderOf};
 ghost use Rattle.pp_json.specs.declared.fault.RecordFault.{RecordFault as FaultOf};
 ghost use Rattle.pp_model.specs.Config.{first};
-ghost use Rattle.pp_object.specs.Objects.{kinds_of, place_of};
-ghost use Rattle.pp_rules.specs.Costs.{at_most};
+ghost use Rattle.pp_object.specs.Objects.{kinds_of, objects, place_of};
+ghost use Rattle.pp_report.specs.declared.cause.Cause.TheVariants.{TooManySteps};
+ghost use Rattle.pp_styles.specs.AnyFronts.{any_style};
+ghost use Rattle.pp_styles.specs.Driving.{CostAtMost};
 ghost use Rattle.pp_run.specs.Causes.{cause_of};
 
 use crate::cause::cause_of;
 use crate::progress::{Progress, Rejection, Tally};
 use crate::stop::{Failure, Stop};
 use crate::taker::TakesLines;
-use pp_core::{MOST_TRANSACTIONS, OutOfMemory, Rule, Step, Ticks, rule_of};
+use pp_core::{MOST_TRANSACTIONS, OutOfMemory, Rule, Step, Ticks};
 use pp_io::{Line, is_blank};
 use pp_json::{Header, RecordFault, read_header, read_record};
 use pp_object::{Objects, Op};
 use pp_report::Cause;
 use pp_rules::{Machine, Outcome};
+use pp_styles::{AnyFront, Halt, RunRecord, do_record};
 use std::alloc::Global;
 use std::sync::ledger::Ledger;
 
@@ -57,6 +61,16 @@ fn is_begin(step: &Step<Op>) -> bool
     }
 }
 
+/// Whether a record begins a transaction.
+fn is_begin_record(recorded: &RunRecord<Op>) -> bool
+    ensures { result ≡ is_begin_record (record_meaning recorded.now) }
+{
+    match recorded {
+        RunRecord::Plain(step) => is_begin(step),
+        _ => false,
+    }
+}
+
 /// One line more.
 fn with_line(mut tally: Tally) -> Tally
     requires { tally.lines < MOST_LINES }
@@ -67,13 +81,13 @@ fn with_line(mut tally: Tally) -> Tally
 }
 
 /// One record more.
-fn with_record(mut tally: Tally, step: &Step<Op>) -> Tally
+fn with_record(mut tally: Tally, recorded: &RunRecord<Op>) -> Tally
     requires lines { tally.lines < MOST_LINES }
     requires begins { tally.begins < tally.lines }
-    ensures { result ≡ with_record tally (meaning step.now) }
+    ensures { result ≡ with_record tally (record_meaning recorded.now) }
 {
     tally.lines += 1;
-    if is_begin(step) {
+    if is_begin_record(recorded) {
         tally.begins += 1;
     }
     tally
@@ -86,7 +100,9 @@ fn with_blank(progress: Progress) -> Progress
 {
     match progress {
         Progress::Waiting(lines) => Progress::Waiting(lines + 1),
-        Progress::Running(tally, machine) => Progress::Running(with_line(tally), machine),
+        Progress::Running(tally, front, machine) => {
+            Progress::Running(with_line(tally), front, machine)
+        }
         Progress::Rejected(tally, rejection) => Progress::Rejected(with_line(tally), rejection),
     }
 }
@@ -114,6 +130,14 @@ fn with_start<L: Ledger>(
     }
 }
 
+/// The front of the style of a header, which keeps nothing yet.
+fn first_front(alloc: Global, header: &Header) -> Result<AnyFront, OutOfMemory>
+    ensures { IfOk result (IsFirstFront header.now) }
+{
+    let kinds = header.catalog.kinds(alloc)?;
+    Ok(AnyFront::new(alloc, header.style, kinds))
+}
+
 /// A run whose header, which stands on this line, was read.
 fn start_run<L: Ledger>(
     alloc: Global,
@@ -126,10 +150,11 @@ fn start_run<L: Ledger>(
     ensures rises { ticks.old ≤ ticks.new }
     ensures bound { ticks.new ≤ ticks.old + start_at_most (start_of tally.header) }
 {
+    let front = first_front(alloc, &tally.header)?;
     let machine = Machine::new(alloc, tally.header.catalog.kinds(alloc)?)?;
     let (machine, outcome) = with_start(machine, &tally.header, ticks)?;
     match outcome {
-        Outcome::Done => Ok(Progress::Running(tally, machine)),
+        Outcome::Done => Ok(Progress::Running(tally, front, machine)),
         Outcome::False { criterion, detail } => {
             let rejection = Rejection {
                 step: 0,
@@ -172,56 +197,69 @@ fn take_header<L: Ledger>(
     Ok(progress)
 }
 
-/// The step of a line behind the header.
-fn read_step(alloc: Global, tally: &Tally, line: &Line) -> Result<Step<Op>, Stop>
+/// The record of a line behind the header.
+fn read_next(alloc: Global, tally: &Tally, line: &Line) -> Result<RunRecord<Op>, Stop>
     ensures read { IfOk result
-        (λ step. record_of tally.now.header line.now.text ≡ Ok (meaning step)) }
-    ensures readable { IfOk result (λ step. IsReadable tally.now.header.catalog (meaning step)) }
-    ensures few { IfOk result (λ step. is_too_many tally.now (meaning step) ≡ false) }
+        (λ r. record_of tally.now.header line.now.text ≡ Ok (record_meaning r)) }
+    ensures readable { IfOk result
+        (λ r. IsReadable tally.now.header.catalog (record_meaning r)) }
+    ensures styled { IfOk result (λ r. IsOfStyle tally.now.header.style (record_meaning r)) }
+    ensures few { IfOk result (λ r. is_too_many tally.now (record_meaning r) ≡ false) }
     ensures err { IfErr result (λ stop. IfFault stop (λ at cause. (at ≡ line.now.number)
         × IsRefused tally.now (record_of tally.now.header line.now.text) cause)) }
 {
-    let step = match read_record(alloc, &tally.header, line.text.bytes()) {
-        Ok(step) => step,
+    let recorded = match read_record(alloc, &tally.header, line.text.bytes()) {
+        Ok(recorded) => recorded,
         Err(fault) => return Err(stop_at(line.number, fault)),
     };
-    if is_begin(&step) && tally.begins == MOST_TRANSACTIONS {
+    if is_begin_record(&recorded) && tally.begins == MOST_TRANSACTIONS {
         return Err(Stop::Fault(line.number, Cause::TooManyTransactions));
     }
-    Ok(step)
+    Ok(recorded)
 }
 
-/// A step of a run that is not rejected so far.
-fn take_step<L: Ledger>(
+/// The steps of a record, of a run that is not rejected so far.
+fn take_steps<L: Ledger>(
     tally: Tally,
+    mut front: AnyFront,
     machine: Machine<Objects>,
-    step: &Step<Op>,
+    recorded: &RunRecord<Op>,
     line: u32,
     ticks: &mut Ticks<L>,
 ) -> Result<Progress, Stop>
     requires shape { machine.shape ≡ kinds_of tally.header.catalog }
-    requires readable { IsReadable tally.header.catalog (meaning step.now) }
-    requires few { machine.count < MOST_STEPS }
-    ensures ok { IfOk result (λ next. StepTaken tally machine (meaning step.now) line next) }
-    ensures err { IfErr result (λ stop. stop ≡ stops.Failure failures.OutOfMemory) }
-    ensures most { ticks.new ≤ ticks.old + at_most place_of machine.config (meaning step.now) }
-    ensures least { IfOk result (λ next.
-        ticks.old + singles (steps_done next (meaning step.now ∷ [])) ≤ ticks.new) }
+    requires readable { IsReadable tally.header.catalog (record_meaning recorded.now) }
+    requires styled { IsOfStyle (any_style front) (record_meaning recorded.now) }
+    requires few { machine.count ≤ MOST_STEPS }
+    ensures ok { IfOk result (λ next. RecordTaken tally front machine
+        (record_meaning recorded.now) line ticks.old next ticks.new) }
+    ensures err { IfErr result (λ stop. IfFault stop (λ at cause. (at ≡ line)
+        × ((cause ≡ TooManySteps) × Overruns machine
+        (steps_here tally front machine (record_meaning recorded.now)) ticks.old ticks.new))) }
+    ensures most { CostAtMost objects place_of machine
+        (steps_here tally front machine (record_meaning recorded.now)) ticks.old ticks.new }
 {
-    let number = machine.count() + 1;
-    let (machine, outcome) = machine.step(step, ticks)?;
-    match outcome {
-        Outcome::Done => Ok(Progress::Running(tally, machine)),
-        Outcome::False { criterion, detail } => {
+    let (machine, halt) = do_record(&mut front, machine, recorded, ticks)?;
+    let Some(halt) = halt else {
+        return Ok(Progress::Running(tally, front, machine));
+    };
+    match halt {
+        Halt::Failed {
+            rule,
+            criterion,
+            detail,
+        } => {
+            let number = machine.count() + 1;
             let rejection = Rejection {
                 step: number,
                 line,
-                rule: rule_of(step),
+                rule,
                 criterion,
                 detail,
             };
             Ok(Progress::Rejected(tally, rejection))
         }
+        Halt::TooMany => Err(Stop::Fault(line, Cause::TooManySteps)),
     }
 }
 
@@ -229,28 +267,30 @@ fn take_step<L: Ledger>(
 fn take_record<L: Ledger>(
     alloc: Global,
     tally: Tally,
+    front: AnyFront,
     machine: Machine<Objects>,
     line: &Line,
     ticks: &mut Ticks<L>,
 ) -> Result<Progress, Stop>
-    requires next { (first : ℕ) × IsNext (run_reading first) (Running tally machine, ticks.old)
-        (line.now.number, line.now.text) }
+    requires next { (first : ℕ) × IsNext (run_reading first)
+        (Running tally front machine, ticks.old) (line.now.number, line.now.text) }
     requires other { blank line.now.text ≡ false }
     ensures ok { IfOk result (λ next. (first : ℕ) →
-        LeadsOn (run_reading first) (Running tally machine, ticks.old)
+        LeadsOn (run_reading first) (Running tally front machine, ticks.old)
         (line.now.number, line.now.text) (next, ticks.new)) }
     ensures stop { IfErr result (λ stop. (first : ℕ) →
-        StopsAt (run_reading first) (Running tally machine, ticks.old)
+        StopsAt (run_reading first) (Running tally front machine, ticks.old)
         (line.now.number, line.now.text) stop) }
     ensures cost { OnErr result ((first : ℕ) →
-        StopsWith (run_reading first) (Running tally machine, ticks.old)
+        StopsWith (run_reading first) (Running tally front machine, ticks.old)
         (line.now.number, line.now.text) ticks.new) }
 {
-    let step = read_step(alloc, &tally, line)?;
-    take_step(
-        with_record(tally, &step),
+    let recorded = read_next(alloc, &tally, line)?;
+    take_steps(
+        with_record(tally, &recorded),
+        front,
         machine,
-        &step,
+        &recorded,
         line.number,
         ticks,
     )
@@ -274,8 +314,8 @@ fn pass_record(
         StopsAt (run_reading first) (Rejected tally rejection, now)
         (line.now.number, line.now.text) stop) }
 {
-    let step = read_step(alloc, &tally, line)?;
-    Ok(Progress::Rejected(with_record(tally, &step), rejection))
+    let recorded = read_next(alloc, &tally, line)?;
+    Ok(Progress::Rejected(with_record(tally, &recorded), rejection))
 }
 
 impl TakesLines for Progress {
@@ -294,7 +334,9 @@ impl TakesLines for Progress {
         }
         match self {
             Progress::Waiting(_) => take_header(alloc, line, ticks),
-            Progress::Running(tally, machine) => take_record(alloc, tally, machine, line, ticks),
+            Progress::Running(tally, front, machine) => {
+                take_record(alloc, tally, front, machine, line, ticks)
+            }
             Progress::Rejected(tally, rejection) => pass_record(alloc, tally, rejection, line),
         }
     }

@@ -2,7 +2,7 @@
 use crate::tests::row::{COUNTER, Row};
 use pp_core::Status;
 
-pub(crate) const FAULTY: [Row; 24] = [
+pub(crate) const FAULTY: [Row; 23] = [
     Row {
         what: "no byte",
         header: b"",
@@ -40,14 +40,6 @@ oops
         records: b"{\"run\":1,\"style\":\"rules\",\"objects\":[{\"name\":\"c\",\"kind\":\"counter\"}]}\r\n{\"step\":\"begin\",\"tx\":\"t1\",\"thread\":\"p1\",\"at\":17}\r\n{\"step\":\"app\",\"tx\":\"t1\",\"id\":1,\"on\":\"c\",\"call\":\"add\",\"args\":[1.0],\"result\":null}\r\n{\"step\":\"push\",\"tx\":\"t1\",\"id\":1}\r\n{\"step\":\"cmt\",\"tx\":\"t1\"}\r\n",
         status: Status::InputFault,
         report: b"fault line 3 WrongType(args)\n",
-    },
-    Row {
-        what: "a style that is not taken yet",
-        header: b"",
-        records: br#"{"run":1,"style":"boosted","objects":[{"name":"c","kind":"counter"}]}
-"#,
-        status: Status::InputFault,
-        report: b"fault line 1 NotYet\n",
     },
     Row {
         what: "a record that is no object",

@@ -4,102 +4,315 @@ use pp_core::Status;
 use std::alloc::Global;
 use std::test::Fail;
 
-/// A front, so many pieces, an end, and what is answered. A piece is one text, or two with its number
-/// between them, which counts from 1.
-pub(crate) struct Long {
-    pub(crate) what: &'static str,
-    front: &'static [u8],
-    piece: &'static [u8],
-    behind: Option<&'static [u8]>,
+/// A text that stands so many times. Between its parts stands its number, which counts from 1.
+pub(crate) struct Piece {
+    parts: &'static [&'static [u8]],
     times: usize,
-    end: &'static [u8],
-    pub(crate) status: Status,
-    pub(crate) report: &'static [u8],
 }
 
-pub(crate) const LONG: [Long; 7] = [
+/// The pieces of an input and of what is reported.
+pub(crate) struct Long {
+    pub(crate) what: &'static str,
+    pub(crate) input: &'static [Piece],
+    pub(crate) status: Status,
+    pub(crate) report: &'static [Piece],
+}
+
+/// The header of one counter in style boosted.
+const BOOSTED: &[u8] = br#"{"run":1,"style":"boosted","objects":[{"name":"c","kind":"counter"}]}
+"#;
+
+pub(crate) const LONG: [Long; 10] = [
     Long {
         what: "an object too many",
-        front: br#"{"run":1,"style":"rules","objects":[{"name":"c","kind":"counter"}"#,
-        piece: br#",{"name":"c"#,
-        behind: Some(br#"","kind":"counter"}"#),
-        times: 256,
-        end: b"]}\n",
+        input: &[
+            Piece {
+                parts: &[br#"{"run":1,"style":"rules","objects":[{"name":"c","kind":"counter"}"#],
+                times: 1,
+            },
+            Piece {
+                parts: &[br#",{"name":"c"#, br#"","kind":"counter"}"#],
+                times: 256,
+            },
+            Piece {
+                parts: &[b"]}\n"],
+                times: 1,
+            },
+        ],
         status: Status::InputFault,
-        report: b"fault line 1 TooManyObjects\n",
+        report: &[Piece {
+            parts: &[b"fault line 1 TooManyObjects\n"],
+            times: 1,
+        }],
     },
     Long {
         what: "the most operations of a start",
-        front: br#"{"run":2,"style":"rules","objects":[{"name":"c","kind":"counter"}],"start":{"tx":"t0","ops":[{"id":0,"on":"c","call":"get","args":[],"result":1}"#,
-        piece: br#",{"id":"#,
-        behind: Some(br#","on":"c","call":"add","args":[7],"result":null}"#),
-        times: 255,
-        end: b"]}}\n",
+        input: &[
+            Piece {
+                parts: &[
+                    br#"{"run":2,"style":"rules","objects":[{"name":"c","kind":"counter"}],"start":{"tx":"t0","ops":[{"id":0,"on":"c","call":"get","args":[],"result":1}"#,
+                ],
+                times: 1,
+            },
+            Piece {
+                parts: &[
+                    b",{\"id\":",
+                    br#","on":"c","call":"add","args":[7],"result":null}"#,
+                ],
+                times: 255,
+            },
+            Piece {
+                parts: &[b"]}}\n"],
+                times: 1,
+            },
+        ],
         status: Status::Rejected,
-        report: b"rejected step 0 line 1 START 2\nentry 0 gives 0\n",
+        report: &[Piece {
+            parts: &[b"rejected step 0 line 1 START 2\nentry 0 gives 0\n"],
+            times: 1,
+        }],
     },
     Long {
         what: "an operation of a start too many",
-        front: br#"{"run":2,"style":"rules","objects":[{"name":"c","kind":"counter"}],"start":{"tx":"t0","ops":[{"id":0,"on":"c","call":"add","args":[7],"result":null}"#,
-        piece: br#",{"id":"#,
-        behind: Some(br#","on":"c","call":"add","args":[7],"result":null}"#),
-        times: 256,
-        end: b"]}}\n",
+        input: &[
+            Piece {
+                parts: &[
+                    br#"{"run":2,"style":"rules","objects":[{"name":"c","kind":"counter"}],"start":{"tx":"t0","ops":[{"id":0,"on":"c","call":"add","args":[7],"result":null}"#,
+                ],
+                times: 1,
+            },
+            Piece {
+                parts: &[
+                    b",{\"id\":",
+                    br#","on":"c","call":"add","args":[7],"result":null}"#,
+                ],
+                times: 256,
+            },
+            Piece {
+                parts: &[b"]}}\n"],
+                times: 1,
+            },
+        ],
         status: Status::InputFault,
-        report: b"fault line 1 TooManyStart\n",
+        report: &[Piece {
+            parts: &[b"fault line 1 TooManyStart\n"],
+            times: 1,
+        }],
     },
     Long {
         what: "a transaction too many",
-        front: COUNTER,
-        piece: br#"{"step":"begin","tx":"t"#,
-        behind: Some(b"\",\"thread\":\"p1\"}\n"),
-        times: 20_001,
-        end: b"",
+        input: &[
+            Piece {
+                parts: &[COUNTER],
+                times: 1,
+            },
+            Piece {
+                parts: &[br#"{"step":"begin","tx":"t"#, b"\",\"thread\":\"p1\"}\n"],
+                times: 20_001,
+            },
+        ],
         status: Status::InputFault,
-        report: b"fault line 20002 TooManyTransactions\n",
+        report: &[Piece {
+            parts: &[b"fault line 20002 TooManyTransactions\n"],
+            times: 1,
+        }],
     },
     Long {
         what: "a byte of a line too many",
-        front: b"",
-        piece: b" ",
-        behind: None,
-        times: 65_537,
-        end: b"",
+        input: &[Piece {
+            parts: &[b" "],
+            times: 65_537,
+        }],
         status: Status::InputFault,
-        report: b"fault line 1 LineTooLong\n",
+        report: &[Piece {
+            parts: &[b"fault line 1 LineTooLong\n"],
+            times: 1,
+        }],
     },
     Long {
         what: "the most lines",
-        front: COUNTER,
-        piece: b"\n",
-        behind: None,
-        times: 200_000,
-        end: b"",
+        input: &[
+            Piece {
+                parts: &[COUNTER],
+                times: 1,
+            },
+            Piece {
+                parts: &[b"\n"],
+                times: 200_000,
+            },
+        ],
         status: Status::Accepted,
-        report: b"accepted steps 0 committed 0\nstate c 0\n",
+        report: &[Piece {
+            parts: &[b"accepted steps 0 committed 0\nstate c 0\n"],
+            times: 1,
+        }],
     },
     Long {
         what: "a line too many",
-        front: COUNTER,
-        piece: b"\n",
-        behind: None,
-        times: 200_001,
-        end: b"",
+        input: &[
+            Piece {
+                parts: &[COUNTER],
+                times: 1,
+            },
+            Piece {
+                parts: &[b"\n"],
+                times: 200_001,
+            },
+        ],
         status: Status::InputFault,
-        report: b"fault line 200002 TooManyLines\n",
+        report: &[Piece {
+            parts: &[b"fault line 200002 TooManyLines\n"],
+            times: 1,
+        }],
+    },
+    Long {
+        what: "operations that are pulled by each transaction behind them",
+        input: &[
+            Piece {
+                parts: &[BOOSTED],
+                times: 1,
+            },
+            Piece {
+                parts: &[
+                    br#"{"step":"begin","tx":"t"#,
+                    br#"","thread":"p1"}
+{"step":"op","tx":"t"#,
+                    b"\",\"id\":",
+                    b",\"on\":\"c\",\"call\":\"add\",\"args\":[1],\"result\":null}\n{\"step\":\"commit\",\"tx\":\"t",
+                    b"\"}\n",
+                ],
+                times: 628,
+            },
+        ],
+        status: Status::Accepted,
+        report: &[
+            Piece {
+                parts: &[b"accepted steps 199390 committed 628\n"],
+                times: 1,
+            },
+            Piece {
+                parts: &[b"tx t", b"\nop ", b" c.add(1)=none\n"],
+                times: 628,
+            },
+            Piece {
+                parts: &[b"state c 628\n"],
+                times: 1,
+            },
+        ],
+    },
+    Long {
+        what: "the most steps",
+        input: &[
+            Piece {
+                parts: &[BOOSTED],
+                times: 1,
+            },
+            Piece {
+                parts: &[
+                    br#"{"step":"begin","tx":"t"#,
+                    br#"","thread":"p1"}
+{"step":"op","tx":"t"#,
+                    b"\",\"id\":",
+                    b",\"on\":\"c\",\"call\":\"add\",\"args\":[1],\"result\":null}\n{\"step\":\"commit\",\"tx\":\"t",
+                    b"\"}\n",
+                ],
+                times: 628,
+            },
+            Piece {
+                parts: &[
+                    br#"{"step":"begin","tx":"t629","thread":"p1"}
+"#,
+                ],
+                times: 1,
+            },
+            Piece {
+                parts: &[
+                    br#"{"step":"retry","tx":"t629"}
+"#,
+                ],
+                times: 609,
+            },
+        ],
+        status: Status::Accepted,
+        report: &[
+            Piece {
+                parts: &[b"accepted steps 200000 committed 628\n"],
+                times: 1,
+            },
+            Piece {
+                parts: &[b"tx t", b"\nop ", b" c.add(1)=none\n"],
+                times: 628,
+            },
+            Piece {
+                parts: &[b"state c 628\n"],
+                times: 1,
+            },
+        ],
+    },
+    Long {
+        what: "a step too many",
+        input: &[
+            Piece {
+                parts: &[BOOSTED],
+                times: 1,
+            },
+            Piece {
+                parts: &[
+                    br#"{"step":"begin","tx":"t"#,
+                    br#"","thread":"p1"}
+{"step":"op","tx":"t"#,
+                    b"\",\"id\":",
+                    b",\"on\":\"c\",\"call\":\"add\",\"args\":[1],\"result\":null}\n{\"step\":\"commit\",\"tx\":\"t",
+                    b"\"}\n",
+                ],
+                times: 628,
+            },
+            Piece {
+                parts: &[
+                    br#"{"step":"begin","tx":"t629","thread":"p1"}
+"#,
+                ],
+                times: 1,
+            },
+            Piece {
+                parts: &[
+                    br#"{"step":"retry","tx":"t629"}
+"#,
+                ],
+                times: 610,
+            },
+        ],
+        status: Status::InputFault,
+        report: &[Piece {
+            parts: &[b"fault line 2496 TooManySteps\n"],
+            times: 1,
+        }],
     },
 ];
 
-/// The bytes of a long input.
-pub(crate) fn bytes_of(alloc: Global, long: &Long) -> Result<Vec<u8>, Fail> {
-    let mut bytes = long.front.to_vec(alloc)?;
-    for number in 1..=long.times {
-        bytes.extend_from_slice(long.piece)?;
-        if let Some(behind) = long.behind {
+/// Adds a piece, which has this number.
+fn push_piece(
+    alloc: Global,
+    bytes: &mut Vec<u8>,
+    piece: &Piece,
+    number: usize,
+) -> Result<(), Fail> {
+    for (place, part) in piece.parts.iter().enumerate() {
+        if place > 0 {
             bytes.extend_from_slice(number.to_string(alloc)?.as_bytes())?;
-            bytes.extend_from_slice(behind)?;
+        }
+        bytes.extend_from_slice(part)?;
+    }
+    Ok(())
+}
+
+/// The bytes of pieces.
+pub(crate) fn bytes_of(alloc: Global, pieces: &[Piece]) -> Result<Vec<u8>, Fail> {
+    let mut bytes = Vec::new(alloc);
+    for piece in pieces {
+        for number in 1..=piece.times {
+            push_piece(alloc, &mut bytes, piece, number)?;
         }
     }
-    bytes.extend_from_slice(long.end)?;
     Ok(bytes)
 }

@@ -220,7 +220,7 @@ pub(crate) const STARTS: [Row; 26] = [
         report: b"fault line 1 WrongType(objects)\n",
     },
     Row {
-        what: "a start in a style that is not built",
+        what: "a start in another style",
         header: b"",
         records: br#"{"run":2,"style":"boosted","objects":[],"start":7}
 "#,

@@ -48,9 +48,6 @@ returns-in-BodyBad c = rw c.in-BodyBad.is c.append-in-BodyBad.ensures.ok
 pub returns-in-BodyTooLarge : goal.returns-in-BodyTooLarge
 returns-in-BodyTooLarge c = rw c.in-BodyTooLarge.is c.append-in-BodyTooLarge.ensures.ok
 
-pub returns-in-NotYet : goal.returns-in-NotYet
-returns-in-NotYet c = rw c.in-NotYet.is c.append-in-NotYet.ensures.ok
-
 pub returns-in-LineTooLong : goal.returns-in-LineTooLong
 returns-in-LineTooLong c = rw c.in-LineTooLong.is c.append-in-LineTooLong.ensures.ok
 

@@ -5,8 +5,8 @@ use Rattle.pp_run.specs.Inputs.{scan}
 use Rattle.pp_run.specs.Progresses.{IsRunning}
 use Rattle.pp_run.specs.Outputs.{IsCertified}
 use Rattle.pp_run.specs.Rejected.{IsEvident}
-use Rattle.pp_run.specs.declared.progress.Progress.TheVariants.{Running, Rejected}
 use Rattle.pp_run.proofs.Concluding.{fault_report, rejected_evident, run_report}
+use Rattle.pp_run.proofs.Covering.{rejected_sound, running_sound}
 use Rattle.pp_run.proofs.Summing.{no_serial, serial_least, serial_most}
 use Rattle.pp_run.proofs.Takers.{taken_all}
 use Rattle.pp_run.proofs.certify.certify.Goals as goal
@@ -23,7 +23,7 @@ returns-in_ok-text-in-Rejected-clause-report g c = λ bytes is.
     let text = c.in_ok-text-in-Rejected.text in
     let found = subst (Finds old new) c.in-Rejected.is c.in_ok-line.ensures.found in
     subst (λ bs. IsCertified bs statuses.Rejected text) (taken_all old new found.0 bytes found.1 found.2 is)
-    (run_report found.0 (Rejected c.in-Rejected.tally c.in-Rejected.rejection) statuses.Rejected text found.3 (c.in_ok-text-in-Rejected.ensures (scan found.0) found.3))
+    (run_report found.0 statuses.Rejected text (rejected_sound (scan found.0) c.in-Rejected.tally c.in-Rejected.rejection found.3) (c.in_ok-text-in-Rejected.ensures (scan found.0) found.3))
 
 pub returns-in_ok-text-in-Accepted-clause-report : goal.returns-in_ok-text-in-Accepted-clause-report
 returns-in_ok-text-in-Accepted-clause-report g c = λ bytes is.
@@ -32,7 +32,7 @@ returns-in_ok-text-in-Accepted-clause-report g c = λ bytes is.
     let text = c.in_ok-text-in-Accepted.text in
     let found = subst (Finds old new) c.in-Accepted.is c.in_ok-line.ensures.found in
     subst (λ bs. IsCertified bs statuses.Accepted text) (taken_all old new found.0 bytes found.1 found.2 is)
-    (run_report found.0 (Running c.in-Accepted.tally c.in-Accepted.machine) statuses.Accepted text found.3 (c.in_ok-text-in-Accepted.ensures.report (scan found.0) found.3))
+    (run_report found.0 statuses.Accepted text (running_sound (scan found.0) c.in-Accepted.tally c.in-Accepted.machine found.3) (c.in_ok-text-in-Accepted.ensures.report (scan found.0) found.3))
 
 pub returns-in_ok-text-in-Rejected-clause-shown : goal.returns-in_ok-text-in-Rejected-clause-shown
 returns-in_ok-text-in-Rejected-clause-shown g c = λ rejected bytes is.

@@ -1,6 +1,6 @@
 use Rattle.std.proofs.Common.{refl, subst, sym, ap, ◌∙◌, arith}
 use Rattle.std.proofs.lemmas.Result.{err_from_is_err_and}
-use Rattle.pp_core.specs.Steps.{meaning}
+use Rattle.pp_front.specs.Records.{record_meaning}
 use Rattle.pp_json.specs.Records.{record_of}
 use Rattle.pp_io.specs.Lines.{NumberedLine}
 use Rattle.pp_run.specs.Progresses.{Counts, IsRefused, IsRejected}
@@ -32,22 +32,22 @@ returns-clause-ok c = λ first now.
     let from : Progress = Rejected c.args.tally c.args.rejection in
     let to : Progress = Rejected c.with_record.result c.args.rejection in
     let n = c.requires.next in
-    let step = meaning c.in_ok-step.step in
+    let r = record_meaning c.in_ok-recorded.recorded in
     leads_on from line (next_number n.0 n.1 from line n.2) (next_few n.0 n.1 from line n.2) to now now
     (λ sc covers.
     subst (λ t. IsRejected (scan_line sc line) t c.args.rejection) (sym c.with_record.ensures)
-    (cover_rejected sc c.args.tally c.args.rejection line step covers c.requires.other c.in_ok-step.ensures.read c.in_ok-step.ensures.few))
+    (cover_rejected sc c.args.tally c.args.rejection line r covers c.requires.other c.in_ok-recorded.ensures.read c.in_ok-recorded.ensures.few))
     (ap (λ t. t.lines) c.with_record.ensures ∙ sym (next_number n.0 n.1 from line n.2))
     (λ sc old covers counts.
     subst (λ t. Counts (scan_line sc line) (Rejected t c.args.rejection) old now) (sym c.with_record.ensures)
-    (counts_rejected sc c.args.tally c.args.rejection line step old now covers c.requires.other c.in_ok-step.ensures.read c.in_ok-step.ensures.few counts))
+    (counts_rejected sc c.args.tally c.args.rejection line r old now covers c.requires.other c.in_ok-recorded.ensures.read c.in_ok-recorded.ensures.few counts))
     first
 
-pub returns-in_err-step-clause-stop : goal.returns-in_err-step-clause-stop
-returns-in_err-step-clause-stop c =
+pub returns-in_err-recorded-clause-stop : goal.returns-in_err-recorded-clause-stop
+returns-in_err-recorded-clause-stop c =
     let line : NumberedLine = (c.args.line.now.number, c.args.line.now.text) in
     let from : Progress = Rejected c.args.tally c.args.rejection in
     let p = err_from_is_err_and c.from_residual.result c.from_residual.ensures.1 in
-    rw (p.1, p.2) (stops_at from line c.in_err-step.field-0.0 (IsRefused c.args.tally (record_of c.args.tally.header line.1))
+    rw (p.1, p.2) (stops_at from line c.in_err-recorded.field-0.0 (IsRefused c.args.tally (record_of c.args.tally.header line.1))
     (λ sc cause covers refused. cover_refused sc c.args.tally from line _ cause covers covers.follows c.requires.other refl refused)
-    c.in_err-step.ensures.err)
+    c.in_err-recorded.ensures.err)

@@ -5,7 +5,7 @@ use Rattle.pp_run.proofs.take.start_run.Goals as goal
 
 pub returns-in-Done-clause-taken : goal.returns-in-Done-clause-taken
 returns-in-Done-clause-taken g c =
-    started c.args.tally c.args.line c.in_ok-machine-2.machine (subst (λ o. HasStarted c.args.tally.header o c.in_ok-machine-2.machine) c.in-Done.is c.in_ok-machine-2.ensures.starts)
+    started c.args.tally c.args.line c.in_ok-front.front c.in_ok-machine-2.machine c.in_ok-front.ensures (subst (λ o. HasStarted c.args.tally.header o c.in_ok-machine-2.machine) c.in-Done.is c.in_ok-machine-2.ensures.starts)
 
 pub returns-in-False-clause-taken : goal.returns-in-False-clause-taken
 returns-in-False-clause-taken g c =
