@@ -1,5 +1,6 @@
 #!/usr/bin/env python3
-"""Whether README.md shows what is: for each file of examples/ what the built program prints, and the clauses of `run` word for word.
+"""Whether README.md and docs/RECORDING.md show what is: for each file of examples/ what the built program prints, and in README the clauses
+of `run` word for word.
 And whether an input of too many bytes, which is too large for a test, has its fault.
 
     python3 .ci/outputs.py [PROGRAM]      PROGRAM is crates/pp_cli/out/pp_cli where none is named
@@ -12,15 +13,16 @@ import subprocess
 import sys
 
 ROOT = pathlib.Path(__file__).resolve().parent.parent
+PAGES = ("README.md", "docs/RECORDING.md")
 COMMAND = re.compile(r"^ {4}\$ \./pp_cli certify < examples/(\w+\.jsonl)\n((?: {4}.+\n)*)", re.MULTILINE)
 TOO_LONG = 4_096 * (65_536 * b" " + b"\n")
 STATUS = {"accepted": 0, "rejected": 1, "fault": 3}
 
 
 def shown():
-    """The outputs of README, by the names of the files."""
-    text = (ROOT / "README.md").read_text()
-    return {name: re.sub(r"^ {4}", "", block, flags=re.MULTILINE) for name, block in COMMAND.findall(text)}
+    """The outputs of the pages, each with the name of its file: a page may show one that another shows too."""
+    blocks = [found for page in PAGES for found in COMMAND.findall((ROOT / page).read_text())]
+    return [(name, re.sub(r"^ {4}", "", block, flags=re.MULTILINE)) for name, block in blocks]
 
 
 def differs(program, run, output):
@@ -33,7 +35,7 @@ def differs(program, run, output):
 
 
 def wrong_answers(program, outputs):
-    runs = [(name, (ROOT / "examples" / name).read_bytes(), output) for name, output in sorted(outputs.items())]
+    runs = [(name, (ROOT / "examples" / name).read_bytes(), output) for name, output in sorted(outputs)]
     for name, run, output in [*runs, ("too many bytes", TOO_LONG, "fault line 4096 TooLong\n")]:
         said = differs(program, run, output)
         if said:
@@ -51,11 +53,11 @@ def strange_clauses():
 def main():
     program = pathlib.Path(sys.argv[1] if len(sys.argv) > 1 else ROOT / "crates/pp_cli/out/pp_cli").resolve()
     outputs = shown()
-    names = {file.name for file in (ROOT / "examples").iterdir()}
-    wrong = [f"{name}: README shows no output" for name in sorted(names - outputs.keys())]
-    wrong += [f"{name}: there is no such example" for name in sorted(outputs.keys() - names)]
+    names, named = {file.name for file in (ROOT / "examples").iterdir()}, {name for name, _ in outputs}
+    wrong = [f"{name}: no page shows its output" for name in sorted(names - named)]
+    wrong += [f"{name}: there is no such example" for name in sorted(named - names)]
     if program.is_file():
-        wrong += wrong_answers(program, {name: outputs[name] for name in names & outputs.keys()})
+        wrong += wrong_answers(program, [(name, output) for name, output in outputs if name in names])
     else:
         wrong.append(f"no program at {program}")
     wrong += [f"not a clause of run: {clause}" for clause in strange_clauses()]
