@@ -7,7 +7,8 @@ use Rattle.serde_json.specs.Read.{max_depth}
 use Rattle.serde_json.specs.View.{view, items_of}
 use Rattle.serde_json.specs.declared.value.Value.{Value}
 use Rattle.serde_json.specs.Written.{has_float}
-use Rattle.pp_core.specs.Catalogs.{Objects, HasNames}
+use Rattle.pp_core.specs.Catalogs.{Objects, HasDistinctNames, HasNames}
+use Rattle.pp_core.specs.declared.limits.TheConstants.{MOST_OBJECTS}
 use Rattle.pp_core.specs.Words.{kind_word}
 use Rattle.pp_core.specs.declared.call.Kind.{Kind}
 use Rattle.pp_core.specs.declared.call.Kind.TheVariants as kinds
@@ -161,3 +162,11 @@ pub writable_at : (catalog : Objects) (ops : List (Item Op)) (i : ℕ) (p : Item
 writable_at catalog [] i p h lt is = absurd (omega arith)
 writable_at catalog (x ∷ xs) zero p h lt is = subst (λ (y : Item Op). IsOpOn catalog y.op) (sym is) h.0
 writable_at catalog (x ∷ xs) (suc i) p h lt is = writable_at catalog xs i p h.1 (omega arith) is
+
+-- ---- the objects of a run
+pub is_catalog_of : (catalog : Objects) (n : ℕ) → n ≡ length catalog → n ≤ MOST_OBJECTS → HasDistinctNames catalog → HasNames catalog → IsCatalog catalog
+is_catalog_of catalog n is few distinct named = record {
+  few = subst (λ (k : ℕ). k ≤ MOST_OBJECTS) is few;
+  distinct = distinct;
+  named = named;
+}

@@ -1,7 +1,7 @@
 -- The text of a run, line by line, and what it is as an input.
 use Rattle.std.proofs.Common.{◌≡◌, ◌≤◌, ◌<◌, ◌+◌, ◌*◌, ◌==◌, ℕ, zero, suc, List, [], ◌∷◌, ◌++◌, map, take, length, get_or, slice_index, Option, Some, None}
 use Rattle.std.proofs.Common.{cond, ◌-◌, not, true, false, IsTrue, refl, sym, ap, ◌∙◌, subst, arith, append_assoc, add-one}
-use Rattle.std.proofs.lemmas.List.{map-append, length-append, length-map}
+use Rattle.std.proofs.lemmas.List.{append-nil, map-append, length-append, length-map}
 use Rattle.std.proofs.lemmas.List.Recursion.{is_count_by}
 use Rattle.std.proofs.lemmas.Bool.{and_from}
 use Rattle.std.proofs.lemmas.Bool.Decides.{nat_tests}
@@ -50,12 +50,18 @@ text_append catalog start steps step =
     ap (λ (ls : List (List ℕ)). joined_lines (printed_header catalog start ∷ ls)) (map-append (step_bytes catalog) steps (step ∷ []))
     ∙ joined_append (run_lines catalog start steps) (step_bytes catalog step)
 
-pub one_more : (catalog : Objects) (start : Option Start) (steps : List (StepOf Op)) (i : ℕ) (step : StepOf Op) (text longer : List ℕ) → text ≡ run_text catalog start (map meaning (take i steps))
-    → longer ≡ text ++ step_bytes catalog (meaning step) ++ 10 ∷ [] → i < length steps → step ≡ get_or steps i step → longer ≡ run_text catalog start (map meaning (take (i + 1) steps))
-one_more catalog start steps i step text longer so_far next lt is =
+pub one_more : (catalog : Objects) (start : Option Start) (before : List (Step Op)) (steps : List (StepOf Op)) (i : ℕ) (step : StepOf Op) (text longer : List ℕ)
+    → text ≡ run_text catalog start (before ++ map meaning (take i steps)) → longer ≡ text ++ step_bytes catalog (meaning step) ++ 10 ∷ [] → i < length steps → step ≡ get_or steps i step
+    → longer ≡ run_text catalog start (before ++ map meaning (take (i + 1) steps))
+one_more catalog start before steps i step text longer so_far next lt is =
     let end : List ℕ → List ℕ = λ l. l ++ step_bytes catalog (meaning step) ++ 10 ∷ [] in
-    next ∙ ap end so_far ∙ sym (text_append catalog start (map meaning (take i steps)) (meaning step))
-    ∙ ap (run_text catalog start) (sym (taken_more steps i step lt is)) ∙ ap (λ (n : ℕ). run_text catalog start (map meaning (take n steps))) (sym (add-one i))
+    let behind : List (Step Op) → List ℕ = λ l. run_text catalog start (before ++ l) in
+    next ∙ ap end so_far ∙ sym (text_append catalog start (before ++ map meaning (take i steps)) (meaning step))
+    ∙ ap (run_text catalog start) (append_assoc before (map meaning (take i steps)) (meaning step ∷ []))
+    ∙ ap behind (sym (taken_more steps i step lt is)) ∙ ap (λ (n : ℕ). behind (map meaning (take n steps))) (sym (add-one i))
+
+pub none_more : (catalog : Objects) (start : Option Start) (before : List (Step Op)) (text : List ℕ) → text ≡ run_text catalog start before → text ≡ run_text catalog start (before ++ [])
+none_more catalog start before text is = is ∙ ap (run_text catalog start) (sym (append-nil before))
 
 -- ---- bytes that are no control bytes can be a line
 inner : (b : ℕ) → 32 ≤ b → not (b == 10) ≡ true

@@ -1,5 +1,5 @@
 -- The line of a step is read back.
-use Rattle.std.proofs.Common.{◌≡◌, ℕ, pos, List, codes, Option, Some, None, Ok, refl, ap, cond, le-leb}
+use Rattle.std.proofs.Common.{◌≡◌, ℕ, pos, List, codes, Option, Some, None, Ok, refl, sym, ap, ◌∙◌, subst, cond, le-leb}
 use Rattle.serde_json.specs.Data.{object, Members}
 use Rattle.pp_core.specs.Catalogs.{Objects}
 use Rattle.pp_core.specs.Names.{IsName}
@@ -130,3 +130,9 @@ pub reads_back : (header : Header) (step : Step Op) → header.style ≡ Rules �
 reads_back header step rules cat h =
     let line = step_bytes header.catalog step in
     read header rules cat line step h (value_back (step_value header.catalog step) (near_step header.catalog step cat.named h) (shallow header.catalog step h))
+
+pub text_back : (catalog : Objects) (step : Step Op) (text : List ℕ) → IsCatalog catalog → text ≡ step_bytes catalog step → (header : Header) → header.style ≡ Rules → header.catalog ≡ catalog → IsStatable catalog step
+    → record_of header text ≡ Ok (Plain step)
+text_back catalog step text cat is header rules same h =
+    ap (record_of header) (is ∙ ap (λ (c : Objects). step_bytes c step) (sym same))
+    ∙ reads_back header step rules (subst IsCatalog (sym same) cat) (subst (λ (c : Objects). IsStatable c step) (sym same) h)

@@ -11,8 +11,8 @@ use Rattle.pp_core.specs.declared.call.Kind.{Kind}
 use Rattle.pp_core.specs.declared.entry.Item.{Item}
 use Rattle.pp_core.specs.declared.limits.TheConstants.{MOST_START, MOST_STEPS}
 use Rattle.pp_core.specs.declared.limits.TheConstants.{MOST_TRANSACTIONS}
-use Rattle.pp_front.specs.Records.{RunRecord, Plain}
-use Rattle.pp_front.specs.Records as records
+use Rattle.pp_front.specs.Carried.{Carries, RecordCarries}
+use Rattle.pp_front.specs.Records.{RunRecord}
 use Rattle.pp_model.specs.Lists.{Each}
 use Rattle.pp_object.specs.Calls.{HasMethod, arity_of}
 use Rattle.pp_object.specs.Objects.{objects, kinds_of}
@@ -129,36 +129,16 @@ IsWritable catalog (Cmt tx) = Unit {0}
 IsWritable catalog (Quit tx) = Unit {0}
 IsWritable catalog (Note tx) = Unit {0}
 
--- The step can be stated: besides, its names are names, its id is an id of a record, and its body
--- can be stated.
+-- The step can be stated: its names are names, its id is an id of a record, its operation is one on
+-- an object of the run, and its body can be stated.
 abbrev pub IsStatable : Objects → Step Op → Type 0
-IsStatable catalog (Begin tx thread body) =
-    IsName tx × IsName thread × IfGiven (IsStatableBody catalog) body
-IsStatable catalog (App tx id op) = IsName tx × IsId id × IsOpOn catalog op
-IsStatable catalog (Unapp tx id) = IsName tx × IsId id
-IsStatable catalog (Push tx id) = IsName tx × IsId id
-IsStatable catalog (Unpush tx id) = IsName tx × IsId id
-IsStatable catalog (Pull tx id) = IsName tx × IsId id
-IsStatable catalog (Unpull tx id) = IsName tx × IsId id
-IsStatable catalog (Cmt tx) = IsName tx
-IsStatable catalog (Quit tx) = IsName tx
-IsStatable catalog (Note tx) = IsName tx
+IsStatable catalog step =
+    Carries IsName IsId (IsOpOn catalog) (IfGiven (IsStatableBody catalog)) step
 
--- What a record that was read keeps to: its names are names, its step can be stated, and its
--- operation is one that a step could have.
+-- the same of a record, of the step or the operation that it has
 abbrev pub IsStatableRecord : Objects → RunRecord Op → Type 0
-IsStatableRecord catalog (Plain step) = IsStatable catalog step
-IsStatableRecord catalog (records.Op tx id op) = IsName tx × IsId id × IsOpOn catalog op
-IsStatableRecord catalog (records.Commit tx) = IsName tx
-IsStatableRecord catalog (records.Abort tx) = IsName tx
-IsStatableRecord catalog (records.Retry tx) = IsName tx
-IsStatableRecord catalog (records.Refresh tx object) = IsName tx
-IsStatableRecord catalog (records.XBegin tx) = IsName tx
-IsStatableRecord catalog (records.XEnd tx) = IsName tx
-IsStatableRecord catalog (records.XAbort tx) = IsName tx
-IsStatableRecord catalog (records.Depend tx source) = IsName tx × IsName source
-IsStatableRecord catalog (records.Publish tx) = IsName tx
-IsStatableRecord catalog (records.DropSource tx source) = IsName tx × IsName source
+IsStatableRecord catalog r =
+    RecordCarries IsName IsId (IsOpOn catalog) (IfGiven (IsStatableBody catalog)) r
 
 -- the operations of a start can be written: each is one on an object of the run
 abbrev pub AreWritable : Objects → List (Item Op) → Type 0
@@ -184,7 +164,15 @@ CanStart catalog (Some start) = IsStatableStart catalog start
 -- the step is a begin
 abbrev pub is_begin : Step Op → Bool
 is_begin (Begin tx thread body) = true
-is_begin step = false
+is_begin (App tx id op) = false
+is_begin (Unapp tx id) = false
+is_begin (Push tx id) = false
+is_begin (Unpush tx id) = false
+is_begin (Pull tx id) = false
+is_begin (Unpull tx id) = false
+is_begin (Cmt tx) = false
+is_begin (Quit tx) = false
+is_begin (Note tx) = false
 
 -- The run can be stated: its objects, its start and each of its steps can, and it has at most
 -- 200,000 steps, of which at most 20,000 are begins.

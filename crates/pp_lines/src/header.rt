@@ -1,12 +1,15 @@
 //! The line of a header.
-ghost use Rattle.std.specs.Prelude.{◌≡◌, ◌<◌, map, length, slice_get, option_map, Some, IfOk};
+ghost use Rattle.std.specs.Prelude.{◌≡◌, ◌<◌, map, length, slice_get, option_map, None, Some, Ok};
+ghost use Rattle.std.specs.Prelude.{IfOk};
 ghost use Rattle.serde_json.specs.View.{view};
 ghost use Rattle.pp_core.specs.Catalogs.{HasNames};
 ghost use Rattle.pp_core.specs.Names.{IsName};
 ghost use Rattle.pp_lines.specs.Headers.{object_value, header_value, header_bytes, item_value};
+ghost use Rattle.pp_json.specs.Headers.{header_of};
 ghost use Rattle.pp_lines.specs.Headers.{start_value, header_value_2, header_bytes_2};
+ghost use Rattle.pp_lines.specs.Headers.{rules_header};
 ghost use Rattle.pp_lines.specs.Lines.{IsOneLine};
-ghost use Rattle.pp_lines.specs.Statable.{IsOpOn, AreWritable};
+ghost use Rattle.pp_lines.specs.Statable.{AreWritable, IsCatalog, IsOpOn, IsStatableStart};
 
 use crate::call::{answer_value, call_value};
 use crate::line::line_of;
@@ -32,6 +35,7 @@ fn object_values(alloc: Global, catalog: &Catalog) -> Result<Vec<Value>, OutOfMe
     ensures values { IfOk result
         (λ values. map view values.items ≡ map object_value catalog.now) }
     ensures names { HasNames catalog.now }
+    ensures over { IfOk result (λ _. IsCatalog catalog.now) }
 {
     let mut values = Vec::new(alloc);
     for object in 0..catalog.len() {
@@ -43,6 +47,7 @@ fn object_values(alloc: Global, catalog: &Catalog) -> Result<Vec<Value>, OutOfMe
 fn header_value(alloc: Global, catalog: &Catalog) -> Result<Value, OutOfMemory>
     ensures value { IfOk result (λ value. view value ≡ header_value catalog.now) }
     ensures names { HasNames catalog.now }
+    ensures over { IfOk result (λ _. IsCatalog catalog.now) }
 {
     let objects = Value::Array(object_values(alloc, catalog)?);
     Ok(json!(in alloc; {"objects": objects, "run": 1, "style": "rules"})?)
@@ -105,6 +110,7 @@ fn header_value_2(
     requires { AreWritable catalog.now ops.now }
     ensures value { IfOk result (λ value. view value ≡ header_value_2 catalog.now tx.now ops.now) }
     ensures names { HasNames catalog.now }
+    ensures over { IfOk result (λ _. IsCatalog catalog.now) }
     ensures named { IfOk result (λ _. IsName tx.now) }
 {
     let objects = Value::Array(object_values(alloc, catalog)?);
@@ -113,10 +119,12 @@ fn header_value_2(
 }
 
 /// The line of the header of a run of style rules over these objects, in version 1 of the format,
-/// without a line end. The only error is that memory was refused.
+/// without a line end. It reads back as that header. The only error is that memory was refused.
 #[tactic(auto, using(crate::proofs::Headers::no_float, crate::proofs::Headers::one_line))]
 pub fn header_line(alloc: Global, catalog: &Catalog) -> Result<Text, OutOfMemory>
     ensures text { IfOk result (λ text. text ≡ header_bytes catalog.now) }
+    ensures back { IfOk result
+        (λ text. header_of text ≡ Ok (rules_header catalog.now None)) }
     ensures one_line { IfOk result IsOneLine }
 {
     let value = header_value(alloc, catalog)?;
@@ -124,8 +132,8 @@ pub fn header_line(alloc: Global, catalog: &Catalog) -> Result<Text, OutOfMemory
 }
 
 /// The line of the header of a run of style rules over these objects that begins with these
-/// operations of this transaction, in version 2 of the format, without a line end. The only error
-/// is that memory was refused.
+/// operations of this transaction, in version 2 of the format, without a line end. It reads back as
+/// that header where a header may have this start. The only error is that memory was refused.
 #[tactic(auto, using(crate::proofs::Headers::no_float_2, crate::proofs::Headers::one_line_2))]
 pub fn header_line_2(
     alloc: Global,
@@ -135,6 +143,9 @@ pub fn header_line_2(
 ) -> Result<Text, OutOfMemory>
     requires { AreWritable catalog.now ops.now }
     ensures text { IfOk result (λ text. text ≡ header_bytes_2 catalog.now tx.now ops.now) }
+    ensures back { IfOk result (λ text.
+        IsStatableStart catalog.now (record { tx = tx.now; ops = ops.now }) → header_of text
+        ≡ Ok (rules_header catalog.now (Some (record { tx = tx.now; ops = ops.now })))) }
     ensures one_line { IfOk result IsOneLine }
 {
     let value = header_value_2(alloc, catalog, tx, ops)?;

@@ -43,7 +43,8 @@ pub fn read_header_law()
         → CanStart header.catalog header.start }
 {}
 
-/// A record that was read can be stated, of whichever style it is.
+/// Of a record that was read, of whichever style, the names are names, and its step, or its
+/// operation with its id, can be stated.
 pub fn read_record_law()
     ensures { (header : Header) (line : List ℕ) (r : RunRecord Op)
         → record_of header line ≡ Ok r → IsStatableRecord header.catalog r }

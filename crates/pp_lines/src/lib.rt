@@ -12,5 +12,5 @@ mod step;
 
 pub use header::{header_line, header_line_2};
 pub use law::{header_law, length_law, read_header_law, read_record_law, run_text_law, step_law};
-pub use run::run_text;
+pub use run::{add_steps, header_text};
 pub use step::step_line;

@@ -1,6 +1,7 @@
 //! The text of a run.
-ghost use Rattle.std.specs.Prelude.{◌≡◌, [], ◌∷◌, ◌++◌, map, OnOk, IfOk};
-ghost use Rattle.pp_core.specs.Steps.{meaning};
+ghost use Rattle.std.specs.Prelude.{◌≡◌, List, [], ◌∷◌, ◌++◌, map, Option, OnOk, IfOk};
+ghost use Rattle.pp_core.specs.Steps.{Step as StepMeaning, meaning};
+ghost use Rattle.pp_json.specs.declared.start.Start.{Start};
 ghost use Rattle.pp_lines.specs.RunTexts.{printed_header, run_text};
 ghost use Rattle.pp_lines.specs.Statable.{IsWritable, IsWritableStart};
 ghost use Rattle.pp_lines.specs.Steps.{step_bytes};
@@ -44,24 +45,37 @@ fn add_step(
     text.push(b'\n')
 }
 
-/// The text of a run of style rules over these objects, with this start if there is one: the line
-/// of its header and then a line for each step, each with a byte 10 behind it. The only error is
-/// that memory was refused.
-pub fn run_text(
+/// The text of a run of style rules over these objects of which no step is written yet, with this
+/// start if there is one: the line of its header with a byte 10 behind it. The only error is that
+/// memory was refused.
+pub fn header_text(
     alloc: Global,
     catalog: &Catalog,
     start: &Option<Start>,
-    steps: &[Step<Op>],
 ) -> Result<Text, OutOfMemory>
-    requires start { IsWritableStart catalog.now start.now }
-    requires steps { Each (IsWritable catalog.now) (map meaning steps.now) }
-    ensures { IfOk result
-        (λ text. text ≡ run_text catalog.now start.now (map meaning steps.now)) }
+    requires { IsWritableStart catalog.now start.now }
+    ensures { IfOk result (λ text. text ≡ run_text catalog.now start.now []) }
 {
     let mut text = printed_header(alloc, catalog, start)?;
     text.push(b'\n')?;
-    for step in steps {
-        add_step(alloc, catalog, step, &mut text)?;
-    }
     Ok(text)
+}
+
+/// Writes further steps behind the text of a run: a line for each, with a byte 10 behind it. The
+/// only error is that memory was refused.
+pub fn add_steps(
+    alloc: Global,
+    catalog: &Catalog,
+    steps: &[Step<Op>],
+    text: &mut Text,
+) -> Result<(), OutOfMemory>
+    requires { Each (IsWritable catalog.now) (map meaning steps.now) }
+    ensures { OnOk result ((start : Option Start) (before : List (StepMeaning Op)) →
+        text.old ≡ run_text catalog.now start before →
+        text.new ≡ run_text catalog.now start (before ++ map meaning steps.now)) }
+{
+    for step in steps {
+        add_step(alloc, catalog, step, text)?;
+    }
+    Ok(())
 }

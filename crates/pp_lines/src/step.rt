@@ -1,14 +1,18 @@
 //! The line of a step.
-ghost use Rattle.std.specs.Prelude.{◌≡◌, ◌≤◌, length, codes, option_map, IfOk};
+ghost use Rattle.std.specs.Prelude.{◌≡◌, ◌≤◌, length, codes, option_map, Ok, IfOk};
 ghost use Rattle.serde_json.specs.Data.{object};
 ghost use Rattle.serde_json.specs.View.{view};
 ghost use Rattle.pp_core.specs.Names.{IsName};
 ghost use Rattle.pp_core.specs.Steps.{meaning};
 ghost use Rattle.pp_core.specs.Trees.{tree};
+ghost use Rattle.pp_core.specs.declared.call.Style.TheVariants.{Rules};
+ghost use Rattle.pp_front.specs.Records.{Plain};
+ghost use Rattle.pp_json.specs.Records.{record_of};
+ghost use Rattle.pp_json.specs.declared.header.Header.{Header};
 ghost use Rattle.pp_lines.specs.Lines.{IsOneLine};
 ghost use Rattle.pp_lines.specs.Operations.{op_members};
 ghost use Rattle.pp_lines.specs.Statable.{IsKnown, IsOpOn, EachCall, IfGiven};
-ghost use Rattle.pp_lines.specs.Statable.{IsNamed, IsWritable};
+ghost use Rattle.pp_lines.specs.Statable.{IsNamed, IsStatable, IsWritable};
 ghost use Rattle.pp_lines.specs.Steps.{tx_members, tx_value, entry_value, begin_members};
 ghost use Rattle.pp_lines.specs.Steps.{step_value, step_bytes};
 
@@ -104,12 +108,16 @@ fn step_value(alloc: Global, catalog: &Catalog, step: &Step<Op>) -> Result<Value
     }
 }
 
-/// The line of a step as a record of style rules, without a line end. The only error is that memory
-/// was refused.
+/// The line of a step as a record of style rules, without a line end. It reads back as that step
+/// behind a header with these objects, where a record may have the step. The only error is that
+/// memory was refused.
 #[tactic(auto, using(crate::proofs::Steps::no_float, crate::proofs::Steps::one_line))]
 pub fn step_line(alloc: Global, catalog: &Catalog, step: &Step<Op>) -> Result<Text, OutOfMemory>
     requires { IsWritable catalog.now (meaning step.now) }
     ensures text { IfOk result (λ text. text ≡ step_bytes catalog.now (meaning step.now)) }
+    ensures back { IfOk result (λ text. (header : Header) → header.style ≡ Rules →
+        header.catalog ≡ catalog.now → IsStatable catalog.now (meaning step.now) →
+        record_of header text ≡ Ok (Plain (meaning step.now))) }
     ensures one_line { IfOk result IsOneLine }
 {
     // It stands here for what its clauses say of each catalog.
