@@ -14,32 +14,35 @@ import sys
 
 ROOT = pathlib.Path(__file__).resolve().parent.parent
 PAGES = ("README.md", "docs/RECORDING.md")
-COMMAND = re.compile(r"^ {4}\$ \./pp_cli certify < examples/(\w+\.jsonl)\n((?: {4}.+\n)*)", re.MULTILINE)
+COMMAND = re.compile(r"^ {4}\$ \./pp_cli (certify|expand) < examples/(\w+\.jsonl)\n((?: {4}.+\n)*)", re.MULTILINE)
 TOO_LONG = 4_096 * (65_536 * b" " + b"\n")
 STATUS = {"accepted": 0, "rejected": 1, "fault": 3}
 
 
-def shown():
-    """The outputs of the pages, each with the name of its file: a page may show one that another shows too."""
+def shown(command):
+    """The outputs of a command on the pages, each with the name of its file: a page may show one that another shows too."""
     blocks = [found for page in PAGES for found in COMMAND.findall((ROOT / page).read_text())]
-    return [(name, re.sub(r"^ {4}", "", block, flags=re.MULTILINE)) for name, block in blocks]
+    return [(name, re.sub(r"^ {4}", "", block, flags=re.MULTILINE)) for word, name, block in blocks if word == command]
 
 
-def differs(program, run, output):
-    """What the program does otherwise on a run, or nothing."""
-    ran = subprocess.run([program, "certify"], input=run, capture_output=True, timeout=120, check=False)
+def differs(program, command, run, output, report):
+    """What the program does otherwise on a run, or nothing. The report of the run says how it is to end."""
+    ran = subprocess.run([program, command], input=run, capture_output=True, timeout=120, check=False)
     if ran.stdout.decode() != output:
         return f"prints\n{ran.stdout.decode()}and not\n{output}"
-    wanted = STATUS[output.split()[0]]
+    wanted = STATUS[report.split()[0]]
     return f"ends with {ran.returncode} and not {wanted}" if ran.returncode != wanted else None
 
 
-def wrong_answers(program, outputs):
-    runs = [(name, (ROOT / "examples" / name).read_bytes(), output) for name, output in sorted(outputs)]
-    for name, run, output in [*runs, ("too many bytes", TOO_LONG, "fault line 4096 TooLong\n")]:
-        said = differs(program, run, output)
+def wrong_answers(program, reports, expanded):
+    report_of = dict(reports)
+    runs = [(name, "certify", (ROOT / "examples" / name).read_bytes(), report, report) for name, report in sorted(reports)]
+    runs += [(name, "expand", (ROOT / "examples" / name).read_bytes(), output, report_of[name]) for name, output in sorted(expanded)]
+    too_long = "fault line 4096 TooLong\n"
+    for name, command, run, output, report in [*runs, ("too many bytes", "certify", TOO_LONG, too_long, too_long)]:
+        said = differs(program, command, run, output, report)
         if said:
-            yield f"{name}: the program {said}"
+            yield f"{name}: the program, on {command}, {said}"
 
 
 def strange_clauses():
@@ -52,12 +55,14 @@ def strange_clauses():
 
 def main():
     program = pathlib.Path(sys.argv[1] if len(sys.argv) > 1 else ROOT / "crates/pp_cli/out/pp_cli").resolve()
-    outputs = shown()
+    outputs, expanded = shown("certify"), shown("expand")
     names, named = {file.name for file in (ROOT / "examples").iterdir()}, {name for name, _ in outputs}
     wrong = [f"{name}: no page shows its output" for name in sorted(names - named)]
     wrong += [f"{name}: there is no such example" for name in sorted(named - names)]
+    wrong += [f"{name}: no page shows its report beside its steps" for name, _ in expanded if name not in named]
     if program.is_file():
-        wrong += wrong_answers(program, [(name, output) for name, output in outputs if name in names])
+        there = names & named
+        wrong += wrong_answers(program, [(n, o) for n, o in outputs if n in there], [(n, o) for n, o in expanded if n in there])
     else:
         wrong.append(f"no program at {program}")
     wrong += [f"not a clause of run: {clause}" for clause in strange_clauses()]

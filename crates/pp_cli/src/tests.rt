@@ -1,5 +1,6 @@
 //! What no clause says: that memory is found, and whole runs from their bytes to their report.
 mod accepted_runs;
+mod expanded_runs;
 mod faulty_inputs;
 mod given_words;
 mod long_inputs;
@@ -11,6 +12,7 @@ mod styled_runs;
 
 use crate::run_counted;
 use crate::tests::accepted_runs::ACCEPTED;
+use crate::tests::expanded_runs::{EXPANDED, OLD_READ};
 use crate::tests::faulty_inputs::FAULTY;
 use crate::tests::given_words::GivenWords;
 use crate::tests::long_inputs::{LONG, bytes_of};
@@ -38,24 +40,41 @@ fn status_of(
     run_counted::<Brand, _, _>(alloc, words, source, sink, Blank::new(1))
 }
 
-/// The status of `certify` on an input, and what the sink holds.
-fn certified(
+/// The status of a command of one word on an input, and what the sink holds.
+fn answered(
     alloc: Global,
+    command: &[u8],
     mut source: MemorySource,
     mut sink: MemorySink,
 ) -> Result<(Status, Vec<u8>), Fail> {
     let mut words = Words::new(alloc);
-    words.push(b"certify")?;
+    words.push(command)?;
     let status = status_of(&words, &mut source, &mut sink, alloc);
     Ok((status, sink.held().to_vec(alloc)?))
 }
 
 /// The same of bytes that come in pieces of one byte, or in whole pieces.
-fn certified_bytes(alloc: Global, input: Vec<u8>, by_one: bool) -> Result<(Status, Vec<u8>), Fail> {
+fn answered_bytes(
+    alloc: Global,
+    command: &[u8],
+    input: Vec<u8>,
+    by_one: bool,
+) -> Result<(Status, Vec<u8>), Fail> {
     let count = if by_one { input.len() } else { 0 };
     let pieces = vec![in alloc; 1usize; count]?;
     let source = MemorySource::new(input, pieces, Vec::new(alloc));
-    certified(alloc, source, MemorySink::new(alloc, 3, Vec::new(alloc)))
+    let sink = MemorySink::new(alloc, 3, Vec::new(alloc));
+    answered(alloc, command, source, sink)
+}
+
+/// The same of `certify`.
+fn certified_bytes(alloc: Global, input: Vec<u8>, by_one: bool) -> Result<(Status, Vec<u8>), Fail> {
+    answered_bytes(alloc, b"certify", input, by_one)
+}
+
+/// The same of `expand`.
+fn expanded_bytes(alloc: Global, input: Vec<u8>, by_one: bool) -> Result<(Status, Vec<u8>), Fail> {
+    answered_bytes(alloc, b"expand", input, by_one)
 }
 
 /// The lines of a row.
@@ -110,6 +129,38 @@ fn runs_have_their_reports(rt: HostRuntime) -> Result<(), Fail> {
 }
 
 #[test]
+fn runs_have_their_steps(rt: HostRuntime) -> Result<(), Fail> {
+    let alloc = rt.alloc();
+    for row in &EXPANDED {
+        let answer = expanded_bytes(alloc, input_of(alloc, row)?, true)?;
+        assert_answer(&rt, row.what, &answer, row.status, row.report);
+    }
+    Ok(())
+}
+
+#[test]
+fn printed_steps_are_a_run_of_themselves(rt: HostRuntime) -> Result<(), Fail> {
+    let alloc = rt.alloc();
+    for row in &EXPANDED {
+        if row.status != Status::InputFault {
+            let answer = expanded_bytes(alloc, row.report.to_vec(alloc)?, false)?;
+            assert_answer(&rt, row.what, &answer, row.status, row.report);
+        }
+    }
+    Ok(())
+}
+
+#[test]
+fn printed_steps_have_the_verdict_of_their_run(rt: HostRuntime) -> Result<(), Fail> {
+    let alloc = rt.alloc();
+    let (_status, printed) = expanded_bytes(alloc, OLD_READ.to_vec(alloc)?, false)?;
+    let answer = certified_bytes(alloc, printed, false)?;
+    let report = b"rejected step 7 line 8 PUSH 5\nentry 1 gives 1\n";
+    assert_answer(&rt, "an old read", &answer, Status::Rejected, report);
+    Ok(())
+}
+
+#[test]
 fn the_last_line_may_lack_its_end(rt: HostRuntime) -> Result<(), Fail> {
     let answer = certified_bytes(rt.alloc(), added(rt.alloc())?, true)?;
     let report = b"accepted steps 4 committed 1\ntx t1\nop 1 c.add(2)=none\nstate c 2\n";
@@ -129,9 +180,12 @@ fn long_inputs_have_their_reports(rt: HostRuntime) -> Result<(), Fail> {
 }
 
 /// Words that are no command, behind the program's own name.
-const NO_COMMANDS: [&[&[u8]]; 9] = [
+const NO_COMMANDS: [&[&[u8]]; 12] = [
     &[b"pp_cli"],
     &[b"pp_cli", b"certify", b"certify"],
+    &[b"pp_cli", b"certify", b"expand"],
+    &[b"pp_cli", b"expand", b"x"],
+    &[b"pp_cli", b"expan"],
     &[b"pp_cli", b"check"],
     &[b"pp_cli", b"drill", b"0"],
     &[b"pp_cli", b"drill", b"20001"],
@@ -168,7 +222,7 @@ fn a_failed_read_writes_nothing(rt: HostRuntime) -> Result<(), Fail> {
     let pieces = vec![in alloc; 1usize; input.len()]?;
     let source = MemorySource::new(input, pieces, vec![in alloc; 2u64]?);
     let sink = MemorySink::new(alloc, 8, Vec::new(alloc));
-    let (status, report) = certified(alloc, source, sink)?;
+    let (status, report) = answered(alloc, b"certify", source, sink)?;
     assert_eq!(rt; status, Status::ReadFault);
     assert_eq!(rt; report.len(), 0);
     Ok(())
@@ -179,7 +233,7 @@ fn a_failed_write_leaves_a_prefix(rt: HostRuntime) -> Result<(), Fail> {
     let alloc = rt.alloc();
     let source = MemorySource::new(added(alloc)?, Vec::new(alloc), Vec::new(alloc));
     let sink = MemorySink::new(alloc, 8, vec![in alloc; 1u64]?);
-    let (status, report) = certified(alloc, source, sink)?;
+    let (status, report) = answered(alloc, b"certify", source, sink)?;
     assert_eq!(rt; status, Status::WriteFault);
     assert_eq!(rt; report.as_slice(), b"accepted".as_slice());
     Ok(())

@@ -42,9 +42,7 @@ use Rattle.pp_spec.proofs.Places.{tells_states}
 use Rattle.pp_run.specs.Objects.{object_of, setting_of, start_of, translation_of}
 use Rattle.pp_run.specs.Accepted.{HasRun, IsAloneAccepted, IsSimulated, RunsAlone}
 use Rattle.pp_run.specs.Inputs.{IsFaultOf, scan}
-use Rattle.pp_run.specs.Outputs.{IsCertified, IsOutput, IsRunTold, IsTold, RunReport}
-use Rattle.pp_run.specs.declared.words.Command.{Command}
-use Rattle.pp_run.specs.declared.words.Command.TheVariants.{Certify}
+use Rattle.pp_run.specs.Outputs.{IsCertified, IsRunTold, IsTold, RunReport}
 use Rattle.pp_run.specs.declared.progress.Rejection.{Rejection}
 use Rattle.pp_run.specs.Progresses.{EndsAt, IsRejected, IsRejectionOf, IsRunning, standing_of}
 use Rattle.pp_run.specs.Rejected.{IsEvident, IsStartEvident, IsStepEvident, StartFactRefutes}
@@ -191,7 +189,7 @@ abbrev has_run : (sc : InputScan) → AcceptedRun sc.header sc.records → HasRu
 has_run sc a = record { header = a.header; run = a.run; first_line = a.first_line; steps = a.steps }
 
 -- what holds of one run of a scan holds of every one, since there is one at most
-only_run : (sc : InputScan) (a r : HasRun sc) (P : Lined Header → LinedSteps Op → Type 0) → P a.header a.run → P r.header r.run
+pub only_run : (sc : InputScan) (a r : HasRun sc) (P : Lined Header → LinedSteps Op → Type 0) → P a.header a.run → P r.header r.run
 only_run sc a r P p =
     let heads : a.header ≡ r.header = same_Some a.header r.header (sym a.first_line ∙ r.first_line) in
     let steps = subst (λ (h : Lined Header). IsRun (object_of h.what) (translation_of h.what) (start_of h.what) sc.records a.run) heads a.steps in
@@ -230,11 +228,7 @@ told_once (Some h) (StartRejected line n) s s' t t' a b = (a.0 ∙ sym b.0, a.1 
 told_once None (StepRejected i line n before step) s s' t t' a b = absurd a
 told_once (Some h) (StepRejected i line n before step) s s' t t' a b = (a.0 ∙ sym b.0, a.1 ∙ sym b.1)
 
-one_certified : (bytes : List ℕ) (s s' : Status) (t t' : List ℕ) → IsCertified bytes s t → IsCertified bytes s' t' → (s ≡ s') × (t ≡ t')
+pub one_certified : (bytes : List ℕ) (s s' : Status) (t t' : List ℕ) → IsCertified bytes s t → IsCertified bytes s' t' → (s ≡ s') × (t ≡ t')
 one_certified bytes s s' t t' a b =
     let same : a.0 ≡ b.0 = (input_law setting_of TooManySteps).one_report (scan bytes) a.0 b.0 a.1 b.1 in
     told_once (scan bytes).header b.0 s s' t t' (subst (λ (w : RunReport). IsTold (scan bytes).header w s t) same a.2) b.2
-
-pub one_output : (command : Option Command) (bytes : List ℕ) (s s' : Status) (t t' : List ℕ) → IsOutput command bytes s t → IsOutput command bytes s' t' → (s ≡ s') × (t ≡ t')
-one_output None bytes s s' t t' a b = (a.0 ∙ sym b.0, a.1 ∙ sym b.1)
-one_output (Some Certify) bytes s s' t t' a b = one_certified bytes s s' t t' a b

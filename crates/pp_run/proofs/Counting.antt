@@ -1,5 +1,5 @@
 -- How far the counter of operations rises, line by line.
-use Rattle.std.specs.Prelude.{◌≡◌, ◌≤◌, ◌<◌, ◌+◌, ℕ, zero, suc, true, false, List, [], ◌∷◌}
+use Rattle.std.specs.Prelude.{◌≡◌, ◌≤◌, ◌+◌, ℕ, zero, suc, true, false, List, [], ◌∷◌}
 use Rattle.std.specs.Prelude.{◌++◌, length, take, Option, None, Some, Result, Ok, Err}
 use Rattle.std.proofs.Common.{refl, sym, ap, ◌∙◌, subst, arith}
 use Rattle.std.proofs.lemmas.List.{append-nil, take_all}
@@ -100,7 +100,7 @@ run_front h records more run (inr e) =
     (subst (λ (w : LinedSteps Op). EndsAtFailure (object_of h) (first (start_of h)) w run) (joined_more (object_of h) T p records more) e.1) in
     (k.0, k.1, inr (e.0, k.2), k.3)
 
-empty_run : (h : Header) (run : LinedSteps Op) → IsRun (object_of h) (translation_of h) (start_of h) [] run → run ≡ []
+pub empty_run : (h : Header) (run : LinedSteps Op) → IsRun (object_of h) (translation_of h) (start_of h) [] run → run ≡ []
 empty_run h run (inl e) = e.2
 empty_run h run (inr e) = e.1
 

@@ -1,6 +1,6 @@
 -- One line more, seen from the progress of an examination.
 use Rattle.std.specs.Prelude.{◌≡◌, ◌≤◌, ◌<◌, ℕ, zero, suc, ◌+◌, ◌==◌, ◌&&◌, Bool, true, false, List}
-use Rattle.std.specs.Prelude.{[], ◌∷◌, ◌++◌, length, filter, cond, Option, None, Some, Result, Ok}
+use Rattle.std.specs.Prelude.{[], ◌∷◌, length, filter, cond, Option, None, Some, Result, Ok}
 use Rattle.std.specs.Prelude.{Err}
 use Rattle.std.proofs.Common.{refl, sym, ap, ◌∙◌, subst, arith, length-append, append_assoc}
 use Rattle.std.proofs.lemmas.List.{append-nil}
@@ -50,7 +50,7 @@ length_filter test (x ∷ xs) =
       | false ↦ omega (arith, length_filter test xs)
     ]
 
-abbrev test_begin : Lined (RunRecord Op) → Bool
+abbrev pub test_begin : Lined (RunRecord Op) → Bool
 test_begin r = is_begin_record r.what
 
 pub few_begins : (sc : InputScan) (tally : Tally) → IsTallied sc tally → tally.begins < tally.lines

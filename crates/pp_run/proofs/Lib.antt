@@ -6,10 +6,15 @@ pub mod Driving
 pub mod Counting
 pub mod RecordCosts
 pub mod Starting
+pub mod Keeping
 pub mod Takers
 pub mod Examining
 pub mod Fitting
 pub mod Naming
 pub mod Concluding
+pub mod Expanding
 pub mod Summing
 pub mod Sending
+pub mod Stating
+pub mod Begun
+pub mod Restated

@@ -29,7 +29,7 @@ use Rattle.pp_styles.proofs.Driven.{most_append, singles_append}
 use Rattle.pp_run.specs.Costs.{OfRun, StepsCostAtMost, start_at_most, steps_at_most}
 use Rattle.pp_run.specs.Objects.{object_of, start_of, translation_of}
 use Rattle.pp_run.specs.Progresses.{Counts, FailsWithin, GoesOn, RecordTaken, is_too_many}
-use Rattle.pp_run.specs.Progresses.{standing_of, steps_here, with_record}
+use Rattle.pp_run.specs.Progresses.{steps_here, with_record}
 use Rattle.pp_run.specs.Scans.{InputScan, scan_line, with_next}
 use Rattle.pp_run.specs.declared.progress.Progress.{Progress}
 use Rattle.pp_run.specs.declared.progress.Progress.TheVariants.{Waiting, Running, Rejected}
@@ -117,7 +117,7 @@ module _ {State : Type 0} (O : Object Op State) (line : ℕ) where
 -- ---- the record
 
 module _ (sc : InputScan) (tally : Tally) (front : AnyFront) (machine : Seen (List Kind) Op) (c : GoesOn sc tally front machine) (line : ℕ) (r : RunRecord Op) where
-  abbrev so_far : LinedSteps Op
+  abbrev pub so_far : LinedSteps Op
   so_far = run_so_far sc tally machine c.run
 
   -- the run with this record is the run so far, and that of the steps of the record
@@ -134,7 +134,7 @@ module _ (sc : InputScan) (tally : Tally) (front : AnyFront) (machine : Seen (Li
         ap (λ (w : LinedSteps Op). bare w) k.2 ∙ bare_append so_far k.0,
       )
 
-  size : length (bare so_far) ≡ machine.count
+  pub size : length (bare so_far) ≡ machine.count
   size = length_bare so_far ∙ sym c.run.stands.number
 
   pub most_record : (old now new : ℕ) → StepsCostAtMost sc old now → CostAtMost objects place_of machine (steps_here tally front machine r) now new → StepsCostAtMost (with_next sc line r) old new
@@ -171,21 +171,34 @@ module _ (sc : InputScan) (tally : Tally) (front : AnyFront) (machine : Seen (Li
       let here : old + singles xs ≤ now = subst (λ (w : Option (Lined Header)). OfRun w sc.records (Least (Running tally front machine) old now)) c.run.follows.header least so_far (is_run_so_far sc tally machine c.run) in
       more_least old now new (singles xs) (singles before) (singles (xs ++ before)) here cost (singles_append xs before)
 
-  least_failed : (old now new : ℕ) (rejection : Rejection) → OfRun sc.header sc.records (Least (Running tally front machine) old now) → FailsWithin machine (steps_here tally front machine r) line now new rejection
-      → (run : LinedSteps Op) → IsRun (object_of tally.header) (translation_of tally.header) (start_of tally.header) (sc.records ++ on_record line r ∷ []) run → old + singles (but_last (bare run)) ≤ new
-  least_failed old now new rejection least e run is = go e.criterion e.some e.breaks
+  -- the run with this record: where each of its steps is done
+  pub done_run : (now new : ℕ) (v : Seen (List Kind) Op) (done : HasDone objects machine (steps_here tally front machine r) [] v now new) (run : LinedSteps Op)
+      → IsRun (object_of tally.header) (translation_of tally.header) (start_of tally.header) (sc.records ++ on_record line r ∷ []) run → bare run ≡ bare so_far ++ done.before
+  done_run now new v done run is =
+      let k = record_run run is in
+      let there : bare k.0 ≡ done.before = whole_run (object_of tally.header) line machine.config (steps_here tally front machine r) done.before k.0 (hold_there sc tally front machine c r done.before done.hold) done.parts k.1 in
+      k.2 ∙ ap (λ (w : List (Step Op)). bare so_far ++ w) there
+
+  -- and where one fails
+  pub run_to_failed : (now new : ℕ) (rejection : Rejection) (e : FailsWithin machine (steps_here tally front machine r) line now new rejection) (run : LinedSteps Op)
+      → IsRun (object_of tally.header) (translation_of tally.header) (start_of tally.header) (sc.records ++ on_record line r ∷ []) run → bare run ≡ (bare so_far ++ e.done.before) ++ e.step ∷ []
+  run_to_failed now new rejection e run is = go e.criterion e.some e.breaks
     where
-      go : (n : ℕ) → 0 < n → Breaks (rules_of objects e.at.shape) e.at.config e.step n → old + singles (but_last (bare run)) ≤ new
+      go : (n : ℕ) → 0 < n → Breaks (rules_of objects e.at.shape) e.at.config e.step n → bare run ≡ (bare so_far ++ e.done.before) ++ e.step ∷ []
       go zero some breaks = absurd (omega arith)
       go (suc n) some breaks =
           let before : List (Step Op) = e.done.before in
-          let O = object_of tally.header in
           let k = record_run run is in
-          let there : bare k.0 ≡ before ++ e.step ∷ [] = failed_run O line machine.config (steps_here tally front machine r) before e.behind e.step n k.0 (hold_there sc tally front machine c r before e.done.hold) e.done.parts
+          let there : bare k.0 ≡ before ++ e.step ∷ [] = failed_run (object_of tally.header) line machine.config (steps_here tally front machine r) before e.behind e.step n k.0 (hold_there sc tally front machine c r before e.done.hold) e.done.parts
           (breaks_there sc tally front machine c r before e.at e.step (suc n) e.done.is breaks) k.1 in
-          let whole : bare run ≡ (bare so_far ++ before) ++ e.step ∷ [] = k.2 ∙ ap (λ (w : List (Step Op)). bare so_far ++ w) there ∙ sym (append_assoc (bare so_far) before (e.step ∷ [])) in
-          let front_is : but_last (bare run) ≡ bare so_far ++ before = ap (λ (w : List (Step Op)). but_last w) whole ∙ but_last_end (bare so_far ++ before) e.step in
-          subst (λ (w : List (Step Op)). old + singles w ≤ new) (sym front_is) (least_more old now new before least e.done.least)
+          k.2 ∙ ap (λ (w : List (Step Op)). bare so_far ++ w) there ∙ sym (append_assoc (bare so_far) before (e.step ∷ []))
+
+  least_failed : (old now new : ℕ) (rejection : Rejection) → OfRun sc.header sc.records (Least (Running tally front machine) old now) → FailsWithin machine (steps_here tally front machine r) line now new rejection
+      → (run : LinedSteps Op) → IsRun (object_of tally.header) (translation_of tally.header) (start_of tally.header) (sc.records ++ on_record line r ∷ []) run → old + singles (but_last (bare run)) ≤ new
+  least_failed old now new rejection least e run is =
+      let done : List (Step Op) = bare so_far ++ e.done.before in
+      let front_is : but_last (bare run) ≡ done = ap (λ (w : List (Step Op)). but_last w) (run_to_failed now new rejection e run is) ∙ but_last_end done e.step in
+      subst (λ (w : List (Step Op)). old + singles w ≤ new) (sym front_is) (least_more old now new e.done.before least e.done.least)
 
   pub least_record : (old now new : ℕ) (next : Progress) → OfRun sc.header sc.records (Least (Running tally front machine) old now) → RecordTaken (with_record tally r) front machine r line now next new
       → OfRun (with_next sc line r).header (with_next sc line r).records (Least next old new)
@@ -193,10 +206,7 @@ module _ (sc : InputScan) (tally : Tally) (front : AnyFront) (machine : Seen (Li
   least_record old now new (Running after other v) least t =
       subst (λ (w : Option (Lined Header)). OfRun w (with_next sc line r).records (Least (Running after other v) old new)) (sym c.run.follows.header) (λ run is.
       let done : HasDone objects machine (steps_here tally front machine r) [] v now new = t.3 in
-      let k = record_run run is in
-      let there : bare k.0 ≡ done.before = whole_run (object_of tally.header) line machine.config (steps_here tally front machine r) done.before k.0 (hold_there sc tally front machine c r done.before done.hold) done.parts k.1 in
-      let whole : bare run ≡ bare so_far ++ done.before = k.2 ∙ ap (λ (w : List (Step Op)). bare so_far ++ w) there in
-      subst (λ (w : List (Step Op)). old + singles w ≤ new) (sym whole) (least_more old now new done.before least done.least))
+      subst (λ (w : List (Step Op)). old + singles w ≤ new) (sym (done_run now new v done run is)) (least_more old now new done.before least done.least))
   least_record old now new (Rejected after rejection) least t =
       subst (λ (w : Option (Lined Header)). OfRun w (with_next sc line r).records (Least (Rejected after rejection) old new)) (sym c.run.follows.header)
       (λ run is. least_failed old now new rejection least t.1 run is)

@@ -223,6 +223,10 @@ pub if_ok_two : {T E : Type 0} (r : Result T E) (P Q R : T → Type 0) → ((x :
 if_ok_two (Ok x) P Q R f p q = f x p q
 if_ok_two (Err e) P Q R f p q = tt
 
+pub if_ok_all : {T E : Type 0} (r : Result T E) (P : T → Type 0) → ((x : T) → P x) → IfOk r P
+if_ok_all (Ok x) P f = f x
+if_ok_all (Err e) P f = tt
+
 pub on_ok : {T E : Type 0} (r : Result T E) (P : Type 0) → P → OnOk r P
 on_ok (Ok x) P p = p
 on_ok (Err e) P p = tt

@@ -68,6 +68,16 @@ least_of_run statuses.ReadFault start steps = 0
 least_of_run statuses.WriteFault start steps = 0
 least_of_run statuses.OutOfMemory start steps = 0
 
+-- the same of expanding a run, which has no serial run
+abbrev pub least_of_steps : Status → Option (Start Op) → List (Step Op) → ℕ
+least_of_steps statuses.Accepted start steps = singles steps
+least_of_steps statuses.Rejected start steps = singles (but_last steps)
+least_of_steps statuses.BadWords start steps = 0
+least_of_steps statuses.InputFault start steps = 0
+least_of_steps statuses.ReadFault start steps = 0
+least_of_steps statuses.WriteFault start steps = 0
+least_of_steps statuses.OutOfMemory start steps = 0
+
 -- ---- the bounds
 
 -- the counter rises at most by what certifying the run of the input costs at most
@@ -84,3 +94,7 @@ CostsAtLeast status sc old new =
 abbrev pub StepsCostAtMost : InputScan → (old new : ℕ) → Type 0
 StepsCostAtMost sc old new =
     OfRun sc.header sc.records λ start steps. new ≤ old + steps_at_most start steps
+
+abbrev pub StepsCostAtLeast : Status → InputScan → (old new : ℕ) → Type 0
+StepsCostAtLeast status sc old new =
+    OfRun sc.header sc.records λ start steps. old + least_of_steps status start steps ≤ new

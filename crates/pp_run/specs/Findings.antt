@@ -1,7 +1,11 @@
 -- Proof machinery: what the examination of an input finds.
-use Rattle.std.specs.Prelude.{ℕ, ◌+◌, ◌≤◌, List, Option, Some}
+use Rattle.std.specs.Prelude.{◌≡◌, ℕ, ◌+◌, ◌≤◌, List, Option, Some}
 use Rattle.std.specs.Io.KnownBytes.{Consumes, IsAtEnd}
+use Rattle.pp_core.specs.Steps.{Step}
+use Rattle.pp_json.specs.declared.header.Header.{Header}
+use Rattle.pp_lines.specs.RunTexts.{run_text}
 use Rattle.pp_model.specs.Config.{but_last}
+use Rattle.pp_object.specs.declared.act.Op.{Op}
 use Rattle.pp_report.specs.declared.cause.Cause.TheVariants.{NoHeader}
 use Rattle.pp_styles.specs.Costs.{singles}
 use Rattle.pp_run.specs.declared.examine.Finding.{Finding}
@@ -9,6 +13,7 @@ use Rattle.pp_run.specs.declared.examine.Finding.TheVariants as findings
 use Rattle.pp_run.specs.declared.progress.Progress.{Progress}
 use Rattle.pp_run.specs.declared.progress.Progress.TheVariants as progresses
 use Rattle.pp_run.specs.Costs.{OfRun}
+use Rattle.pp_run.specs.Expansions.{AreSteps}
 use Rattle.pp_run.specs.Inputs.{IsFaultOf, scan}
 use Rattle.pp_run.specs.Outputs.{WhereTold}
 use Rattle.pp_run.specs.Progresses.{IsRejected, IsRunning}
@@ -32,6 +37,20 @@ Finds old new (findings.Rejected tally rejection) =
     ReadsWhole old new λ sc. IsRejected sc tally rejection
 Finds old new (findings.Accepted tally machine) =
     ReadsWhole old new λ sc. IsRunning sc tally machine
+
+-- this is the text of the run of these records behind this header
+abbrev pub IsWritten : InputScan → Header → List ℕ → Type 0
+IsWritten sc header text = (steps : List (Step Op)) × AreSteps sc header steps
+    × (text ≡ run_text header.catalog header.start steps)
+
+-- the finding is that of the input, and this is the text of its run, where it has one
+abbrev pub FindsText : Option (List ℕ) → Option (List ℕ) → Finding → List ℕ → Type 0
+FindsText old new (findings.Fault line cause) text =
+    WhereTold old λ bytes. IsFaultOf (scan bytes) (Some (line, cause))
+FindsText old new (findings.Rejected tally rejection) text =
+    ReadsWhole old new λ sc. IsRejected sc tally rejection × IsWritten sc tally.header text
+FindsText old new (findings.Accepted tally machine) text =
+    ReadsWhole old new λ sc. IsRunning sc tally machine × IsWritten sc tally.header text
 
 -- the counter rose by one at least for each step that applies or takes back one operation and meets
 -- its criteria, where there is a verdict

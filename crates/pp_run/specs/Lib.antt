@@ -8,7 +8,9 @@ pub mod Outputs
 pub mod Costs
 pub mod Progresses
 pub mod Takers
+pub mod Expansions
 pub mod Findings
 pub mod Certified
 pub mod Accepted
 pub mod Rejected
+pub mod Restated

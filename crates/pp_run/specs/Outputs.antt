@@ -8,8 +8,9 @@ use Rattle.pp_core.specs.declared.step.Rule.TheVariants as rules
 use Rattle.pp_core.specs.Steps.{rule_of}
 use Rattle.pp_front.specs.Inputs.{Accepts, Faulty, IsReport, IsRunReport, Report, StartRejected}
 use Rattle.pp_front.specs.Inputs.{StepRejected}
-use Rattle.pp_front.specs.Runs.{Lined}
+use Rattle.pp_front.specs.Runs.{Lined, bare}
 use Rattle.pp_json.specs.declared.header.Header.{Header}
+use Rattle.pp_lines.specs.RunTexts.{run_text}
 use Rattle.pp_model.specs.Config.{Start}
 use Rattle.pp_model.specs.Serial.{committed_tx}
 use Rattle.pp_object.specs.Objects.{kinds_of, objects}
@@ -23,7 +24,8 @@ use Rattle.pp_rules.specs.Starts.{start_evidence}
 use Rattle.pp_rules.specs.declared.detail.Detail.{Detail}
 use Rattle.pp_rules.specs.declared.detail.Detail.TheVariants.{Nothing}
 use Rattle.pp_run.specs.declared.words.Command.{Command}
-use Rattle.pp_run.specs.declared.words.Command.TheVariants.{Certify}
+use Rattle.pp_run.specs.declared.words.Command.TheVariants.{Certify, Expand}
+use Rattle.pp_run.specs.Accepted.{HasRun}
 use Rattle.pp_run.specs.Inputs.{scan}
 use Rattle.pp_run.specs.Objects.{setting_of, start_of}
 use Rattle.pp_run.specs.Scans.{InputScan}
@@ -70,10 +72,32 @@ IsCertified bytes status text = (report : RunReport)
     × IsReport setting_of TooManySteps (scan bytes) report
     × IsTold (scan bytes).header report status text
 
+-- the run of the records, printed as a run of style rules over the same objects, with the same start
+abbrev pub IsRunPrinted : InputScan → List ℕ → Type 0
+IsRunPrinted sc text = (r : HasRun sc)
+    × (text ≡ run_text r.header.what.catalog r.header.what.start (bare r.run))
+
+-- the text that expands an input, by how it is certified: the same report of a fault, and else its
+-- run, of which a step that fails is the last
+abbrev pub IsExpansionOf : InputScan → Status → (report text : List ℕ) → Type 0
+IsExpansionOf sc statuses.Accepted report text = IsRunPrinted sc text
+IsExpansionOf sc statuses.Rejected report text = IsRunPrinted sc text
+IsExpansionOf sc statuses.InputFault report text = text ≡ report
+IsExpansionOf sc statuses.BadWords report text = ⊥
+IsExpansionOf sc statuses.ReadFault report text = ⊥
+IsExpansionOf sc statuses.WriteFault report text = ⊥
+IsExpansionOf sc statuses.OutOfMemory report text = ⊥
+
+-- the status and the text that expand an input: it has the status with which it is certified
+abbrev pub IsExpanded : List ℕ → Status → List ℕ → Type 0
+IsExpanded bytes status text = (report : List ℕ) × IsCertified bytes status report
+    × IsExpansionOf (scan bytes) status report text
+
 -- the status and the text of a command; words that are no command print nothing
 abbrev pub IsOutput : Option Command → List ℕ → Status → List ℕ → Type 0
 IsOutput None bytes status text = (status ≡ statuses.BadWords) × (text ≡ [])
 IsOutput (Some Certify) bytes status text = IsCertified bytes status text
+IsOutput (Some Expand) bytes status text = IsExpanded bytes status text
 
 -- where the bytes are told, this holds of them
 abbrev pub WhereTold : Option (List ℕ) → (List ℕ → Type 0) → Type 0

@@ -1,6 +1,6 @@
 -- Proof machinery: where the examination of a run stands after some of its lines.
 use Rattle.std.specs.Prelude.{◌≡◌, ℕ, zero, suc, ◌+◌, ◌<◌, ◌≤◌, Bool, true, ◌==◌, ◌&&◌, ◌⊎◌, List}
-use Rattle.std.specs.Prelude.{[], ◌∷◌, ◌++◌, length, slice_get, take, if◌then◌else◌, None, Some}
+use Rattle.std.specs.Prelude.{[], ◌∷◌, ◌++◌, length, slice_get, take, if◌then◌else◌, Option, None, Some}
 use Rattle.std.specs.Prelude.{Result, Ok, Err}
 use Rattle.pp_core.specs.declared.call.Kind.{Kind}
 use Rattle.pp_core.specs.declared.limits.TheConstants.{MOST_LINES, MOST_STEPS}
@@ -49,6 +49,18 @@ abbrev pub lines_of : Progress → ℕ
 lines_of (Waiting lines) = lines
 lines_of (Running tally front machine) = tally.lines
 lines_of (Rejected tally rejection) = tally.lines
+
+-- the header, once it was read
+abbrev pub header_in : Progress → Option Header
+header_in (Waiting lines) = None
+header_in (Running tally front machine) = Some tally.header
+header_in (Rejected tally rejection) = Some tally.header
+
+-- how many steps the run has so far, with the one that fails
+abbrev pub steps_in : Progress → ℕ
+steps_in (Waiting lines) = 0
+steps_in (Running tally front machine) = machine.count
+steps_in (Rejected tally rejection) = rejection.step
 
 -- one line more
 abbrev pub with_line : Tally → Tally

@@ -4,15 +4,16 @@ ghost use Rattle.pp_core.specs.declared.limits.TheConstants.{MOST_LINES};
 ghost use Rattle.pp_io.specs.Faults.{HasRisen};
 ghost use Rattle.pp_run.specs.declared.stop.Failure.TheVariants.{ReadFault};
 ghost use Rattle.pp_run.specs.Costs.{StepsCostAtMost};
-ghost use Rattle.pp_run.specs.Findings.{Finds, StepsCounted, finding_of};
+ghost use Rattle.pp_run.specs.Findings.{Finds, FindsText, StepsCounted, finding_of};
 ghost use Rattle.pp_run.specs.Inputs.{ReadsNoFault, scan};
 ghost use Rattle.pp_run.specs.Outputs.{WhereTold};
 ghost use Rattle.pp_run.specs.Progresses.{lines_of};
 
+use crate::expansion::Expansion;
 use crate::progress::{Progress, Rejection, Tally};
 use crate::read::read_lines;
 use crate::stop::{Failure, Stop};
-use pp_core::Ticks;
+use pp_core::{Text, Ticks};
 use pp_io::Source;
 use pp_object::Objects;
 use pp_report::Cause;
@@ -62,6 +63,31 @@ pub fn examine<S: Source, L: Ledger>(
     match read_lines(alloc, source, Progress::Waiting(0), ticks) {
         Ok(progress) => Ok(conclude(progress)),
         Err(Stop::Fault(line, cause)) => Ok(Finding::Fault(line, cause)),
+        Err(Stop::Failure(failure)) => Err(failure),
+    }
+}
+
+/// Examines the input that a source gives, as `examine` does, and answers the text of its run too,
+/// where it has no fault. It holds no step longer than its line is written.
+pub fn examine_text<S: Source, L: Ledger>(
+    alloc: Global,
+    source: &mut S,
+    ticks: &mut Ticks<L>,
+) -> Result<(Finding, Text), Failure>
+    ensures found { IfOk result (λ r.
+        FindsText (S.left source.old) (S.left source.new) r.0 r.1) }
+    ensures read_fault { IsErrOf result ReadFault →
+        HasRisen (S.faults source.old) (S.faults source.new)
+        × ReadsNoFault (S.left source.old) (S.left source.new) }
+    ensures count { S.faults source.old ≤ S.faults source.new }
+    ensures most { WhereTold (S.left source.old) λ bytes.
+        StepsCostAtMost (scan bytes) ticks.old ticks.new }
+    ensures least { IfOk result (λ r. WhereTold (S.left source.old) λ bytes.
+        StepsCounted (scan bytes) r.0 ticks.old ticks.new) }
+{
+    match read_lines(alloc, source, Expansion::new(alloc), ticks) {
+        Ok(expansion) => Ok((conclude(expansion.progress), expansion.text)),
+        Err(Stop::Fault(line, cause)) => Ok((Finding::Fault(line, cause), Text::new(alloc))),
         Err(Stop::Failure(failure)) => Err(failure),
     }
 }

@@ -12,8 +12,9 @@ ghost use Rattle.pp_report.specs.declared.cause.Cause.TheVariants.{TooManySteps}
 ghost use Rattle.pp_run.specs.Objects.{object_of, setting_of, translation_of};
 
 /// The records behind a header have one run at most. Records that are steps, as all of style rules
-/// are, stand for themselves: their fault is that of the scan, and else their report is that of the
-/// verdict of these steps. It is a law of the definitions, and does nothing.
+/// are, stand for themselves: of at most 200,000 of them the fault is that of the scan, and else
+/// their report is that of the verdict of these steps. It is a law of the definitions, and does
+/// nothing.
 pub fn records_are_steps()
     ensures one_run { (header : HeaderOf) → OneRunLaw (object_of header) (translation_of header) }
     ensures styled { AreStyled setting_of }

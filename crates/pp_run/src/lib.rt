@@ -4,6 +4,8 @@
 mod cause;
 mod certify;
 mod examine;
+mod expand;
+mod expansion;
 mod law;
 mod program;
 mod progress;

@@ -1,26 +1,63 @@
 //! The program but for its edge: from its words and its input to its status and what it writes.
-ghost use Rattle.std.specs.Prelude.{◌≡◌, ◌≤◌, ◌↔◌, ◌⊎◌, None, Some};
+ghost use Rattle.std.specs.Prelude.{◌≡◌, ◌≤◌, ◌↔◌, ◌⊎◌, ℕ, List, None, Some, IfOk, IsErrOf};
 ghost use Rattle.std.specs.Io.KnownBytes.{IsAtEnd, Keeps};
 ghost use Rattle.pp_core.specs.declared.status.Status.TheVariants as statuses;
 ghost use Rattle.pp_io.specs.Faults.{HasRisen};
-ghost use Rattle.pp_run.specs.declared.words.Command.TheVariants.{Certify};
+ghost use Rattle.pp_run.specs.declared.stop.Failure.TheVariants.{ReadFault};
+ghost use Rattle.pp_run.specs.declared.words.Command.TheVariants.{Certify, Expand};
 ghost use Rattle.pp_run.specs.Certified.{IsDecided, IsPrinted, IsUnwritten};
-ghost use Rattle.pp_run.specs.Costs.{CostsAtLeast, CostsAtMost};
+ghost use Rattle.pp_run.specs.Costs.{CostsAtLeast, CostsAtMost, StepsCostAtLeast, StepsCostAtMost};
 ghost use Rattle.pp_run.specs.Inputs.{ReadsNoFault, scan};
-ghost use Rattle.pp_run.specs.Outputs.{Prints, PrintsPrefix, PrintsPrefixOnly, PrintsOnly};
-ghost use Rattle.pp_run.specs.Outputs.{WhereTold};
+ghost use Rattle.pp_run.specs.Outputs.{IsOutput, Prints, PrintsPrefix, PrintsPrefixOnly};
+ghost use Rattle.pp_run.specs.Outputs.{PrintsOnly, WhereTold};
 ghost use Rattle.pp_run.specs.Accepted.{IsAloneAccepted, IsSimulated};
 ghost use Rattle.pp_run.specs.Rejected.{IsEvident};
-ghost use Rattle.pp_run.specs.Words.{command_of};
+ghost use Rattle.pp_run.specs.Restated.{IsInputAgain};
+ghost use Rattle.pp_run.specs.Words.{Examines, command_of};
 
 use crate::certify::certify;
+use crate::expand::expand;
 use crate::stop::Failure;
 use crate::words::{Command, read_words};
 use crate::write::{WriteError, send};
-use pp_core::{Status, Ticks, Words};
+use pp_core::{Status, Text, Ticks, Words};
 use pp_io::{Sink, Source};
 use std::alloc::Global;
 use std::sync::ledger::Ledger;
+
+/// The status and the output of a command. It reads the source, and writes nothing.
+fn perform<S: Source, L: Ledger>(
+    alloc: Global,
+    command: Command,
+    source: &mut S,
+    ticks: &mut Ticks<L>,
+) -> Result<(Status, Text), Failure>
+    ensures output { IfOk result (λ r. (bytes : List ℕ) → S.left source.old ≡ Some bytes →
+        IsOutput (Some command) bytes r.0 r.1) }
+    ensures status { IfOk result (λ r. IsDecided r.0 ⊎ (r.0 ≡ statuses.InputFault)) }
+    ensures end { IfOk result (λ r. IsDecided r.0 → IsAtEnd (S.left source.new)) }
+    ensures shown { IfOk result (λ r. r.0 ≡ statuses.Rejected →
+        WhereTold (S.left source.old) λ bytes. IsEvident (scan bytes)) }
+    ensures read_fault { IsErrOf result ReadFault →
+        HasRisen (S.faults source.old) (S.faults source.new)
+        × ReadsNoFault (S.left source.old) (S.left source.new) }
+    ensures count { S.faults source.old ≤ S.faults source.new }
+    ensures most { command ≡ Certify → WhereTold (S.left source.old) λ bytes.
+        CostsAtMost (scan bytes) ticks.old ticks.new }
+    ensures least { IfOk result (λ r. command ≡ Certify → IsDecided r.0 →
+        WhereTold (S.left source.old) λ bytes.
+        CostsAtLeast r.0 (scan bytes) ticks.old ticks.new) }
+    ensures steps_most { command ≡ Expand → WhereTold (S.left source.old) λ bytes.
+        StepsCostAtMost (scan bytes) ticks.old ticks.new }
+    ensures steps_least { IfOk result (λ r. command ≡ Expand → IsDecided r.0 →
+        WhereTold (S.left source.old) λ bytes.
+        StepsCostAtLeast r.0 (scan bytes) ticks.old ticks.new) }
+{
+    match command {
+        Command::Certify => certify(alloc, source, ticks),
+        Command::Expand => expand(alloc, source, ticks),
+    }
+}
 
 /// Does a command: reads the source where the command has an input, and writes its output to the
 /// sink.
@@ -46,8 +83,8 @@ pub fn run<S: Source, K: Sink, L: Ledger>(
     ensures sink_untouched { result ≡ statuses.BadWords → sink.new ≡ sink.old }
     ensures ticks_untouched { result ≡ statuses.BadWords → ticks.new ≡ ticks.old }
 
-    // A run is certified on the whole input: a source that tells its bytes has none left.
-    ensures end { command_of words.now ≡ Some Certify → IsDecided result →
+    // A verdict is found on the whole input: a source that tells its bytes has none left.
+    ensures end { Examines (command_of words.now) → IsDecided result →
         IsAtEnd (S.left source.new) }
 
     // A failed read is told only where one failed, and no fault in what was read is hidden.
@@ -85,10 +122,15 @@ pub fn run<S: Source, K: Sink, L: Ledger>(
     ensures alone { command_of words.now ≡ Some Certify → result ≡ statuses.Accepted →
         WhereTold (S.left source.old) λ bytes. IsAloneAccepted (scan bytes) }
 
+    // What is printed of a run that is expanded is an input again, without a fault and within all
+    // limits: its records are the steps of the run, and its report is the same but for the lines.
+    ensures again { command_of words.now ≡ Some Expand → IsDecided result →
+        WhereTold (S.left source.old) λ bytes. IsInputAgain bytes }
+
     // Of a run that is rejected, at its start or at a step, the fact of the criterion that is told
     // holds of its evidence; and where it holds of any detail that tells something, the criterion
     // is false.
-    ensures shown { command_of words.now ≡ Some Certify → result ≡ statuses.Rejected →
+    ensures shown { Examines (command_of words.now) → result ≡ statuses.Rejected →
         WhereTold (S.left source.old) λ bytes. IsEvident (scan bytes) }
 
     // The counter rises at most by what the start, the steps and the serial run of the input cost
@@ -99,11 +141,18 @@ pub fn run<S: Source, K: Sink, L: Ledger>(
     ensures least { command_of words.now ≡ Some Certify → IsDecided result →
         WhereTold (S.left source.old) λ bytes.
         CostsAtLeast result (scan bytes) ticks.old ticks.new }
+
+    // A run that is expanded costs the same, but for the serial run, which is not made.
+    ensures steps_most { command_of words.now ≡ Some Expand → WhereTold (S.left source.old) λ bytes.
+        StepsCostAtMost (scan bytes) ticks.old ticks.new }
+    ensures steps_least { command_of words.now ≡ Some Expand → IsDecided result →
+        WhereTold (S.left source.old) λ bytes.
+        StepsCostAtLeast result (scan bytes) ticks.old ticks.new }
 {
-    let Some(Command::Certify) = read_words(words) else {
+    let Some(command) = read_words(words) else {
         return Status::BadWords;
     };
-    let (status, text) = match certify(alloc, source, ticks) {
+    let (status, text) = match perform(alloc, command, source, ticks) {
         Ok(report) => report,
         Err(Failure::ReadFault) => return Status::ReadFault,
         Err(Failure::OutOfMemory) => return Status::OutOfMemory,

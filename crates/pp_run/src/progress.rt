@@ -1,4 +1,7 @@
 //! Where the examination of a run stands after some of its lines.
+ghost use Rattle.std.specs.Prelude.{◌≡◌, option_copied};
+ghost use Rattle.pp_run.specs.Progresses.{header_in, steps_in};
+
 use pp_core::Rule;
 use pp_json::Header;
 use pp_object::{Objects, Op};
@@ -33,4 +36,28 @@ pub enum Progress {
     Running(Tally, AnyFront, Machine<Objects>),
     /// A header whose start is rejected, or of whose records one is: those behind it are only read.
     Rejected(Tally, Rejection),
+}
+
+impl Progress {
+    /// The header of the run, once it was read.
+    pub fn header(&self) -> Option<&Header>
+        ensures { option_copied result ≡ header_in self.now }
+    {
+        match self {
+            Progress::Waiting(_) => None,
+            Progress::Running(tally, _front, _machine) => Some(&tally.header),
+            Progress::Rejected(tally, _rejection) => Some(&tally.header),
+        }
+    }
+
+    /// How many steps the run has so far: those that meet their criteria, and the one that does not.
+    pub fn steps(&self) -> u32
+        ensures { result ≡ steps_in self.now }
+    {
+        match self {
+            Progress::Waiting(_) => 0,
+            Progress::Running(_tally, _front, machine) => machine.count(),
+            Progress::Rejected(_tally, rejection) => rejection.step,
+        }
+    }
 }

@@ -1,10 +1,12 @@
 //! Taking the lines of a run, one after another.
-ghost use Rattle.std.specs.Prelude.{◌≡◌, ◌≤◌, ◌<◌, ◌+◌, ℕ, false, ◌&&◌, ◌==◌, IfOk, IfErr, OnErr};
-ghost use Rattle.std.specs.Prelude.{Some, None, Ok, Err};
+ghost use Rattle.std.specs.Prelude.{◌≡◌, ◌≤◌, ◌<◌, ◌+◌, ℕ, false, [], ◌&&◌, ◌==◌, IfOk, IfErr};
+ghost use Rattle.std.specs.Prelude.{OnErr, Some, None, Ok, Err};
 ghost use Rattle.pp_run.specs.declared.progress.Progress.TheVariants.{Running, Rejected};
 ghost use Rattle.pp_run.specs.Costs.{start_at_most};
+ghost use Rattle.pp_run.specs.Expansions.{Brings};
 ghost use Rattle.pp_run.specs.Objects.{start_of};
-ghost use Rattle.pp_run.specs.Scans.{is_begin, is_begin_record};
+ghost use Rattle.pp_lines.specs.Statable.{is_begin};
+ghost use Rattle.pp_run.specs.Scans.{is_begin_record};
 ghost use Rattle.pp_run.specs.Progresses.{HasStarted, IsFirstFront, IsRefused, Overruns};
 ghost use Rattle.pp_run.specs.Progresses.{RecordTaken, StartTaken, header_at_most, is_too_many};
 ghost use Rattle.pp_run.specs.Progresses.{lines_of, run_reading, steps_here, with_blank, with_line};
@@ -25,6 +27,7 @@ ghost use Rattle.pp_object.specs.Objects.{kinds_of, objects, place_of};
 ghost use Rattle.pp_report.specs.declared.cause.Cause.TheVariants.{TooManySteps};
 ghost use Rattle.pp_styles.specs.AnyFronts.{any_style};
 ghost use Rattle.pp_styles.specs.Driving.{CostAtMost};
+ghost use Rattle.pp_styles.specs.Meanings.{meanings};
 ghost use Rattle.pp_run.specs.Causes.{cause_of};
 
 use crate::cause::cause_of;
@@ -37,7 +40,7 @@ use pp_json::{Header, RecordFault, read_header, read_record};
 use pp_object::{Objects, Op};
 use pp_report::Cause;
 use pp_rules::{Machine, Outcome};
-use pp_styles::{AnyFront, Halt, RunRecord, do_record};
+use pp_styles::{AnyFront, Halt, RunRecord, StepList, do_record};
 use std::alloc::Global;
 use std::sync::ledger::Ledger;
 
@@ -218,7 +221,7 @@ fn read_next(alloc: Global, tally: &Tally, line: &Line) -> Result<RunRecord<Op>,
     Ok(recorded)
 }
 
-/// The steps of a record, of a run that is not rejected so far.
+/// The steps of a record, of a run that is not rejected so far. It answers all of them too.
 fn take_steps<L: Ledger>(
     tally: Tally,
     mut front: AnyFront,
@@ -226,22 +229,24 @@ fn take_steps<L: Ledger>(
     recorded: &RunRecord<Op>,
     line: u32,
     ticks: &mut Ticks<L>,
-) -> Result<Progress, Stop>
+) -> Result<(Progress, StepList<Op>), Stop>
     requires shape { machine.shape ≡ kinds_of tally.header.catalog }
     requires readable { IsReadable tally.header.catalog (record_meaning recorded.now) }
     requires styled { IsOfStyle (any_style front) (record_meaning recorded.now) }
     requires few { machine.count ≤ MOST_STEPS }
-    ensures ok { IfOk result (λ next. RecordTaken tally front machine
-        (record_meaning recorded.now) line ticks.old next ticks.new) }
+    ensures ok { IfOk result (λ r. RecordTaken tally front machine
+        (record_meaning recorded.now) line ticks.old r.0 ticks.new) }
+    ensures list { IfOk result (λ r. meanings r.1
+        ≡ steps_here tally front machine (record_meaning recorded.now)) }
     ensures err { IfErr result (λ stop. IfFault stop (λ at cause. (at ≡ line)
         × ((cause ≡ TooManySteps) × Overruns machine
         (steps_here tally front machine (record_meaning recorded.now)) ticks.old ticks.new))) }
     ensures most { CostAtMost objects place_of machine
         (steps_here tally front machine (record_meaning recorded.now)) ticks.old ticks.new }
 {
-    let (machine, halt) = do_record(&mut front, machine, recorded, ticks)?;
+    let (machine, list, halt) = do_record(&mut front, machine, recorded, ticks)?;
     let Some(halt) = halt else {
-        return Ok(Progress::Running(tally, front, machine));
+        return Ok((Progress::Running(tally, front, machine), list));
     };
     match halt {
         Halt::Failed {
@@ -257,13 +262,13 @@ fn take_steps<L: Ledger>(
                 criterion,
                 detail,
             };
-            Ok(Progress::Rejected(tally, rejection))
+            Ok((Progress::Rejected(tally, rejection), list))
         }
         Halt::TooMany => Err(Stop::Fault(line, Cause::TooManySteps)),
     }
 }
 
-/// A record of a run that is not rejected so far.
+/// A record of a run that is not rejected so far. It answers all steps of the record too.
 fn take_record<L: Ledger>(
     alloc: Global,
     tally: Tally,
@@ -271,13 +276,15 @@ fn take_record<L: Ledger>(
     machine: Machine<Objects>,
     line: &Line,
     ticks: &mut Ticks<L>,
-) -> Result<Progress, Stop>
+) -> Result<(Progress, StepList<Op>), Stop>
     requires next { (first : ℕ) × IsNext (run_reading first)
         (Running tally front machine, ticks.old) (line.now.number, line.now.text) }
     requires other { blank line.now.text ≡ false }
-    ensures ok { IfOk result (λ next. (first : ℕ) →
+    ensures ok { IfOk result (λ r. (first : ℕ) →
         LeadsOn (run_reading first) (Running tally front machine, ticks.old)
-        (line.now.number, line.now.text) (next, ticks.new)) }
+        (line.now.number, line.now.text) (r.0, ticks.new)) }
+    ensures brings { IfOk result (λ r. Brings (Running tally front machine)
+        (line.now.number, line.now.text) r.0 (meanings r.1)) }
     ensures stop { IfErr result (λ stop. (first : ℕ) →
         StopsAt (run_reading first) (Running tally front machine, ticks.old)
         (line.now.number, line.now.text) stop) }
@@ -310,12 +317,51 @@ fn pass_record(
     ensures ok { IfOk result (λ next. (first now : ℕ) →
         LeadsOn (run_reading first) (Rejected tally rejection, now)
         (line.now.number, line.now.text) (next, now)) }
+    ensures brings { IfOk result (λ next. Brings (Rejected tally rejection)
+        (line.now.number, line.now.text) next []) }
     ensures stop { IfErr result (λ stop. (first now : ℕ) →
         StopsAt (run_reading first) (Rejected tally rejection, now)
         (line.now.number, line.now.text) stop) }
 {
     let recorded = read_next(alloc, &tally, line)?;
     Ok(Progress::Rejected(with_record(tally, &recorded), rejection))
+}
+
+/// Takes the next line of a run. It answers all steps of its record too: none of another line, and
+/// none behind a rejection.
+pub fn take_line<L: Ledger>(
+    alloc: Global,
+    progress: Progress,
+    line: &Line,
+    ticks: &mut Ticks<L>,
+) -> Result<(Progress, StepList<Op>), Stop>
+    requires { (first : ℕ) × IsNext (run_reading first) (progress, ticks.old)
+        (line.now.number, line.now.text) }
+    ensures ok { IfOk result (λ r. (first : ℕ) → LeadsOn (run_reading first)
+        (progress, ticks.old) (line.now.number, line.now.text) (r.0, ticks.new)) }
+    ensures brings { IfOk result (λ r. Brings progress
+        (line.now.number, line.now.text) r.0 (meanings r.1)) }
+    ensures stop { IfErr result (λ stop. (first : ℕ) → StopsAt (run_reading first)
+        (progress, ticks.old) (line.now.number, line.now.text) stop) }
+    ensures cost { OnErr result ((first : ℕ) → StopsWith (run_reading first)
+        (progress, ticks.old) (line.now.number, line.now.text) ticks.new) }
+{
+    if is_blank(line.text.bytes()) {
+        return Ok((with_blank(progress), StepList::new(alloc)));
+    }
+    match progress {
+        Progress::Waiting(_) => {
+            let next = take_header(alloc, line, ticks)?;
+            Ok((next, StepList::new(alloc)))
+        }
+        Progress::Running(tally, front, machine) => {
+            take_record(alloc, tally, front, machine, line, ticks)
+        }
+        Progress::Rejected(tally, rejection) => {
+            let next = pass_record(alloc, tally, rejection, line)?;
+            Ok((next, StepList::new(alloc)))
+        }
+    }
 }
 
 impl TakesLines for Progress {
@@ -329,15 +375,7 @@ impl TakesLines for Progress {
         line: &Line,
         ticks: &mut Ticks<L>,
     ) -> Result<Progress, Stop> {
-        if is_blank(line.text.bytes()) {
-            return Ok(with_blank(self));
-        }
-        match self {
-            Progress::Waiting(_) => take_header(alloc, line, ticks),
-            Progress::Running(tally, front, machine) => {
-                take_record(alloc, tally, front, machine, line, ticks)
-            }
-            Progress::Rejected(tally, rejection) => pass_record(alloc, tally, rejection, line),
-        }
+        let (next, _list) = take_line(alloc, self, line, ticks)?;
+        Ok(next)
     }
 }

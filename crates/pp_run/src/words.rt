@@ -9,6 +9,8 @@ use pp_core::Words;
 pub enum Command {
     /// Say whether the input is a run of the machine.
     Certify,
+    /// Print the run of rule steps that the input stands for.
+    Expand,
 }
 
 /// The command that the words are, None exactly where they are no command. The program's own name
@@ -22,6 +24,8 @@ pub fn read_words(words: &Words) -> Option<Command>
     let word = words.get(0)?;
     if word.bytes() == b"certify".as_slice() {
         Some(Command::Certify)
+    } else if word.bytes() == b"expand".as_slice() {
+        Some(Command::Expand)
     } else {
         None
     }

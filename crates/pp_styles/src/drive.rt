@@ -11,6 +11,7 @@ ghost use Rattle.pp_styles.specs.Driving.{CostAtMost, CostsOne, Drives, Goes, Is
 ghost use Rattle.pp_styles.specs.Meanings.{meanings};
 
 use crate::front::Front;
+use crate::step_list::StepList;
 use pp_core::{MOST_STEPS, OutOfMemory, Rule, Step, Ticks, rule_of};
 use pp_front::RunRecord;
 use pp_parts::Parted;
@@ -85,20 +86,24 @@ pub fn do_steps<S: Parted, L: Ledger>(
     Ok((machine, None))
 }
 
-/// Does the steps of a record up to the first that fails, and no more than a run may have. The only
-/// error is that memory was refused: the machine is then lost, and the front is of no more use.
+/// Does the steps of a record up to the first that fails, and no more than a run may have. It
+/// answers all of these steps too. The only error is that memory was refused: the machine is then
+/// lost, and the front is of no more use.
 pub fn do_record<S: Parted, F: Front<S>, L: Ledger>(
     front: &mut F,
     machine: Machine<S>,
     recorded: &RunRecord<S::Op>,
     ticks: &mut Ticks<L>,
-) -> Result<(Machine<S>, Option<Halt<S::Op>>), OutOfMemory>
+) -> Result<(Machine<S>, StepList<S::Op>, Option<Halt<S::Op>>), OutOfMemory>
     requires style { IsOfStyle (F.style front.old) (record_meaning recorded.now) }
     requires asked { IsRecordAsked S.object machine.shape (record_meaning recorded.now) }
     requires few { machine.count ≤ MOST_STEPS }
     ensures drives { (kinds : List Kind) → IfOk result (λ r. Drives S.object machine
         (expand S.place_of (F.style front.old) (F.state kinds front.old) machine.config
-        (record_meaning recorded.now)) ticks.old r.1 r.0 ticks.new) }
+        (record_meaning recorded.now)) ticks.old r.2 r.0 ticks.new) }
+    ensures list { (kinds : List Kind) → IfOk result (λ r. meanings r.1
+        ≡ expand S.place_of (F.style front.old) (F.state kinds front.old) machine.config
+        (record_meaning recorded.now)) }
     ensures kept { (kinds : List Kind) → OnOk result (F.state kinds front.new
         ≡ front_after (F.state kinds front.old) machine.config (record_meaning recorded.now)) }
     ensures same { F.style front.new ≡ F.style front.old }
@@ -107,5 +112,6 @@ pub fn do_record<S: Parted, F: Front<S>, L: Ledger>(
         (record_meaning recorded.now)) ticks.old ticks.new }
 {
     let list = front.expand(recorded, &machine)?;
-    do_steps(machine, list.as_slice(), ticks)
+    let (machine, halt) = do_steps(machine, list.as_slice(), ticks)?;
+    Ok((machine, list, halt))
 }

@@ -2,7 +2,7 @@
 use crate::tests::row::Row;
 use pp_core::Status;
 
-pub(crate) const STYLED: [Row; 12] = [
+pub(crate) const STYLED: [Row; 16] = [
     Row {
         what: "an operation that was pulled, and an abort",
         header: b"",
@@ -179,5 +179,44 @@ pub(crate) const STYLED: [Row; 12] = [
 "#,
         status: Status::InputFault,
         report: b"fault line 3 UnknownStep\n",
+    },
+    Row {
+        what: "an operation of a transaction that is not open",
+        header: b"",
+        records: br#"{"run":1,"style":"boosted","objects":[{"name":"c","kind":"counter"}]}
+{"step":"op","tx":"t1","id":1,"on":"c","call":"add","args":[1],"result":null}
+"#,
+        status: Status::Rejected,
+        report: b"rejected step 1 line 2 APP 1\n",
+    },
+    Row {
+        what: "a commit of a transaction that is not open",
+        header: b"",
+        records: br#"{"run":1,"style":"boosted","objects":[{"name":"c","kind":"counter"}]}
+{"step":"commit","tx":"t1"}
+"#,
+        status: Status::Rejected,
+        report: b"rejected step 1 line 2 CMT 1\n",
+    },
+    Row {
+        what: "an abort of a transaction that is not open",
+        header: b"",
+        records: br#"{"run":1,"style":"boosted","objects":[{"name":"c","kind":"counter"}]}
+{"step":"abort","tx":"t1"}
+"#,
+        status: Status::Rejected,
+        report: b"rejected step 1 line 2 QUIT 1\n",
+    },
+    Row {
+        what: "an xabort without a section",
+        header: b"",
+        records: br#"{"run":1,"style":"hardware","objects":[{"name":"m","kind":"mem"}]}
+{"step":"begin","tx":"t1","thread":"p1"}
+{"step":"op","tx":"t1","id":1,"on":"m","call":"write","args":[0,1],"result":null}
+{"step":"xabort","tx":"t1"}
+{"step":"commit","tx":"t1"}
+"#,
+        status: Status::Accepted,
+        report: b"accepted steps 7 committed 1\ntx t1\nstate m\n",
     },
 ];

@@ -1,8 +1,9 @@
-use Rattle.std.proofs.Common.{refl, subst, sym, ap, ◌∙◌, arith}
+use Rattle.std.proofs.Common.{[], refl, subst, sym, ap, ◌∙◌, arith}
 use Rattle.std.proofs.lemmas.Result.{err_from_is_err_and}
 use Rattle.pp_front.specs.Records.{record_meaning}
 use Rattle.pp_json.specs.Records.{record_of}
 use Rattle.pp_io.specs.Lines.{NumberedLine}
+use Rattle.pp_run.specs.Expansions.{Brings}
 use Rattle.pp_run.specs.Progresses.{Counts, IsRefused, IsRejected}
 use Rattle.pp_run.specs.declared.progress.Progress.{Progress}
 use Rattle.pp_run.specs.declared.progress.Progress.TheVariants.{Rejected}
@@ -10,6 +11,7 @@ use Rattle.pp_run.specs.Scans.{scan_line}
 use Rattle.pp_run.proofs.Counting.{counts_rejected}
 use Rattle.pp_run.proofs.Covering.{cover_refused, cover_rejected, few_begins}
 use Rattle.pp_run.proofs.Examining.{leads_on, next_few, next_number, some_cover, stops_at}
+use Rattle.pp_run.proofs.Keeping.{passed_brings}
 use Rattle.pp_run.proofs.take.pass_record.Goals as goal
 
 pub with_record-requires-clause-lines : goal.with_record-requires-clause-lines
@@ -42,6 +44,14 @@ returns-clause-ok c = λ first now.
     subst (λ t. Counts (scan_line sc line) (Rejected t c.args.rejection) old now) (sym c.with_record.ensures)
     (counts_rejected sc c.args.tally c.args.rejection line r old now covers c.requires.other c.in_ok-recorded.ensures.read c.in_ok-recorded.ensures.few counts))
     first
+
+pub returns-clause-brings : goal.returns-clause-brings
+returns-clause-brings c =
+    let line : NumberedLine = (c.args.line.now.number, c.args.line.now.text) in
+    let from : Progress = Rejected c.args.tally c.args.rejection in
+    let r = record_meaning c.in_ok-recorded.recorded in
+    subst (λ t. Brings from line (Rejected t c.args.rejection) []) (sym c.with_record.ensures)
+    (passed_brings c.args.tally c.args.rejection line r c.requires.other c.in_ok-recorded.ensures.read c.in_ok-recorded.ensures.few)
 
 pub returns-in_err-recorded-clause-stop : goal.returns-in_err-recorded-clause-stop
 returns-in_err-recorded-clause-stop c =

@@ -8,6 +8,8 @@ use Rattle.pp_object.specs.Objects.{kinds_of, objects, place_of}
 use Rattle.pp_report.specs.declared.cause.Cause.{Cause}
 use Rattle.pp_report.specs.declared.cause.Cause.TheVariants.{TooManySteps}
 use Rattle.pp_styles.specs.Driving.{CostAtMost}
+use Rattle.pp_styles.specs.Meanings.{meanings}
+use Rattle.pp_run.specs.Expansions.{Brings}
 use Rattle.pp_run.specs.Progresses.{IsRefused, Overruns, RecordTaken, steps_here}
 use Rattle.pp_run.specs.declared.progress.Progress.{Progress}
 use Rattle.pp_run.specs.declared.progress.Progress.TheVariants.{Running}
@@ -16,8 +18,9 @@ use Rattle.pp_run.specs.Takers.{IfFault}
 use Rattle.pp_run.proofs.Covering.{cover_refused, few_begins}
 use Rattle.pp_run.proofs.Examining.{leads_on, next_few, next_number, some_cover, stops_at}
 use Rattle.pp_run.proofs.Examining.{stops_still, stops_with}
+use Rattle.pp_run.proofs.Keeping.{record_brings}
 use Rattle.pp_run.proofs.Recorded.{cover_taken, cover_too_long, taken_lines}
-use Rattle.pp_run.proofs.Takers.{on_err}
+use Rattle.pp_run.proofs.Takers.{if_ok_two, on_err}
 use Rattle.pp_run.proofs.RecordCosts.{counts_taken, most_taken}
 use Rattle.pp_run.proofs.take.take_record.Goals as goal
 
@@ -70,14 +73,30 @@ returns-clause-ok g c =
     let number = next_number n.0 now from line n.1 in
     let read = c.in_ok-recorded.ensures.read in
     let begun = c.in_ok-recorded.ensures.few in
-    IfOk-weaker c.take_steps.result _ _ (λ next taken'.
-    let taken = subst (λ t. RecordTaken t front machine r line.0 now next new) c.with_record.ensures taken' in
-    leads_on from line number (next_few n.0 now from line n.1) next now new
-    (λ sc covers. cover_taken sc tally front machine line r covers c.requires.other read begun now next new taken)
-    (taken_lines _ front machine r line.0 now next new taken ∙ sym number)
+    IfOk-weaker c.take_steps.result _ _ (λ out taken'.
+    let taken = subst (λ t. RecordTaken t front machine r line.0 now out.0 new) c.with_record.ensures taken' in
+    leads_on from line number (next_few n.0 now from line n.1) out.0 now new
+    (λ sc covers. cover_taken sc tally front machine line r covers c.requires.other read begun now out.0 new taken)
+    (taken_lines _ front machine r line.0 now out.0 new taken ∙ sym number)
     (λ sc old covers counts. counts_taken sc tally front machine line r old now new covers c.requires.other read begun
-    (subst (λ t. CostAtMost objects place_of machine (steps_here t front machine r) now new) c.with_record.ensures c.take_steps.ensures.most) next counts taken))
+    (subst (λ t. CostAtMost objects place_of machine (steps_here t front machine r) now new) c.with_record.ensures c.take_steps.ensures.most) out.0 counts taken))
     c.take_steps.ensures.ok
+
+pub returns-clause-brings : goal.returns-clause-brings
+returns-clause-brings g c =
+    let line : NumberedLine = (c.args.line.now.number, c.args.line.now.text) in
+    let tally = c.args.tally in
+    let front = c.args.front in
+    let machine = c.args.machine in
+    let from : Progress = Running tally front machine in
+    let r = record_meaning c.in_ok-recorded.recorded in
+    let now = c.args.ticks.now in
+    let new = c.take_steps.new.ticks in
+    if_ok_two c.take_steps.result (λ out. RecordTaken c.with_record.result front machine r line.0 now out.0 new) (λ out. meanings out.1 ≡ steps_here c.with_record.result front machine r) _ (λ out taken list.
+    subst (λ steps. Brings from line out.0 steps) (sym (list ∙ ap (λ t. steps_here t front machine r) c.with_record.ensures))
+    (record_brings tally front machine line r c.requires.other c.in_ok-recorded.ensures.read c.in_ok-recorded.ensures.few now new out.0
+    (subst (λ t. RecordTaken t front machine r line.0 now out.0 new) c.with_record.ensures taken)))
+    c.take_steps.ensures.ok c.take_steps.ensures.list
 
 pub returns-clause-stop : goal.returns-clause-stop
 returns-clause-stop g c =

@@ -46,6 +46,14 @@ returns-in-TooMany-clause-err g c =
       (refl, too_many c.args.machine c.in_ok-machine.machine steps c.args.ticks.now c.do_record.new.ticks c.in_ok-machine.halt (c.in_ok-machine.ensures.drives kinds) (c.in-Some.is ∙ ap (λ h. Some h) c.in-TooMany.is)),
     )
 
+-- ---- all of them
+
+pub returns-in_default-clause-list : goal.returns-in_default-clause-list
+returns-in_default-clause-list g c = c.in_ok-machine.ensures.list (kinds_of c.args.tally.header.catalog)
+
+pub returns-in-Failed-clause-list : goal.returns-in-Failed-clause-list
+returns-in-Failed-clause-list g c = c.in_ok-machine.ensures.list (kinds_of c.args.tally.header.catalog)
+
 -- ---- what it costs
 
 pub returns-in_default-clause-most : goal.returns-in_default-clause-most

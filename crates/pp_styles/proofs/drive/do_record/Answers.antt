@@ -1,9 +1,8 @@
-use Rattle.std.proofs.Common.{[], IfOk, ap, subst, ◌∙◌}
+use Rattle.std.proofs.Common.{[], ap, subst, ◌∙◌}
 use Rattle.pp_front.specs.Records.{record_meaning}
 use Rattle.pp_styles.specs.Driving.{CostAtMost, Drives}
 use Rattle.pp_styles.specs.Meanings.{meanings}
 use Rattle.pp_styles.proofs.Asking.{record_asked, untried}
-use Rattle.pp_styles.proofs.Keeping.{whenever}
 use Rattle.pp_styles.proofs.drive.do_record.Goals as goal
 
 pub returns-in_err-list-clause-most : goal.returns-in_err-list-clause-most
@@ -17,11 +16,18 @@ do_steps-requires-clause-asked g c =
 
 pub returns-clause-drives : goal.returns-clause-drives
 returns-clause-drives g c kinds =
-    subst (λ w. IfOk c.do_steps.result (λ r. Drives g.S.Spec.object c.args.machine w c.args.ticks.now r.1 r.0 c.do_steps.new.ticks)) (ap meanings c.as_slice.ensures ∙ c.in_ok-list.ensures.steps kinds) c.do_steps.ensures.drives
+    subst (λ w. Drives g.S.Spec.object c.args.machine w c.args.ticks.now c.in_ok-machine.halt c.in_ok-machine.machine c.do_steps.new.ticks) (ap meanings c.as_slice.ensures ∙ c.in_ok-list.ensures.steps kinds) c.in_ok-machine.ensures.drives
+
+pub returns-clause-list : goal.returns-clause-list
+returns-clause-list g c kinds = c.in_ok-list.ensures.steps kinds
 
 pub returns-clause-kept : goal.returns-clause-kept
-returns-clause-kept g c kinds = whenever c.do_steps.result (c.in_ok-list.ensures.kept kinds)
+returns-clause-kept g c kinds = c.in_ok-list.ensures.kept kinds
 
 pub returns-clause-most : goal.returns-clause-most
 returns-clause-most g c kinds =
+    subst (λ w. CostAtMost g.S.Spec.object g.S.Placed.place_of c.args.machine w c.args.ticks.now c.do_steps.new.ticks) (ap meanings c.as_slice.ensures ∙ c.in_ok-list.ensures.steps kinds) c.do_steps.ensures.most
+
+pub returns-in_err-machine-clause-most : goal.returns-in_err-machine-clause-most
+returns-in_err-machine-clause-most g c kinds =
     subst (λ w. CostAtMost g.S.Spec.object g.S.Placed.place_of c.args.machine w c.args.ticks.now c.do_steps.new.ticks) (ap meanings c.as_slice.ensures ∙ c.in_ok-list.ensures.steps kinds) c.do_steps.ensures.most
