@@ -1,0 +1,34 @@
+-- Proof machinery: the front of a list of entries.
+use Rattle.std.proofs.Common.{◌≡◌, ◌<◌, ℕ, List, [], ◌∷◌, ◌++◌, length, take, drop, get_or, sym, ap}
+use Rattle.std.proofs.Common.{subst, ◌∙◌, take-append-drop}
+use Rattle.std.proofs.lemmas.List.{map-append, get_or-map, length-map}
+use Rattle.pp_model.specs.Object.{Item, ops}
+use Rattle.pp_spec.specs.Object.{Object, IsAllowed, AllRanged}
+use Rattle.pp_spec.proofs.Lists.{allowed-first}
+
+pub op_at : {Op : Type 0} (l : List (Item Op)) (i : ℕ) (p : Item Op) → i < length l →
+    p ≡ get_or l i p → p.op ≡ get_or (ops l) i p.op
+op_at {Op} l i p h e = ap (λ (w : Item Op). w.op) e
+    ∙ sym (get_or-map (λ (w : Item Op). w.op) l i p p.op h)
+
+pub length-ops : {Op : Type 0} (l : List (Item Op)) → length (ops l) ≡ length l
+length-ops {Op} l = length-map l (λ (w : Item Op). w.op)
+
+module _ {Shape State Op Undo : Type 0} (o : Object Shape State Op Undo) where
+  cut : (n : ℕ) (l : List (Item Op)) → ops l ≡ ops (take n l) ++ ops (drop n l)
+  cut n l = ap (λ (w : List (Item Op)). ops w) (sym (take-append-drop n l))
+      ∙ map-append (λ (w : Item Op). w.op) (take n l) (drop n l)
+
+  pub front_allowed : (shape : Shape) (n : ℕ) (l : List (Item Op)) → IsAllowed o shape (ops l) →
+      IsAllowed o shape (ops (take n l))
+  front_allowed shape n l h = allowed-first o (o.start shape) (ops (take n l)) (ops (drop n l))
+      (subst (λ (w : List Op). IsAllowed o shape w) (cut n l) h)
+
+  ranged_first : (x y : List Op) → AllRanged o (x ++ y) → AllRanged o x
+  ranged_first [] y h = tt
+  ranged_first (a ∷ x) y h = (h.0, ranged_first x y h.1)
+
+  pub front_ranged : (n : ℕ) (l : List (Item Op)) → AllRanged o (ops l) →
+      AllRanged o (ops (take n l))
+  front_ranged n l h = ranged_first (ops (take n l)) (ops (drop n l))
+      (subst (λ (w : List Op). AllRanged o w) (cut n l) h)

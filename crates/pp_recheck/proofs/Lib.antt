@@ -1,0 +1,11 @@
+pub mod Pairs
+pub mod Checked
+pub mod Decided
+pub mod Rows
+pub mod Written
+pub mod Turning
+pub mod Logs
+pub mod Kept
+pub mod Read
+pub mod Fronts
+pub mod Moving

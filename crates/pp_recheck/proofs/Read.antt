@@ -1,0 +1,20 @@
+-- Proof machinery: behind lines that are taken the verdict is that of the other lines.
+use Rattle.std.proofs.Common.{ℕ, suc, ◌+◌, List, [], ◌∷◌, ◌++◌, length, subst, arith, inr}
+use Rattle.std.proofs.Common.{add-zero, ◌≡◌}
+use Rattle.pp_spec.specs.Object.{Object}
+use Rattle.pp_recheck.specs.Certificates.{Stage, Reader, Verdict, IsRead}
+use Rattle.pp_recheck.specs.Laws.{Leads}
+
+module _ {Shape State Op Undo L : Type 0} (o : Object Shape State Op Undo)
+    (read : Reader L Shape Op) (more : List L) (v : Verdict Shape State Op) where
+  pub read_on : (lines : List L) (n : ℕ) (s t : Stage Shape Op) → Leads o read s lines t
+      → IsRead o read (n + length lines) t more v → IsRead o read n s (lines ++ more) v
+  read_on [] n s t h r =
+      let here : IsRead o read n t more v =
+      subst (λ m. IsRead o read m t more v) (add-zero n) r in
+      subst (λ (w : Stage Shape Op). IsRead o read n w more v) h here
+  read_on (line ∷ lines) n s t h r =
+      let e : n + suc (length lines) ≡ suc n + length lines = omega arith in
+      let r1 : IsRead o read (suc n + length lines) t more v =
+      subst (λ m. IsRead o read m t more v) e r in
+      inr (h.0, h.1, read_on lines (suc n) h.0 t h.2 r1)

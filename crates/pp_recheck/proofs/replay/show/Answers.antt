@@ -1,0 +1,21 @@
+use Rattle.pp_recheck.proofs.Fronts.{front_allowed, front_ranged}
+use Rattle.pp_recheck.proofs.replay.show.Goals as goal
+
+pub replay-requires-clause-allowed : goal.replay-requires-clause-allowed
+replay-requires-clause-allowed g c =
+    rw (c.deref.ensures.value, c.truncate.ensures.items)
+    (front_allowed g.S.Spec.object c.args.turned.shape c.args.serial c.args.turned.list.items
+    c.requires.allowed)
+
+pub replay-requires-clause-ranged : goal.replay-requires-clause-ranged
+replay-requires-clause-ranged g c =
+    rw (c.deref.ensures.value, c.truncate.ensures.items)
+    (front_ranged g.S.Spec.object c.args.serial c.args.turned.list.items c.requires.ranged)
+
+pub returns-clause-allowed : goal.returns-clause-allowed
+returns-clause-allowed g c =
+    let allowed = front_allowed g.S.Spec.object c.args.turned.shape c.args.serial
+    c.args.turned.list.items c.requires.allowed in (
+      rw (c.from.ensures, c.truncate.ensures.items) allowed,
+      rw (c.from.ensures, ← c.deref.ensures.value) c.in_ok-state.ensures.state,
+    )

@@ -1,0 +1,4 @@
+pub mod Certificates
+pub mod Laws
+pub mod Checking
+pub mod Keeping

@@ -1,0 +1,29 @@
+//! Laws of certificates. Each is a fact of the definitions, and does nothing.
+ghost use Rattle.pp_recheck.specs.Laws.{CheckedLaw, KeptLaw, ReadLaw, RowsLaw, WrittenLaw};
+
+use pp_spec::Spec;
+
+/// Lines have one verdict, and what an accepted certificate shows is allowed.
+pub fn checked_law<S: Spec, L>()
+    ensures { CheckedLaw S.object L }
+{}
+
+/// What each line that is taken keeps.
+pub fn kept_law<S: Spec>()
+    ensures { KeptLaw S.object }
+{}
+
+/// Behind lines that are taken, the verdict is that of the other lines.
+pub fn read_law<S: Spec, L>()
+    ensures { ReadLaw S.object L }
+{}
+
+/// The rows of positions, one after another.
+pub fn rows_law()
+    ensures { RowsLaw }
+{}
+
+/// The certificate of a sound configuration, by the route to its target, is accepted.
+pub fn written_law<S: Spec, L>()
+    ensures { WrittenLaw S.object L }
+{}

@@ -1,0 +1,15 @@
+//! Why a line is refused.
+use pp_core::Answer;
+
+/// Why a line is refused.
+#[derive(Clone, Copy, Debug, PartialEq, Eq)]
+pub enum Refusal {
+    /// It is not of the form of its place, or behind the last place.
+    NotCertificate,
+    /// The objects give the entry of this id this result, and not the recorded one.
+    Gives { entry: u32, answer: Answer },
+    /// There are not so many entries.
+    Position,
+    /// The second of these entries does not move left over the first.
+    Pair { first: u32, second: u32 },
+}

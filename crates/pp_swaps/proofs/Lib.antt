@@ -1,0 +1,9 @@
+pub mod Positions
+pub mod Draws
+pub mod Routes
+pub mod Follows
+pub mod Targets
+pub mod Pairs
+pub mod Heights
+pub mod Marks
+pub mod Known
