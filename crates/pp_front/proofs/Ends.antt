@@ -7,7 +7,7 @@ use mathlib.Core.Logic.{inl, inr}
 use Rattle.pp_model.specs.Object.{Object}
 use Rattle.pp_model.specs.Config.{Config, Step, after_from, then}
 use Rattle.pp_model.specs.Rules.{Accepted, Breaks, Meets, IsVerdictFrom, Rejected, RunsFrom}
-use Rattle.pp_model.specs.Rules.{Verdict}
+use Rattle.pp_model.specs.Rules.{FirstFalse, Verdict, criteria}
 use Rattle.pp_model.proofs.Parted.{one_number}
 use Rattle.pp_front.specs.Runs.{EndsAtFailure, HasOneMore, Lined, bare, on_line}
 
@@ -50,6 +50,24 @@ tails x y xs ys e = cc
 
 pub never : {Op State : Type 0} (O : Object Op State) (c : Config Op) (s : Step Op) (n : ℕ) → Meets O c s → Breaks O c s (suc n) → ⊥
 never O c s n a b = let e : zero ≡ suc n = one_number _ zero (suc n) a b in cc
+
+-- a list of facts has a first false one, or all hold
+pub some_number : (ps : List (Type 0)) → ((n : ℕ) → FirstFalse ps n → ⊥) → ⊥
+some_number [] none = none 0 refl
+some_number (p ∷ ps) none = none 1 (λ h. some_number ps (behind h))
+  where
+    behind : p → (n : ℕ) → FirstFalse ps n → ⊥
+    behind h zero a = none 0 (h, a)
+    behind h (suc n) a = none (suc (suc n)) (h, a)
+
+-- a run
+pub ends_some : {Op State : Type 0} (O : Object Op State) (c : Config Op) (ss : List (Lined (Step Op))) → ((run : List (Lined (Step Op))) → EndsAtFailure O c ss run → ⊥) → ⊥
+ends_some O c [] none = none [] refl
+ends_some {Op} O c (s ∷ ss) none = some_number (criteria O c s.what) (judged (ends_some O (then c s.what) ss))
+  where
+    judged : (((run : List (Lined (Step Op))) → EndsAtFailure O (then c s.what) ss run → ⊥) → ⊥) → (n : ℕ) → FirstFalse (criteria O c s.what) n → ⊥
+    judged rest zero m = rest (λ (run : List (Lined (Step Op))) e. none (s ∷ run) (inr (m, (run, e, refl))))
+    judged rest (suc n) b = none (s ∷ []) (inl (n, b, refl))
 
 -- one run at most
 pub ends_once : {Op State : Type 0} (O : Object Op State) (c : Config Op) (ss a b : List (Lined (Step Op))) → EndsAtFailure O c ss a → EndsAtFailure O c ss b → a ≡ b

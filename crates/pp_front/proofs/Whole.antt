@@ -5,21 +5,28 @@ use mathlib.Core.Logic.{inl, inr}
 use Rattle.pp_model.specs.Object.{Object}
 use Rattle.pp_model.specs.Config.{Config, Start, Step, after_from, first}
 use Rattle.pp_model.specs.Rules.{Accepted, IsVerdict, Rejected, RunsFrom, StartBreaks, StartMeets}
-use Rattle.pp_model.specs.Rules.{Verdict}
+use Rattle.pp_model.specs.Rules.{FirstFalse, Verdict, start_criteria}
 use Rattle.pp_model.proofs.Parted.{one_number}
 use Rattle.pp_front.specs.Runs.{EndsAtFailure, HasOneMore, HasTooManySteps, IsRun, IsRunFrom, Lined}
 use Rattle.pp_front.specs.Runs.{Standing, Translation, bare, joined_steps, after_records, on_line}
 use Rattle.pp_front.specs.Runs.{outset, after_record, steps_at}
 use Rattle.pp_front.specs.Laws.{ExtendsLaw, OneRunLaw, up_to}
 use Rattle.pp_front.proofs.Ends.{accepted_ends, after_append, bare_append, bare_on_line}
-use Rattle.pp_front.proofs.Ends.{ends_behind, ends_once, ends_split, failed_stays, less_before}
+use Rattle.pp_front.proofs.Ends.{ends_behind, ends_once, ends_some, ends_split, failed_stays, less_before}
 use Rattle.pp_front.proofs.Ends.{more_before, more_behind, one_line, rejected_from, verdict_off}
-use Rattle.pp_front.proofs.Ends.{verdict_on}
+use Rattle.pp_front.proofs.Ends.{some_number, verdict_on}
 
 pub unbegun : {Op State : Type 0} (O : Object Op State) (h : Option (Start Op)) (n : ℕ) → StartMeets O h → StartBreaks O h (suc n) → ⊥
 unbegun O h n a b = let e : zero ≡ suc n = one_number _ zero (suc n) a b in cc
 
 module _ {F R Op State : Type 0} (O : Object Op State) (T : Translation F R Op) where
+  some_run : (h : Option (Start Op)) (rs : List (Lined R)) → ((run : List (Lined (Step Op))) → IsRun O T h rs run → ⊥) → ⊥
+  some_run h rs none = some_number (start_criteria O h) judged
+    where
+      judged : (n : ℕ) → FirstFalse (start_criteria O h) n → ⊥
+      judged zero m = ends_some O (first h) (joined_steps T (outset T h) rs) (λ (run : List (Lined (Step Op))) e. none run (inr (m, e)))
+      judged (suc n) b = none [] (inl (n, b, refl))
+
   one_run : (h : Option (Start Op)) (rs : List (Lined R)) (a b : List (Lined (Step Op))) → IsRun O T h rs a → IsRun O T h rs b → a ≡ b
   one_run h rs a b (inl x) (inl y) = x.2 ∙ sym y.2
   one_run h rs a b (inl x) (inr y) = absurd (unbegun O h x.0 y.0 x.1)
@@ -54,6 +61,7 @@ module _ {F R Op State : Type 0} (O : Object Op State) (T : Translation F R Op) 
   pub one_run_law : OneRunLaw O T
   one_run_law =
       record {
+        some = some_run;
         run = one_run;
         line = λ h rs m n a b. one_line O 200_000 (first h) (joined_steps T (outset T h) rs) m n a.1 b.1;
         verdict = λ h rs run v r. (run_verdict h rs run v r, verdict_run h rs run v r);

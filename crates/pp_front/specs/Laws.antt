@@ -14,10 +14,13 @@ abbrev pub up_to : {A : Type 0} → Verdict → List A → List A
 up_to Accepted ss = ss
 up_to (Rejected i n) ss = take i ss
 
--- Records have one run at most, and one line at most where there are too many steps. The verdict of
--- the run is that of all steps, and it tells the run.
+-- Records have a run, and one at most (where the first step fails can not be computed from a
+-- configuration alone, so that there is one is said by what can not be). There is one line at most
+-- where there are too many steps. The verdict of the run is that of all steps, and it tells the run.
 pub record OneRunLaw {F R Op State : Type 0} (O : Object Op State) (T : Translation F R Op) :
     Type 0 where
+  pub some : (h : Option (Start Op)) (rs : Records R) →
+      ((run : LinedSteps Op) → IsRun O T h rs run → ⊥) → ⊥
   pub run : (h : Option (Start Op)) (rs : Records R) (a b : LinedSteps Op) → IsRun O T h rs a →
       IsRun O T h rs b → a ≡ b
   pub line : (h : Option (Start Op)) (rs : Records R) (m n : ℕ) → HasTooManySteps O T h rs m →

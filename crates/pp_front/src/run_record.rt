@@ -12,7 +12,7 @@ pub enum RunRecord<O> {
     Commit { tx: Name },
     /// The transaction gave up.
     Abort { tx: Name },
-    /// The transaction begins anew.
+    /// The transaction took back what it did, and stays open.
     Retry { tx: Name },
     /// The transaction took over what is committed of an object.
     Refresh { tx: Name, object: u16 },
