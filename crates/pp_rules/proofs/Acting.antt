@@ -13,9 +13,21 @@ use Rattle.pp_model.specs.Config.{own_items, as_shared, pull_effect, push_effect
 use Rattle.pp_model.specs.Config.{without_local, without_shared, without_tx}
 use Rattle.pp_model.specs.Names.{Name, ◌=ⁿ◌}
 use Rattle.pp_rules.specs.Machines.{config_of, tx_of}
-use Rattle.pp_rules.specs.Transactions.{Open, Txs, open_of, relogged, with_log, with_open}
+use Rattle.pp_rules.specs.Transactions.{Open, Txs, open_of, with_open}
 use Rattle.pp_rules.specs.Transactions.{without_open}
 use Rattle.pp_rules.proofs.Finding.{reverse_more}
+
+-- the transaction with f at the entries of its local log
+abbrev pub relogged : {Shape Op : Type 0} → (List (LocalEntry Op) → List (LocalEntry Op)) →
+    Open Shape Op → Open Shape Op
+relogged f x =
+    record { name = x.name; thread = x.thread; body = x.body; local = (x.local.0, f x.local.1) }
+
+-- with f at the local log of the open transaction t
+abbrev pub with_log : {Shape Op : Type 0} → Name → (List (LocalEntry Op) → List (LocalEntry Op)) →
+    Txs Shape Op → Txs Shape Op
+with_log t f v =
+    record { names = v.names; opened = map (λ x. cond (x.name =ⁿ t) (relogged f x) x) v.opened }
 
 module _ {Shape Op : Type 0} where
   relogged_tx : (h : List (LocalEntry Op) → List (LocalEntry Op)) (x : Open Shape Op) (b : Bool) → tx_of (cond b (relogged h x) x) ≡ cond b (relog h (tx_of x)) (tx_of x)

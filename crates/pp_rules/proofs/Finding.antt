@@ -86,6 +86,10 @@ pub mapped_none : {X Y : Type 0} (f : X → Y) (o : Option X) → None ≡ optio
 mapped_none f None e = refl
 mapped_none f (Some x) e = absurd (cc)
 
+pub mapped_twice : {X Y Z : Type 0} (g : Y → Z) (f : X → Y) (o : Option X) → option_map g (option_map f o) ≡ option_map (λ x. g (f x)) o
+mapped_twice g f None = refl
+mapped_twice g f (Some x) = refl
+
 map_cond : {X Y : Type 0} (f : X → Y) (x : X) (r : Option X) (b : Bool) → cond b (Some (f x)) (option_map f r) ≡ option_map f (cond b (Some x) r)
 map_cond f x r true = refl
 map_cond f x r false = refl
@@ -163,14 +167,6 @@ in_taken (suc i) a [] h = elim h [ ]
 in_taken (suc i) a (y ∷ ys) (inl e) = inl e
 in_taken (suc i) a (y ∷ ys) (inr h) = inr (in_taken i a ys h)
 
--- a place that is found by a key
-pub place_in : {X : Type 0} (p : X → Bool) (xs : List X) (i : ℕ) → position p xs ≡ Some i → (x : X) × In x xs × (p x ≡ true)
-place_in {X} p xs i h = go (slice_get xs i) refl
-  where
-    go : (r : Option X) → slice_get xs i ≡ r → (x : X) × In x xs × (p x ≡ true)
-    go None e = absurd (place_there p xs i h e)
-    go (Some x) e = let k = found p xs x (place_found p xs i x h e) in (x, k.0, k.1)
-
 -- what a decided test says
 pub decided : (b : Bool) (P : Type 0) → IsTrue b ↔ P → b ≡ true → P
 decided b P h e = h.0 e
@@ -202,6 +198,9 @@ placed {X} p xs i h = go (slice_get xs i) refl
     go : (r : Option X) → slice_get xs i ≡ r → (x : X) × (slice_get xs i ≡ Some x) × (p x ≡ true)
     go None e = absurd (place_there p xs i h e)
     go (Some x) e = (x, e, (found p xs x (place_found p xs i x h e)).1)
+
+pub place_in : {X : Type 0} (p : X → Bool) (xs : List X) (i : ℕ) → position p xs ≡ Some i → (x : X) × In x xs × (p x ≡ true)
+place_in p xs i h = let q = placed p xs i h in (q.0, stands_in xs i q.0 q.1, q.2)
 
 -- what stands behind a place
 pub in_dropped : {X : Type 0} (i : ℕ) (a : X) (xs : List X) → In a (drop i xs) → In a xs
@@ -300,11 +299,6 @@ filter_short {X} p (x ∷ xs) = go (p x) (filter_short p xs)
     go : (b : Bool) → length (filter p xs) ≤ length xs → length (cond b (x ∷ filter p xs) (filter p xs)) ≤ length (x ∷ xs)
     go true k = omega (arith, k)
     go false k = omega (arith, k)
-
-pub some_is_none : {X : Type 0} (r s : Option X) → IsSome s → r ≡ s → r ≡ None → ⊥
-some_is_none None None h e n = absurd (cc)
-some_is_none None (Some x) h e n = absurd (cc)
-some_is_none (Some x) s h e n = absurd (cc)
 
 -- what an index reads
 pub read_there : {X : Type 0} (xs : List X) (k : ℕ) (x y : X) → slice_get xs k ≡ Some y → x ≡ get_or xs k x → y ≡ x

@@ -17,8 +17,9 @@ use Rattle.pp_spec.specs.Object.{Object, SwapsIn}
 use Rattle.pp_rules.specs.Finding.{IsLastUnpushed}
 use Rattle.pp_rules.specs.Machines.{Holds, Seen, config_of, tx_of}
 use Rattle.pp_rules.specs.Costs.{CostsBy, CostsInVain}
-use Rattle.pp_rules.specs.Stepping.{FindsPushed, IsAt, IsLastAt, IsOfOther}
-use Rattle.pp_rules.specs.Stepping.{Refuses, Stepped}
+use Rattle.pp_rules.specs.Judges.{FindsPushed, IsAt, IsLastAt, IsOfOther}
+use Rattle.pp_rules.specs.Judges.{Refuses}
+use Rattle.pp_rules.specs.Stepping.{Stepped}
 use Rattle.pp_rules.specs.declared.detail.Refusal.{Refusal}
 use Rattle.pp_rules.specs.declared.machine.Outcome.{Outcome}
 use Rattle.pp_rules.specs.declared.machine.Outcome.TheVariants.{False}

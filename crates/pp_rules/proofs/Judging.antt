@@ -18,7 +18,7 @@ use Rattle.pp_rules.specs.Courses.{MayFollow, own_calls}
 use Rattle.pp_rules.specs.Evidence.{entries_before, entries_behind, evidence, first_differing}
 use Rattle.pp_rules.specs.Evidence.{first_entry, first_swap, if_there, at_number}
 use Rattle.pp_rules.specs.Standing.{stands_committed}
-use Rattle.pp_rules.specs.Stepping.{Refuses}
+use Rattle.pp_rules.specs.Judges.{Refuses}
 use Rattle.pp_rules.specs.declared.detail.Detail.{Detail}
 use Rattle.pp_rules.specs.declared.detail.Detail.TheVariants.{Nothing, Gives}
 use Rattle.pp_rules.specs.declared.detail.Refusal.{Refusal}
@@ -58,8 +58,8 @@ module _ {Shape State Op Undo : Type 0} (o : Object Shape State Op Undo) (v w : 
   pub app_3 : (t : Name) (id : ℕ) (op : Op) (x : Tx Op) → tx t v.config.opened ≡ Some x → (In id v.config.ids → ⊥) → (MayFollow o x.body x.local op → ⊥) → (r : Refusal Op) → r ≡ record { criterion = 3; detail = Nothing } → Refuses o w (App t id op) r
   app_3 t id op x e n b r is = refuse (App t id op) 2 r Nothing is (there_more (tx t v.config.opened) _ x 1 e (n, b)) (there_shown_more (tx t v.config.opened) _ x 1 e refl)
 
-  pub app_4 : (t : Name) (id : ℕ) (op : Op) (x : Tx Op) → tx t v.config.opened ≡ Some x → (In id v.config.ids → ⊥) → MayFollow o x.body x.local op → (IsAllowed o v.shape (local_ops x.local ++ op ∷ []) → ⊥) → (d : Detail Op) → d ≡ Gives id (answer_behind o v.shape (local_ops x.local) op) → Refuses o w (App t id op) (record { criterion = 4; detail = d })
-  app_4 t id op x e n b k d shown = refuse (App t id op) 3 (record { criterion = 4; detail = d }) d refl (there_more (tx t v.config.opened) _ x 2 e (n, (b, k))) (there_shown_more (tx t v.config.opened) _ x 2 e shown)
+  pub app_4 : (t : Name) (id : ℕ) (op : Op) (x : Tx Op) → tx t v.config.opened ≡ Some x → (In id v.config.ids → ⊥) → MayFollow o x.body x.local op → (IsAllowed o v.shape (local_ops x.local ++ op ∷ []) → ⊥) → (d : Detail Op) → d ≡ Gives id (answer_behind o v.shape (local_ops x.local) op) → (r : Refusal Op) → r ≡ record { criterion = 4; detail = d } → Refuses o w (App t id op) r
+  app_4 t id op x e n b k d shown r is = refuse (App t id op) 3 r d is (there_more (tx t v.config.opened) _ x 2 e (n, (b, k))) (there_shown_more (tx t v.config.opened) _ x 2 e shown)
 
   pub app_0 : (t : Name) (id : ℕ) (op : Op) (x : Tx Op) → tx t v.config.opened ≡ Some x → (In id v.config.ids → ⊥) → MayFollow o x.body x.local op → IsAllowed o v.shape (local_ops x.local ++ op ∷ []) → Meets (rules_of o w.shape) w.config (App t id op)
   app_0 t id op x e n b k = lift (App t id op) 0 (there_is (tx t v.config.opened) _ x e (n, (b, (k, refl))))
@@ -71,8 +71,8 @@ module _ {Shape State Op Undo : Type 0} (o : Object Shape State Op Undo) (v w : 
   push_2 t id x e h r is = refuse (Push t id) 1 r Nothing is (there_more (tx t v.config.opened) _ x 0 e (there_1 (at_mark id Unpushed x.local) _ h)) (there_shown_more (tx t v.config.opened) _ x 0 e (there_shown_1 (at_mark id Unpushed x.local) _))
 
   pub push_3 : (t : Name) (id : ℕ) (x : Tx Op) (p a : LocalEntry Op) → tx t v.config.opened ≡ Some x → at_mark id Unpushed x.local ≡ Some p →
-      Before a p x.local → a.mark ≡ Unpushed → (model.Swaps (rules_of o v.shape) p.op a.op → ⊥) → (d : Detail Op) → d ≡ first_swap (λ a. a.id) (λ a. o.refuting p.op a.op) (filter (λ a. is_mark a.mark Unpushed) (entries_before id x.local)) → Refuses o w (Push t id) (record { criterion = 3; detail = d })
-  push_3 t id x p a e h b m n d shown = refuse (Push t id) 2 (record { criterion = 3; detail = d }) d refl (there_more (tx t v.config.opened) _ x 1 e (there_more (at_mark id Unpushed x.local) _ p 0 h (λ all. n (all a b m)))) (there_shown_more (tx t v.config.opened) _ x 1 e (there_shown_more (at_mark id Unpushed x.local) _ p 0 h shown))
+      Before a p x.local → a.mark ≡ Unpushed → (model.Swaps (rules_of o v.shape) p.op a.op → ⊥) → (d : Detail Op) → d ≡ first_swap (λ a. a.id) (λ a. o.refuting p.op a.op) (filter (λ a. is_mark a.mark Unpushed) (entries_before id x.local)) → (r : Refusal Op) → r ≡ record { criterion = 3; detail = d } → Refuses o w (Push t id) r
+  push_3 t id x p a e h b m n d shown r is = refuse (Push t id) 2 r d is (there_more (tx t v.config.opened) _ x 1 e (there_more (at_mark id Unpushed x.local) _ p 0 h (λ all. n (all a b m)))) (there_shown_more (tx t v.config.opened) _ x 1 e (there_shown_more (at_mark id Unpushed x.local) _ p 0 h shown))
 
   abbrev pub OwnSwap : Tx Op → LocalEntry Op → Type 0
   OwnSwap x p = (a : LocalEntry Op) → Before a p x.local → a.mark ≡ Unpushed → model.Swaps (rules_of o v.shape) p.op a.op
@@ -81,12 +81,12 @@ module _ {Shape State Op Undo : Type 0} (o : Object Shape State Op Undo) (v w : 
   OthersSwap t p = (u : SharedEntry Op) → In u v.config.shared → u.committed ≡ false → (u.owner ≡ t → ⊥) → model.Swaps (rules_of o v.shape) u.op p.op
 
   pub push_4 : (t : Name) (id : ℕ) (x : Tx Op) (p : LocalEntry Op) (u : SharedEntry Op) → tx t v.config.opened ≡ Some x → at_mark id Unpushed x.local ≡ Some p →
-      OwnSwap x p → In u v.config.shared → u.committed ≡ false → (u.owner ≡ t → ⊥) → (model.Swaps (rules_of o v.shape) u.op p.op → ⊥) → (d : Detail Op) → d ≡ first_swap (λ u. u.id) (λ u. o.refuting u.op p.op) (filter (λ u. not u.committed && not (u.owner =ⁿ t)) v.config.shared) → Refuses o w (Push t id) (record { criterion = 4; detail = d })
-  push_4 t id x p u e h own i m w n d shown = refuse (Push t id) 3 (record { criterion = 4; detail = d }) d refl (there_more (tx t v.config.opened) _ x 2 e (there_more (at_mark id Unpushed x.local) _ p 1 h (own, (λ all. n (all u i m w))))) (there_shown_more (tx t v.config.opened) _ x 2 e (there_shown_more (at_mark id Unpushed x.local) _ p 1 h shown))
+      OwnSwap x p → In u v.config.shared → u.committed ≡ false → (u.owner ≡ t → ⊥) → (model.Swaps (rules_of o v.shape) u.op p.op → ⊥) → (d : Detail Op) → d ≡ first_swap (λ u. u.id) (λ u. o.refuting u.op p.op) (filter (λ u. not u.committed && not (u.owner =ⁿ t)) v.config.shared) → (r : Refusal Op) → r ≡ record { criterion = 4; detail = d } → Refuses o w (Push t id) r
+  push_4 t id x p u e h own i m w n d shown r is = refuse (Push t id) 3 r d is (there_more (tx t v.config.opened) _ x 2 e (there_more (at_mark id Unpushed x.local) _ p 1 h (own, (λ all. n (all u i m w))))) (there_shown_more (tx t v.config.opened) _ x 2 e (there_shown_more (at_mark id Unpushed x.local) _ p 1 h shown))
 
   pub push_5 : (t : Name) (id : ℕ) (x : Tx Op) (p : LocalEntry Op) → tx t v.config.opened ≡ Some x → at_mark id Unpushed x.local ≡ Some p →
-      OwnSwap x p → OthersSwap t p → (IsAllowed o v.shape (shared_ops v.config.shared ++ p.op ∷ []) → ⊥) → (d : Detail Op) → d ≡ Gives id (answer_behind o v.shape (shared_ops v.config.shared) p.op) → Refuses o w (Push t id) (record { criterion = 5; detail = d })
-  push_5 t id x p e h own others n d shown = refuse (Push t id) 4 (record { criterion = 5; detail = d }) d refl (there_more (tx t v.config.opened) _ x 3 e (there_more (at_mark id Unpushed x.local) _ p 2 h (own, (others, n)))) (there_shown_more (tx t v.config.opened) _ x 3 e (there_shown_more (at_mark id Unpushed x.local) _ p 2 h shown))
+      OwnSwap x p → OthersSwap t p → (IsAllowed o v.shape (shared_ops v.config.shared ++ p.op ∷ []) → ⊥) → (d : Detail Op) → d ≡ Gives id (answer_behind o v.shape (shared_ops v.config.shared) p.op) → (r : Refusal Op) → r ≡ record { criterion = 5; detail = d } → Refuses o w (Push t id) r
+  push_5 t id x p e h own others n d shown r is = refuse (Push t id) 4 r d is (there_more (tx t v.config.opened) _ x 3 e (there_more (at_mark id Unpushed x.local) _ p 2 h (own, (others, n)))) (there_shown_more (tx t v.config.opened) _ x 3 e (there_shown_more (at_mark id Unpushed x.local) _ p 2 h shown))
 
   pub push_0 : (t : Name) (id : ℕ) (x : Tx Op) (p : LocalEntry Op) → tx t v.config.opened ≡ Some x → at_mark id Unpushed x.local ≡ Some p →
       OwnSwap x p → OthersSwap t p → IsAllowed o v.shape (shared_ops v.config.shared ++ p.op ∷ []) → Meets (rules_of o w.shape) w.config (Push t id)
@@ -101,8 +101,8 @@ module _ {Shape State Op Undo : Type 0} (o : Object Shape State Op Undo) (v w : 
   pub cmt_2 : (t : Name) (x : Tx Op) → tx t v.config.opened ≡ Some x → (IsComplete x → ⊥) → (r : Refusal Op) → r ≡ record { criterion = 2; detail = Nothing } → Refuses o w (Cmt t) r
   cmt_2 t x e n r is = refuse (Cmt t) 1 r Nothing is (there_more (tx t v.config.opened) _ x 0 e n) (there_shown_more (tx t v.config.opened) _ x 0 e refl)
 
-  pub cmt_3 : (t : Name) (x : Tx Op) (p : LocalEntry Op) → tx t v.config.opened ≡ Some x → IsComplete x → In p x.local → is_own p.mark ≡ true → (p.mark ≡ Pushed → ⊥) → (d : Detail Op) → d ≡ first_entry (filter (λ e. is_mark e.mark Unpushed) x.local) → Refuses o w (Cmt t) (record { criterion = 3; detail = d })
-  cmt_3 t x p e b i m n d shown = refuse (Cmt t) 2 (record { criterion = 3; detail = d }) d refl (there_more (tx t v.config.opened) _ x 1 e (b, (λ all. n (all p i m)))) (there_shown_more (tx t v.config.opened) _ x 1 e shown)
+  pub cmt_3 : (t : Name) (x : Tx Op) (p : LocalEntry Op) → tx t v.config.opened ≡ Some x → IsComplete x → In p x.local → is_own p.mark ≡ true → (p.mark ≡ Pushed → ⊥) → (d : Detail Op) → d ≡ first_entry (filter (λ e. is_mark e.mark Unpushed) x.local) → (r : Refusal Op) → r ≡ record { criterion = 3; detail = d } → Refuses o w (Cmt t) r
+  cmt_3 t x p e b i m n d shown r is = refuse (Cmt t) 2 r d is (there_more (tx t v.config.opened) _ x 1 e (b, (λ all. n (all p i m)))) (there_shown_more (tx t v.config.opened) _ x 1 e shown)
 
   abbrev pub AllPushed : Tx Op → Type 0
   AllPushed x = (p : LocalEntry Op) → In p x.local → is_own p.mark ≡ true → p.mark ≡ Pushed
@@ -110,8 +110,8 @@ module _ {Shape State Op Undo : Type 0} (o : Object Shape State Op Undo) (v w : 
   abbrev pub StandsCommitted : ℕ → Type 0
   StandsCommitted id = (g : SharedEntry Op) × In g v.config.shared × (g.id ≡ id) × (g.committed ≡ true)
 
-  pub cmt_4 : (t : Name) (x : Tx Op) (p : LocalEntry Op) → tx t v.config.opened ≡ Some x → IsComplete x → AllPushed x → In p x.local → p.mark ≡ Pulled → (StandsCommitted p.id → ⊥) → (d : Detail Op) → d ≡ first_entry (filter (λ e. is_mark e.mark Pulled && not (stands_committed e.id v.config.shared)) x.local) → Refuses o w (Cmt t) (record { criterion = 4; detail = d })
-  cmt_4 t x p e b all i m n d shown = refuse (Cmt t) 3 (record { criterion = 4; detail = d }) d refl (there_more (tx t v.config.opened) _ x 2 e (b, (all, (λ h. n (h p i m))))) (there_shown_more (tx t v.config.opened) _ x 2 e shown)
+  pub cmt_4 : (t : Name) (x : Tx Op) (p : LocalEntry Op) → tx t v.config.opened ≡ Some x → IsComplete x → AllPushed x → In p x.local → p.mark ≡ Pulled → (StandsCommitted p.id → ⊥) → (d : Detail Op) → d ≡ first_entry (filter (λ e. is_mark e.mark Pulled && not (stands_committed e.id v.config.shared)) x.local) → (r : Refusal Op) → r ≡ record { criterion = 4; detail = d } → Refuses o w (Cmt t) r
+  cmt_4 t x p e b all i m n d shown r is = refuse (Cmt t) 3 r d is (there_more (tx t v.config.opened) _ x 2 e (b, (all, (λ h. n (h p i m))))) (there_shown_more (tx t v.config.opened) _ x 2 e shown)
 
   pub cmt_0 : (t : Name) (x : Tx Op) → tx t v.config.opened ≡ Some x → IsComplete x → AllPushed x → ((p : LocalEntry Op) → In p x.local → p.mark ≡ Pulled → StandsCommitted p.id) → Meets (rules_of o w.shape) w.config (Cmt t)
   cmt_0 t x e b all h = lift (Cmt t) 0 (there_is (tx t v.config.opened) _ x e (b, (all, (h, refl))))
@@ -128,8 +128,8 @@ module _ {Shape State Op Undo : Type 0} (o : Object Shape State Op Undo) (v w : 
   pub quit_1 : (t : Name) → tx t v.config.opened ≡ None → (r : Refusal Op) → r ≡ record { criterion = 1; detail = Nothing } → Refuses o w (Quit t) r
   quit_1 t e r is = refuse (Quit t) 0 r Nothing is (there_1 (tx t v.config.opened) _ e) (there_shown_1 (tx t v.config.opened) _)
 
-  pub quit_2 : (t : Name) (x : Tx Op) → tx t v.config.opened ≡ Some x → (x.local ≡ [] → ⊥) → (d : Detail Op) → d ≡ first_entry x.local → Refuses o w (Quit t) (record { criterion = 2; detail = d })
-  quit_2 t x e n d shown = refuse (Quit t) 1 (record { criterion = 2; detail = d }) d refl (there_more (tx t v.config.opened) _ x 0 e n) (there_shown_more (tx t v.config.opened) _ x 0 e shown)
+  pub quit_2 : (t : Name) (x : Tx Op) → tx t v.config.opened ≡ Some x → (x.local ≡ [] → ⊥) → (d : Detail Op) → d ≡ first_entry x.local → (r : Refusal Op) → r ≡ record { criterion = 2; detail = d } → Refuses o w (Quit t) r
+  quit_2 t x e n d shown r is = refuse (Quit t) 1 r d is (there_more (tx t v.config.opened) _ x 0 e n) (there_shown_more (tx t v.config.opened) _ x 0 e shown)
 
   pub quit_0 : (t : Name) (x : Tx Op) → tx t v.config.opened ≡ Some x → x.local ≡ [] → Meets (rules_of o w.shape) w.config (Quit t)
   quit_0 t x e h = lift (Quit t) 0 (there_is (tx t v.config.opened) _ x e (h, refl))
@@ -155,12 +155,12 @@ module _ {Shape State Op Undo : Type 0} (o : Object Shape State Op Undo) (v w : 
   abbrev pub OwnBefore : Tx Op → SharedEntry Op → Type 0
   OwnBefore x g = (a : LocalEntry Op) → In a x.local → is_own a.mark ≡ true → model.Swaps (rules_of o v.shape) a.op g.op
 
-  pub pull_4 : (t : Name) (id : ℕ) (x : Tx Op) (g : SharedEntry Op) → tx t v.config.opened ≡ Some x → of_other t id v.config.shared ≡ Some g → NotThere id x → (IsAllowed o v.shape (local_ops x.local ++ g.op ∷ []) → ⊥) → (d : Detail Op) → d ≡ Gives id (answer_behind o v.shape (local_ops x.local) g.op) → Refuses o w (Pull t id) (record { criterion = 4; detail = d })
-  pull_4 t id x g e h n k d shown = refuse (Pull t id) 3 (record { criterion = 4; detail = d }) d refl (there_more (tx t v.config.opened) _ x 2 e (there_more (of_other t id v.config.shared) _ g 1 h (n, k))) (there_shown_more (tx t v.config.opened) _ x 2 e (there_shown_more (of_other t id v.config.shared) _ g 1 h shown))
+  pub pull_4 : (t : Name) (id : ℕ) (x : Tx Op) (g : SharedEntry Op) → tx t v.config.opened ≡ Some x → of_other t id v.config.shared ≡ Some g → NotThere id x → (IsAllowed o v.shape (local_ops x.local ++ g.op ∷ []) → ⊥) → (d : Detail Op) → d ≡ Gives id (answer_behind o v.shape (local_ops x.local) g.op) → (r : Refusal Op) → r ≡ record { criterion = 4; detail = d } → Refuses o w (Pull t id) r
+  pull_4 t id x g e h n k d shown r is = refuse (Pull t id) 3 r d is (there_more (tx t v.config.opened) _ x 2 e (there_more (of_other t id v.config.shared) _ g 1 h (n, k))) (there_shown_more (tx t v.config.opened) _ x 2 e (there_shown_more (of_other t id v.config.shared) _ g 1 h shown))
 
   pub pull_5 : (t : Name) (id : ℕ) (x : Tx Op) (g : SharedEntry Op) (a : LocalEntry Op) → tx t v.config.opened ≡ Some x → of_other t id v.config.shared ≡ Some g → NotThere id x → IsAllowed o v.shape (local_ops x.local ++ g.op ∷ []) →
-      In a x.local → is_own a.mark ≡ true → (model.Swaps (rules_of o v.shape) a.op g.op → ⊥) → (d : Detail Op) → d ≡ first_swap (λ a. a.id) (λ a. o.refuting a.op g.op) (own x.local) → Refuses o w (Pull t id) (record { criterion = 5; detail = d })
-  pull_5 t id x g a e h n k i m z d shown = refuse (Pull t id) 4 (record { criterion = 5; detail = d }) d refl (there_more (tx t v.config.opened) _ x 3 e (there_more (of_other t id v.config.shared) _ g 2 h (n, (k, λ all. z (all a i m))))) (there_shown_more (tx t v.config.opened) _ x 3 e (there_shown_more (of_other t id v.config.shared) _ g 2 h shown))
+      In a x.local → is_own a.mark ≡ true → (model.Swaps (rules_of o v.shape) a.op g.op → ⊥) → (d : Detail Op) → d ≡ first_swap (λ a. a.id) (λ a. o.refuting a.op g.op) (own x.local) → (r : Refusal Op) → r ≡ record { criterion = 5; detail = d } → Refuses o w (Pull t id) r
+  pull_5 t id x g a e h n k i m z d shown r is = refuse (Pull t id) 4 r d is (there_more (tx t v.config.opened) _ x 3 e (there_more (of_other t id v.config.shared) _ g 2 h (n, (k, λ all. z (all a i m))))) (there_shown_more (tx t v.config.opened) _ x 3 e (there_shown_more (of_other t id v.config.shared) _ g 2 h shown))
 
   pub pull_0 : (t : Name) (id : ℕ) (x : Tx Op) (g : SharedEntry Op) → tx t v.config.opened ≡ Some x → of_other t id v.config.shared ≡ Some g → NotThere id x → IsAllowed o v.shape (local_ops x.local ++ g.op ∷ []) → OwnBefore x g → Meets (rules_of o w.shape) w.config (Pull t id)
   pull_0 t id x g e h n k b = lift (Pull t id) 0 (there_is (tx t v.config.opened) _ x e (there_is (of_other t id v.config.shared) _ g h (n, (k, (b, refl)))))
@@ -181,8 +181,8 @@ module _ {Shape State Op Undo : Type 0} (o : Object Shape State Op Undo) (v w : 
   unpush_2 t id x e h r is = refuse (Unpush t id) 1 r Nothing is (there_more (tx t v.config.opened) _ x 0 e (there_1 (at_mark id Pushed x.local) _ h)) (there_shown_more (tx t v.config.opened) _ x 0 e (there_shown_1 (at_mark id Pushed x.local) _))
 
   pub unpush_3 : (t : Name) (id : ℕ) (x : Tx Op) (p b : LocalEntry Op) → tx t v.config.opened ≡ Some x → at_mark id Pushed x.local ≡ Some p →
-      Before p b x.local → b.mark ≡ Pushed → (model.Swaps (rules_of o v.shape) b.op p.op → ⊥) → (d : Detail Op) → d ≡ first_swap (λ b. b.id) (λ b. o.refuting b.op p.op) (filter (λ b. is_mark b.mark Pushed) (entries_behind id x.local)) → Refuses o w (Unpush t id) (record { criterion = 3; detail = d })
-  unpush_3 t id x p b e h i m n d shown = refuse (Unpush t id) 2 (record { criterion = 3; detail = d }) d refl (there_more (tx t v.config.opened) _ x 1 e (there_more (at_mark id Pushed x.local) _ p 0 h (λ all. n (all b i m)))) (there_shown_more (tx t v.config.opened) _ x 1 e (there_shown_more (at_mark id Pushed x.local) _ p 0 h shown))
+      Before p b x.local → b.mark ≡ Pushed → (model.Swaps (rules_of o v.shape) b.op p.op → ⊥) → (d : Detail Op) → d ≡ first_swap (λ b. b.id) (λ b. o.refuting b.op p.op) (filter (λ b. is_mark b.mark Pushed) (entries_behind id x.local)) → (r : Refusal Op) → r ≡ record { criterion = 3; detail = d } → Refuses o w (Unpush t id) r
+  unpush_3 t id x p b e h i m n d shown r is = refuse (Unpush t id) 2 r d is (there_more (tx t v.config.opened) _ x 1 e (there_more (at_mark id Pushed x.local) _ p 0 h (λ all. n (all b i m)))) (there_shown_more (tx t v.config.opened) _ x 1 e (there_shown_more (at_mark id Pushed x.local) _ p 0 h shown))
 
   abbrev pub BehindSwap : Tx Op → LocalEntry Op → Type 0
   BehindSwap x p = (b : LocalEntry Op) → Before p b x.local → b.mark ≡ Pushed → model.Swaps (rules_of o v.shape) b.op p.op

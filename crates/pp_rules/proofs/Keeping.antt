@@ -34,10 +34,11 @@ use Rattle.pp_log.proofs.Lists.{stands_in}
 use Rattle.pp_rules.specs.Courses.{FollowsIfOwn, Guided}
 use Rattle.pp_rules.specs.Machines.{Holds, IsFine, Seen, config_of, stepped, tx_of}
 use Rattle.pp_rules.specs.Transactions.{HasOwn, MayLeave, is_begun, is_busy, Open, Takes, Txs}
-use Rattle.pp_rules.specs.Transactions.{course_of, open_at, open_of, recoursed, relogged}
-use Rattle.pp_rules.specs.Transactions.{with_course, with_log, with_open, without_open}
+use Rattle.pp_rules.specs.Transactions.{course_of, open_at, open_of, recoursed, with_course}
+use Rattle.pp_rules.specs.Transactions.{with_open, without_open}
 use Rattle.pp_rules.proofs.Acting.{after_begin, after_app, after_unapp, after_pull, after_unpull}
-use Rattle.pp_rules.proofs.Acting.{after_push, after_unpush, after_cmt, after_quit}
+use Rattle.pp_rules.proofs.Acting.{after_push, after_unpush, after_cmt, after_quit, relogged}
+use Rattle.pp_rules.proofs.Acting.{with_log}
 use Rattle.pp_local.proofs.Places.{nowhere}
 use Rattle.pp_rules.proofs.Finding.{but_last_short, filter_short, placed}
 use Rattle.pp_rules.proofs.Finding.{removed_filter, slice_within}

@@ -6,6 +6,7 @@ pub mod Fitting
 pub mod Judged
 pub mod Judging
 pub mod Keeping
+pub mod Lent
 pub mod Looking
 pub mod Opened
 pub mod Refuting

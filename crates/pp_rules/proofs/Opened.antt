@@ -23,7 +23,7 @@ use Rattle.pp_rules.specs.Transactions.{threads_of}
 use Rattle.pp_rules.specs.Finding.{AreDistinct}
 use Rattle.pp_rules.proofs.Fitting.{local_fits, ranged_in, shared_fits}
 use Rattle.pp_rules.proofs.Finding.{any_in, none_in, find_map, from_reverse, in_reverse}
-use Rattle.pp_rules.proofs.Finding.{mapped_some, mapped_none}
+use Rattle.pp_rules.proofs.Finding.{mapped_some, mapped_none, mapped_twice}
 
 pub is_there : {X : Type 0} (r : Option X) → is_some r ≡ true → (x : X) × (r ≡ Some x)
 is_there None e = absurd (cc)
@@ -108,9 +108,6 @@ module _ {Shape State Op Undo : Type 0} (o : Object Shape State Op Undo) (shape 
       let q = log_of t k.local r.0 r.1 (ap (λ (z : Guided Shape Op). z.local) r.2) in
       record { log = q.0; body_is = q.1 ∙ ap (λ (z : Guided Shape Op). z.body) r.2 }
 
-  pub unlogged : (t : Name) → None ≡ option_map (λ x. x.local) (open_at t v.opened) → tx t (map tx_of v.opened) ≡ None
-  unlogged t e = tx_is t ∙ ap (option_map tx_of) (mapped_none (λ x. x.local) (open_at t v.opened) e)
-
   pub uncoursed : (t : Name) → None ≡ option_map course_of (open_at t v.opened) → tx t (map tx_of v.opened) ≡ None
   uncoursed t e = tx_is t ∙ ap (option_map tx_of) (mapped_none course_of (open_at t v.opened) e)
 
@@ -160,9 +157,5 @@ module _ {Shape State Op Undo : Type 0} (o : Object Shape State Op Undo) (shape 
   pub holds_course : (t : Name) (k : Guided Shape Op) → Some k ≡ option_map course_of (open_at t v.opened) → HoldsCourse o rest G t k
   holds_course t k e = record { holds = h; is_open = e }
 
-  local_mapped : (x : Option (Open Shape Op)) → option_map (λ (z : Guided Shape Op). z.local) (option_map course_of x) ≡ option_map (λ x. x.local) x
-  local_mapped None = refl
-  local_mapped (Some x) = refl
-
   pub holds_local : (t : Name) (k : Guided Shape Op) → Some k ≡ option_map course_of (open_at t v.opened) → (l : Shape × List (LocalEntry Op)) → l ≡ k.local → HoldsLocal o rest G t l
-  holds_local t k e l is = record { holds = h; is_open = ap (λ (z : Shape × List (LocalEntry Op)). Some z) is ∙ ap (option_map (λ (z : Guided Shape Op). z.local)) e ∙ local_mapped (open_at t v.opened) }
+  holds_local t k e l is = record { holds = h; is_open = ap (λ (z : Shape × List (LocalEntry Op)). Some z) is ∙ ap (option_map (λ (z : Guided Shape Op). z.local)) e ∙ mapped_twice (λ (z : Guided Shape Op). z.local) course_of (open_at t v.opened) }

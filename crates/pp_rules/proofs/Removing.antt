@@ -102,9 +102,3 @@ from_place_last {Op} place (a ∷ []) zero e =
 from_place_last place (a ∷ []) (suc i) e = absurd (omega arith)
 from_place_last place (a ∷ b ∷ x) zero e = absurd (omega arith)
 from_place_last place (a ∷ b ∷ x) (suc i) e = from_place_last place (b ∷ x) i (omega arith)
-
--- at least the operation itself has its place
-pub from_place_some : {Op : Type 0} (place : Op → ℕ) (ops : List Op) (i : ℕ) → 1 ≤ from_place place ops i
-from_place_some place [] i = omega arith
-from_place_some {Op} place (a ∷ x) zero = some_pass (λ (b : Op). place b == place a) a x (eq-eqb (place a) (place a) refl)
-from_place_some place (a ∷ x) (suc i) = from_place_some place x i

@@ -104,9 +104,6 @@ kept_less ns ts ms us k l p h e u = record {
   threads_are = λ q. u q ∙ ap (cond (p =ⁿ q) false) (h.threads_are q) ∙ sym (any_skip k l p q h.busy_apart);
 }
 
-pub same_come : (ts us : List Name) (rs : List Name) (p : Name) → rs ≡ ts → ((q : Name) → list_any (λ z. q =ⁿ z) us ≡ cond (p =ⁿ q) true (list_any (λ z. q =ⁿ z) rs)) → (q : Name) → list_any (λ z. q =ⁿ z) us ≡ cond (p =ⁿ q) true (list_any (λ z. q =ⁿ z) ts)
-same_come ts us rs p e u q = u q ∙ ap (λ (z : List Name). cond (p =ⁿ q) true (list_any (λ w. q =ⁿ w) z)) e
-
 pub kept_threads : (ns ts bs us : List Name) → Kept ns ts bs → us ≡ ts → Kept ns us bs
 kept_threads ns ts bs us h e = subst (λ (z : List Name). Kept ns z bs) (sym e) h
 
@@ -238,6 +235,11 @@ module _ {A Shape Op : Type 0} (f : Name → A → Open Shape Op) (named : (n : 
   filled_more [] n a = refl
   filled_more ((m, None) ∷ es) n a = filled_more es n a
   filled_more ((m, Some b) ∷ es) n a = ap (λ (w : List (Open Shape Op)). f m b ∷ w) (filled_more es n a)
+
+  filled_none : (es : List (Name × Option A)) (n : Name) → filled f (es ++ (n, None) ∷ []) ≡ filled f es
+  filled_none [] n = refl
+  filled_none ((m, None) ∷ es) n = filled_none es n
+  filled_none ((m, Some b) ∷ es) n = ap (λ (w : List (Open Shape Op)). f m b ∷ w) (filled_none es n)
 
   pub begun_is : (es : List (Name × Option A)) (t : Name) → is_some (lookup (λ n. t =ⁿ n) es) ≡ list_any (λ n. n =ⁿ t) (keys_of es)
   begun_is [] t = refl
@@ -417,9 +419,6 @@ module _ {A Shape Op : Type 0} (f : Name → A → Open Shape Op) (named : (n : 
         let r = located es t None k kept.names_apart in
         kept_same (keys_of es) ts (threads_of (filled f es)) (keys_of fs) (threads_of (filled f fs)) kept n (ap (λ (z : List (Name × Option A)). threads_of (filled f z)) m ∙ ap (λ (z : List (Open Shape Op)). threads_of z) (r.changed None ∙ sym r.is))
 
-    pub seen_never : lookup (λ n. t =ⁿ n) es ≡ None → ◌≡◌ {A = Txs Shape Op} v (without_open t v)
-    seen_never k = sym same ∙ ap (λ (z : List (Open Shape Op)). record { names = keys_of es; opened = z }) (ended_none es t (absent es t k)) ∙ ap (without_open t) same
-
     -- after a transaction has begun
     pub not_there : is_begun v t ≡ false → lookup (λ n. t =ⁿ n) es ≡ None
     not_there h = is_none_of (lookup (λ n. t =ⁿ n) es) (begun_is es t ∙ ap (λ (w : Txs Shape Op). is_begun w t) same ∙ h)
@@ -437,6 +436,27 @@ module _ {A Shape Op : Type 0} (f : Name → A → Open Shape Op) (named : (n : 
         let busy : threads_of (filled f fs) ≡ threads_of (filled f es) ++ (f t a).thread ∷ [] = ap (λ (z : List (Name × Option A)). threads_of (filled f z)) m ∙ ap (λ (z : List (Open Shape Op)). threads_of z) (filled_more es t a) ∙ map-append (λ x. x.thread) (filled f es) (f t a ∷ []) in
         subst (λ (z : List Name). Kept (keys_of fs) us z) (sym busy) (kept_more (keys_of es) ts (threads_of (filled f es)) (keys_of fs) us t (f t a).thread kept
         (ap (λ (w : Txs Shape Op). is_begun w t) same ∙ n) (ap (λ (w : Txs Shape Op). is_busy w (f t a).thread) same ∙ i) (ap (λ (z : List (Name × Option A)). keys_of z) m ∙ map-append (λ e. e.0) es ((t, Some a) ∷ [])) u)
+
+    -- after a name was used up
+    pub seen_used : (fs : List (Name × Option A)) → fs ≡ es ++ (t, None) ∷ [] → ◌≡◌ {A = Txs Shape Op} (record { names = keys_of fs; opened = filled f fs }) (record { names = v.names ++ t ∷ []; opened = v.opened })
+    seen_used fs m =
+        ap seen m
+        ∙ ap (λ (z : List Name). record { names = z; opened = filled f (es ++ (t, None) ∷ []) }) (map-append (λ e. e.0) es ((t, None) ∷ []))
+        ∙ ap (λ (z : List (Open Shape Op)). record { names = keys_of es ++ t ∷ []; opened = z }) (filled_none es t)
+        ∙ ap (λ (w : Txs Shape Op). record { names = w.names ++ t ∷ []; opened = w.opened }) same
+
+    pub kept_used : (fs : List (Name × Option A)) → is_begun v t ≡ false → fs ≡ es ++ (t, None) ∷ [] → Kept (keys_of fs) ts (threads_of (filled f fs))
+    kept_used fs n m =
+        subst (λ (z : List (Name × Option A)). Kept (keys_of z) ts (threads_of (filled f z))) (sym m)
+        (subst (λ (z : List (Open Shape Op)). Kept (keys_of (es ++ (t, None) ∷ [])) ts (threads_of z)) (sym (filled_none es t))
+        (record {
+          names_apart = subst (λ (z : List Name). (p q : Name) → Before p q z → p ≢ q) (sym (map-append (λ e. e.0) es ((t, None) ∷ []))) (apart_more (keys_of es) t kept.names_apart (any_not (keys_of es) t (ap (λ (w : Txs Shape Op). is_begun w t) same ∙ n)));
+          busy_apart = kept.busy_apart;
+          threads_are = kept.threads_are;
+        }))
+
+    pub kept_as : (fs : List (Name × Option A)) → fs ≡ es → Kept (keys_of fs) ts (threads_of (filled f fs))
+    kept_as fs m = subst (λ (z : List (Name × Option A)). Kept (keys_of z) ts (threads_of (filled f z))) (sym m) kept
 
     pub seen_same : (fs : List (Name × Option A)) → fs ≡ es → ◌≡◌ {A = Txs Shape Op} (record { names = keys_of fs; opened = filled f fs }) v
     seen_same fs m = ap seen m ∙ same

@@ -1,9 +1,9 @@
 -- A machine that a start leaves holds what each machine keeps.
-use Rattle.std.proofs.Common.{◌≡◌, ◌≤◌, ℕ, Bool, true, false, cond, not, IsTrue, List, [], ◌∷◌}
+use Rattle.std.proofs.Common.{◌≡◌, ◌≤◌, ℕ, Bool, true, false, cond, IsTrue, List, [], ◌∷◌}
 use Rattle.std.proofs.Common.{◌++◌, map, length, reverse, None, Some, refl, sym, ap, subst, ◌∙◌}
 use Rattle.std.proofs.Common.{arith}
 use Rattle.std.specs.List.{All}
-use Rattle.std.proofs.lemmas.List.{append-nil, length-map, map-append}
+use Rattle.std.proofs.lemmas.List.{append-nil, length-map}
 use Rattle.std.proofs.lemmas.List.Elements.{All-get_or}
 use Rattle.std.proofs.lemmas.Option.{get_or_from_slice_get}
 use Rattle.pp_core.specs.declared.entry.CommittedTx.{CommittedTx}
@@ -11,7 +11,6 @@ use Rattle.pp_core.specs.declared.entry.Item.{Item}
 use Rattle.pp_core.specs.declared.entry.SharedEntry.{SharedEntry}
 use Rattle.pp_log.proofs.Lists.{in_at}
 use Rattle.pp_model.specs.Config.{Config, Start, Tx, as_shared, commit_all, first, shared_ops}
-use Rattle.pp_model.specs.Config.{without_tx}
 use Rattle.pp_model.specs.Lists.{In}
 use Rattle.pp_model.specs.Names.{Name}
 use Rattle.pp_model.specs.Object.{ops}
@@ -25,8 +24,7 @@ use Rattle.pp_spec.specs.Object.{Object, AllRanged, rules_of}
 use Rattle.pp_rules.specs.Machines.{Holds, Seen, config_of, tx_of}
 use Rattle.pp_rules.specs.Starting.{posted}
 use Rattle.pp_rules.specs.StartAnswers.{IsAskedItem}
-use Rattle.pp_rules.specs.Transactions.{Open, Txs, is_begun, is_busy, open_of, with_open, without_open}
-use Rattle.pp_rules.proofs.Acting.{after_quit}
+use Rattle.pp_rules.specs.Transactions.{Open, Txs, is_begun}
 use Rattle.pp_rules.proofs.Finding.{reverse_more}
 use Rattle.pp_rules.proofs.Fitting.{in_ranged}
 use Rattle.pp_rules.proofs.Opened.{begun_in}
@@ -80,28 +78,14 @@ module _ {Shape State Op Undo : Type 0} (o : Object Shape State Op Undo) (shape 
   pub not_begun : (t : Name) → is_begun v t ≡ false
   not_begun t = unbegun t (is_begun v t) refl
 
-  idle : (l : List (Open Shape Op)) → map tx_of l ≡ [] → (names : List Name) (p : Name) → is_busy (record { names = names; opened = l }) p ≡ false
-  idle [] e names p = refl
-  idle (x ∷ l) e names p = absurd (cc)
-
-  pub not_busy : (p : Name) → is_busy v p ≡ false
-  not_busy p = idle v.opened none_open v.names p
-
   module _ (z : Start Op) (u : Txs Shape Op) (js : List ℕ) (K : Shape × List (SharedEntry Op)) (D : List (CommittedTx Op))
-      (ended : u ≡ without_open z.tx (with_open (open_of z.tx z.tx None (shape, [])) v)) (used : reverse js ≡ map (λ p. p.id) z.items)
+      (ended : u ≡ record { names = v.names ++ z.tx ∷ []; opened = v.opened }) (used : reverse js ≡ map (λ p. p.id) z.items)
       (shared : K ≡ (w.shape, commit_all z.tx (posted z.tx z.items))) (done : D ≡ F ++ record { name = z.tx; entries = z.items } ∷ []) where
     names_are : reverse u.names ≡ z.tx ∷ []
     names_are = ap (λ (x : Txs Shape Op). reverse x.names) ended ∙ reverse_more v.names z.tx ∙ ap (λ (l : List Name). z.tx ∷ l) no_names
 
-    abbrev alone : Tx Op
-    alone = record { name = z.tx; thread = z.tx; body = None; local = [] }
-
     opened_are : map tx_of u.opened ≡ []
-    opened_are =
-        ap (λ (x : Txs Shape Op). map tx_of x.opened) ended
-        ∙ ap (λ (c : Config Op). c.opened) (after_quit (with_open (open_of z.tx z.tx None (shape, [])) v) ids G.1 F z.tx)
-        ∙ ap (λ (l : List (Tx Op)). without_tx z.tx l) (map-append tx_of v.opened (open_of z.tx z.tx None (shape, []) ∷ []) ∙ ap (λ (l : List (Tx Op)). l ++ alone ∷ []) none_open)
-        ∙ ap (λ (b : Bool). cond (not b) (alone ∷ []) []) (eq-names z.tx z.tx refl)
+    opened_are = ap (λ (x : Txs Shape Op). map tx_of x.opened) ended ∙ none_open
 
     shared_are : K.1 ≡ map (as_shared z.tx true) z.items
     shared_are = ap (λ (k : Shape × List (SharedEntry Op)). k.1) shared ∙ committed_all z.tx z.items

@@ -101,9 +101,6 @@ module _ {Op : Type 0} (items : List (Item Op)) (k : ℕ) where
   abbrev pub told_from : Detail Op
   told_from = first_repeated (take k items) (drop k items)
 
-  pub repeated_none : length items ≤ k → (d : Detail Op) → told_from ≡ d → Nothing ≡ d
-  repeated_none le d e = sym (ap (λ (z : List (Item Op)). first_repeated (take k items) z) (drop_all k items le)) ∙ e
-
 module _ {Op : Type 0} (items : List (Item Op)) (k : ℕ) (p : Item Op) (lt : k < length items) (is : p ≡ get_or items k p) where
   taken : take (k + 1) items ≡ take k items ++ p ∷ []
   taken = take_more items k p lt ∙ ap (λ (z : Item Op). take k items ++ z ∷ []) (sym is)
@@ -115,12 +112,6 @@ module _ {Op : Type 0} (items : List (Item Op)) (k : ℕ) (p : Item Op) (lt : k 
   here =
       ap (λ (z : List (Item Op)). first_repeated (take k items) z) left
       ∙ ap (λ (z : List (Item Op)). cond (has_id p.id (take k items)) (Entry p.id) (first_repeated z (drop (k + 1) items))) (sym taken)
-
-  pub repeated_here : has_id p.id (take k items) ≡ true → (d : Detail Op) → told_from items k ≡ d → Entry p.id ≡ d
-  repeated_here h d e = sym (here ∙ ap (λ (b : Bool). cond b (Entry p.id) (told_from items (k + 1))) h) ∙ e
-
-  pub repeated_on : has_id p.id (take k items) ≡ false → (d : Detail Op) → told_from items k ≡ d → told_from items (k + 1) ≡ d
-  repeated_on h d e = sym (here ∙ ap (λ (b : Bool). cond b (Entry p.id) (told_from items (k + 1))) h) ∙ e
 
   earlier : (q : Item Op) → In q (take k items) → Before q p items
   earlier q i = subst (λ (w : List (Item Op)). Before q p w) (sym (cut_there items k p lt is)) (before_across q p (take k items) (p ∷ drop (k + 1) items) i (inl refl))
@@ -139,9 +130,6 @@ module _ {Op : Type 0} (items : List (Item Op)) (k : ℕ) (p : Item Op) (lt : k 
       ∙ ap (λ (w : List ℕ). p.id ∷ w) h
       ∙ sym (ap (λ (w : List (Item Op)). map (λ q. q.id) w) left)
 
-pub no_ids : {Op : Type 0} (items : List (Item Op)) (k : ℕ) → length items ≤ k → [] ≡ map (λ q. q.id) (drop k items)
-no_ids {Op} items k le = sym (ap (λ (w : List (Item Op)). map (λ q. q.id) w) (drop_all k items le))
-
 posted_ops : {Op : Type 0} (tx : Name) (l : List (Item Op)) → shared_ops (posted tx l) ≡ ops l
 posted_ops tx [] = refl
 posted_ops {Op} tx (p ∷ l) = ap (λ (w : List Op). p.op ∷ w) (posted_ops tx l)
@@ -158,9 +146,6 @@ module _ {Shape State Op Undo : Type 0} (o : Object Shape State Op Undo) (laws :
     asked_at : All (IsAskedItem o shape) items → IsAskedItem o shape p
     asked_at asked = subst (IsAskedItem o shape) (sym is) (All-get_or (IsAskedItem o shape) items k p lt asked)
 
-    pub fits_at : All (IsAskedItem o shape) items → IsTrue (o.fits log.0 p.op)
-    fits_at asked = subst (λ (z : Shape). IsTrue (o.fits z p.op)) (sym shape_is) (asked_at asked).0
-
     pub ranged_at : All (IsAskedItem o shape) items → IsTrue (o.ranged p.op)
     ranged_at asked = (asked_at asked).1
 
@@ -169,12 +154,6 @@ module _ {Shape State Op Undo : Type 0} (o : Object Shape State Op Undo) (laws :
         let m = from_map (as_shared tx false) e (take k items) (subst (λ (w : List (SharedEntry Op)). In e w) (ap (λ (z : Shape × List (SharedEntry Op)). z.1) so_far) i) in
         ap (λ (z : SharedEntry Op). z.id == p.id) m.2
         ∙ false_from_ne_true ((m.0).id == p.id) (λ t. d m.0 p (earlier items k p lt is m.0 m.1) (eqb-true (m.0).id p.id t)))
-
-    pub few_at : length items ≤ 256 → length log.1 < 1_000_000
-    few_at few =
-        let size : length log.1 ≡ length (take k items) = ap (λ (z : Shape × List (SharedEntry Op)). length z.1) so_far ∙ length-map (take k items) (as_shared tx false) in
-        let short : length (take k items) ≡ k = length-take-le k items (omega arith) in
-        omega (arith, size, short, few, lt)
 
     pub posted_more : (new : Shape × List (SharedEntry Op)) → new ≡ (log.0, log.1 ++ as_shared tx false p ∷ []) → new ≡ (shape, posted tx (take (k + 1) items))
     posted_more new e =
@@ -239,14 +218,6 @@ module _ {Shape State Op Undo : Type 0} (o : Object Shape State Op Undo) (laws :
   shows z (suc zero) f h = differing o laws shape (λ q. q) (o.start shape) z.items (laws.start_shape shape) f h.1
   shows z (suc (suc n)) f h = absurd (let e = h.1.1 in cc)
 
-  pub start_evidence_law : StartEvidenceLaw o shape
-  start_evidence_law = record { shows = shows; refutes = refutes }
-    where
-      refutes : (z : Start Op) (n : ℕ) (detail : Detail Op) → HoldsAtNumber o (start_facts o shape z) (suc n) detail → FailsAt (start_criteria (rules_of o shape) (Some z)) (suc n)
-      refutes z zero detail h = λ d. repeats z.items detail h d
-      refutes z (suc zero) detail h = λ a. differs_not o (λ q. q) shape z.items h.0 h.1 h.2 a
-      refutes z (suc (suc n)) detail h = h
-
   repeated_fits : (before items : List (Item Op)) → Fits o shape (first_repeated before items)
   repeated_fits before [] = tt
   repeated_fits before (p ∷ ps) = go (has_id p.id before) (repeated_fits (before ++ p ∷ []) ps)
@@ -260,6 +231,14 @@ module _ {Shape State Op Undo : Type 0} (o : Object Shape State Op Undo) (laws :
   evidence_fits z (suc zero) = repeated_fits [] z.items
   evidence_fits z (suc (suc zero)) = differing_fits o laws shape (λ q. q) (o.start shape) z.items
   evidence_fits z (suc (suc (suc n))) = tt
+
+  pub start_evidence_law : StartEvidenceLaw o shape
+  start_evidence_law = record { shows = shows; refutes = refutes; fits = evidence_fits }
+    where
+      refutes : (z : Start Op) (n : ℕ) (detail : Detail Op) → HoldsAtNumber o (start_facts o shape z) (suc n) detail → FailsAt (start_criteria (rules_of o shape) (Some z)) (suc n)
+      refutes z zero detail h = λ d. repeats z.items detail h d
+      refutes z (suc zero) detail h = λ a. differs_not o (λ q. q) shape z.items h.0 h.1 h.2 a
+      refutes z (suc (suc n)) detail h = h
 
   pub asked_fit : (z : Start Op) → All (IsAskedItem o shape) z.items → StartFits o shape z
   asked_fit z asked p i =

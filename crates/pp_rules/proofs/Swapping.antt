@@ -18,7 +18,7 @@ use Rattle.pp_shared.specs.Blocking.{GivesWay, IsFirstBlocking}
 use Rattle.pp_spec.specs.Object.{Object, IsLawful, IsRefutedBy, Swaps, SwapsIn}
 use Rattle.pp_spec.proofs.Lists.{refuted_nowhere}
 use Rattle.pp_rules.specs.Evidence.{entries_before, entries_behind, first_swap, swap_or}
-use Rattle.pp_rules.specs.Finding.{AreDistinct, blocks}
+use Rattle.pp_rules.specs.Finding.{AreDistinct}
 use Rattle.pp_rules.specs.declared.detail.Detail.TheVariants.{Nothing}
 use Rattle.pp_rules.proofs.Finding.{before_here, behind_here, here_behind, in_dropped, here_before}
 use Rattle.pp_rules.proofs.Finding.{in_taken, place_found, place_or_len}
@@ -32,6 +32,11 @@ mark_is m n e = subst (λ (z : Mark). is_mark z n ≡ true) (sym e) (itself n)
     itself Unpushed = refl
     itself Pushed = refl
     itself Pulled = refl
+
+module _ {Shape State Op Undo : Type 0} (o : Object Shape State Op Undo) where
+  -- whether it is an uncommitted entry of another, which the operation may not come before
+  abbrev pub blocks : Name → Op → SharedEntry Op → Bool
+  blocks t op u = (not u.committed && not (u.owner =ⁿ t)) && is_some (o.refuting u.op op)
 
 module _ {Shape State Op Undo : Type 0} (o : Object Shape State Op Undo) (laws : IsLawful o) (shape : Shape) where
   -- a pair that no lists refute swaps, and one that lists refute does not

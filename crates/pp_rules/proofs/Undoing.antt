@@ -22,16 +22,16 @@ use Rattle.pp_log.specs.declared.place.Removed.TheVariants.{Done, Differs}
 use Rattle.pp_log.specs.Logs.{removal_ticks}
 use Rattle.pp_log.specs.Logs.{RemovesEntry, from_place}
 use Rattle.pp_spec.specs.Object.{Object, IsAllowed, SwapsIn, rules_of}
-use Rattle.pp_rules.specs.Costs.{behind, from_id, log_items}
+use Rattle.pp_rules.specs.Costs.{from_id, log_items}
 use Rattle.pp_rules.specs.Evidence.{evidence, first_differing}
 use Rattle.pp_rules.specs.declared.detail.Detail.{Detail}
 use Rattle.pp_rules.specs.declared.detail.Detail.TheVariants.{Nothing, Gives}
 use Rattle.pp_rules.specs.Machines.{Holds, Seen, config_of, tx_of}
-use Rattle.pp_rules.specs.Stepping.{FindsPushed, IsLastAt}
+use Rattle.pp_rules.specs.Judges.{FindsPushed, IsLastAt}
 use Rattle.pp_rules.specs.Courses.{Guided}
-use Rattle.pp_rules.specs.Removals.{CostsRemoval}
+use Rattle.pp_rules.specs.Removals.{CostsAt, CostsRemoval, RemovesAt}
 use Rattle.pp_rules.specs.Transactions.{MayLeave, Open, Txs, open_at, open_of, with_course}
-use Rattle.pp_rules.specs.Transactions.{with_log}
+use Rattle.pp_rules.proofs.Acting.{with_log}
 use Rattle.pp_rules.proofs.Finding.{placed, slice_within}
 use Rattle.pp_rules.proofs.Judged.{HasEntry}
 use Rattle.pp_rules.proofs.Judging.{unpush_4, unpush_shown, unpush_0, unpull_3, unpull_shown}
@@ -41,19 +41,6 @@ use Rattle.pp_rules.proofs.Opened.{HasCourse, HasLog, logged, opened}
 use Rattle.pp_rules.proofs.Removing.{differs_not, from_id_some, from_place_is, from_place_last}
 use Rattle.pp_rules.proofs.Removing.{last_removed, never_differs}
 use Rattle.pp_rules.proofs.Showing.{differing_shown}
-
--- What a removal at this place of the local log of t answers, and the transactions that it leaves.
-abbrev pub RemovesAt : {Shape State Op Undo : Type 0} → Object Shape State Op Undo → Txs Shape Op → Name → ℕ → Txs Shape Op → Removed → Type 0
-RemovesAt {Shape} {State} {Op} o old t i new removed =
-    (x : Open Shape Op) → open_at t old.opened ≡ Some x →
-    (l : Shape × List (LocalEntry Op)) × RemovesEntry o item x.local i l removed
-    × (new ≡ with_course t (record { body = x.body; local = l }) old)
-
--- What it costs.
-abbrev pub CostsAt : {Shape Op E : Type 0} → (Op → ℕ) → Txs Shape Op → Name → ℕ → Result Removed E → ℕ → ℕ → Type 0
-CostsAt {Shape} {Op} place v t i result old new =
-    (x : Open Shape Op) → open_at t v.opened ≡ Some x →
-    CostsRemoval place (local_ops x.local.1) i result old new
 
 -- what a removal that differs says is the evidence
 told : {Op : Type 0} {a c : ℕ} {b d : Answer} → Differs c d ≡ Differs a b → ◌≡◌ {A = Detail Op} (Gives a b) (Gives c d)
@@ -83,18 +70,6 @@ module _ {Shape State Op Undo : Type 0} (o : Object Shape State Op Undo) (shape 
   log_allowed t l r =
       subst (λ (s : Shape). IsAllowed o s (local_ops l.1)) (sym (r.fine).same_shape)
       (h.sound.local_allowed (record { name = t; thread = r.thread; body = r.body; local = l.1 }) (found_tx t (map tx_of v.opened) _ r.is).0)
-
-  -- The removal from a course, as one of the open transactions'.
-  pub removes_at : (t : Name) (k new : Guided Shape Op) → HasCourse o shape v ids G F n h t k → (i : ℕ) (removed : Removed) → new.body ≡ k.body → RemovesEntry o item k.local i new.local removed → RemovesAt o v t i (with_course t new v) removed
-  removes_at t k new r i removed b q x e =
-      let is = of_course o shape v ids G F n w same h t k r x e in (
-        new.local,
-        subst (λ (z : Guided Shape Op). RemovesEntry o item z.local i new.local removed) (sym is) q,
-        ap (λ (z : Option Tree). with_course t (record { body = z; local = new.local }) v) (b ∙ sym (ap (λ (z : Guided Shape Op). z.body) is)),
-      )
-
-  pub costs_at : {E : Type 0} (place : Op → ℕ) (t : Name) (k : Guided Shape Op) → HasCourse o shape v ids G F n h t k → (i : ℕ) (r : Result Removed E) (a b : ℕ) → CostsRemoval place (local_ops k.local.1) i r a b → CostsAt place v t i r a b
-  costs_at place t k c i r a b q x e = subst (λ (z : Guided Shape Op). CostsRemoval place (local_ops z.local.1) i r a b) (sym (of_course o shape v ids G F n w same h t k c x e)) q
 
   relog : (t : Name) (l : Shape × List (LocalEntry Op)) (r : HasLog o shape v ids G F n h t l) (f : List (LocalEntry Op) → List (LocalEntry Op)) (new : Shape × List (LocalEntry Op)) → new ≡ (l.0, f l.1) → with_course t (record { body = r.body; local = new }) v ≡ with_log t f v
   relog t l r f new e =
@@ -156,11 +131,11 @@ module _ {Shape State Op Undo : Type 0} (o : Object Shape State Op Undo) (shape 
     without : remove (k.log).1 i ≡ without_local id (k.log).1
     without = unpulled o shape v ids G F n w same h t id k.log k.has p i k.found k.here
 
-    unpull_behind : (place : Op → ℕ) → from_place place (local_ops (k.log).1) i ≡ behind place w.config (Unpull t id)
+    unpull_behind : (place : Op → ℕ) → from_place place (local_ops (k.log).1) i ≡ from_id place id (log_items (tx t w.config.opened))
     unpull_behind place =
         from_place_is item place id (k.log).1 (h.sound.local_ids (record { name = t; thread = (k.has).thread; body = (k.has).body; local = (k.log).1 }) (found_tx t (map tx_of v.opened) _ (k.has).is).0) i p k.here (found_mark id Pulled (k.log).1 p k.found).1
         ∙ sym (ap (λ (z : Option (Tx Op)). from_id place id (log_items z)) (k.has).is)
-        ∙ ap (λ (z : Seen Shape Op). behind place z.config (Unpull t id)) same
+        ∙ ap (λ (z : Seen Shape Op). from_id place id (log_items (tx t z.config.opened))) same
 
     allowed_here : IsAllowed o (k.log).0 (local_ops (remove (k.log).1 i)) → IsAllowed o shape (local_ops (without_local id (k.log).1))
     allowed_here a =
@@ -193,23 +168,23 @@ module _ {Shape State Op Undo : Type 0} (o : Object Shape State Op Undo) (shape 
               ∙ ap (λ (s : Shape). first_differing o item (o.start s) (remove (k.log).1 i)) ((k.has).fine).same_shape ∙ ap (first_differing o item (o.start shape)) without),
         )
 
-    pub unpull_cost_done : (place : Op → ℕ) (removed : Removed) (a b : ℕ) → removed ≡ Done → CostsAt {E = ℕ} place v t i (Ok removed) a b → b ≡ a + (2 * behind place w.config (Unpull t id) - 1)
+    pub unpull_cost_done : (place : Op → ℕ) (removed : Removed) (a b : ℕ) → removed ≡ Done → CostsAt {E = ℕ} place v t i (Ok removed) a b → b ≡ a + (2 * from_id place id (log_items (tx t w.config.opened)) - 1)
     unpull_cost_done place removed a b e c =
-        cost_done removed (behind place w.config (Unpull t id)) a b e (from_id_some place id (log_items (tx t w.config.opened)))
+        cost_done removed (from_id place id (log_items (tx t w.config.opened))) a b e (from_id_some place id (log_items (tx t w.config.opened)))
         (subst (λ (z : ℕ). removal_ticks removed z a b) (unpull_behind place) (c (open_of t (k.has).thread (k.has).body k.log) (k.has).at))
 
-    pub unpull_cost_more : (place : Op → ℕ) (removed : Removed) (a b : ℕ) → removed ≡ Done → CostsAt {E = ℕ} place v t i (Ok removed) a b → b ≤ a + (4 * behind place w.config (Unpull t id) - 3)
+    pub unpull_cost_more : (place : Op → ℕ) (removed : Removed) (a b : ℕ) → removed ≡ Done → CostsAt {E = ℕ} place v t i (Ok removed) a b → b ≤ a + (4 * from_id place id (log_items (tx t w.config.opened)) - 3)
     unpull_cost_more place removed a b e c =
-        cost_more (behind place w.config (Unpull t id)) a b (from_id_some place id (log_items (tx t w.config.opened))) (unpull_cost_done place removed a b e c)
+        cost_more (from_id place id (log_items (tx t w.config.opened))) a b (from_id_some place id (log_items (tx t w.config.opened))) (unpull_cost_done place removed a b e c)
 
-    pub unpull_cost_differs : (place : Op → ℕ) (removed : Removed) (x : ℕ) (y : Answer) (a b : ℕ) → removed ≡ Differs x y → CostsAt {E = ℕ} place v t i (Ok removed) a b → (a ≤ b) × (b ≤ a + (4 * behind place w.config (Unpull t id) - 3))
+    pub unpull_cost_differs : (place : Op → ℕ) (removed : Removed) (x : ℕ) (y : Answer) (a b : ℕ) → removed ≡ Differs x y → CostsAt {E = ℕ} place v t i (Ok removed) a b → (a ≤ b) × (b ≤ a + (4 * from_id place id (log_items (tx t w.config.opened)) - 3))
     unpull_cost_differs place removed x y a b e c =
-        cost_differs removed x y (behind place w.config (Unpull t id)) a b e (from_id_some place id (log_items (tx t w.config.opened)))
+        cost_differs removed x y (from_id place id (log_items (tx t w.config.opened))) a b e (from_id_some place id (log_items (tx t w.config.opened)))
         (subst (λ (z : ℕ). removal_ticks removed z a b) (unpull_behind place) (c (open_of t (k.has).thread (k.has).body k.log) (k.has).at))
 
-    pub unpull_cost_err : (place : Op → ℕ) (a b : ℕ) → CostsAt {E = ℕ} place v t i (Err 0) a b → b ≤ a + (4 * behind place w.config (Unpull t id) - 3)
+    pub unpull_cost_err : (place : Op → ℕ) (a b : ℕ) → CostsAt {E = ℕ} place v t i (Err 0) a b → b ≤ a + (4 * from_id place id (log_items (tx t w.config.opened)) - 3)
     unpull_cost_err place a b c =
-        cost_err (behind place w.config (Unpull t id)) a b (from_id_some place id (log_items (tx t w.config.opened)))
+        cost_err (from_id place id (log_items (tx t w.config.opened))) a b (from_id_some place id (log_items (tx t w.config.opened)))
         (subst (λ (z : ℕ). (a ≤ b) × (b + 3 ≤ a + 4 * z)) (unpull_behind place) (c (open_of t (k.has).thread (k.has).body k.log) (k.has).at))
 
   -- UNPUSH
@@ -267,23 +242,23 @@ module _ {Shape State Op Undo : Type 0} (o : Object Shape State Op Undo) (shape 
           ∙ ap (λ (s : Shape). first_differing o shared_item (o.start s) (remove G.1 j)) h.shared_shape ∙ ap (first_differing o shared_item (o.start shape)) unposted),
     )
 
-    unpush_behind : (place : Op → ℕ) → from_place place (shared_ops G.1) j ≡ behind place w.config (Unpush t id)
+    unpush_behind : (place : Op → ℕ) → from_place place (shared_ops G.1) j ≡ from_id place id (map shared_item w.config.shared)
     unpush_behind place =
         let q = placed (λ (z : SharedEntry Op). z.id == id) G.1 j k.posted in
         from_place_is shared_item place id G.1 h.sound.shared_ids j q.0 q.1 (eqb-true (q.0).id id q.2)
-        ∙ ap (λ (z : Seen Shape Op). behind place z.config (Unpush t id)) same
+        ∙ ap (λ (z : Seen Shape Op). from_id place id (map shared_item z.config.shared)) same
 
-    pub unpush_cost_done : (place : Op → ℕ) (removed : Removed) (a b : ℕ) → removed ≡ Done → removal_ticks removed (from_place place (shared_ops G.1) j) a b → b ≡ a + (2 * behind place w.config (Unpush t id) - 1)
+    pub unpush_cost_done : (place : Op → ℕ) (removed : Removed) (a b : ℕ) → removed ≡ Done → removal_ticks removed (from_place place (shared_ops G.1) j) a b → b ≡ a + (2 * from_id place id (map shared_item w.config.shared) - 1)
     unpush_cost_done place removed a b e c =
-        cost_done removed (behind place w.config (Unpush t id)) a b e (from_id_some place id (map shared_item w.config.shared)) (subst (λ (z : ℕ). removal_ticks removed z a b) (unpush_behind place) c)
+        cost_done removed (from_id place id (map shared_item w.config.shared)) a b e (from_id_some place id (map shared_item w.config.shared)) (subst (λ (z : ℕ). removal_ticks removed z a b) (unpush_behind place) c)
 
-    pub unpush_cost_more : (place : Op → ℕ) (removed : Removed) (a b : ℕ) → removed ≡ Done → removal_ticks removed (from_place place (shared_ops G.1) j) a b → b ≤ a + (4 * behind place w.config (Unpush t id) - 3)
-    unpush_cost_more place removed a b e c = cost_more (behind place w.config (Unpush t id)) a b (from_id_some place id (map shared_item w.config.shared)) (unpush_cost_done place removed a b e c)
+    pub unpush_cost_more : (place : Op → ℕ) (removed : Removed) (a b : ℕ) → removed ≡ Done → removal_ticks removed (from_place place (shared_ops G.1) j) a b → b ≤ a + (4 * from_id place id (map shared_item w.config.shared) - 3)
+    unpush_cost_more place removed a b e c = cost_more (from_id place id (map shared_item w.config.shared)) a b (from_id_some place id (map shared_item w.config.shared)) (unpush_cost_done place removed a b e c)
 
-    pub unpush_cost_differs : (place : Op → ℕ) (removed : Removed) (x : ℕ) (y : Answer) (a b : ℕ) → removed ≡ Differs x y → removal_ticks removed (from_place place (shared_ops G.1) j) a b → (a ≤ b) × (b ≤ a + (4 * behind place w.config (Unpush t id) - 3))
+    pub unpush_cost_differs : (place : Op → ℕ) (removed : Removed) (x : ℕ) (y : Answer) (a b : ℕ) → removed ≡ Differs x y → removal_ticks removed (from_place place (shared_ops G.1) j) a b → (a ≤ b) × (b ≤ a + (4 * from_id place id (map shared_item w.config.shared) - 3))
     unpush_cost_differs place removed x y a b e c =
-        cost_differs removed x y (behind place w.config (Unpush t id)) a b e (from_id_some place id (map shared_item w.config.shared)) (subst (λ (z : ℕ). removal_ticks removed z a b) (unpush_behind place) c)
+        cost_differs removed x y (from_id place id (map shared_item w.config.shared)) a b e (from_id_some place id (map shared_item w.config.shared)) (subst (λ (z : ℕ). removal_ticks removed z a b) (unpush_behind place) c)
 
-    pub unpush_cost_err : (place : Op → ℕ) (a b : ℕ) → (a ≤ b) × (b + 3 ≤ a + 4 * from_place place (shared_ops G.1) j) → b ≤ a + (4 * behind place w.config (Unpush t id) - 3)
+    pub unpush_cost_err : (place : Op → ℕ) (a b : ℕ) → (a ≤ b) × (b + 3 ≤ a + 4 * from_place place (shared_ops G.1) j) → b ≤ a + (4 * from_id place id (map shared_item w.config.shared) - 3)
     unpush_cost_err place a b c =
-        cost_err (behind place w.config (Unpush t id)) a b (from_id_some place id (map shared_item w.config.shared)) (subst (λ (z : ℕ). (a ≤ b) × (b + 3 ≤ a + 4 * z)) (unpush_behind place) c)
+        cost_err (from_id place id (map shared_item w.config.shared)) a b (from_id_some place id (map shared_item w.config.shared)) (subst (λ (z : ℕ). (a ≤ b) × (b + 3 ≤ a + 4 * z)) (unpush_behind place) c)

@@ -22,29 +22,16 @@ abbrev pub log_items : {Op : Type 0} → Option (Tx Op) → List (Item Op)
 log_items None = []
 log_items (Some x) = map item x.local
 
--- How many operations stand in the way of a removal, that of the entry counted.
-abbrev pub behind : {Op : Type 0} → (Op → ℕ) → Config Op → Step Op → ℕ
-behind place c (Begin t p b) = 1
-behind place c (App t id op) = 1
-behind place c (Unapp t id) = 1
-behind place c (Push t id) = 1
-behind place c (Unpush t id) = from_id place id (map shared_item c.shared)
-behind place c (Pull t id) = 1
-behind place c (Unpull t id) = from_id place id (log_items (tx t c.opened))
-behind place c (Cmt t) = 1
-behind place c (Quit t) = 1
-behind place c (Note t) = 1
-
--- What a step costs that is done. A removal takes the operations back, and applies all but one
--- again.
+-- What a step costs that is done. A removal takes back the operations of its place from the entry
+-- on, and applies all but that one again.
 abbrev pub step_ticks : {Op : Type 0} → (Op → ℕ) → Config Op → Step Op → ℕ
 step_ticks place c (Begin t p b) = 0
 step_ticks place c (App t id op) = 1
 step_ticks place c (Unapp t id) = 1
 step_ticks place c (Push t id) = 1
-step_ticks place c (Unpush t id) = 2 * behind place c (Unpush t id) - 1
+step_ticks place c (Unpush t id) = 2 * from_id place id (map shared_item c.shared) - 1
 step_ticks place c (Pull t id) = 1
-step_ticks place c (Unpull t id) = 2 * behind place c (Unpull t id) - 1
+step_ticks place c (Unpull t id) = 2 * from_id place id (log_items (tx t c.opened)) - 1
 step_ticks place c (Cmt t) = 0
 step_ticks place c (Quit t) = 0
 step_ticks place c (Note t) = 0
@@ -56,9 +43,9 @@ at_most place c (Begin t p b) = 0
 at_most place c (App t id op) = 1
 at_most place c (Unapp t id) = 1
 at_most place c (Push t id) = 1
-at_most place c (Unpush t id) = 4 * behind place c (Unpush t id) - 3
+at_most place c (Unpush t id) = 4 * from_id place id (map shared_item c.shared) - 3
 at_most place c (Pull t id) = 1
-at_most place c (Unpull t id) = 4 * behind place c (Unpull t id) - 3
+at_most place c (Unpull t id) = 4 * from_id place id (log_items (tx t c.opened)) - 3
 at_most place c (Cmt t) = 0
 at_most place c (Quit t) = 0
 at_most place c (Note t) = 0

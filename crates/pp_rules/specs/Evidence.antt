@@ -40,7 +40,12 @@ is_same answers.None answers.None = true
 is_same (answers.Number x) (answers.Number y) = int_eq x y
 is_same (answers.Truth true) (answers.Truth y) = y
 is_same (answers.Truth false) (answers.Truth y) = not y
-is_same _ _ = false
+is_same answers.None (answers.Number y) = false
+is_same answers.None (answers.Truth y) = false
+is_same (answers.Number x) answers.None = false
+is_same (answers.Number x) (answers.Truth y) = false
+is_same (answers.Truth x) answers.None = false
+is_same (answers.Truth x) (answers.Number y) = false
 
 -- From this state on, the first item whose result differs from what the object gives there, with
 -- what it gives.

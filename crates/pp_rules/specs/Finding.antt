@@ -1,17 +1,9 @@
 -- Proof machinery: what the look-ups in logs answer.
-use Rattle.std.specs.Prelude.{◌≡◌, ◌≢◌, ◌+◌, slice_get, ◌&&◌, ℕ, Bool, not, List, Some, is_some}
-use Rattle.std.specs.Prelude.{length}
+use Rattle.std.specs.Prelude.{◌≡◌, ◌≢◌, ◌+◌, slice_get, ℕ, List, Some, length}
 use Rattle.pp_core.specs.declared.entry.LocalEntry.{LocalEntry}
 use Rattle.pp_core.specs.declared.entry.SharedEntry.{SharedEntry}
 use Rattle.pp_model.specs.Config.{Unpushed}
 use Rattle.pp_model.specs.Lists.{Before}
-use Rattle.pp_model.specs.Names.{Name, ◌=ⁿ◌}
-use Rattle.pp_spec.specs.Object.{Object}
-
-module _ {Shape State Op Undo : Type 0} (o : Object Shape State Op Undo) where
-  -- whether it is an uncommitted entry of another, which the operation may not come before
-  abbrev pub blocks : Name → Op → SharedEntry Op → Bool
-  blocks t op u = (not u.committed && not (u.owner =ⁿ t)) && is_some (o.refuting u.op op)
 
 -- At this place the log ends, with an own unpushed entry of this id.
 pub record IsLastUnpushed {Op : Type 0} (id : ℕ) (l : List (LocalEntry Op)) (i : ℕ) : Type 0 where

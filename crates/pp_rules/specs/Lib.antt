@@ -2,6 +2,7 @@ pub mod Costs
 pub mod Courses
 pub mod Evidence
 pub mod Finding
+pub mod Judges
 pub mod Lending
 pub mod Machines
 pub mod Removals

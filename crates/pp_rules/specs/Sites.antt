@@ -45,3 +45,11 @@ abbrev pub IsOfMachine : {Shape State Op Undo : Type 0} → Object Shape State O
     Type 0
 IsOfMachine {Shape} {State} {Op} o shared t local =
     (m : Rest Shape Op) × HoldsLocal o m shared t local
+
+-- This holds of each machine and transaction with this local log.
+abbrev pub OfEach : {Shape State Op Undo : Type 0} → Object Shape State Op Undo →
+    Shape × List (LocalEntry Op) → (Seen Shape Op → Name → Type 0) →
+    Type 0
+OfEach {Shape} {State} {Op} o local P =
+    (m : Rest Shape Op) (shared : Shape × List (SharedEntry Op)) (t : Name)
+    → HoldsLocal o m shared t local → P (seen_with m shared) t

@@ -44,18 +44,6 @@ threads_of l = map (λ x. x.thread) l
 abbrev pub is_busy : {Shape Op : Type 0} → Txs Shape Op → Name → Bool
 is_busy v p = list_any (λ q. q =ⁿ p) (threads_of v.opened)
 
--- the transaction with f at the entries of its local log
-abbrev pub relogged : {Shape Op : Type 0} → (List (LocalEntry Op) → List (LocalEntry Op)) →
-    Open Shape Op → Open Shape Op
-relogged f x =
-    record { name = x.name; thread = x.thread; body = x.body; local = (x.local.0, f x.local.1) }
-
--- with f at the local log of the open transaction t
-abbrev pub with_log : {Shape Op : Type 0} → Name → (List (LocalEntry Op) → List (LocalEntry Op)) →
-    Txs Shape Op → Txs Shape Op
-with_log t f v =
-    record { names = v.names; opened = map (λ x. cond (x.name =ⁿ t) (relogged f x) x) v.opened }
-
 -- with this course of the open transaction t
 abbrev pub recoursed : {Shape Op : Type 0} → Guided Shape Op → Open Shape Op → Open Shape Op
 recoursed k x = record { name = x.name; thread = x.thread; body = k.body; local = k.local }

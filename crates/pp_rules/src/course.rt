@@ -4,7 +4,7 @@ ghost use Rattle.std.specs.Prelude.{option_map, slice_get, IsTrue, IfOk, OnOk, O
 ghost use Rattle.pp_core.specs.declared.entry.LocalEntry.{LocalEntry};
 ghost use Rattle.pp_core.specs.declared.entry.Mark.TheVariants.{Pulled};
 ghost use Rattle.pp_core.specs.Trees.{IsWithinLimits, tree};
-ghost use Rattle.pp_model.specs.Body.{Begins, IsWord};
+ghost use Rattle.pp_model.specs.Body.{IsWord};
 ghost use Rattle.pp_log.specs.Logs.{RemovesEntry};
 ghost use Rattle.pp_model.specs.Config.{is_own, item, local_ops, set_mark};
 ghost use Rattle.pp_body.specs.Walks.{HasTaken, MayGoBack};
@@ -19,7 +19,6 @@ use pp_local::{Local, Removed};
 use pp_parts::Parted;
 use std::alloc::Global;
 use std::marker::Model;
-use std::mem;
 use std::sync::ledger::Ledger;
 
 /// A log, and the walk of its own calls.
@@ -167,6 +166,7 @@ impl<S: Parted> Course<S> {
                   (self.old.local.0, set_mark e.id mark self.old.local.1);
             } }
     {
+        // It stands here for what its clauses say of each log.
         let _distinct = self.walked.log.len();
         self.walked.log.mark(i, mark);
     }
@@ -174,7 +174,7 @@ impl<S: Parted> Course<S> {
     /// The course without an entry of its local log, unless the list without it is not allowed. The
     /// walk gives back the call of an own one. The only error is that memory was refused, and the
     /// course is then lost.
-    fn without<L: Ledger>(
+    pub fn without<L: Ledger>(
         self,
         i: usize,
         ticks: &mut Ticks<L>,
@@ -187,6 +187,7 @@ impl<S: Parted> Course<S> {
     {
         let Course { walked } = self;
         let Walked { walk, log } = walked;
+        // It stands here for what its clauses say of each log.
         let _allowed = log.len();
         let own = is_own_at(log.entries(), i);
         let (log, removed) = log.remove(i, ticks)?;
@@ -197,29 +198,5 @@ impl<S: Parted> Course<S> {
             },
             removed,
         ))
-    }
-
-    /// Takes an entry out of the local log, unless the list without it is not allowed. The only
-    /// error is that memory was refused, and the log may then be lost: meanwhile an empty course of
-    /// the shape stands here.
-    pub fn remove<L: Ledger>(
-        &mut self,
-        alloc: Global,
-        shape: &S::Shape,
-        i: usize,
-        ticks: &mut Ticks<L>,
-    ) -> Result<Removed, OutOfMemory>
-        requires { MayLeave self.old.local.1 i }
-        ensures body { OnOk result (self.new.body ≡ self.old.body) }
-        ensures removes { IfOk result (λ r. RemovesEntry S.object item self.old.local i
-            self.new.local r) }
-        ensures cost { CostsRemoval S.place_of (local_ops self.old.local.1) i result
-            ticks.old ticks.new }
-    {
-        let empty = Course::start(alloc, shape, &None)?;
-        let course = mem::replace(self, empty);
-        let (course, removed) = course.without(i, ticks)?;
-        *self = course;
-        Ok(removed)
     }
 }

@@ -39,6 +39,13 @@ pub fn bare<O>(criterion: u8) -> Refusal<O>
     }
 }
 
+/// The refusal by a criterion with its evidence.
+pub fn told<O>(criterion: u8, detail: Detail<O>) -> Refusal<O>
+    ensures { result ≡ record { criterion = criterion; detail = detail } }
+{
+    Refusal { criterion, detail }
+}
+
 /// The evidence that the pair of the entry of this id does not swap. The only error is that memory
 /// was refused.
 pub fn swap_detail<S: Spec>(

@@ -15,7 +15,7 @@ pub fn kept_law<S: Spec>()
     ensures { (shape : S.Shape) → KeptLaw (rules_of S.object shape) }
 {}
 
-/// The seven parts word by word say the same as what the proofs use.
+/// The seven parts of soundness, word by word, say the same as what the proofs use.
 pub fn written_law<S: Spec>()
     ensures { (shape : S.Shape) → WrittenLaw (rules_of S.object shape) }
 {}
@@ -59,7 +59,9 @@ pub fn evidence_law<S: Spec>()
     ensures { (shape : S.Shape) → EvidenceLaw S.object shape }
 {}
 
-/// So it is with the evidence of the criteria of a start.
+/// What is shown of the evidence of a criterion of a start holds of that of the first false one.
+/// Where it holds of a detail, the criterion is false. Evidence tells operations of the objects
+/// alone.
 pub fn start_evidence_law<S: Spec>()
     ensures { (shape : S.Shape) → StartEvidenceLaw S.object shape }
 {}

@@ -52,10 +52,9 @@ fn refused<O>(refusal: Refusal<O>) -> Outcome<O>
     Outcome::False { criterion, detail }
 }
 
-/// The machine: the transactions with their local logs, the shared log, and the committed
-/// transactions.
+/// All that a machine holds.
 #[derive(Drop)]
-pub struct Machine<S: Parted> {
+struct Parts<S: Parted> {
     alloc: Global,
     shape: S::Shape,
     transactions: Transactions<S>,
@@ -63,6 +62,13 @@ pub struct Machine<S: Parted> {
     shared: Shared<S>,
     committed: Committed<S::Op>,
     count: u32,
+}
+
+/// The machine: the transactions with their local logs, the shared log, and the committed
+/// transactions. It is one pointer, since each step takes it and gives it back.
+#[derive(Drop)]
+pub struct Machine<S: Parted> {
+    parts: Box<Parts<S>>,
 }
 
 impl<S: Parted> Model for Machine<S> {
@@ -74,14 +80,14 @@ impl<S: Parted> Model for Machine<S> {
 
     ghost coded = { Prim.hlevel (codes, tree_code, S.Shape.code, S.Op.code) };
 
-    ghost view = { λ a. record {
-      shape = a.shape;
-      config = config_of a.transactions a.ids.keys a.shared.1 a.committed;
-      count = a.count;
+    ghost view = { λ a. let p = a.parts.value in record {
+      shape = p.shape;
+      config = config_of p.transactions p.ids.keys p.shared.1 p.committed;
+      count = p.count;
     } };
 
-    ghost invariant = { λ a.
-        Holds S.object a.shape a.transactions a.ids.keys a.shared a.committed a.count };
+    ghost invariant = { λ a. let p = a.parts.value in
+        Holds S.object p.shape p.transactions p.ids.keys p.shared p.committed p.count };
 }
 
 impl<S: Parted> Machine<S> {
@@ -90,7 +96,7 @@ impl<S: Parted> Machine<S> {
         ensures { IfOk result (λ m. m ≡ record { shape = shape; config = first None; count = 0 }) }
     {
         let shared = Shared::new(alloc, &shape)?;
-        Ok(Machine {
+        let parts = Parts {
             alloc,
             shape,
             transactions: Transactions::new(alloc),
@@ -98,7 +104,9 @@ impl<S: Parted> Machine<S> {
             shared,
             committed: Committed::new(alloc),
             count: 0,
-        })
+        };
+        let parts = Box::new(alloc, parts)?;
+        Ok(Machine { parts })
     }
 
     /// How many steps were done. The configuration of each machine is sound, and the local log of
@@ -110,21 +118,21 @@ impl<S: Parted> Machine<S> {
         ensures written { AsWritten (rules_of S.object self.now.shape) self.now.config }
         ensures views { HasViews (rules_of S.object self.now.shape) self.now.config }
     {
-        self.count
+        self.parts.count
     }
 
     /// Whether a transaction of this name is open.
     pub fn is_open(&self, tx: &Name) -> bool
         ensures { result ≡ is_some (open_tx tx.now self.now.config.opened) }
     {
-        self.transactions.local(tx).is_some()
+        self.parts.transactions.local(tx).is_some()
     }
 
     /// The shared log.
     pub fn shared(&self) -> &Shared<S>
         ensures { result.now ≡ (self.now.shape, self.now.config.shared) }
     {
-        &self.shared
+        &self.parts.shared
     }
 
     /// The local log of an open transaction.
@@ -132,7 +140,7 @@ impl<S: Parted> Machine<S> {
         ensures { option_copied result ≡ option_map (λ x.
             (self.now.shape, x.local)) (open_tx tx.now self.now.config.opened) }
     {
-        self.transactions.local(tx)
+        self.parts.transactions.local(tx)
     }
 
     /// The committed transactions, in commit order. Their operations, joined, are allowed, may be
@@ -144,7 +152,7 @@ impl<S: Parted> Machine<S> {
         ensures serial { MayRunSerially (rules_of S.object self.now.shape) self.now.config }
         ensures state { HasSerialState (rules_of S.object self.now.shape) self.now.config }
     {
-        &self.committed
+        &self.parts.committed
     }
 
     /// Does a step where each of its criteria holds, and else gives the machine back as it was,

@@ -1,5 +1,6 @@
 //! The transactions of a run.
-ghost use Rattle.std.specs.Prelude.{◌≡◌, OnOk, OnErr, IfSome, None, Some, [], ◌∷◌, ◌++◌, false};
+ghost use Rattle.std.specs.Prelude.{◌≡◌, IfOk, OnOk, OnErr, IfSome, None, Some, [], ◌∷◌, ◌++◌};
+ghost use Rattle.std.specs.Prelude.{false};
 ghost use Rattle.std.specs.Prelude.{option_map, slice_get};
 ghost use Rattle.std.specs.Borrow.{sem};
 ghost use Rattle.std.specs.Map.{lookup};
@@ -8,16 +9,18 @@ ghost use Rattle.std.specs.Str.{bytes_eq};
 ghost use Rattle.pp_core.specs.Trees.{IsWithinLimits, tree};
 ghost use Rattle.pp_model.specs.Names.{Name as NameOf};
 ghost use Rattle.pp_rules.specs.Lending.{LendsCourse};
-ghost use Rattle.pp_rules.specs.Transactions.{course_of, is_begun, is_busy, open_at, open_of};
-ghost use Rattle.pp_rules.specs.Transactions.{with_open, without_open};
+ghost use Rattle.pp_rules.specs.Removals.{CostsAt, RemovesAt};
+ghost use Rattle.pp_rules.specs.Transactions.{MayLeave, Open, course_of, is_begun, is_busy};
+ghost use Rattle.pp_rules.specs.Transactions.{open_at, open_of, with_open, without_open};
 
 use crate::course::Course;
 use indexmap::{IndexMap, IndexSet};
-use pp_core::{Body, Name, OutOfMemory};
-use pp_local::Local;
+use pp_core::{Body, Name, OutOfMemory, Ticks};
+use pp_local::{Local, Removed};
 use pp_parts::Parted;
 use std::alloc::Global;
 use std::marker::Model;
+use std::sync::ledger::Ledger;
 
 /// An open transaction, with its course.
 #[derive(Drop)]
@@ -53,17 +56,17 @@ impl<S: Parted> Model for Transactions<S> {
         (filled (λ n t. open_of n t.thread t.course.body t.course.local) a.slots.entries)) };
 }
 
-/// Gives a name that has no slot one that holds the transaction.
+/// Gives a name that has no slot this one.
 fn put<T: Drop>(
     slots: &mut IndexMap<Name, Option<OpenTx<T>>>,
     tx: &Name,
-    begun: OpenTx<T>,
+    slot: Option<OpenTx<T>>,
 ) -> Result<(), OutOfMemory>
     requires { lookup (bytes_eq tx.now) slots.old.entries ≡ None }
-    ensures ok { OnOk result (slots.new.entries ≡ slots.old.entries ++ (tx.now, Some begun) ∷ []) }
+    ensures ok { OnOk result (slots.new.entries ≡ slots.old.entries ++ (tx.now, slot) ∷ []) }
     ensures err { OnErr result (slots.new.entries ≡ slots.old.entries) }
 {
-    slots.insert(*tx, Some(begun))?;
+    slots.insert(*tx, slot)?;
     Ok(())
 }
 
@@ -74,6 +77,13 @@ fn empty<T: Drop>(slot: &mut Option<OpenTx<T>>) -> Option<Name>
 {
     let open = slot.take()?;
     Some(open.thread)
+}
+
+/// Puts a transaction into a slot.
+fn fill<T: Drop>(slot: &mut Option<OpenTx<T>>, begun: OpenTx<T>)
+    ensures { slot.new ≡ Some begun }
+{
+    *slot = Some(begun);
 }
 
 impl<S: Parted> Transactions<S> {
@@ -106,13 +116,12 @@ impl<S: Parted> Transactions<S> {
         ensures { option_copied result ≡ option_map (λ x.
             x.local) (open_at tx.now self.now.opened) }
     {
-        let slot = self.slots.get(tx)?;
-        let open = slot.as_ref()?;
-        Some(open.course.local())
+        let (_place, course) = self.course_at(tx)?;
+        Some(course.local())
     }
 
     /// The course of an open transaction, behind the place of its slot.
-    pub fn find(&self, tx: &Name) -> Option<(usize, &Course<S>)>
+    pub fn course_at(&self, tx: &Name) -> Option<(usize, &Course<S>)>
         ensures course { option_map (λ r. r.1.now) result
             ≡ option_map course_of (open_at tx.now self.now.opened) }
         ensures place { IfSome result (λ r. slice_get self.now.names r.0 ≡ Some tx.now) }
@@ -157,19 +166,70 @@ impl<S: Parted> Transactions<S> {
             course,
         };
         self.threads.insert(*thread)?;
-        match put(&mut self.slots, tx, begun) {
+        match put(&mut self.slots, tx, Some(begun)) {
             Ok(()) => Ok(()),
-            Err(refused) => {
+            Err(memory) => {
                 self.threads.swap_remove(thread);
-                Err(refused)
+                Err(memory)
+            }
+        }
+    }
+
+    /// Uses a name up, as by a transaction that began and ended. After a refusal of memory the
+    /// transactions are as they were.
+    pub fn use_name(&mut self, tx: &Name) -> Result<(), OutOfMemory>
+        requires { is_begun self.old tx.now ≡ false }
+        ensures ok { OnOk result (self.new ≡ record {
+          names = self.old.names ++ tx.now ∷ [];
+          opened = self.old.opened;
+        }) }
+        ensures err { OnErr result (self.new ≡ self.old) }
+    {
+        put(&mut self.slots, tx, None)?;
+        Ok(())
+    }
+
+    /// Takes an entry out of the local log of the open transaction whose slot is at a place, unless
+    /// the list without it is not allowed. The only error is that memory was refused, and the
+    /// transaction is then no longer open.
+    pub fn remove_at<L: Ledger>(
+        &mut self,
+        place: usize,
+        i: usize,
+        ticks: &mut Ticks<L>,
+    ) -> Result<Removed, OutOfMemory>
+        requires { (t : NameOf) × (x : Open S.Shape S.Op)
+            × (slice_get self.old.names place ≡ Some t) × (open_at t self.old.opened ≡ Some x)
+            × MayLeave x.local.1 i }
+        ensures removes { (t : NameOf) → slice_get self.old.names place ≡ Some t →
+            IfOk result (RemovesAt S.object self.old t i self.new) }
+        ensures cost { (t : NameOf) → slice_get self.old.names place ≡ Some t →
+            CostsAt S.place_of self.old t i result ticks.old ticks.new }
+    {
+        let Some(slot) = self.slots.get_index_mut(place) else {
+            unreachable!()
+        };
+        let Some(open) = slot.take() else {
+            unreachable!()
+        };
+        let OpenTx { thread, course } = open;
+        match course.without(i, ticks) {
+            Ok((course, removed)) => {
+                fill(slot, OpenTx { thread, course });
+                Ok(removed)
+            }
+            Err(memory) => {
+                self.threads.swap_remove(&thread);
+                Err(memory)
             }
         }
     }
 
     /// Ends the transaction of the slot at a place, if it is open.
     pub fn end_at(&mut self, place: usize)
-        ensures { (t : NameOf) → slice_get self.old.names place ≡ Some t →
+        ensures ended { (t : NameOf) → slice_get self.old.names place ≡ Some t →
             self.new ≡ without_open t self.old }
+        ensures none { slice_get self.old.names place ≡ None → self.new ≡ self.old }
     {
         let Some(slot) = self.slots.get_index_mut(place) else {
             return;
@@ -177,15 +237,5 @@ impl<S: Parted> Transactions<S> {
         if let Some(thread) = empty(slot) {
             self.threads.swap_remove(&thread);
         }
-    }
-
-    /// Ends a transaction, if it is open.
-    pub fn end(&mut self, tx: &Name)
-        ensures { self.new ≡ without_open tx.now self.old }
-    {
-        let Some(place) = self.slots.get_index_of(tx) else {
-            return;
-        };
-        self.end_at(place);
     }
 }

@@ -6,10 +6,11 @@ ghost use Rattle.pp_core.specs.Steps.{App};
 ghost use Rattle.pp_model.specs.Names.{Name as NameOf};
 ghost use Rattle.pp_rules.specs.Costs.{Costs};
 ghost use Rattle.pp_rules.specs.Sites.{HoldsCourse, Rest, seen_with};
-ghost use Rattle.pp_rules.specs.Stepping.{Does, Judges};
+ghost use Rattle.pp_rules.specs.Judges.{Judges};
+ghost use Rattle.pp_rules.specs.Stepping.{Does};
 
 use crate::course::Course;
-use crate::detail::{Detail, Refusal, bare};
+use crate::detail::{Detail, Refusal, bare, told};
 use crate::machine::{Machine, Outcome, refused};
 use pp_core::{LocalEntry, Mark, Name, OutOfMemory, Ticks};
 use pp_parts::Parted;
@@ -37,10 +38,7 @@ fn judge_app<S: Parted>(
     let local = course.local();
     if !local.legal(op) {
         let answer = local.gives(op);
-        return Err(Refusal {
-            criterion: 4,
-            detail: Detail::Gives { id, answer },
-        });
+        return Err(told(4, Detail::Gives { id, answer }));
     }
     Ok(())
 }
@@ -61,8 +59,10 @@ impl<S: Parted> Machine<S> {
         ensures cost { Costs S.place_of self (App tx.now id op.now) result ticks.old ticks.new }
         ensures bound { ticks.new ≤ ticks.old + 1 }
     {
-        let used = self.ids.contains(&id);
-        let Some(course) = self.transactions.course_mut(tx) else {
+        let parts = &mut *self.parts;
+        // Looked up first: while the course is lent, this can not be asked.
+        let used = parts.ids.contains(&id);
+        let Some(course) = parts.transactions.course_mut(tx) else {
             return Ok((self, refused(bare(1))));
         };
         if let Err(refusal) = judge_app(course, used, id, op) {
@@ -75,8 +75,8 @@ impl<S: Parted> Machine<S> {
             op: *op,
         };
         course.append(entry, ticks)?;
-        self.ids.insert(id)?;
-        self.count += 1;
+        parts.ids.insert(id)?;
+        parts.count += 1;
         Ok((self, Outcome::Done))
     }
 }

@@ -1,7 +1,8 @@
 //! BEGIN: its criteria and its effect.
 ghost use Rattle.std.specs.Prelude.{◌<◌, option_map};
 ghost use Rattle.pp_core.specs.Trees.{IsWithinLimits, tree};
-ghost use Rattle.pp_rules.specs.Stepping.{Does, JudgesBegin, begin_of};
+ghost use Rattle.pp_rules.specs.Judges.{JudgesBegin, begin_of};
+ghost use Rattle.pp_rules.specs.Stepping.{Does};
 
 use crate::detail::{Refusal, bare};
 use crate::machine::{Machine, Outcome, refused};
@@ -13,10 +14,11 @@ impl<S: Parted> Machine<S> {
     fn judge_begin(&self, tx: &Name, thread: &Name) -> Result<(), Refusal<S::Op>>
         ensures { JudgesBegin S.object self.now tx.now thread.now result }
     {
-        if self.transactions.is_begun(tx) {
+        let parts = &*self.parts;
+        if parts.transactions.is_begun(tx) {
             return Err(bare(1));
         }
-        if self.transactions.is_busy(thread) {
+        if parts.transactions.is_busy(thread) {
             return Err(bare(2));
         }
         Ok(())
@@ -36,9 +38,11 @@ impl<S: Parted> Machine<S> {
         if let Err(refusal) = self.judge_begin(tx, thread) {
             return Ok((self, refused(refusal)));
         }
-        self.transactions
-            .begin(self.alloc, &self.shape, tx, thread, body)?;
-        self.count += 1;
+        let parts = &mut *self.parts;
+        parts
+            .transactions
+            .begin(parts.alloc, &parts.shape, tx, thread, body)?;
+        parts.count += 1;
         Ok((self, Outcome::Done))
     }
 }

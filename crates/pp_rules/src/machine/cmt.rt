@@ -3,10 +3,11 @@ ghost use Rattle.std.specs.Prelude.{◌<◌};
 ghost use Rattle.pp_core.specs.Steps.{Cmt};
 ghost use Rattle.pp_model.specs.Names.{Name as NameOf};
 ghost use Rattle.pp_rules.specs.Sites.{HoldsCourse, Rest, seen_with};
-ghost use Rattle.pp_rules.specs.Stepping.{Does, Judges};
+ghost use Rattle.pp_rules.specs.Judges.{Judges};
+ghost use Rattle.pp_rules.specs.Stepping.{Does};
 
 use crate::course::Course;
-use crate::detail::{Detail, Refusal, bare};
+use crate::detail::{Detail, Refusal, bare, told};
 use crate::find::{first_not_standing, first_unpushed, own_items};
 use crate::machine::{Machine, Outcome, refused};
 use pp_core::{CommittedTx, Name, OutOfMemory};
@@ -25,16 +26,10 @@ fn judge_cmt<S: Parted>(course: &Course<S>, shared: &Shared<S>) -> Result<(), Re
     }
     let entries = course.local().entries();
     if let Some(k) = first_unpushed(entries) {
-        return Err(Refusal {
-            criterion: 3,
-            detail: Detail::Entry { id: entries[k].id },
-        });
+        return Err(told(3, Detail::Entry { id: entries[k].id }));
     }
     if let Some(k) = first_not_standing(entries, shared) {
-        return Err(Refusal {
-            criterion: 4,
-            detail: Detail::Entry { id: entries[k].id },
-        });
+        return Err(told(4, Detail::Entry { id: entries[k].id }));
     }
     Ok(())
 }
@@ -45,17 +40,18 @@ impl<S: Parted> Machine<S> {
         requires few { self.count < 200_000 }
         ensures { Does S.object self (Cmt tx.now) result }
     {
-        let Some((place, course)) = self.transactions.find(tx) else {
+        let parts = &mut *self.parts;
+        let Some((place, course)) = parts.transactions.course_at(tx) else {
             return Ok((self, refused(bare(1))));
         };
-        if let Err(refusal) = judge_cmt(course, &self.shared) {
+        if let Err(refusal) = judge_cmt(course, &parts.shared) {
             return Ok((self, refused(refusal)));
         }
-        let entries = own_items(self.alloc, course.local().entries())?;
-        self.shared.commit(tx, &entries);
-        self.committed.push(CommittedTx { name: *tx, entries })?;
-        self.transactions.end_at(place);
-        self.count += 1;
+        let entries = own_items(parts.alloc, course.local().entries())?;
+        parts.shared.commit(tx, &entries);
+        parts.committed.push(CommittedTx { name: *tx, entries })?;
+        parts.transactions.end_at(place);
+        parts.count += 1;
         Ok((self, Outcome::Done))
     }
 }

@@ -1,7 +1,8 @@
 //! NOTE: its criterion and its effect.
 ghost use Rattle.std.specs.Prelude.{◌<◌};
 ghost use Rattle.pp_core.specs.Steps.{Note};
-ghost use Rattle.pp_rules.specs.Stepping.{Judges, Stepped};
+ghost use Rattle.pp_rules.specs.Judges.{Judges};
+ghost use Rattle.pp_rules.specs.Stepping.{Stepped};
 
 use crate::detail::{Refusal, bare};
 use crate::machine::{Machine, Outcome, refused};
@@ -27,7 +28,7 @@ impl<S: Parted> Machine<S> {
         if let Err(refusal) = self.judge_note(tx) {
             return (self, refused(refusal));
         }
-        self.count += 1;
+        self.parts.count += 1;
         (self, Outcome::Done)
     }
 }

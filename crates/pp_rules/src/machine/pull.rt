@@ -6,9 +6,10 @@ ghost use Rattle.pp_model.specs.Config.{of_other};
 ghost use Rattle.pp_model.specs.Names.{Name as NameOf};
 ghost use Rattle.pp_rules.specs.Costs.{Costs};
 ghost use Rattle.pp_rules.specs.Sites.{HoldsLocal, IsOfMachine, Rest, seen_with};
-ghost use Rattle.pp_rules.specs.Stepping.{Does, JudgesPull};
+ghost use Rattle.pp_rules.specs.Judges.{JudgesPull};
+ghost use Rattle.pp_rules.specs.Stepping.{Does};
 
-use crate::detail::{Detail, Judged, Refusal, bare, swap_detail};
+use crate::detail::{Detail, Judged, bare, swap_detail, told};
 use crate::find::other_at;
 use crate::machine::{Machine, Outcome, refused};
 use pp_core::{LocalEntry, Mark, Name, OutOfMemory, SharedEntry, Ticks};
@@ -17,9 +18,9 @@ use pp_parts::Parted;
 use std::alloc::Global;
 use std::sync::ledger::Ledger;
 
-/// The entry that PULL takes over, or the refusal by its first false criterion behind the first one,
-/// that the transaction is open. It is told the entry of this id that another owns. The only error is
-/// that memory was refused.
+/// The entry that PULL takes over, or the refusal by its first false criterion behind the first
+/// one, that the transaction is open. It is told the entry of this id that another owns. The only
+/// error is that memory was refused.
 fn judge_pull<S: Parted>(
     local: &Local<S>,
     found: Option<SharedEntry<S::Op>>,
@@ -40,18 +41,12 @@ fn judge_pull<S: Parted>(
     }
     if !local.legal(&post.op) {
         let answer = local.gives(&post.op);
-        return Ok(Err(Refusal {
-            criterion: 4,
-            detail: Detail::Gives { id, answer },
-        }));
+        return Ok(Err(told(4, Detail::Gives { id, answer })));
     }
     if let Some(k) = local.first_not_before(&post.op) {
         let own = &local.entries()[k];
         let detail = swap_detail::<S>(alloc, own.id, &own.op, &post.op)?;
-        return Ok(Err(Refusal {
-            criterion: 5,
-            detail,
-        }));
+        return Ok(Err(told(5, detail)));
     }
     Ok(Ok(post))
 }
@@ -69,9 +64,11 @@ impl<S: Parted> Machine<S> {
         ensures cost { Costs S.place_of self (Pull tx.now id) result ticks.old ticks.new }
         ensures bound { ticks.new ≤ ticks.old + 1 }
     {
-        let alloc = self.alloc;
-        let found = other_at(&self.shared, tx, id);
-        let Some(course) = self.transactions.course_mut(tx) else {
+        let parts = &mut *self.parts;
+        let alloc = parts.alloc;
+        // Looked up first: while the course is lent, this can not be asked.
+        let found = other_at(&parts.shared, tx, id);
+        let Some(course) = parts.transactions.course_mut(tx) else {
             return Ok((self, refused(bare(1))));
         };
         let judged = judge_pull(course.local(), found, alloc, id)?;
@@ -86,7 +83,7 @@ impl<S: Parted> Machine<S> {
             op: post.op,
         };
         course.append(entry, ticks)?;
-        self.count += 1;
+        parts.count += 1;
         Ok((self, Outcome::Done))
     }
 }

@@ -3,9 +3,10 @@ ghost use Rattle.std.specs.Prelude.{◌<◌, ◌≤◌, ◌+◌, IfOk};
 ghost use Rattle.pp_core.specs.Steps.{Push};
 ghost use Rattle.pp_rules.specs.Costs.{Costs};
 ghost use Rattle.pp_rules.specs.Sites.{HoldsLocal, IsOfMachine, Rest, seen_with};
-ghost use Rattle.pp_rules.specs.Stepping.{Does, JudgesPush};
+ghost use Rattle.pp_rules.specs.Judges.{JudgesPush};
+ghost use Rattle.pp_rules.specs.Stepping.{Does};
 
-use crate::detail::{Detail, Judged, Refusal, bare, swap_detail};
+use crate::detail::{Detail, Judged, bare, swap_detail, told};
 use crate::find::marked_at;
 use crate::machine::{Machine, Outcome, refused};
 use pp_core::{LocalEntry, Mark, Name, OutOfMemory, SharedEntry, Ticks};
@@ -16,8 +17,8 @@ use std::alloc::Global;
 use std::sync::ledger::Ledger;
 
 /// The entry that PUSH publishes, and where it stands in the local log, or the refusal by its first
-/// false criterion behind the first one, that the transaction is open. The only error is that memory
-/// was refused.
+/// false criterion behind the first one, that the transaction is open. The only error is that
+/// memory was refused.
 fn judge_push<S: Parted>(
     local: &Local<S>,
     shared: &Shared<S>,
@@ -37,25 +38,16 @@ fn judge_push<S: Parted>(
     if let Some(k) = local.first_holding_back(i, op) {
         let own = &local.entries()[k];
         let detail = swap_detail::<S>(alloc, own.id, op, &own.op)?;
-        return Ok(Err(Refusal {
-            criterion: 3,
-            detail,
-        }));
+        return Ok(Err(told(3, detail)));
     }
     if let Some(k) = shared.blocking(tx, op) {
         let other = &shared.entries()[k];
         let detail = swap_detail::<S>(alloc, other.id, &other.op, op)?;
-        return Ok(Err(Refusal {
-            criterion: 4,
-            detail,
-        }));
+        return Ok(Err(told(4, detail)));
     }
     if !shared.legal(op) {
         let answer = shared.gives(op);
-        return Ok(Err(Refusal {
-            criterion: 5,
-            detail: Detail::Gives { id, answer },
-        }));
+        return Ok(Err(told(5, Detail::Gives { id, answer })));
     }
     Ok(Ok((i, entry)))
 }
@@ -73,9 +65,10 @@ impl<S: Parted> Machine<S> {
         ensures cost { Costs S.place_of self (Push tx.now id) result ticks.old ticks.new }
         ensures bound { ticks.new ≤ ticks.old + 1 }
     {
-        let alloc = self.alloc;
-        let shared = &mut self.shared;
-        let Some(course) = self.transactions.course_mut(tx) else {
+        let parts = &mut *self.parts;
+        let alloc = parts.alloc;
+        let shared = &mut parts.shared;
+        let Some(course) = parts.transactions.course_mut(tx) else {
             return Ok((self, refused(bare(1))));
         };
         let judged = judge_push(course.local(), shared, alloc, tx, id)?;
@@ -91,7 +84,7 @@ impl<S: Parted> Machine<S> {
         };
         shared.push(posted, ticks)?;
         course.mark(i, Mark::Pushed);
-        self.count += 1;
+        parts.count += 1;
         Ok((self, Outcome::Done))
     }
 }

@@ -1,5 +1,6 @@
 //! The start of a run: its criteria and its effect.
-ghost use Rattle.std.specs.Prelude.{◌≡◌, ◌≤◌, ◌+◌, [], length, map, reverse, IfOk, None, Some};
+ghost use Rattle.std.specs.Prelude.{◌≡◌, ◌≤◌, ◌+◌, [], length, map, reverse, IfOk, OnOk, None};
+ghost use Rattle.std.specs.Prelude.{Some};
 ghost use Rattle.std.specs.List.{All};
 ghost use Rattle.pp_model.specs.Config.{first};
 ghost use Rattle.pp_model.specs.Object.{HasDistinctIds};
@@ -9,7 +10,7 @@ ghost use Rattle.pp_rules.specs.Starting.{JudgesStart, Posts, entry_told, posted
 ghost use Rattle.pp_rules.specs.StartAnswers.{IsAskedItem, IsStartShown, Started};
 ghost use Rattle.pp_rules.specs.Starts.{first_repeated, has_id, start_of};
 
-use crate::detail::{Detail, Judged, Refusal};
+use crate::detail::{Detail, Judged, told};
 use crate::machine::{Machine, Outcome, refused};
 use indexmap::IndexSet;
 use pp_core::{CommittedTx, Item, Items, Name, OutOfMemory, SharedEntry, Ticks};
@@ -51,6 +52,7 @@ fn posted<S: Parted, L: Ledger>(
     requires few { length items.now ≤ 256 }
     requires distinct { HasDistinctIds items.now }
     ensures posts { IfOk result (Posts S.object shape.now tx.now items.now) }
+    ensures cost { IfOk result (λ r. OnOk r (ticks.new ≡ ticks.old + length items.now)) }
     ensures rises { ticks.old ≤ ticks.new }
     ensures bound { ticks.new ≤ ticks.old + length items.now }
 {
@@ -58,14 +60,9 @@ fn posted<S: Parted, L: Ledger>(
     for k in 0..items.len() {
         let item = &items[k];
         if !shared.legal(&item.op) {
+            let id = item.id;
             let answer = shared.gives(&item.op);
-            return Ok(Err(Refusal {
-                criterion: 2,
-                detail: Detail::Gives {
-                    id: item.id,
-                    answer,
-                },
-            }));
+            return Ok(Err(told(2, Detail::Gives { id, answer })));
         }
         let entry = SharedEntry {
             id: item.id,
@@ -113,17 +110,16 @@ impl<S: Parted> Machine<S> {
         requires few { length items.now ≤ 256 }
         ensures judges { IfOk result
             (JudgesStart S.object self.now.shape (start_of tx.now items.now)) }
+        ensures cost { IfOk result (λ r. OnOk r (ticks.new ≡ ticks.old + length items.now)) }
         ensures rises { ticks.old ≤ ticks.new }
         ensures bound { ticks.new ≤ ticks.old + length items.now }
     {
         let items = items.as_slice();
         if let Some(id) = first_repeated(items) {
-            return Ok(Err(Refusal {
-                criterion: 1,
-                detail: Detail::Entry { id },
-            }));
+            return Ok(Err(told(1, Detail::Entry { id })));
         }
-        posted(self.alloc, &self.shape, tx, items, ticks)
+        let parts = &*self.parts;
+        posted(parts.alloc, &parts.shape, tx, items, ticks)
     }
 
     /// The machine in which the operations stand committed, as those of a transaction of this name
@@ -146,16 +142,14 @@ impl<S: Parted> Machine<S> {
           count = 0;
         }) }
     {
-        let entries = copy_of(self.alloc, items)?;
+        let parts = &mut *self.parts;
+        let entries = copy_of(parts.alloc, items)?;
         shared.commit(&tx, &entries);
-        self.shared = shared;
-        self.committed.push(CommittedTx { name: tx, entries })?;
-        // A start has no thread: its name stands for one until it has ended, just below.
-        self.transactions
-            .begin(self.alloc, &self.shape, &tx, &tx, &None)?;
-        self.transactions.end(&tx);
-        let ids = used_ids(self.alloc, items)?;
-        self.ids = ids;
+        parts.shared = shared;
+        parts.committed.push(CommittedTx { name: tx, entries })?;
+        parts.transactions.use_name(&tx)?;
+        let ids = used_ids(parts.alloc, items)?;
+        parts.ids = ids;
         Ok(self)
     }
 
@@ -178,6 +172,8 @@ impl<S: Parted> Machine<S> {
             Started S.object self (start_of tx items.now) r.1 r.0) }
         ensures shown { IfOk result (λ r.
             IsStartShown S.object self (start_of tx items.now) r.1) }
+        ensures cost { IfOk result (λ r.
+            r.1 ≡ Outcome.Done → ticks.new ≡ ticks.old + length items.now) }
         ensures rises { ticks.old ≤ ticks.new }
         ensures bound { ticks.new ≤ ticks.old + length items.now }
     {

@@ -1,11 +1,10 @@
 //! UNAPP: its criteria and its effect.
-ghost use Rattle.std.specs.Prelude.{◌<◌, ◌≤◌, ◌+◌, List};
-ghost use Rattle.pp_core.specs.declared.entry.SharedEntry.{SharedEntry};
+ghost use Rattle.std.specs.Prelude.{◌<◌, ◌≤◌, ◌+◌};
 ghost use Rattle.pp_core.specs.Steps.{Unapp};
-ghost use Rattle.pp_model.specs.Names.{Name as NameOf};
 ghost use Rattle.pp_rules.specs.Costs.{Costs};
-ghost use Rattle.pp_rules.specs.Sites.{HoldsLocal, Rest, seen_with};
-ghost use Rattle.pp_rules.specs.Stepping.{Does, JudgesUnapp};
+ghost use Rattle.pp_rules.specs.Sites.{OfEach};
+ghost use Rattle.pp_rules.specs.Judges.{JudgesUnapp};
+ghost use Rattle.pp_rules.specs.Stepping.{Does};
 
 use crate::detail::{Refusal, bare};
 use crate::find::last_unpushed;
@@ -18,9 +17,7 @@ use std::sync::ledger::Ledger;
 /// Where the entry stands that UNAPP drops, or the refusal by its first false criterion behind the
 /// first one, that the transaction is open.
 fn judge_unapp<S: Parted>(local: &Local<S>, id: u32) -> Result<usize, Refusal<S::Op>>
-    ensures { (m : Rest S.Shape S.Op) (shared : S.Shape × List (SharedEntry S.Op)) (t : NameOf) →
-        HoldsLocal S.object m shared t local.now →
-        JudgesUnapp S.object (seen_with m shared) t id result }
+    ensures { OfEach S.object local.now (λ v t. JudgesUnapp S.object v t id result) }
 {
     let Some(i) = last_unpushed(local.entries(), id) else {
         return Err(bare(2));
@@ -41,10 +38,8 @@ impl<S: Parted> Machine<S> {
         ensures cost { Costs S.place_of self (Unapp tx.now id) result ticks.old ticks.new }
         ensures bound { ticks.new ≤ ticks.old + 1 }
     {
-        let alloc = self.alloc;
-        // Only read: beside a field lent as `&mut`, the others are lent as `&mut` too.
-        let shape = &mut self.shape;
-        let Some(course) = self.transactions.course_mut(tx) else {
+        let parts = &mut *self.parts;
+        let Some((place, course)) = parts.transactions.course_at(tx) else {
             return Ok((self, refused(bare(1))));
         };
         let i = match judge_unapp(course.local(), id) {
@@ -52,8 +47,8 @@ impl<S: Parted> Machine<S> {
             Err(refusal) => return Ok((self, refused(refusal))),
         };
         // The list without its last entry is always allowed.
-        let _done = course.remove(alloc, shape, i, ticks)?;
-        self.count += 1;
+        let _done = parts.transactions.remove_at(place, i, ticks)?;
+        parts.count += 1;
         Ok((self, Outcome::Done))
     }
 }

@@ -1,14 +1,13 @@
 //! UNPULL: its criteria and its effect.
-ghost use Rattle.std.specs.Prelude.{◌<◌, ◌≤◌, ◌+◌, List};
-ghost use Rattle.pp_core.specs.declared.entry.SharedEntry.{SharedEntry};
+ghost use Rattle.std.specs.Prelude.{◌<◌, ◌≤◌, ◌+◌};
 ghost use Rattle.pp_core.specs.Steps.{Unpull};
-ghost use Rattle.pp_model.specs.Names.{Name as NameOf};
 ghost use Rattle.pp_rules.specs.Costs.{Costs, at_most};
 ghost use Rattle.pp_rules.specs.Finding.{AreDistinct};
-ghost use Rattle.pp_rules.specs.Sites.{HoldsLocal, Rest, seen_with};
-ghost use Rattle.pp_rules.specs.Stepping.{Does, JudgesUnpull};
+ghost use Rattle.pp_rules.specs.Sites.{OfEach};
+ghost use Rattle.pp_rules.specs.Judges.{JudgesUnpull};
+ghost use Rattle.pp_rules.specs.Stepping.{Does};
 
-use crate::detail::{Detail, Refusal, bare};
+use crate::detail::{Detail, Refusal, bare, told};
 use crate::find::marked_at;
 use crate::machine::{Machine, Outcome, refused};
 use pp_core::{Mark, Name, OutOfMemory, Ticks};
@@ -21,9 +20,7 @@ use std::sync::ledger::Ledger;
 /// without the entry, is not asked here.
 fn judge_unpull<S: Parted>(local: &Local<S>, id: u32) -> Result<usize, Refusal<S::Op>>
     requires { AreDistinct local.now.1 }
-    ensures { (m : Rest S.Shape S.Op) (shared : S.Shape × List (SharedEntry S.Op)) (t : NameOf) →
-        HoldsLocal S.object m shared t local.now →
-        JudgesUnpull S.object (seen_with m shared) t id result }
+    ensures { OfEach S.object local.now (λ v t. JudgesUnpull S.object v t id result) }
 {
     let Some((i, _pulled)) = marked_at(local, id, Mark::Pulled) else {
         return Err(bare(2));
@@ -44,26 +41,23 @@ impl<S: Parted> Machine<S> {
         ensures cost { Costs S.place_of self (Unpull tx.now id) result ticks.old ticks.new }
         ensures bound { ticks.new ≤ ticks.old + at_most S.place_of self.config (Unpull tx.now id) }
     {
-        let alloc = self.alloc;
-        // Only read: beside a field lent as `&mut`, the others are lent as `&mut` too.
-        let shape = &mut self.shape;
-        let Some(course) = self.transactions.course_mut(tx) else {
+        let parts = &mut *self.parts;
+        let Some((place, course)) = parts.transactions.course_at(tx) else {
             return Ok((self, refused(bare(1))));
         };
         let i = match judge_unpull(course.local(), id) {
             Ok(i) => i,
             Err(refusal) => return Ok((self, refused(refusal))),
         };
-        let removed = course.remove(alloc, shape, i, ticks)?;
+        let removed = parts.transactions.remove_at(place, i, ticks)?;
         match removed {
             Removed::Done => {
-                self.count += 1;
+                parts.count += 1;
                 Ok((self, Outcome::Done))
             }
             Removed::Differs { entry, answer } => {
-                let criterion = 3;
-                let detail = Detail::Gives { id: entry, answer };
-                Ok((self, Outcome::False { criterion, detail }))
+                let refusal = told(3, Detail::Gives { id: entry, answer });
+                Ok((self, refused(refusal)))
             }
         }
     }

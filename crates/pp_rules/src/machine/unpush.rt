@@ -3,9 +3,10 @@ ghost use Rattle.std.specs.Prelude.{◌<◌, ◌≤◌, ◌+◌, IfOk};
 ghost use Rattle.pp_core.specs.Steps.{Unpush};
 ghost use Rattle.pp_rules.specs.Costs.{Costs, at_most};
 ghost use Rattle.pp_rules.specs.Sites.{HoldsLocal, IsOfMachine, Rest, seen_with};
-ghost use Rattle.pp_rules.specs.Stepping.{Does, JudgesUnpush};
+ghost use Rattle.pp_rules.specs.Judges.{FindsPushed, JudgesUnpush};
+ghost use Rattle.pp_rules.specs.Stepping.{Does};
 
-use crate::detail::{Detail, Judged, Refusal, bare, swap_detail};
+use crate::detail::{Detail, Judged, bare, swap_detail, told};
 use crate::find::marked_at;
 use crate::machine::{Machine, Outcome, refused};
 use pp_core::{Mark, Name, OutOfMemory, Ticks};
@@ -17,8 +18,8 @@ use std::sync::ledger::Ledger;
 
 /// Where the entry that UNPUSH takes back stands in the local and in the shared log, or the refusal
 /// by its first false criterion behind the first one, that the transaction is open. The last
-/// criterion, that the shared log is allowed without the entry, is not asked here. The only error is
-/// that memory was refused.
+/// criterion, that the shared log is allowed without the entry, is not asked here. The only error
+/// is that memory was refused.
 fn judge_unpush<S: Parted>(
     local: &Local<S>,
     shared: &Shared<S>,
@@ -37,10 +38,7 @@ fn judge_unpush<S: Parted>(
     if let Some(k) = local.first_staying_behind(i, &entry.op) {
         let own = &local.entries()[k];
         let detail = swap_detail::<S>(alloc, own.id, &own.op, &entry.op)?;
-        return Ok(Err(Refusal {
-            criterion: 3,
-            detail,
-        }));
+        return Ok(Err(told(3, detail)));
     }
     // Each pushed entry stands in the shared log.
     let Some(posted) = shared.find(id) else {
@@ -50,9 +48,48 @@ fn judge_unpush<S: Parted>(
 }
 
 impl<S: Parted> Machine<S> {
-    /// Does UNPUSH where its criteria hold. The removal decides the last.
+    /// Takes an entry out of the shared log and marks it in the local log, unless the shared log
+    /// without it is not allowed, which is the last criterion of UNPUSH.
+    fn take_back<L: Ledger>(
+        self,
+        tx: &Name,
+        id: u32,
+        i: usize,
+        posted: usize,
+        ticks: &mut Ticks<L>,
+    ) -> Result<(Self, Outcome<S::Op>), OutOfMemory>
+        requires few { self.count < 200_000 }
+        requires found { FindsPushed S.object self tx.now id i posted }
+        ensures effect { Does S.object self (Unpush tx.now id) result }
+        ensures cost { Costs S.place_of self (Unpush tx.now id) result ticks.old ticks.new }
+        ensures bound { ticks.new ≤ ticks.old + at_most S.place_of self.config (Unpush tx.now id) }
+    {
+        // A removal consumes the log, so the parts leave their box meanwhile.
+        let mut parts = Box::into_inner(self.parts);
+        let (shared, removed) = parts.shared.remove(posted, ticks)?;
+        parts.shared = shared;
+        let alloc = parts.alloc;
+        let mut parts = Box::new(alloc, parts)?;
+        match removed {
+            Removed::Done => {
+                let inside = &mut *parts;
+                let Some(course) = inside.transactions.course_mut(tx) else {
+                    unreachable!()
+                };
+                course.mark(i, Mark::Unpushed);
+                inside.count += 1;
+                Ok((Machine { parts }, Outcome::Done))
+            }
+            Removed::Differs { entry, answer } => {
+                let refusal = told(4, Detail::Gives { id: entry, answer });
+                Ok((Machine { parts }, refused(refusal)))
+            }
+        }
+    }
+
+    /// Does UNPUSH where its criteria hold.
     pub(super) fn unpush<L: Ledger>(
-        mut self,
+        self,
         tx: &Name,
         id: u32,
         ticks: &mut Ticks<L>,
@@ -62,34 +99,14 @@ impl<S: Parted> Machine<S> {
         ensures cost { Costs S.place_of self (Unpush tx.now id) result ticks.old ticks.new }
         ensures bound { ticks.new ≤ ticks.old + at_most S.place_of self.config (Unpush tx.now id) }
     {
-        let alloc = self.alloc;
-        let shared = self.shared;
-        let Some(course) = self.transactions.course_mut(tx) else {
-            self.shared = shared;
+        let parts = &*self.parts;
+        let Some((_place, course)) = parts.transactions.course_at(tx) else {
             return Ok((self, refused(bare(1))));
         };
-        let judged = judge_unpush(course.local(), &shared, alloc, tx, id)?;
-        let (i, posted) = match judged {
-            Ok(found) => found,
-            Err(refusal) => {
-                self.shared = shared;
-                return Ok((self, refused(refusal)));
-            }
-        };
-        let (shared, removed) = shared.remove(posted, ticks)?;
-        match removed {
-            Removed::Done => {
-                course.mark(i, Mark::Unpushed);
-                self.shared = shared;
-                self.count += 1;
-                Ok((self, Outcome::Done))
-            }
-            Removed::Differs { entry, answer } => {
-                self.shared = shared;
-                let criterion = 4;
-                let detail = Detail::Gives { id: entry, answer };
-                Ok((self, Outcome::False { criterion, detail }))
-            }
+        let judged = judge_unpush(course.local(), &parts.shared, parts.alloc, tx, id)?;
+        match judged {
+            Ok((i, posted)) => self.take_back(tx, id, i, posted, ticks),
+            Err(refusal) => Ok((self, refused(refusal))),
         }
     }
 }

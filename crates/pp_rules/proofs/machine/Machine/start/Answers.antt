@@ -1,8 +1,9 @@
-use Rattle.std.proofs.Common.{◌≡◌, Some, subst, sym}
+use Rattle.std.proofs.Common.{◌≡◌, ◌+◌, OnOk, Some, length, subst, sym, ◌∙◌}
 use Rattle.pp_model.specs.Rules.{StartMeets}
 use Rattle.pp_spec.specs.Object.{rules_of}
 use Rattle.pp_rules.specs.Starting.{JudgesStart, posted}
 use Rattle.pp_rules.specs.Starts.{start_of}
+use Rattle.pp_rules.specs.declared.machine.Outcome.TheVariants.{Done, False}
 use Rattle.pp_rules.proofs.Starting.{refused_start, start_shown}
 use Rattle.pp_rules.proofs.machine.Machine.start.Goals as goal
 
@@ -24,3 +25,10 @@ pub returns-in-Err-clause-shown : goal.returns-in-Err-clause-shown
 returns-in-Err-clause-shown g c =
     start_shown g.S.Spec.object g.met.S.Spec.lawful c.args.self (start_of c.args.tx c.args.items.now) c.requires.asked c.args.self c.refused.result
     (refused_start g.S.Spec.object c.args.self (start_of c.args.tx c.args.items.now) c.in-Err.refusal c.refused.result c.refused.ensures (subst (JudgesStart g.S.Spec.object c.args.self.shape (start_of c.args.tx c.args.items.now)) c.in-Err.is c.in_ok-judged.ensures.judges))
+
+pub returns-in_ok-machine-in-Ok-clause-cost : goal.returns-in_ok-machine-in-Ok-clause-cost
+returns-in_ok-machine-in-Ok-clause-cost g c = λ e.
+    subst (λ r. OnOk r (c.judge_start.new.ticks ≡ c.args.ticks.now + length c.args.items.now)) c.in-Ok.is c.in_ok-judged.ensures.cost
+
+pub returns-in-Err-clause-cost : goal.returns-in-Err-clause-cost
+returns-in-Err-clause-cost g c = λ e. let z : Done ≡ False _ _ = sym e ∙ c.refused.ensures in cc

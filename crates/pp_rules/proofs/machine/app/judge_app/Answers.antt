@@ -36,6 +36,7 @@ returns-then-not-legal g c = λ m shared t h ids.
     (λ k. decided_not c.legal.result _ c.legal.ensures c.if-not-legal.true (allowed_there g.S.Spec.object m.shape c.args.course.now.local c.local-local.result.now c.args.op.now c.local-local.ensures (r.fine).same_shape k))
     (Gives c.args.id c.gives-answer.result)
     (ap (Gives c.args.id) (c.gives-answer.ensures ∙ ap (λ l. answer_behind g.S.Spec.object l.0 (local_ops l.1) c.args.op.now) c.local-local.ensures ∙ ap (λ sh. answer_behind g.S.Spec.object sh (local_ops c.args.course.now.local.1) c.args.op.now) (r.fine).same_shape))
+    c.told.result c.told.ensures
 
 pub returns : goal.returns
 returns g c = λ m shared t h ids.

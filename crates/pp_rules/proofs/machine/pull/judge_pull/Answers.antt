@@ -56,6 +56,7 @@ returns-then-not-legal g c = λ m shared t e h.
     (λ k. decided_not c.legal.result _ c.legal.ensures c.if-not-legal.true (subst (λ sh. IsAllowed g.S.Spec.object sh (local_ops c.args.local.now.1 ++ p.op ∷ [])) (sym (r.fine).same_shape) k))
     (Gives c.args.id c.gives-answer.result)
     (ap (Gives c.args.id) (c.gives-answer.ensures ∙ ap (λ sh. answer_behind g.S.Spec.object sh (local_ops c.args.local.now.1) p.op) (r.fine).same_shape))
+    c.told.result c.told.ensures
 
 pub bounds-entries-k : goal.bounds-entries-k
 bounds-entries-k g c =
@@ -95,6 +96,7 @@ returns-in-Some-first_not_before g c = λ m shared t e h.
     pull_5 g.S.Spec.object (seen_with m shared) (seen_with m shared) refl t c.args.id _ p c.index-entries-k.result r.is (sym e ∙ c.in-Some.is) (not_placed c.args.local.now.1 c.args.id (sym c.find.ensures ∙ no_place c.find.result c.is_some.result c.is_some.ensures c.if-is_some.false)) (subst (λ sh. IsAllowed g.S.Spec.object sh (local_ops c.args.local.now.1 ++ p.op ∷ [])) (r.fine).same_shape (decided c.legal.result _ c.legal.ensures c.if-not-legal.false)) q.0 q.1 q.2
     c.in_ok-detail.detail
     (c.in_ok-detail.ensures ∙ before_shown g.S.Spec.object g.met.S.Spec.lawful m.shape c.args.local.now.1 p.op c.args.local.now.1 refl c.in-Some-first_not_before.k c.index-entries-k.result (sym c.in-Some-first_not_before.ensures) here)
+    c.told-in-Some-first_not_before.result c.told-in-Some-first_not_before.ensures
 
 pub returns : goal.returns
 returns g c = λ m shared t e h.

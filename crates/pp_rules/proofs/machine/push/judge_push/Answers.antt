@@ -67,6 +67,7 @@ returns-in-Some-first_holding_back g c = λ m h.
     let q = own_not g.S.Spec.object g.met.S.Spec.lawful m.shape c.args.local.now.1 c.in-Some.i p c.in-Some.ensures.place (take c.in-Some.i c.args.local.now.1) c.in-Some-first_holding_back.k c.index-entries-k.result fit (fit p (stands_in c.args.local.now.1 c.in-Some.i p c.in-Some.ensures.place)) refl (sym c.in-Some-first_holding_back.ensures) (read_taken _ c.entries.result.now c.args.local.now.1 c.entries.ensures c.in-Some.i c.in-Some-first_holding_back.k c.index-entries-k.result (sym c.in-Some-first_holding_back.ensures) c.index-entries-k.is) in
     push_3 g.S.Spec.object (seen_with m c.args.shared.now) (seen_with m c.args.shared.now) refl c.args.tx.now c.args.id _ p c.index-entries-k.result r.is (sym c.in-Some.ensures.entry) q.0 q.1 q.2 c.in_ok-detail.detail
     (c.in_ok-detail.ensures ∙ own_shown g.S.Spec.object g.met.S.Spec.lawful m.shape c.args.local.now.1 c.in-Some.i p c.in-Some.ensures.place (take c.in-Some.i c.args.local.now.1) c.in-Some-first_holding_back.k c.index-entries-k.result c.args.id refl (sym c.in-Some-first_holding_back.ensures) (read_taken _ c.entries.result.now c.args.local.now.1 c.entries.ensures c.in-Some.i c.in-Some-first_holding_back.k c.index-entries-k.result (sym c.in-Some-first_holding_back.ensures) c.index-entries-k.is) c.in-Some.ensures.found)
+    c.told.result c.told.ensures
 
 pub offset_bounds-entries-k-in-Some-blocking : goal.offset_bounds-entries-k-in-Some-blocking
 offset_bounds-entries-k-in-Some-blocking g c =
@@ -108,6 +109,7 @@ returns-in-Some-blocking g c = λ m h.
     (b.blocks.stays m.shape (fits_shared g.S.Spec.object m.shape m.txs m.ids c.args.shared.now m.done m.count h.holds g.met.S.Spec.lawful b.entry inside) (fits_local g.S.Spec.object m.shape m.txs m.ids c.args.shared.now m.done m.count h.holds g.met.S.Spec.lawful c.args.tx.now c.args.local.now r p (stands_in c.args.local.now.1 c.in-Some.i p c.in-Some.ensures.place)))
     c.in_ok-detail-2.detail
     (c.in_ok-detail-2.ensures ∙ ap (λ z. swap_or z.id (g.S.Spec.object.refuting z.op p.op) Nothing) (sym u) ∙ blocking_shown g.S.Spec.object g.met.S.Spec.lawful m.shape c.args.tx.now p.op c.args.shared.now.1 c.in-Some-blocking.k b)
+    c.told-in-Some-blocking.result c.told-in-Some-blocking.ensures
 
 pub legal-requires : goal.legal-requires
 legal-requires g c =
@@ -133,6 +135,7 @@ returns-then-not-legal g c = λ m h.
     (λ k. decided_not c.legal.result _ c.legal.ensures c.if-not-legal.true (subst (λ sh. IsAllowed g.S.Spec.object sh (shared_ops c.args.shared.now.1 ++ p.op ∷ [])) (sym h.holds.shared_shape) k))
     (Gives c.args.id c.gives-answer.result)
     (ap (Gives c.args.id) (c.gives-answer.ensures ∙ ap (λ sh. answer_behind g.S.Spec.object sh (shared_ops c.args.shared.now.1) p.op) h.holds.shared_shape))
+    c.told-then-not-legal.result c.told-then-not-legal.ensures
 
 pub returns : goal.returns
 returns g c = λ m h.

@@ -9,7 +9,7 @@ pub returns-in-Some : goal.returns-in-Some
 returns-in-Some g c = λ m shared t h.
     let r = logged g.S.Spec.object m.shape m.txs m.ids shared m.done m.count h.holds t c.args.local.now h.is_open in
     let k = head_shown c.args.local.now.1 c.entries.result.now c.in-Some.first.now c.entries.ensures c.in-Some.ensures.value in
-    quit_2 g.S.Spec.object (seen_with m shared) (seen_with m shared) refl t _ r.is k.0 _ k.1
+    quit_2 g.S.Spec.object (seen_with m shared) (seen_with m shared) refl t _ r.is k.0 _ k.1 c.told.result c.told.ensures
 
 pub returns : goal.returns
 returns g c = λ m shared t h.

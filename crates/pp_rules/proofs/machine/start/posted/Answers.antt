@@ -1,4 +1,5 @@
-use Rattle.std.proofs.Common.{◌<◌, length, refl, arith}
+use Rattle.std.proofs.Common.{◌<◌, Err, length, refl, arith, subst, sym}
+use Rattle.pp_rules.specs.Starting.{Posts}
 use Rattle.pp_rules.proofs.Starting.{allowed_more, differs_at, new_at, posted_more, ranged_at}
 use Rattle.pp_rules.proofs.Finding.{decided, decided_not}
 use Rattle.pp_rules.proofs.machine.start.posted.Goals as goal
@@ -6,6 +7,7 @@ use Rattle.pp_rules.proofs.machine.start.posted.Goals as goal
 pub returns-then-not-legal-clause-posts : goal.returns-then-not-legal-clause-posts
 returns-then-not-legal-clause-posts g c =
     let lt : c.loop-k.k < length c.args.items.now = omega arith in
+    subst (λ r. Posts g.S.Spec.object c.args.shape.now c.args.tx.now c.args.items.now (Err r)) (sym c.told.ensures)
     (refl, differs_at g.S.Spec.object g.met.S.Spec.lawful c.args.shape.now c.args.tx.now c.args.items.now c.loop-k.k c.index-items-k.result lt c.index-items-k.is c.loop-k.shared c.loop-k.invariant.log c.requires.asked c.loop-k.invariant.allowed (λ h. decided_not c.legal.result _ c.legal.ensures c.if-not-legal.true h) c.gives-answer.result c.gives-answer.ensures)
 
 pub push-requires-clause-ranged : goal.push-requires-clause-ranged
@@ -24,6 +26,5 @@ loop-k-preserved g c =
     record {
       log = posted_more g.S.Spec.object g.met.S.Spec.lawful c.args.shape.now c.args.tx.now c.args.items.now c.loop-k.k c.index-items-k.result lt c.index-items-k.is c.loop-k.shared c.loop-k.invariant.log c.push.new.self c.in_ok-push.ensures.ok;
       allowed = allowed_more g.S.Spec.object g.met.S.Spec.lawful c.args.shape.now c.args.tx.now c.args.items.now c.loop-k.k c.index-items-k.result lt c.index-items-k.is c.loop-k.shared c.loop-k.invariant.log (decided c.legal.result _ c.legal.ensures c.if-not-legal.false);
-      rises = omega arith;
-      bound = omega arith;
+      cost = (let paid = c.in_ok-push.ensures.cost in let so_far = c.loop-k.invariant.cost in omega (arith, paid, so_far));
     }

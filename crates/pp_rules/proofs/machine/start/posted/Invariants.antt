@@ -1,4 +1,4 @@
-use Rattle.std.proofs.Common.{◌≡◌, ◌≤◌, ◌+◌, take}
+use Rattle.std.proofs.Common.{◌≡◌, ◌+◌, take}
 use Rattle.pp_model.specs.Object.{ops}
 use Rattle.pp_spec.specs.Object.{IsAllowed}
 use Rattle.pp_rules.specs.Starting.{posted}
@@ -9,6 +9,5 @@ abbrev pub invariant-loop-k : goal.invariant-loop-k
 invariant-loop-k g l = record {
   log : l.shared ≡ (l.shape, posted l.tx (take l.k l.items));
   allowed : IsAllowed g.S.Spec.object l.shape (ops (take l.k l.items));
-  rises : l.initial.ticks ≤ l.ticks;
-  bound : l.ticks ≤ l.initial.ticks + l.k;
+  cost : l.ticks ≡ l.initial.ticks + l.k;
 }

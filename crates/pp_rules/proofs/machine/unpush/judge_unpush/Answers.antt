@@ -56,6 +56,7 @@ returns-in-Some-first_staying_behind g c = λ m h.
     unpush_3 g.S.Spec.object (seen_with m c.args.shared.now) (seen_with m c.args.shared.now) refl c.args.tx.now c.args.id _ p c.index-entries-k.result r.is (sym c.in-Some.ensures.entry) q.0 q.1 q.2
     c.in_ok-detail.detail
     (c.in_ok-detail.ensures ∙ behind_shown g.S.Spec.object g.met.S.Spec.lawful m.shape c.args.local.now.1 c.in-Some.i p c.in-Some.ensures.place _ b.0 c.index-entries-k.result c.args.id (drop_next c.in-Some.i c.args.local.now.1) b.1 b.2 c.in-Some.ensures.found)
+    c.told.result c.told.ensures
 
 pub unreachable-requires : goal.unreachable-requires
 unreachable-requires g c =

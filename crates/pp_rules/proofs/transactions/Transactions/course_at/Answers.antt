@@ -2,7 +2,7 @@ use Rattle.std.proofs.Common.{refl, sym, ap, ◌∙◌, option_map, slice_get, S
 use Rattle.std.specs.Map.{keys_of}
 use Rattle.pp_rules.specs.Transactions.{course_of, open_of}
 use Rattle.pp_rules.proofs.Slots.{no_log, closed_log, open_log, placed_name}
-use Rattle.pp_rules.proofs.transactions.Transactions.find.Goals as goal
+use Rattle.pp_rules.proofs.transactions.Transactions.course_at.Goals as goal
 
 pub returns-in_err-place-clause-course : goal.returns-in_err-place-clause-course
 returns-in_err-place-clause-course g c =
