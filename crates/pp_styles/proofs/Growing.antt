@@ -1,20 +1,21 @@
 -- How the list of the steps of some entries grows from entry to entry.
-use Rattle.std.proofs.Common.{◌≡◌, ◌<◌, ◌≤◌, ℕ, zero, suc, Bool, true, false, cond, List, []}
+use Rattle.std.proofs.Common.{◌≡◌, ◌<◌, ◌≤◌, ◌+◌, ℕ, zero, suc, Bool, true, false, cond, List, []}
 use Rattle.std.proofs.Common.{◌∷◌, ◌++◌, map, filter, reverse, take, drop, length, Some, refl}
 use Rattle.std.proofs.Common.{if◌then◌else◌, sym, ap, ◌∙◌, append_assoc, arith}
 use Rattle.std.specs.List.{slice_get}
-use Rattle.std.proofs.lemmas.List.{append-nil, map-append, reverse-append, take_all}
-use Rattle.std.proofs.lemmas.Option.{same_Some}
+use Rattle.std.proofs.Math.Seq.{take-nil}
+use Rattle.std.proofs.lemmas.List.{append-nil, drop_more, map-append, reverse-append, take_all}
+use Rattle.std.proofs.lemmas.Option.{get_or_from_slice_get, same_Some, slice_get_within}
 
 -- an entry at a place, and the rest of the list
 pub drop_there : {A : Type 0} (xs : List A) (i : ℕ) (x : A) → slice_get xs i ≡ Some x → drop i xs ≡ x ∷ drop (suc i) xs
-drop_there [] i x h = absurd (cc)
-drop_there {A} (y ∷ xs) zero x h = ap (λ (z : A). z ∷ xs) (same_Some y x h)
-drop_there (y ∷ xs) (suc i) x h = drop_there xs i x h
-
-nothing : {A : Type 0} (k : ℕ) → ◌≡◌ {A = List A} (take k []) []
-nothing zero = refl
-nothing (suc k) = refl
+drop_there {A} xs i x h =
+    drop_more xs i x (slice_get_within xs i x h)
+    ∙ ap (λ (z : A). z ∷ drop (i + 1) xs) (get_or_from_slice_get xs i x x h)
+    ∙ ap (λ (n : ℕ). x ∷ drop n xs) (one_more i)
+  where
+    one_more : (n : ℕ) → n + 1 ≡ suc n
+    one_more n = omega arith
 
 module _ {A B : Type 0} (f : A → B) (p : A → Bool) where
   -- what an entry gives
@@ -51,7 +52,7 @@ module _ {A B : Type 0} (f : A → B) (p : A → Bool) where
 
   -- entries that give nothing
   pub chosen-skip : (xs : List A) (from k : ℕ) → from ≤ k → ((j : ℕ) (x : A) → from ≤ j → j < k → slice_get xs j ≡ Some x → p x ≡ false) → chosen (take k xs) ≡ chosen (take from xs)
-  chosen-skip [] from k le h = ap chosen (nothing k ∙ sym (nothing from))
+  chosen-skip [] from k le h = ap chosen (take-nil k ∙ sym (take-nil from))
   chosen-skip (y ∷ xs) zero zero le h = refl
   chosen-skip (y ∷ xs) zero (suc k) le h =
       chosen-cons y (take k xs) ∙ ap (λ (b : Bool). (if b then f y ∷ [] else []) ++ chosen (take k xs)) (h 0 y (omega arith) (omega arith) refl)

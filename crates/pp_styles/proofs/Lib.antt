@@ -2,6 +2,7 @@ pub mod Growing
 pub mod Pulling
 pub mod Outs
 pub mod Standing
+pub mod Named
 pub mod Keeping
 pub mod Touching
 pub mod Driven

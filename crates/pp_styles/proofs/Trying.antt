@@ -1,9 +1,11 @@
 -- What trying one step comes to.
-use Rattle.std.proofs.Common.{◌≡◌, ◌≢◌, ◌<◌, ◌≤◌, ◌+◌, ℕ, None, Some, refl, subst, arith, inl, inr}
+use Rattle.std.proofs.Common.{◌≡◌, ◌≢◌, ◌<◌, ◌≤◌, ℕ, Bool, false, None, Some, refl, sym, subst, ◌∙◌}
+use Rattle.std.proofs.Common.{arith, inl, true≢false}
+use Rattle.std.specs.Prelude.{IsTrue}
 use Rattle.pp_core.specs.Steps.{Step, rule_of}
 use Rattle.pp_core.specs.declared.limits.TheConstants.{MOST_STEPS}
 use Rattle.pp_core.specs.declared.step.Rule.{Rule}
-use Rattle.pp_rules.specs.Costs.{CostsBy, at_most}
+use Rattle.pp_rules.specs.Costs.{CostsBy}
 use Rattle.pp_rules.specs.Machines.{Seen}
 use Rattle.pp_rules.specs.Shown.{IsShown}
 use Rattle.pp_rules.specs.Stepping.{Stepped}
@@ -16,8 +18,11 @@ use Rattle.pp_styles.specs.Driving.{CostsOne, Goes}
 use Rattle.pp_styles.proofs.Driven.{done_least, vain_least}
 
 -- a run may have one step more
-pub below : (m r most : ℕ) → m ≤ most → r ≡ m → r ≢ most → m < most
-below m r most le same other = omega arith
+pub below : (m r most : ℕ) (full : Bool) → m ≤ most → r ≡ m → (r ≡ most → IsTrue full) → full ≡ false → m < most
+below m r most full le same told may = less (λ (e : r ≡ most). true≢false (sym (told e) ∙ may))
+  where
+    less : r ≢ most → m < most
+    less other = omega (arith, le, same, other)
 
 same_number : (a : ℕ) → a ≤ a
 same_number a = omega arith
@@ -31,9 +36,6 @@ module _ {Shape State Op Undo : Type 0} (o : Object Shape State Op Undo) (place 
   full_costs full = inl (full, refl)
 
   module _ (few : v.count < MOST_STEPS) (to : ℕ) where
-    pub few_costs : to ≤ from + at_most place v.config s → CostsOne place v s from to
-    few_costs most = inr (few, most)
-
     module _ (new : Seen Shape Op) (outcome : Outcome Op) (effect : Stepped o v s outcome new) (cost : CostsBy place v.config s outcome from to) where
       pub went : outcome ≡ Done → Goes o v s from None new to
       went is =

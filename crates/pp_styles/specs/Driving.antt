@@ -83,8 +83,8 @@ CostsOne place v step from to =
     ((v.count ≡ MOST_STEPS) × (to ≡ from))
     ⊎ ((v.count < MOST_STEPS) × (to ≤ from + at_most place v.config step))
 
--- What a record asks of the machine: that its operation is of the shape, and a body of its step
--- within the limits.
+-- What a record asks of the machine: that its operation is of the shape and in the range of
+-- records, and a body of its step within the limits.
 abbrev pub IsRecordAsked : {Shape State Op Undo : Type 0} → Object Shape State Op Undo → Shape →
     RunRecord Op → Type 0
 IsRecordAsked o shape (records.Plain step) = IsAsked o shape step

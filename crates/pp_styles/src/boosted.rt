@@ -39,7 +39,13 @@ impl<S: Parted> Front<S> for Boosted {
             RunRecord::Commit { tx } => only(self.alloc, Step::Cmt { tx: *tx }),
             RunRecord::Abort { tx } => abort(self.alloc, machine, tx),
             RunRecord::Retry { tx } => back_to(self.alloc, machine, tx, 0),
-            _ => unreachable!(),
+            RunRecord::Refresh { .. }
+            | RunRecord::XBegin { .. }
+            | RunRecord::XEnd { .. }
+            | RunRecord::XAbort { .. }
+            | RunRecord::Depend { .. }
+            | RunRecord::Publish { .. }
+            | RunRecord::DropSource { .. } => unreachable!(),
         }
     }
 }

@@ -1,5 +1,6 @@
 //! Style dependent: a transaction may read what others published and have not committed.
 ghost use Rattle.std.specs.Prelude.{◌≡◌, ◌∷◌, [], IfOk, List, OnOk};
+ghost use Rattle.std.specs.Option.{option_copied};
 ghost use Rattle.pp_core.specs.Steps.{App, Note};
 ghost use Rattle.pp_core.specs.declared.call.Kind.{Kind};
 ghost use Rattle.pp_core.specs.declared.call.Style.TheVariants as styles;
@@ -8,24 +9,22 @@ ghost use Rattle.pp_front.specs.Fronts.{at_name, new_front, with_source, with_so
 ghost use Rattle.pp_front.specs.Fronts.{without_source};
 ghost use Rattle.pp_model.specs.Names.{Name as NameOf};
 ghost use Rattle.pp_styles.specs.Meanings.{meanings};
-ghost use Rattle.pp_styles.specs.Sources.{sources_in};
+ghost use Rattle.pp_styles.specs.Sources.{kept_sources, sources_in};
 
 use crate::front::Front;
 use crate::recorded::{abort, back_to, commit, publish, unopened};
-use crate::sources::{follow, is_among, unpull_all};
+use crate::source_set::{SourceSet, add_source, remove_source};
+use crate::sources::{follow, unpull_all};
 use crate::step_list::{StepList, add, only, only_copied};
 use indexmap::IndexMap;
-use pp_core::{Name, OutOfMemory, Sequence, Step};
+use pp_core::{Name, OutOfMemory, Step};
 use pp_front::RunRecord;
 use pp_parts::Parted;
 use pp_rules::Machine;
 use std::alloc::Global;
 
-/// The transactions whose published entries a transaction reads, in the order of their records.
-type Names = Sequence<Name>;
-
 /// The sources of each transaction that has some.
-type Sources = IndexMap<Name, Names>;
+type Sources = IndexMap<Name, SourceSet>;
 
 /// The front of style dependent, which keeps the sources.
 #[derive(Drop)]
@@ -34,60 +33,32 @@ pub struct Dependent {
     sources: Sources,
 }
 
-/// Adds a source that is not there.
-fn add_source(names: &mut Names, source: &Name) -> Result<(), OutOfMemory>
-    ensures { OnOk result (names.new ≡ with_source source.now names.old) }
-{
-    if !is_among(names.as_slice(), source) {
-        names.push(*source)?;
-    }
-    Ok(())
-}
-
-/// The sources without one of them.
-fn without(alloc: Global, names: &[Name], source: &Name) -> Result<Names, OutOfMemory>
-    ensures { IfOk result (λ left. left ≡ without_source source.now names.now) }
-{
-    let mut left = Sequence::new(alloc);
-    for name in names {
-        if !name.same(source) {
-            left.push(*name)?;
-        }
-    }
-    Ok(left)
-}
-
 /// Gives a transaction one more source.
 fn depend(alloc: Global, sources: &mut Sources, tx: &Name, source: &Name) -> Result<(), OutOfMemory>
     ensures { OnOk result ((u : NameOf) → sources_in u sources.new.entries
         ≡ at_name tx.now (with_source source.now (sources_in tx.now sources.old.entries))
         (λ v. sources_in v sources.old.entries) u) }
 {
-    let mut names = match sources.swap_remove(tx) {
-        Some(names) => names,
-        None => Sequence::new(alloc),
+    let mut kept = match sources.swap_remove(tx) {
+        Some(kept) => kept,
+        None => SourceSet::new(alloc),
     };
-    add_source(&mut names, source)?;
-    sources.insert(*tx, names)?;
+    add_source(&mut kept, source)?;
+    sources.insert(*tx, kept)?;
     Ok(())
 }
 
 /// Takes one source from a transaction.
-fn give_up(
-    alloc: Global,
-    sources: &mut Sources,
-    tx: &Name,
-    source: &Name,
-) -> Result<(), OutOfMemory>
+fn give_up(sources: &mut Sources, tx: &Name, source: &Name) -> Result<(), OutOfMemory>
     ensures { OnOk result ((u : NameOf) → sources_in u sources.new.entries
         ≡ at_name tx.now (without_source source.now (sources_in tx.now sources.old.entries))
         (λ v. sources_in v sources.old.entries) u) }
 {
-    let Some(names) = sources.swap_remove(tx) else {
+    let Some(mut kept) = sources.swap_remove(tx) else {
         return Ok(());
     };
-    let left = without(alloc, names.as_slice(), source)?;
-    sources.insert(*tx, left)?;
+    remove_source(&mut kept, source);
+    sources.insert(*tx, kept)?;
     Ok(())
 }
 
@@ -130,14 +101,11 @@ impl Dependent {
         }
     }
 
-    /// The sources of a transaction.
-    fn sources(&self, tx: &Name) -> &[Name]
-        ensures { result.now ≡ sources_in tx.now self.now.sources.entries }
+    /// The sources of a transaction, where any are kept.
+    fn sources(&self, tx: &Name) -> Option<&SourceSet>
+        ensures { kept_sources (option_copied result) ≡ sources_in tx.now self.now.sources.entries }
     {
-        match self.sources.get(tx) {
-            Some(names) => names.as_slice(),
-            None => &[],
-        }
+        self.sources.get(tx)
     }
 
     /// The steps of an operation.
@@ -208,7 +176,7 @@ impl Dependent {
             (without_source source.now ((dependent_state kinds self.old).sources tx.now)))) }
     {
         if machine.is_open(tx) {
-            give_up(self.alloc, &mut self.sources, tx, source)?;
+            give_up(&mut self.sources, tx, source)?;
         }
         Ok(())
     }
@@ -257,7 +225,10 @@ impl<S: Parted> Front<S> for Dependent {
                 self.give_up(machine, tx, source)?;
                 Ok(list)
             }
-            _ => unreachable!(),
+            RunRecord::Refresh { .. }
+            | RunRecord::XBegin { .. }
+            | RunRecord::XEnd { .. }
+            | RunRecord::XAbort { .. } => unreachable!(),
         }
     }
 }

@@ -1,5 +1,5 @@
 //! Driving a machine through the steps of a record.
-ghost use Rattle.std.specs.Prelude.{◌≡◌, ◌≤◌, IfOk, List, OnOk};
+ghost use Rattle.std.specs.Prelude.{◌≡◌, ◌≤◌, ◌↔◌, IfOk, IsTrue, List, OnOk};
 ghost use Rattle.pp_core.specs.Steps.{Step as StepOf, meaning};
 ghost use Rattle.pp_core.specs.declared.call.Kind.{Kind};
 ghost use Rattle.pp_core.specs.declared.limits.TheConstants.{MOST_STEPS};
@@ -31,6 +31,13 @@ pub enum Halt<O> {
     TooMany,
 }
 
+/// Whether a run of so many steps may have no step more.
+fn is_full(count: u32) -> bool
+    ensures { IsTrue result ↔ (count ≡ MOST_STEPS) }
+{
+    count == MOST_STEPS
+}
+
 /// Does a step, unless it fails or a run may have no step more. The only error is that memory was
 /// refused, and the machine is then lost.
 fn try_step<S: Parted, L: Ledger>(
@@ -44,7 +51,7 @@ fn try_step<S: Parted, L: Ledger>(
         Goes S.object machine (meaning step.now) ticks.old r.1 r.0 ticks.new) }
     ensures most { CostsOne S.place_of machine (meaning step.now) ticks.old ticks.new }
 {
-    if machine.count() == MOST_STEPS {
+    if is_full(machine.count()) {
         return Ok((machine, Some(Halt::TooMany)));
     }
     let (machine, outcome) = machine.step(step, ticks)?;
@@ -87,8 +94,8 @@ pub fn do_steps<S: Parted, L: Ledger>(
 }
 
 /// Does the steps of a record up to the first that fails, and no more than a run may have. It
-/// answers all of these steps too. The only error is that memory was refused: the machine is then
-/// lost, and the front is of no more use.
+/// answers all steps of the record too, also those behind one that fails. The only error is that
+/// memory was refused: the machine is then lost, and the front is of no more use.
 pub fn do_record<S: Parted, F: Front<S>, L: Ledger>(
     front: &mut F,
     machine: Machine<S>,

@@ -41,7 +41,8 @@ fn is_memory(kinds: &Kinds, object: u16) -> bool
     };
     match kind {
         Kind::Memory => true,
-        _ => false,
+        Kind::KeySet | Kind::KeyMap | Kind::Counter => false,
+        Kind::Queue | Kind::Stack | Kind::PriorityQueue => false,
     }
 }
 
@@ -181,7 +182,10 @@ impl<S: Parted> Front<S> for Hardware {
                 self.end(machine, tx);
                 Ok(list)
             }
-            _ => unreachable!(),
+            RunRecord::Refresh { .. }
+            | RunRecord::Depend { .. }
+            | RunRecord::Publish { .. }
+            | RunRecord::DropSource { .. } => unreachable!(),
         }
     }
 }

@@ -82,7 +82,12 @@ impl<S: Parted> Front<S> for Optimistic {
             RunRecord::Abort { tx } => abort(self.alloc, machine, tx),
             RunRecord::Retry { tx } => back_to(self.alloc, machine, tx, 0),
             RunRecord::Refresh { tx, object } => { refresh_steps(self.alloc, machine, tx, *object) }
-            _ => unreachable!(),
+            RunRecord::XBegin { .. }
+            | RunRecord::XEnd { .. }
+            | RunRecord::XAbort { .. }
+            | RunRecord::Depend { .. }
+            | RunRecord::Publish { .. }
+            | RunRecord::DropSource { .. } => unreachable!(),
         }
     }
 }

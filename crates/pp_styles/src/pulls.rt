@@ -40,7 +40,9 @@ pub fn pull_missing<S: Parted>(
     add(list, Step::Pull { tx: *tx, id })
 }
 
-/// Adds PULL of each committed entry on the object that does not stand in the local log, in order.
+/// Adds the steps by which a transaction takes over what is committed of an object: PULL of each
+/// committed entry on it that does not stand in the local log, in the order of the shared log. The
+/// only error is that memory was refused, and the list is then of no more use.
 pub fn refresh<S: Parted>(
     list: &mut StepList<S::Op>,
     tx: &Name,

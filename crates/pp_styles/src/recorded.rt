@@ -6,7 +6,7 @@ ghost use Rattle.pp_styles.specs.Meanings.{meanings};
 
 use crate::pulls::{refresh, touches};
 use crate::step_list::{StepList, add, only};
-use crate::walks::{push_all, take_back};
+use crate::walks::{back, pushall};
 use pp_core::{Name, OutOfMemory, Step};
 use pp_local::Local;
 use pp_parts::Parted;
@@ -120,7 +120,7 @@ pub fn commit<S: Parted>(
         return only(alloc, Step::Cmt { tx: *tx });
     };
     let mut list = StepList::new(alloc);
-    push_all(&mut list, tx, local.entries())?;
+    pushall(&mut list, tx, local.entries())?;
     add(&mut list, Step::Cmt { tx: *tx })?;
     Ok(list)
 }
@@ -138,7 +138,7 @@ pub fn abort<S: Parted>(
         return only(alloc, Step::Quit { tx: *tx });
     };
     let mut list = StepList::new(alloc);
-    take_back(&mut list, tx, 0, local.entries())?;
+    back(&mut list, tx, 0, local.entries())?;
     add(&mut list, Step::Quit { tx: *tx })?;
     Ok(list)
 }
@@ -157,7 +157,7 @@ pub fn back_to<S: Parted>(
     let Some(local) = machine.local(tx) else {
         return Ok(list);
     };
-    take_back(&mut list, tx, to, local.entries())?;
+    back(&mut list, tx, to, local.entries())?;
     Ok(list)
 }
 
@@ -174,6 +174,6 @@ pub fn publish<S: Parted>(
     let Some(local) = machine.local(tx) else {
         return Ok(list);
     };
-    push_all(&mut list, tx, local.entries())?;
+    pushall(&mut list, tx, local.entries())?;
     Ok(list)
 }

@@ -1,13 +1,15 @@
 //! What a transaction takes over from its sources, and gives up.
 ghost use Rattle.std.specs.Prelude.{◌≡◌, ◌++◌, OnOk};
+ghost use Rattle.std.specs.Option.{option_copied};
 ghost use Rattle.pp_front.specs.Expansions.{follow, is_followed, is_pulled_from, stands_in};
 ghost use Rattle.pp_front.specs.Expansions.{unpulls};
-ghost use Rattle.pp_front.specs.Fronts.{has_name};
 ghost use Rattle.pp_styles.specs.Meanings.{meanings};
 ghost use Rattle.pp_styles.specs.Pulling.{pull_followed};
+ghost use Rattle.pp_styles.specs.Sources.{kept_sources};
 ghost use Rattle.pp_styles.specs.Walking.{unpull_of};
 
 use crate::pulls::pull_missing;
+use crate::source_set::{SourceSet, is_among};
 use crate::step_list::{StepList, add};
 use crate::walks::is_mark;
 use pp_core::{LocalEntry, Mark, Name, OutOfMemory, SharedEntry, Step};
@@ -15,16 +17,9 @@ use pp_local::Local;
 use pp_parts::Parted;
 use pp_shared::Shared;
 
-/// Whether a name is one of these.
-pub fn is_among(names: &[Name], name: &Name) -> bool
-    ensures { result ≡ has_name name.now names.now }
-{
-    names.iter().any(|other| other.same(name))
-}
-
 /// Whether an entry is committed or owned by a source.
-fn is_followed<O: Copy>(sources: &[Name], entry: &SharedEntry<O>) -> bool
-    ensures { result ≡ is_followed sources.now entry.now }
+fn is_followed<O: Copy>(sources: Option<&SourceSet>, entry: &SharedEntry<O>) -> bool
+    ensures { result ≡ is_followed (kept_sources (option_copied sources.entry)) entry.now }
 {
     entry.committed || is_among(sources, &entry.owner)
 }
@@ -33,12 +28,13 @@ fn is_followed<O: Copy>(sources: &[Name], entry: &SharedEntry<O>) -> bool
 fn pull_followed<S: Parted>(
     list: &mut StepList<S::Op>,
     tx: &Name,
-    sources: &[Name],
+    sources: Option<&SourceSet>,
     entry: &SharedEntry<S::Op>,
     local: &Local<S>,
 ) -> Result<(), OutOfMemory>
     ensures { OnOk result (meanings list.new ≡ meanings list.old
-        ++ pull_followed sources.now local.now.1 tx.now entry.now) }
+        ++ pull_followed (kept_sources (option_copied sources.entry)) local.now.1 tx.now
+        entry.now) }
 {
     if !is_followed(sources, entry) {
         return Ok(());
@@ -52,12 +48,13 @@ pub fn follow<S: Parted>(
     list: &mut StepList<S::Op>,
     tx: &Name,
     object: u16,
-    sources: &[Name],
+    sources: Option<&SourceSet>,
     shared: &Shared<S>,
     local: &Local<S>,
 ) -> Result<(), OutOfMemory>
     ensures { OnOk result (meanings list.new ≡ meanings list.old
-        ++ follow S.place_of tx.now object sources.now shared.now.1 local.now.1) }
+        ++ follow S.place_of tx.now object (kept_sources (option_copied sources.entry)) shared.now.1
+        local.now.1) }
 {
     let len = shared.len();
     let mut from = 0;

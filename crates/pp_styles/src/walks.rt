@@ -36,8 +36,10 @@ fn push_one<O: Copy>(
     )
 }
 
-/// Adds PUSH of each own unpushed entry, in order.
-pub fn push_all<O: Copy>(
+/// Adds the steps that publish all that a transaction has not published: PUSH of each entry of its
+/// local log that is its own and unpushed, in the order of the log. The only error is that memory
+/// was refused, and the list is then of no more use.
+pub fn pushall<O: Copy>(
     list: &mut StepList<O>,
     tx: &Name,
     entries: &[LocalEntry<O>],
@@ -69,8 +71,11 @@ fn take_out<O: Copy>(
     }
 }
 
-/// Adds what takes the log back to this length, from the end.
-pub fn take_back<O: Copy>(
+/// Adds the steps that take the local log of a transaction back to this length, from its end: of an
+/// entry that was pulled UNPULL, of one that is pushed UNPUSH and then UNAPP, of one that is
+/// unpushed UNAPP. They are none where the log is no longer than this. The only error is that
+/// memory was refused, and the list is then of no more use.
+pub fn back<O: Copy>(
     list: &mut StepList<O>,
     tx: &Name,
     to: usize,

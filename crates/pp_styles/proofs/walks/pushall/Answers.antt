@@ -2,7 +2,7 @@ use Rattle.std.proofs.Common.{◌≡◌, ◌+◌, suc, length, refl, arith}
 use Rattle.std.proofs.lemmas.Option.{slice_get_read}
 use Rattle.pp_styles.proofs.Growing.{grown}
 use Rattle.pp_styles.proofs.Outs.{pushed_more}
-use Rattle.pp_styles.proofs.walks.push_all.Goals as goal
+use Rattle.pp_styles.proofs.walks.pushall.Goals as goal
 
 pub loop-entry-preserved : goal.loop-entry-preserved
 loop-entry-preserved g c =

@@ -1,7 +1,7 @@
 use Rattle.std.proofs.Common.{◌≡◌, ◌++◌, take}
 use Rattle.pp_front.specs.Expansions.{pushall}
 use Rattle.pp_styles.specs.Meanings.{meanings}
-use Rattle.pp_styles.proofs.walks.push_all.Given as goal
+use Rattle.pp_styles.proofs.walks.pushall.Given as goal
 
 abbrev pub invariant-loop-entry : goal.invariant-loop-entry
 invariant-loop-entry g l =
