@@ -1,7 +1,7 @@
 -- The text of a run, line by line, and what it is as an input.
 use Rattle.std.proofs.Common.{◌≡◌, ◌≤◌, ◌<◌, ◌+◌, ◌*◌, ◌==◌, ℕ, zero, suc, List, [], ◌∷◌, ◌++◌, map, take, length, get_or, slice_index, Option, Some, None}
 use Rattle.std.proofs.Common.{cond, ◌-◌, not, true, false, IsTrue, refl, sym, ap, ◌∙◌, subst, arith, append_assoc, add-one}
-use Rattle.std.proofs.lemmas.List.{append-nil, map-append, length-append, length-map}
+use Rattle.std.proofs.lemmas.List.{map-append, length-append, length-map}
 use Rattle.std.proofs.lemmas.List.Recursion.{is_count_by}
 use Rattle.std.proofs.lemmas.Bool.{and_from}
 use Rattle.std.proofs.lemmas.Bool.Decides.{nat_tests}
@@ -38,30 +38,31 @@ taken_more [] i step lt is = absurd (omega arith)
 taken_more (s ∷ ss) zero step lt is = ap (λ (x : StepOf Op). meaning x ∷ []) (sym is)
 taken_more (s ∷ ss) (suc i) step lt is = ap (λ (l : List (Step Op)). meaning s ∷ l) (taken_more ss i step (omega arith) is)
 
-joined_append : (lines : List (List ℕ)) (line : List ℕ) → joined_lines (lines ++ line ∷ []) ≡ joined_lines lines ++ line ++ 10 ∷ []
-joined_append [] line = refl
-joined_append (l ∷ ls) line =
-    ap (λ (more : List ℕ). l ++ 10 ∷ more) (joined_append ls line)
-    ∙ sym (append_assoc l (10 ∷ joined_lines ls ++ line) (10 ∷ []))
-    ∙ ap (λ (more : List ℕ). more ++ 10 ∷ []) (sym (append_assoc l (10 ∷ joined_lines ls) line))
+joined_both : (lines more : List (List ℕ)) → joined_lines (lines ++ more) ≡ joined_lines lines ++ joined_lines more
+joined_both [] more = refl
+joined_both (l ∷ ls) more = ap (λ (text : List ℕ). l ++ 10 ∷ text) (joined_both ls more) ∙ sym (append_assoc l (10 ∷ joined_lines ls) (joined_lines more))
 
-text_append : (catalog : Objects) (start : Option Start) (steps : List (Step Op)) (step : Step Op) → run_text catalog start (steps ++ step ∷ []) ≡ run_text catalog start steps ++ step_bytes catalog step ++ 10 ∷ []
-text_append catalog start steps step =
-    ap (λ (ls : List (List ℕ)). joined_lines (printed_header catalog start ∷ ls)) (map-append (step_bytes catalog) steps (step ∷ []))
-    ∙ joined_append (run_lines catalog start steps) (step_bytes catalog step)
+pub text_behind : (catalog : Objects) (start : Option Start) (before steps : List (Step Op)) → run_text catalog start (before ++ steps) ≡ run_text catalog start before ++ joined_lines (map (step_bytes catalog) steps)
+text_behind catalog start before steps =
+    ap (λ (ls : List (List ℕ)). joined_lines (printed_header catalog start ∷ ls)) (map-append (step_bytes catalog) before steps)
+    ∙ joined_both (run_lines catalog start before) (map (step_bytes catalog) steps)
 
-pub one_more : (catalog : Objects) (start : Option Start) (before : List (Step Op)) (steps : List (StepOf Op)) (i : ℕ) (step : StepOf Op) (text longer : List ℕ)
-    → text ≡ run_text catalog start (before ++ map meaning (take i steps)) → longer ≡ text ++ step_bytes catalog (meaning step) ++ 10 ∷ [] → i < length steps → step ≡ get_or steps i step
-    → longer ≡ run_text catalog start (before ++ map meaning (take (i + 1) steps))
-one_more catalog start before steps i step text longer so_far next lt is =
-    let end : List ℕ → List ℕ = λ l. l ++ step_bytes catalog (meaning step) ++ 10 ∷ [] in
-    let behind : List (Step Op) → List ℕ = λ l. run_text catalog start (before ++ l) in
-    next ∙ ap end so_far ∙ sym (text_append catalog start (before ++ map meaning (take i steps)) (meaning step))
-    ∙ ap (run_text catalog start) (append_assoc before (map meaning (take i steps)) (meaning step ∷ []))
-    ∙ ap behind (sym (taken_more steps i step lt is)) ∙ ap (λ (n : ℕ). behind (map meaning (take n steps))) (sym (add-one i))
+abbrev lines_of : Objects → List (Step Op) → List ℕ
+lines_of catalog steps = joined_lines (map (step_bytes catalog) steps)
 
-pub none_more : (catalog : Objects) (start : Option Start) (before : List (Step Op)) (text : List ℕ) → text ≡ run_text catalog start before → text ≡ run_text catalog start (before ++ [])
-none_more catalog start before text is = is ∙ ap (run_text catalog start) (sym (append-nil before))
+lines_behind : (catalog : Objects) (steps : List (Step Op)) (step : Step Op) → lines_of catalog (steps ++ step ∷ []) ≡ lines_of catalog steps ++ (step_bytes catalog step ++ 10 ∷ [])
+lines_behind catalog steps step = ap joined_lines (map-append (step_bytes catalog) steps (step ∷ [])) ∙ joined_both (map (step_bytes catalog) steps) (step_bytes catalog step ∷ [])
+
+pub one_more : (catalog : Objects) (steps : List (StepOf Op)) (i : ℕ) (step : StepOf Op) (old text longer : List ℕ)
+    → text ≡ old ++ lines_of catalog (map meaning (take i steps)) → longer ≡ text ++ step_bytes catalog (meaning step) ++ 10 ∷ [] → i < length steps → step ≡ get_or steps i step
+    → longer ≡ old ++ lines_of catalog (map meaning (take (i + 1) steps))
+one_more catalog steps i step old text longer so_far next lt is =
+    let bytes : List ℕ = step_bytes catalog (meaning step) in
+    let told : List ℕ = lines_of catalog (map meaning (take i steps)) in
+    next ∙ append_assoc text bytes (10 ∷ []) ∙ ap (λ (l : List ℕ). l ++ (bytes ++ 10 ∷ [])) so_far ∙ append_assoc old told (bytes ++ 10 ∷ [])
+    ∙ ap (λ (l : List ℕ). old ++ l) (sym (lines_behind catalog (map meaning (take i steps)) (meaning step)))
+    ∙ ap (λ (l : List (Step Op)). old ++ lines_of catalog l) (sym (taken_more steps i step lt is))
+    ∙ ap (λ (n : ℕ). old ++ lines_of catalog (map meaning (take n steps))) (sym (add-one i))
 
 -- ---- bytes that are no control bytes can be a line
 inner : (b : ℕ) → 32 ≤ b → not (b == 10) ≡ true

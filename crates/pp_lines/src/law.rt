@@ -1,10 +1,12 @@
 //! What is read back from the lines that are written. Each law is a fact of the definitions, and
 //! does nothing.
-ghost use Rattle.std.specs.Prelude.{◌≡◌, ◌≤◌, ◌<◌, ℕ, List, length, Option, None, Ok, false};
+ghost use Rattle.std.specs.Prelude.{◌≡◌, ◌≤◌, ◌<◌, ◌++◌, ℕ, List, length, map};
+ghost use Rattle.std.specs.Prelude.{Option, None, Ok, false};
 ghost use Rattle.pp_core.specs.Catalogs.{Objects};
 ghost use Rattle.pp_core.specs.Steps.{Step};
 ghost use Rattle.pp_core.specs.declared.call.Style.TheVariants.{Rules};
 ghost use Rattle.pp_front.specs.Records.{RunRecord, Plain};
+ghost use Rattle.pp_io.specs.Joined.{joined_lines};
 ghost use Rattle.pp_io.specs.Lines.{blank, numbered_from};
 ghost use Rattle.pp_io.specs.Overruns.{overrun, scanned_lines};
 ghost use Rattle.pp_json.specs.Headers.{header_of};
@@ -60,7 +62,8 @@ pub fn length_law()
 
 /// Where a run can be stated, its text is an input of which each line is examined: the line of its
 /// header, numbered 1, and the line of its step i, numbered i + 1. None of these lines is blank,
-/// and the input passes no limit and has less than 200,000,000 bytes.
+/// and the input passes no limit and has less than 200,000,000 bytes. The text of a run with steps
+/// behind it is that of the run with their lines behind it.
 pub fn run_text_law()
     ensures lines { (catalog : Objects) (start : Option Start) (steps : List (Step Op))
         → IsStatableRun catalog start steps → scanned_lines (run_text catalog start steps)
@@ -71,4 +74,7 @@ pub fn run_text_law()
         → IsStatableRun catalog start steps → overrun (run_text catalog start steps) ≡ None }
     ensures short { (catalog : Objects) (start : Option Start) (steps : List (Step Op))
         → IsStatableRun catalog start steps → length (run_text catalog start steps) < 200_000_000 }
+    ensures more { (catalog : Objects) (start : Option Start) (before steps : List (Step Op))
+        → run_text catalog start (before ++ steps)
+        ≡ run_text catalog start before ++ joined_lines (map (step_bytes catalog) steps) }
 {}

@@ -1,7 +1,7 @@
 //! The text of a run.
-ghost use Rattle.std.specs.Prelude.{◌≡◌, List, [], ◌∷◌, ◌++◌, map, Option, OnOk, IfOk};
-ghost use Rattle.pp_core.specs.Steps.{Step as StepMeaning, meaning};
-ghost use Rattle.pp_json.specs.declared.start.Start.{Start};
+ghost use Rattle.std.specs.Prelude.{◌≡◌, [], ◌∷◌, ◌++◌, map, OnOk, IfOk};
+ghost use Rattle.pp_core.specs.Steps.{meaning};
+ghost use Rattle.pp_io.specs.Joined.{joined_lines};
 ghost use Rattle.pp_lines.specs.RunTexts.{printed_header, run_text};
 ghost use Rattle.pp_lines.specs.Statable.{IsWritable, IsWritableStart};
 ghost use Rattle.pp_lines.specs.Steps.{step_bytes};
@@ -62,7 +62,7 @@ pub fn header_text(
 }
 
 /// Writes further steps behind the text of a run: a line for each, with a byte 10 behind it. The
-/// only error is that memory was refused.
+/// only error is that memory was refused, and the text is then of no more use.
 pub fn add_steps(
     alloc: Global,
     catalog: &Catalog,
@@ -70,9 +70,8 @@ pub fn add_steps(
     text: &mut Text,
 ) -> Result<(), OutOfMemory>
     requires { Each (IsWritable catalog.now) (map meaning steps.now) }
-    ensures { OnOk result ((start : Option Start) (before : List (StepMeaning Op)) →
-        text.old ≡ run_text catalog.now start before →
-        text.new ≡ run_text catalog.now start (before ++ map meaning steps.now)) }
+    ensures { OnOk result (text.new
+        ≡ text.old ++ joined_lines (map (step_bytes catalog.now) (map meaning steps.now))) }
 {
     for step in steps {
         add_step(alloc, catalog, step, text)?;

@@ -1,4 +1,4 @@
-use Rattle.pp_lines.proofs.RunTexts.{text_scanned, all_show, text_passes, text_short}
+use Rattle.pp_lines.proofs.RunTexts.{all_show, text_behind, text_passes, text_scanned, text_short}
 use Rattle.pp_lines.proofs.law.run_text_law.Goals as goal
 
 pub returns-clause-lines : goal.returns-clause-lines
@@ -12,3 +12,6 @@ returns-clause-limits c = text_passes
 
 pub returns-clause-short : goal.returns-clause-short
 returns-clause-short c = text_short
+
+pub returns-clause-more : goal.returns-clause-more
+returns-clause-more c = text_behind

@@ -1,10 +1,8 @@
-use Rattle.std.proofs.Common.{◌≡◌, List, ◌++◌, map, take, Option}
-use Rattle.pp_core.specs.Steps.{Step, meaning}
-use Rattle.pp_json.specs.declared.start.Start.{Start}
-use Rattle.pp_lines.specs.RunTexts.{run_text}
-use Rattle.pp_object.specs.declared.act.Op.{Op}
+use Rattle.std.proofs.Common.{◌≡◌, ◌++◌, map, take}
+use Rattle.pp_core.specs.Steps.{meaning}
+use Rattle.pp_io.specs.Joined.{joined_lines}
+use Rattle.pp_lines.specs.Steps.{step_bytes}
 use Rattle.pp_lines.proofs.run.add_steps.Given as goal
 
 abbrev pub invariant-loop-step : goal.invariant-loop-step
-invariant-loop-step l = (start : Option Start) (before : List (Step Op)) → l.fn.text ≡ run_text l.catalog start before
-    → l.text ≡ run_text l.catalog start (before ++ map meaning (take l.step-index l.steps))
+invariant-loop-step l = l.text ≡ l.fn.text ++ joined_lines (map (step_bytes l.catalog) (map meaning (take l.step-index l.steps)))
