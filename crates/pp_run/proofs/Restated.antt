@@ -2,6 +2,7 @@
 use Rattle.std.specs.Prelude.{◌≡◌, ◌≤◌, ◌+◌, ℕ, suc, ◌==◌, ◌&&◌, Bool, true, false, cond, List, []}
 use Rattle.std.specs.Prelude.{◌∷◌, ◌++◌, length, map, fold, Option, None, Some, Ok}
 use Rattle.std.specs.Option.{option_or}
+use Rattle.std.specs.Io.KnownBytes.{Appends}
 use Rattle.std.proofs.Common.{refl, sym, ap, subst, ◌∙◌, arith, append_assoc}
 use Rattle.std.proofs.lemmas.Bool.Decides.{nat_tests}
 use Rattle.std.proofs.lemmas.List.{append-nil, length-map}
@@ -11,8 +12,8 @@ use Rattle.pp_core.specs.Steps.{Step}
 use Rattle.pp_core.specs.declared.limits.TheConstants.{MOST_LINES, MOST_TRANSACTIONS}
 use Rattle.pp_core.specs.declared.status.Status.{Status}
 use Rattle.pp_core.specs.declared.status.Status.TheVariants as statuses
-use Rattle.pp_front.specs.Inputs.{Faulty, IsReport, IsReportBehind, IsReportOf, IsRunReport}
-use Rattle.pp_front.specs.Inputs.{OverrunsAt}
+use Rattle.pp_front.specs.Inputs.{Accepts, Faulty, IsReport, IsReportBehind, IsReportOf, IsRunReport}
+use Rattle.pp_front.specs.Inputs.{OverrunsAt, StartRejected, StepRejected}
 use Rattle.pp_front.specs.Records.{RunRecord, Plain}
 use Rattle.pp_front.specs.Reprints.{relined}
 use Rattle.pp_front.specs.Runs.{HasTooManySteps, IsRun, Lined, LinedSteps, Records, bare}
@@ -44,8 +45,8 @@ use Rattle.pp_run.specs.Accepted.{HasRun}
 use Rattle.pp_run.specs.Certified.{IsDecided}
 use Rattle.pp_run.specs.Inputs.{IsFaultOf, limit_fault, no_header, or_fault, scan}
 use Rattle.pp_run.specs.Objects.{object_of, setting_of, start_of, translation_of}
-use Rattle.pp_run.specs.Outputs.{IsExpanded, IsExpansionOf, IsTold, RunReport}
-use Rattle.pp_run.specs.Restated.{IsInputAgain, IsRestated, IsRunOf, restated_scan, restated_text}
+use Rattle.pp_run.specs.Outputs.{IsCertified, IsExpanded, IsExpansionOf, IsRunPrinted, IsTold, RunReport}
+use Rattle.pp_run.specs.Restated.{IsRestated, IsRunOf, PrintsAgain, restated_scan, restated_text}
 use Rattle.pp_run.specs.Restated.{rules_header_of}
 use Rattle.pp_run.specs.Scans.{InputScan, begins, is_begin_record, nothing, scan_line, scan_lines}
 use Rattle.pp_run.proofs.Begun.{begun_run, few_run, how_many, how_many_are}
@@ -216,6 +217,20 @@ module _ (bytes : List ℕ) (header : Lined Header) (run : LinedSteps Op) (h : I
       let of_run = subst (λ (o : Option (Lined Header)). IsRunReport setting_of o (scan bytes).records r) h.headed here in
       (None, sound_again, run_report r of_run)
 
+  told_again : (r : RunReport) (told : List ℕ) → IsTold (Some header) r statuses.Accepted told → IsTold (Some (rules_header_of header.what)) (relined 1 r) statuses.Accepted told
+  told_again (Faulty line cause) told t = absurd (let e : statuses.Accepted ≡ statuses.InputFault = t.0 in cc)
+  told_again (Accepts count committed final) told t = t
+  told_again (StartRejected line criterion) told t = absurd (let e : statuses.Accepted ≡ statuses.Rejected = t.0 in cc)
+  told_again (StepRejected number line criterion before step) told t = absurd (let e : statuses.Accepted ≡ statuses.Rejected = t.0 in cc)
+
+  accepted_again : (told : List ℕ) → IsCertified bytes statuses.Accepted told → IsCertified (restated_text header.what run) statuses.Accepted told
+  accepted_again told (r, is, t) =
+      let here : IsTold (Some header) r statuses.Accepted told = subst (λ (o : Option (Lined Header)). IsTold o r statuses.Accepted told) h.headed t in (
+        relined 1 r,
+        subst (λ (sc : InputScan). IsReport setting_of TooManySteps sc (relined 1 r)) (sym scanned_again) (report_again r is),
+        subst (λ (sc : InputScan). IsTold sc.header (relined 1 r) statuses.Accepted told) (sym scanned_again) (told_again r told here),
+      )
+
   pub is_restated : IsRestated bytes header.what run
   is_restated =
       let catalog = header.what.catalog in
@@ -226,6 +241,7 @@ module _ (bytes : List ℕ) (header : Lined Header) (run : LinedSteps Op) (h : I
         again = run_again;
         steps = bare_numbered 1 (bare run);
         report = λ r is. subst (λ (sc : InputScan). IsReport setting_of TooManySteps sc (relined 1 r)) (sym scanned_again) (report_again r is);
+        accepted = accepted_again;
         within = text_passes catalog start (bare run) statable;
         lines = few_lines catalog start (bare run) statable;
         short = text_short catalog start (bare run) statable;
@@ -243,19 +259,22 @@ sound_behind None sc report status printed decided is r t = is
 sound_behind (Some f) sc report status printed decided is r t =
     absurd (subst IsDecided (told_faulty sc.header f.0 f.1 status printed (subst (λ (w : RunReport). IsTold sc.header w status printed) r t)) decided)
 
-printed_run : (sc : InputScan) (status : Status) (report printed : List ℕ) → IsDecided status → IsExpansionOf sc status report printed → HasRun sc
-printed_run sc statuses.Accepted report printed decided is = is.0
-printed_run sc statuses.Rejected report printed decided is = is.0
+printed_run : (sc : InputScan) (status : Status) (report printed : List ℕ) → IsDecided status → IsExpansionOf sc status report printed → IsRunPrinted sc printed
+printed_run sc statuses.Accepted report printed decided is = is
+printed_run sc statuses.Rejected report printed decided is = is
 printed_run sc statuses.InputFault report printed decided is = absurd decided
 printed_run sc statuses.BadWords report printed decided is = absurd decided
 printed_run sc statuses.ReadFault report printed decided is = absurd decided
 printed_run sc statuses.WriteFault report printed decided is = absurd decided
 printed_run sc statuses.OutOfMemory report printed decided is = absurd decided
 
-pub is_input_again : (bytes : List ℕ) (status : Status) (printed : List ℕ) → IsDecided status → IsExpanded bytes status printed → IsInputAgain bytes
-is_input_again bytes status printed decided (report, certified, expanded) =
+pub prints_again : (bytes : List ℕ) (status : Status) (printed : List ℕ) (old new : Option (List ℕ)) → IsDecided status → IsExpanded bytes status printed → Appends old new printed → PrintsAgain bytes old new
+prints_again bytes status printed old new decided (report, certified, expanded) appends =
     let sc : InputScan = scan bytes in
-    let sound : IsFaultOf sc None = sound_behind certified.1.0 sc certified.0 status report decided certified.1.1 certified.1.2 certified.2 in (
-      printed_run sc status report printed decided expanded,
-      λ r. is_restated bytes r.header r.run (record { sound = sound; headed = r.first_line; is = r.steps }),
+    let sound : IsFaultOf sc None = sound_behind certified.1.0 sc certified.0 status report decided certified.1.1 certified.1.2 certified.2 in
+    let p : IsRunPrinted sc printed = printed_run sc status report printed decided expanded in
+    let r : HasRun sc = p.0 in (
+      r,
+      subst (Appends old new) p.1 appends,
+      is_restated bytes r.header r.run (record { sound = sound; headed = r.first_line; is = r.steps }),
     )

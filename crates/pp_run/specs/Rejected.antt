@@ -36,8 +36,7 @@ IsStepEvident kinds before step criterion =
     × HoldsAtNumber objects (facts objects kinds before step) criterion
     (evidence objects kinds before step criterion)
 
--- The fact of a criterion of a start is one of what is false: where it holds of any detail, the
--- criterion is false.
+-- Where the fact of a criterion of a start holds of any detail, the criterion is false.
 abbrev pub StartFactRefutes : List Kind → Option (Start Op) → ℕ → Type 0
 StartFactRefutes kinds None criterion = ⊥
 StartFactRefutes kinds (Some z) criterion = (detail : Detail Op) →

@@ -1,6 +1,8 @@
 -- Meaning: the steps of an input's run, written down, are an input of style rules.
-use Rattle.std.specs.Prelude.{◌≡◌, ◌≤◌, ◌<◌, List, length, ℕ, None, Some}
+use Rattle.std.specs.Prelude.{◌≡◌, ◌≤◌, ◌<◌, List, length, ℕ, Option, None, Some}
+use Rattle.std.specs.Io.KnownBytes.{Appends}
 use Rattle.pp_core.specs.declared.limits.TheConstants.{MOST_LINES}
+use Rattle.pp_core.specs.declared.status.Status.TheVariants as statuses
 use Rattle.pp_front.specs.Inputs.{IsReport}
 use Rattle.pp_front.specs.Reprints.{relined}
 use Rattle.pp_front.specs.Runs.{IsRun, Lined, LinedSteps, bare}
@@ -16,7 +18,7 @@ use Rattle.pp_report.specs.declared.cause.Cause.TheVariants.{TooManySteps}
 use Rattle.pp_run.specs.Accepted.{HasRun}
 use Rattle.pp_run.specs.Inputs.{IsFaultOf, scan}
 use Rattle.pp_run.specs.Objects.{object_of, setting_of, start_of, translation_of}
-use Rattle.pp_run.specs.Outputs.{RunReport}
+use Rattle.pp_run.specs.Outputs.{IsCertified, RunReport}
 use Rattle.pp_run.specs.Scans.{InputScan}
 
 -- The input has no fault, this is its header, and this is the run of its records.
@@ -44,8 +46,9 @@ restated_scan header run =
 abbrev pub restated_text : Header → LinedSteps Op → List ℕ
 restated_text header run = run_text header.catalog header.start (bare run)
 
--- The run can be stated. Its text is an input within all limits, whose records are the steps of the run. So it
--- has the same steps as its run, and the same report but for the lines.
+-- The run can be stated. Its text is an input within all limits, whose records are the steps of the
+-- run. So it has the same steps as its run, and the same report but for the lines; where it is
+-- accepted, the same text is printed of it.
 pub record IsRestated (bytes : List ℕ) (header : Header) (run : LinedSteps Op) : Type 0 where
   pub statable : IsStatableRun header.catalog header.start (bare run)
   pub scanned : scan (restated_text header run) ≡ restated_scan header run
@@ -53,11 +56,13 @@ pub record IsRestated (bytes : List ℕ) (header : Header) (run : LinedSteps Op)
   pub steps : bare (restated run) ≡ bare run
   pub report : (r : RunReport) → IsReport setting_of TooManySteps (scan bytes) r →
       IsReport setting_of TooManySteps (scan (restated_text header run)) (relined 1 r)
+  pub accepted : (text : List ℕ) → IsCertified bytes statuses.Accepted text →
+      IsCertified (restated_text header run) statuses.Accepted text
   pub within : overrun (restated_text header run) ≡ None
   pub lines : length (numbered_lines (restated_text header run)) ≤ MOST_LINES
   pub short : length (restated_text header run) < 200_000_000
 
--- There is a run, and the text of every run of these records (there is one at most) is an input again.
-abbrev pub IsInputAgain : List ℕ → Type 0
-IsInputAgain bytes = HasRun (scan bytes)
-    × ((r : HasRun (scan bytes)) → IsRestated bytes r.header.what r.run)
+-- What was printed is the text of the run of the input, and that is an input again.
+abbrev pub PrintsAgain : List ℕ → Option (List ℕ) → Option (List ℕ) → Type 0
+PrintsAgain bytes old new = (r : HasRun (scan bytes))
+    × Appends old new (restated_text r.header.what r.run) × IsRestated bytes r.header.what r.run

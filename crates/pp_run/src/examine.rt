@@ -68,7 +68,7 @@ pub fn examine<S: Source, L: Ledger>(
 }
 
 /// Examines the input that a source gives, as `examine` does, and answers the text of its run too,
-/// where it has no fault. It holds no step longer than its line is written.
+/// where it has no fault.
 pub fn examine_text<S: Source, L: Ledger>(
     alloc: Global,
     source: &mut S,

@@ -24,7 +24,7 @@ pub fn expand<S: Source, L: Ledger>(
     source: &mut S,
     ticks: &mut Ticks<L>,
 ) -> Result<(Status, Text), Failure>
-    ensures report { IfOk result (λ r. (bytes : List ℕ) → S.left source.old ≡ Some bytes →
+    ensures output { IfOk result (λ r. (bytes : List ℕ) → S.left source.old ≡ Some bytes →
         IsExpanded bytes r.0 r.1) }
     ensures status { IfOk result (λ r. IsDecided r.0 ⊎ (r.0 ≡ statuses.InputFault)) }
     ensures end { IfOk result (λ r. IsDecided r.0 → IsAtEnd (S.left source.new)) }

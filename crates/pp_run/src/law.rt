@@ -5,20 +5,38 @@ ghost use Rattle.pp_core.specs.declared.limits.TheConstants.{MOST_BODY_NODES, MO
 ghost use Rattle.pp_core.specs.declared.limits.TheConstants.{MOST_DEPTH, MOST_LINES, MOST_OBJECTS};
 ghost use Rattle.pp_core.specs.declared.limits.TheConstants.{MOST_START, MOST_STEPS};
 ghost use Rattle.pp_core.specs.declared.limits.TheConstants.{MOST_TRANSACTIONS};
-ghost use Rattle.pp_front.specs.Laws.{OneRunLaw};
+ghost use Rattle.pp_front.specs.Effects.{BackLaw, PullsLaw, PushallLaw};
+ghost use Rattle.pp_front.specs.Inputs.{InputLaw};
+ghost use Rattle.pp_front.specs.Laws.{ExtendsLaw, OneRunLaw};
 ghost use Rattle.pp_front.specs.PlainInputs.{AreStyled, PlainInputLaw};
+ghost use Rattle.pp_front.specs.Styles.{RestatedLaw, RulesLaw};
 ghost use Rattle.pp_json.specs.declared.header.Header.{Header as HeaderOf};
 ghost use Rattle.pp_report.specs.declared.cause.Cause.TheVariants.{TooManySteps};
 ghost use Rattle.pp_run.specs.Objects.{object_of, setting_of, translation_of};
 
-/// The records behind a header have one run at most. Records that are steps, as all of style rules
-/// are, stand for themselves: of at most 200,000 of them the fault is that of the scan, and else
-/// their report is that of the verdict of these steps. It is a law of the definitions, and does
-/// nothing.
+/// The records behind a header can not be without a run, and have one at most. Records that are
+/// steps, as all of style rules are, stand for themselves: of at most 200,000 of them the fault is
+/// that of the scan, and else their report is that of the verdict of these steps. It is a law of
+/// the definitions, and does nothing.
 pub fn records_are_steps()
     ensures one_run { (header : HeaderOf) → OneRunLaw (object_of header) (translation_of header) }
+    ensures steps { (header : HeaderOf) → RulesLaw (object_of header) }
     ensures styled { AreStyled setting_of }
     ensures plain { PlainInputLaw setting_of TooManySteps }
+{}
+
+/// Records behind others only extend their run, and what is decided of an input stays. The steps of
+/// a run restated as records have the same run and verdict. And what taking back, pulls and pushing
+/// all leave in a local log. It is a law of the definitions, and does nothing.
+pub fn records_extend()
+    ensures extends { (header : HeaderOf) →
+        ExtendsLaw (object_of header) (translation_of header) }
+    ensures restated { (header : HeaderOf) →
+        RestatedLaw (object_of header) (translation_of header) }
+    ensures input { InputLaw setting_of TooManySteps }
+    ensures back { (header : HeaderOf) → BackLaw (object_of header) }
+    ensures pulls { (header : HeaderOf) → PullsLaw (object_of header) }
+    ensures pushall { (header : HeaderOf) → PushallLaw (object_of header) }
 {}
 
 /// The limits of an input, by their numbers. It is a law of the definitions, which name them, and

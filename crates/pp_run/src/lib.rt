@@ -16,5 +16,5 @@ mod taker;
 mod words;
 mod write;
 
-pub use law::{limits_law, records_are_steps};
+pub use law::{limits_law, records_are_steps, records_extend};
 pub use program::run;

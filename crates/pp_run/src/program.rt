@@ -12,7 +12,7 @@ ghost use Rattle.pp_run.specs.Outputs.{IsOutput, Prints, PrintsPrefix, PrintsPre
 ghost use Rattle.pp_run.specs.Outputs.{PrintsOnly, WhereTold};
 ghost use Rattle.pp_run.specs.Accepted.{IsAloneAccepted, IsSimulated};
 ghost use Rattle.pp_run.specs.Rejected.{IsEvident};
-ghost use Rattle.pp_run.specs.Restated.{IsInputAgain};
+ghost use Rattle.pp_run.specs.Restated.{PrintsAgain};
 ghost use Rattle.pp_run.specs.Words.{Examines, command_of};
 
 use crate::certify::certify;
@@ -122,12 +122,14 @@ pub fn run<S: Source, K: Sink, L: Ledger>(
     ensures alone { command_of words.now ≡ Some Certify → result ≡ statuses.Accepted →
         WhereTold (S.left source.old) λ bytes. IsAloneAccepted (scan bytes) }
 
-    // What is printed of a run that is expanded is an input again, without a fault and within all
-    // limits: its records are the steps of the run, and its report is the same but for the lines.
+    // What is printed of a run that is expanded is the text of its steps, which is an input again,
+    // without a fault and within all limits: its records are the steps, its report is the same but
+    // for the lines, and of an accepted run `certify` prints the same.
     ensures again { command_of words.now ≡ Some Expand → IsDecided result →
-        WhereTold (S.left source.old) λ bytes. IsInputAgain bytes }
+        WhereTold (S.left source.old) λ bytes.
+        PrintsAgain bytes (K.held sink.old) (K.held sink.new) }
 
-    // Of a run that is rejected, at its start or at a step, the fact of the criterion that is told
+    // Of a run that is rejected, at its start or at a step, the fact of the criterion of its report
     // holds of its evidence; and where it holds of any detail that tells something, the criterion
     // is false.
     ensures shown { Examines (command_of words.now) → result ≡ statuses.Rejected →
@@ -142,7 +144,7 @@ pub fn run<S: Source, K: Sink, L: Ledger>(
         WhereTold (S.left source.old) λ bytes.
         CostsAtLeast result (scan bytes) ticks.old ticks.new }
 
-    // A run that is expanded costs the same, but for the serial run, which is not made.
+    // The same bounds hold of a run that is expanded, without the serial run.
     ensures steps_most { command_of words.now ≡ Some Expand → WhereTold (S.left source.old) λ bytes.
         StepsCostAtMost (scan bytes) ticks.old ticks.new }
     ensures steps_least { command_of words.now ≡ Some Expand → IsDecided result →

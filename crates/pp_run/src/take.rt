@@ -60,7 +60,15 @@ fn is_begin(step: &Step<Op>) -> bool
 {
     match step {
         Step::Begin { .. } => true,
-        _ => false,
+        Step::App { .. }
+        | Step::Unapp { .. }
+        | Step::Push { .. }
+        | Step::Unpush { .. }
+        | Step::Pull { .. }
+        | Step::Unpull { .. }
+        | Step::Cmt { .. }
+        | Step::Quit { .. }
+        | Step::Note { .. } => false,
     }
 }
 
@@ -70,7 +78,17 @@ fn is_begin_record(recorded: &RunRecord<Op>) -> bool
 {
     match recorded {
         RunRecord::Plain(step) => is_begin(step),
-        _ => false,
+        RunRecord::Op { .. }
+        | RunRecord::Commit { .. }
+        | RunRecord::Abort { .. }
+        | RunRecord::Retry { .. }
+        | RunRecord::Refresh { .. }
+        | RunRecord::XBegin { .. }
+        | RunRecord::XEnd { .. }
+        | RunRecord::XAbort { .. }
+        | RunRecord::Depend { .. }
+        | RunRecord::Publish { .. }
+        | RunRecord::DropSource { .. } => false,
     }
 }
 
@@ -327,8 +345,8 @@ fn pass_record(
     Ok(Progress::Rejected(with_record(tally, &recorded), rejection))
 }
 
-/// Takes the next line of a run. It answers all steps of its record too: none of another line, and
-/// none behind a rejection.
+/// Takes the next line of a run. It answers all steps of its record too, also those behind one that
+/// fails; a blank line, the header and a record behind a rejection have none.
 pub fn take_line<L: Ledger>(
     alloc: Global,
     progress: Progress,

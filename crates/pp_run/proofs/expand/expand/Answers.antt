@@ -9,13 +9,13 @@ use Rattle.pp_run.proofs.Expanding.{accepted_expanded, fault_expanded, rejected_
 use Rattle.pp_run.proofs.Takers.{taken_all}
 use Rattle.pp_run.proofs.expand.expand.Goals as goal
 
-pub returns-in_ok-text-in-Fault-clause-report : goal.returns-in_ok-text-in-Fault-clause-report
-returns-in_ok-text-in-Fault-clause-report g c = λ bytes is.
+pub returns-in_ok-text-in-Fault-clause-output : goal.returns-in_ok-text-in-Fault-clause-output
+returns-in_ok-text-in-Fault-clause-output g c = λ bytes is.
     let found = subst (λ f. FindsText (g.S.Source.left c.args.source.now) (g.S.Source.left c.examine_text.new.source) f c.in_ok-finding.text) c.in-Fault.is c.in_ok-finding.ensures.found in
     fault_expanded bytes c.in-Fault.line c.in-Fault.cause c.in_ok-text-in-Fault.text (found bytes is) c.in_ok-text-in-Fault.ensures
 
-pub returns-in-Accepted-clause-report : goal.returns-in-Accepted-clause-report
-returns-in-Accepted-clause-report g c = λ bytes is.
+pub returns-in-Accepted-clause-output : goal.returns-in-Accepted-clause-output
+returns-in-Accepted-clause-output g c = λ bytes is.
     let old = g.S.Source.left c.args.source.now in
     let new = g.S.Source.left c.examine_text.new.source in
     let text = c.in_ok-finding.text in
@@ -23,8 +23,8 @@ returns-in-Accepted-clause-report g c = λ bytes is.
     subst (λ bs. IsExpanded bs statuses.Accepted text) (taken_all old new found.0 bytes found.1 found.2 is)
     (accepted_expanded found.0 c.in-Accepted._tally c.in-Accepted._machine text found.3.0 found.3.1)
 
-pub returns-in-Rejected-clause-report : goal.returns-in-Rejected-clause-report
-returns-in-Rejected-clause-report g c = λ bytes is.
+pub returns-in-Rejected-clause-output : goal.returns-in-Rejected-clause-output
+returns-in-Rejected-clause-output g c = λ bytes is.
     let old = g.S.Source.left c.args.source.now in
     let new = g.S.Source.left c.examine_text.new.source in
     let text = c.in_ok-finding.text in

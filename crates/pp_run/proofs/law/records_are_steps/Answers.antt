@@ -1,5 +1,6 @@
 use Rattle.std.proofs.Common.{refl}
 use Rattle.pp_front.proofs.Reporting.{plain_input_law}
+use Rattle.pp_front.proofs.Restating.{rules_law}
 use Rattle.pp_front.proofs.Whole.{one_run_law}
 use Rattle.pp_object.specs.Objects.{kinds_of, place_of}
 use Rattle.pp_run.specs.Objects.{object_of, translation_of}
@@ -13,3 +14,6 @@ returns-clause-styled c = λ header. (place_of, header.what.style, kinds_of head
 
 pub returns-clause-plain : goal.returns-clause-plain
 returns-clause-plain c = plain_input_law _ _
+
+pub returns-clause-steps : goal.returns-clause-steps
+returns-clause-steps c = λ header. rules_law (object_of header)

@@ -10,7 +10,7 @@ returns-in-Certify-clause-output g c =
 
 pub returns-in-Expand-clause-output : goal.returns-in-Expand-clause-output
 returns-in-Expand-clause-output g c =
-    IfOk-weaker c.expand.result _ _ (λ r report bytes is. subst (λ command. IsOutput (Some command) bytes r.0 r.1) (sym c.in-Expand.is) (report bytes is)) c.expand.ensures.report
+    IfOk-weaker c.expand.result _ _ (λ r report bytes is. subst (λ command. IsOutput (Some command) bytes r.0 r.1) (sym c.in-Expand.is) (report bytes is)) c.expand.ensures.output
 
 -- ---- what the counter shows
 

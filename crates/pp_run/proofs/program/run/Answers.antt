@@ -6,7 +6,7 @@ use Rattle.pp_run.specs.Writing.{AppendsPrefix}
 use Rattle.pp_run.specs.declared.words.Command.TheVariants.{Certify, Expand}
 use Rattle.pp_run.proofs.Concluding.{accepted_alone, accepted_simulated}
 use Rattle.pp_run.proofs.Expanding.{one_output}
-use Rattle.pp_run.proofs.Restated.{is_input_again}
+use Rattle.pp_run.proofs.Restated.{prints_again}
 use Rattle.pp_run.proofs.program.run.Goals as goal
 
 pub returns-in-Ok-send-clause-only : goal.returns-in-Ok-send-clause-only
@@ -31,7 +31,8 @@ pub returns-in-Ok-send-clause-again : goal.returns-in-Ok-send-clause-again
 returns-in-Ok-send-clause-again g c = λ expand decided bytes is.
     let same : c.in-Some.command ≡ Expand = cc in
     let told = subst (λ o. IsOutput (Some o) bytes c.in-Ok.report.0 c.in-Ok.report.1) same (c.in-Ok.ensures.output bytes is) in
-    is_input_again bytes c.in-Ok.report.0 c.in-Ok.report.1 decided told
+    prints_again bytes c.in-Ok.report.0 c.in-Ok.report.1 (g.K.Sink.held c.args.sink.now) (g.K.Sink.held c.send.new.sink) decided told
+    (subst (Appends (g.K.Sink.held c.args.sink.now) (g.K.Sink.held c.send.new.sink)) c.bytes.ensures c.in-Ok-send.ensures.ok)
 
 pub returns-in-Ok-send-clause-end : goal.returns-in-Ok-send-clause-end
 returns-in-Ok-send-clause-end g c = λ examines decided. c.in-Ok.ensures.end decided
