@@ -150,8 +150,30 @@ fn printed_steps_are_a_run_of_themselves(rt: HostRuntime) -> Result<(), Fail> {
     Ok(())
 }
 
+/// Asserts that the steps of a row have the verdict of its records, and where they are accepted the
+/// same report.
+fn assert_same_verdict(rt: &impl Abort, alloc: Global, row: &Row) -> Result<(), Fail> {
+    let answer = certified_bytes(alloc, input_of(alloc, row)?, false)?;
+    let again = certified_bytes(alloc, row.report.to_vec(alloc)?, false)?;
+    assert_eq!(rt; again.0, answer.0, "{}", row.what);
+    if answer.0 == Status::Accepted {
+        assert_eq!(rt; again.1.as_slice(), answer.1.as_slice(), "{}", row.what);
+    }
+    Ok(())
+}
+
 #[test]
 fn printed_steps_have_the_verdict_of_their_run(rt: HostRuntime) -> Result<(), Fail> {
+    for row in &EXPANDED {
+        if row.status != Status::InputFault {
+            assert_same_verdict(&rt, rt.alloc(), row)?;
+        }
+    }
+    Ok(())
+}
+
+#[test]
+fn a_printed_step_is_rejected_on_its_own_line(rt: HostRuntime) -> Result<(), Fail> {
     let alloc = rt.alloc();
     let (_status, printed) = expanded_bytes(alloc, OLD_READ.to_vec(alloc)?, false)?;
     let answer = certified_bytes(alloc, printed, false)?;
@@ -218,23 +240,30 @@ fn other_words_read_and_write_nothing(rt: HostRuntime) -> Result<(), Fail> {
 #[test]
 fn a_failed_read_writes_nothing(rt: HostRuntime) -> Result<(), Fail> {
     let alloc = rt.alloc();
-    let input = added(alloc)?;
-    let pieces = vec![in alloc; 1usize; input.len()]?;
-    let source = MemorySource::new(input, pieces, vec![in alloc; 2u64]?);
-    let sink = MemorySink::new(alloc, 8, Vec::new(alloc));
-    let (status, report) = answered(alloc, b"certify", source, sink)?;
-    assert_eq!(rt; status, Status::ReadFault);
-    assert_eq!(rt; report.len(), 0);
+    for command in [b"certify".as_slice(), b"expand".as_slice()] {
+        let input = added(alloc)?;
+        let pieces = vec![in alloc; 1usize; input.len()]?;
+        let source = MemorySource::new(input, pieces, vec![in alloc; 2u64]?);
+        let sink = MemorySink::new(alloc, 8, Vec::new(alloc));
+        let (status, report) = answered(alloc, command, source, sink)?;
+        assert_eq!(rt; status, Status::ReadFault);
+        assert_eq!(rt; report.len(), 0);
+    }
     Ok(())
 }
 
 #[test]
 fn a_failed_write_leaves_a_prefix(rt: HostRuntime) -> Result<(), Fail> {
     let alloc = rt.alloc();
-    let source = MemorySource::new(added(alloc)?, Vec::new(alloc), Vec::new(alloc));
-    let sink = MemorySink::new(alloc, 8, vec![in alloc; 1u64]?);
-    let (status, report) = answered(alloc, b"certify", source, sink)?;
-    assert_eq!(rt; status, Status::WriteFault);
-    assert_eq!(rt; report.as_slice(), b"accepted".as_slice());
+    for (command, prefix) in [
+        (b"certify".as_slice(), b"accepted".as_slice()),
+        (b"expand".as_slice(), b"{\"object".as_slice()),
+    ] {
+        let source = MemorySource::new(added(alloc)?, Vec::new(alloc), Vec::new(alloc));
+        let sink = MemorySink::new(alloc, 8, vec![in alloc; 1u64]?);
+        let (status, report) = answered(alloc, command, source, sink)?;
+        assert_eq!(rt; status, Status::WriteFault);
+        assert_eq!(rt; report.as_slice(), prefix);
+    }
     Ok(())
 }

@@ -13,7 +13,7 @@ pub(crate) const OLD_READ: &[u8] =
 {"step":"commit","tx":"t1"}
 "#;
 
-pub(crate) const EXPANDED: [Row; 12] = [
+pub(crate) const EXPANDED: [Row; 14] = [
     Row {
         what: "a read of what was overwritten since",
         header: b"",
@@ -237,6 +237,68 @@ pub(crate) const EXPANDED: [Row; 12] = [
 {"id":3,"step":"push","tx":"t2"}
 {"id":4,"step":"push","tx":"t2"}
 {"step":"cmt","tx":"t2"}
+"#,
+    },
+    Row {
+        what: "a section of hardware taken back, and one that ends",
+        header: b"",
+        records: br#"{"run":1,"style":"hardware","objects":[{"name":"m","kind":"mem"},{"name":"s","kind":"set"}]}
+{"step":"begin","tx":"t1","thread":"p1"}
+{"step":"op","tx":"t1","id":1,"on":"s","call":"add","args":[3],"result":true}
+{"step":"xbegin","tx":"t1"}
+{"step":"op","tx":"t1","id":2,"on":"m","call":"write","args":[0,1],"result":null}
+{"step":"xabort","tx":"t1"}
+{"step":"xbegin","tx":"t1"}
+{"step":"op","tx":"t1","id":3,"on":"m","call":"read","args":[0],"result":0}
+{"step":"op","tx":"t1","id":4,"on":"m","call":"write","args":[0,2],"result":null}
+{"step":"xend","tx":"t1"}
+{"step":"commit","tx":"t1"}
+"#,
+        status: Status::Accepted,
+        report: br#"{"objects":[{"kind":"mem","name":"m"},{"kind":"set","name":"s"}],"run":1,"style":"rules"}
+{"step":"begin","thread":"p1","tx":"t1"}
+{"args":[3],"call":"add","id":1,"on":"s","result":true,"step":"app","tx":"t1"}
+{"id":1,"step":"push","tx":"t1"}
+{"step":"note","tx":"t1"}
+{"args":[0,1],"call":"write","id":2,"on":"m","result":null,"step":"app","tx":"t1"}
+{"step":"note","tx":"t1"}
+{"id":2,"step":"unapp","tx":"t1"}
+{"step":"note","tx":"t1"}
+{"args":[0],"call":"read","id":3,"on":"m","result":0,"step":"app","tx":"t1"}
+{"args":[0,2],"call":"write","id":4,"on":"m","result":null,"step":"app","tx":"t1"}
+{"step":"note","tx":"t1"}
+{"id":3,"step":"push","tx":"t1"}
+{"id":4,"step":"push","tx":"t1"}
+{"step":"cmt","tx":"t1"}
+"#,
+    },
+    Row {
+        what: "what another committed meanwhile, taken over",
+        header: b"",
+        records: br#"{"run":1,"style":"optimistic","objects":[{"name":"c","kind":"counter"}]}
+{"step":"begin","tx":"t1","thread":"p1"}
+{"step":"op","tx":"t1","id":1,"on":"c","call":"add","args":[2],"result":null}
+{"step":"begin","tx":"t2","thread":"p2"}
+{"step":"op","tx":"t2","id":2,"on":"c","call":"add","args":[3],"result":null}
+{"step":"commit","tx":"t2"}
+{"step":"refresh","tx":"t1","on":"c"}
+{"step":"op","tx":"t1","id":3,"on":"c","call":"get","args":[],"result":5}
+{"step":"commit","tx":"t1"}
+"#,
+        status: Status::Accepted,
+        report: br#"{"objects":[{"kind":"counter","name":"c"}],"run":1,"style":"rules"}
+{"step":"begin","thread":"p1","tx":"t1"}
+{"args":[2],"call":"add","id":1,"on":"c","result":null,"step":"app","tx":"t1"}
+{"step":"begin","thread":"p2","tx":"t2"}
+{"args":[3],"call":"add","id":2,"on":"c","result":null,"step":"app","tx":"t2"}
+{"id":2,"step":"push","tx":"t2"}
+{"step":"cmt","tx":"t2"}
+{"step":"note","tx":"t1"}
+{"id":2,"step":"pull","tx":"t1"}
+{"args":[],"call":"get","id":3,"on":"c","result":5,"step":"app","tx":"t1"}
+{"id":1,"step":"push","tx":"t1"}
+{"id":3,"step":"push","tx":"t1"}
+{"step":"cmt","tx":"t1"}
 "#,
     },
     Row {
