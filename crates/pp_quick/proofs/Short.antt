@@ -1,0 +1,163 @@
+-- What holds of the brief of a boosted configuration.
+use Rattle.std.specs.Prelude.{◌≡◌, ◌≢◌, ℕ, Bool, true, false, not, List, [], Option, None, Some, IsTrue}
+use Rattle.std.proofs.Common.{refl, sym, ap, subst, ◌∙◌}
+use mathlib.Core.Logic.{inl, inr}
+use Rattle.pp_core.specs.declared.call.Style.TheVariants as styles
+use Rattle.pp_core.specs.declared.entry.Item.{Item}
+use Rattle.pp_model.specs.Config.{Config, SharedEntry, Tx, after_from, as_shared, is_own, item, own_items, shared_ops, tx}
+use Rattle.pp_model.specs.Lists.{Before, In}
+use Rattle.pp_model.specs.Names.{Name, ◌=ⁿ◌}
+use Rattle.pp_model.specs.Serial.{has_id}
+use Rattle.pp_model.specs.Sound.{serial_items}
+use Rattle.pp_model.proofs.Lists.{before_from_map, by_key, from_map, in_map}
+use Rattle.pp_model.proofs.Local.{shared_used}
+use Rattle.pp_model.proofs.Logs.{before_from_own, found_tx, from_own, in_own}
+use Rattle.pp_model.proofs.Names.{eq-names, names_tell}
+use Rattle.pp_model.proofs.Serial.{from_serial}
+use Rattle.pp_shared.specs.Committing.{HoldsIdsOf}
+use Rattle.pp_spec.specs.Object.{Object, IsLawful, IsPlaced, rules_of}
+use Rattle.pp_front.specs.Expansions.{expand}
+use Rattle.pp_front.specs.Fronts.{new_front}
+use Rattle.pp_front.specs.Records.{RunRecord}
+use Rattle.pp_quick.specs.Boosted.{Boosted, PlacesSwap}
+use Rattle.pp_quick.specs.Brief.{Brief, BriefGood, BriefTx, brief_of, brief_then, brief_tx, without_owner}
+use Rattle.pp_quick.specs.Laws.{without_ids}
+use Rattle.pp_quick.specs.Removals.{MayLeave}
+use Rattle.pp_quick.specs.Runs.{IsBoosted}
+use Rattle.pp_quick.specs.Shown.{IsShort, item_ids}
+use Rattle.pp_quick.proofs.Briefs.{brief_of_is, briefed, differ, has_in, in_has, to_brief}
+use Rattle.pp_quick.proofs.Fitting.{fits_in}
+use Rattle.pp_quick.proofs.Leave.{leave}
+use Rattle.pp_quick.proofs.Lookups.{done_by_other}
+use Rattle.pp_quick.proofs.Deciding.{quick}
+use Rattle.pp_quick.proofs.Relog.{filter_same, same_bool}
+
+-- operations of different places swap
+pub apart_of : {Shape State Op Undo : Type 0} (o : Object Shape State Op Undo) (place : Op → ℕ) (SameAt : ℕ → State → State → Type 0) → IsPlaced o place SameAt → (shape : Shape) → PlacesSwap (rules_of o shape) place
+apart_of o place SameAt laws shape = record { apart = λ a b n. laws.apart a b n shape }
+
+-- what is found in a brief is of an open transaction
+found_of : {Op : Type 0} (place : Op → ℕ) (c : Config Op) (t : Name) (y : BriefTx Op) (o : Option (Tx Op)) → tx t c.opened ≡ o → to_brief place c.shared o ≡ Some y →
+    (x : Tx Op) × (tx t c.opened ≡ Some x) × (brief_tx place c.shared x ≡ y)
+found_of place c t y None e h = absurd (cc)
+found_of place c t y (Some x) e h = (x, e, (let z : Some (brief_tx place c.shared x) ≡ Some y = h in cc))
+
+module _ {Shape State Op Undo : Type 0} (o : Object Shape State Op Undo) (place : Op → ℕ) (apart : (shape : Shape) → PlacesSwap (rules_of o shape) place) (shape : Shape) where
+  -- a good record leads to the brief of another
+  pub advance : (B : Brief Op) (r : RunRecord Op) → IsShort o place shape B → IsBoosted r → BriefGood (rules_of o shape) place B r → IsShort o place shape (brief_then place B r)
+  advance B r k s h =
+      let O = rules_of o shape in
+      let w = briefed O place (apart shape) in
+      let g = (w.good k.config r s k.boosted).1 (subst (λ (b : Brief Op). BriefGood O place b r) (sym k.is) h) in
+      record {
+        config = after_from k.config (expand place styles.Boosted (new_front []) k.config r);
+        boosted = (quick O place (apart shape)).kept (new_front []) k.config r s k.boosted g;
+        is = w.step (new_front []) k.config r s k.boosted g ∙ ap (λ (b : Brief Op). brief_then place b r) k.is;
+      }
+
+  module _ (c : Config Op) (b : Boosted (rules_of o shape) place c) where
+    c_new : (id : ℕ) → (In id c.ids → ⊥) → (g : SharedEntry Op) → In g c.shared → g.id ≡ id → ⊥
+    c_new id n g i e = n (subst (λ (j : ℕ). In j c.ids) e (shared_used (rules_of o shape) c b.sound g i))
+
+    c_done : (p : Item Op) → In p (serial_items c.done) → (n : Name) × In (as_shared n true p) c.shared
+    c_done p i = let s = from_serial c.done p i in ((s.0).name, b.sound.done_stand s.0 s.1 p s.2)
+
+    module _ (t : Name) (x : Tx Op) (lookup : tx t c.opened ≡ Some x) where
+      f : In x c.opened × (x.name ≡ t)
+      f = found_tx t c.opened x lookup
+
+      stands : (p : Item Op) → In p (own_items x.local) → In (as_shared t false p) c.shared
+      stands p i =
+          let e = from_own x.local p i in
+          subst (λ (q : Item Op). In (as_shared t false q) c.shared) (sym e.3)
+          (subst (λ (n : Name). In (as_shared n false (item e.0)) c.shared) f.1 (b.sound.pushed_stand x f.0 e.0 e.1 ((b.follows x f.0).own_pushed e.0 e.1 e.2)))
+
+      owned : (g : SharedEntry Op) → In g c.shared → g.owner ≡ t → (p : Item Op) × In p (own_items x.local) × (g ≡ as_shared t false p)
+      owned g i n = by g.committed refl
+        where
+          by : (z : Bool) → g.committed ≡ z → (p : Item Op) × In p (own_items x.local) × (g ≡ as_shared t false p)
+          by true u = absurd (done_by_other (rules_of o shape) c b.sound x f.0 g i u (n ∙ sym f.1))
+          by false u =
+              let r = b.sound.uncommitted_from g i u in
+              let y : r.0 ≡ x = by_key (λ (w : Tx Op). w.name) c.opened b.sound.open_names r.0 x r.1 f.0 (ap (λ (w : SharedEntry Op). w.owner) (sym r.5) ∙ n ∙ sym f.1) in (
+                item r.2,
+                in_own x.local r.2 (subst (λ (w : Tx Op). In r.2 w.local) y r.3) (ap is_own r.4),
+                r.5 ∙ ap (λ (m : Name). as_shared m false (item r.2)) (ap (λ (w : Tx Op). w.name) y ∙ f.1),
+              )
+
+      own_apart : (p q : Item Op) → Before p q (own_items x.local) → p.id ≡ q.id → ⊥
+      own_apart p q i e =
+          let r = before_from_own x.local p q i in
+          b.sound.local_ids x f.0 r.0 r.1 r.2 (ap (λ (w : Item Op). w.id) (sym r.5) ∙ e ∙ ap (λ (w : Item Op). w.id) r.6)
+
+      leaves : MayLeave o shape (own_items x.local) c.shared
+      leaves =
+          record {
+            stand = λ p i. (as_shared t false p, stands p i, refl);
+            apart = own_apart;
+            distinct = b.sound.shared_ids;
+            allowed = λ front last e. leave (rules_of o shape) place (apart shape) c b x f.0 front last e;
+          }
+
+      without : without_ids (item_ids (own_items x.local)) c.shared ≡ without_owner t c.shared
+      without = filter_same (λ (g : SharedEntry Op). not (has_id g.id (item_ids (own_items x.local)))) (λ (g : SharedEntry Op). not (g.owner =ⁿ t)) c.shared (λ g i. ap not
+          (same_bool (has_id g.id (item_ids (own_items x.local))) (g.owner =ⁿ t)
+          (λ h.
+          let m = from_map (λ (p : Item Op). p.id) g.id (own_items x.local) (has_in g.id (item_ids (own_items x.local)) h) in
+          let e = by_key (λ (w : SharedEntry Op). w.id) c.shared b.sound.shared_ids g (as_shared t false m.0) i (stands m.0 m.1) m.2 in
+          eq-names g.owner t (ap (λ (w : SharedEntry Op). w.owner) e))
+          (λ h. elim (names_tell g.owner t) [
+            | inl r ↦
+                let w = owned g i r.1 in
+                in_has g.id (item_ids (own_items x.local)) (subst (λ (j : ℕ). In j (item_ids (own_items x.local))) (ap (λ (z : SharedEntry Op). z.id) (sym w.2)) (in_map (λ (p : Item Op). p.id) w.0 (own_items x.local) w.1))
+            | inr r ↦ absurd (differ (g.owner =ⁿ t) h r.0)
+          ])))
+
+  -- the same of a brief
+  module _ (B : Brief Op) (k : IsShort o place shape B) where
+    pub new_id : (id : ℕ) → (In id B.ids → ⊥) → (g : SharedEntry Op) → In g B.shared → g.id ≡ id → ⊥
+    new_id = subst (λ (w : Brief Op). (id : ℕ) → (In id w.ids → ⊥) → (g : SharedEntry Op) → In g w.shared → g.id ≡ id → ⊥) k.is (c_new k.config k.boosted)
+
+    pub distinct : (g h : SharedEntry Op) → Before g h B.shared → g.id ≡ h.id → ⊥
+    distinct = subst (λ (w : Brief Op). (g h : SharedEntry Op) → Before g h w.shared → g.id ≡ h.id → ⊥) k.is (k.boosted).sound.shared_ids
+
+    pub done_stands : (p : Item Op) → In p (serial_items B.done) → (n : Name) × In (as_shared n true p) B.shared
+    done_stands = subst (λ (w : Brief Op). (p : Item Op) → In p (serial_items w.done) → (n : Name) × In (as_shared n true p) w.shared) k.is (c_done k.config k.boosted)
+
+    pub fits : IsLawful o → (g : SharedEntry Op) → In g B.shared → IsTrue (o.fits shape g.op)
+    fits laws = subst (λ (w : Brief Op). (g : SharedEntry Op) → In g w.shared → IsTrue (o.fits shape g.op)) k.is
+        (λ g i. fits_in o laws shape (shared_ops (k.config).shared) (k.boosted).sound.shared_allowed g.op (in_map (λ (w : SharedEntry Op). w.op) g (k.config).shared i))
+
+    pub names_apart : (y z : BriefTx Op) → Before y z B.opened → y.name ≢ z.name
+    names_apart = subst (λ (w : Brief Op). (y z : BriefTx Op) → Before y z w.opened → y.name ≢ z.name) k.is (λ y z i.
+        let m = before_from_map (brief_tx place (k.config).shared) y z (k.config).opened i in
+        λ e. (k.boosted).sound.open_names m.0 m.1 m.2 (ap (λ (w : BriefTx Op). w.name) (sym m.3) ∙ e ∙ ap (λ (w : BriefTx Op). w.name) m.4))
+
+    module _ (t : Name) (y : BriefTx Op) (found : brief_of t B.opened ≡ Some y) where
+      there : (x : Tx Op) × (tx t (k.config).opened ≡ Some x) × (brief_tx place (k.config).shared x ≡ y)
+      there = found_of place k.config t y (tx t (k.config).opened) refl
+          (sym (brief_of_is place (k.config).shared t (k.config).opened) ∙ ap (λ (w : Brief Op). brief_of t w.opened) k.is ∙ found)
+
+      own_is : own_items (there.0).local ≡ y.own
+      own_is = ap (λ (w : BriefTx Op). w.own) there.2
+
+      log_is : (k.config).shared ≡ B.shared
+      log_is = ap (λ (w : Brief Op). w.shared) k.is
+
+      both : (P : List (Item Op) → List (SharedEntry Op) → Type 0) → P (own_items (there.0).local) (k.config).shared → P y.own B.shared
+      both P h = subst (λ (w : List (Item Op)). P w B.shared) own_is (subst (λ (w : List (SharedEntry Op)). P (own_items (there.0).local) w) log_is h)
+
+      pub own_stands : (p : Item Op) → In p y.own → In (as_shared t false p) B.shared
+      own_stands = both (λ l G. (p : Item Op) → In p l → In (as_shared t false p) G) (stands k.config k.boosted t there.0 there.1)
+
+      pub is_owned : (g : SharedEntry Op) → In g B.shared → g.owner ≡ t → (p : Item Op) × In p y.own × (g ≡ as_shared t false p)
+      is_owned = both (λ l G. (g : SharedEntry Op) → In g G → g.owner ≡ t → (p : Item Op) × In p l × (g ≡ as_shared t false p)) (owned k.config k.boosted t there.0 there.1)
+
+      pub holds_ids : HoldsIdsOf t y.own B.shared
+      holds_ids e i u n = let w = is_owned e i n in (w.0, w.1, ap (λ (z : SharedEntry Op). z.id) (sym w.2))
+
+      pub may_leave : MayLeave o shape y.own B.shared
+      may_leave = both (λ l G. MayLeave o shape l G) (leaves k.config k.boosted t there.0 there.1)
+
+      pub without_is : without_ids (item_ids y.own) B.shared ≡ without_owner t B.shared
+      without_is = both (λ l G. without_ids (item_ids l) G ≡ without_owner t G) (without k.config k.boosted t there.0 there.1)

@@ -1,0 +1,49 @@
+-- What taking a record answers, in the words of configurations.
+use Rattle.std.specs.Prelude.{◌≡◌, ℕ, Bool, true, false}
+use Rattle.std.proofs.Common.{sym, ap, subst, ◌∙◌}
+use Rattle.pp_model.specs.Config.{Config}
+use Rattle.pp_spec.specs.Object.{Object, rules_of}
+use Rattle.pp_front.specs.Fronts.{Front}
+use Rattle.pp_front.specs.Records.{RunRecord}
+use Rattle.pp_quick.specs.Boosted.{Good, PlacesSwap}
+use Rattle.pp_quick.specs.Brief.{Brief, BriefGood, brief_then}
+use Rattle.pp_quick.specs.Held.{Held, IsHeldOf, Takes, TakesIn}
+use Rattle.pp_quick.specs.Moving.{Answers, IsGood}
+use Rattle.pp_quick.specs.Runs.{IsBoosted}
+use Rattle.pp_quick.specs.Shown.{Holds, Kept, shown}
+use Rattle.pp_quick.proofs.Briefs.{briefed}
+use Rattle.pp_quick.proofs.Deciding.{quick}
+
+pub same_held : {Shape Op : Type 0} (a b : Shape) (c d : Brief Op) (e f : ℕ) → a ≡ b → c ≡ d → e ≡ f → ◌≡◌ {A = Held Shape Op} (record { shape = a; brief = c; count = e }) (record { shape = b; brief = d; count = f })
+same_held {Shape} {Op} a b c d e f p q r =
+    ap (λ (z : Shape). record { shape = z; brief = c; count = e }) p
+    ∙ ap (λ (z : Brief Op). record { shape = b; brief = z; count = e }) q
+    ∙ ap (λ (z : ℕ). record { shape = b; brief = d; count = z }) r
+
+module _ {Shape State Op Undo : Type 0} (o : Object Shape State Op Undo) (place : Op → ℕ) (apart : (shape : Shape) → PlacesSwap (rules_of o shape) place) where
+  abbrev pub held : Kept Shape Op → Held Shape Op
+  held v = record { shape = v.shape; brief = shown place v; count = v.count }
+
+  module _ (v w : Kept Shape Op) (r : RunRecord Op) (s : IsBoosted r) (f : Front) (c : Config Op) (k : IsHeldOf o place (held v) c) where
+    good_is : IsGood o place v r → Good (rules_of o v.shape) place c r
+    good_is g = ((briefed (rules_of o v.shape) place (apart v.shape)).good c r s k.boosted).1 (subst (λ (b : Brief Op). BriefGood (rules_of o v.shape) place b r) (sym k.is) g)
+
+    is_good : Good (rules_of o v.shape) place c r → IsGood o place v r
+    is_good g = subst (λ (b : Brief Op). BriefGood (rules_of o v.shape) place b r) k.is (((briefed (rules_of o v.shape) place (apart v.shape)).good c r s k.boosted).0 g)
+
+    pub taken : (answer : Bool) → Answers o place v r answer w → TakesIn o place (held v) r answer (held w) f c
+    taken true a =
+        let g = good_is a.0 in (
+          ((quick (rules_of o v.shape) place (apart v.shape)).good f c r s k.boosted).0 g,
+          same_held _ _ _ _ _ _ a.1.shape (a.1.shown ∙ sym ((briefed (rules_of o v.shape) place (apart v.shape)).step f c r s k.boosted g ∙ ap (λ (b : Brief Op). brief_then place b r) k.is)) a.1.count,
+        )
+    taken false a =
+        ((λ run. a.0 (is_good (((quick (rules_of o v.shape) place (apart v.shape)).good f c r s k.boosted).1 run))), ap held a.1)
+
+  pub takes_of : (v w : Kept Shape Op) (r : RunRecord Op) (answer : Bool) → IsBoosted r → Answers o place v r answer w → Takes o place (held v) r answer (held w)
+  takes_of v w r answer s a f c k = taken v w r s f c k answer a
+
+-- what is kept then
+pub holds_after : {Shape State Op Undo : Type 0} (o : Object Shape State Op Undo) (place : Op → ℕ) (v w : Kept Shape Op) (r : RunRecord Op) (answer : Bool) → Answers o place v r answer w → Holds o place v → Holds o place w
+holds_after o place v w r true a h = a.1.holds
+holds_after {Shape = Shape} {Op = Op} o place v w r false a h = subst (λ (z : Kept Shape Op). Holds o place z) (sym a.1) h

@@ -1,0 +1,9 @@
+use Rattle.std.proofs.Common.{◌≡◌, ◌++◌, ℕ, take}
+use Rattle.pp_quick.specs.Passing.{items_at}
+use Rattle.pp_quick.specs.Shown.{at}
+use Rattle.pp_quick.proofs.commits.note_all.Given as goal
+
+-- the commits, with the items so far behind
+abbrev pub invariant-loop-item : goal.invariant-loop-item
+invariant-loop-item g l =
+    (q : ℕ) → at q l.commits.entries ≡ at q l.initial.commits.entries ++ items_at g.S.Placed.place_of q (take l.item-index l.items)

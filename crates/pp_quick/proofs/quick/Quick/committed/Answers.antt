@@ -1,0 +1,16 @@
+use Rattle.std.proofs.Common.{subst}
+use Rattle.pp_model.specs.Sound.{serial_ops}
+use Rattle.pp_spec.specs.Object.{AllRanged, IsAllowed}
+use Rattle.pp_quick.proofs.Fresh.{done_allowed, done_ranged}
+use Rattle.pp_quick.proofs.Short.{apart_of}
+use Rattle.pp_quick.proofs.quick.Quick.committed.Goals as goal
+
+pub returns-clause-allowed : goal.returns-clause-allowed
+returns-clause-allowed g c =
+    let apart = apart_of g.S.Spec.object g.S.Placed.place_of g.S.Placed.SameAt g.met.S.Placed.placed in
+    subst (λ z. IsAllowed g.S.Spec.object z.shape (serial_ops z.brief.done)) c.self.view_is (done_allowed g.S.Spec.object g.S.Placed.place_of apart c.self.inside.parts c.self.invariant)
+
+pub returns-clause-ranged : goal.returns-clause-ranged
+returns-clause-ranged g c =
+    let apart = apart_of g.S.Spec.object g.S.Placed.place_of g.S.Placed.SameAt g.met.S.Placed.placed in
+    subst (λ z. AllRanged g.S.Spec.object (serial_ops z.brief.done)) c.self.view_is (done_ranged g.S.Spec.object g.S.Placed.place_of apart c.self.inside.parts c.self.invariant c.len-ranged.ensures.ranged)

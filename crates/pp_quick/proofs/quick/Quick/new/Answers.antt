@@ -1,0 +1,27 @@
+use Rattle.std.proofs.Common.{refl}
+use Rattle.pp_quick.specs.Shown.{Kept}
+use Rattle.pp_quick.proofs.Fresh.{fresh_holds, fresh_shown}
+use Rattle.pp_quick.proofs.Short.{apart_of}
+use Rattle.pp_quick.proofs.Taking.{same_held}
+use Rattle.pp_quick.proofs.quick.Quick.new.Goals as goal
+
+pub invariant_of-result : goal.invariant_of-result
+invariant_of-result g c =
+    let apart = apart_of g.S.Spec.object g.S.Placed.place_of g.S.Placed.SameAt g.met.S.Placed.placed in
+    fresh_holds g.S.Spec.object g.S.Placed.place_of apart _ c.new-2.ensures.empty c.new-3.ensures.empty c.new-4.ensures.empty c.in_ok-shared.ensures c.new-5.ensures c.new-6.ensures.empty
+
+pub returns : goal.returns
+returns g c =
+    let apart = apart_of g.S.Spec.object g.S.Placed.place_of g.S.Placed.SameAt g.met.S.Placed.placed in
+    let v : Kept g.row.S-Shape.Denot g.row.S-Op.Denot = record {
+      alloc = c.args.alloc;
+      shape = c.args.shape;
+      slots = c.new-2.result;
+      threads = c.new-3.result;
+      ids = c.new-4.result;
+      shared = c.in_ok-shared.shared;
+      committed = c.new-5.result;
+      commits = c.new-6.result;
+      count = 0;
+    } in
+    same_held _ _ _ _ _ _ refl (fresh_shown g.S.Spec.object g.S.Placed.place_of apart v c.new-2.ensures.empty c.new-3.ensures.empty c.new-4.ensures.empty c.in_ok-shared.ensures c.new-5.ensures c.new-6.ensures.empty) refl

@@ -1,0 +1,11 @@
+pub mod Boosted
+pub mod Brief
+pub mod Runs
+pub mod Laws
+pub mod Shown
+pub mod Passing
+pub mod Leaving
+pub mod Removals
+pub mod Held
+pub mod Moving
+pub mod Starting

@@ -1,0 +1,20 @@
+//! Boosted runs are decided from the shared log alone, without their local logs.
+#![tactic(auto)]
+
+mod begin;
+mod commit;
+mod commits;
+mod laws;
+mod leaving;
+mod op;
+mod open_tx;
+mod parts;
+mod quick;
+mod slots;
+mod start;
+mod take;
+mod undo;
+
+pub use laws::{brief_law, decided_law, front_law, leave_law, placed_law, quick_law};
+pub use pp_front::RunRecord;
+pub use quick::Quick;

@@ -1,0 +1,114 @@
+//! Changes of an open transaction.
+ghost use Rattle.std.specs.Prelude.{◌≡◌, [], IfOk, option_map};
+ghost use Rattle.pp_body.specs.Walks.{HasTaken, MayTake};
+ghost use Rattle.pp_core.specs.Trees.{IsWithinLimits, tree};
+ghost use Rattle.pp_quick.specs.Passing.{IsGrown};
+ghost use Rattle.pp_quick.specs.Shown.{calls_of};
+
+use crate::commits::count_at;
+use crate::parts::{Commits, OpenTx};
+use indexmap::IndexMap;
+use pp_body::Walk;
+use pp_core::{Body, Item, Items, Name, OutOfMemory};
+use pp_spec::Placed;
+use std::alloc::Global;
+
+/// An equal body.
+fn copied(body: &Option<Body>, alloc: Global) -> Result<Option<Body>, OutOfMemory>
+    ensures { IfOk result (λ b. option_map tree b ≡ option_map tree body.now) }
+{
+    match body {
+        None => Ok(None),
+        Some(body) => Ok(Some(body.copy(alloc)?)),
+    }
+}
+
+/// A transaction that begins. The only error is that memory was refused.
+pub fn begun<O: Copy>(
+    alloc: Global,
+    thread: &Name,
+    body: &Option<Body>,
+) -> Result<OpenTx<O>, OutOfMemory>
+    requires { IsWithinLimits (option_map tree body.now) }
+    ensures thread { IfOk result (λ x. x.thread ≡ thread.now) }
+    ensures body { IfOk result (λ x. x.walk.body ≡ option_map tree body.now) }
+    ensures taken { IfOk result (λ x. HasTaken x.walk []) }
+    ensures own { IfOk result (λ x. x.own ≡ []) }
+    ensures seen { IfOk result (λ x. x.seen.entries ≡ []) }
+{
+    let body = copied(body, alloc)?;
+    let walk = Walk::start(alloc, body)?;
+    Ok(OpenTx {
+        thread: *thread,
+        walk,
+        own: Items::new(alloc),
+        seen: IndexMap::new(alloc),
+    })
+}
+
+/// The transaction with one more operation of its own, behind which it has seen the commits at its
+/// place. The only error is that memory was refused.
+pub fn grown<S: Placed>(
+    it: OpenTx<S::Op>,
+    commits: &Commits<S::Op>,
+    item: Item<S::Op>,
+) -> Result<OpenTx<S::Op>, OutOfMemory>
+    requires { MayTake it.walk (S.object.call item.op) }
+    ensures { IfOk result (IsGrown S.object S.place_of commits.now.entries it item) }
+{
+    let OpenTx {
+        thread,
+        walk,
+        mut own,
+        mut seen,
+    } = it;
+    let walk = walk.take(S::call(&item.op))?;
+    own.push(item)?;
+    let place = S::place(&item.op);
+    seen.insert(place, count_at(commits, place))?;
+    Ok(OpenTx {
+        thread,
+        walk,
+        own,
+        seen,
+    })
+}
+
+/// The walk with this many calls given back.
+fn given_back<S: Placed>(walk: Walk, own: &[Item<S::Op>]) -> Walk
+    requires { HasTaken walk (calls_of S.object own.now) }
+    ensures body { result.body ≡ walk.body }
+    ensures taken { HasTaken result [] }
+{
+    let mut walk = walk;
+    let mut left = own.len();
+    while left > 0 {
+        left -= 1;
+        walk = walk.back();
+    }
+    walk
+}
+
+/// The transaction as it began.
+pub fn anew<S: Placed>(alloc: Global, it: OpenTx<S::Op>) -> OpenTx<S::Op>
+    requires { HasTaken it.walk (calls_of S.object it.own) }
+    ensures thread { result.thread ≡ it.thread }
+    ensures body { result.walk.body ≡ it.walk.body }
+    ensures taken { HasTaken result.walk [] }
+    ensures own { result.own ≡ [] }
+    ensures seen { result.seen.entries ≡ [] }
+{
+    let OpenTx {
+        thread,
+        walk,
+        own,
+        seen: _,
+    } = it;
+    let walk = given_back::<S>(walk, own.as_slice());
+    OpenTx {
+        thread,
+        walk,
+        own: Items::new(alloc),
+        seen: IndexMap::new(alloc),
+    }
+}

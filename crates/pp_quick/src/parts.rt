@@ -1,0 +1,36 @@
+//! What a `Quick` keeps.
+use crate::slots::Slots;
+use indexmap::{IndexMap, IndexSet};
+use pp_body::Walk;
+use pp_core::{Committed, Items, Name};
+use std::alloc::Global;
+
+/// An open transaction: its own operations, how far they have come in its body, and for each place
+/// of one of them how many of the commits there it has seen.
+#[derive(Drop)]
+pub struct OpenTx<O> {
+    pub thread: Name,
+    pub walk: Walk,
+    pub own: Items<O>,
+    pub seen: IndexMap<u16, usize>,
+}
+
+/// The operations that were committed behind the start, place by place, in commit order.
+pub type Commits<O> = IndexMap<u16, Items<O>>;
+
+/// All that a `Quick` keeps. The shared log is of the type `T`.
+#[derive(Drop)]
+pub struct Parts<H, O: Copy, T> {
+    pub alloc: Global,
+    pub shape: H,
+    /// The transactions that have begun.
+    pub slots: Slots<OpenTx<O>>,
+    /// The threads of the open transactions.
+    pub threads: IndexSet<Name>,
+    pub ids: IndexSet<u32>,
+    pub shared: T,
+    pub committed: Committed<O>,
+    pub commits: Commits<O>,
+    /// How many records were taken.
+    pub count: u32,
+}

@@ -1,0 +1,128 @@
+//! A boosted run, decided without its local logs.
+ghost use Rattle.std.specs.Prelude.{◌≡◌, ◌+◌, ◌≤◌, ◌<◌, IfOk, IsTrue, length};
+ghost use Rattle.std.specs.List.{All};
+ghost use Rattle.pp_front.specs.Records.{record_meaning};
+ghost use Rattle.pp_model.specs.Sound.{serial_ops};
+ghost use Rattle.pp_quick.specs.Held.{IsItemAsked, IsRecordAsked, Starts, TakeCosts, Takes};
+ghost use Rattle.pp_quick.specs.Held.{held_first, start_of, take_most};
+ghost use Rattle.pp_quick.specs.Runs.{IsBoosted};
+ghost use Rattle.pp_spec.specs.Object.{AllRanged, IsAllowed};
+
+use crate::parts::Parts;
+use crate::{start, take};
+use indexmap::{IndexMap, IndexSet};
+use pp_core::{Committed, Items, Name, OutOfMemory, Ticks};
+use pp_front::RunRecord;
+use pp_parts::Parted;
+use pp_shared::Shared;
+use std::alloc::Global;
+use std::marker::Model;
+use std::sync::ledger::Ledger;
+
+/// What decides a boosted run, record by record: the shared log, the committed transactions, and of
+/// each open one its own operations and how many of the commits at their places it has seen.
+#[derive(Drop)]
+pub struct Quick<S: Parted> {
+    parts: Parts<S::Shape, S::Op, Shared<S>>,
+}
+
+impl<S: Parted> Model for Quick<S> {
+    ghost use Rattle.pp_core.specs.TreeCodes.{tree_code};
+    ghost use Rattle.pp_quick.specs.Held.{Held};
+    ghost use Rattle.pp_quick.specs.Shown.{Holds, shown};
+    ghost use Rattle.std.specs.Coded.{codes};
+
+    ghost Value = { Held S.Shape S.Op };
+
+    ghost coded = { Prim.hlevel (codes, tree_code, S.Shape.code, S.Op.code) };
+
+    ghost view = { λ a. record {
+      shape = a.parts.shape;
+      brief = shown S.place_of a.parts;
+      count = a.parts.count;
+    } };
+
+    ghost invariant = { λ a. Holds S.object S.place_of a.parts };
+}
+
+impl<S: Parted> Quick<S> {
+    /// A run with no transaction. The only error is that memory was refused.
+    pub fn new(alloc: Global, shape: S::Shape) -> Result<Self, OutOfMemory>
+        ensures { IfOk result (λ q. q ≡ held_first S.object S.place_of shape) }
+    {
+        let shared = Shared::new(alloc, &shape)?;
+        Ok(Quick {
+            parts: Parts {
+                alloc,
+                shape,
+                slots: IndexMap::new(alloc),
+                threads: IndexSet::new(alloc),
+                ids: IndexSet::new(alloc),
+                shared,
+                committed: Committed::new(alloc),
+                commits: IndexMap::new(alloc),
+                count: 0,
+            },
+        })
+    }
+
+    /// Lets operations stand committed before the first record, in a Quick that is as `new` made
+    /// it, where no id stands twice and they are allowed; else it gives the Quick back as it was,
+    /// with false. The transaction has the name and the operations, and is the first one that is
+    /// committed. The only error is that memory was refused, and the Quick is then lost.
+    pub fn start<L: Ledger>(
+        self,
+        tx: Name,
+        items: &Items<S::Op>,
+        ticks: &mut Ticks<L>,
+    ) -> Result<(Self, bool), OutOfMemory>
+        requires new { self ≡ held_first S.object S.place_of self.shape }
+        requires asked { All (IsItemAsked S.object self.shape) items.now }
+        requires few { length items.now ≤ 256 }
+        ensures starts { IfOk result (λ r.
+            Starts S.object S.place_of self (start_of tx items.now) r.1 r.0) }
+        ensures cost { IfOk result (λ r.
+            IsTrue r.1 → ticks.new ≡ ticks.old + length items.now) }
+        ensures rises { ticks.old ≤ ticks.new }
+        ensures bound { ticks.new ≤ ticks.old + length items.now }
+    {
+        let Quick { mut parts } = self;
+        let good = start::start(&mut parts, &tx, items, ticks)?;
+        Ok((Quick { parts }, good))
+    }
+
+    /// Takes a record where it is good, and else gives the Quick back as it was, with false. The
+    /// only error is that memory was refused, and the Quick is then lost.
+    pub fn take<L: Ledger>(
+        self,
+        recorded: &RunRecord<S::Op>,
+        ticks: &mut Ticks<L>,
+    ) -> Result<(Self, bool), OutOfMemory>
+        requires style { IsBoosted (record_meaning recorded.now) }
+        requires asked { IsRecordAsked S.object self.shape (record_meaning recorded.now) }
+        requires few { self.count < 200_000 }
+        ensures takes { IfOk result (λ r.
+            Takes S.object S.place_of self (record_meaning recorded.now) r.1 r.0) }
+        ensures cost { IfOk result (λ r. TakeCosts S.place_of self.brief
+            (record_meaning recorded.now) r.1 ticks.old ticks.new) }
+        ensures rises { ticks.old ≤ ticks.new }
+        ensures bound { ticks.new
+            ≤ ticks.old + take_most S.place_of self.brief (record_meaning recorded.now) }
+    {
+        let Quick { parts } = self;
+        let (parts, good) = take::take(parts, recorded, ticks)?;
+        Ok((Quick { parts }, good))
+    }
+
+    /// The committed transactions, in commit order. Their operations, joined, are allowed, and in
+    /// the range of records.
+    pub fn committed(&self) -> &Committed<S::Op>
+        ensures done { result.now ≡ self.now.brief.done }
+        ensures allowed { IsAllowed S.object self.now.shape (serial_ops self.now.brief.done) }
+        ensures ranged { AllRanged S.object (serial_ops self.now.brief.done) }
+    {
+        // It stands here for what its clauses say of the log.
+        let _ranged = self.parts.shared.len();
+        &self.parts.committed
+    }
+}
