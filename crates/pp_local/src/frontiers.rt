@@ -6,7 +6,7 @@ ghost use Rattle.pp_local.specs.Known.{NoneUnpushedBefore, NoneUnpushedBut};
 use crate::movers::is_mark;
 use pp_core::{LocalEntry, Mark};
 
-/// How many entries a frontier passes over at once, at most. So no step walks far.
+/// How many entries a frontier passes over at once, at most. So no step moves one far.
 const STRIDE: usize = 64;
 
 /// Moves the first frontier on, past entries that are not unpushed.

@@ -162,7 +162,7 @@ impl<S: Parted> Local<S> {
     }
 
     /// The first own unpushed entry before a position that the operation may not come before. It
-    /// walks over nothing where the operation may come before all that are own.
+    /// walks over nothing where the samples show that it may come before all that are own.
     pub fn first_holding_back(&self, i: usize, op: &S::Op) -> Option<usize>
         requires { i ≤ length self.now.1 }
         ensures { result ≡ position (holds_back S.object op.now) (take i self.now.1) }
@@ -182,7 +182,7 @@ impl<S: Parted> Local<S> {
     }
 
     /// The first own pushed entry behind a position that may not come before the operation. It
-    /// walks over nothing where all that are own may come before it.
+    /// walks over nothing where the samples show that all that are own may come before it.
     pub fn first_staying_behind(&self, i: usize, op: &S::Op) -> Option<usize>
         ensures { result ≡ option_map (λ k. i + 1 + k)
             (position (stays_behind S.object op.now) (drop (i + 1) self.now.1)) }
@@ -203,7 +203,7 @@ impl<S: Parted> Local<S> {
     }
 
     /// The first own entry that may not come behind the operation. It walks over nothing where no
-    /// entry is own, or each that is may come behind it.
+    /// entry is own, or the samples show that each may come behind it.
     pub fn first_not_before(&self, op: &S::Op) -> Option<usize>
         ensures { result ≡ position (stands_first S.object op.now) self.now.1 }
     {

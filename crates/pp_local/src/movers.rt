@@ -34,7 +34,7 @@ fn holds_back<S: Spec>(entry: &LocalEntry<S::Op>, op: &S::Op) -> bool
     is_mark(entry.mark, Mark::Unpushed) && is_refuted::<S>(op, &entry.op)
 }
 
-/// The place of the first own unpushed entry that holds the operation back.
+/// The position of the first own unpushed entry that holds the operation back.
 pub fn first_holding_back<S: Spec>(entries: &[LocalEntry<S::Op>], op: &S::Op) -> Option<usize>
     ensures { result ≡ position (holds_back S.object op.now) entries.now }
 {
@@ -48,7 +48,7 @@ fn stays_behind<S: Spec>(entry: &LocalEntry<S::Op>, op: &S::Op) -> bool
     is_mark(entry.mark, Mark::Pushed) && is_refuted::<S>(&entry.op, op)
 }
 
-/// The place of the first own pushed entry that may not come before the operation.
+/// The position of the first own pushed entry that may not come before the operation.
 pub fn first_staying_behind<S: Spec>(entries: &[LocalEntry<S::Op>], op: &S::Op) -> Option<usize>
     ensures { result ≡ position (stays_behind S.object op.now) entries.now }
 {
@@ -64,7 +64,7 @@ fn stands_first<S: Spec>(entry: &LocalEntry<S::Op>, op: &S::Op) -> bool
     is_own(entry.mark) && is_refuted::<S>(&entry.op, op)
 }
 
-/// The place of the first own entry that may not come behind the operation.
+/// The position of the first own entry that may not come behind the operation.
 pub fn first_not_before<S: Spec>(entries: &[LocalEntry<S::Op>], op: &S::Op) -> Option<usize>
     ensures { result ≡ position (stands_first S.object op.now) entries.now }
 {

@@ -57,7 +57,7 @@ pub record DiffersFrom {Shape State Op Undo E : Type 0} (o : Object Shape State 
   pub gives : o.gives (state_from o b (entry_ops item_of before)) (item_of entry).op ≡ answer
   pub differs : answer ≢ o.recorded (item_of entry).op
 
--- The same from the start.
+-- The same from the empty state.
 abbrev pub DiffersFirst :
     {Shape State Op Undo E : Type 0} → Object Shape State Op Undo → (E → Item Op) →
     Shape → List E → ℕ → Answer → Type 0

@@ -117,8 +117,8 @@ impl<S: Parted> Shared<S> {
         self.log.find(id)
     }
 
-    /// The first position at `from` or behind it whose operation has this place. It walks over
-    /// nothing, and takes no memory.
+    /// The first position at `from` or behind it whose operation has this place. It halves over
+    /// the entries of the place, and takes no memory.
     pub fn next_on(&self, place: u16, from: usize) -> Option<usize>
         ensures found { IfSome result
             (IsFirstFrom (IsOn S.place_of shared_item place) self.now.1 from) }
@@ -245,6 +245,7 @@ impl<S: Parted> Shared<S> {
         requires { HoldsIdsOf owner.now own.now self.old.1 }
         ensures { self.new ≡ (self.old.0, commit_all owner.now self.old.1) }
     {
+        // It stands here for what its clauses say of each log.
         if self.len() == 0 {
             return;
         }

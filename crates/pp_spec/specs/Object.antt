@@ -20,7 +20,7 @@ pub record Upkeep (State Op Undo : Type 0) : Type 1 where
 
 -- What a kind of object means: its states, what an operation gives in a state, and what it leaves.
 pub record Object (Shape State Op Undo : Type 0) : Type 1 where
-  -- the state from which every run begins
+  -- the empty state, before any operation
   pub start : Shape → State
   -- which objects a state has
   pub shape : State → Shape
@@ -53,11 +53,11 @@ module _ {Shape State Op Undo : Type 0} (o : Object Shape State Op Undo) where
   abbrev pub state_from : State → List Op → State
   state_from s ops = state_by o.next s ops
 
-  -- The list is allowed from the start.
+  -- The list is allowed from the empty state.
   abbrev pub IsAllowed : Shape → List Op → Type 0
   IsAllowed shape ops = AllowedFrom (o.start shape) ops
 
-  -- The state after these operations from the start.
+  -- The state after these operations from the empty state.
   abbrev pub state_after : Shape → List Op → State
   state_after shape ops = state_from (o.start shape) ops
 
