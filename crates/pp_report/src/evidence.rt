@@ -80,6 +80,7 @@ pub(crate) fn write_detail(
             text.append(b"\n")
         }
         Detail::Swap { id, context } => {
+            let context = context.get();
             write_entry_line(text, *id)?;
             write_ops_line(text, catalog, b"before", context.before.as_slice())?;
             write_ops_line(text, catalog, b"after", context.after.as_slice())

@@ -50,7 +50,8 @@ at_most place c (Cmt t) = 0
 at_most place c (Quit t) = 0
 at_most place c (Note t) = 0
 
--- What a step costs that is not done: nothing, unless it is a removal. No tick is taken back.
+-- What a step costs that is not done: nothing, but for UNPUSH and UNPULL, which have a
+-- bound. No tick is taken back.
 abbrev pub CostsInVain : {Op : Type 0} → (Op → ℕ) → Config Op → Step Op → ℕ → ℕ → Type 0
 CostsInVain place c (Begin t p b) old new = new ≡ old
 CostsInVain place c (App t id op) old new = new ≡ old

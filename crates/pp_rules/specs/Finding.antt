@@ -5,7 +5,7 @@ use Rattle.pp_core.specs.declared.entry.SharedEntry.{SharedEntry}
 use Rattle.pp_model.specs.Config.{Unpushed}
 use Rattle.pp_model.specs.Lists.{Before}
 
--- At this place the log ends, with an own unpushed entry of this id.
+-- At this position the log ends, with an own unpushed entry of this id.
 pub record IsLastUnpushed {Op : Type 0} (id : ℕ) (l : List (LocalEntry Op)) (i : ℕ) : Type 0 where
   pub entry : LocalEntry Op
   pub here : slice_get l i ≡ Some entry

@@ -20,7 +20,7 @@ abbrev pub answer_of : {A E : Type 0} → Result (A × Removed) E → Result Rem
 answer_of (Ok r) = Ok r.1
 answer_of (Err e) = Err e
 
--- What a removal at this place of the local log of the open transaction t answers, and the
+-- What a removal at this position of the local log of the open transaction t answers, and the
 -- transactions that it leaves.
 abbrev pub RemovesAt : {Shape State Op Undo : Type 0} → Object Shape State Op Undo → Txs Shape Op →
     Name → ℕ → Txs Shape Op → Removed → Type 0

@@ -45,7 +45,7 @@ module _ {Shape State Op Undo : Type 0} (o : Object Shape State Op Undo) (shape 
     pub refutes : (z : Start Op) (n : ℕ) (detail : Detail Op)
         → HoldsAtNumber o (start_facts z) (suc n) detail
         → FailsAt (start_criteria (rules_of o shape) (Some z)) (suc n)
-    -- the operations that it tells are of the objects
+    -- it tells no operation, so what is printed of it is of the objects
     pub fits : (z : Start Op) (n : ℕ) → Fits o shape (start_evidence o shape z n)
 
 module _ {Shape State Op Undo : Type 0} (o : Object Shape State Op Undo) where

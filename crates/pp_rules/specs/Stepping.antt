@@ -11,7 +11,8 @@ use Rattle.pp_rules.specs.declared.machine.Outcome.{Outcome}
 use Rattle.pp_rules.specs.declared.machine.Outcome.TheVariants.{Done, False}
 use Rattle.pp_rules.specs.Machines.{Seen, stepped}
 
--- What a step asks: a body within the limits, and an operation of the shape.
+-- What a step asks: a body within the limits, and an operation of the shape, in the range of
+-- records.
 abbrev pub IsAsked : {Shape State Op Undo : Type 0} → Object Shape State Op Undo → Shape → Step Op →
     Type 0
 IsAsked o shape (Begin t p b) = IsWithinLimits b

@@ -85,14 +85,14 @@ pub record Takes {Shape State Op Undo : Type 0} (o : Object Shape State Op Undo)
   pub new : position (λ e. e.id == entry.id) log.1 ≡ None
   pub few : length log.1 < 1_000_000
 
--- At this place of the local log stands an own entry.
+-- At this position of the local log stands an own entry.
 pub record HasOwn {Op : Type 0} (log : List (LocalEntry Op)) (i : ℕ) : Type 0 where
   pub within : i < length log
   pub entry : LocalEntry Op
   pub here : slice_get log i ≡ Some entry
   pub own : entry.mark ≢ Pulled
 
--- The entry at this place of a local log may be taken out: it is pulled, or the last.
+-- The entry at this position of a local log may be taken out: it is pulled, or the last.
 pub record MayLeave {Op : Type 0} (log : List (LocalEntry Op)) (i : ℕ) : Type 0 where
   pub within : i < length log
   pub entry : LocalEntry Op

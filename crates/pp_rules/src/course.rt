@@ -187,7 +187,7 @@ impl<S: Parted> Course<S> {
     {
         let Course { walked } = self;
         let Walked { walk, log } = walked;
-        // It stands here for what its clauses say of each log.
+        // An own entry is the last, and without it the list is always allowed.
         let _allowed = log.len();
         let own = is_own_at(log.entries(), i);
         let (log, removed) = log.remove(i, ticks)?;

@@ -5,6 +5,42 @@ ghost use Rattle.pp_rules.specs.Evidence.{swap_or};
 use pp_core::{Answer, OutOfMemory};
 use pp_spec::{Context, Spec};
 use std::alloc::Global;
+use std::marker::Model;
+
+/// Operations round a pair that does not swap, as one pointer: each step hands on what it answers,
+/// and few answer such a pair. Contracts see it as the operations.
+#[derive(Drop)]
+pub struct BoxedContext<O> {
+    context: Box<Context<O>>,
+}
+
+impl<O> Model for BoxedContext<O> {
+    ghost use Rattle.pp_spec.specs.declared.spec.Context.{Context as ContextOf};
+    ghost use Rattle.std.specs.Coded.{codes};
+
+    ghost Value = { ContextOf O };
+
+    ghost coded = { Prim.hlevel (codes, O.code) };
+
+    ghost view = { λ b. b.context.value };
+}
+
+impl<O: Drop> BoxedContext<O> {
+    /// These operations. The only error is that memory was refused.
+    fn new(alloc: Global, context: Context<O>) -> Result<BoxedContext<O>, OutOfMemory>
+        ensures { IfOk result (λ boxed. boxed ≡ context) }
+    {
+        let context = Box::new(alloc, context)?;
+        Ok(BoxedContext { context })
+    }
+
+    /// The operations before the pair, and those after it.
+    pub fn get(&self) -> &Context<O>
+        ensures { result.now ≡ self.now }
+    {
+        &self.context
+    }
+}
 
 /// What shows that a criterion is false.
 #[derive(Drop)]
@@ -16,7 +52,7 @@ pub enum Detail<O> {
     /// The first operation whose recorded result is not the one that the object gives there.
     Gives { id: u32, answer: Answer },
     /// The first entry whose pair does not swap, and operations round the pair that show it.
-    Swap { id: u32, context: Context<O> },
+    Swap { id: u32, context: BoxedContext<O> },
 }
 
 /// Why a step is not done: its first false criterion, from 1, and what shows that it is false.
@@ -60,7 +96,10 @@ pub fn swap_detail<S: Spec>(
         ≡ swap_or id (S.object.refuting a.now b.now) Detail.Nothing) }
 {
     match S::context(alloc, a, b)? {
-        Some(context) => Ok(Detail::Swap { id, context }),
+        Some(context) => Ok(Detail::Swap {
+            id,
+            context: BoxedContext::new(alloc, context)?,
+        }),
         None => Ok(Detail::Nothing),
     }
 }

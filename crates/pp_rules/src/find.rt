@@ -27,7 +27,7 @@ pub fn is_own(mark: Mark) -> bool
     mark != Mark::Pulled
 }
 
-/// The entry of this id and mark, with its place.
+/// The entry of this id and mark, with its position.
 pub fn marked_at<S: Parted>(
     local: &Local<S>,
     id: u32,
@@ -47,7 +47,7 @@ pub fn marked_at<S: Parted>(
     }
 }
 
-/// The place of the last entry, if it has this id and is own and unpushed.
+/// The position of the last entry, if it has this id and is own and unpushed.
 pub fn last_unpushed<O: Copy>(entries: &[LocalEntry<O>], id: u32) -> Option<usize>
     ensures { MatchOption result (IsLast id (last entries.now) → ⊥)
         (IsLastUnpushed id entries.now) }
@@ -60,7 +60,7 @@ pub fn last_unpushed<O: Copy>(entries: &[LocalEntry<O>], id: u32) -> Option<usiz
     }
 }
 
-/// Whether the entry at a place is own.
+/// Whether the entry at a position is own.
 pub fn is_own_at<O: Copy>(entries: &[LocalEntry<O>], i: usize) -> bool
     requires { i < length entries.now }
     ensures { (e : EntryOf O) → slice_get entries.now i ≡ Some e → result ≡ is_own e.mark }
@@ -83,7 +83,7 @@ pub fn other_at<S: Parted>(shared: &Shared<S>, owner: &Name, id: u32) -> Option<
     }
 }
 
-/// The place of the first own entry that is not pushed.
+/// The position of the first own entry that is not pushed.
 pub fn first_unpushed<O: Copy>(entries: &[LocalEntry<O>]) -> Option<usize>
     ensures { result ≡ position (λ e. is_mark e.mark Mark.Unpushed) entries.now }
 {
@@ -105,7 +105,7 @@ fn stands_committed<S: Parted>(shared: &Shared<S>, id: u32) -> bool
     entry.committed
 }
 
-/// The place of the first pulled entry that does not stand committed.
+/// The position of the first pulled entry that does not stand committed.
 pub fn first_not_standing<S: Parted>(
     entries: &[LocalEntry<S::Op>],
     shared: &Shared<S>,

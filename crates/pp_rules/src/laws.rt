@@ -60,8 +60,7 @@ pub fn evidence_law<S: Spec>()
 {}
 
 /// What is shown of the evidence of a criterion of a start holds of that of the first false one.
-/// Where it holds of a detail, the criterion is false. Evidence tells operations of the objects
-/// alone.
+/// Where it holds of a detail, the criterion is false. The evidence of a start tells no operation.
 pub fn start_evidence_law<S: Spec>()
     ensures { (shape : S.Shape) → StartEvidenceLaw S.object shape }
 {}

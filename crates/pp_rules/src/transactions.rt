@@ -120,7 +120,7 @@ impl<S: Parted> Transactions<S> {
         Some(course.local())
     }
 
-    /// The course of an open transaction, behind the place of its slot.
+    /// The course of an open transaction, behind the position of its slot.
     pub fn course_at(&self, tx: &Name) -> Option<(usize, &Course<S>)>
         ensures course { option_map (λ r. r.1.now) result
             ≡ option_map course_of (open_at tx.now self.now.opened) }
@@ -189,7 +189,7 @@ impl<S: Parted> Transactions<S> {
         Ok(())
     }
 
-    /// Takes an entry out of the local log of the open transaction whose slot is at a place, unless
+    /// Takes an entry out of the local log of the open transaction whose slot is at a position, unless
     /// the list without it is not allowed. The only error is that memory was refused, and the
     /// transaction is then no longer open.
     pub fn remove_at<L: Ledger>(
@@ -225,7 +225,7 @@ impl<S: Parted> Transactions<S> {
         }
     }
 
-    /// Ends the transaction of the slot at a place, if it is open.
+    /// Ends the transaction of the slot at a position, if it is open.
     pub fn end_at(&mut self, place: usize)
         ensures ended { (t : NameOf) → slice_get self.old.names place ≡ Some t →
             self.new ≡ without_open t self.old }

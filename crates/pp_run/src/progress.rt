@@ -6,7 +6,7 @@ use pp_core::Rule;
 use pp_json::Header;
 use pp_object::{Objects, Op};
 use pp_rules::{Detail, Machine};
-use pp_styles::AnyFront;
+use pp_styles::BoxedFront;
 
 /// The header of a run, and how many of its lines, and of its begin records, were taken.
 #[derive(Drop)]
@@ -33,7 +33,7 @@ pub enum Progress {
     /// Only blank lines, so many.
     Waiting(u32),
     /// A header, and records whose steps meet their criteria.
-    Running(Tally, AnyFront, Machine<Objects>),
+    Running(Tally, BoxedFront, Machine<Objects>),
     /// A header whose start is rejected, or of whose records one is: those behind it are only read.
     Rejected(Tally, Rejection),
 }

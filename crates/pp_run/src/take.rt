@@ -40,7 +40,7 @@ use pp_json::{Header, RecordFault, read_header, read_record};
 use pp_object::{Objects, Op};
 use pp_report::Cause;
 use pp_rules::{Machine, Outcome};
-use pp_styles::{AnyFront, Halt, RunRecord, StepList, do_record};
+use pp_styles::{BoxedFront, Halt, RunRecord, StepList, do_record};
 use std::alloc::Global;
 use std::sync::ledger::Ledger;
 
@@ -152,11 +152,11 @@ fn with_start<L: Ledger>(
 }
 
 /// The front of the style of a header, which keeps nothing yet.
-fn first_front(alloc: Global, header: &Header) -> Result<AnyFront, OutOfMemory>
+fn first_front(alloc: Global, header: &Header) -> Result<BoxedFront, OutOfMemory>
     ensures { IfOk result (IsFirstFront header.now) }
 {
     let kinds = header.catalog.kinds(alloc)?;
-    Ok(AnyFront::new(alloc, header.style, kinds))
+    BoxedFront::new(alloc, header.style, kinds)
 }
 
 /// A run whose header, which stands on this line, was read.
@@ -242,7 +242,7 @@ fn read_next(alloc: Global, tally: &Tally, line: &Line) -> Result<RunRecord<Op>,
 /// The steps of a record, of a run that is not rejected so far. It answers all of them too.
 fn take_steps<L: Ledger>(
     tally: Tally,
-    mut front: AnyFront,
+    mut front: BoxedFront,
     machine: Machine<Objects>,
     recorded: &RunRecord<Op>,
     line: u32,
@@ -290,7 +290,7 @@ fn take_steps<L: Ledger>(
 fn take_record<L: Ledger>(
     alloc: Global,
     tally: Tally,
-    front: AnyFront,
+    front: BoxedFront,
     machine: Machine<Objects>,
     line: &Line,
     ticks: &mut Ticks<L>,

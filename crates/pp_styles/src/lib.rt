@@ -4,6 +4,7 @@
 
 mod any_front;
 mod boosted;
+mod boxed_front;
 mod dependent;
 mod drive;
 mod front;
@@ -19,6 +20,7 @@ mod walks;
 
 pub use any_front::AnyFront;
 pub use boosted::Boosted;
+pub use boxed_front::BoxedFront;
 pub use dependent::Dependent;
 pub use drive::{Halt, do_record, do_steps};
 pub use front::Front;

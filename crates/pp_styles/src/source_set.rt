@@ -36,7 +36,7 @@ pub fn add_source(sources: &mut SourceSet, source: &Name) -> Result<(), OutOfMem
 pub fn remove_source(sources: &mut SourceSet, source: &Name)
     ensures { sources.new.keys ≡ without_source source.now sources.old.keys }
 {
-    // It stands here for its clause that no name is there twice.
+    // The call of len is here for its clause alone: that no name stands twice.
     let _len = sources.len();
     sources.shift_remove(source);
 }
