@@ -15,12 +15,7 @@ use Rattle.pp_rules.specs.Evidence.{Fits}
 use Rattle.pp_rules.specs.declared.detail.Detail.{Detail}
 use Rattle.pp_rules.specs.declared.detail.Detail.TheVariants.{Nothing, Entry, Gives, Swap}
 use Rattle.pp_text.specs.Texts.{IsNamed, answer_bytes, op_bytes, state_bytes}
-use Rattle.pp_report.specs.declared.cause.Cause.{Cause}
-use Rattle.pp_report.specs.Words.{cause_bytes}
-
--- a text with its line end
-abbrev pub line : List ℕ → List ℕ
-line text = text ++ codes "\n"
+use Rattle.pp_reading.specs.FaultTexts.{line}
 
 -- the first line of an accepted run, with the number of its steps and of its committed transactions
 abbrev pub accepted_line : ℕ → ℕ → List ℕ
@@ -115,8 +110,3 @@ IsDetailNamed catalog detail = Fits objects (kinds_of catalog) detail
 abbrev pub rejected_text : Objects → ℕ → ℕ → Rule → ℕ → Detail Op → List ℕ
 rejected_text catalog step at_line rule criterion detail =
     rejected_line step at_line rule criterion ++ detail_text catalog detail
-
--- the report of a fault of the input
-abbrev pub fault_text : ℕ → Cause → List ℕ
-fault_text at_line cause =
-    line (codes "fault line " ++ decimal at_line ++ codes " " ++ cause_bytes cause)

@@ -1,9 +1,10 @@
 //! The evidence of a rejected run.
 ghost use Rattle.std.specs.Prelude.{◌≡◌, ◌++◌, OnOk};
 ghost use Rattle.pp_model.specs.Lists.{Each};
-ghost use Rattle.pp_report.specs.Reports.{IsDetailNamed, detail_text, entry_bytes, line, ops_bytes};
-ghost use Rattle.pp_report.specs.Reports.{ops_line, spaced_bytes};
 ghost use Rattle.pp_text.specs.Texts.{IsNamed};
+ghost use Rattle.pp_reading.specs.FaultTexts.{line};
+ghost use Rattle.pp_report.specs.Reports.{IsDetailNamed, detail_text, entry_bytes, ops_bytes};
+ghost use Rattle.pp_report.specs.Reports.{ops_line, spaced_bytes};
 
 use pp_core::{Catalog, OutOfMemory, Text};
 use pp_object::Op;

@@ -1,11 +1,9 @@
-//! The reports of rejected runs and of faults.
+//! The report of a rejected run.
 ghost use Rattle.std.specs.Prelude.{◌≡◌, ◌++◌, IfOk, OnOk};
 ghost use Rattle.pp_report.specs.Reports.{IsDetailNamed, rejected_place, rejected_rule};
-ghost use Rattle.pp_report.specs.Reports.{rejected_text, fault_text};
+ghost use Rattle.pp_report.specs.Reports.{rejected_text};
 
-use crate::cause::Cause;
 use crate::evidence::write_detail;
-use crate::words::write_cause;
 use pp_core::{Catalog, OutOfMemory, Rule, Text};
 use pp_object::Op;
 use pp_rules::Detail;
@@ -52,18 +50,5 @@ pub fn rejected(
     write_rule(&mut text, rule, criterion)?;
     text.append(b"\n")?;
     write_detail(&mut text, catalog, detail)?;
-    Ok(text)
-}
-
-/// The report of an input with a fault at a line.
-pub fn fault(alloc: Global, line: u32, cause: &Cause) -> Result<Text, OutOfMemory>
-    ensures { IfOk result (λ text. text ≡ fault_text line cause.now) }
-{
-    let mut text = Text::new(alloc);
-    text.append(b"fault line ")?;
-    write_number(&mut text, u64::from(line))?;
-    text.append(b" ")?;
-    write_cause(&mut text, *cause)?;
-    text.append(b"\n")?;
     Ok(text)
 }

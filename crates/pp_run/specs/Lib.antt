@@ -1,16 +1,3 @@
-pub mod Causes
-pub mod Objects
-pub mod Scans
-pub mod Inputs
 pub mod Words
 pub mod Writing
 pub mod Outputs
-pub mod Costs
-pub mod Progresses
-pub mod Takers
-pub mod Expansions
-pub mod Findings
-pub mod Certified
-pub mod Accepted
-pub mod Rejected
-pub mod Restated

@@ -3,25 +3,25 @@ ghost use Rattle.std.specs.Prelude.{◌≡◌, ◌≤◌, ◌↔◌, ◌⊎◌, 
 ghost use Rattle.std.specs.Io.KnownBytes.{IsAtEnd, Keeps};
 ghost use Rattle.pp_core.specs.declared.status.Status.TheVariants as statuses;
 ghost use Rattle.pp_io.specs.Faults.{HasRisen};
-ghost use Rattle.pp_run.specs.declared.stop.Failure.TheVariants.{ReadFault};
+ghost use Rattle.pp_reading.specs.declared.stop.Failure.TheVariants.{ReadFault};
+ghost use Rattle.pp_reading.specs.Sources.{WhereTold};
+ghost use Rattle.pp_certify.specs.Certified.{IsDecided, IsPrinted, IsUnwritten};
+ghost use Rattle.pp_certify.specs.Costs.{CostsAtLeast, CostsAtMost, StepsCostAtLeast, StepsCostAtMost};
+ghost use Rattle.pp_certify.specs.Inputs.{ReadsNoFault, scan};
+ghost use Rattle.pp_certify.specs.Accepted.{IsAloneAccepted, IsSimulated};
+ghost use Rattle.pp_certify.specs.Rejected.{IsEvident};
+ghost use Rattle.pp_certify.specs.Restated.{PrintsAgain};
 ghost use Rattle.pp_run.specs.declared.words.Command.TheVariants.{Certify, Expand};
-ghost use Rattle.pp_run.specs.Certified.{IsDecided, IsPrinted, IsUnwritten};
-ghost use Rattle.pp_run.specs.Costs.{CostsAtLeast, CostsAtMost, StepsCostAtLeast, StepsCostAtMost};
-ghost use Rattle.pp_run.specs.Inputs.{ReadsNoFault, scan};
-ghost use Rattle.pp_run.specs.Outputs.{IsOutput, Prints, PrintsPrefix, PrintsPrefixOnly};
-ghost use Rattle.pp_run.specs.Outputs.{PrintsOnly, WhereTold};
-ghost use Rattle.pp_run.specs.Accepted.{IsAloneAccepted, IsSimulated};
-ghost use Rattle.pp_run.specs.Rejected.{IsEvident};
-ghost use Rattle.pp_run.specs.Restated.{PrintsAgain};
+ghost use Rattle.pp_run.specs.Outputs.{IsOutput, Prints, PrintsOnly, PrintsPrefix};
+ghost use Rattle.pp_run.specs.Outputs.{PrintsPrefixOnly};
 ghost use Rattle.pp_run.specs.Words.{Examines, command_of};
 
-use crate::certify::certify;
-use crate::expand::expand;
-use crate::stop::Failure;
 use crate::words::{Command, read_words};
 use crate::write::{WriteError, send};
+use pp_certify::{certify, expand};
 use pp_core::{Status, Text, Ticks, Words};
 use pp_io::{Sink, Source};
+use pp_reading::Failure;
 use std::alloc::Global;
 use std::sync::ledger::Ledger;
 

@@ -17,9 +17,12 @@ pub struct BoxedFront {
 }
 
 impl Model for BoxedFront {
+    ghost use Rattle.pp_styles.specs.contracts.any_front.AnyFront as any_front;
     ghost use Rattle.pp_styles.specs.declared.any_front.AnyFront.{AnyFront as AnyFrontOf};
 
     ghost Value = { AnyFrontOf };
+
+    ghost coded = { any_front.the_row.coded };
 
     ghost view = { λ b. b.front.value };
 }

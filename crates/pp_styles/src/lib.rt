@@ -26,7 +26,6 @@ pub use drive::{Halt, do_record, do_steps};
 pub use front::Front;
 pub use hardware::Hardware;
 pub use optimistic::Optimistic;
-pub use pp_front::RunRecord;
 pub use pulls::refresh;
 pub use rules::Rules;
 pub use step_list::StepList;

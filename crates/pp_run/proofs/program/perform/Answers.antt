@@ -1,7 +1,7 @@
 use Rattle.std.proofs.Common.{Some, subst, sym}
 use Rattle.std.proofs.lemmas.Result.{IfOk-weaker}
 use Rattle.pp_run.specs.Outputs.{IsOutput}
-use Rattle.pp_run.proofs.Takers.{if_ok_all}
+use Rattle.pp_reading.proofs.Takers.{if_ok_all}
 use Rattle.pp_run.proofs.program.perform.Goals as goal
 
 pub returns-in-Certify-clause-output : goal.returns-in-Certify-clause-output

@@ -1,12 +1,13 @@
 use Rattle.std.proofs.Common.{◌≡◌, Some, inr, rules, subst, sym, ◌∙◌}
 use Rattle.std.specs.Io.KnownBytes.{Appends}
-use Rattle.pp_run.specs.Outputs.{IsCertified, IsOutput}
+use Rattle.pp_certify.specs.Reports.{IsCertified}
+use Rattle.pp_run.specs.Outputs.{IsOutput}
 use Rattle.pp_run.specs.Words.{command_of}
 use Rattle.pp_run.specs.Writing.{AppendsPrefix}
 use Rattle.pp_run.specs.declared.words.Command.TheVariants.{Certify, Expand}
-use Rattle.pp_run.proofs.Concluding.{accepted_alone, accepted_simulated}
-use Rattle.pp_run.proofs.Expanding.{one_output}
-use Rattle.pp_run.proofs.Restated.{prints_again}
+use Rattle.pp_certify.proofs.Concluding.{accepted_alone, accepted_simulated}
+use Rattle.pp_certify.proofs.Restated.{prints_again}
+use Rattle.pp_run.proofs.Printing.{one_output}
 use Rattle.pp_run.proofs.program.run.Goals as goal
 
 pub returns-in-Ok-send-clause-only : goal.returns-in-Ok-send-clause-only

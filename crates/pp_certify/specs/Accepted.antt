@@ -1,0 +1,36 @@
+-- Meaning: what an accepted run promises of its committed transactions.
+use Rattle.std.specs.Prelude.{◌≡◌, Some}
+use Rattle.pp_front.specs.Runs.{IsRun, Lined, LinedSteps, bare}
+use Rattle.pp_json.specs.declared.header.Header.{Header}
+use Rattle.pp_model.specs.Alone.{alone}
+use Rattle.pp_model.specs.Config.{first}
+use Rattle.pp_model.specs.Rules.{RunsFrom}
+use Rattle.pp_model.specs.Serial.{Simulated, attempts}
+use Rattle.pp_object.specs.declared.act.Op.{Op}
+use Rattle.pp_certify.specs.Objects.{object_of, start_of, translation_of}
+use Rattle.pp_certify.specs.Scans.{InputScan}
+
+-- the header of a scan, and the run of its records
+pub record HasRun (sc : InputScan) : Type 0 where
+  pub header : Lined Header
+  pub run : LinedSteps Op
+  pub first_line : sc.header ≡ Some header
+  pub steps : IsRun (object_of header.what) (translation_of header.what) (start_of header.what)
+      sc.records run
+
+-- There is a run, and in every run of these records (there is one at most) the committed
+-- transactions, one after another in commit order, simulate it.
+abbrev pub IsSimulated : InputScan → Type 0
+IsSimulated sc = HasRun sc
+    × ((r : HasRun sc) → Simulated (object_of r.header.what) (start_of r.header.what) (bare r.run))
+
+-- These transactions, each alone, are an accepted run of the same transactions.
+abbrev pub RunsAlone : Header → LinedSteps Op → Type 0
+RunsAlone header run =
+    let start = start_of header in let steps = bare run in
+    RunsFrom (object_of header) (first start) (alone start steps)
+    × (attempts start (alone start steps) ≡ attempts start steps)
+
+-- There is a run, and in every run of these records the committed transactions run alone too.
+abbrev pub IsAloneAccepted : InputScan → Type 0
+IsAloneAccepted sc = HasRun sc × ((r : HasRun sc) → RunsAlone r.header.what r.run)

@@ -1,0 +1,13 @@
+pub mod Causes
+pub mod Objects
+pub mod Scans
+pub mod Inputs
+pub mod Reports
+pub mod Costs
+pub mod Progresses
+pub mod Expansions
+pub mod Findings
+pub mod Certified
+pub mod Accepted
+pub mod Rejected
+pub mod Restated

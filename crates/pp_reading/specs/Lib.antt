@@ -1,0 +1,5 @@
+pub mod Words
+pub mod FaultTexts
+pub mod Limits
+pub mod Sources
+pub mod Takers
