@@ -15,8 +15,9 @@ import sys
 ROOT = pathlib.Path(__file__).resolve().parent.parent
 PAGES = ("README.md", "docs/RECORDING.md")
 COMMAND = re.compile(r"^ {4}\$ \./pp_cli (certify|expand) < examples/(\w+\.jsonl)\n((?: {4}.+\n)*)", re.MULTILINE)
+MADE = re.compile(r"^ {4}\$ \./pp_cli (drill \d+)\n((?: {4}.+\n)*)", re.MULTILINE)
 TOO_LONG = 4_096 * (65_536 * b" " + b"\n")
-STATUS = {"accepted": 0, "rejected": 1, "fault": 3}
+STATUS = {"accepted": 0, "rejected": 1, "fault": 3, "drill": 0}
 
 
 def shown(command):
@@ -25,9 +26,15 @@ def shown(command):
     return [(name, re.sub(r"^ {4}", "", block, flags=re.MULTILINE)) for word, name, block in blocks if word == command]
 
 
+def made():
+    """The commands on the pages that read no input, each with its output."""
+    blocks = [found for page in PAGES for found in MADE.findall((ROOT / page).read_text())]
+    return [(command, re.sub(r"^ {4}", "", block, flags=re.MULTILINE)) for command, block in blocks]
+
+
 def differs(program, command, run, output, report):
     """What the program does otherwise on a run, or nothing. The report of the run says how it is to end."""
-    ran = subprocess.run([program, command], input=run, capture_output=True, timeout=120, check=False)
+    ran = subprocess.run([program, *command.split()], input=run, capture_output=True, timeout=120, check=False)
     if ran.stdout.decode() != output:
         return f"prints\n{ran.stdout.decode()}and not\n{output}"
     wanted = STATUS[report.split()[0]]
@@ -39,7 +46,9 @@ def wrong_answers(program, reports, expanded):
     runs = [(name, "certify", (ROOT / "examples" / name).read_bytes(), report, report) for name, report in sorted(reports)]
     runs += [(name, "expand", (ROOT / "examples" / name).read_bytes(), output, report_of[name]) for name, output in sorted(expanded)]
     too_long = "fault line 4096 TooLong\n"
-    for name, command, run, output, report in [*runs, ("too many bytes", "certify", TOO_LONG, too_long, too_long)]:
+    runs.append(("too many bytes", "certify", TOO_LONG, too_long, too_long))
+    runs += [("no input", command, b"", output, output) for command, output in made()]
+    for name, command, run, output, report in runs:
         said = differs(program, command, run, output, report)
         if said:
             yield f"{name}: the program, on {command}, {said}"

@@ -4,6 +4,7 @@ mod expanded_runs;
 mod faulty_inputs;
 mod given_words;
 mod long_inputs;
+mod made_runs;
 mod rejected_runs;
 mod row;
 mod starts;
@@ -16,6 +17,7 @@ use crate::tests::expanded_runs::{EXPANDED, OLD_READ};
 use crate::tests::faulty_inputs::FAULTY;
 use crate::tests::given_words::GivenWords;
 use crate::tests::long_inputs::{LONG, bytes_of};
+use crate::tests::made_runs::MADE;
 use crate::tests::rejected_runs::REJECTED;
 use crate::tests::row::{COUNTER, Row};
 use crate::tests::starts::STARTS;
@@ -23,6 +25,7 @@ use crate::tests::style_faults::STYLE_FAULTS;
 use crate::tests::styled_runs::STYLED;
 use crate::words::collect_words;
 use pp_core::{Status, Words};
+use pp_drill::drill_run;
 use pp_io::{MemorySink, MemorySource, Source};
 use std::alloc::Global;
 use std::marker::Brand;
@@ -201,8 +204,37 @@ fn long_inputs_have_their_reports(rt: HostRuntime) -> Result<(), Fail> {
     Ok(())
 }
 
+#[test]
+fn made_runs_have_their_reports_whatever_the_source_is(rt: HostRuntime) -> Result<(), Fail> {
+    let alloc = rt.alloc();
+    for made in &MADE {
+        let mut words = Words::new(alloc);
+        words.push(b"drill")?;
+        words.push(made.number)?;
+        let mut source = MemorySource::new(added(alloc)?, Vec::new(alloc), vec![in alloc; 0u64]?);
+        let mut sink = MemorySink::new(alloc, 3, Vec::new(alloc));
+        let status = status_of(&words, &mut source, &mut sink, alloc);
+        let answer = (status, sink.held().to_vec(alloc)?);
+        assert_answer(&rt, "a made run", &answer, Status::Accepted, made.report);
+    }
+    Ok(())
+}
+
+#[test]
+fn a_made_run_is_an_input_with_the_same_report(rt: HostRuntime) -> Result<(), Fail> {
+    let alloc = rt.alloc();
+    let input = drill_run(alloc, 2_000)?.bytes().to_vec(alloc)?;
+    let (status, report) = certified_bytes(alloc, input, false)?;
+    let first = b"accepted steps 16999 committed 2000\n".as_slice();
+    let states = b"state m 0=1000\nstate c 6000\nstate s\n".as_slice();
+    assert_eq!(rt; status, Status::Accepted);
+    assert_eq!(rt; report.as_slice().starts_with(first), true);
+    assert_eq!(rt; report.as_slice().ends_with(states), true);
+    Ok(())
+}
+
 /// Words that are no command, behind the program's own name.
-const NO_COMMANDS: [&[&[u8]]; 12] = [
+const NO_COMMANDS: [&[&[u8]]; 15] = [
     &[b"pp_cli"],
     &[b"pp_cli", b"certify", b"certify"],
     &[b"pp_cli", b"certify", b"expand"],
@@ -212,6 +244,9 @@ const NO_COMMANDS: [&[&[u8]]; 12] = [
     &[b"pp_cli", b"drill", b"0"],
     &[b"pp_cli", b"drill", b"20001"],
     &[b"pp_cli", b"drill", b"007"],
+    &[b"pp_cli", b"drill", b"+7"],
+    &[b"pp_cli", b"drill"],
+    &[b"pp_cli", b"drill", b"7", b"7"],
     &[b"pp_cli", b""],
     &[b"pp_cli", b"certif\xff"],
     &[b"pp_cli", &[b'c'; 300]],

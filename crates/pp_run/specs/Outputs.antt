@@ -3,16 +3,27 @@ use Rattle.std.specs.Prelude.{◌≡◌, ℕ, List, [], Option, None, Some}
 use Rattle.std.specs.Io.KnownBytes.{Appends}
 use Rattle.pp_core.specs.declared.status.Status.{Status}
 use Rattle.pp_core.specs.declared.status.Status.TheVariants as statuses
+use Rattle.pp_reading.specs.Sources.{WhereTold}
 use Rattle.pp_certify.specs.Reports.{IsCertified, IsExpanded}
+use Rattle.pp_drill.specs.Reports.{IsDrilled}
 use Rattle.pp_run.specs.declared.words.Command.{Command}
-use Rattle.pp_run.specs.declared.words.Command.TheVariants.{Certify, Expand}
+use Rattle.pp_run.specs.declared.words.Command.TheVariants.{Certify, Drill, Expand}
 use Rattle.pp_run.specs.Writing.{AppendsPrefix}
+
+-- Of the input of a command this holds: of the bytes that the source has left, where they are told.
+-- A command that examines no input has none, whatever the source has.
+abbrev pub OfInput : Option Command → Option (List ℕ) → (List ℕ → Type 0) → Type 0
+OfInput None left P = P []
+OfInput (Some Certify) left P = WhereTold left P
+OfInput (Some Expand) left P = WhereTold left P
+OfInput (Some (Drill n)) left P = P []
 
 -- the status and the text of a command; words that are no command print nothing
 abbrev pub IsOutput : Option Command → List ℕ → Status → List ℕ → Type 0
 IsOutput None bytes status text = (status ≡ statuses.BadWords) × (text ≡ [])
 IsOutput (Some Certify) bytes status text = IsCertified bytes status text
 IsOutput (Some Expand) bytes status text = IsExpanded bytes status text
+IsOutput (Some (Drill n)) bytes status text = IsDrilled n status text
 
 -- known bytes grow by an output that is defined, with this status
 abbrev pub Prints : Option Command → List ℕ → Status → Option (List ℕ) → Option (List ℕ) → Type 0

@@ -11,8 +11,9 @@ ghost use Rattle.pp_certify.specs.Inputs.{ReadsNoFault, scan};
 ghost use Rattle.pp_certify.specs.Accepted.{IsAloneAccepted, IsSimulated};
 ghost use Rattle.pp_certify.specs.Rejected.{IsEvident};
 ghost use Rattle.pp_certify.specs.Restated.{PrintsAgain};
-ghost use Rattle.pp_run.specs.declared.words.Command.TheVariants.{Certify, Expand};
-ghost use Rattle.pp_run.specs.Outputs.{IsOutput, Prints, PrintsOnly, PrintsPrefix};
+ghost use Rattle.pp_drill.specs.Reports.{drill_scan};
+ghost use Rattle.pp_run.specs.declared.words.Command.TheVariants.{Certify, Drill, Expand};
+ghost use Rattle.pp_run.specs.Outputs.{IsOutput, OfInput, Prints, PrintsOnly, PrintsPrefix};
 ghost use Rattle.pp_run.specs.Outputs.{PrintsPrefixOnly};
 ghost use Rattle.pp_run.specs.Words.{Examines, command_of};
 
@@ -20,24 +21,30 @@ use crate::words::{Command, read_words};
 use crate::write::{WriteError, send};
 use pp_certify::{certify, expand};
 use pp_core::{Status, Text, Ticks, Words};
+use pp_drill::drill;
 use pp_io::{Sink, Source};
 use pp_reading::Failure;
 use std::alloc::Global;
 use std::sync::ledger::Ledger;
 
-/// The status and the output of a command. It reads the source, and writes nothing.
+/// The status and the output of a command. It reads the source where the command examines an input,
+/// and writes nothing.
 fn perform<S: Source, L: Ledger>(
     alloc: Global,
     command: Command,
     source: &mut S,
     ticks: &mut Ticks<L>,
 ) -> Result<(Status, Text), Failure>
-    ensures output { IfOk result (λ r. (bytes : List ℕ) → S.left source.old ≡ Some bytes →
+    requires { (n : ℕ) → command ≡ Drill n → (1 ≤ n) × (n ≤ 20_000) }
+    ensures output { IfOk result (λ r. OfInput (Some command) (S.left source.old) λ bytes.
         IsOutput (Some command) bytes r.0 r.1) }
     ensures status { IfOk result (λ r. IsDecided r.0 ⊎ (r.0 ≡ statuses.InputFault)) }
-    ensures end { IfOk result (λ r. IsDecided r.0 → IsAtEnd (S.left source.new)) }
+    ensures end { IfOk result (λ r. Examines (Some command) → IsDecided r.0 →
+        IsAtEnd (S.left source.new)) }
     ensures shown { IfOk result (λ r. r.0 ≡ statuses.Rejected →
         WhereTold (S.left source.old) λ bytes. IsEvident (scan bytes)) }
+    ensures untouched { ¬ Examines (Some command) → source.new ≡ source.old }
+    ensures reading { IsErrOf result ReadFault → Examines (Some command) }
     ensures read_fault { IsErrOf result ReadFault →
         HasRisen (S.faults source.old) (S.faults source.new)
         × ReadsNoFault (S.left source.old) (S.left source.new) }
@@ -52,10 +59,18 @@ fn perform<S: Source, L: Ledger>(
     ensures steps_least { IfOk result (λ r. command ≡ Expand → IsDecided r.0 →
         WhereTold (S.left source.old) λ bytes.
         StepsCostAtLeast r.0 (scan bytes) ticks.old ticks.new) }
+    ensures drill_most { (n : ℕ) → command ≡ Drill n →
+        CostsAtMost (drill_scan n) ticks.old ticks.new }
+    ensures drill_least { IfOk result (λ r. (n : ℕ) → command ≡ Drill n →
+        CostsAtLeast statuses.Accepted (drill_scan n) ticks.old ticks.new) }
 {
     match command {
         Command::Certify => certify(alloc, source, ticks),
         Command::Expand => expand(alloc, source, ticks),
+        Command::Drill { n } => {
+            let report = drill(alloc, n, ticks)?;
+            Ok(report)
+        }
     }
 }
 
@@ -72,14 +87,15 @@ pub fn run<S: Source, K: Sink, L: Ledger>(
     ticks: &mut Ticks<L>,
 ) -> Status
     // What is printed is the output that the words and the input define, and they define no other.
-    ensures output { IsPrinted result → WhereTold (S.left source.old) λ bytes.
+    ensures output { IsPrinted result → OfInput (command_of words.now) (S.left source.old) λ bytes.
         Prints (command_of words.now) bytes result (K.held sink.old) (K.held sink.new) }
-    ensures only { IsPrinted result → WhereTold (S.left source.old) λ bytes.
+    ensures only { IsPrinted result → OfInput (command_of words.now) (S.left source.old) λ bytes.
         PrintsOnly (command_of words.now) bytes result (K.held sink.old) (K.held sink.new) }
 
-    // Words that are no command touch nothing.
+    // Words that are no command touch nothing, and a command that examines no input leaves the
+    // source as it was.
     ensures bad_words { (result ≡ statuses.BadWords) ↔ (command_of words.now ≡ None) }
-    ensures source_untouched { result ≡ statuses.BadWords → source.new ≡ source.old }
+    ensures source_untouched { ¬ Examines (command_of words.now) → source.new ≡ source.old }
     ensures sink_untouched { result ≡ statuses.BadWords → sink.new ≡ sink.old }
     ensures ticks_untouched { result ≡ statuses.BadWords → ticks.new ≡ ticks.old }
 
@@ -92,18 +108,21 @@ pub fn run<S: Source, K: Sink, L: Ledger>(
         HasRisen (S.faults source.old) (S.faults source.new)
         × Keeps (K.held sink.old) (K.held sink.new)
         × ReadsNoFault (S.left source.old) (S.left source.new) }
+    ensures reading { result ≡ statuses.ReadFault → Examines (command_of words.now) }
 
     // A failed write is told only where one failed, and a prefix of the output was written.
     ensures write_fault { result ≡ statuses.WriteFault →
         HasRisen (K.faults sink.old) (K.faults sink.new) }
-    ensures written { result ≡ statuses.WriteFault → WhereTold (S.left source.old) λ bytes.
+    ensures written { result ≡ statuses.WriteFault →
+        OfInput (command_of words.now) (S.left source.old) λ bytes.
         PrintsPrefix (command_of words.now) bytes (K.held sink.old) (K.held sink.new) }
 
     // Where memory was refused, nothing was written, or a prefix of the output.
     ensures refused { result ≡ statuses.OutOfMemory → Keeps (K.held sink.old) (K.held sink.new)
-        ⊎ WhereTold (S.left source.old) λ bytes.
+        ⊎ OfInput (command_of words.now) (S.left source.old) λ bytes.
         PrintsPrefix (command_of words.now) bytes (K.held sink.old) (K.held sink.new) }
-    ensures prefix { IsUnwritten result → WhereTold (S.left source.old) λ bytes.
+    ensures prefix { IsUnwritten result →
+        OfInput (command_of words.now) (S.left source.old) λ bytes.
         PrintsPrefixOnly (command_of words.now) bytes (K.held sink.old) (K.held sink.new) }
 
     // The counts of faults never fall.
@@ -114,6 +133,14 @@ pub fn run<S: Source, K: Sink, L: Ledger>(
     ensures complete { ¬ HasRisen (S.faults source.old) (S.faults source.new) →
         ¬ HasRisen (K.faults sink.old) (K.faults sink.new) →
         (result ≡ statuses.OutOfMemory) ⊎ IsPrinted result }
+
+    // A command that examines no input does not ask whether a read failed. The run that `drill`
+    // makes is accepted.
+    ensures no_input { ¬ Examines (command_of words.now) →
+        ¬ HasRisen (K.faults sink.old) (K.faults sink.new) →
+        (result ≡ statuses.OutOfMemory) ⊎ IsPrinted result }
+    ensures accepted { (n : ℕ) → command_of words.now ≡ Some (Drill n) → IsPrinted result →
+        result ≡ statuses.Accepted }
 
     // A run that is certified is simulated by its committed transactions, one after another in
     // commit order, and these transactions, each alone, are an accepted run.
@@ -150,6 +177,13 @@ pub fn run<S: Source, K: Sink, L: Ledger>(
     ensures steps_least { command_of words.now ≡ Some Expand → IsDecided result →
         WhereTold (S.left source.old) λ bytes.
         StepsCostAtLeast result (scan bytes) ticks.old ticks.new }
+
+    // Those of a run that is certified hold of the run that `drill` makes, of every source.
+    ensures drill_most { (n : ℕ) → command_of words.now ≡ Some (Drill n) →
+        CostsAtMost (drill_scan n) ticks.old ticks.new }
+    ensures drill_least { (n : ℕ) → command_of words.now ≡ Some (Drill n) →
+        result ≡ statuses.Accepted →
+        CostsAtLeast statuses.Accepted (drill_scan n) ticks.old ticks.new }
 {
     let Some(command) = read_words(words) else {
         return Status::BadWords;

@@ -1,8 +1,10 @@
 //! The words of a command.
 ghost use Rattle.std.specs.Prelude.{◌≡◌};
-ghost use Rattle.pp_run.specs.Words.{command_of};
+ghost use Rattle.pp_run.specs.Words.{command_named, command_of, command_with, drill_number};
 
+use itoa::Buffer;
 use pp_core::Words;
+use std::str;
 
 /// What the program is asked to do.
 #[derive(Clone, Copy, Debug, PartialEq, Eq)]
@@ -11,6 +13,53 @@ pub enum Command {
     Certify,
     /// Print the run of rule steps that the input stands for.
     Expand,
+    /// Make the run of n transactions, and sum up what it comes to.
+    Drill { n: u32 },
+}
+
+/// The number of transactions that a word asks for.
+fn drill_number(word: &[u8]) -> Option<u32>
+    ensures { result ≡ drill_number word.now }
+{
+    let Ok(text) = str::from_utf8(word) else {
+        return None;
+    };
+    let Ok(n) = text.parse::<u32>() else {
+        return None;
+    };
+    if n == 0 || n > 20_000 {
+        return None;
+    }
+    let mut buffer = Buffer::new();
+    if buffer.format(n).as_bytes() == word {
+        Some(n)
+    } else {
+        None
+    }
+}
+
+/// The command of one word.
+fn command_named(word: &[u8]) -> Option<Command>
+    ensures { result ≡ command_named word.now }
+{
+    if word == b"certify".as_slice() {
+        Some(Command::Certify)
+    } else if word == b"expand".as_slice() {
+        Some(Command::Expand)
+    } else {
+        None
+    }
+}
+
+/// The command of two words.
+fn command_with(word: &[u8], number: &[u8]) -> Option<Command>
+    ensures { result ≡ command_with word.now number.now }
+{
+    if word != b"drill".as_slice() {
+        return None;
+    }
+    let n = drill_number(number)?;
+    Some(Command::Drill { n })
 }
 
 /// The command that the words are, None exactly where they are no command. The program's own name
@@ -18,15 +67,13 @@ pub enum Command {
 pub fn read_words(words: &Words) -> Option<Command>
     ensures { result ≡ command_of words.now }
 {
-    if words.len() != 1 {
-        return None;
-    }
     let word = words.get(0)?;
-    if word.bytes() == b"certify".as_slice() {
-        Some(Command::Certify)
-    } else if word.bytes() == b"expand".as_slice() {
-        Some(Command::Expand)
-    } else {
-        None
+    match words.len() {
+        1 => command_named(word.bytes()),
+        2 => {
+            let number = words.get(1)?;
+            command_with(word.bytes(), number.bytes())
+        }
+        _ => None,
     }
 }

@@ -1,73 +1,105 @@
-use Rattle.std.proofs.Common.{◌≡◌, Some, inr, rules, subst, sym, ◌∙◌}
+use Rattle.std.proofs.Common.{◌≡◌, Some, inr, rules, ap, subst, ◌∙◌}
 use Rattle.std.specs.Io.KnownBytes.{Appends}
-use Rattle.pp_certify.specs.Reports.{IsCertified}
-use Rattle.pp_run.specs.Outputs.{IsOutput}
-use Rattle.pp_run.specs.Words.{command_of}
-use Rattle.pp_run.specs.Writing.{AppendsPrefix}
-use Rattle.pp_run.specs.declared.words.Command.TheVariants.{Certify, Expand}
 use Rattle.pp_certify.proofs.Concluding.{accepted_alone, accepted_simulated}
 use Rattle.pp_certify.proofs.Restated.{prints_again}
-use Rattle.pp_run.proofs.Printing.{one_output}
+use Rattle.pp_certify.specs.Reports.{IsCertified}
+use Rattle.pp_run.proofs.Numbers.{drill_within}
+use Rattle.pp_run.proofs.Printing.{prints, prints_only, prints_prefix, prints_prefix_only}
+use Rattle.pp_run.specs.Outputs.{IsOutput, OfInput}
+use Rattle.pp_run.specs.Words.{Examines, command_of}
+use Rattle.pp_run.specs.Writing.{AppendsPrefix}
+use Rattle.pp_run.specs.declared.words.Command.{Command}
+use Rattle.pp_run.specs.declared.words.Command.TheVariants.{Certify, Drill, Expand}
 use Rattle.pp_run.proofs.program.run.Goals as goal
 
-pub returns-in-Ok-send-clause-only : goal.returns-in-Ok-send-clause-only
-returns-in-Ok-send-clause-only g c = λ printed bytes is status text output.
+-- the number of a drill is one of a run
+pub perform-requires : goal.perform-requires
+perform-requires g c = λ n is.
     let command : command_of c.args.words.now ≡ Some c.in-Some.command = search rules in
-    let one = one_output (Some c.in-Some.command) bytes c.in-Ok.report.0 status c.in-Ok.report.1 text (c.in-Ok.ensures.output bytes is) (subst (λ o. IsOutput o bytes status text) command output) in
-    (sym one.0, subst (Appends (g.K.Sink.held c.args.sink.now) (g.K.Sink.held c.send.new.sink)) (c.bytes.ensures ∙ one.1) c.in-Ok-send.ensures.ok)
+    drill_within c.args.words.now n (command ∙ ap (λ (k : Command). Some k) is)
+
+-- ---- what is printed
+
+pub returns-in-Ok-send-clause-output : goal.returns-in-Ok-send-clause-output
+returns-in-Ok-send-clause-output g c = λ printed.
+    let old = g.K.Sink.held c.args.sink.now in
+    let new = g.K.Sink.held c.send.new.sink in
+    let command : command_of c.args.words.now ≡ Some c.in-Some.command = search rules in
+    prints (command_of c.args.words.now) c.in-Some.command command (g.S.Source.left c.args.source.now) old new c.in-Ok.report.0 c.in-Ok.report.1 c.in-Ok.ensures.output (subst (Appends old new) c.bytes.ensures c.in-Ok-send.ensures.ok)
+
+pub returns-in-Ok-send-clause-only : goal.returns-in-Ok-send-clause-only
+returns-in-Ok-send-clause-only g c = λ printed.
+    let old = g.K.Sink.held c.args.sink.now in
+    let new = g.K.Sink.held c.send.new.sink in
+    let command : command_of c.args.words.now ≡ Some c.in-Some.command = search rules in
+    prints_only (command_of c.args.words.now) c.in-Some.command command (g.S.Source.left c.args.source.now) old new c.in-Ok.report.0 c.in-Ok.report.1 c.in-Ok.ensures.output (subst (Appends old new) c.bytes.ensures c.in-Ok-send.ensures.ok)
+
+pub returns-in-Err-WriteFault-clause-written : goal.returns-in-Err-WriteFault-clause-written
+returns-in-Err-WriteFault-clause-written g c = λ failed.
+    let old = g.K.Sink.held c.args.sink.now in
+    let new = g.K.Sink.held c.send.new.sink in
+    let command : command_of c.args.words.now ≡ Some c.in-Some.command = search rules in
+    prints_prefix (command_of c.args.words.now) c.in-Some.command command (g.S.Source.left c.args.source.now) old new c.in-Ok.report.0 c.in-Ok.report.1 c.in-Ok.ensures.output (subst (AppendsPrefix old new) c.bytes.ensures c.in-Err-WriteFault.ensures.err)
+
+pub returns-in-Err-WriteFault-clause-prefix : goal.returns-in-Err-WriteFault-clause-prefix
+returns-in-Err-WriteFault-clause-prefix g c = λ unwritten.
+    let old = g.K.Sink.held c.args.sink.now in
+    let new = g.K.Sink.held c.send.new.sink in
+    let command : command_of c.args.words.now ≡ Some c.in-Some.command = search rules in
+    prints_prefix_only (command_of c.args.words.now) c.in-Some.command command (g.S.Source.left c.args.source.now) old new c.in-Ok.report.0 c.in-Ok.report.1 c.in-Ok.ensures.output (subst (AppendsPrefix old new) c.bytes.ensures c.in-Err-WriteFault.ensures.err)
+
+pub returns-clause-refused : goal.returns-clause-refused
+returns-clause-refused g c = λ refused.
+    let old = g.K.Sink.held c.args.sink.now in
+    let new = g.K.Sink.held c.send.new.sink in
+    let command : command_of c.args.words.now ≡ Some c.in-Some.command = search rules in
+    inr (prints_prefix (command_of c.args.words.now) c.in-Some.command command (g.S.Source.left c.args.source.now) old new c.in-Ok.report.0 c.in-Ok.report.1 c.in-Ok.ensures.output (subst (AppendsPrefix old new) c.bytes.ensures c.in-Err-Memory.ensures.err))
+
+pub returns-clause-prefix : goal.returns-clause-prefix
+returns-clause-prefix g c = λ unwritten.
+    let old = g.K.Sink.held c.args.sink.now in
+    let new = g.K.Sink.held c.send.new.sink in
+    let command : command_of c.args.words.now ≡ Some c.in-Some.command = search rules in
+    prints_prefix_only (command_of c.args.words.now) c.in-Some.command command (g.S.Source.left c.args.source.now) old new c.in-Ok.report.0 c.in-Ok.report.1 c.in-Ok.ensures.output (subst (AppendsPrefix old new) c.bytes.ensures c.in-Err-Memory.ensures.err)
+
+-- ---- what holds of it
 
 pub returns-in-Ok-send-clause-simulated : goal.returns-in-Ok-send-clause-simulated
 returns-in-Ok-send-clause-simulated g c = λ certify accepted bytes is.
     let same : c.in-Some.command ≡ Certify = cc in
-    let told = subst (λ o. IsOutput (Some o) bytes c.in-Ok.report.0 c.in-Ok.report.1) same (c.in-Ok.ensures.output bytes is) in
+    let left = g.S.Source.left c.args.source.now in
+    let told = subst (λ (k : Command). OfInput (Some k) left (λ bs. IsOutput (Some k) bs c.in-Ok.report.0 c.in-Ok.report.1)) same c.in-Ok.ensures.output bytes is in
     accepted_simulated bytes c.in-Ok.report.1 (subst (λ s. IsCertified bytes s c.in-Ok.report.1) accepted told)
 
 pub returns-in-Ok-send-clause-alone : goal.returns-in-Ok-send-clause-alone
 returns-in-Ok-send-clause-alone g c = λ certify accepted bytes is.
     let same : c.in-Some.command ≡ Certify = cc in
-    let told = subst (λ o. IsOutput (Some o) bytes c.in-Ok.report.0 c.in-Ok.report.1) same (c.in-Ok.ensures.output bytes is) in
+    let left = g.S.Source.left c.args.source.now in
+    let told = subst (λ (k : Command). OfInput (Some k) left (λ bs. IsOutput (Some k) bs c.in-Ok.report.0 c.in-Ok.report.1)) same c.in-Ok.ensures.output bytes is in
     accepted_alone bytes c.in-Ok.report.1 (subst (λ s. IsCertified bytes s c.in-Ok.report.1) accepted told)
 
 pub returns-in-Ok-send-clause-again : goal.returns-in-Ok-send-clause-again
 returns-in-Ok-send-clause-again g c = λ expand decided bytes is.
     let same : c.in-Some.command ≡ Expand = cc in
-    let told = subst (λ o. IsOutput (Some o) bytes c.in-Ok.report.0 c.in-Ok.report.1) same (c.in-Ok.ensures.output bytes is) in
+    let left = g.S.Source.left c.args.source.now in
+    let told = subst (λ (k : Command). OfInput (Some k) left (λ bs. IsOutput (Some k) bs c.in-Ok.report.0 c.in-Ok.report.1)) same c.in-Ok.ensures.output bytes is in
     prints_again bytes c.in-Ok.report.0 c.in-Ok.report.1 (g.K.Sink.held c.args.sink.now) (g.K.Sink.held c.send.new.sink) decided told
     (subst (Appends (g.K.Sink.held c.args.sink.now) (g.K.Sink.held c.send.new.sink)) c.bytes.ensures c.in-Ok-send.ensures.ok)
 
 pub returns-in-Ok-send-clause-end : goal.returns-in-Ok-send-clause-end
-returns-in-Ok-send-clause-end g c = λ examines decided. c.in-Ok.ensures.end decided
+returns-in-Ok-send-clause-end g c = λ examines decided.
+    let command : command_of c.args.words.now ≡ Some c.in-Some.command = search rules in
+    c.in-Ok.ensures.end (subst Examines command examines) decided
 
 pub returns-in-Ok-send-clause-shown : goal.returns-in-Ok-send-clause-shown
 returns-in-Ok-send-clause-shown g c = λ examines rejected bytes is. c.in-Ok.ensures.shown rejected bytes is
 
-pub returns-in-Err-WriteFault-clause-prefix : goal.returns-in-Err-WriteFault-clause-prefix
-returns-in-Err-WriteFault-clause-prefix g c = λ unwritten bytes is status text output.
-    let command : command_of c.args.words.now ≡ Some c.in-Some.command = search rules in
-    subst (AppendsPrefix (g.K.Sink.held c.args.sink.now) (g.K.Sink.held c.send.new.sink)) (c.bytes.ensures ∙ (one_output (Some c.in-Some.command) bytes c.in-Ok.report.0 status c.in-Ok.report.1 text (c.in-Ok.ensures.output bytes is) (subst (λ o. IsOutput o bytes status text) command output)).1) c.in-Err-WriteFault.ensures.err
-
-pub returns-clause-prefix : goal.returns-clause-prefix
-returns-clause-prefix g c = λ unwritten bytes is status text output.
-    let command : command_of c.args.words.now ≡ Some c.in-Some.command = search rules in
-    subst (AppendsPrefix (g.K.Sink.held c.args.sink.now) (g.K.Sink.held c.send.new.sink)) (c.bytes.ensures ∙ (one_output (Some c.in-Some.command) bytes c.in-Ok.report.0 status c.in-Ok.report.1 text (c.in-Ok.ensures.output bytes is) (subst (λ o. IsOutput o bytes status text) command output)).1) c.in-Err-Memory.ensures.err
-
-pub returns-in-Err-WriteFault-clause-written : goal.returns-in-Err-WriteFault-clause-written
-returns-in-Err-WriteFault-clause-written g c = λ failed bytes is.
-    let command : command_of c.args.words.now ≡ Some c.in-Some.command = search rules in
-    (c.in-Ok.report.0, c.bytes.result.now, subst (λ o. IsOutput o bytes c.in-Ok.report.0 c.bytes.result.now) (sym command) (subst (IsOutput (Some c.in-Some.command) bytes c.in-Ok.report.0) (sym c.bytes.ensures) (c.in-Ok.ensures.output bytes is)), c.in-Err-WriteFault.ensures.err)
-
-pub returns-clause-refused : goal.returns-clause-refused
-returns-clause-refused g c = λ refused. inr (λ bytes is.
-    let command : command_of c.args.words.now ≡ Some c.in-Some.command = search rules in
-    (c.in-Ok.report.0, c.bytes.result.now, subst (λ o. IsOutput o bytes c.in-Ok.report.0 c.bytes.result.now) (sym command) (subst (IsOutput (Some c.in-Some.command) bytes c.in-Ok.report.0) (sym c.bytes.ensures) (c.in-Ok.ensures.output bytes is)), c.in-Err-Memory.ensures.err))
-
-pub returns-in-Ok-send-clause-output : goal.returns-in-Ok-send-clause-output
-returns-in-Ok-send-clause-output g c = λ printed bytes is.
-    let command : command_of c.args.words.now ≡ Some c.in-Some.command = search rules in (
-      c.in-Ok.report.1,
-      subst (λ o. IsOutput o bytes c.in-Ok.report.0 c.in-Ok.report.1) (sym command) (c.in-Ok.ensures.output bytes is),
-      subst (Appends (g.K.Sink.held c.args.sink.now) (g.K.Sink.held c.send.new.sink)) c.bytes.ensures c.in-Ok-send.ensures.ok,
-    )
+pub returns-in-Ok-send-clause-accepted : goal.returns-in-Ok-send-clause-accepted
+returns-in-Ok-send-clause-accepted g c = λ n drill printed.
+    let same : c.in-Some.command ≡ Drill n = cc in
+    let left = g.S.Source.left c.args.source.now in
+    let told = subst (λ (k : Command). OfInput (Some k) left (λ bs. IsOutput (Some k) bs c.in-Ok.report.0 c.in-Ok.report.1)) same c.in-Ok.ensures.output in
+    told.4
 
 -- ---- what the counter shows
 
@@ -110,3 +142,25 @@ pub returns-in-Ok-send-clause-steps_least : goal.returns-in-Ok-send-clause-steps
 returns-in-Ok-send-clause-steps_least g c = λ command decided bytes is.
     let same : c.in-Some.command ≡ Expand = cc in
     c.in-Ok.ensures.steps_least same decided bytes is
+
+-- ---- the same of a drill
+
+pub returns-in-Ok-send-clause-drill_most : goal.returns-in-Ok-send-clause-drill_most
+returns-in-Ok-send-clause-drill_most g c = λ n command.
+    let same : c.in-Some.command ≡ Drill n = cc in
+    c.perform.ensures.drill_most n same
+
+pub returns-in-Err-WriteFault-clause-drill_most : goal.returns-in-Err-WriteFault-clause-drill_most
+returns-in-Err-WriteFault-clause-drill_most g c = λ n command.
+    let same : c.in-Some.command ≡ Drill n = cc in
+    c.perform.ensures.drill_most n same
+
+pub returns-clause-drill_most : goal.returns-clause-drill_most
+returns-clause-drill_most g c = λ n command.
+    let same : c.in-Some.command ≡ Drill n = cc in
+    c.perform.ensures.drill_most n same
+
+pub returns-in-Ok-send-clause-drill_least : goal.returns-in-Ok-send-clause-drill_least
+returns-in-Ok-send-clause-drill_least g c = λ n command accepted.
+    let same : c.in-Some.command ≡ Drill n = cc in
+    c.in-Ok.ensures.drill_least n same

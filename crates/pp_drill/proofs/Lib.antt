@@ -1,0 +1,10 @@
+pub mod Moves
+pub mod Acts
+pub mod Pair
+pub mod Run
+pub mod Lengths
+pub mod Shown
+pub mod Stating
+pub mod Accepted
+pub mod Writing
+pub mod Drilling

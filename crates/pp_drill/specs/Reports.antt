@@ -1,0 +1,35 @@
+-- Meaning: what `drill N` prints of its run.
+use Rattle.std.specs.Prelude.{◌≡◌, ℕ, List, ◌++◌, codes, length}
+use Rattle.std.specs.Fmt.{decimal}
+use Rattle.pp_core.specs.declared.status.Status.{Status}
+use Rattle.pp_core.specs.declared.status.Status.TheVariants as statuses
+use Rattle.pp_front.specs.Inputs.{Accepts, IsReport}
+use Rattle.pp_model.specs.Serial.{Attempt}
+use Rattle.pp_object.specs.declared.act.Op.{Op}
+use Rattle.pp_object.specs.declared.states.ObjectState.{ObjectState}
+use Rattle.pp_reading.specs.FaultTexts.{line}
+use Rattle.pp_reading.specs.declared.cause.Cause.TheVariants.{TooManySteps}
+use Rattle.pp_report.specs.Reports.{accepted_line, state_lines}
+use Rattle.pp_certify.specs.Inputs.{scan}
+use Rattle.pp_certify.specs.Objects.{setting_of}
+use Rattle.pp_certify.specs.Scans.{InputScan}
+use Rattle.pp_drill.specs.Drill.{drill_catalog}
+use Rattle.pp_drill.specs.Text.{drill_text}
+
+-- what the run of n transactions is as an input
+abbrev pub drill_scan : ℕ → InputScan
+drill_scan n = scan (drill_text n)
+
+-- the line of the command, then the first line and the state lines of the report of an accepted run
+abbrev pub drill_report : ℕ → (steps count : ℕ) → List ObjectState → List ℕ
+drill_report n steps count final =
+    line (codes "drill " ++ decimal n) ++ accepted_line steps count
+    ++ state_lines drill_catalog final
+
+-- The report of the run of n transactions, as an input, is that it is accepted, and this is the
+-- text of it.
+abbrev pub IsDrilled : ℕ → Status → List ℕ → Type 0
+IsDrilled n status text =
+    (steps : ℕ) × (committed : List (Attempt Op)) × (final : List ObjectState)
+    × IsReport setting_of TooManySteps (drill_scan n) (Accepts steps committed final)
+    × (status ≡ statuses.Accepted) × (text ≡ drill_report n steps (length committed) final)

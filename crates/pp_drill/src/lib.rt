@@ -1,0 +1,15 @@
+//! The command `drill N`: the run that it makes, the laws that this is accepted and read back, and
+//! what it prints of it.
+#![tactic(auto)]
+
+mod command;
+mod law;
+mod objects;
+mod report;
+mod steps;
+mod transaction;
+mod write;
+
+pub use command::drill;
+pub use law::{drill_law, prints_law, read_back_law};
+pub use write::drill_run;
