@@ -205,7 +205,7 @@ fn long_inputs_have_their_reports(rt: HostRuntime) -> Result<(), Fail> {
 }
 
 #[test]
-fn made_runs_have_their_reports_whatever_the_source_is(rt: HostRuntime) -> Result<(), Fail> {
+fn the_run_of_a_number_asks_nothing_of_the_source(rt: HostRuntime) -> Result<(), Fail> {
     let alloc = rt.alloc();
     for made in &MADE {
         let mut words = Words::new(alloc);
@@ -221,7 +221,7 @@ fn made_runs_have_their_reports_whatever_the_source_is(rt: HostRuntime) -> Resul
 }
 
 #[test]
-fn a_made_run_is_an_input_with_the_same_report(rt: HostRuntime) -> Result<(), Fail> {
+fn the_run_of_a_number_is_an_input_with_the_same_report(rt: HostRuntime) -> Result<(), Fail> {
     let alloc = rt.alloc();
     let input = drill_run(alloc, 2_000)?.bytes().to_vec(alloc)?;
     let (status, report) = certified_bytes(alloc, input, false)?;
