@@ -1,0 +1,7 @@
+pub mod Fronts
+pub mod Orders
+pub mod Collecting
+pub mod Trails
+pub mod Viewing
+pub mod Runs
+pub mod KeptPeaks

@@ -1,0 +1,36 @@
+use Rattle.std.proofs.Common.{length, arith, subst, sym, ◌∙◌, List}
+use Rattle.pp_model.specs.Config.{CommittedTx}
+use Rattle.pp_model.specs.Lists.{In}
+use Rattle.pp_model.specs.Sound.{serial_ops}
+use Rattle.pp_spec.specs.Object.{rules_of}
+use Rattle.pp_views.specs.Peaks.{Peak}
+use Rattle.pp_views.specs.Trying.{IsUntried, MayRun}
+use Rattle.pp_views.specs.Views.{IsViewBelow, Pairwise}
+use Rattle.pp_views.proofs.Viewing.{few_alone, pairwise_as, untried_below}
+use Rattle.pp_views.proofs.view.explain.Goals as goal
+
+pub untried-requires : goal.untried-requires
+untried-requires g c = λ p i.
+    let few = (c.requires.may p (subst (λ (w : List (Peak _)). In p w) c.as_slice.ensures i)).few in
+    omega (arith, few)
+
+pub number_all-requires-clause-runs : goal.number_all-requires-clause-runs
+number_all-requires-clause-runs g c =
+    let o = g.S.Spec.object in
+    let D = c.args.committed.now in
+    subst (λ (w : List (CommittedTx _)). MayRun o c.args.shape.now w c.as_slice-2.result.now) (sym c.as_slice-committed.ensures)
+    (subst (λ (w : List (Peak _)). MayRun o c.args.shape.now D w) (sym c.as_slice-2.ensures) (record {
+      allowed = c.requires.allowed;
+      ranged = c.requires.ranged;
+      few = few_alone (length (serial_ops D)) c.args.peaks.now (λ none. c.if-len-eq0.false (c.len.ensures ∙ none))
+          (λ p i. (c.requires.may p i).few);
+      may = c.requires.may;
+    }))
+
+pub number_all-requires-clause-untried : goal.number_all-requires-clause-untried
+number_all-requires-clause-untried g c =
+    let O = rules_of g.S.Spec.object c.args.shape.now in
+    let D = c.as_slice-committed.result.now in
+    let views = c.in_ok-views.views.items in
+    pairwise_as IsUntried (IsViewBelow 0 O D) (untried_below O D) c.as_slice-2.result.now views
+    (subst (λ (w : List (Peak _)). Pairwise IsUntried w views) (c.as_slice.ensures ∙ sym c.as_slice-2.ensures) c.in_ok-views.ensures)

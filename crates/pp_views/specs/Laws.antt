@@ -1,0 +1,50 @@
+-- Meaning: what holds of the peaks of accepted runs, and of their views.
+use Rattle.std.specs.Prelude.{◌≡◌, ◌≤◌, ◌+◌, ℕ, false, List, [], ◌∷◌, ◌++◌, length, map, Option}
+use Rattle.std.specs.Prelude.{Some}
+use Rattle.pp_model.specs.Config.{CommittedTx, Start, Step, App, first}
+use Rattle.pp_model.specs.Lists.{In}
+use Rattle.pp_model.specs.Names.{Name}
+use Rattle.pp_model.specs.Object.{Item, Object}
+use Rattle.pp_model.specs.Rules.{RunsFrom, StartMeets}
+use Rattle.pp_model.specs.Serial.{Attempt, attempts, committed_tx, own_of, unapplied_ids}
+use Rattle.pp_views.specs.Peaks.{IsOrderly, Peak, goes_on, peaks}
+use Rattle.pp_views.specs.Views.{Explains, IsLeastBelow}
+
+-- t's own list right behind this APP step is a peak, and t undid nothing behind it.
+pub record IsKeptPeak {Op : Type 0} (ss past rest : List (Step Op)) (t : Name) (id : ℕ)
+    (op : Op) : Type 0 where
+  pub there : ss ≡ past ++ App t id op ∷ rest
+  pub top : goes_on t rest ≡ false
+  pub kept : unapplied_ids t rest ≡ []
+
+-- t's own list right behind the last of these steps
+abbrev pub peak_behind : {Op : Type 0} → Name → List (Step Op) → Peak Op
+peak_behind t past = record { tx = t; ops = own_of t past }
+
+module _ {Op State : Type 0} (O : Object Op State) where
+  -- The steps of an accepted run have what is asked where their peaks are looked for.
+  abbrev pub OrderlyLaw : Type 0
+  OrderlyLaw =
+      (h : Option (Start Op)) (ss : List (Step Op)) → StartMeets O h → RunsFrom O (first h) ss
+      → IsOrderly ss
+
+  -- In an accepted run, of a transaction that is committed at the place behind `earlier`, the peak
+  -- behind which it undid nothing is among the peaks, and its view is a number of at most that
+  -- place, counted from 0.
+  abbrev pub KeptPeakLaw : Type 0
+  KeptPeakLaw =
+      (h : Option (Start Op)) (ss past rest : List (Step Op)) (t : Name) (id : ℕ) (op : Op)
+      (earlier later : List (Attempt Op)) (a : Attempt Op) → StartMeets O h
+      → RunsFrom O (first h) ss → IsKeptPeak ss past rest t id op
+      → attempts h ss ≡ earlier ++ a ∷ later → a.name ≡ t
+      → In (peak_behind t (past ++ App t id op ∷ [])) (peaks ss)
+      × ((found : Option ℕ) → IsLeastBelow (length (attempts h ss) + 1)
+      (Explains O (map committed_tx (attempts h ss)) (own_of t (past ++ App t id op ∷ []))) found
+      → (n : ℕ) × (found ≡ Some n) × (n ≤ length earlier))
+
+  -- A peak has one view at most.
+  abbrev pub OneViewLaw : Type 0
+  OneViewLaw =
+      (committed : List (CommittedTx Op)) (items : List (Item Op)) (v w : Option ℕ)
+      → IsLeastBelow (length committed + 1) (Explains O committed items) v
+      → IsLeastBelow (length committed + 1) (Explains O committed items) w → v ≡ w

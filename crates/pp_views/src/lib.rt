@@ -1,0 +1,15 @@
+//! What each attempt of a run had applied, and after how many committed transactions its results
+//! are what the object gives.
+#![tactic(auto)]
+
+mod collect;
+mod law;
+mod own;
+mod peak;
+mod top;
+mod trial;
+mod view;
+
+pub use law::{kept_peak_law, one_view_law, orderly_law};
+pub use peak::{Peak, PeakFault, Peaks, peaks_of};
+pub use view::{View, Views, explain};
