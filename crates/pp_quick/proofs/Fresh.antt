@@ -1,5 +1,5 @@
 -- A new Quick, and the committed transactions of any.
-use Rattle.std.specs.Prelude.{◌≡◌, ◌≢◌, ℕ, true, List, [], ◌++◌, length, reverse, Option, None, Some, IsTrue}
+use Rattle.std.specs.Prelude.{◌≡◌, ◌≢◌, ◌≤◌, ◌+◌, ℕ, true, List, [], ◌++◌, length, reverse, Option, None, Some, IsTrue}
 use Rattle.std.specs.Map.{keys_of}
 use Rattle.std.proofs.Common.{refl, sym, ap, subst, arith}
 use Rattle.std.proofs.lemmas.List.{append-nil}
@@ -15,7 +15,7 @@ use Rattle.pp_quick.specs.Boosted.{PlacesSwap}
 use Rattle.pp_quick.specs.Brief.{Brief, BriefTx, brief}
 use Rattle.pp_quick.specs.Shown.{AreThreads, Holds, IsFine, Kept, at, filled, shown, shown_tx, threads_of}
 use Rattle.pp_quick.specs.declared.parts.OpenTx.{OpenTx}
-use Rattle.pp_quick.proofs.Fitting.{in_ranged, ranged_in}
+use Rattle.pp_quick.proofs.Fitting.{in_ranged, ranged_in, serial_fits}
 use Rattle.pp_quick.proofs.Moving.{same_brief}
 use Rattle.pp_quick.proofs.Deciding.{quick}
 use Rattle.pp_quick.proofs.Short.{done_stands}
@@ -24,11 +24,11 @@ module _ {Shape State Op Undo : Type 0} (o : Object Shape State Op Undo) (place 
   -- a Quick that keeps nothing
   module _ (v : Kept Shape Op) (slots : v.slots.entries ≡ []) (threads : v.threads.keys ≡ []) (ids : v.ids.keys ≡ []) (shared : v.shared ≡ (v.shape, [])) (committed : v.committed ≡ []) (commits : v.commits.entries ≡ []) where
     opened_none : filled (shown_tx place v.shared.1 v.commits.entries) v.slots.entries ≡ []
-    opened_none = ap (λ (z : List (Name × Option (OpenTx Op))). filled (shown_tx place v.shared.1 v.commits.entries) z) slots
+    opened_none = ap (λ (z : List (Name × Option (OpenTx (List (Item Op))))). filled (shown_tx place v.shared.1 v.commits.entries) z) slots
 
     pub fresh_shown : shown place v ≡ brief place (first None)
     fresh_shown = same_brief _ _ _ _ _ _ _ _ _ _
-        (ap (λ (z : List (Name × Option (OpenTx Op))). reverse (keys_of z)) slots)
+        (ap (λ (z : List (Name × Option (OpenTx (List (Item Op))))). reverse (keys_of z)) slots)
         (ap (λ (z : List ℕ). reverse z) ids)
         opened_none
         (ap (λ (z : Shape × List (SharedEntry Op)). z.1) shared)
@@ -38,11 +38,11 @@ module _ {Shape State Op Undo : Type 0} (o : Object Shape State Op Undo) (place 
     fresh_holds =
         record {
           short = record { config = first None; boosted = (quick (rules_of o v.shape) place (apart v.shape)).start None refl; is = sym fresh_shown };
-          names = subst (λ (z : List (Name × Option (OpenTx Op))). (s t : Name) → Before s t (keys_of z) → s ≢ t) (sym slots) (λ s t b. absurd b);
+          names = subst (λ (z : List (Name × Option (OpenTx (List (Item Op))))). (s t : Name) → Before s t (keys_of z) → s ≢ t) (sym slots) (λ s t b. absurd b);
           threads =
               subst (λ (z : List (BriefTx Op)). AreThreads v.threads.keys (threads_of z)) (sym opened_none)
               (subst (λ (z : List Name). AreThreads z []) (sym threads) (record { apart = λ p q b. absurd b; are = λ p. refl }));
-          fine = subst (λ (z : List (Name × Option (OpenTx Op))). (n : Name) (x : OpenTx Op) → In (n, Some x) z → IsFine o place v.commits.entries x) (sym slots) (λ n x i. absurd i);
+          fine = subst (λ (z : List (Name × Option (OpenTx (List (Item Op))))). (n : Name) (x : OpenTx (List (Item Op))) → In (n, Some x) z → IsFine o place v.commits.entries x) (sym slots) (λ n x i. absurd i);
           commits = subst (λ (z : List (ℕ × List (Item Op))). (q : ℕ) (p : Item Op) → In p (at q z) → In p (serial_items v.committed) × (place p.op ≡ q)) (sym commits) (λ q p i. absurd i);
           same_shape = ap (λ (z : Shape × List (SharedEntry Op)). z.0) shared;
           few = let e : length v.shared.1 ≡ 0 = ap (λ (z : Shape × List (SharedEntry Op)). length z.1) shared in omega arith;
@@ -58,6 +58,14 @@ module _ {Shape State Op Undo : Type 0} (o : Object Shape State Op Undo) (place 
   done_allowed v h =
       let k = h.short in
       subst (λ (b : Brief Op). IsAllowed o v.shape (serial_ops b.done)) k.is (serial_allowed v.shape k.config (k.boosted).sound)
+
+  pub done_few : (v : Kept Shape Op) → Holds o place v → length (serial_ops v.committed) ≤ v.count + 256
+  done_few v h =
+      let k = h.short in
+      let all : length (serial_ops k.config.done) ≤ length k.config.shared = serial_fits (rules_of o v.shape) k.config (k.boosted).sound in
+      let done : length (serial_ops k.config.done) ≡ length (serial_ops v.committed) = ap (λ (b : Brief Op). length (serial_ops b.done)) k.is in
+      let shared : length k.config.shared ≡ length v.shared.1 = ap (λ (b : Brief Op). length b.shared) k.is in
+      omega (arith, all, done, shared, h.few)
 
   pub done_ranged : (v : Kept Shape Op) → Holds o place v → AllRanged o (shared_ops v.shared.1) → AllRanged o (serial_ops v.committed)
   done_ranged v h r = in_ranged o (serial_ops v.committed) (λ a i.

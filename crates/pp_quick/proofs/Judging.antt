@@ -101,7 +101,7 @@ module _ {Shape State Op Undo : Type 0} (o : Object Shape State Op Undo) (place 
   pub not_open : (t : Name) (P : BriefTx Op → Type 0) → open_in t v.slots.entries ≡ None → (X : BriefTx Op) × (brief_of t B.opened ≡ Some X) × P X → ⊥
   not_open t P e g = let z : None ≡ Some g.0 = sym (open_is o place apart v h t ∙ ap (option_map (shown_tx place G commits t)) e) ∙ g.1 in cc
 
-  module _ (t : Name) (x : OpenTx Op) (found : open_in t v.slots.entries ≡ Some x) where
+  module _ (t : Name) (x : OpenTx (List (Item Op))) (found : open_in t v.slots.entries ≡ Some x) where
     abbrev show : BriefTx Op
     show = shown_tx place G commits t x
 

@@ -1,5 +1,6 @@
 pub mod Items
 pub mod Passing
+pub mod Known
 pub mod Threads
 pub mod Filled
 pub mod Looking
@@ -25,5 +26,8 @@ pub mod Back
 pub mod Deciding
 pub mod BackEnd
 pub mod Briefs
+pub mod Failures
 pub mod Whole
+pub mod Reading
+pub mod Sums
 pub mod Leave

@@ -93,27 +93,27 @@ module _ {Shape State Op Undo : Type 0} (o : Object Shape State Op Undo) (place 
   abbrev commits : List (ℕ × List (Item Op))
   commits = v.commits.entries
 
-  abbrev es : List (Name × Option (OpenTx Op))
+  abbrev es : List (Name × Option (OpenTx (List (Item Op))))
   es = v.slots.entries
 
-  abbrev show : Name → OpenTx Op → BriefTx Op
+  abbrev show : Name → OpenTx (List (Item Op)) → BriefTx Op
   show = shown_tx place G commits
 
-  named : (G : List (SharedEntry Op)) (cs : List (ℕ × List (Item Op))) (n : Name) (x : OpenTx Op) → (shown_tx place G cs n x).name ≡ n
+  named : (G : List (SharedEntry Op)) (cs : List (ℕ × List (Item Op))) (n : Name) (x : OpenTx (List (Item Op))) → (shown_tx place G cs n x).name ≡ n
   named G cs n x = refl
 
   -- what is open at t
   pub open_is : (t : Name) → brief_of t B.opened ≡ option_map (show t) (open_in t es)
   open_is t = found_is t show show (named G commits) es h.names
 
-  pub open_there : (t : Name) (x : OpenTx Op) → open_in t es ≡ Some x → brief_of t B.opened ≡ Some (show t x)
+  pub open_there : (t : Name) (x : OpenTx (List (Item Op))) → open_in t es ≡ Some x → brief_of t B.opened ≡ Some (show t x)
   open_there t x e = open_is t ∙ ap (option_map (show t)) e
 
-  slot_there : (t : Name) (x : OpenTx Op) → open_in t es ≡ Some x → lookup (λ n. t =ⁿ n) es ≡ Some (Some x)
+  slot_there : (t : Name) (x : OpenTx (List (Item Op))) → open_in t es ≡ Some x → lookup (λ n. t =ⁿ n) es ≡ Some (Some x)
   slot_there t x e = slot_is (lookup (λ n. t =ⁿ n) es) x e
 
   -- an open transaction stands in its slot
-  in_slot_of : (t : Name) (fs : List (Name × Option (OpenTx Op))) (x : OpenTx Op) → lookup (λ n. t =ⁿ n) fs ≡ Some (Some x) → In (t, Some x) fs
+  in_slot_of : (t : Name) (fs : List (Name × Option (OpenTx (List (Item Op))))) (x : OpenTx (List (Item Op))) → lookup (λ n. t =ⁿ n) fs ≡ Some (Some x) → In (t, Some x) fs
   in_slot_of t [] x e = absurd (cc)
   in_slot_of t ((n, s) ∷ fs) x e = elim (names_tell t n) [
     | inl r ↦
@@ -122,11 +122,11 @@ module _ {Shape State Op Undo : Type 0} (o : Object Shape State Op Undo) (place 
     | inr r ↦ inr (in_slot_of t fs x (sym (ap (λ (b : Bool). cond b (Some s) (lookup (λ n. t =ⁿ n) fs)) r.0) ∙ e))
   ]
 
-  pub fine_of : (t : Name) (x : OpenTx Op) → open_in t es ≡ Some x → IsFine o place commits x
+  pub fine_of : (t : Name) (x : OpenTx (List (Item Op))) → open_in t es ≡ Some x → IsFine o place commits x
   fine_of t x e = h.fine t x (in_slot_of t es x (slot_there t x e))
 
   moves : (r : RunRecord Op) (w : Kept Shape Op) → IsBoosted r → IsGood o place v r → w.shape ≡ v.shape → w.count ≡ v.count + 1 → shown place w ≡ brief_then place B r → Apart w.slots.entries →
-      AreThreads w.threads.keys (threads_of (brief_then place B r).opened) → ((n : Name) (x : OpenTx Op) → In (n, Some x) w.slots.entries → IsFine o place w.commits.entries x) →
+      AreThreads w.threads.keys (threads_of (brief_then place B r).opened) → ((n : Name) (x : OpenTx (List (Item Op))) → In (n, Some x) w.slots.entries → IsFine o place w.commits.entries x) →
       ((q : ℕ) (p : Item Op) → In p (at q w.commits.entries) → In p (serial_items w.committed) × (place p.op ≡ q)) → w.shared.0 ≡ v.shape → length w.shared.1 ≤ v.count + 1 + 256 → Moves o place v r w
   moves r w s g shape count is names threads fine done same few =
       record {
@@ -154,7 +154,7 @@ module _ {Shape State Op Undo : Type 0} (o : Object Shape State Op Undo) (place 
       by y true = e y
       by y false = refl
 
-  threads_gone : (t : Name) (x : OpenTx Op) (us : List Name) → open_in t es ≡ Some x → ((q : Name) → list_any (λ z. q =ⁿ z) us ≡ cond (x.thread =ⁿ q) false (list_any (λ z. q =ⁿ z) v.threads.keys)) →
+  threads_gone : (t : Name) (x : OpenTx (List (Item Op))) (us : List Name) → open_in t es ≡ Some x → ((q : Name) → list_any (λ z. q =ⁿ z) us ≡ cond (x.thread =ⁿ q) false (list_any (λ z. q =ⁿ z) v.threads.keys)) →
       AreThreads us (threads_of (without_brief t B.opened))
   threads_gone t x us e u =
       let a = among t B.opened (show t x) (names_apart o place apart v.shape B h.short) (open_there t x e) in
@@ -162,22 +162,22 @@ module _ {Shape State Op Undo : Type 0} (o : Object Shape State Op Undo) (place 
       subst (λ (l : List Name). AreThreads us l) (sym (ap (λ (l : List (BriefTx Op)). threads_of l) a.without ∙ map-append (λ (y : BriefTx Op). y.thread) a.before a.after))
       (threads_less v.threads.keys us (threads_of a.before) (threads_of a.after) x.thread (subst (λ (l : List Name). AreThreads v.threads.keys l) cut h.threads) u)
 
-  names_set : (t : Name) (s : Option (OpenTx Op)) (fs : List (Name × Option (OpenTx Op))) → fs ≡ set_value (λ n. t =ⁿ n) es s → Apart fs
-  names_set t s fs e = subst (λ (l : List Name). (a b : Name) → Before a b l → a ≢ b) (sym (ap (λ (z : List (Name × Option (OpenTx Op))). keys_of z) e ∙ keys_stay t es s)) h.names
+  names_set : (t : Name) (s : Option (OpenTx (List (Item Op)))) (fs : List (Name × Option (OpenTx (List (Item Op))))) → fs ≡ set_value (λ n. t =ⁿ n) es s → Apart fs
+  names_set t s fs e = subst (λ (l : List Name). (a b : Name) → Before a b l → a ≢ b) (sym (ap (λ (z : List (Name × Option (OpenTx (List (Item Op))))). keys_of z) e ∙ keys_stay t es s)) h.names
 
-  keys_set : (t : Name) (s : Option (OpenTx Op)) (fs : List (Name × Option (OpenTx Op))) → fs ≡ set_value (λ n. t =ⁿ n) es s → reverse (keys_of fs) ≡ B.names
-  keys_set t s fs e = ap (λ (z : List (Name × Option (OpenTx Op))). reverse (keys_of z)) e ∙ ap (λ (z : List Name). reverse z) (keys_stay t es s)
+  keys_set : (t : Name) (s : Option (OpenTx (List (Item Op)))) (fs : List (Name × Option (OpenTx (List (Item Op))))) → fs ≡ set_value (λ n. t =ⁿ n) es s → reverse (keys_of fs) ≡ B.names
+  keys_set t s fs e = ap (λ (z : List (Name × Option (OpenTx (List (Item Op))))). reverse (keys_of z)) e ∙ ap (λ (z : List Name). reverse z) (keys_stay t es s)
 
   -- the slots after a change of one
-  fine_set : (t : Name) (s : Option (OpenTx Op)) (fs : List (Name × Option (OpenTx Op))) (cs : List (ℕ × List (Item Op))) → fs ≡ set_value (λ n. t =ⁿ n) es s →
-      ((x : OpenTx Op) → IsFine o place commits x → IsFine o place cs x) → ((x : OpenTx Op) → s ≡ Some x → IsFine o place cs x) → (n : Name) (x : OpenTx Op) → In (n, Some x) fs → IsFine o place cs x
-  fine_set t s fs cs e old new n x i = elim (in_set t es s (n, Some x) (subst (λ (z : List (Name × Option (OpenTx Op))). In (n, Some x) z) e i)) [
+  fine_set : (t : Name) (s : Option (OpenTx (List (Item Op)))) (fs : List (Name × Option (OpenTx (List (Item Op))))) (cs : List (ℕ × List (Item Op))) → fs ≡ set_value (λ n. t =ⁿ n) es s →
+      ((x : OpenTx (List (Item Op))) → IsFine o place commits x → IsFine o place cs x) → ((x : OpenTx (List (Item Op))) → s ≡ Some x → IsFine o place cs x) → (n : Name) (x : OpenTx (List (Item Op))) → In (n, Some x) fs → IsFine o place cs x
+  fine_set t s fs cs e old new n x i = elim (in_set t es s (n, Some x) (subst (λ (z : List (Name × Option (OpenTx (List (Item Op))))). In (n, Some x) z) e i)) [
     | inl j ↦ old x (h.fine n x j)
     | inr j ↦ new x (sym j)
   ]
 
   -- a transaction without own operations
-  fresh_fine : (cs : List (ℕ × List (Item Op))) (x : OpenTx Op) → HasTaken x.walk [] → x.own ≡ [] → x.seen.entries ≡ [] → IsFine o place cs x
+  fresh_fine : (cs : List (ℕ × List (Item Op))) (x : OpenTx (List (Item Op))) → HasTaken x.walk [] → x.own ≡ [] → x.seen.entries ≡ [] → IsFine o place cs x
   fresh_fine cs x taken own seen =
       record {
         taken = subst (λ (l : List (Item Op)). HasTaken x.walk (calls_of o l)) (sym own) taken;
@@ -186,12 +186,12 @@ module _ {Shape State Op Undo : Type 0} (o : Object Shape State Op Undo) (place 
       }
 
   -- a begin
-  module _ (t p : Name) (b : Option Tree) (x : OpenTx Op) (w : Kept Shape Op) (g : IsGood o place v (records.Plain (Begin t p b)))
+  module _ (t p : Name) (b : Option Tree) (x : OpenTx (List (Item Op))) (w : Kept Shape Op) (g : IsGood o place v (records.Plain (Begin t p b)))
       (thread : x.thread ≡ p) (body : x.walk.body ≡ b) (taken : HasTaken x.walk []) (own : x.own ≡ []) (seen : x.seen.entries ≡ [])
       (slots : w.slots.entries ≡ es ++ (t, Some x) ∷ []) (busy : (q : Name) → list_any (λ z. q =ⁿ z) w.threads.keys ≡ cond (p =ⁿ q) true (list_any (λ z. q =ⁿ z) v.threads.keys))
       (shape : w.shape ≡ v.shape) (shared : w.shared ≡ v.shared) (ids : w.ids.keys ≡ v.ids.keys) (committed : w.committed ≡ v.committed) (commits_are : w.commits.entries ≡ commits) (count : w.count ≡ v.count + 1) where
     keys_are : keys_of w.slots.entries ≡ keys_of es ++ t ∷ []
-    keys_are = ap (λ (z : List (Name × Option (OpenTx Op))). keys_of z) slots ∙ map-append (λ (e : Name × Option (OpenTx Op)). e.0) es ((t, Some x) ∷ [])
+    keys_are = ap (λ (z : List (Name × Option (OpenTx (List (Item Op))))). keys_of z) slots ∙ map-append (λ (e : Name × Option (OpenTx (List (Item Op)))). e.0) es ((t, Some x) ∷ [])
 
     begun_shown : shown place w ≡ brief_then place B (records.Plain (Begin t p b))
     begun_shown = same_brief _ _ _ _ _ _ _ _ _ _
@@ -199,7 +199,7 @@ module _ {Shape State Op Undo : Type 0} (o : Object Shape State Op Undo) (place 
         (ap (λ (z : List ℕ). reverse z) ids)
         (ap (λ (z : Shape × List (SharedEntry Op)). filled (shown_tx place z.1 w.commits.entries) w.slots.entries) shared
         ∙ ap (λ (z : List (ℕ × List (Item Op))). filled (shown_tx place G z) w.slots.entries) commits_are
-        ∙ ap (λ (z : List (Name × Option (OpenTx Op))). filled show z) slots
+        ∙ ap (λ (z : List (Name × Option (OpenTx (List (Item Op))))). filled show z) slots
         ∙ filled_more t show show (named G commits) es t x
         ∙ ap (λ (z : BriefTx Op). filled show es ++ z ∷ []) (same_tx t x.thread p x.walk.body b x.own [] (unseen place G commits x.seen.entries) [] thread body own
         (ap (λ (z : List (ℕ × ℕ)). unseen place G commits z) seen ∙ unseen_none place G commits)))
@@ -224,11 +224,11 @@ module _ {Shape State Op Undo : Type 0} (o : Object Shape State Op Undo) (place 
         (subst (λ (l : List Name). (a c : Name) → Before a c l → a ≢ c) (sym keys_are) (apart_more (keys_of es) t h.names not_in))
         (subst (λ (l : List Name). AreThreads w.threads.keys l) (sym (map-append (λ (y : BriefTx Op). y.thread) B.opened (record { name = t; thread = p; body = b; own = []; missed = [] } ∷ [])))
         (threads_more v.threads.keys (threads_of B.opened) w.threads.keys p h.threads idle busy))
-        (λ n y i. elim (in_cases (n, Some y) es ((t, Some x) ∷ []) (subst (λ (z : List (Name × Option (OpenTx Op))). In (n, Some y) z) slots i)) [
+        (λ n y i. elim (in_cases (n, Some y) es ((t, Some x) ∷ []) (subst (λ (z : List (Name × Option (OpenTx (List (Item Op))))). In (n, Some y) z) slots i)) [
           | inl j ↦ subst (λ (z : List (ℕ × List (Item Op))). IsFine o place z y) (sym commits_are) (h.fine n y j)
           | inr (inl j) ↦
-              let e : x ≡ y = same_Some x y (ap (λ (z : Name × Option (OpenTx Op)). z.1) (sym j)) in
-              subst (λ (z : OpenTx Op). IsFine o place w.commits.entries z) e (fresh_fine w.commits.entries x taken own seen)
+              let e : x ≡ y = same_Some x y (ap (λ (z : Name × Option (OpenTx (List (Item Op)))). z.1) (sym j)) in
+              subst (λ (z : OpenTx (List (Item Op))). IsFine o place w.commits.entries z) e (fresh_fine w.commits.entries x taken own seen)
           | inr (inr j) ↦ absurd j
         ])
         (λ q a i. let k = h.commits q a (subst (λ (z : List (ℕ × List (Item Op))). In a (at q z)) commits_are i) in (subst (λ (z : List (CommittedTx Op)). In a (serial_items z)) (sym committed) k.0, k.1))
@@ -236,7 +236,7 @@ module _ {Shape State Op Undo : Type 0} (o : Object Shape State Op Undo) (place 
         (let e : length w.shared.1 ≡ length G = ap (λ (z : Shape × List (SharedEntry Op)). length z.1) shared in omega (arith, e, h.few))
 
   -- an op
-  module _ (t : Name) (id : ℕ) (op : Op) (x y : OpenTx Op) (w : Kept Shape Op) (g : IsGood o place v (records.Op t id op)) (found : open_in t es ≡ Some x)
+  module _ (t : Name) (id : ℕ) (op : Op) (x y : OpenTx (List (Item Op))) (w : Kept Shape Op) (g : IsGood o place v (records.Op t id op)) (found : open_in t es ≡ Some x)
       (grows : IsGrown o place commits x (record { id = id; op = op }) y)
       (slots : w.slots.entries ≡ set_value (λ n. t =ⁿ n) (set_value (λ n. t =ⁿ n) es None) (Some y)) (shape : w.shape ≡ v.shape)
       (shared : w.shared ≡ (v.shared.0, G ++ as_shared t false (record { id = id; op = op }) ∷ [])) (ids : w.ids.keys ≡ v.ids.keys ++ id ∷ []) (threads : w.threads.keys ≡ v.threads.keys)
@@ -259,7 +259,7 @@ module _ {Shape State Op Undo : Type 0} (o : Object Shape State Op Undo) (place 
         (ap (λ (z : List ℕ). reverse z) ids ∙ reverse_more v.ids.keys id)
         (ap (λ (z : List (SharedEntry Op)). filled (shown_tx place z w.commits.entries) w.slots.entries) log_is
         ∙ ap (λ (z : List (ℕ × List (Item Op))). filled (shown_tx place more z) w.slots.entries) commits_are
-        ∙ ap (λ (z : List (Name × Option (OpenTx Op))). filled (shown_tx place more commits) z) set_is
+        ∙ ap (λ (z : List (Name × Option (OpenTx (List (Item Op))))). filled (shown_tx place more commits) z) set_is
         ∙ filled_set t show (shown_tx place more commits) (named G commits) (grown place G id op) x y es h.names (slot_there t x found)
         (same_tx t y.thread x.thread y.walk.body x.walk.body y.own (x.own ++ p ∷ []) (unseen place more commits y.seen.entries) _ grows.thread grows.body grows.own
         (unseen_wider place G commits y.seen.entries t p ∙ unseen_grown place G commits x.seen.entries y.seen.entries op (distinct o place apart v.shape B h.short) grows.seen))
@@ -303,14 +303,14 @@ module _ {Shape State Op Undo : Type 0} (o : Object Shape State Op Undo) (place 
         (subst (λ (l : List Name). AreThreads l (threads_of (at_brief t (grown place G id op) B.opened))) (sym threads)
         (subst (λ (l : List Name). AreThreads v.threads.keys l) (sym (threads_on t (grown place G id op) B.opened (λ z. refl))) h.threads))
         (fine_set t (Some y) w.slots.entries w.commits.entries set_is (λ z k. subst (λ (c : List (ℕ × List (Item Op))). IsFine o place c z) (sym commits_are) k)
-        (λ z e. subst (λ (c : List (ℕ × List (Item Op))). IsFine o place c z) (sym commits_are) (subst (λ (u : OpenTx Op). IsFine o place commits u) (same_Some y z e) grown_fine)))
+        (λ z e. subst (λ (c : List (ℕ × List (Item Op))). IsFine o place c z) (sym commits_are) (subst (λ (u : OpenTx (List (Item Op))). IsFine o place commits u) (same_Some y z e) grown_fine)))
         (λ q a i. let k = h.commits q a (subst (λ (z : List (ℕ × List (Item Op))). In a (at q z)) commits_are i) in (subst (λ (z : List (CommittedTx Op)). In a (serial_items z)) (sym committed) k.0, k.1))
         (ap (λ (z : Shape × List (SharedEntry Op)). z.0) shared ∙ h.same_shape)
         (let e : length w.shared.1 ≡ length more = ap (λ (z : List (SharedEntry Op)). length z) log_is in
         let l : length more ≡ length G + 1 = length-append G (as_shared t false p ∷ []) in omega (arith, e, l, h.few))
 
   -- a commit
-  module _ (t : Name) (x : OpenTx Op) (w : Kept Shape Op) (g : IsGood o place v (records.Commit t)) (found : open_in t es ≡ Some x)
+  module _ (t : Name) (x : OpenTx (List (Item Op))) (w : Kept Shape Op) (g : IsGood o place v (records.Commit t)) (found : open_in t es ≡ Some x)
       (slots : w.slots.entries ≡ set_value (λ n. t =ⁿ n) es None) (busy : (q : Name) → list_any (λ z. q =ⁿ z) w.threads.keys ≡ cond (x.thread =ⁿ q) false (list_any (λ z. q =ⁿ z) v.threads.keys))
       (shape : w.shape ≡ v.shape) (shared : w.shared ≡ (v.shared.0, commit_all t G)) (ids : w.ids.keys ≡ v.ids.keys)
       (grow : (q : ℕ) → at q w.commits.entries ≡ at q commits ++ items_at place q x.own)
@@ -321,7 +321,7 @@ module _ {Shape State Op Undo : Type 0} (o : Object Shape State Op Undo) (place 
     here : brief_of t B.opened ≡ Some (show t x)
     here = open_there t x found
 
-    other_missed : (n : Name) (z : OpenTx Op) → In (n, Some z) es → n ≢ t → shown_tx place (commit_all t G) w.commits.entries n z ≡ missing_more place G t (show n z)
+    other_missed : (n : Name) (z : OpenTx (List (Item Op))) → In (n, Some z) es → n ≢ t → shown_tx place (commit_all t G) w.commits.entries n z ≡ missing_more place G t (show n z)
     other_missed n z i q =
         let f = h.fine n z i in
         same_tx n z.thread z.thread z.walk.body z.walk.body z.own z.own (unseen place (commit_all t G) w.commits.entries z.seen.entries) _ refl refl refl
@@ -334,7 +334,7 @@ module _ {Shape State Op Undo : Type 0} (o : Object Shape State Op Undo) (place 
         (keys_set t None w.slots.entries slots)
         (ap (λ (z : List ℕ). reverse z) ids)
         (ap (λ (z : List (SharedEntry Op)). filled (shown_tx place z w.commits.entries) w.slots.entries) all_is
-        ∙ ap (λ (z : List (Name × Option (OpenTx Op))). filled (shown_tx place (commit_all t G) w.commits.entries) z) slots
+        ∙ ap (λ (z : List (Name × Option (OpenTx (List (Item Op))))). filled (shown_tx place (commit_all t G) w.commits.entries) z) slots
         ∙ filled_out t show (shown_tx place (commit_all t G) w.commits.entries) (named G commits) (missing_more place G t) es h.names other_missed)
         all_is
         (committed ∙ ap (λ z. v.committed ++ record { name = t; entries = own_list z } ∷ []) (sym here))
@@ -366,7 +366,7 @@ module _ {Shape State Op Undo : Type 0} (o : Object Shape State Op Undo) (place 
         let l : length (commit_all t G) ≡ length G = length-map G (commit t) in omega (arith, e, l, h.few))
 
   -- the entries of t leave the shared log
-  module _ (t : Name) (x : OpenTx Op) (found : open_in t es ≡ Some x) (w : Kept Shape Op) (shared : w.shared ≡ (v.shared.0, without_ids (map (λ (a : Item Op). a.id) x.own) G)) where
+  module _ (t : Name) (x : OpenTx (List (Item Op))) (found : open_in t es ≡ Some x) (w : Kept Shape Op) (shared : w.shared ≡ (v.shared.0, without_ids (map (λ (a : Item Op). a.id) x.own) G)) where
     left_is : w.shared.1 ≡ without_owner t G
     left_is = ap (λ (z : Shape × List (SharedEntry Op)). z.1) shared ∙ without_is o place apart v.shape B h.short t (show t x) (open_there t x found)
 
@@ -374,7 +374,7 @@ module _ {Shape State Op Undo : Type 0} (o : Object Shape State Op Undo) (place 
     less = let e : length w.shared.1 ≡ length (without_owner t G) = ap (λ (z : List (SharedEntry Op)). length z) left_is in
         let l = filter_short (λ (a : SharedEntry Op). not (a.owner =ⁿ t)) G in omega (arith, e, l)
 
-    same_missed : (n : Name) (z : OpenTx Op) → shown_tx place (without_owner t G) commits n z ≡ show n z
+    same_missed : (n : Name) (z : OpenTx (List (Item Op))) → shown_tx place (without_owner t G) commits n z ≡ show n z
     same_missed n z = same_tx n z.thread z.thread z.walk.body z.walk.body z.own z.own (unseen place (without_owner t G) commits z.seen.entries) (unseen place G commits z.seen.entries) refl refl refl
         (unseen_fewer place G commits z.seen.entries t (λ a i e. ap (λ (c : SharedEntry Op). c.committed) (is_owned o place apart v.shape B h.short t (show t x) (open_there t x found) a i e).2))
 
@@ -388,7 +388,7 @@ module _ {Shape State Op Undo : Type 0} (o : Object Shape State Op Undo) (place 
           (ap (λ (z : List ℕ). reverse z) ids)
           (ap (λ (z : List (SharedEntry Op)). filled (shown_tx place z w.commits.entries) w.slots.entries) left_is
           ∙ ap (λ (z : List (ℕ × List (Item Op))). filled (shown_tx place (without_owner t G) z) w.slots.entries) commits_are
-          ∙ ap (λ (z : List (Name × Option (OpenTx Op))). filled (shown_tx place (without_owner t G) commits) z) slots
+          ∙ ap (λ (z : List (Name × Option (OpenTx (List (Item Op))))). filled (shown_tx place (without_owner t G) commits) z) slots
           ∙ filled_out t show (shown_tx place (without_owner t G) commits) (named G commits) (λ y. y) es h.names (λ n z i q. same_missed n z)
           ∙ map_id (λ (y : BriefTx Op). y) (without_brief t B.opened) (λ y i. refl))
           left_is
@@ -402,7 +402,7 @@ module _ {Shape State Op Undo : Type 0} (o : Object Shape State Op Undo) (place 
           (omega (arith, less, h.few))
 
     -- a retry
-    module _ (g : IsGood o place v (records.Retry t)) (y : OpenTx Op) (slots : w.slots.entries ≡ set_value (λ n. t =ⁿ n) (set_value (λ n. t =ⁿ n) es None) (Some y))
+    module _ (g : IsGood o place v (records.Retry t)) (y : OpenTx (List (Item Op))) (slots : w.slots.entries ≡ set_value (λ n. t =ⁿ n) (set_value (λ n. t =ⁿ n) es None) (Some y))
         (thread : y.thread ≡ x.thread) (body : y.walk.body ≡ x.walk.body) (taken : HasTaken y.walk []) (own : y.own ≡ []) (seen : y.seen.entries ≡ []) (threads : w.threads.keys ≡ v.threads.keys)
         (shape : w.shape ≡ v.shape) (ids : w.ids.keys ≡ v.ids.keys) (committed : w.committed ≡ v.committed) (commits_are : w.commits.entries ≡ commits) (count : w.count ≡ v.count + 1) where
       again_is : w.slots.entries ≡ set_value (λ n. t =ⁿ n) es (Some y)
@@ -414,7 +414,7 @@ module _ {Shape State Op Undo : Type 0} (o : Object Shape State Op Undo) (place 
           (ap (λ (z : List ℕ). reverse z) ids)
           (ap (λ (z : List (SharedEntry Op)). filled (shown_tx place z w.commits.entries) w.slots.entries) left_is
           ∙ ap (λ (z : List (ℕ × List (Item Op))). filled (shown_tx place (without_owner t G) z) w.slots.entries) commits_are
-          ∙ ap (λ (z : List (Name × Option (OpenTx Op))). filled (shown_tx place (without_owner t G) commits) z) again_is
+          ∙ ap (λ (z : List (Name × Option (OpenTx (List (Item Op))))). filled (shown_tx place (without_owner t G) commits) z) again_is
           ∙ filled_set t show (shown_tx place (without_owner t G) commits) (named G commits) emptied x y es h.names (slot_there t x found)
           (same_tx t y.thread x.thread y.walk.body x.walk.body y.own [] (unseen place (without_owner t G) commits y.seen.entries) [] thread body own
           (ap (λ (z : List (ℕ × ℕ)). unseen place (without_owner t G) commits z) seen ∙ unseen_none place (without_owner t G) commits))
@@ -427,7 +427,7 @@ module _ {Shape State Op Undo : Type 0} (o : Object Shape State Op Undo) (place 
           (subst (λ (l : List Name). AreThreads l (threads_of (at_brief t emptied B.opened))) (sym threads)
           (subst (λ (l : List Name). AreThreads v.threads.keys l) (sym (threads_on t emptied B.opened (λ z. refl))) h.threads))
           (fine_set t (Some y) w.slots.entries w.commits.entries again_is (λ z k. subst (λ (c : List (ℕ × List (Item Op))). IsFine o place c z) (sym commits_are) k)
-          (λ z e. subst (λ (u : OpenTx Op). IsFine o place w.commits.entries u) (same_Some y z e) (fresh_fine w.commits.entries y taken own seen)))
+          (λ z e. subst (λ (u : OpenTx (List (Item Op))). IsFine o place w.commits.entries u) (same_Some y z e) (fresh_fine w.commits.entries y taken own seen)))
           (λ q a i. let k = h.commits q a (subst (λ (z : List (ℕ × List (Item Op))). In a (at q z)) commits_are i) in (subst (λ (z : List (CommittedTx Op)). In a (serial_items z)) (sym committed) k.0, k.1))
           (ap (λ (z : Shape × List (SharedEntry Op)). z.0) shared ∙ h.same_shape)
           (omega (arith, less, h.few))

@@ -28,7 +28,7 @@ use Rattle.pp_quick.specs.Boosted.{PlacesSwap}
 use Rattle.pp_quick.specs.Brief.{Brief, BriefTx, brief}
 use Rattle.pp_quick.specs.Held.{IsItemAsked, start_of}
 use Rattle.pp_quick.specs.Shown.{AreThreads, Holds, IsFine, Kept, at, filled, shown, shown_tx, threads_of}
-use Rattle.pp_quick.specs.Starting.{HasStarted, IsNew, Posts, StartAnswers, posted}
+use Rattle.pp_quick.specs.Starting.{HasStarted, IsNew, StartAnswers, posted}
 use Rattle.pp_quick.specs.declared.parts.OpenTx.{OpenTx}
 use Rattle.pp_quick.proofs.Deciding.{quick}
 use Rattle.pp_quick.proofs.Judging.{not_used, used_in}
@@ -180,7 +180,7 @@ module _ {Shape State Op Undo : Type 0} (o : Object Shape State Op Undo) (place 
     z = start_of t items
 
     slots_are : w.slots.entries ≡ (t, None) ∷ []
-    slots_are = slots ∙ ap (λ (l : List (Name × Option (OpenTx Op))). l ++ (t, None) ∷ []) no_slots
+    slots_are = slots ∙ ap (λ (l : List (Name × Option (OpenTx (List (Item Op))))). l ++ (t, None) ∷ []) no_slots
 
     done_are : w.committed ≡ record { name = t; entries = items } ∷ []
     done_are = committed ∙ ap (λ (l : List (CommittedTx Op)). l ++ record { name = t; entries = items } ∷ []) none_done
@@ -189,10 +189,10 @@ module _ {Shape State Op Undo : Type 0} (o : Object Shape State Op Undo) (place 
     shared_are = ap (λ (l : Shape × List (SharedEntry Op)). l.1) shared ∙ committed_all t items
 
     opened_are : (shown place w).opened ≡ []
-    opened_are = ap (λ (l : List (Name × Option (OpenTx Op))). filled (shown_tx place w.shared.1 w.commits.entries) l) slots_are
+    opened_are = ap (λ (l : List (Name × Option (OpenTx (List (Item Op))))). filled (shown_tx place w.shared.1 w.commits.entries) l) slots_are
 
     started_shown : shown place w ≡ brief place (first (Some z))
-    started_shown = same_brief _ _ _ _ _ _ _ _ _ _ (ap (λ (l : List (Name × Option (OpenTx Op))). reverse (keys_of l)) slots_are) ids opened_are shared_are done_are
+    started_shown = same_brief _ _ _ _ _ _ _ _ _ _ (ap (λ (l : List (Name × Option (OpenTx (List (Item Op))))). reverse (keys_of l)) slots_are) ids opened_are shared_are done_are
 
     commits_are : (q : ℕ) → at q w.commits.entries ≡ []
     commits_are q = ap (λ (l : List (ℕ × List (Item Op))). at q l) commits ∙ no_commits q
@@ -210,11 +210,11 @@ module _ {Shape State Op Undo : Type 0} (o : Object Shape State Op Undo) (place 
                   boosted = (quick (rules_of o w.shape) place (apart w.shape)).start (Some z) (subst (λ (s : Shape). StartMeets (rules_of o s) (Some z)) (sym shape) meets);
                   is = sym started_shown;
                 };
-                names = subst (λ (l : List (Name × Option (OpenTx Op))). (s r : Name) → Before s r (keys_of l) → s ≢ r) (sym slots_are) only_one;
+                names = subst (λ (l : List (Name × Option (OpenTx (List (Item Op))))). (s r : Name) → Before s r (keys_of l) → s ≢ r) (sym slots_are) only_one;
                 threads =
                     subst (λ (l : List (BriefTx Op)). AreThreads w.threads.keys (threads_of l)) (sym opened_are)
                     (subst (λ (l : List Name). AreThreads l []) (sym threads) (subst (λ (l : List (BriefTx Op)). AreThreads v.threads.keys (threads_of l)) none_open h.threads));
-                fine = subst (λ (l : List (Name × Option (OpenTx Op))). (m : Name) (x : OpenTx Op) → In (m, Some x) l → IsFine o place w.commits.entries x) (sym slots_are) none_fine;
+                fine = subst (λ (l : List (Name × Option (OpenTx (List (Item Op))))). (m : Name) (x : OpenTx (List (Item Op))) → In (m, Some x) l → IsFine o place w.commits.entries x) (sym slots_are) none_fine;
                 commits = λ q p i. absurd (subst (λ (l : List (Item Op)). In p l) (commits_are q) i);
                 same_shape = ap (λ (l : Shape × List (SharedEntry Op)). l.0) shared ∙ sym shape;
                 few =
@@ -227,8 +227,8 @@ module _ {Shape State Op Undo : Type 0} (o : Object Shape State Op Undo) (place 
         only_one s r (inl i) = absurd i.1
         only_one s r (inr i) = absurd i
 
-        none_fine : (m : Name) (x : OpenTx Op) → In {A = Name × Option (OpenTx Op)} (m, Some x) ((t, None) ∷ []) → IsFine o place w.commits.entries x
-        none_fine m x (inl e) = absurd (let k : Some x ≡ None = ap (λ (s : Name × Option (OpenTx Op)). s.1) e in cc)
+        none_fine : (m : Name) (x : OpenTx (List (Item Op))) → In {A = Name × Option (OpenTx (List (Item Op)))} (m, Some x) ((t, None) ∷ []) → IsFine o place w.commits.entries x
+        none_fine m x (inl e) = absurd (let k : Some x ≡ None = ap (λ (s : Name × Option (OpenTx (List (Item Op)))). s.1) e in cc)
         none_fine m x (inr i) = absurd i
 
 -- what is kept behind a start

@@ -1,16 +1,17 @@
 -- What taking a record answers, in the words of configurations.
 use Rattle.std.specs.Prelude.{◌≡◌, ℕ, Bool, true, false}
 use Rattle.std.proofs.Common.{sym, ap, subst, ◌∙◌}
-use Rattle.pp_model.specs.Config.{Config}
+use Rattle.pp_model.specs.Config.{Config, Start}
 use Rattle.pp_spec.specs.Object.{Object, rules_of}
 use Rattle.pp_front.specs.Fronts.{Front}
 use Rattle.pp_front.specs.Records.{RunRecord}
 use Rattle.pp_quick.specs.Boosted.{Good, PlacesSwap}
 use Rattle.pp_quick.specs.Brief.{Brief, BriefGood, brief_then}
-use Rattle.pp_quick.specs.Held.{Held, IsHeldOf, Takes, TakesIn}
+use Rattle.pp_quick.specs.Held.{Held, IsHeldOf, Starts, Takes, TakesIn}
 use Rattle.pp_quick.specs.Moving.{Answers, IsGood}
 use Rattle.pp_quick.specs.Runs.{IsBoosted}
 use Rattle.pp_quick.specs.Shown.{Holds, Kept, shown}
+use Rattle.pp_quick.specs.Starting.{StartAnswers}
 use Rattle.pp_quick.proofs.Briefs.{briefed}
 use Rattle.pp_quick.proofs.Deciding.{quick}
 
@@ -47,3 +48,13 @@ module _ {Shape State Op Undo : Type 0} (o : Object Shape State Op Undo) (place 
 pub holds_after : {Shape State Op Undo : Type 0} (o : Object Shape State Op Undo) (place : Op → ℕ) (v w : Kept Shape Op) (r : RunRecord Op) (answer : Bool) → Answers o place v r answer w → Holds o place v → Holds o place w
 holds_after o place v w r true a h = a.1.holds
 holds_after {Shape = Shape} {Op = Op} o place v w r false a h = subst (λ (z : Kept Shape Op). Holds o place z) (sym a.1) h
+
+pub shape_after : {Shape State Op Undo : Type 0} (o : Object Shape State Op Undo) (place : Op → ℕ) (v w : Kept Shape Op) (r : RunRecord Op) (answer : Bool) → Answers o place v r answer w → w.shape ≡ v.shape
+shape_after o place v w r true a = a.1.shape
+shape_after {Shape = Shape} {Op = Op} o place v w r false a = ap (λ (z : Kept Shape Op). z.shape) a.1
+
+-- what starting answers, in the words of configurations
+pub starts_of : {Shape State Op Undo : Type 0} (o : Object Shape State Op Undo) (place : Op → ℕ) (v w : Kept Shape Op) (z : Start Op) (good : Bool) → v.count ≡ 0 → StartAnswers o place v z good w →
+    Starts o place (record { shape = v.shape; brief = shown place v; count = v.count }) z good (record { shape = w.shape; brief = shown place w; count = w.count })
+starts_of o place v w z true none a = (a.0, same_held _ _ _ _ _ _ a.1.shape a.1.shown (a.1.count ∙ none))
+starts_of {Shape = Shape} {Op = Op} o place v w z false none a = (a.0, ap (λ (u : Kept Shape Op). let h : Held Shape Op = record { shape = u.shape; brief = shown place u; count = u.count } in h) a.1)

@@ -1,13 +1,13 @@
 -- Whole runs of records, and their first record that is not good.
-use Rattle.std.specs.Prelude.{◌≡◌, ◌⊎◌, ℕ, zero, suc, ◌+◌, ◌≤◌, ◌<◌, List, [], ◌∷◌, ◌++◌, length, slice_get, Some}
+use Rattle.std.specs.Prelude.{◌≡◌, ℕ, suc, ◌+◌, ◌≤◌, ◌<◌, List, [], ◌∷◌, ◌++◌, length, slice_get, Some}
 use Rattle.std.proofs.Common.{refl, sym, ap, subst, ◌∙◌, arith, length-append}
 use Rattle.std.proofs.lemmas.List.{append-nil}
+use Rattle.std.proofs.lemmas.Option.{same_Some}
 use mathlib.Core.Logic.{inl, inr}
 use Rattle.pp_core.specs.declared.call.Kind.{Kind}
 use Rattle.pp_model.specs.Object.{Object}
-use Rattle.pp_model.specs.Config.{Config, Step, then, after_from}
-use Rattle.pp_model.specs.Rules.{IsVerdictFrom, Rejected, RunsFrom, Verdict, criteria}
-use Rattle.pp_model.proofs.Parted.{one_number}
+use Rattle.pp_model.specs.Config.{Config, Step, after_from}
+use Rattle.pp_model.specs.Rules.{IsVerdictFrom, Rejected, RunsFrom, Verdict}
 use Rattle.pp_model.proofs.Verdict.{accepted_iff}
 use Rattle.pp_front.specs.Fronts.{Front}
 use Rattle.pp_front.specs.Records.{RunRecord}
@@ -20,29 +20,7 @@ use Rattle.pp_quick.specs.Runs.{AreBoosted, BriefRuns, IsBoosted, boosting, brie
 use Rattle.pp_quick.specs.Laws.{IsQuick, IsBriefed, IsDecided}
 use Rattle.pp_quick.proofs.Deciding.{quick}
 use Rattle.pp_quick.proofs.Briefs.{briefed}
-
--- the first step that fails lies among the first steps, or they all hold
-cut_verdict : {Op State : Type 0} (O : Object Op State) (ss rest : List (Step Op)) (i : ℕ) (c : Config Op) (v : Verdict) → IsVerdictFrom O i c (ss ++ rest) v →
-    (RunsFrom O c ss × IsVerdictFrom O (i + length ss) (after_from c ss) rest v)
-    ⊎ ((RunsFrom O c ss → ⊥) × ((step n : ℕ) × (v ≡ Rejected step n) × (i ≤ step) × (step < i + length ss)))
-cut_verdict {Op} O [] rest i c v h = inl (tt, subst (λ (k : ℕ). IsVerdictFrom O k c rest v) (let e : i ≡ i + 0 = omega arith in e) h)
-cut_verdict O (s ∷ ss) rest i c v (inl h) = inr (
-  (λ k. let z : suc h.0 ≡ 0 = one_number (criteria O c s) (suc h.0) 0 h.1 k.0 in cc),
-  (i, suc h.0, h.2, omega arith, omega arith),
-)
-cut_verdict {Op} O (s ∷ ss) rest i c v (inr h) = elim (cut_verdict O ss rest (suc i) (then c s) v h.1) [
-  | inl r ↦ inl ((h.0, r.0), subst (λ (k : ℕ). IsVerdictFrom O k (after_from (then c s) ss) rest v) (let e : suc i + length ss ≡ i + suc (length ss) = omega arith in e) r.1)
-  | inr r ↦ inr ((λ k. r.0 k.1), (r.1.0, r.1.1, r.1.2, (let e : suc i ≤ r.1.0 = r.1.3 in omega arith), (let e : r.1.0 < suc i + length ss = r.1.4 in omega arith)))
-]
-
--- a step behind the first ones, and among the next, is one of these
-lined_on : {A : Type 0} (xs : List (Lined A)) (line : ℕ) (ss : List A) (rest : List (Lined A)) (k : ℕ) (s : Lined A) →
-    length xs ≤ k → k < length xs + length ss → slice_get (xs ++ (on_line line ss ++ rest)) k ≡ Some s → s.line ≡ line
-lined_on [] line [] rest k s l m e = absurd (omega arith)
-lined_on {A} [] line (a ∷ ss) rest zero s l m e = let z : record { line = line; what = a } ≡ s = cc in ap (λ (w : Lined A). w.line) (sym z)
-lined_on [] line (a ∷ ss) rest (suc k) s l m e = lined_on [] line ss rest k s (omega arith) (omega arith) e
-lined_on (x ∷ xs) line ss rest zero s l m e = absurd (omega arith)
-lined_on (x ∷ xs) line ss rest (suc k) s l m e = lined_on xs line ss rest k s (omega arith) (omega arith) e
+use Rattle.pp_quick.proofs.Failures.{cut_verdict, lined_there}
 
 module _ {Op State : Type 0} (O : Object Op State) (place : Op → ℕ) (apart : PlacesSwap O place) (ks : List Kind) where
   abbrev T : Translation Front (RunRecord Op) Op
@@ -132,7 +110,7 @@ module _ {Op State : Type 0} (O : Object Op State) (place : Op → ℕ) (apart :
 
     rejected : (i : ℕ) (v : Verdict) → AreBoosted rs → IsBoosted r.what → Boosted O place p.config → BriefRuns O place (brief place p.config) (bare rs) →
         (BriefGood O place (brief_after place (brief place p.config) (bare rs)) r.what → ⊥) → IsVerdictFrom O i p.config (bare (joined_steps T p (rs ++ r ∷ more))) v →
-        (step n : ℕ) × (v ≡ Rejected step n) × (i + length (joined_steps T p rs) ≤ step) × (step < i + length (joined_steps T p (rs ++ r ∷ [])))
+        (step n : ℕ) × (v ≡ Rejected step (suc n)) × (i + length (joined_steps T p rs) ≤ step) × (step < i + length (joined_steps T p (rs ++ r ∷ [])))
     rejected i v s sr b h n k =
         elim (cut_verdict O xs (e ++ ys) i p.config v (subst (λ (z : List (Step Op)). IsVerdictFrom O i p.config z v) bare_are k)) [
           | inr a ↦ absurd (a.0 (runs rs p s b h))
@@ -163,8 +141,8 @@ module _ {Op State : Type 0} (O : Object Op State) (place : Op → ℕ) (apart :
         slice_get (joined_steps T p (rs ++ r ∷ more)) k ≡ Some s → s.line ≡ r.line
     lined k s l m f =
         let u : length (joined_steps T p rs) + length e ≡ length (joined_steps T p (rs ++ r ∷ [])) = ends in
-        lined_on (joined_steps T p rs) r.line e (joined_steps T (after_record T d r.what) more) k s l (omega arith)
-        (subst (λ (z : LinedSteps Op). slice_get z k ≡ Some s) steps_are f)
+        let t = lined_there (joined_steps T p rs) r.line e (joined_steps T (after_record T d r.what) more) k l (omega arith) in
+        ap (λ (z : Lined (Step Op)). z.line) (same_Some s t.0 (sym (subst (λ (z : LinedSteps Op). slice_get z k ≡ Some s) steps_are f) ∙ t.1)) ∙ t.2
 
 pub decided : {Op State : Type 0} (O : Object Op State) (place : Op → ℕ) → PlacesSwap O place → IsDecided O place
 decided O place apart =

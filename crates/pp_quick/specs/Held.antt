@@ -119,7 +119,7 @@ take_ticks place B (records.Depend t source) = 0
 take_ticks place B (records.Publish t) = 0
 take_ticks place B (records.DropSource t source) = 0
 
--- What it costs at most, memory refused or not.
+-- What it costs at most, whatever it answers.
 abbrev pub take_most : {Op : Type 0} → (Op → ℕ) → Brief Op → RunRecord Op → ℕ
 take_most place B (records.Plain step) = 0
 take_most place B (records.Op t id op) = 1

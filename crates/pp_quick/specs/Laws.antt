@@ -1,6 +1,6 @@
 -- Meaning: the laws of boosted runs, of any object whose operations have a place.
 use Rattle.std.specs.Prelude.{◌≡◌, ℕ, ◌+◌, ◌≤◌, ◌<◌, ◌↔◌, ◌++◌, ◌∷◌, [], List, Option, filter}
-use Rattle.std.specs.Prelude.{length, map, not, slice_get, Some}
+use Rattle.std.specs.Prelude.{length, map, not, slice_get, Some, suc}
 use Rattle.pp_core.specs.declared.call.Kind.{Kind}
 use Rattle.pp_core.specs.declared.call.Style.TheVariants as styles
 use Rattle.pp_model.specs.Config.{Config, SharedEntry, Start, Step, Tx, after_from, first, item}
@@ -82,7 +82,7 @@ pub record IsDecided {Op State : Type 0} (O : Object Op State) (place : Op → �
       Boosted O place p.config → BriefRuns O place (brief place p.config) (bare rs) →
       (BriefGood O place (brief_after place (brief place p.config) (bare rs)) r.what → ⊥) →
       IsVerdictFrom O i p.config (bare (joined_steps (boosting place ks) p (rs ++ r ∷ more))) v →
-      (step n : ℕ) × (v ≡ Rejected step n)
+      (step n : ℕ) × (v ≡ Rejected step (suc n))
       × (i + length (joined_steps (boosting place ks) p rs) ≤ step)
       × (step < i + length (joined_steps (boosting place ks) p (rs ++ r ∷ [])))
   -- and these steps stand on its line

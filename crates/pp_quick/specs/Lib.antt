@@ -4,8 +4,12 @@ pub mod Runs
 pub mod Laws
 pub mod Shown
 pub mod Passing
+pub mod Known
 pub mod Leaving
 pub mod Removals
 pub mod Held
+pub mod Failures
+pub mod Reading
+pub mod Sums
 pub mod Moving
 pub mod Starting

@@ -64,7 +64,7 @@ abbrev pub unseen : {Op : Type 0} → (Op → ℕ) → List (SharedEntry Op) →
 unseen place G commits seen = shared_ids (filter (is_unseen place commits seen) G)
 
 abbrev pub shown_tx : {Op : Type 0} → (Op → ℕ) → List (SharedEntry Op) →
-    List (ℕ × List (Item Op)) → Name → OpenTx Op → BriefTx Op
+    List (ℕ × List (Item Op)) → Name → OpenTx (List (Item Op)) → BriefTx Op
 shown_tx place G commits n x =
     record {
       name = n;
@@ -76,7 +76,7 @@ shown_tx place G commits n x =
 
 -- what a Quick keeps, over operations and objects
 abbrev pub Kept : Type 0 → Type 0 → Type 0
-Kept Shape Op = Parts Shape Op (Shape × List (SharedEntry Op))
+Kept Shape Op = Parts Shape Op (Shape × List (SharedEntry Op)) (List (Item Op))
 
 -- the brief that it shows
 abbrev pub shown : {Shape Op : Type 0} → (Op → ℕ) → Kept Shape Op → Brief Op
@@ -111,7 +111,8 @@ module _ {Shape State Op Undo : Type 0} (o : Object Shape State Op Undo) (place 
 
   -- What is kept of an open transaction: its walk has taken its own calls, and what it has seen is
   -- told of the places of its own operations, and of no others.
-  pub record IsFine (commits : List (ℕ × List (Item Op))) (x : OpenTx Op) : Type 0 where
+  pub record IsFine (commits : List (ℕ × List (Item Op))) (x : OpenTx (List (Item Op))) :
+      Type 0 where
     pub taken : HasTaken x.walk (calls_of o x.own)
     pub sees : (q : ℕ) → is_some (lookup (nat_eq q) x.seen.entries) ≡ touches place q x.own
     pub within : (q k : ℕ) → lookup (nat_eq q) x.seen.entries ≡ Some k →
@@ -122,7 +123,7 @@ module _ {Shape State Op Undo : Type 0} (o : Object Shape State Op Undo) (place 
     pub short : IsShort v.shape (shown place v)
     pub names : (s t : Name) → Before s t (keys_of v.slots.entries) → s ≢ t
     pub threads : AreThreads v.threads.keys (threads_of (shown place v).opened)
-    pub fine : (n : Name) (x : OpenTx Op) → In (n, Some x) v.slots.entries →
+    pub fine : (n : Name) (x : OpenTx (List (Item Op))) → In (n, Some x) v.slots.entries →
         IsFine v.commits.entries x
     -- the commits at a place are of it, and were committed
     pub commits : (q : ℕ) (p : Item Op) → In p (at q v.commits.entries) →

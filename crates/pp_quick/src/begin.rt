@@ -6,7 +6,8 @@ ghost use Rattle.pp_front.specs.Records.{Plain};
 ghost use Rattle.pp_quick.specs.Moving.{Answers};
 ghost use Rattle.pp_quick.specs.Shown.{Holds};
 
-use crate::open_tx::begun;
+use crate::open_tx::fresh;
+use crate::own::Own;
 use crate::parts::Parts;
 use crate::slots::put_new;
 use pp_core::{Body, Name, OutOfMemory};
@@ -16,7 +17,7 @@ use pp_shared::Shared;
 /// A transaction begins, where its name is new and its thread is not busy. The only error is that
 /// memory was refused.
 pub fn begin<S: Parted>(
-    parts: &mut Parts<S::Shape, S::Op, Shared<S>>,
+    parts: &mut Parts<S::Shape, S::Op, Shared<S>, Own<S>>,
     tx: &Name,
     thread: &Name,
     body: &Option<Body>,
@@ -33,7 +34,7 @@ pub fn begin<S: Parted>(
     if parts.threads.contains(thread) {
         return Ok(false);
     }
-    let it = begun(parts.alloc, thread, body)?;
+    let it = fresh::<S>(parts.alloc, thread, body)?;
     parts.threads.insert(*thread)?;
     put_new(&mut parts.slots, tx, Some(it))?;
     parts.count += 1;

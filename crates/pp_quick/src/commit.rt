@@ -4,7 +4,8 @@ ghost use Rattle.pp_front.specs.Records.{Commit};
 ghost use Rattle.pp_quick.specs.Moving.{IsGood, Moves};
 ghost use Rattle.pp_quick.specs.Shown.{Holds};
 
-use crate::commits::note_all;
+use crate::commits::add_commits;
+use crate::own::Own;
 use crate::parts::{OpenTx, Parts};
 use crate::slots::take_out;
 use pp_core::{CommittedTx, Name, OutOfMemory};
@@ -13,7 +14,7 @@ use pp_shared::Shared;
 
 /// The transaction commits. The only error is that memory was refused.
 pub fn commit<S: Parted>(
-    parts: &mut Parts<S::Shape, S::Op, Shared<S>>,
+    parts: &mut Parts<S::Shape, S::Op, Shared<S>, Own<S>>,
     tx: &Name,
 ) -> Result<(), OutOfMemory>
     requires holds { Holds S.object S.place_of parts.old }
@@ -31,8 +32,9 @@ pub fn commit<S: Parted>(
         seen: _,
     } = it;
     parts.threads.swap_remove(&thread);
+    let own = own.into_items();
     parts.shared.commit(tx, &own);
-    note_all::<S>(parts.alloc, &mut parts.commits, own.as_slice())?;
+    add_commits::<S>(parts.alloc, &mut parts.commits, own.as_slice())?;
     parts.committed.push(CommittedTx {
         name: *tx,
         entries: own,

@@ -1,12 +1,12 @@
 //! What was committed at each place, and what an open transaction has seen of it.
 ghost use Rattle.std.specs.Prelude.{◌≡◌, ◌++◌, ℕ, false, IsTrue, OnOk, drop, length};
-ghost use Rattle.pp_quick.specs.Passing.{LetAllPass, LetPass, Stops, StopsOne, items_at};
-ghost use Rattle.pp_quick.specs.Passing.{with_commit};
+ghost use Rattle.pp_quick.specs.Passing.{LetAllPass, StopsOne, items_at, with_commit};
 ghost use Rattle.pp_quick.specs.Shown.{at, unseen_at};
-ghost use Rattle.pp_spec.specs.Object.{Swaps, SwapsNowhere};
 
+use crate::own::Own;
 use crate::parts::{Commits, OpenTx};
 use pp_core::{Item, Items, OutOfMemory};
+use pp_parts::Parted;
 use pp_spec::Placed;
 use std::alloc::Global;
 
@@ -21,7 +21,7 @@ pub fn count_at<O: Copy>(commits: &Commits<O>, place: u16) -> usize
 }
 
 /// One more commit. The only error is that memory was refused.
-fn note<S: Placed>(
+fn add_commit<S: Placed>(
     alloc: Global,
     commits: &mut Commits<S::Op>,
     item: &Item<S::Op>,
@@ -39,8 +39,8 @@ fn note<S: Placed>(
     Ok(())
 }
 
-/// The commits, with these items behind. The only error is that memory was refused.
-pub fn note_all<S: Placed>(
+/// Commits of all these items. The only error is that memory was refused.
+pub fn add_commits<S: Placed>(
     alloc: Global,
     commits: &mut Commits<S::Op>,
     items: &[Item<S::Op>],
@@ -49,42 +49,19 @@ pub fn note_all<S: Placed>(
         ≡ at q commits.old.entries ++ items_at S.place_of q items.now) }
 {
     for item in items {
-        note::<S>(alloc, commits, item)?;
+        add_commit::<S>(alloc, commits, item)?;
     }
     Ok(())
 }
 
-/// Whether the own operation has the place of the other, and does not let it pass.
-fn stops<S: Placed>(item: &Item<S::Op>, op: &S::Op) -> bool
-    ensures yes { IsTrue result → (S.place_of item.now.op ≡ S.place_of op.now)
-        × SwapsNowhere S.object item.now.op op.now }
-    ensures no { result ≡ false → S.place_of item.now.op ≡ S.place_of op.now →
-        Swaps S.object item.now.op op.now }
-{
-    S::place(&item.op) == S::place(op) && !S::swaps(&item.op, op)
-}
-
-/// Whether each of the own operations at its place lets the operation pass.
-fn let_pass<S: Placed>(own: &[Item<S::Op>], op: &S::Op) -> bool
-    ensures yes { IsTrue result → LetPass S.object S.place_of own.now op.now }
-    ensures no { result ≡ false → Stops S.object S.place_of own.now op.now }
-{
-    for item in own {
-        if stops::<S>(item, op) {
-            return false;
-        }
-    }
-    true
-}
-
 /// Whether the own operations let each of these pass, from a position on.
-fn let_all_pass<S: Placed>(own: &[Item<S::Op>], done: &[Item<S::Op>], from: usize) -> bool
+fn let_all_pass<S: Parted>(own: &Own<S>, done: &[Item<S::Op>], from: usize) -> bool
     ensures yes { IsTrue result → LetAllPass S.object S.place_of own.now (drop from done.now) }
     ensures no { result ≡ false → StopsOne S.object S.place_of own.now (drop from done.now) }
 {
     for k in from..done.len() {
         let item = &done[k];
-        if !let_pass::<S>(own, &item.op) {
+        if !own.let_pass(&item.op) {
             return false;
         }
     }
@@ -92,8 +69,9 @@ fn let_all_pass<S: Placed>(own: &[Item<S::Op>], done: &[Item<S::Op>], from: usiz
 }
 
 /// Whether the own operations at the place of an operation let each commit pass there that the
-/// transaction has not seen. It looks at no others.
-pub fn passes_unseen<S: Placed>(it: &OpenTx<S::Op>, commits: &Commits<S::Op>, op: &S::Op) -> bool
+/// transaction has not seen. It asks the movers of no others, and walks over the own operations
+/// only where what is known of them leaves the answer open.
+pub fn passes_unseen<S: Parted>(it: &OpenTx<Own<S>>, commits: &Commits<S::Op>, op: &S::Op) -> bool
     ensures yes { IsTrue result → LetAllPass S.object S.place_of it.now.own
         (unseen_at (S.place_of op.now) commits.now.entries it.now.seen.entries) }
     ensures no { result ≡ false → StopsOne S.object S.place_of it.now.own
@@ -106,5 +84,5 @@ pub fn passes_unseen<S: Placed>(it: &OpenTx<S::Op>, commits: &Commits<S::Op>, op
     let Some(done) = commits.get(&place) else {
         return true;
     };
-    let_all_pass::<S>(it.own.as_slice(), done.as_slice(), seen)
+    let_all_pass::<S>(&it.own, done.as_slice(), seen)
 }

@@ -1,6 +1,9 @@
-//! The laws of boosted runs, each over every object of places.
+//! The laws of boosted runs, each over every kind. A law about places holds of every choice of them
+//! for which operations of different places swap.
 ghost use Rattle.pp_quick.specs.Boosted.{PlacesSwap};
 ghost use Rattle.pp_quick.specs.Laws.{BriefLaw, DecidedLaw, FrontLaw, LeaveLaw, QuickLaw};
+ghost use Rattle.pp_quick.specs.Reading.{BoostedFailureLaw, ReaderLaw};
+ghost use Rattle.pp_quick.specs.Sums.{SumsLaw};
 ghost use Rattle.pp_spec.specs.Object.{rules_of};
 
 use pp_spec::{Placed, Spec};
@@ -32,7 +35,26 @@ pub fn leave_law<S: Spec>()
     ensures { (shape : S.Shape) → LeaveLaw (rules_of S.object shape) }
 {}
 
-/// A kind of several objects meets the premise.
+/// Operations of different places of a `Placed` kind swap.
 pub fn placed_law<S: Placed>()
     ensures { (shape : S.Shape) → PlacesSwap (rules_of S.object shape) S.place_of }
+{}
+
+/// Of the records of a boosted run one fails at most, none where each step holds, and, where the
+/// start holds, one where not. Where one fails, each verdict of the steps is a rejection of a step
+/// on its line, and where the start fails, of the start.
+pub fn failure_law<S: Spec>()
+    ensures { (shape : S.Shape) → BoostedFailureLaw (rules_of S.object shape) }
+{}
+
+/// What a `Quick` that takes the records of a run, one after another, says of the run: whether it
+/// is accepted, what was committed, which record fails, and which records are tried.
+pub fn reader_law<S: Placed>()
+    ensures { ReaderLaw S.object S.place_of }
+{}
+
+/// What the records cost at most that are tried of a run, one after another, and that a good record
+/// takes at least one tick where it is an operation.
+pub fn sum_law<S: Spec>()
+    ensures { (shape : S.Shape) → SumsLaw (rules_of S.object shape) }
 {}

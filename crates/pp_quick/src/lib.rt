@@ -8,6 +8,7 @@ mod laws;
 mod leaving;
 mod op;
 mod open_tx;
+mod own;
 mod parts;
 mod quick;
 mod slots;
@@ -15,6 +16,9 @@ mod start;
 mod take;
 mod undo;
 
-pub use laws::{brief_law, decided_law, front_law, leave_law, placed_law, quick_law};
+pub use laws::{
+    brief_law, decided_law, failure_law, front_law, leave_law, placed_law, quick_law, reader_law,
+    sum_law,
+};
 pub use pp_front::RunRecord;
 pub use quick::Quick;

@@ -6,7 +6,8 @@ ghost use Rattle.pp_quick.specs.Moving.{IsGood, Moves};
 ghost use Rattle.pp_quick.specs.Shown.{Holds, open_in};
 
 use crate::commits::passes_unseen;
-use crate::open_tx::grown;
+use crate::open_tx::with_operation;
+use crate::own::Own;
 use crate::parts::{OpenTx, Parts};
 use crate::slots::{put_back, take_out};
 use pp_core::{Item, Name, OutOfMemory, SharedEntry, Ticks};
@@ -16,8 +17,8 @@ use std::sync::ledger::Ledger;
 
 /// Whether an op record of an open transaction is good.
 pub fn may_do<S: Parted>(
-    parts: &Parts<S::Shape, S::Op, Shared<S>>,
-    it: &OpenTx<S::Op>,
+    parts: &Parts<S::Shape, S::Op, Shared<S>, Own<S>>,
+    it: &OpenTx<Own<S>>,
     tx: &Name,
     id: u32,
     op: &S::Op,
@@ -45,7 +46,7 @@ pub fn may_do<S: Parted>(
 
 /// The operation stands behind the shared log. The only error is that memory was refused.
 pub fn push<S: Parted, L: Ledger>(
-    parts: &mut Parts<S::Shape, S::Op, Shared<S>>,
+    parts: &mut Parts<S::Shape, S::Op, Shared<S>, Own<S>>,
     tx: &Name,
     id: u32,
     op: &S::Op,
@@ -72,7 +73,7 @@ pub fn push<S: Parted, L: Ledger>(
     };
     parts.shared.push(entry, ticks)?;
     parts.ids.insert(id)?;
-    let it = grown::<S>(it, &parts.commits, Item { id, op: *op })?;
+    let it = with_operation::<S>(it, &parts.commits, Item { id, op: *op })?;
     put_back(&mut parts.slots, tx, it);
     parts.count += 1;
     Ok(())

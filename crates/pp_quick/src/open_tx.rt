@@ -6,10 +6,12 @@ ghost use Rattle.pp_quick.specs.Passing.{IsGrown};
 ghost use Rattle.pp_quick.specs.Shown.{calls_of};
 
 use crate::commits::count_at;
+use crate::own::Own;
 use crate::parts::{Commits, OpenTx};
 use indexmap::IndexMap;
 use pp_body::Walk;
-use pp_core::{Body, Item, Items, Name, OutOfMemory};
+use pp_core::{Body, Item, Name, OutOfMemory};
+use pp_parts::Parted;
 use pp_spec::Placed;
 use std::alloc::Global;
 
@@ -24,11 +26,11 @@ fn copied(body: &Option<Body>, alloc: Global) -> Result<Option<Body>, OutOfMemor
 }
 
 /// A transaction that begins. The only error is that memory was refused.
-pub fn begun<O: Copy>(
+pub fn fresh<S: Parted>(
     alloc: Global,
     thread: &Name,
     body: &Option<Body>,
-) -> Result<OpenTx<O>, OutOfMemory>
+) -> Result<OpenTx<Own<S>>, OutOfMemory>
     requires { IsWithinLimits (option_map tree body.now) }
     ensures thread { IfOk result (λ x. x.thread ≡ thread.now) }
     ensures body { IfOk result (λ x. x.walk.body ≡ option_map tree body.now) }
@@ -41,29 +43,29 @@ pub fn begun<O: Copy>(
     Ok(OpenTx {
         thread: *thread,
         walk,
-        own: Items::new(alloc),
+        own: Own::new(alloc),
         seen: IndexMap::new(alloc),
     })
 }
 
 /// The transaction with one more operation of its own, behind which it has seen the commits at its
 /// place. The only error is that memory was refused.
-pub fn grown<S: Placed>(
-    it: OpenTx<S::Op>,
+pub fn with_operation<S: Parted>(
+    it: OpenTx<Own<S>>,
     commits: &Commits<S::Op>,
     item: Item<S::Op>,
-) -> Result<OpenTx<S::Op>, OutOfMemory>
+) -> Result<OpenTx<Own<S>>, OutOfMemory>
     requires { MayTake it.walk (S.object.call item.op) }
     ensures { IfOk result (IsGrown S.object S.place_of commits.now.entries it item) }
 {
     let OpenTx {
         thread,
         walk,
-        mut own,
+        own,
         mut seen,
     } = it;
     let walk = walk.take(S::call(&item.op))?;
-    own.push(item)?;
+    let own = own.with(item)?;
     let place = S::place(&item.op);
     seen.insert(place, count_at(commits, place))?;
     Ok(OpenTx {
@@ -90,7 +92,7 @@ fn given_back<S: Placed>(walk: Walk, own: &[Item<S::Op>]) -> Walk
 }
 
 /// The transaction as it began.
-pub fn anew<S: Placed>(alloc: Global, it: OpenTx<S::Op>) -> OpenTx<S::Op>
+pub fn anew<S: Parted>(alloc: Global, it: OpenTx<Own<S>>) -> OpenTx<Own<S>>
     requires { HasTaken it.walk (calls_of S.object it.own) }
     ensures thread { result.thread ≡ it.thread }
     ensures body { result.walk.body ≡ it.walk.body }
@@ -108,7 +110,7 @@ pub fn anew<S: Placed>(alloc: Global, it: OpenTx<S::Op>) -> OpenTx<S::Op>
     OpenTx {
         thread,
         walk,
-        own: Items::new(alloc),
+        own: Own::new(alloc),
         seen: IndexMap::new(alloc),
     }
 }

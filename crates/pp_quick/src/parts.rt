@@ -5,26 +5,26 @@ use pp_body::Walk;
 use pp_core::{Committed, Items, Name};
 use std::alloc::Global;
 
-/// An open transaction: its own operations, how far they have come in its body, and for each place
-/// of one of them how many of the commits there it has seen.
+/// An open transaction: its own operations, of the type `W`, how far they have come in its body,
+/// and for each place of one of them how many of the commits there it has seen.
 #[derive(Drop)]
-pub struct OpenTx<O> {
+pub struct OpenTx<W> {
     pub thread: Name,
     pub walk: Walk,
-    pub own: Items<O>,
+    pub own: W,
     pub seen: IndexMap<u16, usize>,
 }
 
 /// The operations that were committed behind the start, place by place, in commit order.
 pub type Commits<O> = IndexMap<u16, Items<O>>;
 
-/// All that a `Quick` keeps. The shared log is of the type `T`.
+/// All that a `Quick` keeps. The shared log is of the type `T`, own operations are of the type `W`.
 #[derive(Drop)]
-pub struct Parts<H, O: Copy, T> {
+pub struct Parts<H, O: Copy, T, W> {
     pub alloc: Global,
     pub shape: H,
     /// The transactions that have begun.
-    pub slots: Slots<OpenTx<O>>,
+    pub slots: Slots<OpenTx<W>>,
     /// The threads of the open transactions.
     pub threads: IndexSet<Name>,
     pub ids: IndexSet<u32>,

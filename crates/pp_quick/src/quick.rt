@@ -2,12 +2,14 @@
 ghost use Rattle.std.specs.Prelude.{◌≡◌, ◌+◌, ◌≤◌, ◌<◌, IfOk, IsTrue, length};
 ghost use Rattle.std.specs.List.{All};
 ghost use Rattle.pp_front.specs.Records.{record_meaning};
+ghost use Rattle.pp_model.specs.Object.{HasDistinctIds};
 ghost use Rattle.pp_model.specs.Sound.{serial_ops};
 ghost use Rattle.pp_quick.specs.Held.{IsItemAsked, IsRecordAsked, Starts, TakeCosts, Takes};
 ghost use Rattle.pp_quick.specs.Held.{held_first, start_of, take_most};
 ghost use Rattle.pp_quick.specs.Runs.{IsBoosted};
 ghost use Rattle.pp_spec.specs.Object.{AllRanged, IsAllowed};
 
+use crate::own::Own;
 use crate::parts::Parts;
 use crate::{start, take};
 use indexmap::{IndexMap, IndexSet};
@@ -19,11 +21,12 @@ use std::alloc::Global;
 use std::marker::Model;
 use std::sync::ledger::Ledger;
 
-/// What decides a boosted run, record by record: the shared log, the committed transactions, and of
-/// each open one its own operations and how many of the commits at their places it has seen.
+/// What decides a boosted run, record by record: the names and ids that were used, the threads that
+/// are busy, the shared log, the committed transactions, and of each open one its own operations,
+/// how far they have come in its body, and how many of the commits at their places it has seen.
 #[derive(Drop)]
 pub struct Quick<S: Parted> {
-    parts: Parts<S::Shape, S::Op, Shared<S>>,
+    parts: Parts<S::Shape, S::Op, Shared<S>, Own<S>>,
 }
 
 impl<S: Parted> Model for Quick<S> {
@@ -83,6 +86,7 @@ impl<S: Parted> Quick<S> {
             Starts S.object S.place_of self (start_of tx items.now) r.1 r.0) }
         ensures cost { IfOk result (λ r.
             IsTrue r.1 → ticks.new ≡ ticks.old + length items.now) }
+        ensures repeated { (HasDistinctIds items.now → ⊥) → ticks.new ≡ ticks.old }
         ensures rises { ticks.old ≤ ticks.new }
         ensures bound { ticks.new ≤ ticks.old + length items.now }
     {
@@ -103,6 +107,7 @@ impl<S: Parted> Quick<S> {
         requires few { self.count < 200_000 }
         ensures takes { IfOk result (λ r.
             Takes S.object S.place_of self (record_meaning recorded.now) r.1 r.0) }
+        ensures shape { IfOk result (λ r. r.0.shape ≡ self.shape) }
         ensures cost { IfOk result (λ r. TakeCosts S.place_of self.brief
             (record_meaning recorded.now) r.1 ticks.old ticks.new) }
         ensures rises { ticks.old ≤ ticks.new }
@@ -114,12 +119,20 @@ impl<S: Parted> Quick<S> {
         Ok((Quick { parts }, good))
     }
 
-    /// The committed transactions, in commit order. Their operations, joined, are allowed, and in
-    /// the range of records.
+    /// How many records were taken.
+    pub fn count(&self) -> u32
+        ensures { result ≡ self.now.count }
+    {
+        self.parts.count
+    }
+
+    /// The committed transactions, in commit order. Their operations, joined, are allowed, in the
+    /// range of records, and at most 256 more than records were taken.
     pub fn committed(&self) -> &Committed<S::Op>
         ensures done { result.now ≡ self.now.brief.done }
         ensures allowed { IsAllowed S.object self.now.shape (serial_ops self.now.brief.done) }
         ensures ranged { AllRanged S.object (serial_ops self.now.brief.done) }
+        ensures few { length (serial_ops self.now.brief.done) ≤ self.now.count + 256 }
     {
         // It stands here for what its clauses say of the log.
         let _ranged = self.parts.shared.len();

@@ -1,5 +1,5 @@
 //! The slots of the transactions: finding an open one, and changing it.
-ghost use Rattle.std.specs.Prelude.{◌≡◌, ◌++◌, ◌∷◌, [], IfSome, IsSome, None, Some, OnOk};
+ghost use Rattle.std.specs.Prelude.{◌≡◌, ◌++◌, ◌∷◌, [], IfNone, IfSome, IsSome, None, Some, OnOk};
 ghost use Rattle.std.specs.Map.{lookup, set_value};
 ghost use Rattle.std.specs.Option.{option_copied};
 ghost use Rattle.std.specs.Str.{bytes_eq};
@@ -19,12 +19,14 @@ pub fn find<'a, T>(slots: &'a Slots<T>, tx: &Name) -> Option<&'a T>
     slot.as_ref()
 }
 
-/// Empties the slot of an open name, and gives what it had.
+/// Empties the slot of an open name, and gives what it had. Of another name it changes nothing.
 pub fn take_out<T>(slots: &mut Slots<T>, tx: &Name) -> Option<T>
     ensures found { result ≡ open_in tx.now slots.old.entries }
     ensures emptied { IfSome result (λ x. slots.new.entries
         ≡ set_value (bytes_eq tx.now) slots.old.entries None) }
+    ensures same { IfNone result (slots.new ≡ slots.old) }
 {
+    find(slots, tx)?;
     let slot = slots.get_mut(tx)?;
     slot.take()
 }
@@ -41,14 +43,10 @@ pub fn put_back<T: Drop>(slots: &mut Slots<T>, tx: &Name, it: T)
 }
 
 /// A slot for a name that has none. The only error is that memory was refused.
-pub fn put_new<T: Drop>(
-    slots: &mut Slots<T>,
-    tx: &Name,
-    begun: Option<T>,
-) -> Result<(), OutOfMemory>
+pub fn put_new<T: Drop>(slots: &mut Slots<T>, tx: &Name, slot: Option<T>) -> Result<(), OutOfMemory>
     requires { lookup (bytes_eq tx.now) slots.old.entries ≡ None }
-    ensures { OnOk result (slots.new.entries ≡ slots.old.entries ++ (tx.now, begun) ∷ []) }
+    ensures { OnOk result (slots.new.entries ≡ slots.old.entries ++ (tx.now, slot) ∷ []) }
 {
-    slots.insert(*tx, begun)?;
+    slots.insert(*tx, slot)?;
     Ok(())
 }

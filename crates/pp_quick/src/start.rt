@@ -9,6 +9,7 @@ ghost use Rattle.pp_quick.specs.Shown.{Holds};
 ghost use Rattle.pp_quick.specs.Starting.{HasStarted, IsNew, Posts, StartAnswers, posted};
 ghost use Rattle.pp_spec.specs.Object.{rules_of};
 
+use crate::own::Own;
 use crate::parts::Parts;
 use crate::slots::put_new;
 use indexmap::IndexSet;
@@ -88,7 +89,7 @@ fn copy_of<O: Copy>(alloc: Global, items: &[Item<O>]) -> Result<Items<O>, OutOfM
 /// ended, in the log that they make. No transaction can miss them, since none is open. The only
 /// error is that memory was refused.
 fn put_start<S: Parted>(
-    parts: &mut Parts<S::Shape, S::Op, Shared<S>>,
+    parts: &mut Parts<S::Shape, S::Op, Shared<S>, Own<S>>,
     tx: &Name,
     items: &Items<S::Op>,
     ids: IndexSet<u32>,
@@ -115,9 +116,9 @@ fn put_start<S: Parted>(
 }
 
 /// Lets operations stand committed, where their ids differ and they are allowed, and else says
-/// false, and nothing has changed. The only error is that memory was refused.
+/// false, and nothing has changed but the ticks. The only error is that memory was refused.
 pub fn start<S: Parted, L: Ledger>(
-    parts: &mut Parts<S::Shape, S::Op, Shared<S>>,
+    parts: &mut Parts<S::Shape, S::Op, Shared<S>, Own<S>>,
     tx: &Name,
     items: &Items<S::Op>,
     ticks: &mut Ticks<L>,
@@ -129,6 +130,7 @@ pub fn start<S: Parted, L: Ledger>(
     ensures answers { IfOk result (λ good. StartAnswers S.object S.place_of parts.old
         (start_of tx.now items.now) good parts.new) }
     ensures cost { IfOk result (λ good. IsTrue good → ticks.new ≡ ticks.old + length items.now) }
+    ensures repeated { (HasDistinctIds items.now → ⊥) → ticks.new ≡ ticks.old }
     ensures rises { ticks.old ≤ ticks.new }
     ensures bound { ticks.new ≤ ticks.old + length items.now }
 {

@@ -1,14 +1,16 @@
 //! Taking a record.
 ghost use Rattle.std.specs.Prelude.{◌≡◌, ◌+◌, ◌≤◌, ◌<◌, IfOk};
-ghost use Rattle.pp_front.specs.Records.{Abort, Commit, Op, Retry, record_meaning};
-ghost use Rattle.pp_quick.specs.Held.{IsOpAsked, IsRecordAsked, TakeCosts, take_most};
+ghost use Rattle.pp_core.specs.Steps.{meaning};
+ghost use Rattle.pp_front.specs.Records.{Commit, Op, Plain, record_meaning};
+ghost use Rattle.pp_quick.specs.Held.{IsOpAsked, IsRecordAsked, IsStepAsked};
+ghost use Rattle.pp_quick.specs.Held.{TakeCosts, take_most};
 ghost use Rattle.pp_quick.specs.Moving.{Answers};
-ghost use Rattle.pp_quick.specs.Runs.{IsBoosted};
 ghost use Rattle.pp_quick.specs.Shown.{Holds, shown};
 
 use crate::begin::begin;
 use crate::commit::commit;
 use crate::op::{may_do, push};
+use crate::own::Own;
 use crate::parts::Parts;
 use crate::slots::find;
 use crate::undo::{abort, retry};
@@ -18,9 +20,35 @@ use pp_parts::Parted;
 use pp_shared::Shared;
 use std::sync::ledger::Ledger;
 
+/// Takes a step where it is a begin that is good. Other steps are no records of a boosted run. The
+/// only error is that memory was refused.
+fn take_step<S: Parted>(
+    parts: &mut Parts<S::Shape, S::Op, Shared<S>, Own<S>>,
+    step: &Step<S::Op>,
+) -> Result<bool, OutOfMemory>
+    requires holds { Holds S.object S.place_of parts.old }
+    requires asked { IsStepAsked (meaning step.now) }
+    requires few { parts.old.count < 200_000 }
+    ensures { IfOk result (λ good. Answers S.object S.place_of parts.old
+        (Plain (meaning step.now)) good parts.new) }
+{
+    match step {
+        Step::Begin { tx, thread, body } => begin(parts, tx, thread, body),
+        Step::App { .. }
+        | Step::Unapp { .. }
+        | Step::Push { .. }
+        | Step::Unpush { .. }
+        | Step::Pull { .. }
+        | Step::Unpull { .. }
+        | Step::Cmt { .. }
+        | Step::Quit { .. }
+        | Step::Note { .. } => Ok(false),
+    }
+}
+
 /// Takes an op record where it is good.
 fn take_op<S: Parted, L: Ledger>(
-    parts: &mut Parts<S::Shape, S::Op, Shared<S>>,
+    parts: &mut Parts<S::Shape, S::Op, Shared<S>, Own<S>>,
     tx: &Name,
     id: u32,
     op: &S::Op,
@@ -48,7 +76,7 @@ fn take_op<S: Parted, L: Ledger>(
 
 /// Takes a commit record where it is good.
 fn take_commit<S: Parted>(
-    parts: &mut Parts<S::Shape, S::Op, Shared<S>>,
+    parts: &mut Parts<S::Shape, S::Op, Shared<S>, Own<S>>,
     tx: &Name,
 ) -> Result<bool, OutOfMemory>
     requires holds { Holds S.object S.place_of parts.old }
@@ -66,61 +94,14 @@ fn take_commit<S: Parted>(
     Ok(true)
 }
 
-/// Takes an abort record where it is good.
-fn take_abort<S: Parted, L: Ledger>(
-    parts: Parts<S::Shape, S::Op, Shared<S>>,
-    tx: &Name,
-    ticks: &mut Ticks<L>,
-) -> Result<(Parts<S::Shape, S::Op, Shared<S>>, bool), OutOfMemory>
-    requires holds { Holds S.object S.place_of parts }
-    requires few { parts.count < 200_000 }
-    ensures answers { IfOk result (λ r.
-        Answers S.object S.place_of parts (Abort tx.now) r.1 r.0) }
-    ensures cost { IfOk result (λ r. TakeCosts S.place_of (shown S.place_of parts)
-        (Abort tx.now) r.1 ticks.old ticks.new) }
-    ensures rises { ticks.old ≤ ticks.new }
-    ensures bound { ticks.new
-        ≤ ticks.old + take_most S.place_of (shown S.place_of parts) (Abort tx.now) }
-{
-    let Some(_) = find(&parts.slots, tx) else {
-        return Ok((parts, false));
-    };
-    let parts = abort(parts, tx, ticks)?;
-    Ok((parts, true))
-}
-
-/// Takes a retry record where it is good.
-fn take_retry<S: Parted, L: Ledger>(
-    parts: Parts<S::Shape, S::Op, Shared<S>>,
-    tx: &Name,
-    ticks: &mut Ticks<L>,
-) -> Result<(Parts<S::Shape, S::Op, Shared<S>>, bool), OutOfMemory>
-    requires holds { Holds S.object S.place_of parts }
-    requires few { parts.count < 200_000 }
-    ensures answers { IfOk result (λ r.
-        Answers S.object S.place_of parts (Retry tx.now) r.1 r.0) }
-    ensures cost { IfOk result (λ r. TakeCosts S.place_of (shown S.place_of parts)
-        (Retry tx.now) r.1 ticks.old ticks.new) }
-    ensures rises { ticks.old ≤ ticks.new }
-    ensures bound { ticks.new
-        ≤ ticks.old + take_most S.place_of (shown S.place_of parts) (Retry tx.now) }
-{
-    let Some(_) = find(&parts.slots, tx) else {
-        return Ok((parts, false));
-    };
-    let parts = retry(parts, tx, ticks)?;
-    Ok((parts, true))
-}
-
-/// Takes a record where it is good, and else says false, and nothing has changed. The only error is
-/// that memory was refused.
+/// Takes a record where it is good, and else says false, and nothing has changed. Records of other
+/// styles are not good. The only error is that memory was refused.
 pub fn take<S: Parted, L: Ledger>(
-    parts: Parts<S::Shape, S::Op, Shared<S>>,
+    parts: Parts<S::Shape, S::Op, Shared<S>, Own<S>>,
     recorded: &RunRecord<S::Op>,
     ticks: &mut Ticks<L>,
-) -> Result<(Parts<S::Shape, S::Op, Shared<S>>, bool), OutOfMemory>
+) -> Result<(Parts<S::Shape, S::Op, Shared<S>, Own<S>>, bool), OutOfMemory>
     requires holds { Holds S.object S.place_of parts }
-    requires style { IsBoosted (record_meaning recorded.now) }
     requires asked { IsRecordAsked S.object parts.shape (record_meaning recorded.now) }
     requires few { parts.count < 200_000 }
     ensures answers { IfOk result (λ r.
@@ -133,8 +114,8 @@ pub fn take<S: Parted, L: Ledger>(
 {
     let mut parts = parts;
     match recorded {
-        RunRecord::Plain(Step::Begin { tx, thread, body }) => {
-            let good = begin(&mut parts, tx, thread, body)?;
+        RunRecord::Plain(step) => {
+            let good = take_step(&mut parts, step)?;
             Ok((parts, good))
         }
         RunRecord::Op { tx, id, op } => {
@@ -145,8 +126,14 @@ pub fn take<S: Parted, L: Ledger>(
             let good = take_commit(&mut parts, tx)?;
             Ok((parts, good))
         }
-        RunRecord::Abort { tx } => take_abort(parts, tx, ticks),
-        RunRecord::Retry { tx } => take_retry(parts, tx, ticks),
-        _ => unreachable!(),
+        RunRecord::Abort { tx } => abort(parts, tx, ticks),
+        RunRecord::Retry { tx } => retry(parts, tx, ticks),
+        RunRecord::Refresh { .. }
+        | RunRecord::XBegin { .. }
+        | RunRecord::XEnd { .. }
+        | RunRecord::XAbort { .. }
+        | RunRecord::Depend { .. }
+        | RunRecord::Publish { .. }
+        | RunRecord::DropSource { .. } => Ok((parts, false)),
     }
 }

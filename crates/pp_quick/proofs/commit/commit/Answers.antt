@@ -1,6 +1,7 @@
-use Rattle.std.proofs.Common.{◌∙◌, ◌++◌, ap, refl, sym}
+use Rattle.std.proofs.Common.{◌∙◌, ◌++◌, ◌∷◌, [], ap, refl, subst, sym}
 use Rattle.pp_model.specs.Body.{IsWord}
 use Rattle.pp_model.specs.Rules.{calls}
+use Rattle.pp_shared.specs.Committing.{HoldsIdsOf}
 use Rattle.pp_quick.specs.Passing.{items_at}
 use Rattle.pp_quick.specs.Shown.{at, shown, shown_tx}
 use Rattle.pp_spec.specs.Object.{rules_of}
@@ -19,14 +20,16 @@ unreachable-requires g c =
 pub commit-requires : goal.commit-requires
 commit-requires g c =
     let apart = apart_of g.S.Spec.object g.S.Placed.place_of g.S.Placed.SameAt g.met.S.Placed.placed in
-    holds_ids g.S.Spec.object g.S.Placed.place_of apart c.args.parts.now.shape (shown g.S.Placed.place_of c.args.parts.now) c.requires.holds.short c.args.tx.now
+    subst (λ l. HoldsIdsOf c.args.tx.now l c.args.parts.now.shared.1) (sym c.into_items-own.ensures)
+    (holds_ids g.S.Spec.object g.S.Placed.place_of apart c.args.parts.now.shape (shown g.S.Placed.place_of c.args.parts.now) c.requires.holds.short c.args.tx.now
     (shown_tx g.S.Placed.place_of c.args.parts.now.shared.1 c.args.parts.now.commits.entries c.args.tx.now c.in-Some.it)
-    (open_there g.S.Spec.object g.S.Placed.place_of apart c.args.parts.now c.requires.holds c.args.tx.now c.in-Some.it (sym c.in-Some.ensures.found))
+    (open_there g.S.Spec.object g.S.Placed.place_of apart c.args.parts.now c.requires.holds c.args.tx.now c.in-Some.it (sym c.in-Some.ensures.found)))
 
 pub returns : goal.returns
 returns g c =
     let apart = apart_of g.S.Spec.object g.S.Placed.place_of g.S.Placed.SameAt g.met.S.Placed.placed in
+    let own_is = c.into_items-own.ensures in
     committed_moves g.S.Spec.object g.S.Placed.place_of apart c.args.parts.now c.requires.holds c.args.tx.now c.in-Some.it _ c.requires.good (sym c.in-Some.ensures.found)
     c.in-Some.ensures.emptied c.swap_remove.ensures.updates.0 refl c.commit.ensures refl
-    (λ q. c.in_ok-note_all.ensures q ∙ ap (λ l. at q c.args.parts.now.commits.entries ++ items_at g.S.Placed.place_of q l) c.as_slice.ensures)
-    c.in_ok-push.ensures.ok refl
+    (λ q. c.in_ok-add_commits.ensures q ∙ ap (λ l. at q c.args.parts.now.commits.entries ++ items_at g.S.Placed.place_of q l) (c.as_slice.ensures ∙ own_is))
+    (c.in_ok-push.ensures.ok ∙ ap (λ l. c.args.parts.now.committed ++ record { name = c.args.tx.now; entries = l } ∷ []) own_is) refl

@@ -9,5 +9,4 @@ returns-clause-no g c = λ h.
     let q = c.place-place.result in
     let is = unseen_is q c.args.commits.now.entries c.args.it.now.seen.entries c.in-Some.field-0.now c.in-Some-get.done.now (sym c.in-Some.ensures.value) (sym c.in-Some-get.ensures.value) in
     subst (λ r. StopsOne g.S.Spec.object g.S.Placed.place_of c.args.it.now.own r) (sym is ∙ ap (λ r. unseen_at r c.args.commits.now.entries c.args.it.now.seen.entries) c.place-place.ensures)
-    (subst (λ r. StopsOne g.S.Spec.object g.S.Placed.place_of r (drop c.in-Some.field-0.now c.in-Some-get.done.now)) c.as_slice.ensures
-    (subst (λ r. StopsOne g.S.Spec.object g.S.Placed.place_of c.as_slice.result.now (drop c.in-Some.field-0.now r)) c.as_slice-2.ensures (c.let_all_pass.ensures.no h)))
+    (subst (λ r. StopsOne g.S.Spec.object g.S.Placed.place_of c.args.it.now.own (drop c.in-Some.field-0.now r)) c.as_slice.ensures (c.let_all_pass.ensures.no h))

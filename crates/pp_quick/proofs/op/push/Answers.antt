@@ -21,8 +21,8 @@ push-requires-clause-new g c =
     let apart = apart_of g.S.Spec.object g.S.Placed.place_of g.S.Placed.SameAt g.met.S.Placed.placed in
     is_new g.S.Spec.object g.S.Placed.place_of apart c.args.parts.now c.requires.holds c.args.tx.now c.in-Some.it (sym c.in-Some.ensures.found) c.args.id c.args.op.now c.requires.good
 
-pub grown-requires : goal.grown-requires
-grown-requires g c =
+pub with_operation-requires : goal.with_operation-requires
+with_operation-requires g c =
     let apart = apart_of g.S.Spec.object g.S.Placed.place_of g.S.Placed.SameAt g.met.S.Placed.placed in
     may_take g.S.Spec.object g.S.Placed.place_of apart c.args.parts.now c.requires.holds c.args.tx.now c.in-Some.it (sym c.in-Some.ensures.found) c.args.id c.args.op.now c.requires.good
 

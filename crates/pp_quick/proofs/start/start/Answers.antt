@@ -27,3 +27,23 @@ returns-clause-answers g c =
       (subst HasDistinctIds c.as_slice.ensures distinct, (subst (λ l. IsAllowed g.S.Spec.object c.args.parts.now.shape (ops l)) c.as_slice-2.ensures posts.0, refl)),
       c.in_ok-put_start.ensures,
     )
+
+pub returns-clause-repeated : goal.returns-clause-repeated
+returns-clause-repeated g c = λ twice.
+    let distinct = subst (λ r. IfSome r (λ ids. HasDistinctIds c.as_slice.result.now)) c.in-Some.is c.in_ok-ids.ensures.some in
+    absurd (twice (subst HasDistinctIds c.as_slice.ensures distinct))
+
+pub returns-in_err-posted-clause-repeated : goal.returns-in_err-posted-clause-repeated
+returns-in_err-posted-clause-repeated g c = λ twice.
+    let distinct = subst (λ r. IfSome r (λ ids. HasDistinctIds c.as_slice.result.now)) c.in-Some.is c.in_ok-ids.ensures.some in
+    absurd (twice (subst HasDistinctIds c.as_slice.ensures distinct))
+
+pub returns-in_default-posted-clause-repeated : goal.returns-in_default-posted-clause-repeated
+returns-in_default-posted-clause-repeated g c = λ twice.
+    let distinct = subst (λ r. IfSome r (λ ids. HasDistinctIds c.as_slice.result.now)) c.in-Some.is c.in_ok-ids.ensures.some in
+    absurd (twice (subst HasDistinctIds c.as_slice.ensures distinct))
+
+pub returns-in_err-put_start-clause-repeated : goal.returns-in_err-put_start-clause-repeated
+returns-in_err-put_start-clause-repeated g c = λ twice.
+    let distinct = subst (λ r. IfSome r (λ ids. HasDistinctIds c.as_slice.result.now)) c.in-Some.is c.in_ok-ids.ensures.some in
+    absurd (twice (subst HasDistinctIds c.as_slice.ensures distinct))

@@ -3,16 +3,19 @@ use Rattle.pp_quick.specs.Brief.{own_list}
 use Rattle.pp_quick.specs.Laws.{without_ids}
 use Rattle.pp_quick.specs.Leaving.{back_most, back_ticks}
 use Rattle.pp_quick.specs.Removals.{MayLeave}
-use Rattle.pp_quick.specs.Shown.{shown, shown_tx}
-use Rattle.pp_quick.proofs.Judging.{not_open}
+use Rattle.pp_quick.specs.Shown.{Kept, shown, shown_tx}
+use Rattle.pp_quick.proofs.Judging.{it_is, not_open}
 use Rattle.pp_quick.proofs.Moving.{aborted_moves, open_there}
 use Rattle.pp_quick.proofs.Short.{apart_of, may_leave}
 use Rattle.pp_quick.proofs.undo.abort.Goals as goal
 
-pub unreachable-requires : goal.unreachable-requires
-unreachable-requires g c =
+pub returns-in_default-clause-answers : goal.returns-in_default-clause-answers
+returns-in_default-clause-answers g c =
     let apart = apart_of g.S.Spec.object g.S.Placed.place_of g.S.Placed.SameAt g.met.S.Placed.placed in
-    not_open g.S.Spec.object g.S.Placed.place_of apart c.args.parts c.requires.holds c.args.tx.now (λ x. Unit {0}) (sym c.take_out.ensures.found ∙ c.in_default.is) c.requires.good
+    let now : Kept g.row.S-Shape.Denot g.row.S-Op.Denot = c.args.parts in (
+      (λ k. not_open g.S.Spec.object g.S.Placed.place_of apart c.args.parts c.requires.holds c.args.tx.now (λ x. Unit {0}) (sym c.take_out.ensures.found ∙ c.in_default.is) k),
+      ap (λ z. record now { slots = z }) c.in_default.ensures.same,
+    )
 
 pub taken_back-requires : goal.taken_back-requires
 taken_back-requires g c =
@@ -41,9 +44,12 @@ returns-clause-cost g c =
     let own = ap own_list (open_there g.S.Spec.object g.S.Placed.place_of apart c.args.parts c.requires.holds c.args.tx.now c.in-Some.it (sym c.in-Some.ensures.found)) in
     subst (λ l. c.taken_back.new.ticks ≡ c.args.ticks.now + back_ticks g.S.Placed.place_of l c.args.parts.shared.1) (c.as_slice.ensures ∙ sym own) c.in_ok-shared.ensures.cost
 
-pub returns-clause-moves : goal.returns-clause-moves
-returns-clause-moves g c =
+pub returns-clause-answers : goal.returns-clause-answers
+returns-clause-answers g c =
     let apart = apart_of g.S.Spec.object g.S.Placed.place_of g.S.Placed.SameAt g.met.S.Placed.placed in
-    aborted_moves g.S.Spec.object g.S.Placed.place_of apart c.args.parts c.requires.holds c.args.tx.now c.in-Some.it (sym c.in-Some.ensures.found) _
-    (c.in_ok-shared.ensures.log ∙ ap (λ l. (c.args.parts.shared.0, without_ids (map (λ p. p.id) l) c.args.parts.shared.1)) c.as_slice.ensures)
-    c.requires.good c.in-Some.ensures.emptied c.swap_remove.ensures.updates.0 refl refl refl refl refl
+    let good = it_is g.S.Spec.object g.S.Placed.place_of apart c.args.parts c.requires.holds c.args.tx.now c.in-Some.it (sym c.in-Some.ensures.found) (λ x. Unit {0}) tt in (
+      good,
+      aborted_moves g.S.Spec.object g.S.Placed.place_of apart c.args.parts c.requires.holds c.args.tx.now c.in-Some.it (sym c.in-Some.ensures.found) _
+          (c.in_ok-shared.ensures.log ∙ ap (λ l. (c.args.parts.shared.0, without_ids (map (λ p. p.id) l) c.args.parts.shared.1)) c.as_slice.ensures)
+          good c.in-Some.ensures.emptied c.swap_remove.ensures.updates.0 refl refl refl refl refl,
+    )

@@ -5,16 +5,19 @@ use Rattle.pp_quick.specs.Brief.{own_list}
 use Rattle.pp_quick.specs.Laws.{without_ids}
 use Rattle.pp_quick.specs.Leaving.{back_most, back_ticks}
 use Rattle.pp_quick.specs.Removals.{MayLeave}
-use Rattle.pp_quick.specs.Shown.{shown, shown_tx}
-use Rattle.pp_quick.proofs.Judging.{not_open, slot_stays, some_there}
+use Rattle.pp_quick.specs.Shown.{Kept, shown, shown_tx}
+use Rattle.pp_quick.proofs.Judging.{it_is, not_open, slot_stays, some_there}
 use Rattle.pp_quick.proofs.Moving.{fine_of, open_there, retried_moves}
 use Rattle.pp_quick.proofs.Short.{apart_of, may_leave}
 use Rattle.pp_quick.proofs.undo.retry.Goals as goal
 
-pub unreachable-requires : goal.unreachable-requires
-unreachable-requires g c =
+pub returns-in_default-clause-answers : goal.returns-in_default-clause-answers
+returns-in_default-clause-answers g c =
     let apart = apart_of g.S.Spec.object g.S.Placed.place_of g.S.Placed.SameAt g.met.S.Placed.placed in
-    not_open g.S.Spec.object g.S.Placed.place_of apart c.args.parts c.requires.holds c.args.tx.now (λ x. Unit {0}) (sym c.take_out.ensures.found ∙ c.in_default.is) c.requires.good
+    let now : Kept g.row.S-Shape.Denot g.row.S-Op.Denot = c.args.parts in (
+      (λ k. not_open g.S.Spec.object g.S.Placed.place_of apart c.args.parts c.requires.holds c.args.tx.now (λ x. Unit {0}) (sym c.take_out.ensures.found ∙ c.in_default.is) k),
+      ap (λ z. record now { slots = z }) c.in_default.ensures.same,
+    )
 
 pub taken_back-requires : goal.taken_back-requires
 taken_back-requires g c =
@@ -53,10 +56,13 @@ put_back-requires g c =
     some_there _ None
     (ap (lookup (bytes_eq c.args.tx.now)) c.in-Some.ensures.emptied ∙ slot_stays c.args.tx.now c.args.parts.slots.entries c.in-Some.it None (sym c.in-Some.ensures.found))
 
-pub returns-clause-moves : goal.returns-clause-moves
-returns-clause-moves g c =
+pub returns-clause-answers : goal.returns-clause-answers
+returns-clause-answers g c =
     let apart = apart_of g.S.Spec.object g.S.Placed.place_of g.S.Placed.SameAt g.met.S.Placed.placed in
-    retried_moves g.S.Spec.object g.S.Placed.place_of apart c.args.parts c.requires.holds c.args.tx.now c.in-Some.it (sym c.in-Some.ensures.found) _
-    (c.in_ok-shared.ensures.log ∙ ap (λ l. (c.args.parts.shared.0, without_ids (map (λ p. p.id) l) c.args.parts.shared.1)) c.as_slice.ensures)
-    c.requires.good c.anew-it.result (c.put_back.ensures ∙ ap (λ z. set_value (bytes_eq c.args.tx.now) z (Some c.anew-it.result)) c.in-Some.ensures.emptied)
-    c.anew-it.ensures.thread c.anew-it.ensures.body c.anew-it.ensures.taken c.anew-it.ensures.own c.anew-it.ensures.seen refl refl refl refl refl refl
+    let good = it_is g.S.Spec.object g.S.Placed.place_of apart c.args.parts c.requires.holds c.args.tx.now c.in-Some.it (sym c.in-Some.ensures.found) (λ x. Unit {0}) tt in (
+      good,
+      retried_moves g.S.Spec.object g.S.Placed.place_of apart c.args.parts c.requires.holds c.args.tx.now c.in-Some.it (sym c.in-Some.ensures.found) _
+          (c.in_ok-shared.ensures.log ∙ ap (λ l. (c.args.parts.shared.0, without_ids (map (λ p. p.id) l) c.args.parts.shared.1)) c.as_slice.ensures)
+          good c.anew-it.result (c.put_back.ensures ∙ ap (λ z. set_value (bytes_eq c.args.tx.now) z (Some c.anew-it.result)) c.in-Some.ensures.emptied)
+          c.anew-it.ensures.thread c.anew-it.ensures.body c.anew-it.ensures.taken c.anew-it.ensures.own c.anew-it.ensures.seen refl refl refl refl refl refl,
+    )

@@ -1,8 +1,8 @@
-use Rattle.std.proofs.Common.{◌+◌, ◌≤◌, subst, sym}
+use Rattle.std.proofs.Common.{◌∙◌, ◌+◌, ◌≤◌, ap, subst, sym}
 use Rattle.pp_front.specs.Records.{record_meaning}
 use Rattle.pp_quick.specs.Held.{IsRecordAsked, TakeCosts, Takes, take_most}
 use Rattle.pp_quick.proofs.Short.{apart_of}
-use Rattle.pp_quick.proofs.Taking.{held, holds_after, takes_of}
+use Rattle.pp_quick.proofs.Taking.{held, holds_after, shape_after, takes_of}
 use Rattle.pp_quick.proofs.quick.Quick.take.Goals as goal
 
 pub take-requires-clause-asked : goal.take-requires-clause-asked
@@ -17,6 +17,11 @@ returns-clause-takes g c =
     let apart = apart_of g.S.Spec.object g.S.Placed.place_of g.S.Placed.SameAt g.met.S.Placed.placed in
     subst (λ z. Takes g.S.Spec.object g.S.Placed.place_of z (record_meaning c.args.recorded.now) c.in_ok-parts.good (held g.S.Spec.object g.S.Placed.place_of apart c.in_ok-parts.parts)) c.self.view_is
     (takes_of g.S.Spec.object g.S.Placed.place_of apart c.self.inside.parts c.in_ok-parts.parts (record_meaning c.args.recorded.now) c.in_ok-parts.good c.requires.style c.in_ok-parts.ensures.answers)
+
+pub returns-clause-shape : goal.returns-clause-shape
+returns-clause-shape g c =
+    shape_after g.S.Spec.object g.S.Placed.place_of c.self.inside.parts c.in_ok-parts.parts (record_meaning c.args.recorded.now) c.in_ok-parts.good c.in_ok-parts.ensures.answers
+    ∙ ap (λ z. z.shape) c.self.view_is
 
 pub returns-clause-cost : goal.returns-clause-cost
 returns-clause-cost g c =

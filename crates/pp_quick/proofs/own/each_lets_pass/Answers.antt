@@ -1,7 +1,7 @@
 use Rattle.std.proofs.Common.{◌≡◌, sym, subst, inl, inr, arith, ◌<◌, length}
 use Rattle.pp_spec.specs.Object.{Swaps}
 use Rattle.pp_quick.proofs.Items.{in_next, in_there}
-use Rattle.pp_quick.proofs.commits.let_pass.Goals as goal
+use Rattle.pp_quick.proofs.own.each_lets_pass.Goals as goal
 
 pub returns-then-stops-clause-no : goal.returns-then-stops-clause-no
 returns-then-stops-clause-no g c = λ _.

@@ -1,7 +1,7 @@
 use Rattle.std.proofs.Common.{◌≡◌, ◌++◌, ℕ, take}
 use Rattle.pp_quick.specs.Passing.{items_at}
 use Rattle.pp_quick.specs.Shown.{at}
-use Rattle.pp_quick.proofs.commits.note_all.Given as goal
+use Rattle.pp_quick.proofs.commits.add_commits.Given as goal
 
 -- the commits, with the items so far behind
 abbrev pub invariant-loop-item : goal.invariant-loop-item

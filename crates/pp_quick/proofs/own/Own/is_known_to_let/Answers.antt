@@ -1,0 +1,20 @@
+use Rattle.std.proofs.Common.{◌∙◌, ap, subst, sym}
+use Rattle.std.specs.Map.{lookup}
+use Rattle.pp_quick.specs.Passing.{LetPass}
+use Rattle.pp_shared.specs.Uncommitted.{same_part}
+use Rattle.pp_quick.proofs.Known.{none_of_part, samples_let}
+use Rattle.pp_quick.proofs.own.Own.is_known_to_let.Goals as goal
+
+pub returns-in-None : goal.returns-in-None
+returns-in-None g c = λ _.
+    let slots = c.self.inside.samples.entries in
+    subst (λ l. LetPass g.S.Spec.object g.S.Placed.place_of l c.args.op.now) c.self.view_is
+    (none_of_part g.S.Spec.object g.S.Parted.part_of g.met.S.Parted.parted g.S.Placed.place_of c.args.op.now slots c.self.inside.items c.self.invariant
+    (ap (λ p. lookup (same_part p) slots) (sym c.part.ensures) ∙ sym c.in-None.ensures.value))
+
+pub returns-in-Some : goal.returns-in-Some
+returns-in-Some g c = λ yes.
+    let slots = c.self.inside.samples.entries in
+    subst (λ l. LetPass g.S.Spec.object g.S.Placed.place_of l c.args.op.now) c.self.view_is
+    (samples_let g.S.Spec.object g.S.Parted.part_of g.met.S.Parted.parted g.S.Placed.place_of c.args.op.now slots c.self.inside.items c.self.invariant c.in-Some.known.now
+    (ap (λ p. lookup (same_part p) slots) (sym c.part.ensures) ∙ sym c.in-Some.ensures.value) (c.all_before.ensures yes))

@@ -1,0 +1,141 @@
+//! The own operations of an open transaction, and what is known of them.
+ghost use Rattle.std.specs.Prelude.{◌≡◌, [], ◌∷◌, ◌++◌, false, IfOk, IsTrue, List, OnOk};
+ghost use Rattle.pp_core.specs.declared.entry.Item.{Item as ItemOf};
+ghost use Rattle.pp_quick.specs.Known.{Knows, KnowsAll};
+ghost use Rattle.pp_quick.specs.Passing.{LetPass, Stops};
+ghost use Rattle.pp_spec.specs.Object.{Swaps, SwapsNowhere};
+
+use indexmap::IndexMap;
+use pp_core::{Item, Items, OutOfMemory};
+use pp_parts::{Part, Parted, Samples};
+use pp_spec::Placed;
+use std::alloc::Global;
+use std::marker::Model;
+
+/// Whether the own operation has the place of the other, and does not let it pass.
+fn stops<S: Placed>(item: &Item<S::Op>, op: &S::Op) -> bool
+    ensures yes { IsTrue result → (S.place_of item.now.op ≡ S.place_of op.now)
+        × SwapsNowhere S.object item.now.op op.now }
+    ensures no { result ≡ false → S.place_of item.now.op ≡ S.place_of op.now →
+        Swaps S.object item.now.op op.now }
+{
+    S::place(&item.op) == S::place(op) && !S::swaps(&item.op, op)
+}
+
+/// Whether each of these operations at the place of another lets it pass.
+fn each_lets_pass<S: Placed>(own: &[Item<S::Op>], op: &S::Op) -> bool
+    ensures yes { IsTrue result → LetPass S.object S.place_of own.now op.now }
+    ensures no { result ≡ false → Stops S.object S.place_of own.now op.now }
+{
+    for item in own {
+        if stops::<S>(item, op) {
+            return false;
+        }
+    }
+    true
+}
+
+/// One more operation is known. The only error is that memory was refused.
+fn know<S: Parted>(
+    alloc: Global,
+    samples: &mut IndexMap<Part, Samples<S>>,
+    op: &S::Op,
+) -> Result<(), OutOfMemory>
+    ensures keeps { OnOk result ((b : S.Op) → Knows S.object S.part_of samples.old.entries b →
+        Knows S.object S.part_of samples.new.entries b) }
+    ensures knows { OnOk result (Knows S.object S.part_of samples.new.entries op.now) }
+{
+    let part = S::part(op);
+    if let Some(known) = samples.get_mut(&part) {
+        known.add(op);
+        return Ok(());
+    }
+    let mut first = Samples::<S>::new(alloc);
+    first.add(op);
+    samples.insert(part, first)?;
+    Ok(())
+}
+
+/// The own operations of an open transaction, in order, and for each part of them operations that
+/// stand for those there. Contracts see the operations.
+#[derive(Drop)]
+pub struct Own<S: Parted> {
+    alloc: Global,
+    items: Items<S::Op>,
+    samples: IndexMap<Part, Samples<S>>,
+}
+
+impl<S: Parted> Model for Own<S> {
+    ghost Value = { List (ItemOf S.Op) };
+
+    ghost view = { λ a. a.items };
+
+    ghost invariant = { λ a. KnowsAll S.object S.part_of a.samples.entries a.items };
+}
+
+impl<S: Parted> Own<S> {
+    /// No operation. It takes no memory.
+    pub fn new(alloc: Global) -> Self
+        ensures { result ≡ [] }
+    {
+        Own {
+            alloc,
+            items: Items::new(alloc),
+            samples: IndexMap::new(alloc),
+        }
+    }
+
+    /// One more operation. The only error is that memory was refused.
+    pub fn with(self, item: Item<S::Op>) -> Result<Self, OutOfMemory>
+        ensures { IfOk result (λ own. own ≡ self ++ item ∷ []) }
+    {
+        let Own {
+            alloc,
+            mut items,
+            mut samples,
+        } = self;
+        items.push(item)?;
+        know::<S>(alloc, &mut samples, &item.op)?;
+        Ok(Own {
+            alloc,
+            items,
+            samples,
+        })
+    }
+
+    /// The operations, in order.
+    pub fn as_slice(&self) -> &[Item<S::Op>]
+        ensures { result.now ≡ self.now }
+    {
+        self.items.as_slice()
+    }
+
+    /// The operations alone.
+    pub fn into_items(self) -> Items<S::Op>
+        ensures { result ≡ self }
+    {
+        self.items
+    }
+
+    /// Whether each operation at the place of another is known to let it pass. False says nothing.
+    fn is_known_to_let(&self, op: &S::Op) -> bool
+        ensures { IsTrue result → LetPass S.object S.place_of self.now op.now }
+    {
+        match self.samples.get(&S::part(op)) {
+            None => true,
+            Some(known) => known.all_before(op),
+        }
+    }
+
+    /// Whether each operation at the place of another lets it pass. It walks over them only where
+    /// what is known of those of its part leaves the answer open.
+    pub fn let_pass(&self, op: &S::Op) -> bool
+        ensures yes { IsTrue result → LetPass S.object S.place_of self.now op.now }
+        ensures no { result ≡ false → Stops S.object S.place_of self.now op.now }
+    {
+        if self.is_known_to_let(op) {
+            return true;
+        }
+        each_lets_pass::<S>(self.items.as_slice(), op)
+    }
+}
