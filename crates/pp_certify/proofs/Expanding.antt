@@ -293,6 +293,7 @@ one_expansion sc statuses.BadWords r q t u same a b = absurd a
 one_expansion sc statuses.ReadFault r q t u same a b = absurd a
 one_expansion sc statuses.WriteFault r q t u same a b = absurd a
 one_expansion sc statuses.OutOfMemory r q t u same a b = absurd a
+one_expansion sc statuses.TooLarge r q t u same a b = absurd a
 
 pub one_expanded : (bytes : List ℕ) (s s' : Status) (t t' : List ℕ) → IsExpanded bytes s t → IsExpanded bytes s' t' → (s ≡ s') × (t ≡ t')
 one_expanded bytes s s' t t' a b =

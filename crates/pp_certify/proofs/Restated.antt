@@ -268,6 +268,7 @@ printed_run sc statuses.BadWords report printed decided is = absurd decided
 printed_run sc statuses.ReadFault report printed decided is = absurd decided
 printed_run sc statuses.WriteFault report printed decided is = absurd decided
 printed_run sc statuses.OutOfMemory report printed decided is = absurd decided
+printed_run sc statuses.TooLarge report printed decided is = absurd decided
 
 pub prints_again : (bytes : List ℕ) (status : Status) (printed : List ℕ) (old new : Option (List ℕ)) → IsDecided status → IsExpanded bytes status printed → Appends old new printed → PrintsAgain bytes old new
 prints_again bytes status printed old new decided (report, certified, expanded) appends =

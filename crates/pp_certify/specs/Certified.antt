@@ -11,6 +11,7 @@ IsDecided statuses.InputFault = ⊥
 IsDecided statuses.ReadFault = ⊥
 IsDecided statuses.WriteFault = ⊥
 IsDecided statuses.OutOfMemory = ⊥
+IsDecided statuses.TooLarge = ⊥
 
 -- the output was written to its end
 abbrev pub IsPrinted : Status → Type 0
@@ -21,6 +22,7 @@ IsPrinted statuses.InputFault = Unit {0}
 IsPrinted statuses.ReadFault = ⊥
 IsPrinted statuses.WriteFault = ⊥
 IsPrinted statuses.OutOfMemory = ⊥
+IsPrinted statuses.TooLarge = Unit {0}
 
 -- the output was not written, or not to its end
 abbrev pub IsUnwritten : Status → Type 0
@@ -31,3 +33,4 @@ IsUnwritten statuses.InputFault = ⊥
 IsUnwritten statuses.ReadFault = ⊥
 IsUnwritten statuses.WriteFault = Unit {0}
 IsUnwritten statuses.OutOfMemory = Unit {0}
+IsUnwritten statuses.TooLarge = ⊥

@@ -67,6 +67,7 @@ least_of_run statuses.InputFault start steps = 0
 least_of_run statuses.ReadFault start steps = 0
 least_of_run statuses.WriteFault start steps = 0
 least_of_run statuses.OutOfMemory start steps = 0
+least_of_run statuses.TooLarge start steps = 0
 
 -- the same of expanding a run, which has no serial run
 abbrev pub least_of_steps : Status → Option (Start Op) → List (Step Op) → ℕ
@@ -77,6 +78,7 @@ least_of_steps statuses.InputFault start steps = 0
 least_of_steps statuses.ReadFault start steps = 0
 least_of_steps statuses.WriteFault start steps = 0
 least_of_steps statuses.OutOfMemory start steps = 0
+least_of_steps statuses.TooLarge start steps = 0
 
 -- ---- the bounds
 

@@ -84,6 +84,7 @@ IsExpansionOf sc statuses.BadWords report text = ⊥
 IsExpansionOf sc statuses.ReadFault report text = ⊥
 IsExpansionOf sc statuses.WriteFault report text = ⊥
 IsExpansionOf sc statuses.OutOfMemory report text = ⊥
+IsExpansionOf sc statuses.TooLarge report text = ⊥
 
 -- the status and the text that expand an input: it has the status with which it is certified
 abbrev pub IsExpanded : List ℕ → Status → List ℕ → Type 0

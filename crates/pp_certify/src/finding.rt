@@ -31,7 +31,7 @@ pub enum Finding {
 }
 
 /// What an input is found to be, of which all lines were taken.
-fn conclude(progress: Progress) -> Finding
+pub fn conclude(progress: Progress) -> Finding
     requires { lines_of progress ≤ MOST_LINES }
     ensures { result ≡ finding_of progress }
 {

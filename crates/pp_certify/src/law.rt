@@ -4,7 +4,8 @@ ghost use Rattle.pp_core.specs.declared.limits.TheConstants.{LONGEST_LINE, LONGE
 ghost use Rattle.pp_core.specs.declared.limits.TheConstants.{MOST_BODY_NODES, MOST_BYTES};
 ghost use Rattle.pp_core.specs.declared.limits.TheConstants.{MOST_DEPTH, MOST_LINES, MOST_OBJECTS};
 ghost use Rattle.pp_core.specs.declared.limits.TheConstants.{MOST_START, MOST_STEPS};
-ghost use Rattle.pp_core.specs.declared.limits.TheConstants.{MOST_TRANSACTIONS};
+ghost use Rattle.pp_core.specs.declared.limits.TheConstants.{MOST_SWAPS, MOST_TRANSACTIONS};
+ghost use Rattle.pp_core.specs.declared.limits.TheConstants.{MOST_VIEWED};
 ghost use Rattle.pp_front.specs.Effects.{BackLaw, PullsLaw, PushallLaw};
 ghost use Rattle.pp_front.specs.Inputs.{InputLaw};
 ghost use Rattle.pp_front.specs.Laws.{ExtendsLaw, OneRunLaw};
@@ -41,8 +42,8 @@ pub fn records_extend()
     ensures pushall { (header : HeaderOf) → PushallLaw (object_of header) }
 {}
 
-/// The limits of an input, by their numbers. It is a law of the definitions, which name them, and
-/// does nothing.
+/// The limits of an input and of what is printed, by their numbers. It is a law of the definitions,
+/// which name them, and does nothing.
 pub fn limits_law()
     ensures bytes { MOST_BYTES ≡ 268_435_456 }
     ensures lines { MOST_LINES ≡ 200_001 }
@@ -54,4 +55,6 @@ pub fn limits_law()
     ensures nodes { MOST_BODY_NODES ≡ 64 }
     ensures depth { MOST_DEPTH ≡ 16 }
     ensures name { LONGEST_NAME ≡ 24 }
+    ensures swaps { MOST_SWAPS ≡ 1_000_000 }
+    ensures viewed { MOST_VIEWED ≡ 2_000_000 }
 {}

@@ -10,8 +10,9 @@ mod report;
 mod run_text;
 mod take;
 
-pub use finding::{Finding, examine, examine_text};
+pub use finding::{Finding, conclude, examine, examine_text};
 pub use law::{limits_law, records_are_steps, records_extend};
-pub use progress::{Rejection, Tally};
+pub use progress::{Progress, Rejection, Tally};
 pub use report::{certify, report_rejected, summary};
 pub use run_text::expand;
+pub use take::{read_next, stop_at, take_line, with_line, with_record};

@@ -44,7 +44,7 @@ use std::alloc::Global;
 use std::sync::ledger::Ledger;
 
 /// The stop at a line that can not be read.
-fn stop_at(line: u32, fault: RecordFault) -> Stop<Cause>
+pub fn stop_at(line: u32, fault: RecordFault) -> Stop<Cause>
     ensures { IfFault result (λ at cause. (at ≡ line) × (cause_of fault ≡ Ok cause)) }
 {
     match cause_of(fault) {
@@ -92,7 +92,7 @@ fn is_begin_record(recorded: &RunRecord<Op>) -> bool
 }
 
 /// One line more.
-fn with_line(mut tally: Tally) -> Tally
+pub fn with_line(mut tally: Tally) -> Tally
     requires { tally.lines < MOST_LINES }
     ensures { result ≡ with_line tally }
 {
@@ -101,7 +101,7 @@ fn with_line(mut tally: Tally) -> Tally
 }
 
 /// One record more.
-fn with_record(mut tally: Tally, recorded: &RunRecord<Op>) -> Tally
+pub fn with_record(mut tally: Tally, recorded: &RunRecord<Op>) -> Tally
     requires lines { tally.lines < MOST_LINES }
     requires begins { tally.begins < tally.lines }
     ensures { result ≡ with_record tally (record_meaning recorded.now) }
@@ -127,8 +127,7 @@ fn with_blank(progress: Progress) -> Progress
     }
 }
 
-/// A machine that is as `new` made it, with the start of a header where the header has one. It is
-/// as it was where the start fails.
+/// A machine that is as `new` made it, with the start of a header where the header has one.
 fn with_start<L: Ledger>(
     machine: Machine<Objects>,
     header: &Header,
@@ -218,7 +217,7 @@ fn take_header<L: Ledger>(
 }
 
 /// The record of a line behind the header.
-fn read_next(alloc: Global, tally: &Tally, line: &Line) -> Result<RunRecord<Op>, Stop<Cause>>
+pub fn read_next(alloc: Global, tally: &Tally, line: &Line) -> Result<RunRecord<Op>, Stop<Cause>>
     ensures read { IfOk result
         (λ r. record_of tally.now.header line.now.text ≡ Ok (record_meaning r)) }
     ensures readable { IfOk result

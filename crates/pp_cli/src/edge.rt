@@ -38,7 +38,7 @@ impl<R: Read + Drop> Source for StdSource<R> {
     }
 }
 
-/// A stream as a sink. What it holds is not told.
+/// A stream as a sink. What it holds and sent on is not told, and it is never refused memory.
 #[derive(Drop)]
 pub struct StdSink<W: Write + Drop> {
     stream: W,
@@ -59,7 +59,11 @@ impl<W: Write + Drop> Sink for StdSink<W> {
 
     ghost held = { λ s. None };
 
+    ghost sent = { λ s. None };
+
     ghost faults = { λ s. s.faults };
+
+    ghost refusals = { λ _. 0 };
 
     fn write(&mut self, bytes: &[u8]) -> Result<usize, SinkFault> {
         match self.stream.write(bytes) {

@@ -23,7 +23,7 @@ pub use catalog::Catalog;
 pub use entry::{Committed, CommittedTx, Item, Items, LocalEntry, Mark, Ops, SharedEntry};
 pub use limits::{
     LONGEST_LINE, LONGEST_NAME, MOST_BODY_NODES, MOST_BYTES, MOST_DEPTH, MOST_LINES, MOST_OBJECTS,
-    MOST_START, MOST_STEPS, MOST_TRANSACTIONS,
+    MOST_START, MOST_STEPS, MOST_SWAPS, MOST_TRANSACTIONS, MOST_VIEWED,
 };
 pub use member::Member;
 pub use name::Name;

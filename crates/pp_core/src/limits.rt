@@ -1,4 +1,4 @@
-//! The limits of an input and of a run.
+//! The limits of an input, of a run and of what is printed.
 
 /// The most bytes of an input.
 pub const MOST_BYTES: u64 = 268_435_456;
@@ -29,3 +29,9 @@ pub const MOST_DEPTH: u32 = 16;
 
 /// The most bytes of a name.
 pub const LONGEST_NAME: usize = 24;
+
+/// The most exchanges of neighbours of a certificate.
+pub const MOST_SWAPS: u32 = 1_000_000;
+
+/// The most operations of all attempts together, where it is told what each of them saw.
+pub const MOST_VIEWED: u32 = 2_000_000;

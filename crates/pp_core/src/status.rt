@@ -12,6 +12,8 @@ pub enum Status {
     ReadFault,
     WriteFault,
     OutOfMemory,
+    /// What there is to print is above a limit, and only its size was printed.
+    TooLarge,
 }
 
 impl Status {

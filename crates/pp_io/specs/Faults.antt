@@ -1,4 +1,4 @@
--- Meaning: how a count of faults rises.
+-- Meaning: how a count of faults or of refusals rises.
 use Rattle.std.specs.Prelude.{◌≡◌, ℕ, List, length, ◌+◌, ◌^◌, ◌<◌, ◌-◌, min}
 
 -- a count that stands at the end of 64 bits counts as risen

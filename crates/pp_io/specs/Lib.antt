@@ -6,4 +6,5 @@ pub mod Held
 pub mod Taken
 pub mod Counted
 pub mod Faults
+pub mod Sent
 pub mod Memory

@@ -40,19 +40,28 @@ abbrev pub after_failed_read : SourceInMemory → SourceInMemory
 after_failed_read source =
     record source { calls = counted source.calls; faults = counted source.faults }
 
--- the bytes that were taken, how many a call takes at most, the numbers of the calls that fail,
--- and how many calls were made and failed
+-- the bytes that were taken and those that were sent on, how many a call takes at most, the numbers
+-- of the calls that fail, how many calls were made and failed, and how many were refused memory
 pub record SinkInMemory : Type 0 where
   pub held : List ℕ
+  pub sent : List ℕ
   pub most : ℕ
   pub failing : List ℕ
   pub calls : ℕ
   pub faults : ℕ
+  pub refusals : ℕ
 
 -- before the first call, where a call takes so many bytes at most, and one at least
 abbrev pub fresh_sink : ℕ → List ℕ → SinkInMemory
-fresh_sink most failing =
-    record { held = []; most = max most 1; failing = failing; calls = 0; faults = 0 }
+fresh_sink most failing = record {
+  held = [];
+  sent = [];
+  most = max most 1;
+  failing = failing;
+  calls = 0;
+  faults = 0;
+  refusals = 0;
+}
 
 -- the next call fails
 abbrev pub WriteFails : SinkInMemory → Type 0
@@ -62,6 +71,26 @@ WriteFails sink = Contains sink.failing sink.calls
 abbrev pub after_write : SinkInMemory → List ℕ → SinkInMemory
 after_write sink bytes = record sink { held = sink.held ++ bytes; calls = counted sink.calls }
 
+-- after a call that sent on all
+abbrev pub after_flush : SinkInMemory → SinkInMemory
+after_flush sink = record sink { sent = sink.held; calls = counted sink.calls }
+
 -- after a call that failed
 abbrev pub after_failed_write : SinkInMemory → SinkInMemory
 after_failed_write sink = record sink { calls = counted sink.calls; faults = counted sink.faults }
+
+-- after a call that was refused memory
+abbrev pub after_refused_write : SinkInMemory → SinkInMemory
+after_refused_write sink =
+    record sink { calls = counted sink.calls; refusals = counted sink.refusals }
+
+-- the bytes that a sink took which never fails, those that it sent on, and how often it was refused
+-- memory
+pub record SteadyBytes : Type 0 where
+  pub held : List ℕ
+  pub sent : List ℕ
+  pub refusals : ℕ
+
+-- before the first call
+abbrev pub fresh_steady : SteadyBytes
+fresh_steady = record { held = []; sent = []; refusals = 0 }

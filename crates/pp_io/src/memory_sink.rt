@@ -1,9 +1,11 @@
 //! A sink in memory, with calls that fail.
 ghost use Rattle.std.specs.Prelude.{◌≡◌, ◌≤◌, Some, [], Ok, Err, length, take, min, IfOk, OnErr};
-ghost use Rattle.std.specs.Prelude.{IsErrOf, IsTrue, ◌↔◌};
+ghost use Rattle.std.specs.Prelude.{IsErrOf, IsTrue, OnOk, ◌↔◌};
 ghost use Rattle.std.specs.Io.KnownBytes.{WriteAppends, Keeps};
 ghost use Rattle.pp_io.specs.Faults.{CountsNothing, HasRisen};
-ghost use Rattle.pp_io.specs.Memory.{WriteFails, after_write, after_failed_write, fresh_sink};
+ghost use Rattle.pp_io.specs.Memory.{WriteFails, after_write, after_flush, fresh_sink};
+ghost use Rattle.pp_io.specs.Memory.{after_failed_write, after_refused_write};
+ghost use Rattle.pp_io.specs.Sent.{SendsAll};
 ghost use Rattle.pp_io.specs.declared.sink.SinkFault.TheVariants.{Failed, OutOfMemory};
 
 use crate::memory_source::is_among;
@@ -16,27 +18,31 @@ use std::marker::Model;
 #[derive(Drop)]
 pub struct MemorySink {
     held: Vec<u8>,
+    sent: usize,
     most: usize,
     failing: Vec<u64>,
     calls: u64,
     faults: u64,
+    refusals: u64,
 }
 
 impl Model for MemorySink {
-    ghost use Rattle.std.specs.Prelude.{◌<◌};
+    ghost use Rattle.std.specs.Prelude.{◌<◌, ◌≤◌, length, take};
     ghost use Rattle.pp_io.specs.Memory.{SinkInMemory};
 
     ghost Value = { SinkInMemory };
 
     ghost view = { λ s. record {
       held = s.held.items;
+      sent = take s.sent s.held.items;
       most = s.most;
       failing = s.failing.items;
       calls = s.calls;
       faults = s.faults;
+      refusals = s.refusals;
     } };
 
-    ghost invariant = { λ s. 0 < s.most };
+    ghost invariant = { λ s. (0 < s.most) × (s.sent ≤ length s.held.items) };
 }
 
 impl MemorySink {
@@ -46,10 +52,12 @@ impl MemorySink {
     {
         MemorySink {
             held: Vec::new(alloc),
+            sent: 0,
             most: most.max(1),
             failing,
             calls: 0,
             faults: 0,
+            refusals: 0,
         }
     }
 
@@ -60,12 +68,20 @@ impl MemorySink {
         &self.held
     }
 
+    /// Those of them that were sent on.
+    pub fn sent(&self) -> &[u8]
+        ensures { result.now ≡ self.now.sent }
+    {
+        &self.held[..self.sent]
+    }
+
     /// Counts a call, and answers whether it fails.
     fn fails(&mut self) -> bool
         ensures fails { IsTrue result ↔ WriteFails self.old }
         ensures failed { IsTrue result → self.new ≡ after_failed_write self.old }
         ensures passed { ¬ IsTrue result → self.new ≡ after_write self.old [] }
         ensures count { self.old.faults ≤ self.new.faults }
+        ensures refusals { self.new.refusals ≡ self.old.refusals }
     {
         let call = self.calls;
         self.calls = call.saturating_add(1);
@@ -80,15 +96,25 @@ impl MemorySink {
 impl Sink for MemorySink {
     ghost held = { λ s. Some s.held };
 
+    ghost sent = { λ s. Some s.sent };
+
     ghost faults = { λ s. s.faults };
+
+    ghost refusals = { λ s. s.refusals };
 
     fn write(&mut self, bytes: &[u8]) -> Result<usize, SinkFault>
         ensures bound { IfOk result (λ n. n ≤ length bytes.now) }
         ensures bytes { WriteAppends (Some self.old.held) (Some self.new.held) result bytes.now }
+        ensures unsent { self.new.sent ≡ self.old.sent }
         ensures count { self.old.faults ≤ self.new.faults }
         ensures nothing { IfOk result (λ n.
             CountsNothing n bytes.now self.old.faults self.new.faults) }
         ensures failed { IsErrOf result Failed → HasRisen self.old.faults self.new.faults }
+        ensures refusals { self.old.refusals ≤ self.new.refusals }
+        ensures refused { IsErrOf result OutOfMemory →
+            HasRisen self.old.refusals self.new.refusals }
+        ensures unrefused { ¬ IsErrOf result OutOfMemory →
+            self.new.refusals ≡ self.old.refusals }
         ensures fails { WriteFails self.old →
             (result ≡ Err Failed) × (self.new ≡ after_failed_write self.old) }
         ensures takes { ¬ WriteFails self.old →
@@ -96,7 +122,7 @@ impl Sink for MemorySink {
             (n ≡ min (length bytes.now) self.old.most)
             × (self.new ≡ after_write self.old (take n bytes.now))) }
         ensures memory { ¬ WriteFails self.old →
-            OnErr result ((result ≡ Err OutOfMemory) × (self.new ≡ after_write self.old [])) }
+            OnErr result ((result ≡ Err OutOfMemory) × (self.new ≡ after_refused_write self.old)) }
     {
         if self.fails() {
             return Err(SinkFault::Failed);
@@ -104,22 +130,28 @@ impl Sink for MemorySink {
         let n = bytes.len().min(self.most);
         match self.held.extend_from_slice(&bytes[..n]) {
             Ok(()) => Ok(n),
-            Err(_) => Err(SinkFault::OutOfMemory),
+            Err(_) => {
+                self.refusals = self.refusals.saturating_add(1);
+                Err(SinkFault::OutOfMemory)
+            }
         }
     }
 
     fn flush(&mut self) -> Result<(), SinkFault>
         ensures bytes { Keeps (Some self.old.held) (Some self.new.held) }
+        ensures sent { OnOk result (self.new.sent ≡ self.new.held) }
         ensures count { self.old.faults ≤ self.new.faults }
         ensures failed { IsErrOf result Failed → HasRisen self.old.faults self.new.faults }
+        ensures refusals { self.new.refusals ≡ self.old.refusals }
         ensures fails { WriteFails self.old →
             (result ≡ Err Failed) × (self.new ≡ after_failed_write self.old) }
         ensures passes { ¬ WriteFails self.old →
-            (result ≡ Ok tt) × (self.new ≡ after_write self.old []) }
+            (result ≡ Ok tt) × (self.new ≡ after_flush self.old) }
     {
         if self.fails() {
             return Err(SinkFault::Failed);
         }
+        self.sent = self.held.len();
         Ok(())
     }
 }

@@ -2,7 +2,9 @@
 ghost use Rattle.std.specs.Prelude.{◌≡◌, ◌<◌, ◌≤◌, ◌++◌, ℕ, Some, [], Ok, Err, length, take, drop};
 ghost use Rattle.std.specs.Prelude.{min, IfOk, OnErr, IsErrOf};
 ghost use Rattle.std.specs.Io.KnownBytes.{ReadConsumes, WriteAppends, Keeps};
-ghost use Rattle.pp_io.specs.Faults.{HasRisen};
+ghost use Rattle.pp_io.specs.Faults.{HasRisen, counted};
+ghost use Rattle.pp_io.specs.Memory.{fresh_steady};
+ghost use Rattle.pp_io.specs.Sent.{SendsAll};
 ghost use Rattle.pp_io.specs.declared.sink.SinkFault.TheVariants.{Failed, OutOfMemory};
 
 use crate::memory_source::give;
@@ -55,57 +57,86 @@ impl Source for SteadySource {
     }
 }
 
-/// Keeps what it takes, and never fails. Contracts see it as the bytes that were taken.
+/// Keeps what it takes, and never fails. Contracts see the bytes that were taken, those of them
+/// that were sent on, and how often memory was refused.
 #[derive(Drop)]
 pub struct SteadySink {
     held: Vec<u8>,
+    sent: usize,
+    refusals: u64,
 }
 
 impl Model for SteadySink {
-    ghost use Rattle.std.specs.Prelude.{List, ℕ};
+    ghost use Rattle.std.specs.Prelude.{◌≤◌, length, take};
+    ghost use Rattle.pp_io.specs.Memory.{SteadyBytes};
 
-    ghost Value = { List ℕ };
+    ghost Value = { SteadyBytes };
 
-    ghost view = { λ s. s.held.items };
+    ghost view = { λ s. record {
+      held = s.held.items;
+      sent = take s.sent s.held.items;
+      refusals = s.refusals;
+    } };
+
+    ghost invariant = { λ s. s.sent ≤ length s.held.items };
 }
 
 impl SteadySink {
     /// A sink that has taken nothing.
     pub fn new(alloc: Global) -> SteadySink
-        ensures { result ≡ [] }
+        ensures { result ≡ fresh_steady }
     {
         SteadySink {
             held: Vec::new(alloc),
+            sent: 0,
+            refusals: 0,
         }
     }
 
     /// The bytes that were taken.
     pub fn held(&self) -> &[u8]
-        ensures { result.now ≡ self.now }
+        ensures { result.now ≡ self.now.held }
     {
         &self.held
+    }
+
+    /// Those of them that were sent on.
+    pub fn sent(&self) -> &[u8]
+        ensures { result.now ≡ self.now.sent }
+    {
+        &self.held[..self.sent]
     }
 }
 
 impl Sink for SteadySink {
-    ghost held = { λ s. Some s };
+    ghost held = { λ s. Some s.held };
+
+    ghost sent = { λ s. Some s.sent };
 
     ghost faults = { λ _. 0 };
 
+    ghost refusals = { λ s. s.refusals };
+
     fn write(&mut self, bytes: &[u8]) -> Result<usize, SinkFault>
-        ensures ok { IfOk result (λ n.
-            (n ≡ length bytes.now) × (self.new ≡ self.old ++ bytes.now)) }
-        ensures err { OnErr result ((result ≡ Err OutOfMemory) × (self.new ≡ self.old)) }
+        ensures ok { IfOk result (λ n. (n ≡ length bytes.now)
+            × (self.new ≡ record self.old { held = self.old.held ++ bytes.now })) }
+        ensures err { OnErr result ((result ≡ Err OutOfMemory)
+            × (self.new ≡ record self.old { refusals = counted self.old.refusals })) }
+        ensures refusals { self.old.refusals ≤ self.new.refusals }
     {
         match self.held.extend_from_slice(bytes) {
             Ok(()) => Ok(bytes.len()),
-            Err(_) => Err(SinkFault::OutOfMemory),
+            Err(_) => {
+                self.refusals = self.refusals.saturating_add(1);
+                Err(SinkFault::OutOfMemory)
+            }
         }
     }
 
     fn flush(&mut self) -> Result<(), SinkFault>
-        ensures { (result ≡ Ok tt) × (self.new ≡ self.old) }
+        ensures { (result ≡ Ok tt) × (self.new ≡ record self.old { sent = self.old.held }) }
     {
+        self.sent = self.held.len();
         Ok(())
     }
 }

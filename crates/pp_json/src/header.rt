@@ -71,8 +71,9 @@ fn objects_among(alloc: Global, values: &[Value]) -> Result<Catalog, RecordFault
     Ok(catalog)
 }
 
+/// The objects that a header names.
 #[tactic(auto, unfolding(crate::specs::Headers::catalog_of), using(crate::proofs::Objects::count_view))]
-fn catalog_in(alloc: Global, value: &Value) -> Result<Catalog, RecordFault>
+pub fn catalog_in(alloc: Global, value: &Value) -> Result<Catalog, RecordFault>
     ensures { Gives (λ c. c) result (catalog_of (view value.now)) }
 {
     let values = array_in(value, Member::Objects)?;

@@ -11,8 +11,9 @@ use pp_core::{Catalog, Item, Member};
 use pp_object::Op;
 use serde_json::Value;
 
+/// The id that a number is, if it is one.
 #[tactic(auto, unfolding(crate::specs::Items::id_from))]
-fn id_that_is(n: i128) -> Option<u32>
+pub fn id_that_is(n: i128) -> Option<u32>
     ensures id { result ≡ id_from n }
     ensures small { IfSome result (λ id. id ≤ 999_999_999) }
 {
@@ -35,7 +36,7 @@ pub(crate) fn id_in(value: &Value) -> Result<u32, RecordFault>
 
 /// The operation of a record or of an element of a start, with its id.
 #[tactic(auto, unfolding(crate::specs::Items::item_of))]
-pub(crate) fn item_in(catalog: &Catalog, value: &Value) -> Result<Item<Op>, RecordFault>
+pub fn item_in(catalog: &Catalog, value: &Value) -> Result<Item<Op>, RecordFault>
     ensures reads { Gives (λ p. p) result (item_of catalog.now (view value.now)) }
     ensures readable { IfOk result (IsReadableItem catalog.now) }
 {

@@ -17,6 +17,8 @@ mod rules;
 mod start;
 
 pub use fault::RecordFault;
-pub use header::{Header, read_header, start_law};
+pub use header::{Header, catalog_in, read_header, start_law};
+pub use item::{id_that_is, item_in};
+pub use members::{array_in, member_in, object_on, whole_in, whole_number};
 pub use record::read_record;
 pub use start::Start;

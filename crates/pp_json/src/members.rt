@@ -29,7 +29,7 @@ fn value_on(alloc: Global, line: &[u8]) -> Result<Value, RecordFault>
 
 /// The value on a line, which is to be an object.
 #[tactic(auto, unfolding(crate::specs::Members::object_of))]
-pub(crate) fn object_on(alloc: Global, line: &[u8]) -> Result<Value, RecordFault>
+pub fn object_on(alloc: Global, line: &[u8]) -> Result<Value, RecordFault>
     ensures { Gives view result (object_of line.now) }
 {
     let value = value_on(alloc, line)?;
@@ -41,7 +41,7 @@ pub(crate) fn object_on(alloc: Global, line: &[u8]) -> Result<Value, RecordFault
 
 /// A member, of any type.
 #[tactic(auto, unfolding(crate::specs::Members::member_of))]
-pub(crate) fn member_in<'v>(value: &'v Value, member: Member) -> Result<&'v Value, RecordFault>
+pub fn member_in<'v>(value: &'v Value, member: Member) -> Result<&'v Value, RecordFault>
     ensures { Gives (λ v. view v.now) result (member_of member (view value.now)) }
 {
     value.get(member.word()).ok_or(RecordFault::Missing(member))
@@ -74,7 +74,7 @@ pub(crate) fn name_in(value: &Value, member: Member) -> Result<Name, RecordFault
 
 /// A value that is to be a whole number.
 #[tactic(auto, unfolding(crate::specs::Members::whole))]
-pub(crate) fn whole_number(value: &Value, member: Member) -> Result<i128, RecordFault>
+pub fn whole_number(value: &Value, member: Member) -> Result<i128, RecordFault>
     ensures { Gives (λ n. n) result (whole member (view value.now)) }
 {
     let number = value.as_number().and_then(|number| number.as_i128());
@@ -83,7 +83,7 @@ pub(crate) fn whole_number(value: &Value, member: Member) -> Result<i128, Record
 
 /// A member that is to be a whole number.
 #[tactic(auto, unfolding(crate::specs::Members::whole_of))]
-pub(crate) fn whole_in(value: &Value, member: Member) -> Result<i128, RecordFault>
+pub fn whole_in(value: &Value, member: Member) -> Result<i128, RecordFault>
     ensures { Gives (λ n. n) result (whole_of member (view value.now)) }
 {
     let found = member_in(value, member)?;
@@ -92,7 +92,7 @@ pub(crate) fn whole_in(value: &Value, member: Member) -> Result<i128, RecordFaul
 
 /// A member that is to be an array.
 #[tactic(auto, unfolding(crate::specs::Members::array_of))]
-pub(crate) fn array_in<'v>(value: &'v Value, member: Member) -> Result<&'v Vec<Value>, RecordFault>
+pub fn array_in<'v>(value: &'v Value, member: Member) -> Result<&'v Vec<Value>, RecordFault>
     ensures { Gives (λ v. items_view v.now.items) result (array_of member (view value.now)) }
 {
     let found = member_in(value, member)?;

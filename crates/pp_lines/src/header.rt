@@ -30,8 +30,9 @@ fn object_value(alloc: Global, catalog: &Catalog, object: u16) -> Result<Value, 
     Ok(json!(in alloc; {"kind": kind.word(), "name": name_text(&name)})?)
 }
 
+/// The objects of a catalog, each with its kind and its name.
 #[tactic(auto, using(crate::proofs::Headers::goes_on))]
-fn object_values(alloc: Global, catalog: &Catalog) -> Result<Vec<Value>, OutOfMemory>
+pub fn object_values(alloc: Global, catalog: &Catalog) -> Result<Vec<Value>, OutOfMemory>
     ensures values { IfOk result
         (λ values. map view values.items ≡ map object_value catalog.now) }
     ensures names { HasNames catalog.now }
@@ -53,8 +54,9 @@ fn header_value(alloc: Global, catalog: &Catalog) -> Result<Value, OutOfMemory>
     Ok(json!(in alloc; {"objects": objects, "run": 1, "style": "rules"})?)
 }
 
+/// An operation with its id, as an element of a start has it.
 #[tactic(auto, using(crate::proofs::Operations::few, crate::proofs::Operations::there, crate::proofs::Operations::answer_ranged))]
-fn item_value(alloc: Global, catalog: &Catalog, item: &Item<Op>) -> Result<Value, OutOfMemory>
+pub fn item_value(alloc: Global, catalog: &Catalog, item: &Item<Op>) -> Result<Value, OutOfMemory>
     requires { IsOpOn catalog.now item.now.op }
     ensures { IfOk result (λ value. view value ≡ item_value catalog.now item.now) }
 {

@@ -8,7 +8,7 @@ use serde_json::Value;
 use std::alloc::Global;
 
 /// The value's compact text.
-pub(crate) fn line_of(alloc: Global, value: &Value) -> Result<Text, OutOfMemory>
+pub fn line_of(alloc: Global, value: &Value) -> Result<Text, OutOfMemory>
     requires { has_float (view value.now) ≡ false }
     ensures { IfOk result (λ text. text ≡ compact_text (view value.now)) }
 {

@@ -14,7 +14,7 @@ use Rattle.pp_reading.specs.declared.stop.Stop.{Stop}
 use Rattle.pp_reading.specs.declared.stop.Stop.TheVariants as stops
 use Rattle.pp_reading.specs.Limits.{limit_fault}
 
--- where lines lead to, which fault they have, and what they cost
+-- where lines lead to, which fault they have, and what they cost; and which fault a passed limit is
 pub record Reading (T F : Type 0) : Type 1 where
   -- these lines have no fault, and lead to here
   pub Leads : List NumberedLine → T → Type 0

@@ -26,4 +26,6 @@ pub enum Cause {
     NoHeader,
     TooManyTransactions,
     TooManySteps,
+    NotBoosted,
+    NotCertificate,
 }

@@ -42,5 +42,7 @@ pub(crate) fn write_cause(text: &mut Text, cause: Cause) -> Result<(), OutOfMemo
         Cause::NoHeader => text.append(b"NoHeader"),
         Cause::TooManyTransactions => text.append(b"TooManyTransactions"),
         Cause::TooManySteps => text.append(b"TooManySteps"),
+        Cause::NotBoosted => text.append(b"NotBoosted"),
+        Cause::NotCertificate => text.append(b"NotCertificate"),
     }
 }

@@ -1,8 +1,9 @@
 //! The program but for its edge: from its words and its input to its status and what it writes.
-ghost use Rattle.std.specs.Prelude.{◌≡◌, ◌≤◌, ◌↔◌, ◌⊎◌, ℕ, List, None, Some, IfOk, IsErrOf};
+ghost use Rattle.std.specs.Prelude.{◌≡◌, ◌≢◌, ◌≤◌, ◌↔◌, ◌⊎◌, ℕ, List, None, Some, IfOk, IsErrOf};
 ghost use Rattle.std.specs.Io.KnownBytes.{IsAtEnd, Keeps};
 ghost use Rattle.pp_core.specs.declared.status.Status.TheVariants as statuses;
 ghost use Rattle.pp_io.specs.Faults.{HasRisen};
+ghost use Rattle.pp_io.specs.Sent.{SendsAll};
 ghost use Rattle.pp_reading.specs.declared.stop.Failure.TheVariants.{ReadFault};
 ghost use Rattle.pp_reading.specs.Sources.{WhereTold};
 ghost use Rattle.pp_certify.specs.Certified.{IsDecided, IsPrinted, IsUnwritten};
@@ -92,6 +93,10 @@ pub fn run<S: Source, K: Sink, L: Ledger>(
     ensures only { IsPrinted result → OfInput (command_of words.now) (S.left source.old) λ bytes.
         PrintsOnly (command_of words.now) bytes result (K.held sink.old) (K.held sink.new) }
 
+    // All of it was sent on, where the sink tells what it sent.
+    ensures sent { IsPrinted result → result ≢ statuses.BadWords →
+        SendsAll (K.sent sink.old) (K.sent sink.new) (K.held sink.new) }
+
     // Words that are no command touch nothing, and a command that examines no input leaves the
     // source as it was.
     ensures bad_words { (result ≡ statuses.BadWords) ↔ (command_of words.now ≡ None) }
@@ -117,10 +122,12 @@ pub fn run<S: Source, K: Sink, L: Ledger>(
         OfInput (command_of words.now) (S.left source.old) λ bytes.
         PrintsPrefix (command_of words.now) bytes (K.held sink.old) (K.held sink.new) }
 
-    // Where memory was refused, nothing was written, or a prefix of the output.
+    // Where memory was refused, nothing was written, or the sink itself answered that it was, and
+    // a prefix of the output was written.
     ensures refused { result ≡ statuses.OutOfMemory → Keeps (K.held sink.old) (K.held sink.new)
-        ⊎ OfInput (command_of words.now) (S.left source.old) λ bytes.
-        PrintsPrefix (command_of words.now) bytes (K.held sink.old) (K.held sink.new) }
+        ⊎ (HasRisen (K.refusals sink.old) (K.refusals sink.new)
+        × OfInput (command_of words.now) (S.left source.old) λ bytes.
+        PrintsPrefix (command_of words.now) bytes (K.held sink.old) (K.held sink.new)) }
     ensures prefix { IsUnwritten result →
         OfInput (command_of words.now) (S.left source.old) λ bytes.
         PrintsPrefixOnly (command_of words.now) bytes (K.held sink.old) (K.held sink.new) }

@@ -2,15 +2,16 @@
 ghost use Rattle.std.specs.Prelude.{◌≤◌, OnOk, OnErr, IsErrOf};
 ghost use Rattle.std.specs.Io.KnownBytes.{Appends};
 ghost use Rattle.pp_io.specs.Faults.{HasRisen};
+ghost use Rattle.pp_io.specs.Sent.{SendsAll};
 ghost use Rattle.pp_run.specs.Writing.{AppendsPrefix};
-ghost use Rattle.pp_run.specs.declared.write.WriteError.TheVariants.{WriteFault};
+ghost use Rattle.pp_run.specs.declared.write.WriteError.TheVariants.{Memory, WriteFault};
 
 use pp_io::{Sink, SinkFault};
 
 /// Why an output was not written whole.
 #[derive(Clone, Copy, Debug, PartialEq, Eq)]
 pub enum WriteError {
-    /// Memory was refused.
+    /// The sink answered that memory was refused.
     Memory,
     /// A write failed, or took nothing.
     WriteFault,
@@ -20,10 +21,13 @@ pub enum WriteError {
 /// them.
 pub fn send<K: Sink>(sink: &mut K, bytes: &[u8]) -> Result<(), WriteError>
     ensures ok { OnOk result (Appends (K.held sink.old) (K.held sink.new) bytes.now) }
+    ensures sent { OnOk result (SendsAll (K.sent sink.old) (K.sent sink.new) (K.held sink.new)) }
     ensures err { OnErr result (AppendsPrefix (K.held sink.old) (K.held sink.new) bytes.now) }
     ensures count { K.faults sink.old ≤ K.faults sink.new }
     ensures write_fault { IsErrOf result WriteFault →
         HasRisen (K.faults sink.old) (K.faults sink.new) }
+    ensures memory { IsErrOf result Memory →
+        HasRisen (K.refusals sink.old) (K.refusals sink.new) }
 {
     let mut at = 0;
     while at < bytes.len() {

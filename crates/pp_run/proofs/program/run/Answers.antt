@@ -53,7 +53,7 @@ returns-clause-refused g c = λ refused.
     let old = g.K.Sink.held c.args.sink.now in
     let new = g.K.Sink.held c.send.new.sink in
     let command : command_of c.args.words.now ≡ Some c.in-Some.command = search rules in
-    inr (prints_prefix (command_of c.args.words.now) c.in-Some.command command (g.S.Source.left c.args.source.now) old new c.in-Ok.report.0 c.in-Ok.report.1 c.in-Ok.ensures.output (subst (AppendsPrefix old new) c.bytes.ensures c.in-Err-Memory.ensures.err))
+    inr (c.send.ensures.memory (search rules), prints_prefix (command_of c.args.words.now) c.in-Some.command command (g.S.Source.left c.args.source.now) old new c.in-Ok.report.0 c.in-Ok.report.1 c.in-Ok.ensures.output (subst (AppendsPrefix old new) c.bytes.ensures c.in-Err-Memory.ensures.err))
 
 pub returns-clause-prefix : goal.returns-clause-prefix
 returns-clause-prefix g c = λ unwritten.
