@@ -4,7 +4,7 @@ use Rattle.std.specs.Prelude.{◌∷◌, ◌++◌, filter, length, map, take, Op
 use Rattle.std.proofs.Common.{refl, sym, ap, subst, ◌∙◌, arith, append_assoc}
 use Rattle.std.proofs.lemmas.List.{append-nil, length-append, length-map, map-append}
 use mathlib.Core.Logic.{inl, inr}
-use Rattle.pp_model.specs.Config.{CommittedTx, Start, Step, App, Unapp}
+use Rattle.pp_model.specs.Config.{CommittedTx, Start, Step, Begin, App, Unapp, Push, Unpush, Pull, Unpull, Cmt, Quit, Note}
 use Rattle.pp_model.specs.Config.{after, first, tx}
 use Rattle.pp_model.specs.Lists.{In, joined}
 use Rattle.pp_model.specs.Names.{Name}
@@ -13,19 +13,20 @@ use Rattle.pp_model.specs.Rules.{RunsFrom, StartMeets}
 use Rattle.pp_model.specs.Serial.{Attempt, applied_items, attempt_of, attempts, commits, committed_tx}
 use Rattle.pp_model.specs.Serial.{has_id, own_of, start_attempts, unapplied_ids}
 use Rattle.pp_model.specs.Sound.{serial_items, serial_ops}
-use Rattle.pp_model.proofs.Lists.{from_map, in_cases, in_left, in_map, in_right}
+use Rattle.pp_model.proofs.Lists.{from_filter, from_map, in_cases, in_left, in_map, in_right}
 use Rattle.pp_model.proofs.Logs.{found_tx}
 use Rattle.pp_model.proofs.Names.{names_tell}
 use Rattle.pp_model.proofs.Serial.{allowed_front}
 use Rattle.pp_model.proofs.Simulate.{serial_allowed}
 use Rattle.pp_model.proofs.Steps.{there_holds}
 use Rattle.pp_model.proofs.Trace.{applied-append, dropped-append}
-use Rattle.pp_views.specs.Laws.{IsKeptPeak, peak_behind}
+use Rattle.pp_views.specs.Laws.{IsKeptPeak, SeesKeptPeaks, peak_behind}
 use Rattle.pp_views.specs.Lists.{peak_at}
 use Rattle.pp_views.specs.Peaks.{Peak, goes_on, peaks_behind, peaks}
 use Rattle.pp_views.specs.Tops.{is_top}
 use Rattle.pp_views.specs.Views.{Explains, IsLeastBelow}
 use Rattle.pp_views.proofs.Collecting.{peaks_step}
+use Rattle.pp_views.proofs.Orders.{applied_there, own_short}
 use Rattle.pp_views.proofs.Runs.{front_runs, met_there, sound_there, traced_there}
 use Rattle.pp_views.proofs.Viewing.{serial-append}
 
@@ -51,18 +52,107 @@ own_idle {Op} t xs rest a u =
     ∙ ap (λ (w : List (Item Op)). filter (λ (p : Item Op). not (has_id p.id (unapplied_ids t xs))) w)
     (applied-append t xs rest ∙ ap (λ (w : List (Item Op)). applied_items t xs ++ w) a ∙ append-nil (applied_items t xs))
 
--- the peak is among the peaks
-among : {Op : Type 0} (t : Name) (id : ℕ) (op : Op) (before xs rest : List (Step Op)) → goes_on t rest ≡ false
-    → In (peak_behind t ((before ++ xs) ++ App t id op ∷ [])) (peaks_behind before (xs ++ App t id op ∷ rest))
-among {Op} t id op before [] rest top =
-    subst (λ (w : List (Peak Op)). In (peak_behind t ((before ++ []) ++ App t id op ∷ [])) w) (sym (peaks_step before (App t id op) rest))
-    (subst (λ (b : Bool). In (peak_behind t ((before ++ []) ++ App t id op ∷ [])) (peak_at (not b) (App t id op) (λ u. own_of u (before ++ App t id op ∷ [])) ++ peaks_behind (before ++ App t id op ∷ []) rest)) (sym top)
-    (inl (ap (λ (w : List (Step Op)). peak_behind t (w ++ App t id op ∷ [])) (append-nil before))))
-among {Op} t id op before (s ∷ xs) rest top =
-    subst (λ (w : List (Peak Op)). In (peak_behind t ((before ++ s ∷ xs) ++ App t id op ∷ [])) w) (sym (peaks_step before s (xs ++ App t id op ∷ rest)))
-    (in_right _ (peak_at (is_top s (xs ++ App t id op ∷ rest)) s (λ u. own_of u (before ++ s ∷ []))) (peaks_behind (before ++ s ∷ []) (xs ++ App t id op ∷ rest))
-    (subst (λ (w : List (Step Op)). In (peak_behind t (w ++ App t id op ∷ [])) (peaks_behind (before ++ s ∷ []) (xs ++ App t id op ∷ rest))) (append_assoc before (s ∷ []) xs)
-    (among t id op (before ++ s ∷ []) xs rest top)))
+-- a peak right behind a step: it is an APP, and the peak is its transaction's own list
+peak_there : {Op : Type 0} (top : Bool) (s : Step Op) (own : Name → List (Item Op)) (q : Peak Op) → In q (peak_at top s own)
+    → (id : ℕ) × (op : Op) × (s ≡ App q.tx id op) × (q.ops ≡ own q.tx)
+peak_there {Op} true (App t id op) own q (inl e) =
+    let n : q.tx ≡ t = ap (λ (w : Peak Op). w.tx) e in
+    (id, op, ap (λ (w : Name). App w id op) (sym n), ap (λ (w : Peak Op). w.ops) e ∙ ap own (sym n))
+peak_there true (App t id op) own q (inr never) = absurd never
+peak_there false (App t id op) own q never = absurd never
+peak_there top (Unapp t id) own q never = absurd never
+peak_there top (Begin t p b) own q never = absurd never
+peak_there top (Push t id) own q never = absurd never
+peak_there top (Unpush t id) own q never = absurd never
+peak_there top (Pull t id) own q never = absurd never
+peak_there top (Unpull t id) own q never = absurd never
+peak_there top (Cmt t) own q never = absurd never
+peak_there top (Quit t) own q never = absurd never
+peak_there top (Note t) own q never = absurd never
+
+-- the peaks behind a step: the one right behind it, if one is there, or one behind a later step
+peak_cases : {Op : Type 0} (past : List (Step Op)) (s : Step Op) (ss : List (Step Op)) (q : Peak Op) → In q (peaks_behind past (s ∷ ss))
+    → In q (peak_at (is_top s ss) s (λ u. own_of u (past ++ s ∷ []))) ⊎ In q (peaks_behind (past ++ s ∷ []) ss)
+peak_cases {Op} past s ss q i = in_cases q (peak_at (is_top s ss) s (λ u. own_of u (past ++ s ∷ []))) (peaks_behind (past ++ s ∷ []) ss)
+    (subst (λ (w : List (Peak Op)). In q w) (peaks_step past s ss) i)
+
+both_none : {A : Type 0} (xs ys : List A) → xs ++ ys ≡ [] → (xs ≡ []) × (ys ≡ [])
+both_none [] ys e = (refl, e)
+both_none (x ∷ xs) ys e = absurd (let n : x ∷ (xs ++ ys) ≡ [] = e in cc)
+
+-- a transaction that applies nothing has no peak
+no_peaks : {Op : Type 0} (t : Name) (past ss : List (Step Op)) → applied_items t ss ≡ [] → (q : Peak Op) → In q (peaks_behind past ss) → q.tx ≡ t → ⊥
+no_peaks t past [] none q i e = i
+no_peaks {Op} t past (s ∷ ss) none q i e =
+    let parts = both_none (applied_items t (s ∷ [])) (applied_items t ss) (sym (applied-append t (s ∷ []) ss) ∙ none) in
+    elim (peak_cases past s ss q i) [
+      | inl here ↦
+          let p = peak_there (is_top s ss) s (λ u. own_of u (past ++ s ∷ [])) q here in
+          let is : s ≡ App t p.0 p.1 = p.2 ∙ ap (λ (w : Name). App w p.0 p.1) e in
+          applies p.0 p.1 (subst (λ (w : Step Op). applied_items t (w ∷ []) ≡ []) is parts.0)
+      | inr behind ↦ no_peaks t (past ++ s ∷ []) ss parts.1 q behind e
+    ]
+  where
+    applies : (id : ℕ) (op : Op) → applied_items t (App t id op ∷ []) ≡ [] → ⊥
+    applies id op n = elim (names_tell t t) [
+      | inl r ↦ (let item : Item Op = record { id = id; op = op } in
+          let e : item ∷ [] ≡ [] = subst (λ (b : Bool). cond b (item ∷ []) [] ≡ []) r.0 n in cc)
+      | inr r ↦ r.1 refl
+    ]
+
+-- what a peak has was applied
+applied_within : {Op : Type 0} (past ss : List (Step Op)) (p : Peak Op) (i : Item Op) → In p (peaks_behind past ss) → In i p.ops → In (App p.tx i.id i.op) (past ++ ss)
+applied_within past [] p i n m = absurd n
+applied_within {Op} past (s ∷ ss) p i n m =
+    subst (λ (w : List (Step Op)). In (App p.tx i.id i.op) w) (append_assoc past (s ∷ []) ss)
+    (elim (peak_cases past s ss p n) [
+      | inl here ↦
+          let r = peak_there (is_top s ss) s (λ u. own_of u (past ++ s ∷ [])) p here in
+          let own : In i (own_of p.tx (past ++ s ∷ [])) = subst (λ (w : List (Item Op)). In i w) r.3 m in
+          in_left (App p.tx i.id i.op) (past ++ s ∷ []) ss (applied_there p.tx i (past ++ s ∷ []) (from_filter _ i (applied_items p.tx (past ++ s ∷ [])) own).0)
+      | inr behind ↦ applied_within (past ++ s ∷ []) ss p i behind m
+    ])
+
+pub applied : {Op : Type 0} (ss : List (Step Op)) (p : Peak Op) (i : Item Op) → In p (peaks ss) → In i p.ops → In (App p.tx i.id i.op) ss
+applied ss p i n m = applied_within [] ss p i n m
+
+-- a peak has no more operations than the run has steps
+short_within : {Op : Type 0} (past ss : List (Step Op)) (p : Peak Op) → In p (peaks_behind past ss) → length p.ops ≤ length past + length ss
+short_within past [] p n = absurd n
+short_within {Op} past (s ∷ ss) p n =
+    let grown = length-append past (s ∷ []) in
+    elim (peak_cases past s ss p n) [
+      | inl here ↦
+          let r = peak_there (is_top s ss) s (λ u. own_of u (past ++ s ∷ [])) p here in
+          let own = ap (λ (w : List (Item Op)). length w) r.3 in
+          let short = own_short p.tx (past ++ s ∷ []) in
+          omega (arith, own, short, grown)
+      | inr behind ↦ let rest = short_within (past ++ s ∷ []) ss p behind in omega (arith, rest, grown)
+    ]
+
+pub peak_short : {Op : Type 0} (ss : List (Step Op)) (p : Peak Op) → In p (peaks ss) → length p.ops ≤ length ss
+peak_short ss p n = let short = short_within [] ss p n in omega (arith, short)
+
+-- where the peak stands among the peaks
+stands : {Op : Type 0} (t : Name) (id : ℕ) (op : Op) (before xs rest : List (Step Op)) → goes_on t rest ≡ false
+    → (front : List (Peak Op)) × (peaks_behind before (xs ++ App t id op ∷ rest)
+    ≡ front ++ peak_behind t ((before ++ xs) ++ App t id op ∷ []) ∷ peaks_behind ((before ++ xs) ++ App t id op ∷ []) rest)
+stands {Op} t id op before [] rest top =
+    let past = before ++ App t id op ∷ [] in (
+      [],
+      ap (λ (b : Bool). cond b (peaks_behind past rest) (peak_behind t past ∷ peaks_behind past rest)) top
+          ∙ ap (λ (w : List (Step Op)). peak_behind t (w ++ App t id op ∷ []) ∷ peaks_behind (w ++ App t id op ∷ []) rest) (sym (append-nil before)),
+    )
+stands {Op} t id op before (s ∷ xs) rest top =
+    let r = stands t id op (before ++ s ∷ []) xs rest top in
+    let here = peak_at (is_top s (xs ++ App t id op ∷ rest)) s (λ u. own_of u (before ++ s ∷ [])) in
+    let past = ((before ++ s ∷ []) ++ xs) ++ App t id op ∷ [] in (
+      here ++ r.0,
+      peaks_step before s (xs ++ App t id op ∷ rest)
+          ∙ ap (λ (w : List (Peak Op)). here ++ w) r.1
+          ∙ sym (append_assoc here r.0 (peak_behind t past ∷ peaks_behind past rest))
+          ∙ ap (λ (w : List (Step Op)). (here ++ r.0) ++ peak_behind t (w ++ App t id op ∷ []) ∷ peaks_behind (w ++ App t id op ∷ []) rest) (append_assoc before (s ∷ []) xs),
+    )
 
 -- the serial run of attempts
 same_serial : {Op : Type 0} (l : List (Attempt Op)) → serial_items (map committed_tx l) ≡ joined (map (λ (a : Attempt Op). a.items) l)
@@ -135,13 +225,15 @@ module _ {Op State : Type 0} (O : Object Op State) (h : Option (Start Op)) (met 
       subst (λ (w : List (CommittedTx Op)). Allowed O (serial_ops w ++ ops items)) (sym front)
       (subst (λ (w : List (Item Op)). Allowed O (serial_ops early ++ ops w)) own allowed)
 
-  pub kept_peak : (past rest : List (Step Op)) (t : Name) (id : ℕ) (op : Op) (earlier later : List (Attempt Op)) (a : Attempt Op) → IsKeptPeak ss past rest t id op
-      → attempts h ss ≡ earlier ++ a ∷ later → a.name ≡ t
-      → In (peak_behind t (past ++ App t id op ∷ [])) (peaks ss)
-      × ((found : Option ℕ) → IsLeastBelow (length (attempts h ss) + 1) (Explains O (map committed_tx (attempts h ss)) (own_of t (past ++ App t id op ∷ []))) found
-      → (n : ℕ) × (found ≡ Some n) × (n ≤ length earlier))
+  pub kept_peak : SeesKeptPeaks O h ss
   kept_peak past rest t id op earlier later a kept place n = (
-    subst (λ (w : List (Step Op)). In (peak_behind t (past ++ App t id op ∷ [])) (peaks w)) (sym kept.there) (among t id op [] past rest kept.top),
+    (let r = stands t id op [] past rest kept.top in
+        record {
+          before = r.0;
+          behind = peaks_behind (past ++ App t id op ∷ []) rest;
+          there = ap (λ (w : List (Step Op)). peaks w) kept.there ∙ r.1;
+          last = no_peaks t (past ++ App t id op ∷ []) rest (idle t rest kept.top kept.kept);
+        }),
     λ found least.
         let long = ap (λ (w : List (Attempt Op)). length w) place ∙ length-append earlier (a ∷ later) in
         at_most (length (attempts h ss) + 1) _ found (length earlier) least (omega (arith, long)) (explained past rest t id op earlier later a kept place n),

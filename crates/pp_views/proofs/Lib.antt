@@ -3,5 +3,6 @@ pub mod Orders
 pub mod Collecting
 pub mod Trails
 pub mod Viewing
+pub mod Leaving
 pub mod Runs
 pub mod KeptPeaks

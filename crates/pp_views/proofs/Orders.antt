@@ -34,7 +34,7 @@ unapplied_there {Op} t i (Unapp u id ∷ ss) h = elim (names_tell u t) [
 ]
 unapplied_there t i (s ∷ ss) h = one_more t i s ss (unapplied_there t i ss h)
 
-applied_there : {Op : Type 0} (t : Name) (p : Item Op) (ss : List (Step Op)) → In p (applied_items t ss) → In (App t p.id p.op) ss
+pub applied_there : {Op : Type 0} (t : Name) (p : Item Op) (ss : List (Step Op)) → In p (applied_items t ss) → In (App t p.id p.op) ss
 applied_there t p [] h = absurd h
 applied_there {Op} t p (App u id op ∷ ss) h = elim (names_tell u t) [
   | inl r ↦ elim (subst (λ (b : Bool). In p (cond b (record { id = id; op = op } ∷ applied_items t ss) (applied_items t ss))) r.0 h) [

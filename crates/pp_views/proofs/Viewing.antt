@@ -1,10 +1,9 @@
 -- Proof machinery: the views of peaks, while the committed transactions are gone through.
-use Rattle.std.specs.Prelude.{◌≡◌, ◌≤◌, ◌<◌, ◌+◌, ◌*◌, ◌⊎◌, ◌↔◌, ℕ, suc, zero, Bool, true, false, IsTrue, List, []}
-use Rattle.std.specs.Prelude.{◌∷◌, ◌++◌, length, take, drop, set, sum_by, Option, None, Some, is_some}
+use Rattle.std.specs.Prelude.{◌≡◌, ◌≤◌, ◌<◌, ◌+◌, ◌*◌, ◌⊎◌, ◌↔◌, ℕ, suc, zero, IsTrue, List, []}
+use Rattle.std.specs.Prelude.{◌∷◌, ◌++◌, length, take, drop, sum_by, Option}
 use Rattle.std.proofs.Common.{refl, sym, ap, subst, ◌∙◌, arith, get_or, inl, inr, append_assoc}
 use Rattle.std.proofs.Math.Nat.{suc-mul, mul-le-mul_right}
-use Rattle.std.proofs.lemmas.List.{length-append, take-append-drop, map-append, append-nil, drop-set-lt, take_all}
-use Rattle.std.proofs.lemmas.List.{take_more_set}
+use Rattle.std.proofs.lemmas.List.{length-append, take-append-drop, map-append, append-nil, take_all}
 use Rattle.std.proofs.lemmas.List.Sums.{sum-map, sum_by-append}
 use Rattle.pp_model.specs.Config.{CommittedTx}
 use Rattle.pp_model.specs.Lists.{Each, In}
@@ -21,24 +20,11 @@ use Rattle.pp_views.proofs.Fronts.{take_there, drop_there, length-ops}
 use Rattle.pp_views.proofs.Trails.{log_further, ranged-first, ranged-second}
 
 -- the least of numbers, with one number more
-below_next : (k n : ℕ) → k < n + 1 → (k < n) ⊎ (k ≡ n)
+pub below_next : (k n : ℕ) → k < n + 1 → (k < n) ⊎ (k ≡ n)
 below_next zero zero l = inr refl
 below_next zero (suc n) l = inl (omega arith)
 below_next (suc k) zero l = absurd (omega arith)
 below_next (suc k) (suc n) l = elim (below_next k n (omega arith)) [ inl h ↦ inl (omega arith) | inr h ↦ inr (ap suc h) ]
-
-module _ (n : ℕ) (P : ℕ → Type 0) where
-  pub still_least : (found : Option ℕ) → is_some found ≡ true → IsLeastBelow n P found → IsLeastBelow (n + 1) P found
-  still_least None e h = absurd (cc)
-  still_least (Some k) e h = let below = h.0 in (omega (arith, below), h.1, h.2)
-
-  pub now_found : (found : Option ℕ) → is_some found ≡ false → IsLeastBelow n P found → P n → IsLeastBelow (n + 1) P (Some n)
-  now_found None e h p = (omega arith, p, h)
-  now_found (Some k) e h p = absurd (cc)
-
-  pub not_yet : (found : Option ℕ) → is_some found ≡ false → IsLeastBelow n P found → (P n → ⊥) → IsLeastBelow (n + 1) P None
-  not_yet None e h never = λ k below p. elim (below_next k n below) [ inl l ↦ h k l p | inr e ↦ never (subst P e p) ]
-  not_yet (Some k) e h never = absurd (cc)
 
 -- lists whose elements go together
 module _ {A B : Type 0} (R : A → B → Type 0) where
@@ -57,11 +43,6 @@ module _ {A B : Type 0} (R : A → B → Type 0) where
   pub pairwise_pushed : (xs us : List A) (ys vs : List B) (x : A) (y : B) → us ≡ xs ++ x ∷ [] → vs ≡ ys ++ y ∷ [] → Pairwise R xs ys → R x y → Pairwise R us vs
   pairwise_pushed xs us ys vs x y d e h r = subst (λ (w : List A). Pairwise R w vs) (sym d)
       (subst (λ (w : List B). Pairwise R (xs ++ x ∷ []) w) (sym e) (pairwise_more xs ys x y h r))
-
-  pub pairwise_none : (S : A → B → Type 0) (xs : List A) (ys : List B) → length xs ≡ 0 → Pairwise R xs ys → Pairwise S xs ys
-  pairwise_none S [] [] e h = tt
-  pairwise_none S [] (b ∷ ys) e h = absurd h
-  pairwise_none S (a ∷ xs) ys e h = absurd (omega (arith, e))
 
   pub pairwise_as : (S : A → B → Type 0) → ((x : A) (y : B) → R x y → S x y) → (xs : List A) (ys : List B) → Pairwise R xs ys → Pairwise S xs ys
   pairwise_as S gives [] [] h = tt
@@ -173,13 +154,6 @@ module _ {Shape State Op Undo : Type 0} (o : Object Shape State Op Undo) where
       (λ h. allowed-append o (o.start shape) (serial_ops (take i D)) (ops items) allowed_there (subst (λ (w : State). AllowedFrom o w (ops items)) is_there h)),
     )
 
-    -- so they are the view of a peak as far as it is legal
-    pub explains_if : (items : List (Item Op)) (b : Bool) → b ≡ true → IsTrue b ↔ AllowedFrom o s (ops items) → Explains (rules_of o shape) D items i
-    explains_if items b e same = (explains_there items).1 (same.0 e)
-
-    pub never_if : (items : List (Item Op)) (b : Bool) → b ≡ false → IsTrue b ↔ AllowedFrom o s (ops items) → Explains (rules_of o shape) D items i → ⊥
-    never_if items b e same h = let yes : b ≡ true = same.1 ((explains_there items).0 h) in let two : true ≡ false = sym yes ∙ e in cc
-
     pub may_be_tried_there : (items : List (Item Op)) → MayBeTried o shape (length (serial_ops D)) items → MayBeTriedFrom o s items
     may_be_tried_there items may = record {
       before = serial_ops (take i D);
@@ -235,30 +209,6 @@ module _ {Shape State Op Undo : Type 0} (o : Object Shape State Op Undo) where
         same = same;
       }
 
-  -- the peaks that were tried and those that were not yet, one peak on
-  module _ (shape : Shape) (D : List (CommittedTx Op)) (n i : ℕ) (ps : List (Peak Op)) (vs ws : List View) (p : Peak Op) (v w : View)
-      (there : i < length ps) (is : p ≡ get_or ps i p) (there_too : i < length vs) (known : v ≡ get_or vs i v) (written : ws ≡ set vs i w)
-      (tx : w.tx ≡ v.tx) (count : w.ops ≡ v.ops) where
-    pub tried_further : (IsLeastBelow n (Explains (rules_of o shape) D p.ops) v.after → IsLeastBelow (n + 1) (Explains (rules_of o shape) D p.ops) w.after)
-        → Pairwise (IsViewBelow (n + 1) (rules_of o shape) D) (take i ps) (take i vs) × Pairwise (IsViewBelow n (rules_of o shape) D) (drop i ps) (drop i vs)
-        → Pairwise (IsViewBelow (n + 1) (rules_of o shape) D) (take (i + 1) ps) (take (i + 1) ws) × Pairwise (IsViewBelow n (rules_of o shape) D) (drop (i + 1) ps) (drop (i + 1) ws)
-    tried_further found h =
-        let both = subst (λ (y : List View). Pairwise (IsViewBelow n (rules_of o shape) D) (p ∷ drop (i + 1) ps) y) (drop_there vs i v there_too known)
-        (subst (λ (x : List (Peak Op)). Pairwise (IsViewBelow n (rules_of o shape) D) x (drop i vs)) (drop_there ps i p there is) h.1) in
-        let now : IsViewBelow (n + 1) (rules_of o shape) D p w = record {
-          tx = tx ∙ (both.0).tx;
-          ops = count ∙ (both.0).ops;
-          after = found (both.0).after;
-        } in
-        let past : i < i + 1 = omega arith in (
-          subst (λ (x : List (Peak Op)). Pairwise (IsViewBelow (n + 1) (rules_of o shape) D) x (take (i + 1) ws)) (sym (take_there ps i p there is))
-              (subst (λ (y : List View). Pairwise (IsViewBelow (n + 1) (rules_of o shape) D) (take i ps ++ p ∷ []) y)
-              (sym (ap (λ (y : List View). take (i + 1) y) written ∙ take_more_set vs i w there_too))
-              (pairwise_more (IsViewBelow (n + 1) (rules_of o shape) D) (take i ps) (take i vs) p w h.0 now)),
-          subst (λ (y : List View). Pairwise (IsViewBelow n (rules_of o shape) D) (drop (i + 1) ps) y)
-              (sym (ap (λ (y : List View). drop (i + 1) y) written ∙ drop-set-lt (i + 1) vs i w past)) both.1,
-        )
-
   -- the state one operation on, and behind the last one
   pub state_next : (s t u : State) (l : List Op) (i : ℕ) (a : Op) → i < length l → a ≡ get_or l i a → t ≡ state_from o s (take i l) → u ≡ o.next t a
       → u ≡ state_from o s (take (i + 1) l)
@@ -279,16 +229,3 @@ module _ {Shape State Op Undo : Type 0} (o : Object Shape State Op Undo) where
 
   pub may_alone : (shape : Shape) (n : ℕ) (items : List (Item Op)) → MayBeTried o shape n items → MayBeTried o shape 0 items
   may_alone shape n items may = record { fit = may.fit; ranged = may.ranged; few = let few = may.few in omega (arith, few) }
-
--- two reads of one place
-pub same_read : {A : Type 0} (xs : List A) (i : ℕ) (r v : A) → i < length xs → r ≡ get_or xs i r → v ≡ get_or xs i v → r ≡ v
-same_read [] i r v there a b = absurd (omega (arith, there))
-same_read (x ∷ xs) zero r v there a b = a ∙ sym b
-same_read (x ∷ xs) (suc i) r v there a b = same_read xs i r v (omega (arith, there)) a b
-
--- a number that was found for what was read is one of what it was read from
-pub number_kept : {Op State : Type 0} (O : model.Object Op State) (D : List (CommittedTx Op)) (n : ℕ) (seen items : List (Item Op)) (a b found : Option ℕ)
-    → seen ≡ items → a ≡ b → (IsLeastBelow n (Explains O D seen) a → IsLeastBelow (n + 1) (Explains O D seen) found)
-    → IsLeastBelow n (Explains O D items) b → IsLeastBelow (n + 1) (Explains O D items) found
-number_kept {Op} O D n seen items a b found e d f h = subst (λ (w : List (Item Op)). IsLeastBelow (n + 1) (Explains O D w) found) e
-    (f (subst (λ (w : Option ℕ). IsLeastBelow n (Explains O D seen) w) (sym d) (subst (λ (w : List (Item Op)). IsLeastBelow n (Explains O D w) b) (sym e) h)))

@@ -21,6 +21,19 @@ pub record IsKeptPeak {Op : Type 0} (ss past rest : List (Step Op)) (t : Name) (
 abbrev pub peak_behind : {Op : Type 0} → Name → List (Step Op) → Peak Op
 peak_behind t past = record { tx = t; ops = own_of t past }
 
+-- The peak stands among these, and behind it there is none of its transaction.
+pub record IsLastOfItsTx {Op : Type 0} (p : Peak Op) (ps : List (Peak Op)) : Type 0 where
+  pub before : List (Peak Op)
+  pub behind : List (Peak Op)
+  pub there : ps ≡ before ++ p ∷ behind
+  pub last : (q : Peak Op) → In q behind → q.tx ≡ p.tx → ⊥
+
+-- What a peak has was applied: by its transaction, in a step of the run.
+abbrev pub AppliedLaw : Type 0 → Type 0
+AppliedLaw Op =
+    (ss : List (Step Op)) (p : Peak Op) (i : Item Op) → In p (peaks ss) → In i p.ops
+    → In (App p.tx i.id i.op) ss
+
 module _ {Op State : Type 0} (O : Object Op State) where
   -- The steps of an accepted run have what is asked where their peaks are looked for.
   abbrev pub OrderlyLaw : Type 0
@@ -28,19 +41,23 @@ module _ {Op State : Type 0} (O : Object Op State) where
       (h : Option (Start Op)) (ss : List (Step Op)) → StartMeets O h → RunsFrom O (first h) ss
       → IsOrderly ss
 
-  -- In an accepted run, of a transaction that is committed at the place behind `earlier`, the peak
-  -- behind which it undid nothing is among the peaks, and its view is a number of at most that
-  -- place, counted from 0.
-  abbrev pub KeptPeakLaw : Type 0
-  KeptPeakLaw =
-      (h : Option (Start Op)) (ss past rest : List (Step Op)) (t : Name) (id : ℕ) (op : Op)
-      (earlier later : List (Attempt Op)) (a : Attempt Op) → StartMeets O h
-      → RunsFrom O (first h) ss → IsKeptPeak ss past rest t id op
+  -- Of a transaction that is committed at the place behind `earlier`, the peak behind which it
+  -- undid nothing is its last one, and its view is a number of at most that place, from 0.
+  abbrev pub SeesKeptPeaks : Option (Start Op) → List (Step Op) → Type 0
+  SeesKeptPeaks h ss =
+      (past rest : List (Step Op)) (t : Name) (id : ℕ) (op : Op) (earlier later : List (Attempt Op))
+      (a : Attempt Op) → IsKeptPeak ss past rest t id op
       → attempts h ss ≡ earlier ++ a ∷ later → a.name ≡ t
-      → In (peak_behind t (past ++ App t id op ∷ [])) (peaks ss)
+      → IsLastOfItsTx (peak_behind t (past ++ App t id op ∷ [])) (peaks ss)
       × ((found : Option ℕ) → IsLeastBelow (length (attempts h ss) + 1)
       (Explains O (map committed_tx (attempts h ss)) (own_of t (past ++ App t id op ∷ []))) found
       → (n : ℕ) × (found ≡ Some n) × (n ≤ length earlier))
+
+  -- It is so in an accepted run.
+  abbrev pub KeptPeakLaw : Type 0
+  KeptPeakLaw =
+      (h : Option (Start Op)) (ss : List (Step Op)) → StartMeets O h → RunsFrom O (first h) ss
+      → SeesKeptPeaks h ss
 
   -- A peak has one view at most.
   abbrev pub OneViewLaw : Type 0

@@ -28,8 +28,10 @@ abbrev pub peak_at : {Op : Type 0} → Bool → Step Op → (Name → List (Item
 peak_at top (App t id op) own = cond top (record { tx = t; ops = own t } ∷ []) []
 peak_at top _ own = []
 
--- All operations of the peaks are counted, and the peaks are kept while these are not too many.
+-- All operations of the peaks are counted. The peaks are kept while these are not too many, so what
+-- is kept has no more than `most`.
 pub record IsCollected {Op : Type 0} (most : ℕ) (ps : List (Peak Op)) (total : ℕ)
     (found : List (Peak Op)) : Type 0 where
   pub counted : total ≡ operations ps
   pub all : total ≤ most → found ≡ ps
+  pub few : operations found ≤ most

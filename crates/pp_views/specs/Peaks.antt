@@ -41,7 +41,8 @@ peaks ss = peaks_behind [] ss
 abbrev pub operations : {Op : Type 0} → List (Peak Op) → ℕ
 operations ps = sum (map (λ p. length p.ops) ps)
 
--- Too many are told exactly where all together have more than asked for, and how many.
+-- Too many are told only where all together have more than asked for, and how many; since the peaks
+-- are told only where they have not, exactly there.
 abbrev pub IsFaultOf : ℕ → ℕ → PeakFault → Type 0
 IsFaultOf n most (TooMany count) = (count ≡ n) × (most < n)
 IsFaultOf n most OutOfMemory = Unit {0}

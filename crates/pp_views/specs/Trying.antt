@@ -1,7 +1,7 @@
 -- Proof machinery: operations that are tried from a state, and taken back.
-use Rattle.std.specs.Prelude.{◌≡◌, ◌<◌, ℕ, List, [], ◌∷◌, length, take, None}
+use Rattle.std.specs.Prelude.{◌≡◌, ◌<◌, ℕ, List, [], ◌∷◌, length, take, get_or, None}
 use Rattle.pp_model.specs.Config.{CommittedTx}
-use Rattle.pp_model.specs.Lists.{In}
+use Rattle.pp_model.specs.Lists.{Each, In}
 use Rattle.pp_model.specs.Object.{Item}
 use Rattle.pp_model.specs.Sound.{serial_ops}
 use Rattle.pp_spec.specs.Object.{Object, AllowedFrom, AllRanged, IsAllowed, IsLog, state_from}
@@ -13,6 +13,27 @@ pub record IsUntried {Op : Type 0} (p : Peak Op) (v : View) : Type 0 where
   pub tx : v.tx ≡ p.tx
   pub ops : v.ops ≡ length p.ops
   pub after : v.after ≡ None
+
+-- each number is less than those behind it
+abbrev pub AreRising : List ℕ → Type 0
+AreRising [] = Unit {0}
+AreRising (i ∷ is) = Each (λ j. i < j) is × AreRising is
+
+-- the places from 0 to n - 1, in order
+pub record ArePlaces (n : ℕ) (places : List ℕ) : Type 0 where
+  pub rising : AreRising places
+  pub within : (i : ℕ) → In i places → i < n
+  pub all : (i : ℕ) → i < n → In i places
+
+-- x stands at this place
+abbrev pub StandsAt : {A : Type 0} → List A → ℕ → A → Type 0
+StandsAt xs i x = (i < length xs) × (x ≡ get_or xs i x)
+
+-- the places of the views that have no number, in order
+pub record AreUnnumbered (views : List View) (places : List ℕ) : Type 0 where
+  pub rising : AreRising places
+  pub there : (i : ℕ) → In i places → (v : View) × StandsAt views i v × (v.after ≡ None)
+  pub all : (i : ℕ) (v : View) → StandsAt views i v → v.after ≡ None → In i places
 
 module _ {Shape State Op Undo : Type 0} (o : Object Shape State Op Undo) where
   -- what is kept of these operations, one after another from the state s

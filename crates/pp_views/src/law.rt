@@ -1,15 +1,21 @@
 //! Laws of peaks and views. Each is a fact of the definitions, and does nothing.
 ghost use Rattle.pp_spec.specs.Object.{rules_of};
-ghost use Rattle.pp_views.specs.Laws.{KeptPeakLaw, OneViewLaw, OrderlyLaw};
+ghost use Rattle.pp_views.specs.Laws.{AppliedLaw, KeptPeakLaw, OneViewLaw, OrderlyLaw};
 
 use pp_spec::Spec;
 
-/// The steps of an accepted run are what `peaks_of` asks.
+/// What each peak has was applied by its transaction.
+pub fn applied_law<S: Spec>()
+    ensures { AppliedLaw S.Op }
+{}
+
+/// The steps of an accepted run are orderly, as `peaks_of` asks; that they are at most 200,000 is
+/// the limit of a run.
 pub fn orderly_law<S: Spec>()
     ensures { (shape : S.Shape) → OrderlyLaw (rules_of S.object shape) }
 {}
 
-/// The last peak of a committed transaction that undid nothing behind it has a number, which is at
+/// Where a committed transaction undid nothing behind its last peak, this has a number, which is at
 /// most the place of the transaction in commit order, from 0.
 pub fn kept_peak_law<S: Spec>()
     ensures { (shape : S.Shape) → KeptPeakLaw (rules_of S.object shape) }

@@ -10,6 +10,6 @@ mod top;
 mod trial;
 mod view;
 
-pub use law::{kept_peak_law, one_view_law, orderly_law};
+pub use law::{applied_law, kept_peak_law, one_view_law, orderly_law};
 pub use peak::{Peak, PeakFault, Peaks, peaks_of};
 pub use view::{View, Views, explain};

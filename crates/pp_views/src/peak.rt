@@ -48,8 +48,8 @@ impl From<AllocError> for PeakFault {
     }
 }
 
-/// The peaks of a run, unless all of them have more than `most` operations. The time grows with the
-/// steps and with these operations; where they are too many, they are only counted.
+/// The peaks of a run, unless all of them have more than `most` operations. At most `most`
+/// operations are copied; behind these the rest is only counted.
 pub fn peaks_of<O: Copy>(
     alloc: Global,
     list: &Sequence<Step<O>>,

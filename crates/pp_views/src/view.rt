@@ -1,14 +1,14 @@
 //! After how many committed transactions the results of peaks are what the object gives.
-ghost use Rattle.std.specs.Prelude.{◌≡◌, ◌+◌, ◌*◌, ◌<◌, ◌≤◌, ◌^◌, List, IfOk, OnOk, length};
+ghost use Rattle.std.specs.Prelude.{◌≡◌, ◌+◌, ◌*◌, ◌<◌, ◌≤◌, ◌^◌, ℕ, List, IfOk, OnOk, length};
 ghost use Rattle.pp_model.specs.Config.{CommittedTx as TxOf};
 ghost use Rattle.pp_model.specs.Lists.{In};
 ghost use Rattle.pp_model.specs.Object.{ops};
 ghost use Rattle.pp_model.specs.Sound.{serial_ops};
 ghost use Rattle.pp_spec.specs.Object.{AllRanged, AllowedFrom, IsAllowed, rules_of, state_from};
 ghost use Rattle.pp_views.specs.Peaks.{Peak as PeakOf, operations};
-ghost use Rattle.pp_views.specs.Trying.{IsStateAt, IsUntried, MayBeTriedFrom, MayRun};
-ghost use Rattle.pp_views.specs.Views.{AreViews, Explains, IsLeastBelow, IsViewBelow, MayBeTried};
-ghost use Rattle.pp_views.specs.Views.{Pairwise};
+ghost use Rattle.pp_views.specs.Trying.{ArePlaces, AreUnnumbered, IsStateAt, IsUntried, MayRun};
+ghost use Rattle.pp_views.specs.Trying.{MayBeTriedFrom};
+ghost use Rattle.pp_views.specs.Views.{AreViews, IsViewBelow, MayBeTried, Pairwise};
 
 use crate::peak::{Peak, Peaks};
 use crate::trial::is_allowed_from;
@@ -67,90 +67,123 @@ fn go_on<S: Spec, L: Ledger>(
     Ok(())
 }
 
-/// The least number for a peak, where this one may be it.
-fn number_of<S: Spec, L: Ledger>(
-    alloc: Global,
-    state: &mut S::State,
-    items: &[Item<S::Op>],
-    number: u32,
-    after: Option<u32>,
-    ticks: &mut Ticks<L>,
-) -> Result<Option<u32>, OutOfMemory>
-    requires { MayBeTriedFrom S.object state.old items.now }
-    ensures number { IfOk result (λ found. (shape : S.Shape) (committed : List (TxOf S.Op))
-        → IsStateAt S.object shape committed number state.old
-        → IsLeastBelow number (Explains (rules_of S.object shape) committed items.now) after
-        → IsLeastBelow (number + 1) (Explains (rules_of S.object shape) committed items.now)
-        found) }
-    ensures same { OnOk result (state.new ≡ state.old) }
-    ensures rises { ticks.old ≤ ticks.new }
-    ensures bound { ticks.new ≤ ticks.old + 2 * length items.now }
+/// The first places, as many as asked for.
+fn places(alloc: Global, count: usize) -> Result<Vec<usize>, OutOfMemory>
+    ensures { IfOk result (λ places. ArePlaces count places.items) }
 {
-    if after.is_some() {
-        return Ok(after);
+    let mut places = Vec::new(alloc);
+    for place in 0..count {
+        places.push(place)?;
     }
-    if is_allowed_from::<S, L>(alloc, state, items, ticks)? {
-        Ok(Some(number))
-    } else {
-        Ok(None)
-    }
+    Ok(places)
 }
 
-/// Tries the peaks that have no number yet, after so many committed transactions.
-fn try_all<S: Spec, L: Ledger>(
+/// Tries the peaks at the places of the views without a number, after so many committed
+/// transactions, and answers the places of those that still have none.
+fn try_left<S: Spec, L: Ledger>(
     alloc: Global,
     state: &mut S::State,
     peaks: &[Peak<S::Op>],
     views: &mut Vec<View>,
+    left: &[usize],
     number: u32,
     ticks: &mut Ticks<L>,
-) -> Result<(), OutOfMemory>
+) -> Result<Vec<usize>, OutOfMemory>
     requires may { (p : PeakOf S.Op) → In p peaks.now → MayBeTriedFrom S.object state.old p.ops }
     requires as_long { length views.old.items ≡ length peaks.now }
+    requires left { AreUnnumbered views.old.items left.now }
     ensures tried { OnOk result ((shape : S.Shape) (committed : List (TxOf S.Op))
         → IsStateAt S.object shape committed number state.old
         → Pairwise (IsViewBelow number (rules_of S.object shape) committed) peaks.now
         views.old.items
         → Pairwise (IsViewBelow (number + 1) (rules_of S.object shape) committed) peaks.now
         views.new.items) }
-    ensures as_long { length views.new.items ≡ length peaks.now }
+    ensures left { IfOk result (λ still. AreUnnumbered views.new.items still.items) }
     ensures same { OnOk result (state.new ≡ state.old) }
     ensures rises { ticks.old ≤ ticks.new }
     ensures bound { ticks.new ≤ ticks.old + 2 * operations peaks.now }
 {
-    for (i, peak) in peaks.iter().enumerate() {
-        let items = peak.ops.as_slice();
-        views[i].after = number_of::<S, L>(alloc, state, items, number, views[i].after, ticks)?;
+    let mut still = Vec::new(alloc);
+    for place in left {
+        let items = peaks[*place].ops.as_slice();
+        let allowed = is_allowed_from::<S, L>(alloc, state, items, ticks)?;
+        if allowed {
+            views[*place].after = Some(number);
+        } else {
+            still.push(*place)?;
+        }
     }
-    Ok(())
+    Ok(still)
 }
 
-/// Tries the peaks from the state before any operation, which it gives.
+/// Tries the peaks from the state before any operation. It answers that state, and the places of
+/// the views that have no number.
 fn start_all<S: Spec, L: Ledger>(
     alloc: Global,
     shape: &S::Shape,
     peaks: &[Peak<S::Op>],
     views: &mut Vec<View>,
     ticks: &mut Ticks<L>,
-) -> Result<S::State, OutOfMemory>
+) -> Result<(S::State, Vec<usize>), OutOfMemory>
     requires may { (p : PeakOf S.Op) → In p peaks.now → MayBeTried S.object shape.now 0 p.ops }
-    requires as_long { length views.old.items ≡ length peaks.now }
-    ensures state { IfOk result (λ state. state ≡ S.object.start shape.now) }
+    requires untried { Pairwise IsUntried peaks.now views.old.items }
+    ensures state { IfOk result (λ r. r.0 ≡ S.object.start shape.now) }
     ensures tried { OnOk result ((committed : List (TxOf S.Op))
-        → Pairwise (IsViewBelow 0 (rules_of S.object shape.now) committed) peaks.now
-        views.old.items
         → Pairwise (IsViewBelow 1 (rules_of S.object shape.now) committed) peaks.now
         views.new.items) }
-    ensures as_long { length views.new.items ≡ length peaks.now }
+    ensures left { IfOk result (λ r. AreUnnumbered views.new.items r.1.items) }
     ensures rises { ticks.old ≤ ticks.new }
     ensures bound { ticks.new ≤ ticks.old + 2 * operations peaks.now }
 {
+    let all = places(alloc, peaks.len())?;
     let mut state = S::empty(alloc, shape)?;
-    try_all::<S, L>(alloc, &mut state, peaks, views, 0, ticks)?;
-    Ok(state)
+    let places = all.as_slice();
+    let left = try_left::<S, L>(alloc, &mut state, peaks, views, places, 0, ticks)?;
+    Ok((state, left))
 }
 
-/// Tries the peaks before any committed transaction and after each of them.
+/// Lets a committed transaction take effect, and tries the peaks behind it. Behind one without
+/// operations they give what they gave before it, and none is tried.
+fn try_behind<S: Spec, L: Ledger>(
+    alloc: Global,
+    state: &mut S::State,
+    entries: &[Item<S::Op>],
+    peaks: &[Peak<S::Op>],
+    views: &mut Vec<View>,
+    left: Vec<usize>,
+    number: u32,
+    ticks: &mut Ticks<L>,
+) -> Result<Vec<usize>, OutOfMemory>
+    requires goes_on { MayBeTriedFrom S.object state.old entries.now }
+    requires allowed { AllowedFrom S.object state.old (ops entries.now) }
+    requires may { (p : PeakOf S.Op) → In p peaks.now
+        → MayBeTriedFrom S.object (state_from S.object state.old (ops entries.now)) p.ops }
+    requires as_long { length views.old.items ≡ length peaks.now }
+    requires left { AreUnnumbered views.old.items left.items }
+    ensures state { OnOk result (state.new ≡ state_from S.object state.old (ops entries.now)) }
+    ensures tried { OnOk result ((shape : S.Shape) (committed : List (TxOf S.Op)) (before : ℕ)
+        → number ≡ before + 1 → IsStateAt S.object shape committed before state.old
+        → IsStateAt S.object shape committed number
+        (state_from S.object state.old (ops entries.now))
+        → Pairwise (IsViewBelow number (rules_of S.object shape) committed) peaks.now
+        views.old.items
+        → Pairwise (IsViewBelow (number + 1) (rules_of S.object shape) committed) peaks.now
+        views.new.items) }
+    ensures left { IfOk result (λ still. AreUnnumbered views.new.items still.items) }
+    ensures rises { ticks.old ≤ ticks.new }
+    ensures bound { ticks.new ≤ ticks.old + length entries.now + 2 * operations peaks.now }
+{
+    if entries.len() == 0 {
+        return Ok(left);
+    }
+    go_on::<S, L>(state, entries, ticks)?;
+    let places = left.as_slice();
+    let still = try_left::<S, L>(alloc, state, peaks, views, places, number, ticks)?;
+    Ok(still)
+}
+
+/// Tries the peaks before any committed transaction and after each of them, until each has a
+/// number.
 fn number_all<S: Spec, L: Ledger>(
     alloc: Global,
     shape: &S::Shape,
@@ -161,20 +194,26 @@ fn number_all<S: Spec, L: Ledger>(
 ) -> Result<(), OutOfMemory>
     requires few { length committed.now < 2 ^ 32 }
     requires runs { MayRun S.object shape.now committed.now peaks.now }
-    requires untried { Pairwise (IsViewBelow 0 (rules_of S.object shape.now) committed.now)
-        peaks.now views.old.items }
+    requires untried { Pairwise IsUntried peaks.now views.old.items }
     ensures views { OnOk result
         (AreViews (rules_of S.object shape.now) committed.now peaks.now views.new.items) }
     ensures rises { ticks.old ≤ ticks.new }
     ensures bound { ticks.new ≤ ticks.old + length (serial_ops committed.now)
         + 2 * ((length committed.now + 1) * operations peaks.now) }
 {
-    let mut state = start_all::<S, L>(alloc, shape, peaks, views, ticks)?;
+    let (start, all) = start_all::<S, L>(alloc, shape, peaks, views, ticks)?;
+    let mut state = start;
+    let mut left = all;
     let mut number = 0u32;
     for transaction in committed {
-        go_on::<S, L>(&mut state, transaction.entries.as_slice(), ticks)?;
+        if left.len() == 0 {
+            return Ok(());
+        }
+        let entries = transaction.entries.as_slice();
         number += 1;
-        try_all::<S, L>(alloc, &mut state, peaks, views, number, ticks)?;
+        left = try_behind::<S, L>(
+            alloc, &mut state, entries, peaks, views, left, number, ticks,
+        )?;
     }
     Ok(())
 }

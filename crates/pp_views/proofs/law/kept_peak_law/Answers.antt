@@ -3,5 +3,4 @@ use Rattle.pp_views.proofs.KeptPeaks.{kept_peak}
 use Rattle.pp_views.proofs.law.kept_peak_law.Goals as goal
 
 pub returns : goal.returns
-returns g c = λ shape h ss past rest t id op earlier later a met run.
-    kept_peak (rules_of g.S.Spec.object shape) h met ss run past rest t id op earlier later a
+returns g c = λ shape h ss met run. kept_peak (rules_of g.S.Spec.object shape) h met ss run

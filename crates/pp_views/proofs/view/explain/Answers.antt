@@ -2,11 +2,10 @@ use Rattle.std.proofs.Common.{length, arith, subst, sym, ◌∙◌, List}
 use Rattle.pp_model.specs.Config.{CommittedTx}
 use Rattle.pp_model.specs.Lists.{In}
 use Rattle.pp_model.specs.Sound.{serial_ops}
-use Rattle.pp_spec.specs.Object.{rules_of}
 use Rattle.pp_views.specs.Peaks.{Peak}
 use Rattle.pp_views.specs.Trying.{IsUntried, MayRun}
-use Rattle.pp_views.specs.Views.{IsViewBelow, Pairwise}
-use Rattle.pp_views.proofs.Viewing.{few_alone, pairwise_as, untried_below}
+use Rattle.pp_views.specs.Views.{Pairwise}
+use Rattle.pp_views.proofs.Viewing.{few_alone}
 use Rattle.pp_views.proofs.view.explain.Goals as goal
 
 pub untried-requires : goal.untried-requires
@@ -29,8 +28,4 @@ number_all-requires-clause-runs g c =
 
 pub number_all-requires-clause-untried : goal.number_all-requires-clause-untried
 number_all-requires-clause-untried g c =
-    let O = rules_of g.S.Spec.object c.args.shape.now in
-    let D = c.as_slice-committed.result.now in
-    let views = c.in_ok-views.views.items in
-    pairwise_as IsUntried (IsViewBelow 0 O D) (untried_below O D) c.as_slice-2.result.now views
-    (subst (λ (w : List (Peak _)). Pairwise IsUntried w views) (c.as_slice.ensures ∙ sym c.as_slice-2.ensures) c.in_ok-views.ensures)
+    subst (λ (w : List (Peak _)). Pairwise IsUntried w c.in_ok-views.views.items) (c.as_slice.ensures ∙ sym c.as_slice-2.ensures) c.in_ok-views.ensures
