@@ -1,0 +1,64 @@
+//! Taking the lines of a run whose steps are kept.
+ghost use Rattle.std.specs.Prelude.{◌≡◌, []};
+ghost use Rattle.pp_certify.specs.declared.progress.Progress.TheVariants.{Waiting};
+
+use crate::copy::add_copies;
+use pp_certify::{Progress, take_line};
+use pp_core::Ticks;
+use pp_io::Line;
+use pp_object::Op;
+use pp_reading::{Cause, Stop, TakesLines};
+use pp_styles::StepList;
+use std::alloc::Global;
+use std::sync::ledger::Ledger;
+
+/// What the lines so far lead to, and the steps of their run, the one that fails included.
+#[derive(Drop)]
+pub(crate) struct RunSteps {
+    pub(crate) progress: Progress,
+    pub(crate) steps: StepList<Op>,
+}
+
+impl RunSteps {
+    /// No line, and no step.
+    pub(crate) fn new(alloc: Global) -> RunSteps
+        ensures progress { result.progress ≡ Waiting 0 }
+        ensures steps { result.steps ≡ [] }
+    {
+        RunSteps {
+            progress: Progress::Waiting(0),
+            steps: StepList::new(alloc),
+        }
+    }
+}
+
+impl TakesLines for RunSteps {
+    ghost use Rattle.pp_attempts.specs.Taken.{steps_reading};
+
+    type Fault = Cause;
+
+    ghost reading = { steps_reading };
+
+    fn at_limit(cause: Cause) -> Cause {
+        cause
+    }
+
+    fn take<L: Ledger>(
+        self,
+        alloc: Global,
+        line: &Line,
+        ticks: &mut Ticks<L>,
+    ) -> Result<RunSteps, Stop<Cause>> {
+        let RunSteps {
+            progress,
+            mut steps,
+        } = self;
+        let before = progress.steps();
+        let (progress, list) = take_line(alloc, progress, line, ticks)?;
+        let after = progress.steps();
+        let told = after - before;
+        let more = &list.as_slice()[..told as usize];
+        add_copies(alloc, &mut steps, more)?;
+        Ok(RunSteps { progress, steps })
+    }
+}
