@@ -1,0 +1,5 @@
+use Rattle.pp_decide.proofs.Deciding.{decided}
+use Rattle.pp_decide.proofs.law.decision_law.Goals as goal
+
+pub returns : goal.returns
+returns c = decided

@@ -1,0 +1,45 @@
+-- Meaning: how far deciding an input raises the counter of operations applied or taken back.
+use Rattle.std.specs.Prelude.{◌≤◌, ◌+◌, ℕ, List, Option, None, Some}
+use Rattle.pp_front.specs.Records.{RunRecord}
+use Rattle.pp_front.specs.Runs.{Lined, Records, bare}
+use Rattle.pp_json.specs.declared.header.Header.{Header}
+use Rattle.pp_model.specs.Config.{first}
+use Rattle.pp_object.specs.Objects.{place_of}
+use Rattle.pp_object.specs.declared.act.Op.{Op}
+use Rattle.pp_quick.specs.Brief.{Brief, brief}
+use Rattle.pp_quick.specs.Sums.{AreTried, count_ops, records_most}
+use Rattle.pp_certify.specs.Costs.{OfRun, serial_length, start_at_most}
+use Rattle.pp_certify.specs.Objects.{object_of, start_of}
+use Rattle.pp_certify.specs.Scans.{InputScan}
+
+-- the brief before the first record
+abbrev pub first_brief : Header → Brief Op
+first_brief header = brief place_of (first (start_of header))
+
+-- what the start of a header and these records cost at most, one after another
+abbrev pub tried_most : Header → List (RunRecord Op) → ℕ
+tried_most header tried =
+    start_at_most (start_of header) + records_most place_of (first_brief header) tried
+
+-- Of what the start costs at most, and the records up to and with the first that is not good, this
+-- holds (there is one list of them at most). Without a header nothing costs.
+abbrev pub OfTried : Option (Lined Header) → Records (RunRecord Op) → (ℕ → Type 0) → Type 0
+OfTried None records P = P 0
+OfTried (Some header) records P = (tried : List (RunRecord Op)) →
+    AreTried (object_of header.what) place_of (first_brief header.what) (bare records) tried →
+    P (tried_most header.what tried)
+
+-- the counter rises at most by this, without the serial run
+abbrev pub RecordsCostAtMost : InputScan → (old new : ℕ) → Type 0
+RecordsCostAtMost sc old new = OfTried sc.header sc.records λ most. new ≤ old + most
+
+-- and with it
+abbrev pub QuickCostsAtMost : InputScan → (old new : ℕ) → Type 0
+QuickCostsAtMost sc old new = OfTried sc.header sc.records λ most.
+    OfRun sc.header sc.records λ start steps. new ≤ old + most + serial_length start steps
+
+-- The counter of an accepted run rises at least by one for each record that is an operation, and by
+-- the length of the serial run.
+abbrev pub QuickCostsAtLeast : InputScan → (old new : ℕ) → Type 0
+QuickCostsAtLeast sc old new = OfRun sc.header sc.records λ start steps.
+    old + count_ops (bare sc.records) + serial_length start steps ≤ new

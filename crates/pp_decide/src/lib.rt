@@ -1,0 +1,12 @@
+//! The command `quick`: a boosted run is decided from its records, without their steps.
+#![tactic(auto)]
+
+mod command;
+mod conclusion;
+mod law;
+mod report;
+mod standing;
+mod take;
+
+pub use command::quick;
+pub use law::decision_law;
