@@ -17,7 +17,7 @@ use Rattle.pp_recheck.specs.Certificates.{IsEntered, IsHeadTaken, IsEntryTaken, 
 use Rattle.pp_recheck.specs.Certificates.{AreExchangesTaken, IsEnded, IsSerialTaken, IsTaken}
 use Rattle.pp_recheck.specs.Certificates.{Shown, Holds, Refused, shown, shown_at}
 use Rattle.pp_recheck.specs.Certificates.{IsClosing, IsRead}
-use Rattle.pp_recheck.specs.Laws.{IsSound, ShowsAllowed}
+use Rattle.pp_recheck.specs.Laws.{IsAllowedSoFar, ShowsAllowed}
 use Rattle.pp_recheck.proofs.Pairs.{at_pair_map, at_pair_both}
 
 module _ {Shape Op : Type 0} where
@@ -48,13 +48,13 @@ module _ {Shape State Op Undo : Type 0} (o : Object Shape State Op Undo) where
         (allowed-append o (o.start shape) (ops l) (p.op ∷ []) h (legal, tt))
 
   -- the stage t is u, which is sound
-  is_sound : (t u : Stage Shape Op) → ◌≡◌ {A = Step Shape Op} (Ok t) (Ok u) → IsSound o u
-      → IsSound o t
-  is_sound t u r h = subst (λ (w : Stage Shape Op). IsSound o w) (sym (ok_is t u r)) h
+  is_sound : (t u : Stage Shape Op) → ◌≡◌ {A = Step Shape Op} (Ok t) (Ok u) → IsAllowedSoFar o u
+      → IsAllowedSoFar o t
+  is_sound t u r h = subst (λ (w : Stage Shape Op). IsAllowedSoFar o w) (sym (ok_is t u r)) h
 
   pub exchanged_sound : (shape : Shape) (is : List ℕ) (l : List (Item Op)) (count : ℕ)
       (t : Stage Shape Op) → IsAllowed o shape (ops l) → AreExchanged o shape l count is (Ok t)
-      → IsSound o t
+      → IsAllowedSoFar o t
   exchanged_sound shape [] l count t h r = is_sound t (Exchanged shape l count) r h
   exchanged_sound shape (i ∷ is) l count t h (inl r) =
       let O = rules_of o shape in
@@ -73,14 +73,14 @@ module _ {Shape State Op Undo : Type 0} (o : Object Shape State Op Undo) where
   exchanged_sound shape (i ∷ is) l count t h (inr (inr r)) = absurd (not_ok t Position r.1)
 
   ended_sound : (shape : Shape) (l : List (Item Op)) (count n : ℕ) (t : Stage Shape Op)
-      → IsAllowed o shape (ops l) → IsEnded o shape l count n (Ok t) → IsSound o t
+      → IsAllowed o shape (ops l) → IsEnded o shape l count n (Ok t) → IsAllowedSoFar o t
   ended_sound shape l count n t h (inl r) = is_sound t (Ended shape l count n) r.1 h
   ended_sound shape l count n t h (inr r) = absurd (not_ok t Position r.1)
 
   entered_sound : IsLawful o → (shape : Shape) (l : List (Item Op)) (p : Item Op)
       (t : Stage Shape Op) → IsAllowed o shape (ops l) → (b : Bool) → o.fits shape p.op ≡ b
       → MatchBool b (IsEntered o shape l p (Ok t))
-      (◌≡◌ {A = Step Shape Op} (Ok t) (Err NotCertificate)) → IsSound o t
+      (◌≡◌ {A = Step Shape Op} (Ok t) (Err NotCertificate)) → IsAllowedSoFar o t
   entered_sound laws shape l p t h true f (inl r) =
       is_sound t (Entered shape (l ++ p ∷ [])) r.1 (entered laws shape l p f r.0 h)
   entered_sound laws shape l p t h true f (inr r) =
@@ -88,36 +88,36 @@ module _ {Shape State Op Undo : Type 0} (o : Object Shape State Op Undo) where
   entered_sound laws shape l p t h false f r = absurd (not_ok t NotCertificate r)
 
   head_sound : (s : Stage Shape Op) (shape : Shape) (t : Stage Shape Op)
-      → IsHeadTaken s shape (Ok t) → IsSound o t
+      → IsHeadTaken s shape (Ok t) → IsAllowedSoFar o t
   head_sound Fresh shape t r = is_sound t (Entered shape []) r tt
   head_sound (Entered over l) shape t r = absurd (not_ok t NotCertificate r)
   head_sound (Exchanged over l count) shape t r = absurd (not_ok t NotCertificate r)
   head_sound (Ended over l count n) shape t r = absurd (not_ok t NotCertificate r)
 
   entry_sound : IsLawful o → (s : Stage Shape Op) (p : Item Op) (t : Stage Shape Op)
-      → IsSound o s → IsEntryTaken o s p (Ok t) → IsSound o t
+      → IsAllowedSoFar o s → IsEntryTaken o s p (Ok t) → IsAllowedSoFar o t
   entry_sound laws Fresh p t h r = absurd (not_ok t NotCertificate r)
   entry_sound laws (Entered shape l) p t h r =
       entered_sound laws shape l p t h (o.fits shape p.op) refl r
   entry_sound laws (Exchanged shape l count) p t h r = absurd (not_ok t NotCertificate r)
   entry_sound laws (Ended shape l count n) p t h r = absurd (not_ok t NotCertificate r)
 
-  exchanges_sound : (s : Stage Shape Op) (is : List ℕ) (t : Stage Shape Op) → IsSound o s
-      → AreExchangesTaken o s is (Ok t) → IsSound o t
+  exchanges_sound : (s : Stage Shape Op) (is : List ℕ) (t : Stage Shape Op) → IsAllowedSoFar o s
+      → AreExchangesTaken o s is (Ok t) → IsAllowedSoFar o t
   exchanges_sound Fresh is t h r = absurd (not_ok t NotCertificate r)
   exchanges_sound (Entered shape l) is t h r = exchanged_sound shape is l 0 t h r
   exchanges_sound (Exchanged shape l count) is t h r = exchanged_sound shape is l count t h r
   exchanges_sound (Ended shape l count n) is t h r = absurd (not_ok t NotCertificate r)
 
-  serial_sound : (s : Stage Shape Op) (n : ℕ) (t : Stage Shape Op) → IsSound o s
-      → IsSerialTaken o s n (Ok t) → IsSound o t
+  serial_sound : (s : Stage Shape Op) (n : ℕ) (t : Stage Shape Op) → IsAllowedSoFar o s
+      → IsSerialTaken o s n (Ok t) → IsAllowedSoFar o t
   serial_sound Fresh n t h r = absurd (not_ok t NotCertificate r)
   serial_sound (Entered shape l) n t h r = ended_sound shape l 0 n t h r
   serial_sound (Exchanged shape l count) n t h r = ended_sound shape l count n t h r
   serial_sound (Ended shape l count m) n t h r = absurd (not_ok t NotCertificate r)
 
   pub taken_sound : IsLawful o → (s : Stage Shape Op) (line : Line Shape Op) (t : Stage Shape Op)
-      → IsSound o s → IsTaken o s line (Ok t) → IsSound o t
+      → IsAllowedSoFar o s → IsTaken o s line (Ok t) → IsAllowedSoFar o t
   taken_sound laws s Blank t h r = is_sound t s r h
   taken_sound laws s (Head shape) t h r = head_sound s shape t r
   taken_sound laws s (Entry p) t h r = entry_sound laws s p t h r
@@ -125,10 +125,10 @@ module _ {Shape State Op Undo : Type 0} (o : Object Shape State Op Undo) where
   taken_sound laws s (Serial n) t h r = serial_sound s n t h r
   taken_sound laws s Other t h r = absurd (not_ok t NotCertificate r)
 
-  holds_is : (a b : Shown Shape State Op) → Holds a ≡ Holds b → a ≡ b
+  pub holds_is : (a b : Shown Shape State Op) → Holds a ≡ Holds b → a ≡ b
   holds_is a b e = cc
 
-  not_holds : (a : Shown Shape State Op) (n : ℕ) (f : Refusal) → Holds a ≡ Refused n f → ⊥
+  pub not_holds : (a : Shown Shape State Op) (n : ℕ) (f : Refusal) → Holds a ≡ Refused n f → ⊥
   not_holds a n f e = cc
 
   pub shown_sound : (shape : Shape) (l : List (Item Op)) (count n : ℕ) → IsAllowed o shape (ops l)
@@ -141,7 +141,7 @@ module _ {Shape State Op Undo : Type 0} (o : Object Shape State Op Undo) where
       subst (λ (w : List Op). IsAllowed o shape w) e h in
       (allowed-first o (o.start shape) (ops (take n l)) (ops (drop n l)) k, refl)
 
-  closing_sound : (n : ℕ) (s : Stage Shape Op) (h : Shown Shape State Op) → IsSound o s
+  closing_sound : (n : ℕ) (s : Stage Shape Op) (h : Shown Shape State Op) → IsAllowedSoFar o s
       → IsClosing n (shown_at o s) (Holds h) → ShowsAllowed o h
   closing_sound n Fresh h a r = absurd (not_holds h n NotCertificate r)
   closing_sound n (Entered shape l) h a r = absurd (not_holds h n NotCertificate r)
@@ -151,7 +151,7 @@ module _ {Shape State Op Undo : Type 0} (o : Object Shape State Op Undo) where
       (sym (holds_is h (shown o shape l count k) r)) (shown_sound shape l count k a)
 
   pub read_sound : IsLawful o → {L : Type 0} (read : Reader L Shape Op) (n : ℕ)
-      (s : Stage Shape Op) (lines : List L) (h : Shown Shape State Op) → IsSound o s
+      (s : Stage Shape Op) (lines : List L) (h : Shown Shape State Op) → IsAllowedSoFar o s
       → IsRead o read n s lines (Holds h) → ShowsAllowed o h
   read_sound laws read n s [] h a r = closing_sound n s h a r
   read_sound laws read n s (line ∷ lines) h a (inl r) = absurd (not_holds h n r.0 r.2)

@@ -9,3 +9,6 @@ pub mod Kept
 pub mod Read
 pub mod Fronts
 pub mod Moving
+pub mod Over
+pub mod Costs
+pub mod Own

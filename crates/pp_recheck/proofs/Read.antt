@@ -1,8 +1,8 @@
 -- Proof machinery: behind lines that are taken the verdict is that of the other lines.
-use Rattle.std.proofs.Common.{ℕ, suc, ◌+◌, List, [], ◌∷◌, ◌++◌, length, subst, arith, inr}
-use Rattle.std.proofs.Common.{add-zero, ◌≡◌}
+use Rattle.std.proofs.Common.{ℕ, suc, ◌+◌, List, [], ◌∷◌, ◌++◌, length, subst, refl, arith}
+use Rattle.std.proofs.Common.{inr, Ok, add-zero, ◌≡◌}
 use Rattle.pp_spec.specs.Object.{Object}
-use Rattle.pp_recheck.specs.Certificates.{Stage, Reader, Verdict, IsRead}
+use Rattle.pp_recheck.specs.Certificates.{Stage, Reader, Verdict, IsRead, IsTaken}
 use Rattle.pp_recheck.specs.Laws.{Leads}
 
 module _ {Shape State Op Undo L : Type 0} (o : Object Shape State Op Undo)
@@ -18,3 +18,12 @@ module _ {Shape State Op Undo L : Type 0} (o : Object Shape State Op Undo)
       let r1 : IsRead o read (suc n + length lines) t more v =
       subst (λ m. IsRead o read m t more v) e r in
       inr (h.0, h.1, read_on lines (suc n) h.0 t h.2 r1)
+
+-- lines that are taken, and one more
+module _ {Shape State Op Undo L : Type 0} (o : Object Shape State Op Undo)
+    (read : Reader L Shape Op) (line : L) where
+  pub leads_on : (lines : List L) (s u t : Stage Shape Op) → Leads o read s lines u
+      → IsTaken o u (read u line) (Ok t) → Leads o read s (lines ++ line ∷ []) t
+  leads_on [] s u t h r =
+      (t, subst (λ (w : Stage Shape Op). IsTaken o w (read w line) (Ok t)) h r, refl)
+  leads_on (next ∷ lines) s u t h r = (h.0, h.1, leads_on lines h.0 u t h.2 r)

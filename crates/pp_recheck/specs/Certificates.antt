@@ -34,7 +34,9 @@ abbrev pub Reader : Type 0 → Type 0 → Type 0 → Type 0
 Reader L Shape Op = Stage Shape Op → L → Line Shape Op
 
 pub data Verdict (Shape State Op : Type 0) : Type 0 where
+  -- all lines are taken, and they show this
   Holds : Shown Shape State Op → Verdict Shape State Op
+  -- the first line that is not taken, and why: `NotCertificate` is a fault, the others are refusals
   Refused : (line : ℕ) → Refusal → Verdict Shape State Op
 
 -- A head is taken as the first line alone.

@@ -1,5 +1,6 @@
 -- Meaning: what contracts see of a checker, and what one line does to it.
-use Rattle.std.specs.Prelude.{◌≡◌, ◌+◌, ◌≤◌, ℕ, IsTrue, if◌then◌else◌, length, Result, Ok, Err}
+use Rattle.std.specs.Prelude.{◌≡◌, ◌+◌, ◌<◌, ◌≤◌, ℕ, IsTrue, if◌then◌else◌, length, Result, Ok}
+use Rattle.std.specs.Prelude.{Err}
 use Rattle.pp_model.specs.Object.{Item}
 use Rattle.pp_spec.specs.Object.{Object}
 use Rattle.pp_recheck.specs.Certificates.{Line, Blank, Head, Entry, Exchanges, Serial, Other}
@@ -7,7 +8,7 @@ use Rattle.pp_recheck.specs.Certificates.{Stage, Fresh, Entered, Exchanged, Ende
 use Rattle.pp_recheck.specs.Certificates.{IsTaken}
 
 -- What was read so far, and how many lines were taken.
-pub record Reading (Shape Op : Type 0) : Type 0 where
+pub record ReadSoFar (Shape Op : Type 0) : Type 0 where
   pub stage : Stage Shape Op
   pub lines : ℕ
 
@@ -19,18 +20,19 @@ serial_in (Exchanged shape list count) = 0
 serial_in (Ended shape list count n) = n
 
 module _ {Shape State Op Undo : Type 0} (o : Object Shape State Op Undo) where
-  -- What is asked of a line: the numbers of an entry lie in the range of records, and there are at
-  -- most a thousand positions.
+  -- What is asked of a line: the numbers of an entry lie in the range of records, and there are 1 to
+  -- a thousand positions.
   abbrev pub IsReadable : Line Shape Op → Type 0
   IsReadable Blank = Unit {0}
   IsReadable (Head shape) = Unit {0}
   IsReadable (Entry p) = IsTrue (o.ranged p.op)
-  IsReadable (Exchanges is) = length is ≤ 1000
+  IsReadable (Exchanges is) = (0 < length is) × (length is ≤ 1000)
   IsReadable (Serial n) = Unit {0}
   IsReadable Other = Unit {0}
 
   -- A line is taken, or refused.
-  abbrev pub Takes : Reading Shape Op → Line Shape Op → Result (Reading Shape Op) Refusal → Type 0
+  abbrev pub Takes : ReadSoFar Shape Op → Line Shape Op → Result (ReadSoFar Shape Op) Refusal
+      → Type 0
   Takes v line (Ok w) = IsTaken o v.stage line (Ok w.stage) × (w.lines ≡ v.lines + 1)
   Takes v line (Err why) = IsTaken o v.stage line (Err why)
 

@@ -12,6 +12,7 @@ use Rattle.pp_recheck.specs.Certificates.{Line, Head, Entry, Exchanges, Serial}
 use Rattle.pp_recheck.specs.Certificates.{Stage, Fresh, Entered, Exchanged, Ended, Shown, Reader}
 use Rattle.pp_recheck.specs.Certificates.{AreExchanged, IsTaken, Verdict, Holds, IsRead}
 use Rattle.pp_recheck.specs.Certificates.{IsVerdictOf}
+use Rattle.pp_recheck.specs.Own.{ShowsOwn}
 
 -- The list that is shown is allowed, and leads to the state that is shown.
 abbrev pub ShowsAllowed : {Shape State Op Undo : Type 0} → Object Shape State Op Undo
@@ -19,35 +20,45 @@ abbrev pub ShowsAllowed : {Shape State Op Undo : Type 0} → Object Shape State 
 ShowsAllowed o h =
     IsAllowed o h.shape (ops h.serial) × (h.state ≡ state_after o h.shape (ops h.serial))
 
--- Whatever the lines are, they have one verdict. Where it accepts, what is shown is allowed.
+-- Whatever the lines are, they have one verdict. Where it accepts, what is shown is allowed, and is
+-- what the lines say.
 pub record CheckedLaw {Shape State Op Undo : Type 0} (o : Object Shape State Op Undo)
     (L : Type 0) : Type 0 where
   pub allowed : (read : Reader L Shape Op) (lines : List L) (h : Shown Shape State Op)
       → IsVerdictOf o read lines (Holds h) → ShowsAllowed o h
+  pub own : (read : Reader L Shape Op) (lines : List L) (h : Shown Shape State Op)
+      → IsVerdictOf o read lines (Holds h) → ShowsOwn o read lines h
   pub once : (read : Reader L Shape Op) (lines : List L) (v w : Verdict Shape State Op)
       → IsVerdictOf o read lines v → IsVerdictOf o read lines w → v ≡ w
   pub some : (read : Reader L Shape Op) (lines : List L)
       → (v : Verdict Shape State Op) × IsVerdictOf o read lines v
 
 -- The list so far is allowed.
-abbrev pub IsSound : {Shape State Op Undo : Type 0} → Object Shape State Op Undo
+abbrev pub IsAllowedSoFar : {Shape State Op Undo : Type 0} → Object Shape State Op Undo
     → Stage Shape Op → Type 0
-IsSound o Fresh = Unit {0}
-IsSound o (Entered shape list) = IsAllowed o shape (ops list)
-IsSound o (Exchanged shape list count) = IsAllowed o shape (ops list)
-IsSound o (Ended shape list count n) = IsAllowed o shape (ops list)
+IsAllowedSoFar o Fresh = Unit {0}
+IsAllowedSoFar o (Entered shape list) = IsAllowed o shape (ops list)
+IsAllowedSoFar o (Exchanged shape list count) = IsAllowed o shape (ops list)
+IsAllowedSoFar o (Ended shape list count n) = IsAllowed o shape (ops list)
 
 -- What the lines of a certificate keep: the list so far is allowed, and exchanges keep it in the
 -- range of records.
-pub record KeptLaw {Shape State Op Undo : Type 0} (o : Object Shape State Op Undo) : Type 0 where
+pub record TakenLaw {Shape State Op Undo : Type 0} (o : Object Shape State Op Undo) : Type 0 where
   pub step : (s t : Stage Shape Op) (line : Line Shape Op)
-      → IsSound o s → IsTaken o s line (Ok t) → IsSound o t
+      → IsAllowedSoFar o s → IsTaken o s line (Ok t) → IsAllowedSoFar o t
   pub turned : (shape : Shape) (list : List (Item Op)) (count : ℕ) (is : List ℕ)
       → (t : Stage Shape Op) → AreExchanged o shape list count is (Ok t)
       → (t ≡ Exchanged shape (after_exchanges list is) (count + length is))
       × ExchangesSwap o list is
   pub ranged : (list : List (Item Op)) (is : List ℕ)
       → AllRanged o (ops list) → AllRanged o (ops (after_exchanges list is))
+
+-- The head of these objects was read.
+abbrev pub IsOver : {Shape Op : Type 0} → Shape → Stage Shape Op → Type 0
+IsOver shape Fresh = ⊥
+IsOver shape (Entered over list) = over ≡ shape
+IsOver shape (Exchanged over list count) = over ≡ shape
+IsOver shape (Ended over list count n) = over ≡ shape
 
 -- Each of these lines is taken, from the first stage on, and they lead to the last.
 abbrev pub Leads : {Shape State Op Undo L : Type 0} → Object Shape State Op Undo
@@ -127,9 +138,9 @@ shown_of o shape c = record {
 
 -- The certificate of a sound configuration is accepted, and shows its committed operations in
 -- commit order.
-abbrev pub WrittenLaw : {Shape State Op Undo : Type 0} → Object Shape State Op Undo
+abbrev pub CertificateLaw : {Shape State Op Undo : Type 0} → Object Shape State Op Undo
     → Type 0 → Type 0
-WrittenLaw {Shape} {State} {Op} {Undo} o L =
+CertificateLaw {Shape} {State} {Op} {Undo} o L =
     (shape : Shape) (plain : Item Op → Bool) (read : Reader L Shape Op) (write : Line Shape Op → L)
     → Spells o shape plain read write
     → (c : Config Op) → Sound (rules_of o shape) c → length (log_of c) < 1_000_000

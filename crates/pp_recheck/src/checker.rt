@@ -30,12 +30,12 @@ pub struct Checker<S: Spec> {
 
 impl<S: Spec> Model for Checker<S> {
     ghost use Rattle.std.specs.Coded.{codes};
-    ghost use Rattle.pp_recheck.specs.Checking.{Reading};
+    ghost use Rattle.pp_recheck.specs.Checking.{ReadSoFar};
     ghost use Rattle.std.specs.Prelude.{◌≤◌};
     ghost use Rattle.pp_core.specs.declared.limits.TheConstants.{MOST_LINES};
     ghost use Rattle.pp_recheck.specs.Keeping.{stage_of, IsHeld};
 
-    ghost Value = { Reading S.Shape S.Op };
+    ghost Value = { ReadSoFar S.Shape S.Op };
 
     ghost coded = { Prim.hlevel (codes, S.Shape.code, S.Op.code) };
 
@@ -90,7 +90,7 @@ fn moved<S: Spec, L: Ledger>(
 
 impl<S: Spec> Checker<S> {
     /// A checker that has read nothing.
-    pub fn start(alloc: Global) -> Checker<S>
+    pub fn new(alloc: Global) -> Checker<S>
         ensures { result ≡ record { stage = Fresh; lines = 0 } }
     {
         Checker {
@@ -98,6 +98,14 @@ impl<S: Spec> Checker<S> {
             held: Held::Nothing,
             lines: 0,
         }
+    }
+
+    /// How many lines were taken.
+    pub fn lines(&self) -> u32
+        ensures lines { result ≡ self.now.lines }
+        ensures few { result ≤ MOST_LINES }
+    {
+        self.lines
     }
 
     /// Takes a line, or says why it is refused. The only error is that memory was refused.
@@ -133,6 +141,7 @@ impl<S: Spec> Checker<S> {
         ensures cost { OnOk result (ticks.new ≡ ticks.old + serial_in self.stage) }
         ensures rises { ticks.old ≤ ticks.new }
         ensures bound { ticks.new ≤ ticks.old + serial_in self.stage }
+        ensures few { ticks.new ≤ ticks.old + self.lines }
     {
         let Checker {
             alloc,

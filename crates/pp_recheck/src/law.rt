@@ -1,5 +1,5 @@
 //! Laws of certificates. Each is a fact of the definitions, and does nothing.
-ghost use Rattle.pp_recheck.specs.Laws.{CheckedLaw, KeptLaw, ReadLaw, RowsLaw, WrittenLaw};
+ghost use Rattle.pp_recheck.specs.Laws.{CheckedLaw, TakenLaw, ReadLaw, RowsLaw, CertificateLaw};
 
 use pp_spec::Spec;
 
@@ -9,8 +9,8 @@ pub fn checked_law<S: Spec, L>()
 {}
 
 /// What each line that is taken keeps.
-pub fn kept_law<S: Spec>()
-    ensures { KeptLaw S.object }
+pub fn taken_law<S: Spec>()
+    ensures { TakenLaw S.object }
 {}
 
 /// Behind lines that are taken, the verdict is that of the other lines.
@@ -24,6 +24,6 @@ pub fn rows_law()
 {}
 
 /// The certificate of a sound configuration, by the route to its target, is accepted.
-pub fn written_law<S: Spec, L>()
-    ensures { WrittenLaw S.object L }
+pub fn certificate_law<S: Spec, L>()
+    ensures { CertificateLaw S.object L }
 {}

@@ -13,7 +13,7 @@ mod replay;
 mod shown;
 
 pub use checker::Checker;
-pub use law::{checked_law, kept_law, read_law, rows_law, written_law};
+pub use law::{certificate_law, checked_law, read_law, rows_law, taken_law};
 pub use line::Line;
 pub use refusal::Refusal;
 pub use shown::Shown;

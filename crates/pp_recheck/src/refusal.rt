@@ -8,7 +8,7 @@ pub enum Refusal {
     NotCertificate,
     /// The objects give the entry of this id this result, and not the recorded one.
     Gives { entry: u32, answer: Answer },
-    /// There are not so many entries.
+    /// A position, or the serial number, is past the last entry.
     Position,
     /// The second of these entries does not move left over the first.
     Pair { first: u32, second: u32 },

@@ -1,5 +1,6 @@
 use Rattle.pp_recheck.specs.Certificates.{Fresh}
 use Rattle.pp_recheck.proofs.Checked.{read_sound}
+use Rattle.pp_recheck.proofs.Own.{shows_own}
 use Rattle.pp_recheck.proofs.Decided.{read_once, read_some}
 use Rattle.pp_recheck.proofs.law.checked_law.Goals as goal
 
@@ -7,6 +8,7 @@ pub returns : goal.returns
 returns g c = record {
   allowed = λ read lines h r. read_sound g.S.Spec.object g.met.S.Spec.lawful read 1 Fresh lines h tt
       r;
+  own = λ read lines h r. shows_own g.S.Spec.object g.met.S.Spec.lawful read lines h r;
   once = λ read lines v w a b. read_once g.S.Spec.object read 1 Fresh lines v w a b;
   some = λ read lines. read_some g.S.Spec.object g.met.S.Spec.lawful read 1 Fresh lines;
 }
