@@ -1,0 +1,6 @@
+pub mod Tidy
+pub mod Back
+pub mod Accepted
+pub mod Parsed
+pub mod Naming
+pub mod Checkings

@@ -1,0 +1,6 @@
+pub mod Lines
+pub mod Reading
+pub mod Found
+pub mod Laws
+pub mod Checkings
+pub mod Rechecked

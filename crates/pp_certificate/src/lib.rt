@@ -1,0 +1,14 @@
+//! Certificates of exchanges: writing their lines, reading them, and taking the lines of an input
+//! as those of a certificate.
+#![tactic(auto)]
+
+mod checking;
+mod law;
+mod line;
+mod read;
+mod value;
+
+pub use checking::Checking;
+pub use law::{accepted_law, spells_law};
+pub use line::{entry_line, head_line, row_line, serial_line};
+pub use read::{read_line, read_objects};
