@@ -1,0 +1,4 @@
+pub mod Objects
+pub mod Examining
+pub mod Rechecking
+pub mod Telling

@@ -1,0 +1,65 @@
+//! What an input is found to be, as a certificate.
+ghost use Rattle.std.specs.Prelude.{◌≡◌, ◌≤◌, ◌+◌, ℕ, List, IfOk, IsErrOf};
+ghost use Rattle.pp_certificate.specs.Checkings.{read_in, Covers};
+ghost use Rattle.pp_certificate.specs.Rechecked.{RecheckReadsNoFault};
+ghost use Rattle.pp_io.specs.Faults.{HasRisen};
+ghost use Rattle.pp_reading.specs.Sources.{WhereTold};
+ghost use Rattle.pp_reading.specs.declared.stop.Failure.TheVariants.{ReadFault};
+ghost use Rattle.pp_verify.specs.Costs.{CheckCostsAtMost};
+ghost use Rattle.pp_verify.specs.Examining.{Concludes, Finds};
+
+use crate::examiner::{CheckFault, Examiner};
+use pp_core::{Catalog, Kinds, OutOfMemory, Ticks};
+use pp_io::Source;
+use pp_object::{ObjectStates, Op};
+use pp_reading::{Failure, Stop, read_lines};
+use pp_recheck::{Refusal, Shown};
+use std::alloc::Global;
+use std::sync::ledger::Ledger;
+
+/// What an input is found to be, as a certificate.
+#[derive(Drop)]
+pub(crate) enum Finding {
+    /// This line is at fault or refused.
+    Fault(u32, CheckFault),
+    /// It is one over these objects, and shows this.
+    Shows(Catalog, Shown<Kinds, ObjectStates, Op>),
+}
+
+/// What an input is found to be, of which all lines were taken.
+fn conclude<L: Ledger>(examiner: Examiner, ticks: &mut Ticks<L>) -> Result<Finding, OutOfMemory>
+    ensures found { IfOk result (λ finding. (lines : List (List ℕ)) →
+        Covers lines examiner.checking → Concludes lines finding) }
+    ensures bound { ticks.new ≤ ticks.old + (read_in examiner.checking).lines }
+{
+    let lines = examiner.checking.lines();
+    let found = examiner.checking.close(ticks)?;
+    match found {
+        Some((catalog, shown)) => Ok(Finding::Shows(catalog, shown)),
+        None => Ok(Finding::Fault(lines + 1, CheckFault::Refusal(Refusal::NotCertificate))),
+    }
+}
+
+/// Examines the input that a source gives. What a certificate shows is found on the whole of it.
+pub(crate) fn examine<S: Source, L: Ledger>(
+    alloc: Global,
+    source: &mut S,
+    ticks: &mut Ticks<L>,
+) -> Result<Finding, Failure>
+    ensures found { IfOk result (Finds (S.left source.old) (S.left source.new)) }
+    ensures read_fault { IsErrOf result ReadFault →
+        HasRisen (S.faults source.old) (S.faults source.new)
+        × RecheckReadsNoFault (S.left source.old) (S.left source.new) }
+    ensures count { S.faults source.old ≤ S.faults source.new }
+    ensures most { WhereTold (S.left source.old) λ bytes.
+        CheckCostsAtMost bytes ticks.old ticks.new }
+{
+    match read_lines(alloc, source, Examiner::new(alloc), ticks) {
+        Ok(examiner) => {
+            let finding = conclude(examiner, ticks)?;
+            Ok(finding)
+        }
+        Err(Stop::Fault(line, fault)) => Ok(Finding::Fault(line, fault)),
+        Err(Stop::Failure(failure)) => Err(failure),
+    }
+}
