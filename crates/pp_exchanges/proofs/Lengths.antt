@@ -1,0 +1,224 @@
+-- Proof machinery: a certificate keeps to the limits of an input.
+use Rattle.std.proofs.Common.{◌≡◌, ◌≤◌, ◌<◌, ◌+◌, ◌*◌, ◌-◌, ◌==◌, not, ℕ, zero, suc, List, [], ◌∷◌, ◌++◌}
+use Rattle.std.proofs.Common.{map, length, slice_index, true, false, IsTrue, Some, refl, sym, ap, subst, ◌∙◌, arith, inr}
+use Rattle.std.proofs.Common.{length-append}
+use Rattle.std.proofs.lemmas.Bool.{and_from}
+use Rattle.std.proofs.lemmas.Bool.Decides.{nat_tests}
+use Rattle.std.proofs.lemmas.List.{length-map}
+use Rattle.std.specs.List.{list_all}
+use Rattle.serde_json.specs.View.{items_of}
+use Rattle.pp_core.specs.Catalogs.{HasNames, Objects}
+use Rattle.pp_core.specs.Words.{kind_word}
+use Rattle.pp_core.specs.declared.call.Kind.{Kind}
+use Rattle.pp_core.specs.declared.call.Kind.TheVariants as kinds
+use Rattle.pp_core.specs.declared.entry.Item.{Item}
+use Rattle.pp_io.specs.Joined.{AreAllowed, AreLines, AreShort, IsLine, joined_lines}
+use Rattle.pp_model.specs.Lists.{Each, joined}
+use Rattle.pp_object.specs.One.{call_of, kind_for, recorded_by}
+use Rattle.pp_object.specs.Objects.{kinds_of}
+use Rattle.pp_object.specs.declared.act.Op.{Op}
+use Rattle.pp_lines.specs.Headers.{item_value, object_value}
+use Rattle.pp_lines.specs.Lines.{IsOneLine}
+use Rattle.pp_lines.specs.Operations.{arity_in}
+use Rattle.pp_lines.specs.Statable.{IsCatalog, IsId, IsOpOn}
+use Rattle.pp_lines.proofs.Bodies.{arguments_wide, call_wide}
+use Rattle.pp_lines.proofs.Names.{named_at}
+use Rattle.pp_lines.proofs.Operations.{there}
+use Rattle.pp_lines.proofs.Steps.{answer_wide}
+use Rattle.pp_lines.proofs.Texts.{items_width, short_text, width}
+use Rattle.pp_recheck.specs.Laws.{certificate, rows, rows_from}
+use Rattle.pp_recheck.proofs.Rows.{Fits, each_joined, rows_fit, rows_joined}
+use Rattle.pp_certificate.specs.Lines.{entry_bytes, head_bytes, head_value, line_bytes, position_value}
+use Rattle.pp_certificate.specs.Lines.{row_bytes, row_value, serial_bytes, serial_value}
+use Rattle.pp_certificate.proofs.Tidy.{entry_one_line, head_one_line, near_entry, near_head, near_row}
+use Rattle.pp_certificate.proofs.Tidy.{near_serial, row_one_line, serial_one_line}
+use Rattle.pp_exchanges.proofs.Joining.{joined_both}
+
+-- ---- bytes that are no control bytes can be a line
+inner : (b : ℕ) → 32 ≤ b → not (b == 10) ≡ true
+inner b h = grind (arith, nat_tests)
+
+kept_byte : (b : ℕ) → 32 ≤ b → (b == 13) ≡ false
+kept_byte b h = grind (arith, nat_tests)
+
+unbroken : (line : List ℕ) → IsOneLine line → IsTrue (list_all (λ byte. not (byte == 10)) line)
+unbroken [] h = refl
+unbroken (b ∷ bs) h = and_from (not (b == 10)) (list_all (λ byte. not (byte == 10)) bs) (inner b h.0) (unbroken bs h.1)
+
+no_return : (line : List ℕ) (i : ℕ) → IsOneLine line → (slice_index line i == 13) ≡ false
+no_return [] i h = refl
+no_return (b ∷ bs) zero h = kept_byte b h.0
+no_return (b ∷ bs) (suc i) h = no_return bs i h.1
+
+is_line : (line : List ℕ) → IsOneLine line → IsLine line
+is_line line h = record { unbroken = unbroken line h; kept = rw (no_return line (length line - 1) h) refl }
+
+-- ---- each line is short
+kind_wide : (kind : Kind) → length (kind_word kind) ≤ 7
+kind_wide kinds.Memory = omega arith
+kind_wide kinds.KeySet = omega arith
+kind_wide kinds.KeyMap = omega arith
+kind_wide kinds.Counter = omega arith
+kind_wide kinds.Queue = omega arith
+kind_wide kinds.Stack = omega arith
+kind_wide kinds.PriorityQueue = omega arith
+
+objects_wide : (catalog : Objects) → HasNames catalog → items_width (items_of (map object_value catalog)) ≤ 54 * length catalog + 1
+objects_wide [] h = omega arith
+objects_wide (e ∷ es) h = let few = h.0.few in omega (arith, kind_wide e.1, objects_wide es h.1)
+
+head_short : (catalog : Objects) → IsCatalog catalog → length (head_bytes catalog) ≤ 60_000
+head_short catalog h = let few = h.few in omega (arith, short_text (head_value catalog) (near_head catalog h.named), objects_wide catalog h.named)
+
+entry_wide : (catalog : Objects) (p : Item Op) → HasNames catalog → IsOpOn catalog p.op → width (item_value catalog p) ≤ 176
+entry_wide catalog p names h =
+    let name = named_at catalog p.op.object names (there catalog p.op h) in
+    let few = name.few in
+    let c = call_of p.op.act in
+    omega (arith, arguments_wide (arity_in p.op.act) (Some c.first) (Some c.second) (Some c.third), call_wide (kind_for p.op.act) c.method, answer_wide (recorded_by p.op.act))
+
+entry_short : (catalog : Objects) (p : Item Op) → HasNames catalog → IsId p.id → IsOpOn catalog p.op → length (entry_bytes catalog p) ≤ 176
+entry_short catalog p names small h = omega (arith, short_text (item_value catalog p) (near_entry catalog p names small h), entry_wide catalog p names h)
+
+positions_wide : (is : List ℕ) → items_width (items_of (map position_value is)) ≤ 21 * length is + 1
+positions_wide [] = omega arith
+positions_wide (i ∷ is) = omega (arith, positions_wide is)
+
+row_short : (is : List ℕ) → length is ≤ 1000 → Each (λ i. i ≤ 999_999_999) is → length (row_bytes is) ≤ 21_100
+row_short is few small = omega (arith, short_text (row_value is) (near_row is small), positions_wide is)
+
+serial_short : (n : ℕ) → n ≤ 999_999_999 → length (serial_bytes n) ≤ 100
+serial_short n small = omega (arith, short_text (serial_value n) (near_serial n small))
+
+-- ---- lists of lines
+module _ {A : Type 0} (f : A → List ℕ) (P : A → Type 0) (most : ℕ) (line_of : (x : A) → P x → IsOneLine (f x)) (short_of : (x : A) → P x → length (f x) ≤ most) where
+  lines_all : (xs : List A) → Each P xs → AreLines (map f xs)
+  lines_all [] h = tt
+  lines_all (x ∷ xs) h = (is_line (f x) (line_of x h.0), lines_all xs h.1)
+
+  short_all : most ≤ 65_536 → (xs : List A) → Each P xs → AreShort (map f xs)
+  short_all few [] h = tt
+  short_all few (x ∷ xs) h = (omega (arith, short_of x h.0), short_all few xs h.1)
+
+  bytes_all : (xs : List A) → Each P xs → length (joined_lines (map f xs)) ≤ (most + 1) * length xs
+  bytes_all [] h = omega arith
+  bytes_all (x ∷ xs) h = omega (arith, length-append (f x) (10 ∷ joined_lines (map f xs)), short_of x h.0, bytes_all xs h.1)
+
+lines_append : (xs ys : List (List ℕ)) → AreLines xs → AreLines ys → AreLines (xs ++ ys)
+lines_append [] ys h k = k
+lines_append (x ∷ xs) ys h k = (h.0, lines_append xs ys h.1 k)
+
+short_append : (xs ys : List (List ℕ)) → AreShort xs → AreShort ys → AreShort (xs ++ ys)
+short_append [] ys h k = k
+short_append (x ∷ xs) ys h k = (h.0, short_append xs ys h.1 k)
+
+-- ---- rows
+-- each row but the last has a thousand positions
+rows_few : (is : List ℕ) (room : ℕ) (row : List ℕ) → length row + room ≡ 1000 → 1000 * length (rows_from room row is) ≤ length row + length is + 999
+rows_few [] room [] e = omega arith
+rows_few [] room (i ∷ row) e = omega arith
+rows_few (i ∷ is) zero row e = omega (arith, rows_few is 999 (i ∷ []) refl)
+rows_few (i ∷ is) (suc room) row e =
+    let k = length-append row (i ∷ []) in
+    omega (arith, k, rows_few is room (row ++ i ∷ []) (omega (arith, k)))
+
+each_both : {A : Type 0} (P Q : A → Type 0) (xs : List A) → Each P xs → Each Q xs → Each (λ x. P x × Q x) xs
+each_both P Q [] h k = tt
+each_both P Q (x ∷ xs) h k = ((h.0, k.0), each_both P Q xs h.1 k.1)
+
+-- ---- a certificate
+abbrev Stated : Objects → Item Op → Type 0
+Stated catalog p = IsId p.id × IsOpOn catalog p.op
+
+abbrev IsRow : List ℕ → Type 0
+IsRow row = Fits row × Each (λ i. i ≤ 999_999_999) row
+
+module _ (catalog : Objects) (cat : IsCatalog catalog) (log : List (Item Op)) (is : List ℕ) (n : ℕ) (stated : Each (Stated catalog) log) (small : Each (λ i. i ≤ 999_999_999) is) (number : n ≤ 999_999_999) where
+  abbrev entries : List (List ℕ)
+  entries = map (entry_bytes catalog) log
+
+  abbrev cut : List (List ℕ)
+  cut = map row_bytes (rows is)
+
+  abbrev last : List (List ℕ)
+  last = serial_bytes n ∷ []
+
+  rows_are : Each IsRow (rows is)
+  rows_are =
+      let joins : joined (rows is) ≡ is = rows_joined is 1000 [] in
+      each_both Fits (λ row. Each (λ i. i ≤ 999_999_999) row) (rows is) (rows_fit is 1000 [] refl (inr refl))
+      (each_joined (λ i. i ≤ 999_999_999) (rows is) (subst (λ (w : List ℕ). Each (λ i. i ≤ 999_999_999) w) (sym joins) small))
+
+  entry_line : (p : Item Op) → Stated catalog p → IsOneLine (entry_bytes catalog p)
+  entry_line p h = entry_one_line catalog p cat.named h.1
+
+  entry_bound : (p : Item Op) → Stated catalog p → length (entry_bytes catalog p) ≤ 176
+  entry_bound p h = entry_short catalog p cat.named h.0 h.1
+
+  row_line : (row : List ℕ) → IsRow row → IsOneLine (row_bytes row)
+  row_line row h = row_one_line row
+
+  row_bound : (row : List ℕ) → IsRow row → length (row_bytes row) ≤ 21_100
+  row_bound row h = row_short row h.0.1 h.1
+
+  pub certificate_lines : AreLines (certificate (line_bytes catalog) (kinds_of catalog) log is n)
+  certificate_lines = (
+    is_line (head_bytes catalog) (head_one_line catalog cat.named),
+    lines_append entries (cut ++ last) (lines_all (entry_bytes catalog) (Stated catalog) 176 entry_line entry_bound log stated)
+        (lines_append cut last (lines_all row_bytes IsRow 21_100 row_line row_bound (rows is) rows_are) (is_line (serial_bytes n) (serial_one_line n), tt)),
+  )
+
+  rows_most : 1000 * length (rows is) ≤ length is + 999
+  rows_most = omega (arith, rows_few is 1000 [] refl)
+
+  entries_long : length (joined_lines entries) ≤ 177 * length log
+  entries_long = bytes_all (entry_bytes catalog) (Stated catalog) 176 entry_line entry_bound log stated
+
+  rows_long : length (joined_lines cut) ≤ 21_101 * length (rows is)
+  rows_long = bytes_all row_bytes IsRow 21_100 row_line row_bound (rows is) rows_are
+
+  all_joined : joined_lines (entries ++ (cut ++ last)) ≡ joined_lines entries ++ (joined_lines cut ++ joined_lines last)
+  all_joined = joined_both entries (cut ++ last) ∙ ap (λ (l : List ℕ). joined_lines entries ++ l) (joined_both cut last)
+
+  all_long : length (joined_lines (entries ++ (cut ++ last))) ≤ 177 * length log + 21_101 * length (rows is) + 101
+  all_long =
+      omega (
+        arith,
+        ap (λ (l : List ℕ). length l) all_joined,
+        length-append (joined_lines entries) (joined_lines cut ++ joined_lines last),
+        length-append (joined_lines cut) (joined_lines last),
+        length-append (serial_bytes n) (10 ∷ []),
+        entries_long,
+        rows_long,
+        serial_short n number,
+      )
+
+  pub certificate_allowed : length log ≤ 150_000 → length is ≤ 1_000_000 → AreAllowed (certificate (line_bytes catalog) (kinds_of catalog) log is n)
+  certificate_allowed few short = record {
+    few =
+        omega (
+          arith,
+          few,
+          short,
+          rows_most,
+          length-append entries (cut ++ last),
+          length-append cut last,
+          length-map log (entry_bytes catalog),
+          length-map (rows is) row_bytes,
+        );
+    short = (
+      omega (arith, head_short catalog cat),
+      short_append entries (cut ++ last) (short_all (entry_bytes catalog) (Stated catalog) 176 entry_line entry_bound (omega arith) log stated)
+          (short_append cut last (short_all row_bytes IsRow 21_100 row_line row_bound (omega arith) (rows is) rows_are) (omega (arith, serial_short n number), tt)),
+    );
+    bytes =
+        omega (
+          arith,
+          few,
+          short,
+          rows_most,
+          all_long,
+          head_short catalog cat,
+          length-append (head_bytes catalog) (10 ∷ joined_lines (entries ++ (cut ++ last))),
+        );
+  }

@@ -1,0 +1,40 @@
+use Rattle.std.proofs.Common.{subst}
+use Rattle.pp_certify.specs.Findings.{Finds}
+use Rattle.pp_certify.specs.Inputs.{scan}
+use Rattle.pp_certify.specs.Rejected.{IsEvident}
+use Rattle.pp_reading.proofs.Takers.{taken_all}
+use Rattle.pp_certify.proofs.Concluding.{rejected_evident}
+use Rattle.pp_exchanges.specs.Swaps.{IsSwaps}
+use Rattle.pp_exchanges.proofs.Telling.{accepted_swaps, fault_swaps, never_rejected, rejected_swaps, told_status}
+use Rattle.pp_core.specs.declared.status.Status.TheVariants as statuses
+use Rattle.pp_exchanges.proofs.command.swaps.Goals as goal
+
+pub returns-in_ok-text-in-Fault-clause-output : goal.returns-in_ok-text-in-Fault-clause-output
+returns-in_ok-text-in-Fault-clause-output g c = λ bytes is.
+    let found = subst (Finds (g.S.Source.left c.args.source.now) (g.S.Source.left c.examine.new.source)) c.in-Fault.is c.in_ok-line.ensures.found in
+    fault_swaps bytes c.in-Fault.line c.in-Fault.cause c.in_ok-text-in-Fault.text (found bytes is) c.in_ok-text-in-Fault.ensures
+
+pub returns-in_ok-text-in-Rejected-clause-output : goal.returns-in_ok-text-in-Rejected-clause-output
+returns-in_ok-text-in-Rejected-clause-output g c = λ bytes is.
+    let old = g.S.Source.left c.args.source.now in
+    let new = g.S.Source.left c.examine.new.source in
+    let text = c.in_ok-text-in-Rejected.text in
+    let found = subst (Finds old new) c.in-Rejected.is c.in_ok-line.ensures.found in
+    subst (λ bs. IsSwaps bs statuses.Rejected text) (taken_all old new found.0 bytes found.1 found.2 is)
+    (rejected_swaps found.0 c.in-Rejected.tally c.in-Rejected.rejection text found.3 (c.in_ok-text-in-Rejected.ensures (scan found.0) found.3))
+
+pub returns-in_ok-text-in-Rejected-clause-shown : goal.returns-in_ok-text-in-Rejected-clause-shown
+returns-in_ok-text-in-Rejected-clause-shown g c = λ rejected bytes is.
+    let old = g.S.Source.left c.args.source.now in
+    let new = g.S.Source.left c.examine.new.source in
+    let found = subst (Finds old new) c.in-Rejected.is c.in_ok-line.ensures.found in
+    subst (λ bs. IsEvident (scan bs)) (taken_all old new found.0 bytes found.1 found.2 is)
+    (rejected_evident (scan found.0) c.in-Rejected.tally c.in-Rejected.rejection found.3)
+
+pub returns-in_ok-r-in-Accepted-clause-output : goal.returns-in_ok-r-in-Accepted-clause-output
+returns-in_ok-r-in-Accepted-clause-output g c = λ bytes is.
+    let old = g.S.Source.left c.args.source.now in
+    let new = g.S.Source.left c.examine.new.source in
+    let found = subst (Finds old new) c.in-Accepted.is c.in_ok-line.ensures.found in
+    let r = c.in_ok-r-in-Accepted.r in
+    subst (λ bs. IsSwaps bs r.0 r.1) (taken_all old new found.0 bytes found.1 found.2 is) (accepted_swaps found.0 c.in-Accepted.tally c.in-Accepted.machine r.0 r.1 found.3 c.in_ok-r-in-Accepted.ensures)

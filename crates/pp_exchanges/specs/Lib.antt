@@ -1,0 +1,4 @@
+pub mod Swaps
+pub mod Logs
+pub mod Texts
+pub mod Prints
