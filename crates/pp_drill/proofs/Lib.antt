@@ -6,5 +6,8 @@ pub mod Lengths
 pub mod Shown
 pub mod Stating
 pub mod Accepted
+pub mod Listing
 pub mod Writing
+pub mod Scanned
+pub mod Driving
 pub mod Drilling

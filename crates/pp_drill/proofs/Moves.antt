@@ -39,7 +39,7 @@ abbrev pub shared_entry : {Op : Type 0} → Name → Bool → ℕ → Op → Sha
 shared_entry t b i op = record { id = i; owner = t; committed = b; op = op }
 
 -- The steps run from c, and lead to d.
-pub record Leads {Op State : Type 0} (O : Object Op State) (c : Config Op) (ss : List (Step Op)) (d : Config Op) : Type 0 where
+pub record LeadsTo {Op State : Type 0} (O : Object Op State) (c : Config Op) (ss : List (Step Op)) (d : Config Op) : Type 0 where
   pub runs : RunsFrom O c ss
   pub ends : after_from c ss ≡ d
 
@@ -64,17 +64,17 @@ abbrev pub MayCommit : {Op : Type 0} → List (SharedEntry Op) → LocalEntry Op
 MayCommit {Op} G e = (is_own e.mark ≡ true → e.mark ≡ Pushed) × (e.mark ≡ Pulled → (g : SharedEntry Op) × In g G × (g.id ≡ e.id) × (g.committed ≡ true))
 
 module _ {Op State : Type 0} (O : Object Op State) where
-  pub nothing_more : (c : Config Op) → Leads O c [] c
+  pub nothing_more : (c : Config Op) → LeadsTo O c [] c
   nothing_more c = record { runs = tt; ends = refl }
 
-  pub one_more : (c d e : Config Op) (s : Step Op) (ss : List (Step Op)) → Meets O c s → then c s ≡ d → Leads O d ss e → Leads O c (s ∷ ss) e
+  pub one_more : (c d e : Config Op) (s : Step Op) (ss : List (Step Op)) → Meets O c s → then c s ≡ d → LeadsTo O d ss e → LeadsTo O c (s ∷ ss) e
   one_more c d e s ss f t l =
       record {
         runs = (f, subst (λ (z : Config Op). RunsFrom O z ss) (sym t) l.runs);
         ends = ap (λ (z : Config Op). after_from z ss) t ∙ l.ends;
       }
 
-  pub in_turn : (c d e : Config Op) (ss ts : List (Step Op)) → Leads O c ss d → Leads O d ts e → Leads O c (ss ++ ts) e
+  pub in_turn : (c d e : Config Op) (ss ts : List (Step Op)) → LeadsTo O c ss d → LeadsTo O d ts e → LeadsTo O c (ss ++ ts) e
   in_turn c d e [] ts l m =
       record {
         runs = subst (λ (z : Config Op). RunsFrom O z ts) (sym l.ends) m.runs;
@@ -155,8 +155,8 @@ module _ {Op State : Type 0} (O : Object Op State) where
 -- a step of t, which is open among others
 module _ {Op State : Type 0} (O : Object Op State) (ns : List Name) (is : List ℕ) (t p : Name) (l r : List (Tx Op)) (D : List (CommittedTx Op)) (first : Others t l) (last : Others t r) where
   pub app_step : (seen L : List (LocalEntry Op)) (G : List (SharedEntry Op)) (i : ℕ) (op : Op) (s : State) (ss : List (Step Op)) (e : Config Op) → (In i is → ⊥) → Log O (local_ops seen) s → AllowedFrom O s (local_ops L ++ op ∷ []) →
-      Leads O (conf ns (i ∷ is) (l ++ open_tx t p (seen ++ (L ++ own_entry t Unpushed i op ∷ [])) ∷ r) G D) ss e →
-      Leads O (conf ns is (l ++ open_tx t p (seen ++ L) ∷ r) G D) (App t i op ∷ ss) e
+      LeadsTo O (conf ns (i ∷ is) (l ++ open_tx t p (seen ++ (L ++ own_entry t Unpushed i op ∷ [])) ∷ r) G D) ss e →
+      LeadsTo O (conf ns is (l ++ open_tx t p (seen ++ L) ∷ r) G D) (App t i op ∷ ss) e
   app_step seen L G i op s ss e new log a h =
       let whole : Allowed O (local_ops (seen ++ L) ++ op ∷ []) =
       subst (λ (z : List Op). Allowed O z) (sym (ap (λ (z : List Op). z ++ op ∷ []) (map-append (λ (e : LocalEntry Op). e.op) seen L) ∙ append_assoc (local_ops seen) (local_ops L) (op ∷ []))) (longer O (local_ops seen) (local_ops L ++ op ∷ []) s log a).allowed in
@@ -169,8 +169,8 @@ module _ {Op State : Type 0} (O : Object Op State) (ns : List Name) (is : List �
   pub push_step : (seen done rest : List (LocalEntry Op)) (G new : List (SharedEntry Op)) (i : ℕ) (op : Op) (s : State) (ss : List (Step Op)) (e : Config Op) →
       Apart i seen → Apart i done → Apart i rest → Settled seen → Settled done → Each (λ g. g.committed ≡ true) G → Each (λ u. u.owner ≢ t → Swaps O u.op op) new →
       Log O (shared_ops G) s → AllowedFrom O s (shared_ops new ++ op ∷ []) →
-      Leads O (conf ns is (l ++ open_tx t p (seen ++ (done ++ own_entry t Pushed i op ∷ rest)) ∷ r) (G ++ (new ++ shared_entry t false i op ∷ [])) D) ss e →
-      Leads O (conf ns is (l ++ open_tx t p (seen ++ (done ++ own_entry t Unpushed i op ∷ rest)) ∷ r) (G ++ new) D) (Push t i ∷ ss) e
+      LeadsTo O (conf ns is (l ++ open_tx t p (seen ++ (done ++ own_entry t Pushed i op ∷ rest)) ∷ r) (G ++ (new ++ shared_entry t false i op ∷ [])) D) ss e →
+      LeadsTo O (conf ns is (l ++ open_tx t p (seen ++ (done ++ own_entry t Unpushed i op ∷ rest)) ∷ r) (G ++ new) D) (Push t i ∷ ss) e
   push_step seen done rest G new i op s ss e a b c f g all swap log k h =
       let L = seen ++ (done ++ own_entry t Unpushed i op ∷ rest) in
       let o : LocalEntry Op = own_entry t Unpushed i op in
@@ -199,7 +199,7 @@ module _ {Op State : Type 0} (O : Object Op State) (ns : List Name) (is : List �
       h
 
   pub pull_step : (G : List (SharedEntry Op)) (g : SharedEntry Op) (ss : List (Step Op)) (e : Config Op) → of_other t g.id G ≡ Some g → Allowed O (g.op ∷ []) →
-      Leads O (conf ns is (l ++ open_tx t p (as_pulled g ∷ []) ∷ r) G D) ss e → Leads O (conf ns is (l ++ open_tx t p [] ∷ r) G D) (Pull t g.id ∷ ss) e
+      LeadsTo O (conf ns is (l ++ open_tx t p (as_pulled g ∷ []) ∷ r) G D) ss e → LeadsTo O (conf ns is (l ++ open_tx t p [] ∷ r) G D) (Pull t g.id ∷ ss) e
   pull_step G g ss e found a h =
       one_more O _ _ e (Pull t g.id) ss
       (there_is (tx t (l ++ open_tx t p [] ∷ r)) _ (open_tx t p []) (tx_at O t p [] l r first)
@@ -209,7 +209,7 @@ module _ {Op State : Type 0} (O : Object Op State) (ns : List Name) (is : List �
       h
 
   pub cmt_step : (L : List (LocalEntry Op)) (items : List (Item Op)) (G H : List (SharedEntry Op)) (ss : List (Step Op)) (e : Config Op) → Each (MayCommit G) L → own_items L ≡ items → commit_all t G ≡ H →
-      Leads O (conf ns is (l ++ r) H (D ++ record { name = t; entries = items } ∷ [])) ss e → Leads O (conf ns is (l ++ open_tx t p L ∷ r) G D) (Cmt t ∷ ss) e
+      LeadsTo O (conf ns is (l ++ r) H (D ++ record { name = t; entries = items } ∷ [])) ss e → LeadsTo O (conf ns is (l ++ open_tx t p L ∷ r) G D) (Cmt t ∷ ss) e
   cmt_step L items G H ss e may own all h =
       let at : tx t (l ++ open_tx t p L ∷ r) ≡ Some (open_tx t p L) = tx_at O t p L l r first in
       one_more O _ _ e (Cmt t) ss
@@ -223,5 +223,5 @@ module _ {Op State : Type 0} (O : Object Op State) (ns : List Name) (is : List �
 
 pub begin_step : {Op State : Type 0} (O : Object Op State) (ns : List Name) (is : List ℕ) (xs : List (Tx Op)) (G : List (SharedEntry Op)) (D : List (CommittedTx Op)) (t p : Name) (ss : List (Step Op)) (e : Config Op) →
     (In t ns → ⊥) → ((x : Tx Op) → In x xs → x.thread ≢ p) →
-    Leads O (conf (t ∷ ns) is (xs ++ open_tx t p [] ∷ []) G D) ss e → Leads O (conf ns is xs G D) (Begin t p None ∷ ss) e
+    LeadsTo O (conf (t ∷ ns) is (xs ++ open_tx t p [] ∷ []) G D) ss e → LeadsTo O (conf ns is xs G D) (Begin t p None ∷ ss) e
 begin_step O ns is xs G D t p ss e new free h = one_more O _ _ e (Begin t p None) ss (new, (free, refl)) refl h

@@ -14,8 +14,8 @@ use Rattle.std.specs.FinMap.{empty}
 use Rattle.pp_mem.specs.Values.{written}
 use Rattle.pp_object.specs.declared.act.Op.{Op}
 use Rattle.pp_drill.specs.Drill.{name_of, first_thread, second_thread, id_of, read, write, add, ask, app, push, first_apps}
-use Rattle.pp_drill.specs.Law.{drilled, states_at}
-use Rattle.pp_drill.proofs.Moves.{conf, open_tx, own_entry, shared_entry, Leads, Log, Others, Apart, Settled, MayCommit, each_join, each_in, each_as, app_step, push_step, cmt_step}
+use Rattle.pp_drill.specs.Law.{drill_objects, states_at}
+use Rattle.pp_drill.proofs.Moves.{conf, open_tx, own_entry, shared_entry, LeadsTo, Log, Others, Apart, Settled, MayCommit, each_join, each_in, each_as, app_step, push_step, cmt_step}
 use Rattle.pp_drill.proofs.Acts.{first_allowed, both_allowed, value_is, adds_swap, asks_swap, read_add_swap, add_write_swap, read_ask_swap, write_ask_swap, ask_add_swap, add_ask_swap}
 
 -- all ids are below n
@@ -43,7 +43,7 @@ AllCommitted G = Each (λ g. g.committed ≡ true) G
 
 -- What a has pulled: nothing, or what leads to a memory with p at 0.
 pub record View (a p : ℕ) (G : List (SharedEntry Op)) (seen : List (LocalEntry Op)) : Type 0 where
-  pub log : Log drilled (local_ops seen) (states_at p 0)
+  pub log : Log drill_objects (local_ops seen) (states_at p 0)
   pub apart : (i : ℕ) → 0 < i → Apart (id_of a i) seen
   pub settled : Settled seen
   pub may : Each (MayCommit G) seen
@@ -106,9 +106,9 @@ ids_second b is = id_of b 2 ∷ id_of b 1 ∷ is
 
 -- the four operations of a
 pub apps_lead : (p a : ℕ) (ns : List Name) (is : List ℕ) (r : List (Tx Op)) (G : List (SharedEntry Op)) (D : List (CommittedTx Op)) (seen : List (LocalEntry Op)) (ss : List (Step Op)) (e : Config Op) →
-    Others (name_of a) r → Under (id_of a 1) is → Log drilled (local_ops seen) (states_at p 0) →
-    Leads drilled (conf ns (ids_first a is) (open_tx (name_of a) first_thread (seen ++ own_first p a Unpushed Unpushed Unpushed Unpushed) ∷ r) G D) ss e →
-    Leads drilled (conf ns is (open_tx (name_of a) first_thread (seen ++ []) ∷ r) G D) (first_apps p a ++ ss) e
+    Others (name_of a) r → Under (id_of a 1) is → Log drill_objects (local_ops seen) (states_at p 0) →
+    LeadsTo drill_objects (conf ns (ids_first a is) (open_tx (name_of a) first_thread (seen ++ own_first p a Unpushed Unpushed Unpushed Unpushed) ∷ r) G D) ss e →
+    LeadsTo drill_objects (conf ns is (open_tx (name_of a) first_thread (seen ++ []) ∷ r) G D) (first_apps p a ++ ss) e
 apps_lead p a ns is r G D seen ss e others under log h =
     let t = name_of a in
     let o1 : LocalEntry Op = own_entry t Unpushed (id_of a 1) (read p) in
@@ -118,19 +118,19 @@ apps_lead p a ns is r G D seen ss e others under log h =
     let u2 : Under (id_of a 2) (id_of a 1 ∷ is) = under_next (id_of a 1) (id_of a 2) is under (omega arith) in
     let u3 : Under (id_of a 3) (id_of a 2 ∷ id_of a 1 ∷ is) = under_next (id_of a 2) (id_of a 3) (id_of a 1 ∷ is) u2 (omega arith) in
     let u4 : Under (id_of a 4) (id_of a 3 ∷ id_of a 2 ∷ id_of a 1 ∷ is) = under_next (id_of a 3) (id_of a 4) (id_of a 2 ∷ id_of a 1 ∷ is) u3 (omega arith) in
-    app_step drilled ns is t first_thread [] r D tt others seen [] G (id_of a 1) (read p) (states_at p 0) (app a 2 (write (suc p)) ∷ app a 3 (add a) ∷ app a 4 (ask a) ∷ ss) e
+    app_step drill_objects ns is t first_thread [] r D tt others seen [] G (id_of a 1) (read p) (states_at p 0) (app a 2 (write (suc p)) ∷ app a 3 (add a) ∷ app a 4 (ask a) ∷ ss) e
     (fresh (id_of a 1) is under) log (k.0, tt)
-    (app_step drilled ns (id_of a 1 ∷ is) t first_thread [] r D tt others seen (o1 ∷ []) G (id_of a 2) (write (suc p)) (states_at p 0) (app a 3 (add a) ∷ app a 4 (ask a) ∷ ss) e
+    (app_step drill_objects ns (id_of a 1 ∷ is) t first_thread [] r D tt others seen (o1 ∷ []) G (id_of a 2) (write (suc p)) (states_at p 0) (app a 3 (add a) ∷ app a 4 (ask a) ∷ ss) e
     (fresh (id_of a 2) (id_of a 1 ∷ is) u2) log (k.0, (k.1.0, tt))
-    (app_step drilled ns (id_of a 2 ∷ id_of a 1 ∷ is) t first_thread [] r D tt others seen (o1 ∷ o2 ∷ []) G (id_of a 3) (add a) (states_at p 0) (app a 4 (ask a) ∷ ss) e
+    (app_step drill_objects ns (id_of a 2 ∷ id_of a 1 ∷ is) t first_thread [] r D tt others seen (o1 ∷ o2 ∷ []) G (id_of a 3) (add a) (states_at p 0) (app a 4 (ask a) ∷ ss) e
     (fresh (id_of a 3) (id_of a 2 ∷ id_of a 1 ∷ is) u3) log (k.0, (k.1.0, (k.1.1.0, tt)))
-    (app_step drilled ns (id_of a 3 ∷ id_of a 2 ∷ id_of a 1 ∷ is) t first_thread [] r D tt others seen (o1 ∷ o2 ∷ o3 ∷ []) G (id_of a 4) (ask a) (states_at p 0) ss e
+    (app_step drill_objects ns (id_of a 3 ∷ id_of a 2 ∷ id_of a 1 ∷ is) t first_thread [] r D tt others seen (o1 ∷ o2 ∷ o3 ∷ []) G (id_of a 4) (ask a) (states_at p 0) ss e
     (fresh (id_of a 4) (id_of a 3 ∷ id_of a 2 ∷ id_of a 1 ∷ is) u4) log (k.0, (k.1.0, (k.1.1.0, (k.1.1.1.0, tt))))
     h)))
 
 -- a's and b's steps where both are open, from here: the own entries A of a and B of b, and what the pair has pushed
 module _ (p x a b : ℕ) (ns : List Name) (is : List ℕ) (G : List (SharedEntry Op)) (D : List (CommittedTx Op)) (seen : List (LocalEntry Op))
-    (view : View a p G seen) (all : AllCommitted G) (log : Log drilled (shared_ops G) (states_at p x)) (apart : name_of a ≢ name_of b) where
+    (view : View a p G seen) (all : AllCommitted G) (log : Log drill_objects (shared_ops G) (states_at p x)) (apart : name_of a ≢ name_of b) where
   abbrev both_open : (A B : List (LocalEntry Op)) → List (SharedEntry Op) → Config Op
   both_open A B new = conf ns is (open_tx (name_of a) first_thread (seen ++ A) ∷ open_tx (name_of b) second_thread B ∷ []) (G ++ new) D
 
@@ -141,24 +141,24 @@ module _ (p x a b : ℕ) (ns : List Name) (is : List ℕ) (G : List (SharedEntry
   not_a = not_name (name_of a) (name_of b) apart
 
   push_first : (done rest B : List (LocalEntry Op)) (new : List (SharedEntry Op)) (i : ℕ) (op : Op) (ss : List (Step Op)) (e : Config Op) →
-      0 < i → Apart (id_of a i) done → Apart (id_of a i) rest → Settled done → Each (λ u. u.owner ≢ name_of a → Swaps drilled u.op op) new → AllowedFrom drilled (states_at p x) (shared_ops new ++ op ∷ []) →
-      Leads drilled (both_open (done ++ own_entry (name_of a) Pushed (id_of a i) op ∷ rest) B (new ++ shared_entry (name_of a) false (id_of a i) op ∷ [])) ss e →
-      Leads drilled (both_open (done ++ own_entry (name_of a) Unpushed (id_of a i) op ∷ rest) B new) (push a i ∷ ss) e
+      0 < i → Apart (id_of a i) done → Apart (id_of a i) rest → Settled done → Each (λ u. u.owner ≢ name_of a → Swaps drill_objects u.op op) new → AllowedFrom drill_objects (states_at p x) (shared_ops new ++ op ∷ []) →
+      LeadsTo drill_objects (both_open (done ++ own_entry (name_of a) Pushed (id_of a i) op ∷ rest) B (new ++ shared_entry (name_of a) false (id_of a i) op ∷ [])) ss e →
+      LeadsTo drill_objects (both_open (done ++ own_entry (name_of a) Unpushed (id_of a i) op ∷ rest) B new) (push a i ∷ ss) e
   push_first done rest B new i op ss e h f g k swap allowed l =
-      push_step drilled ns is (name_of a) first_thread [] (open_tx (name_of b) second_thread B ∷ []) D tt (not_b, tt) seen done rest G new (id_of a i) op (states_at p x) ss e
+      push_step drill_objects ns is (name_of a) first_thread [] (open_tx (name_of b) second_thread B ∷ []) D tt (not_b, tt) seen done rest G new (id_of a i) op (states_at p x) ss e
       (view.apart i h) f g view.settled k all swap log allowed l
 
   push_second : (done rest A : List (LocalEntry Op)) (new : List (SharedEntry Op)) (i : ℕ) (op : Op) (ss : List (Step Op)) (e : Config Op) →
-      Apart (id_of b i) done → Apart (id_of b i) rest → Settled done → Each (λ u. u.owner ≢ name_of b → Swaps drilled u.op op) new → AllowedFrom drilled (states_at p x) (shared_ops new ++ op ∷ []) →
-      Leads drilled (both_open A (done ++ own_entry (name_of b) Pushed (id_of b i) op ∷ rest) (new ++ shared_entry (name_of b) false (id_of b i) op ∷ [])) ss e →
-      Leads drilled (both_open A (done ++ own_entry (name_of b) Unpushed (id_of b i) op ∷ rest) new) (push b i ∷ ss) e
+      Apart (id_of b i) done → Apart (id_of b i) rest → Settled done → Each (λ u. u.owner ≢ name_of b → Swaps drill_objects u.op op) new → AllowedFrom drill_objects (states_at p x) (shared_ops new ++ op ∷ []) →
+      LeadsTo drill_objects (both_open A (done ++ own_entry (name_of b) Pushed (id_of b i) op ∷ rest) (new ++ shared_entry (name_of b) false (id_of b i) op ∷ [])) ss e →
+      LeadsTo drill_objects (both_open A (done ++ own_entry (name_of b) Unpushed (id_of b i) op ∷ rest) new) (push b i ∷ ss) e
   push_second done rest A new i op ss e f g k swap allowed l =
-      push_step drilled ns is (name_of b) second_thread (open_tx (name_of a) first_thread (seen ++ A) ∷ []) [] D (not_a, tt) tt [] done rest G new (id_of b i) op (states_at p x) ss e
+      push_step drill_objects ns is (name_of b) second_thread (open_tx (name_of a) first_thread (seen ++ A) ∷ []) [] D (not_a, tt) tt [] done rest G new (id_of b i) op (states_at p x) ss e
       tt f g tt k all swap log allowed l
 
   pub pushes_lead : (ss : List (Step Op)) (e : Config Op) →
-      Leads drilled (both_open (own_first p a Pushed Pushed Pushed Pushed) (own_second b Pushed Pushed) (shared_both p a b false false)) ss e →
-      Leads drilled (both_open (own_first p a Unpushed Unpushed Unpushed Unpushed) (own_second b Unpushed Unpushed) []) (push a 1 ∷ push b 1 ∷ push a 2 ∷ push b 2 ∷ push a 3 ∷ push a 4 ∷ ss) e
+      LeadsTo drill_objects (both_open (own_first p a Pushed Pushed Pushed Pushed) (own_second b Pushed Pushed) (shared_both p a b false false)) ss e →
+      LeadsTo drill_objects (both_open (own_first p a Unpushed Unpushed Unpushed Unpushed) (own_second b Unpushed Unpushed) []) (push a 1 ∷ push b 1 ∷ push a 2 ∷ push b 2 ∷ push a 3 ∷ push a 4 ∷ ss) e
   pushes_lead ss e h =
       let t = name_of a in
       let u = name_of b in
@@ -193,16 +193,16 @@ module _ (p x a b : ℕ) (ns : List Name) (is : List ℕ) (G : List (SharedEntry
   first_commits = map-append _ G (shared_both p a b false true) ∙ ap (λ (w : List (SharedEntry Op)). w ++ commit_all (name_of a) (shared_both p a b false true)) (still (name_of a) G all) ∙ rw (not_b, eq-names (name_of a) (name_of a) refl) refl
 
   pub commits_lead : (ss : List (Step Op)) (e : Config Op) →
-      Leads drilled (conf ns is [] (G ++ shared_both p a b true true) ((D ++ done_second b ∷ []) ++ done_first p a ∷ [])) ss e →
-      Leads drilled (both_open (own_first p a Pushed Pushed Pushed Pushed) (own_second b Pushed Pushed) (shared_both p a b false false)) (Cmt (name_of b) ∷ Cmt (name_of a) ∷ ss) e
+      LeadsTo drill_objects (conf ns is [] (G ++ shared_both p a b true true) ((D ++ done_second b ∷ []) ++ done_first p a ∷ [])) ss e →
+      LeadsTo drill_objects (both_open (own_first p a Pushed Pushed Pushed Pushed) (own_second b Pushed Pushed) (shared_both p a b false false)) (Cmt (name_of b) ∷ Cmt (name_of a) ∷ ss) e
   commits_lead ss e h =
       let own_may : (G : List (SharedEntry Op)) (t : Name) (i : ℕ) (op : Op) → MayCommit G (own_entry t Pushed i op) = λ G t i op. ((λ k. refl), (λ k. absurd (cc))) in
       let A = own_first p a Pushed Pushed Pushed Pushed in
       let H = G ++ shared_both p a b false true in
-      cmt_step drilled ns is (name_of b) second_thread (open_tx (name_of a) first_thread (seen ++ A) ∷ []) [] D (not_a, tt) tt
+      cmt_step drill_objects ns is (name_of b) second_thread (open_tx (name_of a) first_thread (seen ++ A) ∷ []) [] D (not_a, tt) tt
       (own_second b Pushed Pushed) (items_second b) (G ++ shared_both p a b false false) H (Cmt (name_of a) ∷ ss) e
       (own_may _ (name_of b) (id_of b 1) (add b), (own_may _ (name_of b) (id_of b 2) (ask b), tt)) refl second_commits
-      (cmt_step drilled ns is (name_of a) first_thread [] [] (D ++ done_second b ∷ []) tt tt
+      (cmt_step drill_objects ns is (name_of a) first_thread [] [] (D ++ done_second b ∷ []) tt tt
       (seen ++ A) (items_first p a) H (G ++ shared_both p a b true true) ss e
       (each_join (MayCommit H) seen A (may_still G (shared_both p a b false true) seen view.may)
       (own_may H (name_of a) (id_of a 1) (read p), (own_may H (name_of a) (id_of a 2) (write (suc p)), (own_may H (name_of a) (id_of a 3) (add a), (own_may H (name_of a) (id_of a 4) (ask a), tt)))))
@@ -212,22 +212,22 @@ module _ (p x a b : ℕ) (ns : List Name) (is : List ℕ) (G : List (SharedEntry
 
 -- a alone: its pushes and its commit
 module _ (p x a : ℕ) (ns : List Name) (is : List ℕ) (G : List (SharedEntry Op)) (D : List (CommittedTx Op)) (seen : List (LocalEntry Op))
-    (view : View a p G seen) (all : AllCommitted G) (log : Log drilled (shared_ops G) (states_at p x)) where
+    (view : View a p G seen) (all : AllCommitted G) (log : Log drill_objects (shared_ops G) (states_at p x)) where
   abbrev one_open : List (LocalEntry Op) → List (SharedEntry Op) → Config Op
   one_open A new = conf ns is (open_tx (name_of a) first_thread (seen ++ A) ∷ []) (G ++ new) D
 
   push_alone : (done rest : List (LocalEntry Op)) (new : List (SharedEntry Op)) (i : ℕ) (op : Op) (ss : List (Step Op)) (e : Config Op) →
-      0 < i → Apart (id_of a i) done → Apart (id_of a i) rest → Settled done → Each (λ u. u.owner ≢ name_of a → Swaps drilled u.op op) new → AllowedFrom drilled (states_at p x) (shared_ops new ++ op ∷ []) →
-      Leads drilled (one_open (done ++ own_entry (name_of a) Pushed (id_of a i) op ∷ rest) (new ++ shared_entry (name_of a) false (id_of a i) op ∷ [])) ss e →
-      Leads drilled (one_open (done ++ own_entry (name_of a) Unpushed (id_of a i) op ∷ rest) new) (push a i ∷ ss) e
+      0 < i → Apart (id_of a i) done → Apart (id_of a i) rest → Settled done → Each (λ u. u.owner ≢ name_of a → Swaps drill_objects u.op op) new → AllowedFrom drill_objects (states_at p x) (shared_ops new ++ op ∷ []) →
+      LeadsTo drill_objects (one_open (done ++ own_entry (name_of a) Pushed (id_of a i) op ∷ rest) (new ++ shared_entry (name_of a) false (id_of a i) op ∷ [])) ss e →
+      LeadsTo drill_objects (one_open (done ++ own_entry (name_of a) Unpushed (id_of a i) op ∷ rest) new) (push a i ∷ ss) e
   push_alone done rest new i op ss e h f g k swap allowed l =
-      push_step drilled ns is (name_of a) first_thread [] [] D tt tt seen done rest G new (id_of a i) op (states_at p x) ss e
+      push_step drill_objects ns is (name_of a) first_thread [] [] D tt tt seen done rest G new (id_of a i) op (states_at p x) ss e
       (view.apart i h) f g view.settled k all swap log allowed l
 
-  pub alone_pushes_lead : (ss : List (Step Op)) (e : Config Op) →
-      Leads drilled (one_open (own_first p a Pushed Pushed Pushed Pushed) (shared_first p a false)) ss e →
-      Leads drilled (one_open (own_first p a Unpushed Unpushed Unpushed Unpushed) []) (push a 1 ∷ push a 2 ∷ push a 3 ∷ push a 4 ∷ ss) e
-  alone_pushes_lead ss e h =
+  pub unpaired_pushes_lead : (ss : List (Step Op)) (e : Config Op) →
+      LeadsTo drill_objects (one_open (own_first p a Pushed Pushed Pushed Pushed) (shared_first p a false)) ss e →
+      LeadsTo drill_objects (one_open (own_first p a Unpushed Unpushed Unpushed Unpushed) []) (push a 1 ∷ push a 2 ∷ push a 3 ∷ push a 4 ∷ ss) e
+  unpaired_pushes_lead ss e h =
       let t = name_of a in
       let o : Mark → ℕ → Op → LocalEntry Op = λ m i op. own_entry t m (id_of a i) op in
       let f : ℕ → Op → SharedEntry Op = λ i op. shared_entry t false (id_of a i) op in
@@ -248,14 +248,14 @@ module _ (p x a : ℕ) (ns : List Name) (is : List ℕ) (G : List (SharedEntry O
   alone_commits : commit_all (name_of a) (G ++ shared_first p a false) ≡ G ++ shared_first p a true
   alone_commits = map-append _ G (shared_first p a false) ∙ ap (λ (w : List (SharedEntry Op)). w ++ commit_all (name_of a) (shared_first p a false)) (still (name_of a) G all) ∙ rw (eq-names (name_of a) (name_of a) refl) refl
 
-  pub alone_commit_leads : (ss : List (Step Op)) (e : Config Op) →
-      Leads drilled (conf ns is [] (G ++ shared_first p a true) (D ++ done_first p a ∷ [])) ss e →
-      Leads drilled (one_open (own_first p a Pushed Pushed Pushed Pushed) (shared_first p a false)) (Cmt (name_of a) ∷ ss) e
-  alone_commit_leads ss e h =
+  pub unpaired_commit_leads : (ss : List (Step Op)) (e : Config Op) →
+      LeadsTo drill_objects (conf ns is [] (G ++ shared_first p a true) (D ++ done_first p a ∷ [])) ss e →
+      LeadsTo drill_objects (one_open (own_first p a Pushed Pushed Pushed Pushed) (shared_first p a false)) (Cmt (name_of a) ∷ ss) e
+  unpaired_commit_leads ss e h =
       let A = own_first p a Pushed Pushed Pushed Pushed in
       let H = G ++ shared_first p a false in
       let own_may : (i : ℕ) (op : Op) → MayCommit H (own_entry (name_of a) Pushed i op) = λ i op. ((λ k. refl), (λ k. absurd (cc))) in
-      cmt_step drilled ns is (name_of a) first_thread [] [] D tt tt
+      cmt_step drill_objects ns is (name_of a) first_thread [] [] D tt tt
       (seen ++ A) (items_first p a) H (G ++ shared_first p a true) ss e
       (each_join (MayCommit H) seen A (may_still G (shared_first p a false) seen view.may)
       (own_may (id_of a 1) (read p), (own_may (id_of a 2) (write (suc p)), (own_may (id_of a 3) (add a), (own_may (id_of a 4) (ask a), tt)))))

@@ -14,11 +14,11 @@ use Rattle.pp_model.proofs.Lists.{in_right}
 use Rattle.pp_model.proofs.Names.{eq-names}
 use Rattle.pp_mem.specs.Values.{written}
 use Rattle.pp_object.specs.declared.act.Op.{Op}
-use Rattle.pp_drill.specs.Drill.{name_of, first_thread, second_thread, id_of, read, write, add, ask, app, pulls, first_apps, endings, ending, pair, alone, pairs}
-use Rattle.pp_drill.specs.Law.{drilled, states_at, sum_to}
-use Rattle.pp_drill.proofs.Moves.{conf, open_tx, own_entry, shared_entry, Leads, Log, Others, each_join, each_in, each_as, nothing_more, in_turn, longer, begin_step, app_step, pull_step}
+use Rattle.pp_drill.specs.Drill.{name_of, first_thread, second_thread, id_of, read, write, add, ask, app, pulls, first_apps, endings, ending, pair, unpaired, pairs}
+use Rattle.pp_drill.specs.Law.{drill_objects, states_at, sum_to}
+use Rattle.pp_drill.proofs.Moves.{conf, open_tx, own_entry, shared_entry, LeadsTo, Log, Others, each_join, each_in, each_as, nothing_more, in_turn, longer, begin_step, app_step, pull_step}
 use Rattle.pp_drill.proofs.Acts.{second_allowed, both_allowed, in_order_allowed, first_allowed, value_is, at_start, after_both, after_order, after_first, of_both, of_first, in_order}
-use Rattle.pp_drill.proofs.Pair.{Under, fresh, under_next, not_eqb, not_name, two_ids, AllCommitted, View, own_first, own_second, done_first, done_second, shared_first, shared_both, ids_first, ids_second, apps_lead, pushes_lead, commits_lead, alone_pushes_lead, alone_commit_leads}
+use Rattle.pp_drill.proofs.Pair.{Under, fresh, under_next, not_eqb, not_name, two_ids, AllCommitted, View, own_first, own_second, done_first, done_second, shared_first, shared_both, ids_first, ids_second, apps_lead, pushes_lead, commits_lead, unpaired_pushes_lead, unpaired_commit_leads}
 
 -- The configuration after p pairs: what it has of names and ids, no open transaction, the shared log and the committed transactions.
 abbrev pub names_after : ℕ → List Name
@@ -78,17 +78,17 @@ all_after zero = tt
 all_after (suc p) = each_join (λ g. g.committed ≡ true) (shared_after p) (shared_both p (2 * p + 1) (2 * p + 2) true true) (all_after p) (refl, (refl, (refl, (refl, (refl, (refl, tt))))))
 
 -- the logs
-log_after : (p : ℕ) → Log drilled (shared_ops (shared_after p)) (states_at p (sum_to (2 * p)))
+log_after : (p : ℕ) → Log drill_objects (shared_ops (shared_after p)) (states_at p (sum_to (2 * p)))
 log_after zero = record { allowed = tt; is = sym at_start }
 log_after (suc p) =
     let a = 2 * p + 1 in
     let b = 2 * p + 2 in
     let a_is : a ≡ suc (2 * p) = omega arith in
     let b_is : b ≡ suc a = omega arith in
-    let l = longer drilled (shared_ops (shared_after p)) (of_both p a b) (states_at p (sum_to (2 * p))) (log_after p) (both_allowed (written empty (pos 0) (pos p)) (pos (sum_to (2 * p))) p a b (value_is p)) in
+    let l = longer drill_objects (shared_ops (shared_after p)) (of_both p a b) (states_at p (sum_to (2 * p))) (log_after p) (both_allowed (written empty (pos 0) (pos p)) (pos (sum_to (2 * p))) p a b (value_is p)) in
     let e : shared_ops (shared_after p) ++ of_both p a b ≡ shared_ops (shared_after p ++ shared_both p a b true true) = sym (map-append (λ (g : SharedEntry Op). g.op) (shared_after p) (shared_both p a b true true)) in
     let s = after_both p (2 * p) a b a_is b_is ∙ ap (λ (n : ℕ). states_at (suc p) (sum_to n)) (let f : b ≡ 2 * suc p = omega arith in f) in
-    subst (λ z. Log drilled z (states_at (suc p) (sum_to (2 * suc p)))) e (record { allowed = l.allowed; is = l.is ∙ s })
+    subst (λ z. Log drill_objects z (states_at (suc p) (sum_to (2 * suc p)))) e (record { allowed = l.allowed; is = l.is ∙ s })
 
 joined-append : (D E : List (CommittedTx Op)) → serial_items (D ++ E) ≡ serial_items D ++ serial_items E
 joined-append [] E = refl
@@ -97,7 +97,7 @@ joined-append (d ∷ D) E = ap (λ (w : List (Item Op)). d.entries ++ w) (joined
 serial_more : (D E : List (CommittedTx Op)) → serial_ops D ++ serial_ops E ≡ serial_ops (D ++ E)
 serial_more D E = sym (map-append (λ (p : Item Op). p.op) (serial_items D) (serial_items E)) ∙ ap (λ (w : List (Item Op)). ops w) (sym (joined-append D E))
 
-pub serial_after : (p : ℕ) → Log drilled (serial_ops (done_after p)) (states_at p (sum_to (2 * p)))
+pub serial_after : (p : ℕ) → Log drill_objects (serial_ops (done_after p)) (states_at p (sum_to (2 * p)))
 serial_after zero = record { allowed = tt; is = sym at_start }
 serial_after (suc p) =
     let a = 2 * p + 1 in
@@ -105,11 +105,11 @@ serial_after (suc p) =
     let two = done_second b ∷ done_first p a ∷ [] in
     let a_is : a ≡ suc (2 * p) = omega arith in
     let b_is : b ≡ suc a = omega arith in
-    let l = longer drilled (serial_ops (done_after p)) (in_order p a b) (states_at p (sum_to (2 * p))) (serial_after p) (in_order_allowed (written empty (pos 0) (pos p)) (pos (sum_to (2 * p))) p a b (value_is p)) in
+    let l = longer drill_objects (serial_ops (done_after p)) (in_order p a b) (states_at p (sum_to (2 * p))) (serial_after p) (in_order_allowed (written empty (pos 0) (pos p)) (pos (sum_to (2 * p))) p a b (value_is p)) in
     let e : serial_ops (done_after p) ++ in_order p a b ≡ serial_ops ((done_after p ++ done_second b ∷ []) ++ done_first p a ∷ []) =
     serial_more (done_after p) two ∙ ap (λ (w : List (CommittedTx Op)). serial_ops w) (sym (append_assoc (done_after p) (done_second b ∷ []) (done_first p a ∷ []))) in
     let s = after_order p (2 * p) a b a_is b_is ∙ ap (λ (n : ℕ). states_at (suc p) (sum_to n)) (let f : b ≡ 2 * suc p = omega arith in f) in
-    subst (λ z. Log drilled z (states_at (suc p) (sum_to (2 * suc p)))) e (record { allowed = l.allowed; is = l.is ∙ s })
+    subst (λ z. Log drill_objects z (states_at (suc p) (sum_to (2 * suc p)))) e (record { allowed = l.allowed; is = l.is ∙ s })
 
 pub count_after : (p : ℕ) → length (done_after p) ≡ 2 * p
 count_after zero = refl
@@ -147,7 +147,7 @@ pub record Pulls (p a : ℕ) (G : List (SharedEntry Op)) : Type 0 where
   pub seen : List (LocalEntry Op)
   pub view : View a p G seen
   pub leads : (ns : List Name) (is : List ℕ) (r : List (Tx Op)) (D : List (CommittedTx Op)) (ss : List (Step Op)) (e : Config Op) → Others (name_of a) r →
-      Leads drilled (conf ns is (open_tx (name_of a) first_thread (seen ++ []) ∷ r) G D) ss e → Leads drilled (conf ns is (open_tx (name_of a) first_thread [] ∷ r) G D) (pulls p a ++ ss) e
+      LeadsTo drill_objects (conf ns is (open_tx (name_of a) first_thread (seen ++ []) ∷ r) G D) ss e → LeadsTo drill_objects (conf ns is (open_tx (name_of a) first_thread [] ∷ r) G D) (pulls p a ++ ss) e
 
 what_pulls : (p a : ℕ) → a ≡ 2 * p + 1 → a ≤ 20000 → Pulls p a (shared_after p)
 what_pulls zero a h n =
@@ -168,17 +168,17 @@ what_pulls (suc q) a h n =
         may = (((λ k. absurd (cc)), (λ k. (w, in_right w (shared_after q) (shared_both q (2 * q + 1) (2 * q + 2) true true) (inr (inr (inl refl))), refl, refl))), tt);
         none = refl;
       };
-      leads = λ ns is r D ss e o l. pull_step drilled ns is (name_of a) first_thread [] r D tt o (shared_after (suc q)) w ss e (last_stands q (name_of a) apart) ((refl, refl), tt) l;
+      leads = λ ns is r D ss e o l. pull_step drill_objects ns is (name_of a) first_thread [] r D tt o (shared_after (suc q)) w ss e (last_stands q (name_of a) apart) ((refl, refl), tt) l;
     }
 
-empty_log : Log drilled [] drilled.start
+empty_log : Log drill_objects [] drill_objects.start
 empty_log = record { allowed = tt; is = refl }
 
 one_thread : first_thread ≢ second_thread
 one_thread e = let k : (first_thread =ⁿ second_thread) ≡ true = eq-names first_thread second_thread e in cc
 
 -- One more pair.
-pair_leads : (p : ℕ) → 2 * p + 2 ≤ 20000 → Leads drilled (after_pairs p) (pair p (2 * p + 1) (2 * p + 2)) (after_pairs (suc p))
+pair_leads : (p : ℕ) → 2 * p + 2 ≤ 20000 → LeadsTo drill_objects (after_pairs p) (pair p (2 * p + 1) (2 * p + 2)) (after_pairs (suc p))
 pair_leads p n =
     let a = 2 * p + 1 in
     let b = 2 * p + 2 in
@@ -201,54 +201,54 @@ pair_leads p n =
     let k = second_allowed empty (pos 0) b in
     let u1 : Under (id_of b 1) (ids_first a is) = under_first a (id_of b 1) is (under p) (omega arith) in
     let u2 : Under (id_of b 2) (id_of b 1 ∷ ids_first a is) = under_next (id_of b 1) (id_of b 2) (ids_first a is) u1 (omega arith) in
-    begin_step drilled ns is [] G D (name_of a) first_thread _ e new_a (λ x i. absurd i)
-    (begin_step drilled (name_of a ∷ ns) is (open_tx (name_of a) first_thread [] ∷ []) G D (name_of b) second_thread _ e new_b
+    begin_step drill_objects ns is [] G D (name_of a) first_thread _ e new_a (λ x i. absurd i)
+    (begin_step drill_objects (name_of a ∷ ns) is (open_tx (name_of a) first_thread [] ∷ []) G D (name_of b) second_thread _ e new_b
     (λ x i. elim i [ inl q ↦ (λ z. one_thread (ap (λ (y : Tx Op). y.thread) (sym q) ∙ z)) | inr q ↦ absurd q ])
     (s.leads names is (open_tx (name_of b) second_thread [] ∷ []) D (first_apps p a ++ (app b 1 (add b) ∷ app b 2 (ask b) ∷ pushes)) e others
     (apps_lead p a names is (open_tx (name_of b) second_thread [] ∷ []) G D s.seen (app b 1 (add b) ∷ app b 2 (ask b) ∷ pushes) e others (under p) s.view.log
-    (app_step drilled names (ids_first a is) (name_of b) second_thread (open_tx (name_of a) first_thread (s.seen ++ A) ∷ []) [] D there tt [] [] G (id_of b 1) (add b) drilled.start _ e
+    (app_step drill_objects names (ids_first a is) (name_of b) second_thread (open_tx (name_of a) first_thread (s.seen ++ A) ∷ []) [] D there tt [] [] G (id_of b 1) (add b) drill_objects.start _ e
     (fresh (id_of b 1) (ids_first a is) u1) empty_log (k.0, tt)
-    (app_step drilled names (id_of b 1 ∷ ids_first a is) (name_of b) second_thread (open_tx (name_of a) first_thread (s.seen ++ A) ∷ []) [] D there tt [] (own_entry (name_of b) Unpushed (id_of b 1) (add b) ∷ []) G (id_of b 2) (ask b) drilled.start pushes e
+    (app_step drill_objects names (id_of b 1 ∷ ids_first a is) (name_of b) second_thread (open_tx (name_of a) first_thread (s.seen ++ A) ∷ []) [] D there tt [] (own_entry (name_of b) Unpushed (id_of b 1) (add b) ∷ []) G (id_of b 2) (ask b) drill_objects.start pushes e
     (fresh (id_of b 2) (id_of b 1 ∷ ids_first a is) u2) empty_log k
-    (subst (λ z. Leads drilled (conf names ids (open_tx (name_of a) first_thread (s.seen ++ A) ∷ open_tx (name_of b) second_thread (own_second b Unpushed Unpushed) ∷ []) z D) pushes e) (append-nil G)
+    (subst (λ z. LeadsTo drill_objects (conf names ids (open_tx (name_of a) first_thread (s.seen ++ A) ∷ open_tx (name_of b) second_thread (own_second b Unpushed Unpushed) ∷ []) z D) pushes e) (append-nil G)
     (pushes_lead p (sum_to (2 * p)) a b names ids G D s.seen s.view (all_after p) (log_after p) apart ended e
     (commits_lead p (sum_to (2 * p)) a b names ids G D s.seen s.view (all_after p) (log_after p) apart [] e
-    (nothing_more drilled e)))))))))
+    (nothing_more drill_objects e)))))))))
 
-pub pairs_lead : (p : ℕ) → 2 * p ≤ 20000 → Leads drilled (first None) (pairs p) (after_pairs p)
-pairs_lead zero h = nothing_more drilled (first None)
-pairs_lead (suc p) h = in_turn drilled (first None) (after_pairs p) (after_pairs (suc p)) (pairs p) (pair p (2 * p + 1) (2 * p + 2)) (pairs_lead p (omega arith)) (pair_leads p (omega arith))
+pub pairs_lead : (p : ℕ) → 2 * p ≤ 20000 → LeadsTo drill_objects (first None) (pairs p) (after_pairs p)
+pairs_lead zero h = nothing_more drill_objects (first None)
+pairs_lead (suc p) h = in_turn drill_objects (first None) (after_pairs p) (after_pairs (suc p)) (pairs p) (pair p (2 * p + 1) (2 * p + 2)) (pairs_lead p (omega arith)) (pair_leads p (omega arith))
 
 -- A transaction alone behind the pairs.
-abbrev pub after_alone : ℕ → Config Op
-after_alone p =
+abbrev pub after_unpaired : ℕ → Config Op
+after_unpaired p =
     conf (name_of (2 * p + 1) ∷ names_after p) (ids_first (2 * p + 1) (ids_after p)) [] (shared_after p ++ shared_first p (2 * p + 1) true) (done_after p ++ done_first p (2 * p + 1) ∷ [])
 
-pub alone_leads : (p : ℕ) → 2 * p + 1 ≤ 20000 → Leads drilled (after_pairs p) (alone p (2 * p + 1)) (after_alone p)
-alone_leads p n =
+pub unpaired_leads : (p : ℕ) → 2 * p + 1 ≤ 20000 → LeadsTo drill_objects (after_pairs p) (unpaired p (2 * p + 1)) (after_unpaired p)
+unpaired_leads p n =
     let a = 2 * p + 1 in
     let ns = names_after p in
     let is = ids_after p in
     let G = shared_after p in
     let D = done_after p in
-    let e = after_alone p in
+    let e = after_unpaired p in
     let s = what_pulls p a refl n in
     let A = own_first p a Unpushed Unpushed Unpushed Unpushed in
     let names : List Name = name_of a ∷ ns in
     let ids : List ℕ = ids_first a is in
     let ended : List (Step Op) = Cmt (name_of a) ∷ [] in
     let pushes : List (Step Op) = ending a in
-    begin_step drilled ns is [] G D (name_of a) first_thread _ e (unknown a ns n (known p)) (λ x i. absurd i)
+    begin_step drill_objects ns is [] G D (name_of a) first_thread _ e (unknown a ns n (known p)) (λ x i. absurd i)
     (s.leads names is [] D (first_apps p a ++ pushes) e tt
     (apps_lead p a names is [] G D s.seen pushes e tt (under p) s.view.log
-    (subst (λ z. Leads drilled (conf names ids (open_tx (name_of a) first_thread (s.seen ++ A) ∷ []) z D) pushes e) (append-nil G)
-    (alone_pushes_lead p (sum_to (2 * p)) a names ids G D s.seen s.view (all_after p) (log_after p) ended e
-    (alone_commit_leads p (sum_to (2 * p)) a names ids G D s.seen s.view (all_after p) (log_after p) [] e
-    (nothing_more drilled e))))))
+    (subst (λ z. LeadsTo drill_objects (conf names ids (open_tx (name_of a) first_thread (s.seen ++ A) ∷ []) z D) pushes e) (append-nil G)
+    (unpaired_pushes_lead p (sum_to (2 * p)) a names ids G D s.seen s.view (all_after p) (log_after p) ended e
+    (unpaired_commit_leads p (sum_to (2 * p)) a names ids G D s.seen s.view (all_after p) (log_after p) [] e
+    (nothing_more drill_objects e))))))
 
-pub serial_alone : (p : ℕ) → Log drilled (serial_ops (done_after p ++ done_first p (2 * p + 1) ∷ [])) (states_at (suc p) (sum_to (2 * p + 1)))
-serial_alone p =
+pub serial_unpaired : (p : ℕ) → Log drill_objects (serial_ops (done_after p ++ done_first p (2 * p + 1) ∷ [])) (states_at (suc p) (sum_to (2 * p + 1)))
+serial_unpaired p =
     let a = 2 * p + 1 in
     let a_is : a ≡ suc (2 * p) = omega arith in
-    let l = longer drilled (serial_ops (done_after p)) (of_first p a) (states_at p (sum_to (2 * p))) (serial_after p) (first_allowed (written empty (pos 0) (pos p)) (pos (sum_to (2 * p))) p a (value_is p)) in
-    subst (λ z. Log drilled z (states_at (suc p) (sum_to a))) (serial_more (done_after p) (done_first p a ∷ [])) (record { allowed = l.allowed; is = l.is ∙ after_first p (2 * p) a a_is })
+    let l = longer drill_objects (serial_ops (done_after p)) (of_first p a) (states_at p (sum_to (2 * p))) (serial_after p) (first_allowed (written empty (pos 0) (pos p)) (pos (sum_to (2 * p))) p a (value_is p)) in
+    subst (λ z. Log drill_objects z (states_at (suc p) (sum_to a))) (serial_more (done_after p) (done_first p a ∷ [])) (record { allowed = l.allowed; is = l.is ∙ after_first p (2 * p) a a_is })

@@ -15,15 +15,20 @@ use Rattle.pp_json.specs.Records.{record_of}
 use Rattle.pp_json.specs.declared.fault.RecordFault.{RecordFault}
 use Rattle.pp_lines.specs.Statable.{IsCatalog, IsId, IsStatable, IsStatableRun, is_begin}
 use Rattle.pp_lines.specs.Steps.{step_bytes}
+use Rattle.pp_model.specs.Lists.{Each}
 use Rattle.pp_lines.proofs.HeadersBack as headers
 use Rattle.pp_lines.proofs.RunTexts.{all_show, text_passes, text_scanned, text_short}
 use Rattle.pp_lines.proofs.StepsBack as steps
 use Rattle.pp_spec.specs.Numbers.{in_range}
 use Rattle.pp_object.specs.declared.act.Op.{Op}
-use Rattle.pp_drill.specs.Drill.{drill_catalog, drill_steps, name_of, first_thread, second_thread, id_of, pulls, first_apps, second_apps, endings, ending, pair, pairs, alone, left_over}
-use Rattle.pp_drill.specs.Text.{AreStatable, drill_header, IsReadBack}
+use Rattle.pp_drill.specs.Drill.{drill_catalog, drill_steps, name_of, first_thread, second_thread, id_of, pulls, first_apps, second_apps, endings, ending, pair, pairs, unpaired, left_over}
+use Rattle.pp_drill.specs.Text.{drill_header, IsReadBack}
 use Rattle.pp_drill.proofs.Lengths.{drill_length}
 use Rattle.pp_drill.proofs.Moves.{each_join}
+
+-- each of these steps can be stated
+abbrev pub AreStatable : List (Step Op) → Type 0
+AreStatable steps = Each (IsStatable drill_catalog) steps
 
 -- names
 digit_byte : (d : ℕ) → d < 10 → is_name_byte (48 + d) ≡ true
@@ -45,10 +50,10 @@ is_name k h =
     }
 
 -- numbers
-pub is_ranged : (v : ℕ) → v ≤ 20000 → in_range (pos v) ≡ true
+is_ranged : (v : ℕ) → v ≤ 20000 → in_range (pos v) ≡ true
 is_ranged v h = grind (arith, nat_tests)
 
-pub is_id : (k i : ℕ) → k ≤ 20000 → i ≤ 4 → IsId (id_of k i)
+is_id : (k i : ℕ) → k ≤ 20000 → i ≤ 4 → IsId (id_of k i)
 is_id k i h j = omega arith
 
 -- the steps of two transactions
@@ -56,7 +61,7 @@ pulls_stated : (p a : ℕ) → a ≡ 2 * p + 1 → a ≤ 20000 → AreStatable (
 pulls_stated zero a e h = tt
 pulls_stated (suc q) a e h = ((is_name a h, is_id (2 * q + 1) 2 (omega arith) (omega arith)), tt)
 
-pub first_stated : (p a : ℕ) → suc p ≤ a → a ≤ 20000 → AreStatable (first_apps p a)
+first_stated : (p a : ℕ) → suc p ≤ a → a ≤ 20000 → AreStatable (first_apps p a)
 first_stated p a l h =
     let n = is_name a h in
     let few : in_range (pos (a % 7)) ≡ true = is_ranged (a % 7) (let m : a % 7 < 7 = omega arith in omega arith) in (
@@ -70,13 +75,13 @@ first_stated p a l h =
       ),
     )
 
-pub second_stated : (b : ℕ) → b ≤ 20000 → AreStatable (second_apps b)
+second_stated : (b : ℕ) → b ≤ 20000 → AreStatable (second_apps b)
 second_stated b h =
     let n = is_name b h in
     let few : in_range (pos (b % 7)) ≡ true = is_ranged (b % 7) (let m : b % 7 < 7 = omega arith in omega arith) in
     ((n, is_id b 1 h (omega arith), (refl, few)), ((n, is_id b 2 h (omega arith), (refl, is_ranged b h)), tt))
 
-pub endings_stated : (a b : ℕ) → a ≤ 20000 → b ≤ 20000 → AreStatable (endings a b)
+endings_stated : (a b : ℕ) → a ≤ 20000 → b ≤ 20000 → AreStatable (endings a b)
 endings_stated a b h k =
     let n = is_name a h in
     let m = is_name b k in
@@ -84,7 +89,7 @@ endings_stated a b h k =
     let o : (j : ℕ) → j ≤ 4 → IsId (id_of b j) = λ j. is_id b j k in
     ((n, i 1 (omega arith)), ((m, o 1 (omega arith)), ((n, i 2 (omega arith)), ((m, o 2 (omega arith)), ((n, i 3 (omega arith)), ((n, i 4 (omega arith)), (m, (n, tt))))))))
 
-pub ending_stated : (a : ℕ) → a ≤ 20000 → AreStatable (ending a)
+ending_stated : (a : ℕ) → a ≤ 20000 → AreStatable (ending a)
 ending_stated a h =
     let n = is_name a h in
     let i : (j : ℕ) → j ≤ 4 → IsId (id_of a j) = λ j. is_id a j h in
@@ -109,8 +114,8 @@ pair_stated p a b e f h =
       ),
     )
 
-alone_stated : (p a : ℕ) → a ≡ 2 * p + 1 → a ≤ 20000 → AreStatable (alone p a)
-alone_stated p a e h =
+unpaired_stated : (p a : ℕ) → a ≡ 2 * p + 1 → a ≤ 20000 → AreStatable (unpaired p a)
+unpaired_stated p a e h =
     let P = IsStatable drill_catalog in (
       (is_name a h, first_is_name, tt),
       each_join P (pulls p a) (first_apps p a ++ ending a) (pulls_stated p a e h) (each_join P (first_apps p a) (ending a) (first_stated p a (omega arith) h) (ending_stated a h)),
@@ -122,14 +127,20 @@ pairs_stated (suc p) h = each_join (IsStatable drill_catalog) (pairs p) (pair p 
 
 left_stated : (r p : ℕ) → 2 * p + r ≤ 20000 → AreStatable (left_over r p)
 left_stated zero p h = tt
-left_stated (suc r) p h = alone_stated p (2 * p + 1) refl (omega arith)
+left_stated (suc r) p h = unpaired_stated p (2 * p + 1) refl (omega arith)
+
+pub steps_stated : (n : ℕ) → n ≤ 20000 → AreStatable (drill_steps n)
+steps_stated n high =
+    let q = n / 2 in
+    let r = n % 2 in
+    each_join (IsStatable drill_catalog) (pairs q) (left_over r q) (pairs_stated q (omega arith)) (left_stated r q (omega arith))
 
 -- how many of them begin a transaction
-abbrev begins : List (Step Op) → ℕ
+abbrev pub begins : List (Step Op) → ℕ
 begins [] = 0
 begins (s ∷ ss) = cond (is_begin s) (1 + begins ss) (begins ss)
 
-begins_are : (ss : List (Step Op)) → begins ss ≡ count_by is_begin ss
+pub begins_are : (ss : List (Step Op)) → begins ss ≡ count_by is_begin ss
 begins_are ss = is_count_by begins is_begin refl (λ s ss. refl) ss
 
 one_more_begun : (b : Bool) (n m k : ℕ) → n ≡ m + k → cond b (1 + n) n ≡ cond b (1 + m) m + k
@@ -144,9 +155,9 @@ pair_begins : (p a b : ℕ) → begins (pair p a b) ≡ 2
 pair_begins zero a b = refl
 pair_begins (suc q) a b = refl
 
-alone_begins : (p a : ℕ) → begins (alone p a) ≡ 1
-alone_begins zero a = refl
-alone_begins (suc q) a = refl
+unpaired_begins : (p a : ℕ) → begins (unpaired p a) ≡ 1
+unpaired_begins zero a = refl
+unpaired_begins (suc q) a = refl
 
 pairs_begin : (p : ℕ) → begins (pairs p) ≡ 2 * p
 pairs_begin zero = refl
@@ -157,7 +168,7 @@ pairs_begin (suc p) =
 
 left_begins : (r p : ℕ) → r < 2 → begins (left_over r p) ≡ r
 left_begins zero p h = refl
-left_begins (suc r) p h = let e = alone_begins p (2 * p + 1) in omega arith
+left_begins (suc r) p h = let e = unpaired_begins p (2 * p + 1) in omega arith
 
 drill_begins : (n : ℕ) → count_by is_begin (drill_steps n) ≡ n
 drill_begins n =
@@ -196,12 +207,10 @@ is_catalog = record { few = omega arith; distinct = distinct; named = (m_is_name
 
 drill_statable : (n : ℕ) → 1 ≤ n → n ≤ 20000 → IsStatableRun drill_catalog None (drill_steps n)
 drill_statable n low high =
-    let q = n / 2 in
-    let r = n % 2 in
     record {
       over = is_catalog;
       begun = tt;
-      each = each_join (IsStatable drill_catalog) (pairs q) (left_over r q) (pairs_stated q (omega arith)) (left_stated r q (omega arith));
+      each = steps_stated n high;
       few = let l = drill_length n low in omega arith;
       begins = let b = drill_begins n in omega arith;
     }

@@ -78,7 +78,7 @@ endings a b =
     push a 1 ∷ push b 1 ∷ push a 2 ∷ push b 2 ∷ push a 3 ∷ push a 4
     ∷ Cmt (name_of b) ∷ Cmt (name_of a) ∷ []
 
--- how a ends alone
+-- how a ends without a second
 abbrev pub ending : ℕ → List (Step Op)
 ending a = push a 1 ∷ push a 2 ∷ push a 3 ∷ push a 4 ∷ Cmt (name_of a) ∷ []
 
@@ -88,9 +88,9 @@ pair p a b =
     Begin (name_of a) first_thread None ∷ Begin (name_of b) second_thread None
     ∷ (pulls p a ++ (first_apps p a ++ (second_apps b ++ endings a b)))
 
--- a alone, behind p pairs
-abbrev pub alone : ℕ → ℕ → List (Step Op)
-alone p a = Begin (name_of a) first_thread None ∷ (pulls p a ++ (first_apps p a ++ ending a))
+-- a without a second, behind p pairs
+abbrev pub unpaired : ℕ → ℕ → List (Step Op)
+unpaired p a = Begin (name_of a) first_thread None ∷ (pulls p a ++ (first_apps p a ++ ending a))
 
 -- the first pairs, and a transaction that is left behind them
 abbrev pub pairs : ℕ → List (Step Op)
@@ -99,7 +99,7 @@ pairs (suc p) = pairs p ++ pair p (2 * p + 1) (2 * p + 2)
 
 abbrev pub left_over : ℕ → ℕ → List (Step Op)
 left_over zero p = []
-left_over (suc r) p = alone p (2 * p + 1)
+left_over (suc r) p = unpaired p (2 * p + 1)
 
 abbrev pub drill_steps : ℕ → List (Step Op)
 drill_steps n = pairs (n / 2) ++ left_over (n % 2) (n / 2)

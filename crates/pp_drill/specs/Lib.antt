@@ -4,4 +4,3 @@ pub mod Text
 pub mod Transactions
 pub mod Reports
 pub mod Prints
-pub mod Findings

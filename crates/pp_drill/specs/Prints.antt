@@ -1,17 +1,19 @@
--- What `drill N` prints, line by line.
-use Rattle.std.specs.Prelude.{◌≡◌, ℕ, ◌≤◌, ◌+◌, ◌-◌, ◌*◌, ◌/◌, ◌%◌, List, ◌++◌, codes}
+-- Meaning: what `drill N` prints, line by line, and what holds of its run.
+use Rattle.std.specs.Prelude.{◌≡◌, ℕ, ◌≤◌, List, ◌++◌, codes, map, None}
 use Rattle.std.specs.Fmt.{decimal}
 use Rattle.pp_core.specs.declared.status.Status.{Status}
 use Rattle.pp_core.specs.declared.status.Status.TheVariants as statuses
+use Rattle.pp_front.specs.Runs.{bare}
+use Rattle.pp_model.specs.Serial.{attempts, committed_tx}
 use Rattle.pp_reading.specs.FaultTexts.{line}
-use Rattle.pp_report.specs.Reports.{accepted_line}
-use Rattle.pp_certify.specs.Accepted.{IsAloneAccepted, IsSimulated}
-use Rattle.pp_drill.specs.Law.{pairs_in, sum_to}
+use Rattle.pp_report.specs.Reports.{accepted_line, accepted_text}
+use Rattle.pp_certify.specs.Accepted.{HasRun, IsAloneAccepted, IsSimulated}
+use Rattle.pp_certify.specs.Inputs.{IsFaultOf}
+use Rattle.pp_certify.specs.Reports.{IsCertified}
+use Rattle.pp_drill.specs.Drill.{drill_catalog, drill_steps}
+use Rattle.pp_drill.specs.Law.{count_of_steps, pairs_in, states_left, sum_to}
 use Rattle.pp_drill.specs.Reports.{IsDrilled, drill_scan}
-
--- how many steps the run of n transactions has
-abbrev pub steps_in : ℕ → ℕ
-steps_in n = 17 * (n / 2) + 11 * (n % 2) - 1
+use Rattle.pp_drill.specs.Text.{drill_text}
 
 -- the lines of the objects: m has the number of pairs at 0, c the sum, and s is empty
 abbrev pub drill_states : ℕ → List ℕ
@@ -22,14 +24,24 @@ drill_states n =
 -- all lines
 abbrev pub drill_lines : ℕ → List ℕ
 drill_lines n =
-    line (codes "drill " ++ decimal n) ++ accepted_line (steps_in n) n ++ drill_states n
+    line (codes "drill " ++ decimal n) ++ accepted_line (count_of_steps n) n ++ drill_states n
 
--- The output for n transactions is these lines with Accepted, and there is no other. And what
--- `certify` promises of an accepted run holds of it.
+-- what certifies the text of the run: that it is accepted, with all of its transactions
+abbrev pub certified_text : ℕ → List ℕ
+certified_text n =
+    accepted_text drill_catalog (count_of_steps n)
+    (map committed_tx (attempts None (drill_steps n))) (states_left n)
+
+-- The output for n transactions is these lines with Accepted, and there is no other. Its run has no
+-- fault, it is the steps of the definition, and it is accepted. And what `certify` promises of an
+-- accepted run holds of it.
 pub record PrintsLines (n : ℕ) : Type 0 where
   pub output : IsDrilled n statuses.Accepted (drill_lines n)
   pub only : (status : Status) (text : List ℕ) → IsDrilled n status text →
       (status ≡ statuses.Accepted) × (text ≡ drill_lines n)
+  pub no_fault : IsFaultOf (drill_scan n) None
+  pub run : (r : HasRun (drill_scan n)) → bare r.run ≡ drill_steps n
+  pub report : IsCertified (drill_text n) statuses.Accepted (certified_text n)
   pub simulated : IsSimulated (drill_scan n)
   pub alone : IsAloneAccepted (drill_scan n)
 

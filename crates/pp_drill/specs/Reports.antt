@@ -26,8 +26,8 @@ drill_report n steps count final =
     line (codes "drill " ++ decimal n) ++ accepted_line steps count
     ++ state_lines drill_catalog final
 
--- The report of the run of n transactions, as an input, is that it is accepted, and this is the
--- text of it.
+-- The input that n makes is reported as accepted, and the text is the line of the command with the
+-- first line and the state lines of that report.
 abbrev pub IsDrilled : ℕ → Status → List ℕ → Type 0
 IsDrilled n status text =
     (steps : ℕ) × (committed : List (Attempt Op)) × (final : List ObjectState)

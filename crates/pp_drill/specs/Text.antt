@@ -1,8 +1,6 @@
 -- Meaning: the text of the run of `drill N`, and what is read from it.
 use Rattle.std.specs.Prelude.{◌≡◌, ◌≤◌, ◌<◌, ℕ, false, List, map, length, count_by, Ok, None}
-use Rattle.pp_core.specs.Steps.{Step}
 use Rattle.pp_front.specs.Records.{Plain}
-use Rattle.pp_io.specs.Joined.{joined_lines}
 use Rattle.pp_io.specs.Lines.{blank, numbered_from}
 use Rattle.pp_io.specs.Overruns.{overrun, scanned_lines}
 use Rattle.pp_json.specs.Headers.{header_of}
@@ -10,23 +8,14 @@ use Rattle.pp_json.specs.Records.{record_of}
 use Rattle.pp_json.specs.declared.header.Header.{Header}
 use Rattle.pp_lines.specs.Headers.{header_bytes, rules_header}
 use Rattle.pp_lines.specs.RunTexts.{run_lines, run_text}
-use Rattle.pp_lines.specs.Statable.{IsStatable, IsStatableRun, is_begin}
+use Rattle.pp_lines.specs.Statable.{IsStatableRun, is_begin}
 use Rattle.pp_lines.specs.Steps.{step_bytes}
 use Rattle.pp_model.specs.Lists.{Each}
-use Rattle.pp_object.specs.declared.act.Op.{Op}
 use Rattle.pp_drill.specs.Drill.{drill_catalog, drill_steps}
 
 -- the header: style rules, over m, c and s, without a start
 abbrev pub drill_header : Header
 drill_header = rules_header drill_catalog None
-
--- each of these steps can be stated
-abbrev pub AreStatable : List (Step Op) → Type 0
-AreStatable steps = Each (IsStatable drill_catalog) steps
-
--- the lines of these steps, each with a byte 10 behind it
-abbrev pub lines_of : List (Step Op) → List ℕ
-lines_of steps = joined_lines (map (step_bytes drill_catalog) steps)
 
 -- the bytes of the run of n transactions: the line of its header, and then a line for each step,
 -- each with a byte 10 behind it

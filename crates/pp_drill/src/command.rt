@@ -1,54 +1,43 @@
 //! The command: the run of a number of transactions is made, certified and summed up.
-ghost use Rattle.std.specs.Prelude.{◌≡◌, ◌≤◌, ◌+◌, length, IfOk, OnOk};
+ghost use Rattle.std.specs.Prelude.{◌≡◌, ◌≤◌, ◌+◌, length, None, IfOk, OnOk};
 ghost use Rattle.pp_core.specs.declared.status.Status.TheVariants as statuses;
+ghost use Rattle.pp_model.specs.Config.{first};
 ghost use Rattle.pp_model.specs.Sound.{serial_ops};
 ghost use Rattle.pp_certify.specs.Costs.{CostsAtLeast, CostsAtMost, StepsCostAtMost};
 ghost use Rattle.pp_certify.specs.Findings.{StepsCounted};
 ghost use Rattle.pp_certify.specs.Progresses.{IsRunning};
 ghost use Rattle.pp_certify.specs.declared.finding.Finding.TheVariants.{Accepted};
-ghost use Rattle.pp_drill.specs.Findings.{IsFound};
+ghost use Rattle.pp_drill.specs.Drill.{drill_catalog, drill_kinds};
 ghost use Rattle.pp_drill.specs.Reports.{IsDrilled, drill_scan};
-ghost use Rattle.pp_drill.specs.Text.{drill_text};
 
+use crate::objects::drill_catalog;
+use crate::pairs::drill_steps;
 use crate::report::drill_report;
-use crate::write::drill_run;
-use pp_certify::{Finding, Tally, examine, summary};
-use pp_core::{OutOfMemory, Status, Text, Ticks};
-use pp_io::SteadySource;
+use pp_certify::{Tally, summary};
+use pp_core::{Catalog, OutOfMemory, Status, Style, Text, Ticks};
+use pp_json::Header;
 use pp_object::Objects;
-use pp_reading::Failure;
 use pp_rules::Machine;
+use pp_styles::do_steps;
 use std::alloc::Global;
 use std::sync::ledger::Ledger;
 
-/// The bytes of the run of n transactions, as a source.
-fn source_of(alloc: Global, n: u32) -> Result<SteadySource, OutOfMemory>
-    requires { n ≤ 20_000 }
-    ensures { IfOk result (λ source. source ≡ drill_text n) }
+/// The machine over the objects of the run, before its first step.
+fn first_machine(alloc: Global, catalog: &Catalog) -> Result<Machine<Objects>, OutOfMemory>
+    requires { catalog.now ≡ drill_catalog }
+    ensures { IfOk result (λ machine. machine ≡ record {
+      shape = drill_kinds;
+      config = first None;
+      count = 0;
+    }) }
 {
-    let text = drill_run(alloc, n)?;
-    let bytes = text.bytes().to_vec(alloc)?;
-    Ok(SteadySource::new(bytes))
+    let kinds = catalog.kinds(alloc)?;
+    Machine::new(alloc, kinds)
 }
 
-/// What these bytes are found to be.
-fn examined<L: Ledger>(alloc: Global, n: u32, ticks: &mut Ticks<L>) -> Result<Finding, OutOfMemory>
-    requires { n ≤ 20_000 }
-    ensures found { IfOk result (IsFound (drill_scan n)) }
-    ensures most { StepsCostAtMost (drill_scan n) ticks.old ticks.new }
-    ensures least { IfOk result (λ finding.
-        StepsCounted (drill_scan n) finding ticks.old ticks.new) }
-{
-    let mut source = source_of(alloc, n)?;
-    match examine(alloc, &mut source, ticks) {
-        Ok(finding) => Ok(finding),
-        Err(Failure::OutOfMemory) => Err(OutOfMemory),
-        Err(Failure::ReadFault) => unreachable!(),
-    }
-}
-
-/// The machine behind the run, whose steps all meet their criteria.
-fn driven<L: Ledger>(
+/// The machine behind the steps of the run, and what reading its lines would count. The lines are
+/// not made: their steps are.
+fn machine_behind<L: Ledger>(
     alloc: Global,
     n: u32,
     ticks: &mut Ticks<L>,
@@ -60,15 +49,27 @@ fn driven<L: Ledger>(
     ensures least { IfOk result (λ r.
         StepsCounted (drill_scan n) (Accepted r.0 r.1) ticks.old ticks.new) }
 {
-    match examined(alloc, n, ticks)? {
-        Finding::Accepted(tally, machine) => Ok((tally, machine)),
-        Finding::Rejected(_tally, _rejection) => unreachable!(),
-        Finding::Fault(_line, _cause) => unreachable!(),
-    }
+    let catalog = drill_catalog(alloc)?;
+    let steps = drill_steps(alloc, n)?;
+    let machine = first_machine(alloc, &catalog)?;
+    // Each of these steps meets its criteria, so that none halts the machine.
+    let (machine, _halt) = do_steps(machine, &steps, ticks)?;
+    let count = machine.count();
+    let header = Header {
+        style: Style::Rules,
+        catalog,
+        start: None,
+    };
+    let tally = Tally {
+        header,
+        lines: count + 1,
+        begins: n,
+    };
+    Ok((tally, machine))
 }
 
 /// The text of the command, by the machine behind the run.
-fn summed_up<L: Ledger>(
+fn text_of_run<L: Ledger>(
     alloc: Global,
     n: u32,
     tally: &Tally,
@@ -95,8 +96,8 @@ fn summed_up<L: Ledger>(
     )
 }
 
-/// The status and the output of `drill` for n transactions: their run is made as an input, which is
-/// certified. The only error is that memory was refused.
+/// The status and the output of `drill` for n transactions: their run is certified as its text
+/// would be, which is not made. The only error is that memory was refused.
 pub fn drill<L: Ledger>(
     alloc: Global,
     n: u32,
@@ -109,7 +110,7 @@ pub fn drill<L: Ledger>(
     ensures least { OnOk result
         (CostsAtLeast statuses.Accepted (drill_scan n) ticks.old ticks.new) }
 {
-    let (tally, machine) = driven(alloc, n, ticks)?;
-    let text = summed_up(alloc, n, &tally, &machine, ticks)?;
+    let (tally, machine) = machine_behind(alloc, n, ticks)?;
+    let text = text_of_run(alloc, n, &tally, &machine, ticks)?;
     Ok((Status::Accepted, text))
 }

@@ -3,7 +3,7 @@ ghost use Rattle.pp_drill.specs.Law.{DrillLaw};
 ghost use Rattle.pp_drill.specs.Prints.{PrintsLaw};
 ghost use Rattle.pp_drill.specs.Text.{ReadBackLaw};
 
-/// The run of each number of transactions is accepted, with all of them committed.
+/// The run of each number of transactions from 1 to 20,000 is accepted, with all of them committed.
 pub fn drill_law()
     ensures { DrillLaw }
 {}
@@ -14,8 +14,9 @@ pub fn read_back_law()
     ensures { ReadBackLaw }
 {}
 
-/// What `drill` prints is four lines by their numbers and one that never changes, and of the run
-/// holds what `certify` promises of an accepted one.
+/// What `drill` prints is four lines by their numbers and one that never changes. Its run has no
+/// fault and is the steps of the definition, and of it holds what `certify` promises of an accepted
+/// one.
 pub fn prints_law()
     ensures { PrintsLaw }
 {}

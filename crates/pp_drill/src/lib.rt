@@ -5,6 +5,7 @@
 mod command;
 mod law;
 mod objects;
+mod pairs;
 mod report;
 mod steps;
 mod transaction;

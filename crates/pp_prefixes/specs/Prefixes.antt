@@ -37,6 +37,7 @@ IsAccepted bytes steps committed = (final : List ObjectState)
 
 -- This prefix of an accepted input has its header and no fault, and is accepted too: its run and
 -- its committed transactions, each with its own operations, are the first of those of the whole.
+-- (Of the transactions the bodies are not compared; they stand in the steps of the runs.)
 pub record IsAcceptedPrefix (front back : List ℕ) (steps : ℕ) (committed : List (Attempt Op)) :
     Type 0 where
   pub header : (scan front).header ≡ (scan (front ++ back)).header

@@ -1,5 +1,5 @@
-use Rattle.pp_drill.proofs.Drilling.{prints_law}
+use Rattle.pp_drill.proofs.Drilling.{prints_lines}
 use Rattle.pp_drill.proofs.law.prints_law.Goals as goal
 
 pub returns : goal.returns
-returns c = prints_law
+returns c = prints_lines

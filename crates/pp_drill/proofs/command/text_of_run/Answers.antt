@@ -8,7 +8,7 @@ use Rattle.pp_reading.proofs.Takers.{on_ok}
 use Rattle.pp_spec.specs.Object.{state_after}
 use Rattle.pp_drill.proofs.Drilling.{catalog_is, drilled_by}
 use Rattle.pp_drill.specs.Reports.{drill_report, drill_scan}
-use Rattle.pp_drill.proofs.command.summed_up.Goals as goal
+use Rattle.pp_drill.proofs.command.text_of_run.Goals as goal
 
 pub summary-requires : goal.summary-requires
 summary-requires g c = (drill_scan c.args.n, c.requires.running)
