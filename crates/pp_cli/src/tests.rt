@@ -1,8 +1,12 @@
 //! What no clause says: that memory is found, and whole runs from their bytes to their report.
 mod accepted_runs;
+mod commands;
+mod cut_runs;
 mod expanded_runs;
+mod failing_devices;
 mod faulty_inputs;
 mod given_words;
+mod hostile_lines;
 mod long_inputs;
 mod made_runs;
 mod rejected_runs;
@@ -13,10 +17,12 @@ mod styled_runs;
 
 use crate::run_counted;
 use crate::tests::accepted_runs::ACCEPTED;
+use crate::tests::commands::COMMANDS;
 use crate::tests::expanded_runs::{EXPANDED, OLD_READ};
 use crate::tests::faulty_inputs::FAULTY;
 use crate::tests::given_words::GivenWords;
-use crate::tests::long_inputs::{LONG, bytes_of};
+use crate::tests::hostile_lines::HOSTILE;
+use crate::tests::long_inputs::{LONG, MANY_PEAKS, TOO_MANY_STEPS, bytes_of, turned_commits};
 use crate::tests::made_runs::MADE;
 use crate::tests::rejected_runs::REJECTED;
 use crate::tests::row::{COUNTER, Row};
@@ -122,12 +128,59 @@ fn runs_have_their_reports(rt: HostRuntime) -> Result<(), Fail> {
         STARTS.as_slice(),
         STYLE_FAULTS.as_slice(),
         STYLED.as_slice(),
+        HOSTILE.as_slice(),
     ] {
         for row in table {
             let answer = certified_bytes(alloc, input_of(alloc, row)?, true)?;
             assert_answer(&rt, row.what, &answer, row.status, row.report);
         }
     }
+    Ok(())
+}
+
+#[test]
+fn commands_have_their_outputs(rt: HostRuntime) -> Result<(), Fail> {
+    let alloc = rt.alloc();
+    for command in &COMMANDS {
+        let row = &command.row;
+        let answer = answered_bytes(alloc, command.command, input_of(alloc, row)?, true)?;
+        assert_answer(&rt, row.what, &answer, row.status, row.report);
+    }
+    Ok(())
+}
+
+#[test]
+fn a_boosted_run_may_have_more_steps_than_a_run_of_the_machine(
+    rt: HostRuntime,
+) -> Result<(), Fail> {
+    let alloc = rt.alloc();
+    let input = bytes_of(alloc, TOO_MANY_STEPS)?;
+    let (status, report) = answered_bytes(alloc, b"quick", input, false)?;
+    let first = b"quick accepted records 2495 committed 628\n".as_slice();
+    assert_eq!(rt; status, Status::Accepted);
+    assert_eq!(rt; report.as_slice().starts_with(first), true);
+    assert_eq!(rt;
+        report.as_slice().ends_with(b"state c 628\n".as_slice()),
+        true
+    );
+    Ok(())
+}
+
+#[test]
+fn peaks_may_be_too_many(rt: HostRuntime) -> Result<(), Fail> {
+    let alloc = rt.alloc();
+    let answer = answered_bytes(alloc, b"views", bytes_of(alloc, MANY_PEAKS)?, false)?;
+    let report = b"toolarge views 2000001\n";
+    assert_answer(&rt, "many peaks", &answer, Status::TooLarge, report);
+    Ok(())
+}
+
+#[test]
+fn a_certificate_may_be_too_large(rt: HostRuntime) -> Result<(), Fail> {
+    let alloc = rt.alloc();
+    let answer = answered_bytes(alloc, b"swaps", turned_commits(alloc)?, false)?;
+    let report = b"toolarge swaps 1000405\n";
+    assert_answer(&rt, "turned commits", &answer, Status::TooLarge, report);
     Ok(())
 }
 

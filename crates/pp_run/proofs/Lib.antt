@@ -1,3 +1,5 @@
 pub mod Printing
 pub mod Sending
 pub mod Numbers
+pub mod Performing
+pub mod Promises

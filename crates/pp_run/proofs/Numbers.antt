@@ -10,8 +10,9 @@ use Rattle.std.proofs.lemmas.Fmt.{IsAscii-decimal, decimal_is_IsNumeral, parse-d
 use Rattle.std.proofs.lemmas.Option.{same_Some}
 use Rattle.std.proofs.lemmas.Slice.Eq.{bytes_eq-Decides}
 use Rattle.std.proofs.lemmas.Str.{IsUtf8-from_ascii}
-use Rattle.pp_run.specs.Words.{command_of, drill_number}
-use Rattle.pp_run.specs.declared.words.Command.TheVariants.{Certify, Drill, Expand}
+use Rattle.pp_run.specs.Words.{command_named, command_of, drill_number}
+use Rattle.pp_run.specs.declared.words.Command.{Command}
+use Rattle.pp_run.specs.declared.words.Command.TheVariants.{Certify, Drill, Expand, Quick, Recheck, Swaps, Views}
 
 -- ---- tests
 
@@ -94,14 +95,28 @@ module _ {E : Type 0} (word text : List ℕ) (same : text ≡ word) (r : Result 
 
 -- ---- the number of a command
 
+-- the command is none that has a number
+abbrev IsUnnumbered : Option Command → Type 0
+IsUnnumbered o = (n : ℕ) → o ≡ Some (Drill n) → ⊥
+
+either : (b : Bool) (x y : Option Command) → IsUnnumbered x → IsUnnumbered y → IsUnnumbered (if b then x else y)
+either true x y p q = p
+either false x y p q = q
+
+unnumbered : (word : List ℕ) → IsUnnumbered (command_named word)
+unnumbered word =
+    let is : List ℕ → Bool = bytes_eq word in
+    either (is (codes "certify")) (Some Certify) _ (λ n e. let no : Some Certify ≡ Some (Drill n) = e in cc)
+    (either (is (codes "expand")) (Some Expand) _ (λ n e. let no : Some Expand ≡ Some (Drill n) = e in cc)
+    (either (is (codes "quick")) (Some Quick) _ (λ n e. let no : Some Quick ≡ Some (Drill n) = e in cc)
+    (either (is (codes "swaps")) (Some Swaps) _ (λ n e. let no : Some Swaps ≡ Some (Drill n) = e in cc)
+    (either (is (codes "recheck")) (Some Recheck) _ (λ n e. let no : Some Recheck ≡ Some (Drill n) = e in cc)
+    (either (is (codes "views")) (Some Views) None (λ n e. let no : Some Views ≡ Some (Drill n) = e in cc)
+    (λ n e. let no : None ≡ Some (Drill n) = e in cc))))))
+
 pub drill_within : (words : List (List ℕ)) (n : ℕ) → command_of words ≡ Some (Drill n) → (1 ≤ n) × (n ≤ 20_000)
 drill_within [] n e = absurd (let no : None ≡ Some (Drill n) = e in cc)
-drill_within (word ∷ []) n e = named (bytes_eq word (codes "certify")) (bytes_eq word (codes "expand")) e
-  where
-    named : (a b : Bool) → (if a then Some Certify else if b then Some Expand else None) ≡ Some (Drill n) → (1 ≤ n) × (n ≤ 20_000)
-    named true b e = absurd (let no : Some Certify ≡ Some (Drill n) = e in cc)
-    named false true e = absurd (let no : Some Expand ≡ Some (Drill n) = e in cc)
-    named false false e = absurd (let no : None ≡ Some (Drill n) = e in cc)
+drill_within (word ∷ []) n e = absurd (unnumbered word n e)
 drill_within (word ∷ number ∷ []) n e = numbered (bytes_eq word (codes "drill")) (drill_number number) refl e
   where
     numbered : (b : Bool) (o : Option ℕ) → drill_number number ≡ o → (if b then option_map (λ k. Drill k) o else None) ≡ Some (Drill n) → (1 ≤ n) × (n ≤ 20_000)

@@ -4,17 +4,25 @@ use Rattle.std.specs.Io.KnownBytes.{Appends}
 use Rattle.std.proofs.Common.{sym, ◌∙◌, subst}
 use Rattle.pp_core.specs.declared.status.Status.{Status}
 use Rattle.pp_run.specs.declared.words.Command.{Command}
-use Rattle.pp_run.specs.declared.words.Command.TheVariants.{Certify, Drill, Expand}
+use Rattle.pp_run.specs.declared.words.Command.TheVariants.{Certify, Drill, Expand, Quick, Recheck, Swaps, Views}
 use Rattle.pp_run.specs.Outputs.{IsOutput, OfInput, Prints, PrintsOnly, PrintsPrefix, PrintsPrefixOnly}
 use Rattle.pp_run.specs.Writing.{AppendsPrefix}
 use Rattle.pp_certify.proofs.Concluding.{one_certified}
 use Rattle.pp_certify.proofs.Expanding.{one_expanded}
+use Rattle.pp_attempts.proofs.Viewed.{one_views}
+use Rattle.pp_decide.proofs.Deciding.{one_quick}
 use Rattle.pp_drill.proofs.Drilling.{one_drilled}
+use Rattle.pp_exchanges.proofs.Swapping.{one_swaps}
+use Rattle.pp_verify.proofs.Rechecking.{one_recheck}
 
 pub one_output : (command : Option Command) (bytes : List ℕ) (s s' : Status) (t t' : List ℕ) → IsOutput command bytes s t → IsOutput command bytes s' t' → (s ≡ s') × (t ≡ t')
 one_output None bytes s s' t t' a b = (a.0 ∙ sym b.0, a.1 ∙ sym b.1)
 one_output (Some Certify) bytes s s' t t' a b = one_certified bytes s s' t t' a b
 one_output (Some Expand) bytes s s' t t' a b = one_expanded bytes s s' t t' a b
+one_output (Some Quick) bytes s s' t t' a b = one_quick bytes s s' t t' a b
+one_output (Some Swaps) bytes s s' t t' a b = one_swaps bytes s s' t t' a b
+one_output (Some Recheck) bytes s s' t t' a b = one_recheck bytes s s' t t' a b
+one_output (Some Views) bytes s s' t t' a b = one_views bytes s s' t t' a b
 one_output (Some (Drill n)) bytes s s' t t' a b = one_drilled n s s' t t' a b
 
 -- what holds of an input, and what follows from it
@@ -22,6 +30,10 @@ of_input : (o : Option Command) (left : Option (List ℕ)) (P Q : List ℕ → T
 of_input None left P Q f p = f [] p
 of_input (Some Certify) left P Q f p = λ bytes is. f bytes (p bytes is)
 of_input (Some Expand) left P Q f p = λ bytes is. f bytes (p bytes is)
+of_input (Some Quick) left P Q f p = λ bytes is. f bytes (p bytes is)
+of_input (Some Swaps) left P Q f p = λ bytes is. f bytes (p bytes is)
+of_input (Some Recheck) left P Q f p = λ bytes is. f bytes (p bytes is)
+of_input (Some Views) left P Q f p = λ bytes is. f bytes (p bytes is)
 of_input (Some (Drill n)) left P Q f p = f [] p
 
 -- what is written of the output of a command

@@ -1,3 +1,5 @@
 pub mod Words
 pub mod Writing
 pub mod Outputs
+pub mod Bounds
+pub mod Promises

@@ -1,21 +1,33 @@
 -- Meaning: what a command prints, and how it ends.
-use Rattle.std.specs.Prelude.{◌≡◌, ℕ, List, [], Option, None, Some}
+use Rattle.std.specs.Prelude.{◌≡◌, ◌⊎◌, ℕ, List, [], Option, None, Some}
 use Rattle.std.specs.Io.KnownBytes.{Appends}
 use Rattle.pp_core.specs.declared.status.Status.{Status}
 use Rattle.pp_core.specs.declared.status.Status.TheVariants as statuses
 use Rattle.pp_reading.specs.Sources.{WhereTold}
+use Rattle.pp_certificate.specs.Rechecked.{IsRecheck, RecheckReadsNoFault}
+use Rattle.pp_certify.specs.Certified.{IsDecided}
+use Rattle.pp_certify.specs.Inputs.{ReadsNoFault}
 use Rattle.pp_certify.specs.Reports.{IsCertified, IsExpanded}
+use Rattle.pp_attempts.specs.Outputs.{IsViews}
+use Rattle.pp_decide.specs.Decisions.{IsQuick, QuickReadsNoFault}
 use Rattle.pp_drill.specs.Reports.{IsDrilled}
+use Rattle.pp_exchanges.specs.Swaps.{IsSwaps}
 use Rattle.pp_run.specs.declared.words.Command.{Command}
-use Rattle.pp_run.specs.declared.words.Command.TheVariants.{Certify, Drill, Expand}
+use Rattle.pp_run.specs.declared.words.Command.TheVariants.{Certify, Drill, Expand, Quick}
+use Rattle.pp_run.specs.declared.words.Command.TheVariants.{Recheck, Swaps, Views}
 use Rattle.pp_run.specs.Writing.{AppendsPrefix}
 
 -- Of the input of a command this holds: of the bytes that the source has left, where they are told.
--- A command that examines no input has none, whatever the source has.
+-- A command that reads no input has none, whatever the source has, and what is said there does not
+-- look at the bytes.
 abbrev pub OfInput : Option Command → Option (List ℕ) → (List ℕ → Type 0) → Type 0
 OfInput None left P = P []
 OfInput (Some Certify) left P = WhereTold left P
 OfInput (Some Expand) left P = WhereTold left P
+OfInput (Some Quick) left P = WhereTold left P
+OfInput (Some Swaps) left P = WhereTold left P
+OfInput (Some Recheck) left P = WhereTold left P
+OfInput (Some Views) left P = WhereTold left P
 OfInput (Some (Drill n)) left P = P []
 
 -- the status and the text of a command; words that are no command print nothing
@@ -23,7 +35,43 @@ abbrev pub IsOutput : Option Command → List ℕ → Status → List ℕ → Ty
 IsOutput None bytes status text = (status ≡ statuses.BadWords) × (text ≡ [])
 IsOutput (Some Certify) bytes status text = IsCertified bytes status text
 IsOutput (Some Expand) bytes status text = IsExpanded bytes status text
+IsOutput (Some Quick) bytes status text = IsQuick bytes status text
+IsOutput (Some Swaps) bytes status text = IsSwaps bytes status text
+IsOutput (Some Recheck) bytes status text = IsRecheck bytes status text
+IsOutput (Some Views) bytes status text = IsViews bytes status text
 IsOutput (Some (Drill n)) bytes status text = IsDrilled n status text
+
+-- ---- what is read
+
+-- a verdict, or that what there is to print is above a limit
+abbrev pub IsVerdictOrSize : Status → Type 0
+IsVerdictOrSize status = IsDecided status ⊎ (status ≡ statuses.TooLarge)
+
+-- The command finds this on the whole of its input. A certificate may be refused at a line, and
+-- then the lines behind it are not read.
+abbrev pub IsOfWhole : Option Command → Status → Type 0
+IsOfWhole None status = ⊥
+IsOfWhole (Some Certify) status = IsDecided status
+IsOfWhole (Some Expand) status = IsDecided status
+IsOfWhole (Some Quick) status = IsDecided status
+IsOfWhole (Some Swaps) status = IsVerdictOrSize status
+IsOfWhole (Some Recheck) status = status ≡ statuses.Accepted
+IsOfWhole (Some Views) status = IsVerdictOrSize status
+IsOfWhole (Some (Drill n)) status = ⊥
+
+-- what the command read has no fault (and of a certificate no refused line) that no further byte
+-- can change
+abbrev pub ReadsSound : Option Command → Option (List ℕ) → Option (List ℕ) → Type 0
+ReadsSound None old new = ⊥
+ReadsSound (Some Certify) old new = ReadsNoFault old new
+ReadsSound (Some Expand) old new = ReadsNoFault old new
+ReadsSound (Some Quick) old new = QuickReadsNoFault old new
+ReadsSound (Some Swaps) old new = ReadsNoFault old new
+ReadsSound (Some Recheck) old new = RecheckReadsNoFault old new
+ReadsSound (Some Views) old new = ReadsNoFault old new
+ReadsSound (Some (Drill n)) old new = ⊥
+
+-- ---- what is printed
 
 -- known bytes grow by an output that is defined, with this status
 abbrev pub Prints : Option Command → List ℕ → Status → Option (List ℕ) → Option (List ℕ) → Type 0

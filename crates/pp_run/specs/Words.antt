@@ -1,23 +1,33 @@
 -- Meaning: the words of a command.
-use Rattle.std.specs.Prelude.{ℕ, ◌&&◌, nat_le, List, [], ◌∷◌, codes, if◌then◌else◌, Option, None}
-use Rattle.std.specs.Prelude.{Some, option_map}
+use Rattle.std.specs.Prelude.{◌≡◌, ◌≤◌, ◌↔◌, ℕ, ◌&&◌, nat_le, List, [], ◌∷◌, codes}
+use Rattle.std.specs.Prelude.{if◌then◌else◌, Option, None, Some, option_map}
 use Rattle.std.specs.Fmt.{decimal}
 use Rattle.std.specs.Str.{bytes_eq}
 use Rattle.std.specs.Str.Parse.{digits_value}
 use Rattle.pp_run.specs.declared.words.Command.{Command}
-use Rattle.pp_run.specs.declared.words.Command.TheVariants.{Certify, Drill, Expand}
+use Rattle.pp_run.specs.declared.words.Command.TheVariants.{Certify, Drill, Expand, Quick}
+use Rattle.pp_run.specs.declared.words.Command.TheVariants.{Recheck, Swaps, Views}
 
--- the command of this one word: `certify` or `expand`
+-- the command of this one word
 abbrev pub command_named : List ℕ → Option Command
 command_named word =
     if bytes_eq word (codes "certify") then Some Certify
-    else if bytes_eq word (codes "expand") then Some Expand else None
+    else if bytes_eq word (codes "expand") then Some Expand
+    else if bytes_eq word (codes "quick") then Some Quick
+    else if bytes_eq word (codes "swaps") then Some Swaps
+    else if bytes_eq word (codes "recheck") then Some Recheck
+    else if bytes_eq word (codes "views") then Some Views else None
 
 -- a number of transactions: 1 to 20,000, as it is written in decimal digits
 abbrev pub drill_number : List ℕ → Option ℕ
 drill_number word =
     let n = digits_value 10 word in
     if bytes_eq word (decimal n) && (nat_le 1 n && nat_le n 20_000) then Some n else None
+
+-- A word asks for a number exactly where it is written so, and the number is 1 to 20,000.
+abbrev pub DrillNumberLaw : Type 0
+DrillNumberLaw = (word : List ℕ) (n : ℕ) →
+    (drill_number word ≡ Some n) ↔ ((word ≡ decimal n) × (1 ≤ n) × (n ≤ 20_000))
 
 -- the command of these two words: `drill` and a number
 abbrev pub command_with : List ℕ → List ℕ → Option Command
@@ -31,9 +41,25 @@ command_of (word ∷ []) = command_named word
 command_of (word ∷ number ∷ []) = command_with word number
 command_of (word ∷ number ∷ more ∷ words) = None
 
--- the command examines an input
-abbrev pub Examines : Option Command → Type 0
-Examines None = ⊥
-Examines (Some Certify) = Unit {0}
-Examines (Some Expand) = Unit {0}
-Examines (Some (Drill n)) = ⊥
+-- the command reads an input
+abbrev pub Reads : Option Command → Type 0
+Reads None = ⊥
+Reads (Some Certify) = Unit {0}
+Reads (Some Expand) = Unit {0}
+Reads (Some Quick) = Unit {0}
+Reads (Some Swaps) = Unit {0}
+Reads (Some Recheck) = Unit {0}
+Reads (Some Views) = Unit {0}
+Reads (Some (Drill n)) = ⊥
+
+-- the command drives the machine through the run of its input, so that where it says that the run
+-- is rejected there is evidence of a step
+abbrev pub DrivesMachine : Option Command → Type 0
+DrivesMachine None = ⊥
+DrivesMachine (Some Certify) = Unit {0}
+DrivesMachine (Some Expand) = Unit {0}
+DrivesMachine (Some Quick) = ⊥
+DrivesMachine (Some Swaps) = Unit {0}
+DrivesMachine (Some Recheck) = ⊥
+DrivesMachine (Some Views) = Unit {0}
+DrivesMachine (Some (Drill n)) = ⊥

@@ -1,8 +1,10 @@
 //! A whole run of the program: from its words and its input to its status and what it writes.
 #![tactic(auto)]
 
+mod law;
 mod program;
 mod words;
 mod write;
 
+pub use law::words_law;
 pub use program::run;

@@ -6,29 +6,37 @@ ghost use Rattle.pp_io.specs.Faults.{HasRisen};
 ghost use Rattle.pp_io.specs.Sent.{SendsAll};
 ghost use Rattle.pp_reading.specs.declared.stop.Failure.TheVariants.{ReadFault};
 ghost use Rattle.pp_reading.specs.Sources.{WhereTold};
+ghost use Rattle.pp_certificate.specs.Rechecked.{IsCheckedSound};
 ghost use Rattle.pp_certify.specs.Certified.{IsDecided, IsPrinted, IsUnwritten};
-ghost use Rattle.pp_certify.specs.Costs.{CostsAtLeast, CostsAtMost, StepsCostAtLeast, StepsCostAtMost};
-ghost use Rattle.pp_certify.specs.Inputs.{ReadsNoFault, scan};
+ghost use Rattle.pp_certify.specs.Inputs.{scan};
 ghost use Rattle.pp_certify.specs.Accepted.{IsAloneAccepted, IsSimulated};
 ghost use Rattle.pp_certify.specs.Rejected.{IsEvident};
 ghost use Rattle.pp_certify.specs.Restated.{PrintsAgain};
-ghost use Rattle.pp_drill.specs.Reports.{drill_scan};
-ghost use Rattle.pp_run.specs.declared.words.Command.TheVariants.{Certify, Drill, Expand};
-ghost use Rattle.pp_run.specs.Outputs.{IsOutput, OfInput, Prints, PrintsOnly, PrintsPrefix};
-ghost use Rattle.pp_run.specs.Outputs.{PrintsPrefixOnly};
-ghost use Rattle.pp_run.specs.Words.{Examines, command_of};
+ghost use Rattle.pp_drill.specs.Prints.{PrintsLines};
+ghost use Rattle.pp_exchanges.specs.Prints.{PrintsCertificate};
+ghost use Rattle.pp_run.specs.declared.words.Command.TheVariants.{Certify, Drill, Expand, Quick};
+ghost use Rattle.pp_run.specs.declared.words.Command.TheVariants.{Recheck, Swaps, Views};
+ghost use Rattle.pp_run.specs.Bounds.{RisesAtLeast, RisesAtMost};
+ghost use Rattle.pp_run.specs.Outputs.{IsOfWhole, IsOutput, IsVerdictOrSize, OfInput, Prints};
+ghost use Rattle.pp_run.specs.Outputs.{PrintsOnly, PrintsPrefix, PrintsPrefixOnly, ReadsSound};
+ghost use Rattle.pp_run.specs.Promises.{IsDecidedAsRun, SeesKept};
+ghost use Rattle.pp_run.specs.Words.{DrivesMachine, Reads, command_of};
 
 use crate::words::{Command, read_words};
 use crate::write::{WriteError, send};
+use pp_attempts::views;
 use pp_certify::{certify, expand};
 use pp_core::{Status, Text, Ticks, Words};
+use pp_decide::quick;
 use pp_drill::drill;
+use pp_exchanges::swaps;
 use pp_io::{Sink, Source};
 use pp_reading::Failure;
+use pp_verify::recheck;
 use std::alloc::Global;
 use std::sync::ledger::Ledger;
 
-/// The status and the output of a command. It reads the source where the command examines an input,
+/// The status and the output of a command. It reads the source where the command reads an input,
 /// and writes nothing.
 fn perform<S: Source, L: Ledger>(
     alloc: Global,
@@ -39,35 +47,29 @@ fn perform<S: Source, L: Ledger>(
     requires { (n : ℕ) → command ≡ Drill n → (1 ≤ n) × (n ≤ 20_000) }
     ensures output { IfOk result (λ r. OfInput (Some command) (S.left source.old) λ bytes.
         IsOutput (Some command) bytes r.0 r.1) }
-    ensures status { IfOk result (λ r. IsDecided r.0 ⊎ (r.0 ≡ statuses.InputFault)) }
-    ensures end { IfOk result (λ r. Examines (Some command) → IsDecided r.0 →
-        IsAtEnd (S.left source.new)) }
-    ensures shown { IfOk result (λ r. r.0 ≡ statuses.Rejected →
+    ensures status { IfOk result (λ r. IsVerdictOrSize r.0 ⊎ (r.0 ≡ statuses.InputFault)) }
+    ensures end { IfOk result (λ r. IsOfWhole (Some command) r.0 → IsAtEnd (S.left source.new)) }
+    ensures shown { IfOk result (λ r. DrivesMachine (Some command) → r.0 ≡ statuses.Rejected →
         WhereTold (S.left source.old) λ bytes. IsEvident (scan bytes)) }
-    ensures untouched { ¬ Examines (Some command) → source.new ≡ source.old }
-    ensures reading { IsErrOf result ReadFault → Examines (Some command) }
+    ensures checked { IfOk result (λ r. command ≡ Recheck → r.0 ≡ statuses.Accepted →
+        WhereTold (S.left source.old) λ bytes. IsCheckedSound bytes) }
+    ensures untouched { ¬ Reads (Some command) → source.new ≡ source.old }
+    ensures reading { IsErrOf result ReadFault → Reads (Some command) }
     ensures read_fault { IsErrOf result ReadFault →
         HasRisen (S.faults source.old) (S.faults source.new)
-        × ReadsNoFault (S.left source.old) (S.left source.new) }
+        × ReadsSound (Some command) (S.left source.old) (S.left source.new) }
     ensures count { S.faults source.old ≤ S.faults source.new }
-    ensures most { command ≡ Certify → WhereTold (S.left source.old) λ bytes.
-        CostsAtMost (scan bytes) ticks.old ticks.new }
-    ensures least { IfOk result (λ r. command ≡ Certify → IsDecided r.0 →
-        WhereTold (S.left source.old) λ bytes.
-        CostsAtLeast r.0 (scan bytes) ticks.old ticks.new) }
-    ensures steps_most { command ≡ Expand → WhereTold (S.left source.old) λ bytes.
-        StepsCostAtMost (scan bytes) ticks.old ticks.new }
-    ensures steps_least { IfOk result (λ r. command ≡ Expand → IsDecided r.0 →
-        WhereTold (S.left source.old) λ bytes.
-        StepsCostAtLeast r.0 (scan bytes) ticks.old ticks.new) }
-    ensures drill_most { (n : ℕ) → command ≡ Drill n →
-        CostsAtMost (drill_scan n) ticks.old ticks.new }
-    ensures drill_least { IfOk result (λ r. (n : ℕ) → command ≡ Drill n →
-        CostsAtLeast statuses.Accepted (drill_scan n) ticks.old ticks.new) }
+    ensures most { RisesAtMost (Some command) (S.left source.old) ticks.old ticks.new }
+    ensures least { IfOk result (λ r.
+        RisesAtLeast (Some command) (S.left source.old) r.0 ticks.old ticks.new) }
 {
     match command {
         Command::Certify => certify(alloc, source, ticks),
         Command::Expand => expand(alloc, source, ticks),
+        Command::Quick => quick(alloc, source, ticks),
+        Command::Swaps => swaps(alloc, source, ticks),
+        Command::Recheck => recheck(alloc, source, ticks),
+        Command::Views => views(alloc, source, ticks),
         Command::Drill { n } => {
             let report = drill(alloc, n, ticks)?;
             Ok(report)
@@ -75,7 +77,7 @@ fn perform<S: Source, L: Ledger>(
     }
 }
 
-/// Does a command: reads the source where the command has an input, and writes its output to the
+/// Does a command: reads the source where the command reads an input, and writes its output to the
 /// sink.
 ///
 /// The source is read in pieces of at most 65,536 bytes, and nothing is written before the output
@@ -97,23 +99,21 @@ pub fn run<S: Source, K: Sink, L: Ledger>(
     ensures sent { IsPrinted result → result ≢ statuses.BadWords →
         SendsAll (K.sent sink.old) (K.sent sink.new) (K.held sink.new) }
 
-    // Words that are no command touch nothing, and a command that examines no input leaves the
-    // source as it was.
+    // Words that are no command touch nothing, and a command that reads no input leaves the source
+    // as it was.
     ensures bad_words { (result ≡ statuses.BadWords) ↔ (command_of words.now ≡ None) }
-    ensures source_untouched { ¬ Examines (command_of words.now) → source.new ≡ source.old }
+    ensures source_untouched { ¬ Reads (command_of words.now) → source.new ≡ source.old }
     ensures sink_untouched { result ≡ statuses.BadWords → sink.new ≡ sink.old }
-    ensures ticks_untouched { result ≡ statuses.BadWords → ticks.new ≡ ticks.old }
 
-    // A verdict is found on the whole input: a source that tells its bytes has none left.
-    ensures end { Examines (command_of words.now) → IsDecided result →
-        IsAtEnd (S.left source.new) }
+    // What a command finds on the whole of its input leaves a source that tells its bytes with none.
+    ensures end { IsOfWhole (command_of words.now) result → IsAtEnd (S.left source.new) }
 
     // A failed read is told only where one failed, and no fault in what was read is hidden.
     ensures read_fault { result ≡ statuses.ReadFault →
         HasRisen (S.faults source.old) (S.faults source.new)
         × Keeps (K.held sink.old) (K.held sink.new)
-        × ReadsNoFault (S.left source.old) (S.left source.new) }
-    ensures reading { result ≡ statuses.ReadFault → Examines (command_of words.now) }
+        × ReadsSound (command_of words.now) (S.left source.old) (S.left source.new) }
+    ensures reading { result ≡ statuses.ReadFault → Reads (command_of words.now) }
 
     // A failed write is told only where one failed, and a prefix of the output was written.
     ensures write_fault { result ≡ statuses.WriteFault →
@@ -141,13 +141,15 @@ pub fn run<S: Source, K: Sink, L: Ledger>(
         ¬ HasRisen (K.faults sink.old) (K.faults sink.new) →
         (result ≡ statuses.OutOfMemory) ⊎ IsPrinted result }
 
-    // A command that examines no input does not ask whether a read failed. The run that `drill`
-    // makes is accepted.
-    ensures no_input { ¬ Examines (command_of words.now) →
+    // A command that reads no input does not ask whether a read failed. The run that `drill` makes
+    // is accepted, and what it prints has the numbers of that run.
+    ensures no_input { ¬ Reads (command_of words.now) →
         ¬ HasRisen (K.faults sink.old) (K.faults sink.new) →
         (result ≡ statuses.OutOfMemory) ⊎ IsPrinted result }
     ensures accepted { (n : ℕ) → command_of words.now ≡ Some (Drill n) → IsPrinted result →
         result ≡ statuses.Accepted }
+    ensures drilled { (n : ℕ) → command_of words.now ≡ Some (Drill n) →
+        result ≡ statuses.Accepted → PrintsLines n }
 
     // A run that is certified is simulated by its committed transactions, one after another in
     // commit order, and these transactions, each alone, are an accepted run.
@@ -166,31 +168,31 @@ pub fn run<S: Source, K: Sink, L: Ledger>(
     // Of a run that is rejected, at its start or at a step, the fact of the criterion of its report
     // holds of its evidence; and where it holds of any detail that tells something, the criterion
     // is false.
-    ensures shown { Examines (command_of words.now) → result ≡ statuses.Rejected →
+    ensures shown { DrivesMachine (command_of words.now) → result ≡ statuses.Rejected →
         WhereTold (S.left source.old) λ bytes. IsEvident (scan bytes) }
 
-    // The counter rises at most by what the start, the steps and the serial run of the input cost
-    // at most, whatever is answered; and where there is a verdict, at least by one for each step
-    // that applies or takes back one operation and meets its criteria, and by the serial run.
-    ensures most { command_of words.now ≡ Some Certify → WhereTold (S.left source.old) λ bytes.
-        CostsAtMost (scan bytes) ticks.old ticks.new }
-    ensures least { command_of words.now ≡ Some Certify → IsDecided result →
-        WhereTold (S.left source.old) λ bytes.
-        CostsAtLeast result (scan bytes) ticks.old ticks.new }
+    // What is decided of a boosted run without its local logs is the verdict of all its steps.
+    ensures decided { command_of words.now ≡ Some Quick → IsDecided result →
+        WhereTold (S.left source.old) λ bytes. IsDecidedAsRun (scan bytes) }
 
-    // The same bounds hold of a run that is expanded, without the serial run.
-    ensures steps_most { command_of words.now ≡ Some Expand → WhereTold (S.left source.old) λ bytes.
-        StepsCostAtMost (scan bytes) ticks.old ticks.new }
-    ensures steps_least { command_of words.now ≡ Some Expand → IsDecided result →
-        WhereTold (S.left source.old) λ bytes.
-        StepsCostAtLeast result (scan bytes) ticks.old ticks.new }
+    // What a committed transaction saw that undid nothing since is what some number of the
+    // transactions committed before it give.
+    ensures seen { command_of words.now ≡ Some Views → result ≡ statuses.Accepted →
+        WhereTold (S.left source.old) λ bytes. SeesKept (scan bytes) }
 
-    // Those of a run that is certified hold of the run that `drill` makes, of every source.
-    ensures drill_most { (n : ℕ) → command_of words.now ≡ Some (Drill n) →
-        CostsAtMost (drill_scan n) ticks.old ticks.new }
-    ensures drill_least { (n : ℕ) → command_of words.now ≡ Some (Drill n) →
-        result ≡ statuses.Accepted →
-        CostsAtLeast statuses.Accepted (drill_scan n) ticks.old ticks.new }
+    // What a certificate shows that is accepted is allowed, and leads to the state that is printed.
+    // What `swaps` prints of an accepted run is such a certificate, of that run.
+    ensures checked { command_of words.now ≡ Some Recheck → result ≡ statuses.Accepted →
+        WhereTold (S.left source.old) λ bytes. IsCheckedSound bytes }
+    ensures certified { command_of words.now ≡ Some Swaps → result ≡ statuses.Accepted →
+        WhereTold (S.left source.old) λ bytes.
+        PrintsCertificate bytes (K.held sink.old) (K.held sink.new) }
+
+    // The counter rises at most by what the command costs at most, whatever is answered, and at
+    // least by what its verdict costs at least.
+    ensures most { RisesAtMost (command_of words.now) (S.left source.old) ticks.old ticks.new }
+    ensures least { RisesAtLeast (command_of words.now) (S.left source.old) result
+        ticks.old ticks.new }
 {
     let Some(command) = read_words(words) else {
         return Status::BadWords;

@@ -13,6 +13,14 @@ pub enum Command {
     Certify,
     /// Print the run of rule steps that the input stands for.
     Expand,
+    /// Say whether the input is a boosted run of the machine, without local logs.
+    Quick,
+    /// Print the exchanges that turn the shared log of the run into its serial run.
+    Swaps,
+    /// Check such a certificate with the objects alone.
+    Recheck,
+    /// Print what each attempt of the run saw.
+    Views,
     /// Make the run of n transactions, and sum up what it comes to.
     Drill { n: u32 },
 }
@@ -46,6 +54,14 @@ fn command_named(word: &[u8]) -> Option<Command>
         Some(Command::Certify)
     } else if word == b"expand".as_slice() {
         Some(Command::Expand)
+    } else if word == b"quick".as_slice() {
+        Some(Command::Quick)
+    } else if word == b"swaps".as_slice() {
+        Some(Command::Swaps)
+    } else if word == b"recheck".as_slice() {
+        Some(Command::Recheck)
+    } else if word == b"views".as_slice() {
+        Some(Command::Views)
     } else {
         None
     }

@@ -22,7 +22,40 @@ pub(crate) struct Long {
 const BOOSTED: &[u8] = br#"{"run":1,"style":"boosted","objects":[{"name":"c","kind":"counter"}]}
 "#;
 
-pub(crate) const LONG: [Long; 10] = [
+/// 628 transactions that add to a counter in style boosted, and one that is retried 610 times.
+pub(crate) const TOO_MANY_STEPS: &[Piece] = &[
+    Piece {
+        parts: &[BOOSTED],
+        times: 1,
+    },
+    Piece {
+        parts: &[
+            br#"{"step":"begin","tx":"t"#,
+            br#"","thread":"p1"}
+{"step":"op","tx":"t"#,
+            b"\",\"id\":",
+            b",\"on\":\"c\",\"call\":\"add\",\"args\":[1],\"result\":null}\n{\"step\":\"commit\",\"tx\":\"t",
+            b"\"}\n",
+        ],
+        times: 628,
+    },
+    Piece {
+        parts: &[
+            br#"{"step":"begin","tx":"t629","thread":"p1"}
+"#,
+        ],
+        times: 1,
+    },
+    Piece {
+        parts: &[
+            br#"{"step":"retry","tx":"t629"}
+"#,
+        ],
+        times: 610,
+    },
+];
+
+pub(crate) const LONG: [Long; 11] = [
     Long {
         what: "an object too many",
         input: &[
@@ -250,38 +283,30 @@ pub(crate) const LONG: [Long; 10] = [
         ],
     },
     Long {
-        what: "a step too many",
+        what: "the most transactions",
         input: &[
             Piece {
-                parts: &[BOOSTED],
+                parts: &[COUNTER],
                 times: 1,
             },
             Piece {
                 parts: &[
                     br#"{"step":"begin","tx":"t"#,
-                    br#"","thread":"p1"}
-{"step":"op","tx":"t"#,
-                    b"\",\"id\":",
-                    b",\"on\":\"c\",\"call\":\"add\",\"args\":[1],\"result\":null}\n{\"step\":\"commit\",\"tx\":\"t",
+                    b"\",\"thread\":\"p1\"}\n{\"step\":\"quit\",\"tx\":\"t",
                     b"\"}\n",
                 ],
-                times: 628,
-            },
-            Piece {
-                parts: &[
-                    br#"{"step":"begin","tx":"t629","thread":"p1"}
-"#,
-                ],
-                times: 1,
-            },
-            Piece {
-                parts: &[
-                    br#"{"step":"retry","tx":"t629"}
-"#,
-                ],
-                times: 610,
+                times: 20_000,
             },
         ],
+        status: Status::Accepted,
+        report: &[Piece {
+            parts: &[b"accepted steps 40000 committed 0\nstate c 0\n"],
+            times: 1,
+        }],
+    },
+    Long {
+        what: "a step too many",
+        input: TOO_MANY_STEPS,
         status: Status::InputFault,
         report: &[Piece {
             parts: &[b"fault line 2496 TooManySteps\n"],
@@ -316,3 +341,85 @@ pub(crate) fn bytes_of(alloc: Global, pieces: &[Piece]) -> Result<Vec<u8>, Fail>
     }
     Ok(bytes)
 }
+
+/// Transactions that add to a counter, each of them still open.
+const OPEN: &[Piece] = &[
+    Piece {
+        parts: &[BOOSTED],
+        times: 1,
+    },
+    Piece {
+        parts: &[
+            br#"{"step":"begin","tx":"t"#,
+            br#"","thread":"p"#,
+            b"\"}\n{\"step\":\"op\",\"tx\":\"t",
+            b"\",\"id\":",
+            b",\"on\":\"c\",\"call\":\"add\",\"args\":[1],\"result\":null}\n",
+        ],
+        times: 1_415,
+    },
+];
+
+/// The commit of a transaction.
+const COMMIT: Piece = Piece {
+    parts: &[br#"{"step":"commit","tx":"t"#, b"\"}\n"],
+    times: 1,
+};
+
+/// 1,415 transactions that add to a counter, and commit from the last to the first.
+pub(crate) fn turned_commits(alloc: Global) -> Result<Vec<u8>, Fail> {
+    let mut bytes = bytes_of(alloc, OPEN)?;
+    for number in (1..=1_415).rev() {
+        push_piece(alloc, &mut bytes, &COMMIT, number)?;
+    }
+    Ok(bytes)
+}
+
+/// A transaction that adds to a counter 2,000 times, and then takes back and adds 999 times more; and
+/// another that adds once. Its peaks have 2,000,001 operations.
+pub(crate) const MANY_PEAKS: &[Piece] = &[
+    Piece {
+        parts: &[COUNTER],
+        times: 1,
+    },
+    Piece {
+        parts: &[
+            br#"{"step":"begin","tx":"t1","thread":"p1"}
+"#,
+        ],
+        times: 1,
+    },
+    Piece {
+        parts: &[
+            br#"{"step":"app","tx":"t1","id":"#,
+            br#","on":"c","call":"add","args":[1],"result":null}
+"#,
+        ],
+        times: 2_000,
+    },
+    Piece {
+        parts: &[
+            br#"{"step":"unapp","tx":"t1","id":2000}
+"#,
+        ],
+        times: 1,
+    },
+    Piece {
+        parts: &[
+            br#"{"step":"app","tx":"t1","id":"#,
+            br#"00000,"on":"c","call":"add","args":[1],"result":null}
+{"step":"unapp","tx":"t1","id":"#,
+            b"00000}\n",
+        ],
+        times: 998,
+    },
+    Piece {
+        parts: &[
+            br#"{"step":"app","tx":"t1","id":0,"on":"c","call":"add","args":[1],"result":null}
+{"step":"begin","tx":"t2","thread":"p2"}
+{"step":"app","tx":"t2","id":900000000,"on":"c","call":"add","args":[1],"result":null}
+"#,
+        ],
+        times: 1,
+    },
+];

@@ -1,15 +1,22 @@
-use Rattle.std.proofs.Common.{◌≡◌, Some, inr, rules, ap, subst, ◌∙◌}
+use Rattle.std.proofs.Common.{◌≡◌, Option, Some, inr, rules, ap, subst, sym, ◌∙◌}
 use Rattle.std.specs.Io.KnownBytes.{Appends}
 use Rattle.pp_certify.proofs.Concluding.{accepted_alone, accepted_simulated}
 use Rattle.pp_certify.proofs.Restated.{prints_again}
 use Rattle.pp_certify.specs.Reports.{IsCertified}
+use Rattle.pp_drill.proofs.Drilling.{prints_lines}
+use Rattle.pp_exchanges.proofs.Rechecking.{prints_certificate}
+use Rattle.pp_exchanges.specs.Swaps.{IsSwaps}
+use Rattle.pp_attempts.specs.Outputs.{IsViews}
+use Rattle.pp_certify.specs.Inputs.{scan}
 use Rattle.pp_run.proofs.Numbers.{drill_within}
+use Rattle.pp_run.proofs.Promises.{decided_as_run, sees_kept}
 use Rattle.pp_run.proofs.Printing.{prints, prints_only, prints_prefix, prints_prefix_only}
-use Rattle.pp_run.specs.Outputs.{IsOutput, OfInput}
-use Rattle.pp_run.specs.Words.{Examines, command_of}
+use Rattle.pp_run.specs.Bounds.{RisesAtLeast, RisesAtMost}
+use Rattle.pp_run.specs.Outputs.{IsOfWhole, IsOutput, OfInput}
+use Rattle.pp_run.specs.Words.{DrivesMachine, command_of}
 use Rattle.pp_run.specs.Writing.{AppendsPrefix}
 use Rattle.pp_run.specs.declared.words.Command.{Command}
-use Rattle.pp_run.specs.declared.words.Command.TheVariants.{Certify, Drill, Expand}
+use Rattle.pp_run.specs.declared.words.Command.TheVariants.{Certify, Drill, Expand, Quick, Recheck, Swaps, Views}
 use Rattle.pp_run.proofs.program.run.Goals as goal
 
 -- the number of a drill is one of a run
@@ -87,12 +94,14 @@ returns-in-Ok-send-clause-again g c = λ expand decided bytes is.
     (subst (Appends (g.K.Sink.held c.args.sink.now) (g.K.Sink.held c.send.new.sink)) c.bytes.ensures c.in-Ok-send.ensures.ok)
 
 pub returns-in-Ok-send-clause-end : goal.returns-in-Ok-send-clause-end
-returns-in-Ok-send-clause-end g c = λ examines decided.
+returns-in-Ok-send-clause-end g c = λ whole.
     let command : command_of c.args.words.now ≡ Some c.in-Some.command = search rules in
-    c.in-Ok.ensures.end (subst Examines command examines) decided
+    c.in-Ok.ensures.end (subst (λ (o : Option Command). IsOfWhole o c.in-Ok.report.0) command whole)
 
 pub returns-in-Ok-send-clause-shown : goal.returns-in-Ok-send-clause-shown
-returns-in-Ok-send-clause-shown g c = λ examines rejected bytes is. c.in-Ok.ensures.shown rejected bytes is
+returns-in-Ok-send-clause-shown g c = λ drives rejected bytes is.
+    let command : command_of c.args.words.now ≡ Some c.in-Some.command = search rules in
+    c.in-Ok.ensures.shown (subst DrivesMachine command drives) rejected bytes is
 
 pub returns-in-Ok-send-clause-accepted : goal.returns-in-Ok-send-clause-accepted
 returns-in-Ok-send-clause-accepted g c = λ n drill printed.
@@ -101,66 +110,52 @@ returns-in-Ok-send-clause-accepted g c = λ n drill printed.
     let told = subst (λ (k : Command). OfInput (Some k) left (λ bs. IsOutput (Some k) bs c.in-Ok.report.0 c.in-Ok.report.1)) same c.in-Ok.ensures.output in
     told.4
 
+pub returns-in-Ok-send-clause-checked : goal.returns-in-Ok-send-clause-checked
+returns-in-Ok-send-clause-checked g c = λ recheck accepted bytes is.
+    let same : c.in-Some.command ≡ Recheck = cc in
+    c.in-Ok.ensures.checked same accepted bytes is
+
+pub returns-in-Ok-send-clause-certified : goal.returns-in-Ok-send-clause-certified
+returns-in-Ok-send-clause-certified g c = λ swaps accepted bytes is.
+    let same : c.in-Some.command ≡ Swaps = cc in
+    let left = g.S.Source.left c.args.source.now in
+    let told = subst (λ (k : Command). OfInput (Some k) left (λ bs. IsOutput (Some k) bs c.in-Ok.report.0 c.in-Ok.report.1)) same c.in-Ok.ensures.output bytes is in
+    prints_certificate bytes c.in-Ok.report.1 (g.K.Sink.held c.args.sink.now) (g.K.Sink.held c.send.new.sink) (subst (λ s. IsSwaps bytes s c.in-Ok.report.1) accepted told)
+    (subst (Appends (g.K.Sink.held c.args.sink.now) (g.K.Sink.held c.send.new.sink)) c.bytes.ensures c.in-Ok-send.ensures.ok)
+
+pub returns-in-Ok-send-clause-drilled : goal.returns-in-Ok-send-clause-drilled
+returns-in-Ok-send-clause-drilled g c = λ n is accepted.
+    let within = drill_within c.args.words.now n is in
+    prints_lines n within.0 within.1
+
+pub returns-in-Ok-send-clause-decided : goal.returns-in-Ok-send-clause-decided
+returns-in-Ok-send-clause-decided g c = λ quick told bytes is. decided_as_run (scan bytes)
+
+pub returns-in-Ok-send-clause-seen : goal.returns-in-Ok-send-clause-seen
+returns-in-Ok-send-clause-seen g c = λ views accepted bytes is.
+    let same : c.in-Some.command ≡ Views = cc in
+    let left = g.S.Source.left c.args.source.now in
+    let told = subst (λ (k : Command). OfInput (Some k) left (λ bs. IsOutput (Some k) bs c.in-Ok.report.0 c.in-Ok.report.1)) same c.in-Ok.ensures.output bytes is in
+    sees_kept bytes c.in-Ok.report.1 (subst (λ s. IsViews bytes s c.in-Ok.report.1) accepted told)
+
 -- ---- what the counter shows
 
 pub returns-in-Ok-send-clause-most : goal.returns-in-Ok-send-clause-most
-returns-in-Ok-send-clause-most g c = λ command bytes is.
-    let same : c.in-Some.command ≡ Certify = cc in
-    c.perform.ensures.most same bytes is
-
-pub returns-in-Ok-send-clause-steps_most : goal.returns-in-Ok-send-clause-steps_most
-returns-in-Ok-send-clause-steps_most g c = λ command bytes is.
-    let same : c.in-Some.command ≡ Expand = cc in
-    c.perform.ensures.steps_most same bytes is
+returns-in-Ok-send-clause-most g c =
+    let command : command_of c.args.words.now ≡ Some c.in-Some.command = search rules in
+    subst (λ (o : Option Command). RisesAtMost o (g.S.Source.left c.args.source.now) c.args.ticks.now c.perform.new.ticks) (sym command) c.perform.ensures.most
 
 pub returns-in-Err-WriteFault-clause-most : goal.returns-in-Err-WriteFault-clause-most
-returns-in-Err-WriteFault-clause-most g c = λ command bytes is.
-    let same : c.in-Some.command ≡ Certify = cc in
-    c.perform.ensures.most same bytes is
-
-pub returns-in-Err-WriteFault-clause-steps_most : goal.returns-in-Err-WriteFault-clause-steps_most
-returns-in-Err-WriteFault-clause-steps_most g c = λ command bytes is.
-    let same : c.in-Some.command ≡ Expand = cc in
-    c.perform.ensures.steps_most same bytes is
+returns-in-Err-WriteFault-clause-most g c =
+    let command : command_of c.args.words.now ≡ Some c.in-Some.command = search rules in
+    subst (λ (o : Option Command). RisesAtMost o (g.S.Source.left c.args.source.now) c.args.ticks.now c.perform.new.ticks) (sym command) c.perform.ensures.most
 
 pub returns-clause-most : goal.returns-clause-most
-returns-clause-most g c = λ command bytes is.
-    let same : c.in-Some.command ≡ Certify = cc in
-    c.perform.ensures.most same bytes is
-
-pub returns-clause-steps_most : goal.returns-clause-steps_most
-returns-clause-steps_most g c = λ command bytes is.
-    let same : c.in-Some.command ≡ Expand = cc in
-    c.perform.ensures.steps_most same bytes is
+returns-clause-most g c =
+    let command : command_of c.args.words.now ≡ Some c.in-Some.command = search rules in
+    subst (λ (o : Option Command). RisesAtMost o (g.S.Source.left c.args.source.now) c.args.ticks.now c.perform.new.ticks) (sym command) c.perform.ensures.most
 
 pub returns-in-Ok-send-clause-least : goal.returns-in-Ok-send-clause-least
-returns-in-Ok-send-clause-least g c = λ command decided bytes is.
-    let same : c.in-Some.command ≡ Certify = cc in
-    c.in-Ok.ensures.least same decided bytes is
-
-pub returns-in-Ok-send-clause-steps_least : goal.returns-in-Ok-send-clause-steps_least
-returns-in-Ok-send-clause-steps_least g c = λ command decided bytes is.
-    let same : c.in-Some.command ≡ Expand = cc in
-    c.in-Ok.ensures.steps_least same decided bytes is
-
--- ---- the same of a drill
-
-pub returns-in-Ok-send-clause-drill_most : goal.returns-in-Ok-send-clause-drill_most
-returns-in-Ok-send-clause-drill_most g c = λ n command.
-    let same : c.in-Some.command ≡ Drill n = cc in
-    c.perform.ensures.drill_most n same
-
-pub returns-in-Err-WriteFault-clause-drill_most : goal.returns-in-Err-WriteFault-clause-drill_most
-returns-in-Err-WriteFault-clause-drill_most g c = λ n command.
-    let same : c.in-Some.command ≡ Drill n = cc in
-    c.perform.ensures.drill_most n same
-
-pub returns-clause-drill_most : goal.returns-clause-drill_most
-returns-clause-drill_most g c = λ n command.
-    let same : c.in-Some.command ≡ Drill n = cc in
-    c.perform.ensures.drill_most n same
-
-pub returns-in-Ok-send-clause-drill_least : goal.returns-in-Ok-send-clause-drill_least
-returns-in-Ok-send-clause-drill_least g c = λ n command accepted.
-    let same : c.in-Some.command ≡ Drill n = cc in
-    c.in-Ok.ensures.drill_least n same
+returns-in-Ok-send-clause-least g c =
+    let command : command_of c.args.words.now ≡ Some c.in-Some.command = search rules in
+    subst (λ (o : Option Command). RisesAtLeast o (g.S.Source.left c.args.source.now) c.in-Ok.report.0 c.args.ticks.now c.perform.new.ticks) (sym command) c.in-Ok.ensures.least

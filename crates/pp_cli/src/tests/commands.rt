@@ -1,0 +1,192 @@
+//! Inputs of the commands that print neither a report nor steps.
+use crate::tests::row::Row;
+use pp_core::Status;
+
+/// A command, and what it answers to an input.
+pub(crate) struct CommandRow {
+    pub(crate) command: &'static [u8],
+    pub(crate) row: Row,
+}
+
+pub(crate) const COMMANDS: [CommandRow; 10] = [
+    CommandRow {
+        command: b"swaps",
+        row: Row {
+            what: "two additions that are committed in the other order",
+            header: b"",
+            records: br#"{"run":1,"style":"rules","objects":[{"name":"c","kind":"counter"}]}
+{"step":"begin","tx":"t1","thread":"p1"}
+{"step":"begin","tx":"t2","thread":"p2"}
+{"step":"app","tx":"t1","id":1,"on":"c","call":"add","args":[1],"result":null}
+{"step":"app","tx":"t2","id":2,"on":"c","call":"add","args":[5],"result":null}
+{"step":"push","tx":"t1","id":1}
+{"step":"push","tx":"t2","id":2}
+{"step":"cmt","tx":"t2"}
+{"step":"cmt","tx":"t1"}
+"#,
+            status: Status::Accepted,
+            report: br#"{"certificate":1,"objects":[{"kind":"counter","name":"c"}]}
+{"args":[1],"call":"add","id":1,"on":"c","result":null}
+{"args":[5],"call":"add","id":2,"on":"c","result":null}
+{"swaps":[0]}
+{"serial":2}
+"#,
+        },
+    },
+    CommandRow {
+        command: b"recheck",
+        row: Row {
+            what: "a certificate of two additions",
+            header: b"",
+            records: br#"{"certificate":1,"objects":[{"kind":"counter","name":"c"}]}
+{"args":[1],"call":"add","id":1,"on":"c","result":null}
+{"args":[5],"call":"add","id":2,"on":"c","result":null}
+{"swaps":[0]}
+{"serial":2}
+"#,
+            status: Status::Accepted,
+            report: b"holds operations 2 swaps 1 serial 2\nop 2 c.add(5)=none\nop 1 c.add(1)=none\nstate c 6\n",
+        },
+    },
+    CommandRow {
+        command: b"recheck",
+        row: Row {
+            what: "two writes that do not change places",
+            header: b"",
+            records: br#"{"certificate":1,"objects":[{"kind":"mem","name":"m"}]}
+{"args":[0,5],"call":"write","id":1,"on":"m","result":null}
+{"args":[0,6],"call":"write","id":2,"on":"m","result":null}
+{"swaps":[0]}
+{"serial":2}
+"#,
+            status: Status::Rejected,
+            report: b"refused line 4 pair 1 2\n",
+        },
+    },
+    CommandRow {
+        command: b"recheck",
+        row: Row {
+            what: "no certificate",
+            header: b"",
+            records: b"",
+            status: Status::InputFault,
+            report: b"fault line 1 NotCertificate\n",
+        },
+    },
+    CommandRow {
+        command: b"views",
+        row: Row {
+            what: "a call that sees what was committed beside it",
+            header: b"",
+            records: br#"{"run":1,"style":"boosted","objects":[{"name":"s","kind":"set"}]}
+{"step":"begin","tx":"t1","thread":"p1"}
+{"step":"op","tx":"t1","id":1,"on":"s","call":"add","args":[5],"result":true}
+{"step":"begin","tx":"t2","thread":"p2"}
+{"step":"op","tx":"t2","id":2,"on":"s","call":"add","args":[7],"result":true}
+{"step":"commit","tx":"t2"}
+{"step":"op","tx":"t1","id":3,"on":"s","call":"contains","args":[7],"result":true}
+{"step":"abort","tx":"t1"}
+"#,
+            status: Status::Accepted,
+            report: b"accepted steps 16 committed 1\nview t2 ops 1 after 0\nview t1 ops 2 after 1\n",
+        },
+    },
+    CommandRow {
+        command: b"views",
+        row: Row {
+            what: "a section that is taken back and begun anew",
+            header: b"",
+            records: br#"{"run":1,"style":"hardware","objects":[{"name":"m","kind":"mem"}]}
+{"step":"begin","tx":"t1","thread":"p1"}
+{"step":"xbegin","tx":"t1"}
+{"step":"op","tx":"t1","id":1,"on":"m","call":"read","args":[0],"result":0}
+{"step":"begin","tx":"t2","thread":"p2"}
+{"step":"op","tx":"t2","id":2,"on":"m","call":"write","args":[0,1],"result":null}
+{"step":"commit","tx":"t2"}
+{"step":"xabort","tx":"t1"}
+{"step":"xbegin","tx":"t1"}
+{"step":"op","tx":"t1","id":3,"on":"m","call":"read","args":[0],"result":1}
+{"step":"xend","tx":"t1"}
+{"step":"commit","tx":"t1"}
+"#,
+            status: Status::Accepted,
+            report: b"accepted steps 15 committed 2\nview t1 ops 1 after 0\nview t2 ops 1 after 0\nview t1 ops 1 after 1\n",
+        },
+    },
+    CommandRow {
+        command: b"views",
+        row: Row {
+            what: "a read of what was never committed",
+            header: b"",
+            records: br#"{"run":1,"style":"rules","objects":[{"name":"m","kind":"mem"}]}
+{"step":"begin","tx":"t1","thread":"p1"}
+{"step":"app","tx":"t1","id":1,"on":"m","call":"write","args":[0,7],"result":null}
+{"step":"push","tx":"t1","id":1}
+{"step":"begin","tx":"t2","thread":"p2"}
+{"step":"pull","tx":"t2","id":1}
+{"step":"app","tx":"t2","id":2,"on":"m","call":"read","args":[0],"result":7}
+{"step":"unpush","tx":"t1","id":1}
+{"step":"unapp","tx":"t1","id":1}
+"#,
+            status: Status::Accepted,
+            report: b"accepted steps 8 committed 0\nview t1 ops 1 after 0\nview t2 ops 1 after none\n",
+        },
+    },
+    CommandRow {
+        command: b"quick",
+        row: Row {
+            what: "accounts",
+            header: b"",
+            records: br#"{"run":1,"style":"boosted","objects":[{"name":"acct","kind":"map"}]}
+{"step":"begin","tx":"t0","thread":"p0"}
+{"step":"op","tx":"t0","id":1,"on":"acct","call":"put","args":[1,100],"result":null}
+{"step":"op","tx":"t0","id":2,"on":"acct","call":"put","args":[2,50],"result":null}
+{"step":"commit","tx":"t0"}
+{"step":"begin","tx":"t1","thread":"p1"}
+{"step":"begin","tx":"t2","thread":"p2"}
+{"step":"op","tx":"t1","id":3,"on":"acct","call":"put","args":[1,70],"result":100}
+{"step":"op","tx":"t2","id":4,"on":"acct","call":"put","args":[3,5],"result":null}
+{"step":"commit","tx":"t2"}
+{"step":"op","tx":"t1","id":5,"on":"acct","call":"put","args":[2,80],"result":50}
+{"step":"commit","tx":"t1"}
+"#,
+            status: Status::Accepted,
+            report: b"quick accepted records 11 committed 3\ntx t0\nop 1 acct.put(1,100)=none\nop 2 acct.put(2,50)=none\ntx t2\nop 4 acct.put(3,5)=none\ntx t1\nop 3 acct.put(1,70)=100\nop 5 acct.put(2,80)=50\nstate acct 1=70 2=80 3=5\n",
+        },
+    },
+    CommandRow {
+        command: b"quick",
+        row: Row {
+            what: "a queue that is not left as it was found",
+            header: b"",
+            records: br#"{"run":1,"style":"boosted","objects":[{"name":"q","kind":"queue"}]}
+{"step":"begin","tx":"t0","thread":"p0"}
+{"step":"op","tx":"t0","id":1,"on":"q","call":"enq","args":[3],"result":null}
+{"step":"commit","tx":"t0"}
+{"step":"begin","tx":"t1","thread":"p1"}
+{"step":"op","tx":"t1","id":2,"on":"q","call":"deq","args":[],"result":3}
+{"step":"begin","tx":"t2","thread":"p2"}
+{"step":"op","tx":"t2","id":3,"on":"q","call":"enq","args":[3],"result":null}
+{"step":"commit","tx":"t1"}
+{"step":"op","tx":"t2","id":4,"on":"q","call":"enq","args":[3],"result":null}
+"#,
+            status: Status::Rejected,
+            report: b"quick rejected line 10\n",
+        },
+    },
+    CommandRow {
+        command: b"quick",
+        row: Row {
+            what: "a run of style rules",
+            header: b"",
+            records: br#"{"run":1,"style":"rules","objects":[{"name":"c","kind":"counter"}]}
+{"step":"begin","tx":"t1","thread":"p1"}
+{"step":"app","tx":"t1","id":1,"on":"c","call":"add","args":[2],"result":null}
+{"step":"push","tx":"t1","id":1}
+{"step":"cmt","tx":"t1"}
+"#,
+            status: Status::InputFault,
+            report: b"fault line 1 NotBoosted\n",
+        },
+    },
+];

@@ -1,0 +1,31 @@
+-- How a command ends.
+use Rattle.std.specs.Prelude.{◌≡◌, ◌⊎◌}
+use Rattle.std.proofs.Common.{inl, inr, subst, sym}
+use Rattle.pp_core.specs.declared.status.Status.{Status}
+use Rattle.pp_core.specs.declared.status.Status.TheVariants as statuses
+use Rattle.pp_certify.specs.Certified.{IsDecided}
+use Rattle.pp_run.specs.Outputs.{IsVerdictOrSize}
+
+-- a verdict or a fault
+pub answered : (s : Status) → IsDecided s ⊎ (s ≡ statuses.InputFault) → IsVerdictOrSize s ⊎ (s ≡ statuses.InputFault)
+answered s (inl decided) = inl (inl decided)
+answered s (inr fault) = inr fault
+
+-- the same of what a certificate is
+pub checked : (s : Status) → (s ≡ statuses.Accepted) ⊎ (s ≡ statuses.Rejected) ⊎ (s ≡ statuses.InputFault) → IsVerdictOrSize s ⊎ (s ≡ statuses.InputFault)
+checked s (inl accepted) = inl (inl (subst IsDecided (sym accepted) tt))
+checked s (inr (inl rejected)) = inl (inl (subst IsDecided (sym rejected) tt))
+checked s (inr (inr fault)) = inr fault
+
+-- or a size above a limit
+pub sized : (s : Status) → IsDecided s ⊎ (s ≡ statuses.InputFault) ⊎ (s ≡ statuses.TooLarge) → IsVerdictOrSize s ⊎ (s ≡ statuses.InputFault)
+sized s (inl decided) = inl (inl decided)
+sized s (inr (inl fault)) = inr fault
+sized s (inr (inr large)) = inl (inr large)
+
+pub whole_sound : (s : Status) → IsVerdictOrSize s → s ≡ statuses.InputFault → ⊥
+whole_sound s whole fault = at_fault (subst IsVerdictOrSize fault whole)
+  where
+    at_fault : IsVerdictOrSize statuses.InputFault → ⊥
+    at_fault (inl decided) = decided
+    at_fault (inr large) = let no : statuses.InputFault ≡ statuses.TooLarge = large in cc

@@ -1,0 +1,50 @@
+-- Meaning: how far each command raises the counter of operations that are applied or taken back.
+use Rattle.std.specs.Prelude.{◌≡◌, ℕ, List, Option, None, Some}
+use Rattle.pp_core.specs.declared.status.Status.{Status}
+use Rattle.pp_core.specs.declared.status.Status.TheVariants as statuses
+use Rattle.pp_reading.specs.Sources.{WhereTold}
+use Rattle.pp_certify.specs.Certified.{IsDecided}
+use Rattle.pp_certify.specs.Costs.{CostsAtLeast, CostsAtMost, StepsCostAtLeast, StepsCostAtMost}
+use Rattle.pp_certify.specs.Inputs.{scan}
+use Rattle.pp_attempts.specs.Costs.{ViewsCostAtMost}
+use Rattle.pp_decide.specs.Costs.{QuickCostsAtLeast, QuickCostsAtMost}
+use Rattle.pp_drill.specs.Reports.{drill_scan}
+use Rattle.pp_verify.specs.Costs.{CheckCostsAtMost}
+use Rattle.pp_run.specs.declared.words.Command.{Command}
+use Rattle.pp_run.specs.declared.words.Command.TheVariants.{Certify, Drill, Expand, Quick}
+use Rattle.pp_run.specs.declared.words.Command.TheVariants.{Recheck, Swaps, Views}
+
+-- The counter rises from old to new, whatever is answered: at most by what the start, the steps and
+-- the serial run of the input cost at most, or what the command does in place of these. Of a
+-- certificate each line costs two at most. Words that are no command cost nothing.
+abbrev pub RisesAtMost : Option Command → Option (List ℕ) → (old new : ℕ) → Type 0
+RisesAtMost None left old new = new ≡ old
+RisesAtMost (Some Certify) left old new = WhereTold left λ bytes. CostsAtMost (scan bytes) old new
+RisesAtMost (Some Expand) left old new =
+    WhereTold left λ bytes. StepsCostAtMost (scan bytes) old new
+RisesAtMost (Some Quick) left old new =
+    WhereTold left λ bytes. QuickCostsAtMost (scan bytes) old new
+RisesAtMost (Some Swaps) left old new =
+    WhereTold left λ bytes. StepsCostAtMost (scan bytes) old new
+RisesAtMost (Some Recheck) left old new = WhereTold left λ bytes. CheckCostsAtMost bytes old new
+RisesAtMost (Some Views) left old new =
+    WhereTold left λ bytes. ViewsCostAtMost (scan bytes) old new
+RisesAtMost (Some (Drill n)) left old new = CostsAtMost (drill_scan n) old new
+
+-- Where the command answers with this status, the counter rises at least by one for each step that
+-- applies or takes back one operation and meets its criteria (under `quick`, at accepted alone, for
+-- each record that is an operation), and by the serial run, which `expand` has not. Of
+-- certificates and of views nothing is said.
+abbrev pub RisesAtLeast : Option Command → Option (List ℕ) → Status → (old new : ℕ) → Type 0
+RisesAtLeast None left status old new = Unit {0}
+RisesAtLeast (Some Certify) left status old new = IsDecided status →
+    WhereTold left λ bytes. CostsAtLeast status (scan bytes) old new
+RisesAtLeast (Some Expand) left status old new = IsDecided status →
+    WhereTold left λ bytes. StepsCostAtLeast status (scan bytes) old new
+RisesAtLeast (Some Quick) left status old new = status ≡ statuses.Accepted →
+    WhereTold left λ bytes. QuickCostsAtLeast (scan bytes) old new
+RisesAtLeast (Some Swaps) left status old new = Unit {0}
+RisesAtLeast (Some Recheck) left status old new = Unit {0}
+RisesAtLeast (Some Views) left status old new = Unit {0}
+RisesAtLeast (Some (Drill n)) left status old new = status ≡ statuses.Accepted →
+    CostsAtLeast statuses.Accepted (drill_scan n) old new
