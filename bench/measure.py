@@ -52,14 +52,24 @@ def seconds(command, path, times=3, enough=20):
     return min(taken), first
 
 
-def timed(program, path, records, wanted):
-    """The time of `certify` on these records."""
+def write(path, values):
+    """A line for each value."""
     with open(path, "w") as out:
-        out.writelines(json.dumps(record, separators=(",", ":")) + "\n" for record in records)
-    took, first = seconds([program, "certify"], path)
+        out.writelines(json.dumps(value, separators=(",", ":")) + "\n" for value in values)
+
+
+def answered(program, words, path, wanted):
+    """The time of a command on a file, whose answer is to have this first line."""
+    took, first = seconds([program, *words.split()], path)
     if first != wanted:
         sys.exit(f"bench: {first!r} in place of {wanted!r}")
     return took
+
+
+def timed(program, path, records, wanted):
+    """The time of `certify` on these records."""
+    write(path, records)
+    return answered(program, "certify", path, wanted)
 
 
 def measure(program, name, records):

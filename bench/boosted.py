@@ -1,0 +1,84 @@
+#!/usr/bin/env python3
+"""Boosted runs, which `quick` decides without local logs: transactions of eight puts over a map of 64 keys.
+
+    python3 bench/boosted.py crates/pp_cli/out/pp_cli
+
+- one after another: each transaction puts on the eight keys behind those of the one before.
+- eight open at once: each has eight keys of its own, all put in turn, and they commit at different times, so that
+  each finds entries of others that are committed and that it has not seen.
+
+Beside the time of `quick` on 200,000 records stands that of only reading them. `certify` stops at 200,000 steps;
+beside its time on as many transactions as it can take stands that of `quick` on them.
+"""
+import itertools
+import os
+import tempfile
+
+from measure import answered, begin, program_named, write
+
+COUNT = 20_000
+# As many as make fewer than 200,000 steps, where each pulls all that was committed before.
+CERTIFIED = 221
+KEYS, PUTS = 64, 8
+SLOTS = KEYS // PUTS
+HEADER = {"run": 1, "style": "boosted", "objects": [{"name": "m", "kind": "map"}]}
+FAILING = {"step": "commit", "tx": "none"}
+
+
+def transaction(tx, thread, number, keys, value, was):
+    """Puts a value on each of these keys, which had another or none."""
+    yield begin(tx, thread)
+    for place, key in enumerate(keys):
+        put = {"on": "m", "call": "put", "args": [key, value], "result": was}
+        yield {"step": "op", "tx": tx, "id": number + place, **put}
+    yield {"step": "commit", "tx": tx}
+
+
+def in_slot(slot, rounds):
+    """The transactions on the eight keys of a slot, one for each of these rounds."""
+    for place in rounds:
+        number = place * SLOTS + slot
+        keys = range(PUTS * slot, PUTS * slot + PUTS)
+        yield from transaction(f"t{number}", f"p{slot}", PUTS * number, keys, place, place - 1 if place else None)
+
+
+def one_after_another(count):
+    return [record for k in range(count) for record in in_slot(k % SLOTS, [k // SLOTS])]
+
+
+def open_at_once(count):
+    """Each slot begins one turn behind the slot before."""
+    slots = (itertools.chain([None] * slot, in_slot(slot, range(count // SLOTS))) for slot in range(SLOTS))
+    return [record for turn in itertools.zip_longest(*slots) for record in turn if record]
+
+
+def measure(program, path, name, records):
+    write(path, [HEADER, FAILING, *records[:-1]])
+    read = answered(program, "quick", path, "quick rejected line 2")
+    write(path, [HEADER, *records])
+    whole = answered(program, "quick", path, f"quick accepted records {len(records)} committed {COUNT}")
+    print(f"{name}, {len(records)} records: {whole:.2f} s, only read {read:.2f} s, "
+          f"ratio {whole / read:.2f}", flush=True)
+
+
+def measure_certified(program, path):
+    records = one_after_another(CERTIFIED)
+    steps = sum(2 + 2 * PUTS + PUTS * before for before in range(CERTIFIED))
+    write(path, [HEADER, *records])
+    certified = answered(program, "certify", path, f"accepted steps {steps} committed {CERTIFIED}")
+    quick = answered(program, "quick", path, f"quick accepted records {len(records)} committed {CERTIFIED}")
+    print(f"{len(records)} records, {steps} steps: certify {certified:.3f} s, quick {quick:.3f} s, "
+          f"ratio {certified / quick:.1f}", flush=True)
+
+
+def main():
+    program = program_named()
+    with tempfile.TemporaryDirectory() as folder:
+        path = os.path.join(folder, "run.jsonl")
+        measure(program, path, "one after another", one_after_another(COUNT))
+        measure(program, path, "eight open at once", open_at_once(COUNT))
+        measure_certified(program, path)
+
+
+if __name__ == "__main__":
+    main()

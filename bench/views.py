@@ -1,0 +1,71 @@
+#!/usr/bin/env python3
+"""Peaks that no prefix explains, which are the dearest: `views` beside `certify`.
+
+    python3 bench/views.py crates/pp_cli/out/pp_cli
+
+A writer publishes a value that it never commits, and three hundred transactions commit three additions each. Nine
+thousand transactions then pull that value and are given up: some of their reads are true after each of the commits,
+and the last, of that value, is true after none. They are measured with one read, with two, and with eight.
+"""
+import os
+import tempfile
+
+from measure import answered, app, begin, cmt, header, named, program_named, write
+
+ATTEMPTS = 9_000
+COMMITS = 300
+ADDITIONS = 3
+READS = [1, 2, 8]
+UNTOLD = 7
+
+
+def committed():
+    for k in range(COMMITS):
+        tx, numbers = f"c{k}", range(1 + ADDITIONS * k, 1 + ADDITIONS * k + ADDITIONS)
+        yield begin(tx)
+        for number in numbers:
+            yield app(tx, number, "add", [1], on="o2")
+            yield named("push", tx, number)
+        yield cmt(tx)
+
+
+def attempt(tx, first, reads):
+    """Reads other addresses, which stay 0, and then the value that is not committed."""
+    numbers = range(first, first + reads)
+    yield begin(tx)
+    yield named("pull", tx, 0)
+    for number in numbers:
+        last = number == numbers[-1]
+        yield app(tx, number, "read", [0 if last else number], UNTOLD if last else 0)
+    for number in reversed(numbers):
+        yield named("unapp", tx, number)
+    yield named("unpull", tx, 0)
+    yield {"step": "quit", "tx": tx}
+
+
+def run(reads):
+    records = [header("mem", "counter"), begin("writer", "p0")]
+    records += [app("writer", 0, "write", [0, UNTOLD]), named("push", "writer", 0), *committed()]
+    behind = 1 + ADDITIONS * COMMITS
+    for k in range(ATTEMPTS):
+        records += attempt(f"t{k}", behind + reads * k, reads)
+    return records
+
+
+def measure(program, path, reads):
+    records = run(reads)
+    write(path, records)
+    accepted = f"accepted steps {len(records) - 1} committed {COMMITS}"
+    views, certified = (answered(program, word, path, accepted) for word in ("views", "certify"))
+    print(f"{ATTEMPTS} peaks of {reads}, {len(records) - 1} steps: views {views:.2f} s, certify {certified:.2f} s, "
+          f"ratio {views / certified:.2f}", flush=True)
+
+
+def main():
+    with tempfile.TemporaryDirectory() as folder:
+        for reads in READS:
+            measure(program_named(), os.path.join(folder, "run.jsonl"), reads)
+
+
+if __name__ == "__main__":
+    main()
