@@ -1,6 +1,6 @@
 //! Taking the lines of a run, one after another.
 ghost use Rattle.std.specs.Prelude.{◌≡◌, ◌≤◌, ◌<◌, ◌+◌, ℕ, false, [], ◌&&◌, ◌==◌, IfOk, IfErr};
-ghost use Rattle.std.specs.Prelude.{OnErr, Some, None, Ok, Err};
+ghost use Rattle.std.specs.Prelude.{IsTrue, OnErr, Some, None, Ok, Err};
 ghost use Rattle.pp_lines.specs.Statable.{is_begin};
 ghost use Rattle.pp_core.specs.declared.limits.TheConstants.{MOST_LINES, MOST_STEPS};
 ghost use Rattle.pp_core.specs.Steps.{meaning};
@@ -237,13 +237,16 @@ pub fn read_next(alloc: Global, tally: &Tally, line: &Line) -> Result<RunRecord<
     Ok(recorded)
 }
 
-/// The steps of a record, of a run that is not rejected so far. It answers all of them too.
-fn take_steps<L: Ledger>(
+/// The steps of the record of this line, which is counted, of a run that is not rejected so far.
+/// Where they are to be listed, it answers all of them too.
+pub fn take_steps<L: Ledger>(
+    alloc: Global,
     tally: Tally,
     mut front: BoxedFront,
     machine: Machine<Objects>,
     recorded: &RunRecord<Op>,
     line: u32,
+    listed: bool,
     ticks: &mut Ticks<L>,
 ) -> Result<(Progress, StepList<Op>), Stop<Cause>>
     requires shape { machine.shape ≡ kinds_of tally.header.catalog }
@@ -252,7 +255,7 @@ fn take_steps<L: Ledger>(
     requires few { machine.count ≤ MOST_STEPS }
     ensures ok { IfOk result (λ r. RecordTaken tally front machine
         (record_meaning recorded.now) line ticks.old r.0 ticks.new) }
-    ensures list { IfOk result (λ r. meanings r.1
+    ensures list { IsTrue listed → IfOk result (λ r. meanings r.1
         ≡ steps_here tally front machine (record_meaning recorded.now)) }
     ensures err { IfErr result (λ stop. IfFault stop (λ at cause. (at ≡ line)
         × ((cause ≡ TooManySteps) × Overruns machine
@@ -260,7 +263,7 @@ fn take_steps<L: Ledger>(
     ensures most { CostAtMost objects place_of machine
         (steps_here tally front machine (record_meaning recorded.now)) ticks.old ticks.new }
 {
-    let (machine, list, halt) = do_record(&mut front, machine, recorded, ticks)?;
+    let (machine, list, halt) = do_record(alloc, &mut front, machine, recorded, listed, ticks)?;
     let Some(halt) = halt else {
         return Ok((Progress::Running(tally, front, machine), list));
     };
@@ -284,13 +287,15 @@ fn take_steps<L: Ledger>(
     }
 }
 
-/// A record of a run that is not rejected so far. It answers all steps of the record too.
+/// A record of a run that is not rejected so far. Where they are to be listed, it answers all steps
+/// of the record too.
 fn take_record<L: Ledger>(
     alloc: Global,
     tally: Tally,
     front: BoxedFront,
     machine: Machine<Objects>,
     line: &Line,
+    listed: bool,
     ticks: &mut Ticks<L>,
 ) -> Result<(Progress, StepList<Op>), Stop<Cause>>
     requires next { (first : ℕ) × IsNext (run_reading first)
@@ -299,7 +304,7 @@ fn take_record<L: Ledger>(
     ensures ok { IfOk result (λ r. (first : ℕ) →
         LeadsOn (run_reading first) (Running tally front machine, ticks.old)
         (line.now.number, line.now.text) (r.0, ticks.new)) }
-    ensures brings { IfOk result (λ r. Brings (Running tally front machine)
+    ensures brings { IsTrue listed → IfOk result (λ r. Brings (Running tally front machine)
         (line.now.number, line.now.text) r.0 (meanings r.1)) }
     ensures stop { IfErr result (λ stop. (first : ℕ) →
         StopsAt (run_reading first) (Running tally front machine, ticks.old)
@@ -310,11 +315,13 @@ fn take_record<L: Ledger>(
 {
     let recorded = read_next(alloc, &tally, line)?;
     take_steps(
+        alloc,
         with_record(tally, &recorded),
         front,
         machine,
         &recorded,
         line.number,
+        listed,
         ticks,
     )
 }
@@ -343,6 +350,44 @@ fn pass_record(
     Ok(Progress::Rejected(with_record(tally, &recorded), rejection))
 }
 
+/// Takes the next line of a run. Where they are to be listed, it answers steps too, as `take_line`
+/// does.
+fn take_next<L: Ledger>(
+    alloc: Global,
+    progress: Progress,
+    line: &Line,
+    listed: bool,
+    ticks: &mut Ticks<L>,
+) -> Result<(Progress, StepList<Op>), Stop<Cause>>
+    requires { (first : ℕ) × IsNext (run_reading first) (progress, ticks.old)
+        (line.now.number, line.now.text) }
+    ensures ok { IfOk result (λ r. (first : ℕ) → LeadsOn (run_reading first)
+        (progress, ticks.old) (line.now.number, line.now.text) (r.0, ticks.new)) }
+    ensures brings { IsTrue listed → IfOk result (λ r. Brings progress
+        (line.now.number, line.now.text) r.0 (meanings r.1)) }
+    ensures stop { IfErr result (λ stop. (first : ℕ) → StopsAt (run_reading first)
+        (progress, ticks.old) (line.now.number, line.now.text) stop) }
+    ensures cost { OnErr result ((first : ℕ) → StopsWith (run_reading first)
+        (progress, ticks.old) (line.now.number, line.now.text) ticks.new) }
+{
+    if is_blank(line.text.bytes()) {
+        return Ok((with_blank(progress), StepList::new(alloc)));
+    }
+    match progress {
+        Progress::Waiting(_) => {
+            let next = take_header(alloc, line, ticks)?;
+            Ok((next, StepList::new(alloc)))
+        }
+        Progress::Running(tally, front, machine) => {
+            take_record(alloc, tally, front, machine, line, listed, ticks)
+        }
+        Progress::Rejected(tally, rejection) => {
+            let next = pass_record(alloc, tally, rejection, line)?;
+            Ok((next, StepList::new(alloc)))
+        }
+    }
+}
+
 /// Takes the next line of a run. It answers steps too, of which the first are those that the run
 /// has from this line, the one that fails included; the others are of no use. A blank line, the
 /// header and a record behind a rejection have none.
@@ -363,22 +408,7 @@ pub fn take_line<L: Ledger>(
     ensures cost { OnErr result ((first : ℕ) → StopsWith (run_reading first)
         (progress, ticks.old) (line.now.number, line.now.text) ticks.new) }
 {
-    if is_blank(line.text.bytes()) {
-        return Ok((with_blank(progress), StepList::new(alloc)));
-    }
-    match progress {
-        Progress::Waiting(_) => {
-            let next = take_header(alloc, line, ticks)?;
-            Ok((next, StepList::new(alloc)))
-        }
-        Progress::Running(tally, front, machine) => {
-            take_record(alloc, tally, front, machine, line, ticks)
-        }
-        Progress::Rejected(tally, rejection) => {
-            let next = pass_record(alloc, tally, rejection, line)?;
-            Ok((next, StepList::new(alloc)))
-        }
-    }
+    take_next(alloc, progress, line, true, ticks)
 }
 
 impl TakesLines for Progress {
@@ -398,7 +428,7 @@ impl TakesLines for Progress {
         line: &Line,
         ticks: &mut Ticks<L>,
     ) -> Result<Progress, Stop<Cause>> {
-        let (next, _list) = take_line(alloc, self, line, ticks)?;
+        let (next, _list) = take_next(alloc, self, line, false, ticks)?;
         Ok(next)
     }
 }

@@ -265,3 +265,18 @@ module _ {Shape State Op Undo : Type 0} (o : Object Shape State Op Undo) (place 
         few = not_more old.count (length so.done.before) mid.count MOST_STEPS (ap (λ (v : Seen Shape Op). v.count) so.done.is) so.done.few;
         most = so.most;
       }
+
+-- ---- one step alone
+
+module _ {Shape State Op Undo : Type 0} (o : Object Shape State Op Undo) (place : Op → ℕ) (old new : Seen Shape Op) (s : Step Op) (from to : ℕ) (few : old.count ≤ MOST_STEPS) where
+  before_it : SoFar o place old (s ∷ []) from (s ∷ []) old from
+  before_it = at_first o place old (s ∷ []) from few
+
+  pub only_drives : (r : Option (Halt Op)) → Goes o old s from r new to → CostsOne place old s from to → Drives o old (s ∷ []) from r new to
+  only_drives None g one =
+      let so = went_on o place old (s ∷ []) from s [] old new from to before_it None refl g one in
+      so.done
+  only_drives (Some halt) g one = halted o place old (s ∷ []) from s [] old new from to before_it (Some halt) halt refl g
+
+  pub only_costs : CostsOne place old s from to → CostAtMost o place old (s ∷ []) from to
+  only_costs one = tried o place old (s ∷ []) from s [] old new from to before_it one

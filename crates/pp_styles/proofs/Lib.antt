@@ -9,3 +9,4 @@ pub mod Driven
 pub mod Asking
 pub mod Trying
 pub mod Arms
+pub mod Plain

@@ -1,5 +1,5 @@
 //! Driving a machine through the steps of a record.
-ghost use Rattle.std.specs.Prelude.{◌≡◌, ◌≤◌, ◌↔◌, IfOk, IsTrue, List, OnOk};
+ghost use Rattle.std.specs.Prelude.{◌≡◌, ◌≤◌, ◌↔◌, ◌∷◌, [], IfOk, IsTrue, List, OnOk};
 ghost use Rattle.pp_core.specs.Steps.{Step as StepOf, meaning};
 ghost use Rattle.pp_core.specs.declared.call.Kind.{Kind};
 ghost use Rattle.pp_core.specs.declared.limits.TheConstants.{MOST_STEPS};
@@ -16,6 +16,7 @@ use pp_core::{MOST_STEPS, OutOfMemory, Rule, Step, Ticks, rule_of};
 use pp_front::RunRecord;
 use pp_parts::Parted;
 use pp_rules::{Detail, Machine, Outcome};
+use std::alloc::Global;
 use std::sync::ledger::Ledger;
 
 /// Why not all steps of a record were done.
@@ -68,6 +69,23 @@ fn try_step<S: Parted, L: Ledger>(
     }
 }
 
+/// Does a record's one step, unless it fails or a run may have no step more. The only error is that
+/// memory was refused, and the machine is then lost.
+fn do_only_step<S: Parted, L: Ledger>(
+    machine: Machine<S>,
+    step: &Step<S::Op>,
+    ticks: &mut Ticks<L>,
+) -> Result<(Machine<S>, Option<Halt<S::Op>>), OutOfMemory>
+    requires asked { IsAsked S.object machine.shape (meaning step.now) }
+    requires few { machine.count ≤ MOST_STEPS }
+    ensures drives { IfOk result (λ r.
+        Drives S.object machine (meaning step.now ∷ []) ticks.old r.1 r.0 ticks.new) }
+    ensures most { CostAtMost S.object S.place_of machine (meaning step.now ∷ [])
+        ticks.old ticks.new }
+{
+    try_step(machine, step, ticks)
+}
+
 /// Does the steps up to the first that fails, and no more than a run may have. The only error is
 /// that memory was refused, and the machine is then lost.
 pub fn do_steps<S: Parted, L: Ledger>(
@@ -93,13 +111,16 @@ pub fn do_steps<S: Parted, L: Ledger>(
     Ok((machine, None))
 }
 
-/// Does the steps of a record up to the first that fails, and no more than a run may have. It
-/// answers all steps of the record too, also those behind one that fails. The only error is that
-/// memory was refused: the machine is then lost, and the front is of no more use.
+/// Does the steps of a record up to the first that fails, and no more than a run may have. Where
+/// they are to be listed, it answers all steps of the record too, also those behind one that fails;
+/// else a record that is a step is done as it stands, and the list is of no use. The only error is
+/// that memory was refused: the machine is then lost, and the front is of no more use.
 pub fn do_record<S: Parted, F: Front<S>, L: Ledger>(
+    alloc: Global,
     front: &mut F,
     machine: Machine<S>,
     recorded: &RunRecord<S::Op>,
+    listed: bool,
     ticks: &mut Ticks<L>,
 ) -> Result<(Machine<S>, StepList<S::Op>, Option<Halt<S::Op>>), OutOfMemory>
     requires style { IsOfStyle (F.style front.old) (record_meaning recorded.now) }
@@ -108,7 +129,7 @@ pub fn do_record<S: Parted, F: Front<S>, L: Ledger>(
     ensures drives { (kinds : List Kind) → IfOk result (λ r. Drives S.object machine
         (expand S.place_of (F.style front.old) (F.state kinds front.old) machine.config
         (record_meaning recorded.now)) ticks.old r.2 r.0 ticks.new) }
-    ensures list { (kinds : List Kind) → IfOk result (λ r. meanings r.1
+    ensures list { IsTrue listed → (kinds : List Kind) → IfOk result (λ r. meanings r.1
         ≡ expand S.place_of (F.style front.old) (F.state kinds front.old) machine.config
         (record_meaning recorded.now)) }
     ensures kept { (kinds : List Kind) → OnOk result (F.state kinds front.new
@@ -118,6 +139,10 @@ pub fn do_record<S: Parted, F: Front<S>, L: Ledger>(
         (expand S.place_of (F.style front.old) (F.state kinds front.old) machine.config
         (record_meaning recorded.now)) ticks.old ticks.new }
 {
+    if !listed && let RunRecord::Plain(step) = recorded {
+        let (after, halt) = do_only_step(machine, step, ticks)?;
+        return Ok((after, StepList::new(alloc), halt));
+    }
     let list = front.expand(recorded, &machine)?;
     let (machine, halt) = do_steps(machine, list.as_slice(), ticks)?;
     Ok((machine, list, halt))

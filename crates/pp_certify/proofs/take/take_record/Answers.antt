@@ -83,7 +83,7 @@ returns-clause-ok g c =
     c.take_steps.ensures.ok
 
 pub returns-clause-brings : goal.returns-clause-brings
-returns-clause-brings g c =
+returns-clause-brings g c asked =
     let line : NumberedLine = (c.args.line.now.number, c.args.line.now.text) in
     let tally = c.args.tally in
     let front = c.args.front in
@@ -96,7 +96,7 @@ returns-clause-brings g c =
     subst (λ steps. Brings from line out.0 steps) (sym (list ∙ ap (λ t. steps_here t front machine r) c.with_record.ensures))
     (record_brings tally front machine line r c.requires.other c.in_ok-recorded.ensures.read c.in_ok-recorded.ensures.few now new out.0
     (subst (λ t. RecordTaken t front machine r line.0 now out.0 new) c.with_record.ensures taken)))
-    c.take_steps.ensures.ok c.take_steps.ensures.list
+    c.take_steps.ensures.ok (c.take_steps.ensures.list asked)
 
 pub returns-clause-stop : goal.returns-clause-stop
 returns-clause-stop g c =

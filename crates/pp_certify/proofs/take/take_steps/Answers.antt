@@ -49,10 +49,10 @@ returns-in-TooMany-clause-err g c =
 -- ---- all of them
 
 pub returns-in_default-clause-list : goal.returns-in_default-clause-list
-returns-in_default-clause-list g c = c.in_ok-machine.ensures.list (kinds_of c.args.tally.header.catalog)
+returns-in_default-clause-list g c asked = c.in_ok-machine.ensures.list asked (kinds_of c.args.tally.header.catalog)
 
 pub returns-in-Failed-clause-list : goal.returns-in-Failed-clause-list
-returns-in-Failed-clause-list g c = c.in_ok-machine.ensures.list (kinds_of c.args.tally.header.catalog)
+returns-in-Failed-clause-list g c asked = c.in_ok-machine.ensures.list asked (kinds_of c.args.tally.header.catalog)
 
 -- ---- what it costs
 
