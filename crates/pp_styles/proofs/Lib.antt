@@ -1,4 +1,5 @@
 pub mod Growing
+pub mod Nearing
 pub mod Pulling
 pub mod Outs
 pub mod Standing

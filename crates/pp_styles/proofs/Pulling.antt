@@ -1,10 +1,12 @@
 -- What the pulls of a transaction are, from one entry of an object to the next.
 use Rattle.std.proofs.Common.{◌≡◌, ◌≤◌, ℕ, suc, Bool, true, false, not, ◌&&◌, ◌==◌}
-use Rattle.std.proofs.Common.{List, [], ◌∷◌, ◌++◌, take, length, Some, refl, sym, ap, subst}
+use Rattle.std.proofs.Common.{List, [], ◌∷◌, ◌++◌, take, length, map, Some, refl, sym, ap, subst}
 use Rattle.std.proofs.Common.{if◌then◌else◌, ◌∙◌, inl, inr}
 use Rattle.std.specs.List.{slice_get}
+use Rattle.std.proofs.Math.Bool.{or-false}
 use Rattle.std.proofs.lemmas.Bool.{eq-eqb}
 use Rattle.std.proofs.lemmas.Bool.Decides.{eqb_tells}
+use Rattle.std.proofs.lemmas.List.Elements.{filter_agree}
 use Rattle.std.proofs.lemmas.Option.{same_Some}
 use Rattle.pp_core.specs.Steps.{Step, Pull}
 use Rattle.pp_core.specs.declared.entry.LocalEntry.{LocalEntry}
@@ -12,23 +14,11 @@ use Rattle.pp_core.specs.declared.entry.SharedEntry.{SharedEntry}
 use Rattle.pp_log.specs.Logs.{IsFirstFrom, IsOn, NoneFrom}
 use Rattle.pp_model.specs.Config.{shared_item}
 use Rattle.pp_model.specs.Names.{Name}
-use Rattle.pp_shared.specs.Committing.{IsCommittedOn}
 use Rattle.pp_front.specs.Expansions.{follow, is_followed, refresh, stands_in}
-use Rattle.pp_styles.specs.Pulling.{pull_followed, pull_unless}
+use Rattle.pp_styles.specs.Pulling.{pull_followed}
 use Rattle.pp_styles.proofs.Growing.{chosen-found, chosen-rest}
 
 -- tests of an entry
-off_object : (b r : Bool) (n m : ℕ) → ((n ≡ m) × (b ≡ true) → ⊥) → ((b && (n == m)) && r) ≡ false
-off_object true r n m none = elim (eqb_tells n m) [
-  | inl same ↦ absurd (none (same.1, refl))
-  | inr other ↦ ap (λ (c : Bool). c && r) other.0
-]
-off_object false r n m none = refl
-
-on_object : (b r : Bool) (n m : ℕ) → b ≡ true → n ≡ m → ((b && (n == m)) && r) ≡ r
-on_object b r n m committed same =
-    ap (λ (c : Bool). (c && (n == m)) && r) committed ∙ ap (λ (c : Bool). c && r) (eq-eqb n m same)
-
 off_followed : (b r : Bool) (n m : ℕ) → (n ≡ m → ⊥) → ((b && (n == m)) && r) ≡ false
 off_followed b r n m none = elim (eqb_tells n m) [
   | inl same ↦ absurd (none same.1)
@@ -48,19 +38,7 @@ both true c r xs h = ap (λ (w : Bool). if (w && not r) then xs else []) h ∙ t
 both false c r xs h = refl
 
 module _ {Op : Type 0} (place : Op → ℕ) (t : Name) (o : ℕ) (G : List (SharedEntry Op)) (l : List (LocalEntry Op)) (at next : ℕ) (is_next : next ≡ suc at) (from : ℕ) (g : SharedEntry Op) (here : slice_get G at ≡ Some g) where
-  -- a refresh, up to the next committed entry of the object
-  pub refresh_next : IsFirstFrom (IsCommittedOn place o) G from at →
-      refresh place t o (take next G) l ≡ refresh place t o (take from G) l ++ pull_unless (stands_in l g.id) t g.id
-  refresh_next f =
-      let same : f.entry ≡ g = same_Some f.entry g (sym f.is ∙ here) in
-      let holds : IsCommittedOn place o g = subst (IsCommittedOn place o) same f.holds in
-      ap (λ (n : ℕ). refresh place t o (take n G) l) is_next
-      ∙ chosen-found (λ (e : SharedEntry Op). Pull t e.id) (λ (e : SharedEntry Op). (e.committed && (place e.op == o)) && not (stands_in l e.id)) G from at g f.behind here
-      (λ j e from_on below there. off_object e.committed (not (stands_in l e.id)) (place e.op) o (f.first j e from_on below there))
-      ∙ ap (λ (w : List (Step Op)). refresh place t o (take from G) l ++ w)
-      (ap (λ (b : Bool). if b then Pull t g.id ∷ [] else []) (on_object g.committed (not (stands_in l g.id)) (place g.op) o holds.1 holds.0) ∙ turned (stands_in l g.id) (Pull t g.id ∷ []))
-
-  -- the same of a transaction that follows sources, up to the next entry of the object
+  -- what a transaction follows, up to the next entry of the object
   pub follow_next : (sources : List Name) → IsFirstFrom (IsOn place shared_item o) G from at →
       follow place t o sources (take next G) l ≡ follow place t o sources (take from G) l ++ pull_followed sources l t g
   follow_next sources f =
@@ -74,12 +52,14 @@ module _ {Op : Type 0} (place : Op → ℕ) (t : Name) (o : ℕ) (G : List (Shar
 
 module _ {Op : Type 0} (place : Op → ℕ) (t : Name) (o : ℕ) (G : List (SharedEntry Op)) (l : List (LocalEntry Op)) (from : ℕ) (within : from ≤ length G) where
   -- and behind the last one
-  pub refresh_rest : NoneFrom (IsCommittedOn place o) G from → refresh place t o (take from G) l ≡ refresh place t o G l
-  refresh_rest none =
-      chosen-rest (λ (e : SharedEntry Op). Pull t e.id) (λ (e : SharedEntry Op). (e.committed && (place e.op == o)) && not (stands_in l e.id)) G from within
-      (λ j e from_on there. off_object e.committed (not (stands_in l e.id)) (place e.op) o (none j e from_on there))
-
   pub follow_rest : (sources : List Name) → NoneFrom (IsOn place shared_item o) G from → follow place t o sources (take from G) l ≡ follow place t o sources G l
   follow_rest sources none =
       chosen-rest (λ (e : SharedEntry Op). Pull t e.id) (λ (e : SharedEntry Op). (is_followed sources e && (place e.op == o)) && not (stands_in l e.id)) G from within
       (λ j e from_on there. off_followed (is_followed sources e) (not (stands_in l e.id)) (place e.op) o (none j e from_on there))
+
+-- what is committed of an object is what a transaction with no sources follows
+pub follow_none : {Op : Type 0} (place : Op → ℕ) (t : Name) (o : ℕ) (G : List (SharedEntry Op)) (l : List (LocalEntry Op)) → follow place t o [] G l ≡ refresh place t o G l
+follow_none {Op} place t o G l =
+    ap (map (λ (e : SharedEntry Op). Pull t e.id))
+    (filter_agree (λ (e : SharedEntry Op). (is_followed [] e && (place e.op == o)) && not (stands_in l e.id)) (λ (e : SharedEntry Op). (e.committed && (place e.op == o)) && not (stands_in l e.id))
+    (λ (e : SharedEntry Op). ap (λ (b : Bool). (b && (place e.op == o)) && not (stands_in l e.id)) (or-false e.committed)) G)

@@ -1,7 +1,10 @@
 -- An id is told to stand in a log where its place is found.
 use Rattle.std.specs.Prelude.{◌≡◌, ◌==◌, eqb, ◌||◌, ℕ, Bool, true, false, cond, List, [], ◌∷◌}
-use Rattle.std.specs.Prelude.{position, find, slice_get, is_some, Option, Some, None}
+use Rattle.std.specs.Prelude.{zero, suc, position, find, slice_get, is_some, Option, Some, None}
 use Rattle.std.proofs.Common.{refl, ap, sym, ◌∙◌}
+use Rattle.std.proofs.Math.Bool.{or-true}
+use Rattle.std.proofs.lemmas.Bool.{eq-eqb}
+use Rattle.std.proofs.lemmas.Option.{same_Some}
 use Rattle.pp_model.specs.Config.{LocalEntry}
 use Rattle.pp_front.specs.Expansions.{stands_in}
 use Rattle.pp_rules.proofs.Finding.{place_found, place_none, place_there}
@@ -25,3 +28,10 @@ module _ {Op : Type 0} (i : ℕ) where
 
   pub standing : (l : List (LocalEntry Op)) → is_some (position (λ e. e.id == i) l) ≡ stands_in l i
   standing l = by_place l (position (λ (e : LocalEntry Op). e.id == i) l) refl ∙ told l
+
+  -- and where an entry of it is seen
+  pub stands_there : (l : List (LocalEntry Op)) (k : ℕ) (e : LocalEntry Op) → slice_get l k ≡ Some e → e.id ≡ i → stands_in l i ≡ true
+  stands_there [] k e there is = absurd (cc)
+  stands_there (f ∷ l) zero e there is =
+      ap (λ (b : Bool). b || stands_in l i) (eq-eqb f.id i (ap (λ (g : LocalEntry Op). g.id) (same_Some f e there) ∙ is))
+  stands_there (f ∷ l) (suc k) e there is = ap (λ (b : Bool). (f.id == i) || b) (stands_there l k e there is) ∙ or-true (f.id == i)

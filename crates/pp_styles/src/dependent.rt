@@ -12,9 +12,10 @@ ghost use Rattle.pp_styles.specs.Meanings.{meanings};
 ghost use Rattle.pp_styles.specs.Sources.{kept_sources, sources_in};
 
 use crate::front::Front;
+use crate::pulls::follow;
 use crate::recorded::{abort, back_to, commit, publish, unopened};
 use crate::source_set::{SourceSet, add_source, remove_source};
-use crate::sources::{follow, unpull_all};
+use crate::sources::unpull_all;
 use crate::step_list::{StepList, add, only, only_copied};
 use indexmap::IndexMap;
 use pp_core::{Name, OutOfMemory, Step};

@@ -1,20 +1,39 @@
-//! What a transaction pulls: the entries of an object that it has not.
-ghost use Rattle.std.specs.Prelude.{◌≡◌, ◌++◌, OnOk, drop};
-ghost use Rattle.pp_front.specs.Expansions.{refresh, stands_in, touches};
+//! What a transaction takes over: the entries of an object that it has not.
+ghost use Rattle.std.specs.Prelude.{◌≡◌, ◌++◌, OnOk, IfSome, IfNone, drop};
+ghost use Rattle.std.specs.Option.{option_copied};
+ghost use Rattle.pp_front.specs.Expansions.{follow, is_followed, refresh, stands_in, touches};
+ghost use Rattle.pp_log.specs.Logs.{IsFirstFrom, IsOn, NoneFrom};
+ghost use Rattle.pp_model.specs.Config.{shared_item};
 ghost use Rattle.pp_styles.specs.Meanings.{meanings};
-ghost use Rattle.pp_styles.specs.Pulling.{pull_unless};
+ghost use Rattle.pp_styles.specs.Pulling.{pull_followed, pull_unless};
+ghost use Rattle.pp_styles.specs.Sources.{kept_sources};
 
+use crate::source_set::{SourceSet, is_among};
 use crate::step_list::{StepList, add};
-use pp_core::{Name, OutOfMemory, Step};
+use pp_core::{Name, OutOfMemory, SharedEntry, Step};
 use pp_local::Local;
 use pp_parts::Parted;
 use pp_shared::Shared;
 
-/// Whether an entry of this id stands in the log.
-fn stands_in<S: Parted>(local: &Local<S>, id: u32) -> bool
+/// How many entries are looked at, one after another, before the index is asked.
+const NEAR: usize = 16;
+
+/// Whether an entry of this id stands in the log. It looks first where the hint says, and moves the
+/// hint behind what it finds: what was taken over stands there mostly in the order in which it is
+/// looked for.
+fn stands_in<S: Parted>(local: &Local<S>, id: u32, hint: &mut usize) -> bool
     ensures { result ≡ stands_in local.now.1 id }
 {
-    local.find(id).is_some()
+    let entries = local.entries();
+    if *hint < entries.len() && entries[*hint].id == id {
+        *hint += 1;
+        return true;
+    }
+    let Some(at) = local.find(id) else {
+        return false;
+    };
+    *hint = at + 1;
+    true
 }
 
 /// Whether an entry from a position on is on the object.
@@ -24,20 +43,99 @@ pub fn touches<S: Parted>(local: &Local<S>, object: u16, from: usize) -> bool
     local.next_on(object, from).is_some()
 }
 
-/// Adds PULL of an entry that does not stand in the local log.
-pub fn pull_missing<S: Parted>(
+/// The first position at `from` or behind it whose operation has this place. It looks at the next
+/// few entries, one after another, and asks the index only where none of them has the place: most
+/// entries of a busy object stand close together.
+pub fn next_near<S: Parted>(shared: &Shared<S>, object: u16, from: usize) -> Option<usize>
+    ensures found { IfSome result
+        (IsFirstFrom (IsOn S.place_of shared_item object) shared.now.1 from) }
+    ensures none { IfNone result
+        (NoneFrom (IsOn S.place_of shared_item object) shared.now.1 from) }
+{
+    let entries = shared.entries();
+    let end = entries.len().min(from.saturating_add(NEAR));
+    let mut at = from;
+    'look: while at < end {
+        if S::place(&entries[at].op) == object {
+            return Some(at);
+        }
+        at += 1;
+    }
+    shared.next_on(object, at)
+}
+
+/// Adds PULL of an entry that does not stand in the local log. The hint is that of `stands_in`.
+fn pull_missing<S: Parted>(
     list: &mut StepList<S::Op>,
     tx: &Name,
     id: u32,
     local: &Local<S>,
+    hint: &mut usize,
 ) -> Result<(), OutOfMemory>
     ensures { OnOk result (meanings list.new
         ≡ meanings list.old ++ pull_unless (stands_in local.now.1 id) tx.now id) }
 {
-    if stands_in(local, id) {
+    if stands_in(local, id, hint) {
         return Ok(());
     }
     add(list, Step::Pull { tx: *tx, id })
+}
+
+/// Whether an entry is committed or owned by a source.
+fn is_followed<O: Copy>(sources: Option<&SourceSet>, entry: &SharedEntry<O>) -> bool
+    ensures { result ≡ is_followed (kept_sources (option_copied sources.entry)) entry.now }
+{
+    entry.committed || is_among(sources, &entry.owner)
+}
+
+/// Adds PULL of an entry that is followed and does not stand in the local log. The hint is that of
+/// `stands_in`.
+fn pull_followed<S: Parted>(
+    list: &mut StepList<S::Op>,
+    tx: &Name,
+    sources: Option<&SourceSet>,
+    entry: &SharedEntry<S::Op>,
+    local: &Local<S>,
+    hint: &mut usize,
+) -> Result<(), OutOfMemory>
+    ensures { OnOk result (meanings list.new ≡ meanings list.old
+        ++ pull_followed (kept_sources (option_copied sources.entry)) local.now.1 tx.now
+        entry.now) }
+{
+    if !is_followed(sources, entry) {
+        return Ok(());
+    }
+    pull_missing(list, tx, entry.id, local, hint)
+}
+
+/// Adds PULL of each entry on the object that is committed or owned by a source and does not stand
+/// in the local log, in order.
+pub fn follow<S: Parted>(
+    list: &mut StepList<S::Op>,
+    tx: &Name,
+    object: u16,
+    sources: Option<&SourceSet>,
+    shared: &Shared<S>,
+    local: &Local<S>,
+) -> Result<(), OutOfMemory>
+    ensures { OnOk result (meanings list.new ≡ meanings list.old
+        ++ follow S.place_of tx.now object (kept_sources (option_copied sources.entry)) shared.now.1
+        local.now.1) }
+{
+    let len = shared.len();
+    let mut from = 0;
+    let mut hint = 0;
+    'pulls: while from < len {
+        let Some(at) = next_near(shared, object, from) else {
+            return Ok(());
+        };
+        let Some(entry) = shared.entry(at) else {
+            unreachable!()
+        };
+        pull_followed(list, tx, sources, entry, local, &mut hint)?;
+        from = at + 1;
+    }
+    Ok(())
 }
 
 /// Adds the steps by which a transaction takes over what is committed of an object: PULL of each
@@ -53,17 +151,5 @@ pub fn refresh<S: Parted>(
     ensures { OnOk result (meanings list.new
         ≡ meanings list.old ++ refresh S.place_of tx.now object shared.now.1 local.now.1) }
 {
-    let len = shared.len();
-    let mut from = 0;
-    'pulls: while from < len {
-        let Some(at) = shared.next_committed(object, from) else {
-            return Ok(());
-        };
-        let Some(entry) = shared.entry(at) else {
-            unreachable!()
-        };
-        pull_missing(list, tx, entry.id, local)?;
-        from = at + 1;
-    }
-    Ok(())
+    follow(list, tx, object, None, shared, local)
 }

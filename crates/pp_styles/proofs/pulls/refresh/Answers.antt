@@ -1,37 +1,9 @@
-use Rattle.std.proofs.Common.{◌≡◌, ◌≤◌, ◌+◌, ◌++◌, suc, length, sym, ap, ◌∙◌, arith}
-use Rattle.std.proofs.lemmas.List.{take_all}
-use Rattle.std.proofs.lemmas.Option.{slice_get_within}
-use Rattle.pp_front.specs.Expansions.{refresh}
+use Rattle.std.proofs.Common.{◌≡◌, ◌++◌, OnOk, subst}
 use Rattle.pp_styles.specs.Meanings.{meanings}
-use Rattle.pp_styles.proofs.Growing.{grown}
-use Rattle.pp_styles.proofs.Pulling.{refresh_next, refresh_rest}
+use Rattle.pp_styles.proofs.Pulling.{follow_none}
 use Rattle.pp_styles.proofs.pulls.refresh.Goals as goal
-
-pub pulls-preserved : goal.pulls-preserved
-pulls-preserved g c =
-    let here = sym c.in-Some-entry.ensures in
-    let len = c.len-len.ensures.len in
-    let below = slice_get_within c.args.shared.now.1 c.in-Some.at c.in-Some-entry.entry.now here in
-    let next : c.in-Some.at + 1 ≡ suc c.in-Some.at = omega arith in (
-      omega (arith, below, len),
-      grown _ _ _ c.in_ok-pull_missing.ensures c.pulls.invariant.1
-          (refresh_next g.S.Placed.place_of c.args.tx.now c.args.object c.args.shared.now.1 c.args.local.now.1 c.in-Some.at (c.in-Some.at + 1) next c.pulls.from c.in-Some-entry.entry.now here c.in-Some.ensures.found),
-    )
-
-pub returns-in_default : goal.returns-in_default
-returns-in_default g c =
-    let len = c.len-len.ensures.len in
-    let some = c.pulls.invariant.0 in
-    let within : c.pulls.from ≤ length c.args.shared.now.1 = omega (arith, len, some) in
-    c.pulls.invariant.1
-    ∙ ap (λ w. meanings c.args.list.now ++ w) (refresh_rest g.S.Placed.place_of c.args.tx.now c.args.object c.args.shared.now.1 c.args.local.now.1 c.pulls.from within c.in_default.ensures.none)
-
-pub unreachable-requires : goal.unreachable-requires
-unreachable-requires g c = let none = c.in_default-entry.ensures in let some = c.in-Some.ensures.found.is in cc
 
 pub returns : goal.returns
 returns g c =
-    let len = c.len-len.ensures.len in
-    let past : length c.args.shared.now.1 ≤ c.pulls.from = omega (arith, len) in
-    c.pulls.invariant.1
-    ∙ ap (λ w. meanings c.args.list.now ++ refresh g.S.Placed.place_of c.args.tx.now c.args.object w c.args.local.now.1) (take_all c.pulls.from c.args.shared.now.1 past)
+    subst (λ w. OnOk c.follow.result (meanings c.follow.new.list ≡ meanings c.args.list.now ++ w))
+    (follow_none g.S.Placed.place_of c.args.tx.now c.args.object c.args.shared.now.1 c.args.local.now.1) c.follow.ensures

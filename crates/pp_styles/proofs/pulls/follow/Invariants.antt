@@ -1,7 +1,9 @@
 use Rattle.std.proofs.Common.{◌≡◌, ◌≤◌, ◌-◌, ◌++◌, take}
-use Rattle.pp_front.specs.Expansions.{refresh}
+use Rattle.std.specs.Option.{option_copied}
+use Rattle.pp_front.specs.Expansions.{follow}
 use Rattle.pp_styles.specs.Meanings.{meanings}
-use Rattle.pp_styles.proofs.pulls.refresh.Given as goal
+use Rattle.pp_styles.specs.Sources.{kept_sources}
+use Rattle.pp_styles.proofs.pulls.follow.Given as goal
 
 abbrev pub decreases-pulls : goal.decreases-pulls
 decreases-pulls g l = l.len - l.from
@@ -11,4 +13,4 @@ invariant-pulls g l =
     (l.from ≤ l.len)
     × (meanings l.list
     ≡ meanings l.fn.list
-    ++ refresh g.S.Placed.place_of l.tx l.object (take l.from l.shared.1) l.local.1)
+    ++ follow g.S.Placed.place_of l.tx l.object (kept_sources (option_copied l.sources)) (take l.from l.shared.1) l.local.1)

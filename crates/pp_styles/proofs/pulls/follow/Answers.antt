@@ -7,7 +7,7 @@ use Rattle.pp_styles.specs.Meanings.{meanings}
 use Rattle.pp_styles.specs.Sources.{kept_sources}
 use Rattle.pp_styles.proofs.Growing.{grown}
 use Rattle.pp_styles.proofs.Pulling.{follow_next, follow_rest}
-use Rattle.pp_styles.proofs.sources.follow.Goals as goal
+use Rattle.pp_styles.proofs.pulls.follow.Goals as goal
 
 pub pulls-preserved : goal.pulls-preserved
 pulls-preserved g c =
