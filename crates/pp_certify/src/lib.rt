@@ -15,4 +15,4 @@ pub use law::{limits_law, records_are_steps, records_extend};
 pub use progress::{Progress, Rejection, Tally};
 pub use report::{certify, report_rejected, summary};
 pub use run_text::expand;
-pub use take::{read_next, stop_at, take_line, take_steps, with_line, with_record};
+pub use take::{read_next, stop_at, take_line, with_line, with_record};

@@ -237,16 +237,16 @@ pub fn read_next(alloc: Global, tally: &Tally, line: &Line) -> Result<RunRecord<
     Ok(recorded)
 }
 
-/// The steps of the record of this line, which is counted, of a run that is not rejected so far.
-/// Where they are to be listed, it answers all of them too.
-pub fn take_steps<L: Ledger>(
+/// Does the steps of a record of this line, which the tally has counted, in a run that is not
+/// rejected so far. With a list it answers all of them too.
+fn take_steps<L: Ledger>(
     alloc: Global,
     tally: Tally,
     mut front: BoxedFront,
     machine: Machine<Objects>,
     recorded: &RunRecord<Op>,
     line: u32,
-    listed: bool,
+    with_list: bool,
     ticks: &mut Ticks<L>,
 ) -> Result<(Progress, StepList<Op>), Stop<Cause>>
     requires shape { machine.shape ≡ kinds_of tally.header.catalog }
@@ -255,7 +255,7 @@ pub fn take_steps<L: Ledger>(
     requires few { machine.count ≤ MOST_STEPS }
     ensures ok { IfOk result (λ r. RecordTaken tally front machine
         (record_meaning recorded.now) line ticks.old r.0 ticks.new) }
-    ensures list { IsTrue listed → IfOk result (λ r. meanings r.1
+    ensures list { IsTrue with_list → IfOk result (λ r. meanings r.1
         ≡ steps_here tally front machine (record_meaning recorded.now)) }
     ensures err { IfErr result (λ stop. IfFault stop (λ at cause. (at ≡ line)
         × ((cause ≡ TooManySteps) × Overruns machine
@@ -263,7 +263,7 @@ pub fn take_steps<L: Ledger>(
     ensures most { CostAtMost objects place_of machine
         (steps_here tally front machine (record_meaning recorded.now)) ticks.old ticks.new }
 {
-    let (machine, list, halt) = do_record(alloc, &mut front, machine, recorded, listed, ticks)?;
+    let (machine, list, halt) = do_record(alloc, &mut front, machine, recorded, with_list, ticks)?;
     let Some(halt) = halt else {
         return Ok((Progress::Running(tally, front, machine), list));
     };
@@ -287,15 +287,15 @@ pub fn take_steps<L: Ledger>(
     }
 }
 
-/// A record of a run that is not rejected so far. Where they are to be listed, it answers all steps
-/// of the record too.
+/// A record of a run that is not rejected so far. With a list it answers all steps of the record
+/// too.
 fn take_record<L: Ledger>(
     alloc: Global,
     tally: Tally,
     front: BoxedFront,
     machine: Machine<Objects>,
     line: &Line,
-    listed: bool,
+    with_list: bool,
     ticks: &mut Ticks<L>,
 ) -> Result<(Progress, StepList<Op>), Stop<Cause>>
     requires next { (first : ℕ) × IsNext (run_reading first)
@@ -304,7 +304,7 @@ fn take_record<L: Ledger>(
     ensures ok { IfOk result (λ r. (first : ℕ) →
         LeadsOn (run_reading first) (Running tally front machine, ticks.old)
         (line.now.number, line.now.text) (r.0, ticks.new)) }
-    ensures brings { IsTrue listed → IfOk result (λ r. Brings (Running tally front machine)
+    ensures brings { IsTrue with_list → IfOk result (λ r. Brings (Running tally front machine)
         (line.now.number, line.now.text) r.0 (meanings r.1)) }
     ensures stop { IfErr result (λ stop. (first : ℕ) →
         StopsAt (run_reading first) (Running tally front machine, ticks.old)
@@ -321,7 +321,7 @@ fn take_record<L: Ledger>(
         machine,
         &recorded,
         line.number,
-        listed,
+        with_list,
         ticks,
     )
 }
@@ -350,20 +350,19 @@ fn pass_record(
     Ok(Progress::Rejected(with_record(tally, &recorded), rejection))
 }
 
-/// Takes the next line of a run. Where they are to be listed, it answers steps too, as `take_line`
-/// does.
+/// Takes the next line of a run. With a list it answers steps too, as `take_line` says.
 fn take_next<L: Ledger>(
     alloc: Global,
     progress: Progress,
     line: &Line,
-    listed: bool,
+    with_list: bool,
     ticks: &mut Ticks<L>,
 ) -> Result<(Progress, StepList<Op>), Stop<Cause>>
     requires { (first : ℕ) × IsNext (run_reading first) (progress, ticks.old)
         (line.now.number, line.now.text) }
     ensures ok { IfOk result (λ r. (first : ℕ) → LeadsOn (run_reading first)
         (progress, ticks.old) (line.now.number, line.now.text) (r.0, ticks.new)) }
-    ensures brings { IsTrue listed → IfOk result (λ r. Brings progress
+    ensures brings { IsTrue with_list → IfOk result (λ r. Brings progress
         (line.now.number, line.now.text) r.0 (meanings r.1)) }
     ensures stop { IfErr result (λ stop. (first : ℕ) → StopsAt (run_reading first)
         (progress, ticks.old) (line.now.number, line.now.text) stop) }
@@ -379,7 +378,7 @@ fn take_next<L: Ledger>(
             Ok((next, StepList::new(alloc)))
         }
         Progress::Running(tally, front, machine) => {
-            take_record(alloc, tally, front, machine, line, listed, ticks)
+            take_record(alloc, tally, front, machine, line, with_list, ticks)
         }
         Progress::Rejected(tally, rejection) => {
             let next = pass_record(alloc, tally, rejection, line)?;

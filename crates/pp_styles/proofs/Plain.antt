@@ -1,5 +1,5 @@
 -- A record that is a step stands for that step, in every style, and the front keeps what it kept.
-use Rattle.std.proofs.Common.{◌≡◌, ℕ, List, [], ◌∷◌, sym, ap, subst}
+use Rattle.std.proofs.Common.{◌≡◌, ℕ, [], ◌∷◌, sym, ap, subst}
 use Rattle.pp_core.specs.Steps.{Step}
 use Rattle.pp_core.specs.declared.call.Style.{Style}
 use Rattle.pp_model.specs.Config.{Config}

@@ -111,16 +111,16 @@ pub fn do_steps<S: Parted, L: Ledger>(
     Ok((machine, None))
 }
 
-/// Does the steps of a record up to the first that fails, and no more than a run may have. Where
-/// they are to be listed, it answers all steps of the record too, also those behind one that fails;
-/// else a record that is a step is done as it stands, and the list is of no use. The only error is
+/// Does the steps of a record up to the first that fails, and no more than a run may have. With
+/// a list it answers all steps of the record too, also those behind one that fails; without one a
+/// record that is a step is done as it stands, and what it answers as a list is of no use. The only error is
 /// that memory was refused: the machine is then lost, and the front is of no more use.
 pub fn do_record<S: Parted, F: Front<S>, L: Ledger>(
     alloc: Global,
     front: &mut F,
     machine: Machine<S>,
     recorded: &RunRecord<S::Op>,
-    listed: bool,
+    with_list: bool,
     ticks: &mut Ticks<L>,
 ) -> Result<(Machine<S>, StepList<S::Op>, Option<Halt<S::Op>>), OutOfMemory>
     requires style { IsOfStyle (F.style front.old) (record_meaning recorded.now) }
@@ -129,7 +129,7 @@ pub fn do_record<S: Parted, F: Front<S>, L: Ledger>(
     ensures drives { (kinds : List Kind) → IfOk result (λ r. Drives S.object machine
         (expand S.place_of (F.style front.old) (F.state kinds front.old) machine.config
         (record_meaning recorded.now)) ticks.old r.2 r.0 ticks.new) }
-    ensures list { IsTrue listed → (kinds : List Kind) → IfOk result (λ r. meanings r.1
+    ensures list { IsTrue with_list → (kinds : List Kind) → IfOk result (λ r. meanings r.1
         ≡ expand S.place_of (F.style front.old) (F.state kinds front.old) machine.config
         (record_meaning recorded.now)) }
     ensures kept { (kinds : List Kind) → OnOk result (F.state kinds front.new
@@ -139,7 +139,7 @@ pub fn do_record<S: Parted, F: Front<S>, L: Ledger>(
         (expand S.place_of (F.style front.old) (F.state kinds front.old) machine.config
         (record_meaning recorded.now)) ticks.old ticks.new }
 {
-    if !listed && let RunRecord::Plain(step) = recorded {
+    if !with_list && let RunRecord::Plain(step) = recorded {
         let (after, halt) = do_only_step(machine, step, ticks)?;
         return Ok((after, StepList::new(alloc), halt));
     }

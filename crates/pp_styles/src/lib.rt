@@ -14,7 +14,6 @@ mod pulls;
 mod recorded;
 mod rules;
 mod source_set;
-mod sources;
 mod step_list;
 mod walks;
 

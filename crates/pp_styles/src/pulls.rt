@@ -16,7 +16,7 @@ use pp_parts::Parted;
 use pp_shared::Shared;
 
 /// How many entries are looked at, one after another, before the index is asked.
-const NEAR: usize = 16;
+const NEAR: usize = 64;
 
 /// Whether an entry of this id stands in the log. It looks first where the hint says, and moves the
 /// hint behind what it finds: what was taken over stands there mostly in the order in which it is
@@ -43,10 +43,10 @@ pub fn touches<S: Parted>(local: &Local<S>, object: u16, from: usize) -> bool
     local.next_on(object, from).is_some()
 }
 
-/// The first position at `from` or behind it whose operation has this place. It looks at the next
-/// few entries, one after another, and asks the index only where none of them has the place: most
-/// entries of a busy object stand close together.
-pub fn next_near<S: Parted>(shared: &Shared<S>, object: u16, from: usize) -> Option<usize>
+/// As `Shared::next_on`: the first position at `from` or behind it whose operation is on the object.
+/// It looks at the next entries, one after another, and asks the index only where none of these is
+/// on it: most entries of a busy object stand close together.
+fn next_near<S: Parted>(shared: &Shared<S>, object: u16, from: usize) -> Option<usize>
     ensures found { IfSome result
         (IsFirstFrom (IsOn S.place_of shared_item object) shared.now.1 from) }
     ensures none { IfNone result
@@ -109,7 +109,8 @@ fn pull_followed<S: Parted>(
 }
 
 /// Adds PULL of each entry on the object that is committed or owned by a source and does not stand
-/// in the local log, in order.
+/// in the local log, in order. The only error is that memory was refused, and the list is then of
+/// no more use.
 pub fn follow<S: Parted>(
     list: &mut StepList<S::Op>,
     tx: &Name,
@@ -122,16 +123,14 @@ pub fn follow<S: Parted>(
         ++ follow S.place_of tx.now object (kept_sources (option_copied sources.entry)) shared.now.1
         local.now.1) }
 {
-    let len = shared.len();
+    let entries = shared.entries();
     let mut from = 0;
     let mut hint = 0;
-    'pulls: while from < len {
+    'pulls: while from < entries.len() {
         let Some(at) = next_near(shared, object, from) else {
             return Ok(());
         };
-        let Some(entry) = shared.entry(at) else {
-            unreachable!()
-        };
+        let entry = &entries[at];
         pull_followed(list, tx, sources, entry, local, &mut hint)?;
         from = at + 1;
     }

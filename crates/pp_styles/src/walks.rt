@@ -2,9 +2,9 @@
 ghost use Rattle.std.specs.Prelude.{◌≡◌, ◌++◌, OnOk};
 ghost use Rattle.pp_core.specs.declared.entry.Mark.TheVariants.{Unpushed};
 ghost use Rattle.pp_model.specs.Config.{is_mark};
-ghost use Rattle.pp_front.specs.Expansions.{back, pushall, taken_at};
+ghost use Rattle.pp_front.specs.Expansions.{back, is_pulled_from, pushall, taken_at, unpulls};
 ghost use Rattle.pp_styles.specs.Meanings.{meanings};
-ghost use Rattle.pp_styles.specs.Walking.{push_of};
+ghost use Rattle.pp_styles.specs.Walking.{push_of, unpull_of};
 
 use crate::step_list::{StepList, add};
 use pp_core::{LocalEntry, Mark, Name, OutOfMemory, Step};
@@ -89,6 +89,54 @@ pub fn back<O: Copy>(
         at -= 1;
         let entry = &entries[at];
         take_out(list, tx, entry.id, entry.mark)?;
+    }
+    Ok(())
+}
+
+/// Whether an entry was pulled from this source.
+fn is_pulled_from<O: Copy>(source: &Name, entry: &LocalEntry<O>) -> bool
+    ensures { result ≡ is_pulled_from source.now entry.now }
+{
+    is_mark(entry.mark, Mark::Pulled) && entry.owner.same(source)
+}
+
+/// Adds UNPULL of an entry that was pulled from this source.
+fn unpull_one<O: Copy>(
+    list: &mut StepList<O>,
+    tx: &Name,
+    source: &Name,
+    entry: &LocalEntry<O>,
+) -> Result<(), OutOfMemory>
+    ensures { OnOk result (meanings list.new
+        ≡ meanings list.old ++ unpull_of tx.now source.now entry.now) }
+{
+    if !is_pulled_from(source, entry) {
+        return Ok(());
+    }
+    add(
+        list,
+        Step::Unpull {
+            tx: *tx,
+            id: entry.id,
+        },
+    )
+}
+
+/// Adds UNPULL of each entry that was pulled from this source, from the end.
+pub fn unpull_all<O: Copy>(
+    list: &mut StepList<O>,
+    tx: &Name,
+    source: &Name,
+    entries: &[LocalEntry<O>],
+) -> Result<(), OutOfMemory>
+    ensures { OnOk result (meanings list.new
+        ≡ meanings list.old ++ unpulls tx.now source.now entries.now) }
+{
+    let mut at = entries.len();
+    'walk: while at > 0 {
+        at -= 1;
+        let entry = &entries[at];
+        unpull_one(list, tx, source, entry)?;
     }
     Ok(())
 }

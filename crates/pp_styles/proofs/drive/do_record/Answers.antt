@@ -18,7 +18,7 @@ returns-clause-drives g c kinds =
 
 pub returns-clause-list : goal.returns-clause-list
 returns-clause-list g c asked kinds =
-    let unlisted : c.args.listed ≡ false = search rules in
+    let unlisted : c.args.with_list ≡ false = search rules in
     absurd (true≢false (sym asked ∙ unlisted))
 
 pub returns-clause-kept : goal.returns-clause-kept

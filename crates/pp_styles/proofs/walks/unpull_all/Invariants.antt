@@ -1,7 +1,7 @@
 use Rattle.std.proofs.Common.{◌≡◌, ◌≤◌, ◌++◌, length, drop}
 use Rattle.pp_front.specs.Expansions.{unpulls}
 use Rattle.pp_styles.specs.Meanings.{meanings}
-use Rattle.pp_styles.proofs.sources.unpull_all.Given as goal
+use Rattle.pp_styles.proofs.walks.unpull_all.Given as goal
 
 abbrev pub decreases-walk : goal.decreases-walk
 decreases-walk g l = l.at

@@ -2,7 +2,7 @@ use Rattle.std.proofs.Common.{◌≡◌, ◌-◌, ◌<◌, suc, length, refl, ar
 use Rattle.std.proofs.lemmas.Option.{slice_get_read}
 use Rattle.pp_styles.proofs.Growing.{grown}
 use Rattle.pp_styles.proofs.Outs.{unpulled_more}
-use Rattle.pp_styles.proofs.sources.unpull_all.Goals as goal
+use Rattle.pp_styles.proofs.walks.unpull_all.Goals as goal
 
 pub walk-preserved : goal.walk-preserved
 walk-preserved g c =
