@@ -10,13 +10,14 @@ ghost use Rattle.pp_styles.specs.Sources.{kept_sources};
 
 use crate::source_set::{SourceSet, is_among};
 use crate::step_list::{StepList, add};
-use pp_core::{Name, OutOfMemory, SharedEntry, Step};
+use pp_core::{MOST_OBJECTS, Name, OutOfMemory, SharedEntry, Step};
 use pp_local::Local;
 use pp_parts::Parted;
 use pp_shared::Shared;
 
-/// How many entries are looked at, one after another, before the index is asked.
-const NEAR: usize = 64;
+/// How many entries are looked at, one after another, before the index is asked. Where the objects
+/// of a run take turns, the next entry on one of them stands no further.
+const NEAR: usize = MOST_OBJECTS;
 
 /// Whether an entry of this id stands in the log. It looks first where the hint says, and moves the
 /// hint behind what it finds: what was taken over stands there mostly in the order in which it is
