@@ -1,11 +1,10 @@
 //! Names of transactions, threads and objects.
 ghost use Rattle.std.specs.Prelude.{◌≡◌, ◌≤◌, ◌<◌, IfSome, IsSome, ◌↔◌, length, IsTrue, ◌++◌, ◌-◌};
-ghost use Rattle.std.specs.Prelude.{replicate};
+ghost use Rattle.std.specs.Prelude.{[], ◌∷◌, replicate};
 ghost use Rattle.std.specs.List.{list_all};
 ghost use Rattle.std.specs.Str.{bytes_eq};
 ghost use Rattle.std.specs.Cmp.{partial_equiv_from_equiv};
 ghost use Rattle.std.specs.Cmp.Rules.{hashing};
-ghost use Rattle.std.specs.Hash as fed;
 ghost use Rattle.std.proofs.Common.{rules};
 ghost use Rattle.std.proofs.lemmas.Cmp.{nat_list_eq_equiv};
 ghost use Rattle.pp_core.specs.Names.{IsName, is_name_byte, padded};
@@ -56,12 +55,12 @@ impl Eq for Name {
 }
 
 impl Hash for Name {
-    ghost hash_input = { λ name. fed.slice fed.u8 name };
+    ghost hash_input = { λ name. name ∷ [] };
 
     ghost respects_eq = { Prim.search (hashing, rules) };
 
     fn hash<H: Hasher>(&self, state: &mut H) {
-        self.text().hash(state);
+        state.write(self.text());
     }
 }
 
