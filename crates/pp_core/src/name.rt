@@ -46,7 +46,7 @@ impl PartialEq for Name {
     ghost laws = { partial_equiv_from_equiv nat_list_eq_equiv };
 
     fn eq(&self, other: &Name) -> bool {
-        self.text() == other.text()
+        self.same(other)
     }
 }
 
@@ -115,6 +115,6 @@ impl Name {
     pub fn same(&self, other: &Name) -> bool
         ensures { result ≡ bytes_eq self.now other.now }
     {
-        self.text() == other.text()
+        self.len == other.len && self.bytes == other.bytes
     }
 }
