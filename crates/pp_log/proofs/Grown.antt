@@ -11,14 +11,14 @@ use Rattle.pp_spec.proofs.Lists.{one_more, state_one_more, ranged-append}
 use Rattle.pp_log.specs.declared.place.Place.{Place}
 use Rattle.pp_model.specs.Object.{ops}
 use Rattle.pp_log.specs.Parts.{there}
-use Rattle.pp_log.proofs.Distinct.{IsNew, one_more_id}
+use Rattle.pp_log.proofs.Distinct.{IsNew, apart, one_more_id}
 use Rattle.pp_log.specs.Runs.{kept_along}
 use Rattle.pp_log.specs.Keeps.{IsKept, KeptIn, Keeps, KeepsAll}
 use Rattle.pp_log.specs.declared.index.Index.{Index}
 use Rattle.pp_log.specs.Index.{IsSameIndex}
 use Rattle.pp_log.specs.Room.{ids_of, SameIn, ArePlacesSame}
 use Rattle.pp_log.proofs.Lists.{set_same, set_other}
-use Rattle.pp_log.proofs.Numbers.{index_same}
+use Rattle.pp_log.proofs.Ids.{ids_once}
 use Rattle.pp_log.proofs.Runs.{kept-push, length-ops}
 use Rattle.pp_log.proofs.Parted.{ops-append, there_at, there_off, there-append}
 use Rattle.pp_log.proofs.Apart.{same_run, kept_at}
@@ -47,7 +47,7 @@ module _ {Shape State Op Undo : Type 0} (o : Object Shape State Op Undo) where
 
   pub with_room : (place : Op → ℕ) (s : State) (log new : List (Item Op)) (ps qs : List (Place Op Undo)) (ids more : Index) → KeepsAll o place s log ps ids → new ≡ log → ArePlacesSame ps qs → IsSameIndex ids more → KeepsAll o place s new qs more
   with_room place s log new ps qs ids more h is k same =
-      subst (λ (z : List (Item Op)). KeepsAll o place s z qs more) (sym is) (record { keeps = roomy place s log ps qs h.keeps k; index = index_same ids more (ids_of log) h.index same })
+      subst (λ (z : List (Item Op)). KeepsAll o place s z qs more) (sym is) (record { keeps = roomy place s log ps qs h.keeps k; index = same (ids_of log) (ids_once log (apart log h.keeps.distinct)) h.index })
 
   pub keeps_reached : (place : Op → ℕ) (s : State) (log : List (Item Op)) (ps : List (Place Op Undo)) → Keeps o place s log ps → length log < 1_000_000 → IsReached o s
   keeps_reached place s log ps h k = record {

@@ -1,6 +1,6 @@
 -- Numbers that rise along a list of ids.
 use Rattle.std.proofs.Common.{◌≡◌, ℕ, ◌<◌, ◌≤◌, ◌+◌, zero, suc, Bool, not, cond, nat_eq}
-use Rattle.std.proofs.Common.{List, [], ◌∷◌, ◌++◌, length, get_or, refl, sym, ◌∙◌, ap, subst}
+use Rattle.std.proofs.Common.{List, [], ◌∷◌, ◌++◌, length, get_or, take, refl, sym, ◌∙◌, ap, subst}
 use Rattle.std.proofs.Common.{arith, inl, inr, Option, Some, None}
 use Rattle.std.specs.List.{slice_get, remove, position, position_or_len}
 use Rattle.std.proofs.lemmas.Bool.{cases_lt, eq-eqb, le-ltb, ne_eqb}
@@ -14,8 +14,8 @@ use Rattle.std.specs.Prelude.{Result, Ok, Err, MatchResult}
 use Rattle.std.specs.Map.{lookup}
 use Rattle.std.specs.Result.{result_ok}
 use Rattle.indexmap.specs.IndexMap.{UpdatesBy, get}
-use Rattle.pp_log.specs.declared.index.Index.{Index}
-use Rattle.pp_log.specs.Index.{IsIndexOf, IsNewId, IsRising, IsSameIndex, StandOnce, number_of}
+use Rattle.pp_log.specs.declared.id_table.IdTable.{IdTable}
+use Rattle.pp_log.specs.Index.{IsNewId, IsRising, IsSameTable, IsTableOf, StandOnce, number_of}
 
 -- one number more
 pub rising_more : (x : List ℕ) (n : ℕ) → IsRising (x ++ n ∷ []) → IsRising ((x ++ n ∷ []) ++ (n + 1) ∷ [])
@@ -165,17 +165,23 @@ searched_position ids numbers next id n (Err k) size h has m =
       | inr behind ↦ let more = m.2 j behind (omega arith) in absurd (omega (arith, there.1))
     ]
 
--- An index that has room for more.
-pub index_same : (old new : Index) (ids : List ℕ) → IsIndexOf old ids → IsSameIndex old new → IsIndexOf new ids
-index_same old new ids h k = record {
+-- An id is not among those before it.
+pub new_before : (ids : List ℕ) (i id : ℕ) → StandOnce ids → slice_get ids i ≡ Some id → IsNewId id (take i ids)
+new_before [] i id once at = cc
+new_before (a ∷ ids) zero id once at = tt
+new_before (a ∷ ids) (suc i) id once at = ((λ is. stands_behind ids i id a once.0 at (sym is)), new_before ids i id once.1 at)
+
+-- A table that has room for more.
+pub table_same : (old new : IdTable) (ids : List ℕ) → IsTableOf old ids → IsSameTable old new → IsTableOf new ids
+table_same old new ids h k = record {
   size = ap length k.serials ∙ h.size;
   rising = subst (λ (z : List ℕ). IsRising (z ++ new.next ∷ [])) (sym k.serials) (subst (λ (n : ℕ). IsRising (old.serials.items ++ n ∷ [])) (sym k.next) h.rising);
   has = λ id. ap (lookup (nat_eq id)) k.serial_of ∙ h.has id ∙ ap (λ (z : List ℕ). number_of ids z id) (sym k.serials);
 }
 
--- An index with one entry more, and with one less.
-pub index_pushed : (old new : Index) (ids : List ℕ) (id : ℕ) → IsIndexOf old ids → IsNewId id ids → new.serials.items ≡ old.serials.items ++ old.next ∷ [] → new.next ≡ old.next + 1 → UpdatesBy nat_eq (nat_eq id) old.serial_of new.serial_of (Some old.next) → IsIndexOf new (ids ++ id ∷ [])
-index_pushed old new ids id h fresh serials next updates =
+-- A table with one entry more, and with one less.
+pub table_pushed : (old new : IdTable) (ids : List ℕ) (id : ℕ) → IsTableOf old ids → IsNewId id ids → new.serials.items ≡ old.serials.items ++ old.next ∷ [] → new.next ≡ old.next + 1 → UpdatesBy nat_eq (nat_eq id) old.serial_of new.serial_of (Some old.next) → IsTableOf new (ids ++ id ∷ [])
+table_pushed old new ids id h fresh serials next updates =
     let size = h.size in
     let more = length_push old.serials.items old.next in
     let longer = length_push ids id in
@@ -190,8 +196,8 @@ index_pushed old new ids id h fresh serials next updates =
       ] ∙ ap (λ (z : List ℕ). number_of (ids ++ id ∷ []) z other) (sym serials);
     }
 
-pub index_removed : (old new : Index) (ids : List ℕ) (i id : ℕ) → IsIndexOf old ids → StandOnce ids → slice_get ids i ≡ Some id → new.serials.items ≡ remove old.serials.items i → IsRising (remove old.serials.items i ++ new.next ∷ []) → UpdatesBy nat_eq (nat_eq id) old.serial_of new.serial_of None → IsIndexOf new (remove ids i)
-index_removed old new ids i id h once at serials rising updates =
+pub table_removed : (old new : IdTable) (ids : List ℕ) (i id : ℕ) → IsTableOf old ids → StandOnce ids → slice_get ids i ≡ Some id → new.serials.items ≡ remove old.serials.items i → IsRising (remove old.serials.items i ++ new.next ∷ []) → UpdatesBy nat_eq (nat_eq id) old.serial_of new.serial_of None → IsTableOf new (remove ids i)
+table_removed old new ids i id h once at serials rising updates =
     let within = slice_get_within ids i id at in
     let size = h.size in
     let less = length-remove old.serials.items i (omega arith) in

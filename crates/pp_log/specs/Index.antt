@@ -1,10 +1,13 @@
--- Proof machinery: the index of a log. Each entry has a serial number, and the numbers rise along
--- the log.
+-- Proof machinery: the index of a log. In a table each entry has a serial number, and the numbers
+-- rise along the log.
 use Rattle.std.specs.Prelude.{◌≡◌, ◌+◌, ◌<◌, ◌^◌, ℕ, nat_eq, cond, List, [], ◌∷◌, ◌++◌, length}
 use Rattle.std.specs.Prelude.{AllPairs, Option, Some, None, vec_len}
 use Rattle.std.specs.Vec.{vec_capacity}
 use Rattle.indexmap.specs.IndexMap.{get, spare}
+use Rattle.arrayvec.specs.ArrayVec.{array_vec_len}
+use Rattle.pp_log.specs.declared.id_table.IdTable.{IdTable}
 use Rattle.pp_log.specs.declared.index.Index.{Index}
+use Rattle.pp_log.specs.declared.index.Index.TheVariants.{Few, Many}
 
 -- Each number is above those before it.
 abbrev pub IsRising : List ℕ → Type 0
@@ -16,12 +19,22 @@ number_of [] numbers id = None
 number_of (i ∷ ids) [] id = None
 number_of (i ∷ ids) (n ∷ numbers) id = cond (nat_eq i id) (Some n) (number_of ids numbers id)
 
--- The entries with these ids, in their order, have the serial numbers of the index. It has the
+-- The entries with these ids, in their order, have the serial numbers of the table. It has the
 -- number of each id, and its next number is above all of them.
-pub record IsIndexOf (index : Index) (ids : List ℕ) : Type 0 where
-  pub size : length index.serials.items ≡ length ids
-  pub rising : IsRising (index.serials.items ++ index.next ∷ [])
-  pub has : (id : ℕ) → get nat_eq index.serial_of id ≡ number_of ids index.serials.items id
+pub record IsTableOf (table : IdTable) (ids : List ℕ) : Type 0 where
+  pub size : length table.serials.items ≡ length ids
+  pub rising : IsRising (table.serials.items ++ table.next ∷ [])
+  pub has : (id : ℕ) → get nat_eq table.serial_of id ≡ number_of ids table.serials.items id
+
+-- The index is of the entries with these ids, in their order.
+abbrev pub IsIndexOf : Index → List ℕ → Type 0
+IsIndexOf (Few few) ids = few.items ≡ ids
+IsIndexOf (Many table) ids = IsTableOf table ids
+
+-- How many entries the index has.
+abbrev pub index_len : Index → ℕ
+index_len (Few few) = array_vec_len few
+index_len (Many table) = length table.serials.items
 
 -- None of the ids is this one.
 abbrev pub IsNewId : ℕ → List ℕ → Type 0
@@ -33,14 +46,23 @@ abbrev pub StandOnce : List ℕ → Type 0
 StandOnce [] = Unit {0}
 StandOnce (i ∷ ids) = IsNewId i ids × StandOnce ids
 
--- The index is of the same entries.
-pub record IsSameIndex (old new : Index) : Type 0 where
+-- The table is of the same entries.
+pub record IsSameTable (old new : IdTable) : Type 0 where
   pub serials : new.serials.items ≡ old.serials.items
   pub serial_of : new.serial_of.entries ≡ old.serial_of.entries
   pub next : new.next ≡ old.next
 
--- There is room for one more entry, and a number for it.
-pub record HasIndexRoom (index : Index) : Type 0 where
-  pub serials : vec_len index.serials < vec_capacity index.serials
-  pub serial_of : 0 < spare index.serial_of
-  pub next : index.next + 1 < 2 ^ 32
+-- The index is of the same entries, whose ids stand once each.
+abbrev pub IsSameIndex : Index → Index → Type 0
+IsSameIndex old new = (ids : List ℕ) → StandOnce ids → IsIndexOf old ids → IsIndexOf new ids
+
+-- There is room for one more entry in the table, and a number for it.
+pub record HasTableRoom (table : IdTable) : Type 0 where
+  pub serials : vec_len table.serials < vec_capacity table.serials
+  pub serial_of : 0 < spare table.serial_of
+  pub next : table.next + 1 < 2 ^ 32
+
+-- There is room for one more entry.
+abbrev pub HasIndexRoom : Index → Type 0
+HasIndexRoom (Few few) = array_vec_len few < 16
+HasIndexRoom (Many table) = HasTableRoom table

@@ -1,57 +1,63 @@
 //! Where each id stands in a log.
 ghost use Rattle.std.specs.Prelude.{◌≡◌, ◌<◌, ℕ, nat_eq, List, [], ◌∷◌, ◌++◌, OnOk, Some};
-ghost use Rattle.std.specs.Prelude.{length, position, remove, slice_get};
+ghost use Rattle.std.specs.Prelude.{position, remove, slice_get};
 ghost use Rattle.pp_log.specs.Index.{HasIndexRoom, IsIndexOf, IsNewId, IsSameIndex, StandOnce};
+ghost use Rattle.pp_log.specs.Index.{index_len};
 
-use indexmap::IndexMap;
+use crate::id_table::IdTable;
+use arrayvec::ArrayVec;
 use pp_core::OutOfMemory;
 use std::alloc::Global;
 
-/// The ids of the entries of a log, each with a serial number. The numbers rise along the log, so
-/// an entry that is taken out leaves those of the others as they are.
+/// The ids of the entries of a log. A few are looked through, which is quicker than to ask a table,
+/// and take no memory of their own.
 #[derive(Drop)]
-pub struct Index {
-    serials: Vec<u32>,
-    serial_of: IndexMap<u32, u32>,
-    next: u32,
+pub enum Index {
+    /// The ids, in order.
+    Few(ArrayVec<u32, 16>),
+    /// The ids of a log that has, or had, more entries.
+    Many(IdTable),
+}
+
+/// Where this id stands among a few.
+fn look_for(ids: &[u32], id: u32) -> Option<usize>
+    ensures { result ≡ position (nat_eq id) ids.now }
+{
+    ids.iter().position(|other| id == *other)
 }
 
 impl Index {
     /// The index of an empty log.
-    pub fn new(alloc: Global) -> Self
+    pub fn new() -> Self
         ensures { IsIndexOf result [] }
     {
-        Index {
-            serials: Vec::new(alloc),
-            serial_of: IndexMap::new(alloc),
-            next: 0,
-        }
+        Index::Few(ArrayVec::new())
     }
 
-    /// Where the entry with this id stands: at its number where none before it was taken out, and
-    /// else where a search by halves finds the number.
+    /// Where the entry with this id stands.
     pub fn find(&self, id: u32) -> Option<usize>
         ensures { (ids : List ℕ) → IsIndexOf self.now ids → result ≡ position (nat_eq id) ids }
     {
-        let serial = *self.serial_of.get(&id)?;
-        let first = serial as usize;
-        if first < self.serials.len() && self.serials[first] == serial {
-            return Some(first);
+        match self {
+            Index::Few(ids) => look_for(ids.as_slice(), id),
+            Index::Many(table) => table.find(id),
         }
-        self.serials.binary_search(&serial).ok()
     }
 
     /// Makes room for one more entry. To have no number left is to have no memory.
-    pub fn reserve(&mut self) -> Result<(), OutOfMemory>
+    pub fn reserve(&mut self, alloc: Global) -> Result<(), OutOfMemory>
         ensures same { IsSameIndex self.old self.new }
         ensures room { OnOk result (HasIndexRoom self.new) }
     {
-        if self.next == u32::MAX {
-            return Err(OutOfMemory);
+        match self {
+            Index::Few(ids) => {
+                if ids.is_full() {
+                    *self = Index::Many(IdTable::of(ids.as_slice(), alloc)?);
+                }
+                Ok(())
+            }
+            Index::Many(table) => table.reserve(),
         }
-        self.serials.reserve(1)?;
-        self.serial_of.reserve(1)?;
-        Ok(())
     }
 
     /// Adds an entry with a new id at the end.
@@ -60,26 +66,23 @@ impl Index {
         ensures { (ids : List ℕ) → IsIndexOf self.old ids → IsNewId id ids
             → IsIndexOf self.new (ids ++ id ∷ []) }
     {
-        let Ok(()) = self.serials.push(self.next) else {
-            unreachable!()
-        };
-        let Ok(_) = self.serial_of.insert(id, self.next) else {
-            unreachable!()
-        };
-        self.next += 1;
+        match self {
+            Index::Few(ids) => ids.push(id),
+            Index::Many(table) => table.push(id),
+        }
     }
 
-    /// Takes the entry out that stands at a position and has this id. The last one's number is free
-    /// again.
+    /// Takes the entry out that stands at a position and has this id.
     pub fn remove(&mut self, i: usize, id: u32)
-        requires { i < length self.old.serials.items }
+        requires { i < index_len self.old }
         ensures { (ids : List ℕ) → IsIndexOf self.old ids → StandOnce ids
             → slice_get ids i ≡ Some id → IsIndexOf self.new (remove ids i) }
     {
-        let _ = self.serial_of.swap_remove(&id);
-        let serial = self.serials.remove(i);
-        if i == self.serials.len() {
-            self.next = serial;
+        match self {
+            Index::Few(ids) => {
+                let _ = ids.remove(i);
+            }
+            Index::Many(table) => table.remove(i, id),
         }
     }
 }

@@ -2,6 +2,7 @@
 //! lead to, and from which an entry may be taken out.
 #![tactic(auto)]
 
+mod id_table;
 mod index;
 mod log;
 mod place;

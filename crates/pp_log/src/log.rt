@@ -50,7 +50,7 @@ impl<S: Placed, T: Side<S::Op>> Log<S, T> {
         let state = S::empty(alloc, shape)?;
         Ok(Log {
             entries: Vec::new(alloc),
-            ids: Index::new(alloc),
+            ids: Index::new(),
             places: Vec::new(alloc),
             state,
             alloc,
@@ -82,7 +82,8 @@ impl<S: Placed, T: Side<S::Op>> Log<S, T> {
         &self.entries
     }
 
-    /// Where the entry with this id stands. It asks an index, and walks over nothing.
+    /// Where the entry with this id stands. It looks through at most sixteen ids, and asks a table
+    /// where there are more.
     pub fn find(&self, id: u32) -> Option<usize>
         ensures { result ≡ position (λ e. (T.item_of e).id == id) self.now.1 }
     {

@@ -19,6 +19,9 @@ fn make_places<O: Copy, U: Drop>(
     ensures same { ArePlacesSame places.old.items places.new.items }
     ensures there { OnOk result (p < length places.new.items) }
 {
+    if places.len() <= p {
+        places.reserve(p + 1 - places.len())?;
+    }
     'grow: while places.len() <= p {
         let place = Place {
             items: Vec::new(alloc),
@@ -60,7 +63,7 @@ pub fn make_room<E: Copy, O: Copy, U: Drop>(
     ensures place_room { OnOk result (HasRoomAt places.new.items p) }
 {
     entries.reserve(1)?;
-    ids.reserve()?;
+    ids.reserve(alloc)?;
     make_places(places, p, alloc)?;
     make_room_there(&mut places[p])?;
     Ok(())

@@ -1,7 +1,0 @@
-use Rattle.std.proofs.Common.{◌+◌, refl}
-use Rattle.pp_log.proofs.Numbers.{index_pushed}
-use Rattle.pp_log.proofs.index.Index.push.Goals as goal
-
-pub returns : goal.returns
-returns c = λ ids h new.
-    index_pushed c.args.self.now (record { serials = c.push.new.self; serial_of = c.insert.new.self; next = c.args.self.now.next + 1 }) ids c.args.id h new c.in-Ok.ensures.items refl c.in-Ok-insert.ensures.updates
