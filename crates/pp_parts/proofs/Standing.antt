@@ -1,10 +1,10 @@
 -- Proof machinery: what stands among samples, and what follows for all that they stand for.
 use Rattle.std.proofs.Common.{◌≡◌, ℕ, zero, suc, ◌<◌, false, List, [], ◌∷◌, ◌++◌, All, length}
-use Rattle.std.proofs.Common.{get_or, inl, inr, refl, sym, subst, arith}
+use Rattle.std.proofs.Common.{get_or, inl, inr, refl, sym, ap, subst, arith, Option, None, Some}
 use Rattle.pp_model.specs.Lists.{In}
 use Rattle.pp_model.proofs.Lists.{in_left, in_right}
 use Rattle.pp_spec.specs.Object.{Object, Swaps}
-use Rattle.pp_parts.specs.Parts.{SampleList, IsStoodForBy, Covers}
+use Rattle.pp_parts.specs.Parts.{SampleList, IsStoodForBy, Covers, first_and}
 
 -- the element at a place is one of them
 pub in_there : {A : Type 0} (xs : List A) (i : ℕ) (d : A) → i < length xs → In (get_or xs i d) xs
@@ -18,6 +18,22 @@ of_each P [] x h there = elim there [ ]
 of_each P (y ∷ xs) x h (inl e) = subst P (sym e) (h 0 y (omega arith))
 of_each P (y ∷ xs) x h (inr there) = of_each P xs x (λ k d l. h (suc k) d (omega arith)) there
 
+-- one more at the end, behind a first
+pub first_push : {A : Type 0} (first : Option A) (others more : List A) (x : A)
+    → more ≡ others ++ x ∷ [] → first_and first more ≡ first_and first others ++ x ∷ []
+first_push None others more x e = e
+first_push {A} (Some y) others more x e = ap (λ (l : List A). y ∷ l) e
+
+-- what holds of the first and of each other holds of all
+pub all_of_both : {A : Type 0} (P : A → Type 0) (first : Option A) (others : List A)
+    → All P (first_and first []) → All P others → All P (first_and first others)
+all_of_both P None others h rest = rest
+all_of_both {A} P (Some y) others h rest = at
+  where
+    at : (k : ℕ) (d : A) → k < length (y ∷ others) → P (get_or (y ∷ others) k d)
+    at zero d l = h 0 d (omega arith)
+    at (suc k) d l = rest k d (omega arith)
+
 module _ {Shape State Op Undo : Type 0} (o : Object Shape State Op Undo) where
   -- one more keeps those that stand for others, and stands for itself
   pub still_stood_for : (ops more : List Op) (op b : Op) → more ≡ ops ++ op ∷ []
@@ -30,6 +46,12 @@ module _ {Shape State Op Undo : Type 0} (o : Object Shape State Op Undo) where
   stands_last ops more op e =
       subst (λ (l : List Op). IsStoodForBy o l op) (sym e)
       (op, in_right op ops (op ∷ []) (inl refl), ((λ c h. h), (λ c h. h)))
+
+  -- the first stands beside the others
+  pub stood_for_by_others : (first : Option Op) (others : List Op) (op : Op)
+      → IsStoodForBy o others op → IsStoodForBy o (first_and first others) op
+  stood_for_by_others None others op s = s
+  stood_for_by_others (Some y) others op s = (s.0, inr s.1, s.2)
 
   -- what each sample swaps with, all swap with that they stand for
   pub all_before : (samples : SampleList Op) (op b : Op) → samples.cut ≡ false

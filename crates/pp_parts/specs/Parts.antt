@@ -1,5 +1,5 @@
 -- Meaning: operations that are about different things, and operations that stand for others.
-use Rattle.std.specs.Prelude.{◌≡◌, ◌≢◌, Bool, false, List, []}
+use Rattle.std.specs.Prelude.{◌≡◌, ◌≢◌, Bool, false, List, [], ◌∷◌, Option, None, Some}
 use Rattle.pp_model.specs.Lists.{In}
 use Rattle.pp_spec.specs.Object.{Object, Swaps}
 use Rattle.pp_parts.specs.declared.part.Part.{Part}
@@ -9,6 +9,11 @@ use Rattle.pp_parts.specs.declared.part.Part.{Part}
 pub record SampleList (Op : Type 0) : Type 0 where
   pub ops : List Op
   pub cut : Bool
+
+-- The first, if there is one, and others behind it.
+abbrev pub first_and : {Op : Type 0} → Option Op → List Op → List Op
+first_and None others = others
+first_and (Some first) others = first ∷ others
 
 -- Nothing was added.
 abbrev pub no_samples : {Op : Type 0} → SampleList Op

@@ -1,7 +1,7 @@
 //! Operations that stand for many others.
-ghost use Rattle.std.specs.Prelude.{◌≡◌, All, IsTrue};
+ghost use Rattle.std.specs.Prelude.{◌≡◌, All, IsTrue, List, []};
 ghost use Rattle.pp_spec.specs.Object.{Swaps};
-ghost use Rattle.pp_parts.specs.Parts.{Covers, IsStoodForBy, no_samples};
+ghost use Rattle.pp_parts.specs.Parts.{Covers, IsStoodForBy, first_and, no_samples};
 
 use crate::parted::Parted;
 use std::alloc::Global;
@@ -11,19 +11,20 @@ use std::marker::Model;
 pub const MOST_SAMPLES: usize = 64;
 
 /// Operations that stand for all that were added. Too many different ones are not kept: then
-/// nothing is known.
+/// nothing is known. The first is kept apart, so that one alone takes no memory.
 #[derive(Drop)]
 pub struct Samples<S: Parted> {
-    ops: Vec<S::Op>,
+    first: Option<S::Op>,
+    others: Vec<S::Op>,
     cut: bool,
 }
 
 impl<S: Parted> Model for Samples<S> {
-    ghost use Rattle.pp_parts.specs.Parts.{SampleList};
+    ghost use Rattle.pp_parts.specs.Parts.{SampleList, first_and};
 
     ghost Value = { SampleList S.Op };
 
-    ghost view = { λ s. record { ops = s.ops.items; cut = s.cut } };
+    ghost view = { λ s. record { ops = first_and s.first s.others.items; cut = s.cut } };
 }
 
 /// Whether one of the samples stands for the operation.
@@ -36,6 +37,39 @@ fn some_stands_for<S: Parted>(samples: &[S::Op], op: &S::Op) -> bool
         }
     }
     false
+}
+
+/// Whether there is a first sample that stands for the operation.
+fn first_stands_for<S: Parted>(first: &Option<S::Op>, op: &S::Op) -> bool
+    ensures { IsTrue result → (others : List S.Op) →
+        IsStoodForBy S.object (first_and first.now others) op.now }
+{
+    match first {
+        None => false,
+        Some(first) => S::stands_for(first, op),
+    }
+}
+
+/// Whether the first sample, if there is one, may be followed by the operation and change places
+/// with it.
+fn first_swaps_before<S: Parted>(first: &Option<S::Op>, op: &S::Op) -> bool
+    ensures { IsTrue result → All (λ s. Swaps S.object s op.now) (first_and first.now []) }
+{
+    match first {
+        None => true,
+        Some(first) => S::swaps(first, op),
+    }
+}
+
+/// Whether the first sample, if there is one, may stand behind the operation and change places
+/// with it.
+fn first_swaps_behind<S: Parted>(first: &Option<S::Op>, op: &S::Op) -> bool
+    ensures { IsTrue result → All (λ s. Swaps S.object op.now s) (first_and first.now []) }
+{
+    match first {
+        None => true,
+        Some(first) => S::swaps(op, first),
+    }
 }
 
 /// Whether each of the samples may be followed by the operation and change places with it.
@@ -68,8 +102,31 @@ impl<S: Parted> Samples<S> {
         ensures { result ≡ no_samples }
     {
         Samples {
-            ops: Vec::new(alloc),
+            first: None,
+            others: Vec::new(alloc),
             cut: false,
+        }
+    }
+
+    /// Whether one of those that are kept stands for the operation.
+    fn has_one_for(&self, op: &S::Op) -> bool
+        ensures { IsTrue result → IsStoodForBy S.object self.now.ops op.now }
+    {
+        first_stands_for::<S>(&self.first, op) || some_stands_for::<S>(&self.others, op)
+    }
+
+    /// Keeps an operation. Where memory is refused, or too many are kept, nothing is known of any
+    /// from then on.
+    fn keep(&mut self, op: &S::Op)
+        ensures keeps { (b : S.Op) → Covers S.object self.old b → Covers S.object self.new b }
+        ensures covers { Covers S.object self.new op.now }
+    {
+        if self.first.is_none() {
+            self.first = Some(*op);
+            return;
+        }
+        if self.others.len() + 1 >= MOST_SAMPLES || self.others.push(*op).is_err() {
+            self.cut = true;
         }
     }
 
@@ -79,12 +136,10 @@ impl<S: Parted> Samples<S> {
         ensures keeps { (b : S.Op) → Covers S.object self.old b → Covers S.object self.new b }
         ensures covers { Covers S.object self.new op.now }
     {
-        if self.cut || some_stands_for::<S>(&self.ops, op) {
+        if self.cut || self.has_one_for(op) {
             return;
         }
-        if self.ops.len() == MOST_SAMPLES || self.ops.push(*op).is_err() {
-            self.cut = true;
-        }
+        self.keep(op);
     }
 
     /// Whether each that was added may be followed by the operation and change places with it.
@@ -93,7 +148,10 @@ impl<S: Parted> Samples<S> {
         ensures { IsTrue result →
             (b : S.Op) → Covers S.object self.now b → Swaps S.object b op.now }
     {
-        !self.cut && all_swap_before::<S>(&self.ops, op)
+        if self.cut {
+            return false;
+        }
+        first_swaps_before::<S>(&self.first, op) && all_swap_before::<S>(&self.others, op)
     }
 
     /// Whether each that was added may stand behind the operation and change places with it. False
@@ -102,14 +160,18 @@ impl<S: Parted> Samples<S> {
         ensures { IsTrue result →
             (b : S.Op) → Covers S.object self.now b → Swaps S.object op.now b }
     {
-        !self.cut && all_swap_behind::<S>(&self.ops, op)
+        if self.cut {
+            return false;
+        }
+        first_swaps_behind::<S>(&self.first, op) && all_swap_behind::<S>(&self.others, op)
     }
 
     /// Forgets all that was added.
     pub fn clear(&mut self)
         ensures { self.new ≡ no_samples }
     {
-        self.ops.clear();
+        self.first = None;
+        self.others.clear();
         self.cut = false;
     }
 }
