@@ -6,6 +6,7 @@ ghost use Rattle.pp_shared.specs.Blocking.{AllGiveWay};
 ghost use Rattle.pp_shared.specs.Uncommitted.{KeepsOpen, LeavesOut, LosesOne, Tells, TellsLess};
 
 use indexmap::IndexMap;
+use indexmap::map::Entry;
 use pp_core::{Name, OutOfMemory, SharedEntry};
 use pp_parts::{Part, Parted, Samples};
 use std::alloc::Global;
@@ -92,15 +93,16 @@ impl<S: Parted> OpenParts<S> {
             KeepsOpen S.object S.part_of self.old.slots.entries x →
             KeepsOpen S.object S.part_of self.new.slots.entries (x ++ entry.now ∷ []) }
     {
-        let part = S::part(&entry.op);
-        if let Some(slot) = self.slots.get_mut(&part) {
-            note::<S>(slot, entry);
-            return;
-        }
-        let slot = first::<S>(self.alloc, entry);
-        let Ok(_) = self.slots.insert(part, slot) else {
+        let alloc = self.alloc;
+        let Ok(slot) = self.slots.entry(S::part(&entry.op)) else {
             unreachable!()
         };
+        match slot {
+            Entry::Occupied(slot) => note::<S>(slot.into_mut(), entry),
+            Entry::Vacant(slot) => {
+                slot.insert(first::<S>(alloc, entry));
+            }
+        }
     }
 
     /// Leaves out an entry that was committed or taken out. Nothing is known of committed ones.
@@ -114,11 +116,12 @@ impl<S: Parted> OpenParts<S> {
             return;
         }
         let part = S::part(&entry.op);
-        let Some(slot) = self.slots.get_mut(&part) else {
+        let Some(at) = self.slots.get_index_of(&part) else {
             return;
         };
+        let (_, slot) = self.slots.pair_mut(at);
         if forget::<S>(slot) {
-            self.slots.swap_remove(&part);
+            self.slots.swap_remove_index(at);
         }
     }
 

@@ -1,6 +1,6 @@
 use Rattle.std.proofs.Common.{◌≤◌, ◌<◌, length, subst, sym, ap, arith}
 use Rattle.pp_model.specs.Config.{shared_ops}
-use Rattle.pp_log.specs.Logs.{from_place, removal_ticks}
+use Rattle.pp_log.specs.Logs.{RemovalBound, from_place, removal_ticks}
 use Rattle.pp_shared.specs.Blocking.{IsSettled}
 use Rattle.pp_shared.specs.Uncommitted.{LeavesOut}
 use Rattle.pp_shared.proofs.Settled.{settled_remove}
@@ -23,3 +23,19 @@ invariant_of-result-2 g c =
       settles = subst (λ z. IsSettled z c.min-settled.result) (sym list) (settled_remove c.self.inside.log.1 c.self.inside.settled c.min-settled.result c.args.i less before inside c.self.invariant.settles);
       opens = c.take.ensures c.self.inside.log.1 c.in_ok-log.log.1 c.self.invariant.opens (subst (λ z. LeavesOut g.S.Parted.part_of c.in-Some.field-0.now c.self.inside.log.1 z) (sym list) (leaves_removed g.S.Parted.part_of c.self.inside.log.1 c.args.i c.in-Some.field-0.now (sym c.in-Some.ensures)));
     }
+
+pub returns-in_err-log-clause-bound : goal.returns-in_err-log-clause-bound
+returns-in_err-log-clause-bound g c =
+    subst (λ z. RemovalBound g.S.Placed.place_of (shared_ops z.1) c.args.i c.args.ticks.now c.remove.new.ticks) c.self.view_is c.in_err-log.ensures.bound
+
+pub returns-in_default-removed-clause-bound : goal.returns-in_default-removed-clause-bound
+returns-in_default-removed-clause-bound g c =
+    subst (λ z. RemovalBound g.S.Placed.place_of (shared_ops z.1) c.args.i c.args.ticks.now c.remove.new.ticks) c.self.view_is c.in_ok-log.ensures.bound
+
+pub returns-clause-cost : goal.returns-clause-cost
+returns-clause-cost g c =
+    subst (λ z. removal_ticks c.in_ok-log.removed (from_place g.S.Placed.place_of (shared_ops z.1) c.args.i) c.args.ticks.now c.remove.new.ticks) c.self.view_is c.in_ok-log.ensures.cost
+
+pub returns-clause-bound : goal.returns-clause-bound
+returns-clause-bound g c =
+    subst (λ z. RemovalBound g.S.Placed.place_of (shared_ops z.1) c.args.i c.args.ticks.now c.remove.new.ticks) c.self.view_is c.in_ok-log.ensures.bound
