@@ -17,7 +17,8 @@ use Rattle.pp_model.proofs.Logs.{but_last_is}
 use Rattle.pp_model.proofs.Serial.{allowed_front}
 use Rattle.pp_log.specs.declared.place.Removed.{Removed}
 use Rattle.pp_log.specs.declared.place.Removed.TheVariants.{Done, Differs}
-use Rattle.pp_log.specs.Logs.{DiffersFirst, RemovesEntry, entry_ops, from_place}
+use Rattle.pp_log.specs.Logs.{DiffersFirst, RemovalBound, RemovesEntry, entry_ops, from_place}
+use Rattle.pp_log.specs.Logs.{removal_ticks}
 use Rattle.pp_log.proofs.Lists.{stands_in}
 use Rattle.pp_spec.specs.Object.{Object, AllRanged, IsAllowed, rules_of}
 use Rattle.pp_spec.proofs.Lists.{allowed-second}
@@ -72,6 +73,17 @@ from_id_some {Op} place id (p ∷ ps) = go (p.id == id) (some_pass (λ (q : Item
     go : (b : Bool) → 1 ≤ length (filter (λ (q : Item Op). place q.op == place p.op) (p ∷ ps)) → 1 ≤ from_id place id ps → 1 ≤ cond b (length (filter (λ (q : Item Op). place q.op == place p.op) (p ∷ ps))) (from_id place id ps)
     go true h k = h
     go false h k = k
+
+-- the operation that is removed is of its place
+from_place_some : {Op : Type 0} (place : Op → ℕ) (ops : List Op) (i : ℕ) → 1 ≤ from_place place ops i
+from_place_some place [] i = omega arith
+from_place_some {Op} place (a ∷ x) zero = some_pass (λ (b : Op). place b == place a) a x (eq-eqb (place a) (place a) refl)
+from_place_some place (a ∷ x) (suc i) = from_place_some place x i
+
+-- what a removal costs is at most the bound
+pub within_bound : {Op : Type 0} (place : Op → ℕ) (ops : List Op) (i : ℕ) (removed : Removed) (old new : ℕ) → removal_ticks removed (from_place place ops i) old new → RemovalBound place ops i old new
+within_bound place ops i Done old new c = let some = from_place_some place ops i in (omega (arith, some, c), omega (arith, some, c))
+within_bound place ops i (Differs id answer) old new c = c
 
 -- the last entry of a local log
 module _ {Shape State Op Undo : Type 0} (o : Object Shape State Op Undo) (log : Shape × List (LocalEntry Op)) (i : ℕ) (m : MayLeave log.1 i) (end : i + 1 ≡ length log.1) where

@@ -7,9 +7,11 @@ ghost use Rattle.std.specs.Map.{lookup};
 ghost use Rattle.std.specs.Option.{option_copied, option_copied_mut};
 ghost use Rattle.std.specs.Str.{bytes_eq};
 ghost use Rattle.pp_core.specs.Trees.{IsWithinLimits, tree};
+ghost use Rattle.pp_log.specs.Logs.{RemovesEntry};
+ghost use Rattle.pp_model.specs.Config.{item, local_ops};
 ghost use Rattle.pp_model.specs.Names.{Name as NameOf};
 ghost use Rattle.pp_rules.specs.Lending.{LendsCourse};
-ghost use Rattle.pp_rules.specs.Removals.{CostsAt, RemovesAt};
+ghost use Rattle.pp_rules.specs.Removals.{CostsAt, CostsRemoval, RemovesAt, answer_of};
 ghost use Rattle.pp_rules.specs.Transactions.{MayLeave, Open, course_of, is_begun, is_busy};
 ghost use Rattle.pp_rules.specs.Transactions.{open_at, open_of, with_open, without_open};
 
@@ -29,10 +31,11 @@ pub struct OpenTx<T> {
     pub course: T,
 }
 
-/// The transactions of a run: the names begun, and those that are open.
+/// The transactions of a run: the names begun, and those that are open. An open transaction stands
+/// in a box, so a name that has ended costs a pointer.
 #[derive(Drop)]
 pub struct Transactions<S: Parted> {
-    slots: IndexMap<Name, Option<OpenTx<Course<S>>>>,
+    slots: IndexMap<Name, Option<Box<OpenTx<Course<S>>>>>,
     threads: IndexSet<Name>,
 }
 
@@ -49,18 +52,20 @@ impl<S: Parted> Model for Transactions<S> {
     ghost view = { λ a. record {
       names = keys_of a.slots.entries;
       opened =
-          filled (λ n t. open_of n t.thread t.course.body t.course.local) a.slots.entries;
+          filled (λ n t. open_of n t.value.thread t.value.course.body t.value.course.local)
+          a.slots.entries;
     } };
 
     ghost invariant = { λ a. Kept (keys_of a.slots.entries) a.threads.keys (threads_of
-        (filled (λ n t. open_of n t.thread t.course.body t.course.local) a.slots.entries)) };
+        (filled (λ n t. open_of n t.value.thread t.value.course.body t.value.course.local)
+        a.slots.entries)) };
 }
 
 /// Gives a name that has no slot this one.
 fn put<T: Drop>(
-    slots: &mut IndexMap<Name, Option<OpenTx<T>>>,
+    slots: &mut IndexMap<Name, Option<Box<OpenTx<T>>>>,
     tx: &Name,
-    slot: Option<OpenTx<T>>,
+    slot: Option<Box<OpenTx<T>>>,
 ) -> Result<(), OutOfMemory>
     requires { lookup (bytes_eq tx.now) slots.old.entries ≡ None }
     ensures ok { OnOk result (slots.new.entries ≡ slots.old.entries ++ (tx.now, slot) ∷ []) }
@@ -71,8 +76,8 @@ fn put<T: Drop>(
 }
 
 /// Empties a slot, and gives the thread of the transaction in it.
-fn empty<T: Drop>(slot: &mut Option<OpenTx<T>>) -> Option<Name>
-    ensures thread { result ≡ option_map (λ t. t.thread) slot.old }
+fn empty<T: Drop>(slot: &mut Option<Box<OpenTx<T>>>) -> Option<Name>
+    ensures thread { result ≡ option_map (λ t. t.value.thread) slot.old }
     ensures emptied { slot.new ≡ None }
 {
     let open = slot.take()?;
@@ -80,10 +85,33 @@ fn empty<T: Drop>(slot: &mut Option<OpenTx<T>>) -> Option<Name>
 }
 
 /// Puts a transaction into a slot.
-fn fill<T: Drop>(slot: &mut Option<OpenTx<T>>, begun: OpenTx<T>)
+fn fill<T: Drop>(slot: &mut Option<Box<OpenTx<T>>>, begun: Box<OpenTx<T>>)
     ensures { slot.new ≡ Some begun }
 {
     *slot = Some(begun);
+}
+
+/// An open transaction without an entry of its local log, unless the list without it is not
+/// allowed. The only error is that memory was refused, and the transaction is then lost.
+fn without<S: Parted, L: Ledger>(
+    begun: Box<OpenTx<Course<S>>>,
+    i: usize,
+    ticks: &mut Ticks<L>,
+) -> Result<(Box<OpenTx<Course<S>>>, Removed), OutOfMemory>
+    requires { MayLeave begun.value.course.local.1 i }
+    ensures thread { IfOk result (λ r. r.0.value.thread ≡ begun.value.thread) }
+    ensures body { IfOk result (λ r. r.0.value.course.body ≡ begun.value.course.body) }
+    ensures removes { IfOk result (λ r.
+        RemovesEntry S.object item begun.value.course.local i r.0.value.course.local r.1) }
+    ensures cost { CostsRemoval S.place_of (local_ops begun.value.course.local.1) i
+        (answer_of result) ticks.old ticks.new }
+{
+    // A removal consumes the log, so the transaction leaves its box meanwhile.
+    let alloc = *Box::allocator(&begun);
+    let OpenTx { thread, course } = Box::into_inner(begun);
+    let (course, removed) = course.without(i, ticks)?;
+    let left = Box::new(alloc, OpenTx { thread, course })?;
+    Ok((left, removed))
 }
 
 impl<S: Parted> Transactions<S> {
@@ -165,6 +193,7 @@ impl<S: Parted> Transactions<S> {
             thread: *thread,
             course,
         };
+        let begun = Box::new(alloc, begun)?;
         self.threads.insert(*thread)?;
         match put(&mut self.slots, tx, Some(begun)) {
             Ok(()) => Ok(()),
@@ -209,13 +238,13 @@ impl<S: Parted> Transactions<S> {
         let Some(slot) = self.slots.get_index_mut(place) else {
             unreachable!()
         };
-        let Some(open) = slot.take() else {
+        let Some(begun) = slot.take() else {
             unreachable!()
         };
-        let OpenTx { thread, course } = open;
-        match course.without(i, ticks) {
-            Ok((course, removed)) => {
-                fill(slot, OpenTx { thread, course });
+        let thread = begun.thread;
+        match without(begun, i, ticks) {
+            Ok((left, removed)) => {
+                fill(slot, left);
                 Ok(removed)
             }
             Err(memory) => {

@@ -7,15 +7,15 @@ use Rattle.pp_rules.proofs.transactions.Transactions.course_at.Goals as goal
 pub returns-in_err-place-clause-course : goal.returns-in_err-place-clause-course
 returns-in_err-place-clause-course g c =
     ap (option_map (λ r. r.1.now)) c.from_residual.ensures
-    ∙ sym (ap (option_map course_of) (no_log (λ n t. open_of n t.thread t.course.body t.course.local) (λ n t. refl) c.self.inside.slots.entries _ _ c.self.view_is c.self.invariant c.args.tx.now (sym c.in_err-place.ensures.value)))
+    ∙ sym (ap (option_map course_of) (no_log (λ n t. open_of n t.value.thread t.value.course.body t.value.course.local) (λ n t. refl) c.self.inside.slots.entries _ _ c.self.view_is c.self.invariant c.args.tx.now (sym c.in_err-place.ensures.value)))
 
 pub returns-in_err-open-clause-course : goal.returns-in_err-open-clause-course
 returns-in_err-open-clause-course g c =
     ap (option_map (λ r. r.1.now)) c.from_residual-in_err-open.ensures
-    ∙ sym (ap (option_map course_of) (closed_log (λ n t. open_of n t.thread t.course.body t.course.local) (λ n t. refl) c.self.inside.slots.entries _ _ c.self.view_is c.self.invariant c.args.tx.now (sym c.in_ok-place.ensures.value ∙ ap (λ s. Some s) (sym c.in_err-open.ensures.value))))
+    ∙ sym (ap (option_map course_of) (closed_log (λ n t. open_of n t.value.thread t.value.course.body t.value.course.local) (λ n t. refl) c.self.inside.slots.entries _ _ c.self.view_is c.self.invariant c.args.tx.now (sym c.in_ok-place.ensures.value ∙ ap (λ s. Some s) (sym c.in_err-open.ensures.value))))
 
 pub returns-clause-course : goal.returns-clause-course
-returns-clause-course g c = sym (ap (option_map course_of) (open_log (λ n t. open_of n t.thread t.course.body t.course.local) (λ n t. refl) c.self.inside.slots.entries _ _ c.self.view_is c.self.invariant c.args.tx.now c.in_ok-open.open.now (sym c.in_ok-place.ensures.value ∙ ap (λ s. Some s) (sym c.in_ok-open.ensures.value))))
+returns-clause-course g c = ap (λ z. Some z.course) c.deref.ensures ∙ sym (ap (option_map course_of) (open_log (λ n t. open_of n t.value.thread t.value.course.body t.value.course.local) (λ n t. refl) c.self.inside.slots.entries _ _ c.self.view_is c.self.invariant c.args.tx.now c.in_ok-open.open.now (sym c.in_ok-place.ensures.value ∙ ap (λ s. Some s) (sym c.in_ok-open.ensures.value))))
 
 pub returns-clause-place : goal.returns-clause-place
 returns-clause-place g c =
