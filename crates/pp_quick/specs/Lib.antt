@@ -1,3 +1,4 @@
+pub mod Seen
 pub mod Boosted
 pub mod Brief
 pub mod Runs

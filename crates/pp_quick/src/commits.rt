@@ -78,7 +78,7 @@ pub fn passes_unseen<S: Parted>(it: &OpenTx<Own<S>>, commits: &Commits<S::Op>, o
         (unseen_at (S.place_of op.now) commits.now.entries it.now.seen.entries) }
 {
     let place = S::place(op);
-    let Some(&seen) = it.seen.get(&place) else {
+    let Some(seen) = it.seen.get(place) else {
         return true;
     };
     let Some(done) = commits.get(&place) else {

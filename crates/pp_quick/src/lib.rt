@@ -11,6 +11,7 @@ mod open_tx;
 mod own;
 mod parts;
 mod quick;
+mod seen;
 mod slots;
 mod start;
 mod take;

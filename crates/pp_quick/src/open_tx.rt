@@ -8,7 +8,7 @@ ghost use Rattle.pp_quick.specs.Shown.{calls_of};
 use crate::commits::count_at;
 use crate::own::Own;
 use crate::parts::{Commits, OpenTx};
-use indexmap::IndexMap;
+use crate::seen::Seen;
 use pp_body::Walk;
 use pp_core::{Body, Item, Name, OutOfMemory};
 use pp_parts::Parted;
@@ -44,7 +44,7 @@ pub fn fresh<S: Parted>(
         thread: *thread,
         walk,
         own: Own::new(alloc),
-        seen: IndexMap::new(alloc),
+        seen: Seen::new(alloc),
     })
 }
 
@@ -111,6 +111,6 @@ pub fn anew<S: Parted>(alloc: Global, it: OpenTx<Own<S>>) -> OpenTx<Own<S>>
         thread,
         walk,
         own: Own::new(alloc),
-        seen: IndexMap::new(alloc),
+        seen: Seen::new(alloc),
     }
 }

@@ -1,4 +1,5 @@
 //! What a `Quick` keeps.
+use crate::seen::Seen;
 use crate::slots::Slots;
 use indexmap::{IndexMap, IndexSet};
 use pp_body::Walk;
@@ -12,7 +13,7 @@ pub struct OpenTx<W> {
     pub thread: Name,
     pub walk: Walk,
     pub own: W,
-    pub seen: IndexMap<u16, usize>,
+    pub seen: Seen,
 }
 
 /// The operations that were committed behind the start, place by place, in commit order.

@@ -7,6 +7,6 @@ use Rattle.pp_quick.proofs.commits.passes_unseen.Goals as goal
 pub returns-clause-no : goal.returns-clause-no
 returns-clause-no g c = λ h.
     let q = c.place-place.result in
-    let is = unseen_is q c.args.commits.now.entries c.args.it.now.seen.entries c.in-Some.field-0.now c.in-Some-get.done.now (sym c.in-Some.ensures.value) (sym c.in-Some-get.ensures.value) in
+    let is = unseen_is q c.args.commits.now.entries c.args.it.now.seen.entries c.in-Some.seen c.in-Some-get.done.now (sym c.in-Some.ensures) (sym c.in-Some-get.ensures.value) in
     subst (λ r. StopsOne g.S.Spec.object g.S.Placed.place_of c.args.it.now.own r) (sym is ∙ ap (λ r. unseen_at r c.args.commits.now.entries c.args.it.now.seen.entries) c.place-place.ensures)
-    (subst (λ r. StopsOne g.S.Spec.object g.S.Placed.place_of c.args.it.now.own (drop c.in-Some.field-0.now r)) c.as_slice.ensures (c.let_all_pass.ensures.no h))
+    (subst (λ r. StopsOne g.S.Spec.object g.S.Placed.place_of c.args.it.now.own (drop c.in-Some.seen r)) c.as_slice.ensures (c.let_all_pass.ensures.no h))

@@ -14,7 +14,7 @@ returns g c =
       taken = subst (λ z. HasTakenOneMore c.args.it.walk z c.in_ok-walk.walk) c.call.ensures c.in_ok-walk.ensures.taken;
       own = c.in_ok-own.ensures;
       seen = λ q.
-          c.in_ok-insert.ensures.updates.0 q
+          c.in_ok-insert.ensures q
           ∙ ap (λ (n : ℕ). cond (nat_eq c.place-place.result q) (Some n) (lookup (nat_eq q) seen)) c.count_at.ensures
           ∙ ap (λ (n : ℕ). cond (nat_eq n q) (Some (length (at n commits))) (lookup (nat_eq q) seen)) c.place-place.ensures;
     }

@@ -1,0 +1,13 @@
+-- Proof machinery: how many of the commits at each place a transaction has seen.
+use Rattle.std.specs.Prelude.{◌≡◌, ℕ, nat_eq, List, take, slice_get, None, Some}
+use Rattle.std.specs.Map.{lookup}
+
+-- The places with their counts, in order.
+pub record SeenCounts : Type 0 where
+  pub entries : List (ℕ × ℕ)
+
+-- The place stands at the k-th of the entries, and at none before it.
+pub record IsFirst (place : ℕ) (entries : List (ℕ × ℕ)) (k : ℕ) : Type 0 where
+  pub count : ℕ
+  pub here : slice_get entries k ≡ Some (place, count)
+  pub before : lookup (nat_eq place) (take k entries) ≡ None
