@@ -1,5 +1,5 @@
 -- Proof machinery: what is known of own operations, part by part.
-use Rattle.std.specs.Prelude.{List, Option, None, Some}
+use Rattle.std.specs.Prelude.{◌<◌, List, Option, None, Some, length}
 use Rattle.std.specs.Map.{lookup}
 use Rattle.pp_core.specs.declared.entry.Item.{Item}
 use Rattle.pp_model.specs.Lists.{In}
@@ -7,6 +7,7 @@ use Rattle.pp_parts.specs.declared.part.Part.{Part}
 use Rattle.pp_parts.specs.Parts.{Covers, SampleList}
 use Rattle.pp_shared.specs.Uncommitted.{same_part}
 use Rattle.pp_spec.specs.Object.{Object}
+use Rattle.pp_quick.specs.declared.own.TheConstants.{FEW_OPERATIONS}
 
 -- There are samples, and they stand for the operation.
 abbrev pub CoversOf : {Shape State Op Undo : Type 0} → Object Shape State Op Undo →
@@ -22,3 +23,7 @@ module _ {Shape State Op Undo : Type 0} (o : Object Shape State Op Undo) (part_o
   -- They do for each of the items.
   abbrev pub KnowsAll : List (Part × SampleList Op) → List (Item Op) → Type 0
   KnowsAll slots items = (p : Item Op) → In p items → Knows slots p.op
+
+  -- They do where the items are more than few.
+  abbrev pub KnowsMany : List (Part × SampleList Op) → List (Item Op) → Type 0
+  KnowsMany slots items = FEW_OPERATIONS < length items → KnowsAll slots items

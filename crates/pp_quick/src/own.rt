@@ -1,34 +1,40 @@
 //! The own operations of an open transaction, and what is known of them.
 ghost use Rattle.std.specs.Prelude.{◌≡◌, [], ◌∷◌, ◌++◌, false, IfOk, IsTrue, List, OnOk};
 ghost use Rattle.pp_core.specs.declared.entry.Item.{Item as ItemOf};
-ghost use Rattle.pp_quick.specs.Known.{Knows, KnowsAll};
+ghost use Rattle.pp_quick.specs.Known.{Knows, KnowsAll, KnowsMany};
 ghost use Rattle.pp_quick.specs.Passing.{LetPass, Stops};
 ghost use Rattle.pp_spec.specs.Object.{Swaps, SwapsNowhere};
 
 use indexmap::IndexMap;
 use pp_core::{Item, Items, OutOfMemory};
 use pp_parts::{Part, Parted, Samples};
-use pp_spec::Placed;
 use std::alloc::Global;
 use std::marker::Model;
 
-/// Whether the own operation has the place of the other, and does not let it pass.
-fn stops<S: Placed>(item: &Item<S::Op>, op: &S::Op) -> bool
+/// To walk over so few own operations costs less than to know of them: then each of them would be
+/// added to a table of samples, and most transactions never have more.
+const FEW_OPERATIONS: usize = 16;
+
+/// Whether the own operation has the part and the place of the other, and does not let it pass.
+/// The parts are held against one another first, since operations of different parts swap.
+fn stops<S: Parted>(item: &Item<S::Op>, op: &S::Op, part: Part) -> bool
+    requires { part ≡ S.part_of op.now }
     ensures yes { IsTrue result → (S.place_of item.now.op ≡ S.place_of op.now)
         × SwapsNowhere S.object item.now.op op.now }
     ensures no { result ≡ false → S.place_of item.now.op ≡ S.place_of op.now →
         Swaps S.object item.now.op op.now }
 {
-    S::place(&item.op) == S::place(op) && !S::swaps(&item.op, op)
+    S::part(&item.op) == part && S::place(&item.op) == S::place(op) && !S::swaps(&item.op, op)
 }
 
 /// Whether each of these operations at the place of another lets it pass.
-fn each_lets_pass<S: Placed>(own: &[Item<S::Op>], op: &S::Op) -> bool
+fn each_lets_pass<S: Parted>(own: &[Item<S::Op>], op: &S::Op) -> bool
     ensures yes { IsTrue result → LetPass S.object S.place_of own.now op.now }
     ensures no { result ≡ false → Stops S.object S.place_of own.now op.now }
 {
+    let part = S::part(op);
     for item in own {
-        if stops::<S>(item, op) {
+        if stops::<S>(item, op, part) {
             return false;
         }
     }
@@ -56,8 +62,22 @@ fn know<S: Parted>(
     Ok(())
 }
 
-/// The own operations of an open transaction, in order, and for each part of them operations that
-/// stand for those there. Contracts see the operations.
+/// All these operations are known. The only error is that memory was refused.
+fn know_all<S: Parted>(
+    alloc: Global,
+    samples: &mut IndexMap<Part, Samples<S>>,
+    items: &[Item<S::Op>],
+) -> Result<(), OutOfMemory>
+    ensures { OnOk result (KnowsAll S.object S.part_of samples.new.entries items.now) }
+{
+    for item in items {
+        know::<S>(alloc, samples, &item.op)?;
+    }
+    Ok(())
+}
+
+/// The own operations of an open transaction, in order, and, where they are more than few, for each
+/// part of them operations that stand for those there. Contracts see the operations.
 #[derive(Drop)]
 pub struct Own<S: Parted> {
     alloc: Global,
@@ -70,7 +90,7 @@ impl<S: Parted> Model for Own<S> {
 
     ghost view = { λ a. a.items };
 
-    ghost invariant = { λ a. KnowsAll S.object S.part_of a.samples.entries a.items };
+    ghost invariant = { λ a. KnowsMany S.object S.part_of a.samples.entries a.items };
 }
 
 impl<S: Parted> Own<S> {
@@ -95,7 +115,12 @@ impl<S: Parted> Own<S> {
             mut samples,
         } = self;
         items.push(item)?;
-        know::<S>(alloc, &mut samples, &item.op)?;
+        let count = items.len();
+        if count == FEW_OPERATIONS + 1 {
+            know_all::<S>(alloc, &mut samples, items.as_slice())?;
+        } else if count > FEW_OPERATIONS {
+            know::<S>(alloc, &mut samples, &item.op)?;
+        }
         Ok(Own {
             alloc,
             items,
@@ -117,10 +142,14 @@ impl<S: Parted> Own<S> {
         self.items
     }
 
-    /// Whether each operation at the place of another is known to let it pass. False says nothing.
+    /// Whether each operation at the place of another is known to let it pass. False says nothing,
+    /// and of few operations nothing is known.
     fn is_known_to_let(&self, op: &S::Op) -> bool
         ensures { IsTrue result → LetPass S.object S.place_of self.now op.now }
     {
+        if self.items.len() <= FEW_OPERATIONS {
+            return false;
+        }
         match self.samples.get(&S::part(op)) {
             None => true,
             Some(known) => known.all_before(op),
@@ -128,7 +157,7 @@ impl<S: Parted> Own<S> {
     }
 
     /// Whether each operation at the place of another lets it pass. It walks over them only where
-    /// what is known of those of its part leaves the answer open.
+    /// they are few, or what is known of those of its part leaves the answer open.
     pub fn let_pass(&self, op: &S::Op) -> bool
         ensures yes { IsTrue result → LetPass S.object S.place_of self.now op.now }
         ensures no { result ≡ false → Stops S.object S.place_of self.now op.now }

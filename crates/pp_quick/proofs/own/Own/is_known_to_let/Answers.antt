@@ -1,4 +1,4 @@
-use Rattle.std.proofs.Common.{◌∙◌, ap, subst, sym}
+use Rattle.std.proofs.Common.{◌∙◌, ap, arith, subst, sym}
 use Rattle.std.specs.Map.{lookup}
 use Rattle.pp_quick.specs.Passing.{LetPass}
 use Rattle.pp_shared.specs.Uncommitted.{same_part}
@@ -9,12 +9,12 @@ pub returns-in-None : goal.returns-in-None
 returns-in-None g c = λ _.
     let slots = c.self.inside.samples.entries in
     subst (λ l. LetPass g.S.Spec.object g.S.Placed.place_of l c.args.op.now) c.self.view_is
-    (none_of_part g.S.Spec.object g.S.Parted.part_of g.met.S.Parted.parted g.S.Placed.place_of c.args.op.now slots c.self.inside.items c.self.invariant
+    (none_of_part g.S.Spec.object g.S.Parted.part_of g.met.S.Parted.parted g.S.Placed.place_of c.args.op.now slots c.self.inside.items (c.self.invariant (omega arith))
     (ap (λ p. lookup (same_part p) slots) (sym c.part.ensures) ∙ sym c.in-None.ensures.value))
 
 pub returns-in-Some : goal.returns-in-Some
 returns-in-Some g c = λ yes.
     let slots = c.self.inside.samples.entries in
     subst (λ l. LetPass g.S.Spec.object g.S.Placed.place_of l c.args.op.now) c.self.view_is
-    (samples_let g.S.Spec.object g.S.Parted.part_of g.met.S.Parted.parted g.S.Placed.place_of c.args.op.now slots c.self.inside.items c.self.invariant c.in-Some.known.now
+    (samples_let g.S.Spec.object g.S.Parted.part_of g.met.S.Parted.parted g.S.Placed.place_of c.args.op.now slots c.self.inside.items (c.self.invariant (omega arith)) c.in-Some.known.now
     (ap (λ p. lookup (same_part p) slots) (sym c.part.ensures) ∙ sym c.in-Some.ensures.value) (c.all_before.ensures yes))
