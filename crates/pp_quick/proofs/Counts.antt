@@ -46,9 +46,10 @@ first_is place n [] k count here before = absurd (cc)
 first_is place n (e ∷ entries) zero count here before =
     let same = same_Some e (place, count) here in
     let at : e.0 ≡ place = ap (λ (p : ℕ × ℕ). p.0) same in
-    let found : nat_eq place e.0 ≡ true = eq-eqb place e.0 (sym at) in
-    (ap (λ (b : Bool). cond b (Some e.1) (lookup (nat_eq place) entries)) found ∙ ap (λ (p : ℕ × ℕ). Some p.1) same,
-    ap (λ (m : ℕ). (m, n) ∷ entries) (sym at) ∙ ap (λ (b : Bool). cond b ((e.0, n) ∷ entries) (e ∷ set_value (nat_eq place) entries n)) (sym found))
+    let found : nat_eq place e.0 ≡ true = eq-eqb place e.0 (sym at) in (
+      ap (λ (b : Bool). cond b (Some e.1) (lookup (nat_eq place) entries)) found ∙ ap (λ (p : ℕ × ℕ). Some p.1) same,
+      ap (λ (m : ℕ). (m, n) ∷ entries) (sym at) ∙ ap (λ (b : Bool). cond b ((e.0, n) ∷ entries) (e ∷ set_value (nat_eq place) entries n)) (sym found),
+    )
 first_is place n (e ∷ entries) (suc k) count here before = by (nat_eq place e.0) before (λ h. first_is place n entries k count here h)
   where
     by : (b : Bool) → cond b (Some e.1) (lookup (nat_eq place) (take k entries)) ≡ None →

@@ -11,8 +11,8 @@ use pp_parts::{Part, Parted, Samples};
 use std::alloc::Global;
 use std::marker::Model;
 
-/// To walk over so few own operations costs less than to know of them: then each of them would be
-/// added to a table of samples, and most transactions never have more.
+/// Up to so many own operations are walked over one by one, which costs less than to add each of
+/// them to a table of samples.
 const FEW_OPERATIONS: usize = 16;
 
 /// Whether the own operation has the part and the place of the other, and does not let it pass.

@@ -7,8 +7,8 @@ use pp_core::OutOfMemory;
 use std::alloc::Global;
 use std::marker::Model;
 
-/// Places, and for each of them how many of the commits there were seen. They are few, mostly one
-/// or two, so that a place is looked for one after another.
+/// Places, and for each of them how many of the commits there were seen. There are mostly one or
+/// two of them, and never more than objects, so that they are looked through one after another.
 #[derive(Drop)]
 pub struct Seen {
     entries: Vec<(u16, usize)>,
@@ -22,7 +22,7 @@ impl Model for Seen {
     ghost view = { λ a. record { entries = a.entries.items } };
 }
 
-/// Which of the entries has the place, if one has it.
+/// Which of the entries is the first that has the place, if one has it.
 fn position(entries: &[(u16, usize)], place: u16) -> Option<usize>
     ensures found { IfSome result (IsFirst place entries.now) }
     ensures none { IfNone result (lookup (nat_eq place) entries.now ≡ None) }
@@ -45,7 +45,7 @@ impl Seen {
         }
     }
 
-    /// How many of the commits at the place were seen, if it has a count.
+    /// How many of the commits at the place were seen, if the place is there.
     pub fn get(&self, place: u16) -> Option<usize>
         ensures { result ≡ lookup (nat_eq place) self.now.entries }
     {
