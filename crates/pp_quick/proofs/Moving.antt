@@ -238,7 +238,7 @@ module _ {Shape State Op Undo : Type 0} (o : Object Shape State Op Undo) (place 
   -- an op
   module _ (t : Name) (id : ℕ) (op : Op) (x y : OpenTx (List (Item Op))) (w : Kept Shape Op) (g : IsGood o place v (records.Op t id op)) (found : open_in t es ≡ Some x)
       (grows : IsGrown o place commits x (record { id = id; op = op }) y)
-      (slots : w.slots.entries ≡ set_value (λ n. t =ⁿ n) (set_value (λ n. t =ⁿ n) es None) (Some y)) (shape : w.shape ≡ v.shape)
+      (slots : w.slots.entries ≡ set_value (λ n. t =ⁿ n) es (Some y)) (shape : w.shape ≡ v.shape)
       (shared : w.shared ≡ (v.shared.0, G ++ as_shared t false (record { id = id; op = op }) ∷ [])) (ids : w.ids.keys ≡ v.ids.keys ++ id ∷ []) (threads : w.threads.keys ≡ v.threads.keys)
       (committed : w.committed ≡ v.committed) (commits_are : w.commits.entries ≡ commits) (count : w.count ≡ v.count + 1) where
     abbrev p : Item Op
@@ -247,19 +247,16 @@ module _ {Shape State Op Undo : Type 0} (o : Object Shape State Op Undo) (place 
     abbrev more : List (SharedEntry Op)
     more = G ++ as_shared t false (record { id = id; op = op }) ∷ []
 
-    set_is : w.slots.entries ≡ set_value (λ n. t =ⁿ n) es (Some y)
-    set_is = slots ∙ set_twice t es None (Some y)
-
     log_is : w.shared.1 ≡ more
     log_is = ap (λ (z : Shape × List (SharedEntry Op)). z.1) shared
 
     grown_shown : shown place w ≡ brief_then place B (records.Op t id op)
     grown_shown = same_brief _ _ _ _ _ _ _ _ _ _
-        (keys_set t (Some y) w.slots.entries set_is)
+        (keys_set t (Some y) w.slots.entries slots)
         (ap (λ (z : List ℕ). reverse z) ids ∙ reverse_more v.ids.keys id)
         (ap (λ (z : List (SharedEntry Op)). filled (shown_tx place z w.commits.entries) w.slots.entries) log_is
         ∙ ap (λ (z : List (ℕ × List (Item Op))). filled (shown_tx place more z) w.slots.entries) commits_are
-        ∙ ap (λ (z : List (Name × Option (OpenTx (List (Item Op))))). filled (shown_tx place more commits) z) set_is
+        ∙ ap (λ (z : List (Name × Option (OpenTx (List (Item Op))))). filled (shown_tx place more commits) z) slots
         ∙ filled_set t show (shown_tx place more commits) (named G commits) (grown place G id op) x y es h.names (slot_there t x found)
         (same_tx t y.thread x.thread y.walk.body x.walk.body y.own (x.own ++ p ∷ []) (unseen place more commits y.seen.entries) _ grows.thread grows.body grows.own
         (unseen_wider place G commits y.seen.entries t p ∙ unseen_grown place G commits x.seen.entries y.seen.entries op (distinct o place apart v.shape B h.short) grows.seen))
@@ -299,10 +296,10 @@ module _ {Shape State Op Undo : Type 0} (o : Object Shape State Op Undo) (place 
         at_most q k false e m = (fine_of t x found).within q k (sym (ap (λ (b : Bool). cond b (Some (length (at (place op) commits))) (lookup (nat_eq q) x.seen.entries)) e) ∙ m)
 
     pub grown_moves : Moves o place v (records.Op t id op) w
-    grown_moves = moves (records.Op t id op) w tt g shape count grown_shown (names_set t (Some y) w.slots.entries set_is)
+    grown_moves = moves (records.Op t id op) w tt g shape count grown_shown (names_set t (Some y) w.slots.entries slots)
         (subst (λ (l : List Name). AreThreads l (threads_of (at_brief t (grown place G id op) B.opened))) (sym threads)
         (subst (λ (l : List Name). AreThreads v.threads.keys l) (sym (threads_on t (grown place G id op) B.opened (λ z. refl))) h.threads))
-        (fine_set t (Some y) w.slots.entries w.commits.entries set_is (λ z k. subst (λ (c : List (ℕ × List (Item Op))). IsFine o place c z) (sym commits_are) k)
+        (fine_set t (Some y) w.slots.entries w.commits.entries slots (λ z k. subst (λ (c : List (ℕ × List (Item Op))). IsFine o place c z) (sym commits_are) k)
         (λ z e. subst (λ (c : List (ℕ × List (Item Op))). IsFine o place c z) (sym commits_are) (subst (λ (u : OpenTx (List (Item Op))). IsFine o place commits u) (same_Some y z e) grown_fine)))
         (λ q a i. let k = h.commits q a (subst (λ (z : List (ℕ × List (Item Op))). In a (at q z)) commits_are i) in (subst (λ (z : List (CommittedTx Op)). In a (serial_items z)) (sym committed) k.0, k.1))
         (ap (λ (z : Shape × List (SharedEntry Op)). z.0) shared ∙ h.same_shape)

@@ -6,10 +6,9 @@ ghost use Rattle.pp_quick.specs.Moving.{IsGood, Moves};
 ghost use Rattle.pp_quick.specs.Shown.{Holds, open_in};
 
 use crate::commits::passes_unseen;
-use crate::open_tx::with_operation;
+use crate::open_tx::grow;
 use crate::own::Own;
 use crate::parts::{OpenTx, Parts};
-use crate::slots::{put_back, take_out};
 use pp_core::{Item, Name, OutOfMemory, SharedEntry, Ticks};
 use pp_parts::Parted;
 use pp_shared::Shared;
@@ -62,7 +61,10 @@ pub fn push<S: Parted, L: Ledger>(
     ensures rises { ticks.old ≤ ticks.new }
     ensures bound { ticks.new ≤ ticks.old + 1 }
 {
-    let Some(it) = take_out(&mut parts.slots, tx) else {
+    let Some(slot) = parts.slots.get_mut(tx) else {
+        unreachable!()
+    };
+    let Some(it) = slot.as_mut() else {
         unreachable!()
     };
     let entry = SharedEntry {
@@ -73,8 +75,7 @@ pub fn push<S: Parted, L: Ledger>(
     };
     parts.shared.push(entry, ticks)?;
     parts.ids.insert(id)?;
-    let it = with_operation::<S>(it, &parts.commits, Item { id, op: *op })?;
-    put_back(&mut parts.slots, tx, it);
+    grow::<S>(it, &parts.commits, Item { id, op: *op })?;
     parts.count += 1;
     Ok(())
 }

@@ -1,5 +1,5 @@
 //! Changes of an open transaction.
-ghost use Rattle.std.specs.Prelude.{◌≡◌, [], IfOk, option_map};
+ghost use Rattle.std.specs.Prelude.{◌≡◌, [], IfOk, OnOk, option_map};
 ghost use Rattle.pp_body.specs.Walks.{HasTaken, MayTake};
 ghost use Rattle.pp_core.specs.Trees.{IsWithinLimits, tree};
 ghost use Rattle.pp_quick.specs.Passing.{IsGrown};
@@ -48,32 +48,21 @@ pub fn fresh<S: Parted>(
     })
 }
 
-/// The transaction with one more operation of its own, behind which it has seen the commits at its
+/// The transaction has one more operation of its own, behind which it has seen the commits at its
 /// place. The only error is that memory was refused.
-pub fn with_operation<S: Parted>(
-    it: OpenTx<Own<S>>,
+pub fn grow<S: Parted>(
+    it: &mut OpenTx<Own<S>>,
     commits: &Commits<S::Op>,
     item: Item<S::Op>,
-) -> Result<OpenTx<Own<S>>, OutOfMemory>
-    requires { MayTake it.walk (S.object.call item.op) }
-    ensures { IfOk result (IsGrown S.object S.place_of commits.now.entries it item) }
+) -> Result<(), OutOfMemory>
+    requires { MayTake it.old.walk (S.object.call item.op) }
+    ensures { OnOk result (IsGrown S.object S.place_of commits.now.entries it.old item it.new) }
 {
-    let OpenTx {
-        thread,
-        walk,
-        own,
-        mut seen,
-    } = it;
-    let walk = walk.take(S::call(&item.op))?;
-    let own = own.with(item)?;
+    it.walk.follow(&S::call(&item.op))?;
+    it.own.add(item)?;
     let place = S::place(&item.op);
-    seen.insert(place, count_at(commits, place))?;
-    Ok(OpenTx {
-        thread,
-        walk,
-        own,
-        seen,
-    })
+    it.seen.insert(place, count_at(commits, place))?;
+    Ok(())
 }
 
 /// The walk with this many calls given back.

@@ -41,14 +41,15 @@ fn each_lets_pass<S: Parted>(own: &[Item<S::Op>], op: &S::Op) -> bool
     true
 }
 
-/// One more operation is known. The only error is that memory was refused.
+/// One more operation is known. The only error is that memory was refused, and what was known is
+/// still known.
 fn know<S: Parted>(
     alloc: Global,
     samples: &mut IndexMap<Part, Samples<S>>,
     op: &S::Op,
 ) -> Result<(), OutOfMemory>
-    ensures keeps { OnOk result ((b : S.Op) → Knows S.object S.part_of samples.old.entries b →
-        Knows S.object S.part_of samples.new.entries b) }
+    ensures keeps { (b : S.Op) → Knows S.object S.part_of samples.old.entries b →
+        Knows S.object S.part_of samples.new.entries b }
     ensures knows { OnOk result (Knows S.object S.part_of samples.new.entries op.now) }
 {
     let part = S::part(op);
@@ -74,6 +75,28 @@ fn know_all<S: Parted>(
         know::<S>(alloc, samples, &item.op)?;
     }
     Ok(())
+}
+
+/// Where the operations are more than few with this one behind them, all are known. The only error
+/// is that memory was refused, and what was known is still known.
+fn know_next<S: Parted>(
+    alloc: Global,
+    samples: &mut IndexMap<Part, Samples<S>>,
+    items: &[Item<S::Op>],
+    item: &Item<S::Op>,
+) -> Result<(), OutOfMemory>
+    requires { KnowsMany S.object S.part_of samples.old.entries items.now }
+    ensures keeps { KnowsMany S.object S.part_of samples.new.entries items.now }
+    ensures knows { OnOk result
+        (KnowsMany S.object S.part_of samples.new.entries (items.now ++ item.now ∷ [])) }
+{
+    if items.len() < FEW_OPERATIONS {
+        return Ok(());
+    }
+    if items.len() == FEW_OPERATIONS {
+        know_all::<S>(alloc, samples, items)?;
+    }
+    know::<S>(alloc, samples, &item.op)
 }
 
 /// The own operations of an open transaction, in order, and, where they are more than few, for each
@@ -105,27 +128,12 @@ impl<S: Parted> Own<S> {
         }
     }
 
-    /// One more operation. The only error is that memory was refused.
-    pub fn with(self, item: Item<S::Op>) -> Result<Self, OutOfMemory>
-        ensures { IfOk result (λ own. own ≡ self ++ item ∷ []) }
+    /// Adds an operation. The only error is that memory was refused.
+    pub fn add(&mut self, item: Item<S::Op>) -> Result<(), OutOfMemory>
+        ensures { OnOk result (self.new ≡ self.old ++ item ∷ []) }
     {
-        let Own {
-            alloc,
-            mut items,
-            mut samples,
-        } = self;
-        items.push(item)?;
-        let count = items.len();
-        if count == FEW_OPERATIONS + 1 {
-            know_all::<S>(alloc, &mut samples, items.as_slice())?;
-        } else if count > FEW_OPERATIONS {
-            know::<S>(alloc, &mut samples, &item.op)?;
-        }
-        Ok(Own {
-            alloc,
-            items,
-            samples,
-        })
+        know_next::<S>(self.alloc, &mut self.samples, self.items.as_slice(), &item)?;
+        self.items.push(item)
     }
 
     /// The operations, in order.

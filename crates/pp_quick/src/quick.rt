@@ -23,10 +23,11 @@ use std::sync::ledger::Ledger;
 
 /// What decides a boosted run, record by record: the names and ids that were used, the threads that
 /// are busy, the shared log, the committed transactions, and of each open one its own operations,
-/// how far they have come in its body, and how many of the commits at their places it has seen.
+/// how far they have come in its body, and how many of the commits at their places it has seen. It
+/// is one pointer, since each record takes it and gives it back.
 #[derive(Drop)]
 pub struct Quick<S: Parted> {
-    parts: Parts<S::Shape, S::Op, Shared<S>, Own<S>>,
+    parts: Box<Parts<S::Shape, S::Op, Shared<S>, Own<S>>>,
 }
 
 impl<S: Parted> Model for Quick<S> {
@@ -40,12 +41,12 @@ impl<S: Parted> Model for Quick<S> {
     ghost coded = { Prim.hlevel (codes, tree_code, S.Shape.code, S.Op.code) };
 
     ghost view = { λ a. record {
-      shape = a.parts.shape;
-      brief = shown S.place_of a.parts;
-      count = a.parts.count;
+      shape = a.parts.value.shape;
+      brief = shown S.place_of a.parts.value;
+      count = a.parts.value.count;
     } };
 
-    ghost invariant = { λ a. Holds S.object S.place_of a.parts };
+    ghost invariant = { λ a. Holds S.object S.place_of a.parts.value };
 }
 
 impl<S: Parted> Quick<S> {
@@ -54,19 +55,19 @@ impl<S: Parted> Quick<S> {
         ensures { IfOk result (λ q. q ≡ held_first S.object S.place_of shape) }
     {
         let shared = Shared::new(alloc, &shape)?;
-        Ok(Quick {
-            parts: Parts {
-                alloc,
-                shape,
-                slots: IndexMap::new(alloc),
-                threads: IndexSet::new(alloc),
-                ids: IndexSet::new(alloc),
-                shared,
-                committed: Committed::new(alloc),
-                commits: IndexMap::new(alloc),
-                count: 0,
-            },
-        })
+        let parts = Parts {
+            alloc,
+            shape,
+            slots: IndexMap::new(alloc),
+            threads: IndexSet::new(alloc),
+            ids: IndexSet::new(alloc),
+            shared,
+            committed: Committed::new(alloc),
+            commits: IndexMap::new(alloc),
+            count: 0,
+        };
+        let parts = Box::new(alloc, parts)?;
+        Ok(Quick { parts })
     }
 
     /// Lets operations stand committed before the first record, in a Quick that is as `new` made
@@ -91,7 +92,7 @@ impl<S: Parted> Quick<S> {
         ensures bound { ticks.new ≤ ticks.old + length items.now }
     {
         let Quick { mut parts } = self;
-        let good = start::start(&mut parts, &tx, items, ticks)?;
+        let good = start::start(&mut *parts, &tx, items, ticks)?;
         Ok((Quick { parts }, good))
     }
 

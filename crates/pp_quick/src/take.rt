@@ -94,40 +94,57 @@ fn take_commit<S: Parted>(
     Ok(true)
 }
 
+/// Puts what was taken out of its box into one again. The only error is that memory was refused.
+fn in_box<S: Parted>(
+    parts: Parts<S::Shape, S::Op, Shared<S>, Own<S>>,
+) -> Result<Box<Parts<S::Shape, S::Op, Shared<S>, Own<S>>>, OutOfMemory>
+    ensures { IfOk result (λ b. b.value ≡ parts) }
+{
+    let alloc = parts.alloc;
+    Ok(Box::new(alloc, parts)?)
+}
+
 /// Takes a record where it is good, and else says false, and nothing has changed. Records of other
 /// styles are not good. The only error is that memory was refused.
 pub fn take<S: Parted, L: Ledger>(
-    parts: Parts<S::Shape, S::Op, Shared<S>, Own<S>>,
+    parts: Box<Parts<S::Shape, S::Op, Shared<S>, Own<S>>>,
     recorded: &RunRecord<S::Op>,
     ticks: &mut Ticks<L>,
-) -> Result<(Parts<S::Shape, S::Op, Shared<S>, Own<S>>, bool), OutOfMemory>
-    requires holds { Holds S.object S.place_of parts }
-    requires asked { IsRecordAsked S.object parts.shape (record_meaning recorded.now) }
-    requires few { parts.count < 200_000 }
+) -> Result<(Box<Parts<S::Shape, S::Op, Shared<S>, Own<S>>>, bool), OutOfMemory>
+    requires holds { Holds S.object S.place_of parts.value }
+    requires asked { IsRecordAsked S.object parts.value.shape (record_meaning recorded.now) }
+    requires few { parts.value.count < 200_000 }
     ensures answers { IfOk result (λ r.
-        Answers S.object S.place_of parts (record_meaning recorded.now) r.1 r.0) }
-    ensures cost { IfOk result (λ r. TakeCosts S.place_of (shown S.place_of parts)
+        Answers S.object S.place_of parts.value (record_meaning recorded.now) r.1 r.0.value) }
+    ensures cost { IfOk result (λ r. TakeCosts S.place_of (shown S.place_of parts.value)
         (record_meaning recorded.now) r.1 ticks.old ticks.new) }
     ensures rises { ticks.old ≤ ticks.new }
-    ensures bound { ticks.new
-        ≤ ticks.old + take_most S.place_of (shown S.place_of parts) (record_meaning recorded.now) }
+    ensures bound { ticks.new ≤ ticks.old
+        + take_most S.place_of (shown S.place_of parts.value) (record_meaning recorded.now) }
 {
     let mut parts = parts;
     match recorded {
         RunRecord::Plain(step) => {
-            let good = take_step(&mut parts, step)?;
+            let good = take_step(&mut *parts, step)?;
             Ok((parts, good))
         }
         RunRecord::Op { tx, id, op } => {
-            let good = take_op(&mut parts, tx, *id, op, ticks)?;
+            let good = take_op(&mut *parts, tx, *id, op, ticks)?;
             Ok((parts, good))
         }
         RunRecord::Commit { tx } => {
-            let good = take_commit(&mut parts, tx)?;
+            let good = take_commit(&mut *parts, tx)?;
             Ok((parts, good))
         }
-        RunRecord::Abort { tx } => abort(parts, tx, ticks),
-        RunRecord::Retry { tx } => retry(parts, tx, ticks),
+        // What leaves the shared log consumes it, so the parts leave their box meanwhile.
+        RunRecord::Abort { tx } => {
+            let (parts, good) = abort(Box::into_inner(parts), tx, ticks)?;
+            Ok((in_box::<S>(parts)?, good))
+        }
+        RunRecord::Retry { tx } => {
+            let (parts, good) = retry(Box::into_inner(parts), tx, ticks)?;
+            Ok((in_box::<S>(parts)?, good))
+        }
         RunRecord::Refresh { .. }
         | RunRecord::XBegin { .. }
         | RunRecord::XEnd { .. }

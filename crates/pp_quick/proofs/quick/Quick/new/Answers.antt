@@ -1,5 +1,5 @@
-use Rattle.std.proofs.Common.{refl}
-use Rattle.pp_quick.specs.Shown.{Kept}
+use Rattle.std.proofs.Common.{◌∙◌, ap, refl, subst, sym}
+use Rattle.pp_quick.specs.Shown.{Holds, Kept, shown}
 use Rattle.pp_quick.proofs.Fresh.{fresh_holds, fresh_shown}
 use Rattle.pp_quick.proofs.Short.{apart_of}
 use Rattle.pp_quick.proofs.Taking.{same_held}
@@ -8,7 +8,8 @@ use Rattle.pp_quick.proofs.quick.Quick.new.Goals as goal
 pub invariant_of-result : goal.invariant_of-result
 invariant_of-result g c =
     let apart = apart_of g.S.Spec.object g.S.Placed.place_of g.S.Placed.SameAt g.met.S.Placed.placed in
-    fresh_holds g.S.Spec.object g.S.Placed.place_of apart _ c.new-2.ensures.empty c.new-3.ensures.empty c.new-4.ensures.empty c.in_ok-shared.ensures c.new-5.ensures c.new-6.ensures.empty
+    subst (λ z. Holds g.S.Spec.object g.S.Placed.place_of z) (sym c.in_ok-parts.ensures.ok)
+    (fresh_holds g.S.Spec.object g.S.Placed.place_of apart _ c.new-2.ensures.empty c.new-3.ensures.empty c.new-4.ensures.empty c.in_ok-shared.ensures c.new-5.ensures c.new-6.ensures.empty)
 
 pub returns : goal.returns
 returns g c =
@@ -24,4 +25,5 @@ returns g c =
       commits = c.new-6.result;
       count = 0;
     } in
-    same_held _ _ _ _ _ _ refl (fresh_shown g.S.Spec.object g.S.Placed.place_of apart v c.new-2.ensures.empty c.new-3.ensures.empty c.new-4.ensures.empty c.in_ok-shared.ensures c.new-5.ensures c.new-6.ensures.empty) refl
+    ap (λ z. record { shape = z.shape; brief = shown g.S.Placed.place_of z; count = z.count }) c.in_ok-parts.ensures.ok
+    ∙ same_held _ _ _ _ _ _ refl (fresh_shown g.S.Spec.object g.S.Placed.place_of apart v c.new-2.ensures.empty c.new-3.ensures.empty c.new-4.ensures.empty c.in_ok-shared.ensures c.new-5.ensures c.new-6.ensures.empty) refl

@@ -10,17 +10,17 @@ take-requires-clause-asked g c = subst (λ z. IsRecordAsked g.S.Spec.object z.sh
 
 pub invariant_of-result : goal.invariant_of-result
 invariant_of-result g c =
-    holds_after g.S.Spec.object g.S.Placed.place_of c.self.inside.parts c.in_ok-parts.parts (record_meaning c.args.recorded.now) c.in_ok-parts.good c.in_ok-parts.ensures.answers c.self.invariant
+    holds_after g.S.Spec.object g.S.Placed.place_of c.self.inside.parts.value c.in_ok-parts.parts.value (record_meaning c.args.recorded.now) c.in_ok-parts.good c.in_ok-parts.ensures.answers c.self.invariant
 
 pub returns-clause-takes : goal.returns-clause-takes
 returns-clause-takes g c =
     let apart = apart_of g.S.Spec.object g.S.Placed.place_of g.S.Placed.SameAt g.met.S.Placed.placed in
-    subst (λ z. Takes g.S.Spec.object g.S.Placed.place_of z (record_meaning c.args.recorded.now) c.in_ok-parts.good (held g.S.Spec.object g.S.Placed.place_of apart c.in_ok-parts.parts)) c.self.view_is
-    (takes_of g.S.Spec.object g.S.Placed.place_of apart c.self.inside.parts c.in_ok-parts.parts (record_meaning c.args.recorded.now) c.in_ok-parts.good c.requires.style c.in_ok-parts.ensures.answers)
+    subst (λ z. Takes g.S.Spec.object g.S.Placed.place_of z (record_meaning c.args.recorded.now) c.in_ok-parts.good (held g.S.Spec.object g.S.Placed.place_of apart c.in_ok-parts.parts.value)) c.self.view_is
+    (takes_of g.S.Spec.object g.S.Placed.place_of apart c.self.inside.parts.value c.in_ok-parts.parts.value (record_meaning c.args.recorded.now) c.in_ok-parts.good c.requires.style c.in_ok-parts.ensures.answers)
 
 pub returns-clause-shape : goal.returns-clause-shape
 returns-clause-shape g c =
-    shape_after g.S.Spec.object g.S.Placed.place_of c.self.inside.parts c.in_ok-parts.parts (record_meaning c.args.recorded.now) c.in_ok-parts.good c.in_ok-parts.ensures.answers
+    shape_after g.S.Spec.object g.S.Placed.place_of c.self.inside.parts.value c.in_ok-parts.parts.value (record_meaning c.args.recorded.now) c.in_ok-parts.good c.in_ok-parts.ensures.answers
     ∙ ap (λ z. z.shape) c.self.view_is
 
 pub returns-clause-cost : goal.returns-clause-cost
