@@ -6,6 +6,7 @@ mod commit;
 mod commits;
 mod laws;
 mod leaving;
+mod marks;
 mod op;
 mod open_tx;
 mod own;

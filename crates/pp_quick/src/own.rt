@@ -2,9 +2,11 @@
 ghost use Rattle.std.specs.Prelude.{◌≡◌, [], ◌∷◌, ◌++◌, false, IfOk, IsTrue, List, OnOk};
 ghost use Rattle.pp_core.specs.declared.entry.Item.{Item as ItemOf};
 ghost use Rattle.pp_quick.specs.Known.{Knows, KnowsAll, KnowsMany};
+ghost use Rattle.pp_quick.specs.Marked.{AreMarked};
 ghost use Rattle.pp_quick.specs.Passing.{LetPass, Stops};
 ghost use Rattle.pp_spec.specs.Object.{Swaps, SwapsNowhere};
 
+use crate::marks::Marks;
 use indexmap::IndexMap;
 use pp_core::{Item, Items, OutOfMemory};
 use pp_parts::{Part, Parted, Samples};
@@ -99,12 +101,14 @@ fn know_next<S: Parted>(
     know::<S>(alloc, samples, &item.op)
 }
 
-/// The own operations of an open transaction, in order, and, where they are more than few, for each
-/// part of them operations that stand for those there. Contracts see the operations.
+/// The own operations of an open transaction, in order, with marks for their parts, and, where they
+/// are more than few, for each part of them operations that stand for those there. Contracts see the
+/// operations.
 #[derive(Drop)]
 pub struct Own<S: Parted> {
     alloc: Global,
     items: Items<S::Op>,
+    marks: Marks,
     samples: IndexMap<Part, Samples<S>>,
 }
 
@@ -113,7 +117,8 @@ impl<S: Parted> Model for Own<S> {
 
     ghost view = { λ a. a.items };
 
-    ghost invariant = { λ a. KnowsMany S.object S.part_of a.samples.entries a.items };
+    ghost invariant = { λ a. AreMarked S.part_of a.marks a.items
+        × KnowsMany S.object S.part_of a.samples.entries a.items };
 }
 
 impl<S: Parted> Own<S> {
@@ -124,6 +129,7 @@ impl<S: Parted> Own<S> {
         Own {
             alloc,
             items: Items::new(alloc),
+            marks: Marks::new(),
             samples: IndexMap::new(alloc),
         }
     }
@@ -133,6 +139,7 @@ impl<S: Parted> Own<S> {
         ensures { OnOk result (self.new ≡ self.old ++ item ∷ []) }
     {
         know_next::<S>(self.alloc, &mut self.samples, self.items.as_slice(), &item)?;
+        self.marks.add(&S::part(&item.op));
         self.items.push(item)
     }
 
@@ -150,15 +157,19 @@ impl<S: Parted> Own<S> {
         self.items
     }
 
-    /// Whether each operation at the place of another is known to let it pass. False says nothing,
-    /// and of few operations nothing is known.
+    /// Whether each operation at the place of another is known to let it pass, as where none is of
+    /// its part. False says nothing, and of few operations no more is known.
     fn is_known_to_let(&self, op: &S::Op) -> bool
         ensures { IsTrue result → LetPass S.object S.place_of self.now op.now }
     {
+        let part = S::part(op);
+        if !self.marks.has(&part) {
+            return true;
+        }
         if self.items.len() <= FEW_OPERATIONS {
             return false;
         }
-        match self.samples.get(&S::part(op)) {
+        match self.samples.get(&part) {
             None => true,
             Some(known) => known.all_before(op),
         }

@@ -76,3 +76,16 @@ loop-left-preserved g c =
       most = omega arith;
       rises = omega arith;
     }
+
+pub returns-clause-log : goal.returns-clause-log
+returns-clause-log g c =
+    let left : c.loop-left.left ≡ 0 = omega arith in
+    c.loop-left.invariant.log ∙ ap (λ n. (c.args.shared.0, without_ids (map (λ p. p.id) (drop n c.args.own.now)) c.args.shared.1)) left
+
+pub returns-clause-cost : goal.returns-clause-cost
+returns-clause-cost g c =
+    let left : c.loop-left.left ≡ 0 = omega arith in
+    let none : leaving_ticks g.S.Placed.place_of (reverse (take c.loop-left.left c.args.own.now)) c.loop-left.shared.1 ≡ 0 =
+    ap (λ n. leaving_ticks g.S.Placed.place_of (reverse (take n c.args.own.now)) c.loop-left.shared.1) left in
+    let was = c.loop-left.invariant.cost in
+    omega arith

@@ -1,20 +1,27 @@
-use Rattle.std.proofs.Common.{◌∙◌, ap, arith, subst, sym}
+use Rattle.std.proofs.Common.{◌≡◌, ◌∙◌, ap, arith, false, subst, sym, true}
 use Rattle.std.specs.Map.{lookup}
+use Rattle.pp_quick.specs.Marked.{IsMarked}
 use Rattle.pp_quick.specs.Passing.{LetPass}
 use Rattle.pp_shared.specs.Uncommitted.{same_part}
-use Rattle.pp_quick.proofs.Known.{none_of_part, samples_let}
+use Rattle.pp_quick.proofs.Known.{none_marked, none_of_part, samples_let}
 use Rattle.pp_quick.proofs.own.Own.is_known_to_let.Goals as goal
+
+pub returns-then-not-has : goal.returns-then-not-has
+returns-then-not-has g c = λ _.
+    subst (λ l. LetPass g.S.Spec.object g.S.Placed.place_of l c.args.op.now) c.self.view_is
+    (none_marked g.S.Spec.object g.S.Parted.part_of g.met.S.Parted.parted g.S.Placed.place_of c.args.op.now c.self.inside.items c.self.inside.marks c.self.invariant.0
+    (λ k. let z : false ≡ true = sym c.if-not-has.true ∙ c.has.ensures.1 (subst (λ p. IsMarked c.self.inside.marks p) (sym c.part-part.ensures) k) in cc))
 
 pub returns-in-None : goal.returns-in-None
 returns-in-None g c = λ _.
     let slots = c.self.inside.samples.entries in
     subst (λ l. LetPass g.S.Spec.object g.S.Placed.place_of l c.args.op.now) c.self.view_is
-    (none_of_part g.S.Spec.object g.S.Parted.part_of g.met.S.Parted.parted g.S.Placed.place_of c.args.op.now slots c.self.inside.items (c.self.invariant (omega arith))
-    (ap (λ p. lookup (same_part p) slots) (sym c.part.ensures) ∙ sym c.in-None.ensures.value))
+    (none_of_part g.S.Spec.object g.S.Parted.part_of g.met.S.Parted.parted g.S.Placed.place_of c.args.op.now slots c.self.inside.items (c.self.invariant.1 (omega arith))
+    (ap (λ p. lookup (same_part p) slots) (sym c.part-part.ensures) ∙ sym c.in-None.ensures.value))
 
 pub returns-in-Some : goal.returns-in-Some
 returns-in-Some g c = λ yes.
     let slots = c.self.inside.samples.entries in
     subst (λ l. LetPass g.S.Spec.object g.S.Placed.place_of l c.args.op.now) c.self.view_is
-    (samples_let g.S.Spec.object g.S.Parted.part_of g.met.S.Parted.parted g.S.Placed.place_of c.args.op.now slots c.self.inside.items (c.self.invariant (omega arith)) c.in-Some.known.now
-    (ap (λ p. lookup (same_part p) slots) (sym c.part.ensures) ∙ sym c.in-Some.ensures.value) (c.all_before.ensures yes))
+    (samples_let g.S.Spec.object g.S.Parted.part_of g.met.S.Parted.parted g.S.Placed.place_of c.args.op.now slots c.self.inside.items (c.self.invariant.1 (omega arith)) c.in-Some.known.now
+    (ap (λ p. lookup (same_part p) slots) (sym c.part-part.ensures) ∙ sym c.in-Some.ensures.value) (c.all_before.ensures yes))
