@@ -32,7 +32,7 @@ pub struct OpenTx<T> {
 }
 
 /// The transactions of a run: the names begun, and those that are open. An open transaction stands
-/// in a box, so a name that has ended costs a pointer.
+/// in a box, so that the slot of a name that has ended is narrow.
 #[derive(Drop)]
 pub struct Transactions<S: Parted> {
     slots: IndexMap<Name, Option<Box<OpenTx<Course<S>>>>>,
@@ -218,9 +218,9 @@ impl<S: Parted> Transactions<S> {
         Ok(())
     }
 
-    /// Takes an entry out of the local log of the open transaction whose slot is at a position, unless
-    /// the list without it is not allowed. The only error is that memory was refused, and the
-    /// transaction is then no longer open.
+    /// Takes an entry out of the local log of the open transaction whose slot is at a position,
+    /// unless the list without it is not allowed. The only error is that memory was refused, and
+    /// the transaction is then no longer open.
     pub fn remove_at<L: Ledger>(
         &mut self,
         place: usize,

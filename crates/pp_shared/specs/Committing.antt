@@ -1,5 +1,5 @@
--- Meaning: what a commit has to be told of the entries that it commits.
-use Rattle.std.specs.Prelude.{◌≡◌, false, List}
+-- Meaning: committed entries, and what a commit has to be told of those that it commits.
+use Rattle.std.specs.Prelude.{◌≡◌, ℕ, true, false, List}
 use Rattle.pp_core.specs.declared.entry.Item.{Item}
 use Rattle.pp_core.specs.declared.entry.SharedEntry.{SharedEntry}
 use Rattle.pp_model.specs.Lists.{In}
@@ -10,3 +10,7 @@ abbrev pub HoldsIdsOf : {Op : Type 0} → Name → List (Item Op) → List (Shar
 HoldsIdsOf {Op} owner items log =
     (e : SharedEntry Op) → In e log → e.committed ≡ false → e.owner ≡ owner →
     (p : Item Op) × In p items × (p.id ≡ e.id)
+
+-- The entry is committed, and its operation has this place.
+abbrev pub IsCommittedOn : {Op : Type 0} → (Op → ℕ) → ℕ → SharedEntry Op → Type 0
+IsCommittedOn place_of place e = (place_of e.op ≡ place) × (e.committed ≡ true)

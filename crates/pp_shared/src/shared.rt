@@ -12,7 +12,7 @@ ghost use Rattle.pp_log.specs.Logs.{GoesBehind, RemovesEntry, RemovalCosts, Remo
 ghost use Rattle.pp_log.specs.Logs.{IsFirstFrom, IsOn, NoneFrom, answer_behind};
 ghost use Rattle.pp_shared.specs.Blocking.{AllGiveWay, Blocks, GivesWay, IsFirstBlocking};
 ghost use Rattle.pp_shared.specs.Blocking.{IsSettled};
-ghost use Rattle.pp_shared.specs.Committing.{HoldsIdsOf};
+ghost use Rattle.pp_shared.specs.Committing.{HoldsIdsOf, IsCommittedOn};
 ghost use Rattle.pp_shared.specs.Uncommitted.{CommitsOne, KeepsShared};
 
 use crate::open::OpenParts;
@@ -110,7 +110,7 @@ impl<S: Parted> Shared<S> {
         self.log.entries()
     }
 
-    /// Where the entry with this id stands. It asks an index, and walks over nothing.
+    /// Where the entry with this id stands, as the index of the log has it.
     pub fn find(&self, id: u32) -> Option<usize>
         ensures { result ≡ position (λ e. e.id == id) self.now.1 }
     {
@@ -126,6 +126,27 @@ impl<S: Parted> Shared<S> {
             (NoneFrom (IsOn S.place_of shared_item place) self.now.1 from) }
     {
         self.log.next_on(place, from)
+    }
+
+    /// The first position at `from` or behind it whose entry is committed and whose operation has
+    /// this place. It goes from one entry of the place to the next, and takes no memory.
+    pub fn next_committed(&self, place: u16, from: usize) -> Option<usize>
+        ensures found { IfSome result
+            (IsFirstFrom (IsCommittedOn S.place_of place) self.now.1 from) }
+        ensures none { IfNone result (NoneFrom (IsCommittedOn S.place_of place) self.now.1 from) }
+    {
+        let entries = self.log.entries();
+        let mut at = from;
+        'step: while at < self.log.len() {
+            let Some(k) = self.log.next_on(place, at) else {
+                return None;
+            };
+            if entries[k].committed {
+                return Some(k);
+            }
+            at = k + 1;
+        }
+        None
     }
 
     /// Whether the log stays allowed with the operation behind it.
