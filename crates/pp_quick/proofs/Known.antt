@@ -1,6 +1,5 @@
 -- Samples of own operations, part by part.
-use Rattle.std.specs.Prelude.{◌≡◌, ◌⊎◌, ℕ, zero, suc, Bool, true, false, List, [], ◌∷◌, ◌++◌, replicate, slice_index_or, Option, None, Some, Result, Ok, Err, cond}
-use Rattle.std.specs.Result.{OnOk, OnErr}
+use Rattle.std.specs.Prelude.{◌≡◌, ℕ, Bool, true, false, List, [], ◌∷◌, ◌++◌, Option, None, Some, cond}
 use Rattle.std.specs.Map.{lookup}
 use Rattle.std.proofs.Common.{refl, sym, ap, subst, ◌∙◌}
 use mathlib.Core.Logic.{inl, inr}
@@ -12,20 +11,7 @@ use Rattle.pp_shared.specs.Uncommitted.{same_part}
 use Rattle.pp_shared.proofs.Uncommitted.{same_part-itself, same_part-true}
 use Rattle.pp_spec.specs.Object.{Object, Swaps}
 use Rattle.pp_quick.specs.Known.{CoversOf, Knows, KnowsAll}
-use Rattle.pp_quick.specs.Marked.{AreMarked, IsMarked}
-use Rattle.pp_quick.specs.declared.marks.Marks.{Marks}
 use Rattle.pp_quick.specs.Passing.{LetPass}
-
--- a list that was to grow is the longer one or as it was
-pub longer_or_same : {V E A : Type 0} {now longer old : List A} (r : Result V E) → OnOk r (now ≡ longer) → OnErr r (now ≡ old) → (now ≡ longer) ⊎ (now ≡ old)
-longer_or_same (Ok v) is same = inl is
-longer_or_same (Err e) is same = inr same
-
--- among none that is true, none is
-pub none_true : (n k : ℕ) → slice_index_or (replicate n false) k false ≡ false
-none_true zero k = refl
-none_true (suc n) zero = refl
-none_true (suc n) (suc k) = none_true n k
 
 module _ {Shape State Op Undo : Type 0} (o : Object Shape State Op Undo) (part_of : Op → Part) where
   -- the samples of one part are others, which stand for what the old ones stood for, and for one operation more
@@ -52,10 +38,6 @@ module _ {Shape State Op Undo : Type 0} (o : Object Shape State Op Undo) (part_o
     | inl j ↦ keeps p.op (known p j)
     | inr j ↦ elim j [ inl e ↦ subst (λ (z : Item Op). Knows o part_of new z.op) (sym e) more | inr z ↦ absurd z ]
   ]
-
-  -- operations let another pass where the part of none is marked that has its remainder
-  pub none_marked : PartsSwap o part_of → (place : Op → ℕ) (op : Op) (own : List (Item Op)) (m : Marks) → AreMarked part_of m own → (IsMarked m (part_of op) → ⊥) → LetPass o place own op
-  none_marked apart place op own m marked none a i at = apart a.op op (λ same. none (subst (λ (p : Part). IsMarked m p) same (marked a i)))
 
   -- operations let another pass where those of its part do
   module _ (apart : PartsSwap o part_of) (place : Op → ℕ) (op : Op) (slots : List (Part × SampleList Op)) (own : List (Item Op)) (known : KnowsAll o part_of slots own) where

@@ -1,6 +1,7 @@
 pub mod Items
 pub mod Passing
 pub mod Known
+pub mod Filtered
 pub mod Counts
 pub mod Threads
 pub mod Filled

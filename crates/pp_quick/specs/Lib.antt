@@ -6,7 +6,7 @@ pub mod Laws
 pub mod Shown
 pub mod Passing
 pub mod Known
-pub mod Marked
+pub mod Filtered
 pub mod Leaving
 pub mod Removals
 pub mod Held

@@ -69,8 +69,7 @@ fn let_all_pass<S: Parted>(own: &Own<S>, done: &[Item<S::Op>], from: usize) -> b
 }
 
 /// Whether the own operations at the place of an operation let each commit pass there that the
-/// transaction has not seen. It asks the movers of no others, and walks over the own operations
-/// only where what is known of them leaves the answer open.
+/// transaction has not seen. It asks the movers of no others.
 pub fn passes_unseen<S: Parted>(it: &OpenTx<Own<S>>, commits: &Commits<S::Op>, op: &S::Op) -> bool
     ensures yes { IsTrue result → LetAllPass S.object S.place_of it.now.own
         (unseen_at (S.place_of op.now) commits.now.entries it.now.seen.entries) }

@@ -6,7 +6,7 @@ ghost use Rattle.pp_quick.specs.Moving.{IsGood, Moves};
 ghost use Rattle.pp_quick.specs.Shown.{Holds, open_in};
 
 use crate::commits::passes_unseen;
-use crate::open_tx::grow;
+use crate::open_tx::add_operation;
 use crate::own::Own;
 use crate::parts::{OpenTx, Parts};
 use pp_core::{Item, Name, OutOfMemory, SharedEntry, Ticks};
@@ -75,7 +75,7 @@ pub fn push<S: Parted, L: Ledger>(
     };
     parts.shared.push(entry, ticks)?;
     parts.ids.insert(id)?;
-    grow::<S>(it, &parts.commits, Item { id, op: *op })?;
+    add_operation::<S>(it, &parts.commits, Item { id, op: *op })?;
     parts.count += 1;
     Ok(())
 }

@@ -48,9 +48,9 @@ pub fn fresh<S: Parted>(
     })
 }
 
-/// The transaction has one more operation of its own, behind which it has seen the commits at its
+/// Adds an operation to the own ones, behind which the transaction has seen the commits at its
 /// place. The only error is that memory was refused.
-pub fn grow<S: Parted>(
+pub fn add_operation<S: Parted>(
     it: &mut OpenTx<Own<S>>,
     commits: &Commits<S::Op>,
     item: Item<S::Op>,

@@ -1,20 +1,19 @@
 //! The own operations of an open transaction, and what is known of them.
-ghost use Rattle.std.specs.Prelude.{◌≡◌, [], ◌∷◌, ◌++◌, false, IfOk, IsTrue, List, OnOk};
+ghost use Rattle.std.specs.Prelude.{◌≡◌, [], ◌∷◌, ◌++◌, false, IsTrue, List, OnOk};
 ghost use Rattle.pp_core.specs.declared.entry.Item.{Item as ItemOf};
 ghost use Rattle.pp_quick.specs.Known.{Knows, KnowsAll, KnowsMany};
-ghost use Rattle.pp_quick.specs.Marked.{AreMarked};
+ghost use Rattle.pp_quick.specs.Filtered.{MayHaveAll};
 ghost use Rattle.pp_quick.specs.Passing.{LetPass, Stops};
 ghost use Rattle.pp_spec.specs.Object.{Swaps, SwapsNowhere};
 
-use crate::marks::Marks;
+use crate::part_filter::PartFilter;
 use indexmap::IndexMap;
 use pp_core::{Item, Items, OutOfMemory};
 use pp_parts::{Part, Parted, Samples};
 use std::alloc::Global;
 use std::marker::Model;
 
-/// Up to so many own operations are walked over one by one, which costs less than to add each of
-/// them to a table of samples.
+/// Up to so many own operations are walked over one by one; samples are kept only of more.
 const FEW_OPERATIONS: usize = 16;
 
 /// Whether the own operation has the part and the place of the other, and does not let it pass.
@@ -101,14 +100,14 @@ fn know_next<S: Parted>(
     know::<S>(alloc, samples, &item.op)
 }
 
-/// The own operations of an open transaction, in order, with marks for their parts, and, where they
-/// are more than few, for each part of them operations that stand for those there. Contracts see the
-/// operations.
+/// The own operations of an open transaction, in order, with a filter of their parts, and, where
+/// they are more than few, for each part of them operations that stand for those there. Contracts
+/// see the operations.
 #[derive(Drop)]
 pub struct Own<S: Parted> {
     alloc: Global,
     items: Items<S::Op>,
-    marks: Marks,
+    filter: PartFilter,
     samples: IndexMap<Part, Samples<S>>,
 }
 
@@ -117,7 +116,7 @@ impl<S: Parted> Model for Own<S> {
 
     ghost view = { λ a. a.items };
 
-    ghost invariant = { λ a. AreMarked S.part_of a.marks a.items
+    ghost invariant = { λ a. MayHaveAll S.part_of a.filter a.items
         × KnowsMany S.object S.part_of a.samples.entries a.items };
 }
 
@@ -129,7 +128,7 @@ impl<S: Parted> Own<S> {
         Own {
             alloc,
             items: Items::new(alloc),
-            marks: Marks::new(),
+            filter: PartFilter::new(),
             samples: IndexMap::new(alloc),
         }
     }
@@ -139,7 +138,7 @@ impl<S: Parted> Own<S> {
         ensures { OnOk result (self.new ≡ self.old ++ item ∷ []) }
     {
         know_next::<S>(self.alloc, &mut self.samples, self.items.as_slice(), &item)?;
-        self.marks.add(&S::part(&item.op));
+        self.filter.add(&S::part(&item.op));
         self.items.push(item)
     }
 
@@ -163,7 +162,7 @@ impl<S: Parted> Own<S> {
         ensures { IsTrue result → LetPass S.object S.place_of self.now op.now }
     {
         let part = S::part(op);
-        if !self.marks.has(&part) {
+        if !self.filter.may_have(&part) {
             return true;
         }
         if self.items.len() <= FEW_OPERATIONS {

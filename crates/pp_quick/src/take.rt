@@ -136,7 +136,7 @@ pub fn take<S: Parted, L: Ledger>(
             let good = take_commit(&mut *parts, tx)?;
             Ok((parts, good))
         }
-        // What leaves the shared log consumes it, so the parts leave their box meanwhile.
+        // A removal consumes the shared log, so the parts leave their box meanwhile.
         RunRecord::Abort { tx } => {
             let (parts, good) = abort(Box::into_inner(parts), tx, ticks)?;
             Ok((in_box::<S>(parts)?, good))

@@ -27,8 +27,8 @@ push-requires-clause-new g c =
     is_new g.S.Spec.object g.S.Placed.place_of apart c.args.parts.now c.requires.holds c.args.tx.now c.in-Some-as_mut.it.now
     (ap in_slot (sym c.in-Some.ensures.value) ∙ sym c.in-Some-as_mut.ensures.value) c.args.id c.args.op.now c.requires.good
 
-pub grow-requires : goal.grow-requires
-grow-requires g c =
+pub add_operation-requires : goal.add_operation-requires
+add_operation-requires g c =
     let apart = apart_of g.S.Spec.object g.S.Placed.place_of g.S.Placed.SameAt g.met.S.Placed.placed in
     may_take g.S.Spec.object g.S.Placed.place_of apart c.args.parts.now c.requires.holds c.args.tx.now c.in-Some-as_mut.it.now
     (ap in_slot (sym c.in-Some.ensures.value) ∙ sym c.in-Some-as_mut.ensures.value) c.args.id c.args.op.now c.requires.good
@@ -37,9 +37,9 @@ pub returns-clause-moves : goal.returns-clause-moves
 returns-clause-moves g c =
     let apart = apart_of g.S.Spec.object g.S.Placed.place_of g.S.Placed.SameAt g.met.S.Placed.placed in
     let keys = c.args.parts.now.ids.keys in
-    let lent = c.get_mut.follows.holds (Some c.grow.new.it) in
-    grown_moves g.S.Spec.object g.S.Placed.place_of apart c.args.parts.now c.requires.holds c.args.tx.now c.args.id c.args.op.now c.in-Some-as_mut.it.now c.grow.new.it _ c.requires.good
-    (ap in_slot (sym c.in-Some.ensures.value) ∙ sym c.in-Some-as_mut.ensures.value) c.in_ok-grow.ensures
+    let lent = c.get_mut.follows.holds (Some c.add_operation.new.it) in
+    grown_moves g.S.Spec.object g.S.Placed.place_of apart c.args.parts.now c.requires.holds c.args.tx.now c.args.id c.args.op.now c.in-Some-as_mut.it.now c.add_operation.new.it _ c.requires.good
+    (ap in_slot (sym c.in-Some.ensures.value) ∙ sym c.in-Some-as_mut.ensures.value) c.in_ok-add_operation.ensures
     lent.0 refl c.in_ok-push.ensures.ok
     (c.in_ok-insert.ensures.keys ∙ ap (λ b. cond b keys (keys ++ c.args.id ∷ []))
     (unused g.S.Spec.object g.S.Placed.place_of apart c.args.parts.now c.requires.holds c.args.tx.now c.in-Some-as_mut.it.now

@@ -1,16 +1,17 @@
 use Rattle.std.proofs.Common.{◌≡◌, ◌∙◌, ap, arith, false, subst, sym, true}
 use Rattle.std.specs.Map.{lookup}
-use Rattle.pp_quick.specs.Marked.{IsMarked}
+use Rattle.pp_quick.specs.Filtered.{MayHave}
 use Rattle.pp_quick.specs.Passing.{LetPass}
 use Rattle.pp_shared.specs.Uncommitted.{same_part}
-use Rattle.pp_quick.proofs.Known.{none_marked, none_of_part, samples_let}
+use Rattle.pp_quick.proofs.Filtered.{none_alike}
+use Rattle.pp_quick.proofs.Known.{none_of_part, samples_let}
 use Rattle.pp_quick.proofs.own.Own.is_known_to_let.Goals as goal
 
-pub returns-then-not-has : goal.returns-then-not-has
-returns-then-not-has g c = λ _.
+pub returns-then-not-may_have : goal.returns-then-not-may_have
+returns-then-not-may_have g c = λ _.
     subst (λ l. LetPass g.S.Spec.object g.S.Placed.place_of l c.args.op.now) c.self.view_is
-    (none_marked g.S.Spec.object g.S.Parted.part_of g.met.S.Parted.parted g.S.Placed.place_of c.args.op.now c.self.inside.items c.self.inside.marks c.self.invariant.0
-    (λ k. let z : false ≡ true = sym c.if-not-has.true ∙ c.has.ensures.1 (subst (λ p. IsMarked c.self.inside.marks p) (sym c.part-part.ensures) k) in cc))
+    (none_alike g.S.Spec.object g.S.Parted.part_of g.met.S.Parted.parted g.S.Placed.place_of c.args.op.now c.self.inside.items c.self.inside.filter c.self.invariant.0
+    (λ k. let z : false ≡ true = sym c.if-not-may_have.true ∙ c.may_have.ensures.1 (subst (λ p. MayHave c.self.inside.filter p) (sym c.part-part.ensures) k) in cc))
 
 pub returns-in-None : goal.returns-in-None
 returns-in-None g c = λ _.

@@ -2,7 +2,7 @@ use Rattle.std.proofs.Common.{◌∙◌, ℕ, Some, ap, cond, length, nat_eq, re
 use Rattle.std.specs.Map.{lookup}
 use Rattle.pp_body.specs.Walks.{HasTakenOneMore}
 use Rattle.pp_quick.specs.Shown.{at}
-use Rattle.pp_quick.proofs.open_tx.grow.Goals as goal
+use Rattle.pp_quick.proofs.open_tx.add_operation.Goals as goal
 
 pub returns : goal.returns
 returns g c =
