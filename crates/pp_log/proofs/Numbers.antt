@@ -13,7 +13,7 @@ use Rattle.std.proofs.lemmas.Option.{slice_get_within}
 use Rattle.std.specs.Prelude.{Result, Ok, Err, MatchResult}
 use Rattle.std.specs.Map.{lookup}
 use Rattle.std.specs.Result.{result_ok}
-use Rattle.indexmap.specs.IndexMap.{UpdatesBy, get}
+use Rattle.pp_ids.specs.Values.{Updates, value_of}
 use Rattle.pp_log.specs.declared.id_table.IdTable.{IdTable}
 use Rattle.pp_log.specs.Index.{IsNewId, IsRising, IsSameTable, IsTableOf, StandOnce, number_of}
 
@@ -176,11 +176,11 @@ pub table_same : (old new : IdTable) (ids : List ℕ) → IsTableOf old ids → 
 table_same old new ids h k = record {
   size = ap length k.serials ∙ h.size;
   rising = subst (λ (z : List ℕ). IsRising (z ++ new.next ∷ [])) (sym k.serials) (subst (λ (n : ℕ). IsRising (old.serials.items ++ n ∷ [])) (sym k.next) h.rising);
-  has = λ id. ap (lookup (nat_eq id)) k.serial_of ∙ h.has id ∙ ap (λ (z : List ℕ). number_of ids z id) (sym k.serials);
+  has = λ id. k.serial_of id ∙ h.has id ∙ ap (λ (z : List ℕ). number_of ids z id) (sym k.serials);
 }
 
 -- A table with one entry more, and with one less.
-pub table_pushed : (old new : IdTable) (ids : List ℕ) (id : ℕ) → IsTableOf old ids → IsNewId id ids → new.serials.items ≡ old.serials.items ++ old.next ∷ [] → new.next ≡ old.next + 1 → UpdatesBy nat_eq (nat_eq id) old.serial_of new.serial_of (Some old.next) → IsTableOf new (ids ++ id ∷ [])
+pub table_pushed : (old new : IdTable) (ids : List ℕ) (id : ℕ) → IsTableOf old ids → IsNewId id ids → new.serials.items ≡ old.serials.items ++ old.next ∷ [] → new.next ≡ old.next + 1 → Updates old.serial_of new.serial_of id (Some old.next) → IsTableOf new (ids ++ id ∷ [])
 table_pushed old new ids id h fresh serials next updates =
     let size = h.size in
     let more = length_push old.serials.items old.next in
@@ -190,13 +190,13 @@ table_pushed old new ids id h fresh serials next updates =
       size = omega arith;
       rising = subst (λ (z : List ℕ). IsRising (z ++ new.next ∷ [])) (sym serials) (subst (λ (n : ℕ). IsRising ((old.serials.items ++ old.next ∷ []) ++ n ∷ [])) (sym next) (rising_more old.serials.items old.next h.rising));
       has = λ other. elim (eqb_tells id other) [
-        | inl is ↦ updates.0 other ∙ ap (λ (b : Bool). cond b (Some old.next) (get nat_eq old.serial_of other)) is.0
+        | inl is ↦ updates other ∙ ap (λ (b : Bool). cond b (Some old.next) (value_of old.serial_of other)) is.0
             ∙ sym (number_of_new ids old.serials.items id old.next size fresh) ∙ ap (λ (k : ℕ). number_of (ids ++ id ∷ []) (old.serials.items ++ old.next ∷ []) k) is.1
-        | inr off ↦ updates.2 other off.0 ∙ h.has other ∙ sym (number_of_old ids old.serials.items id old.next other size off.1)
+        | inr off ↦ updates other ∙ ap (λ (b : Bool). cond b (Some old.next) (value_of old.serial_of other)) off.0 ∙ h.has other ∙ sym (number_of_old ids old.serials.items id old.next other size off.1)
       ] ∙ ap (λ (z : List ℕ). number_of (ids ++ id ∷ []) z other) (sym serials);
     }
 
-pub table_removed : (old new : IdTable) (ids : List ℕ) (i id : ℕ) → IsTableOf old ids → StandOnce ids → slice_get ids i ≡ Some id → new.serials.items ≡ remove old.serials.items i → IsRising (remove old.serials.items i ++ new.next ∷ []) → UpdatesBy nat_eq (nat_eq id) old.serial_of new.serial_of None → IsTableOf new (remove ids i)
+pub table_removed : (old new : IdTable) (ids : List ℕ) (i id : ℕ) → IsTableOf old ids → StandOnce ids → slice_get ids i ≡ Some id → new.serials.items ≡ remove old.serials.items i → IsRising (remove old.serials.items i ++ new.next ∷ []) → Updates old.serial_of new.serial_of id None → IsTableOf new (remove ids i)
 table_removed old new ids i id h once at serials rising updates =
     let within = slice_get_within ids i id at in
     let size = h.size in
@@ -207,8 +207,8 @@ table_removed old new ids i id h once at serials rising updates =
       size = omega arith;
       rising = subst (λ (z : List ℕ). IsRising (z ++ new.next ∷ [])) (sym serials) rising;
       has = λ other. elim (eqb_tells id other) [
-        | inl is ↦ updates.0 other ∙ ap (λ (b : Bool). cond b None (get nat_eq old.serial_of other)) is.0
+        | inl is ↦ updates other ∙ ap (λ (b : Bool). cond b None (value_of old.serial_of other)) is.0
             ∙ sym (number_of_gone ids old.serials.items i id size once at) ∙ ap (λ (k : ℕ). number_of (remove ids i) (remove old.serials.items i) k) is.1
-        | inr off ↦ updates.2 other off.0 ∙ h.has other ∙ sym (number_of_left ids old.serials.items i id other size at off.1)
+        | inr off ↦ updates other ∙ ap (λ (b : Bool). cond b None (value_of old.serial_of other)) off.0 ∙ h.has other ∙ sym (number_of_left ids old.serials.items i id other size at off.1)
       ] ∙ ap (λ (z : List ℕ). number_of (remove ids i) z other) (sym serials);
     }

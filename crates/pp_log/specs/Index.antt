@@ -3,7 +3,7 @@
 use Rattle.std.specs.Prelude.{◌≡◌, ◌+◌, ◌<◌, ◌^◌, ℕ, nat_eq, cond, List, [], ◌∷◌, ◌++◌, length}
 use Rattle.std.specs.Prelude.{AllPairs, Option, Some, None, vec_len}
 use Rattle.std.specs.Vec.{vec_capacity}
-use Rattle.indexmap.specs.IndexMap.{get, spare}
+use Rattle.pp_ids.specs.Values.{HasRoomFor, HasSameValues, value_of}
 use Rattle.arrayvec.specs.ArrayVec.{array_vec_len}
 use Rattle.pp_log.specs.declared.id_table.IdTable.{IdTable}
 use Rattle.pp_log.specs.declared.index.Index.{Index}
@@ -24,7 +24,7 @@ number_of (i ∷ ids) (n ∷ numbers) id = cond (nat_eq i id) (Some n) (number_o
 pub record IsTableOf (table : IdTable) (ids : List ℕ) : Type 0 where
   pub size : length table.serials.items ≡ length ids
   pub rising : IsRising (table.serials.items ++ table.next ∷ [])
-  pub has : (id : ℕ) → get nat_eq table.serial_of id ≡ number_of ids table.serials.items id
+  pub has : (id : ℕ) → value_of table.serial_of id ≡ number_of ids table.serials.items id
 
 -- The index is of the entries with these ids, in their order.
 abbrev pub IsIndexOf : Index → List ℕ → Type 0
@@ -49,20 +49,20 @@ StandOnce (i ∷ ids) = IsNewId i ids × StandOnce ids
 -- The table is of the same entries.
 pub record IsSameTable (old new : IdTable) : Type 0 where
   pub serials : new.serials.items ≡ old.serials.items
-  pub serial_of : new.serial_of.entries ≡ old.serial_of.entries
+  pub serial_of : HasSameValues old.serial_of new.serial_of
   pub next : new.next ≡ old.next
 
 -- The index is of the same entries, whose ids stand once each.
 abbrev pub IsSameIndex : Index → Index → Type 0
 IsSameIndex old new = (ids : List ℕ) → StandOnce ids → IsIndexOf old ids → IsIndexOf new ids
 
--- There is room for one more entry in the table, and a number for it.
-pub record HasTableRoom (table : IdTable) : Type 0 where
+-- There is room for one more entry with this id in the table, and a number for it.
+pub record HasTableRoom (id : ℕ) (table : IdTable) : Type 0 where
   pub serials : vec_len table.serials < vec_capacity table.serials
-  pub serial_of : 0 < spare table.serial_of
+  pub serial_of : HasRoomFor id table.serial_of
   pub next : table.next + 1 < 2 ^ 32
 
--- There is room for one more entry.
-abbrev pub HasIndexRoom : Index → Type 0
-HasIndexRoom (Few few) = array_vec_len few < 16
-HasIndexRoom (Many table) = HasTableRoom table
+-- There is room for one more entry with this id.
+abbrev pub HasIndexRoom : ℕ → Index → Type 0
+HasIndexRoom id (Few few) = array_vec_len few < 16
+HasIndexRoom id (Many table) = HasTableRoom id table

@@ -3,8 +3,8 @@ ghost use Rattle.std.specs.Prelude.{◌≡◌, ◌<◌, ℕ, nat_eq, List, [], �
 ghost use Rattle.std.specs.Prelude.{length, position, remove, slice_get};
 ghost use Rattle.pp_log.specs.Index.{HasTableRoom, IsNewId, IsSameTable, IsTableOf, StandOnce};
 
-use indexmap::IndexMap;
 use pp_core::OutOfMemory;
+use pp_ids::IdMap;
 use std::alloc::Global;
 
 /// The ids of the entries of a log, each with a serial number. The numbers rise along the log, so
@@ -12,26 +12,24 @@ use std::alloc::Global;
 #[derive(Drop)]
 pub struct IdTable {
     serials: Vec<u32>,
-    serial_of: IndexMap<u32, u32>,
+    serial_of: IdMap<u32>,
     next: u32,
 }
 
 impl IdTable {
-    /// The table of these ids, with room for one more.
+    /// The table of these ids.
     pub fn of(ids: &[u32], alloc: Global) -> Result<Self, OutOfMemory>
-        ensures of { StandOnce ids.now → IfOk result (λ table. IsTableOf table ids.now) }
-        ensures room { IfOk result HasTableRoom }
+        ensures { StandOnce ids.now → IfOk result (λ table. IsTableOf table ids.now) }
     {
         let mut table = IdTable {
             serials: Vec::new(alloc),
-            serial_of: IndexMap::new(alloc),
+            serial_of: IdMap::new(alloc),
             next: 0,
         };
         'each: for id in ids {
-            table.reserve()?;
+            table.reserve(*id)?;
             table.push(*id);
         }
-        table.reserve()?;
         Ok(table)
     }
 
@@ -40,7 +38,7 @@ impl IdTable {
     pub fn find(&self, id: u32) -> Option<usize>
         ensures { (ids : List ℕ) → IsTableOf self.now ids → result ≡ position (nat_eq id) ids }
     {
-        let serial = *self.serial_of.get(&id)?;
+        let serial = self.serial_of.get(id)?;
         let first = serial as usize;
         if first < self.serials.len() && self.serials[first] == serial {
             return Some(first);
@@ -48,31 +46,29 @@ impl IdTable {
         self.serials.binary_search(&serial).ok()
     }
 
-    /// Makes room for one more entry. To have no number left is to have no memory.
-    pub fn reserve(&mut self) -> Result<(), OutOfMemory>
+    /// Makes room for one more entry with this id. To have no number left is to have no memory.
+    pub fn reserve(&mut self, id: u32) -> Result<(), OutOfMemory>
         ensures same { IsSameTable self.old self.new }
-        ensures room { OnOk result (HasTableRoom self.new) }
+        ensures room { OnOk result (HasTableRoom id self.new) }
     {
         if self.next == u32::MAX {
             return Err(OutOfMemory);
         }
         self.serials.reserve(1)?;
-        self.serial_of.reserve(1)?;
+        self.serial_of.reserve(id)?;
         Ok(())
     }
 
     /// Adds an entry with a new id at the end.
     pub fn push(&mut self, id: u32)
-        requires { HasTableRoom self.old }
+        requires { HasTableRoom id self.old }
         ensures { (ids : List ℕ) → IsTableOf self.old ids → IsNewId id ids
             → IsTableOf self.new (ids ++ id ∷ []) }
     {
         let Ok(()) = self.serials.push(self.next) else {
             unreachable!()
         };
-        let Ok(_) = self.serial_of.insert(id, self.next) else {
-            unreachable!()
-        };
+        self.serial_of.set(id, self.next);
         self.next += 1;
     }
 
@@ -83,7 +79,7 @@ impl IdTable {
         ensures { (ids : List ℕ) → IsTableOf self.old ids → StandOnce ids
             → slice_get ids i ≡ Some id → IsTableOf self.new (remove ids i) }
     {
-        let _ = self.serial_of.swap_remove(&id);
+        self.serial_of.remove(id);
         let serial = self.serials.remove(i);
         if i == self.serials.len() {
             self.next = serial;

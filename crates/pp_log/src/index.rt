@@ -9,8 +9,8 @@ use arrayvec::ArrayVec;
 use pp_core::OutOfMemory;
 use std::alloc::Global;
 
-/// The ids of the entries of a log. A few are looked through, which is quicker than to ask a table,
-/// and take no memory of their own.
+/// The ids of the entries of a log. A few are looked through, and take no memory
+/// of their own.
 #[derive(Drop)]
 pub enum Index {
     /// The ids, in order.
@@ -44,25 +44,27 @@ impl Index {
         }
     }
 
-    /// Makes room for one more entry. To have no number left is to have no memory.
-    pub fn reserve(&mut self, alloc: Global) -> Result<(), OutOfMemory>
+    /// Makes room for one more entry with this id. To have no number left is to have no memory.
+    pub fn reserve(&mut self, id: u32, alloc: Global) -> Result<(), OutOfMemory>
         ensures same { IsSameIndex self.old self.new }
-        ensures room { OnOk result (HasIndexRoom self.new) }
+        ensures room { OnOk result (HasIndexRoom id self.new) }
     {
         match self {
             Index::Few(ids) => {
                 if ids.is_full() {
-                    *self = Index::Many(IdTable::of(ids.as_slice(), alloc)?);
+                    let mut table = IdTable::of(ids.as_slice(), alloc)?;
+                    table.reserve(id)?;
+                    *self = Index::Many(table);
                 }
                 Ok(())
             }
-            Index::Many(table) => table.reserve(),
+            Index::Many(table) => table.reserve(id),
         }
     }
 
     /// Adds an entry with a new id at the end.
     pub fn push(&mut self, id: u32)
-        requires { HasIndexRoom self.old }
+        requires { HasIndexRoom id self.old }
         ensures { (ids : List ℕ) → IsIndexOf self.old ids → IsNewId id ids
             → IsIndexOf self.new (ids ++ id ∷ []) }
     {

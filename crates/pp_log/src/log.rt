@@ -156,6 +156,7 @@ impl<S: Placed, T: Side<S::Op>> Log<S, T> {
         make_room(
             &mut self.entries,
             &mut self.ids,
+            item.id,
             &mut self.places,
             p,
             self.alloc,

@@ -45,10 +45,11 @@ fn make_room_there<O: Copy, U: Drop>(place: &mut Place<O, U>) -> Result<(), OutO
     Ok(())
 }
 
-/// Makes room for one more entry, whose item is of the p-th place.
+/// Makes room for one more entry with this id, whose item is of the p-th place.
 pub fn make_room<E: Copy, O: Copy, U: Drop>(
     entries: &mut Vec<E>,
     ids: &mut Index,
+    id: u32,
     places: &mut Vec<Place<O, U>>,
     p: usize,
     alloc: Global,
@@ -59,11 +60,11 @@ pub fn make_room<E: Copy, O: Copy, U: Drop>(
     ensures same { ArePlacesSame places.old.items places.new.items }
     ensures there { OnOk result (p < length places.new.items) }
     ensures room { OnOk result (vec_len entries.new < vec_capacity entries.new) }
-    ensures id_room { OnOk result (HasIndexRoom ids.new) }
+    ensures id_room { OnOk result (HasIndexRoom id ids.new) }
     ensures place_room { OnOk result (HasRoomAt places.new.items p) }
 {
     entries.reserve(1)?;
-    ids.reserve(alloc)?;
+    ids.reserve(id, alloc)?;
     make_places(places, p, alloc)?;
     make_room_there(&mut places[p])?;
     Ok(())

@@ -22,9 +22,9 @@ use Rattle.pp_quick.proofs.Short.{done_stands}
 
 module _ {Shape State Op Undo : Type 0} (o : Object Shape State Op Undo) (place : Op → ℕ) (apart : (shape : Shape) → PlacesSwap (rules_of o shape) place) where
   -- a Quick that keeps nothing
-  module _ (v : Kept Shape Op) (slots : v.slots.entries ≡ []) (threads : v.threads.keys ≡ []) (ids : v.ids.keys ≡ []) (shared : v.shared ≡ (v.shape, [])) (committed : v.committed ≡ []) (commits : v.commits.entries ≡ []) where
-    opened_none : filled (shown_tx place v.shared.1 v.commits.entries) v.slots.entries ≡ []
-    opened_none = ap (λ (z : List (Name × Option (OpenTx (List (Item Op))))). filled (shown_tx place v.shared.1 v.commits.entries) z) slots
+  module _ (v : Kept Shape Op) (slots : v.slots.entries ≡ []) (threads : v.threads.keys ≡ []) (ids : v.ids ≡ []) (shared : v.shared ≡ (v.shape, [])) (committed : v.committed ≡ []) (commits : v.commits.items ≡ []) where
+    opened_none : filled (shown_tx place v.shared.1 v.commits.items) v.slots.entries ≡ []
+    opened_none = ap (λ (z : List (Name × Option (OpenTx (List (Item Op))))). filled (shown_tx place v.shared.1 v.commits.items) z) slots
 
     pub fresh_shown : shown place v ≡ brief place (first None)
     fresh_shown = same_brief _ _ _ _ _ _ _ _ _ _
@@ -42,8 +42,8 @@ module _ {Shape State Op Undo : Type 0} (o : Object Shape State Op Undo) (place 
           threads =
               subst (λ (z : List (BriefTx Op)). AreThreads v.threads.keys (threads_of z)) (sym opened_none)
               (subst (λ (z : List Name). AreThreads z []) (sym threads) (record { apart = λ p q b. absurd b; are = λ p. refl }));
-          fine = subst (λ (z : List (Name × Option (OpenTx (List (Item Op))))). (n : Name) (x : OpenTx (List (Item Op))) → In (n, Some x) z → IsFine o place v.commits.entries x) (sym slots) (λ n x i. absurd i);
-          commits = subst (λ (z : List (ℕ × List (Item Op))). (q : ℕ) (p : Item Op) → In p (at q z) → In p (serial_items v.committed) × (place p.op ≡ q)) (sym commits) (λ q p i. absurd i);
+          fine = subst (λ (z : List (Name × Option (OpenTx (List (Item Op))))). (n : Name) (x : OpenTx (List (Item Op))) → In (n, Some x) z → IsFine o place v.commits.items x) (sym slots) (λ n x i. absurd i);
+          commits = subst (λ (z : List (List (Item Op))). (q : ℕ) (p : Item Op) → In p (at q z) → In p (serial_items v.committed) × (place p.op ≡ q)) (sym commits) (λ q p i. absurd i);
           same_shape = ap (λ (z : Shape × List (SharedEntry Op)). z.0) shared;
           few = let e : length v.shared.1 ≡ 0 = ap (λ (z : Shape × List (SharedEntry Op)). length z.1) shared in omega arith;
         }

@@ -72,8 +72,8 @@ module _ {Shape State Op Undo : Type 0} (o : Object Shape State Op Undo) (place 
   abbrev G : List (SharedEntry Op)
   G = v.shared.1
 
-  abbrev commits : List (ℕ × List (Item Op))
-  commits = v.commits.entries
+  abbrev commits : List (List (Item Op))
+  commits = v.commits.items
 
   -- names and threads
   pub begun_name : (t : Name) → is_some (lookup (λ n. t =ⁿ n) v.slots.entries) ≡ true → In t B.names
@@ -122,8 +122,8 @@ module _ {Shape State Op Undo : Type 0} (o : Object Shape State Op Undo) (place 
       abbrev Good : BriefTx Op → Type 0
       Good X = BriefGoodOp (rules_of o v.shape) place B id op X
 
-      pub used : list_any (λ i. id == i) v.ids.keys ≡ true → IsGood o place v (records.Op t id op) → ⊥
-      used e g = (of_it Good g).new (in_reverse id v.ids.keys (used_in v.ids.keys id e))
+      pub used : list_any (λ i. id == i) v.ids ≡ true → IsGood o place v (records.Op t id op) → ⊥
+      used e g = (of_it Good g).new (in_reverse id v.ids (used_in v.ids id e))
 
       pub unbegun : (answer : Bool) → TellsBegins x.walk (o.call op) answer → answer ≡ false → IsGood o place v (records.Op t id op) → ⊥
       unbegun answer w e g = let z : true ≡ false = sym ((w (calls_of o x.own) (fine_of o place apart v h t x found).taken).1 (of_it Good g).begins) ∙ e in cc
@@ -167,10 +167,10 @@ module _ {Shape State Op Undo : Type 0} (o : Object Shape State Op Undo) (place 
           let same : as_shared d.0 true f.0 ≡ p = by_key (λ (w : SharedEntry Op). w.id) G (distinct o place apart v.shape B h.short) (as_shared d.0 true f.0) p d.1 j (sym f.2) in
           subst (λ (w : SharedEntry Op). SwapsIn o v.shape a.op w.op) same (pass f.0 mine a i (q ∙ sym d.2) v.shape)
 
-      pub good : list_any (λ i. id == i) v.ids.keys ≡ false → (can : Bool) → TellsBegins x.walk (o.call op) can → can ≡ true → LetAllPass o place x.own (unseen_at (place op) commits x.seen.entries) →
+      pub good : list_any (λ i. id == i) v.ids ≡ false → (can : Bool) → TellsBegins x.walk (o.call op) can → can ≡ true → LetAllPass o place x.own (unseen_at (place op) commits x.seen.entries) →
           AllGiveWay o t op G → GoesBehind o v.shared.0 (shared_ops G) op → IsGood o place v (records.Op t id op)
       good fresh can begins ok pass give legal = it_is Good (record {
-        new = λ i. not_used v.ids.keys id fresh (from_reverse id v.ids.keys i);
+        new = λ i. not_used v.ids id fresh (from_reverse id v.ids i);
         begins = (begins (calls_of o x.own) (fine_of o place apart v h t x found).taken).0 ok;
         swaps = swap_all pass;
         passes = λ u i w n. give u i w n v.shape;
@@ -193,9 +193,9 @@ module _ {Shape State Op Undo : Type 0} (o : Object Shape State Op Undo) (place 
               let p = placed (λ (z : SharedEntry Op). z.id == id) G k e in
               absurd (new_id o place apart v.shape B h.short id (of_it Good g).new p.0 (stands_in G k p.0 p.1) (eqb-true (p.0).id id p.2))
 
-      pub unused : IsGood o place v (records.Op t id op) → list_any (λ i. id == i) v.ids.keys ≡ false
-      unused g = by (list_any (λ i. id == i) v.ids.keys) refl
+      pub unused : IsGood o place v (records.Op t id op) → list_any (λ i. id == i) v.ids ≡ false
+      unused g = by (list_any (λ i. id == i) v.ids) refl
         where
-          by : (b : Bool) → list_any (λ i. id == i) v.ids.keys ≡ b → b ≡ false
+          by : (b : Bool) → list_any (λ i. id == i) v.ids ≡ b → b ≡ false
           by false e = refl
           by true e = absurd (used e g)

@@ -1,13 +1,16 @@
 -- What tests, places and lookups say of a list.
-use Rattle.std.proofs.Common.{◌≡◌, ◌≢◌, ◌==◌, ◌↔◌, IsTrue, ℕ, zero, suc, ◌≤◌, Bool, true, false, cond}
+use Rattle.std.proofs.Common.{◌≡◌, ◌≢◌, ◌==◌, ◌↔◌, IsTrue, ℕ, zero, suc, ◌+◌, ◌≤◌, Bool, true, false, cond}
 use Rattle.std.proofs.Common.{not, ◌||◌, List, [], ◌∷◌, ◌++◌, length, Option, Some, None, position, nat_lt, find, filter}
-use Rattle.std.proofs.Common.{slice_get, reverse, refl, sym, ◌∙◌, ap, subst, inl, inr}
+use Rattle.std.proofs.Common.{slice_get, reverse, refl, sym, ◌∙◌, ap, one-add, subst, inl, inr}
 use Rattle.std.specs.List.{list_any, position_or_len, remove}
+use Rattle.std.specs.Map.{keys_of, set_value}
 use Rattle.std.proofs.lemmas.Bool.{ltb-false, eqb-true, eq-eqb, false_from_ne_true}
 use Rattle.std.proofs.lemmas.List.{reverse-append}
 use Rattle.std.proofs.lemmas.List.Folds.{find_at}
 use Rattle.std.proofs.lemmas.List.Quantifiers.{position-Some}
 use Rattle.std.proofs.lemmas.Option.{slice_get_past, same_Some}
+use Rattle.indexmap.specs.Layout.{set_value_at}
+use Rattle.indexmap.proofs.MapLemmas.{Found-position}
 use Rattle.pp_model.specs.Lists.{In, Before}
 use Rattle.pp_model.proofs.Lists.{in_cases, in_left, in_right}
 use Rattle.pp_model.proofs.Logs.{found}
@@ -23,7 +26,7 @@ place_past : (n m : ℕ) (b : Bool) → nat_lt n m ≡ b → cond b (Some n) Non
 place_past n m true e k = absurd (cc)
 place_past n m false e k = ltb-false n m e
 
-pub place_or_len : {X : Type 0} (p : X → Bool) (xs : List X) (i : ℕ) → position p xs ≡ Some i → position_or_len p xs ≡ i
+place_or_len : {X : Type 0} (p : X → Bool) (xs : List X) (i : ℕ) → position p xs ≡ Some i → position_or_len p xs ≡ i
 place_or_len p xs i h = place_is (position_or_len p xs) (length xs) i (nat_lt (position_or_len p xs) (length xs)) h
 
 pub place_find : {X : Type 0} (p : X → Bool) (xs : List X) (i : ℕ) → position p xs ≡ Some i → find p xs ≡ slice_get xs i
@@ -119,3 +122,17 @@ removed_filter {X} key id (y ∷ ys) d zero x h e =
 removed_filter {X} key id (y ∷ ys) d (suc i) x h e =
     ap (λ (z : List X). y ∷ z) (removed_filter key id ys (λ p q w. d p q (inr w)) i x h e)
     ∙ sym (ap (λ (b : Bool). cond b (y ∷ filter (λ z. not (key z == id)) ys) (filter (λ z. not (key z == id)) ys)) (differs_in (key y) id (λ q. d y x (inl (refl, stands_in ys i x h)) (q ∙ sym e))))
+
+-- a value set at the position of the first key that passes a test
+module _ {K X : Type 0} (test : K → Bool) where
+  set_first : (es : List (K × X)) (x : X) → set_value_at es (position_or_len test (keys_of es)) x ≡ set_value test es x
+  set_first [] x = refl
+  set_first (e ∷ es) x = by (test e.0) (set_first es x)
+    where
+      by : (b : Bool) → set_value_at es (position_or_len test (keys_of es)) x ≡ set_value test es x →
+          set_value_at (e ∷ es) (cond (not b) (1 + position_or_len test (keys_of es)) 0) x ≡ cond b ((e.0, x) ∷ es) (e ∷ set_value test es x)
+      by true k = refl
+      by false k = ap (λ (n : ℕ). set_value_at (e ∷ es) n x) (one-add (position_or_len test (keys_of es))) ∙ ap (λ (w : List (K × X)). e ∷ w) k
+
+  pub set_at : (es : List (K × X)) (i : ℕ) (x : X) → position test (keys_of es) ≡ Some i → set_value_at es i x ≡ set_value test es x
+  set_at es i x p = ap (λ (k : ℕ). set_value_at es k x) (sym (Found-position test es i p).or_len) ∙ set_first es x

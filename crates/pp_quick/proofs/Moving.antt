@@ -90,8 +90,8 @@ module _ {Shape State Op Undo : Type 0} (o : Object Shape State Op Undo) (place 
   abbrev G : List (SharedEntry Op)
   G = v.shared.1
 
-  abbrev commits : List (ℕ × List (Item Op))
-  commits = v.commits.entries
+  abbrev commits : List (List (Item Op))
+  commits = v.commits.items
 
   abbrev es : List (Name × Option (OpenTx (List (Item Op))))
   es = v.slots.entries
@@ -99,7 +99,7 @@ module _ {Shape State Op Undo : Type 0} (o : Object Shape State Op Undo) (place 
   abbrev show : Name → OpenTx (List (Item Op)) → BriefTx Op
   show = shown_tx place G commits
 
-  named : (G : List (SharedEntry Op)) (cs : List (ℕ × List (Item Op))) (n : Name) (x : OpenTx (List (Item Op))) → (shown_tx place G cs n x).name ≡ n
+  named : (G : List (SharedEntry Op)) (cs : List (List (Item Op))) (n : Name) (x : OpenTx (List (Item Op))) → (shown_tx place G cs n x).name ≡ n
   named G cs n x = refl
 
   -- what is open at t
@@ -126,8 +126,8 @@ module _ {Shape State Op Undo : Type 0} (o : Object Shape State Op Undo) (place 
   fine_of t x e = h.fine t x (in_slot_of t es x (slot_there t x e))
 
   moves : (r : RunRecord Op) (w : Kept Shape Op) → IsBoosted r → IsGood o place v r → w.shape ≡ v.shape → w.count ≡ v.count + 1 → shown place w ≡ brief_then place B r → Apart w.slots.entries →
-      AreThreads w.threads.keys (threads_of (brief_then place B r).opened) → ((n : Name) (x : OpenTx (List (Item Op))) → In (n, Some x) w.slots.entries → IsFine o place w.commits.entries x) →
-      ((q : ℕ) (p : Item Op) → In p (at q w.commits.entries) → In p (serial_items w.committed) × (place p.op ≡ q)) → w.shared.0 ≡ v.shape → length w.shared.1 ≤ v.count + 1 + 256 → Moves o place v r w
+      AreThreads w.threads.keys (threads_of (brief_then place B r).opened) → ((n : Name) (x : OpenTx (List (Item Op))) → In (n, Some x) w.slots.entries → IsFine o place w.commits.items x) →
+      ((q : ℕ) (p : Item Op) → In p (at q w.commits.items) → In p (serial_items w.committed) × (place p.op ≡ q)) → w.shared.0 ≡ v.shape → length w.shared.1 ≤ v.count + 1 + 256 → Moves o place v r w
   moves r w s g shape count is names threads fine done same few =
       record {
         shape = shape;
@@ -169,7 +169,7 @@ module _ {Shape State Op Undo : Type 0} (o : Object Shape State Op Undo) (place 
   keys_set t s fs e = ap (λ (z : List (Name × Option (OpenTx (List (Item Op))))). reverse (keys_of z)) e ∙ ap (λ (z : List Name). reverse z) (keys_stay t es s)
 
   -- the slots after a change of one
-  fine_set : (t : Name) (s : Option (OpenTx (List (Item Op)))) (fs : List (Name × Option (OpenTx (List (Item Op))))) (cs : List (ℕ × List (Item Op))) → fs ≡ set_value (λ n. t =ⁿ n) es s →
+  fine_set : (t : Name) (s : Option (OpenTx (List (Item Op)))) (fs : List (Name × Option (OpenTx (List (Item Op))))) (cs : List (List (Item Op))) → fs ≡ set_value (λ n. t =ⁿ n) es s →
       ((x : OpenTx (List (Item Op))) → IsFine o place commits x → IsFine o place cs x) → ((x : OpenTx (List (Item Op))) → s ≡ Some x → IsFine o place cs x) → (n : Name) (x : OpenTx (List (Item Op))) → In (n, Some x) fs → IsFine o place cs x
   fine_set t s fs cs e old new n x i = elim (in_set t es s (n, Some x) (subst (λ (z : List (Name × Option (OpenTx (List (Item Op))))). In (n, Some x) z) e i)) [
     | inl j ↦ old x (h.fine n x j)
@@ -177,7 +177,7 @@ module _ {Shape State Op Undo : Type 0} (o : Object Shape State Op Undo) (place 
   ]
 
   -- a transaction without own operations
-  fresh_fine : (cs : List (ℕ × List (Item Op))) (x : OpenTx (List (Item Op))) → HasTaken x.walk [] → x.own ≡ [] → x.seen.entries ≡ [] → IsFine o place cs x
+  fresh_fine : (cs : List (List (Item Op))) (x : OpenTx (List (Item Op))) → HasTaken x.walk [] → x.own ≡ [] → x.seen.entries ≡ [] → IsFine o place cs x
   fresh_fine cs x taken own seen =
       record {
         taken = subst (λ (l : List (Item Op)). HasTaken x.walk (calls_of o l)) (sym own) taken;
@@ -189,7 +189,7 @@ module _ {Shape State Op Undo : Type 0} (o : Object Shape State Op Undo) (place 
   module _ (t p : Name) (b : Option Tree) (x : OpenTx (List (Item Op))) (w : Kept Shape Op) (g : IsGood o place v (records.Plain (Begin t p b)))
       (thread : x.thread ≡ p) (body : x.walk.body ≡ b) (taken : HasTaken x.walk []) (own : x.own ≡ []) (seen : x.seen.entries ≡ [])
       (slots : w.slots.entries ≡ es ++ (t, Some x) ∷ []) (busy : (q : Name) → list_any (λ z. q =ⁿ z) w.threads.keys ≡ cond (p =ⁿ q) true (list_any (λ z. q =ⁿ z) v.threads.keys))
-      (shape : w.shape ≡ v.shape) (shared : w.shared ≡ v.shared) (ids : w.ids.keys ≡ v.ids.keys) (committed : w.committed ≡ v.committed) (commits_are : w.commits.entries ≡ commits) (count : w.count ≡ v.count + 1) where
+      (shape : w.shape ≡ v.shape) (shared : w.shared ≡ v.shared) (ids : w.ids ≡ v.ids) (committed : w.committed ≡ v.committed) (commits_are : w.commits.items ≡ commits) (count : w.count ≡ v.count + 1) where
     keys_are : keys_of w.slots.entries ≡ keys_of es ++ t ∷ []
     keys_are = ap (λ (z : List (Name × Option (OpenTx (List (Item Op))))). keys_of z) slots ∙ map-append (λ (e : Name × Option (OpenTx (List (Item Op)))). e.0) es ((t, Some x) ∷ [])
 
@@ -197,8 +197,8 @@ module _ {Shape State Op Undo : Type 0} (o : Object Shape State Op Undo) (place 
     begun_shown = same_brief _ _ _ _ _ _ _ _ _ _
         (ap (λ (z : List Name). reverse z) keys_are ∙ reverse_more (keys_of es) t)
         (ap (λ (z : List ℕ). reverse z) ids)
-        (ap (λ (z : Shape × List (SharedEntry Op)). filled (shown_tx place z.1 w.commits.entries) w.slots.entries) shared
-        ∙ ap (λ (z : List (ℕ × List (Item Op))). filled (shown_tx place G z) w.slots.entries) commits_are
+        (ap (λ (z : Shape × List (SharedEntry Op)). filled (shown_tx place z.1 w.commits.items) w.slots.entries) shared
+        ∙ ap (λ (z : List (List (Item Op))). filled (shown_tx place G z) w.slots.entries) commits_are
         ∙ ap (λ (z : List (Name × Option (OpenTx (List (Item Op))))). filled show z) slots
         ∙ filled_more t show show (named G commits) es t x
         ∙ ap (λ (z : BriefTx Op). filled show es ++ z ∷ []) (same_tx t x.thread p x.walk.body b x.own [] (unseen place G commits x.seen.entries) [] thread body own
@@ -225,13 +225,13 @@ module _ {Shape State Op Undo : Type 0} (o : Object Shape State Op Undo) (place 
         (subst (λ (l : List Name). AreThreads w.threads.keys l) (sym (map-append (λ (y : BriefTx Op). y.thread) B.opened (record { name = t; thread = p; body = b; own = []; missed = [] } ∷ [])))
         (threads_more v.threads.keys (threads_of B.opened) w.threads.keys p h.threads idle busy))
         (λ n y i. elim (in_cases (n, Some y) es ((t, Some x) ∷ []) (subst (λ (z : List (Name × Option (OpenTx (List (Item Op))))). In (n, Some y) z) slots i)) [
-          | inl j ↦ subst (λ (z : List (ℕ × List (Item Op))). IsFine o place z y) (sym commits_are) (h.fine n y j)
+          | inl j ↦ subst (λ (z : List (List (Item Op))). IsFine o place z y) (sym commits_are) (h.fine n y j)
           | inr (inl j) ↦
               let e : x ≡ y = same_Some x y (ap (λ (z : Name × Option (OpenTx (List (Item Op)))). z.1) (sym j)) in
-              subst (λ (z : OpenTx (List (Item Op))). IsFine o place w.commits.entries z) e (fresh_fine w.commits.entries x taken own seen)
+              subst (λ (z : OpenTx (List (Item Op))). IsFine o place w.commits.items z) e (fresh_fine w.commits.items x taken own seen)
           | inr (inr j) ↦ absurd j
         ])
-        (λ q a i. let k = h.commits q a (subst (λ (z : List (ℕ × List (Item Op))). In a (at q z)) commits_are i) in (subst (λ (z : List (CommittedTx Op)). In a (serial_items z)) (sym committed) k.0, k.1))
+        (λ q a i. let k = h.commits q a (subst (λ (z : List (List (Item Op))). In a (at q z)) commits_are i) in (subst (λ (z : List (CommittedTx Op)). In a (serial_items z)) (sym committed) k.0, k.1))
         (ap (λ (z : Shape × List (SharedEntry Op)). z.0) shared ∙ h.same_shape)
         (let e : length w.shared.1 ≡ length G = ap (λ (z : Shape × List (SharedEntry Op)). length z.1) shared in omega (arith, e, h.few))
 
@@ -239,8 +239,8 @@ module _ {Shape State Op Undo : Type 0} (o : Object Shape State Op Undo) (place 
   module _ (t : Name) (id : ℕ) (op : Op) (x y : OpenTx (List (Item Op))) (w : Kept Shape Op) (g : IsGood o place v (records.Op t id op)) (found : open_in t es ≡ Some x)
       (grows : IsGrown o place commits x (record { id = id; op = op }) y)
       (slots : w.slots.entries ≡ set_value (λ n. t =ⁿ n) es (Some y)) (shape : w.shape ≡ v.shape)
-      (shared : w.shared ≡ (v.shared.0, G ++ as_shared t false (record { id = id; op = op }) ∷ [])) (ids : w.ids.keys ≡ v.ids.keys ++ id ∷ []) (threads : w.threads.keys ≡ v.threads.keys)
-      (committed : w.committed ≡ v.committed) (commits_are : w.commits.entries ≡ commits) (count : w.count ≡ v.count + 1) where
+      (shared : w.shared ≡ (v.shared.0, G ++ as_shared t false (record { id = id; op = op }) ∷ [])) (ids : w.ids ≡ v.ids ++ id ∷ []) (threads : w.threads.keys ≡ v.threads.keys)
+      (committed : w.committed ≡ v.committed) (commits_are : w.commits.items ≡ commits) (count : w.count ≡ v.count + 1) where
     abbrev p : Item Op
     p = record { id = id; op = op }
 
@@ -253,9 +253,9 @@ module _ {Shape State Op Undo : Type 0} (o : Object Shape State Op Undo) (place 
     grown_shown : shown place w ≡ brief_then place B (records.Op t id op)
     grown_shown = same_brief _ _ _ _ _ _ _ _ _ _
         (keys_set t (Some y) w.slots.entries slots)
-        (ap (λ (z : List ℕ). reverse z) ids ∙ reverse_more v.ids.keys id)
-        (ap (λ (z : List (SharedEntry Op)). filled (shown_tx place z w.commits.entries) w.slots.entries) log_is
-        ∙ ap (λ (z : List (ℕ × List (Item Op))). filled (shown_tx place more z) w.slots.entries) commits_are
+        (ap (λ (z : List ℕ). reverse z) ids ∙ reverse_more v.ids id)
+        (ap (λ (z : List (SharedEntry Op)). filled (shown_tx place z w.commits.items) w.slots.entries) log_is
+        ∙ ap (λ (z : List (List (Item Op))). filled (shown_tx place more z) w.slots.entries) commits_are
         ∙ ap (λ (z : List (Name × Option (OpenTx (List (Item Op))))). filled (shown_tx place more commits) z) slots
         ∙ filled_set t show (shown_tx place more commits) (named G commits) (grown place G id op) x y es h.names (slot_there t x found)
         (same_tx t y.thread x.thread y.walk.body x.walk.body y.own (x.own ++ p ∷ []) (unseen place more commits y.seen.entries) _ grows.thread grows.body grows.own
@@ -299,9 +299,9 @@ module _ {Shape State Op Undo : Type 0} (o : Object Shape State Op Undo) (place 
     grown_moves = moves (records.Op t id op) w tt g shape count grown_shown (names_set t (Some y) w.slots.entries slots)
         (subst (λ (l : List Name). AreThreads l (threads_of (at_brief t (grown place G id op) B.opened))) (sym threads)
         (subst (λ (l : List Name). AreThreads v.threads.keys l) (sym (threads_on t (grown place G id op) B.opened (λ z. refl))) h.threads))
-        (fine_set t (Some y) w.slots.entries w.commits.entries slots (λ z k. subst (λ (c : List (ℕ × List (Item Op))). IsFine o place c z) (sym commits_are) k)
-        (λ z e. subst (λ (c : List (ℕ × List (Item Op))). IsFine o place c z) (sym commits_are) (subst (λ (u : OpenTx (List (Item Op))). IsFine o place commits u) (same_Some y z e) grown_fine)))
-        (λ q a i. let k = h.commits q a (subst (λ (z : List (ℕ × List (Item Op))). In a (at q z)) commits_are i) in (subst (λ (z : List (CommittedTx Op)). In a (serial_items z)) (sym committed) k.0, k.1))
+        (fine_set t (Some y) w.slots.entries w.commits.items slots (λ z k. subst (λ (c : List (List (Item Op))). IsFine o place c z) (sym commits_are) k)
+        (λ z e. subst (λ (c : List (List (Item Op))). IsFine o place c z) (sym commits_are) (subst (λ (u : OpenTx (List (Item Op))). IsFine o place commits u) (same_Some y z e) grown_fine)))
+        (λ q a i. let k = h.commits q a (subst (λ (z : List (List (Item Op))). In a (at q z)) commits_are i) in (subst (λ (z : List (CommittedTx Op)). In a (serial_items z)) (sym committed) k.0, k.1))
         (ap (λ (z : Shape × List (SharedEntry Op)). z.0) shared ∙ h.same_shape)
         (let e : length w.shared.1 ≡ length more = ap (λ (z : List (SharedEntry Op)). length z) log_is in
         let l : length more ≡ length G + 1 = length-append G (as_shared t false p ∷ []) in omega (arith, e, l, h.few))
@@ -309,8 +309,8 @@ module _ {Shape State Op Undo : Type 0} (o : Object Shape State Op Undo) (place 
   -- a commit
   module _ (t : Name) (x : OpenTx (List (Item Op))) (w : Kept Shape Op) (g : IsGood o place v (records.Commit t)) (found : open_in t es ≡ Some x)
       (slots : w.slots.entries ≡ set_value (λ n. t =ⁿ n) es None) (busy : (q : Name) → list_any (λ z. q =ⁿ z) w.threads.keys ≡ cond (x.thread =ⁿ q) false (list_any (λ z. q =ⁿ z) v.threads.keys))
-      (shape : w.shape ≡ v.shape) (shared : w.shared ≡ (v.shared.0, commit_all t G)) (ids : w.ids.keys ≡ v.ids.keys)
-      (grow : (q : ℕ) → at q w.commits.entries ≡ at q commits ++ items_at place q x.own)
+      (shape : w.shape ≡ v.shape) (shared : w.shared ≡ (v.shared.0, commit_all t G)) (ids : w.ids ≡ v.ids)
+      (grow : (q : ℕ) → at q w.commits.items ≡ at q commits ++ items_at place q x.own)
       (committed : w.committed ≡ v.committed ++ record { name = t; entries = x.own } ∷ []) (count : w.count ≡ v.count + 1) where
     all_is : w.shared.1 ≡ commit_all t G
     all_is = ap (λ (z : Shape × List (SharedEntry Op)). z.1) shared
@@ -318,11 +318,11 @@ module _ {Shape State Op Undo : Type 0} (o : Object Shape State Op Undo) (place 
     here : brief_of t B.opened ≡ Some (show t x)
     here = open_there t x found
 
-    other_missed : (n : Name) (z : OpenTx (List (Item Op))) → In (n, Some z) es → n ≢ t → shown_tx place (commit_all t G) w.commits.entries n z ≡ missing_more place G t (show n z)
+    other_missed : (n : Name) (z : OpenTx (List (Item Op))) → In (n, Some z) es → n ≢ t → shown_tx place (commit_all t G) w.commits.items n z ≡ missing_more place G t (show n z)
     other_missed n z i q =
         let f = h.fine n z i in
-        same_tx n z.thread z.thread z.walk.body z.walk.body z.own z.own (unseen place (commit_all t G) w.commits.entries z.seen.entries) _ refl refl refl
-        (unseen_committed place G commits w.commits.entries z.seen.entries t z.own x.own (distinct o place apart v.shape B h.short)
+        same_tx n z.thread z.thread z.walk.body z.walk.body z.own z.own (unseen place (commit_all t G) w.commits.items z.seen.entries) _ refl refl refl
+        (unseen_committed place G commits w.commits.items z.seen.entries t z.own x.own (distinct o place apart v.shape B h.short)
         (is_owned o place apart v.shape B h.short t (show t x) here) (own_stands o place apart v.shape B h.short t (show t x) here) f.sees f.within grow
         (λ c a j. done_stands o place apart v.shape B h.short a (h.commits c a j).0))
 
@@ -330,9 +330,9 @@ module _ {Shape State Op Undo : Type 0} (o : Object Shape State Op Undo) (place 
     committed_shown = same_brief _ _ _ _ _ _ _ _ _ _
         (keys_set t None w.slots.entries slots)
         (ap (λ (z : List ℕ). reverse z) ids)
-        (ap (λ (z : List (SharedEntry Op)). filled (shown_tx place z w.commits.entries) w.slots.entries) all_is
-        ∙ ap (λ (z : List (Name × Option (OpenTx (List (Item Op))))). filled (shown_tx place (commit_all t G) w.commits.entries) z) slots
-        ∙ filled_out t show (shown_tx place (commit_all t G) w.commits.entries) (named G commits) (missing_more place G t) es h.names other_missed)
+        (ap (λ (z : List (SharedEntry Op)). filled (shown_tx place z w.commits.items) w.slots.entries) all_is
+        ∙ ap (λ (z : List (Name × Option (OpenTx (List (Item Op))))). filled (shown_tx place (commit_all t G) w.commits.items) z) slots
+        ∙ filled_out t show (shown_tx place (commit_all t G) w.commits.items) (named G commits) (missing_more place G t) es h.names other_missed)
         all_is
         (committed ∙ ap (λ z. v.committed ++ record { name = t; entries = own_list z } ∷ []) (sym here))
 
@@ -342,13 +342,13 @@ module _ {Shape State Op Undo : Type 0} (o : Object Shape State Op Undo) (place 
     pub committed_moves : Moves o place v (records.Commit t) w
     committed_moves = moves (records.Commit t) w tt g shape count committed_shown (names_set t None w.slots.entries slots)
         (subst (λ (l : List Name). AreThreads w.threads.keys l) (sym (map_map (λ (y : BriefTx Op). y.thread) (missing_more place G t) (without_brief t B.opened))) (threads_gone t x w.threads.keys found busy))
-        (fine_set t None w.slots.entries w.commits.entries slots
+        (fine_set t None w.slots.entries w.commits.items slots
         (λ z k. record {
           taken = k.taken;
           sees = k.sees;
           within = λ q n e.
               let a : n ≤ length (at q commits) = k.within q n e in
-              let b : length (at q w.commits.entries) ≡ length (at q commits) + length (items_at place q x.own) = ap (λ (l : List (Item Op)). length l) (grow q) ∙ length-append (at q commits) (items_at place q x.own) in
+              let b : length (at q w.commits.items) ≡ length (at q commits) + length (items_at place q x.own) = ap (λ (l : List (Item Op)). length l) (grow q) ∙ length-append (at q commits) (items_at place q x.own) in
               omega arith;
         })
         (λ z e. absurd (cc)))
@@ -378,13 +378,13 @@ module _ {Shape State Op Undo : Type 0} (o : Object Shape State Op Undo) (place 
     -- an abort
     module _ (g : IsGood o place v (records.Abort t)) (slots : w.slots.entries ≡ set_value (λ n. t =ⁿ n) es None)
         (busy : (q : Name) → list_any (λ z. q =ⁿ z) w.threads.keys ≡ cond (x.thread =ⁿ q) false (list_any (λ z. q =ⁿ z) v.threads.keys))
-        (shape : w.shape ≡ v.shape) (ids : w.ids.keys ≡ v.ids.keys) (committed : w.committed ≡ v.committed) (commits_are : w.commits.entries ≡ commits) (count : w.count ≡ v.count + 1) where
+        (shape : w.shape ≡ v.shape) (ids : w.ids ≡ v.ids) (committed : w.committed ≡ v.committed) (commits_are : w.commits.items ≡ commits) (count : w.count ≡ v.count + 1) where
       aborted_shown : shown place w ≡ brief_then place B (records.Abort t)
       aborted_shown = same_brief _ _ _ _ _ _ _ _ _ _
           (keys_set t None w.slots.entries slots)
           (ap (λ (z : List ℕ). reverse z) ids)
-          (ap (λ (z : List (SharedEntry Op)). filled (shown_tx place z w.commits.entries) w.slots.entries) left_is
-          ∙ ap (λ (z : List (ℕ × List (Item Op))). filled (shown_tx place (without_owner t G) z) w.slots.entries) commits_are
+          (ap (λ (z : List (SharedEntry Op)). filled (shown_tx place z w.commits.items) w.slots.entries) left_is
+          ∙ ap (λ (z : List (List (Item Op))). filled (shown_tx place (without_owner t G) z) w.slots.entries) commits_are
           ∙ ap (λ (z : List (Name × Option (OpenTx (List (Item Op))))). filled (shown_tx place (without_owner t G) commits) z) slots
           ∙ filled_out t show (shown_tx place (without_owner t G) commits) (named G commits) (λ y. y) es h.names (λ n z i q. same_missed n z)
           ∙ map_id (λ (y : BriefTx Op). y) (without_brief t B.opened) (λ y i. refl))
@@ -393,15 +393,15 @@ module _ {Shape State Op Undo : Type 0} (o : Object Shape State Op Undo) (place 
 
       pub aborted_moves : Moves o place v (records.Abort t) w
       aborted_moves = moves (records.Abort t) w tt g shape count aborted_shown (names_set t None w.slots.entries slots) (threads_gone t x w.threads.keys found busy)
-          (fine_set t None w.slots.entries w.commits.entries slots (λ z k. subst (λ (c : List (ℕ × List (Item Op))). IsFine o place c z) (sym commits_are) k) (λ z e. absurd (cc)))
-          (λ q a i. let k = h.commits q a (subst (λ (z : List (ℕ × List (Item Op))). In a (at q z)) commits_are i) in (subst (λ (z : List (CommittedTx Op)). In a (serial_items z)) (sym committed) k.0, k.1))
+          (fine_set t None w.slots.entries w.commits.items slots (λ z k. subst (λ (c : List (List (Item Op))). IsFine o place c z) (sym commits_are) k) (λ z e. absurd (cc)))
+          (λ q a i. let k = h.commits q a (subst (λ (z : List (List (Item Op))). In a (at q z)) commits_are i) in (subst (λ (z : List (CommittedTx Op)). In a (serial_items z)) (sym committed) k.0, k.1))
           (ap (λ (z : Shape × List (SharedEntry Op)). z.0) shared ∙ h.same_shape)
           (omega (arith, less, h.few))
 
     -- a retry
     module _ (g : IsGood o place v (records.Retry t)) (y : OpenTx (List (Item Op))) (slots : w.slots.entries ≡ set_value (λ n. t =ⁿ n) (set_value (λ n. t =ⁿ n) es None) (Some y))
         (thread : y.thread ≡ x.thread) (body : y.walk.body ≡ x.walk.body) (taken : HasTaken y.walk []) (own : y.own ≡ []) (seen : y.seen.entries ≡ []) (threads : w.threads.keys ≡ v.threads.keys)
-        (shape : w.shape ≡ v.shape) (ids : w.ids.keys ≡ v.ids.keys) (committed : w.committed ≡ v.committed) (commits_are : w.commits.entries ≡ commits) (count : w.count ≡ v.count + 1) where
+        (shape : w.shape ≡ v.shape) (ids : w.ids ≡ v.ids) (committed : w.committed ≡ v.committed) (commits_are : w.commits.items ≡ commits) (count : w.count ≡ v.count + 1) where
       again_is : w.slots.entries ≡ set_value (λ n. t =ⁿ n) es (Some y)
       again_is = slots ∙ set_twice t es None (Some y)
 
@@ -409,8 +409,8 @@ module _ {Shape State Op Undo : Type 0} (o : Object Shape State Op Undo) (place 
       retried_shown = same_brief _ _ _ _ _ _ _ _ _ _
           (keys_set t (Some y) w.slots.entries again_is)
           (ap (λ (z : List ℕ). reverse z) ids)
-          (ap (λ (z : List (SharedEntry Op)). filled (shown_tx place z w.commits.entries) w.slots.entries) left_is
-          ∙ ap (λ (z : List (ℕ × List (Item Op))). filled (shown_tx place (without_owner t G) z) w.slots.entries) commits_are
+          (ap (λ (z : List (SharedEntry Op)). filled (shown_tx place z w.commits.items) w.slots.entries) left_is
+          ∙ ap (λ (z : List (List (Item Op))). filled (shown_tx place (without_owner t G) z) w.slots.entries) commits_are
           ∙ ap (λ (z : List (Name × Option (OpenTx (List (Item Op))))). filled (shown_tx place (without_owner t G) commits) z) again_is
           ∙ filled_set t show (shown_tx place (without_owner t G) commits) (named G commits) emptied x y es h.names (slot_there t x found)
           (same_tx t y.thread x.thread y.walk.body x.walk.body y.own [] (unseen place (without_owner t G) commits y.seen.entries) [] thread body own
@@ -423,8 +423,8 @@ module _ {Shape State Op Undo : Type 0} (o : Object Shape State Op Undo) (place 
       retried_moves = moves (records.Retry t) w tt g shape count retried_shown (names_set t (Some y) w.slots.entries again_is)
           (subst (λ (l : List Name). AreThreads l (threads_of (at_brief t emptied B.opened))) (sym threads)
           (subst (λ (l : List Name). AreThreads v.threads.keys l) (sym (threads_on t emptied B.opened (λ z. refl))) h.threads))
-          (fine_set t (Some y) w.slots.entries w.commits.entries again_is (λ z k. subst (λ (c : List (ℕ × List (Item Op))). IsFine o place c z) (sym commits_are) k)
-          (λ z e. subst (λ (u : OpenTx (List (Item Op))). IsFine o place w.commits.entries u) (same_Some y z e) (fresh_fine w.commits.entries y taken own seen)))
-          (λ q a i. let k = h.commits q a (subst (λ (z : List (ℕ × List (Item Op))). In a (at q z)) commits_are i) in (subst (λ (z : List (CommittedTx Op)). In a (serial_items z)) (sym committed) k.0, k.1))
+          (fine_set t (Some y) w.slots.entries w.commits.items again_is (λ z k. subst (λ (c : List (List (Item Op))). IsFine o place c z) (sym commits_are) k)
+          (λ z e. subst (λ (u : OpenTx (List (Item Op))). IsFine o place w.commits.items u) (same_Some y z e) (fresh_fine w.commits.items y taken own seen)))
+          (λ q a i. let k = h.commits q a (subst (λ (z : List (List (Item Op))). In a (at q z)) commits_are i) in (subst (λ (z : List (CommittedTx Op)). In a (serial_items z)) (sym committed) k.0, k.1))
           (ap (λ (z : Shape × List (SharedEntry Op)). z.0) shared ∙ h.same_shape)
           (omega (arith, less, h.few))

@@ -1,5 +1,5 @@
 -- What is not seen of the commits at a place, and the calls of the first items.
-use Rattle.std.specs.Prelude.{◌≡◌, ◌<◌, ◌+◌, ℕ, nat_eq, List, [], ◌∷◌, ◌++◌, drop, length, map, take, Some}
+use Rattle.std.specs.Prelude.{◌≡◌, ◌<◌, ◌+◌, ℕ, nat_eq, List, [], ◌∷◌, ◌++◌, drop, length, map, slice_get, take, Some}
 use Rattle.std.specs.Map.{lookup}
 use Rattle.std.proofs.Common.{ap, ◌∙◌}
 use Rattle.std.proofs.lemmas.List.{map-append}
@@ -9,8 +9,8 @@ use Rattle.pp_spec.specs.Object.{Object}
 use Rattle.pp_quick.specs.Shown.{at, calls_of, items_behind, items_or_none, unseen_at}
 use Rattle.pp_quick.proofs.Items.{some_there, take_next}
 
-pub unseen_is : {A : Type 0} (q : ℕ) (commits : List (ℕ × List A)) (seen : List (ℕ × ℕ)) (k : ℕ) (l : List A) →
-    lookup (nat_eq q) seen ≡ Some k → lookup (nat_eq q) commits ≡ Some l → unseen_at q commits seen ≡ drop k l
+pub unseen_is : {A : Type 0} (q : ℕ) (commits : List (List A)) (seen : List (ℕ × ℕ)) (k : ℕ) (l : List A) →
+    lookup (nat_eq q) seen ≡ Some k → slice_get commits q ≡ Some l → unseen_at q commits seen ≡ drop k l
 unseen_is q commits seen k l h e =
     ap (λ m. items_behind m (at q commits)) h ∙ ap (λ m. drop k (items_or_none m)) e
 

@@ -7,7 +7,6 @@ use Rattle.std.proofs.lemmas.Bool.{eqb-true, false_from_ne_true}
 use Rattle.std.proofs.lemmas.List.{drop_more, length-map, map-append, take_more}
 use Rattle.std.proofs.lemmas.List.Elements.{All-get_or}
 use mathlib.Core.Logic.{inl, inr}
-use Rattle.indexmap.specs.IndexSet.{insert_key}
 use Rattle.pp_core.specs.declared.entry.CommittedTx.{CommittedTx}
 use Rattle.pp_core.specs.declared.entry.Item.{Item}
 use Rattle.pp_core.specs.declared.entry.SharedEntry.{SharedEntry}
@@ -57,15 +56,16 @@ module _ {Op : Type 0} (items : List (Item Op)) (k : ℕ) (p : Item Op) (lt : k 
         let m = from_map (λ (q : Item Op). q.id) p.id (drop (k + 1) items) (subst (λ (w : List ℕ). In p.id w) are (in_reverse p.id ks (used_in ks p.id t))) in
         d p m.0 (later m.0 m.1) m.2
 
-    -- its id is not
-    module _ (new : list_any (λ j. p.id == j) ks ≡ false) where
-      pub ids_back : (js : List ℕ) → js ≡ insert_key (λ a b. a == b) ks p.id → reverse js ≡ map (λ q. q.id) (drop k items)
-      ids_back js i =
-          ap reverse (i ∙ ap (λ (b : Bool). cond b ks (ks ++ p.id ∷ [])) new)
-          ∙ reverse_more ks p.id
-          ∙ ap (λ (w : List ℕ). p.id ∷ w) are
-          ∙ sym (ap (λ (w : List (Item Op)). map (λ q. q.id) w) left)
+    -- its id is put behind them
+    pub ids_back : (js : List ℕ) → js ≡ ks ++ p.id ∷ [] → reverse js ≡ map (λ q. q.id) (drop k items)
+    ids_back js i =
+        ap reverse i
+        ∙ reverse_more ks p.id
+        ∙ ap (λ (w : List ℕ). p.id ∷ w) are
+        ∙ sym (ap (λ (w : List (Item Op)). map (λ q. q.id) w) left)
 
+    -- its id is not among them
+    module _ (new : list_any (λ j. p.id == j) ks ≡ false) where
       behind_differs : (q : Item Op) → In q (drop (k + 1) items) → p.id ≡ q.id → ⊥
       behind_differs q i e =
           not_used ks p.id new (from_reverse p.id ks (subst (λ (w : List ℕ). In p.id w) (sym are)
@@ -166,16 +166,16 @@ module _ {Shape State Op Undo : Type 0} (o : Object Shape State Op Undo) (place 
   none_done : v.committed ≡ []
   none_done = ap (λ (b : Brief Op). b.done) n.shown
 
-  no_commits : (q : ℕ) → at q v.commits.entries ≡ []
-  no_commits q = nothing (at q v.commits.entries) (λ p i. subst (λ (d : List (CommittedTx Op)). In p (serial_items d)) none_done (h.commits q p i).0)
+  no_commits : (q : ℕ) → at q v.commits.items ≡ []
+  no_commits q = nothing (at q v.commits.items) (λ p i. subst (λ (d : List (CommittedTx Op)). In p (serial_items d)) none_done (h.commits q p i).0)
 
   pub not_begun : (t : Name) → lookup (λ m. t =ⁿ m) v.slots.entries ≡ None
   not_begun t = ap (λ z. lookup (λ m. t =ⁿ m) z) no_slots
 
   -- what a start makes of it
   module _ (t : Name) (items : List (Item Op)) (w : Kept Shape Op) (shape : w.shape ≡ v.shape) (count : w.count ≡ v.count)
-      (slots : w.slots.entries ≡ v.slots.entries ++ (t, None) ∷ []) (threads : w.threads.keys ≡ v.threads.keys) (ids : reverse w.ids.keys ≡ map (λ p. p.id) items)
-      (shared : w.shared ≡ (v.shape, commit_all t (posted t items))) (committed : w.committed ≡ v.committed ++ record { name = t; entries = items } ∷ []) (commits : w.commits.entries ≡ v.commits.entries) where
+      (slots : w.slots.entries ≡ v.slots.entries ++ (t, None) ∷ []) (threads : w.threads.keys ≡ v.threads.keys) (ids : reverse w.ids ≡ map (λ p. p.id) items)
+      (shared : w.shared ≡ (v.shape, commit_all t (posted t items))) (committed : w.committed ≡ v.committed ++ record { name = t; entries = items } ∷ []) (commits : w.commits.items ≡ v.commits.items) where
     abbrev z : Start Op
     z = start_of t items
 
@@ -189,13 +189,13 @@ module _ {Shape State Op Undo : Type 0} (o : Object Shape State Op Undo) (place 
     shared_are = ap (λ (l : Shape × List (SharedEntry Op)). l.1) shared ∙ committed_all t items
 
     opened_are : (shown place w).opened ≡ []
-    opened_are = ap (λ (l : List (Name × Option (OpenTx (List (Item Op))))). filled (shown_tx place w.shared.1 w.commits.entries) l) slots_are
+    opened_are = ap (λ (l : List (Name × Option (OpenTx (List (Item Op))))). filled (shown_tx place w.shared.1 w.commits.items) l) slots_are
 
     started_shown : shown place w ≡ brief place (first (Some z))
     started_shown = same_brief _ _ _ _ _ _ _ _ _ _ (ap (λ (l : List (Name × Option (OpenTx (List (Item Op))))). reverse (keys_of l)) slots_are) ids opened_are shared_are done_are
 
-    commits_are : (q : ℕ) → at q w.commits.entries ≡ []
-    commits_are q = ap (λ (l : List (ℕ × List (Item Op))). at q l) commits ∙ no_commits q
+    commits_are : (q : ℕ) → at q w.commits.items ≡ []
+    commits_are q = ap (λ (l : List (List (Item Op))). at q l) commits ∙ no_commits q
 
     pub started : length items ≤ 256 → StartMeets (rules_of o v.shape) (Some z) → HasStarted o place v z w
     started few meets =
@@ -214,7 +214,7 @@ module _ {Shape State Op Undo : Type 0} (o : Object Shape State Op Undo) (place 
                 threads =
                     subst (λ (l : List (BriefTx Op)). AreThreads w.threads.keys (threads_of l)) (sym opened_are)
                     (subst (λ (l : List Name). AreThreads l []) (sym threads) (subst (λ (l : List (BriefTx Op)). AreThreads v.threads.keys (threads_of l)) none_open h.threads));
-                fine = subst (λ (l : List (Name × Option (OpenTx (List (Item Op))))). (m : Name) (x : OpenTx (List (Item Op))) → In (m, Some x) l → IsFine o place w.commits.entries x) (sym slots_are) none_fine;
+                fine = subst (λ (l : List (Name × Option (OpenTx (List (Item Op))))). (m : Name) (x : OpenTx (List (Item Op))) → In (m, Some x) l → IsFine o place w.commits.items x) (sym slots_are) none_fine;
                 commits = λ q p i. absurd (subst (λ (l : List (Item Op)). In p l) (commits_are q) i);
                 same_shape = ap (λ (l : Shape × List (SharedEntry Op)). l.0) shared ∙ sym shape;
                 few =
@@ -227,7 +227,7 @@ module _ {Shape State Op Undo : Type 0} (o : Object Shape State Op Undo) (place 
         only_one s r (inl i) = absurd i.1
         only_one s r (inr i) = absurd i
 
-        none_fine : (m : Name) (x : OpenTx (List (Item Op))) → In {A = Name × Option (OpenTx (List (Item Op)))} (m, Some x) ((t, None) ∷ []) → IsFine o place w.commits.entries x
+        none_fine : (m : Name) (x : OpenTx (List (Item Op))) → In {A = Name × Option (OpenTx (List (Item Op)))} (m, Some x) ((t, None) ∷ []) → IsFine o place w.commits.items x
         none_fine m x (inl e) = absurd (let k : Some x ≡ None = ap (λ (s : Name × Option (OpenTx (List (Item Op)))). s.1) e in cc)
         none_fine m x (inr i) = absurd i
 

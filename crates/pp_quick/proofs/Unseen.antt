@@ -34,7 +34,7 @@ or_none false = refl
 
 module _ {Op : Type 0} (place : Op → ℕ) where
   -- its id is among the unseen ones exactly where an entry is unseen
-  pub has_unseen : (G : List (SharedEntry Op)) (commits : List (ℕ × List (Item Op))) (seen : List (ℕ × ℕ)) → ((g h : SharedEntry Op) → Before g h G → g.id ≡ h.id → ⊥) → (g : SharedEntry Op) → In g G →
+  pub has_unseen : (G : List (SharedEntry Op)) (commits : List (List (Item Op))) (seen : List (ℕ × ℕ)) → ((g h : SharedEntry Op) → Before g h G → g.id ≡ h.id → ⊥) → (g : SharedEntry Op) → In g G →
       has_id g.id (unseen place G commits seen) ≡ is_unseen place commits seen g
   has_unseen G commits seen d g i = same_bool (has_id g.id (unseen place G commits seen)) (is_unseen place commits seen g)
       (λ h.
@@ -44,23 +44,23 @@ module _ {Op : Type 0} (place : Op → ℕ) where
       (λ h. in_has g.id (unseen place G commits seen) (in_map (λ (w : SharedEntry Op). w.id) g (filter (is_unseen place commits seen) G) (in_filter (is_unseen place commits seen) g G i h)))
 
   -- nothing is seen where there is no own operation
-  pub unseen_none : (G : List (SharedEntry Op)) (commits : List (ℕ × List (Item Op))) → unseen place G commits [] ≡ []
+  pub unseen_none : (G : List (SharedEntry Op)) (commits : List (List (Item Op))) → unseen place G commits [] ≡ []
   unseen_none G commits = ap (λ (w : List (SharedEntry Op)). shared_ids w) (filter_none (is_unseen place commits []) G (λ g i. and_false g.committed))
 
   -- an uncommitted entry is not unseen
-  pub unseen_wider : (G : List (SharedEntry Op)) (commits : List (ℕ × List (Item Op))) (seen : List (ℕ × ℕ)) (t : Name) (p : Item Op) → unseen place (G ++ as_shared t false p ∷ []) commits seen ≡ unseen place G commits seen
+  pub unseen_wider : (G : List (SharedEntry Op)) (commits : List (List (Item Op))) (seen : List (ℕ × ℕ)) (t : Name) (p : Item Op) → unseen place (G ++ as_shared t false p ∷ []) commits seen ≡ unseen place G commits seen
   unseen_wider G commits seen t p = ap (λ (w : List (SharedEntry Op)). shared_ids w)
       (filter-append (is_unseen place commits seen) G (as_shared t false p ∷ []) ∙ append-nil (filter (is_unseen place commits seen) G))
 
   -- entries of t leave, of which none is committed
-  pub unseen_fewer : (G : List (SharedEntry Op)) (commits : List (ℕ × List (Item Op))) (seen : List (ℕ × ℕ)) (t : Name) → ((g : SharedEntry Op) → In g G → g.owner ≡ t → g.committed ≡ false) →
+  pub unseen_fewer : (G : List (SharedEntry Op)) (commits : List (List (Item Op))) (seen : List (ℕ × ℕ)) (t : Name) → ((g : SharedEntry Op) → In g G → g.owner ≡ t → g.committed ≡ false) →
       unseen place (without_owner t G) commits seen ≡ unseen place G commits seen
   unseen_fewer G commits seen t n = ap (λ (w : List (SharedEntry Op)). shared_ids w)
       (filter_within (is_unseen place commits seen) (λ (g : SharedEntry Op). not (g.owner =ⁿ t)) G
       (λ g i m. names_not g.owner t (λ e. differ g.committed (and_parts g.committed (has_id g.id (item_ids (unseen_at (place g.op) commits seen))) m).0 (n g i e))))
 
   -- the commits at the place of one more operation are seen
-  pub unseen_grown : (G : List (SharedEntry Op)) (commits : List (ℕ × List (Item Op))) (old new : List (ℕ × ℕ)) (op : Op) → ((g h : SharedEntry Op) → Before g h G → g.id ≡ h.id → ⊥) →
+  pub unseen_grown : (G : List (SharedEntry Op)) (commits : List (List (Item Op))) (old new : List (ℕ × ℕ)) (op : Op) → ((g h : SharedEntry Op) → Before g h G → g.id ≡ h.id → ⊥) →
       ((q : ℕ) → lookup (nat_eq q) new ≡ cond (nat_eq (place op) q) (Some (length (at (place op) commits))) (lookup (nat_eq q) old)) →
       unseen place G commits new ≡ shared_ids (filter (λ g. has_id g.id (unseen place G commits old) && not (place g.op == place op)) G)
   unseen_grown G commits old new op d s = ap (λ (w : List (SharedEntry Op)). shared_ids w)
@@ -103,7 +103,7 @@ module _ {Op : Type 0} (place : Op → ℕ) where
       assoc false b c = refl
 
   -- t commits its own operations
-  module _ (G : List (SharedEntry Op)) (commits later : List (ℕ × List (Item Op))) (seen : List (ℕ × ℕ)) (t : Name) (own mine : List (Item Op))
+  module _ (G : List (SharedEntry Op)) (commits later : List (List (Item Op))) (seen : List (ℕ × ℕ)) (t : Name) (own mine : List (Item Op))
       (d : (g h : SharedEntry Op) → Before g h G → g.id ≡ h.id → ⊥)
       (owned : (g : SharedEntry Op) → In g G → g.owner ≡ t → (p : Item Op) × In p mine × (g ≡ as_shared t false p))
       (stands : (p : Item Op) → In p mine → In (as_shared t false p) G)

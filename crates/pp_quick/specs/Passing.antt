@@ -40,7 +40,7 @@ module _ {Shape State Op Undo : Type 0} (o : Object Shape State Op Undo) (place 
     pub stops : Stops own item.op
 
   -- the transaction with one more own operation, behind which it has seen the commits at its place
-  pub record IsGrown (commits : List (ℕ × List (Item Op))) (x : OpenTx (List (Item Op)))
+  pub record IsGrown (commits : List (List (Item Op))) (x : OpenTx (List (Item Op)))
       (p : Item Op) (y : OpenTx (List (Item Op))) : Type 0 where
     pub thread : y.thread ≡ x.thread
     pub body : y.walk.body ≡ x.walk.body

@@ -1,6 +1,6 @@
 -- Proof machinery: what a Quick keeps, and the brief that it shows.
 use Rattle.std.specs.Prelude.{◌≡◌, ◌≢◌, ◌+◌, ◌≤◌, ℕ, Bool, ◌&&◌, nat_eq, List, [], ◌∷◌}
-use Rattle.std.specs.Prelude.{filter, map, reverse, drop, length, is_some, Option, None, Some}
+use Rattle.std.specs.Prelude.{filter, map, reverse, drop, length, is_some, slice_get, Option, None, Some}
 use Rattle.std.specs.List.{list_any}
 use Rattle.std.specs.Map.{keys_of, lookup}
 use Rattle.pp_body.specs.Walks.{HasTaken}
@@ -38,8 +38,8 @@ items_or_none None = []
 items_or_none (Some items) = items
 
 -- the commits at a place
-abbrev pub at : {A : Type 0} → ℕ → List (ℕ × List A) → List A
-at place commits = items_or_none (lookup (nat_eq place) commits)
+abbrev pub at : {A : Type 0} → ℕ → List (List A) → List A
+at place commits = items_or_none (slice_get commits place)
 
 abbrev pub item_ids : {Op : Type 0} → List (Item Op) → List ℕ
 item_ids items = map (λ p. p.id) items
@@ -50,21 +50,21 @@ items_behind None items = []
 items_behind (Some k) items = drop k items
 
 -- the commits at a place that were not seen
-abbrev pub unseen_at : {A : Type 0} → ℕ → List (ℕ × List A) → List (ℕ × ℕ) → List A
+abbrev pub unseen_at : {A : Type 0} → ℕ → List (List A) → List (ℕ × ℕ) → List A
 unseen_at q commits seen = items_behind (lookup (nat_eq q) seen) (at q commits)
 
 -- committed, and among those not seen of its place
-abbrev pub is_unseen : {Op : Type 0} → (Op → ℕ) → List (ℕ × List (Item Op)) → List (ℕ × ℕ) →
+abbrev pub is_unseen : {Op : Type 0} → (Op → ℕ) → List (List (Item Op)) → List (ℕ × ℕ) →
     SharedEntry Op → Bool
 is_unseen place commits seen g =
     g.committed && has_id g.id (item_ids (unseen_at (place g.op) commits seen))
 
-abbrev pub unseen : {Op : Type 0} → (Op → ℕ) → List (SharedEntry Op) → List (ℕ × List (Item Op)) →
+abbrev pub unseen : {Op : Type 0} → (Op → ℕ) → List (SharedEntry Op) → List (List (Item Op)) →
     List (ℕ × ℕ) → List ℕ
 unseen place G commits seen = shared_ids (filter (is_unseen place commits seen) G)
 
 abbrev pub shown_tx : {Op : Type 0} → (Op → ℕ) → List (SharedEntry Op) →
-    List (ℕ × List (Item Op)) → Name → OpenTx (List (Item Op)) → BriefTx Op
+    List (List (Item Op)) → Name → OpenTx (List (Item Op)) → BriefTx Op
 shown_tx place G commits n x =
     record {
       name = n;
@@ -83,8 +83,8 @@ abbrev pub shown : {Shape Op : Type 0} → (Op → ℕ) → Kept Shape Op → Br
 shown place v =
     record {
       names = reverse (keys_of v.slots.entries);
-      ids = reverse v.ids.keys;
-      opened = filled (shown_tx place v.shared.1 v.commits.entries) v.slots.entries;
+      ids = reverse v.ids;
+      opened = filled (shown_tx place v.shared.1 v.commits.items) v.slots.entries;
       shared = v.shared.1;
       done = v.committed;
     }
@@ -111,7 +111,7 @@ module _ {Shape State Op Undo : Type 0} (o : Object Shape State Op Undo) (place 
 
   -- What is kept of an open transaction: its walk has taken its own calls, and what it has seen is
   -- told of the places of its own operations, and of no others.
-  pub record IsFine (commits : List (ℕ × List (Item Op))) (x : OpenTx (List (Item Op))) :
+  pub record IsFine (commits : List (List (Item Op))) (x : OpenTx (List (Item Op))) :
       Type 0 where
     pub taken : HasTaken x.walk (calls_of o x.own)
     pub sees : (q : ℕ) → is_some (lookup (nat_eq q) x.seen.entries) ≡ touches place q x.own
@@ -124,9 +124,9 @@ module _ {Shape State Op Undo : Type 0} (o : Object Shape State Op Undo) (place 
     pub names : (s t : Name) → Before s t (keys_of v.slots.entries) → s ≢ t
     pub threads : AreThreads v.threads.keys (threads_of (shown place v).opened)
     pub fine : (n : Name) (x : OpenTx (List (Item Op))) → In (n, Some x) v.slots.entries →
-        IsFine v.commits.entries x
+        IsFine v.commits.items x
     -- the commits at a place are of it, and were committed
-    pub commits : (q : ℕ) (p : Item Op) → In p (at q v.commits.entries) →
+    pub commits : (q : ℕ) (p : Item Op) → In p (at q v.commits.items) →
         In p (serial_items v.committed) × (place p.op ≡ q)
     pub same_shape : v.shared.0 ≡ v.shape
     pub few : length v.shared.1 ≤ v.count + 256

@@ -1,5 +1,5 @@
 //! What was committed at each place, and what an open transaction has seen of it.
-ghost use Rattle.std.specs.Prelude.{◌≡◌, ◌++◌, ℕ, false, IsTrue, OnOk, drop, length};
+ghost use Rattle.std.specs.Prelude.{◌≡◌, ◌<◌, ◌++◌, ℕ, false, IsTrue, OnOk, drop, length};
 ghost use Rattle.pp_quick.specs.Passing.{LetAllPass, StopsOne, items_at, with_commit};
 ghost use Rattle.pp_quick.specs.Shown.{at, unseen_at};
 
@@ -12,12 +12,28 @@ use std::alloc::Global;
 
 /// How many commits there were at a place.
 pub fn count_at<O: Copy>(commits: &Commits<O>, place: u16) -> usize
-    ensures { result ≡ length (at place commits.now.entries) }
+    ensures { result ≡ length (at place commits.now.items) }
 {
-    match commits.get(&place) {
+    match commits.get(usize::from(place)) {
         None => 0,
         Some(done) => done.len(),
     }
+}
+
+/// Makes an empty list for each place up to this one that has none. The only error is that memory
+/// was refused.
+fn make_lists<O: Copy>(
+    alloc: Global,
+    commits: &mut Commits<O>,
+    place: usize,
+) -> Result<(), OutOfMemory>
+    ensures same { (q : ℕ) → at q commits.new.items ≡ at q commits.old.items }
+    ensures there { OnOk result (place < length commits.new.items) }
+{
+    'grow: while commits.len() <= place {
+        commits.push(Items::new(alloc))?;
+    }
+    Ok(())
 }
 
 /// One more commit. The only error is that memory was refused.
@@ -26,17 +42,12 @@ fn add_commit<S: Placed>(
     commits: &mut Commits<S::Op>,
     item: &Item<S::Op>,
 ) -> Result<(), OutOfMemory>
-    ensures { OnOk result ((q : ℕ) → at q commits.new.entries
-        ≡ with_commit S.place_of item.now q (at q commits.old.entries)) }
+    ensures { OnOk result ((q : ℕ) → at q commits.new.items
+        ≡ with_commit S.place_of item.now q (at q commits.old.items)) }
 {
-    let place = S::place(&item.op);
-    if let Some(done) = commits.get_mut(&place) {
-        return done.push(*item);
-    }
-    let mut done = Items::new(alloc);
-    done.push(*item)?;
-    commits.insert(place, done)?;
-    Ok(())
+    let place = usize::from(S::place(&item.op));
+    make_lists(alloc, commits, place)?;
+    commits[place].push(*item)
 }
 
 /// Commits of all these items. The only error is that memory was refused.
@@ -45,8 +56,8 @@ pub fn add_commits<S: Placed>(
     commits: &mut Commits<S::Op>,
     items: &[Item<S::Op>],
 ) -> Result<(), OutOfMemory>
-    ensures { OnOk result ((q : ℕ) → at q commits.new.entries
-        ≡ at q commits.old.entries ++ items_at S.place_of q items.now) }
+    ensures { OnOk result ((q : ℕ) → at q commits.new.items
+        ≡ at q commits.old.items ++ items_at S.place_of q items.now) }
 {
     for item in items {
         add_commit::<S>(alloc, commits, item)?;
@@ -72,15 +83,15 @@ fn let_all_pass<S: Parted>(own: &Own<S>, done: &[Item<S::Op>], from: usize) -> b
 /// transaction has not seen. It asks the movers of no others.
 pub fn passes_unseen<S: Parted>(it: &OpenTx<Own<S>>, commits: &Commits<S::Op>, op: &S::Op) -> bool
     ensures yes { IsTrue result → LetAllPass S.object S.place_of it.now.own
-        (unseen_at (S.place_of op.now) commits.now.entries it.now.seen.entries) }
+        (unseen_at (S.place_of op.now) commits.now.items it.now.seen.entries) }
     ensures no { result ≡ false → StopsOne S.object S.place_of it.now.own
-        (unseen_at (S.place_of op.now) commits.now.entries it.now.seen.entries) }
+        (unseen_at (S.place_of op.now) commits.now.items it.now.seen.entries) }
 {
     let place = S::place(op);
     let Some(seen) = it.seen.get(place) else {
         return true;
     };
-    let Some(done) = commits.get(&place) else {
+    let Some(done) = commits.get(usize::from(place)) else {
         return true;
     };
     let_all_pass::<S>(&it.own, done.as_slice(), seen)

@@ -1,5 +1,7 @@
 //! An op record.
 ghost use Rattle.std.specs.Prelude.{◌≡◌, ◌+◌, ◌<◌, ◌≤◌, OnOk, Some, false, IsTrue};
+ghost use Rattle.std.specs.Str.{bytes_eq};
+ghost use Rattle.indexmap.specs.IndexMap.{index_of_by};
 ghost use Rattle.pp_front.specs.Records.{Op};
 ghost use Rattle.pp_quick.specs.Held.{IsOpAsked};
 ghost use Rattle.pp_quick.specs.Moving.{IsGood, Moves};
@@ -28,7 +30,7 @@ pub fn may_do<S: Parted>(
     ensures yes { IsTrue result → IsGood S.object S.place_of parts.now (Op tx.now id op.now) }
     ensures no { result ≡ false → IsGood S.object S.place_of parts.now (Op tx.now id op.now) → ⊥ }
 {
-    if parts.ids.contains(&id) {
+    if parts.ids.contains(id) {
         return false;
     }
     if !it.walk.can(&S::call(op)) {
@@ -43,15 +45,18 @@ pub fn may_do<S: Parted>(
     parts.shared.legal(op)
 }
 
-/// The operation stands behind the shared log. The only error is that memory was refused.
+/// The operation of the transaction whose slot is at a position stands behind the shared log. The
+/// only error is that memory was refused.
 pub fn push<S: Parted, L: Ledger>(
     parts: &mut Parts<S::Shape, S::Op, Shared<S>, Own<S>>,
+    position: usize,
     tx: &Name,
     id: u32,
     op: &S::Op,
     ticks: &mut Ticks<L>,
 ) -> Result<(), OutOfMemory>
     requires holds { Holds S.object S.place_of parts.old }
+    requires position { index_of_by (bytes_eq tx.now) parts.old.slots ≡ Some position }
     requires good { IsGood S.object S.place_of parts.old (Op tx.now id op.now) }
     requires asked { IsOpAsked S.object parts.old.shape op.now }
     requires few { parts.old.count < 200_000 }
@@ -61,7 +66,7 @@ pub fn push<S: Parted, L: Ledger>(
     ensures rises { ticks.old ≤ ticks.new }
     ensures bound { ticks.new ≤ ticks.old + 1 }
 {
-    let Some(slot) = parts.slots.get_mut(tx) else {
+    let Some(slot) = parts.slots.get_index_mut(position) else {
         unreachable!()
     };
     let Some(it) = slot.as_mut() else {

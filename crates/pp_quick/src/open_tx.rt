@@ -56,7 +56,7 @@ pub fn add_operation<S: Parted>(
     item: Item<S::Op>,
 ) -> Result<(), OutOfMemory>
     requires { MayTake it.old.walk (S.object.call item.op) }
-    ensures { OnOk result (IsGrown S.object S.place_of commits.now.entries it.old item it.new) }
+    ensures { OnOk result (IsGrown S.object S.place_of commits.now.items it.old item it.new) }
 {
     it.walk.follow(&S::call(&item.op))?;
     it.own.add(item)?;

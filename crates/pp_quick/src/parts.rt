@@ -1,9 +1,10 @@
 //! What a `Quick` keeps.
 use crate::seen::Seen;
 use crate::slots::Slots;
-use indexmap::{IndexMap, IndexSet};
+use indexmap::IndexSet;
 use pp_body::Walk;
 use pp_core::{Committed, Items, Name};
+use pp_ids::IdSet;
 use std::alloc::Global;
 
 /// An open transaction: its own operations, of the type `W`, how far they have come in its body,
@@ -16,8 +17,9 @@ pub struct OpenTx<W> {
     pub seen: Seen,
 }
 
-/// The operations that were committed behind the start, place by place, in commit order.
-pub type Commits<O> = IndexMap<u16, Items<O>>;
+/// The operations that were committed behind the start: at the position of each place, those there
+/// in commit order.
+pub type Commits<O> = Vec<Items<O>>;
 
 /// All that a `Quick` keeps. The shared log is of the type `T`, own operations are of the type `W`.
 #[derive(Drop)]
@@ -28,7 +30,7 @@ pub struct Parts<H, O: Copy, T, W> {
     pub slots: Slots<OpenTx<W>>,
     /// The threads of the open transactions.
     pub threads: IndexSet<Name>,
-    pub ids: IndexSet<u32>,
+    pub ids: IdSet,
     pub shared: T,
     pub committed: Committed<O>,
     pub commits: Commits<O>,

@@ -15,6 +15,7 @@ use crate::{start, take};
 use indexmap::{IndexMap, IndexSet};
 use pp_core::{Committed, Items, Name, OutOfMemory, Ticks};
 use pp_front::RunRecord;
+use pp_ids::IdSet;
 use pp_parts::Parted;
 use pp_shared::Shared;
 use std::alloc::Global;
@@ -60,10 +61,10 @@ impl<S: Parted> Quick<S> {
             shape,
             slots: IndexMap::new(alloc),
             threads: IndexSet::new(alloc),
-            ids: IndexSet::new(alloc),
+            ids: IdSet::new(alloc),
             shared,
             committed: Committed::new(alloc),
-            commits: IndexMap::new(alloc),
+            commits: Vec::new(alloc),
             count: 0,
         };
         let parts = Box::new(alloc, parts)?;

@@ -12,8 +12,8 @@ ghost use Rattle.pp_spec.specs.Object.{rules_of};
 use crate::own::Own;
 use crate::parts::Parts;
 use crate::slots::put_new;
-use indexmap::IndexSet;
 use pp_core::{CommittedTx, Item, Items, Name, OutOfMemory, SharedEntry, Ticks};
+use pp_ids::IdSet;
 use pp_parts::Parted;
 use pp_shared::Shared;
 use std::alloc::Global;
@@ -21,21 +21,18 @@ use std::sync::ledger::Ledger;
 
 /// The ids of the items, the last first, unless one of them stands twice. The only error is that
 /// memory was refused.
-fn distinct_ids<O: Copy>(
-    alloc: Global,
-    items: &[Item<O>],
-) -> Result<Option<IndexSet<u32>>, OutOfMemory>
+fn distinct_ids<O: Copy>(alloc: Global, items: &[Item<O>]) -> Result<Option<IdSet>, OutOfMemory>
     ensures ids { IfOk result (λ r. IfSome r (λ ids.
-        reverse ids.keys ≡ map (λ p. p.id) items.now)) }
+        reverse ids ≡ map (λ p. p.id) items.now)) }
     ensures some { IfOk result (λ r. IfSome r (λ _. HasDistinctIds items.now)) }
     ensures none { IfOk result (λ r. IfNone r (HasDistinctIds items.now → ⊥)) }
 {
-    let mut ids = IndexSet::new(alloc);
+    let mut ids = IdSet::new(alloc);
     let mut left = items.len();
     while left > 0 {
         left -= 1;
         let item = &items[left];
-        if ids.contains(&item.id) {
+        if ids.contains(item.id) {
             return Ok(None);
         }
         ids.insert(item.id)?;
@@ -92,7 +89,7 @@ fn put_start<S: Parted>(
     parts: &mut Parts<S::Shape, S::Op, Shared<S>, Own<S>>,
     tx: &Name,
     items: &Items<S::Op>,
-    ids: IndexSet<u32>,
+    ids: IdSet,
     shared: Shared<S>,
 ) -> Result<(), OutOfMemory>
     requires holds { Holds S.object S.place_of parts.old }
@@ -100,7 +97,7 @@ fn put_start<S: Parted>(
     requires few { length items.now ≤ 256 }
     requires meets { StartMeets (rules_of S.object parts.old.shape)
         (Some (start_of tx.now items.now)) }
-    requires ids { reverse ids.keys ≡ map (λ p. p.id) items.now }
+    requires ids { reverse ids ≡ map (λ p. p.id) items.now }
     requires log { shared ≡ (parts.old.shape, posted tx.now items.now) }
     ensures { OnOk result
         (HasStarted S.object S.place_of parts.old (start_of tx.now items.now) parts.new) }

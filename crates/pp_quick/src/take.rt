@@ -64,13 +64,13 @@ fn take_op<S: Parted, L: Ledger>(
     ensures rises { ticks.old ≤ ticks.new }
     ensures bound { ticks.new ≤ ticks.old + 1 }
 {
-    let Some(it) = find(&parts.slots, tx) else {
+    let Some((position, it)) = find(&parts.slots, tx) else {
         return Ok(false);
     };
     if !may_do(parts, it, tx, id, op) {
         return Ok(false);
     }
-    push(parts, tx, id, op, ticks)?;
+    push(parts, position, tx, id, op, ticks)?;
     Ok(true)
 }
 
@@ -84,13 +84,13 @@ fn take_commit<S: Parted>(
     ensures { IfOk result (λ good. Answers S.object S.place_of parts.old (Commit tx.now) good
         parts.new) }
 {
-    let Some(it) = find(&parts.slots, tx) else {
+    let Some((position, it)) = find(&parts.slots, tx) else {
         return Ok(false);
     };
     if !it.walk.complete() {
         return Ok(false);
     }
-    commit(parts, tx)?;
+    commit(parts, position, tx)?;
     Ok(true)
 }
 

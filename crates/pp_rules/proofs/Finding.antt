@@ -2,7 +2,7 @@
 use Rattle.std.proofs.Common.{◌≡◌, ◌≢◌, ◌-◌, drop, filter, Bor, is_some, ◌==◌, ◌↔◌, IsTrue, ℕ, zero}
 use Rattle.std.proofs.Common.{suc, ◌<◌, ◌≤◌, ◌+◌, Bool, true, false, cond, not, ◌||◌, ◌&&◌, List}
 use Rattle.std.proofs.Common.{[], ◌∷◌, ◌++◌, map, take, length, get_or, Option, Some, None}
-use Rattle.std.proofs.Common.{option_map, add-one, IsSome, position, nat_lt, find}
+use Rattle.std.proofs.Common.{option_map, add-one, position, nat_lt, find}
 use Rattle.std.proofs.Common.{slice_get, reverse, refl, sym, ◌∙◌, ap, subst, arith, inl, inr}
 use Rattle.std.specs.List.{list_any, position_or_len, remove}
 use Rattle.std.proofs.lemmas.Bool.{ltb-false, eqb-true, eq-eqb, false_from_ne_true}

@@ -29,7 +29,6 @@ use Rattle.pp_model.proofs.Steps.{there_holds}
 use Rattle.pp_model.proofs.Push.{ops_marked}
 use Rattle.pp_model.proofs.Commit.{ops_committed}
 use Rattle.pp_spec.specs.Object.{Object, AllRanged, IsAllowed, rules_of}
-use Rattle.indexmap.specs.IndexSet.{insert_key}
 use Rattle.pp_log.proofs.Lists.{stands_in}
 use Rattle.pp_rules.specs.Courses.{FollowsIfOwn, Guided}
 use Rattle.pp_rules.specs.Machines.{Holds, IsFine, Seen, config_of, stepped, tx_of}
@@ -185,11 +184,10 @@ module _ {Shape State Op Undo : Type 0} (o : Object Shape State Op Undo) (shape 
   begin_idle t p b f = false_from_ne_true (is_busy v p) (λ k. let x = busy_in v p (sym k) in (lower (Begin t p b) 0 f).1.0 x.0 x.1 x.2)
 
   -- APP
-  pub ids_more : (t : Name) (id : ℕ) (op : Op) (ks : List ℕ) → Meets (rules_of o w.shape) w.config (App t id op) → ks ≡ insert_key (λ a b. a == b) ids id → ks ≡ ids ++ id ∷ []
-  ids_more t id op ks f i =
+  pub id_unused : (t : Name) (id : ℕ) (op : Op) → Meets (rules_of o w.shape) w.config (App t id op) → list_any (λ j. id == j) ids ≡ false
+  id_unused t id op f =
       let k = there_holds (tx t (map tx_of v.opened)) _ (lower (App t id op) 0 f) in
-      let u : list_any (λ j. id == j) ids ≡ false = false_from_ne_true (list_any (λ j. id == j) ids) (λ m. k.2.0 (used_in ids id (sym m))) in
-      i ∙ ap (λ (b : Bool). cond b ids (ids ++ id ∷ [])) u
+      false_from_ne_true (list_any (λ j. id == j) ids) (λ m. k.2.0 (used_in ids id (sym m)))
 
   app_is : (t : Name) (id : ℕ) (op : Op) (u : Txs Shape Op) (js : List ℕ) → u ≡ with_log t (λ l. l ++ record { id = id; owner = t; mark = Unpushed; op = op } ∷ []) v → js ≡ ids ++ id ∷ [] → config_of u js G.1 F ≡ then (config_of v ids G.1 F) (App t id op)
   app_is t id op u js e i =

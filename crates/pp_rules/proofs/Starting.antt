@@ -1,15 +1,14 @@
 -- What the parts of the start of a machine answer, and what shows that a criterion of the start is false.
-use Rattle.std.proofs.Common.{◌≡◌, ◌==◌, ◌<◌, ◌≤◌, ℕ, zero, suc, ◌+◌, Bool, true, false, cond, List}
+use Rattle.std.proofs.Common.{◌≡◌, ◌==◌, ◌<◌, ℕ, zero, suc, ◌+◌, Bool, true, false, cond, List}
 use Rattle.std.proofs.Common.{[], ◌∷◌, ◌++◌, map, take, drop, length, get_or, reverse, position}
 use Rattle.std.proofs.Common.{None, Some, Result, Ok, Err, IsTrue, refl, sym, ap, subst, ◌∙◌}
 use Rattle.std.proofs.Common.{◌⊎◌, append_assoc, arith, inl, inr}
 use Rattle.std.specs.List.{All, list_any}
 use Rattle.std.proofs.lemmas.Bool.{eqb-true, eq-eqb, false_from_ne_true}
-use Rattle.std.proofs.lemmas.List.{append-nil, drop_all, drop_more, length-map, length-take-le}
+use Rattle.std.proofs.lemmas.List.{append-nil, drop_more}
 use Rattle.std.proofs.lemmas.List.{map-append, take_more}
 use Rattle.std.proofs.lemmas.List.Elements.{All-get_or}
 use Rattle.std.proofs.lemmas.Option.{get_or_from_slice_get}
-use Rattle.indexmap.specs.IndexSet.{insert_key}
 use Rattle.pp_core.specs.declared.answer.Answer.{Answer}
 use Rattle.pp_core.specs.declared.entry.Item.{Item}
 use Rattle.pp_core.specs.declared.entry.SharedEntry.{SharedEntry}
@@ -119,13 +118,16 @@ module _ {Op : Type 0} (items : List (Item Op)) (k : ℕ) (p : Item Op) (lt : k 
   later : (q : Item Op) → In q (drop (k + 1) items) → Before p q items
   later q i = subst (λ (w : List (Item Op)). Before p q w) (sym (cut_there items k p lt is)) (before_right p q (take k items) (p ∷ drop (k + 1) items) (inl (refl, i)))
 
-  -- the ids from this place on, of which the first is the last that is used
-  pub ids_back : HasDistinctIds items → (ks js : List ℕ) → reverse ks ≡ map (λ q. q.id) (drop (k + 1) items) → js ≡ insert_key (λ a b. a == b) ks p.id → reverse js ≡ map (λ q. q.id) (drop k items)
-  ids_back d ks js h i =
-      let u : list_any (λ j. p.id == j) ks ≡ false = false_from_ne_true (list_any (λ j. p.id == j) ks) (λ t.
+  -- the id here is none of those that stand behind it
+  pub differs_from_later : HasDistinctIds items → (ks : List ℕ) → reverse ks ≡ map (λ q. q.id) (drop (k + 1) items) → list_any (λ j. p.id == j) ks ≡ false
+  differs_from_later d ks h = false_from_ne_true (list_any (λ j. p.id == j) ks) (λ t.
       let m = from_map (λ (q : Item Op). q.id) p.id (drop (k + 1) items) (subst (λ (w : List ℕ). In p.id w) h (used_in ks p.id (sym t))) in
-      d p m.0 (later m.0 m.1) m.2) in
-      ap reverse (i ∙ ap (λ (b : Bool). cond b ks (ks ++ p.id ∷ [])) u)
+      d p m.0 (later m.0 m.1) m.2)
+
+  -- the ids from this place on, of which the first is the last that is used
+  pub ids_back : (ks js : List ℕ) → reverse ks ≡ map (λ q. q.id) (drop (k + 1) items) → js ≡ ks ++ p.id ∷ [] → reverse js ≡ map (λ q. q.id) (drop k items)
+  ids_back ks js h i =
+      ap reverse i
       ∙ reverse_more ks p.id
       ∙ ap (λ (w : List ℕ). p.id ∷ w) h
       ∙ sym (ap (λ (w : List (Item Op)). map (λ q. q.id) w) left)

@@ -1,6 +1,6 @@
 -- What the steps that undo leave behind: UNAPP, UNPUSH and UNPULL.
 use Rattle.std.proofs.Common.{◌≡◌, ◌==◌, ◌<◌, ◌≤◌, ◌+◌, ◌*◌, ◌-◌, ℕ, List, map, length, Option}
-use Rattle.std.proofs.Common.{Some, Result, option_map, position, slice_get, Ok, Err, refl, sym, ap, subst, ◌∙◌}
+use Rattle.std.proofs.Common.{Some, option_map, position, slice_get, Ok, Err, refl, sym, ap, subst, ◌∙◌}
 use Rattle.std.proofs.Common.{arith}
 use Rattle.std.specs.List.{remove}
 use Rattle.std.proofs.lemmas.Bool.{eqb-true}
@@ -12,7 +12,6 @@ use Rattle.pp_core.specs.declared.entry.SharedEntry.{SharedEntry}
 use Rattle.pp_model.specs.Config.{Tx, Unpush, Unpull, Unpushed, Pushed, Pulled, at_mark, but_last}
 use Rattle.pp_model.specs.Config.{item, local_ops, set_mark, shared_item, shared_ops, tx}
 use Rattle.pp_model.specs.Config.{without_local, without_shared}
-use Rattle.pp_model.specs.Body.{Tree}
 use Rattle.pp_model.specs.Lists.{Before}
 use Rattle.pp_model.specs.Names.{Name}
 use Rattle.pp_model.specs.Rules.{Breaks, Meets}
@@ -28,16 +27,15 @@ use Rattle.pp_rules.specs.declared.detail.Detail.{Detail}
 use Rattle.pp_rules.specs.declared.detail.Detail.TheVariants.{Nothing, Gives}
 use Rattle.pp_rules.specs.Machines.{Holds, Seen, config_of, tx_of}
 use Rattle.pp_rules.specs.Judges.{FindsPushed, IsLastAt}
-use Rattle.pp_rules.specs.Courses.{Guided}
-use Rattle.pp_rules.specs.Removals.{CostsAt, CostsRemoval, RemovesAt}
+use Rattle.pp_rules.specs.Removals.{CostsAt, RemovesAt}
 use Rattle.pp_rules.specs.Transactions.{MayLeave, Open, Txs, open_at, open_of, with_course}
 use Rattle.pp_rules.proofs.Acting.{with_log}
 use Rattle.pp_rules.proofs.Finding.{placed, slice_within}
 use Rattle.pp_rules.proofs.Judged.{HasEntry}
 use Rattle.pp_rules.proofs.Judging.{unpush_4, unpush_shown, unpush_0, unpull_3, unpull_shown}
 use Rattle.pp_rules.proofs.Judging.{unpull_0}
-use Rattle.pp_rules.proofs.Keeping.{course_same, of_course, posted_at, relogged_is, unpulled}
-use Rattle.pp_rules.proofs.Opened.{HasCourse, HasLog, logged, opened}
+use Rattle.pp_rules.proofs.Keeping.{course_same, posted_at, relogged_is, unpulled}
+use Rattle.pp_rules.proofs.Opened.{HasLog, logged, opened}
 use Rattle.pp_rules.proofs.Removing.{differs_not, from_id_some, from_place_is, from_place_last}
 use Rattle.pp_rules.proofs.Removing.{last_removed, never_differs}
 use Rattle.pp_rules.proofs.Showing.{differing_shown}

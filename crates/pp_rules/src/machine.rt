@@ -26,8 +26,8 @@ mod unpush;
 
 use crate::detail::{Detail, Refusal};
 use crate::transactions::{OpenTx, Transactions};
-use indexmap::IndexSet;
 use pp_core::{Committed, Name, OutOfMemory, Step, Ticks};
+use pp_ids::IdSet;
 use pp_local::Local;
 use pp_parts::Parted;
 use pp_shared::Shared;
@@ -58,7 +58,7 @@ struct Parts<S: Parted> {
     alloc: Global,
     shape: S::Shape,
     transactions: Transactions<S>,
-    ids: IndexSet<u32>,
+    ids: IdSet,
     shared: Shared<S>,
     committed: Committed<S::Op>,
     count: u32,
@@ -82,12 +82,12 @@ impl<S: Parted> Model for Machine<S> {
 
     ghost view = { λ a. let p = a.parts.value in record {
       shape = p.shape;
-      config = config_of p.transactions p.ids.keys p.shared.1 p.committed;
+      config = config_of p.transactions p.ids p.shared.1 p.committed;
       count = p.count;
     } };
 
     ghost invariant = { λ a. let p = a.parts.value in
-        Holds S.object p.shape p.transactions p.ids.keys p.shared p.committed p.count };
+        Holds S.object p.shape p.transactions p.ids p.shared p.committed p.count };
 }
 
 impl<S: Parted> Machine<S> {
@@ -100,7 +100,7 @@ impl<S: Parted> Machine<S> {
             alloc,
             shape,
             transactions: Transactions::new(alloc),
-            ids: IndexSet::new(alloc),
+            ids: IdSet::new(alloc),
             shared,
             committed: Committed::new(alloc),
             count: 0,

@@ -61,7 +61,7 @@ impl<S: Parted> Machine<S> {
     {
         let parts = &mut *self.parts;
         // Looked up first: while the course is lent, this can not be asked.
-        let used = parts.ids.contains(&id);
+        let used = parts.ids.contains(id);
         let Some(course) = parts.transactions.course_mut(tx) else {
             return Ok((self, refused(bare(1))));
         };

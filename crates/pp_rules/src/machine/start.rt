@@ -12,8 +12,8 @@ ghost use Rattle.pp_rules.specs.Starts.{first_repeated, has_id, start_of};
 
 use crate::detail::{Detail, Judged, told};
 use crate::machine::{Machine, Outcome, refused};
-use indexmap::IndexSet;
 use pp_core::{CommittedTx, Item, Items, Name, OutOfMemory, SharedEntry, Ticks};
+use pp_ids::IdSet;
 use pp_parts::Parted;
 use pp_shared::Shared;
 use std::alloc::Global;
@@ -76,11 +76,11 @@ fn posted<S: Parted, L: Ledger>(
 }
 
 /// The ids of the items, the last first.
-fn used_ids<O: Copy>(alloc: Global, items: &[Item<O>]) -> Result<IndexSet<u32>, OutOfMemory>
+fn used_ids<O: Copy>(alloc: Global, items: &[Item<O>]) -> Result<IdSet, OutOfMemory>
     requires { HasDistinctIds items.now }
-    ensures { IfOk result (λ ids. reverse ids.keys ≡ map (λ p. p.id) items.now) }
+    ensures { IfOk result (λ ids. reverse ids ≡ map (λ p. p.id) items.now) }
 {
-    let mut ids = IndexSet::new(alloc);
+    let mut ids = IdSet::new(alloc);
     let mut left = items.len();
     while left > 0 {
         left -= 1;

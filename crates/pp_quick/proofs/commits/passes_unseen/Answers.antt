@@ -1,4 +1,6 @@
-use Rattle.std.proofs.Common.{ap, ◌∙◌, sym, subst, drop}
+use Rattle.std.proofs.Common.{◌≡◌, ◌<◌, ap, ◌∙◌, sym, subst, drop, length, refl, arith, Some}
+use Rattle.std.specs.List.{slice_get}
+use Rattle.std.proofs.lemmas.Option.{slice_get_read}
 use Rattle.pp_quick.specs.Passing.{StopsOne}
 use Rattle.pp_quick.specs.Shown.{unseen_at}
 use Rattle.pp_quick.proofs.Passing.{unseen_is}
@@ -7,6 +9,14 @@ use Rattle.pp_quick.proofs.commits.passes_unseen.Goals as goal
 pub returns-clause-no : goal.returns-clause-no
 returns-clause-no g c = λ h.
     let q = c.place-place.result in
-    let is = unseen_is q c.args.commits.now.entries c.args.it.now.seen.entries c.in-Some.seen c.in-Some-get.done.now (sym c.in-Some.ensures) (sym c.in-Some-get.ensures.value) in
-    subst (λ r. StopsOne g.S.Spec.object g.S.Placed.place_of c.args.it.now.own r) (sym is ∙ ap (λ r. unseen_at r c.args.commits.now.entries c.args.it.now.seen.entries) c.place-place.ensures)
+    let lists = c.deref.result.now in
+    let done = c.in-Some-get.done.now in
+    let found = c.in-Some-get.ensures.lookup in
+    let i = c.from.result in
+    let within : i < length lists = omega arith in
+    let read = slice_get_read lists (length lists) i done refl within found.1 in
+    let there : slice_get c.args.commits.now.items q ≡ Some done =
+    subst (λ n. slice_get c.args.commits.now.items n ≡ Some done) c.from.ensures (subst (λ r. slice_get r i ≡ Some done) c.deref.ensures.value read) in
+    let is = unseen_is q c.args.commits.now.items c.args.it.now.seen.entries c.in-Some.seen done (sym c.in-Some.ensures) there in
+    subst (λ r. StopsOne g.S.Spec.object g.S.Placed.place_of c.args.it.now.own r) (sym is ∙ ap (λ r. unseen_at r c.args.commits.now.items c.args.it.now.seen.entries) c.place-place.ensures)
     (subst (λ r. StopsOne g.S.Spec.object g.S.Placed.place_of c.args.it.now.own (drop c.in-Some.seen r)) c.as_slice.ensures (c.let_all_pass.ensures.no h))

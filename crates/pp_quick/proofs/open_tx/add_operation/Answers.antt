@@ -6,7 +6,7 @@ use Rattle.pp_quick.proofs.open_tx.add_operation.Goals as goal
 
 pub returns : goal.returns
 returns g c =
-    let commits = c.args.commits.now.entries in
+    let commits = c.args.commits.now.items in
     let seen = c.args.it.now.seen.entries in
     record {
       thread = refl;

@@ -6,7 +6,7 @@ use Rattle.pp_quick.proofs.start.distinct_ids.Given as goal
 abbrev pub invariant-loop-left : goal.invariant-loop-left
 invariant-loop-left g l = record {
   within : l.left ≤ length l.items;
-  keys : reverse l.ids.keys ≡ map (λ p. p.id) (drop l.left l.items);
+  ids : reverse l.ids ≡ map (λ p. p.id) (drop l.left l.items);
   distinct : HasDistinctIds (drop l.left l.items);
 }
 

@@ -10,7 +10,7 @@ pub returns-in_default-clause-answers : goal.returns-in_default-clause-answers
 returns-in_default-clause-answers g c =
     let apart = apart_of g.S.Spec.object g.S.Placed.place_of g.S.Placed.SameAt g.met.S.Placed.placed in (
       (λ k. not_open g.S.Spec.object g.S.Placed.place_of apart c.args.parts.now c.requires.holds c.args.tx.now
-          (BriefGoodOp (rules_of g.S.Spec.object c.args.parts.now.shape) g.S.Placed.place_of (shown g.S.Placed.place_of c.args.parts.now) c.args.id c.args.op.now) (sym c.in_default.ensures) k),
+          (BriefGoodOp (rules_of g.S.Spec.object c.args.parts.now.shape) g.S.Placed.place_of (shown g.S.Placed.place_of c.args.parts.now) c.args.id c.args.op.now) (sym c.in_default.ensures.found) k),
       refl,
     )
 

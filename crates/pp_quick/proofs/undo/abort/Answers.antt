@@ -23,7 +23,7 @@ taken_back-requires g c =
     subst (λ s. MayLeave g.S.Spec.object s c.as_slice.result.now c.args.parts.shared.1) (sym c.requires.holds.same_shape)
     (subst (λ l. MayLeave g.S.Spec.object c.args.parts.shape l c.args.parts.shared.1) (sym c.as_slice.ensures)
     (may_leave g.S.Spec.object g.S.Placed.place_of apart c.args.parts.shape (shown g.S.Placed.place_of c.args.parts) c.requires.holds.short c.args.tx.now
-    (shown_tx g.S.Placed.place_of c.args.parts.shared.1 c.args.parts.commits.entries c.args.tx.now c.in-Some.it)
+    (shown_tx g.S.Placed.place_of c.args.parts.shared.1 c.args.parts.commits.items c.args.tx.now c.in-Some.it)
     (open_there g.S.Spec.object g.S.Placed.place_of apart c.args.parts c.requires.holds c.args.tx.now c.in-Some.it (sym c.in-Some.ensures.found))))
 
 pub returns-in_err-shared-clause-bound : goal.returns-in_err-shared-clause-bound

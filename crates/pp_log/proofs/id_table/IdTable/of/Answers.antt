@@ -14,10 +14,9 @@ each-preserved c = λ once.
     let table = table_same c.each.table c.reserve.new.self (take i ids) (c.each.invariant once) c.in_ok-reserve.ensures.same in
     subst (IsTableOf c.push.new.self) (sym (take_more ids i 0 within)) (c.push.ensures (take i ids) table fresh)
 
-pub returns-clause-of : goal.returns-clause-of
-returns-clause-of c = λ once.
+pub returns : goal.returns
+returns c = λ once.
     let ids = c.args.ids.now in
     let i = c.each.id-index in
     let past : length ids ≤ i = omega arith in
-    let all = subst (IsTableOf c.each.table) (take_all i ids past) (c.each.invariant once) in
-    table_same c.each.table c.reserve-2.new.self ids all c.in_ok-reserve-2.ensures.same
+    subst (IsTableOf c.each.table) (take_all i ids past) (c.each.invariant once)

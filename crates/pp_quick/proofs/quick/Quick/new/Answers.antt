@@ -9,7 +9,7 @@ pub invariant_of-result : goal.invariant_of-result
 invariant_of-result g c =
     let apart = apart_of g.S.Spec.object g.S.Placed.place_of g.S.Placed.SameAt g.met.S.Placed.placed in
     subst (λ z. Holds g.S.Spec.object g.S.Placed.place_of z) (sym c.in_ok-parts.ensures.ok)
-    (fresh_holds g.S.Spec.object g.S.Placed.place_of apart _ c.new-2.ensures.empty c.new-3.ensures.empty c.new-4.ensures.empty c.in_ok-shared.ensures c.new-5.ensures c.new-6.ensures.empty)
+    (fresh_holds g.S.Spec.object g.S.Placed.place_of apart _ c.new-2.ensures.empty c.new-3.ensures.empty c.new-4.ensures c.in_ok-shared.ensures c.new-5.ensures c.new-6.ensures.items)
 
 pub returns : goal.returns
 returns g c =
@@ -26,4 +26,4 @@ returns g c =
       count = 0;
     } in
     ap (λ z. record { shape = z.shape; brief = shown g.S.Placed.place_of z; count = z.count }) c.in_ok-parts.ensures.ok
-    ∙ same_held _ _ _ _ _ _ refl (fresh_shown g.S.Spec.object g.S.Placed.place_of apart v c.new-2.ensures.empty c.new-3.ensures.empty c.new-4.ensures.empty c.in_ok-shared.ensures c.new-5.ensures c.new-6.ensures.empty) refl
+    ∙ same_held _ _ _ _ _ _ refl (fresh_shown g.S.Spec.object g.S.Placed.place_of apart v c.new-2.ensures.empty c.new-3.ensures.empty c.new-4.ensures c.in_ok-shared.ensures c.new-5.ensures c.new-6.ensures.items) refl

@@ -7,4 +7,4 @@ use Rattle.pp_rules.proofs.machine.Machine.is_open.Goals as goal
 
 pub returns : goal.returns
 returns g c =
-    c.is_some.ensures ∙ some_copied c.local.result ∙ ap is_some c.local.ensures ∙ open_seen g.S.Spec.object c.deref.result.now.shape c.deref.result.now.transactions c.deref.result.now.ids.keys c.deref.result.now.shared c.deref.result.now.committed c.deref.result.now.count (lent_holds g.S.Spec.object c.deref.ensures c.self.invariant) c.args.tx.now ∙ ap (λ v. is_some (tx c.args.tx.now v.config.opened)) (lent_view c.deref.ensures c.self.view_is)
+    c.is_some.ensures ∙ some_copied c.local.result ∙ ap is_some c.local.ensures ∙ open_seen g.S.Spec.object c.deref.result.now.shape c.deref.result.now.transactions c.deref.result.now.ids c.deref.result.now.shared c.deref.result.now.committed c.deref.result.now.count (lent_holds g.S.Spec.object c.deref.ensures c.self.invariant) c.args.tx.now ∙ ap (λ v. is_some (tx c.args.tx.now v.config.opened)) (lent_view c.deref.ensures c.self.view_is)

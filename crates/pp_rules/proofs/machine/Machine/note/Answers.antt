@@ -11,8 +11,8 @@ returns-in-Err g c =
 
 pub invariant_of-self : goal.invariant_of-self
 invariant_of-self g c =
-    holds_note g.S.Spec.object c.deref_mut.result.now.shape c.deref_mut.result.now.transactions c.deref_mut.result.now.ids.keys c.deref_mut.result.now.shared c.deref_mut.result.now.committed c.deref_mut.result.now.count _ (lent_view c.deref_mut.ensures.value c.self.view_is) (lent_holds g.S.Spec.object c.deref_mut.ensures.value c.self.invariant)
+    holds_note g.S.Spec.object c.deref_mut.result.now.shape c.deref_mut.result.now.transactions c.deref_mut.result.now.ids c.deref_mut.result.now.shared c.deref_mut.result.now.committed c.deref_mut.result.now.count _ (lent_view c.deref_mut.ensures.value c.self.view_is) (lent_holds g.S.Spec.object c.deref_mut.ensures.value c.self.invariant)
 
 pub returns : goal.returns
 returns g c =
-    (c.in_default.ensures.0, seen_note g.S.Spec.object c.deref_mut.result.now.shape c.deref_mut.result.now.transactions c.deref_mut.result.now.ids.keys c.deref_mut.result.now.shared c.deref_mut.result.now.committed c.deref_mut.result.now.count _ (lent_view c.deref_mut.ensures.value c.self.view_is) (lent_holds g.S.Spec.object c.deref_mut.ensures.value c.self.invariant) c.args.tx.now)
+    (c.in_default.ensures.0, seen_note g.S.Spec.object c.deref_mut.result.now.shape c.deref_mut.result.now.transactions c.deref_mut.result.now.ids c.deref_mut.result.now.shared c.deref_mut.result.now.committed c.deref_mut.result.now.count _ (lent_view c.deref_mut.ensures.value c.self.view_is) (lent_holds g.S.Spec.object c.deref_mut.ensures.value c.self.invariant) c.args.tx.now)

@@ -10,7 +10,7 @@ use Rattle.pp_rules.proofs.machine.Machine.unpush.Goals as goal
 
 pub returns-in_default-clause-effect : goal.returns-in_default-clause-effect
 returns-in_default-clause-effect g c =
-    refused_step g.S.Spec.object c.args.self _ (Unpush c.args.tx.now c.args.id) c.bare.result c.refused.result c.refused.ensures (unpush_1 g.S.Spec.object _ _ (lent_view c.deref-parts.ensures c.self.view_is) c.args.tx.now c.args.id (uncoursed g.S.Spec.object c.deref-parts.result.now.shape c.deref-parts.result.now.transactions c.deref-parts.result.now.ids.keys c.deref-parts.result.now.shared c.deref-parts.result.now.committed c.deref-parts.result.now.count (lent_holds g.S.Spec.object c.deref-parts.ensures c.self.invariant) c.args.tx.now c.in_default.ensures.course) c.bare.result c.bare.ensures) refl
+    refused_step g.S.Spec.object c.args.self _ (Unpush c.args.tx.now c.args.id) c.bare.result c.refused.result c.refused.ensures (unpush_1 g.S.Spec.object _ _ (lent_view c.deref-parts.ensures c.self.view_is) c.args.tx.now c.args.id (uncoursed g.S.Spec.object c.deref-parts.result.now.shape c.deref-parts.result.now.transactions c.deref-parts.result.now.ids c.deref-parts.result.now.shared c.deref-parts.result.now.committed c.deref-parts.result.now.count (lent_holds g.S.Spec.object c.deref-parts.ensures c.self.invariant) c.args.tx.now c.in_default.ensures.course) c.bare.result c.bare.ensures) refl
 
 pub returns-in_default-clause-cost : goal.returns-in_default-clause-cost
 returns-in_default-clause-cost g c =
@@ -18,7 +18,7 @@ returns-in_default-clause-cost g c =
 
 pub judge_unpush-requires : goal.judge_unpush-requires
 judge_unpush-requires g c =
-    (rest g.S.Spec.object c.deref-parts.result.now.shape c.deref-parts.result.now.transactions c.deref-parts.result.now.ids.keys c.deref-parts.result.now.shared c.deref-parts.result.now.committed c.deref-parts.result.now.count (lent_holds g.S.Spec.object c.deref-parts.ensures c.self.invariant), holds_local g.S.Spec.object c.deref-parts.result.now.shape c.deref-parts.result.now.transactions c.deref-parts.result.now.ids.keys c.deref-parts.result.now.shared c.deref-parts.result.now.committed c.deref-parts.result.now.count (lent_holds g.S.Spec.object c.deref-parts.ensures c.self.invariant) c.args.tx.now c.in-Some.course.now c.in-Some.ensures.course c.local.result.now c.local.ensures)
+    (rest g.S.Spec.object c.deref-parts.result.now.shape c.deref-parts.result.now.transactions c.deref-parts.result.now.ids c.deref-parts.result.now.shared c.deref-parts.result.now.committed c.deref-parts.result.now.count (lent_holds g.S.Spec.object c.deref-parts.ensures c.self.invariant), holds_local g.S.Spec.object c.deref-parts.result.now.shape c.deref-parts.result.now.transactions c.deref-parts.result.now.ids c.deref-parts.result.now.shared c.deref-parts.result.now.committed c.deref-parts.result.now.count (lent_holds g.S.Spec.object c.deref-parts.ensures c.self.invariant) c.args.tx.now c.in-Some.course.now c.in-Some.ensures.course c.local.result.now c.local.ensures)
 
 pub take_back-requires-clause-found : goal.take_back-requires-clause-found
 take_back-requires-clause-found g c =

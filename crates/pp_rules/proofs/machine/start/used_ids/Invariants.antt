@@ -5,7 +5,7 @@ use Rattle.pp_rules.proofs.machine.start.used_ids.Given as goal
 abbrev pub invariant-loop-left : goal.invariant-loop-left
 invariant-loop-left g l = record {
   within : l.left ≤ length l.items;
-  keys : reverse l.ids.keys ≡ map (λ p. p.id) (drop l.left l.items);
+  ids : reverse l.ids ≡ map (λ p. p.id) (drop l.left l.items);
 }
 
 abbrev pub decreases-loop-left : goal.decreases-loop-left
