@@ -87,6 +87,10 @@ impl Spec for Count {
         may_swap(a, b)
     }
 
+    fn kept_alike(_a: &CounterOp, _b: &CounterOp) -> bool {
+        true
+    }
+
     fn context(
         alloc: Global,
         a: &CounterOp,

@@ -16,7 +16,7 @@ use Rattle.pp_model.specs.Object.{Object}
 use Rattle.pp_object.specs.declared.act.Op.{Op}
 use Rattle.pp_object.specs.Objects.{place_of}
 use Rattle.pp_quick.specs.Brief.{Brief, brief_then}
-use Rattle.pp_quick.specs.Held.{Held, TakeCosts, take_most, take_ticks}
+use Rattle.pp_quick.specs.Held.{Held, TakeCosts, take_most}
 use Rattle.pp_quick.specs.Runs.{brief_after}
 use Rattle.pp_quick.specs.Sums.{AreTried, count_ops, records_most}
 use Rattle.pp_quick.proofs.Sums.{sum_law}
@@ -51,8 +51,8 @@ add_to s a b x = omega (arith, x)
 tried_next : (old now new s m t u n : ℕ) → now ≤ old + (s + m) → m + u ≤ n → t ≡ u → new ≤ now + t → new ≤ old + (s + n)
 tried_next old now new s m t u n x y e z = omega (arith, x, y, e, z)
 
-ops_next : (old now new a b t : ℕ) → old + a ≤ now → b ≤ a + t → new ≡ now + t → old + b ≤ new
-ops_next old now new a b t x y z = omega (arith, x, y, z)
+ops_next : (old now new a b : ℕ) → old + a ≤ now → now + b ≤ new + a → old + b ≤ new
+ops_next old now new a b x y = omega (arith, x, y)
 
 no_ops : (old now new a : ℕ) → old + a ≤ now → now ≤ new → old + 0 ≤ new
 no_ops old now new a x y = omega (arith, x, y)
@@ -187,11 +187,11 @@ module _ (sc : InputScan) (tally : Tally) (quick : Held (List Kind) Op) (line : 
   record_cost cost = subst (λ (s : InputScan). RecordsCostAtMost s old new) (sym (scan_next sc tally c.follows line other r read few)) (next_most cost)
 
   pub counts_good : (next : Held (List Kind) Op) → new ≤ now + take_most place_of quick.brief r → TakeCosts place_of quick.brief r true now new → Counts (scan_line sc line) (Running (with_record tally r) next) old new
-  counts_good next cost exact =
-      let more = (sum_law (object_of tally.header) place_of).least quick.brief (bare sc.records) r in
+  counts_good next cost good =
+      let more = (sum_law (object_of tally.header) place_of).least quick.brief (bare sc.records) r now new good in
       let same : count_ops (bare wider.records) ≡ count_ops (bare sc.records ++ r ∷ []) = ap (λ (l : List (RunRecord Op)). count_ops l) (bare_append sc.records (it ∷ [])) in
       let least : old + count_ops (bare wider.records) ≤ new =
-      subst (λ (n : ℕ). old + n ≤ new) (sym same) (ops_next old now new (count_ops (bare sc.records)) (count_ops (bare sc.records ++ r ∷ [])) (take_ticks place_of quick.brief r) counts.least more exact) in
+      subst (λ (n : ℕ). old + n ≤ new) (sym same) (ops_next old now new (count_ops (bare sc.records)) (count_ops (bare sc.records ++ r ∷ [])) counts.least more) in
       subst (λ (s : InputScan). Counts s (Running (with_record tally r) next) old new) (sym (scan_next sc tally c.follows line other r read few))
       (record { most = next_most cost; least = least })
 

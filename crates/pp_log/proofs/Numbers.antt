@@ -11,7 +11,6 @@ use Rattle.std.proofs.lemmas.List.Quantifiers.{all_pairs_push, all_pairs_remove}
 use borrow.Author.Tests.{lt-ltb}
 use Rattle.std.proofs.lemmas.Option.{slice_get_within}
 use Rattle.std.specs.Prelude.{Result, Ok, Err, MatchResult}
-use Rattle.std.specs.Map.{lookup}
 use Rattle.std.specs.Result.{result_ok}
 use Rattle.pp_ids.specs.Values.{Updates, value_of}
 use Rattle.pp_log.specs.declared.id_table.IdTable.{IdTable}

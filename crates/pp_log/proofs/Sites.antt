@@ -66,7 +66,7 @@ pub counted : {Op : Type 0} (items : List (Item Op)) (u v : List (Item Op)) (e :
 counted items u v e k is index = let size = ap length is ∙ length-append u (e ∷ v) in omega arith
 
 pub ticks_of : (removal : Removed) (n i k old new : ℕ) → n ≡ i + k → takes_out_ticks removal n i old new → removal_ticks removal k old new
-ticks_of Done n i k old new e h = omega arith
+ticks_of Done n i k old new e h = let most = h.1 in (h.0, omega arith, λ one. h.2 (omega (arith, e, one)))
 ticks_of (Differs id answer) n i k old new e h = let most = h.1 in (h.0, omega arith)
 
 -- the list that is left

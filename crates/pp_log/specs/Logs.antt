@@ -85,10 +85,11 @@ from_place place [] i = 1
 from_place place (a ∷ x) zero = length (filter (λ b. place b == place a) (a ∷ x))
 from_place place (a ∷ x) (suc i) = from_place place x i
 
--- How many ticks a removal takes where k operations of the place, the removed one counted, are
--- taken back.
+-- How many ticks a removal may take where k operations of the place, the removed one counted, stand
+-- from it to the end: where it is the last one, it alone is taken back.
 abbrev pub removal_ticks : Removed → ℕ → ℕ → ℕ → Type 0
-removal_ticks Done k old new = new + 1 ≡ old + 2 * k
+removal_ticks Done k old new =
+    (old ≤ new) × (new + 1 ≤ old + 2 * k) × (k ≡ 1 → new ≡ old + 1)
 removal_ticks (Differs id answer) k old new = (old ≤ new) × (new + 3 ≤ old + 4 * k)
 
 -- The ticks of the removal of the i-th operation, by its answer.

@@ -181,9 +181,9 @@ impl<S: Placed, T: Side<S::Op>> Log<S, T> {
         self.entries[i] = entry;
     }
 
-    /// Takes out the i-th entry: its place's later operations are taken back, and then applied
-    /// again without it. Where one of them differs, all is put back. The only error is that memory
-    /// was refused, and the log is then lost.
+    /// Takes out the i-th entry. Where its place's later operations let it pass, it alone is taken
+    /// back; else it is with them, and they are then applied again. Where one of them differs, all is
+    /// put back. The only error is that memory was refused, and the log is then lost.
     pub fn remove<L: Ledger>(
         self,
         i: usize,

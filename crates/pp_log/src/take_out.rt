@@ -1,8 +1,12 @@
 //! Taking an item out of its place.
-ghost use Rattle.std.specs.Prelude.{◌≡◌, ◌≢◌, ◌<◌, ◌≤◌, ◌+◌, ◌*◌, IfOk, IfSome, IfNone, length};
+ghost use Rattle.std.specs.Prelude.{◌≡◌, ◌≢◌, ◌<◌, ◌≤◌, ◌+◌, ◌*◌, IfOk, OnOk, IfSome, IfNone};
+ghost use Rattle.std.specs.Prelude.{IsTrue, drop, length};
 ghost use Rattle.pp_core.specs.declared.entry.Item.{Item as ItemOf};
 ghost use Rattle.pp_model.specs.Lists.{In};
-ghost use Rattle.pp_log.specs.TakesOut.{IsWhole, StandsAt, TakesOutOf, takes_out_ticks};
+ghost use Rattle.pp_model.specs.Object.{ops};
+ghost use Rattle.pp_spec.specs.Object.{LetsPass};
+ghost use Rattle.pp_log.specs.TakesOut.{IsWhole, PassesAll, StandsAt, TakesOutOf, takes_out_ticks};
+ghost use Rattle.pp_log.specs.declared.place.Removed.TheVariants.{Done};
 
 use crate::place::{Place, Removed};
 use crate::run::{rewind, unwind};
@@ -23,9 +27,68 @@ pub fn last_with<O: Copy>(items: &[Item<O>], id: u32) -> Option<usize>
     None
 }
 
-/// Takes the item that stands at `from` out of its place, and applies again those behind it. Where
-/// one differs, the place is as it was.
+/// Whether an operation lets each item from a position on pass. False says nothing.
+fn lets_pass<S: Spec>(op: &S::Op, items: &[Item<S::Op>], from: usize) -> bool
+    ensures { IsTrue result → LetsPass S.object op.now (ops (drop from items.now)) }
+{
+    for k in (from..items.len()).rev() {
+        let other = &items[k].op;
+        if !S::swaps(op, other) || !S::kept_alike(op, other) {
+            return false;
+        }
+    }
+    true
+}
+
+/// Takes the item that stands at `from` out of its place, as if it were the last one there, where
+/// it lets those behind it pass.
+fn pass_out<S: Spec, L: Ledger>(
+    place: &mut Place<S::Op, S::Undo>,
+    from: usize,
+    state: &mut S::State,
+    ticks: &mut Ticks<L>,
+) -> Result<(), OutOfMemory>
+    requires whole { (b : S.State) × IsWhole S.object b place.old state.old }
+    requires within { from < length place.old.items.items }
+    requires passing { PassesAll S.object place.old.items.items from }
+    ensures takes { OnOk result
+        (TakesOutOf S.object place.old state.old from place.new state.new Done) }
+    ensures cost { ticks.new ≡ ticks.old + 1 }
+{
+    let item = place.items.remove(from);
+    let undo = place.undos.remove(from);
+    S::undo(state, &item.op, undo, ticks)?;
+    Ok(())
+}
+
+/// Takes the item that stands at `from` out of its place. Where it does not let those behind it
+/// pass, these are taken back, and applied again without it; where one of them differs, the place
+/// is as it was.
 pub fn take_out<S: Spec, L: Ledger>(
+    place: &mut Place<S::Op, S::Undo>,
+    from: usize,
+    state: &mut S::State,
+    ticks: &mut Ticks<L>,
+) -> Result<Removed, OutOfMemory>
+    requires whole { (b : S.State) × IsWhole S.object b place.old state.old }
+    requires within { from < length place.old.items.items }
+    ensures takes { IfOk result (TakesOutOf S.object place.old state.old from place.new state.new) }
+    ensures cost { IfOk result (λ removed. takes_out_ticks removed (length place.old.items.items)
+        from ticks.old ticks.new) }
+    ensures rises { ticks.old ≤ ticks.new }
+    ensures bound { ticks.new + 3 + 4 * from ≤ ticks.old + 4 * length place.old.items.items }
+{
+    let op = place.items[from].op;
+    if lets_pass::<S>(&op, &place.items, from + 1) {
+        pass_out::<S, L>(place, from, state, ticks)?;
+        return Ok(Removed::Done);
+    }
+    replay::<S, L>(place, from, state, ticks)
+}
+
+/// Takes the item that stands at `from` out of its place, and those behind it back, which are then
+/// applied again. Where one differs, the place is as it was.
+fn replay<S: Spec, L: Ledger>(
     place: &mut Place<S::Op, S::Undo>,
     from: usize,
     state: &mut S::State,

@@ -102,6 +102,10 @@ impl Spec for KeyMap {
         may_swap(a, b)
     }
 
+    fn kept_alike(_a: &MapOp, _b: &MapOp) -> bool {
+        true
+    }
+
     fn context(alloc: Global, a: &MapOp, b: &MapOp) -> Result<Option<Context<MapOp>>, OutOfMemory> {
         if may_swap(a, b) {
             return Ok(None);

@@ -18,6 +18,12 @@ address_of (Read a v) = a
 address_of (Write a v) = a
 address_of (Cas a e n done) = a
 
+-- it writes whatever stands there
+abbrev pub is_write : MemOp → Bool
+is_write (Read a v) = false
+is_write (Write a v) = true
+is_write (Cas a e n done) = false
+
 -- whether this number may stand there before it, by its result
 abbrev pub Finds : MemOp → ℤ → Type 0
 Finds (Read a v) c = c ≡ v

@@ -116,6 +116,10 @@ impl Spec for Mem {
         may_swap(a, b)
     }
 
+    fn kept_alike(a: &MemOp, b: &MemOp) -> bool {
+        a.address() != b.address() || (!a.is_write() && !b.is_write())
+    }
+
     fn context(alloc: Global, a: &MemOp, b: &MemOp) -> Result<Option<Context<MemOp>>, OutOfMemory> {
         if may_swap(a, b) {
             return Ok(None);

@@ -1,6 +1,6 @@
 //! The operations of a memory.
 ghost use Rattle.std.specs.Prelude.{◌≡◌};
-ghost use Rattle.pp_mem.specs.Operations.{address_of, call_of, recorded_by, is_ranged};
+ghost use Rattle.pp_mem.specs.Operations.{address_of, is_write, call_of, recorded_by, is_ranged};
 
 use pp_core::{Answer, Call, Method};
 use pp_spec::in_range;
@@ -36,6 +36,17 @@ impl MemOp {
             MemOp::Read { at, value: _ } => at,
             MemOp::Write { at, value: _ } => at,
             MemOp::Cas { at, .. } => at,
+        }
+    }
+
+    /// Whether it writes whatever stands there.
+    pub fn is_write(&self) -> bool
+        ensures { result ≡ is_write self.now }
+    {
+        match *self {
+            MemOp::Read { at: _, value: _ } => false,
+            MemOp::Write { at: _, value: _ } => true,
+            MemOp::Cas { .. } => false,
         }
     }
 

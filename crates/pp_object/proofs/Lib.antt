@@ -1,5 +1,6 @@
 pub mod Alone
 pub mod There
+pub mod Kept
 pub mod Items
 pub mod Made
 pub mod Named

@@ -107,6 +107,10 @@ impl Spec for Objects {
         may_swap(a, b)
     }
 
+    fn kept_alike(a: &Op, b: &Op) -> bool {
+        a.object != b.object || OneObject::kept_alike(&a.act, &b.act)
+    }
+
     fn context(alloc: Global, a: &Op, b: &Op) -> Result<Option<Context<Op>>, OutOfMemory> {
         if a.object == b.object {
             context_at(alloc, a.object, OneObject::context(alloc, &a.act, &b.act)?)

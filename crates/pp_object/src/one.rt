@@ -194,6 +194,19 @@ impl Spec for OneObject {
         may_swap(a, b)
     }
 
+    fn kept_alike(a: &Act, b: &Act) -> bool {
+        match (a, b) {
+            (Act::Memory(a), Act::Memory(b)) => Mem::kept_alike(a, b),
+            (Act::KeySet(a), Act::KeySet(b)) => KeySet::kept_alike(a, b),
+            (Act::KeyMap(a), Act::KeyMap(b)) => KeyMap::kept_alike(a, b),
+            (Act::Counter(a), Act::Counter(b)) => Count::kept_alike(a, b),
+            (Act::Queue(a), Act::Queue(b)) => Fifo::kept_alike(a, b),
+            (Act::Stack(a), Act::Stack(b)) => Stack::kept_alike(a, b),
+            (Act::PriorityQueue(a), Act::PriorityQueue(b)) => Prio::kept_alike(a, b),
+            _ => true,
+        }
+    }
+
     fn context(alloc: Global, a: &Act, b: &Act) -> Result<Option<Context<Act>>, OutOfMemory> {
         match (a, b) {
             (Act::Memory(a), Act::Memory(b)) => context_of(alloc, Mem::context(alloc, a, b)?),

@@ -94,6 +94,10 @@ impl Spec for Prio {
         may_swap(a, b)
     }
 
+    fn kept_alike(_a: &PrioOp, _b: &PrioOp) -> bool {
+        true
+    }
+
     fn context(
         alloc: Global,
         a: &PrioOp,

@@ -93,6 +93,10 @@ impl Spec for Fifo {
         may_swap(a, b)
     }
 
+    fn kept_alike(_a: &QueueOp, _b: &QueueOp) -> bool {
+        true
+    }
+
     fn context(
         alloc: Global,
         a: &QueueOp,

@@ -7,7 +7,7 @@ use Rattle.pp_model.specs.Object.{Object}
 use Rattle.pp_front.specs.Records.{RunRecord}
 use Rattle.pp_front.specs.Records as records
 use Rattle.pp_quick.specs.Brief.{Brief, BriefGood, brief_then}
-use Rattle.pp_quick.specs.Held.{take_most, take_ticks}
+use Rattle.pp_quick.specs.Held.{GoodCosts, take_most}
 use Rattle.pp_quick.specs.Runs.{BriefRuns, brief_after}
 use Rattle.pp_quick.specs.Sums.{AreTried, SumLaw, count_ops, is_op, records_most}
 
@@ -58,25 +58,25 @@ module _ {Op State : Type 0} (O : Object Op State) (place : Op → ℕ) where
   tried_all [] B h = refl
   tried_all (x ∷ xs) B h = inr (h.0, (xs, tried_all xs (brief_then place B x) h.1, refl))
 
-  last_op : (B : Brief Op) (r : RunRecord Op) → length (filter is_op (r ∷ [])) ≤ take_ticks place B r
-  last_op B (records.Plain step) = omega arith
-  last_op B (records.Op t id op) = omega arith
-  last_op B (records.Commit t) = omega arith
-  last_op B (records.Abort t) = omega arith
-  last_op B (records.Retry t) = omega arith
-  last_op B (records.Refresh t q) = omega arith
-  last_op B (records.XBegin t) = omega arith
-  last_op B (records.XEnd t) = omega arith
-  last_op B (records.XAbort t) = omega arith
-  last_op B (records.Depend t source) = omega arith
-  last_op B (records.Publish t) = omega arith
-  last_op B (records.DropSource t source) = omega arith
+  last_op : (B : Brief Op) (r : RunRecord Op) (old new : ℕ) → GoodCosts place B r old new → old + length (filter is_op (r ∷ [])) ≤ new
+  last_op B (records.Plain step) old new cost = omega (arith, cost)
+  last_op B (records.Op t id op) old new cost = omega (arith, cost)
+  last_op B (records.Commit t) old new cost = omega (arith, cost)
+  last_op B (records.Abort t) old new cost = let rises = cost.0 in omega (arith, rises)
+  last_op B (records.Retry t) old new cost = let rises = cost.0 in omega (arith, rises)
+  last_op B (records.Refresh t q) old new cost = omega (arith, cost)
+  last_op B (records.XBegin t) old new cost = omega (arith, cost)
+  last_op B (records.XEnd t) old new cost = omega (arith, cost)
+  last_op B (records.XAbort t) old new cost = omega (arith, cost)
+  last_op B (records.Depend t source) old new cost = omega (arith, cost)
+  last_op B (records.Publish t) old new cost = omega (arith, cost)
+  last_op B (records.DropSource t source) old new cost = omega (arith, cost)
 
-  least : (B : Brief Op) (rs : List (RunRecord Op)) (r : RunRecord Op) → count_ops (rs ++ r ∷ []) ≤ count_ops rs + take_ticks place B r
-  least B rs r =
+  least : (B : Brief Op) (rs : List (RunRecord Op)) (r : RunRecord Op) (old new : ℕ) → GoodCosts place B r old new → old + count_ops (rs ++ r ∷ []) ≤ new + count_ops rs
+  least B rs r old new cost =
       let a : count_ops (rs ++ r ∷ []) ≡ length (filter is_op rs ++ filter is_op (r ∷ [])) = ap (λ (z : List (RunRecord Op)). length z) (filter-append is_op rs (r ∷ [])) in
       let b = length-append (filter is_op rs) (filter is_op (r ∷ [])) in
-      omega (arith, a, b, last_op B r)
+      omega (arith, a, b, last_op B r old new cost)
 
   pub sum_law : SumLaw O place
   sum_law =

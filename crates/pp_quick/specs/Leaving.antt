@@ -12,14 +12,15 @@ from_id place id (g ∷ G) =
     cond (g.id == id) (length (filter (λ h. place h.op == place g.op) (g ∷ G)))
     (from_id place id G)
 
--- What it costs to take these out of the shared log, one after another: with k entries of its place
--- from the entry on, they are taken back, and all but one are applied again.
+-- What it costs at most to take these out of the shared log, one after another: with k entries of
+-- its place from the entry on, they are taken back, and all but one are applied again, or the one
+-- is taken back alone.
 abbrev pub leaving_ticks : {Op : Type 0} → (Op → ℕ) → List (Item Op) → List (SharedEntry Op) → ℕ
 leaving_ticks place [] G = 0
 leaving_ticks place (p ∷ ps) G =
     (2 * from_id place p.id G - 1) + leaving_ticks place ps (without_shared p.id G)
 
--- The most that it costs where memory is refused meanwhile: what was applied may be taken back, and
+-- What it costs at most where memory is refused meanwhile: what was applied may be taken back, and
 -- all be applied as they were.
 abbrev pub leaving_most : {Op : Type 0} → (Op → ℕ) → List (Item Op) → List (SharedEntry Op) → ℕ
 leaving_most place [] G = 0

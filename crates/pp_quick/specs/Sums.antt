@@ -5,7 +5,7 @@ use Rattle.pp_model.specs.Object.{Object}
 use Rattle.pp_front.specs.Records.{RunRecord}
 use Rattle.pp_front.specs.Records as records
 use Rattle.pp_quick.specs.Brief.{Brief, BriefGood, brief_then}
-use Rattle.pp_quick.specs.Held.{take_most, take_ticks}
+use Rattle.pp_quick.specs.Held.{GoodCosts, take_most}
 use Rattle.pp_quick.specs.Runs.{BriefRuns, brief_after}
 
 -- what these records cost at most, one after another
@@ -62,8 +62,8 @@ pub record SumLaw {Op State : Type 0} (O : Object Op State) (place : Op → ℕ)
       ≡ records_most place B rs + take_most place (brief_after place B rs) r
   -- one record more is at most so many operations more as it takes ticks where it is good, in any
   -- brief
-  pub least : (B : Brief Op) (rs : List (RunRecord Op)) (r : RunRecord Op) →
-      count_ops (rs ++ r ∷ []) ≤ count_ops rs + take_ticks place B r
+  pub least : (B : Brief Op) (rs : List (RunRecord Op)) (r : RunRecord Op) (old new : ℕ) →
+      GoodCosts place B r old new → old + count_ops (rs ++ r ∷ []) ≤ new + count_ops rs
 
 abbrev pub SumsLaw : {Op State : Type 0} → Object Op State → Type 0
 SumsLaw {Op} O = (place : Op → ℕ) → SumLaw O place

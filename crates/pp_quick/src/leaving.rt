@@ -19,7 +19,7 @@ pub fn taken_back<S: Parted, L: Ledger>(
     requires { MayLeave S.object shared.0 own.now shared.1 }
     ensures log { IfOk result (λ log. log ≡
         (shared.0, without_ids (map (λ p. p.id) own.now) shared.1)) }
-    ensures cost { OnOk result (ticks.new ≡ ticks.old + back_ticks S.place_of own.now shared.1) }
+    ensures cost { OnOk result (ticks.new ≤ ticks.old + back_ticks S.place_of own.now shared.1) }
     ensures rises { ticks.old ≤ ticks.new }
     ensures bound { ticks.new ≤ ticks.old + back_most S.place_of own.now shared.1 }
 {

@@ -9,7 +9,7 @@ use Rattle.pp_rules.specs.Shown.{HoldsAtNumber, IsShown, facts}
 use Rattle.pp_rules.specs.declared.detail.Detail.{Detail}
 use Rattle.pp_rules.specs.declared.machine.Outcome.{Outcome}
 use Rattle.pp_rules.specs.declared.machine.Outcome.TheVariants.{Done, False}
-use Rattle.pp_rules.specs.Costs.{Costs, CostsBy, CostsInVain, step_ticks}
+use Rattle.pp_rules.specs.Costs.{Costs, CostsBy, CostsDone, CostsInVain}
 use Rattle.pp_rules.specs.Machines.{Seen}
 use Rattle.pp_rules.specs.Stepping.{IsAsked, Stepped}
 use Rattle.pp_rules.proofs.Telling.{evidence_law}
@@ -41,14 +41,14 @@ module _ {Shape State Op Undo : Type 0} (o : Object Shape State Op Undo) (v : Se
   count_of (Err e) s h = tt
 
 module _ {Shape Op : Type 0} (place : Op → ℕ) (v : Seen Shape Op) where
-  free_by : (s : Step Op) (out : Outcome Op) (a : ℕ) → step_ticks place v.config s ≡ 0 → CostsInVain place v.config s a a → CostsBy place v.config s out a a
-  free_by s Done a e h = omega (arith, e)
+  free_by : (s : Step Op) (out : Outcome Op) (a : ℕ) → CostsDone place v.config s a a → CostsInVain place v.config s a a → CostsBy place v.config s out a a
+  free_by s Done a e h = e
   free_by s (False n detail) a e h = h
 
-  free : {A E : Type 0} (r : Result (A × Outcome Op) E) (s : Step Op) (a : ℕ) → step_ticks place v.config s ≡ 0 → CostsInVain place v.config s a a → Costs place v s r a a
+  free : {A E : Type 0} (r : Result (A × Outcome Op) E) (s : Step Op) (a : ℕ) → CostsDone place v.config s a a → CostsInVain place v.config s a a → Costs place v s r a a
   free (Ok k) s a e h = free_by s k.1 a e h
   free (Err x) s a e h = omega arith
 
   -- a step whose function is not given the counter costs nothing
-  pub free_of : {A E : Type 0} (r : Result (A × Outcome Op) E) (s asked : Step Op) (a : ℕ) → asked ≡ s → step_ticks place v.config s ≡ 0 → CostsInVain place v.config s a a → Costs place v asked r a a
+  pub free_of : {A E : Type 0} (r : Result (A × Outcome Op) E) (s asked : Step Op) (a : ℕ) → asked ≡ s → CostsDone place v.config s a a → CostsInVain place v.config s a a → Costs place v asked r a a
   free_of r s asked a is e h = subst (λ (z : Step Op). Costs place v z r a a) (sym is) (free r s a e h)

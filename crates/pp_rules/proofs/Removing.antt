@@ -82,7 +82,7 @@ from_place_some place (a ∷ x) (suc i) = from_place_some place x i
 
 -- what a removal costs is at most the bound
 pub within_bound : {Op : Type 0} (place : Op → ℕ) (ops : List Op) (i : ℕ) (removed : Removed) (old new : ℕ) → removal_ticks removed (from_place place ops i) old new → RemovalBound place ops i old new
-within_bound place ops i Done old new c = let some = from_place_some place ops i in (omega (arith, some, c), omega (arith, some, c))
+within_bound place ops i Done old new c = let some = from_place_some place ops i in let most = c.1 in (c.0, omega (arith, some, most))
 within_bound place ops i (Differs id answer) old new c = c
 
 -- the last entry of a local log

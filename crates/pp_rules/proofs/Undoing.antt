@@ -48,9 +48,13 @@ told {Op} {a} {c} {b} {d} e = ap (λ (z : Removed). differing z) (sym e)
     differing Done = Nothing
     differing (Differs i r) = Gives i r
 
-cost_done : (removed : Removed) (k a b : ℕ) → removed ≡ Done → 1 ≤ k → removal_ticks removed k a b → b ≡ a + (2 * k - 1)
-cost_done Done k a b e s c = omega (arith, c, s)
+cost_done : (removed : Removed) (k a b : ℕ) → removed ≡ Done → 1 ≤ k → removal_ticks removed k a b → (a ≤ b) × (b ≤ a + (2 * k - 1))
+cost_done Done k a b e s c = let most = c.1 in (c.0, omega (arith, most, s))
 cost_done (Differs id answer) k a b e s c = absurd (cc)
+
+cost_alone : (removed : Removed) (a b : ℕ) → removed ≡ Done → removal_ticks removed 1 a b → b ≡ a + 1
+cost_alone Done a b e c = c.2 refl
+cost_alone (Differs id answer) a b e c = absurd (cc)
 
 cost_differs : (removed : Removed) (id : ℕ) (answer : Answer) (k a b : ℕ) → removed ≡ Differs id answer → 1 ≤ k → removal_ticks removed k a b → (a ≤ b) × (b ≤ a + (4 * k - 3))
 cost_differs Done id answer k a b e s c = absurd (cc)
@@ -59,8 +63,8 @@ cost_differs (Differs i r) id answer k a b e s c = let most = c.1 in (c.0, omega
 cost_err : (k a b : ℕ) → 1 ≤ k → (a ≤ b) × (b + 3 ≤ a + 4 * k) → b ≤ a + (4 * k - 3)
 cost_err k a b s c = let most = c.1 in omega (arith, most, s)
 
-cost_more : (k a b : ℕ) → 1 ≤ k → b ≡ a + (2 * k - 1) → b ≤ a + (4 * k - 3)
-cost_more k a b s c = omega (arith, c, s)
+cost_more : (k a b : ℕ) → 1 ≤ k → (a ≤ b) × (b ≤ a + (2 * k - 1)) → b ≤ a + (4 * k - 3)
+cost_more k a b s c = let most = c.1 in omega (arith, most, s)
 
 module _ {Shape State Op Undo : Type 0} (o : Object Shape State Op Undo) (shape : Shape) (v : Txs Shape Op) (ids : List ℕ) (G : Shape × List (SharedEntry Op)) (F : List (CommittedTx Op)) (n : ℕ) (w : Seen Shape Op)
     (same : ◌≡◌ {A = Seen Shape Op} (record { shape = shape; config = config_of v ids G.1 F; count = n }) w) (h : Holds o shape v ids G F n) where
@@ -114,7 +118,7 @@ module _ {Shape State Op Undo : Type 0} (o : Object Shape State Op Undo) (shape 
       let q = r (open_of t (k.has).thread (k.has).body k.log) (k.has).at in
       let done = never_differs o k.log i k.leaves k.end (log_allowed t k.log k.has) q.0 removed q.1 in
       let steps = subst (λ (z : ℕ). removal_ticks removed z a b) (one_behind place t i k) (c (open_of t (k.has).thread (k.has).body k.log) (k.has).at) in
-      cost_done removed 1 a b done (omega arith) steps
+      cost_alone removed a b done steps
 
   pub unapp_most : (place : Op → ℕ) (t : Name) (i : ℕ) (k : HasLast t i) (u : Txs Shape Op) (removed : Removed) (a b : ℕ) → RemovesAt o v t i u removed → CostsAt {E = ℕ} place v t i (Ok removed) a b → b ≤ a + 1
   unapp_most place t i k u removed a b r c = let e = unapp_cost place t i k u removed a b r c in omega (arith, e)
@@ -166,7 +170,7 @@ module _ {Shape State Op Undo : Type 0} (o : Object Shape State Op Undo) (shape 
               ∙ ap (λ (s : Shape). first_differing o item (o.start s) (remove (k.log).1 i)) ((k.has).fine).same_shape ∙ ap (first_differing o item (o.start shape)) without),
         )
 
-    pub unpull_cost_done : (place : Op → ℕ) (removed : Removed) (a b : ℕ) → removed ≡ Done → CostsAt {E = ℕ} place v t i (Ok removed) a b → b ≡ a + (2 * from_id place id (log_items (tx t w.config.opened)) - 1)
+    pub unpull_cost_done : (place : Op → ℕ) (removed : Removed) (a b : ℕ) → removed ≡ Done → CostsAt {E = ℕ} place v t i (Ok removed) a b → (a ≤ b) × (b ≤ a + (2 * from_id place id (log_items (tx t w.config.opened)) - 1))
     unpull_cost_done place removed a b e c =
         cost_done removed (from_id place id (log_items (tx t w.config.opened))) a b e (from_id_some place id (log_items (tx t w.config.opened)))
         (subst (λ (z : ℕ). removal_ticks removed z a b) (unpull_behind place) (c (open_of t (k.has).thread (k.has).body k.log) (k.has).at))
@@ -246,7 +250,7 @@ module _ {Shape State Op Undo : Type 0} (o : Object Shape State Op Undo) (shape 
         from_place_is shared_item place id G.1 h.sound.shared_ids j q.0 q.1 (eqb-true (q.0).id id q.2)
         ∙ ap (λ (z : Seen Shape Op). from_id place id (map shared_item z.config.shared)) same
 
-    pub unpush_cost_done : (place : Op → ℕ) (removed : Removed) (a b : ℕ) → removed ≡ Done → removal_ticks removed (from_place place (shared_ops G.1) j) a b → b ≡ a + (2 * from_id place id (map shared_item w.config.shared) - 1)
+    pub unpush_cost_done : (place : Op → ℕ) (removed : Removed) (a b : ℕ) → removed ≡ Done → removal_ticks removed (from_place place (shared_ops G.1) j) a b → (a ≤ b) × (b ≤ a + (2 * from_id place id (map shared_item w.config.shared) - 1))
     unpush_cost_done place removed a b e c =
         cost_done removed (from_id place id (map shared_item w.config.shared)) a b e (from_id_some place id (map shared_item w.config.shared)) (subst (λ (z : ℕ). removal_ticks removed z a b) (unpush_behind place) c)
 

@@ -22,20 +22,6 @@ abbrev pub log_items : {Op : Type 0} → Option (Tx Op) → List (Item Op)
 log_items None = []
 log_items (Some x) = map item x.local
 
--- What a step costs that is done. A removal takes back the operations of its place from the entry
--- on, and applies all but that one again.
-abbrev pub step_ticks : {Op : Type 0} → (Op → ℕ) → Config Op → Step Op → ℕ
-step_ticks place c (Begin t p b) = 0
-step_ticks place c (App t id op) = 1
-step_ticks place c (Unapp t id) = 1
-step_ticks place c (Push t id) = 1
-step_ticks place c (Unpush t id) = 2 * from_id place id (map shared_item c.shared) - 1
-step_ticks place c (Pull t id) = 1
-step_ticks place c (Unpull t id) = 2 * from_id place id (log_items (tx t c.opened)) - 1
-step_ticks place c (Cmt t) = 0
-step_ticks place c (Quit t) = 0
-step_ticks place c (Note t) = 0
-
 -- What a step costs at most, whatever it answers. A removal may also take back what it applied, and
 -- apply all as they were.
 abbrev pub at_most : {Op : Type 0} → (Op → ℕ) → Config Op → Step Op → ℕ
@@ -66,10 +52,27 @@ CostsInVain place c (Cmt t) old new = new ≡ old
 CostsInVain place c (Quit t) old new = new ≡ old
 CostsInVain place c (Note t) old new = new ≡ old
 
+-- What a step costs that is done: exactly, but for UNPUSH and UNPULL, which have a bound. A removal
+-- takes back the operations of its place from the entry on, and applies all but that one again, or
+-- it takes that one back alone.
+abbrev pub CostsDone : {Op : Type 0} → (Op → ℕ) → Config Op → Step Op → ℕ → ℕ → Type 0
+CostsDone place c (Begin t p b) old new = new ≡ old
+CostsDone place c (App t id op) old new = new ≡ old + 1
+CostsDone place c (Unapp t id) old new = new ≡ old + 1
+CostsDone place c (Push t id) old new = new ≡ old + 1
+CostsDone place c (Unpush t id) old new =
+    (old ≤ new) × (new ≤ old + (2 * from_id place id (map shared_item c.shared) - 1))
+CostsDone place c (Pull t id) old new = new ≡ old + 1
+CostsDone place c (Unpull t id) old new =
+    (old ≤ new) × (new ≤ old + (2 * from_id place id (log_items (tx t c.opened)) - 1))
+CostsDone place c (Cmt t) old new = new ≡ old
+CostsDone place c (Quit t) old new = new ≡ old
+CostsDone place c (Note t) old new = new ≡ old
+
 -- What a step costs by its outcome.
 abbrev pub CostsBy : {Op : Type 0} → (Op → ℕ) → Config Op → Step Op → Outcome Op → ℕ →
     ℕ → Type 0
-CostsBy place c step Done old new = new ≡ old + step_ticks place c step
+CostsBy place c step Done old new = CostsDone place c step old new
 CostsBy place c step (False n detail) old new = CostsInVain place c step old new
 
 -- What a step costs by what it answers.

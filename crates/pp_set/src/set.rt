@@ -90,6 +90,10 @@ impl Spec for KeySet {
         may_swap(a, b)
     }
 
+    fn kept_alike(_a: &SetOp, _b: &SetOp) -> bool {
+        true
+    }
+
     fn context(alloc: Global, a: &SetOp, b: &SetOp) -> Result<Option<Context<SetOp>>, OutOfMemory> {
         if may_swap(a, b) {
             return Ok(None);

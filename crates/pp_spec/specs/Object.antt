@@ -100,6 +100,18 @@ module _ {Shape State Op Undo : Type 0} (o : Object Shape State Op Undo) where
       (shape : Shape) (before : List Op) → IsAllowed shape before
       → CommutesAt (state_after shape before) a b
 
+  -- Where a and b are legal in this state, and b behind a, what is kept to take a back is the same
+  -- behind b, and what is kept to take b back is the same behind a.
+  abbrev pub KeptAlikeAt : State → Op → Op → Type 0
+  KeptAlikeAt s a b =
+      IsLegal s a → IsLegal s b → IsLegal (o.next s a) b
+      → (o.upkeep.kept s a ≡ o.upkeep.kept (o.next s b) a)
+      × (o.upkeep.kept s b ≡ o.upkeep.kept (o.next s a) b)
+
+  -- So it is in every state.
+  abbrev pub KeptAlike : Op → Op → Type 0
+  KeptAlike a b = (s : State) → o.upkeep.IsState s → KeptAlikeAt s a b
+
   -- The lists show that b may not move left over a: they fit each shape that the pair fits, and are
   -- ranged where the pair is.
   pub record Refutes (a b : Op) (before after : List Op) : Type 0 where
@@ -167,6 +179,13 @@ module _ {Shape State Op Undo : Type 0} (o : Object Shape State Op Undo) where
     -- there are lists exactly for the pairs that do not swap, and they show it
     pub unrefuted : (a b : Op) → (o.refuting a b ≡ None) ↔ Swaps a b
     pub refuted : (a b : Op) → IsRefutedBy a b (o.refuting a b)
+
+-- The operation lets each of these pass: they swap with it, and what is kept of either is the same
+-- without the other.
+abbrev pub LetsPass : {Shape State Op Undo : Type 0} → Object Shape State Op Undo → Op → List Op →
+    Type 0
+LetsPass o a [] = Unit {0}
+LetsPass o a (b ∷ y) = Swaps o a b × KeptAlike o a b × LetsPass o a y
 
 -- Each of the operations has another place.
 abbrev pub AllElsewhere : {Op : Type 0} → (Op → ℕ) → ℕ → List Op → Type 0

@@ -1,8 +1,8 @@
 //! The traits of a kind: its calls, each with its meaning, and the laws that hold of every kind.
 ghost use Rattle.std.specs.Prelude.{◌≡◌, ◌≢◌, ◌+◌, ℕ, false, IsTrue, IfOk, OnOk, OnErr, ◌↔◌};
 ghost use Rattle.pp_model.specs.Object.{TellsStates};
-ghost use Rattle.pp_spec.specs.Object.{Object, Swaps, SwapsNowhere, FitNowhere, Commutes};
-ghost use Rattle.pp_spec.specs.Object.{IsReached, IsLawful, IsPlaced, UndoneBehindOthers, rules_of};
+ghost use Rattle.pp_spec.specs.Object.{Object, Swaps, SwapsNowhere, KeptAlike, FitNowhere};
+ghost use Rattle.pp_spec.specs.Object.{Commutes, IsReached, IsLawful, IsPlaced, UndoneBehindOthers, rules_of};
 ghost use Rattle.pp_spec.specs.Calls.{Applies, WasApplied, lists_of};
 
 use pp_core::{Answer, Call, Ops, OutOfMemory, Ticks};
@@ -99,6 +99,11 @@ pub trait Spec: Drop {
         ensures swaps { IsTrue result → Swaps object a.now b.now }
         ensures only { Swaps object a.now b.now → IsTrue result }
         ensures never { result ≡ false → SwapsNowhere object a.now b.now };
+
+    /// Whether what is kept to take either of the two back does not depend on the other one, where
+    /// both orders of them are legal. False says nothing.
+    fn kept_alike(a: &Self::Op, b: &Self::Op) -> bool
+        ensures { IsTrue result → KeptAlike object a.now b.now };
 
     /// Operations that show that the pair does not swap, or `None` where it does. The only error is
     /// that memory was refused.

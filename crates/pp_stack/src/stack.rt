@@ -93,6 +93,10 @@ impl Spec for Stack {
         may_swap(a, b)
     }
 
+    fn kept_alike(_a: &StackOp, _b: &StackOp) -> bool {
+        true
+    }
+
     fn context(
         alloc: Global,
         a: &StackOp,

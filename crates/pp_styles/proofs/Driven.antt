@@ -14,7 +14,7 @@ use Rattle.pp_model.specs.Config.{Config, after_from, then}
 use Rattle.pp_model.specs.Lists.{In}
 use Rattle.pp_model.specs.Rules.{Meets}
 use Rattle.pp_front.proofs.Ends.{after_append, runs_append}
-use Rattle.pp_rules.specs.Costs.{CostsInVain, at_most, step_ticks}
+use Rattle.pp_rules.specs.Costs.{CostsDone, CostsInVain, at_most}
 use Rattle.pp_rules.specs.Machines.{Seen, stepped}
 use Rattle.pp_spec.specs.Object.{Object, rules_of}
 use Rattle.pp_styles.specs.declared.drive.Halt.{Halt}
@@ -50,12 +50,6 @@ plus_zero a = omega arith
 plus_more : (a b d : ℕ) → a + (b + d) ≡ (a + b) + d
 plus_more a b d = omega arith
 
-same_le : (a : ℕ) → a ≤ a
-same_le a = omega arith
-
-nothing_less : (n : ℕ) → 0 ≤ n
-nothing_less n = omega arith
-
 no_more : (a : ℕ) → a + 0 ≤ a
 no_more a = omega arith
 
@@ -86,9 +80,6 @@ adds_most from now to a w k x y z = omega (arith, x, y, z)
 same_most : (from now to a : ℕ) → now ≤ from + a → to ≡ now → to ≤ from + a
 same_most from now to a x y = omega (arith, x, y)
 
-raised : (old new a b : ℕ) → a ≤ b → new ≡ old + b → old + a ≤ new
-raised old new a b x y = omega (arith, x, y)
-
 -- ---- costs
 
 module _ {Op : Type 0} where
@@ -103,20 +94,17 @@ module _ {Op : Type 0} where
         ∙ plus_more (at_most place c x) (most_ticks place (then c x) xs) (most_ticks place (after_from (then c x) xs) ys)
 
     -- a step that is done costs one at least where it is single
-    single_cost : (c : Config Op) (step : Step Op) → singles (step ∷ []) ≤ step_ticks place c step
-    single_cost c (Begin t p b) = same_le 0
-    single_cost c (App t id op) = same_le 1
-    single_cost c (Unapp t id) = same_le 1
-    single_cost c (Push t id) = same_le 1
-    single_cost c (Unpush t id) = nothing_less (step_ticks place c (Unpush t id))
-    single_cost c (Pull t id) = same_le 1
-    single_cost c (Unpull t id) = nothing_less (step_ticks place c (Unpull t id))
-    single_cost c (Cmt t) = same_le 0
-    single_cost c (Quit t) = same_le 0
-    single_cost c (Note t) = same_le 0
-
-    pub done_least : (c : Config Op) (step : Step Op) (old new : ℕ) → new ≡ old + step_ticks place c step → old + singles (step ∷ []) ≤ new
-    done_least c step old new cost = raised old new (singles (step ∷ [])) (step_ticks place c step) (single_cost c step) cost
+    pub done_least : (c : Config Op) (step : Step Op) (old new : ℕ) → CostsDone place c step old new → old + singles (step ∷ []) ≤ new
+    done_least c (Begin t p b) old new cost = omega (arith, cost)
+    done_least c (App t id op) old new cost = omega (arith, cost)
+    done_least c (Unapp t id) old new cost = omega (arith, cost)
+    done_least c (Push t id) old new cost = omega (arith, cost)
+    done_least c (Unpush t id) old new cost = let least = cost.0 in omega (arith, least)
+    done_least c (Pull t id) old new cost = omega (arith, cost)
+    done_least c (Unpull t id) old new cost = let least = cost.0 in omega (arith, least)
+    done_least c (Cmt t) old new cost = omega (arith, cost)
+    done_least c (Quit t) old new cost = omega (arith, cost)
+    done_least c (Note t) old new cost = omega (arith, cost)
 
     stays : (old new : ℕ) → new ≡ old → old ≤ new
     stays old new e = omega (arith, e)

@@ -1,7 +1,7 @@
 -- Proof machinery: the table of a memory says which pairs on one address swap, and so a memory is
 -- lawful.
-use Rattle.std.proofs.Common.{◌≡◌, ◌≢◌, ℤ, pos, ◌-ℤ◌, Bool, true, false, not, ◌&&◌, ◌||◌, IsTrue}
-use Rattle.std.proofs.Common.{if◌then◌else◌, List, [], ◌∷◌, ◌↔◌, Option, Some, None, refl, sym, ◌∙◌}
+use Rattle.std.proofs.Common.{◌≡◌, ℤ, pos, ◌-ℤ◌, Bool, true, false, not, ◌&&◌, ◌||◌, IsTrue}
+use Rattle.std.proofs.Common.{if◌then◌else◌, [], ◌∷◌, ◌↔◌, Option, Some, None, refl, sym, ◌∙◌}
 use Rattle.std.proofs.Common.{int_eq, arith}
 use Rattle.std.proofs.lemmas.Bool.{and_parts, and_from}
 use Rattle.std.proofs.lemmas.Int.{ints}

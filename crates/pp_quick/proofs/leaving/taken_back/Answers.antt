@@ -13,11 +13,12 @@ loop-left-init g c =
     let G = c.args.shared.1 in
     let whole = take_all (length own) own (omega arith) in
     let none = drop_all (length own) own (omega arith) in
+    let ticks : leaving_ticks g.S.Placed.place_of (reverse (take (length own) own)) G ≡ leaving_ticks g.S.Placed.place_of (reverse own) G = ap (λ w. leaving_ticks g.S.Placed.place_of (reverse w) G) whole in
     let most : leaving_most g.S.Placed.place_of (reverse (take (length own) own)) G ≡ leaving_most g.S.Placed.place_of (reverse own) G = ap (λ w. leaving_most g.S.Placed.place_of (reverse w) G) whole in
     record {
       within = omega arith;
       log = ap (λ w. (c.args.shared.0, w)) (sym (ap (λ w. without_ids (map (λ p. p.id) w) G) none ∙ drop_zero_ids G));
-      cost = ap (λ w. c.args.ticks.now + leaving_ticks g.S.Placed.place_of (reverse w) G) whole;
+      cost = omega arith;
       most = omega arith;
       rises = omega arith;
     }
@@ -66,6 +67,7 @@ loop-left-preserved g c =
     ≡ leaving_ticks g.S.Placed.place_of (reverse (take k c.args.own.now)) (without_ids (map (λ p. p.id) (drop k c.args.own.now)) c.args.shared.1) = ap (λ z. leaving_ticks g.S.Placed.place_of (reverse (take k c.args.own.now)) z.1) log in
     let here_most : leaving_most g.S.Placed.place_of (reverse (take k c.args.own.now)) c.in_ok-rest.rest.1
     ≡ leaving_most g.S.Placed.place_of (reverse (take k c.args.own.now)) (without_ids (map (λ p. p.id) (drop k c.args.own.now)) c.args.shared.1) = ap (λ z. leaving_most g.S.Placed.place_of (reverse (take k c.args.own.now)) z.1) log in
+    let took_most = took.1 in
     let was = c.loop-left.invariant.cost in
     let was_most = c.loop-left.invariant.most in
     let rises = c.loop-left.invariant.rises in

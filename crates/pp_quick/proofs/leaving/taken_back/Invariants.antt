@@ -10,7 +10,7 @@ invariant-loop-left g l = record {
   log : l.shared ≡ (l.initial.shared.0, without_ids (map (λ p. p.id) (drop l.left l.own)) l.initial.shared.1);
   cost :
       l.ticks + leaving_ticks g.S.Placed.place_of (reverse (take l.left l.own)) l.shared.1
-      ≡ l.initial.ticks + leaving_ticks g.S.Placed.place_of (reverse l.own) l.initial.shared.1;
+      ≤ l.initial.ticks + leaving_ticks g.S.Placed.place_of (reverse l.own) l.initial.shared.1;
   most :
       l.ticks + leaving_most g.S.Placed.place_of (reverse (take l.left l.own)) l.shared.1
       ≤ l.initial.ticks + leaving_most g.S.Placed.place_of (reverse l.own) l.initial.shared.1;

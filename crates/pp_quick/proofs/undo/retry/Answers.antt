@@ -44,7 +44,8 @@ pub returns-clause-cost : goal.returns-clause-cost
 returns-clause-cost g c =
     let apart = apart_of g.S.Spec.object g.S.Placed.place_of g.S.Placed.SameAt g.met.S.Placed.placed in
     let own = ap own_list (open_there g.S.Spec.object g.S.Placed.place_of apart c.args.parts c.requires.holds c.args.tx.now c.in-Some.it (sym c.in-Some.ensures.found)) in
-    subst (λ l. c.taken_back.new.ticks ≡ c.args.ticks.now + back_ticks g.S.Placed.place_of l c.args.parts.shared.1) (c.as_slice.ensures ∙ sym own) c.in_ok-shared.ensures.cost
+    let most = subst (λ l. c.taken_back.new.ticks ≤ c.args.ticks.now + back_ticks g.S.Placed.place_of l c.args.parts.shared.1) (c.as_slice.ensures ∙ sym own) c.in_ok-shared.ensures.cost in
+    (c.taken_back.ensures.rises, most)
 
 pub anew-it-requires : goal.anew-it-requires
 anew-it-requires g c =

@@ -4,7 +4,7 @@ use Rattle.pp_log.specs.Runs.{IsRun}
 use Rattle.pp_log.specs.Runs.{Stops}
 use Rattle.pp_log.proofs.Edits.{run_with, run_without, through, never_stops, differs_where}
 use Rattle.pp_log.proofs.Lists.{insert-remove}
-use Rattle.pp_log.proofs.take_out.take_out.Goals as goal
+use Rattle.pp_log.proofs.take_out.replay.Goals as goal
 
 pub rewind-requires : goal.rewind-requires
 rewind-requires g c =
