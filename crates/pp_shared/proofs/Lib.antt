@@ -3,4 +3,3 @@ pub mod Committing
 pub mod Blocked
 pub mod Uncommitted
 pub mod Nexts
-pub mod Slots

@@ -80,15 +80,6 @@ leaves_removed part_of x i e at p = loses_removed (is_open_in part_of p) x i e a
 pub leaves_committed : {Op : Type 0} (part_of : Op → Part) (x : List (SharedEntry Op)) (i : ℕ) (e : SharedEntry Op) → slice_get x i ≡ Some e → LeavesOut part_of e x (slice_set x i (as_committed e))
 leaves_committed part_of x i e at p = loses_set (is_open_in part_of p) x i e (as_committed e) refl at
 
--- a value that is written and then taken out
-pub written_and_out : {V : Type 0} (k : Part) (w : V) (old lent new : List (Part × V)) → ((q : Part) → lookup (same_part q) lent ≡ cond (same_part k q) (Some w) (lookup (same_part q) old)) → ((q : Part) → lookup (same_part q) new ≡ cond (same_part k q) None (lookup (same_part q) lent)) → (q : Part) → lookup (same_part q) new ≡ cond (same_part k q) None (lookup (same_part q) old)
-written_and_out {V} k w old lent new first second q =
-    second q ∙ ap (λ (r : Option V). cond (same_part k q) None r) (first q) ∙ both (same_part k q)
-  where
-    both : (b : Bool) → cond b None (cond b (Some w) (lookup (same_part q) old)) ≡ cond b None (lookup (same_part q) old)
-    both true = refl
-    both false = refl
-
 one_longer : {E : Type 0} (b : Bool) (a : E) (y z : List E) → length y ≤ length z → length (cond b (a ∷ y) y) ≤ length (a ∷ z)
 one_longer true a y z h = omega arith
 one_longer false a y z h = omega arith
@@ -138,9 +129,6 @@ module _ {Shape State Op Undo : Type 0} (o : Object Shape State Op Undo) where
         alone = λ all f h. told.alone (sym alone ∙ all) f (lost.1 f h) ∙ sym owner;
         covers = λ f h. subst (λ (s : SampleList Op). Covers o s f.op) (sym samples) (told.covers f (lost.1 f h));
       }
-
-  pub tells_none : (old : OpenPart (SampleList Op)) (x y : List (SharedEntry Op)) → old.count ≤ 1 → Tells o old x → LosesOne x y → y ≡ []
-  tells_none old x y few told lost = let was = told.count in let size = lost.0 in none_of y (omega arith)
 
   module _ (part_of : Op → Part) where
     pub tells_nothing : KeepsOpen o part_of [] []
@@ -252,10 +240,16 @@ module _ {Shape State Op Undo : Type 0} (o : Object Shape State Op Undo) where
             (λ is. let one : same_part (part_of e.op) (part_of op) ≡ true = subst (λ (p : Part). same_part (part_of e.op) p ≡ true) is (same_part-itself (part_of e.op)) in
             let no : true ≡ false = sym one ∙ differ in cc)
 
+    none_there : PartsSwap o part_of → (owner : Name) (op : Op) (x : List (SharedEntry Op)) → open_in part_of (part_of op) x ≡ [] → AllGiveWay o owner op x
+    none_there apart owner op x empty = part_gives_way apart owner op x (λ e inside. absurd (subst (λ (z : List (SharedEntry Op)). In e z) empty inside))
+
     pub none_in_the_way : PartsSwap o part_of → (owner : Name) (op : Op) (slots : List (Part × OpenPart (SampleList Op))) (x : List (SharedEntry Op)) → lookup (same_part (part_of op)) slots ≡ None → KeepsOpen o part_of slots x → AllGiveWay o owner op x
-    none_in_the_way apart owner op slots x none kept =
-        let empty : open_in part_of (part_of op) x ≡ [] = told_at slots x (part_of op) None none kept in
-        part_gives_way apart owner op x (λ e inside. absurd (subst (λ (z : List (SharedEntry Op)). In e z) empty inside))
+    none_in_the_way apart owner op slots x none kept = none_there apart owner op x (told_at slots x (part_of op) None none kept)
+
+    pub none_left : PartsSwap o part_of → (owner : Name) (op : Op) (slots : List (Part × OpenPart (SampleList Op))) (x : List (SharedEntry Op)) (slot : OpenPart (SampleList Op)) → lookup (same_part (part_of op)) slots ≡ Some slot → slot.count ≡ 0 → KeepsOpen o part_of slots x → AllGiveWay o owner op x
+    none_left apart owner op slots x slot is count kept =
+        let told = told_at slots x (part_of op) (Some slot) is kept in
+        none_there apart owner op x (none_of (open_in part_of (part_of op) x) (sym count ∙ told.count))
 
     pub owner_alone : PartsSwap o part_of → (owner : Name) (op : Op) (slots : List (Part × OpenPart (SampleList Op))) (x : List (SharedEntry Op)) (slot : OpenPart (SampleList Op)) → lookup (same_part (part_of op)) slots ≡ Some slot → slot.alone ≡ true → slot.owner ≡ owner → KeepsOpen o part_of slots x → AllGiveWay o owner op x
     owner_alone apart owner op slots x slot is alone same kept =

@@ -39,12 +39,6 @@ abbrev pub TellsOf : {Shape State Op Undo : Type 0} → Object Shape State Op Un
 TellsOf o None x = x ≡ []
 TellsOf o (Some slot) x = Tells o slot x
 
--- The same, where it is known whether there are none.
-abbrev pub TellsLess : {Shape State Op Undo : Type 0} → Object Shape State Op Undo → Bool →
-    OpenPart (SampleList Op) → List (SharedEntry Op) → Type 0
-TellsLess o true slot x = x ≡ []
-TellsLess o false slot x = Tells o slot x
-
 -- What is known of each part is so of the uncommitted entries of a log.
 pub record KeepsOpen {Shape State Op Undo : Type 0} (o : Object Shape State Op Undo)
     (part_of : Op → Part) (slots : List (Part × OpenPart (SampleList Op)))

@@ -3,7 +3,7 @@ ghost use Rattle.std.specs.Prelude.{◌≡◌, ◌<◌, OnOk, IsTrue, false, Lis
 ghost use Rattle.indexmap.specs.IndexMap.{spare};
 ghost use Rattle.pp_core.specs.declared.entry.SharedEntry.{SharedEntry as EntryOf};
 ghost use Rattle.pp_shared.specs.Blocking.{AllGiveWay};
-ghost use Rattle.pp_shared.specs.Uncommitted.{KeepsOpen, LeavesOut, LosesOne, Tells, TellsLess};
+ghost use Rattle.pp_shared.specs.Uncommitted.{KeepsOpen, LeavesOut, LosesOne, Tells};
 
 use indexmap::IndexMap;
 use indexmap::map::Entry;
@@ -11,7 +11,8 @@ use pp_core::{Name, OutOfMemory, SharedEntry};
 use pp_parts::{Part, Parted, Samples};
 use std::alloc::Global;
 
-/// What is known of the uncommitted entries of one part. The samples are of their operations.
+/// What is known of the uncommitted entries of one part. The samples are of their operations. Where
+/// there is none, the owner and the samples are those of earlier ones, and say nothing.
 #[derive(Drop)]
 pub struct OpenPart<T> {
     /// How many there are.
@@ -36,28 +37,32 @@ fn first<S: Parted>(alloc: Global, entry: &SharedEntry<S::Op>) -> OpenPart<Sampl
     }
 }
 
-/// One more entry.
-fn note<S: Parted>(slot: &mut OpenPart<Samples<S>>, entry: &SharedEntry<S::Op>)
+/// One more entry. Where there was none, what is known begins anew.
+fn note<S: Parted>(alloc: Global, slot: &mut OpenPart<Samples<S>>, entry: &SharedEntry<S::Op>)
     requires { slot.old.count < 1_000_000 }
     ensures { (x : List (EntryOf S.Op)) → Tells S.object slot.old x →
         Tells S.object slot.new (x ++ entry.now ∷ []) }
 {
+    if slot.count == 0 {
+        *slot = first::<S>(alloc, entry);
+        return;
+    }
     slot.count += 1;
     slot.alone = slot.alone && slot.owner.same(&entry.owner);
     slot.samples.add(&entry.op);
 }
 
-/// One entry less. It says whether that was the last one.
-fn forget<S: Parted>(slot: &mut OpenPart<Samples<S>>) -> bool
+/// One entry less.
+fn forget<S: Parted>(slot: &mut OpenPart<Samples<S>>)
     ensures { (x y : List (EntryOf S.Op)) → Tells S.object slot.old x → LosesOne x y →
-        TellsLess S.object result slot.new y }
+        Tells S.object slot.new y }
 {
     slot.count = slot.count.saturating_sub(1);
-    slot.count == 0
 }
 
-/// What is known of the uncommitted entries of a log: for each part that has some, how many there
-/// are, whose, and operations that stand for theirs.
+/// What is known of the uncommitted entries of a log: for each part that has some, or had some, how
+/// many there are, whose, and operations that stand for theirs. A part keeps its slot when its last
+/// entry is left out, since operations come to the same parts again.
 #[derive(Drop)]
 pub struct OpenParts<S: Parted> {
     pub slots: IndexMap<Part, OpenPart<Samples<S>>>,
@@ -98,7 +103,7 @@ impl<S: Parted> OpenParts<S> {
             unreachable!()
         };
         match slot {
-            Entry::Occupied(slot) => note::<S>(slot.into_mut(), entry),
+            Entry::Occupied(slot) => note::<S>(alloc, slot.into_mut(), entry),
             Entry::Vacant(slot) => {
                 slot.insert(first::<S>(alloc, entry));
             }
@@ -115,13 +120,8 @@ impl<S: Parted> OpenParts<S> {
         if entry.committed {
             return;
         }
-        let part = S::part(&entry.op);
-        let Some(at) = self.slots.get_index_of(&part) else {
-            return;
-        };
-        let (_, slot) = self.slots.pair_mut(at);
-        if forget::<S>(slot) {
-            self.slots.swap_remove_index(at);
+        if let Some(slot) = self.slots.get_mut(&S::part(&entry.op)) {
+            forget::<S>(slot);
         }
     }
 
@@ -133,9 +133,12 @@ impl<S: Parted> OpenParts<S> {
             AllGiveWay S.object owner.now op.now x }
     {
         let part = S::part(op);
-        match self.slots.get(&part) {
-            None => true,
-            Some(slot) => slot.alone && slot.owner.same(owner) || slot.samples.all_before(op),
+        let Some(slot) = self.slots.get(&part) else {
+            return true;
+        };
+        if slot.count == 0 {
+            return true;
         }
+        slot.alone && slot.owner.same(owner) || slot.samples.all_before(op)
     }
 }

@@ -256,10 +256,11 @@ impl<S: Parted> Shared<S> {
     }
 
     /// Takes out the i-th entry, unless the list without it is not allowed. The ticks are those of
-    /// its place alone: with k operations there from the entry on, itself counted, it takes them
-    /// back, and applies the k - 1 others again; where one of these differs, it also takes back
-    /// what it applied, and applies all k as they were. The only error is that memory was refused,
-    /// and the log is then lost.
+    /// its place alone: where each operation there behind the entry lets it pass, it alone is taken
+    /// back; else, with k operations there from the entry on, itself counted, these are taken back,
+    /// and the k - 1 others applied again; where one of them differs, what was applied is taken back
+    /// too, and all k are applied as they were. The only error is that memory was refused, and the
+    /// log is then lost.
     pub fn remove<L: Ledger>(
         self,
         i: usize,

@@ -2,14 +2,19 @@ use Rattle.std.proofs.Common.{◌≡◌, true, false, sym, ap, ◌∙◌}
 use Rattle.std.specs.Map.{lookup}
 use Rattle.pp_model.proofs.Names.{names-true}
 use Rattle.pp_shared.specs.Uncommitted.{same_part}
-use Rattle.pp_shared.proofs.Uncommitted.{none_in_the_way, owner_alone, samples_swap}
+use Rattle.pp_shared.proofs.Uncommitted.{none_in_the_way, none_left, owner_alone, samples_swap}
 use Rattle.pp_shared.proofs.open.OpenParts.lets.Goals.{then-slot, else-slot}
 use Rattle.pp_shared.proofs.open.OpenParts.lets.Goals as goal
 
-pub returns-in-None : goal.returns-in-None
-returns-in-None g c = λ _ x kept.
+pub returns-in_default : goal.returns-in_default
+returns-in_default g c = λ _ x kept.
     none_in_the_way g.S.Spec.object g.S.Parted.part_of g.met.S.Parted.parted c.args.owner.now c.args.op.now c.args.self.now.slots.entries x
-    (ap (λ p. lookup (same_part p) c.args.self.now.slots.entries) (sym c.part-part.ensures) ∙ sym c.in-None.ensures.value) kept
+    (ap (λ p. lookup (same_part p) c.args.self.now.slots.entries) (sym c.part-part.ensures) ∙ sym c.in_default.ensures.value) kept
+
+pub returns-then-slot-eq0 : goal.returns-then-slot-eq0
+returns-then-slot-eq0 g c = λ _ x kept.
+    none_left g.S.Spec.object g.S.Parted.part_of g.met.S.Parted.parted c.args.owner.now c.args.op.now c.args.self.now.slots.entries x c.in-Some.slot.now
+    (ap (λ p. lookup (same_part p) c.args.self.now.slots.entries) (sym c.part-part.ensures) ∙ sym c.in-Some.ensures.value) c.if-slot-eq0.true kept
 
 pub returns-then-same : goal.returns-then-same
 returns-then-same g c = λ _ x kept.
