@@ -1,5 +1,5 @@
 -- Proof machinery: the map that the entries of a tree make.
-use Rattle.std.proofs.Common.{◌≡◌, ℤ, Bool, true, false, T, ◌&&◌, subst, cond, List, [], ◌∷◌}
+use Rattle.std.proofs.Common.{◌≡◌, ℤ, int_eq, Bool, true, false, not, T, ◌&&◌, subst, cond, List, [], ◌∷◌}
 use Rattle.std.proofs.Common.{Option, Some, None, refl, sym, ◌∙◌, ap}
 use Rattle.std.specs.declared.cmp.Ordering.{Ordering}
 use Rattle.std.specs.declared.cmp.Ordering.TheVariants.{Less}
@@ -13,7 +13,10 @@ use Rattle.std.specs.FinMap.Entries.{below_all}
 use Rattle.std.specs.List.{AllByRecursion}
 use Rattle.std.specs.List.Sorted.{IsStrictlySortedBy}
 use Rattle.std.specs.BTreeMap.{is_at}
-use Rattle.std.specs.Map.{keys_of, lookup}
+use Rattle.std.specs.Map.{keys_of, lookup, set_value}
+use Rattle.std.specs.Option.{option_eq}
+use Rattle.std.proofs.lemmas.Map.Steps.{set_value_same}
+use Rattle.pp_keyed.proofs.Rule.{same_key, key_is}
 
 both : (a b : Bool) → T a → T b → T (a && b)
 both true b p q = q
@@ -71,6 +74,32 @@ pub removed_seen : {X : Type 0} (es fs : List (ℤ × X)) (seen : FinMap int_cmp
     → from_entries {R = int_cmp} fs ≡ remove seen k
 removed_seen {X} es fs seen k j e f h =
     removed es fs j h ∙ ap (λ (m : FinMap int_cmp X). remove m j) e ∙ ap (remove seen) f
+
+-- What is written back as it was found changes nothing.
+pub kept_seen : {X : Type 0} (es fs : List (ℤ × X)) (seen : FinMap int_cmp X) (j : ℤ) (v : X)
+    → from_entries es ≡ seen → Some v ≡ lookup (is_at (int_cmp j)) es
+    → fs ≡ set_value (is_at (int_cmp j)) es v → from_entries {R = int_cmp} fs ≡ seen
+kept_seen es fs seen j v e r h =
+    ap (λ gs. from_entries {R = int_cmp} gs) (h ∙ set_value_same (is_at (int_cmp j)) es v (sym r)) ∙ e
+
+-- Whether a number is the one that was asked for.
+pub is_other : (was : Option ℤ) (n : ℤ) → true ≡ not (option_eq int_eq was (Some n))
+    → was ≡ Some n → ⊥
+is_other None n e h = cc
+is_other (Some m) n e h = differs (int_eq m n) e (key_is m n cc)
+  where
+    differs : (b : Bool) → true ≡ not b → b ≡ true → ⊥
+    differs true e f = cc
+    differs false e f = cc
+
+pub is_asked : (was : Option ℤ) (n : ℤ) → false ≡ not (option_eq int_eq was (Some n))
+    → was ≡ Some n
+is_asked None n e = cc
+is_asked (Some m) n e = ap Some (same_key m n (alike (int_eq m n) e))
+  where
+    alike : (b : Bool) → false ≡ not b → b ≡ true
+    alike true e = refl
+    alike false e = cc
 
 -- Entries whose keys ascend are those of their map.
 below : {X : Type 0} (k : ℤ) (es : List (ℤ × X))

@@ -1,5 +1,5 @@
 //! Numbers at keys.
-ghost use Rattle.std.specs.Prelude.{◌≡◌, IfOk, OnOk, OnErr};
+ghost use Rattle.std.specs.Prelude.{◌≡◌, ◌↔◌, IsTrue, false, IfOk, OnOk, OnErr};
 ghost use Rattle.std.specs.FinMap as map;
 
 use pp_core::{OutOfMemory, Sequence};
@@ -53,6 +53,29 @@ impl Cells {
             Ok(_) => Ok(()),
             Err(_) => Err(OutOfMemory),
         }
+    }
+
+    /// Puts a number at a key where `was` is what stands there, and says whether it is. A key that
+    /// is there is looked up once. The only error is that memory was refused.
+    pub fn replace(&mut self, key: i64, was: Option<i64>, number: i64) -> Result<bool, OutOfMemory>
+        ensures found { IfOk result (λ done. IsTrue done ↔ (map.get self.old key ≡ was)) }
+        ensures yes { IfOk result (λ done.
+            IsTrue done → self.new ≡ map.insert self.old key number) }
+        ensures no { IfOk result (λ done. done ≡ false → self.new ≡ self.old) }
+        ensures err { OnErr result (self.new ≡ self.old) }
+    {
+        if let Some(present) = self.entries.get_mut(&key) {
+            if was != Some(*present) {
+                return Ok(false);
+            }
+            *present = number;
+            return Ok(true);
+        }
+        if was.is_some() {
+            return Ok(false);
+        }
+        self.insert(key, number)?;
+        Ok(true)
     }
 
     /// Takes the number at a key out, where there is one.

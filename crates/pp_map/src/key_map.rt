@@ -73,15 +73,22 @@ impl Spec for KeyMap {
         ticks: &mut Ticks<L>,
     ) -> Result<Applied<()>, OutOfMemory> {
         ticks.tick();
-        if !Self::legal(state, op) {
-            return Ok(Applied::Differs);
+        let done = match *op {
+            MapOp::Put { key, value, was } => state.replace(key, was, value)?,
+            MapOp::Get { key: _, found: _ } => Self::legal(state, op),
+            MapOp::Remove { key, was: _ } => {
+                let legal = Self::legal(state, op);
+                if legal {
+                    state.remove(key);
+                }
+                legal
+            }
+        };
+        if done {
+            Ok(Applied::Done(()))
+        } else {
+            Ok(Applied::Differs)
         }
-        match *op {
-            MapOp::Put { key, value, was: _ } => state.insert(key, value)?,
-            MapOp::Get { key: _, found: _ } => (),
-            MapOp::Remove { key, was: _ } => state.remove(key),
-        }
-        Ok(Applied::Done(()))
     }
 
     fn undo<L: Ledger>(
