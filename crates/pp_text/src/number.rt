@@ -14,6 +14,16 @@ pub fn write_number(text: &mut Text, number: u64) -> Result<(), OutOfMemory>
     text.append(buffer.format(number).as_bytes())
 }
 
+/// Adds a signed number in decimal digits, with a `-` where it is negative. The only error is that
+/// memory was refused.
+pub(crate) fn write_signed_number(text: &mut Text, signed: i64) -> Result<(), OutOfMemory>
+    ensures ok { OnOk result (text.new ≡ text.old ++ signed_decimal signed) }
+    ensures err { OnErr result (text.new ≡ text.old) }
+{
+    let mut buffer = Buffer::new();
+    text.append(buffer.format(signed).as_bytes())
+}
+
 /// Adds an integer in decimal digits, with a `-` where it is negative. The only error is that
 /// memory was refused.
 pub fn write_integer(text: &mut Text, integer: i128) -> Result<(), OutOfMemory>

@@ -5,7 +5,7 @@ ghost use Rattle.pp_text.specs.Texts.{IsNamed, name_at, more_bytes, arguments_by
 ghost use Rattle.pp_text.specs.Texts.{op_bytes};
 
 use crate::answer::write_answer;
-use crate::number::write_integer;
+use crate::number::write_signed_number;
 use pp_core::{Catalog, Name, OutOfMemory, Text};
 use pp_object::{Act, Op};
 use std::alloc::Global;
@@ -36,7 +36,7 @@ fn write_next(text: &mut Text, number: i64) -> Result<(), OutOfMemory>
     ensures { OnOk result (text.new ≡ text.old ++ codes "," ++ signed_decimal number) }
 {
     text.append(b",")?;
-    write_integer(text, i128::from(number))
+    write_signed_number(text, number)
 }
 
 /// Adds numbers, separated by commas.
@@ -46,7 +46,7 @@ fn write_arguments(text: &mut Text, numbers: &[i64]) -> Result<(), OutOfMemory>
     match numbers {
         [] => Ok(()),
         [first, others @ ..] => {
-            write_integer(text, i128::from(*first))?;
+            write_signed_number(text, *first)?;
             write_more(text, others)
         }
     }

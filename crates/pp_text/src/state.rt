@@ -3,7 +3,7 @@ ghost use Rattle.std.specs.Prelude.{◌≡◌, ◌++◌, IfOk, OnOk};
 ghost use Rattle.std.specs.List.{flat_map};
 ghost use Rattle.pp_text.specs.Texts.{IsObjectOf, key_bytes, piece_bytes, state_bytes};
 
-use crate::number::write_integer;
+use crate::number::{write_integer, write_signed_number};
 use crate::op::name_at;
 use pp_core::{Catalog, OutOfMemory, Text};
 use pp_object::{ObjectStates, Piece, show};
@@ -16,7 +16,7 @@ fn write_key(text: &mut Text, key: Option<i64>) -> Result<(), OutOfMemory>
     let Some(key) = key else {
         return Ok(());
     };
-    write_integer(text, i128::from(key))?;
+    write_signed_number(text, key)?;
     text.append(b"=")
 }
 
