@@ -25,7 +25,7 @@ use pp_object::{ObjectStates, Objects};
 use pp_reading::{Failure, fault};
 use pp_report::{accepted, rejected};
 use pp_rules::Machine;
-use pp_serial::serial;
+use pp_serial::serial_state;
 use std::alloc::Global;
 use std::sync::ledger::Ledger;
 
@@ -49,7 +49,7 @@ pub fn summary<L: Ledger>(
     let kinds = tally.header.catalog.kinds(alloc)?;
     let count = machine.count();
     let committed = machine.committed();
-    let (_list, states) = serial::<Objects, L>(alloc, &kinds, committed, ticks)?;
+    let states = serial_state::<Objects, L>(alloc, &kinds, committed, ticks)?;
     Ok((count, states))
 }
 

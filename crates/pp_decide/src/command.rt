@@ -22,7 +22,7 @@ use pp_io::Source;
 use pp_object::Objects;
 use pp_quick::Quick;
 use pp_reading::{Failure, fault};
-use pp_serial::serial;
+use pp_serial::serial_state;
 use std::alloc::Global;
 use std::sync::ledger::Ledger;
 
@@ -42,7 +42,7 @@ fn report_accepted<L: Ledger>(
     let kinds = tally.header.catalog.kinds(alloc)?;
     let records = quick.count();
     let committed = quick.committed();
-    let (_list, states) = serial::<Objects, L>(alloc, &kinds, committed, ticks)?;
+    let states = serial_state::<Objects, L>(alloc, &kinds, committed, ticks)?;
     quick_accepted(alloc, &tally.header.catalog, records, committed, &states)
 }
 

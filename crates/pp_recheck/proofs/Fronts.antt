@@ -1,15 +1,10 @@
 -- Proof machinery: the front of a list of entries.
-use Rattle.std.proofs.Common.{◌≡◌, ◌<◌, ℕ, List, [], ◌∷◌, ◌++◌, length, take, drop, get_or, sym, ap}
-use Rattle.std.proofs.Common.{subst, ◌∙◌, take-append-drop}
-use Rattle.std.proofs.lemmas.List.{map-append, get_or-map, length-map}
+use Rattle.std.proofs.Common.{◌≡◌, ℕ, List, [], ◌∷◌, ◌++◌, length, take, drop, sym, ap, subst, ◌∙◌}
+use Rattle.std.proofs.Common.{take-append-drop}
+use Rattle.std.proofs.lemmas.List.{map-append, length-map}
 use Rattle.pp_model.specs.Object.{Item, ops}
 use Rattle.pp_spec.specs.Object.{Object, IsAllowed, AllRanged}
 use Rattle.pp_spec.proofs.Lists.{allowed-first}
-
-pub op_at : {Op : Type 0} (l : List (Item Op)) (i : ℕ) (p : Item Op) → i < length l →
-    p ≡ get_or l i p → p.op ≡ get_or (ops l) i p.op
-op_at {Op} l i p h e = ap (λ (w : Item Op). w.op) e
-    ∙ sym (get_or-map (λ (w : Item Op). w.op) l i p p.op h)
 
 pub length-ops : {Op : Type 0} (l : List (Item Op)) → length (ops l) ≡ length l
 length-ops {Op} l = length-map l (λ (w : Item Op). w.op)

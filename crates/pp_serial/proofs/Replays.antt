@@ -1,73 +1,77 @@
 -- Proof machinery: a list of operations, replayed one by one.
-use Rattle.std.proofs.Common.{◌≡◌, ℕ, ◌<◌, ◌≤◌, ◌+◌, IsTrue, List, [], ◌∷◌, ◌++◌, take, drop}
-use Rattle.std.proofs.Common.{length, get_or, sym, ◌∙◌, ap, subst, arith}
-use Rattle.std.proofs.lemmas.List.{take_more, drop_more, at_drop_all, length-take}
+use Rattle.std.proofs.Common.{◌≡◌, ◌<◌, ◌+◌, IsTrue, List, [], ◌∷◌, ◌++◌, length, refl, sym, ◌∙◌}
+use Rattle.std.proofs.Common.{ap, subst, arith}
+use Rattle.std.proofs.lemmas.List.{length-append}
 use Rattle.pp_spec.specs.Object.{Object, IsLegal, AllowedFrom, IsAllowed, AllRanged, IsLog}
 use Rattle.pp_spec.specs.Object.{IsReached, IsLawful, state_from, state_after}
-use Rattle.pp_spec.proofs.Lists.{log_grows}
+use Rattle.pp_spec.proofs.Lists.{log_grows, allowed-first}
 
--- The first i operations of a list are applied, and the rest may follow.
-pub record IsReplaying {Shape State Op Undo : Type 0} (o : Object Shape State Op Undo) (sh : Shape)
-    (l : List Op) (s : State) (i : ℕ) : Type 0 where
-  pub log : IsLog o s (take i l)
-  pub shape : o.shape s ≡ sh
-  pub allowed : AllowedFrom o s (drop i l)
-  pub ranged : AllRanged o (drop i l)
-  pub leads : state_from o s (drop i l) ≡ state_after o sh l
+-- In the state s, of which a run is known, the rest of a list may follow, and leads to the state t.
+pub record IsReplaying {Shape State Op Undo : Type 0} (o : Object Shape State Op Undo)
+    (t s : State) (rest : List Op) : Type 0 where
+  pub allowed : AllowedFrom o s rest
+  pub ranged : AllRanged o rest
+  pub leads : state_from o s rest ≡ t
+  pub before : List Op
+  pub log : IsLog o s before
+  pub few : length before + length rest < 1_000_000
 
-module _ {Shape State Op Undo : Type 0} (o : Object Shape State Op Undo) (laws : IsLawful o)
-    (sh : Shape) (l : List Op) where
-  pub begins : (s : State) → s ≡ o.start sh → IsAllowed o sh l → AllRanged o l
-      → IsReplaying o sh l s 0
-  begins s e h r =
-      let shape : o.shape s ≡ sh = ap o.shape e ∙ laws.start_shape sh in
-      record {
-        log = record { allowed = tt; is = e ∙ ap o.start (sym shape); ranged = tt };
-        shape = shape;
-        allowed = subst (λ (t : State). AllowedFrom o t l) (sym e) h;
-        ranged = r;
-        leads = ap (λ (t : State). state_from o t l) e;
-      }
+module _ {Shape State Op Undo : Type 0} (o : Object Shape State Op Undo) where
+  pub allowed_front : (s : State) (x y l : List Op) → l ≡ x ++ y → AllowedFrom o s l
+      → AllowedFrom o s x
+  allowed_front s x y l e h = allowed-first o s x y
+      (subst (λ (w : List Op). AllowedFrom o s w) e h)
 
-  rest_is : (i : ℕ) (x : Op) → i < length l → x ≡ get_or l i x → drop i l ≡ x ∷ drop (i + 1) l
-  rest_is i x h e = drop_more l i x h ∙ ap (λ (y : Op). y ∷ drop (i + 1) l) (sym e)
+  ranged_first : (x y : List Op) → AllRanged o (x ++ y) → AllRanged o x
+  ranged_first [] y h = tt
+  ranged_first (a ∷ x) y h = (h.0, ranged_first x y h.1)
 
-  pub next_is_legal : (s : State) (i : ℕ) (x : Op) → IsReplaying o sh l s i → i < length l
-      → x ≡ get_or l i x → IsLegal o s x
-  next_is_legal s i x k h e = (subst (λ (rest : List Op). AllowedFrom o s rest)
-      (rest_is i x h e) k.allowed).0
+  pub ranged_front : (x y l : List Op) → l ≡ x ++ y → AllRanged o l → AllRanged o x
+  ranged_front x y l e h = ranged_first x y (subst (λ (w : List Op). AllRanged o w) e h)
 
-  pub next_is_ranged : (s : State) (i : ℕ) (x : Op) → IsReplaying o sh l s i → i < length l
-      → x ≡ get_or l i x → IsTrue (o.ranged x)
-  next_is_ranged s i x k h e = (subst (λ (rest : List Op). AllRanged o rest)
-      (rest_is i x h e) k.ranged).0
-
-  pub is_reached : (s : State) (i : ℕ) → IsReplaying o sh l s i → length l < 1_000_000
-      → IsReached o s
-  is_reached s i k few = record {
-    ops = take i l;
-    log = k.log;
-    few =
-        omega (arith, length-take i l);
+module _ {Shape State Op Undo : Type 0} (o : Object Shape State Op Undo) (laws : IsLawful o) where
+  pub begins : (sh : Shape) (l : List Op) (s : State) → s ≡ o.start sh → IsAllowed o sh l
+      → AllRanged o l → length l < 1_000_000 → IsReplaying o (state_after o sh l) s l
+  begins sh l s e h r few = record {
+    allowed = subst (λ (u : State). AllowedFrom o u l) (sym e) h;
+    ranged = r;
+    leads = ap (λ (u : State). state_from o u l) e;
+    before = [];
+    log = record {
+      allowed = tt;
+      is = e ∙ ap o.start (sym (ap o.shape e ∙ laws.start_shape sh));
+      ranged = tt;
+    };
+    few = omega (arith, few);
   }
 
-  pub goes_on : (s t : State) (i : ℕ) (x : Op) → IsReplaying o sh l s i → i < length l
-      → x ≡ get_or l i x → t ≡ o.next s x → IsReplaying o sh l t (i + 1)
-  goes_on s t i x k h e q =
-      let legal = next_is_legal s i x k h e in
-      let front : take (i + 1) l ≡ take i l ++ x ∷ [] = take_more l i x h
-      ∙ ap (λ (y : Op). take i l ++ y ∷ []) (sym e) in
-      let same = laws.next_shape s x legal in
-      let grown : IsLog o (o.next s x) (take i l ++ x ∷ []) =
-      log_grows o s (take i l) x k.log legal (next_is_ranged s i x k h e) same in
-      let P : State → Type 0 = λ u. IsReplaying o sh l u (i + 1) in
-      subst P (sym q) (record {
-        log = subst (λ (y : List Op). IsLog o (o.next s x) y) (sym front) grown;
-        shape = same ∙ k.shape;
-        allowed = (subst (λ (rest : List Op). AllowedFrom o s rest) (rest_is i x h e) k.allowed).1;
-        ranged = (subst (λ (rest : List Op). AllRanged o rest) (rest_is i x h e) k.ranged).1;
-        leads = ap (λ (rest : List Op). state_from o s rest) (sym (rest_is i x h e)) ∙ k.leads;
+  pub next_is_legal : (t s : State) (x : Op) (rest : List Op) → IsReplaying o t s (x ∷ rest)
+      → IsLegal o s x
+  next_is_legal t s x rest k = k.allowed.0
+
+  pub next_is_ranged : (t s : State) (x : Op) (rest : List Op) → IsReplaying o t s (x ∷ rest)
+      → IsTrue (o.ranged x)
+  next_is_ranged t s x rest k = k.ranged.0
+
+  pub is_reached : (t s : State) (rest : List Op) → IsReplaying o t s rest → IsReached o s
+  is_reached t s rest k = record { ops = k.before; log = k.log; few = omega (arith, k.few) }
+
+  pub goes_on : (t s u : State) (x : Op) (rest : List Op) → IsReplaying o t s (x ∷ rest)
+      → u ≡ o.next s x → IsReplaying o t u rest
+  goes_on t s u x rest k q =
+      let legal = k.allowed.0 in
+      subst (λ (v : State). IsReplaying o t v rest) (sym q) (record {
+        allowed = k.allowed.1;
+        ranged = k.ranged.1;
+        leads = k.leads;
+        before = k.before ++ x ∷ [];
+        log = log_grows o s k.before x k.log legal k.ranged.0 (laws.next_shape s x legal);
+        few = omega (arith, k.few, length-append k.before (x ∷ []));
       })
 
-  pub ends : (s : State) (i : ℕ) → IsReplaying o sh l s i → length l ≤ i → s ≡ state_after o sh l
-  ends s i k h = sym (at_drop_all (λ (rest : List Op). state_from o s rest) l i h) ∙ k.leads
+  -- so do several at once
+  pub goes_on_by : (t s u : State) (x rest : List Op) → IsReplaying o t s (x ++ rest)
+      → u ≡ state_from o s x → IsReplaying o t u rest
+  goes_on_by t s u [] rest k q = subst (λ (v : State). IsReplaying o t v rest) (sym q) k
+  goes_on_by t s u (a ∷ x) rest k q =
+      goes_on_by t (o.next s a) u x rest (goes_on t s (o.next s a) a (x ++ rest) k refl) q

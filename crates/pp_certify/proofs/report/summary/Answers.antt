@@ -8,14 +8,14 @@ use Rattle.pp_certify.proofs.Fitting.{serial_fits}
 use Rattle.pp_certify.proofs.Naming.{allowed_over, states_named}
 use Rattle.pp_certify.proofs.report.summary.Goals as goal
 
-pub serial-requires-clause-allowed : goal.serial-requires-clause-allowed
-serial-requires-clause-allowed g c =
+pub serial_state-requires-clause-allowed : goal.serial_state-requires-clause-allowed
+serial_state-requires-clause-allowed g c =
     let machine = c.args.machine.now in
     allowed_over c.in_ok-kinds.kinds machine.shape c.committed-committed.result.now machine.config.done
     (c.requires.1.shape ∙ sym c.in_ok-kinds.ensures) c.committed-committed.ensures.done c.committed-committed.ensures.allowed
 
-pub serial-requires-clause-few : goal.serial-requires-clause-few
-serial-requires-clause-few g c =
+pub serial_state-requires-clause-few : goal.serial_state-requires-clause-few
+serial_state-requires-clause-few g c =
     let r = c.requires.1 in
     let machine = c.args.machine.now in
     let same : length (serial_ops c.committed-committed.result.now) ≡ length (serial_ops machine.config.done) = ap (λ (D : List (CommittedTx Op)). length (serial_ops D)) c.committed-committed.ensures.done in
@@ -24,7 +24,7 @@ serial-requires-clause-few g c =
 pub returns-clause-states : goal.returns-clause-states
 returns-clause-states g c =
     let committed = c.committed-committed.result.now in
-    c.in_ok-_list.ensures.state ∙ ap (λ k. state_after objects k (serial_ops committed)) c.in_ok-kinds.ensures
+    c.in_ok-states.ensures.state ∙ ap (λ k. state_after objects k (serial_ops committed)) c.in_ok-kinds.ensures
     ∙ ap (λ (D : List (CommittedTx Op)). state_after objects (kinds_of c.args.tally.now.header.catalog) (serial_ops D)) c.committed-committed.ensures.done
 
 pub returns-clause-named : goal.returns-clause-named
@@ -32,21 +32,21 @@ returns-clause-named g c =
     let machine = c.args.machine.now in
     let catalog = c.args.tally.now.header.catalog in
     let committed = c.committed-committed.result.now in
-    states_named catalog committed c.in_ok-_list.states
+    states_named catalog committed c.in_ok-states.states
     (allowed_over (kinds_of catalog) machine.shape committed machine.config.done c.requires.1.shape c.committed-committed.ensures.done c.committed-committed.ensures.allowed)
-    (c.in_ok-_list.ensures.state ∙ ap (λ k. state_after objects k (serial_ops committed)) c.in_ok-kinds.ensures)
+    (c.in_ok-states.ensures.state ∙ ap (λ k. state_after objects k (serial_ops committed)) c.in_ok-kinds.ensures)
 
 pub returns-clause-cost : goal.returns-clause-cost
 returns-clause-cost g c =
     let same : length (serial_ops c.committed-committed.result.now) ≡ length (serial_ops c.args.machine.now.config.done) = ap (λ (D : List (CommittedTx Op)). length (serial_ops D)) c.committed-committed.ensures.done in
-    c.in_ok-_list.ensures.cost ∙ ap (λ n. c.args.ticks.now + n) same
+    c.in_ok-states.ensures.cost ∙ ap (λ n. c.args.ticks.now + n) same
 
 pub returns-clause-bound : goal.returns-clause-bound
 returns-clause-bound g c =
     let same : length (serial_ops c.committed-committed.result.now) ≡ length (serial_ops c.args.machine.now.config.done) = ap (λ (D : List (CommittedTx Op)). length (serial_ops D)) c.committed-committed.ensures.done in
-    omega (arith, same, c.serial.ensures.bound)
+    omega (arith, same, c.serial_state.ensures.bound)
 
-pub returns-in_err-_list-clause-bound : goal.returns-in_err-_list-clause-bound
-returns-in_err-_list-clause-bound g c =
+pub returns-in_err-states-clause-bound : goal.returns-in_err-states-clause-bound
+returns-in_err-states-clause-bound g c =
     let same : length (serial_ops c.committed-committed.result.now) ≡ length (serial_ops c.args.machine.now.config.done) = ap (λ (D : List (CommittedTx Op)). length (serial_ops D)) c.committed-committed.ensures.done in
-    omega (arith, same, c.serial.ensures.bound)
+    omega (arith, same, c.serial_state.ensures.bound)

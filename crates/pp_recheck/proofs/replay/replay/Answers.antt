@@ -1,53 +1,36 @@
-use Rattle.std.proofs.Common.{◌<◌, length, arith}
+use Rattle.std.proofs.Common.{◌≡◌, ◌+◌, ◌∷◌, drop, subst, arith}
 use Rattle.pp_model.specs.Object.{ops}
-use Rattle.pp_serial.proofs.Replays.{next_is_legal, next_is_ranged, goes_on}
-use Rattle.pp_recheck.proofs.Fronts.{op_at, length-ops}
+use Rattle.pp_spec.specs.Object.{state_after}
+use Rattle.pp_serial.proofs.Rests.{ops_left}
+use Rattle.pp_serial.proofs.Replays.{IsReplaying, begins, goes_on}
+use Rattle.pp_recheck.proofs.Fronts.{length-ops}
 use Rattle.pp_recheck.proofs.replay.replay.Goals as goal
 
-pub apply-requires-clause-fits : goal.apply-requires-clause-fits
-apply-requires-clause-fits g c =
+pub loop-entry-init : goal.loop-entry-init
+loop-entry-init g c =
     let l = c.args.entries.now in
-    let i = c.loop-entry.entry-index in
-    let p = c.entry-item.result in
-    let there : i < length (ops l) = omega (arith, length-ops l, c.loop-entry-test.true) in
-    let is = op_at l i p c.loop-entry-test.true c.entry-item.is in
-    (next_is_legal g.S.Spec.object g.met.S.Spec.lawful c.args.shape.now (ops l)
-    c.loop-entry.state i p.op c.loop-entry.invariant.replaying there is).0
-
-pub apply-requires-clause-ranged : goal.apply-requires-clause-ranged
-apply-requires-clause-ranged g c =
-    let l = c.args.entries.now in
-    let i = c.loop-entry.entry-index in
-    let p = c.entry-item.result in
-    let there : i < length (ops l) = omega (arith, length-ops l, c.loop-entry-test.true) in
-    let is = op_at l i p c.loop-entry-test.true c.entry-item.is in
-    next_is_ranged g.S.Spec.object g.met.S.Spec.lawful c.args.shape.now (ops l)
-    c.loop-entry.state i p.op c.loop-entry.invariant.replaying there is
-
-pub unreachable-requires : goal.unreachable-requires
-unreachable-requires g c =
-    let l = c.args.entries.now in
-    let i = c.loop-entry.entry-index in
-    let p = c.entry-item.result in
-    let applied = rw c.in-Differs.is at c.in_ok-apply.ensures.applied in
-    let there : i < length (ops l) = omega (arith, length-ops l, c.loop-entry-test.true) in
-    let is = op_at l i p c.loop-entry-test.true c.entry-item.is in
-    applied.0 (next_is_legal g.S.Spec.object g.met.S.Spec.lawful c.args.shape.now (ops l)
-    c.loop-entry.state i p.op c.loop-entry.invariant.replaying there is).1
+    record {
+      replaying = begins g.S.Spec.object g.met.S.Spec.lawful c.args.shape.now (ops l)
+          c.in_ok-state.state c.in_ok-state.ensures c.requires.allowed c.requires.ranged
+          (omega (arith, length-ops l, c.requires.few));
+      cost = omega arith;
+    }
 
 pub loop-entry-preserved : goal.loop-entry-preserved
 loop-entry-preserved g c =
+    let o = g.S.Spec.object in
     let l = c.args.entries.now in
     let i = c.loop-entry.entry-index in
     let p = c.entry-item.result in
     let applied = rw c.in-Done.is at c.in_ok-apply.ensures.applied in
-    let cost = c.in_ok-apply.ensures.cost in
-    let so = c.loop-entry.invariant.cost in
-    let there : i < length (ops l) = omega (arith, length-ops l, c.loop-entry-test.true) in
-    let is = op_at l i p c.loop-entry-test.true c.entry-item.is in
+    let t = state_after o c.args.shape.now (ops l) in
+    let left : ops (drop i l) ≡ p.op ∷ ops (drop (i + 1) l) =
+    ops_left l i p c.loop-entry-test.true c.entry-item.is in
     record {
-      replaying = goes_on g.S.Spec.object g.met.S.Spec.lawful c.args.shape.now (ops l)
-          c.loop-entry.state c.apply.new.state i p.op c.loop-entry.invariant.replaying there is
+      replaying = goes_on o g.met.S.Spec.lawful t c.loop-entry.state c.apply.new.state p.op
+          (ops (drop (i + 1) l))
+          (subst (λ rest. IsReplaying o t c.loop-entry.state rest) left
+          c.loop-entry.invariant.replaying)
           applied.2;
-      cost = omega (arith, cost, so);
+      cost = omega (arith, c.in_ok-apply.ensures.cost, c.loop-entry.invariant.cost);
     }

@@ -1,8 +1,12 @@
-use Rattle.std.proofs.Common.{◌≡◌, ◌+◌}
+use Rattle.std.proofs.Common.{◌≡◌, ◌+◌, drop}
+use Rattle.pp_model.specs.Object.{ops}
+use Rattle.pp_spec.specs.Object.{state_from}
 use Rattle.pp_serial.proofs.Replays.{IsReplaying}
 use Rattle.pp_serial.proofs.run.replay.Given as goal
 
-abbrev pub invariant-loop-operation : goal.invariant-loop-operation
-invariant-loop-operation g l =
-    IsReplaying g.S.Spec.object l.shape l.operations l.state l.operation-index
-    × (l.ticks ≡ l.fn.ticks + l.operation-index)
+abbrev pub invariant-loop-entry : goal.invariant-loop-entry
+invariant-loop-entry g l = record {
+  replaying : IsReplaying g.S.Spec.object (state_from g.S.Spec.object l.fn.state (ops l.entries))
+      l.state (ops (drop l.entry-index l.entries));
+  cost : l.ticks ≡ l.fn.ticks + l.entry-index;
+}
