@@ -13,7 +13,7 @@ use Rattle.pp_model.proofs.Serial.{allowed_front, ordered, serial_law}
 use Rattle.pp_spec.specs.Object.{Object, AllRanged, IsAllowed, rules_of}
 use Rattle.pp_quick.specs.Boosted.{PlacesSwap}
 use Rattle.pp_quick.specs.Brief.{Brief, BriefTx, brief}
-use Rattle.pp_quick.specs.Shown.{AreThreads, Holds, IsFine, Kept, at, filled, shown, shown_tx, threads_of}
+use Rattle.pp_quick.specs.Shown.{AreThreads, Holds, IsFine, Kept, WasCommitted, at, filled, shown, shown_tx, threads_of}
 use Rattle.pp_quick.specs.declared.parts.OpenTx.{OpenTx}
 use Rattle.pp_quick.proofs.Fitting.{in_ranged, ranged_in, serial_fits}
 use Rattle.pp_quick.proofs.Moving.{same_brief}
@@ -43,7 +43,7 @@ module _ {Shape State Op Undo : Type 0} (o : Object Shape State Op Undo) (place 
               subst (λ (z : List (BriefTx Op)). AreThreads v.threads.keys (threads_of z)) (sym opened_none)
               (subst (λ (z : List Name). AreThreads z []) (sym threads) (record { apart = λ p q b. absurd b; are = λ p. refl }));
           fine = subst (λ (z : List (Name × Option (OpenTx (List (Item Op))))). (n : Name) (x : OpenTx (List (Item Op))) → In (n, Some x) z → IsFine o place v.commits.items x) (sym slots) (λ n x i. absurd i);
-          commits = subst (λ (z : List (List (Item Op))). (q : ℕ) (p : Item Op) → In p (at q z) → In p (serial_items v.committed) × (place p.op ≡ q)) (sym commits) (λ q p i. absurd i);
+          commits = subst (λ (z : List (List ℕ)). (q id : ℕ) → In id (at q z) → WasCommitted place v.committed q id) (sym commits) (λ q id i. absurd i);
           same_shape = ap (λ (z : Shape × List (SharedEntry Op)). z.0) shared;
           few = let e : length v.shared.1 ≡ 0 = ap (λ (z : Shape × List (SharedEntry Op)). length z.1) shared in omega arith;
         }

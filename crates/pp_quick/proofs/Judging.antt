@@ -1,5 +1,5 @@
 -- When a record is good, from what a Quick keeps.
-use Rattle.std.specs.Prelude.{◌≡◌, ◌≢◌, ◌==◌, ◌↔◌, ℕ, nat_eq, Bool, true, false, cond, List, [], ◌∷◌, ◌++◌, filter, is_some, position, option_map, Option, None, Some, IsTrue, IsSome}
+use Rattle.std.specs.Prelude.{◌≡◌, ◌≢◌, ◌==◌, ◌↔◌, ℕ, nat_eq, Bool, true, false, cond, ◌&&◌, List, [], ◌∷◌, ◌++◌, filter, is_some, position, option_map, Option, None, Some, IsTrue, IsSome}
 use Rattle.std.specs.List.{list_any}
 use Rattle.std.specs.Map.{keys_of, lookup, set_value}
 use Rattle.std.proofs.Common.{refl, sym, ap, subst, ◌∙◌}
@@ -24,8 +24,8 @@ use Rattle.pp_front.specs.Records as records
 use Rattle.pp_quick.specs.Boosted.{PlacesSwap}
 use Rattle.pp_quick.specs.Brief.{Brief, BriefGoodOp, BriefTx, brief_of}
 use Rattle.pp_quick.specs.Moving.{IsGood}
-use Rattle.pp_quick.specs.Passing.{LetAllPass, StopsOne}
-use Rattle.pp_quick.specs.Shown.{Holds, Kept, at, calls_of, in_slot, is_unseen, item_ids, items_behind, open_in, shown, shown_tx, threads_of, unseen_at}
+use Rattle.pp_quick.specs.Passing.{HaveOwnIds, LetAllPass, StopsOne}
+use Rattle.pp_quick.specs.Shown.{Holds, Kept, at, calls_of, in_slot, is_unseen, ids_behind, open_in, shown, shown_tx, threads_of, unseen_at}
 use Rattle.pp_quick.specs.declared.parts.OpenTx.{OpenTx}
 use Rattle.pp_quick.proofs.Briefs.{has_in, in_has}
 use Rattle.pp_quick.proofs.Filled.{begun_is}
@@ -45,7 +45,7 @@ not_used l id e i =
     let k = none_in (λ (j : ℕ). id == j) l e id i in
     let z : true ≡ false = sym (eq-eqb id id refl) ∙ k in cc
 
-in_behind : {A : Type 0} (m : Option ℕ) (l : List A) (a : A) → In a (items_behind m l) → In a l
+in_behind : {A : Type 0} (m : Option ℕ) (l : List A) (a : A) → In a (ids_behind m l) → In a l
 in_behind None l a h = absurd h
 in_behind (Some k) l a h = let r = in_drop l k a h in stands_in l r.0 a r.2
 
@@ -72,8 +72,11 @@ module _ {Shape State Op Undo : Type 0} (o : Object Shape State Op Undo) (place 
   abbrev G : List (SharedEntry Op)
   G = v.shared.1
 
-  abbrev commits : List (List (Item Op))
+  abbrev commits : List (List ℕ)
   commits = v.commits.items
+
+  pub own_ids : HaveOwnIds G
+  own_ids = distinct o place apart v.shape B h.short
 
   -- names and threads
   pub begun_name : (t : Name) → is_some (lookup (λ n. t =ⁿ n) v.slots.entries) ≡ true → In t B.names
@@ -128,24 +131,25 @@ module _ {Shape State Op Undo : Type 0} (o : Object Shape State Op Undo) (place 
       pub unbegun : (answer : Bool) → TellsBegins x.walk (o.call op) answer → answer ≡ false → IsGood o place v (records.Op t id op) → ⊥
       unbegun answer w e g = let z : true ≡ false = sym ((w (calls_of o x.own) (fine_of o place apart v h t x found).taken).1 (of_it Good g).begins) ∙ e in cc
 
-      -- a commit that was not seen stands in G, and is missed
-      missed : (p : Item Op) → In p (unseen_at (place op) commits x.seen.entries) → (n : Name) × In (as_shared n true p) G × (place p.op ≡ place op) × In p.id show.missed
-      missed p i =
-          let k = h.commits (place op) p (in_behind (lookup (nat_eq (place op)) x.seen.entries) (at (place op) commits) p i) in
-          let s = done_stands o place apart v.shape B h.short p k.0 in
-          let e : SharedEntry Op = as_shared s.0 true p in
-          let has : has_id p.id (item_ids (unseen_at (place p.op) commits x.seen.entries)) ≡ true =
-          in_has p.id (item_ids (unseen_at (place p.op) commits x.seen.entries))
-          (in_map (λ (q : Item Op). q.id) p (unseen_at (place p.op) commits x.seen.entries) (subst (λ (q : ℕ). In p (unseen_at q commits x.seen.entries)) (sym k.1) i)) in
-          (s.0, s.1, k.1, in_map (λ (w : SharedEntry Op). w.id) e (filter (is_unseen place commits x.seen.entries) G) (in_filter (is_unseen place commits x.seen.entries) e G s.1 has))
+      -- an entry whose id is that of a commit that was not seen has the place of the commit, and is missed
+      missed : (p : SharedEntry Op) → In p G → In p.id (unseen_at (place op) commits x.seen.entries) → (place p.op ≡ place op) × In p.id show.missed
+      missed p i u =
+          let k = h.commits (place op) p.id (in_behind (lookup (nat_eq (place op)) x.seen.entries) (at (place op) commits) p.id u) in
+          let s = done_stands o place apart v.shape B h.short k.0 k.1 in
+          let same : as_shared s.0 true k.0 ≡ p = by_key (λ (w : SharedEntry Op). w.id) G own_ids (as_shared s.0 true k.0) p s.1 i k.2 in
+          let there : place p.op ≡ place op = ap (λ (w : SharedEntry Op). place w.op) (sym same) ∙ k.3 in
+          let has : is_unseen place commits x.seen.entries p ≡ true =
+          ap (λ (w : SharedEntry Op). w.committed && has_id p.id (unseen_at (place p.op) commits x.seen.entries)) (sym same)
+          ∙ in_has p.id (unseen_at (place p.op) commits x.seen.entries) (subst (λ (q : ℕ). In p.id (unseen_at q commits x.seen.entries)) (sym there) u) in
+          (there, in_map (λ (w : SharedEntry Op). w.id) p (filter (is_unseen place commits x.seen.entries) G) (in_filter (is_unseen place commits x.seen.entries) p G i has))
 
-      pub stopped : IsLawful o → StopsOne o place x.own (unseen_at (place op) commits x.seen.entries) → IsGood o place v (records.Op t id op) → ⊥
+      pub stopped : IsLawful o → StopsOne o place x.own G (unseen_at (place op) commits x.seen.entries) → IsGood o place v (records.Op t id op) → ⊥
       stopped laws s g =
-          let m = missed s.item s.is in
+          let m = missed s.entry s.is s.among in
           let a = s.stops in
           let fit_a = fits o place apart v.shape B h.short laws (as_shared t false a.item) (own_stands o place apart v.shape B h.short t show here a.item a.is) in
-          let fit_p = fits o place apart v.shape B h.short laws (as_shared m.0 true s.item) m.1 in
-          a.stays v.shape fit_a fit_p ((of_it Good g).swaps a.item (as_shared m.0 true s.item) a.is (a.there ∙ m.2) m.1 m.2 m.3)
+          let fit_p = fits o place apart v.shape B h.short laws s.entry s.is in
+          a.stays v.shape fit_a fit_p ((of_it Good g).swaps a.item s.entry a.is (a.there ∙ m.0) s.is m.0 m.1)
 
       pub blocked : IsLawful o → IsTrue (o.fits v.shape op) → (k : ℕ) → IsFirstBlocking o t op G k → IsGood o place v (records.Op t id op) → ⊥
       blocked laws fit k b g =
@@ -156,18 +160,15 @@ module _ {Shape State Op Undo : Type 0} (o : Object Shape State Op Undo) (place 
       illegal answer w e g =
           let z : true ≡ false = sym (w.1 (subst (λ (s : Shape). IsAllowed o s (shared_ops G ++ op ∷ [])) (sym h.same_shape) (of_it Good g).allowed)) ∙ e in cc
 
-      swap_all : LetAllPass o place x.own (unseen_at (place op) commits x.seen.entries) → (a : Item Op) (p : SharedEntry Op) → In a x.own → place a.op ≡ place op → In p G → place p.op ≡ place op → In p.id show.missed →
+      swap_all : LetAllPass o place x.own G (unseen_at (place op) commits x.seen.entries) → (a : Item Op) (p : SharedEntry Op) → In a x.own → place a.op ≡ place op → In p G → place p.op ≡ place op → In p.id show.missed →
           SwapsIn o v.shape a.op p.op
       swap_all pass a p i q j r m =
-          let u = sym (has_unseen place G commits x.seen.entries (distinct o place apart v.shape B h.short) p j) ∙ in_has p.id show.missed m in
+          let u = sym (has_unseen place G commits x.seen.entries own_ids p j) ∙ in_has p.id show.missed m in
           let l = unseen_at (place p.op) commits x.seen.entries in
-          let f = from_map (λ (w : Item Op). w.id) p.id l (has_in p.id (item_ids l) (and_parts p.committed (has_id p.id (item_ids l)) u).1) in
-          let mine = subst (λ (n : ℕ). In f.0 (unseen_at n commits x.seen.entries)) r f.1 in
-          let d = missed f.0 mine in
-          let same : as_shared d.0 true f.0 ≡ p = by_key (λ (w : SharedEntry Op). w.id) G (distinct o place apart v.shape B h.short) (as_shared d.0 true f.0) p d.1 j (sym f.2) in
-          subst (λ (w : SharedEntry Op). SwapsIn o v.shape a.op w.op) same (pass f.0 mine a i (q ∙ sym d.2) v.shape)
+          let among = has_in p.id l (and_parts p.committed (has_id p.id l) u).1 in
+          pass p j (subst (λ (n : ℕ). In p.id (unseen_at n commits x.seen.entries)) r among) a i (q ∙ sym r) v.shape
 
-      pub good : list_any (λ i. id == i) v.ids ≡ false → (can : Bool) → TellsBegins x.walk (o.call op) can → can ≡ true → LetAllPass o place x.own (unseen_at (place op) commits x.seen.entries) →
+      pub good : list_any (λ i. id == i) v.ids ≡ false → (can : Bool) → TellsBegins x.walk (o.call op) can → can ≡ true → LetAllPass o place x.own G (unseen_at (place op) commits x.seen.entries) →
           AllGiveWay o t op G → GoesBehind o v.shared.0 (shared_ops G) op → IsGood o place v (records.Op t id op)
       good fresh can begins ok pass give legal = it_is Good (record {
         new = λ i. not_used v.ids id fresh (from_reverse id v.ids i);

@@ -26,9 +26,9 @@ use Rattle.pp_quick.specs.Boosted.{PlacesSwap}
 use Rattle.pp_quick.specs.Brief.{Brief, BriefTx, at_brief, brief_of, brief_then, emptied, grown, missing_more, own_list, touches, without_brief, without_owner}
 use Rattle.pp_quick.specs.Laws.{without_ids}
 use Rattle.pp_quick.specs.Moving.{IsGood, Moves}
-use Rattle.pp_quick.specs.Passing.{IsGrown, items_at}
+use Rattle.pp_quick.specs.Passing.{IsGrown, ids_at, items_at}
 use Rattle.pp_quick.specs.Runs.{IsBoosted}
-use Rattle.pp_quick.specs.Shown.{AreThreads, Holds, IsFine, IsShort, Kept, at, calls_of, filled, in_slot, open_in, shown, shown_tx, threads_of, unseen}
+use Rattle.pp_quick.specs.Shown.{AreThreads, Holds, IsFine, IsShort, Kept, WasCommitted, at, calls_of, filled, in_slot, open_in, shown, shown_tx, threads_of, unseen}
 use Rattle.pp_quick.specs.declared.parts.OpenTx.{OpenTx}
 use Rattle.pp_quick.proofs.Filled.{Apart, among, filled_more, filled_out, filled_set, found_is, in_set, keys_stay}
 use Rattle.pp_quick.proofs.Looking.{any_in, in_reverse, reverse_more}
@@ -90,7 +90,7 @@ module _ {Shape State Op Undo : Type 0} (o : Object Shape State Op Undo) (place 
   abbrev G : List (SharedEntry Op)
   G = v.shared.1
 
-  abbrev commits : List (List (Item Op))
+  abbrev commits : List (List ℕ)
   commits = v.commits.items
 
   abbrev es : List (Name × Option (OpenTx (List (Item Op))))
@@ -99,7 +99,7 @@ module _ {Shape State Op Undo : Type 0} (o : Object Shape State Op Undo) (place 
   abbrev show : Name → OpenTx (List (Item Op)) → BriefTx Op
   show = shown_tx place G commits
 
-  named : (G : List (SharedEntry Op)) (cs : List (List (Item Op))) (n : Name) (x : OpenTx (List (Item Op))) → (shown_tx place G cs n x).name ≡ n
+  named : (G : List (SharedEntry Op)) (cs : List (List ℕ)) (n : Name) (x : OpenTx (List (Item Op))) → (shown_tx place G cs n x).name ≡ n
   named G cs n x = refl
 
   -- what is open at t
@@ -127,7 +127,7 @@ module _ {Shape State Op Undo : Type 0} (o : Object Shape State Op Undo) (place 
 
   moves : (r : RunRecord Op) (w : Kept Shape Op) → IsBoosted r → IsGood o place v r → w.shape ≡ v.shape → w.count ≡ v.count + 1 → shown place w ≡ brief_then place B r → Apart w.slots.entries →
       AreThreads w.threads.keys (threads_of (brief_then place B r).opened) → ((n : Name) (x : OpenTx (List (Item Op))) → In (n, Some x) w.slots.entries → IsFine o place w.commits.items x) →
-      ((q : ℕ) (p : Item Op) → In p (at q w.commits.items) → In p (serial_items w.committed) × (place p.op ≡ q)) → w.shared.0 ≡ v.shape → length w.shared.1 ≤ v.count + 1 + 256 → Moves o place v r w
+      ((q id : ℕ) → In id (at q w.commits.items) → WasCommitted place w.committed q id) → w.shared.0 ≡ v.shape → length w.shared.1 ≤ v.count + 1 + 256 → Moves o place v r w
   moves r w s g shape count is names threads fine done same few =
       record {
         shape = shape;
@@ -144,6 +144,10 @@ module _ {Shape State Op Undo : Type 0} (o : Object Shape State Op Undo) (place 
               few = omega (arith, few, count);
             };
       }
+
+  -- commits that are as they were
+  commits_stay : (w : Kept Shape Op) → w.commits.items ≡ commits → w.committed ≡ v.committed → (q id : ℕ) → In id (at q w.commits.items) → WasCommitted place w.committed q id
+  commits_stay w same done q id i = subst (λ (z : List (CommittedTx Op)). WasCommitted place z q id) (sym done) (h.commits q id (subst (λ (z : List (List ℕ)). In id (at q z)) same i))
 
   -- threads
   threads_on : (t : Name) (g : BriefTx Op → BriefTx Op) (l : List (BriefTx Op)) → ((y : BriefTx Op) → (g y).thread ≡ y.thread) → threads_of (at_brief t g l) ≡ threads_of l
@@ -169,7 +173,7 @@ module _ {Shape State Op Undo : Type 0} (o : Object Shape State Op Undo) (place 
   keys_set t s fs e = ap (λ (z : List (Name × Option (OpenTx (List (Item Op))))). reverse (keys_of z)) e ∙ ap (λ (z : List Name). reverse z) (keys_stay t es s)
 
   -- the slots after a change of one
-  fine_set : (t : Name) (s : Option (OpenTx (List (Item Op)))) (fs : List (Name × Option (OpenTx (List (Item Op))))) (cs : List (List (Item Op))) → fs ≡ set_value (λ n. t =ⁿ n) es s →
+  fine_set : (t : Name) (s : Option (OpenTx (List (Item Op)))) (fs : List (Name × Option (OpenTx (List (Item Op))))) (cs : List (List ℕ)) → fs ≡ set_value (λ n. t =ⁿ n) es s →
       ((x : OpenTx (List (Item Op))) → IsFine o place commits x → IsFine o place cs x) → ((x : OpenTx (List (Item Op))) → s ≡ Some x → IsFine o place cs x) → (n : Name) (x : OpenTx (List (Item Op))) → In (n, Some x) fs → IsFine o place cs x
   fine_set t s fs cs e old new n x i = elim (in_set t es s (n, Some x) (subst (λ (z : List (Name × Option (OpenTx (List (Item Op))))). In (n, Some x) z) e i)) [
     | inl j ↦ old x (h.fine n x j)
@@ -177,7 +181,7 @@ module _ {Shape State Op Undo : Type 0} (o : Object Shape State Op Undo) (place 
   ]
 
   -- a transaction without own operations
-  fresh_fine : (cs : List (List (Item Op))) (x : OpenTx (List (Item Op))) → HasTaken x.walk [] → x.own ≡ [] → x.seen.entries ≡ [] → IsFine o place cs x
+  fresh_fine : (cs : List (List ℕ)) (x : OpenTx (List (Item Op))) → HasTaken x.walk [] → x.own ≡ [] → x.seen.entries ≡ [] → IsFine o place cs x
   fresh_fine cs x taken own seen =
       record {
         taken = subst (λ (l : List (Item Op)). HasTaken x.walk (calls_of o l)) (sym own) taken;
@@ -198,7 +202,7 @@ module _ {Shape State Op Undo : Type 0} (o : Object Shape State Op Undo) (place 
         (ap (λ (z : List Name). reverse z) keys_are ∙ reverse_more (keys_of es) t)
         (ap (λ (z : List ℕ). reverse z) ids)
         (ap (λ (z : Shape × List (SharedEntry Op)). filled (shown_tx place z.1 w.commits.items) w.slots.entries) shared
-        ∙ ap (λ (z : List (List (Item Op))). filled (shown_tx place G z) w.slots.entries) commits_are
+        ∙ ap (λ (z : List (List ℕ)). filled (shown_tx place G z) w.slots.entries) commits_are
         ∙ ap (λ (z : List (Name × Option (OpenTx (List (Item Op))))). filled show z) slots
         ∙ filled_more t show show (named G commits) es t x
         ∙ ap (λ (z : BriefTx Op). filled show es ++ z ∷ []) (same_tx t x.thread p x.walk.body b x.own [] (unseen place G commits x.seen.entries) [] thread body own
@@ -225,13 +229,13 @@ module _ {Shape State Op Undo : Type 0} (o : Object Shape State Op Undo) (place 
         (subst (λ (l : List Name). AreThreads w.threads.keys l) (sym (map-append (λ (y : BriefTx Op). y.thread) B.opened (record { name = t; thread = p; body = b; own = []; missed = [] } ∷ [])))
         (threads_more v.threads.keys (threads_of B.opened) w.threads.keys p h.threads idle busy))
         (λ n y i. elim (in_cases (n, Some y) es ((t, Some x) ∷ []) (subst (λ (z : List (Name × Option (OpenTx (List (Item Op))))). In (n, Some y) z) slots i)) [
-          | inl j ↦ subst (λ (z : List (List (Item Op))). IsFine o place z y) (sym commits_are) (h.fine n y j)
+          | inl j ↦ subst (λ (z : List (List ℕ)). IsFine o place z y) (sym commits_are) (h.fine n y j)
           | inr (inl j) ↦
               let e : x ≡ y = same_Some x y (ap (λ (z : Name × Option (OpenTx (List (Item Op)))). z.1) (sym j)) in
               subst (λ (z : OpenTx (List (Item Op))). IsFine o place w.commits.items z) e (fresh_fine w.commits.items x taken own seen)
           | inr (inr j) ↦ absurd j
         ])
-        (λ q a i. let k = h.commits q a (subst (λ (z : List (List (Item Op))). In a (at q z)) commits_are i) in (subst (λ (z : List (CommittedTx Op)). In a (serial_items z)) (sym committed) k.0, k.1))
+        (commits_stay w commits_are committed)
         (ap (λ (z : Shape × List (SharedEntry Op)). z.0) shared ∙ h.same_shape)
         (let e : length w.shared.1 ≡ length G = ap (λ (z : Shape × List (SharedEntry Op)). length z.1) shared in omega (arith, e, h.few))
 
@@ -255,7 +259,7 @@ module _ {Shape State Op Undo : Type 0} (o : Object Shape State Op Undo) (place 
         (keys_set t (Some y) w.slots.entries slots)
         (ap (λ (z : List ℕ). reverse z) ids ∙ reverse_more v.ids id)
         (ap (λ (z : List (SharedEntry Op)). filled (shown_tx place z w.commits.items) w.slots.entries) log_is
-        ∙ ap (λ (z : List (List (Item Op))). filled (shown_tx place more z) w.slots.entries) commits_are
+        ∙ ap (λ (z : List (List ℕ)). filled (shown_tx place more z) w.slots.entries) commits_are
         ∙ ap (λ (z : List (Name × Option (OpenTx (List (Item Op))))). filled (shown_tx place more commits) z) slots
         ∙ filled_set t show (shown_tx place more commits) (named G commits) (grown place G id op) x y es h.names (slot_there t x found)
         (same_tx t y.thread x.thread y.walk.body x.walk.body y.own (x.own ++ p ∷ []) (unseen place more commits y.seen.entries) _ grows.thread grows.body grows.own
@@ -299,9 +303,9 @@ module _ {Shape State Op Undo : Type 0} (o : Object Shape State Op Undo) (place 
     grown_moves = moves (records.Op t id op) w tt g shape count grown_shown (names_set t (Some y) w.slots.entries slots)
         (subst (λ (l : List Name). AreThreads l (threads_of (at_brief t (grown place G id op) B.opened))) (sym threads)
         (subst (λ (l : List Name). AreThreads v.threads.keys l) (sym (threads_on t (grown place G id op) B.opened (λ z. refl))) h.threads))
-        (fine_set t (Some y) w.slots.entries w.commits.items slots (λ z k. subst (λ (c : List (List (Item Op))). IsFine o place c z) (sym commits_are) k)
-        (λ z e. subst (λ (c : List (List (Item Op))). IsFine o place c z) (sym commits_are) (subst (λ (u : OpenTx (List (Item Op))). IsFine o place commits u) (same_Some y z e) grown_fine)))
-        (λ q a i. let k = h.commits q a (subst (λ (z : List (List (Item Op))). In a (at q z)) commits_are i) in (subst (λ (z : List (CommittedTx Op)). In a (serial_items z)) (sym committed) k.0, k.1))
+        (fine_set t (Some y) w.slots.entries w.commits.items slots (λ z k. subst (λ (c : List (List ℕ)). IsFine o place c z) (sym commits_are) k)
+        (λ z e. subst (λ (c : List (List ℕ)). IsFine o place c z) (sym commits_are) (subst (λ (u : OpenTx (List (Item Op))). IsFine o place commits u) (same_Some y z e) grown_fine)))
+        (commits_stay w commits_are committed)
         (ap (λ (z : Shape × List (SharedEntry Op)). z.0) shared ∙ h.same_shape)
         (let e : length w.shared.1 ≡ length more = ap (λ (z : List (SharedEntry Op)). length z) log_is in
         let l : length more ≡ length G + 1 = length-append G (as_shared t false p ∷ []) in omega (arith, e, l, h.few))
@@ -310,7 +314,7 @@ module _ {Shape State Op Undo : Type 0} (o : Object Shape State Op Undo) (place 
   module _ (t : Name) (x : OpenTx (List (Item Op))) (w : Kept Shape Op) (g : IsGood o place v (records.Commit t)) (found : open_in t es ≡ Some x)
       (slots : w.slots.entries ≡ set_value (λ n. t =ⁿ n) es None) (busy : (q : Name) → list_any (λ z. q =ⁿ z) w.threads.keys ≡ cond (x.thread =ⁿ q) false (list_any (λ z. q =ⁿ z) v.threads.keys))
       (shape : w.shape ≡ v.shape) (shared : w.shared ≡ (v.shared.0, commit_all t G)) (ids : w.ids ≡ v.ids)
-      (grow : (q : ℕ) → at q w.commits.items ≡ at q commits ++ items_at place q x.own)
+      (grow : (q : ℕ) → at q w.commits.items ≡ at q commits ++ ids_at place q x.own)
       (committed : w.committed ≡ v.committed ++ record { name = t; entries = x.own } ∷ []) (count : w.count ≡ v.count + 1) where
     all_is : w.shared.1 ≡ commit_all t G
     all_is = ap (λ (z : Shape × List (SharedEntry Op)). z.1) shared
@@ -324,7 +328,7 @@ module _ {Shape State Op Undo : Type 0} (o : Object Shape State Op Undo) (place 
         same_tx n z.thread z.thread z.walk.body z.walk.body z.own z.own (unseen place (commit_all t G) w.commits.items z.seen.entries) _ refl refl refl
         (unseen_committed place G commits w.commits.items z.seen.entries t z.own x.own (distinct o place apart v.shape B h.short)
         (is_owned o place apart v.shape B h.short t (show t x) here) (own_stands o place apart v.shape B h.short t (show t x) here) f.sees f.within grow
-        (λ c a j. done_stands o place apart v.shape B h.short a (h.commits c a j).0))
+        (λ q id j. let k = h.commits q id j in let s = done_stands o place apart v.shape B h.short k.0 k.1 in (as_shared s.0 true k.0, s.1, refl, k.2)))
 
     committed_shown : shown place w ≡ brief_then place B (records.Commit t)
     committed_shown = same_brief _ _ _ _ _ _ _ _ _ _
@@ -348,15 +352,16 @@ module _ {Shape State Op Undo : Type 0} (o : Object Shape State Op Undo) (place 
           sees = k.sees;
           within = λ q n e.
               let a : n ≤ length (at q commits) = k.within q n e in
-              let b : length (at q w.commits.items) ≡ length (at q commits) + length (items_at place q x.own) = ap (λ (l : List (Item Op)). length l) (grow q) ∙ length-append (at q commits) (items_at place q x.own) in
+              let b : length (at q w.commits.items) ≡ length (at q commits) + length (ids_at place q x.own) = ap (λ (l : List ℕ). length l) (grow q) ∙ length-append (at q commits) (ids_at place q x.own) in
               omega arith;
         })
         (λ z e. absurd (cc)))
-        (λ q a i. elim (in_cases a (at q commits) (items_at place q x.own) (subst (λ (l : List (Item Op)). In a l) (grow q) i)) [
-          | inl j ↦ let k = h.commits q a j in (subst (λ (l : List (Item Op)). In a l) (sym serial_is) (in_left a (serial_items v.committed) x.own k.0), k.1)
+        (λ q id i. elim (in_cases id (at q commits) (ids_at place q x.own) (subst (λ (l : List ℕ). In id l) (grow q) i)) [
+          | inl j ↦ let k = h.commits q id j in (k.0, subst (λ (l : List (Item Op)). In k.0 l) (sym serial_is) (in_left k.0 (serial_items v.committed) x.own k.1), k.2, k.3)
           | inr j ↦
-              let k = from_filter (λ (b : Item Op). place b.op == q) a x.own j in
-              (subst (λ (l : List (Item Op)). In a l) (sym serial_is) (in_right a (serial_items v.committed) x.own k.0), eqb-true (place a.op) q k.1)
+              let m = from_map (λ (b : Item Op). b.id) id (items_at place q x.own) j in
+              let k = from_filter (λ (b : Item Op). place b.op == q) m.0 x.own m.1 in
+              (m.0, subst (λ (l : List (Item Op)). In m.0 l) (sym serial_is) (in_right m.0 (serial_items v.committed) x.own k.0), sym m.2, eqb-true (place (m.0).op) q k.1)
         ])
         (ap (λ (z : Shape × List (SharedEntry Op)). z.0) shared ∙ h.same_shape)
         (let e : length w.shared.1 ≡ length (commit_all t G) = ap (λ (z : List (SharedEntry Op)). length z) all_is in
@@ -384,7 +389,7 @@ module _ {Shape State Op Undo : Type 0} (o : Object Shape State Op Undo) (place 
           (keys_set t None w.slots.entries slots)
           (ap (λ (z : List ℕ). reverse z) ids)
           (ap (λ (z : List (SharedEntry Op)). filled (shown_tx place z w.commits.items) w.slots.entries) left_is
-          ∙ ap (λ (z : List (List (Item Op))). filled (shown_tx place (without_owner t G) z) w.slots.entries) commits_are
+          ∙ ap (λ (z : List (List ℕ)). filled (shown_tx place (without_owner t G) z) w.slots.entries) commits_are
           ∙ ap (λ (z : List (Name × Option (OpenTx (List (Item Op))))). filled (shown_tx place (without_owner t G) commits) z) slots
           ∙ filled_out t show (shown_tx place (without_owner t G) commits) (named G commits) (λ y. y) es h.names (λ n z i q. same_missed n z)
           ∙ map_id (λ (y : BriefTx Op). y) (without_brief t B.opened) (λ y i. refl))
@@ -393,8 +398,8 @@ module _ {Shape State Op Undo : Type 0} (o : Object Shape State Op Undo) (place 
 
       pub aborted_moves : Moves o place v (records.Abort t) w
       aborted_moves = moves (records.Abort t) w tt g shape count aborted_shown (names_set t None w.slots.entries slots) (threads_gone t x w.threads.keys found busy)
-          (fine_set t None w.slots.entries w.commits.items slots (λ z k. subst (λ (c : List (List (Item Op))). IsFine o place c z) (sym commits_are) k) (λ z e. absurd (cc)))
-          (λ q a i. let k = h.commits q a (subst (λ (z : List (List (Item Op))). In a (at q z)) commits_are i) in (subst (λ (z : List (CommittedTx Op)). In a (serial_items z)) (sym committed) k.0, k.1))
+          (fine_set t None w.slots.entries w.commits.items slots (λ z k. subst (λ (c : List (List ℕ)). IsFine o place c z) (sym commits_are) k) (λ z e. absurd (cc)))
+          (commits_stay w commits_are committed)
           (ap (λ (z : Shape × List (SharedEntry Op)). z.0) shared ∙ h.same_shape)
           (omega (arith, less, h.few))
 
@@ -410,7 +415,7 @@ module _ {Shape State Op Undo : Type 0} (o : Object Shape State Op Undo) (place 
           (keys_set t (Some y) w.slots.entries again_is)
           (ap (λ (z : List ℕ). reverse z) ids)
           (ap (λ (z : List (SharedEntry Op)). filled (shown_tx place z w.commits.items) w.slots.entries) left_is
-          ∙ ap (λ (z : List (List (Item Op))). filled (shown_tx place (without_owner t G) z) w.slots.entries) commits_are
+          ∙ ap (λ (z : List (List ℕ)). filled (shown_tx place (without_owner t G) z) w.slots.entries) commits_are
           ∙ ap (λ (z : List (Name × Option (OpenTx (List (Item Op))))). filled (shown_tx place (without_owner t G) commits) z) again_is
           ∙ filled_set t show (shown_tx place (without_owner t G) commits) (named G commits) emptied x y es h.names (slot_there t x found)
           (same_tx t y.thread x.thread y.walk.body x.walk.body y.own [] (unseen place (without_owner t G) commits y.seen.entries) [] thread body own
@@ -423,8 +428,8 @@ module _ {Shape State Op Undo : Type 0} (o : Object Shape State Op Undo) (place 
       retried_moves = moves (records.Retry t) w tt g shape count retried_shown (names_set t (Some y) w.slots.entries again_is)
           (subst (λ (l : List Name). AreThreads l (threads_of (at_brief t emptied B.opened))) (sym threads)
           (subst (λ (l : List Name). AreThreads v.threads.keys l) (sym (threads_on t emptied B.opened (λ z. refl))) h.threads))
-          (fine_set t (Some y) w.slots.entries w.commits.items again_is (λ z k. subst (λ (c : List (List (Item Op))). IsFine o place c z) (sym commits_are) k)
+          (fine_set t (Some y) w.slots.entries w.commits.items again_is (λ z k. subst (λ (c : List (List ℕ)). IsFine o place c z) (sym commits_are) k)
           (λ z e. subst (λ (u : OpenTx (List (Item Op))). IsFine o place w.commits.items u) (same_Some y z e) (fresh_fine w.commits.items y taken own seen)))
-          (λ q a i. let k = h.commits q a (subst (λ (z : List (List (Item Op))). In a (at q z)) commits_are i) in (subst (λ (z : List (CommittedTx Op)). In a (serial_items z)) (sym committed) k.0, k.1))
+          (commits_stay w commits_are committed)
           (ap (λ (z : Shape × List (SharedEntry Op)). z.0) shared ∙ h.same_shape)
           (omega (arith, less, h.few))

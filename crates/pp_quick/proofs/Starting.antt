@@ -167,7 +167,7 @@ module _ {Shape State Op Undo : Type 0} (o : Object Shape State Op Undo) (place 
   none_done = ap (λ (b : Brief Op). b.done) n.shown
 
   no_commits : (q : ℕ) → at q v.commits.items ≡ []
-  no_commits q = nothing (at q v.commits.items) (λ p i. subst (λ (d : List (CommittedTx Op)). In p (serial_items d)) none_done (h.commits q p i).0)
+  no_commits q = nothing (at q v.commits.items) (λ id i. let k = h.commits q id i in subst (λ (d : List (CommittedTx Op)). In k.0 (serial_items d)) none_done k.1)
 
   pub not_begun : (t : Name) → lookup (λ m. t =ⁿ m) v.slots.entries ≡ None
   not_begun t = ap (λ z. lookup (λ m. t =ⁿ m) z) no_slots
@@ -195,7 +195,7 @@ module _ {Shape State Op Undo : Type 0} (o : Object Shape State Op Undo) (place 
     started_shown = same_brief _ _ _ _ _ _ _ _ _ _ (ap (λ (l : List (Name × Option (OpenTx (List (Item Op))))). reverse (keys_of l)) slots_are) ids opened_are shared_are done_are
 
     commits_are : (q : ℕ) → at q w.commits.items ≡ []
-    commits_are q = ap (λ (l : List (List (Item Op))). at q l) commits ∙ no_commits q
+    commits_are q = ap (λ (l : List (List ℕ)). at q l) commits ∙ no_commits q
 
     pub started : length items ≤ 256 → StartMeets (rules_of o v.shape) (Some z) → HasStarted o place v z w
     started few meets =
@@ -215,7 +215,7 @@ module _ {Shape State Op Undo : Type 0} (o : Object Shape State Op Undo) (place 
                     subst (λ (l : List (BriefTx Op)). AreThreads w.threads.keys (threads_of l)) (sym opened_are)
                     (subst (λ (l : List Name). AreThreads l []) (sym threads) (subst (λ (l : List (BriefTx Op)). AreThreads v.threads.keys (threads_of l)) none_open h.threads));
                 fine = subst (λ (l : List (Name × Option (OpenTx (List (Item Op))))). (m : Name) (x : OpenTx (List (Item Op))) → In (m, Some x) l → IsFine o place w.commits.items x) (sym slots_are) none_fine;
-                commits = λ q p i. absurd (subst (λ (l : List (Item Op)). In p l) (commits_are q) i);
+                commits = λ q id i. absurd (subst (λ (l : List ℕ). In id l) (commits_are q) i);
                 same_shape = ap (λ (l : Shape × List (SharedEntry Op)). l.0) shared ∙ sym shape;
                 few =
                     let e : length w.shared.1 ≡ length items = ap (λ (l : List (SharedEntry Op)). length l) shared_are ∙ length-map items (as_shared t true) in

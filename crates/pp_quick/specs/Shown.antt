@@ -4,6 +4,7 @@ use Rattle.std.specs.Prelude.{filter, map, reverse, drop, length, is_some, slice
 use Rattle.std.specs.List.{list_any}
 use Rattle.std.specs.Map.{keys_of, lookup}
 use Rattle.pp_body.specs.Walks.{HasTaken}
+use Rattle.pp_core.specs.declared.entry.CommittedTx.{CommittedTx}
 use Rattle.pp_core.specs.declared.entry.Item.{Item}
 use Rattle.pp_core.specs.declared.entry.SharedEntry.{SharedEntry}
 use Rattle.pp_model.specs.Body.{Call}
@@ -33,38 +34,38 @@ filled f [] = []
 filled f ((n, None) ∷ slots) = filled f slots
 filled f ((n, Some x) ∷ slots) = f n x ∷ filled f slots
 
-abbrev pub items_or_none : {A : Type 0} → Option (List A) → List A
-items_or_none None = []
-items_or_none (Some items) = items
+abbrev pub ids_or_none : {A : Type 0} → Option (List A) → List A
+ids_or_none None = []
+ids_or_none (Some items) = items
 
--- the commits at a place
-abbrev pub at : {A : Type 0} → ℕ → List (List A) → List A
-at place commits = items_or_none (slice_get commits place)
+-- the ids of the commits at a place
+abbrev pub at : ℕ → List (List ℕ) → List ℕ
+at place commits = ids_or_none (slice_get commits place)
 
 abbrev pub item_ids : {Op : Type 0} → List (Item Op) → List ℕ
 item_ids items = map (λ p. p.id) items
 
 -- what is behind the first k
-abbrev pub items_behind : {A : Type 0} → Option ℕ → List A → List A
-items_behind None items = []
-items_behind (Some k) items = drop k items
+abbrev pub ids_behind : {A : Type 0} → Option ℕ → List A → List A
+ids_behind None items = []
+ids_behind (Some k) items = drop k items
 
--- the commits at a place that were not seen
-abbrev pub unseen_at : {A : Type 0} → ℕ → List (List A) → List (ℕ × ℕ) → List A
-unseen_at q commits seen = items_behind (lookup (nat_eq q) seen) (at q commits)
+-- the ids of the commits at a place that were not seen
+abbrev pub unseen_at : ℕ → List (List ℕ) → List (ℕ × ℕ) → List ℕ
+unseen_at q commits seen = ids_behind (lookup (nat_eq q) seen) (at q commits)
 
 -- committed, and among those not seen of its place
-abbrev pub is_unseen : {Op : Type 0} → (Op → ℕ) → List (List (Item Op)) → List (ℕ × ℕ) →
-    SharedEntry Op → Bool
+abbrev pub is_unseen : {Op : Type 0} → (Op → ℕ) → List (List ℕ) → List (ℕ × ℕ) → SharedEntry Op →
+    Bool
 is_unseen place commits seen g =
-    g.committed && has_id g.id (item_ids (unseen_at (place g.op) commits seen))
+    g.committed && has_id g.id (unseen_at (place g.op) commits seen)
 
-abbrev pub unseen : {Op : Type 0} → (Op → ℕ) → List (SharedEntry Op) → List (List (Item Op)) →
+abbrev pub unseen : {Op : Type 0} → (Op → ℕ) → List (SharedEntry Op) → List (List ℕ) →
     List (ℕ × ℕ) → List ℕ
 unseen place G commits seen = shared_ids (filter (is_unseen place commits seen) G)
 
-abbrev pub shown_tx : {Op : Type 0} → (Op → ℕ) → List (SharedEntry Op) →
-    List (List (Item Op)) → Name → OpenTx (List (Item Op)) → BriefTx Op
+abbrev pub shown_tx : {Op : Type 0} → (Op → ℕ) → List (SharedEntry Op) → List (List ℕ) →
+    Name → OpenTx (List (Item Op)) → BriefTx Op
 shown_tx place G commits n x =
     record {
       name = n;
@@ -92,6 +93,11 @@ shown place v =
 abbrev pub threads_of : {Op : Type 0} → List (BriefTx Op) → List Name
 threads_of opened = map (λ x. x.thread) opened
 
+-- The id is that of an item at the place that was committed.
+abbrev pub WasCommitted : {Op : Type 0} → (Op → ℕ) → List (CommittedTx Op) → ℕ → ℕ → Type 0
+WasCommitted {Op} place done q id =
+    (p : Item Op) × In p (serial_items done) × (p.id ≡ id) × (place p.op ≡ q)
+
 -- the calls of the items
 abbrev pub calls_of : {Shape State Op Undo : Type 0} → Object Shape State Op Undo →
     List (Item Op) → List Call
@@ -111,8 +117,7 @@ module _ {Shape State Op Undo : Type 0} (o : Object Shape State Op Undo) (place 
 
   -- What is kept of an open transaction: its walk has taken its own calls, and what it has seen is
   -- told of the places of its own operations, and of no others.
-  pub record IsFine (commits : List (List (Item Op))) (x : OpenTx (List (Item Op))) :
-      Type 0 where
+  pub record IsFine (commits : List (List ℕ)) (x : OpenTx (List (Item Op))) : Type 0 where
     pub taken : HasTaken x.walk (calls_of o x.own)
     pub sees : (q : ℕ) → is_some (lookup (nat_eq q) x.seen.entries) ≡ touches place q x.own
     pub within : (q k : ℕ) → lookup (nat_eq q) x.seen.entries ≡ Some k →
@@ -125,8 +130,6 @@ module _ {Shape State Op Undo : Type 0} (o : Object Shape State Op Undo) (place 
     pub threads : AreThreads v.threads.keys (threads_of (shown place v).opened)
     pub fine : (n : Name) (x : OpenTx (List (Item Op))) → In (n, Some x) v.slots.entries →
         IsFine v.commits.items x
-    -- the commits at a place are of it, and were committed
-    pub commits : (q : ℕ) (p : Item Op) → In p (at q v.commits.items) →
-        In p (serial_items v.committed) × (place p.op ≡ q)
+    pub commits : (q id : ℕ) → In id (at q v.commits.items) → WasCommitted place v.committed q id
     pub same_shape : v.shared.0 ≡ v.shape
     pub few : length v.shared.1 ≤ v.count + 256

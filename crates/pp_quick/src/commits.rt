@@ -1,17 +1,18 @@
 //! What was committed at each place, and what an open transaction has seen of it.
-ghost use Rattle.std.specs.Prelude.{◌≡◌, ◌<◌, ◌++◌, ℕ, false, IsTrue, OnOk, drop, length};
-ghost use Rattle.pp_quick.specs.Passing.{LetAllPass, StopsOne, items_at, with_commit};
+ghost use Rattle.std.specs.Prelude.{◌≡◌, ◌<◌, ◌∷◌, ◌++◌, [], ℕ, false, IsTrue, OnOk, drop, length};
+ghost use Rattle.pp_quick.specs.Passing.{HaveOwnIds, LetAllPass, StopsOne, ids_at, with_commit};
 ghost use Rattle.pp_quick.specs.Shown.{at, unseen_at};
 
 use crate::own::Own;
 use crate::parts::{Commits, OpenTx};
-use pp_core::{Item, Items, OutOfMemory};
+use pp_core::{Item, OutOfMemory, Sequence};
 use pp_parts::Parted;
+use pp_shared::Shared;
 use pp_spec::Placed;
 use std::alloc::Global;
 
 /// How many commits there were at a place.
-pub fn count_at<O: Copy>(commits: &Commits<O>, place: u16) -> usize
+pub fn count_at(commits: &Commits, place: u16) -> usize
     ensures { result ≡ length (at place commits.now.items) }
 {
     match commits.get(usize::from(place)) {
@@ -22,16 +23,12 @@ pub fn count_at<O: Copy>(commits: &Commits<O>, place: u16) -> usize
 
 /// Makes an empty list for each place up to this one that has none. The only error is that memory
 /// was refused.
-fn make_lists<O: Copy>(
-    alloc: Global,
-    commits: &mut Commits<O>,
-    place: usize,
-) -> Result<(), OutOfMemory>
+fn make_lists(alloc: Global, commits: &mut Commits, place: usize) -> Result<(), OutOfMemory>
     ensures same { (q : ℕ) → at q commits.new.items ≡ at q commits.old.items }
     ensures there { OnOk result (place < length commits.new.items) }
 {
     'grow: while commits.len() <= place {
-        commits.push(Items::new(alloc))?;
+        commits.push(Sequence::new(alloc))?;
     }
     Ok(())
 }
@@ -39,7 +36,7 @@ fn make_lists<O: Copy>(
 /// One more commit. The only error is that memory was refused.
 fn add_commit<S: Placed>(
     alloc: Global,
-    commits: &mut Commits<S::Op>,
+    commits: &mut Commits,
     item: &Item<S::Op>,
 ) -> Result<(), OutOfMemory>
     ensures { OnOk result ((q : ℕ) → at q commits.new.items
@@ -47,17 +44,17 @@ fn add_commit<S: Placed>(
 {
     let place = usize::from(S::place(&item.op));
     make_lists(alloc, commits, place)?;
-    commits[place].push(*item)
+    commits[place].push(item.id)
 }
 
 /// Commits of all these items. The only error is that memory was refused.
 pub fn add_commits<S: Placed>(
     alloc: Global,
-    commits: &mut Commits<S::Op>,
+    commits: &mut Commits,
     items: &[Item<S::Op>],
 ) -> Result<(), OutOfMemory>
     ensures { OnOk result ((q : ℕ) → at q commits.new.items
-        ≡ at q commits.old.items ++ items_at S.place_of q items.now) }
+        ≡ at q commits.old.items ++ ids_at S.place_of q items.now) }
 {
     for item in items {
         add_commit::<S>(alloc, commits, item)?;
@@ -65,14 +62,34 @@ pub fn add_commits<S: Placed>(
     Ok(())
 }
 
-/// Whether the own operations let each of these pass, from a position on.
-fn let_all_pass<S: Parted>(own: &Own<S>, done: &[Item<S::Op>], from: usize) -> bool
-    ensures yes { IsTrue result → LetAllPass S.object S.place_of own.now (drop from done.now) }
-    ensures no { result ≡ false → StopsOne S.object S.place_of own.now (drop from done.now) }
+/// Whether the own operations let the operation of the entry with this id pass. An id without an
+/// entry passes; a commit has one, since a committed entry stays in the shared log.
+fn lets_pass<S: Parted>(own: &Own<S>, shared: &Shared<S>, id: u32) -> bool
+    requires { HaveOwnIds shared.now.1 }
+    ensures yes { IsTrue result →
+        LetAllPass S.object S.place_of own.now shared.now.1 (id ∷ []) }
+    ensures no { result ≡ false →
+        StopsOne S.object S.place_of own.now shared.now.1 (id ∷ []) }
+{
+    let Some(position) = shared.find(id) else {
+        return true;
+    };
+    let Some(entry) = shared.entry(position) else {
+        unreachable!()
+    };
+    own.let_pass(&entry.op)
+}
+
+/// Whether the own operations let the operations of these ids pass, from a position on.
+fn let_all_pass<S: Parted>(own: &Own<S>, shared: &Shared<S>, done: &[u32], from: usize) -> bool
+    requires { HaveOwnIds shared.now.1 }
+    ensures yes { IsTrue result →
+        LetAllPass S.object S.place_of own.now shared.now.1 (drop from done.now) }
+    ensures no { result ≡ false →
+        StopsOne S.object S.place_of own.now shared.now.1 (drop from done.now) }
 {
     for k in from..done.len() {
-        let item = &done[k];
-        if !own.let_pass(&item.op) {
+        if !lets_pass::<S>(own, shared, done[k]) {
             return false;
         }
     }
@@ -81,10 +98,16 @@ fn let_all_pass<S: Parted>(own: &Own<S>, done: &[Item<S::Op>], from: usize) -> b
 
 /// Whether the own operations at the place of an operation let each commit pass there that the
 /// transaction has not seen. It asks the movers of no others.
-pub fn passes_unseen<S: Parted>(it: &OpenTx<Own<S>>, commits: &Commits<S::Op>, op: &S::Op) -> bool
-    ensures yes { IsTrue result → LetAllPass S.object S.place_of it.now.own
+pub fn passes_unseen<S: Parted>(
+    it: &OpenTx<Own<S>>,
+    shared: &Shared<S>,
+    commits: &Commits,
+    op: &S::Op,
+) -> bool
+    requires { HaveOwnIds shared.now.1 }
+    ensures yes { IsTrue result → LetAllPass S.object S.place_of it.now.own shared.now.1
         (unseen_at (S.place_of op.now) commits.now.items it.now.seen.entries) }
-    ensures no { result ≡ false → StopsOne S.object S.place_of it.now.own
+    ensures no { result ≡ false → StopsOne S.object S.place_of it.now.own shared.now.1
         (unseen_at (S.place_of op.now) commits.now.items it.now.seen.entries) }
 {
     let place = S::place(op);
@@ -94,5 +117,5 @@ pub fn passes_unseen<S: Parted>(it: &OpenTx<Own<S>>, commits: &Commits<S::Op>, o
     let Some(done) = commits.get(usize::from(place)) else {
         return true;
     };
-    let_all_pass::<S>(&it.own, done.as_slice(), seen)
+    let_all_pass::<S>(&it.own, shared, done.as_slice(), seen)
 }

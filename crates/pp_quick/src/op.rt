@@ -36,7 +36,7 @@ pub fn may_do<S: Parted>(
     if !it.walk.can(&S::call(op)) {
         return false;
     }
-    if !passes_unseen::<S>(it, &parts.commits, op) {
+    if !passes_unseen::<S>(it, &parts.shared, &parts.commits, op) {
         return false;
     }
     if let Some(_) = parts.shared.blocking(tx, op) {

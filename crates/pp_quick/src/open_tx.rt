@@ -52,7 +52,7 @@ pub fn fresh<S: Parted>(
 /// place. The only error is that memory was refused.
 pub fn add_operation<S: Parted>(
     it: &mut OpenTx<Own<S>>,
-    commits: &Commits<S::Op>,
+    commits: &Commits,
     item: Item<S::Op>,
 ) -> Result<(), OutOfMemory>
     requires { MayTake it.old.walk (S.object.call item.op) }

@@ -3,7 +3,7 @@ use crate::seen::Seen;
 use crate::slots::Slots;
 use indexmap::IndexSet;
 use pp_body::Walk;
-use pp_core::{Committed, Items, Name};
+use pp_core::{Committed, Name, Sequence};
 use pp_ids::IdSet;
 use std::alloc::Global;
 
@@ -17,9 +17,9 @@ pub struct OpenTx<W> {
     pub seen: Seen,
 }
 
-/// The operations that were committed behind the start: at the position of each place, those there
-/// in commit order.
-pub type Commits<O> = Vec<Items<O>>;
+/// The ids of what was committed behind the start: at the position of each place, those there in
+/// commit order. The operations themselves stand in the shared log, which finds each by its id.
+pub type Commits = Vec<Sequence<u32>>;
 
 /// All that a `Quick` keeps. The shared log is of the type `T`, own operations are of the type `W`.
 #[derive(Drop)]
@@ -33,7 +33,7 @@ pub struct Parts<H, O: Copy, T, W> {
     pub ids: IdSet,
     pub shared: T,
     pub committed: Committed<O>,
-    pub commits: Commits<O>,
+    pub commits: Commits,
     /// How many records were taken.
     pub count: u32,
 }

@@ -23,9 +23,10 @@ use std::marker::Model;
 use std::sync::ledger::Ledger;
 
 /// What decides a boosted run, record by record: the names and ids that were used, the threads that
-/// are busy, the shared log, the committed transactions, and of each open one its own operations,
-/// how far they have come in its body, and how many of the commits at their places it has seen. It
-/// is one pointer, since each record takes it and gives it back.
+/// are busy, the shared log, the committed transactions, the ids of the commits at each place, and
+/// of each open transaction its own operations, how far they have come in its body, and how many of
+/// the commits at their places it has seen. It is one pointer, since each record takes it and gives
+/// it back.
 #[derive(Drop)]
 pub struct Quick<S: Parted> {
     parts: Box<Parts<S::Shape, S::Op, Shared<S>, Own<S>>>,

@@ -1,7 +1,7 @@
 //! Taking a record.
 ghost use Rattle.std.specs.Prelude.{◌≡◌, ◌+◌, ◌≤◌, ◌<◌, IfOk};
 ghost use Rattle.pp_core.specs.Steps.{meaning};
-ghost use Rattle.pp_front.specs.Records.{Commit, Op, Plain, record_meaning};
+ghost use Rattle.pp_front.specs.Records.{Abort, Commit, Op, Plain, Retry, record_meaning};
 ghost use Rattle.pp_quick.specs.Held.{IsOpAsked, IsRecordAsked, IsStepAsked};
 ghost use Rattle.pp_quick.specs.Held.{TakeCosts, take_most};
 ghost use Rattle.pp_quick.specs.Moving.{Answers};
@@ -104,6 +104,48 @@ fn in_box<S: Parted>(
     Ok(Box::new(alloc, parts)?)
 }
 
+/// Takes an abort record where it is good. A removal consumes the shared log, so the parts leave
+/// their box meanwhile. This is a function of its own, so that `take` has no room for them on its
+/// stack.
+fn take_abort<S: Parted, L: Ledger>(
+    parts: Box<Parts<S::Shape, S::Op, Shared<S>, Own<S>>>,
+    tx: &Name,
+    ticks: &mut Ticks<L>,
+) -> Result<(Box<Parts<S::Shape, S::Op, Shared<S>, Own<S>>>, bool), OutOfMemory>
+    requires holds { Holds S.object S.place_of parts.value }
+    requires few { parts.value.count < 200_000 }
+    ensures answers { IfOk result (λ r.
+        Answers S.object S.place_of parts.value (Abort tx.now) r.1 r.0.value) }
+    ensures cost { IfOk result (λ r. TakeCosts S.place_of (shown S.place_of parts.value)
+        (Abort tx.now) r.1 ticks.old ticks.new) }
+    ensures rises { ticks.old ≤ ticks.new }
+    ensures bound { ticks.new
+        ≤ ticks.old + take_most S.place_of (shown S.place_of parts.value) (Abort tx.now) }
+{
+    let (parts, good) = abort(Box::into_inner(parts), tx, ticks)?;
+    Ok((in_box::<S>(parts)?, good))
+}
+
+/// Takes a retry record where it is good. The parts leave their box meanwhile, as for an abort.
+fn take_retry<S: Parted, L: Ledger>(
+    parts: Box<Parts<S::Shape, S::Op, Shared<S>, Own<S>>>,
+    tx: &Name,
+    ticks: &mut Ticks<L>,
+) -> Result<(Box<Parts<S::Shape, S::Op, Shared<S>, Own<S>>>, bool), OutOfMemory>
+    requires holds { Holds S.object S.place_of parts.value }
+    requires few { parts.value.count < 200_000 }
+    ensures answers { IfOk result (λ r.
+        Answers S.object S.place_of parts.value (Retry tx.now) r.1 r.0.value) }
+    ensures cost { IfOk result (λ r. TakeCosts S.place_of (shown S.place_of parts.value)
+        (Retry tx.now) r.1 ticks.old ticks.new) }
+    ensures rises { ticks.old ≤ ticks.new }
+    ensures bound { ticks.new
+        ≤ ticks.old + take_most S.place_of (shown S.place_of parts.value) (Retry tx.now) }
+{
+    let (parts, good) = retry(Box::into_inner(parts), tx, ticks)?;
+    Ok((in_box::<S>(parts)?, good))
+}
+
 /// Takes a record where it is good, and else says false, and nothing has changed. Records of other
 /// styles are not good. The only error is that memory was refused.
 pub fn take<S: Parted, L: Ledger>(
@@ -136,15 +178,8 @@ pub fn take<S: Parted, L: Ledger>(
             let good = take_commit(&mut *parts, tx)?;
             Ok((parts, good))
         }
-        // A removal consumes the shared log, so the parts leave their box meanwhile.
-        RunRecord::Abort { tx } => {
-            let (parts, good) = abort(Box::into_inner(parts), tx, ticks)?;
-            Ok((in_box::<S>(parts)?, good))
-        }
-        RunRecord::Retry { tx } => {
-            let (parts, good) = retry(Box::into_inner(parts), tx, ticks)?;
-            Ok((in_box::<S>(parts)?, good))
-        }
+        RunRecord::Abort { tx } => take_abort(parts, tx, ticks),
+        RunRecord::Retry { tx } => take_retry(parts, tx, ticks),
         RunRecord::Refresh { .. }
         | RunRecord::XBegin { .. }
         | RunRecord::XEnd { .. }

@@ -4,7 +4,7 @@ use Rattle.indexmap.specs.Layout.{set_value_at}
 use Rattle.pp_model.specs.Body.{IsWord}
 use Rattle.pp_model.specs.Rules.{calls}
 use Rattle.pp_shared.specs.Committing.{HoldsIdsOf}
-use Rattle.pp_quick.specs.Passing.{items_at}
+use Rattle.pp_quick.specs.Passing.{ids_at}
 use Rattle.pp_quick.specs.Shown.{at, in_slot, shown, shown_tx}
 use Rattle.pp_spec.specs.Object.{rules_of}
 use Rattle.pp_quick.proofs.Filled.{slot_at}
@@ -47,5 +47,5 @@ returns g c =
     committed_moves g.S.Spec.object g.S.Placed.place_of apart c.args.parts.now c.requires.holds c.args.tx.now c.in-Some-take.it _ c.requires.good (there ∙ sym (ap in_slot c.in-Some.ensures.value) ∙ sym c.in-Some-take.ensures.value)
     (ap (set_value_at c.args.parts.now.slots.entries c.args.position) c.in-Some-take.ensures.after ∙ set_at (bytes_eq c.args.tx.now) c.args.parts.now.slots.entries c.args.position None c.requires.position)
     c.swap_remove.ensures.updates.0 refl c.commit.ensures refl
-    (λ q. c.in_ok-add_commits.ensures q ∙ ap (λ l. at q c.args.parts.now.commits.items ++ items_at g.S.Placed.place_of q l) (c.as_slice.ensures ∙ own_is))
+    (λ q. c.in_ok-add_commits.ensures q ∙ ap (λ l. at q c.args.parts.now.commits.items ++ ids_at g.S.Placed.place_of q l) (c.as_slice.ensures ∙ own_is))
     (c.in_ok-push.ensures.ok ∙ ap (λ l. c.args.parts.now.committed ++ record { name = c.args.tx.now; entries = l } ∷ []) own_is) refl

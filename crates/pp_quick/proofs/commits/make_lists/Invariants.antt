@@ -4,7 +4,7 @@ use Rattle.pp_quick.proofs.commits.make_lists.Given as goal
 
 -- each place has the commits that it had
 abbrev pub invariant-grow : goal.invariant-grow
-invariant-grow g l = (q : ℕ) → at q l.commits.items ≡ at q l.initial.commits.items
+invariant-grow l = (q : ℕ) → at q l.commits.items ≡ at q l.initial.commits.items
 
 abbrev pub decreases-grow : goal.decreases-grow
-decreases-grow g l = l.place + 1 - length l.commits.items
+decreases-grow l = l.place + 1 - length l.commits.items

@@ -18,5 +18,5 @@ returns-clause-no g c = λ h.
     let there : slice_get c.args.commits.now.items q ≡ Some done =
     subst (λ n. slice_get c.args.commits.now.items n ≡ Some done) c.from.ensures (subst (λ r. slice_get r i ≡ Some done) c.deref.ensures.value read) in
     let is = unseen_is q c.args.commits.now.items c.args.it.now.seen.entries c.in-Some.seen done (sym c.in-Some.ensures) there in
-    subst (λ r. StopsOne g.S.Spec.object g.S.Placed.place_of c.args.it.now.own r) (sym is ∙ ap (λ r. unseen_at r c.args.commits.now.items c.args.it.now.seen.entries) c.place-place.ensures)
-    (subst (λ r. StopsOne g.S.Spec.object g.S.Placed.place_of c.args.it.now.own (drop c.in-Some.seen r)) c.as_slice.ensures (c.let_all_pass.ensures.no h))
+    subst (λ r. StopsOne g.S.Spec.object g.S.Placed.place_of c.args.it.now.own c.args.shared.now.1 r) (sym is ∙ ap (λ r. unseen_at r c.args.commits.now.items c.args.it.now.seen.entries) c.place-place.ensures)
+    (subst (λ r. StopsOne g.S.Spec.object g.S.Placed.place_of c.args.it.now.own c.args.shared.now.1 (drop c.in-Some.seen r)) c.as_slice.ensures (c.let_all_pass.ensures.no h))

@@ -1,6 +1,6 @@
 use Rattle.std.proofs.Common.{◌∙◌, subst, sym}
 use Rattle.pp_body.specs.Walks.{TellsBegins}
-use Rattle.pp_quick.proofs.Judging.{blocked, good, illegal, stopped, unbegun, used}
+use Rattle.pp_quick.proofs.Judging.{blocked, good, illegal, own_ids, stopped, unbegun, used}
 use Rattle.pp_quick.proofs.Short.{apart_of}
 use Rattle.pp_quick.proofs.op.may_do.Goals as goal
 
@@ -14,6 +14,11 @@ returns-then-not-can-clause-no g c = λ _ k.
     let apart = apart_of g.S.Spec.object g.S.Placed.place_of g.S.Placed.SameAt g.met.S.Placed.placed in
     unbegun g.S.Spec.object g.S.Placed.place_of apart c.args.parts.now c.requires.holds c.args.tx.now c.args.it.now c.requires.found c.args.id c.args.op.now c.can.result
     (subst (λ z. TellsBegins c.args.it.now.walk z c.can.result) c.call.ensures c.can.ensures) c.if-not-can.true k
+
+pub passes_unseen-requires : goal.passes_unseen-requires
+passes_unseen-requires g c =
+    let apart = apart_of g.S.Spec.object g.S.Placed.place_of g.S.Placed.SameAt g.met.S.Placed.placed in
+    own_ids g.S.Spec.object g.S.Placed.place_of apart c.args.parts.now c.requires.holds
 
 pub returns-then-not-passes_unseen-clause-no : goal.returns-then-not-passes_unseen-clause-no
 returns-then-not-passes_unseen-clause-no g c = λ _ k.

@@ -1,4 +1,4 @@
-use Rattle.std.proofs.Common.{◌≡◌, ◌+◌, ◌≤◌, ◌∙◌, ap, map, refl, subst, sym}
+use Rattle.std.proofs.Common.{◌+◌, ◌≤◌, ◌∙◌, ap, map, refl, subst, sym}
 use Rattle.pp_quick.specs.Brief.{own_list}
 use Rattle.pp_quick.specs.Laws.{without_ids}
 use Rattle.pp_quick.specs.Leaving.{back_most, back_ticks}
