@@ -14,7 +14,7 @@ use crate::index::Index;
 use crate::place::{Place, Removed};
 use crate::room::make_room;
 use crate::sides::Side;
-use crate::take_out::{last_with, take_out};
+use crate::take_out::{position_in_place, take_out};
 use pp_core::{Answer, OutOfMemory, Ticks};
 use pp_spec::{Applied, Placed};
 use std::alloc::Global;
@@ -205,7 +205,7 @@ impl<S: Placed, T: Side<S::Op>> Log<S, T> {
         let item = T::item(&entries[i]);
         let p = usize::from(S::place(&item.op));
         let place = &mut places[p];
-        let Some(from) = last_with(&place.items, item.id) else {
+        let Some(from) = position_in_place(&place.items, &ids, i, item.id) else {
             unreachable!()
         };
         let removed = take_out::<S, L>(place, from, &mut state, ticks)?;

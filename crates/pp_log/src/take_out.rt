@@ -8,6 +8,7 @@ ghost use Rattle.pp_spec.specs.Object.{LetsPass};
 ghost use Rattle.pp_log.specs.TakesOut.{IsWhole, PassesAll, StandsAt, TakesOutOf, takes_out_ticks};
 ghost use Rattle.pp_log.specs.declared.place.Removed.TheVariants.{Done};
 
+use crate::index::Index;
 use crate::place::{Place, Removed};
 use crate::run::{rewind, unwind};
 use pp_core::{Item, OutOfMemory, Ticks};
@@ -15,7 +16,7 @@ use pp_spec::Spec;
 use std::sync::ledger::Ledger;
 
 /// Where the last item with this id stands.
-pub fn last_with<O: Copy>(items: &[Item<O>], id: u32) -> Option<usize>
+fn last_with<O: Copy>(items: &[Item<O>], id: u32) -> Option<usize>
     ensures found { IfSome result (λ k. StandsAt items.now id k) }
     ensures none { IfNone result ((e : ItemOf O) → In e items.now → e.id ≢ id) }
 {
@@ -25,6 +26,43 @@ pub fn last_with<O: Copy>(items: &[Item<O>], id: u32) -> Option<usize>
         }
     }
     None
+}
+
+/// Where the item of the entry at a position should stand among those of its place, as the index
+/// says where their entries stand. It looks at the last one, and else halves over them. Nothing is
+/// promised of it.
+fn likely_position<O: Copy>(items: &[Item<O>], ids: &Index, i: usize, id: u32) -> usize {
+    let mut high = items.len().saturating_sub(1);
+    if high < items.len() && items[high].id == id {
+        return high;
+    }
+    let mut low = 0;
+    'halve: while low < high {
+        let middle = low + (high - low) / 2;
+        match ids.find(items[middle].id) {
+            Some(at) if at < i => low = middle + 1,
+            _ => high = middle,
+        }
+    }
+    low
+}
+
+/// Where the item of the entry at a position, with this id, stands among those of its place. It
+/// looks first where it should stand, and at all of them only where it does not.
+pub fn position_in_place<O: Copy>(
+    items: &[Item<O>],
+    ids: &Index,
+    i: usize,
+    id: u32,
+) -> Option<usize>
+    ensures found { IfSome result (λ k. StandsAt items.now id k) }
+    ensures none { IfNone result ((e : ItemOf O) → In e items.now → e.id ≢ id) }
+{
+    let likely = likely_position(items, ids, i, id);
+    if likely < items.len() && items[likely].id == id {
+        return Some(likely);
+    }
+    last_with(items, id)
 }
 
 /// Whether an operation lets each item from a position on pass. False says nothing.
