@@ -1,6 +1,6 @@
 -- Meaning: objects that keep something at each key, as a memory, a set and a map do.
 use Rattle.std.specs.Prelude.{◌≡◌, ℤ, Bool, true, false, not, cond, IsTrue, ◌&&◌, ◌||◌}
-use Rattle.std.specs.Prelude.{if◌then◌else◌, List, ◌↔◌, Option, Some, None}
+use Rattle.std.specs.Prelude.{if◌then◌else◌, List, ◌↔◌, Some, None}
 use Rattle.std.specs.Ordering.{int_eq}
 use Rattle.pp_spec.specs.Numbers.{has_ranged_arguments, is_ranged_answer}
 use Rattle.pp_spec.specs.Object.{Object, IsLegal, AllowedFrom, IsAllowed, state_after, AllRanged}

@@ -43,14 +43,15 @@ impl Cells {
         self.entries.get(&key).copied()
     }
 
-    /// Puts a number at a key, in place of the one that stands there. The only error is that memory
-    /// was refused.
-    pub fn insert(&mut self, key: i64, number: i64) -> Result<(), OutOfMemory>
+    /// Puts a number at a key, in place of the one that stands there, which it answers. The only
+    /// error is that memory was refused.
+    pub fn insert(&mut self, key: i64, number: i64) -> Result<Option<i64>, OutOfMemory>
+        ensures was { IfOk result (λ was. was ≡ map.get self.old key) }
         ensures ok { OnOk result (self.new ≡ map.insert self.old key number) }
         ensures err { OnErr result (self.new ≡ self.old) }
     {
         match self.entries.insert(key, number) {
-            Ok(_) => Ok(()),
+            Ok(was) => Ok(was),
             Err(_) => Err(OutOfMemory),
         }
     }
@@ -78,11 +79,12 @@ impl Cells {
         Ok(true)
     }
 
-    /// Takes the number at a key out, where there is one.
-    pub fn remove(&mut self, key: i64)
-        ensures { self.new ≡ map.remove self.old key }
+    /// Takes the number at a key out, where there is one, and answers it.
+    pub fn remove(&mut self, key: i64) -> Option<i64>
+        ensures was { result ≡ map.get self.old key }
+        ensures out { self.new ≡ map.remove self.old key }
     {
-        self.entries.remove(&key);
+        self.entries.remove(&key)
     }
 
     /// The keys with their numbers, in the keys' order. The only error is that memory was refused.

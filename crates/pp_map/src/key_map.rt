@@ -24,12 +24,10 @@ fn set_value(values: &mut Cells, key: i64, value: Option<i64>) -> Result<(), Out
     ensures err { OnErr result (values.new ≡ values.old) }
 {
     match value {
-        Some(number) => values.insert(key, number),
-        None => {
-            values.remove(key);
-            Ok(())
-        }
-    }
+        Some(number) => values.insert(key, number)?,
+        None => values.remove(key),
+    };
+    Ok(())
 }
 
 impl Spec for KeyMap {
@@ -105,6 +103,7 @@ impl Spec for KeyMap {
         }
     }
 
+    #[inline(always)]
     fn swaps(a: &MapOp, b: &MapOp) -> bool {
         may_swap(a, b)
     }

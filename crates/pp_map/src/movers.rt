@@ -7,6 +7,7 @@ use pp_table::Condition::{Always, Chain, Never, Unequal};
 use pp_table::{Figures, MoverTable};
 
 /// One of two forms, by whether there was a value.
+#[inline(always)]
 fn form_by(found: Option<i64>, absent: usize, present: usize) -> usize
     ensures { result ≡ form_by found absent present }
 {
@@ -17,6 +18,7 @@ fn form_by(found: Option<i64>, absent: usize, present: usize) -> usize
 }
 
 /// The row and the column of an operation's form.
+#[inline(always)]
 fn form(op: &MapOp) -> usize
     ensures { result ≡ form_of op.now }
 {
@@ -32,6 +34,7 @@ fn form(op: &MapOp) -> usize
 }
 
 /// A value as a number that a condition reads.
+#[inline(always)]
 fn figure(found: Option<i64>) -> i128
     ensures { result ≡ figure_of found }
 {
@@ -42,6 +45,7 @@ fn figure(found: Option<i64>) -> i128
 }
 
 /// The numbers of an operation that a condition reads.
+#[inline(always)]
 fn figures(op: &MapOp) -> Figures
     ensures { result ≡ figures_of op.now }
 {
@@ -63,6 +67,7 @@ fn figures(op: &MapOp) -> Figures
 
 /// A condition for each pair of forms: a row for the first operation, a column for the second.
 /// Each call has two, by whether it found no value or one.
+#[inline(always)]
 fn mover_table() -> MoverTable<6>
     ensures { result.rows ≡ map_table }
 {
@@ -83,6 +88,7 @@ fn mover_table() -> MoverTable<6>
 }
 
 /// Whether two operations swap: those on different keys always, and others by the table.
+#[inline(always)]
 pub fn may_swap(a: &MapOp, b: &MapOp) -> bool
     ensures { result ≡ may_swap a.now b.now }
 {

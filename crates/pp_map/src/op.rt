@@ -28,6 +28,7 @@ pub enum MapOp {
 
 impl MapOp {
     /// Its key.
+    #[inline]
     pub fn key(&self) -> i64
         ensures { result ≡ key_of self.now }
     {

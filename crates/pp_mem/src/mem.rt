@@ -75,8 +75,7 @@ impl Spec for Mem {
         match *op {
             MemOp::Read { at: _, value: _ } => Ok(Applied::Done(0)),
             MemOp::Write { at, value } => {
-                let was = state.value_at(at);
-                state.write(at, value)?;
+                let was = state.write(at, value)?;
                 Ok(Applied::Done(was))
             }
             MemOp::Cas {
@@ -100,22 +99,29 @@ impl Spec for Mem {
     ) -> Result<(), OutOfMemory> {
         ticks.tick();
         match *op {
-            MemOp::Read { at: _, value: _ } => Ok(()),
-            MemOp::Write { at, value: _ } => state.write(at, undo),
+            MemOp::Read { at: _, value: _ } => {}
+            MemOp::Write { at, value: _ } => {
+                state.write(at, undo)?;
+            }
             MemOp::Cas {
                 at,
                 expected,
                 done: true,
                 ..
-            } => state.write(at, expected),
-            MemOp::Cas { done: false, .. } => Ok(()),
+            } => {
+                state.write(at, expected)?;
+            }
+            MemOp::Cas { done: false, .. } => {}
         }
+        Ok(())
     }
 
+    #[inline(always)]
     fn swaps(a: &MemOp, b: &MemOp) -> bool {
         may_swap(a, b)
     }
 
+    #[inline]
     fn kept_alike(a: &MemOp, b: &MemOp) -> bool {
         a.address() != b.address() || (!a.is_write() && !b.is_write())
     }

@@ -44,16 +44,19 @@ impl Memory {
         self.cells.get(at).unwrap_or(0)
     }
 
-    /// Writes a number at an address. The only error is that memory was refused.
-    pub fn write(&mut self, at: i64, value: i64) -> Result<(), OutOfMemory>
+    /// Writes a number at an address, and answers the one that it covers. The only error is that
+    /// memory was refused.
+    pub fn write(&mut self, at: i64, value: i64) -> Result<i64, OutOfMemory>
+        ensures was { IfOk result (λ was. was ≡ value_at self.old at) }
         ensures ok { OnOk result (self.new ≡ written self.old at value) }
         ensures err { OnErr result (self.new ≡ self.old) }
     {
-        if value == 0 {
-            self.cells.remove(at);
-            return Ok(());
-        }
-        self.cells.insert(at, value)
+        let was = if value == 0 {
+            self.cells.remove(at)
+        } else {
+            self.cells.insert(at, value)?
+        };
+        Ok(was.unwrap_or(0))
     }
 
     /// The addresses whose number is not 0, with their numbers, in ascending order. The only error
