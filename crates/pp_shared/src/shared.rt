@@ -50,7 +50,8 @@ fn blocks<S: Spec>(owner: &Name, op: &S::Op, entry: &SharedEntry<S::Op>) -> bool
     ensures blocks { IsTrue result → Blocks S.object owner.now op.now entry.now }
     ensures gives_way { result ≡ false → GivesWay S.object owner.now op.now entry.now }
 {
-    !entry.committed && !entry.owner.same(owner) && !S::swaps(&entry.op, op)
+    // The movers come before the names, since most pairs swap, and names are compared byte by byte.
+    !entry.committed && !S::swaps(&entry.op, op) && !entry.owner.same(owner)
 }
 
 /// Whether an entry is an uncommitted one of an owner.

@@ -1,4 +1,4 @@
-use Rattle.std.proofs.Common.{◌≡◌, IsSome, Some, refl, subst, sym}
+use Rattle.std.proofs.Common.{IsSome, Some, refl, subst, sym}
 use Rattle.pp_shared.specs.Uncommitted.{open_in}
 use Rattle.pp_shared.proofs.Uncommitted.{less_at, told_at}
 use Rattle.pp_shared.proofs.open.OpenParts.take.Goals as goal
