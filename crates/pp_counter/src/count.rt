@@ -83,6 +83,7 @@ impl Spec for Count {
         Ok(())
     }
 
+    #[inline(always)]
     fn swaps(a: &CounterOp, b: &CounterOp) -> bool {
         may_swap(a, b)
     }

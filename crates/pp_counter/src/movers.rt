@@ -7,6 +7,7 @@ use pp_table::Condition::{Always, Chain, FirstStill, SecondStill};
 use pp_table::{Figures, MoverTable};
 
 /// The row and the column of an operation's form.
+#[inline(always)]
 fn form(op: &CounterOp) -> usize
     ensures { result ≡ form_of op.now }
 {
@@ -18,6 +19,7 @@ fn form(op: &CounterOp) -> usize
 }
 
 /// The numbers of an operation that a condition reads.
+#[inline(always)]
 fn figures(op: &CounterOp) -> Figures
     ensures { result ≡ figures_of op.now }
 {
@@ -41,6 +43,7 @@ fn figures(op: &CounterOp) -> Figures
 }
 
 /// A condition for each pair of forms: a row for the first operation, a column for the second.
+#[inline(always)]
 fn mover_table() -> MoverTable<3>
     ensures { result.rows ≡ counter_table }
 {
@@ -51,6 +54,7 @@ fn mover_table() -> MoverTable<3>
 }
 
 /// Whether two operations swap, by the table.
+#[inline(always)]
 pub fn may_swap(a: &CounterOp, b: &CounterOp) -> bool
     ensures { result ≡ may_swap a.now b.now }
 {

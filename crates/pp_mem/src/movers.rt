@@ -7,6 +7,7 @@ use pp_table::Condition::{Always, Apart, Chain, Equal, FromApart, IntoApart, Set
 use pp_table::{Figures, MoverTable};
 
 /// The row and the column of an operation's form.
+#[inline(always)]
 fn form(op: &MemOp) -> usize
     ensures { result ≡ form_of op.now }
 {
@@ -19,6 +20,7 @@ fn form(op: &MemOp) -> usize
 }
 
 /// The numbers of an operation that a condition reads.
+#[inline(always)]
 fn figures(op: &MemOp) -> Figures
     ensures { result ≡ figures_of op.now }
 {
@@ -56,6 +58,7 @@ fn figures(op: &MemOp) -> Figures
 }
 
 /// A condition for each pair of forms: a row for the first operation, a column for the second.
+#[inline(always)]
 fn mover_table() -> MoverTable<4>
     ensures { result.rows ≡ memory_table }
 {
@@ -67,6 +70,7 @@ fn mover_table() -> MoverTable<4>
 }
 
 /// Whether two operations swap: always at different addresses, and by the table at one.
+#[inline(always)]
 pub fn may_swap(a: &MemOp, b: &MemOp) -> bool
     ensures { result ≡ may_swap a.now b.now }
 {

@@ -51,6 +51,7 @@ impl Act {
     }
 
     /// The key that it is on, or 0 where its kind has none.
+    #[inline]
     pub fn key(&self) -> i64
         ensures { result ≡ key_of self.now }
     {

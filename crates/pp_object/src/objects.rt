@@ -30,6 +30,7 @@ fn empty_states(alloc: Global, kinds: &Kinds) -> Result<Vec<ObjectState>, OutOfM
 }
 
 /// Whether two operations swap. Those of different objects always do.
+#[inline(always)]
 fn may_swap(a: &Op, b: &Op) -> bool
     ensures { IsTrue result ↔ Swaps objects a.now b.now }
 {
@@ -103,10 +104,12 @@ impl Spec for Objects {
         )
     }
 
+    #[inline(always)]
     fn swaps(a: &Op, b: &Op) -> bool {
         may_swap(a, b)
     }
 
+    #[inline(always)]
     fn kept_alike(a: &Op, b: &Op) -> bool {
         a.object != b.object || OneObject::kept_alike(&a.act, &b.act)
     }

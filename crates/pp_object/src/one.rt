@@ -47,6 +47,7 @@ fn uncovered(applied: Result<Applied<()>, OutOfMemory>) -> Result<Applied<Undo>,
 }
 
 /// Whether two acts swap. Those that no object has together always do.
+#[inline]
 fn may_swap(a: &Act, b: &Act) -> bool
     ensures { IsTrue result ↔ Swaps one a.now b.now }
 {
@@ -190,10 +191,12 @@ impl Spec for OneObject {
         }
     }
 
+    #[inline]
     fn swaps(a: &Act, b: &Act) -> bool {
         may_swap(a, b)
     }
 
+    #[inline]
     fn kept_alike(a: &Act, b: &Act) -> bool {
         match (a, b) {
             (Act::Memory(a), Act::Memory(b)) => Mem::kept_alike(a, b),

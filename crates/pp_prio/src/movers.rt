@@ -7,6 +7,7 @@ use pp_table::Condition::{Always, Falling, Never, Rising, Unequal};
 use pp_table::{Figures, MoverTable};
 
 /// The row and the column of an operation's form.
+#[inline(always)]
 fn form(op: &PrioOp) -> usize
     ensures { result ≡ form_of op.now }
 {
@@ -20,6 +21,7 @@ fn form(op: &PrioOp) -> usize
 }
 
 /// The value that an operation adds or finds, and else 0.
+#[inline(always)]
 fn value_of(op: &PrioOp) -> i64
     ensures { result ≡ value_of op.now }
 {
@@ -31,6 +33,7 @@ fn value_of(op: &PrioOp) -> i64
 }
 
 /// The numbers of an operation that a condition reads.
+#[inline(always)]
 fn figures(op: &PrioOp) -> Figures
     ensures { result ≡ figures_of op.now }
 {
@@ -43,6 +46,7 @@ fn figures(op: &PrioOp) -> Figures
 }
 
 /// A condition for each pair of forms: a row for the first operation, a column for the second.
+#[inline(always)]
 fn mover_table() -> MoverTable<4>
     ensures { result.rows ≡ prio_table }
 {
@@ -54,6 +58,7 @@ fn mover_table() -> MoverTable<4>
 }
 
 /// Whether two operations swap, by the table.
+#[inline(always)]
 pub fn may_swap(a: &PrioOp, b: &PrioOp) -> bool
     ensures { result ≡ may_swap a.now b.now }
 {

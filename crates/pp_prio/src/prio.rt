@@ -90,6 +90,7 @@ impl Spec for Prio {
         }
     }
 
+    #[inline(always)]
     fn swaps(a: &PrioOp, b: &PrioOp) -> bool {
         may_swap(a, b)
     }

@@ -89,6 +89,7 @@ impl Spec for Fifo {
         }
     }
 
+    #[inline(always)]
     fn swaps(a: &QueueOp, b: &QueueOp) -> bool {
         may_swap(a, b)
     }

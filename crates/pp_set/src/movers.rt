@@ -7,6 +7,7 @@ use pp_table::Condition::{Always, Never};
 use pp_table::{Figures, MoverTable};
 
 /// The row and the column of an operation's form, which is its call with its result.
+#[inline(always)]
 fn form(op: &SetOp) -> usize
     ensures { result ≡ form_of op.now }
 {
@@ -18,6 +19,7 @@ fn form(op: &SetOp) -> usize
 }
 
 /// No condition of the table reads a number.
+#[inline(always)]
 fn no_figures() -> Figures
     ensures { result ≡ no_figures }
 {
@@ -29,6 +31,7 @@ fn no_figures() -> Figures
 }
 
 /// A condition for each pair of forms: a row for the first operation, a column for the second.
+#[inline(always)]
 fn mover_table() -> MoverTable<6>
     ensures { result.rows ≡ set_table }
 {
@@ -42,6 +45,7 @@ fn mover_table() -> MoverTable<6>
 }
 
 /// Whether two operations swap: always at different keys, and by the table at one.
+#[inline(always)]
 pub fn may_swap(a: &SetOp, b: &SetOp) -> bool
     ensures { result ≡ may_swap a.now b.now }
 {

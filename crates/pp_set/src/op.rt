@@ -18,6 +18,7 @@ pub enum SetOp {
 
 impl SetOp {
     /// Its key.
+    #[inline]
     pub fn key(&self) -> i64
         ensures { result ≡ key_of self.now }
     {

@@ -86,6 +86,7 @@ impl Spec for KeySet {
         Ok(())
     }
 
+    #[inline(always)]
     fn swaps(a: &SetOp, b: &SetOp) -> bool {
         may_swap(a, b)
     }

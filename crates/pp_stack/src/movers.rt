@@ -7,6 +7,7 @@ use pp_table::Condition::{Always, Equal, Never, Unequal};
 use pp_table::{Figures, MoverTable};
 
 /// The row and the column of an operation's form.
+#[inline(always)]
 fn form(op: &StackOp) -> usize
     ensures { result ≡ form_of op.now }
 {
@@ -18,6 +19,7 @@ fn form(op: &StackOp) -> usize
 }
 
 /// The numbers of an operation that a condition reads.
+#[inline(always)]
 fn figures(op: &StackOp) -> Figures
     ensures { result ≡ figures_of op.now }
 {
@@ -34,6 +36,7 @@ fn figures(op: &StackOp) -> Figures
 }
 
 /// A condition for each pair of forms: a row for the first operation, a column for the second.
+#[inline(always)]
 fn mover_table() -> MoverTable<3>
     ensures { result.rows ≡ stack_table }
 {
@@ -44,6 +47,7 @@ fn mover_table() -> MoverTable<3>
 }
 
 /// Whether two operations swap, by the table.
+#[inline(always)]
 pub fn may_swap(a: &StackOp, b: &StackOp) -> bool
     ensures { result ≡ may_swap a.now b.now }
 {

@@ -89,6 +89,7 @@ impl Spec for Stack {
         }
     }
 
+    #[inline(always)]
     fn swaps(a: &StackOp, b: &StackOp) -> bool {
         may_swap(a, b)
     }

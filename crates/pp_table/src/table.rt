@@ -47,6 +47,7 @@ pub struct Figures {
 
 impl Condition {
     /// Whether it holds of the figures of a first and a second operation.
+    #[inline(always)]
     pub fn holds(self, x: &Figures, y: &Figures) -> bool
         ensures { result ≡ condition_holds self x.now y.now }
     {
@@ -79,6 +80,7 @@ pub struct MoverTable<const N: usize> {
 
 impl<const N: usize> MoverTable<N> {
     /// The table with these rows.
+    #[inline(always)]
     pub fn new(rows: [[Condition; N]; N]) -> Self
         ensures { result.rows ≡ rows.entry }
     {
@@ -86,6 +88,7 @@ impl<const N: usize> MoverTable<N> {
     }
 
     /// The entry of a pair of forms.
+    #[inline(always)]
     pub fn condition(&self, a: usize, b: usize) -> Condition
         requires row { a < N }
         requires column { b < N }
@@ -95,6 +98,7 @@ impl<const N: usize> MoverTable<N> {
     }
 
     /// Whether the entry of a pair of forms holds of these figures.
+    #[inline(always)]
     pub fn holds(&self, a: usize, x: &Figures, b: usize, y: &Figures) -> bool
         requires row { a < N }
         requires column { b < N }
