@@ -1,5 +1,5 @@
 -- Meaning: what a counter means.
-use Rattle.std.specs.Prelude.{◌≡◌, ℤ, pos, ◌+ℤ◌, ◌-ℤ◌, ℕ, true}
+use Rattle.std.specs.Prelude.{◌≡◌, ℤ, pos, ◌+ℤ◌, ◌-ℤ◌, ℕ, true, false}
 use Rattle.pp_spec.specs.Object.{Object}
 use Rattle.pp_counter.specs.declared.op.CounterOp.{CounterOp}
 use Rattle.pp_counter.specs.Operations.{shift_of, call_of, recorded_by, given_by, is_ranged}
@@ -21,6 +21,7 @@ counter = record {
     IsState = λ n. Unit {0};
     kept = λ n op. tt;
     back = λ n op undo. n -ℤ shift_of op;
+    in_clique = λ op. false;
   };
 }
 

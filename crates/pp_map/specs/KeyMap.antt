@@ -1,5 +1,5 @@
 -- Meaning: what a map means.
-use Rattle.std.specs.Prelude.{ℤ, true, Option}
+use Rattle.std.specs.Prelude.{ℤ, true, Option, false}
 use Rattle.std.specs.Option.{option_eq}
 use Rattle.std.specs.Ordering.{int_eq, int_cmp}
 use Rattle.std.specs.FinMap.{FinMap, empty, get}
@@ -27,6 +27,7 @@ key_map = record {
     IsState = λ values. Unit {0};
     kept = λ values op. tt;
     back = λ values op undo. values_before values op;
+    in_clique = λ op. false;
   };
 }
 

@@ -8,7 +8,7 @@ use Rattle.pp_mem.specs.declared.op.MemOp.{MemOp}
 use Rattle.pp_mem.specs.declared.op.MemOp.TheVariants.{Read}
 use Rattle.pp_mem.specs.Values.{value_at, HasNoZero}
 use Rattle.pp_mem.specs.Operations.{address_of, Finds, left_by, call_of, recorded_by, given_by}
-use Rattle.pp_mem.specs.Operations.{memory_after, kept_by, memory_before, is_ranged}
+use Rattle.pp_mem.specs.Operations.{memory_after, kept_by, memory_before, in_clique, is_ranged}
 use Rattle.pp_mem.specs.Contexts.{refuting_lists}
 
 -- numbers at addresses, at first 0 everywhere, which operations read and write
@@ -27,6 +27,7 @@ memory = record {
     IsState = HasNoZero;
     kept = kept_by;
     back = memory_before;
+    in_clique = in_clique;
   };
 }
 

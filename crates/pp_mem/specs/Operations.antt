@@ -82,3 +82,10 @@ abbrev pub is_ranged : MemOp → Bool
 is_ranged (Read a v) = in_range a && in_range v
 is_ranged (Write a v) = in_range a && in_range v
 is_ranged (Cas a e n done) = in_range a && in_range e && in_range n
+
+-- it reads, or is a compare-and-swap that failed
+abbrev pub in_clique : MemOp → Bool
+in_clique (Read a v) = true
+in_clique (Write a v) = false
+in_clique (Cas a e n true) = false
+in_clique (Cas a e n false) = true

@@ -1,6 +1,7 @@
 //! The operations of a memory.
 ghost use Rattle.std.specs.Prelude.{◌≡◌};
 ghost use Rattle.pp_mem.specs.Operations.{address_of, is_write, call_of, recorded_by, is_ranged};
+ghost use Rattle.pp_mem.specs.Operations.{in_clique};
 
 use pp_core::{Answer, Call, Method};
 use pp_spec::in_range;
@@ -29,6 +30,7 @@ pub enum MemOp {
 
 impl MemOp {
     /// Its address.
+    #[inline]
     pub fn address(&self) -> i64
         ensures { result ≡ address_of self.now }
     {
@@ -40,6 +42,7 @@ impl MemOp {
     }
 
     /// Whether it writes whatever stands there.
+    #[inline]
     pub fn is_write(&self) -> bool
         ensures { result ≡ is_write self.now }
     {
@@ -47,6 +50,19 @@ impl MemOp {
             MemOp::Read { at: _, value: _ } => false,
             MemOp::Write { at: _, value: _ } => true,
             MemOp::Cas { .. } => false,
+        }
+    }
+
+    /// Whether it reads, or is a compare-and-swap that failed: these swap with one another, whatever
+    /// their numbers.
+    #[inline]
+    pub fn in_clique(&self) -> bool
+        ensures { result ≡ in_clique self.now }
+    {
+        match *self {
+            MemOp::Read { at: _, value: _ } => true,
+            MemOp::Write { at: _, value: _ } => false,
+            MemOp::Cas { done, .. } => !done,
         }
     }
 

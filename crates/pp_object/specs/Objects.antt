@@ -56,6 +56,7 @@ many o = record {
     kept = λ ss op. kept_in o (slice_get ss op.object) op.act;
     back = λ ss op undo. put ss op.object
         (option_map (λ s. o.upkeep.back s op.act undo) (slice_get ss op.object));
+    in_clique = λ op. o.upkeep.in_clique op.act;
   };
 }
 

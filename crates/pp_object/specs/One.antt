@@ -174,6 +174,16 @@ kept_as f (Ok (Done undo)) = Ok (Done (f undo))
 kept_as f (Ok Differs) = Ok Differs
 kept_as f (Err refused) = Err refused
 
+-- it is in the clique of its kind
+abbrev pub in_clique : Act → Bool
+in_clique (Memory a) = memory.upkeep.in_clique a
+in_clique (KeySet a) = key_set.upkeep.in_clique a
+in_clique (KeyMap a) = key_map.upkeep.in_clique a
+in_clique (Counter a) = counter.upkeep.in_clique a
+in_clique (Queue a) = fifo.upkeep.in_clique a
+in_clique (Stack a) = stack.upkeep.in_clique a
+in_clique (PriorityQueue a) = prio.upkeep.in_clique a
+
 -- an object of any kind
 abbrev pub one : Object Kind ObjectState Act Undo
 one = record {
@@ -190,5 +200,6 @@ one = record {
     IsState = IsState;
     kept = kept_by;
     back = state_before;
+    in_clique = in_clique;
   };
 }

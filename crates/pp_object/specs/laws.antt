@@ -6,3 +6,4 @@ pub mod Elements
 pub mod Places
 pub mod Objects
 pub mod Parts
+pub mod Cliques

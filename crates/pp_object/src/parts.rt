@@ -3,6 +3,8 @@ ghost use Rattle.std.specs.Prelude.{◌≡◌, IsTrue};
 ghost use Rattle.pp_parts.specs.Parts.{StandsFor};
 ghost use Rattle.pp_object.specs.Objects.{objects};
 ghost use Rattle.pp_object.specs.Parts.{both_add, part_of};
+ghost use Rattle.pp_object.specs.One.{in_clique};
+ghost use Rattle.pp_object.specs.laws.Cliques.{clique_swaps};
 ghost use Rattle.pp_object.specs.laws.Parts.{other_parts_swap};
 
 use crate::act::{Act, Op};
@@ -120,9 +122,26 @@ fn may_stand_for(a: &Op, b: &Op) -> bool
     is_same(&a.act, &b.act)
 }
 
+/// Whether an act is in the clique of its kind.
+#[inline]
+fn in_clique(act: &Act) -> bool
+    ensures { result ≡ in_clique act.now }
+{
+    match act {
+        Act::Memory(op) => op.in_clique(),
+        Act::PriorityQueue(op) => op.in_clique(),
+        Act::KeySet(_) => false,
+        Act::KeyMap(_) => false,
+        Act::Counter(_) => false,
+        Act::Queue(_) => false,
+        Act::Stack(_) => false,
+    }
+}
+
 impl Parted for Objects {
     ghost part_of = { part_of };
 
+    #[inline]
     fn part(op: &Op) -> Part {
         Part {
             object: op.object,
@@ -134,5 +153,12 @@ impl Parted for Objects {
         may_stand_for(a, b)
     }
 
+    #[inline]
+    fn in_clique(op: &Op) -> bool {
+        in_clique(&op.act)
+    }
+
     ghost parted = { other_parts_swap };
+
+    ghost clique = { clique_swaps };
 }

@@ -57,11 +57,11 @@ module _ {Shape State Op Undo : Type 0} (o : Object Shape State Op Undo) where
   pub all_before : (samples : SampleList Op) (op b : Op) → samples.cut ≡ false
       → All (λ s. Swaps o s op) samples.ops → Covers o samples b → Swaps o b op
   all_before samples op b whole each covered =
-      let s = covered whole in
+      let s = covered.0 whole in
       s.2.0 op (of_each (λ c. Swaps o c op) samples.ops s.0 each s.1)
 
   pub all_behind : (samples : SampleList Op) (op b : Op) → samples.cut ≡ false
       → All (λ s. Swaps o op s) samples.ops → Covers o samples b → Swaps o op b
   all_behind samples op b whole each covered =
-      let s = covered whole in
+      let s = covered.0 whole in
       s.2.1 op (of_each (λ c. Swaps o op c) samples.ops s.0 each s.1)

@@ -1,14 +1,16 @@
 -- Meaning: operations that are about different things, and operations that stand for others.
-use Rattle.std.specs.Prelude.{◌≡◌, ◌≢◌, Bool, false, List, [], ◌∷◌, Option, None, Some}
+use Rattle.std.specs.Prelude.{◌≡◌, ◌≢◌, Bool, false, true, IsTrue, List, [], ◌∷◌, Option}
+use Rattle.std.specs.Prelude.{None, Some}
 use Rattle.pp_model.specs.Lists.{In}
 use Rattle.pp_spec.specs.Object.{Object, Swaps}
 use Rattle.pp_parts.specs.declared.part.Part.{Part}
 
 -- Operations that stand for all that were added; cut says that there were too many of them, so that
--- of some it is not known what stands for them.
+-- of some it is not known what stands for them; all_in_clique says that all of them are in the clique.
 pub record SampleList (Op : Type 0) : Type 0 where
   pub ops : List Op
   pub cut : Bool
+  pub all_in_clique : Bool
 
 -- The first, if there is one, and others behind it.
 abbrev pub first_and : {Op : Type 0} → Option Op → List Op → List Op
@@ -17,7 +19,7 @@ first_and (Some first) others = first ∷ others
 
 -- Nothing was added.
 abbrev pub no_samples : {Op : Type 0} → SampleList Op
-no_samples = record { ops = []; cut = false }
+no_samples = record { ops = []; cut = false; all_in_clique = true }
 
 module _ {Shape State Op Undo : Type 0} (o : Object Shape State Op Undo) where
   -- Operations of different parts swap.
@@ -32,6 +34,11 @@ module _ {Shape State Op Undo : Type 0} (o : Object Shape State Op Undo) where
   abbrev pub IsStoodForBy : List Op → Op → Type 0
   IsStoodForBy ops op = (s : Op) × In s ops × StandsFor s op
 
-  -- Unless they were cut, one of the samples stands for the operation.
+  -- It is in the clique where all that were added are.
+  abbrev pub KeepsClique : SampleList Op → Op → Type 0
+  KeepsClique samples op = IsTrue samples.all_in_clique → IsTrue (o.upkeep.in_clique op)
+
+  -- Unless they were cut, one of the samples stands for the operation; and it is in the clique
+  -- where all are.
   abbrev pub Covers : SampleList Op → Op → Type 0
-  Covers samples op = samples.cut ≡ false → IsStoodForBy samples.ops op
+  Covers samples op = (samples.cut ≡ false → IsStoodForBy samples.ops op) × KeepsClique samples op

@@ -1,7 +1,7 @@
 //! The trait of kinds that tell apart what their operations are about.
 ghost use Rattle.std.specs.Prelude.{◌≡◌, ◌≢◌, IsTrue};
-ghost use Rattle.pp_spec.specs.Object.{Swaps};
-ghost use Rattle.pp_parts.specs.Parts.{StandsFor, PartsSwap};
+ghost use Rattle.pp_spec.specs.Object.{CliqueSwaps, Swaps};
+ghost use Rattle.pp_parts.specs.Parts.{PartsSwap, StandsFor};
 
 use crate::part::Part;
 use pp_spec::Placed;
@@ -10,7 +10,8 @@ use pp_spec::Placed;
 pub trait Parted: Placed {
     ghost use Rattle.std.specs.Prelude.{◌≡◌, IsTrue};
     ghost use Rattle.pp_parts.specs.declared.part.Part.{Part as PartOf};
-    ghost use Rattle.pp_parts.specs.Parts.{StandsFor, PartsSwap};
+    ghost use Rattle.pp_parts.specs.Parts.{PartsSwap, StandsFor};
+    ghost use Rattle.pp_spec.specs.Object.{CliqueSwaps};
 
     /// The part that an operation is about.
     ghost part_of: { Self.Op → PartOf };
@@ -23,8 +24,16 @@ pub trait Parted: Placed {
     fn stands_for(a: &Self::Op, b: &Self::Op) -> bool
         ensures { IsTrue result → StandsFor Self.object a.now b.now };
 
+    /// Whether it is in the clique: any two operations there swap, whatever numbers they have, and
+    /// whatever objects they are on.
+    fn in_clique(op: &Self::Op) -> bool
+        ensures { result ≡ Self.object.upkeep.in_clique op.now };
+
     /// Operations of different parts swap.
     ghost parted: { PartsSwap Self.object part_of };
+
+    /// Any two operations in the clique swap.
+    ghost clique: { CliqueSwaps Self.object };
 }
 
 /// Operations of different parts swap.

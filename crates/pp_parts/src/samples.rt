@@ -1,7 +1,7 @@
 //! Operations that stand for many others.
 ghost use Rattle.std.specs.Prelude.{◌≡◌, All, IsTrue, List, []};
 ghost use Rattle.pp_spec.specs.Object.{Swaps};
-ghost use Rattle.pp_parts.specs.Parts.{Covers, IsStoodForBy, first_and, no_samples};
+ghost use Rattle.pp_parts.specs.Parts.{Covers, KeepsClique, IsStoodForBy, first_and, no_samples};
 
 use crate::parted::Parted;
 use std::alloc::Global;
@@ -10,13 +10,15 @@ use std::marker::Model;
 /// How many samples are kept at most.
 pub const MOST_SAMPLES: usize = 64;
 
-/// Operations that stand for all that were added. Too many different ones are not kept: then
-/// nothing is known. The first is kept apart, so that one alone takes no memory.
+/// Operations that stand for all that were added, and whether all of these are in the clique. Too
+/// many different ones are not kept: then nothing but that is known. The first is kept apart, so
+/// that one alone takes no memory.
 #[derive(Drop)]
 pub struct Samples<S: Parted> {
     first: Option<S::Op>,
     others: Vec<S::Op>,
     cut: bool,
+    all_in_clique: bool,
 }
 
 impl<S: Parted> Model for Samples<S> {
@@ -24,7 +26,11 @@ impl<S: Parted> Model for Samples<S> {
 
     ghost Value = { SampleList S.Op };
 
-    ghost view = { λ s. record { ops = first_and s.first s.others.items; cut = s.cut } };
+    ghost view = { λ s. record {
+      ops = first_and s.first s.others.items;
+      cut = s.cut;
+      all_in_clique = s.all_in_clique;
+    } };
 }
 
 /// Whether one of the samples stands for the operation.
@@ -105,7 +111,19 @@ impl<S: Parted> Samples<S> {
             first: None,
             others: Vec::new(alloc),
             cut: false,
+            all_in_clique: true,
         }
+    }
+
+    /// Whether the operation and all that were added are in the clique, and so swap. False says
+    /// nothing.
+    fn swaps_in_clique(&self, op: &S::Op) -> bool
+        ensures before { IsTrue result →
+            (b : S.Op) → Covers S.object self.now b → Swaps S.object b op.now }
+        ensures behind { IsTrue result →
+            (b : S.Op) → Covers S.object self.now b → Swaps S.object op.now b }
+    {
+        S::in_clique(op) && self.all_in_clique
     }
 
     /// Whether one of those that are kept stands for the operation.
@@ -115,9 +133,10 @@ impl<S: Parted> Samples<S> {
         first_stands_for::<S>(&self.first, op) || some_stands_for::<S>(&self.others, op)
     }
 
-    /// Keeps an operation. Where memory is refused, or too many are kept, nothing is known of any
-    /// from then on.
+    /// Keeps an operation. Where memory is refused, or too many are kept, nothing but the clique is
+    /// known of any from then on.
     fn keep(&mut self, op: &S::Op)
+        requires { KeepsClique S.object self.old op.now }
         ensures keeps { (b : S.Op) → Covers S.object self.old b → Covers S.object self.new b }
         ensures covers { Covers S.object self.new op.now }
     {
@@ -131,11 +150,12 @@ impl<S: Parted> Samples<S> {
     }
 
     /// Adds an operation, which is kept where none that is kept stands for it. Where memory is
-    /// refused, or too many are kept, nothing is known of any from then on.
+    /// refused, or too many are kept, nothing but the clique is known of any from then on.
     pub fn add(&mut self, op: &S::Op)
         ensures keeps { (b : S.Op) → Covers S.object self.old b → Covers S.object self.new b }
         ensures covers { Covers S.object self.new op.now }
     {
+        self.all_in_clique = self.all_in_clique && S::in_clique(op);
         if self.cut || self.has_one_for(op) {
             return;
         }
@@ -148,6 +168,9 @@ impl<S: Parted> Samples<S> {
         ensures { IsTrue result →
             (b : S.Op) → Covers S.object self.now b → Swaps S.object b op.now }
     {
+        if self.swaps_in_clique(op) {
+            return true;
+        }
         if self.cut {
             return false;
         }
@@ -160,6 +183,9 @@ impl<S: Parted> Samples<S> {
         ensures { IsTrue result →
             (b : S.Op) → Covers S.object self.now b → Swaps S.object op.now b }
     {
+        if self.swaps_in_clique(op) {
+            return true;
+        }
         if self.cut {
             return false;
         }
@@ -173,5 +199,6 @@ impl<S: Parted> Samples<S> {
         self.first = None;
         self.others.clear();
         self.cut = false;
+        self.all_in_clique = true;
     }
 }

@@ -1,5 +1,5 @@
 -- Meaning: the operations of a priority queue, and what they give and do.
-use Rattle.std.specs.Prelude.{ℤ, pos, Bool, List, Option, Some, None}
+use Rattle.std.specs.Prelude.{ℤ, pos, Bool, true, false, List, Option, Some, None}
 use Rattle.pp_core.specs.declared.answer.Answer.{Answer}
 use Rattle.pp_core.specs.declared.answer.Answer.TheVariants.{None as NoAnswer}
 use Rattle.pp_core.specs.declared.call.Call.{Call}
@@ -56,3 +56,9 @@ abbrev pub is_ranged : PrioOp → Bool
 is_ranged (Insert value) = in_range value
 is_ranged (Take value) = is_ranged_found value
 is_ranged (Least value) = is_ranged_found value
+
+-- it inserts
+abbrev pub in_clique : PrioOp → Bool
+in_clique (Insert x) = true
+in_clique (Take value) = false
+in_clique (Least value) = false

@@ -4,7 +4,7 @@ use Rattle.pp_spec.specs.Object.{Object}
 use Rattle.pp_prio.specs.declared.op.PrioOp.{PrioOp}
 use Rattle.pp_prio.specs.Values.{IsAscending}
 use Rattle.pp_prio.specs.Operations.{values_after, values_before, call_of, recorded_by, given_by}
-use Rattle.pp_prio.specs.Operations.{is_ranged}
+use Rattle.pp_prio.specs.Operations.{in_clique, is_ranged}
 use Rattle.pp_prio.specs.Contexts.{refuting_lists}
 
 -- the values in ascending order, at first none
@@ -23,5 +23,6 @@ prio = record {
     IsState = IsAscending;
     kept = λ values op. tt;
     back = λ values op undo. values_before values op;
+    in_clique = in_clique;
   };
 }

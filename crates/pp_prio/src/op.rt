@@ -1,6 +1,6 @@
 //! The operations of a priority queue.
 ghost use Rattle.std.specs.Prelude.{◌≡◌};
-ghost use Rattle.pp_prio.specs.Operations.{found_by, call_of, recorded_by, is_ranged};
+ghost use Rattle.pp_prio.specs.Operations.{found_by, call_of, recorded_by, is_ranged, in_clique};
 
 use pp_core::{Answer, Call, Method};
 use pp_spec::{answer_of, in_range, is_ranged_found};
@@ -36,6 +36,18 @@ impl PrioOp {
             PrioOp::Insert { value: _ } => None,
             PrioOp::Take { value } => value,
             PrioOp::Least { value } => value,
+        }
+    }
+
+    /// Whether it inserts: insertions swap with one another, whatever their values.
+    #[inline]
+    pub fn in_clique(&self) -> bool
+        ensures { result ≡ in_clique self.now }
+    {
+        match *self {
+            PrioOp::Insert { value: _ } => true,
+            PrioOp::Take { value: _ } => false,
+            PrioOp::Least { value: _ } => false,
         }
     }
 

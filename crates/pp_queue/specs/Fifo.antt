@@ -1,5 +1,5 @@
 -- Meaning: what a queue means.
-use Rattle.std.specs.Prelude.{ℤ, List, [], true}
+use Rattle.std.specs.Prelude.{ℤ, List, [], true, false}
 use Rattle.pp_spec.specs.Object.{Object}
 use Rattle.pp_queue.specs.declared.op.QueueOp.{QueueOp}
 use Rattle.pp_queue.specs.Operations.{items_after, items_before, call_of, recorded_by, given_by}
@@ -22,5 +22,6 @@ fifo = record {
     IsState = λ items. Unit {0};
     kept = λ items op. tt;
     back = λ items op undo. items_before items op;
+    in_clique = λ op. false;
   };
 }

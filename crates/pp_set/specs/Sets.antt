@@ -28,6 +28,7 @@ key_set = record {
     IsState = λ s. Unit {0};
     kept = λ s op. tt;
     back = λ s op undo. set_before s op;
+    in_clique = λ op. false;
   };
 }
 

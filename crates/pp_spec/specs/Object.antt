@@ -8,8 +8,9 @@ use Rattle.pp_spec.specs.Numbers.{has_ranged_arguments, is_ranged_answer}
 use Rattle.pp_model.specs.Object as model
 use Rattle.pp_model.specs.Object.{AllowedBy, state_by}
 
--- Proof machinery: which states the code meets, and what it keeps to take an operation back. No
--- list that is allowed, no swap and no result depends on it.
+-- Proof machinery: which states the code meets, what it keeps to take an operation back, and which
+-- operations it knows to swap with one another. No list that is allowed, no swap and no result
+-- depends on it.
 pub record Upkeep (State Op Undo : Type 0) : Type 1 where
   -- it is the state of some run, as far as the laws ask
   pub IsState : State → Type 0
@@ -17,6 +18,9 @@ pub record Upkeep (State Op Undo : Type 0) : Type 1 where
   pub kept : State → Op → Undo
   -- the state that this brings back
   pub back : State → Op → Undo → State
+  -- the operation is in the clique of the kind: any two operations there swap, whatever numbers
+  -- they have
+  pub in_clique : Op → Bool
 
 -- What a kind of object means: its states, what an operation gives in a state, and what it leaves.
 pub record Object (Shape State Op Undo : Type 0) : Type 1 where
@@ -111,6 +115,11 @@ module _ {Shape State Op Undo : Type 0} (o : Object Shape State Op Undo) where
   -- So it is in every state.
   abbrev pub KeptAlike : Op → Op → Type 0
   KeptAlike a b = (s : State) → o.upkeep.IsState s → KeptAlikeAt s a b
+
+  -- Any two operations in the clique swap.
+  abbrev pub CliqueSwaps : Type 0
+  CliqueSwaps = (a b : Op) → IsTrue (o.upkeep.in_clique a) → IsTrue (o.upkeep.in_clique b)
+      → Swaps a b
 
   -- The lists show that b may not move left over a: they fit each shape that the pair fits, and are
   -- ranged where the pair is.

@@ -1,5 +1,5 @@
 -- Meaning: what a stack means.
-use Rattle.std.specs.Prelude.{ℤ, List, [], true}
+use Rattle.std.specs.Prelude.{ℤ, List, [], true, false}
 use Rattle.pp_spec.specs.Object.{Object}
 use Rattle.pp_stack.specs.declared.op.StackOp.{StackOp}
 use Rattle.pp_stack.specs.Operations.{items_after, items_before, call_of, recorded_by, given_by}
@@ -22,5 +22,6 @@ stack = record {
     IsState = λ items. Unit {0};
     kept = λ items op. tt;
     back = λ items op undo. items_before items op;
+    in_clique = λ op. false;
   };
 }

@@ -3,13 +3,13 @@
 use Rattle.std.proofs.Common.{◌≡◌, ℤ, pos, ◌-ℤ◌, Bool, true, false, not, ◌&&◌, ◌||◌, IsTrue}
 use Rattle.std.proofs.Common.{if◌then◌else◌, [], ◌∷◌, ◌↔◌, Option, Some, None, refl, sym, ◌∙◌}
 use Rattle.std.proofs.Common.{int_eq, arith}
-use Rattle.std.proofs.lemmas.Bool.{and_parts, and_from}
+use Rattle.std.proofs.lemmas.Bool.{and_parts, and_from, cond_both}
 use Rattle.std.proofs.lemmas.Int.{ints}
 use Rattle.std.specs.Ordering.{int_cmp}
 use Rattle.std.specs.FinMap.{FinMap, empty}
 use Rattle.pp_spec.specs.Numbers.{in_range}
 use Rattle.pp_spec.specs.Object.{AllowedFrom, IsAllowed, state_after, AllRanged, Swaps}
-use Rattle.pp_spec.specs.Object.{SwapsNowhere, IsLawful}
+use Rattle.pp_spec.specs.Object.{SwapsNowhere, CliqueSwaps, IsLawful}
 use Rattle.pp_spec.proofs.Tests.{IsTold, swaps_exact, swaps_nowhere}
 use Rattle.pp_keyed.specs.Keys.{TurnsAt, Shows, IsShown}
 use Rattle.pp_keyed.proofs.Rule.{same_key}
@@ -248,3 +248,22 @@ may_not_swap = swaps_nowhere memory may_swap lists_round told
 pub memory_lawful : IsLawful memory
 memory_lawful = keyed.keyed_lawful memory addresses may_swap_there lists_round memory_keyed
     memory_shown
+
+-- Reads and compare-and-swaps that failed swap with one another.
+clique_by : (a b : MemOp) → may_swap_there a b ≡ true → Swaps memory a b
+clique_by a b there = (may_swap_exact a b).0
+    (cond_both (int_eq (address_of a) (address_of b)) (may_swap_there a b) true
+    (λ t. t ≡ true) (λ e. there) (λ e. refl))
+
+pub clique_swaps : CliqueSwaps memory
+clique_swaps (Read a v) (Read b w) h k = clique_by (Read a v) (Read b w) refl
+clique_swaps (Read a v) (Cas b f m false) h k = clique_by (Read a v) (Cas b f m false) refl
+clique_swaps (Cas a e n false) (Read b w) h k = clique_by (Cas a e n false) (Read b w) refl
+clique_swaps (Cas a e n false) (Cas b f m false) h k =
+    clique_by (Cas a e n false) (Cas b f m false) refl
+clique_swaps (Read a v) (Write b w) h k = absurd (cc)
+clique_swaps (Read a v) (Cas b f m true) h k = absurd (cc)
+clique_swaps (Cas a e n false) (Write b w) h k = absurd (cc)
+clique_swaps (Cas a e n false) (Cas b f m true) h k = absurd (cc)
+clique_swaps (Write a v) b h k = absurd (cc)
+clique_swaps (Cas a e n true) b h k = absurd (cc)

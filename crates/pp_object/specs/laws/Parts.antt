@@ -1,6 +1,6 @@
 -- Proof machinery: operations of different parts swap.
 use Rattle.std.proofs.Common.{◌≡◌, ℕ, ℤ, Bool, true, false, int_eq, if◌then◌else◌, refl, sym, ◌∙◌}
-use Rattle.std.proofs.Common.{ap, subst, inl, inr, ◌⊎◌}
+use Rattle.std.proofs.Common.{ap, subst}
 use Rattle.pp_core.specs.declared.call.Kind.{Kind}
 use Rattle.pp_core.specs.declared.call.Kind.TheVariants as kinds
 use Rattle.pp_keyed.proofs.Rule.{same_key}
@@ -16,14 +16,12 @@ use Rattle.pp_map.specs.laws.Lawful as map_laws
 use Rattle.pp_spec.specs.Object.{Swaps}
 use Rattle.pp_parts.specs.Parts.{PartsSwap}
 use Rattle.pp_object.specs.declared.act.Act.{Act}
-use Rattle.pp_object.specs.declared.act.Op.{Op}
 use Rattle.pp_object.specs.One.{one}
 use Rattle.pp_object.specs.Objects.{objects, act_at}
 use Rattle.pp_object.specs.Parts.{key_of, part_of}
 use Rattle.pp_object.specs.laws.Kinds.{Ops, act_of, each_act, its_act, object_of}
 use Rattle.pp_object.specs.laws.Acts.{swaps_in}
 use Rattle.pp_object.specs.laws.One.{one_lawful, reached_shape, others_swap}
-use Rattle.pp_object.specs.laws.Elements.{same_place}
 use Rattle.pp_object.specs.laws.Places as places
 
 let_by : (t there : Bool) → (t ≡ true → ⊥) → (if t then there else true) ≡ true
@@ -60,16 +58,8 @@ acts_swap : (b a : Act) → (key_of a ≡ key_of b → ⊥) → Swaps one a b
 acts_swap b = each_act (λ a. (key_of a ≡ key_of b → ⊥) → Swaps one a b)
     (λ k a other. acts_swap_by k a b (one.fits k b) refl other)
 
-parts_swap_by : (a b : Op) → (a.object ≡ b.object) ⊎ (a.object ≡ b.object → ⊥)
-    → (part_of a ≡ part_of b → ⊥) → Swaps objects a b
-parts_swap_by a b (inl e) other =
-    let keys : key_of a.act ≡ key_of b.act → ⊥ = λ f.
-    other (ap (λ (p : ℕ). part_of (act_at p a.act)) e
-    ∙ ap (λ (q : ℤ). record { object = b.object; key = q }) f) in
-    subst (λ (p : ℕ). Swaps objects a (act_at p b.act)) e
-    (places.swaps_at one one_lawful a.object a.act b.act (acts_swap b.act a.act keys))
-parts_swap_by a b (inr apart) other = places.others_swap one one_lawful a b apart
-
 -- Operations of different parts swap.
 pub other_parts_swap : PartsSwap objects part_of
-other_parts_swap a b other = parts_swap_by a b (same_place a.object b.object) other
+other_parts_swap a b other = places.swap_by one one_lawful a b (λ e.
+    acts_swap b.act a.act (λ f. other (ap (λ (p : ℕ). part_of (act_at p a.act)) e
+    ∙ ap (λ (q : ℤ). record { object = b.object; key = q }) f)))

@@ -327,6 +327,14 @@ module _ (o : Object Kind ObjectState Act Undo) (laws : IsLawful o) where
       turned_at p a b ss (state_after o q m.0) m.1.leads
       (turned_there o a b swaps q m.0 m.1.allowed) l h)
 
+  -- so a pair swaps that swaps by itself where it is on one object
+  pub swap_by : (a b : Op) → (a.object ≡ b.object → Swaps o a.act b.act) → Swaps (many o) a b
+  swap_by a b swaps = elim (same_place a.object b.object) [
+    | inl e ↦ subst (λ (p : ℕ). Swaps (many o) a (act_at p b.act)) e
+        (swaps_at a.object a.act b.act (swaps e))
+    | inr apart ↦ others_swap a b apart
+  ]
+
   pub swaps_alone : (p : ℕ) (a b : Act) → Swaps (many o) (act_at p a) (act_at p b) → Swaps o a b
   swaps_alone p a b swaps =
       swaps_where_turned o a b

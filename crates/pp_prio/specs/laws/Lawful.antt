@@ -3,7 +3,7 @@ use Rattle.std.proofs.Common.{◌≡◌, ℤ, List, [], ◌∷◌, ◌&&◌, Som
 use Rattle.std.proofs.Math.Bool.{and-true}
 use Rattle.pp_spec.proofs.Numbers.{one_ranged}
 use Rattle.pp_spec.specs.Numbers.{has_ranged_arguments, is_ranged_answer}
-use Rattle.pp_spec.specs.Object.{AllowedFrom, IsLawful}
+use Rattle.pp_spec.specs.Object.{AllowedFrom, CliqueSwaps, IsLawful}
 use Rattle.pp_spec.proofs.Results.{found_numbers}
 use Rattle.pp_spec.proofs.Tests.{unrefuted, refuted}
 use Rattle.pp_prio.specs.declared.op.PrioOp.{PrioOp}
@@ -15,7 +15,7 @@ use Rattle.pp_prio.specs.Contexts.{lists_round}
 use Rattle.pp_prio.specs.Prios.{prio}
 use Rattle.pp_prio.specs.laws.Values.{put_taken, put_first}
 use Rattle.pp_prio.specs.laws.Legal.{Tells, told, same_given, after_ascends}
-use Rattle.pp_prio.specs.laws.Swapping.{table_tells}
+use Rattle.pp_prio.specs.laws.Swapping.{may_swap_exact, table_tells}
 
 taken_back : (values : List ℤ) (op : PrioOp) → IsAscending values → Tells op values
     → values_before (values_after values op) op ≡ values
@@ -66,3 +66,11 @@ prio_lawful = record {
   unrefuted = unrefuted prio may_swap lists_round table_tells;
   refuted = refuted prio may_swap lists_round table_tells;
 }
+
+-- Insertions swap with one another.
+pub clique_swaps : CliqueSwaps prio
+clique_swaps (Insert x) (Insert y) h k = (may_swap_exact (Insert x) (Insert y)).0 refl
+clique_swaps (Insert x) (Take value) h k = absurd (cc)
+clique_swaps (Insert x) (Least value) h k = absurd (cc)
+clique_swaps (Take value) b h k = absurd (cc)
+clique_swaps (Least value) b h k = absurd (cc)

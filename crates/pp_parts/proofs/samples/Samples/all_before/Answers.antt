@@ -9,7 +9,11 @@ returns-then-first_swaps_before g c =
     let first = c.self.inside.first in
     let others = c.self.inside.others.items in
     λ all b covered. all_before g.S.Spec.object
-    (record { ops = first_and first others; cut = c.self.inside.cut }) c.args.op.now b
+    (record {
+      ops = first_and first others;
+      cut = c.self.inside.cut;
+      all_in_clique = c.self.inside.all_in_clique;
+    }) c.args.op.now b
     c.if-self.false
     (all_of_both (λ s. Swaps g.S.Spec.object s c.args.op.now) first others
     (c.first_swaps_before.ensures c.if-first_swaps_before.true)

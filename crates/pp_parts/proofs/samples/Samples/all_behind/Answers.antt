@@ -9,7 +9,11 @@ returns-then-first_swaps_behind g c =
     let first = c.self.inside.first in
     let others = c.self.inside.others.items in
     λ all b covered. all_behind g.S.Spec.object
-    (record { ops = first_and first others; cut = c.self.inside.cut }) c.args.op.now b
+    (record {
+      ops = first_and first others;
+      cut = c.self.inside.cut;
+      all_in_clique = c.self.inside.all_in_clique;
+    }) c.args.op.now b
     c.if-self.false
     (all_of_both (λ s. Swaps g.S.Spec.object c.args.op.now s) first others
     (c.first_swaps_behind.ensures c.if-first_swaps_behind.true)
