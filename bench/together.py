@@ -1,11 +1,12 @@
 #!/usr/bin/env python3
-"""Many transactions on one hot object at once.
+"""Transactions that are open at once on one hot object.
 
     python3 bench/together.py crates/pp_cli/out/pp_cli
 
 - counter: 1,000 transactions stand open and each adds in turn, until each has added 99 times.
 - map: 1,000 transactions stand open. Each has pulled 39 of the 64 hot keys; in turn each reads one of them and
   puts on a key of its own, which no other touches, until it has read all.
+- priority queue: two transactions stand open and insert in turn, each time another number.
 - one stays open: 19,999 transactions add three times and commit, one after another, while one that stays open
   adds once for each of them.
 
@@ -15,6 +16,7 @@ from measure import app, begin, cmt, header, measure_twice, named, program_named
 
 OPEN = 1_000
 ADDITIONS = 99
+INSERTIONS = 99_900
 HOT_KEYS = 64
 ROUNDS = 39
 COMMITS = 19_999
@@ -71,6 +73,13 @@ def on_map(rounds):
     return records + commit_all()
 
 
+def on_priority_queue(insertions):
+    records = [header("prio"), begin("t0", "p0"), begin("t1", "p1")]
+    for number in range(insertions):
+        records += call_and_push(f"t{number % 2}", number, "insert", [number])
+    return records + [cmt("t0"), cmt("t1")]
+
+
 def beside_open(commits):
     records = [header("counter"), begin("open", "p0")]
     for k in range(commits):
@@ -87,6 +96,7 @@ def main():
     program = program_named()
     measure_twice(program, "counter, 1,000 open", on_counter, ADDITIONS)
     measure_twice(program, "map, 1,000 open", on_map, ROUNDS)
+    measure_twice(program, "priority queue, two open", on_priority_queue, INSERTIONS)
     measure_twice(program, "commits beside one that stays open", beside_open, COMMITS)
 
 
