@@ -17,7 +17,7 @@ use std::marker::Model;
 #[derive(Clone, Copy)]
 pub struct Name {
     bytes: [u8; LONGEST_NAME],
-    len: usize,
+    len: u8,
 }
 
 impl Model for Name {
@@ -99,7 +99,7 @@ impl Name {
         }
         Some(Name {
             bytes: padded(bytes),
-            len: bytes.len(),
+            len: bytes.len() as u8,
         })
     }
 
@@ -108,7 +108,7 @@ impl Name {
         ensures text { result.now ≡ self.now }
         ensures name { IsName self.now }
     {
-        &self.bytes[..self.len]
+        &self.bytes[..usize::from(self.len)]
     }
 
     /// Whether it is the same name.
