@@ -88,7 +88,13 @@ impl Spec for Count {
         may_swap(a, b)
     }
 
-    fn kept_alike(_a: &CounterOp, _b: &CounterOp) -> bool {
+    #[inline(always)]
+    fn keep_in_turn(_a: &CounterOp, _b: &CounterOp) -> bool {
+        false
+    }
+
+    #[inline(always)]
+    fn keeps_alone(_a: &CounterOp) -> bool {
         true
     }
 

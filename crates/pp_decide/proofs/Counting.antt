@@ -70,11 +70,11 @@ module _ {A State : Type 0} (O : Object A State) (place : A → ℕ) where
       → (front : List (RunRecord A)) × AreTried O place B rs front × (records_most place B front ≤ records_most place B tried)
   tried_front [] B more tried k = ([], refl, omega arith)
   tried_front (r ∷ rs) B more tried (inl k) =
-      let e : records_most place B tried ≡ take_most place B r + 0 = ap (λ (z : List (RunRecord A)). records_most place B z) k.1 in
+      let e : records_most place B tried ≡ take_most B r + 0 = ap (λ (z : List (RunRecord A)). records_most place B z) k.1 in
       (r ∷ [], inl (k.0, refl), omega (arith, e))
   tried_front (r ∷ rs) B more tried (inr k) =
       let f = tried_front rs (brief_then place B r) more k.1.0 k.1.1 in
-      let e : records_most place B tried ≡ take_most place B r + records_most place (brief_then place B r) k.1.0 = ap (λ (z : List (RunRecord A)). records_most place B z) k.1.2 in
+      let e : records_most place B tried ≡ take_most B r + records_most place (brief_then place B r) k.1.0 = ap (λ (z : List (RunRecord A)). records_most place B z) k.1.2 in
       (r ∷ f.0, inr (k.0, (f.0, f.1, refl)), omega (arith, e, f.2))
 
 -- the counter rises at most by this
@@ -169,24 +169,24 @@ module _ (sc : InputScan) (tally : Tally) (quick : Held (List Kind) Op) (line : 
   abbrev it : Lined (RunRecord Op)
   it = on_record line.0 r
 
-  next_most : new ≤ now + take_most place_of quick.brief r → RecordsCostAtMost wider old new
+  next_most : new ≤ now + take_most quick.brief r → RecordsCostAtMost wider old new
   next_most cost =
       let h = tally.header in
       let B = first_brief h in
       let rs = sc.records in
       let before : OfTried (Some (record { line = c.follows.at; what = h })) rs (Most old now) = subst (λ (o : Option (Lined Header)). OfTried o rs (Most old now)) c.follows.header counts.most in
       let here : now ≤ old + tried_most h (bare rs) = before (bare rs) (all_tried sc tally quick c) in
-      let same : take_most place_of quick.brief r ≡ take_most place_of (brief_after place_of B (bare rs)) r = ap (λ (b : Brief Op). take_most place_of b r) (brief_is sc tally quick c) in
+      let same : take_most quick.brief r ≡ take_most (brief_after place_of B (bare rs)) r = ap (λ (b : Brief Op). take_most b r) (brief_is sc tally quick c) in
       subst (λ (o : Option (Lined Header)). OfTried o wider.records (Most old new)) (sym c.follows.header) (λ tried k.
       let parted = subst (λ (l : List (RunRecord Op)). AreTried (object_of h) place_of B l tried) (bare_append rs (it ∷ [])) k in
       let law = (sum_law (object_of h) place_of).next B (bare rs) [] tried r (good_runs sc tally quick c) parted in
-      tried_next old now new (start_at_most (start_of h)) (records_most place_of B (bare rs)) (take_most place_of quick.brief r) (take_most place_of (brief_after place_of B (bare rs)) r) (records_most place_of B tried) here law same cost)
+      tried_next old now new (start_at_most (start_of h)) (records_most place_of B (bare rs)) (take_most quick.brief r) (take_most (brief_after place_of B (bare rs)) r) (records_most place_of B tried) here law same cost)
 
   -- what it costs, whether it is taken or memory is refused at it
-  pub record_cost : new ≤ now + take_most place_of quick.brief r → RecordsCostAtMost (scan_line sc line) old new
+  pub record_cost : new ≤ now + take_most quick.brief r → RecordsCostAtMost (scan_line sc line) old new
   record_cost cost = subst (λ (s : InputScan). RecordsCostAtMost s old new) (sym (scan_next sc tally c.follows line other r read few)) (next_most cost)
 
-  pub counts_good : (next : Held (List Kind) Op) → new ≤ now + take_most place_of quick.brief r → TakeCosts place_of quick.brief r true now new → Counts (scan_line sc line) (Running (with_record tally r) next) old new
+  pub counts_good : (next : Held (List Kind) Op) → new ≤ now + take_most quick.brief r → TakeCosts quick.brief r true now new → Counts (scan_line sc line) (Running (with_record tally r) next) old new
   counts_good next cost good =
       let more = (sum_law (object_of tally.header) place_of).least quick.brief (bare sc.records) r now new good in
       let same : count_ops (bare wider.records) ≡ count_ops (bare sc.records ++ r ∷ []) = ap (λ (l : List (RunRecord Op)). count_ops l) (bare_append sc.records (it ∷ [])) in
@@ -195,7 +195,7 @@ module _ (sc : InputScan) (tally : Tally) (quick : Held (List Kind) Op) (line : 
       subst (λ (s : InputScan). Counts s (Running (with_record tally r) next) old new) (sym (scan_next sc tally c.follows line other r read few))
       (record { most = next_most cost; least = least })
 
-  pub counts_bad : new ≤ now + take_most place_of quick.brief r → now ≤ new → Counts (scan_line sc line) (Rejected (with_record tally r) line.0) old new
+  pub counts_bad : new ≤ now + take_most quick.brief r → now ≤ new → Counts (scan_line sc line) (Rejected (with_record tally r) line.0) old new
   counts_bad cost rises =
       subst (λ (s : InputScan). Counts s (Rejected (with_record tally r) line.0) old new) (sym (scan_next sc tally c.follows line other r read few))
       (record { most = next_most cost; least = no_ops old now new (count_ops (bare sc.records)) counts.least rises })

@@ -1,4 +1,4 @@
-use Rattle.std.proofs.Common.{◌≡◌, ◌≢◌, ℕ, ◌<◌, ◌≤◌, ◌+◌, zero, suc, List, [], ◌∷◌, length, take}
+use Rattle.std.proofs.Common.{◌≡◌, ℕ, ◌<◌, ◌≤◌, ◌+◌, zero, suc, List, [], ◌∷◌, length, take}
 use Rattle.std.proofs.Common.{drop, get_or, refl, sym, ◌∙◌, ap, subst, arith, inl, inr}
 use Rattle.std.specs.List.{remove}
 use Rattle.std.proofs.lemmas.List.Edits.{length-remove}
@@ -29,12 +29,12 @@ ops-take x zero = refl
 ops-take [] (suc i) = refl
 ops-take {Op} (e ∷ x) (suc i) = ap (λ (z : List Op). e.op ∷ z) (ops-take x i)
 
--- an id that no item from k on has
-pub no_id : {Op : Type 0} (x : List (Item Op)) (id : ℕ) → ((j : ℕ) (d : Item Op) → 0 ≤ j → j < length x → (get_or x j d).id ≡ id → ⊥) → (e : Item Op) → In e x → e.id ≢ id
-no_id [] id h e k = absurd k
-no_id {Op} (d ∷ x) id h e k = elim k [
-  | inl same ↦ λ is. h 0 d (omega arith) (omega arith) (ap (λ (f : Item Op). f.id) (sym same) ∙ is)
-  | inr later ↦ no_id x id (λ j f l m. h (suc j) f (omega arith) (omega arith)) e later
+-- an id that stands nowhere
+pub not_among : (x : List ℕ) (id : ℕ) → ((j : ℕ) → j < length x → get_or x j 0 ≡ id → ⊥) → In id x → ⊥
+not_among [] id h k = k
+not_among (i ∷ x) id h k = elim k [
+  | inl same ↦ h 0 (omega arith) (sym same)
+  | inr later ↦ not_among x id (λ j l. h (suc j) (omega arith)) later
 ]
 
 module _ {Shape State Op Undo : Type 0} (o : Object Shape State Op Undo) where
@@ -114,10 +114,6 @@ module _ {Shape State Op Undo : Type 0} (o : Object Shape State Op Undo) where
         gives = ap (λ (q : State). o.gives q e.op) (ap (state_from o b) cut ∙ sym r.is) ∙ gives;
         differs = differs;
       }
-
-  -- what a call says of a lent list
-  pub through : (b s t : State) (x y : List (Item Op)) (us vs : List Undo) → y ≡ x → ((r : State) → IsRun o r y us s → IsRun o r y vs t) → IsRun o b x us s → IsRun o b x vs t
-  through b s t x y us vs e run h = subst (λ (z : List (Item Op)). IsRun o b z vs t) e (run b (subst (λ (z : List (Item Op)). IsRun o b z us s) (sym e) h))
 
   pub never_stops : (b s t : State) (x : List (Item Op)) (us vs : List Undo) (answer : Answer) → IsRun o b x vs t → length vs ≡ length x → IsRun o b x us s → Stops o x us s (Some answer) → ⊥
   never_stops b s t x us vs answer whole all r stop =

@@ -35,21 +35,21 @@ ids-remove (e ∷ x) zero = refl
 ids-remove (e ∷ x) (suc i) = ap (λ (z : List ℕ). e.id ∷ z) (ids-remove x i)
 
 module _ {Shape State Op Undo : Type 0} (o : Object Shape State Op Undo) where
-  pub kept_still : (b : State) (x : List (Item Op)) (old new : Option (Place Op Undo)) → KeptIn o b x old → SameIn old new → KeptIn o b x new
+  pub kept_still : (b : State) (x : List (Item Op)) (old new : Option (Place Undo)) → KeptIn o b x old → SameIn old new → KeptIn o b x new
   kept_still b x None None h k = h
-  kept_still b x None (Some q) h k = record { same_items = k.0 ∙ sym h; same_undos = k.1 ∙ ap (λ (z : List (Item Op)). kept_along o b (ops z)) (sym h) }
+  kept_still b x None (Some q) h k = record { same_ids = k.0 ∙ ap (λ (z : List (Item Op)). ids_of z) (sym h); same_undos = k.1 ∙ ap (λ (z : List (Item Op)). kept_along o b (ops z)) (sym h) }
   kept_still b x (Some a) None h k = absurd k
-  kept_still b x (Some a) (Some q) h k = record { same_items = k.0 ∙ h.same_items; same_undos = k.1 ∙ h.same_undos }
+  kept_still b x (Some a) (Some q) h k = record { same_ids = k.0 ∙ h.same_ids; same_undos = k.1 ∙ h.same_undos }
 
   -- the same list with room for more
-  roomy : (place : Op → ℕ) (s : State) (log : List (Item Op)) (ps qs : List (Place Op Undo)) → Keeps o place s log ps → ArePlacesSame ps qs → Keeps o place s log qs
+  roomy : (place : Op → ℕ) (s : State) (log : List (Item Op)) (ps qs : List (Place Undo)) → Keeps o place s log ps → ArePlacesSame ps qs → Keeps o place s log qs
   roomy place s log ps qs h k = record { allowed = h.allowed; is = h.is; ranged = h.ranged; few = h.few; distinct = h.distinct; kept = λ r. kept_still (o.start (o.shape s)) (there place r log) (slice_get ps r) (slice_get qs r) (h.kept r) (k r) }
 
-  pub with_room : (place : Op → ℕ) (s : State) (log new : List (Item Op)) (ps qs : List (Place Op Undo)) (ids more : Index) → KeepsAll o place s log ps ids → new ≡ log → ArePlacesSame ps qs → IsSameIndex ids more → KeepsAll o place s new qs more
+  pub with_room : (place : Op → ℕ) (s : State) (log new : List (Item Op)) (ps qs : List (Place Undo)) (ids more : Index) → KeepsAll o place s log ps ids → new ≡ log → ArePlacesSame ps qs → IsSameIndex ids more → KeepsAll o place s new qs more
   with_room place s log new ps qs ids more h is k same =
       subst (λ (z : List (Item Op)). KeepsAll o place s z qs more) (sym is) (record { keeps = roomy place s log ps qs h.keeps k; index = same (ids_of log) (ids_once log (apart log h.keeps.distinct)) h.index })
 
-  pub keeps_reached : (place : Op → ℕ) (s : State) (log : List (Item Op)) (ps : List (Place Op Undo)) → Keeps o place s log ps → length log < 1_000_000 → IsReached o s
+  pub keeps_reached : (place : Op → ℕ) (s : State) (log : List (Item Op)) (ps : List (Place Undo)) → Keeps o place s log ps → length log < 1_000_000 → IsReached o s
   keeps_reached place s log ps h k = record {
     ops = ops log;
     log = record { allowed = h.allowed; is = h.is; ranged = h.ranged };
@@ -58,8 +58,8 @@ module _ {Shape State Op Undo : Type 0} (o : Object Shape State Op Undo) where
 
 module _ {Shape State Op Undo : Type 0} (o : Object Shape State Op Undo) (place : Op → ℕ) (SameAt : ℕ → State → State → Type 0) (laws : IsLawful o) (places : IsPlaced o place SameAt) where
   -- one more item, at its place
-  pub grown : (s t : State) (log : List (Item Op)) (ps : List (Place Op Undo)) (e : Item Op) (p : ℕ) (q r : Place Op Undo) (u : Undo) → Keeps o place s log ps → IsLegal o s e.op → IsTrue (o.ranged e.op) → IsNew e.id log → length log < 1_000_000 → place e.op ≡ p → p < length ps → slice_get ps p ≡ Some q → t ≡ o.next s e.op → u ≡ o.upkeep.kept s e.op → r.items.items ≡ q.items.items ++ e ∷ [] → r.undos.items ≡ q.undos.items ++ u ∷ [] → Keeps o place t (log ++ e ∷ []) (slice_set ps p r) × (o.shape t ≡ o.shape s)
-  grown s t log ps e p q r u h legal ranged new few at within found next kept items undos =
+  pub grown : (s t : State) (log : List (Item Op)) (ps : List (Place Undo)) (e : Item Op) (p : ℕ) (q r : Place Undo) (u : Undo) → Keeps o place s log ps → IsLegal o s e.op → IsTrue (o.ranged e.op) → IsNew e.id log → length log < 1_000_000 → place e.op ≡ p → p < length ps → slice_get ps p ≡ Some q → t ≡ o.next s e.op → u ≡ o.upkeep.kept s e.op → r.ids.items ≡ q.ids.items ++ e.id ∷ [] → r.undos.items ≡ q.undos.items ++ u ∷ [] → Keeps o place t (log ++ e ∷ []) (slice_set ps p r) × (o.shape t ≡ o.shape s)
+  grown s t log ps e p q r u h legal ranged new few at within found next kept ids undos =
       let sh = o.shape s in
       let start = o.start sh in
       let T = there place p log in
@@ -71,7 +71,7 @@ module _ {Shape State Op Undo : Type 0} (o : Object Shape State Op Undo) (place 
       let same : SameAt p s (state_from o start (ops T)) = subst (λ (z : State). SameAt p z (state_from o start (ops T))) (sym h.is) (same_run o place SameAt laws places p start start log (places.same p start)) in
       let value : u ≡ o.upkeep.kept (state_from o start (ops T)) e.op = kept ∙ kept_at o place SameAt laws places p s (state_from o start (ops T)) e.op at same in
       let here : IsKept o start (T ++ e ∷ []) r = record {
-        same_items = items ∙ ap (λ (z : List (Item Op)). z ++ e ∷ []) had.same_items;
+        same_ids = ids ∙ ap (λ (z : List ℕ). z ++ e.id ∷ []) had.same_ids ∙ sym (ids-append T (e ∷ []));
         same_undos = undos ∙ ap (λ (z : List Undo). z ++ u ∷ []) had.same_undos ∙ ap (λ (v : Undo). kept_along o start (ops T) ++ v ∷ []) value ∙ sym (kept-push o start (ops T) e.op) ∙ ap (kept_along o start) (sym (ops-append T (e ∷ [])));
       } in
       let all : (j : ℕ) → KeptIn o start (there place j (log ++ e ∷ [])) (slice_get (slice_set ps p r) j) = λ j. elim (eqb_tells p j) [

@@ -1,9 +1,11 @@
 -- Lists: where an element stands, and what a list is with one more, one less, or one set.
-use Rattle.std.proofs.Common.{◌≡◌, ℕ, ◌<◌, ◌≤◌, ◌+◌, zero, suc, Bool, not, cond, nat_lt, List, []}
+use Rattle.std.proofs.Common.{◌≡◌, ℕ, ◌<◌, ◌≤◌, ◌+◌, ◌-◌, zero, suc, Bool, not, cond, nat_lt, List, []}
 use Rattle.std.proofs.Common.{◌∷◌, ◌++◌, length, take, drop, map, get_or, refl, sym, ◌∙◌, ap, arith}
 use Rattle.std.proofs.Common.{inl, inr, Some, None}
-use Rattle.std.specs.List.{slice_get, slice_set, remove, insert, position, position_or_len}
-use Rattle.std.proofs.lemmas.List.{get_or_default, length-map}
+use Rattle.std.specs.List.{slice_get, slice_set, remove, position, position_or_len}
+use Rattle.std.proofs.lemmas.List.{drop_more, get_or-append-add, get_or_default, length-drop}
+use Rattle.std.proofs.lemmas.List.{length-map, take_all}
+use Rattle.std.proofs.Math.Seq.{drop-append-add}
 use Rattle.std.proofs.lemmas.Bool.{cases_lt}
 use borrow.Author.Tests.{lt-ltb}
 use Rattle.pp_model.specs.Lists.{In}
@@ -31,10 +33,31 @@ push-injective (a ∷ xs) (b ∷ ys) x y e =
 pub found_there : {A : Type 0} (x : List A) (i j : ℕ) (d : A) → i ≡ j → j < length x → get_or x i d ≡ get_or x j (get_or x i d)
 found_there x i j d e h = ap (λ (k : ℕ). get_or x k d) e ∙ get_or_default x j d (get_or x i d) h
 
-pub insert-remove : {A : Type 0} (x : List A) (i : ℕ) (e : A) → i < length x → e ≡ get_or x i e → insert (remove x i) i e ≡ x
-insert-remove [] i e h is = absurd (omega arith)
-insert-remove {A} (a ∷ x) zero e h is = ap (λ (b : A). b ∷ x) is
-insert-remove {A} (a ∷ x) (suc i) e h is = ap (λ (z : List A). a ∷ z) (insert-remove x i e (omega arith) is)
+pub found_behind : {A : Type 0} (before x : List A) (i j : ℕ) (a : A) → j ≡ length before + i → a ≡ get_or x i a → a ≡ get_or (before ++ x) j a
+found_behind before x i j a e is = is ∙ sym (get_or-append-add before x i a) ∙ ap (λ (k : ℕ). get_or (before ++ x) k a) (sym e)
+
+-- all that stands behind a position
+pub all_behind : {A : Type 0} (x : List A) (i : ℕ) → take (length x - i) (drop i x) ≡ drop i x
+all_behind x i = let size = length-drop i x in take_all (length x - i) (drop i x) (omega arith)
+
+pub remove_mid : {A : Type 0} (u v : List A) (e : A) → remove (u ++ e ∷ v) (length u) ≡ u ++ v
+remove_mid [] v e = refl
+remove_mid {A} (d ∷ u) v e = ap (λ (z : List A). d ∷ z) (remove_mid u v e)
+
+pub drop_there : {A : Type 0} (x : List A) (i : ℕ) (e : A) → i < length x → e ≡ get_or x i e → drop i x ≡ e ∷ drop (i + 1) x
+drop_there {A} x i e h is = drop_more x i e h ∙ ap (λ (b : A). b ∷ drop (i + 1) x) (sym is)
+
+-- a list whose first elements are known, without the one behind them
+pub without_first : {A : Type 0} (before x : List A) (i : ℕ) → length before ≡ i → 0 < length x → remove (before ++ x) i ≡ before ++ drop 1 x
+without_first before [] i e h = absurd (omega arith)
+without_first before (a ∷ x) i e h = ap (remove (before ++ a ∷ x)) (sym e) ∙ remove_mid before x a
+
+pub at_first : {A : Type 0} (before x : List A) (a : A) → slice_get (before ++ a ∷ x) (length before) ≡ Some a
+at_first [] x a = refl
+at_first (b ∷ before) x a = at_first before x a
+
+pub behind_first : {A : Type 0} (before x : List A) (a : A) → drop (length before + 1) (before ++ a ∷ x) ≡ x
+behind_first before x a = drop-append-add before (a ∷ x) 1
 
 -- a list cut at an element
 plus_one : (i : ℕ) → suc (i + 1) ≡ suc i + 1
@@ -44,10 +67,6 @@ pub cut_there : {A : Type 0} (x : List A) (i : ℕ) (e : A) → i < length x →
 cut_there [] i e h is = absurd (omega arith)
 cut_there {A} (a ∷ x) zero e h is = ap (λ (b : A). b ∷ x) (sym is)
 cut_there {A} (a ∷ x) (suc i) e h is = ap (λ (z : List A). a ∷ z) (cut_there x i e (omega arith) is) ∙ ap (λ (k : ℕ). take (suc i) (a ∷ x) ++ e ∷ drop k (a ∷ x)) (plus_one i)
-
-pub remove_mid : {A : Type 0} (u v : List A) (e : A) → remove (u ++ e ∷ v) (length u) ≡ u ++ v
-remove_mid [] v e = refl
-remove_mid {A} (d ∷ u) v e = ap (λ (z : List A). d ∷ z) (remove_mid u v e)
 
 -- lists in which one element was set
 pub set_same : {A : Type 0} (x : List A) (p : ℕ) (a : A) → p < length x → slice_get (slice_set x p a) p ≡ Some a
@@ -94,6 +113,11 @@ before_stays (a ∷ x) (suc i) zero h = refl
 before_stays (a ∷ x) (suc i) (suc j) h = before_stays x i j (omega arith)
 
 -- lists that are mapped
+pub mapped_from : {A B : Type 0} (f : A → B) (x : List A) (k : ℕ) (b : B) → slice_get (map f x) k ≡ Some b → (a : A) × (slice_get x k ≡ Some a) × (f a ≡ b)
+mapped_from f [] k b h = cc
+mapped_from f (a ∷ x) zero b h = (a, refl, cc)
+mapped_from f (a ∷ x) (suc k) b h = mapped_from f x k b h
+
 pub map_set_same : {A B : Type 0} (f : A → B) (x : List A) (i : ℕ) (b : A) → ((a : A) → slice_get x i ≡ Some a → f b ≡ f a) → map f (slice_set x i b) ≡ map f x
 map_set_same f [] i b h = refl
 map_set_same {A} {B} f (a ∷ x) zero b h = ap (λ (c : B). c ∷ map f x) (h a refl)

@@ -16,7 +16,8 @@ use Rattle.pp_log.specs.Logs.{IsFirstFrom, IsOn, NoneFrom}
 use Rattle.pp_log.specs.Keeps.{KeptIn, Keeps}
 use Rattle.pp_log.specs.Parts.{there}
 use Rattle.pp_log.proofs.Distinct.{AreDistinct, apart, new_not}
-use Rattle.pp_log.proofs.Lists.{none_len}
+use Rattle.pp_log.specs.Room.{ids_of}
+use Rattle.pp_log.proofs.Lists.{mapped_from, none_len}
 use Rattle.pp_log.proofs.Maps.{new_len, position_seen}
 use Rattle.pp_log.proofs.Parted.{is_at, there_at, there_off}
 use Rattle.pp_log.proofs.Sites.{kept_of}
@@ -122,30 +123,26 @@ pub if_none : {A : Type 0} (o : Option A) (P : Type 0) → (o ≡ None → P) �
 if_none None P h = h refl
 if_none (Some a) P h = tt
 
--- The entry that an item is of.
-entry_at : {E Op : Type 0} (f : E → Item Op) (x : List E) (m : ℕ) (e : Item Op) → slice_get (map f x) m ≡ Some e → (a : E) × (slice_get x m ≡ Some a) × (f a ≡ e)
-entry_at f [] m e h = cc
-entry_at f (a ∷ x) zero e h = (a, refl, cc)
-entry_at f (a ∷ x) (suc m) e h = entry_at f x m e h
-
 item_at : {E Op : Type 0} (f : E → Item Op) (x : List E) (m : ℕ) (a : E) → slice_get x m ≡ Some a → slice_get (map f x) m ≡ Some (f a)
 item_at f x m a h = slice_get-map f x m ∙ ap (option_map f) h
 
 module _ {E Op : Type 0} (place : Op → ℕ) (f : E → Item Op) (p : ℕ) (x : List E) where
-  -- where the k-th item of the place is found
-  pub found_at : (items : List (Item Op)) (k : ℕ) (e : Item Op) (m : ℕ) → AreDistinct (map f x) → items ≡ there place p (map f x) → slice_get items k ≡ Some e → Some m ≡ position (λ (a : E). (f a).id == e.id) x → IsStand place p (map f x) k e m
-  found_at items k e m h is at found =
-      stand_found place p (map f x) k e m h (ap (λ (z : List (Item Op)). slice_get z k) (sym is) ∙ at) (position_seen f (map f x) x e.id refl ∙ sym found)
+  -- where the k-th item of the place is found, which has the k-th id
+  pub found_at : (ids : List ℕ) (k id m : ℕ) → AreDistinct (map f x) → ids ≡ ids_of (there place p (map f x)) → slice_get ids k ≡ Some id → Some m ≡ position (λ (a : E). (f a).id == id) x → (e : Item Op) × IsStand place p (map f x) k e m
+  found_at ids k id m h is at found =
+      let e = mapped_from (λ (d : Item Op). d.id) (there place p (map f x)) k id (ap (λ (z : List ℕ). slice_get z k) (sym is) ∙ at) in
+      (e.0, stand_found place p (map f x) k e.0 m h e.1 (position_seen f (map f x) x e.0.id refl ∙ ap (λ (i : ℕ). position (λ (a : E). (f a).id == i) x) e.2 ∙ sym found))
 
-  pub never_lost : (items : List (Item Op)) (k : ℕ) (e : Item Op) → items ≡ there place p (map f x) → slice_get items k ≡ Some e → None ≡ position (λ (a : E). (f a).id == e.id) x → ⊥
-  never_lost items k e is at lost =
-      stand_not_lost place p (map f x) k e (ap (λ (z : List (Item Op)). slice_get z k) (sym is) ∙ at) (position_seen f (map f x) x e.id refl ∙ sym lost)
+  pub never_lost : (ids : List ℕ) (k id : ℕ) → ids ≡ ids_of (there place p (map f x)) → slice_get ids k ≡ Some id → None ≡ position (λ (a : E). (f a).id == id) x → ⊥
+  never_lost ids k id is at lost =
+      let e = mapped_from (λ (d : Item Op). d.id) (there place p (map f x)) k id (ap (λ (z : List ℕ). slice_get z k) (sym is) ∙ at) in
+      stand_not_lost place p (map f x) k e.0 e.1 (position_seen f (map f x) x e.0.id refl ∙ ap (λ (i : ℕ). position (λ (a : E). (f a).id == i) x) e.2 ∙ sym lost)
 
 module _ {E Op : Type 0} (place : Op → ℕ) (f : E → Item Op) (p : ℕ) (x : List E) (from : ℕ) where
   -- as many stand before the next item of the place as stand before the position
   pub next_stands : (k : ℕ) (e : Item Op) (m : ℕ) → IsStand place p (map f x) k e m → k ≡ ahead place p (map f x) from → IsFirstFrom (IsOn place f p) x from m
   next_stands k e m r is =
-      let a = entry_at f x m e r.is in
+      let a = mapped_from f x m e r.is in
       record {
         entry = a.0;
         is = a.1;
@@ -170,15 +167,15 @@ module _ {E Op : Type 0} (place : Op → ℕ) (f : E → Item Op) (p : ℕ) (x :
       omega arith
 
 -- What a log keeps of a place, once it was looked up.
-module _ {Shape State Op Undo E : Type 0} (o : Object Shape State Op Undo) (place : Op → ℕ) (f : E → Item Op) (s : State) (x : List E) (log : Shape × List E) (ps lent : List (Place Op Undo)) (k p : ℕ) where
-  pub items_are : (q : Place Op Undo) → ◌≡◌ {A = Shape × List E} (o.shape s, x) log → Keeps o place s (map f x) ps → lent ≡ ps → k ≡ p → k < length lent → q ≡ get_or lent k q → q.items.items ≡ there place p (map f log.1)
-  items_are q seen h is at within value =
-      kept_of o place s (map f x) ps k q h (ap (λ (z : List (Place Op Undo)). slice_get z k) (sym is) ∙ slice_get_read lent (length lent) k q refl within value)
-      ∙ ap (λ (j : ℕ). there place j (map f x)) at ∙ ap (λ (z : Shape × List E). there place p (map f z.1)) seen
+module _ {Shape State Op Undo E : Type 0} (o : Object Shape State Op Undo) (place : Op → ℕ) (f : E → Item Op) (s : State) (x : List E) (log : Shape × List E) (ps lent : List (Place Undo)) (k p : ℕ) where
+  pub ids_are : (q : Place Undo) → ◌≡◌ {A = Shape × List E} (o.shape s, x) log → Keeps o place s (map f x) ps → lent ≡ ps → k ≡ p → k < length lent → q ≡ get_or lent k q → q.ids.items ≡ ids_of (there place p (map f log.1))
+  ids_are q seen h is at within value =
+      kept_of o place s (map f x) ps k q h (ap (λ (z : List (Place Undo)). slice_get z k) (sym is) ∙ slice_get_read lent (length lent) k q refl within value)
+      ∙ ap (λ (j : ℕ). ids_of (there place j (map f x))) at ∙ ap (λ (z : Shape × List E). ids_of (there place p (map f z.1))) seen
 
   pub no_items : ◌≡◌ {A = Shape × List E} (o.shape s, x) log → Keeps o place s (map f x) ps → lent ≡ ps → k ≡ p → length lent ≤ k → there place p (map f log.1) ≡ []
   no_items seen h is at past =
-      let none : there place k (map f x) ≡ [] = subst (KeptIn o (o.start (o.shape s)) (there place k (map f x))) (ap (λ (z : List (Place Op Undo)). slice_get z k) (sym is) ∙ slice_get_past lent k past) (h.kept k) in
+      let none : there place k (map f x) ≡ [] = subst (KeptIn o (o.start (o.shape s)) (there place k (map f x))) (ap (λ (z : List (Place Undo)). slice_get z k) (sym is) ∙ slice_get_past lent k past) (h.kept k) in
       ap (λ (z : Shape × List E). there place p (map f z.1)) (sym seen) ∙ ap (λ (j : ℕ). there place j (map f x)) (sym at) ∙ none
 
 pub distinct_seen : {Shape Op E : Type 0} (f : E → Item Op) (sh : Shape) (x : List E) (log : Shape × List E) → ◌≡◌ {A = Shape × List E} (sh, x) log → HasDistinctIds (map f x) → AreDistinct (map f log.1)

@@ -1,11 +1,12 @@
-use Rattle.std.proofs.Common.{append-nil, ◌≡◌, ℕ, ◌+◌, suc, ◌==◌, Bool, true, false, cond, filter}
+use Rattle.std.proofs.Common.{append-nil, ◌≡◌, ℕ, ◌<◌, ◌+◌, suc, map, take, drop, get_or, ◌==◌, Bool, true, false, cond, filter}
 use Rattle.std.proofs.Common.{List, [], ◌∷◌, ◌++◌, length, refl, sym, ◌∙◌, ap, arith, eq-eqb, ◌⊎◌}
 use Rattle.std.proofs.Common.{inl, inr}
+use Rattle.std.proofs.lemmas.List.{map_push, take_more}
 use Rattle.std.proofs.lemmas.Bool.{ne_eqb}
 use Rattle.std.proofs.lemmas.Bool.Decides.{eqb_tells}
 use Rattle.pp_core.specs.declared.entry.Item.{Item}
 use Rattle.pp_model.specs.Object.{ops}
-use Rattle.pp_log.specs.Parts.{there, elsewhere}
+use Rattle.pp_log.specs.Parts.{there, elsewhere, with_first}
 
 -- Lists of items and their parts by places.
 pub ops-append : {Op : Type 0} (x y : List (Item Op)) → ops (x ++ y) ≡ ops x ++ ops y
@@ -97,3 +98,24 @@ more_or_not false a c x y h = h
 pub there_count : {Op : Type 0} (place : Op → ℕ) (p : ℕ) (x : List (Item Op)) → length (there place p x) ≡ length (filter (λ b. place b == p) (ops x))
 there_count place p [] = refl
 there_count place p (e ∷ x) = more_or_not (place e.op == p) e e.op (there place p x) (filter (λ b. place b == p) (ops x)) (there_count place p x)
+
+-- The items of a place among the first entries, and one entry more.
+module _ {E Op : Type 0} (place : Op → ℕ) (f : E → Item Op) (p : ℕ) (x : List E) (i : ℕ) (d : E) (h : i < length x) (is : d ≡ get_or x i d) where
+  abbrev front : List (Item Op)
+  front = there place p (map f (take i x))
+
+  longer : there place p (map f (take (i + 1) x)) ≡ front ++ there place p (f d ∷ [])
+  longer =
+      ap (λ (z : List E). there place p (map f z)) (take_more x i d h ∙ ap (λ (b : E). take i x ++ b ∷ []) (sym is))
+      ∙ ap (there place p) (map_push f (take i x) d) ∙ there-append place p (map f (take i x)) (f d ∷ [])
+
+  pub one_more_there : place (f d).op ≡ p → there place p (map f (take (i + 1) x)) ≡ front ++ f d ∷ []
+  one_more_there at = longer ∙ ap (λ (z : List (Item Op)). front ++ z) (there_at place p (f d) [] at)
+
+  pub none_more_there : (place (f d).op ≡ p → ⊥) → there place p (map f (take (i + 1) x)) ≡ front
+  none_more_there off = longer ∙ ap (λ (z : List (Item Op)). front ++ z) (there_off place p (f d) [] off) ∙ append-nil front
+
+-- Of some entries, the items of the place of the first one.
+pub first_of : {E Op : Type 0} (place : Op → ℕ) (f : E → Item Op) (y : List E) (a : E) → 0 < length y → a ≡ get_or y 0 a → with_first place f y ≡ f a ∷ there place (place (f a).op) (map f (drop 1 y))
+first_of place f [] a h is = absurd (omega arith)
+first_of {E} place f (b ∷ y) a h is = ap (λ (d : E). with_first place f (d ∷ y)) (sym is) ∙ there_at place (place (f a).op) (f a) (map f y) refl

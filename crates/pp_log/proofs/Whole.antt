@@ -91,7 +91,7 @@ module _ {Shape State Op Undo : Type 0} (o : Object Shape State Op Undo) (place 
       ∙ ap (state_from o s) (ops-append (elsewhere place p x) (there place p x)) ∙ state-append o s (ops (elsewhere place p x)) (ops (there place p x))
 
   -- what a log knows of a place
-  pub whole_of : (p : ℕ) (s : State) (log : List (Item Op)) (ps : List (Place Op Undo)) (q : Place Op Undo) → Keeps o place s log ps → slice_get ps p ≡ Some q → IsWhole o (state_after o (o.shape s) (ops (elsewhere place p log))) q s
+  pub whole_of : (p : ℕ) (s : State) (log : List (Item Op)) (ps : List (Place Undo)) (q : Place Undo) → Keeps o place s log ps → slice_get ps p ≡ Some q → IsWhole o (state_after o (o.shape s) (ops (elsewhere place p log))) (there place p log) q s
   whole_of p s log ps q h e =
       let sh = o.shape s in
       let start = o.start sh in
@@ -125,18 +125,18 @@ module _ {Shape State Op Undo : Type 0} (o : Object Shape State Op Undo) (place 
         is = h.is ∙ state_parted p start log h.allowed ∙ ap (state_from o b) (sym cut);
         kept = kept.same_undos ∙ kept_same o place SameAt laws places p start b log same ∙ ap (kept_along o b) (sym cut);
       } in
-      record { run = subst (λ (z : List (Item Op)). IsRun o b z us s) (sym kept.same_items) run; all = size ∙ items ∙ ap length (sym kept.same_items) }
+      record { run = run; all = size ∙ items; ids = kept.same_ids }
 
   -- a log of which one place was changed
-  pub log_of : (p : ℕ) (sh : Shape) (s : State) (log : List (Item Op)) (ps : List (Place Op Undo)) (q : Place Op Undo) → IsAllowed o sh (ops (elsewhere place p log)) → IsWhole o (state_after o sh (ops (elsewhere place p log))) q s → q.items.items ≡ there place p log → AllRanged o (ops log) → length log ≤ 1_000_000 → HasDistinctIds log → slice_get ps p ≡ Some q → ((r : ℕ) → (p ≡ r → ⊥) → KeptIn o (o.start sh) (there place r log) (slice_get ps r)) → Keeps o place s log ps × (o.shape s ≡ sh)
-  log_of p sh s log ps q base_ok whole items ranged few distinct found others =
+  pub log_of : (p : ℕ) (sh : Shape) (s : State) (log : List (Item Op)) (ps : List (Place Undo)) (q : Place Undo) → IsAllowed o sh (ops (elsewhere place p log)) → IsWhole o (state_after o sh (ops (elsewhere place p log))) (there place p log) q s → AllRanged o (ops log) → length log ≤ 1_000_000 → HasDistinctIds log → slice_get ps p ≡ Some q → ((r : ℕ) → (p ≡ r → ⊥) → KeptIn o (o.start sh) (there place r log) (slice_get ps r)) → Keeps o place s log ps × (o.shape s ≡ sh)
+  log_of p sh s log ps q base_ok whole ranged few distinct found others =
       let start = o.start sh in
       let base = ops (elsewhere place p log) in
       let b = state_after o sh base in
       let T = there place p log in
       let us = q.undos.items in
-      let run : IsRun o b T us s = subst (λ (z : List (Item Op)). IsRun o b z us s) items whole.run in
-      let size : length us ≡ length (ops T) = whole.all ∙ ap length items ∙ sym (length-ops T) in
+      let run : IsRun o b T us s = whole.run in
+      let size : length us ≡ length (ops T) = whole.all ∙ sym (length-ops T) in
       let cut : take (length us) (ops T) ≡ ops T = ap (λ (n : ℕ). take n (ops T)) size ∙ take-length (ops T) in
       let bshape : o.shape b ≡ sh = reached_shape o laws sh base base_ok in
       let shape : o.shape s ≡ sh = run_shape o laws b s T us run ∙ bshape in
@@ -148,7 +148,7 @@ module _ {Shape State Op Undo : Type 0} (o : Object Shape State Op Undo) (place 
         | inr e ↦ subst (λ (z : List (Item Op)). AllowedFrom o start (ops z)) (there_of_others place p r log e.1) (allowed_there o place SameAt laws places r start start (elsewhere place p log) (places.same r start) refl base_ok)
       ]) in
       let is : s ≡ state_after o sh (ops log) = run.is ∙ ap (state_from o b) cut ∙ sym (state_parted p start log allowed) in
-      let here : IsKept o start T q = record { same_items = items; same_undos = run.kept ∙ ap (kept_along o b) cut ∙ sym (kept_same o place SameAt laws places p start b log same) } in
+      let here : IsKept o start T q = record { same_ids = whole.ids; same_undos = run.kept ∙ ap (kept_along o b) cut ∙ sym (kept_same o place SameAt laws places p start b log same) } in
       let kept : (r : ℕ) → KeptIn o start (there place r log) (slice_get ps r) = λ r. elim (eqb_tells p r) [
         | inl e ↦ subst (λ (k : ℕ). KeptIn o start (there place k log) (slice_get ps k)) e.1 (subst (KeptIn o start T) (sym found) here)
         | inr e ↦ others r e.1

@@ -10,23 +10,23 @@ use Rattle.pp_log.specs.Parts.{there}
 use Rattle.pp_log.specs.Room.{ids_of}
 use Rattle.pp_log.specs.Runs.{kept_along}
 
--- The items of a place and their undo values are kept there.
+-- The ids of the items of a place and their undo values are kept there.
 pub record IsKept {Shape State Op Undo : Type 0} (o : Object Shape State Op Undo)
-    (b : State) (items : List (Item Op)) (q : Place Op Undo) : Type 0 where
-  pub same_items : q.items.items ≡ items
+    (b : State) (items : List (Item Op)) (q : Place Undo) : Type 0 where
+  pub same_ids : q.ids.items ≡ ids_of items
   pub same_undos : q.undos.items ≡ kept_along o b (ops items)
 
 -- What is kept for a place: nothing is needed where there are no items.
 abbrev pub KeptIn :
     {Shape State Op Undo : Type 0} → Object Shape State Op Undo → State →
-    List (Item Op) → Option (Place Op Undo) → Type 0
+    List (Item Op) → Option (Place Undo) → Type 0
 KeptIn o b items None = items ≡ []
 KeptIn o b items (Some q) = IsKept o b items q
 
 -- The list of items is allowed, this is the state after it, and each place keeps its items.
 pub record Keeps {Shape State Op Undo : Type 0} (o : Object Shape State Op Undo)
     (place : Op → ℕ) (s : State) (log : List (Item Op))
-    (places : List (Place Op Undo)) : Type 0 where
+    (places : List (Place Undo)) : Type 0 where
   pub allowed : IsAllowed o (o.shape s) (ops log)
   pub is : s ≡ state_after o (o.shape s) (ops log)
   pub ranged : AllRanged o (ops log)
@@ -36,7 +36,7 @@ pub record Keeps {Shape State Op Undo : Type 0} (o : Object Shape State Op Undo)
 
 -- And the index is of its ids.
 pub record KeepsAll {Shape State Op Undo : Type 0} (o : Object Shape State Op Undo)
-    (place : Op → ℕ) (s : State) (log : List (Item Op)) (places : List (Place Op Undo))
+    (place : Op → ℕ) (s : State) (log : List (Item Op)) (places : List (Place Undo))
     (ids : Index) : Type 0 where
   pub keeps : Keeps o place s log places
   pub index : IsIndexOf ids (ids_of log)

@@ -1,5 +1,5 @@
 -- Proof machinery: the parts of a list of items by their places.
-use Rattle.std.specs.Prelude.{ℕ, nat_eq, List, [], ◌∷◌, cond}
+use Rattle.std.specs.Prelude.{ℕ, nat_eq, List, [], ◌∷◌, cond, map}
 use Rattle.pp_core.specs.declared.entry.Item.{Item}
 
 -- The items of a place, in their order.
@@ -12,3 +12,8 @@ abbrev pub elsewhere : {Op : Type 0} → (Op → ℕ) → ℕ → List (Item Op)
 elsewhere place p [] = []
 elsewhere place p (e ∷ x) =
     cond (nat_eq (place e.op) p) (elsewhere place p x) (e ∷ elsewhere place p x)
+
+-- Of these entries, the items of the place of the first one.
+abbrev pub with_first : {Op E : Type 0} → (Op → ℕ) → (E → Item Op) → List E → List (Item Op)
+with_first place item_of [] = []
+with_first place item_of (e ∷ x) = there place (place (item_of e).op) (map item_of (e ∷ x))

@@ -8,22 +8,22 @@ use Rattle.pp_log.specs.declared.place.Place.{Place}
 abbrev pub ids_of : {Op : Type 0} → List (Item Op) → List ℕ
 ids_of x = map (λ e. e.id) x
 
--- A place has the same items and undo values, and none where it is a new place.
-abbrev pub SameIn : {Op Undo : Type 0} → Option (Place Op Undo) → Option (Place Op Undo) → Type 0
+-- A place has the same ids and undo values, and none where it is a new place.
+abbrev pub SameIn : {Undo : Type 0} → Option (Place Undo) → Option (Place Undo) → Type 0
 SameIn None None = Unit {0}
-SameIn None (Some q) = (q.items.items ≡ []) × (q.undos.items ≡ [])
+SameIn None (Some q) = (q.ids.items ≡ []) × (q.undos.items ≡ [])
 SameIn (Some a) None = ⊥
-SameIn (Some a) (Some b) = (b.items.items ≡ a.items.items) × (b.undos.items ≡ a.undos.items)
+SameIn (Some a) (Some b) = (b.ids.items ≡ a.ids.items) × (b.undos.items ≡ a.undos.items)
 
--- Each place has the same items and undo values.
-abbrev pub ArePlacesSame : {Op Undo : Type 0} → List (Place Op Undo) → List (Place Op Undo) → Type 0
+-- Each place has the same ids and undo values.
+abbrev pub ArePlacesSame : {Undo : Type 0} → List (Place Undo) → List (Place Undo) → Type 0
 ArePlacesSame old new = (r : ℕ) → SameIn (slice_get old r) (slice_get new r)
 
--- There is room for one more item in a place.
-pub record HasRoom {Op Undo : Type 0} (q : Place Op Undo) : Type 0 where
-  pub items : vec_len q.items < vec_capacity q.items
+-- There is room for one more entry in a place.
+pub record HasRoom {Undo : Type 0} (q : Place Undo) : Type 0 where
+  pub ids : vec_len q.ids < vec_capacity q.ids
   pub undos : vec_len q.undos < vec_capacity q.undos
 
--- There is room for one more item at the p-th place, where there is such a place.
-abbrev pub HasRoomAt : {Op Undo : Type 0} → List (Place Op Undo) → ℕ → Type 0
-HasRoomAt {Op} {Undo} places p = (q : Place Op Undo) → slice_get places p ≡ Some q → HasRoom q
+-- There is room for one more entry at the p-th place, where there is such a place.
+abbrev pub HasRoomAt : {Undo : Type 0} → List (Place Undo) → ℕ → Type 0
+HasRoomAt {Undo} places p = (q : Place Undo) → slice_get places p ≡ Some q → HasRoom q

@@ -1,5 +1,5 @@
 -- Proof machinery: items of a place that are applied one after another, and how far.
-use Rattle.std.specs.Prelude.{◌≡◌, ◌≢◌, ◌≤◌, ◌+◌, ℕ, IsTrue, List, [], ◌∷◌, length, take}
+use Rattle.std.specs.Prelude.{◌≡◌, ◌≢◌, ◌≤◌, ◌+◌, ℕ, IsTrue, List, [], ◌∷◌, ◌++◌, length, take}
 use Rattle.std.specs.Prelude.{Option, Some, None, slice_get}
 use Rattle.pp_core.specs.declared.answer.Answer.{Answer}
 use Rattle.pp_core.specs.declared.entry.Item.{Item}
@@ -46,10 +46,26 @@ abbrev pub Costs : Option Answer → ℕ → ℕ → ℕ → ℕ → Type 0
 Costs None old from to new = new + from ≡ old + to
 Costs (Some answer) old from to new = new + from ≡ old + to + 1
 
--- Whatever the run of the items was from any state on, it is one with these undo values and this
--- state.
+-- With some items before them, `from` in number, the items make a run.
+pub record HasRun {Shape State Op Undo : Type 0} (o : Object Shape State Op Undo)
+    (from : ℕ) (items : List (Item Op)) (us : List Undo) (s : State) : Type 0 where
+  pub start : State
+  pub before : List (Item Op)
+  pub size : length before ≡ from
+  pub run : IsRun o start (before ++ items) us s
+
+-- Whatever the run was, from any state on and with any items before these, `from` in number, it is one
+-- with these undo values and this state.
 abbrev pub GoesOn :
-    {Shape State Op Undo : Type 0} → Object Shape State Op Undo →
+    {Shape State Op Undo : Type 0} → Object Shape State Op Undo → ℕ →
     List (Item Op) → List Undo → State → List Undo → State → Type 0
-GoesOn {Shape} {State} o items old s new t =
-    (b : State) → IsRun o b items old s → IsRun o b items new t
+GoesOn {Shape} {State} {Op} o from items old s new t =
+    (b : State) (before : List (Item Op)) → length before ≡ from
+    → IsRun o b (before ++ items) old s → IsRun o b (before ++ items) new t
+
+-- Behind any items, `from` in number, the run of these stops so.
+abbrev pub StopsFrom :
+    {Shape State Op Undo : Type 0} → Object Shape State Op Undo → ℕ →
+    List (Item Op) → List Undo → State → Option Answer → Type 0
+StopsFrom {Shape} {State} {Op} o from items us s found =
+    (before : List (Item Op)) → length before ≡ from → Stops o (before ++ items) us s found

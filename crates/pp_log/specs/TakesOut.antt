@@ -1,5 +1,5 @@
--- Proof machinery: what taking an item out of its place does.
-use Rattle.std.specs.Prelude.{◌≡◌, ◌+◌, ◌*◌, ◌≤◌, ℕ, List, Some, drop, length, remove, slice_get}
+-- Proof machinery: what taking an entry out of its place does.
+use Rattle.std.specs.Prelude.{◌≡◌, ◌+◌, ℕ, List, ◌++◌, Some, drop, length, remove, slice_get}
 use Rattle.pp_core.specs.declared.entry.Item.{Item}
 use Rattle.pp_model.specs.Object.{ops}
 use Rattle.pp_spec.specs.Object.{LetsPass, Object}
@@ -7,23 +7,40 @@ use Rattle.pp_log.specs.declared.place.Place.{Place}
 use Rattle.pp_log.specs.declared.place.Removed.{Removed}
 use Rattle.pp_log.specs.declared.place.Removed.TheVariants.{Done, Differs}
 use Rattle.pp_log.specs.Logs.{DiffersFrom}
+use Rattle.pp_log.specs.Room.{ids_of}
 use Rattle.pp_log.specs.Runs.{IsRun}
 
--- All items of the place are applied, from the state b on, which led to s.
+-- The place is of these items. All are applied, from the state b on, which led to s.
 pub record IsWhole {Shape State Op Undo : Type 0} (o : Object Shape State Op Undo)
-    (b : State) (q : Place Op Undo) (s : State) : Type 0 where
-  pub run : IsRun o b q.items.items q.undos.items s
-  pub all : length q.undos.items ≡ length q.items.items
+    (b : State) (items : List (Item Op)) (q : Place Undo) (s : State) : Type 0 where
+  pub run : IsRun o b items q.undos.items s
+  pub all : length q.undos.items ≡ length items
+  pub ids : q.ids.items ≡ ids_of items
 
--- The k-th item has this id.
-abbrev pub StandsAt : {Op : Type 0} → List (Item Op) → ℕ → ℕ → Type 0
-StandsAt {Op} items id k = (e : Item Op) × (slice_get items k ≡ Some e) × (e.id ≡ id)
+-- Some items, `from` in number, and then these are those of the place, and all are applied.
+pub record HasWhole {Shape State Op Undo : Type 0} (o : Object Shape State Op Undo)
+    (from : ℕ) (items : List (Item Op)) (q : Place Undo) (s : State) : Type 0 where
+  pub start : State
+  pub before : List (Item Op)
+  pub size : length before ≡ from
+  pub whole : IsWhole o start (before ++ items) q s
 
--- The i-th item lets those behind it pass.
-abbrev pub PassesAll :
-    {Shape State Op Undo : Type 0} → Object Shape State Op Undo → List (Item Op) → ℕ → Type 0
-PassesAll {Op = Op} o items i =
-    (e : Item Op) → slice_get items i ≡ Some e → LetsPass o e.op (ops (drop (i + 1) items))
+-- The i-th item has this operation, which lets those behind it pass, and these are z.
+pub record Passes {Shape State Op Undo : Type 0} (o : Object Shape State Op Undo)
+    (items : List (Item Op)) (i : ℕ) (a : Op) (z : List (Item Op)) : Type 0 where
+  pub item : Item Op
+  pub is : slice_get items i ≡ Some item
+  pub op : item.op ≡ a
+  pub others : drop (i + 1) items ≡ z
+  pub behind : LetsPass o a (ops z)
+
+-- All items of a place are applied, and the i-th one lets those behind it pass.
+pub record CanPassOut {Shape State Op Undo : Type 0} (o : Object Shape State Op Undo)
+    (q : Place Undo) (s : State) (i : ℕ) (a : Op) (z : List (Item Op)) : Type 0 where
+  pub start : State
+  pub items : List (Item Op)
+  pub whole : IsWhole o start items q s
+  pub passes : Passes o items i a z
 
 -- An item, as it is.
 abbrev pub itself : {Op : Type 0} → Item Op → Item Op
@@ -32,20 +49,24 @@ itself e = e
 -- What taking the i-th item out of a place leaves.
 abbrev pub TakesOut :
     {Shape State Op Undo : Type 0} → Object Shape State Op Undo → State →
-    List (Item Op) → ℕ → Place Op Undo → State → Removed → Type 0
-TakesOut o b items i q s Done = (q.items.items ≡ remove items i) × IsWhole o b q s
+    List (Item Op) → ℕ → Place Undo → State → Removed → Type 0
+TakesOut o b items i q s Done = IsWhole o b (remove items i) q s
 TakesOut o b items i q s (Differs id answer) =
-    (q.items.items ≡ items) × IsWhole o b q s × DiffersFrom o itself b (remove items i) id answer
+    IsWhole o b items q s × DiffersFrom o itself b (remove items i) id answer
 
--- How many ticks it may take where the place has n items.
-abbrev pub takes_out_ticks : Removed → ℕ → ℕ → ℕ → ℕ → Type 0
-takes_out_ticks Done n i old new =
-    (old ≤ new) × (new + 1 + 2 * i ≤ old + 2 * n) × (n ≡ i + 1 → new ≡ old + 1)
-takes_out_ticks (Differs id answer) n i old new = (old ≤ new) × (new + 3 + 4 * i ≤ old + 4 * n)
-
--- From whatever state the place was whole, taking the i-th item out leaves this.
+-- From whatever state the place was whole, and with any items before these, `from` in number, taking
+-- the first of these out leaves this.
 abbrev pub TakesOutOf :
-    {Shape State Op Undo : Type 0} → Object Shape State Op Undo →
-    Place Op Undo → State → ℕ → Place Op Undo → State → Removed → Type 0
-TakesOutOf {Shape} {State} o old s i new t removed =
-    (b : State) → IsWhole o b old s → TakesOut o b old.items.items i new t removed
+    {Shape State Op Undo : Type 0} → Object Shape State Op Undo → ℕ → List (Item Op) →
+    Place Undo → State → Place Undo → State → Removed → Type 0
+TakesOutOf {Shape} {State} {Op} o from items old s new t removed =
+    (b : State) (before : List (Item Op)) → length before ≡ from
+    → IsWhole o b (before ++ items) old s → TakesOut o b (before ++ items) from new t removed
+
+-- What taking the i-th item out leaves, where it has this operation and lets those behind it pass.
+abbrev pub PassesOutOf :
+    {Shape State Op Undo : Type 0} → Object Shape State Op Undo → ℕ → Op → List (Item Op) →
+    Place Undo → State → Place Undo → State → Type 0
+PassesOutOf {Shape} {State} {Op} o i a z old s new t =
+    (b : State) (items : List (Item Op)) → Passes o items i a z
+    → IsWhole o b items old s → IsWhole o b (remove items i) new t

@@ -2,8 +2,10 @@
 //! lead to, and from which an entry may be taken out.
 #![tactic(auto)]
 
+mod carry;
 mod id_table;
 mod index;
+mod leave;
 mod log;
 mod place;
 mod room;

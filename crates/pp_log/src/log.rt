@@ -6,29 +6,31 @@ ghost use Rattle.std.specs.Option.{option_copied};
 ghost use Rattle.pp_model.specs.Object.{HasDistinctIds};
 ghost use Rattle.pp_spec.specs.Object.{IsAllowed, AllRanged};
 ghost use Rattle.pp_log.specs.Keeps.{KeepsAll};
+ghost use Rattle.pp_log.specs.Leaving.{MayLeave, without_items};
 ghost use Rattle.pp_log.specs.Logs.{GoesBehind, HasItemAt, IsFirstFrom, IsOn, NoneFrom};
 ghost use Rattle.pp_log.specs.Logs.{RemovalBound, RemovalCosts, RemovesEntry};
 ghost use Rattle.pp_log.specs.Logs.{answer_behind, entry_ops};
 
 use crate::index::Index;
+use crate::leave::{leave_out, take_all_back};
 use crate::place::{Place, Removed};
 use crate::room::make_room;
 use crate::sides::Side;
 use crate::take_out::{position_in_place, take_out};
-use pp_core::{Answer, OutOfMemory, Ticks};
+use pp_core::{Answer, Item, OutOfMemory, Ticks};
 use pp_spec::{Applied, Placed};
 use std::alloc::Global;
 use std::marker::Model;
 use std::sync::ledger::Ledger;
 
 /// A list of entries whose operations are allowed one after another, with the state that they lead
-/// to. An index has the ids of the entries, and each place has its own items in order with what
-/// takes them back.
+/// to. An index has the ids of the entries, and each place has those of its own entries in order,
+/// with what takes them back.
 #[derive(Drop)]
 pub struct Log<S: Placed, T: Side<S::Op>> {
     entries: Vec<T::Entry>,
     ids: Index,
-    places: Vec<Place<S::Op, S::Undo>>,
+    places: Vec<Place<S::Undo>>,
     state: S::State,
     alloc: Global,
 }
@@ -91,18 +93,18 @@ impl<S: Placed, T: Side<S::Op>> Log<S, T> {
     }
 
     /// The first position at `from` or behind it whose operation has this place. It halves over the
-    /// items of the place, and takes no memory.
+    /// ids of the place, and takes no memory.
     pub fn next_on(&self, place: u16, from: usize) -> Option<usize>
         ensures found { IfSome result
             (IsFirstFrom (IsOn S.place_of T.item_of place) self.now.1 from) }
         ensures none { IfNone result (NoneFrom (IsOn S.place_of T.item_of place) self.now.1 from) }
     {
-        let items = &self.places.get(usize::from(place))?.items;
+        let ids = &self.places.get(usize::from(place))?.ids;
         let mut low = 0;
-        let mut high = items.len();
+        let mut high = ids.len();
         'halve: while low < high {
             let middle = low + (high - low) / 2;
-            let Some(at) = self.find(items[middle].id) else {
+            let Some(at) = self.find(ids[middle]) else {
                 unreachable!()
             };
             if at < from {
@@ -111,8 +113,8 @@ impl<S: Placed, T: Side<S::Op>> Log<S, T> {
                 high = middle;
             }
         }
-        let next = items.get(low)?;
-        self.find(next.id)
+        let next = ids.get(low)?;
+        self.find(*next)
     }
 
     /// Whether the log stays allowed with the operation behind it.
@@ -164,7 +166,7 @@ impl<S: Placed, T: Side<S::Op>> Log<S, T> {
         let Applied::Done(undo) = S::apply(&mut self.state, &item.op, ticks)? else {
             unreachable!()
         };
-        self.places[p].keep(item, undo);
+        self.places[p].keep(item.id, undo);
         let Ok(()) = self.entries.push(entry) else {
             unreachable!()
         };
@@ -181,9 +183,9 @@ impl<S: Placed, T: Side<S::Op>> Log<S, T> {
         self.entries[i] = entry;
     }
 
-    /// Takes out the i-th entry. Where its place's later operations let it pass, it alone is taken
-    /// back; else it is with them, and they are then applied again. Where one of them differs, all is
-    /// put back. The only error is that memory was refused, and the log is then lost.
+    /// Takes out the i-th entry. Where it lets the later operations of its place pass, it alone is
+    /// taken back; else it is with them, and they are then applied again. Where one of them differs,
+    /// all is put back. The only error is that memory was refused, and the log is then lost.
     pub fn remove<L: Ledger>(
         self,
         i: usize,
@@ -205,10 +207,10 @@ impl<S: Placed, T: Side<S::Op>> Log<S, T> {
         let item = T::item(&entries[i]);
         let p = usize::from(S::place(&item.op));
         let place = &mut places[p];
-        let Some(from) = position_in_place(&place.items, &ids, i, item.id) else {
+        let Some(from) = position_in_place(&place.ids, &ids, i, item.id) else {
             unreachable!()
         };
-        let removed = take_out::<S, L>(place, from, &mut state, ticks)?;
+        let removed = take_out::<S, T, L>(place, from, &entries[i..], &mut state, ticks, alloc)?;
         if let Removed::Done = removed {
             let _ = entries.remove(i);
             ids.remove(i, item.id);
@@ -221,5 +223,46 @@ impl<S: Placed, T: Side<S::Op>> Log<S, T> {
             alloc,
         };
         Ok((log, removed))
+    }
+
+    /// Takes entries out, from the last to the first, each of which lets those of others behind it
+    /// pass: each of them alone is taken back. The only error is that memory was refused, and the
+    /// log is then lost.
+    pub fn take_back<L: Ledger>(
+        self,
+        own: &[Item<S::Op>],
+        ticks: &mut Ticks<L>,
+    ) -> Result<Self, OutOfMemory>
+        requires { MayLeave S.object own.now (map T.item_of self.1) }
+        ensures log { IfOk result (λ log. log ≡ (self.0, without_items T.item_of own.now self.1)) }
+        ensures cost { OnOk result (ticks.new ≡ ticks.old + length own.now) }
+        ensures rises { ticks.old ≤ ticks.new }
+        ensures bound { ticks.new ≤ ticks.old + length own.now }
+    {
+        let Log {
+            mut entries,
+            mut ids,
+            mut places,
+            mut state,
+            alloc,
+        } = self;
+        let size = entries.len();
+        leave_out::<S::Op, T>(&mut entries, &ids, own);
+        take_all_back::<S, T, L>(
+            own,
+            &entries,
+            size,
+            &mut ids,
+            &mut places,
+            &mut state,
+            ticks,
+        )?;
+        Ok(Log {
+            entries,
+            ids,
+            places,
+            state,
+            alloc,
+        })
     }
 }

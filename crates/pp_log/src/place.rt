@@ -2,7 +2,7 @@
 ghost use Rattle.std.specs.Prelude.{◌≡◌, List, [], ◌∷◌, ◌++◌};
 ghost use Rattle.pp_log.specs.Room.{HasRoom};
 
-use pp_core::{Answer, Item};
+use pp_core::Answer;
 
 /// What taking an entry out of a log did.
 #[derive(Clone, Copy, Debug, PartialEq, Eq)]
@@ -14,21 +14,22 @@ pub enum Removed {
     Differs { entry: u32, answer: Answer },
 }
 
-/// The items of one place, and what each left to take it back.
+/// The ids of the entries of one place, in order, and what the operation of each left to take it
+/// back. The operations stand in the entries.
 #[derive(Drop)]
-pub struct Place<O: Copy, U: Drop> {
-    pub items: Vec<Item<O>>,
+pub struct Place<U: Drop> {
+    pub ids: Vec<u32>,
     pub undos: Vec<U>,
 }
 
-impl<O: Copy, U: Drop> Place<O, U> {
-    /// Adds an item that was applied.
-    pub fn keep(&mut self, item: Item<O>, undo: U)
+impl<U: Drop> Place<U> {
+    /// Adds the id of an entry whose operation was applied, with what takes it back.
+    pub fn keep(&mut self, id: u32, undo: U)
         requires { HasRoom self.old }
-        ensures items { self.new.items.items ≡ self.old.items.items ++ item ∷ [] }
+        ensures ids { self.new.ids.items ≡ self.old.ids.items ++ id ∷ [] }
         ensures undos { self.new.undos.items ≡ self.old.undos.items ++ undo ∷ [] }
     {
-        let Ok(()) = self.items.push(item) else {
+        let Ok(()) = self.ids.push(id) else {
             unreachable!()
         };
         let Ok(()) = self.undos.push(undo) else {

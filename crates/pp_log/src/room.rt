@@ -6,12 +6,12 @@ ghost use Rattle.pp_log.specs.Room.{ArePlacesSame, HasRoom, HasRoomAt};
 
 use crate::index::Index;
 use crate::place::Place;
-use pp_core::{Item, OutOfMemory};
+use pp_core::OutOfMemory;
 use std::alloc::Global;
 
 /// Makes the places up to the p-th.
-fn make_places<O: Copy, U: Drop>(
-    places: &mut Vec<Place<O, U>>,
+fn make_places<U: Drop>(
+    places: &mut Vec<Place<U>>,
     p: usize,
     alloc: Global,
 ) -> Result<(), OutOfMemory>
@@ -24,7 +24,7 @@ fn make_places<O: Copy, U: Drop>(
     }
     'grow: while places.len() <= p {
         let place = Place {
-            items: Vec::new(alloc),
+            ids: Vec::new(alloc),
             undos: Vec::new(alloc),
         };
         let Ok(()) = places.push(place) else {
@@ -34,23 +34,23 @@ fn make_places<O: Copy, U: Drop>(
     Ok(())
 }
 
-/// Makes room for one more item in a place.
-fn make_room_there<O: Copy, U: Drop>(place: &mut Place<O, U>) -> Result<(), OutOfMemory>
-    ensures items { place.new.items.items ≡ place.old.items.items }
+/// Makes room for one more entry in a place.
+fn make_room_there<U: Drop>(place: &mut Place<U>) -> Result<(), OutOfMemory>
+    ensures ids { place.new.ids.items ≡ place.old.ids.items }
     ensures undos { place.new.undos.items ≡ place.old.undos.items }
     ensures room { OnOk result (HasRoom place.new) }
 {
-    place.items.reserve(1)?;
+    place.ids.reserve(1)?;
     place.undos.reserve(1)?;
     Ok(())
 }
 
-/// Makes room for one more entry with this id, whose item is of the p-th place.
-pub fn make_room<E: Copy, O: Copy, U: Drop>(
+/// Makes room for one more entry with this id, which is of the p-th place.
+pub fn make_room<E: Copy, U: Drop>(
     entries: &mut Vec<E>,
     ids: &mut Index,
     id: u32,
-    places: &mut Vec<Place<O, U>>,
+    places: &mut Vec<Place<U>>,
     p: usize,
     alloc: Global,
 ) -> Result<(), OutOfMemory>

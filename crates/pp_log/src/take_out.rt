@@ -1,45 +1,48 @@
-//! Taking an item out of its place.
-ghost use Rattle.std.specs.Prelude.{◌≡◌, ◌≢◌, ◌<◌, ◌≤◌, ◌+◌, ◌*◌, IfOk, OnOk, IfSome, IfNone};
-ghost use Rattle.std.specs.Prelude.{IsTrue, drop, length};
-ghost use Rattle.pp_core.specs.declared.entry.Item.{Item as ItemOf};
+//! Taking an entry out of its place.
+ghost use Rattle.std.specs.Prelude.{◌≡◌, ◌<◌, ◌≤◌, ◌+◌, ◌*◌, IfOk, OnOk, IfSome, IfNone};
+ghost use Rattle.std.specs.Prelude.{IsTrue, Some, length, map, slice_get};
 ghost use Rattle.pp_model.specs.Lists.{In};
 ghost use Rattle.pp_model.specs.Object.{ops};
-ghost use Rattle.pp_spec.specs.Object.{LetsPass};
-ghost use Rattle.pp_log.specs.TakesOut.{IsWhole, PassesAll, StandsAt, TakesOutOf, takes_out_ticks};
-ghost use Rattle.pp_log.specs.declared.place.Removed.TheVariants.{Done};
+ghost use Rattle.pp_spec.specs.Object.{LetsPass, Swaps};
+ghost use Rattle.pp_log.specs.Logs.{removal_ticks};
+ghost use Rattle.pp_log.specs.Parts.{there, with_first};
+ghost use Rattle.pp_log.specs.TakesOut.{CanPassOut, HasWhole, PassesOutOf, TakesOutOf};
 
+use crate::carry::carry;
 use crate::index::Index;
 use crate::place::{Place, Removed};
 use crate::run::{rewind, unwind};
+use crate::sides::Side;
 use pp_core::{Item, OutOfMemory, Ticks};
-use pp_spec::Spec;
+use pp_spec::{Placed, Spec};
+use std::alloc::Global;
 use std::sync::ledger::Ledger;
 
-/// Where the last item with this id stands.
-fn last_with<O: Copy>(items: &[Item<O>], id: u32) -> Option<usize>
-    ensures found { IfSome result (λ k. StandsAt items.now id k) }
-    ensures none { IfNone result ((e : ItemOf O) → In e items.now → e.id ≢ id) }
+/// Where this id stands last.
+fn last_with(ids: &[u32], id: u32) -> Option<usize>
+    ensures found { IfSome result (λ k. slice_get ids.now k ≡ Some id) }
+    ensures none { IfNone result (In id ids.now → ⊥) }
 {
-    for k in (0..items.len()).rev() {
-        if items[k].id == id {
+    for k in (0..ids.len()).rev() {
+        if ids[k] == id {
             return Some(k);
         }
     }
     None
 }
 
-/// Where the item of the entry at a position should stand among those of its place, as the index
-/// says where their entries stand. It looks at the last one, and else halves over them. Nothing is
+/// Where the id of the entry at a position should stand among those of its place, as the index says
+/// where their entries stand. It looks at the last one, and else halves over them. Nothing is
 /// promised of it.
-fn likely_position<O: Copy>(items: &[Item<O>], ids: &Index, i: usize, id: u32) -> usize {
-    let mut high = items.len().saturating_sub(1);
-    if high < items.len() && items[high].id == id {
+fn likely_position(ids: &[u32], index: &Index, i: usize, id: u32) -> usize {
+    let mut high = ids.len().saturating_sub(1);
+    if high < ids.len() && ids[high] == id {
         return high;
     }
     let mut low = 0;
     'halve: while low < high {
         let middle = low + (high - low) / 2;
-        match ids.find(items[middle].id) {
+        match index.find(ids[middle]) {
             Some(at) if at < i => low = middle + 1,
             _ => high = middle,
         }
@@ -47,110 +50,144 @@ fn likely_position<O: Copy>(items: &[Item<O>], ids: &Index, i: usize, id: u32) -
     low
 }
 
-/// Where the item of the entry at a position, with this id, stands among those of its place. It
-/// looks first where it should stand, and at all of them only where it does not.
-pub fn position_in_place<O: Copy>(
-    items: &[Item<O>],
-    ids: &Index,
-    i: usize,
-    id: u32,
-) -> Option<usize>
-    ensures found { IfSome result (λ k. StandsAt items.now id k) }
-    ensures none { IfNone result ((e : ItemOf O) → In e items.now → e.id ≢ id) }
+/// Where the id of the entry at a position stands among those of its place. It looks first where it
+/// should stand, and at all of them only where it does not.
+pub fn position_in_place(ids: &[u32], index: &Index, i: usize, id: u32) -> Option<usize>
+    ensures found { IfSome result (λ k. slice_get ids.now k ≡ Some id) }
+    ensures none { IfNone result (In id ids.now → ⊥) }
 {
-    let likely = likely_position(items, ids, i, id);
-    if likely < items.len() && items[likely].id == id {
+    let likely = likely_position(ids, index, i, id);
+    if likely < ids.len() && ids[likely] == id {
         return Some(likely);
     }
-    last_with(items, id)
+    last_with(ids, id)
 }
 
-/// Whether an operation lets each item from a position on pass. False says nothing.
-fn lets_pass<S: Spec>(op: &S::Op, items: &[Item<S::Op>], from: usize) -> bool
-    ensures { IsTrue result → LetsPass S.object op.now (ops (drop from items.now)) }
+/// Whether an operation lets another one pass, of which nothing is asked where it has another place.
+/// False says nothing.
+fn lets_one_pass<S: Placed>(op: &S::Op, other: &S::Op) -> bool
+    ensures { IsTrue result → S.place_of other.now ≡ S.place_of op.now
+        → Swaps S.object op.now other.now }
 {
-    for k in (from..items.len()).rev() {
-        let other = &items[k].op;
-        if !S::swaps(op, other) || !S::kept_alike(op, other) {
+    S::place(other) != S::place(op) || S::swaps(op, other)
+}
+
+/// Whether an operation lets those of its place among these entries pass. False says nothing.
+fn lets_pass<S: Placed, T: Side<S::Op>>(op: &S::Op, entries: &[T::Entry]) -> bool
+    ensures { IsTrue result → LetsPass S.object op.now
+        (ops (there S.place_of (S.place_of op.now) (map T.item_of entries.now))) }
+{
+    for k in (0..entries.len()).rev() {
+        let other = T::item(&entries[k]).op;
+        if !lets_one_pass::<S>(op, &other) {
             return false;
         }
     }
     true
 }
 
-/// Takes the item that stands at `from` out of its place, as if it were the last one there, where
-/// it lets those behind it pass.
-fn pass_out<S: Spec, L: Ledger>(
-    place: &mut Place<S::Op, S::Undo>,
+/// Takes the entry with this operation that stands at `from` out of its place, as if it were the
+/// last one there, where it lets those behind it pass: those of its place among these entries.
+pub fn pass_out<S: Placed, T: Side<S::Op>, L: Ledger>(
+    place: &mut Place<S::Undo>,
     from: usize,
+    op: &S::Op,
+    behind: &[T::Entry],
     state: &mut S::State,
     ticks: &mut Ticks<L>,
 ) -> Result<(), OutOfMemory>
-    requires whole { (b : S.State) × IsWhole S.object b place.old state.old }
-    requires within { from < length place.old.items.items }
-    requires passing { PassesAll S.object place.old.items.items from }
-    ensures takes { OnOk result
-        (TakesOutOf S.object place.old state.old from place.new state.new Done) }
+    requires { CanPassOut S.object place.old state.old from op.now
+        (there S.place_of (S.place_of op.now) (map T.item_of behind.now)) }
+    ensures takes { OnOk result (PassesOutOf S.object from op.now
+        (there S.place_of (S.place_of op.now) (map T.item_of behind.now))
+        place.old state.old place.new state.new) }
     ensures cost { ticks.new ≡ ticks.old + 1 }
 {
-    let item = place.items.remove(from);
+    let _ = place.ids.remove(from);
     let undo = place.undos.remove(from);
-    S::undo(state, &item.op, undo, ticks)?;
+    let undo = carry::<S, T>(op, undo, behind, &mut place.undos, from);
+    S::undo(state, op, undo, ticks)?;
     Ok(())
 }
 
-/// Takes the item that stands at `from` out of its place. Where it does not let those behind it
-/// pass, these are taken back, and applied again without it; where one of them differs, the place
-/// is as it was.
-pub fn take_out<S: Spec, L: Ledger>(
-    place: &mut Place<S::Op, S::Undo>,
-    from: usize,
-    state: &mut S::State,
-    ticks: &mut Ticks<L>,
-) -> Result<Removed, OutOfMemory>
-    requires whole { (b : S.State) × IsWhole S.object b place.old state.old }
-    requires within { from < length place.old.items.items }
-    ensures takes { IfOk result (TakesOutOf S.object place.old state.old from place.new state.new) }
-    ensures cost { IfOk result (λ removed. takes_out_ticks removed (length place.old.items.items)
-        from ticks.old ticks.new) }
-    ensures rises { ticks.old ≤ ticks.new }
-    ensures bound { ticks.new + 3 + 4 * from ≤ ticks.old + 4 * length place.old.items.items }
+/// The items of the entries that have this place.
+fn items_there<S: Placed, T: Side<S::Op>>(
+    entries: &[T::Entry],
+    place: u16,
+    alloc: Global,
+) -> Result<Vec<Item<S::Op>>, OutOfMemory>
+    ensures { IfOk result (λ items.
+        items.items ≡ there S.place_of place (map T.item_of entries.now)) }
 {
-    let op = place.items[from].op;
-    if lets_pass::<S>(&op, &place.items, from + 1) {
-        pass_out::<S, L>(place, from, state, ticks)?;
-        return Ok(Removed::Done);
+    let mut items = Vec::new(alloc);
+    for entry in entries {
+        let item = T::item(entry);
+        if S::place(&item.op) == place {
+            items.push(item)?;
+        }
     }
-    replay::<S, L>(place, from, state, ticks)
+    Ok(items)
 }
 
-/// Takes the item that stands at `from` out of its place, and those behind it back, which are then
-/// applied again. Where one differs, the place is as it was.
-fn replay<S: Spec, L: Ledger>(
-    place: &mut Place<S::Op, S::Undo>,
+/// Takes the first of these entries, which stands at `from` in its place, out of that place. Where
+/// it does not let those behind it pass, these are taken back, and applied again without it; where
+/// one of them differs, the place is as it was.
+pub fn take_out<S: Placed, T: Side<S::Op>, L: Ledger>(
+    place: &mut Place<S::Undo>,
     from: usize,
+    entries: &[T::Entry],
+    state: &mut S::State,
+    ticks: &mut Ticks<L>,
+    alloc: Global,
+) -> Result<Removed, OutOfMemory>
+    requires some { 0 < length entries.now }
+    requires whole { HasWhole S.object from (with_first S.place_of T.item_of entries.now)
+        place.old state.old }
+    ensures takes { IfOk result (TakesOutOf S.object from
+        (with_first S.place_of T.item_of entries.now) place.old state.old place.new state.new) }
+    ensures cost { IfOk result (λ removed. removal_ticks removed
+        (length (with_first S.place_of T.item_of entries.now)) ticks.old ticks.new) }
+    ensures rises { ticks.old ≤ ticks.new }
+    ensures bound { ticks.new + 3
+        ≤ ticks.old + 4 * length (with_first S.place_of T.item_of entries.now) }
+{
+    let op = T::item(&entries[0]).op;
+    let behind = &entries[1..];
+    if lets_pass::<S, T>(&op, behind) {
+        pass_out::<S, T, L>(place, from, &op, behind, state, ticks)?;
+        return Ok(Removed::Done);
+    }
+    let items = items_there::<S, T>(entries, S::place(&op), alloc)?;
+    replay::<S, L>(place, from, &items, state, ticks)
+}
+
+/// Takes the first of these items, which stands at `from` in its place, out of it, and those behind
+/// it back, which are then applied again. Where one differs, the place is as it was.
+fn replay<S: Spec, L: Ledger>(
+    place: &mut Place<S::Undo>,
+    from: usize,
+    items: &[Item<S::Op>],
     state: &mut S::State,
     ticks: &mut Ticks<L>,
 ) -> Result<Removed, OutOfMemory>
-    requires whole { (b : S.State) × IsWhole S.object b place.old state.old }
-    requires within { from < length place.old.items.items }
-    ensures takes { IfOk result (TakesOutOf S.object place.old state.old from place.new state.new) }
-    ensures cost { IfOk result (λ removed. takes_out_ticks removed (length place.old.items.items)
-        from ticks.old ticks.new) }
+    requires some { 0 < length items.now }
+    requires whole { HasWhole S.object from items.now place.old state.old }
+    ensures takes { IfOk result (TakesOutOf S.object from items.now
+        place.old state.old place.new state.new) }
+    ensures cost { IfOk result (λ removed. removal_ticks removed (length items.now)
+        ticks.old ticks.new) }
     ensures rises { ticks.old ≤ ticks.new }
-    ensures bound { ticks.new + 3 + 4 * from ≤ ticks.old + 4 * length place.old.items.items }
+    ensures bound { ticks.new + 3 ≤ ticks.old + 4 * length items.now }
 {
-    unwind::<S, L>(&place.items, &mut place.undos, from, state, ticks)?;
-    let noted = place.items.remove(from);
-    let Some(answer) = rewind::<S, L>(&place.items, &mut place.undos, state, ticks)? else {
+    unwind::<S, L>(items, &mut place.undos, from, state, ticks)?;
+    let others = &items[1..];
+    let Some(answer) = rewind::<S, L>(others, &mut place.undos, state, ticks)? else {
+        let _ = place.ids.remove(from);
         return Ok(Removed::Done);
     };
-    let id = place.items[place.undos.len()].id;
-    unwind::<S, L>(&place.items, &mut place.undos, from, state, ticks)?;
-    let Ok(()) = place.items.insert(from, noted) else {
-        return Err(OutOfMemory);
-    };
-    let None = rewind::<S, L>(&place.items, &mut place.undos, state, ticks)? else {
+    let id = others[place.undos.len() - from].id;
+    unwind::<S, L>(others, &mut place.undos, from, state, ticks)?;
+    let None = rewind::<S, L>(items, &mut place.undos, state, ticks)? else {
         unreachable!()
     };
     Ok(Removed::Differs { entry: id, answer })

@@ -108,7 +108,13 @@ impl Spec for KeyMap {
         may_swap(a, b)
     }
 
-    fn kept_alike(_a: &MapOp, _b: &MapOp) -> bool {
+    #[inline(always)]
+    fn keep_in_turn(_a: &MapOp, _b: &MapOp) -> bool {
+        false
+    }
+
+    #[inline(always)]
+    fn keeps_alone(_a: &MapOp) -> bool {
         true
     }
 

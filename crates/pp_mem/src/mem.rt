@@ -121,9 +121,17 @@ impl Spec for Mem {
         may_swap(a, b)
     }
 
-    #[inline]
-    fn kept_alike(a: &MemOp, b: &MemOp) -> bool {
-        a.address() != b.address() || (!a.is_write() && !b.is_write())
+    #[inline(always)]
+    fn keep_in_turn(a: &MemOp, b: &MemOp) -> bool {
+        if a.address() != b.address() {
+            return false;
+        }
+        a.is_write() && b.is_write()
+    }
+
+    #[inline(always)]
+    fn keeps_alone(a: &MemOp) -> bool {
+        !a.is_write()
     }
 
     fn context(alloc: Global, a: &MemOp, b: &MemOp) -> Result<Option<Context<MemOp>>, OutOfMemory> {

@@ -1,8 +1,11 @@
--- Proof machinery: what is kept of a pair is alike where it is so on the object alone.
-use Rattle.std.proofs.Common.{◌≡◌, ℕ, IsTrue, List, [], ◌∷◌, Option, Some, sym, ◌∙◌, ap, subst}
+-- Proof machinery: what is kept of a pair is as the object alone keeps it.
+use Rattle.std.proofs.Common.{◌≡◌, ℕ, Bool, true, false, IsTrue, List, [], ◌∷◌, Option, Some, sym, ◌∙◌}
+use Rattle.std.proofs.Common.{ap, subst}
+use Rattle.std.proofs.Common.{inl, inr}
+use Rattle.std.proofs.lemmas.Bool.Decides.{eqb_tells}
 use Rattle.std.specs.List.{slice_get}
 use Rattle.pp_core.specs.declared.call.Kind.{Kind}
-use Rattle.pp_spec.specs.Object.{IsLegal, KeptAlike, KeptAlikeAt}
+use Rattle.pp_spec.specs.Object.{IsLegal, KeptAs, KeptAsAt, Swaps}
 use Rattle.pp_object.specs.declared.act.Act.{Act}
 use Rattle.pp_object.specs.declared.act.Op.{Op}
 use Rattle.pp_object.specs.declared.states.ObjectState.{ObjectState}
@@ -10,89 +13,142 @@ use Rattle.pp_object.specs.One.{one}
 use Rattle.pp_object.specs.Objects.{objects, kept_in, act_at}
 use Rattle.pp_object.specs.laws.Kinds.{Ops, States, act_of, from_state, its_act, its_state, kept_is}
 use Rattle.pp_object.specs.laws.Kinds.{next_is, object_of, only_kind, state_of, undo_as}
-use Rattle.pp_object.specs.laws.Acts.{legal_out}
+use Rattle.pp_object.specs.laws.Acts.{legal_out, swaps_out}
 use Rattle.pp_object.specs.laws.One.{one_lawful}
 use Rattle.pp_object.specs.laws.Objects.{objects_placed}
-use Rattle.pp_object.specs.laws.Places.{allowed_alone, legal_there, next_there}
+use Rattle.pp_object.specs.laws.Places.{allowed_alone, legal_there, next_there, swaps_alone}
 
 module _ (k : Kind) where
-  kept_behind : (s : States k) (a b : Ops k)
-      → (object_of k).upkeep.kept s a ≡ (object_of k).upkeep.kept ((object_of k).next s b) a
-      → one.upkeep.kept (state_of k s) (act_of k a)
-      ≡ one.upkeep.kept (one.next (state_of k s) (act_of k b)) (act_of k a)
-  kept_behind s a b e =
-      kept_is k s a ∙ ap (undo_as k) e ∙ sym (kept_is k ((object_of k).next s b) a)
-      ∙ ap (λ (t : ObjectState). one.upkeep.kept t (act_of k a)) (sym (next_is k s b))
+  one_kept : (s t : States k) (a b : Ops k)
+      → (object_of k).upkeep.kept s a ≡ (object_of k).upkeep.kept t b
+      → one.upkeep.kept (state_of k s) (act_of k a) ≡ one.upkeep.kept (state_of k t) (act_of k b)
+  one_kept s t a b e = kept_is k s a ∙ ap (undo_as k) e ∙ sym (kept_is k t b)
 
-  alike_at : (s : States k) (a b : Ops k) → KeptAlike (object_of k) a b
-      → one.upkeep.IsState (state_of k s)
-      → KeptAlikeAt one (state_of k s) (act_of k a) (act_of k b)
-  alike_at s a b alike is h g l =
+  seen_behind : (s : States k) (a b : Ops k)
+      → one.upkeep.kept (one.next (state_of k s) (act_of k b)) (act_of k a)
+      ≡ one.upkeep.kept (state_of k ((object_of k).next s b)) (act_of k a)
+  seen_behind s a b = ap (λ (t : ObjectState). one.upkeep.kept t (act_of k a)) (next_is k s b)
+
+  kept_at : (in_turn : Bool) (s : States k) (a b : Ops k) → KeptAsAt (object_of k) in_turn s a b
+      → KeptAsAt one in_turn (state_of k s) (act_of k a) (act_of k b)
+  kept_at true s a b e = (
+    one_kept s s b a e.0,
+    seen_behind s a b ∙ one_kept ((object_of k).next s b) ((object_of k).next s a) a b e.1
+        ∙ sym (seen_behind s b a),
+  )
+  kept_at false s a b e = (
+    one_kept s ((object_of k).next s a) b b e.0 ∙ sym (seen_behind s b a),
+    seen_behind s a b ∙ one_kept ((object_of k).next s b) s a a e.1,
+  )
+
+  kept_here : (in_turn : Bool) (s : States k) (a b : Ops k) → KeptAs (object_of k) in_turn a b
+      → one.upkeep.IsState (state_of k s) → IsLegal one (state_of k s) (act_of k a)
+      → IsLegal one (state_of k s) (act_of k b)
+      → IsLegal one (one.next (state_of k s) (act_of k a)) (act_of k b)
+      → KeptAsAt one in_turn (state_of k s) (act_of k a) (act_of k b)
+  kept_here in_turn s a b kept is h g l =
       let follows : IsLegal one (state_of k ((object_of k).next s a)) (act_of k b) =
       subst (λ (t : ObjectState). IsLegal one t (act_of k b)) (next_is k s a) l in
-      let both = alike s (from_state k s is) (legal_out k s a h) (legal_out k s b g)
-      (legal_out k ((object_of k).next s a) b follows) in
-      (kept_behind s a b both.0, kept_behind s b a both.1)
+      kept_at in_turn s a b (kept s (from_state k s is) (legal_out k s a h) (legal_out k s b g)
+      (legal_out k ((object_of k).next s a) b follows))
 
-  alike_in : (a b : Ops k) → KeptAlike (object_of k) a b → KeptAlike one (act_of k a) (act_of k b)
-  alike_in a b alike s is h g l =
+  kept_in_kind : (in_turn : Bool) (a b : Ops k) → KeptAs (object_of k) in_turn a b
+      → KeptAs one in_turn (act_of k a) (act_of k b)
+  kept_in_kind in_turn a b kept s is h g l =
       let u = its_state k s (only_kind k (one.shape s) a h.0) in
-      let P : ObjectState → Type 0 = λ t. one.upkeep.IsState t
-      → KeptAlikeAt one t (act_of k a) (act_of k b) in
-      let there : P (state_of k u.0) = λ i. alike_at u.0 a b alike i in
+      let P : ObjectState → Type 0 = λ t. one.upkeep.IsState t → IsLegal one t (act_of k a)
+      → IsLegal one t (act_of k b) → IsLegal one (one.next t (act_of k a)) (act_of k b)
+      → KeptAsAt one in_turn t (act_of k a) (act_of k b) in
+      let there : P (state_of k u.0) = kept_here in_turn u.0 a b kept in
       subst P (sym u.1) there is h g l
 
   -- A pair of the kind.
-  pub pair_alike : (x y : Act) (a b : Ops k) → x ≡ act_of k a → y ≡ act_of k b
-      → KeptAlike (object_of k) a b → KeptAlike one x y
-  pair_alike x y a b e f alike =
-      subst (λ (v : Act). KeptAlike one v y) (sym e)
-      (subst (λ (w : Act). KeptAlike one (act_of k a) w) (sym f) (alike_in a b alike))
+  pub pair_kept : (in_turn : Bool) (x y : Act) (a b : Ops k) → x ≡ act_of k a → y ≡ act_of k b
+      → (Swaps (object_of k) a b → KeptAs (object_of k) in_turn a b)
+      → Swaps one x y → KeptAs one in_turn x y
+  pair_kept in_turn x y a b e f kept =
+      let P : Act → Act → Type 0 = λ v w. Swaps one v w → KeptAs one in_turn v w in
+      let there : P (act_of k a) (act_of k b) =
+      λ swaps. kept_in_kind in_turn a b (kept (swaps_out k a b swaps)) in
+      subst (λ (v : Act). P v y) (sym e) (subst (λ (w : Act). P (act_of k a) w) (sym f) there)
 
-  -- An act of the kind and one of another, which are never both legal.
-  strangers : (y : Act) (a : Ops k) → ((b : Ops k) → y ≡ act_of k b → ⊥)
-      → KeptAlike one (act_of k a) y
-  strangers y a never s is h g l =
-      let kind = only_kind k (one.shape s) a h.0 in
-      let b = its_act k y (subst (λ (q : Kind). IsTrue (one.fits q y)) kind g.0) in
-      absurd (never b.0 b.1)
+  -- An act of the kind, and one that may be legal beside it.
+  beside : (x y : Act) (a : Ops k) → x ≡ act_of k a → (s : ObjectState) → IsLegal one s x
+      → IsLegal one s y → (b : Ops k) × (y ≡ act_of k b)
+  beside x y a e s h g =
+      let own = subst (λ (v : Act). IsLegal one s v) e h in
+      let kind = only_kind k (one.shape s) a own.0 in
+      its_act k y (subst (λ (q : Kind). IsTrue (one.fits q y)) kind g.0)
 
-  pub strangers_alike : (x y : Act) (a : Ops k) → x ≡ act_of k a
-      → ((b : Ops k) → y ≡ act_of k b → ⊥) → KeptAlike one x y
-  strangers_alike x y a e never =
-      subst (λ (v : Act). KeptAlike one v y) (sym e) (strangers y a never)
+  -- An act of another kind is never legal beside it.
+  pub strangers_kept : (x y : Act) (a : Ops k) → x ≡ act_of k a
+      → ((b : Ops k) → y ≡ act_of k b → ⊥) → Swaps one x y → KeptAs one false x y
+  strangers_kept x y a e never swaps s is h g l =
+      let b = beside x y a e s h g in absurd (never b.0 b.1)
+
+  -- An act that keeps in turn with none of its kind does so with none.
+  pub alone_kept : (alone : Bool) (x : Act) (a : Ops k) → x ≡ act_of k a
+      → (IsTrue alone → (b : Ops k) → Swaps (object_of k) a b → KeptAs (object_of k) false a b)
+      → IsTrue alone → (y : Act) → Swaps one x y → KeptAs one false x y
+  alone_kept alone x a e kept t y swaps s is h g l =
+      let b = beside x y a e s h g in
+      pair_kept false x y a b.0 e b.1 (kept t b.0) swaps s is h g l
 
 -- Operations of one place.
-kept_behind_at : (p : ℕ) (ss : List ObjectState) (a b : Act) (s : ObjectState)
-    → slice_get ss p ≡ Some s → one.upkeep.kept s a ≡ one.upkeep.kept (one.next s b) a
-    → objects.upkeep.kept ss (act_at p a)
-    ≡ objects.upkeep.kept (objects.next ss (act_at p b)) (act_at p a)
-kept_behind_at p ss a b s there e =
-    ap (λ (t : Option ObjectState). kept_in one t a) there ∙ e
-    ∙ sym (ap (λ (t : Option ObjectState). kept_in one t a)
-    (next_there one one_lawful ss (act_at p b) s there))
+seen_there : (p : ℕ) (ss : List ObjectState) (a : Act) (s : ObjectState) → slice_get ss p ≡ Some s
+    → objects.upkeep.kept ss (act_at p a) ≡ one.upkeep.kept s a
+seen_there p ss a s there = ap (λ (t : Option ObjectState). kept_in one t a) there
 
-alike_at_place : (p : ℕ) (a b : Act) → KeptAlike one a b
-    → KeptAlike objects (act_at p a) (act_at p b)
-alike_at_place p a b alike ss is h g l =
+kept_at_place : (in_turn : Bool) (p : ℕ) (ss : List ObjectState) (a b : Act) (s : ObjectState)
+    → slice_get ss p ≡ Some s → KeptAsAt one in_turn s a b
+    → KeptAsAt objects in_turn ss (act_at p a) (act_at p b)
+kept_at_place true p ss a b s there e =
+    let behind_a = next_there one one_lawful ss (act_at p a) s there in
+    let behind_b = next_there one one_lawful ss (act_at p b) s there in (
+      seen_there p ss b s there ∙ e.0 ∙ sym (seen_there p ss a s there),
+      seen_there p (objects.next ss (act_at p b)) a (one.next s b) behind_b ∙ e.1
+          ∙ sym (seen_there p (objects.next ss (act_at p a)) b (one.next s a) behind_a),
+    )
+kept_at_place false p ss a b s there e =
+    let behind_a = next_there one one_lawful ss (act_at p a) s there in
+    let behind_b = next_there one one_lawful ss (act_at p b) s there in (
+      seen_there p ss b s there ∙ e.0
+          ∙ sym (seen_there p (objects.next ss (act_at p a)) b (one.next s a) behind_a),
+      seen_there p (objects.next ss (act_at p b)) a (one.next s b) behind_b ∙ e.1
+          ∙ sym (seen_there p ss a s there),
+    )
+
+in_place : (in_turn : Bool) (p : ℕ) (a b : Act) → (Swaps one a b → KeptAs one in_turn a b)
+    → Swaps objects (act_at p a) (act_at p b) → KeptAs objects in_turn (act_at p a) (act_at p b)
+in_place in_turn p a b kept swaps ss is h g l =
     let s = legal_there one one_lawful ss (act_at p a) h in
-    let pair = allowed_alone one one_lawful p (a ∷ b ∷ []) ss s.0 s.1 (h, (l, tt)) in
+    let both = allowed_alone one one_lawful p (a ∷ b ∷ []) ss s.0 s.1 (h, (l, tt)) in
     let other = allowed_alone one one_lawful p (b ∷ []) ss s.0 s.1 (g, tt) in
-    let both = alike s.0 (is p s.0 s.1) pair.0 other.0 pair.1.0 in
-    (kept_behind_at p ss a b s.0 s.1 both.0, kept_behind_at p ss b a s.0 s.1 both.1)
+    kept_at_place in_turn p ss a b s.0 s.1 (kept (swaps_alone one one_lawful p a b swaps) s.0
+    (is p s.0 s.1) both.0 other.0 both.1.0)
 
-pub same_place_alike : (a b : Op) → a.object ≡ b.object → KeptAlike one a.act b.act
-    → KeptAlike objects a b
-same_place_alike a b e alike =
-    let P : ℕ → Type 0 = λ p. KeptAlike objects a (act_at p b.act) in
-    let there : P a.object = alike_at_place a.object a.act b.act alike in
+pub same_place_kept : (in_turn : Bool) (a b : Op) → a.object ≡ b.object
+    → (Swaps one a.act b.act → KeptAs one in_turn a.act b.act)
+    → Swaps objects a b → KeptAs objects in_turn a b
+same_place_kept in_turn a b e kept =
+    let P : ℕ → Type 0 = λ p. Swaps objects a (act_at p b.act)
+    → KeptAs objects in_turn a (act_at p b.act) in
+    let there : P a.object = in_place in_turn a.object a.act b.act kept in
     subst P e there
 
 -- Operations of different places.
-pub other_place_alike : (a b : Op) → (a.object ≡ b.object → ⊥) → KeptAlike objects a b
-other_place_alike a b apart ss is h g l = (
-  objects_placed.kept_there ss (objects.next ss b) a
-      (objects_placed.next_elsewhere ss b a.object apart),
+pub other_place_kept : (a b : Op) → (a.object ≡ b.object → ⊥) → KeptAs objects false a b
+other_place_kept a b apart ss is h g l = (
   objects_placed.kept_there ss (objects.next ss a) b
       (objects_placed.next_elsewhere ss a b.object (λ e. apart (sym e))),
+  sym (objects_placed.kept_there ss (objects.next ss b) a
+      (objects_placed.next_elsewhere ss b a.object apart)),
 )
+
+-- With an operation of any place.
+pub all_kept_alone : (a b : Op) → (Swaps one a.act b.act → KeptAs one false a.act b.act)
+    → Swaps objects a b → KeptAs objects false a b
+all_kept_alone a b kept swaps = elim (eqb_tells a.object b.object) [
+  | inl e ↦ same_place_kept false a b e.1 kept swaps
+  | inr e ↦ other_place_kept a b e.1
+]

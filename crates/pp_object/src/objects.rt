@@ -110,8 +110,16 @@ impl Spec for Objects {
     }
 
     #[inline(always)]
-    fn kept_alike(a: &Op, b: &Op) -> bool {
-        a.object != b.object || OneObject::kept_alike(&a.act, &b.act)
+    fn keep_in_turn(a: &Op, b: &Op) -> bool {
+        if a.object != b.object {
+            return false;
+        }
+        OneObject::keep_in_turn(&a.act, &b.act)
+    }
+
+    #[inline(always)]
+    fn keeps_alone(a: &Op) -> bool {
+        OneObject::keeps_alone(&a.act)
     }
 
     fn context(alloc: Global, a: &Op, b: &Op) -> Result<Option<Context<Op>>, OutOfMemory> {

@@ -197,16 +197,29 @@ impl Spec for OneObject {
     }
 
     #[inline]
-    fn kept_alike(a: &Act, b: &Act) -> bool {
+    fn keep_in_turn(a: &Act, b: &Act) -> bool {
         match (a, b) {
-            (Act::Memory(a), Act::Memory(b)) => Mem::kept_alike(a, b),
-            (Act::KeySet(a), Act::KeySet(b)) => KeySet::kept_alike(a, b),
-            (Act::KeyMap(a), Act::KeyMap(b)) => KeyMap::kept_alike(a, b),
-            (Act::Counter(a), Act::Counter(b)) => Count::kept_alike(a, b),
-            (Act::Queue(a), Act::Queue(b)) => Fifo::kept_alike(a, b),
-            (Act::Stack(a), Act::Stack(b)) => Stack::kept_alike(a, b),
-            (Act::PriorityQueue(a), Act::PriorityQueue(b)) => Prio::kept_alike(a, b),
-            _ => true,
+            (Act::Memory(a), Act::Memory(b)) => Mem::keep_in_turn(a, b),
+            (Act::KeySet(a), Act::KeySet(b)) => KeySet::keep_in_turn(a, b),
+            (Act::KeyMap(a), Act::KeyMap(b)) => KeyMap::keep_in_turn(a, b),
+            (Act::Counter(a), Act::Counter(b)) => Count::keep_in_turn(a, b),
+            (Act::Queue(a), Act::Queue(b)) => Fifo::keep_in_turn(a, b),
+            (Act::Stack(a), Act::Stack(b)) => Stack::keep_in_turn(a, b),
+            (Act::PriorityQueue(a), Act::PriorityQueue(b)) => Prio::keep_in_turn(a, b),
+            _ => false,
+        }
+    }
+
+    #[inline]
+    fn keeps_alone(a: &Act) -> bool {
+        match a {
+            Act::Memory(a) => Mem::keeps_alone(a),
+            Act::KeySet(a) => KeySet::keeps_alone(a),
+            Act::KeyMap(a) => KeyMap::keeps_alone(a),
+            Act::Counter(a) => Count::keeps_alone(a),
+            Act::Queue(a) => Fifo::keeps_alone(a),
+            Act::Stack(a) => Stack::keeps_alone(a),
+            Act::PriorityQueue(a) => Prio::keeps_alone(a),
         }
     }
 

@@ -95,7 +95,13 @@ impl Spec for Prio {
         may_swap(a, b)
     }
 
-    fn kept_alike(_a: &PrioOp, _b: &PrioOp) -> bool {
+    #[inline(always)]
+    fn keep_in_turn(_a: &PrioOp, _b: &PrioOp) -> bool {
+        false
+    }
+
+    #[inline(always)]
+    fn keeps_alone(_a: &PrioOp) -> bool {
         true
     }
 

@@ -94,7 +94,13 @@ impl Spec for Fifo {
         may_swap(a, b)
     }
 
-    fn kept_alike(_a: &QueueOp, _b: &QueueOp) -> bool {
+    #[inline(always)]
+    fn keep_in_turn(_a: &QueueOp, _b: &QueueOp) -> bool {
+        false
+    }
+
+    #[inline(always)]
+    fn keeps_alone(_a: &QueueOp) -> bool {
         true
     }
 

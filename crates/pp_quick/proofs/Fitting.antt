@@ -1,5 +1,5 @@
--- Operations of an allowed list fit its shape, lists of ranged operations, and how long the serial run is.
-use Rattle.std.proofs.Common.{◌≡◌, ◌≤◌, IsTrue, List, [], ◌∷◌, ◌++◌, length, refl, sym, ap, ◌∙◌, subst, inl, inr, arith, length-append}
+-- Operations of an allowed list fit its shape, what swaps in one shape, lists of ranged operations, and how long the serial run is.
+use Rattle.std.proofs.Common.{◌≡◌, ◌≤◌, IsTrue, List, [], ◌∷◌, ◌++◌, length, Option, None, Some, refl, sym, ap, ◌∙◌, subst, inl, inr, arith, length-append}
 use Rattle.std.proofs.lemmas.List.{length-map}
 use Rattle.pp_model.specs.Config.{Config, shared_item, uncommitted}
 use Rattle.pp_model.specs.Lists.{In}
@@ -8,7 +8,8 @@ use Rattle.pp_model.specs.Object.{HasDistinctIds, Item}
 use Rattle.pp_model.specs.Sound.{Sound, serial_items, serial_ops}
 use Rattle.pp_model.proofs.Lists.{in_cases, in_left, in_right, split_at}
 use Rattle.pp_model.proofs.Serial.{items, ordered, reorders, target}
-use Rattle.pp_spec.specs.Object.{Object, AllowedFrom, AllRanged, IsAllowed, IsLawful}
+use Rattle.pp_spec.specs.Object.{Object, AllowedFrom, AllRanged, IsAllowed, IsLawful, IsRefutedBy, Swaps, SwapsIn}
+use Rattle.pp_spec.proofs.Lists.{refuted_nowhere}
 
 module _ {Shape State Op Undo : Type 0} (o : Object Shape State Op Undo) where
   fits_from : IsLawful o → (shape : Shape) (s : State) (l : List Op) → o.shape s ≡ shape → AllowedFrom o s l → (a : Op) → In a l → IsTrue (o.fits shape a)
@@ -28,6 +29,14 @@ module _ {Shape State Op Undo : Type 0} (o : Object Shape State Op Undo) where
   pub in_ranged : (l : List Op) → ((a : Op) → In a l → IsTrue (o.ranged a)) → AllRanged o l
   in_ranged [] h = tt
   in_ranged (b ∷ l) h = (h b (inl refl), in_ranged l (λ a i. h a (inr i)))
+
+  -- what swaps in a shape that both fit swaps in each
+  pub swaps_everywhere : IsLawful o → (shape : Shape) (a b : Op) → IsTrue (o.fits shape a) → IsTrue (o.fits shape b) → SwapsIn o shape a b → Swaps o a b
+  swaps_everywhere laws shape a b f g h = by (o.refuting a b) refl
+    where
+      by : (r : Option (List Op × List Op)) → o.refuting a b ≡ r → Swaps o a b
+      by None e = (laws.unrefuted a b).0 e
+      by (Some lists) e = absurd (refuted_nowhere o a b lists (subst (IsRefutedBy o a b) e (laws.refuted a b)) shape f g h)
 
 -- a list with distinct ids whose items all stand in another is no longer than that
 no_longer : {Op : Type 0} (xs ys : List (Item Op)) → HasDistinctIds xs → ((p : Item Op) → In p xs → In p ys) → length xs ≤ length ys

@@ -39,14 +39,14 @@ module _ {Op State : Type 0} (O : Object Op State) (place : Op → ℕ) (apart :
       was_true true e = refl
       was_true false e = cc
 
-  own_before : (a p : Item Op) → Before a p (own_items x.local) → StandsBefore a.id p.id c.shared
+  pub own_before : (a p : Item Op) → Before a p (own_items x.local) → StandsBefore a.id p.id c.shared
   own_before a p i =
       let o = before_from_own x.local a p i in
       let z = (b.follows x ix).own_order o.0 o.1 o.2 o.3 o.4 in
       (z.0, z.1, z.2, z.3 ∙ ap (λ (w : Item Op). w.id) (sym o.5), z.4 ∙ ap (λ (w : Item Op). w.id) (sym o.6))
 
   -- those that stay let it pass
-  moved : (g h : SharedEntry Op) → Before g h c.shared → test g ≡ false → test h ≡ true → Swaps O g.op h.op
+  pub moved : (g h : SharedEntry Op) → Before g h c.shared → test g ≡ false → test h ≡ true → Swaps O g.op h.op
   moved g h i n k =
       let r = leaving g (before_in_first g h c.shared i) n in
       b.sound.uncommitted_swap g h i (λ e. stays r.0 r.1 r.2 (sym e ∙ ap (λ (w : SharedEntry Op). w.owner) r.2) h.committed refl) (ap (λ (w : SharedEntry Op). w.committed) r.2)

@@ -7,7 +7,6 @@ pub mod Threads
 pub mod Filled
 pub mod Looking
 pub mod Fitting
-pub mod Removing
 pub mod Short
 pub mod Unseen
 pub mod Moving

@@ -1,20 +1,19 @@
 -- What tests, places and lookups say of a list.
-use Rattle.std.proofs.Common.{◌≡◌, ◌≢◌, ◌==◌, ◌↔◌, IsTrue, ℕ, zero, suc, ◌+◌, ◌≤◌, Bool, true, false, cond}
-use Rattle.std.proofs.Common.{not, ◌||◌, List, [], ◌∷◌, ◌++◌, length, Option, Some, None, position, nat_lt, find, filter}
+use Rattle.std.proofs.Common.{◌≡◌, ◌↔◌, IsTrue, ℕ, ◌+◌, ◌≤◌, Bool, true, false, cond}
+use Rattle.std.proofs.Common.{not, ◌||◌, List, [], ◌∷◌, ◌++◌, length, Option, Some, None, position, nat_lt, find}
 use Rattle.std.proofs.Common.{slice_get, reverse, refl, sym, ◌∙◌, ap, one-add, subst, inl, inr}
-use Rattle.std.specs.List.{list_any, position_or_len, remove}
+use Rattle.std.specs.List.{list_any, position_or_len}
 use Rattle.std.specs.Map.{keys_of, set_value}
-use Rattle.std.proofs.lemmas.Bool.{ltb-false, eqb-true, eq-eqb, false_from_ne_true}
+use Rattle.std.proofs.lemmas.Bool.{ltb-false}
 use Rattle.std.proofs.lemmas.List.{reverse-append}
 use Rattle.std.proofs.lemmas.List.Folds.{find_at}
 use Rattle.std.proofs.lemmas.List.Quantifiers.{position-Some}
-use Rattle.std.proofs.lemmas.Option.{slice_get_past, same_Some}
+use Rattle.std.proofs.lemmas.Option.{slice_get_past}
 use Rattle.indexmap.specs.Layout.{set_value_at}
 use Rattle.indexmap.proofs.MapLemmas.{Found-position}
-use Rattle.pp_model.specs.Lists.{In, Before}
+use Rattle.pp_model.specs.Lists.{In}
 use Rattle.pp_model.proofs.Lists.{in_cases, in_left, in_right}
 use Rattle.pp_model.proofs.Logs.{found}
-use Rattle.pp_model.proofs.Trace.{keep_all}
 use Rattle.pp_log.proofs.Lists.{stands_in, not_past}
 
 -- the first place of a test
@@ -108,20 +107,6 @@ nowhere {X} p xs n = go (position p xs) refl
     go : (r : Option ℕ) → position p xs ≡ r → r ≡ None
     go None e = refl
     go (Some i) e = let k = placed p xs i e in let z : true ≡ false = sym k.2 ∙ n k.0 (stands_in xs i k.0 k.1) in absurd (cc)
-
--- a list without the element at a place
-differs_in : (a b : ℕ) → a ≢ b → not (a == b) ≡ true
-differs_in a b n = ap not (false_from_ne_true (a == b) (λ e. n (eqb-true a b e)))
-
-pub removed_filter : {X : Type 0} (key : X → ℕ) (id : ℕ) (xs : List X) → ((p q : X) → Before p q xs → key p ≡ key q → ⊥) → (i : ℕ) (x : X) → slice_get xs i ≡ Some x → key x ≡ id → remove xs i ≡ filter (λ z. not (key z == id)) xs
-removed_filter key id [] d i x h e = absurd (cc)
-removed_filter {X} key id (y ∷ ys) d zero x h e =
-    let k : key y ≡ id = ap key (same_Some y x h) ∙ e in
-    sym (ap (λ (b : Bool). cond (not b) (y ∷ filter (λ z. not (key z == id)) ys) (filter (λ z. not (key z == id)) ys)) (eq-eqb (key y) id k)
-    ∙ keep_all (λ z. not (key z == id)) ys (λ z j. differs_in (key z) id (λ q. d y z (inl (refl, j)) (k ∙ sym q))))
-removed_filter {X} key id (y ∷ ys) d (suc i) x h e =
-    ap (λ (z : List X). y ∷ z) (removed_filter key id ys (λ p q w. d p q (inr w)) i x h e)
-    ∙ sym (ap (λ (b : Bool). cond b (y ∷ filter (λ z. not (key z == id)) ys) (filter (λ z. not (key z == id)) ys)) (differs_in (key y) id (λ q. d y x (inl (refl, stands_in ys i x h)) (q ∙ sym e))))
 
 -- a value set at the position of the first key that passes a test
 module _ {K X : Type 0} (test : K → Bool) where

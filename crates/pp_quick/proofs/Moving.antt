@@ -1,5 +1,5 @@
 -- What each record makes of what a Quick keeps.
-use Rattle.std.specs.Prelude.{◌≡◌, ◌≢◌, ◌==◌, ◌+◌, ◌≤◌, ℕ, suc, nat_eq, Bool, true, false, cond, not, ◌||◌, List, [], ◌∷◌, ◌++◌, map, filter, length, reverse, is_some, option_map, Option, None, Some}
+use Rattle.std.specs.Prelude.{◌≡◌, ◌≢◌, ◌==◌, ◌+◌, ◌≤◌, ℕ, suc, nat_eq, Bool, true, false, cond, not, ◌||◌, List, [], ◌∷◌, ◌++◌, filter, length, reverse, is_some, option_map, Option, None, Some}
 use Rattle.std.specs.List.{list_any}
 use Rattle.std.specs.Map.{keys_of, lookup, set_value}
 use Rattle.std.proofs.Common.{refl, sym, ap, subst, ◌∙◌, append_assoc, arith, length-append}
@@ -11,7 +11,7 @@ use Rattle.pp_body.specs.Walks.{HasTaken}
 use Rattle.pp_core.specs.declared.entry.CommittedTx.{CommittedTx}
 use Rattle.pp_core.specs.declared.entry.Item.{Item}
 use Rattle.pp_model.specs.Body.{Tree}
-use Rattle.pp_model.specs.Config.{Begin, SharedEntry, as_shared, commit_all}
+use Rattle.pp_model.specs.Config.{Begin, SharedEntry, as_shared, commit_all, shared_item}
 use Rattle.pp_model.specs.Lists.{Before, In}
 use Rattle.pp_model.specs.Names.{Name, ◌=ⁿ◌}
 use Rattle.pp_model.specs.Sound.{serial_items}
@@ -19,12 +19,12 @@ use Rattle.pp_model.proofs.Lists.{from_filter, from_map, in_cases, in_left, in_r
 use Rattle.pp_model.proofs.Names.{names-true, names_tell}
 use Rattle.pp_model.proofs.Commit.{commit}
 use Rattle.pp_model.proofs.Trace.{map_same}
+use Rattle.pp_log.specs.Leaving.{without_items}
 use Rattle.pp_spec.specs.Object.{Object, rules_of}
 use Rattle.pp_front.specs.Records.{RunRecord}
 use Rattle.pp_front.specs.Records as records
 use Rattle.pp_quick.specs.Boosted.{PlacesSwap}
 use Rattle.pp_quick.specs.Brief.{Brief, BriefTx, at_brief, brief_of, brief_then, emptied, grown, missing_more, own_list, touches, without_brief, without_owner}
-use Rattle.pp_quick.specs.Laws.{without_ids}
 use Rattle.pp_quick.specs.Moving.{IsGood, Moves}
 use Rattle.pp_quick.specs.Passing.{IsGrown, ids_at, items_at}
 use Rattle.pp_quick.specs.Runs.{IsBoosted}
@@ -368,7 +368,7 @@ module _ {Shape State Op Undo : Type 0} (o : Object Shape State Op Undo) (place 
         let l : length (commit_all t G) ≡ length G = length-map G (commit t) in omega (arith, e, l, h.few))
 
   -- the entries of t leave the shared log
-  module _ (t : Name) (x : OpenTx (List (Item Op))) (found : open_in t es ≡ Some x) (w : Kept Shape Op) (shared : w.shared ≡ (v.shared.0, without_ids (map (λ (a : Item Op). a.id) x.own) G)) where
+  module _ (t : Name) (x : OpenTx (List (Item Op))) (found : open_in t es ≡ Some x) (w : Kept Shape Op) (shared : w.shared ≡ (v.shared.0, without_items shared_item x.own G)) where
     left_is : w.shared.1 ≡ without_owner t G
     left_is = ap (λ (z : Shape × List (SharedEntry Op)). z.1) shared ∙ without_is o place apart v.shape B h.short t (show t x) (open_there t x found)
 

@@ -1,33 +1,33 @@
 -- What holds of the brief of a boosted configuration.
-use Rattle.std.specs.Prelude.{◌≡◌, ◌≢◌, ℕ, Bool, true, false, not, List, [], Option, None, Some, IsTrue}
+use Rattle.std.specs.Prelude.{◌≡◌, ◌≢◌, ℕ, Bool, true, false, not, List, [], map, Option, None, Some, IsTrue}
 use Rattle.std.proofs.Common.{refl, sym, ap, subst, ◌∙◌}
 use mathlib.Core.Logic.{inl, inr}
 use Rattle.pp_core.specs.declared.call.Style.TheVariants as styles
 use Rattle.pp_core.specs.declared.entry.Item.{Item}
-use Rattle.pp_model.specs.Config.{Config, SharedEntry, Tx, after_from, as_shared, is_own, item, own_items, shared_ops, tx}
+use Rattle.pp_model.specs.Config.{Config, SharedEntry, Tx, after_from, as_shared, is_own, item, own_items, shared_item, shared_ops, tx}
 use Rattle.pp_model.specs.Lists.{Before, In}
 use Rattle.pp_model.specs.Names.{Name, ◌=ⁿ◌}
 use Rattle.pp_model.specs.Serial.{has_id}
 use Rattle.pp_model.specs.Sound.{serial_items}
-use Rattle.pp_model.proofs.Lists.{before_from_map, by_key, from_map, in_map}
+use Rattle.pp_model.proofs.Lists.{before_from_map, before_in_first, before_in_second, before_map, by_key, from_map, in_map}
 use Rattle.pp_model.proofs.Local.{shared_used}
-use Rattle.pp_model.proofs.Logs.{before_from_own, found_tx, from_own, in_own}
+use Rattle.pp_model.proofs.Logs.{found_tx, from_own, in_own}
 use Rattle.pp_model.proofs.Names.{eq-names, names_tell}
 use Rattle.pp_model.proofs.Serial.{from_serial}
 use Rattle.pp_shared.specs.Committing.{HoldsIdsOf}
-use Rattle.pp_spec.specs.Object.{Object, IsLawful, IsPlaced, rules_of}
+use Rattle.pp_log.specs.Leaving.{MayLeave, without_items}
+use Rattle.pp_log.specs.Room.{ids_of}
+use Rattle.pp_spec.specs.Object.{Object, IsLawful, IsPlaced, Swaps, SwapsIn, rules_of}
 use Rattle.pp_front.specs.Expansions.{expand}
 use Rattle.pp_front.specs.Fronts.{new_front}
 use Rattle.pp_front.specs.Records.{RunRecord}
 use Rattle.pp_quick.specs.Boosted.{Boosted, PlacesSwap}
 use Rattle.pp_quick.specs.Brief.{Brief, BriefGood, BriefTx, brief_of, brief_then, brief_tx, without_owner}
-use Rattle.pp_quick.specs.Laws.{without_ids}
-use Rattle.pp_quick.specs.Removals.{MayLeave}
 use Rattle.pp_quick.specs.Runs.{IsBoosted}
-use Rattle.pp_quick.specs.Shown.{IsShort, item_ids}
+use Rattle.pp_quick.specs.Shown.{IsShort}
 use Rattle.pp_quick.proofs.Briefs.{brief_of_is, briefed, differ, has_in, in_has, to_brief}
-use Rattle.pp_quick.proofs.Fitting.{fits_in}
-use Rattle.pp_quick.proofs.Leave.{leave}
+use Rattle.pp_quick.proofs.Fitting.{fits_in, swaps_everywhere}
+use Rattle.pp_quick.proofs.Leave.{moved, own_before}
 use Rattle.pp_quick.proofs.Lookups.{done_by_other}
 use Rattle.pp_quick.proofs.Deciding.{quick}
 use Rattle.pp_quick.proofs.Relog.{filter_same, same_bool}
@@ -62,6 +62,9 @@ module _ {Shape State Op Undo : Type 0} (o : Object Shape State Op Undo) (place 
     c_done : (p : Item Op) → In p (serial_items c.done) → (n : Name) × In (as_shared n true p) c.shared
     c_done p i = let s = from_serial c.done p i in ((s.0).name, b.sound.done_stand s.0 s.1 p s.2)
 
+    fit : IsLawful o → (g : SharedEntry Op) → In g c.shared → IsTrue (o.fits shape g.op)
+    fit laws g i = fits_in o laws shape (shared_ops c.shared) b.sound.shared_allowed g.op (in_map (λ (w : SharedEntry Op). w.op) g c.shared i)
+
     module _ (t : Name) (x : Tx Op) (lookup : tx t c.opened ≡ Some x) where
       f : In x c.opened × (x.name ≡ t)
       f = found_tx t c.opened x lookup
@@ -85,31 +88,46 @@ module _ {Shape State Op Undo : Type 0} (o : Object Shape State Op Undo) (place 
                 r.5 ∙ ap (λ (m : Name). as_shared m false (item r.2)) (ap (λ (w : Tx Op). w.name) y ∙ f.1),
               )
 
-      own_apart : (p q : Item Op) → Before p q (own_items x.local) → p.id ≡ q.id → ⊥
-      own_apart p q i e =
-          let r = before_from_own x.local p q i in
-          b.sound.local_ids x f.0 r.0 r.1 r.2 (ap (λ (w : Item Op). w.id) (sym r.5) ∙ e ∙ ap (λ (w : Item Op). w.id) r.6)
+      stood : (p : Item Op) → In p (own_items x.local) → (g : SharedEntry Op) → In g c.shared → g.id ≡ p.id → g ≡ as_shared t false p
+      stood p i g ig e = by_key (λ (w : SharedEntry Op). w.id) c.shared b.sound.shared_ids g (as_shared t false p) ig (stands p i) e
 
-      leaves : MayLeave o shape (own_items x.local) c.shared
-      leaves =
+      in_order : (p q : Item Op) → Before p q (own_items x.local) → Before p q (map shared_item c.shared)
+      in_order p q i =
+          let r = own_before (rules_of o shape) place (apart shape) c b x f.0 [] (own_items x.local) refl p q i in
+          let eg = stood p (before_in_first p q (own_items x.local) i) r.0 (before_in_first r.0 r.1 c.shared r.2) r.3 in
+          let eh = stood q (before_in_second p q (own_items x.local) i) r.1 (before_in_second r.0 r.1 c.shared r.2) r.4 in
+          subst (λ (z : Item Op). Before z q (map shared_item c.shared)) (ap (λ (w : SharedEntry Op). shared_item w) eg)
+          (subst (λ (z : Item Op). Before (shared_item r.0) z (map shared_item c.shared)) (ap (λ (w : SharedEntry Op). shared_item w) eh)
+          (before_map shared_item r.0 r.1 c.shared r.2))
+
+      passes : IsLawful o → (p q : Item Op) → In p (own_items x.local) → Before p q (map shared_item c.shared) → has_id q.id (ids_of (own_items x.local)) ≡ false → Swaps o p.op q.op
+      passes laws p q i before other =
+          let r = before_from_map shared_item p q c.shared before in
+          let own : has_id (r.0).id (ids_of (own_items x.local)) ≡ true = in_has (r.0).id (ids_of (own_items x.local)) (subst (λ (z : Item Op). In z.id (ids_of (own_items x.local))) r.3 (in_map (λ (w : Item Op). w.id) p (own_items x.local) i)) in
+          let not_own : has_id (r.1).id (ids_of (own_items x.local)) ≡ false = subst (λ (z : Item Op). has_id z.id (ids_of (own_items x.local)) ≡ false) r.4 other in
+          let here : SwapsIn o shape (r.0).op (r.1).op = moved (rules_of o shape) place (apart shape) c b x f.0 [] (own_items x.local) refl r.0 r.1 r.2 (ap not own) (ap not not_own) in
+          subst (λ (z : Item Op). Swaps o z.op q.op) (sym r.3) (subst (λ (z : Item Op). Swaps o (r.0).op z.op) (sym r.4)
+          (swaps_everywhere o laws shape (r.0).op (r.1).op (fit laws r.0 (before_in_first r.0 r.1 c.shared r.2)) (fit laws r.1 (before_in_second r.0 r.1 c.shared r.2)) here))
+
+      leaves : IsLawful o → MayLeave o (own_items x.local) (map shared_item c.shared)
+      leaves laws =
           record {
-            stand = λ p i. (as_shared t false p, stands p i, refl);
-            apart = own_apart;
-            distinct = b.sound.shared_ids;
-            allowed = λ front last e. leave (rules_of o shape) place (apart shape) c b x f.0 front last e;
+            stand = λ p i. in_map shared_item (as_shared t false p) c.shared (stands p i);
+            order = in_order;
+            pass = passes laws;
           }
 
-      without : without_ids (item_ids (own_items x.local)) c.shared ≡ without_owner t c.shared
-      without = filter_same (λ (g : SharedEntry Op). not (has_id g.id (item_ids (own_items x.local)))) (λ (g : SharedEntry Op). not (g.owner =ⁿ t)) c.shared (λ g i. ap not
-          (same_bool (has_id g.id (item_ids (own_items x.local))) (g.owner =ⁿ t)
+      without : without_items shared_item (own_items x.local) c.shared ≡ without_owner t c.shared
+      without = filter_same (λ (g : SharedEntry Op). not (has_id g.id (ids_of (own_items x.local)))) (λ (g : SharedEntry Op). not (g.owner =ⁿ t)) c.shared (λ g i. ap not
+          (same_bool (has_id g.id (ids_of (own_items x.local))) (g.owner =ⁿ t)
           (λ h.
-          let m = from_map (λ (p : Item Op). p.id) g.id (own_items x.local) (has_in g.id (item_ids (own_items x.local)) h) in
+          let m = from_map (λ (p : Item Op). p.id) g.id (own_items x.local) (has_in g.id (ids_of (own_items x.local)) h) in
           let e = by_key (λ (w : SharedEntry Op). w.id) c.shared b.sound.shared_ids g (as_shared t false m.0) i (stands m.0 m.1) m.2 in
           eq-names g.owner t (ap (λ (w : SharedEntry Op). w.owner) e))
           (λ h. elim (names_tell g.owner t) [
             | inl r ↦
                 let w = owned g i r.1 in
-                in_has g.id (item_ids (own_items x.local)) (subst (λ (j : ℕ). In j (item_ids (own_items x.local))) (ap (λ (z : SharedEntry Op). z.id) (sym w.2)) (in_map (λ (p : Item Op). p.id) w.0 (own_items x.local) w.1))
+                in_has g.id (ids_of (own_items x.local)) (subst (λ (j : ℕ). In j (ids_of (own_items x.local))) (ap (λ (z : SharedEntry Op). z.id) (sym w.2)) (in_map (λ (p : Item Op). p.id) w.0 (own_items x.local) w.1))
             | inr r ↦ absurd (differ (g.owner =ⁿ t) h r.0)
           ])))
 
@@ -126,7 +144,7 @@ module _ {Shape State Op Undo : Type 0} (o : Object Shape State Op Undo) (place 
 
     pub fits : IsLawful o → (g : SharedEntry Op) → In g B.shared → IsTrue (o.fits shape g.op)
     fits laws = subst (λ (w : Brief Op). (g : SharedEntry Op) → In g w.shared → IsTrue (o.fits shape g.op)) k.is
-        (λ g i. fits_in o laws shape (shared_ops (k.config).shared) (k.boosted).sound.shared_allowed g.op (in_map (λ (w : SharedEntry Op). w.op) g (k.config).shared i))
+        (fit k.config k.boosted laws)
 
     pub names_apart : (y z : BriefTx Op) → Before y z B.opened → y.name ≢ z.name
     names_apart = subst (λ (w : Brief Op). (y z : BriefTx Op) → Before y z w.opened → y.name ≢ z.name) k.is (λ y z i.
@@ -156,8 +174,8 @@ module _ {Shape State Op Undo : Type 0} (o : Object Shape State Op Undo) (place 
       pub holds_ids : HoldsIdsOf t y.own B.shared
       holds_ids e i u n = let w = is_owned e i n in (w.0, w.1, ap (λ (z : SharedEntry Op). z.id) (sym w.2))
 
-      pub may_leave : MayLeave o shape y.own B.shared
-      may_leave = both (λ l G. MayLeave o shape l G) (leaves k.config k.boosted t there.0 there.1)
+      pub may_leave : IsLawful o → MayLeave o y.own (map shared_item B.shared)
+      may_leave laws = both (λ l G. MayLeave o l (map shared_item G)) (leaves k.config k.boosted t there.0 there.1 laws)
 
-      pub without_is : without_ids (item_ids y.own) B.shared ≡ without_owner t B.shared
-      without_is = both (λ l G. without_ids (item_ids l) G ≡ without_owner t G) (without k.config k.boosted t there.0 there.1)
+      pub without_is : without_items shared_item y.own B.shared ≡ without_owner t B.shared
+      without_is = both (λ l G. without_items shared_item l G ≡ without_owner t G) (without k.config k.boosted t there.0 there.1)

@@ -28,23 +28,23 @@ module _ {Op State : Type 0} (O : Object Op State) (place : Op → ℕ) where
   so_far (r ∷ rs) B more tried h (inl k) = absurd (k.0 h.0)
   so_far (r ∷ rs) B more tried h (inr k) =
       let i = so_far rs (brief_then place B r) more k.1.0 h.1 k.1.1 in
-      let e : records_most place B tried ≡ take_most place B r + records_most place (brief_then place B r) k.1.0 = ap (λ (z : List (RunRecord Op)). records_most place B z) k.1.2 in
+      let e : records_most place B tried ≡ take_most B r + records_most place (brief_then place B r) k.1.0 = ap (λ (z : List (RunRecord Op)). records_most place B z) k.1.2 in
       omega (arith, i, e)
 
   next : (rs : List (RunRecord Op)) (B : Brief Op) (more tried : List (RunRecord Op)) (r : RunRecord Op) → BriefRuns O place B rs → AreTried O place B (rs ++ r ∷ more) tried →
-      records_most place B rs + take_most place (brief_after place B rs) r ≤ records_most place B tried
+      records_most place B rs + take_most (brief_after place B rs) r ≤ records_most place B tried
   next [] B more tried r h (inl k) =
-      let e : records_most place B tried ≡ take_most place B r + 0 = ap (λ (z : List (RunRecord Op)). records_most place B z) k.1 in omega (arith, e)
+      let e : records_most place B tried ≡ take_most B r + 0 = ap (λ (z : List (RunRecord Op)). records_most place B z) k.1 in omega (arith, e)
   next [] B more tried r h (inr k) =
-      let e : records_most place B tried ≡ take_most place B r + records_most place (brief_then place B r) k.1.0 = ap (λ (z : List (RunRecord Op)). records_most place B z) k.1.2 in
+      let e : records_most place B tried ≡ take_most B r + records_most place (brief_then place B r) k.1.0 = ap (λ (z : List (RunRecord Op)). records_most place B z) k.1.2 in
       omega (arith, e)
   next (q ∷ rs) B more tried r h (inl k) = absurd (k.0 h.0)
   next (q ∷ rs) B more tried r h (inr k) =
       let i = next rs (brief_then place B q) more k.1.0 r h.1 k.1.1 in
-      let e : records_most place B tried ≡ take_most place B q + records_most place (brief_then place B q) k.1.0 = ap (λ (z : List (RunRecord Op)). records_most place B z) k.1.2 in
+      let e : records_most place B tried ≡ take_most B q + records_most place (brief_then place B q) k.1.0 = ap (λ (z : List (RunRecord Op)). records_most place B z) k.1.2 in
       omega (arith, i, e)
 
-  most : (rs : List (RunRecord Op)) (B : Brief Op) (r : RunRecord Op) → records_most place B (rs ++ r ∷ []) ≡ records_most place B rs + take_most place (brief_after place B rs) r
+  most : (rs : List (RunRecord Op)) (B : Brief Op) (r : RunRecord Op) → records_most place B (rs ++ r ∷ []) ≡ records_most place B rs + take_most (brief_after place B rs) r
   most [] B r = omega arith
   most (q ∷ rs) B r = let i = most rs (brief_then place B q) r in omega (arith, i)
 
@@ -58,12 +58,12 @@ module _ {Op State : Type 0} (O : Object Op State) (place : Op → ℕ) where
   tried_all [] B h = refl
   tried_all (x ∷ xs) B h = inr (h.0, (xs, tried_all xs (brief_then place B x) h.1, refl))
 
-  last_op : (B : Brief Op) (r : RunRecord Op) (old new : ℕ) → GoodCosts place B r old new → old + length (filter is_op (r ∷ [])) ≤ new
+  last_op : (B : Brief Op) (r : RunRecord Op) (old new : ℕ) → GoodCosts B r old new → old + length (filter is_op (r ∷ [])) ≤ new
   last_op B (records.Plain step) old new cost = omega (arith, cost)
   last_op B (records.Op t id op) old new cost = omega (arith, cost)
   last_op B (records.Commit t) old new cost = omega (arith, cost)
-  last_op B (records.Abort t) old new cost = let rises = cost.0 in omega (arith, rises)
-  last_op B (records.Retry t) old new cost = let rises = cost.0 in omega (arith, rises)
+  last_op B (records.Abort t) old new cost = omega (arith, cost)
+  last_op B (records.Retry t) old new cost = omega (arith, cost)
   last_op B (records.Refresh t q) old new cost = omega (arith, cost)
   last_op B (records.XBegin t) old new cost = omega (arith, cost)
   last_op B (records.XEnd t) old new cost = omega (arith, cost)
@@ -72,7 +72,7 @@ module _ {Op State : Type 0} (O : Object Op State) (place : Op → ℕ) where
   last_op B (records.Publish t) old new cost = omega (arith, cost)
   last_op B (records.DropSource t source) old new cost = omega (arith, cost)
 
-  least : (B : Brief Op) (rs : List (RunRecord Op)) (r : RunRecord Op) (old new : ℕ) → GoodCosts place B r old new → old + count_ops (rs ++ r ∷ []) ≤ new + count_ops rs
+  least : (B : Brief Op) (rs : List (RunRecord Op)) (r : RunRecord Op) (old new : ℕ) → GoodCosts B r old new → old + count_ops (rs ++ r ∷ []) ≤ new + count_ops rs
   least B rs r old new cost =
       let a : count_ops (rs ++ r ∷ []) ≡ length (filter is_op rs ++ filter is_op (r ∷ [])) = ap (λ (z : List (RunRecord Op)). length z) (filter-append is_op rs (r ∷ [])) in
       let b = length-append (filter is_op rs) (filter is_op (r ∷ [])) in

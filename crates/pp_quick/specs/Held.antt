@@ -1,5 +1,5 @@
 -- Meaning: what contracts see of a Quick, and what taking a record does.
-use Rattle.std.specs.Prelude.{◌≡◌, ◌+◌, ◌≤◌, ℕ, Bool, true, false, IsTrue, List, Some, None}
+use Rattle.std.specs.Prelude.{◌≡◌, ◌+◌, ℕ, Bool, true, false, IsTrue, List, length, Some, None}
 use Rattle.pp_core.specs.declared.call.Style.TheVariants as styles
 use Rattle.pp_core.specs.declared.entry.Item.{Item}
 use Rattle.pp_core.specs.Trees.{IsWithinLimits}
@@ -14,7 +14,6 @@ use Rattle.pp_front.specs.Records.{RunRecord}
 use Rattle.pp_front.specs.Records as records
 use Rattle.pp_quick.specs.Boosted.{Boosted}
 use Rattle.pp_quick.specs.Brief.{Brief, brief, brief_of, own_list}
-use Rattle.pp_quick.specs.Leaving.{back_most, back_ticks}
 
 -- The objects, the brief, and how many records were taken.
 pub record Held (Shape Op : Type 0) : Type 0 where
@@ -103,40 +102,31 @@ module _ {Shape State Op Undo : Type 0} (o : Object Shape State Op Undo) (place 
       StartMeets (rules_of o v.shape) (Some z) × (w ≡ held_started v.shape z)
   Starts v z false w = (StartMeets (rules_of o v.shape) (Some z) → ⊥) × (w ≡ v)
 
--- What a record costs at most, whatever it answers: an operation is applied once, and an abort or a
--- retry takes the own operations out of the shared log.
-abbrev pub take_most : {Op : Type 0} → (Op → ℕ) → Brief Op → RunRecord Op → ℕ
-take_most place B (records.Plain step) = 0
-take_most place B (records.Op t id op) = 1
-take_most place B (records.Commit t) = 0
-take_most place B (records.Abort t) = back_most place (own_list (brief_of t B.opened)) B.shared
-take_most place B (records.Retry t) = back_most place (own_list (brief_of t B.opened)) B.shared
-take_most place B (records.Refresh t q) = 0
-take_most place B (records.XBegin t) = 0
-take_most place B (records.XEnd t) = 0
-take_most place B (records.XAbort t) = 0
-take_most place B (records.Depend t source) = 0
-take_most place B (records.Publish t) = 0
-take_most place B (records.DropSource t source) = 0
+-- How many own operations an open transaction has.
+abbrev pub own_count : {Op : Type 0} → Name → Brief Op → ℕ
+own_count t B = length (own_list (brief_of t B.opened))
 
--- What a record costs that is good: an abort and a retry so much at most, each other one exactly.
-abbrev pub GoodCosts : {Op : Type 0} → (Op → ℕ) → Brief Op → RunRecord Op → ℕ → ℕ → Type 0
-GoodCosts place B (records.Plain step) old new = new ≡ old
-GoodCosts place B (records.Op t id op) old new = new ≡ old + 1
-GoodCosts place B (records.Commit t) old new = new ≡ old
-GoodCosts place B (records.Abort t) old new =
-    (old ≤ new) × (new ≤ old + back_ticks place (own_list (brief_of t B.opened)) B.shared)
-GoodCosts place B (records.Retry t) old new =
-    (old ≤ new) × (new ≤ old + back_ticks place (own_list (brief_of t B.opened)) B.shared)
-GoodCosts place B (records.Refresh t q) old new = new ≡ old
-GoodCosts place B (records.XBegin t) old new = new ≡ old
-GoodCosts place B (records.XEnd t) old new = new ≡ old
-GoodCosts place B (records.XAbort t) old new = new ≡ old
-GoodCosts place B (records.Depend t source) old new = new ≡ old
-GoodCosts place B (records.Publish t) old new = new ≡ old
-GoodCosts place B (records.DropSource t source) old new = new ≡ old
+-- What a record costs at most, whatever it answers: an operation is applied once, and an abort or a
+-- retry takes each own operation back.
+abbrev pub take_most : {Op : Type 0} → Brief Op → RunRecord Op → ℕ
+take_most B (records.Plain step) = 0
+take_most B (records.Op t id op) = 1
+take_most B (records.Commit t) = 0
+take_most B (records.Abort t) = own_count t B
+take_most B (records.Retry t) = own_count t B
+take_most B (records.Refresh t q) = 0
+take_most B (records.XBegin t) = 0
+take_most B (records.XEnd t) = 0
+take_most B (records.XAbort t) = 0
+take_most B (records.Depend t source) = 0
+take_most B (records.Publish t) = 0
+take_most B (records.DropSource t source) = 0
+
+-- What a record costs that is good.
+abbrev pub GoodCosts : {Op : Type 0} → Brief Op → RunRecord Op → ℕ → ℕ → Type 0
+GoodCosts B r old new = new ≡ old + take_most B r
 
 -- What it costs by the answer: nothing where the record is not good.
-abbrev pub TakeCosts : {Op : Type 0} → (Op → ℕ) → Brief Op → RunRecord Op → Bool → ℕ → ℕ → Type 0
-TakeCosts place B r true old new = GoodCosts place B r old new
-TakeCosts place B r false old new = new ≡ old
+abbrev pub TakeCosts : {Op : Type 0} → Brief Op → RunRecord Op → Bool → ℕ → ℕ → Type 0
+TakeCosts B r true old new = GoodCosts B r old new
+TakeCosts B r false old new = new ≡ old

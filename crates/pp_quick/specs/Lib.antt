@@ -7,8 +7,6 @@ pub mod Shown
 pub mod Passing
 pub mod Known
 pub mod Filtered
-pub mod Leaving
-pub mod Removals
 pub mod Held
 pub mod Failures
 pub mod Reading

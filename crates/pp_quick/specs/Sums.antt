@@ -11,7 +11,7 @@ use Rattle.pp_quick.specs.Runs.{BriefRuns, brief_after}
 -- what these records cost at most, one after another
 abbrev pub records_most : {Op : Type 0} → (Op → ℕ) → Brief Op → List (RunRecord Op) → ℕ
 records_most place B [] = 0
-records_most place B (r ∷ rs) = take_most place B r + records_most place (brief_then place B r) rs
+records_most place B (r ∷ rs) = take_most B r + records_most place (brief_then place B r) rs
 
 -- tried are the records up to and with the first that is not good, and all of them where each is
 abbrev pub AreTried : {Op State : Type 0} → Object Op State → (Op → ℕ) → Brief Op →
@@ -54,16 +54,16 @@ pub record SumLaw {Op State : Type 0} (O : Object Op State) (place : Op → ℕ)
   pub next :
       (B : Brief Op) (rs more tried : List (RunRecord Op)) (r : RunRecord Op) →
       BriefRuns O place B rs → AreTried O place B (rs ++ r ∷ more) tried →
-      records_most place B rs + take_most place (brief_after place B rs) r
+      records_most place B rs + take_most (brief_after place B rs) r
       ≤ records_most place B tried
   -- what they cost at most rises by that of one more
   pub most : (B : Brief Op) (rs : List (RunRecord Op)) (r : RunRecord Op) →
       records_most place B (rs ++ r ∷ [])
-      ≡ records_most place B rs + take_most place (brief_after place B rs) r
+      ≡ records_most place B rs + take_most (brief_after place B rs) r
   -- one record more is at most so many operations more as it takes ticks where it is good, in any
   -- brief
   pub least : (B : Brief Op) (rs : List (RunRecord Op)) (r : RunRecord Op) (old new : ℕ) →
-      GoodCosts place B r old new → old + count_ops (rs ++ r ∷ []) ≤ new + count_ops rs
+      GoodCosts B r old new → old + count_ops (rs ++ r ∷ []) ≤ new + count_ops rs
 
 abbrev pub SumsLaw : {Op State : Type 0} → Object Op State → Type 0
 SumsLaw {Op} O = (place : Op → ℕ) → SumLaw O place

@@ -5,7 +5,6 @@ mod begin;
 mod commit;
 mod commits;
 mod laws;
-mod leaving;
 mod op;
 mod open_tx;
 mod own;

@@ -111,11 +111,11 @@ impl<S: Parted> Quick<S> {
         ensures takes { IfOk result (λ r.
             Takes S.object S.place_of self (record_meaning recorded.now) r.1 r.0) }
         ensures shape { IfOk result (λ r. r.0.shape ≡ self.shape) }
-        ensures cost { IfOk result (λ r. TakeCosts S.place_of self.brief
+        ensures cost { IfOk result (λ r. TakeCosts self.brief
             (record_meaning recorded.now) r.1 ticks.old ticks.new) }
         ensures rises { ticks.old ≤ ticks.new }
         ensures bound { ticks.new
-            ≤ ticks.old + take_most S.place_of self.brief (record_meaning recorded.now) }
+            ≤ ticks.old + take_most self.brief (record_meaning recorded.now) }
     {
         let Quick { parts } = self;
         let (parts, good) = take::take(parts, recorded, ticks)?;

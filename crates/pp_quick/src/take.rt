@@ -59,7 +59,7 @@ fn take_op<S: Parted, L: Ledger>(
     requires few { parts.old.count < 200_000 }
     ensures answers { IfOk result (λ good. Answers S.object S.place_of parts.old
         (Op tx.now id op.now) good parts.new) }
-    ensures cost { IfOk result (λ good. TakeCosts S.place_of (shown S.place_of parts.old)
+    ensures cost { IfOk result (λ good. TakeCosts (shown S.place_of parts.old)
         (Op tx.now id op.now) good ticks.old ticks.new) }
     ensures rises { ticks.old ≤ ticks.new }
     ensures bound { ticks.new ≤ ticks.old + 1 }
@@ -116,11 +116,11 @@ fn take_abort<S: Parted, L: Ledger>(
     requires few { parts.value.count < 200_000 }
     ensures answers { IfOk result (λ r.
         Answers S.object S.place_of parts.value (Abort tx.now) r.1 r.0.value) }
-    ensures cost { IfOk result (λ r. TakeCosts S.place_of (shown S.place_of parts.value)
+    ensures cost { IfOk result (λ r. TakeCosts (shown S.place_of parts.value)
         (Abort tx.now) r.1 ticks.old ticks.new) }
     ensures rises { ticks.old ≤ ticks.new }
     ensures bound { ticks.new
-        ≤ ticks.old + take_most S.place_of (shown S.place_of parts.value) (Abort tx.now) }
+        ≤ ticks.old + take_most (shown S.place_of parts.value) (Abort tx.now) }
 {
     let (parts, good) = abort(Box::into_inner(parts), tx, ticks)?;
     Ok((in_box::<S>(parts)?, good))
@@ -136,11 +136,11 @@ fn take_retry<S: Parted, L: Ledger>(
     requires few { parts.value.count < 200_000 }
     ensures answers { IfOk result (λ r.
         Answers S.object S.place_of parts.value (Retry tx.now) r.1 r.0.value) }
-    ensures cost { IfOk result (λ r. TakeCosts S.place_of (shown S.place_of parts.value)
+    ensures cost { IfOk result (λ r. TakeCosts (shown S.place_of parts.value)
         (Retry tx.now) r.1 ticks.old ticks.new) }
     ensures rises { ticks.old ≤ ticks.new }
     ensures bound { ticks.new
-        ≤ ticks.old + take_most S.place_of (shown S.place_of parts.value) (Retry tx.now) }
+        ≤ ticks.old + take_most (shown S.place_of parts.value) (Retry tx.now) }
 {
     let (parts, good) = retry(Box::into_inner(parts), tx, ticks)?;
     Ok((in_box::<S>(parts)?, good))
@@ -158,11 +158,11 @@ pub fn take<S: Parted, L: Ledger>(
     requires few { parts.value.count < 200_000 }
     ensures answers { IfOk result (λ r.
         Answers S.object S.place_of parts.value (record_meaning recorded.now) r.1 r.0.value) }
-    ensures cost { IfOk result (λ r. TakeCosts S.place_of (shown S.place_of parts.value)
+    ensures cost { IfOk result (λ r. TakeCosts (shown S.place_of parts.value)
         (record_meaning recorded.now) r.1 ticks.old ticks.new) }
     ensures rises { ticks.old ≤ ticks.new }
     ensures bound { ticks.new ≤ ticks.old
-        + take_most S.place_of (shown S.place_of parts.value) (record_meaning recorded.now) }
+        + take_most (shown S.place_of parts.value) (record_meaning recorded.now) }
 {
     let mut parts = parts;
     match recorded {

@@ -5,7 +5,6 @@ ghost use Rattle.pp_quick.specs.Held.{TakeCosts, take_most};
 ghost use Rattle.pp_quick.specs.Moving.{Answers};
 ghost use Rattle.pp_quick.specs.Shown.{Holds, shown};
 
-use crate::leaving::taken_back;
 use crate::open_tx::anew;
 use crate::own::Own;
 use crate::parts::Parts;
@@ -26,18 +25,18 @@ pub fn abort<S: Parted, L: Ledger>(
     requires few { parts.count < 200_000 }
     ensures answers { IfOk result (λ r.
         Answers S.object S.place_of parts (Abort tx.now) r.1 r.0) }
-    ensures cost { IfOk result (λ r. TakeCosts S.place_of (shown S.place_of parts)
+    ensures cost { IfOk result (λ r. TakeCosts (shown S.place_of parts)
         (Abort tx.now) r.1 ticks.old ticks.new) }
     ensures rises { ticks.old ≤ ticks.new }
     ensures bound { ticks.new
-        ≤ ticks.old + take_most S.place_of (shown S.place_of parts) (Abort tx.now) }
+        ≤ ticks.old + take_most (shown S.place_of parts) (Abort tx.now) }
 {
     let mut parts = parts;
     let Some(it) = take_out(&mut parts.slots, tx) else {
         return Ok((parts, false));
     };
     parts.threads.swap_remove(&it.thread);
-    let shared = taken_back(parts.shared, it.own.as_slice(), ticks)?;
+    let shared = parts.shared.take_back(it.own.as_slice(), ticks)?;
     parts.shared = shared;
     parts.count += 1;
     Ok((parts, true))
@@ -54,17 +53,17 @@ pub fn retry<S: Parted, L: Ledger>(
     requires few { parts.count < 200_000 }
     ensures answers { IfOk result (λ r.
         Answers S.object S.place_of parts (Retry tx.now) r.1 r.0) }
-    ensures cost { IfOk result (λ r. TakeCosts S.place_of (shown S.place_of parts)
+    ensures cost { IfOk result (λ r. TakeCosts (shown S.place_of parts)
         (Retry tx.now) r.1 ticks.old ticks.new) }
     ensures rises { ticks.old ≤ ticks.new }
     ensures bound { ticks.new
-        ≤ ticks.old + take_most S.place_of (shown S.place_of parts) (Retry tx.now) }
+        ≤ ticks.old + take_most (shown S.place_of parts) (Retry tx.now) }
 {
     let mut parts = parts;
     let Some(it) = take_out(&mut parts.slots, tx) else {
         return Ok((parts, false));
     };
-    let shared = taken_back(parts.shared, it.own.as_slice(), ticks)?;
+    let shared = parts.shared.take_back(it.own.as_slice(), ticks)?;
     parts.shared = shared;
     let it = anew::<S>(parts.alloc, it);
     put_back(&mut parts.slots, tx, it);

@@ -91,7 +91,13 @@ impl Spec for KeySet {
         may_swap(a, b)
     }
 
-    fn kept_alike(_a: &SetOp, _b: &SetOp) -> bool {
+    #[inline(always)]
+    fn keep_in_turn(_a: &SetOp, _b: &SetOp) -> bool {
+        false
+    }
+
+    #[inline(always)]
+    fn keeps_alone(_a: &SetOp) -> bool {
         true
     }
 

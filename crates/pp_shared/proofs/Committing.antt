@@ -79,17 +79,17 @@ stands_set (a ∷ x) zero d e at = inl refl
 stands_set (a ∷ x) (suc j) d e at = inr (stands_set x j d e at)
 
 -- entries of one id are one
-same_entry : {Op : Type 0} (x : List (SharedEntry Op)) → HasDistinctIds (map shared_item x) → (e f : SharedEntry Op) → In e x → In f x → e.id ≡ f.id → e ≡ f
+pub same_entry : {Op : Type 0} (x : List (SharedEntry Op)) → HasDistinctIds (map shared_item x) → (e f : SharedEntry Op) → In e x → In f x → e.id ≡ f.id → e ≡ f
 same_entry {Op} x distinct e f = by_key (λ (g : SharedEntry Op). g.id) x (λ p q before is. distinct (shared_item p) (shared_item q) (before_map shared_item p q x before) is) e f
 
-nowhere : {A : Type 0} (p : A → Bool) (x : List A) → position p x ≡ None → (a : A) → In a x → p a ≡ false
+pub nowhere : {A : Type 0} (p : A → Bool) (x : List A) → position p x ≡ None → (a : A) → In a x → p a ≡ false
 nowhere {A} p x none a inside =
     let at = in_at x a inside in
     let size = none_len p x none in
     let within = at.1 in
     ap p (sym (get_or_from_slice_get x at.0 a a at.2)) ∙ fails_before_first p x at.0 a (omega arith)
 
-somewhere : {A : Type 0} (p : A → Bool) (x : List A) (k : ℕ) (a : A) → position p x ≡ Some k → slice_get x k ≡ Some a → p a ≡ true
+pub somewhere : {A : Type 0} (p : A → Bool) (x : List A) (k : ℕ) (a : A) → position p x ≡ Some k → slice_get x k ≡ Some a → p a ≡ true
 somewhere p x k a is at = ap p (sym (get_or_from_slice_get x k a a at)) ∙ (position-Some p x k a is).1
 
 pub not_missing : {A : Type 0} (p : A → Bool) (x : List A) (k : ℕ) → position p x ≡ Some k → slice_get x k ≡ None → ⊥

@@ -3,3 +3,4 @@ pub mod Committing
 pub mod Blocked
 pub mod Uncommitted
 pub mod Nexts
+pub mod Leaving

@@ -49,11 +49,11 @@ filter_push-false {E} test [] e h = ap (λ (b : Bool). cond b (e ∷ []) []) h
 filter_push-false {E} test (a ∷ x) e h = ap (λ (z : List E). cond (test a) (a ∷ z) z) (filter_push-false test x e h)
 
 -- a list without one
-loses_first : {E : Type 0} (b : Bool) (a : E) (x : List E) → LosesAt b (cond b (a ∷ x) x) x
+pub loses_first : {E : Type 0} (b : Bool) (a : E) (x : List E) → LosesAt b (cond b (a ∷ x) x) x
 loses_first true a x = (omega arith, λ e h. inr h)
 loses_first false a x = refl
 
-loses_later : {E : Type 0} (b c : Bool) (a : E) (x y : List E) → LosesAt b x y → LosesAt b (cond c (a ∷ x) x) (cond c (a ∷ y) y)
+pub loses_later : {E : Type 0} (b c : Bool) (a : E) (x y : List E) → LosesAt b x y → LosesAt b (cond c (a ∷ x) x) (cond c (a ∷ y) y)
 loses_later {E} true true a x y h = (let size = h.0 in omega arith, λ e k. elim k [ inl same ↦ inl same | inr later ↦ inr (h.1 e later) ])
 loses_later true false a x y h = h
 loses_later {E} false c a x y h = ap (λ (z : List E). cond c (a ∷ z) z) h

@@ -8,15 +8,16 @@ ghost use Rattle.pp_model.specs.Config.{shared_item, shared_ops, commit_all};
 ghost use Rattle.pp_model.specs.Names.{◌=ⁿ◌};
 ghost use Rattle.pp_model.specs.Object.{HasDistinctIds};
 ghost use Rattle.pp_spec.specs.Object.{IsAllowed, AllRanged};
+ghost use Rattle.pp_log.specs.Leaving.{MayLeave, without_items};
 ghost use Rattle.pp_log.specs.Logs.{GoesBehind, RemovesEntry, RemovalCosts, RemovalBound};
 ghost use Rattle.pp_log.specs.Logs.{IsFirstFrom, IsOn, NoneFrom, answer_behind};
 ghost use Rattle.pp_shared.specs.Blocking.{AllGiveWay, Blocks, GivesWay, IsFirstBlocking};
 ghost use Rattle.pp_shared.specs.Blocking.{IsSettled};
 ghost use Rattle.pp_shared.specs.Committing.{HoldsIdsOf, IsCommittedOn};
-ghost use Rattle.pp_shared.specs.Uncommitted.{CommitsOne, KeepsShared};
+ghost use Rattle.pp_shared.specs.Uncommitted.{CommitsOne, KeepsOpen, KeepsShared};
 
 use crate::open::OpenParts;
-use pp_core::{Answer, Items, Name, OutOfMemory, SharedEntry, Ticks};
+use pp_core::{Answer, Item, Items, Name, OutOfMemory, SharedEntry, Ticks};
 use pp_log::{Log, Removed, SharedSide};
 use pp_parts::Parted;
 use pp_spec::Spec;
@@ -72,6 +73,46 @@ fn settle<O: Copy>(entries: &[SharedEntry<O>], from: usize) -> usize
         }
     }
     entries.len()
+}
+
+/// A position before which all entries are committed once these are taken out: at most that of the
+/// first of them, so that those before it stay where they are.
+fn settled_without<S: Parted>(
+    log: &Log<S, SharedSide>,
+    own: &[Item<S::Op>],
+    settled: usize,
+) -> usize
+    requires distinct { HasDistinctIds (map shared_item log.now.1) }
+    requires leave { MayLeave S.object own.now (map shared_item log.now.1) }
+    requires settles { IsSettled log.now.1 settled }
+    ensures { IsSettled (without_items shared_item own.now log.now.1) result }
+{
+    let Some(first) = own.first() else {
+        return settled;
+    };
+    let Some(position) = log.find(first.id) else {
+        unreachable!()
+    };
+    settled.min(position)
+}
+
+/// Leaves entries of a log out of what is known of its uncommitted ones.
+fn forget_own<S: Parted>(parts: &mut OpenParts<S>, log: &Log<S, SharedSide>, own: &[Item<S::Op>])
+    requires distinct { HasDistinctIds (map shared_item log.now.1) }
+    requires leave { MayLeave S.object own.now (map shared_item log.now.1) }
+    ensures { KeepsOpen S.object S.part_of parts.old.slots.entries log.now.1 →
+        KeepsOpen S.object S.part_of parts.new.slots.entries
+        (without_items shared_item own.now log.now.1) }
+{
+    for item in own {
+        let Some(position) = log.find(item.id) else {
+            unreachable!()
+        };
+        let Some(entry) = log.get(position) else {
+            unreachable!()
+        };
+        parts.take(entry);
+    }
 }
 
 impl<S: Parted> Shared<S> {
@@ -287,5 +328,34 @@ impl<S: Parted> Shared<S> {
         open.take(&entry);
         let settled = settled.min(i);
         Ok((Shared { log, open, settled }, removed))
+    }
+
+    /// Takes entries out, each of which lets those of others behind it pass: each of them alone is
+    /// taken back. The only error is that memory was refused, and the log is then lost.
+    pub fn take_back<L: Ledger>(
+        self,
+        own: &[Item<S::Op>],
+        ticks: &mut Ticks<L>,
+    ) -> Result<Self, OutOfMemory>
+        requires { MayLeave S.object own.now (map shared_item self.1) }
+        ensures log { IfOk result (λ log. log ≡
+            (self.0, without_items shared_item own.now self.1)) }
+        ensures cost { OnOk result (ticks.new ≡ ticks.old + length own.now) }
+        ensures rises { ticks.old ≤ ticks.new }
+        ensures bound { ticks.new ≤ ticks.old + length own.now }
+    {
+        // It stands here for what its clauses say of each log.
+        if self.len() == 0 {
+            return Ok(self);
+        }
+        let Shared {
+            log,
+            mut open,
+            settled,
+        } = self;
+        let settled = settled_without::<S>(&log, own, settled);
+        forget_own::<S>(&mut open, &log, own);
+        let log = log.take_back(own, ticks)?;
+        Ok(Shared { log, open, settled })
     }
 }

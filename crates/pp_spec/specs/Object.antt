@@ -1,7 +1,7 @@
 -- Meaning: what a kind of object means, which lists it allows, and which pairs of its operations
 -- swap.
-use Rattle.std.specs.Prelude.{◌≡◌, ℕ, Bool, ◌&&◌, IsTrue, ◌<◌, List, [], ◌∷◌, ◌++◌, ◌↔◌, length}
-use Rattle.std.specs.Prelude.{Option, Some, None}
+use Rattle.std.specs.Prelude.{◌≡◌, ℕ, Bool, true, false, ◌&&◌, IsTrue, ◌<◌, ◌↔◌}
+use Rattle.std.specs.Prelude.{List, [], ◌∷◌, ◌++◌, length, Option, Some, None}
 use Rattle.pp_core.specs.declared.answer.Answer.{Answer}
 use Rattle.pp_core.specs.declared.call.Call.{Call}
 use Rattle.pp_spec.specs.Numbers.{has_ranged_arguments, is_ranged_answer}
@@ -104,17 +104,22 @@ module _ {Shape State Op Undo : Type 0} (o : Object Shape State Op Undo) where
       (shape : Shape) (before : List Op) → IsAllowed shape before
       → CommutesAt (state_after shape before) a b
 
-  -- Where a and b are legal in this state, and b behind a, what is kept to take a back is the same
-  -- behind b, and what is kept to take b back is the same behind a.
-  abbrev pub KeptAlikeAt : State → Op → Op → Type 0
-  KeptAlikeAt s a b =
-      IsLegal s a → IsLegal s b → IsLegal (o.next s a) b
-      → (o.upkeep.kept s a ≡ o.upkeep.kept (o.next s b) a)
-      × (o.upkeep.kept s b ≡ o.upkeep.kept (o.next s a) b)
+  -- What is kept where a and then b take effect in this state, and where b and then a do. In turn:
+  -- of the one that comes first the same is kept, whichever it is, and so it is of the other. Else
+  -- the same is kept of each in both orders. Both are so where nothing is kept.
+  abbrev pub KeptAsAt : Bool → State → Op → Op → Type 0
+  KeptAsAt true s a b =
+      (o.upkeep.kept s b ≡ o.upkeep.kept s a)
+      × (o.upkeep.kept (o.next s b) a ≡ o.upkeep.kept (o.next s a) b)
+  KeptAsAt false s a b =
+      (o.upkeep.kept s b ≡ o.upkeep.kept (o.next s a) b)
+      × (o.upkeep.kept (o.next s b) a ≡ o.upkeep.kept s a)
 
-  -- So it is in every state.
-  abbrev pub KeptAlike : Op → Op → Type 0
-  KeptAlike a b = (s : State) → o.upkeep.IsState s → KeptAlikeAt s a b
+  -- So it is in every state in which a and b are legal, and b behind a.
+  abbrev pub KeptAs : Bool → Op → Op → Type 0
+  KeptAs in_turn a b =
+      (s : State) → o.upkeep.IsState s → IsLegal s a → IsLegal s b → IsLegal (o.next s a) b
+      → KeptAsAt in_turn s a b
 
   -- Any two operations in the clique swap.
   abbrev pub CliqueSwaps : Type 0
@@ -189,12 +194,11 @@ module _ {Shape State Op Undo : Type 0} (o : Object Shape State Op Undo) where
     pub unrefuted : (a b : Op) → (o.refuting a b ≡ None) ↔ Swaps a b
     pub refuted : (a b : Op) → IsRefutedBy a b (o.refuting a b)
 
--- The operation lets each of these pass: they swap with it, and what is kept of either is the same
--- without the other.
+-- The operation lets each of these pass: each of them moves left over it.
 abbrev pub LetsPass : {Shape State Op Undo : Type 0} → Object Shape State Op Undo → Op → List Op →
     Type 0
 LetsPass o a [] = Unit {0}
-LetsPass o a (b ∷ y) = Swaps o a b × KeptAlike o a b × LetsPass o a y
+LetsPass o a (b ∷ y) = Swaps o a b × LetsPass o a y
 
 -- Each of the operations has another place.
 abbrev pub AllElsewhere : {Op : Type 0} → (Op → ℕ) → ℕ → List Op → Type 0

@@ -1,7 +1,7 @@
 //! The traits of a kind: its calls, each with its meaning, and the laws that hold of every kind.
 ghost use Rattle.std.specs.Prelude.{◌≡◌, ◌≢◌, ◌+◌, ℕ, false, IsTrue, IfOk, OnOk, OnErr, ◌↔◌};
 ghost use Rattle.pp_model.specs.Object.{TellsStates};
-ghost use Rattle.pp_spec.specs.Object.{Object, Swaps, SwapsNowhere, KeptAlike, FitNowhere};
+ghost use Rattle.pp_spec.specs.Object.{Object, Swaps, SwapsNowhere, KeptAs, FitNowhere};
 ghost use Rattle.pp_spec.specs.Object.{Commutes, IsReached, IsLawful, IsPlaced, UndoneBehindOthers, rules_of};
 ghost use Rattle.pp_spec.specs.Calls.{Applies, WasApplied, lists_of};
 
@@ -100,10 +100,16 @@ pub trait Spec: Drop {
         ensures only { Swaps object a.now b.now → IsTrue result }
         ensures never { result ≡ false → SwapsNowhere object a.now b.now };
 
-    /// Whether what is kept to take either of the two back does not depend on the other one, where
-    /// both orders of them are legal. False says nothing.
-    fn kept_alike(a: &Self::Op, b: &Self::Op) -> bool
-        ensures { IsTrue result → KeptAlike object a.now b.now };
+    /// How two operations that swap keep what takes them back. True: in turn, so the one that comes
+    /// first keeps the same, whichever it is, and so does the other. False: each keeps the same in
+    /// both orders. Where both are so, as where nothing is kept, either may be answered.
+    fn keep_in_turn(a: &Self::Op, b: &Self::Op) -> bool
+        ensures { Swaps object a.now b.now → KeptAs object result a.now b.now };
+
+    /// Whether false is right of it and each operation that it lets pass. False says nothing.
+    fn keeps_alone(a: &Self::Op) -> bool
+        ensures { IsTrue result →
+            (b : Self.Op) → Swaps object a.now b → KeptAs object false a.now b };
 
     /// Operations that show that the pair does not swap, or `None` where it does. The only error is
     /// that memory was refused.

@@ -94,7 +94,13 @@ impl Spec for Stack {
         may_swap(a, b)
     }
 
-    fn kept_alike(_a: &StackOp, _b: &StackOp) -> bool {
+    #[inline(always)]
+    fn keep_in_turn(_a: &StackOp, _b: &StackOp) -> bool {
+        false
+    }
+
+    #[inline(always)]
+    fn keeps_alone(_a: &StackOp) -> bool {
         true
     }
 

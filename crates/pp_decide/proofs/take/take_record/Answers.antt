@@ -70,7 +70,7 @@ returns-then-good-clause-ok g c = λ first.
     let read = c.in_ok-recorded.ensures.read in
     let begun = c.in_ok-recorded.ensures.few in
     let takes = subst (λ b. Takes objects place_of quick r b next) c.if-good.true c.in_ok-quick.ensures.takes in
-    let cost = subst (λ b. TakeCosts place_of quick.brief r b now new) c.if-good.true c.in_ok-quick.ensures.cost in
+    let cost = subst (λ b. TakeCosts quick.brief r b now new) c.if-good.true c.in_ok-quick.ensures.cost in
     leads_on from line number few to now new
     (λ sc covers. subst (λ t. Covers (scan_line sc line) (Running t next)) (sym c.with_record-tally.ensures)
     (cover_good sc tally quick line r covers c.requires.other read begun next (few_records n.0 now tally quick line n.1) (subst (λ s. IsOfStyle s r) covers.style c.in_ok-recorded.ensures.styled) takes c.in_ok-quick.ensures.shape))

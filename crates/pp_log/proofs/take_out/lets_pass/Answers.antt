@@ -1,20 +1,30 @@
-use Rattle.std.proofs.Common.{◌≡◌, ◌-◌, ◌+◌, ◌<◌, drop, length, subst, arith}
+use Rattle.std.proofs.Common.{◌≡◌, ◌-◌, ◌+◌, drop, map, subst, arith}
 use Rattle.pp_model.specs.Object.{ops}
-use Rattle.pp_spec.specs.Object.{LetsPass}
-use Rattle.pp_log.proofs.Passed.{later_pass, one_passes}
+use Rattle.pp_spec.specs.Object.{LetsPass, Swaps}
+use Rattle.pp_log.specs.Parts.{there}
+use Rattle.pp_log.proofs.Passed.{one_passes}
 use Rattle.pp_log.proofs.take_out.lets_pass.Goals as goal
 
 pub loop-k-preserved : goal.loop-k-preserved
 loop-k-preserved g c =
     let o = g.S.Spec.object in
-    let x = c.args.items.now in
+    let place = g.S.Placed.place_of in
+    let f = g.T.Side.item_of in
+    let a = c.args.op.now in
+    let x = c.args.entries.now in
     let at = c.loop-k.k - 1 in
     let bound = c.loop-k.auto.k in
     let some = c.loop-k-test.true in
-    let within : at < length x = omega arith in
     let next : c.loop-k.k ≡ at + 1 = omega arith in
-    let rest = subst (λ k. LetsPass o c.args.op.now (ops (drop k x))) next c.loop-k.invariant in
-    one_passes o c.args.op.now x at c.index-items-k.result within (c.swaps.ensures.swaps c.if-not-swaps.false) (c.kept_alike.ensures c.if-not-kept_alike.false) rest
+    let rest = subst (λ k. LetsPass o a (ops (there place (place a) (map f (drop k x))))) next c.loop-k.invariant in
+    let passes = subst (λ d. place d.op ≡ place a → Swaps o a d.op) c.item.ensures (c.lets_one_pass.ensures c.if-not-lets_one_pass.false) in
+    one_passes o place f a (place a) x at c.index-entries-k.result (omega arith) c.index-entries-k.is passes rest
 
 pub returns : goal.returns
-returns g c = λ _. later_pass g.S.Spec.object c.args.op.now c.args.items.now c.loop-k.k c.args.from c.loop-k-test.false c.loop-k.invariant
+returns g c = λ _.
+    let o = g.S.Spec.object in
+    let place = g.S.Placed.place_of in
+    let a = c.args.op.now in
+    let end = c.loop-k-test.false in
+    let none : c.loop-k.k ≡ 0 = omega arith in
+    subst (λ k. LetsPass o a (ops (there place (place a) (map g.T.Side.item_of (drop k c.args.entries.now))))) none c.loop-k.invariant

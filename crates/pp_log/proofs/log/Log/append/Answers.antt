@@ -60,7 +60,7 @@ invariant_of-self-2 g c =
     let same = with_room o g.S.Placed.place_of s _ _ _ _ _ _ c.self.invariant refl room.same room.ids in
     let at : slice_get ps c.from-p.result ≡ Some q = slice_get-get_or ps c.from-p.result q room.there ∙ ap Some (sym c.index_mut.ensures.value) in
     let applied = rw c.in-Done.is at c.in_ok-undo.ensures.applied in
-    let more = grown o g.S.Placed.place_of g.S.Placed.SameAt g.met.S.Spec.lawful g.met.S.Placed.placed s c.apply.new.state (map f x) ps e c.from-p.result q c.keep.new.self c.in-Done.undo same.keeps legal ranged new few (sym (c.from-p.ensures ∙ c.place.ensures)) room.there at applied.2 applied.1 c.keep.ensures.items c.keep.ensures.undos in
+    let more = grown o g.S.Placed.place_of g.S.Placed.SameAt g.met.S.Spec.lawful g.met.S.Placed.placed s c.apply.new.state (map f x) ps e c.from-p.result q c.keep.new.self c.in-Done.undo same.keeps legal ranged new few (sym (c.from-p.ensures ∙ c.place.ensures)) room.there at applied.2 applied.1 c.keep.ensures.ids c.keep.ensures.undos in
     let items : map f c.push.new.self.items ≡ map f x ++ e ∷ [] =
     ap (map f) (c.in-Ok.ensures.items ∙ ap (λ z. z ++ c.args.entry ∷ []) room.entries) ∙ map_push f x c.args.entry ∙ ap (λ d. map f x ++ d ∷ []) (sym c.item-item.ensures) in
     let index = subst (λ z. IsIndexOf c.push-2.new.self z) (sym (ids-append (map f x) (e ∷ []))) (c.push-2.ensures (ids_of (map f x)) same.index (new_id (map f x) e.id new)) in

@@ -4,7 +4,7 @@ use Rattle.pp_log.proofs.log.Log.next_on.Given as goal
 
 abbrev pub invariant-halve : goal.invariant-halve
 invariant-halve g l = record {
-  within : l.high ≤ length l.items.items;
+  within : l.high ≤ length l.ids.items;
   low : l.low ≤ ahead g.S.Placed.place_of l.place (map g.T.Side.item_of l.self.1) l.from;
   high : ahead g.S.Placed.place_of l.place (map g.T.Side.item_of l.self.1) l.from ≤ l.high;
 }

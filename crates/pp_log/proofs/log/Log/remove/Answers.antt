@@ -1,19 +1,21 @@
-use Rattle.std.proofs.Common.{◌≡◌, length, map, sym, ◌∙◌, ap, subst, arith}
+use Rattle.std.proofs.Common.{◌≡◌, ◌-◌, ◌++◌, drop, length, map, take, sym, ◌∙◌, ap, subst, arith}
+use Rattle.std.proofs.lemmas.List.{length-drop, length-map}
 use Rattle.std.specs.List.{slice_get, slice_set}
-use Rattle.std.proofs.lemmas.Option.{slice_get_within}
 use Rattle.pp_model.specs.Lists.{In}
 use Rattle.pp_model.specs.Object.{ops}
 use Rattle.pp_spec.specs.Object.{state_after}
 use Rattle.pp_log.specs.Index.{IsIndexOf}
 use Rattle.pp_log.specs.Keeps.{KeepsAll}
-use Rattle.pp_log.specs.Logs.{RemovesEntry, from_place, removal_ticks}
-use Rattle.pp_log.specs.Parts.{elsewhere}
+use Rattle.pp_log.specs.Logs.{RemovesEntry, entry_ops, from_place, removal_ticks}
+use Rattle.pp_log.specs.Parts.{elsewhere, with_first}
 use Rattle.pp_log.specs.Room.{ids_of}
+use Rattle.pp_log.specs.TakesOut.{IsWhole, TakesOut}
 use Rattle.pp_log.proofs.Distinct.{apart}
 use Rattle.pp_log.proofs.Grown.{ids-remove}
 use Rattle.pp_log.proofs.Ids.{id_stands, ids_once}
 use Rattle.pp_log.proofs.Whole.{whole_of}
-use Rattle.pp_log.proofs.Sites.{place_there, place_at, id_there, found_in, ticks_of, left}
+use Rattle.pp_log.proofs.Lists.{all_behind}
+use Rattle.pp_log.proofs.Sites.{place_there, place_at, id_there, found_in, left, tail_of}
 use Rattle.pp_log.proofs.Sites.{left_else, left_over}
 use Rattle.pp_log.proofs.Maps.{count_seen, entry_removed, inside, left_mapped, site_seen}
 use Rattle.pp_log.proofs.log.Log.remove.Goals as goal
@@ -51,7 +53,19 @@ unreachable-requires g c =
     let q = c.index_mut-place.result.now in
     let value = c.index_mut-place.ensures.value in
     let none = c.in_default.ensures.none in
-    id_there o place s log ps c.args.i e p q keeps site (place_at o place s log ps c.args.i e p q keeps site value) (λ d k. none d (subst (In d) (sym c.deref.ensures.value) k))
+    id_there o place s log ps c.args.i e p q keeps site (place_at o place s log ps c.args.i e p q keeps site value) (λ k. none (subst (In e.id) (sym c.deref.ensures.value) k))
+
+pub take_out-requires-clause-some : goal.take_out-requires-clause-some
+take_out-requires-clause-some g c =
+    let f = g.T.Side.item_of in
+    let x = c.self.inside.entries.items in
+    let lent = c.deref-2.result.now in
+    let within = inside f (g.S.Spec.object.shape c.self.inside.state) x c.args.self c.args.i c.self.view_is c.requires in
+    let size = length-map x f in
+    let same = ap length c.deref-2.ensures.value in
+    let behind = length-drop c.args.i lent in
+    let all = ap length (all_behind lent c.args.i) in
+    omega arith
 
 pub take_out-requires-clause-whole : goal.take_out-requires-clause-whole
 take_out-requires-clause-whole g c =
@@ -68,13 +82,17 @@ take_out-requires-clause-whole g c =
     let site = site_seen place f (o.shape s) x c.args.self c.args.i c.index.result.now e p c.self.view_is c.requires c.index.ensures c.item-item.ensures (c.from-p.ensures ∙ c.place.ensures) in
     let q = c.index_mut-place.result.now in
     let value = c.index_mut-place.ensures.value in
-    let at = place_at o place s log ps c.args.i e p q keeps site value in
-    (state_after o (o.shape s) (ops (elsewhere place p log)), whole_of o place g.S.Placed.SameAt g.met.S.Spec.lawful g.met.S.Placed.placed p s log ps q keeps at)
-
-pub take_out-requires-clause-within : goal.take_out-requires-clause-within
-take_out-requires-clause-within g c =
-    let found = c.in-Some.ensures.found in
-    slice_get_within c.index_mut-place.result.now.items.items c.in-Some.from found.0 (ap (λ z. slice_get z c.in-Some.from) (sym c.deref.ensures.value) ∙ found.1)
+    let stands = ap (λ z. slice_get z c.in-Some.from) (sym c.deref.ensures.value) ∙ c.in-Some.ensures.found in
+    let within = inside f (o.shape s) x c.args.self c.args.i c.self.view_is c.requires in
+    let found = found_in o place s log ps c.args.i e p c.in-Some.from q keeps within site value stands in
+    let b = state_after o (o.shape s) (ops (elsewhere place p log)) in
+    let tail = tail_of place f x c.deref-2.result.now c.args.i c.index.result.now e p c.deref-2.ensures.value within c.index.ensures c.item-item.ensures (c.from-p.ensures ∙ c.place.ensures) found.site in
+    record {
+      start = b;
+      before = found.site.u;
+      size = sym found.index;
+      whole = subst (λ z. IsWhole o b z q s) (found.site.here ∙ ap (λ z. found.site.u ++ z) (sym tail)) (whole_of o place g.S.Placed.SameAt g.met.S.Spec.lawful g.met.S.Placed.placed p s log ps q keeps found.at);
+    }
 
 pub returns-in_err-removed-clause-bound : goal.returns-in_err-removed-clause-bound
 returns-in_err-removed-clause-bound g c =
@@ -91,10 +109,12 @@ returns-in_err-removed-clause-bound g c =
     let site = site_seen place f (o.shape s) x c.args.self c.args.i c.index.result.now e p c.self.view_is c.requires c.index.ensures c.item-item.ensures (c.from-p.ensures ∙ c.place.ensures) in
     let q = c.index_mut-place.result.now in
     let value = c.index_mut-place.ensures.value in
-    let stands = c.in-Some.ensures.found in
+    let stands = ap (λ z. slice_get z c.in-Some.from) (sym c.deref.ensures.value) ∙ c.in-Some.ensures.found in
     let within = inside f (o.shape s) x c.args.self c.args.i c.self.view_is c.requires in
-    let found = found_in o place s log ps c.args.i e stands.0 p c.in-Some.from q keeps within site value (ap (λ z. slice_get z c.in-Some.from) (sym c.deref.ensures.value) ∙ stands.1) stands.2 in
-    let count = found.count in
+    let found = found_in o place s log ps c.args.i e p c.in-Some.from q keeps within site value stands in
+    let tail = tail_of place f x c.deref-2.result.now c.args.i c.index.result.now e p c.deref-2.ensures.value within c.index.ensures c.item-item.ensures (c.from-p.ensures ∙ c.place.ensures) site in
+    let behind = ap length tail in
+    let count = site.count in
     let size = count_seen place f (o.shape s) x c.args.self c.args.i c.self.view_is in
     let bound = c.take_out.ensures.bound in
     (c.take_out.ensures.rises, omega arith)
@@ -114,12 +134,15 @@ invariant_of-log g c =
     let site = site_seen place f (o.shape s) x c.args.self c.args.i c.index.result.now e p c.self.view_is c.requires c.index.ensures c.item-item.ensures (c.from-p.ensures ∙ c.place.ensures) in
     let q = c.index_mut-place.result.now in
     let value = c.index_mut-place.ensures.value in
-    let stands = c.in-Some.ensures.found in
+    let stands = ap (λ z. slice_get z c.in-Some.from) (sym c.deref.ensures.value) ∙ c.in-Some.ensures.found in
     let within = inside f (o.shape s) x c.args.self c.args.i c.self.view_is c.requires in
-    let found = found_in o place s log ps c.args.i e stands.0 p c.in-Some.from q keeps within site value (ap (λ z. slice_get z c.in-Some.from) (sym c.deref.ensures.value) ∙ stands.1) stands.2 in
+    let found = found_in o place s log ps c.args.i e p c.in-Some.from q keeps within site value stands in
     let b = state_after o (o.shape s) (ops (elsewhere place p log)) in
-    let takes = c.in_ok-removed.ensures.takes b (whole_of o place g.S.Placed.SameAt g.met.S.Spec.lawful g.met.S.Placed.placed p s log ps q keeps found.at) in
+    let tail = tail_of place f x c.deref-2.result.now c.args.i c.index.result.now e p c.deref-2.ensures.value within c.index.ensures c.item-item.ensures (c.from-p.ensures ∙ c.place.ensures) found.site in
+    let parts = found.site.here ∙ ap (λ z. found.site.u ++ z) (sym tail) in
+    let whole = subst (λ z. IsWhole o b z q s) parts (whole_of o place g.S.Placed.SameAt g.met.S.Spec.lawful g.met.S.Placed.placed p s log ps q keeps found.at) in
     let removed = c.in_ok-removed.removed in
+    let takes = subst (λ z. TakesOut o b z c.in-Some.from c.take_out.new.place c.take_out.new.state removed) (sym parts) (c.in_ok-removed.ensures.takes b found.site.u (sym found.index) whole) in
     let done = left_over o place g.S.Placed.SameAt g.met.S.Spec.lawful g.met.S.Placed.placed s c.take_out.new.state log ps c.args.i e p c.in-Some.from q c.take_out.new.place removed keeps found takes in
     let entries : c.match-removed.entries.items ≡ left removed x c.args.i = elim c.match-removed.branch [
       | in-Done w ↦ ap (λ v. v.items) w.entries-is ∙ w.remove.ensures.items ∙ ap (λ r. left r x c.args.i) (sym w.in-Done.is)
@@ -151,12 +174,15 @@ returns-clause-removes g c =
     let site = site_seen place f (o.shape s) x c.args.self c.args.i c.index.result.now e p c.self.view_is c.requires c.index.ensures c.item-item.ensures (c.from-p.ensures ∙ c.place.ensures) in
     let q = c.index_mut-place.result.now in
     let value = c.index_mut-place.ensures.value in
-    let stands = c.in-Some.ensures.found in
+    let stands = ap (λ z. slice_get z c.in-Some.from) (sym c.deref.ensures.value) ∙ c.in-Some.ensures.found in
     let within = inside f (o.shape s) x c.args.self c.args.i c.self.view_is c.requires in
-    let found = found_in o place s log ps c.args.i e stands.0 p c.in-Some.from q keeps within site value (ap (λ z. slice_get z c.in-Some.from) (sym c.deref.ensures.value) ∙ stands.1) stands.2 in
+    let found = found_in o place s log ps c.args.i e p c.in-Some.from q keeps within site value stands in
     let b = state_after o (o.shape s) (ops (elsewhere place p log)) in
-    let takes = c.in_ok-removed.ensures.takes b (whole_of o place g.S.Placed.SameAt g.met.S.Spec.lawful g.met.S.Placed.placed p s log ps q keeps found.at) in
+    let tail = tail_of place f x c.deref-2.result.now c.args.i c.index.result.now e p c.deref-2.ensures.value within c.index.ensures c.item-item.ensures (c.from-p.ensures ∙ c.place.ensures) found.site in
+    let parts = found.site.here ∙ ap (λ z. found.site.u ++ z) (sym tail) in
+    let whole = subst (λ z. IsWhole o b z q s) parts (whole_of o place g.S.Placed.SameAt g.met.S.Spec.lawful g.met.S.Placed.placed p s log ps q keeps found.at) in
     let removed = c.in_ok-removed.removed in
+    let takes = subst (λ z. TakesOut o b z c.in-Some.from c.take_out.new.place c.take_out.new.state removed) (sym parts) (c.in_ok-removed.ensures.takes b found.site.u (sym found.index) whole) in
     let done = left_over o place g.S.Placed.SameAt g.met.S.Spec.lawful g.met.S.Placed.placed s c.take_out.new.state log ps c.args.i e p c.in-Some.from q c.take_out.new.place removed keeps found takes in
     let entries : c.match-removed.entries.items ≡ left removed x c.args.i = elim c.match-removed.branch [
       | in-Done w ↦ ap (λ v. v.items) w.entries-is ∙ w.remove.ensures.items ∙ ap (λ r. left r x c.args.i) (sym w.in-Done.is)
@@ -181,13 +207,16 @@ returns-clause-cost g c =
     let site = site_seen place f (o.shape s) x c.args.self c.args.i c.index.result.now e p c.self.view_is c.requires c.index.ensures c.item-item.ensures (c.from-p.ensures ∙ c.place.ensures) in
     let q = c.index_mut-place.result.now in
     let value = c.index_mut-place.ensures.value in
-    let stands = c.in-Some.ensures.found in
+    let stands = ap (λ z. slice_get z c.in-Some.from) (sym c.deref.ensures.value) ∙ c.in-Some.ensures.found in
     let within = inside f (o.shape s) x c.args.self c.args.i c.self.view_is c.requires in
-    let found = found_in o place s log ps c.args.i e stands.0 p c.in-Some.from q keeps within site value (ap (λ z. slice_get z c.in-Some.from) (sym c.deref.ensures.value) ∙ stands.1) stands.2 in
-    let count = found.count in
-    let size = count_seen place f (o.shape s) x c.args.self c.args.i c.self.view_is in
-    subst (λ k. removal_ticks c.in_ok-removed.removed k c.args.ticks.now c.take_out.new.ticks) size
-    (ticks_of c.in_ok-removed.removed (length q.items.items) c.in-Some.from (from_place place (ops log) c.args.i) c.args.ticks.now c.take_out.new.ticks count c.in_ok-removed.ensures.cost)
+    let found = found_in o place s log ps c.args.i e p c.in-Some.from q keeps within site value stands in
+    let tail = tail_of place f x c.deref-2.result.now c.args.i c.index.result.now e p c.deref-2.ensures.value within c.index.ensures c.item-item.ensures (c.from-p.ensures ∙ c.place.ensures) site in
+    let behind = ap length tail in
+    let count = site.count in
+    let all = count_seen place f (o.shape s) x c.args.self c.args.i c.self.view_is in
+    let lent = c.deref-2.result.now in
+    let size : length (with_first place f (take (length lent - c.args.i) (drop c.args.i lent))) ≡ from_place place (entry_ops f c.args.self.1) c.args.i = omega arith in
+    subst (λ k. removal_ticks c.in_ok-removed.removed k c.args.ticks.now c.take_out.new.ticks) size c.in_ok-removed.ensures.cost
 
 pub returns-clause-bound : goal.returns-clause-bound
 returns-clause-bound g c =
@@ -204,10 +233,12 @@ returns-clause-bound g c =
     let site = site_seen place f (o.shape s) x c.args.self c.args.i c.index.result.now e p c.self.view_is c.requires c.index.ensures c.item-item.ensures (c.from-p.ensures ∙ c.place.ensures) in
     let q = c.index_mut-place.result.now in
     let value = c.index_mut-place.ensures.value in
-    let stands = c.in-Some.ensures.found in
+    let stands = ap (λ z. slice_get z c.in-Some.from) (sym c.deref.ensures.value) ∙ c.in-Some.ensures.found in
     let within = inside f (o.shape s) x c.args.self c.args.i c.self.view_is c.requires in
-    let found = found_in o place s log ps c.args.i e stands.0 p c.in-Some.from q keeps within site value (ap (λ z. slice_get z c.in-Some.from) (sym c.deref.ensures.value) ∙ stands.1) stands.2 in
-    let count = found.count in
+    let found = found_in o place s log ps c.args.i e p c.in-Some.from q keeps within site value stands in
+    let tail = tail_of place f x c.deref-2.result.now c.args.i c.index.result.now e p c.deref-2.ensures.value within c.index.ensures c.item-item.ensures (c.from-p.ensures ∙ c.place.ensures) site in
+    let behind = ap length tail in
+    let count = site.count in
     let size = count_seen place f (o.shape s) x c.args.self c.args.i c.self.view_is in
     let bound = c.take_out.ensures.bound in
     (c.take_out.ensures.rises, omega arith)

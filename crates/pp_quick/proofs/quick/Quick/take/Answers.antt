@@ -25,12 +25,12 @@ returns-clause-shape g c =
 
 pub returns-clause-cost : goal.returns-clause-cost
 returns-clause-cost g c =
-    subst (λ z. TakeCosts g.S.Placed.place_of z.brief (record_meaning c.args.recorded.now) c.in_ok-parts.good c.args.ticks.now c.take.new.ticks) c.self.view_is c.in_ok-parts.ensures.cost
+    subst (λ z. TakeCosts z.brief (record_meaning c.args.recorded.now) c.in_ok-parts.good c.args.ticks.now c.take.new.ticks) c.self.view_is c.in_ok-parts.ensures.cost
 
 pub returns-clause-bound : goal.returns-clause-bound
 returns-clause-bound g c =
-    subst (λ z. c.take.new.ticks ≤ c.args.ticks.now + take_most g.S.Placed.place_of z.brief (record_meaning c.args.recorded.now)) c.self.view_is c.take.ensures.bound
+    subst (λ z. c.take.new.ticks ≤ c.args.ticks.now + take_most z.brief (record_meaning c.args.recorded.now)) c.self.view_is c.take.ensures.bound
 
 pub returns-in_err-parts-clause-bound : goal.returns-in_err-parts-clause-bound
 returns-in_err-parts-clause-bound g c =
-    subst (λ z. c.take.new.ticks ≤ c.args.ticks.now + take_most g.S.Placed.place_of z.brief (record_meaning c.args.recorded.now)) c.self.view_is c.take.ensures.bound
+    subst (λ z. c.take.new.ticks ≤ c.args.ticks.now + take_most z.brief (record_meaning c.args.recorded.now)) c.self.view_is c.take.ensures.bound

@@ -1,0 +1,227 @@
+-- One entry after another leaves a log.
+use Rattle.std.proofs.Common.{◌≡◌, ◌==◌, nat_eq, ℕ, position, None, inl, inr, length-append, ◌<◌, ◌≤◌, ◌+◌, ◌-◌, List, [], ◌∷◌, ◌++◌, length, map, take, drop, get_or}
+use Rattle.std.proofs.Common.{refl, sym, ◌∙◌, ap, subst, arith, Some}
+use Rattle.std.specs.List.{remove, slice_get, slice_set}
+use Rattle.std.proofs.lemmas.Bool.{eqb-true}
+use Rattle.std.proofs.lemmas.List.Quantifiers.{position-Some}
+use Rattle.std.proofs.lemmas.Option.{get_or_from_slice_get, slice_get-get_or, slice_get-map, slice_get_within}
+use Rattle.std.proofs.lemmas.List.{drop-map, drop_all, length-drop, length-map}
+use Rattle.std.proofs.lemmas.List.Edits.{length-remove}
+use Rattle.std.specs.Option.{option_map}
+use Rattle.pp_core.specs.declared.entry.Item.{Item}
+use Rattle.pp_model.specs.Lists.{In}
+use Rattle.pp_model.specs.Object.{HasDistinctIds, ops}
+use Rattle.pp_model.proofs.Lists.{by_key}
+use Rattle.pp_spec.specs.Object.{Object, IsLawful, IsPlaced, LetsPass, state_after}
+use Rattle.pp_log.specs.declared.index.Index.{Index}
+use Rattle.pp_log.specs.declared.place.Place.{Place}
+use Rattle.pp_log.specs.declared.index.Index.TheVariants.{Few, Many}
+use Rattle.pp_log.specs.Index.{IsIndexOf, index_len}
+use Rattle.pp_log.specs.Keeps.{Keeps, KeepsAll}
+use Rattle.pp_log.specs.Leaves.{LeavesOthers, StandsBefore}
+use Rattle.pp_log.specs.Leaving.{without_items}
+use Rattle.pp_log.specs.Parts.{elsewhere, there}
+use Rattle.pp_log.specs.Room.{ids_of}
+use Rattle.pp_log.specs.TakesOut.{CanPassOut, Passes, PassesOutOf, itself}
+use Rattle.pp_log.proofs.Distinct.{IsNew}
+use Rattle.pp_log.proofs.Ids.{position_of_id}
+use Rattle.pp_log.proofs.Leaving.{lets_behind, last_stay, leaves_next, now_distinct, still_there}
+use Rattle.pp_log.proofs.Lists.{all_behind, at_first, behind_first, cut_there, drop_there, none_len, stands_in}
+use Rattle.pp_log.proofs.Maps.{new_len}
+use Rattle.pp_log.proofs.Parted.{there_at}
+use Rattle.pp_log.proofs.Sites.{IsFound, IsSite, found_in, id_there, place_at, place_there, site_of, taken_out}
+use Rattle.pp_log.proofs.Whole.{whole_of}
+
+pub index_size : (x : Index) (ids : List ℕ) → IsIndexOf x ids → index_len x ≡ length ids
+index_size (Few few) ids h = ap length h
+index_size (Many table) ids h = h.size
+
+pub item_within : {Op : Type 0} (x : Index) (log : List (Item Op)) (i : ℕ) (e : Item Op) → IsIndexOf x (ids_of log) → slice_get log i ≡ Some e → i < index_len x
+item_within x log i e h at =
+    let size = index_size x (ids_of log) h in
+    let all = length-map log (λ d. d.id) in
+    let within = slice_get_within log i e at in
+    omega arith
+
+module _ {Shape State Op Undo : Type 0} (o : Object Shape State Op Undo) (place : Op → ℕ) (SameAt : ℕ → State → State → Type 0) (laws : IsLawful o) (places : IsPlaced o place SameAt)
+    (s : State) (ps : List (Place Undo)) (log : List (Item Op)) (i : ℕ) (e : Item Op) (behind : List (Item Op)) (h : Keeps o place s log ps) (stands : StandsBefore o place log i e behind) where
+  within : i < length log
+  within = slice_get_within log i e stands.is
+
+  read : e ≡ get_or log i e
+  read = sym (get_or_from_slice_get log i e e stands.is)
+
+  site : IsSite place log i e (place e.op)
+  site = site_of place log i e (place e.op) within read refl
+
+  pub has_place : place e.op < length ps
+  has_place = place_there o place s log ps i e (place e.op) h site
+
+  pub id_at : slice_get (ids_of log) i ≡ Some e.id
+  id_at = slice_get-map (λ (d : Item Op). d.id) log i ∙ ap (option_map (λ (d : Item Op). d.id)) stands.is
+
+  module _ (q : Place Undo) (value : q ≡ get_or ps (place e.op) q) where
+    at : slice_get ps (place e.op) ≡ Some q
+    at = place_at o place s log ps i e (place e.op) q h site value
+
+    pub has_id_there : (In e.id q.ids.items → ⊥) → ⊥
+    has_id_there none = id_there o place s log ps i e (place e.op) q h site at none
+
+    module _ (k : ℕ) (found : slice_get q.ids.items k ≡ Some e.id) where
+      is_found : IsFound place log ps i e (place e.op) k q
+      is_found = found_in o place s log ps i e (place e.op) k q h within site value found
+
+      rest : is_found.site.v ≡ there place (place e.op) behind
+      rest =
+          let both : e ∷ is_found.site.v ≡ e ∷ there place (place e.op) (drop (i + 1) log) =
+          sym is_found.site.tail ∙ ap (there place (place e.op)) (drop_there log i e within read) ∙ there_at place (place e.op) e (drop (i + 1) log) refl in
+          let same : is_found.site.v ≡ there place (place e.op) (drop (i + 1) log) = cc in
+          same ∙ ap (there place (place e.op)) stands.others
+
+      parts : there place (place e.op) log ≡ is_found.site.u ++ e ∷ is_found.site.v
+      parts = is_found.site.here
+
+      passes : Passes o (there place (place e.op) log) k e.op (there place (place e.op) behind)
+      passes = record {
+        item = e;
+        is = ap (λ (l : List (Item Op)). slice_get l k) parts ∙ ap (slice_get (is_found.site.u ++ e ∷ is_found.site.v)) is_found.index ∙ at_first is_found.site.u is_found.site.v e;
+        op = refl;
+        others = ap (λ (l : List (Item Op)). drop (k + 1) l) parts ∙ ap (λ (n : ℕ). drop (n + 1) (is_found.site.u ++ e ∷ is_found.site.v)) is_found.index
+            ∙ behind_first is_found.site.u is_found.site.v e ∙ rest;
+        behind = stands.passes;
+      }
+
+      pub can_pass_out : CanPassOut o q s k e.op (there place (place e.op) behind)
+      can_pass_out = record {
+        start = state_after o (o.shape s) (ops (elsewhere place (place e.op) log));
+        items = there place (place e.op) log;
+        whole = whole_of o place SameAt laws places (place e.op) s log ps q h is_found.at;
+        passes = passes;
+      }
+
+      pub keeps_left : (r : Place Undo) (t : State) → PassesOutOf o k e.op (there place (place e.op) behind) q s r t
+          → Keeps o place t (remove log i) (slice_set ps (place e.op) r) × (o.shape t ≡ o.shape s)
+      keeps_left r t out =
+          let b = state_after o (o.shape s) (ops (elsewhere place (place e.op) log)) in
+          taken_out o place SameAt laws places s t log ps i e (place e.op) k q r h is_found.within is_found.site is_found.is is_found.at is_found.index
+          (out b (there place (place e.op) log) passes (whole_of o place SameAt laws places (place e.op) s log ps q h is_found.at))
+
+-- an item that stands in a list is found there
+pub nowhere : {Op : Type 0} (x : List (Item Op)) (e : Item Op) → position (λ d. d.id == e.id) x ≡ None → In e x → ⊥
+nowhere x e none inside = new_not_in x e (new_len x e.id (none_len (λ d. d.id == e.id) x none)) inside
+  where
+    new_not_in : {Op : Type 0} (y : List (Item Op)) (d : Item Op) → IsNew d.id y → In d y → ⊥
+    new_not_in [] d n i = i
+    new_not_in {Op} (c ∷ y) d n (inl here) = n.0 (ap (λ (w : Item Op). w.id) here)
+    new_not_in (c ∷ y) d n (inr later) = new_not_in y d n.1 later
+
+pub found_item : {Op : Type 0} (x : List (Item Op)) → HasDistinctIds x → (e : Item Op) (i : ℕ) → position (λ d. d.id == e.id) x ≡ Some i → In e x → slice_get x i ≡ Some e
+found_item {Op} x distinct e i found inside =
+    let p = position-Some (λ (d : Item Op). d.id == e.id) x i e found in
+    let there = slice_get-get_or x i e p.0 in
+    let one : get_or x i e ≡ e = by_key (λ (d : Item Op). d.id) x distinct (get_or x i e) e (stands_in x i (get_or x i e) there) inside (eqb-true (get_or x i e).id e.id p.1) in
+    there ∙ ap (λ (d : Item Op). Some d) one
+
+suffix : {A : Type 0} (x y z : List A) → x ≡ y ++ z → drop (length x - length z) x ≡ z
+suffix {A} x y z h =
+    let size = ap length h ∙ length-append y z in
+    let n : length x - length z ≡ length y = omega arith in
+    ap (λ (l : List A). drop (length l - length z) l) h ∙ ap (λ (k : ℕ). drop k (y ++ z)) (ap (λ (l : List A). length l - length z) (sym h) ∙ n) ∙ drop-append-front y z
+  where
+    drop-append-front : (u v : List A) → drop (length u) (u ++ v) ≡ v
+    drop-append-front [] v = refl
+    drop-append-front (a ∷ u) v = drop-append-front u v
+
+-- So many entries are left, and those of its own from the k-th on have left.
+pub record HaveLeft {Shape State Op Undo : Type 0} (o : Object Shape State Op Undo) (place : Op → ℕ) (own others : List (Item Op)) (all : ℕ) (s : State) (ps : List (Place Undo)) (ids : Index)
+    (k : ℕ) (t : State) (qs : List (Place Undo)) (js : Index) (size : ℕ) : Type 0 where
+  pub keeps : (log : List (Item Op)) → KeepsAll o place s log ps ids → LeavesOthers o own log others all
+      → KeepsAll o place t (without_items itself (drop k own) log) qs js × (o.shape t ≡ o.shape s) × (size ≡ length (without_items itself (drop k own) log))
+
+module _ {Shape State Op Undo : Type 0} (o : Object Shape State Op Undo) (place : Op → ℕ) (own others : List (Item Op)) (all : ℕ) (s : State) (ps : List (Place Undo)) (ids : Index) where
+  without_none : (log : List (Item Op)) → without_items itself [] log ≡ log
+  without_none [] = refl
+  without_none (e ∷ log) = ap (λ (z : List (Item Op)). e ∷ z) (without_none log)
+
+  pub left_first : (n : ℕ) → n ≡ length own → HaveLeft o place own others all s ps ids n s ps ids all
+  left_first n is = record {
+    keeps = λ log h leaves.
+        let none : without_items itself (drop n own) log ≡ log = ap (λ (l : List (Item Op)). without_items itself l log) (drop_all n own (omega arith)) ∙ without_none log in
+        (subst (λ (l : List (Item Op)). KeepsAll o place s l ps ids) (sym none) h, refl, leaves.size_is ∙ ap length (sym none));
+  }
+
+  pub left_last : (k : ℕ) (t : State) (qs : List (Place Undo)) (js : Index) (size : ℕ) → k ≡ 0 → HaveLeft o place own others all s ps ids k t qs js size
+      → (log : List (Item Op)) → KeepsAll o place s log ps ids → LeavesOthers o own log others all → KeepsAll o place t others qs js × (o.shape t ≡ o.shape s)
+  left_last k t qs js size zero_is left log h leaves =
+      let now = left.keeps log h leaves in
+      let those : without_items itself (drop k own) log ≡ others = ap (λ (n : ℕ). without_items itself (drop n own) log) zero_is ∙ sym leaves.others_are in
+      (subst (λ (l : List (Item Op)). KeepsAll o place t l qs js) those now.0, now.1)
+
+  -- the k-th one, e, is to leave
+  module _ (k : ℕ) (e : Item Op) (lt : k < length own) (is : e ≡ get_or own k e) (n : ℕ) (n_is : n ≡ k + 1) (t : State) (qs : List (Place Undo)) (js : Index) (size : ℕ) (left : HaveLeft o place own others all s ps ids n t qs js size) where
+    module _ (log : List (Item Op)) (h : KeepsAll o place s log ps ids) (leaves : LeavesOthers o own log others all) where
+      abbrev pub now_log : List (Item Op)
+      now_log = without_items itself (drop (k + 1) own) log
+
+      pub now : KeepsAll o place t now_log qs js × (o.shape t ≡ o.shape s) × (size ≡ length now_log)
+      now = subst (λ (j : ℕ). KeepsAll o place t (without_items itself (drop j own) log) qs js × (o.shape t ≡ o.shape s) × (size ≡ length (without_items itself (drop j own) log))) n_is (left.keeps log h leaves)
+
+      distinct : HasDistinctIds log
+      distinct = h.keeps.distinct
+
+      cut : own ≡ take k own ++ e ∷ drop (k + 1) own
+      cut = cut_there own k e lt is
+
+      there_now : In e now_log
+      there_now = still_there o own log distinct leaves.may (take k own) (drop (k + 1) own) e cut
+
+      pub found_somewhere : position (nat_eq e.id) (ids_of now_log) ≡ None → ⊥
+      found_somewhere none = nowhere now_log e (sym (position_of_id now_log e.id) ∙ none) there_now
+
+      pub index_now : IsIndexOf js (ids_of now_log)
+      index_now = now.0.index
+
+      module _ (i : ℕ) (found : position (nat_eq e.id) (ids_of now_log) ≡ Some i) where
+        pub e_at : slice_get now_log i ≡ Some e
+        e_at = found_item now_log (now_distinct o own log distinct leaves.may (drop (k + 1) own)) e i (sym (position_of_id now_log e.id) ∙ found) there_now
+
+        pub more_left : i < size
+        more_left = let w = slice_get_within now_log i e e_at in let z = now.2 in omega arith
+
+        behind_size : length (drop (i + 1) now_log) + 1 + i ≡ size
+        behind_size = let w = slice_get_within now_log i e e_at in let z = now.2 in let d = length-drop (i + 1) now_log in omega arith
+
+        stay : (A : List (Item Op)) × (others ≡ A ++ drop (i + 1) now_log)
+        stay = let r = last_stay o own log distinct leaves.may (take k own) (drop (k + 1) own) e cut i e_at in (r.0, leaves.others_are ∙ r.1)
+
+        pub within_others : size - 1 - i ≤ length others
+        within_others = let b = behind_size in let z = ap length stay.1 ∙ length-append stay.0 (drop (i + 1) now_log) in omega arith
+
+        pub behind_is : drop (length others - (size - 1 - i)) others ≡ drop (i + 1) now_log
+        behind_is =
+            let b = behind_size in
+            let m : size - 1 - i ≡ length (drop (i + 1) now_log) = omega arith in
+            ap (λ (j : ℕ). drop (length others - j) others) m ∙ suffix others stay.0 (drop (i + 1) now_log) stay.1
+
+        pub stands_now : (behind : List (Item Op)) → behind ≡ drop (i + 1) now_log → StandsBefore o place now_log i e behind
+        stands_now behind same = record {
+          is = e_at;
+          others = sym same;
+          passes = subst (λ (l : List (Item Op)). LetsPass o e.op (ops (there place (place e.op) l))) (sym same)
+              (lets_behind o own log distinct leaves.may (take k own) (drop (k + 1) own) e cut i e_at place);
+        }
+
+        next_is : without_items itself (drop k own) log ≡ remove now_log i
+        next_is = ap (λ (l : List (Item Op)). without_items itself l log) (drop_there own k e lt is) ∙ leaves_next o own log distinct leaves.may (take k own) (drop (k + 1) own) e cut i e_at
+
+        pub left_next : (u : State) (rs : List (Place Undo)) (ls : Index) → KeepsAll o place u (remove now_log i) rs ls → o.shape u ≡ o.shape t
+            → KeepsAll o place u (without_items itself (drop k own) log) rs ls × (o.shape u ≡ o.shape s) × (size - 1 ≡ length (without_items itself (drop k own) log))
+        left_next u rs ls keeps shape = (
+          subst (λ (l : List (Item Op)). KeepsAll o place u l rs ls) (sym next_is) keeps,
+          shape ∙ now.1,
+          (let z = now.2 in let w = slice_get_within now_log i e e_at in let r = length-remove now_log i w in let q = ap length next_is in omega arith),
+        )
+
+-- the last so many of the others, as they are lent
+pub behind_lent : {A B : Type 0} (f : A → B) (x : List A) (j : ℕ) → map f (take (length x - (length x - j)) (drop (length x - j) x)) ≡ drop (length (map f x) - j) (map f x)
+behind_lent {A} {B} f x j = ap (map f) (all_behind x (length x - j)) ∙ sym (drop-map f (length x - j) x) ∙ ap (λ (n : ℕ). drop (n - j) (map f x)) (sym (length-map x f))

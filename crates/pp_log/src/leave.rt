@@ -1,0 +1,118 @@
+//! Entries that leave a log together.
+ghost use Rattle.std.specs.Prelude.{◌≡◌, ◌+◌, ◌≤◌, IsTrue, OnOk, false, length, map};
+ghost use Rattle.pp_log.specs.Leaves.{AllLeave, CanAllLeave, CanLeave, CanLeaveOut, HasIdAt};
+ghost use Rattle.pp_log.specs.Leaves.{Leaves, StandFrom};
+ghost use Rattle.pp_log.specs.Leaving.{without_items};
+
+use crate::index::Index;
+use crate::place::Place;
+use crate::sides::Side;
+use crate::take_out::{pass_out, position_in_place};
+use pp_core::{Item, OutOfMemory, Ticks};
+use pp_spec::Placed;
+use std::sync::ledger::Ledger;
+
+/// Takes an item that stands at a position of the log back, which lets those of its place among the
+/// entries behind it pass. What is kept of it goes.
+fn take_one_back<S: Placed, T: Side<S::Op>, L: Ledger>(
+    item: &Item<S::Op>,
+    i: usize,
+    behind: &[T::Entry],
+    ids: &mut Index,
+    places: &mut Vec<Place<S::Undo>>,
+    state: &mut S::State,
+    ticks: &mut Ticks<L>,
+) -> Result<(), OutOfMemory>
+    requires { CanLeave S.object S.place_of state.old places.old.items ids.old i item.now
+        (map T.item_of behind.now) }
+    ensures leaves { OnOk result (Leaves S.object S.place_of i item.now (map T.item_of behind.now)
+        state.old places.old.items ids.old state.new places.new.items ids.new) }
+    ensures cost { ticks.new ≡ ticks.old + 1 }
+{
+    let p = usize::from(S::place(&item.op));
+    let place = &mut places[p];
+    let Some(from) = position_in_place(&place.ids, ids, i, item.id) else {
+        unreachable!()
+    };
+    pass_out::<S, T, L>(place, from, &item.op, behind, state, ticks)?;
+    ids.remove(i, item.id);
+    Ok(())
+}
+
+/// Takes items back from the last to the first, each of which lets the others behind it pass, where
+/// so many entries stood in the log. What is kept is then of the others.
+pub fn take_all_back<S: Placed, T: Side<S::Op>, L: Ledger>(
+    own: &[Item<S::Op>],
+    others: &[T::Entry],
+    size: usize,
+    ids: &mut Index,
+    places: &mut Vec<Place<S::Undo>>,
+    state: &mut S::State,
+    ticks: &mut Ticks<L>,
+) -> Result<(), OutOfMemory>
+    requires { CanAllLeave S.object S.place_of state.old places.old.items ids.old own.now
+        (map T.item_of others.now) size }
+    ensures leaves { OnOk result (AllLeave S.object S.place_of own.now (map T.item_of others.now)
+        size state.old places.old.items ids.old state.new places.new.items ids.new) }
+    ensures cost { OnOk result (ticks.new ≡ ticks.old + length own.now) }
+    ensures rises { ticks.old ≤ ticks.new }
+    ensures bound { ticks.new ≤ ticks.old + length own.now }
+{
+    let mut left = own.len();
+    let mut size = size;
+    while left > 0 {
+        left -= 1;
+        let item = &own[left];
+        let Some(i) = ids.find(item.id) else {
+            unreachable!()
+        };
+        size -= 1;
+        // The own ones behind it have left, so those behind it are the last of the others.
+        let behind = &others[others.len() - (size - i)..];
+        take_one_back::<S, T, L>(item, i, behind, ids, places, state, ticks)?;
+    }
+    Ok(())
+}
+
+/// Whether an entry is the own item at a position.
+fn is_next<O: Copy, T: Side<O>>(entry: &T::Entry, own: &[Item<O>], next: usize) -> bool
+    ensures yes { IsTrue result → HasIdAt own.now next (T.item_of entry.now).id }
+    ensures no { result ≡ false → HasIdAt own.now next (T.item_of entry.now).id → ⊥ }
+{
+    next < own.len() && own[next].id == T::item(entry).id
+}
+
+/// Leaves out the entries that are these items, which stand in their order, the first of them at a
+/// position.
+fn keep_others<O: Copy, T: Side<O>>(entries: &mut Vec<T::Entry>, own: &[Item<O>], from: usize)
+    requires { StandFrom own.now (map T.item_of entries.old.items) from }
+    ensures { entries.new.items ≡ without_items T.item_of own.now entries.old.items }
+{
+    let mut kept = from;
+    let mut next = 0;
+    for at in from..entries.len() {
+        let entry = entries[at];
+        if is_next::<O, T>(&entry, own, next) {
+            next += 1;
+        } else {
+            entries[kept] = entry;
+            kept += 1;
+        }
+    }
+    entries.truncate(kept);
+}
+
+/// Leaves out the entries that are these items, which stand in their order. It looks at none before
+/// the first of them.
+pub fn leave_out<O: Copy, T: Side<O>>(entries: &mut Vec<T::Entry>, ids: &Index, own: &[Item<O>])
+    requires { CanLeaveOut own.now (map T.item_of entries.old.items) ids.now }
+    ensures { entries.new.items ≡ without_items T.item_of own.now entries.old.items }
+{
+    let Some(first) = own.first() else {
+        return;
+    };
+    let Some(from) = ids.find(first.id) else {
+        unreachable!()
+    };
+    keep_others::<O, T>(entries, own, from);
+}
