@@ -6,6 +6,8 @@
 - one after another: each transaction puts on the eight keys behind those of the one before.
 - eight open at once: each has eight keys of its own, all put in turn, and they commit at different times, so that
   each finds entries of others that are committed and that it has not seen.
+- aborts in front of others: many transactions write one number at one address, then one more does as often, and
+  then the first ones abort, one after another.
 
 Beside the time of `quick` on 200,000 records stands that of only reading them. `certify` stops at 200,000 steps;
 beside its time on as many transactions as it can take stands that of `quick` on them.
@@ -20,8 +22,10 @@ COUNT = 20_000
 # As many as make fewer than 200,000 steps, where each pulls all that was committed before.
 CERTIFIED = 221
 KEYS, PUTS = 64, 8
+ABORTED, WRITES, BEHIND = 4_000, 2, 20_000
 SLOTS = KEYS // PUTS
 HEADER = {"run": 1, "style": "boosted", "objects": [{"name": "m", "kind": "map"}]}
+CELL_HEADER = {"run": 1, "style": "boosted", "objects": [{"name": "m", "kind": "mem"}]}
 FAILING = {"step": "commit", "tx": "none"}
 
 
@@ -52,11 +56,26 @@ def open_at_once(count):
     return [record for turn in itertools.zip_longest(*slots) for record in turn if record]
 
 
-def measure(program, path, name, records):
-    write(path, [HEADER, FAILING, *records[:-1]])
+def writes(tx, first, count):
+    """Begins, and writes one number at one address so often."""
+    yield begin(tx, f"p{tx}")
+    for number in range(first, first + count):
+        write_one = {"on": "m", "call": "write", "args": [0, 7], "result": None}
+        yield {"step": "op", "tx": tx, "id": number, **write_one}
+
+
+def aborted_in_front():
+    fronts = (writes(f"t{k}", WRITES * k, WRITES) for k in range(ABORTED))
+    behind = writes("last", WRITES * ABORTED, BEHIND)
+    aborts = ({"step": "abort", "tx": f"t{k}"} for k in range(ABORTED))
+    return [*itertools.chain(*fronts), *behind, *aborts, {"step": "commit", "tx": "last"}]
+
+
+def measure(program, path, name, records, header=HEADER, committed=COUNT):
+    write(path, [header, FAILING, *records[:-1]])
     read = answered(program, "quick", path, "quick rejected line 2")
-    write(path, [HEADER, *records])
-    whole = answered(program, "quick", path, f"quick accepted records {len(records)} committed {COUNT}")
+    write(path, [header, *records])
+    whole = answered(program, "quick", path, f"quick accepted records {len(records)} committed {committed}")
     print(f"{name}, {len(records)} records: {whole:.2f} s, only read {read:.2f} s, "
           f"ratio {whole / read:.2f}", flush=True)
 
@@ -77,6 +96,7 @@ def main():
         path = os.path.join(folder, "run.jsonl")
         measure(program, path, "one after another", one_after_another(COUNT))
         measure(program, path, "eight open at once", open_at_once(COUNT))
+        measure(program, path, "aborts in front of others", aborted_in_front(), CELL_HEADER, 1)
         measure_certified(program, path)
 
 
