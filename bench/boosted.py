@@ -1,5 +1,6 @@
 #!/usr/bin/env python3
-"""Boosted runs, which `quick` decides without local logs: transactions of eight puts over a map of 64 keys.
+"""Boosted runs, which `quick` decides without local logs. The first two are of 200,000 records: transactions of eight puts
+over a map of 64 keys.
 
     python3 bench/boosted.py crates/pp_cli/out/pp_cli
 
@@ -9,7 +10,7 @@
 - aborts in front of others: many transactions write one number at one address, then one more does as often, and
   then the first ones abort, one after another.
 
-Beside the time of `quick` on 200,000 records stands that of only reading them. `certify` stops at 200,000 steps;
+Beside the time of `quick` on each stands that of only reading it. `certify` stops at 200,000 steps;
 beside its time on as many transactions as it can take stands that of `quick` on them.
 """
 import itertools
