@@ -89,11 +89,6 @@ impl Spec for Count {
     }
 
     #[inline(always)]
-    fn keep_in_turn(_a: &CounterOp, _b: &CounterOp) -> bool {
-        false
-    }
-
-    #[inline(always)]
     fn keeps_alone(_a: &CounterOp) -> bool {
         true
     }
@@ -121,6 +116,11 @@ impl Placed for Count {
 
     fn place(_op: &CounterOp) -> u16 {
         0
+    }
+
+    #[inline(always)]
+    fn keep_in_turn(_a: &CounterOp, _kept: &()) -> bool {
+        false
     }
 
     fn call(op: &CounterOp) -> Call {

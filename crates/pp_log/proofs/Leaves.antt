@@ -1,32 +1,32 @@
 -- One entry after another leaves a log.
-use Rattle.std.proofs.Common.{◌≡◌, ◌==◌, nat_eq, ℕ, position, None, inl, inr, length-append, ◌<◌, ◌≤◌, ◌+◌, ◌-◌, List, [], ◌∷◌, ◌++◌, length, map, take, drop, get_or}
+use Rattle.std.proofs.Common.{◌≡◌, ◌==◌, nat_eq, ℕ, position, None, inl, inr, ◌<◌, ◌+◌, List, [], ◌∷◌, ◌++◌, length, take, drop, get_or}
 use Rattle.std.proofs.Common.{refl, sym, ◌∙◌, ap, subst, arith, Some}
 use Rattle.std.specs.List.{remove, slice_get, slice_set}
 use Rattle.std.proofs.lemmas.Bool.{eqb-true}
 use Rattle.std.proofs.lemmas.List.Quantifiers.{position-Some}
 use Rattle.std.proofs.lemmas.Option.{get_or_from_slice_get, slice_get-get_or, slice_get-map, slice_get_within}
-use Rattle.std.proofs.lemmas.List.{drop-map, drop_all, length-drop, length-map}
-use Rattle.std.proofs.lemmas.List.Edits.{length-remove}
+use Rattle.std.proofs.lemmas.List.{drop_all, length-map}
 use Rattle.std.specs.Option.{option_map}
 use Rattle.pp_core.specs.declared.entry.Item.{Item}
 use Rattle.pp_model.specs.Lists.{In}
 use Rattle.pp_model.specs.Object.{HasDistinctIds, ops}
 use Rattle.pp_model.proofs.Lists.{by_key}
-use Rattle.pp_spec.specs.Object.{Object, IsLawful, IsPlaced, LetsPass, state_after}
+use Rattle.pp_spec.specs.Object.{Object, IsLawful, IsPlaced, state_after}
 use Rattle.pp_log.specs.declared.index.Index.{Index}
 use Rattle.pp_log.specs.declared.place.Place.{Place}
 use Rattle.pp_log.specs.declared.index.Index.TheVariants.{Few, Many}
 use Rattle.pp_log.specs.Index.{IsIndexOf, index_len}
 use Rattle.pp_log.specs.Keeps.{Keeps, KeepsAll}
-use Rattle.pp_log.specs.Leaves.{LeavesOthers, StandsBefore}
-use Rattle.pp_log.specs.Leaving.{without_items}
+use Rattle.pp_log.specs.Leaves.{MayPassOut}
+use Rattle.pp_log.specs.Leaving.{MayLeave, without_items}
 use Rattle.pp_log.specs.Parts.{elsewhere, there}
 use Rattle.pp_log.specs.Room.{ids_of}
 use Rattle.pp_log.specs.TakesOut.{CanPassOut, Passes, PassesOutOf, itself}
+use Rattle.pp_log.proofs.Carried.{all_there}
 use Rattle.pp_log.proofs.Distinct.{IsNew}
 use Rattle.pp_log.proofs.Ids.{position_of_id}
-use Rattle.pp_log.proofs.Leaving.{lets_behind, last_stay, leaves_next, now_distinct, still_there}
-use Rattle.pp_log.proofs.Lists.{all_behind, at_first, behind_first, cut_there, drop_there, none_len, stands_in}
+use Rattle.pp_log.proofs.Leaving.{lets_behind, leaves_next, now_distinct, still_there}
+use Rattle.pp_log.proofs.Lists.{at_first, behind_first, cut_there, drop_there, none_len, stands_in}
 use Rattle.pp_log.proofs.Maps.{new_len}
 use Rattle.pp_log.proofs.Parted.{there_at}
 use Rattle.pp_log.proofs.Sites.{IsFound, IsSite, found_in, id_there, place_at, place_there, site_of, taken_out}
@@ -44,7 +44,10 @@ item_within x log i e h at =
     omega arith
 
 module _ {Shape State Op Undo : Type 0} (o : Object Shape State Op Undo) (place : Op → ℕ) (SameAt : ℕ → State → State → Type 0) (laws : IsLawful o) (places : IsPlaced o place SameAt)
-    (s : State) (ps : List (Place Undo)) (log : List (Item Op)) (i : ℕ) (e : Item Op) (behind : List (Item Op)) (h : Keeps o place s log ps) (stands : StandsBefore o place log i e behind) where
+    (s : State) (ps : List (Place Undo)) (log : List (Item Op)) (i : ℕ) (e : Item Op) (h : Keeps o place s log ps) (stands : MayPassOut o place log i e) where
+  abbrev behind : List (Item Op)
+  behind = drop (i + 1) log
+
   within : i < length log
   within = slice_get_within log i e stands.is
 
@@ -75,8 +78,7 @@ module _ {Shape State Op Undo : Type 0} (o : Object Shape State Op Undo) (place 
       rest =
           let both : e ∷ is_found.site.v ≡ e ∷ there place (place e.op) (drop (i + 1) log) =
           sym is_found.site.tail ∙ ap (there place (place e.op)) (drop_there log i e within read) ∙ there_at place (place e.op) e (drop (i + 1) log) refl in
-          let same : is_found.site.v ≡ there place (place e.op) (drop (i + 1) log) = cc in
-          same ∙ ap (there place (place e.op)) stands.others
+          cc
 
       parts : there place (place e.op) log ≡ is_found.site.u ++ e ∷ is_found.site.v
       parts = is_found.site.here
@@ -91,20 +93,22 @@ module _ {Shape State Op Undo : Type 0} (o : Object Shape State Op Undo) (place 
         behind = stands.passes;
       }
 
-      pub can_pass_out : CanPassOut o q s k e.op (there place (place e.op) behind)
+      pub can_pass_out : CanPassOut o place q s k e.op
       can_pass_out = record {
         start = state_after o (o.shape s) (ops (elsewhere place (place e.op) log));
         items = there place (place e.op) log;
+        behind = there place (place e.op) behind;
         whole = whole_of o place SameAt laws places (place e.op) s log ps q h is_found.at;
         passes = passes;
+        one_place = all_there place (place e.op) behind;
       }
 
-      pub keeps_left : (r : Place Undo) (t : State) → PassesOutOf o k e.op (there place (place e.op) behind) q s r t
+      pub keeps_left : (r : Place Undo) (t : State) → PassesOutOf o place k e.op q s r t
           → Keeps o place t (remove log i) (slice_set ps (place e.op) r) × (o.shape t ≡ o.shape s)
       keeps_left r t out =
           let b = state_after o (o.shape s) (ops (elsewhere place (place e.op) log)) in
           taken_out o place SameAt laws places s t log ps i e (place e.op) k q r h is_found.within is_found.site is_found.is is_found.at is_found.index
-          (out b (there place (place e.op) log) passes (whole_of o place SameAt laws places (place e.op) s log ps q h is_found.at))
+          (out b (there place (place e.op) log) (there place (place e.op) behind) passes (all_there place (place e.op) behind) (whole_of o place SameAt laws places (place e.op) s log ps q h is_found.at))
 
 -- an item that stands in a list is found there
 pub nowhere : {Op : Type 0} (x : List (Item Op)) (e : Item Op) → position (λ d. d.id == e.id) x ≡ None → In e x → ⊥
@@ -122,49 +126,39 @@ found_item {Op} x distinct e i found inside =
     let one : get_or x i e ≡ e = by_key (λ (d : Item Op). d.id) x distinct (get_or x i e) e (stands_in x i (get_or x i e) there) inside (eqb-true (get_or x i e).id e.id p.1) in
     there ∙ ap (λ (d : Item Op). Some d) one
 
-suffix : {A : Type 0} (x y z : List A) → x ≡ y ++ z → drop (length x - length z) x ≡ z
-suffix {A} x y z h =
-    let size = ap length h ∙ length-append y z in
-    let n : length x - length z ≡ length y = omega arith in
-    ap (λ (l : List A). drop (length l - length z) l) h ∙ ap (λ (k : ℕ). drop k (y ++ z)) (ap (λ (l : List A). length l - length z) (sym h) ∙ n) ∙ drop-append-front y z
-  where
-    drop-append-front : (u v : List A) → drop (length u) (u ++ v) ≡ v
-    drop-append-front [] v = refl
-    drop-append-front (a ∷ u) v = drop-append-front u v
+-- Those of its own from the k-th on have left.
+pub record HaveLeft {Shape State Op Undo : Type 0} (o : Object Shape State Op Undo) (place : Op → ℕ) (own : List (Item Op)) (s : State) (ps : List (Place Undo)) (ids : Index)
+    (k : ℕ) (t : State) (qs : List (Place Undo)) (js : Index) : Type 0 where
+  pub keeps : (log : List (Item Op)) → KeepsAll o place s log ps ids → MayLeave o own log
+      → KeepsAll o place t (without_items itself (drop k own) log) qs js × (o.shape t ≡ o.shape s)
 
--- So many entries are left, and those of its own from the k-th on have left.
-pub record HaveLeft {Shape State Op Undo : Type 0} (o : Object Shape State Op Undo) (place : Op → ℕ) (own others : List (Item Op)) (all : ℕ) (s : State) (ps : List (Place Undo)) (ids : Index)
-    (k : ℕ) (t : State) (qs : List (Place Undo)) (js : Index) (size : ℕ) : Type 0 where
-  pub keeps : (log : List (Item Op)) → KeepsAll o place s log ps ids → LeavesOthers o own log others all
-      → KeepsAll o place t (without_items itself (drop k own) log) qs js × (o.shape t ≡ o.shape s) × (size ≡ length (without_items itself (drop k own) log))
-
-module _ {Shape State Op Undo : Type 0} (o : Object Shape State Op Undo) (place : Op → ℕ) (own others : List (Item Op)) (all : ℕ) (s : State) (ps : List (Place Undo)) (ids : Index) where
+module _ {Shape State Op Undo : Type 0} (o : Object Shape State Op Undo) (place : Op → ℕ) (own : List (Item Op)) (s : State) (ps : List (Place Undo)) (ids : Index) where
   without_none : (log : List (Item Op)) → without_items itself [] log ≡ log
   without_none [] = refl
   without_none (e ∷ log) = ap (λ (z : List (Item Op)). e ∷ z) (without_none log)
 
-  pub left_first : (n : ℕ) → n ≡ length own → HaveLeft o place own others all s ps ids n s ps ids all
+  pub left_first : (n : ℕ) → n ≡ length own → HaveLeft o place own s ps ids n s ps ids
   left_first n is = record {
     keeps = λ log h leaves.
         let none : without_items itself (drop n own) log ≡ log = ap (λ (l : List (Item Op)). without_items itself l log) (drop_all n own (omega arith)) ∙ without_none log in
-        (subst (λ (l : List (Item Op)). KeepsAll o place s l ps ids) (sym none) h, refl, leaves.size_is ∙ ap length (sym none));
+        (subst (λ (l : List (Item Op)). KeepsAll o place s l ps ids) (sym none) h, refl);
   }
 
-  pub left_last : (k : ℕ) (t : State) (qs : List (Place Undo)) (js : Index) (size : ℕ) → k ≡ 0 → HaveLeft o place own others all s ps ids k t qs js size
-      → (log : List (Item Op)) → KeepsAll o place s log ps ids → LeavesOthers o own log others all → KeepsAll o place t others qs js × (o.shape t ≡ o.shape s)
-  left_last k t qs js size zero_is left log h leaves =
+  pub left_last : (k : ℕ) (t : State) (qs : List (Place Undo)) (js : Index) → k ≡ 0 → HaveLeft o place own s ps ids k t qs js
+      → (log : List (Item Op)) → KeepsAll o place s log ps ids → MayLeave o own log → KeepsAll o place t (without_items itself own log) qs js × (o.shape t ≡ o.shape s)
+  left_last k t qs js zero_is left log h leaves =
       let now = left.keeps log h leaves in
-      let those : without_items itself (drop k own) log ≡ others = ap (λ (n : ℕ). without_items itself (drop n own) log) zero_is ∙ sym leaves.others_are in
+      let those : without_items itself (drop k own) log ≡ without_items itself own log = ap (λ (n : ℕ). without_items itself (drop n own) log) zero_is in
       (subst (λ (l : List (Item Op)). KeepsAll o place t l qs js) those now.0, now.1)
 
   -- the k-th one, e, is to leave
-  module _ (k : ℕ) (e : Item Op) (lt : k < length own) (is : e ≡ get_or own k e) (n : ℕ) (n_is : n ≡ k + 1) (t : State) (qs : List (Place Undo)) (js : Index) (size : ℕ) (left : HaveLeft o place own others all s ps ids n t qs js size) where
-    module _ (log : List (Item Op)) (h : KeepsAll o place s log ps ids) (leaves : LeavesOthers o own log others all) where
+  module _ (k : ℕ) (e : Item Op) (lt : k < length own) (is : e ≡ get_or own k e) (n : ℕ) (n_is : n ≡ k + 1) (t : State) (qs : List (Place Undo)) (js : Index) (left : HaveLeft o place own s ps ids n t qs js) where
+    module _ (log : List (Item Op)) (h : KeepsAll o place s log ps ids) (leaves : MayLeave o own log) where
       abbrev pub now_log : List (Item Op)
       now_log = without_items itself (drop (k + 1) own) log
 
-      pub now : KeepsAll o place t now_log qs js × (o.shape t ≡ o.shape s) × (size ≡ length now_log)
-      now = subst (λ (j : ℕ). KeepsAll o place t (without_items itself (drop j own) log) qs js × (o.shape t ≡ o.shape s) × (size ≡ length (without_items itself (drop j own) log))) n_is (left.keeps log h leaves)
+      pub now : KeepsAll o place t now_log qs js × (o.shape t ≡ o.shape s)
+      now = subst (λ (j : ℕ). KeepsAll o place t (without_items itself (drop j own) log) qs js × (o.shape t ≡ o.shape s)) n_is (left.keeps log h leaves)
 
       distinct : HasDistinctIds log
       distinct = h.keeps.distinct
@@ -173,7 +167,7 @@ module _ {Shape State Op Undo : Type 0} (o : Object Shape State Op Undo) (place 
       cut = cut_there own k e lt is
 
       there_now : In e now_log
-      there_now = still_there o own log distinct leaves.may (take k own) (drop (k + 1) own) e cut
+      there_now = still_there o own log distinct leaves (take k own) (drop (k + 1) own) e cut
 
       pub found_somewhere : position (nat_eq e.id) (ids_of now_log) ≡ None → ⊥
       found_somewhere none = nowhere now_log e (sym (position_of_id now_log e.id) ∙ none) there_now
@@ -182,46 +176,21 @@ module _ {Shape State Op Undo : Type 0} (o : Object Shape State Op Undo) (place 
       index_now = now.0.index
 
       module _ (i : ℕ) (found : position (nat_eq e.id) (ids_of now_log) ≡ Some i) where
-        pub e_at : slice_get now_log i ≡ Some e
-        e_at = found_item now_log (now_distinct o own log distinct leaves.may (drop (k + 1) own)) e i (sym (position_of_id now_log e.id) ∙ found) there_now
+        e_at : slice_get now_log i ≡ Some e
+        e_at = found_item now_log (now_distinct o own log distinct leaves (drop (k + 1) own)) e i (sym (position_of_id now_log e.id) ∙ found) there_now
 
-        pub more_left : i < size
-        more_left = let w = slice_get_within now_log i e e_at in let z = now.2 in omega arith
-
-        behind_size : length (drop (i + 1) now_log) + 1 + i ≡ size
-        behind_size = let w = slice_get_within now_log i e e_at in let z = now.2 in let d = length-drop (i + 1) now_log in omega arith
-
-        stay : (A : List (Item Op)) × (others ≡ A ++ drop (i + 1) now_log)
-        stay = let r = last_stay o own log distinct leaves.may (take k own) (drop (k + 1) own) e cut i e_at in (r.0, leaves.others_are ∙ r.1)
-
-        pub within_others : size - 1 - i ≤ length others
-        within_others = let b = behind_size in let z = ap length stay.1 ∙ length-append stay.0 (drop (i + 1) now_log) in omega arith
-
-        pub behind_is : drop (length others - (size - 1 - i)) others ≡ drop (i + 1) now_log
-        behind_is =
-            let b = behind_size in
-            let m : size - 1 - i ≡ length (drop (i + 1) now_log) = omega arith in
-            ap (λ (j : ℕ). drop (length others - j) others) m ∙ suffix others stay.0 (drop (i + 1) now_log) stay.1
-
-        pub stands_now : (behind : List (Item Op)) → behind ≡ drop (i + 1) now_log → StandsBefore o place now_log i e behind
-        stands_now behind same = record {
+        pub stands_now : MayPassOut o place now_log i e
+        stands_now = record {
           is = e_at;
-          others = sym same;
-          passes = subst (λ (l : List (Item Op)). LetsPass o e.op (ops (there place (place e.op) l))) (sym same)
-              (lets_behind o own log distinct leaves.may (take k own) (drop (k + 1) own) e cut i e_at place);
+          passes = lets_behind o own log distinct leaves (take k own) (drop (k + 1) own) e cut i e_at place;
         }
 
         next_is : without_items itself (drop k own) log ≡ remove now_log i
-        next_is = ap (λ (l : List (Item Op)). without_items itself l log) (drop_there own k e lt is) ∙ leaves_next o own log distinct leaves.may (take k own) (drop (k + 1) own) e cut i e_at
+        next_is = ap (λ (l : List (Item Op)). without_items itself l log) (drop_there own k e lt is) ∙ leaves_next o own log distinct leaves (take k own) (drop (k + 1) own) e cut i e_at
 
         pub left_next : (u : State) (rs : List (Place Undo)) (ls : Index) → KeepsAll o place u (remove now_log i) rs ls → o.shape u ≡ o.shape t
-            → KeepsAll o place u (without_items itself (drop k own) log) rs ls × (o.shape u ≡ o.shape s) × (size - 1 ≡ length (without_items itself (drop k own) log))
+            → KeepsAll o place u (without_items itself (drop k own) log) rs ls × (o.shape u ≡ o.shape s)
         left_next u rs ls keeps shape = (
           subst (λ (l : List (Item Op)). KeepsAll o place u l rs ls) (sym next_is) keeps,
           shape ∙ now.1,
-          (let z = now.2 in let w = slice_get_within now_log i e e_at in let r = length-remove now_log i w in let q = ap length next_is in omega arith),
         )
-
--- the last so many of the others, as they are lent
-pub behind_lent : {A B : Type 0} (f : A → B) (x : List A) (j : ℕ) → map f (take (length x - (length x - j)) (drop (length x - j) x)) ≡ drop (length (map f x) - j) (map f x)
-behind_lent {A} {B} f x j = ap (map f) (all_behind x (length x - j)) ∙ sym (drop-map f (length x - j) x) ∙ ap (λ (n : ℕ). drop (n - j) (map f x)) (sym (length-map x f))

@@ -169,24 +169,3 @@ module _ {Shape State Op Undo : Type 0} (o : Object Shape State Op Undo) (own lo
       pub lets_behind : (place : Op → ℕ) → LetsPass o e.op (ops (there place (place e.op) (drop (i + 1) (left_of last))))
       lets_behind place = lets_all o e.op (there place (place e.op) (drop (i + 1) (left_of last))) (λ q j.
           let k = in_there place (place e.op) (drop (i + 1) (left_of last)) q j in may.pass e q own_e (after_in_log q k) (others_own q k))
-
-      -- which are the last that stay
-      pub last_stay : (A : List (Item Op)) × (left_of own ≡ A ++ drop (i + 1) (left_of last))
-      last_stay =
-          let keep = λ (r : Item Op). not (has_id r.id (ids_of last)) in
-          let none = λ (r : Item Op). not (has_id r.id (ids_of own)) in
-          let gone : none e ≡ false = ap not (has_one e.id own e own_e refl) in
-          let rest : filter none (drop (i + 1) (left_of last)) ≡ drop (i + 1) (left_of last) = filter_all none (drop (i + 1) (left_of last)) (λ q j. ap not (others_own q j)) in (
-            filter none (take i (left_of last)),
-            sym (filter_twice none keep none log (λ r j. fewer (has_id r.id (ids_of last)) (has_id r.id (ids_of own)) (more r)))
-                ∙ ap (filter none) parts ∙ filter-append none (take i (left_of last)) (e ∷ drop (i + 1) (left_of last))
-                ∙ ap (λ (z : List (Item Op)). filter none (take i (left_of last)) ++ z)
-                (ap (λ (b : Bool). cond b (e ∷ filter none (drop (i + 1) (left_of last))) (filter none (drop (i + 1) (left_of last)))) gone ∙ rest),
-          )
-        where
-          fewer : (a b : Bool) → (a ≡ true → b ≡ true) → (not a && not b) ≡ not b
-          fewer true b h = ap not (sym (h refl))
-          fewer false b h = refl
-
-          more : (r : Item Op) → has_id r.id (ids_of last) ≡ true → has_id r.id (ids_of own) ≡ true
-          more r t = let f = from_has r.id last t in has_one r.id own f.0 (subst (In f.0) (sym cut) (in_right f.0 front (e ∷ last) (inr f.1))) f.2

@@ -1,5 +1,5 @@
 -- An item that lets those behind it pass, carried behind them and taken back there.
-use Rattle.std.proofs.Common.{◌≡◌, ℕ, ◌<◌, ◌≤◌, ◌+◌, ◌-◌, map, inl, inr, Bool, true, false, IsTrue}
+use Rattle.std.proofs.Common.{◌≡◌, ℕ, ◌<◌, ◌+◌, ◌-◌, map, inl, inr, Bool, true, false, IsTrue}
 use Rattle.std.proofs.Common.{List, [], ◌∷◌, ◌++◌, length, take, drop, get_or, refl, sym, ◌∙◌, ap, subst}
 use Rattle.std.proofs.Common.{arith, append_assoc, append-nil, length-append}
 use Rattle.std.specs.List.{remove, slice_set}
@@ -12,12 +12,12 @@ use Rattle.pp_model.specs.Object.{ops}
 use Rattle.pp_spec.specs.Calls.{WasApplied}
 use Rattle.pp_spec.specs.Object.{Object, AllowedFrom, AllRanged, IsAllowed, IsLawful, IsLegal, IsLog}
 use Rattle.pp_spec.specs.Object.{IsReached}
-use Rattle.pp_spec.specs.Object.{KeptAs, KeptAsAt, LetsPass, Swaps, state_after, state_from}
+use Rattle.pp_spec.specs.Object.{MayKeep, KeptAs, KeptAsAt, LetsPass, Swaps, state_after, state_from}
 use Rattle.pp_spec.proofs.Lists.{allowed-append, allowed-first, allowed-second, state-append}
 use Rattle.pp_spec.proofs.Passing.{IsPair, left_by, pair, passed_last, turned}
 use Rattle.pp_spec.proofs.Places.{reached_is_state}
-use Rattle.pp_log.specs.Carries.{IsCarried, IsOnWay}
-use Rattle.pp_log.specs.Parts.{there, with_first}
+use Rattle.pp_log.specs.Carries.{Carries, IsCarried, IsOnWay}
+use Rattle.pp_log.specs.Parts.{AllAt, there, with_first}
 use Rattle.pp_log.specs.Runs.{IsRun, kept_along}
 use Rattle.pp_log.specs.TakesOut.{Passes}
 use Rattle.pp_log.proofs.Edits.{ranged-remove, run_without}
@@ -83,6 +83,18 @@ module _ {Shape State Op Undo : Type 0} (o : Object Shape State Op Undo) (laws :
 
     own_now : o.upkeep.kept (state_from o b (x ++ c ∷ [])) a ≡ o.upkeep.kept (o.next (state_from o b x) c) a
     own_now = ap (λ (t : State). o.upkeep.kept t a) (state-append o b x (c ∷ []))
+
+    -- what stands for c among the others is what it keeps in some state
+    pub other_may_keep : (us : List Undo) (u d : Undo) → IsCarried o b x (c ∷ z) a us u → MayKeep o c (get_or us (length x) d)
+    other_may_keep us u d at =
+        let s = state_from o b x in
+        let rest = kept_along o (o.next (o.next s a) c) z in (
+          o.next s a,
+          stands.second,
+          sym (ap (λ (l : List Undo). get_or l (length x) d) (was us u at)
+              ∙ ap (λ (n : ℕ). get_or (kept_along o b x ++ o.upkeep.kept (o.next s a) c ∷ rest) n d) (sym (length-kept o b x))
+              ∙ get_mid (kept_along o b x) rest (o.upkeep.kept (o.next s a) c) d),
+        )
 
     -- a comes behind c
     pub carried_alone : (us : List Undo) (u : Undo) → KeptAs o false a c → IsCarried o b x (c ∷ z) a us u → IsCarried o b (x ++ c ∷ []) z a us u
@@ -280,7 +292,7 @@ module _ {Shape State Op Undo : Type 0} (o : Object Shape State Op Undo) (laws :
   behind = subst (λ (l : List (Item Op)). LetsPass o passes.item.op (ops l)) (sym passes.others) (subst (λ (c : Op). LetsPass o c (ops z)) (sym passes.op) passes.behind)
 
   -- before it is carried
-  pub way_first : (u : Undo) → u ≡ get_or us i u → IsOnWay o b h.base (ops (take i items)) (ops z) a (remove us i) u
+  way_first : (u : Undo) → u ≡ get_or us i u → IsOnWay o b h.base (ops (take i items)) (ops z) a (remove us i) u
   way_first u kept =
       subst (λ (l : List (Item Op)). IsOnWay o b h.base (ops (take i items)) (ops l) a (remove us i) u) passes.others
       (subst (λ (c : Op). IsOnWay o b h.base (ops (take i items)) (ops (drop (i + 1) items)) c (remove us i) u) passes.op (record {
@@ -289,10 +301,10 @@ module _ {Shape State Op Undo : Type 0} (o : Object Shape State Op Undo) (laws :
         carried = carried_first o laws b s items us h all i passes.item within is u kept;
       }))
 
-  pub many_before : length (ops (take i items)) ≡ i
+  many_before : length (ops (take i items)) ≡ i
   many_before = let k = within in length-ops (take i items) ∙ length-take-le i items (omega arith)
 
-  pub room_behind : i + length (ops z) ≤ length (remove us i)
+  room_behind : i + length (ops z) ≡ length (remove us i)
   room_behind =
       let k = within in
       let n = length-remove us i (omega (arith, all, k)) in
@@ -300,7 +312,14 @@ module _ {Shape State Op Undo : Type 0} (o : Object Shape State Op Undo) (laws :
       let d = length-drop (i + 1) items in
       omega (arith, all, k, n, m, d)
 
-  -- and behind all
+  -- carried behind all
+  pub way_last : (place : Op → ℕ) (rest vs : List Undo) (u v : Undo) → rest ≡ remove us i → u ≡ get_or us i u → AllAt place (place a) (ops z)
+      → Carries o place a i rest u vs v → IsCarried o b (ops (take i items) ++ ops z) [] a vs v
+  way_last place rest vs u v is kept one_place carries =
+      (carries b h.base (ops (take i items)) (ops z) many_before (subst (λ (l : List Undo). i + length (ops z) ≡ length l) (sym is) room_behind) passes.behind one_place
+      (subst (λ (l : List Undo). IsOnWay o b h.base (ops (take i items)) (ops z) a l u) (sym is) (way_first u kept))).carried
+
+  -- and then it is out
   module _ (vs : List Undo) (v : Undo) (carried : IsCarried o b (ops (take i items) ++ ops z) [] a vs v) where
     carried_all : IsCarried o b (ops (take i items) ++ ops (drop (i + 1) items)) [] passes.item.op vs v
     carried_all = subst (λ (l : List (Item Op)). IsCarried o b (ops (take i items) ++ ops l) [] passes.item.op vs v) (sym passes.others)

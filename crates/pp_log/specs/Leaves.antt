@@ -1,5 +1,5 @@
 -- Proof machinery: one entry after another leaves a log.
-use Rattle.std.specs.Prelude.{◌≡◌, ◌+◌, ℕ, List, drop, length, remove, slice_get, Some}
+use Rattle.std.specs.Prelude.{◌≡◌, ◌+◌, ℕ, List, drop, remove, slice_get, Some}
 use Rattle.pp_core.specs.declared.entry.Item.{Item}
 use Rattle.pp_model.specs.Lists.{Before, In}
 use Rattle.pp_model.specs.Object.{HasDistinctIds, ops}
@@ -13,53 +13,41 @@ use Rattle.pp_log.specs.Parts.{there}
 use Rattle.pp_log.specs.Room.{ids_of}
 use Rattle.pp_log.specs.TakesOut.{itself}
 
--- The item stands at the i-th position, before these others, of which it lets those of its place
--- pass.
-pub record StandsBefore {Shape State Op Undo : Type 0} (o : Object Shape State Op Undo)
-    (place : Op → ℕ) (log : List (Item Op)) (i : ℕ) (e : Item Op) (behind : List (Item Op)) : Type 0
-  where
-    pub is : slice_get log i ≡ Some e
-    pub others : drop (i + 1) log ≡ behind
-    pub passes : LetsPass o e.op (ops (there place (place e.op) behind))
+-- The item stands at the i-th position, and lets those of its place behind it pass.
+pub record MayPassOut {Shape State Op Undo : Type 0} (o : Object Shape State Op Undo)
+    (place : Op → ℕ) (log : List (Item Op)) (i : ℕ) (e : Item Op) : Type 0 where
+  pub is : slice_get log i ≡ Some e
+  pub passes : LetsPass o e.op (ops (there place (place e.op) (drop (i + 1) log)))
 
 -- So it is in a log of which all this is kept.
 pub record CanLeave {Shape State Op Undo : Type 0} (o : Object Shape State Op Undo)
     (place : Op → ℕ) (s : State) (ps : List (Place Undo)) (ids : Index) (i : ℕ) (e : Item Op)
-    (behind : List (Item Op)) : Type 0 where
+    : Type 0 where
   pub log : List (Item Op)
   pub keeps : KeepsAll o place s log ps ids
-  pub stands : StandsBefore o place log i e behind
+  pub stands : MayPassOut o place log i e
 
 -- What is kept is then of the log without it.
 abbrev pub Leaves : {Shape State Op Undo : Type 0} → Object Shape State Op Undo → (Op → ℕ) → ℕ →
-    Item Op → List (Item Op) → State → List (Place Undo) → Index → State → List (Place Undo) →
-    Index → Type 0
-Leaves {Shape} {State} {Op} o place i e behind s ps ids t qs js =
-    (log : List (Item Op)) → KeepsAll o place s log ps ids → StandsBefore o place log i e behind
+    Item Op → State → List (Place Undo) → Index → State → List (Place Undo) → Index → Type 0
+Leaves {Shape} {State} {Op} o place i e s ps ids t qs js =
+    (log : List (Item Op)) → KeepsAll o place s log ps ids → MayPassOut o place log i e
     → KeepsAll o place t (remove log i) qs js × (o.shape t ≡ o.shape s)
 
--- These items may leave the log, in which so many stand, and these are the others.
-pub record LeavesOthers {Shape State Op Undo : Type 0} (o : Object Shape State Op Undo)
-    (own log others : List (Item Op)) (size : ℕ) : Type 0 where
-  pub may : MayLeave o own log
-  pub others_are : others ≡ without_items itself own log
-  pub size_is : size ≡ length log
-
--- So it is of a log of which all this is kept.
+-- These items may leave a log of which all this is kept.
 pub record CanAllLeave {Shape State Op Undo : Type 0} (o : Object Shape State Op Undo)
-    (place : Op → ℕ) (s : State) (ps : List (Place Undo)) (ids : Index)
-    (own others : List (Item Op)) (size : ℕ) : Type 0 where
+    (place : Op → ℕ) (s : State) (ps : List (Place Undo)) (ids : Index) (own : List (Item Op))
+    : Type 0 where
   pub log : List (Item Op)
   pub keeps : KeepsAll o place s log ps ids
-  pub leaves : LeavesOthers o own log others size
+  pub may : MayLeave o own log
 
 -- What is kept is then of the others.
 abbrev pub AllLeave : {Shape State Op Undo : Type 0} → Object Shape State Op Undo → (Op → ℕ) →
-    List (Item Op) → List (Item Op) → ℕ → State → List (Place Undo) → Index → State →
-    List (Place Undo) → Index → Type 0
-AllLeave {Shape} {State} {Op} o place own others size s ps ids t qs js =
-    (log : List (Item Op)) → KeepsAll o place s log ps ids → LeavesOthers o own log others size
-    → KeepsAll o place t others qs js × (o.shape t ≡ o.shape s)
+    List (Item Op) → State → List (Place Undo) → Index → State → List (Place Undo) → Index → Type 0
+AllLeave {Shape} {State} {Op} o place own s ps ids t qs js =
+    (log : List (Item Op)) → KeepsAll o place s log ps ids → MayLeave o own log
+    → KeepsAll o place t (without_items itself own log) qs js × (o.shape t ≡ o.shape s)
 
 -- The items stand in the list in their order, the first of them at this position.
 pub record StandFrom {Op : Type 0} (own log : List (Item Op)) (from : ℕ) : Type 0 where

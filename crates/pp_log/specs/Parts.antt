@@ -1,5 +1,5 @@
 -- Proof machinery: the parts of a list of items by their places.
-use Rattle.std.specs.Prelude.{ℕ, nat_eq, List, [], ◌∷◌, cond, map}
+use Rattle.std.specs.Prelude.{◌≡◌, ℕ, nat_eq, List, [], ◌∷◌, cond, map}
 use Rattle.pp_core.specs.declared.entry.Item.{Item}
 
 -- The items of a place, in their order.
@@ -17,3 +17,8 @@ elsewhere place p (e ∷ x) =
 abbrev pub with_first : {Op E : Type 0} → (Op → ℕ) → (E → Item Op) → List E → List (Item Op)
 with_first place item_of [] = []
 with_first place item_of (e ∷ x) = there place (place (item_of e).op) (map item_of (e ∷ x))
+
+-- Each of the operations has this place.
+abbrev pub AllAt : {Op : Type 0} → (Op → ℕ) → ℕ → List Op → Type 0
+AllAt place p [] = Unit {0}
+AllAt place p (c ∷ z) = (p ≡ place c) × AllAt place p z

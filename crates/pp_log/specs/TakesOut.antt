@@ -7,6 +7,7 @@ use Rattle.pp_log.specs.declared.place.Place.{Place}
 use Rattle.pp_log.specs.declared.place.Removed.{Removed}
 use Rattle.pp_log.specs.declared.place.Removed.TheVariants.{Done, Differs}
 use Rattle.pp_log.specs.Logs.{DiffersFrom}
+use Rattle.pp_log.specs.Parts.{AllAt}
 use Rattle.pp_log.specs.Room.{ids_of}
 use Rattle.pp_log.specs.Runs.{IsRun}
 
@@ -34,13 +35,16 @@ pub record Passes {Shape State Op Undo : Type 0} (o : Object Shape State Op Undo
   pub others : drop (i + 1) items ≡ z
   pub behind : LetsPass o a (ops z)
 
--- All items of a place are applied, and the i-th one lets those behind it pass.
+-- All items of a place are applied, and the i-th one lets those behind it pass, which have its
+-- place.
 pub record CanPassOut {Shape State Op Undo : Type 0} (o : Object Shape State Op Undo)
-    (q : Place Undo) (s : State) (i : ℕ) (a : Op) (z : List (Item Op)) : Type 0 where
+    (place : Op → ℕ) (q : Place Undo) (s : State) (i : ℕ) (a : Op) : Type 0 where
   pub start : State
   pub items : List (Item Op)
+  pub behind : List (Item Op)
   pub whole : IsWhole o start items q s
-  pub passes : Passes o items i a z
+  pub passes : Passes o items i a behind
+  pub one_place : AllAt place (place a) (ops behind)
 
 -- An item, as it is.
 abbrev pub itself : {Op : Type 0} → Item Op → Item Op
@@ -63,10 +67,11 @@ TakesOutOf {Shape} {State} {Op} o from items old s new t removed =
     (b : State) (before : List (Item Op)) → length before ≡ from
     → IsWhole o b (before ++ items) old s → TakesOut o b (before ++ items) from new t removed
 
--- What taking the i-th item out leaves, where it has this operation and lets those behind it pass.
+-- What taking the i-th item out leaves, where it has this operation and lets those behind it pass,
+-- which have its place.
 abbrev pub PassesOutOf :
-    {Shape State Op Undo : Type 0} → Object Shape State Op Undo → ℕ → Op → List (Item Op) →
+    {Shape State Op Undo : Type 0} → Object Shape State Op Undo → (Op → ℕ) → ℕ → Op →
     Place Undo → State → Place Undo → State → Type 0
-PassesOutOf {Shape} {State} {Op} o i a z old s new t =
-    (b : State) (items : List (Item Op)) → Passes o items i a z
+PassesOutOf {Shape} {State} {Op} o place i a old s new t =
+    (b : State) (items z : List (Item Op)) → Passes o items i a z → AllAt place (place a) (ops z)
     → IsWhole o b items old s → IsWhole o b (remove items i) new t

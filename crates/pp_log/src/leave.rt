@@ -12,20 +12,18 @@ use pp_core::{Item, OutOfMemory, Ticks};
 use pp_spec::Placed;
 use std::sync::ledger::Ledger;
 
-/// Takes an item that stands at a position of the log back, which lets those of its place among the
-/// entries behind it pass. What is kept of it goes.
-fn take_one_back<S: Placed, T: Side<S::Op>, L: Ledger>(
+/// Takes an item that stands at a position of the log back, which lets those of its place behind it
+/// pass. What is kept of it goes.
+fn take_one_back<S: Placed, L: Ledger>(
     item: &Item<S::Op>,
     i: usize,
-    behind: &[T::Entry],
     ids: &mut Index,
     places: &mut Vec<Place<S::Undo>>,
     state: &mut S::State,
     ticks: &mut Ticks<L>,
 ) -> Result<(), OutOfMemory>
-    requires { CanLeave S.object S.place_of state.old places.old.items ids.old i item.now
-        (map T.item_of behind.now) }
-    ensures leaves { OnOk result (Leaves S.object S.place_of i item.now (map T.item_of behind.now)
+    requires { CanLeave S.object S.place_of state.old places.old.items ids.old i item.now }
+    ensures leaves { OnOk result (Leaves S.object S.place_of i item.now
         state.old places.old.items ids.old state.new places.new.items ids.new) }
     ensures cost { ticks.new ≡ ticks.old + 1 }
 {
@@ -34,42 +32,35 @@ fn take_one_back<S: Placed, T: Side<S::Op>, L: Ledger>(
     let Some(from) = position_in_place(&place.ids, ids, i, item.id) else {
         unreachable!()
     };
-    pass_out::<S, T, L>(place, from, &item.op, behind, state, ticks)?;
+    pass_out::<S, L>(place, from, &item.op, state, ticks)?;
     ids.remove(i, item.id);
     Ok(())
 }
 
-/// Takes items back from the last to the first, each of which lets the others behind it pass, where
-/// so many entries stood in the log. What is kept is then of the others.
-pub fn take_all_back<S: Placed, T: Side<S::Op>, L: Ledger>(
+/// Takes items back from the last to the first, each of which lets the others behind it pass. What
+/// is kept is then of the others.
+pub fn take_all_back<S: Placed, L: Ledger>(
     own: &[Item<S::Op>],
-    others: &[T::Entry],
-    size: usize,
     ids: &mut Index,
     places: &mut Vec<Place<S::Undo>>,
     state: &mut S::State,
     ticks: &mut Ticks<L>,
 ) -> Result<(), OutOfMemory>
-    requires { CanAllLeave S.object S.place_of state.old places.old.items ids.old own.now
-        (map T.item_of others.now) size }
-    ensures leaves { OnOk result (AllLeave S.object S.place_of own.now (map T.item_of others.now)
-        size state.old places.old.items ids.old state.new places.new.items ids.new) }
+    requires { CanAllLeave S.object S.place_of state.old places.old.items ids.old own.now }
+    ensures leaves { OnOk result (AllLeave S.object S.place_of own.now
+        state.old places.old.items ids.old state.new places.new.items ids.new) }
     ensures cost { OnOk result (ticks.new ≡ ticks.old + length own.now) }
     ensures rises { ticks.old ≤ ticks.new }
     ensures bound { ticks.new ≤ ticks.old + length own.now }
 {
     let mut left = own.len();
-    let mut size = size;
     while left > 0 {
         left -= 1;
         let item = &own[left];
         let Some(i) = ids.find(item.id) else {
             unreachable!()
         };
-        size -= 1;
-        // The own ones behind it have left, so those behind it are the last of the others.
-        let behind = &others[others.len() - (size - i)..];
-        take_one_back::<S, T, L>(item, i, behind, ids, places, state, ticks)?;
+        take_one_back::<S, L>(item, i, ids, places, state, ticks)?;
     }
     Ok(())
 }

@@ -246,17 +246,8 @@ impl<S: Placed, T: Side<S::Op>> Log<S, T> {
             mut state,
             alloc,
         } = self;
-        let size = entries.len();
         leave_out::<S::Op, T>(&mut entries, &ids, own);
-        take_all_back::<S, T, L>(
-            own,
-            &entries,
-            size,
-            &mut ids,
-            &mut places,
-            &mut state,
-            ticks,
-        )?;
+        take_all_back::<S, L>(own, &mut ids, &mut places, &mut state, ticks)?;
         Ok(Log {
             entries,
             ids,

@@ -87,25 +87,22 @@ fn lets_pass<S: Placed, T: Side<S::Op>>(op: &S::Op, entries: &[T::Entry]) -> boo
 }
 
 /// Takes the entry with this operation that stands at `from` out of its place, as if it were the
-/// last one there, where it lets those behind it pass: those of its place among these entries.
-pub fn pass_out<S: Placed, T: Side<S::Op>, L: Ledger>(
+/// last one there, where it lets those behind it pass.
+pub fn pass_out<S: Placed, L: Ledger>(
     place: &mut Place<S::Undo>,
     from: usize,
     op: &S::Op,
-    behind: &[T::Entry],
     state: &mut S::State,
     ticks: &mut Ticks<L>,
 ) -> Result<(), OutOfMemory>
-    requires { CanPassOut S.object place.old state.old from op.now
-        (there S.place_of (S.place_of op.now) (map T.item_of behind.now)) }
-    ensures takes { OnOk result (PassesOutOf S.object from op.now
-        (there S.place_of (S.place_of op.now) (map T.item_of behind.now))
+    requires { CanPassOut S.object S.place_of place.old state.old from op.now }
+    ensures takes { OnOk result (PassesOutOf S.object S.place_of from op.now
         place.old state.old place.new state.new) }
     ensures cost { ticks.new ≡ ticks.old + 1 }
 {
     let _ = place.ids.remove(from);
     let undo = place.undos.remove(from);
-    let undo = carry::<S, T>(op, undo, behind, &mut place.undos, from);
+    let undo = carry::<S>(op, undo, &mut place.undos, from);
     S::undo(state, op, undo, ticks)?;
     Ok(())
 }
@@ -154,7 +151,7 @@ pub fn take_out<S: Placed, T: Side<S::Op>, L: Ledger>(
     let op = T::item(&entries[0]).op;
     let behind = &entries[1..];
     if lets_pass::<S, T>(&op, behind) {
-        pass_out::<S, T, L>(place, from, &op, behind, state, ticks)?;
+        pass_out::<S, L>(place, from, &op, state, ticks)?;
         return Ok(Removed::Done);
     }
     let items = items_there::<S, T>(entries, S::place(&op), alloc)?;

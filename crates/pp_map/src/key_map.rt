@@ -109,11 +109,6 @@ impl Spec for KeyMap {
     }
 
     #[inline(always)]
-    fn keep_in_turn(_a: &MapOp, _b: &MapOp) -> bool {
-        false
-    }
-
-    #[inline(always)]
     fn keeps_alone(_a: &MapOp) -> bool {
         true
     }

@@ -6,13 +6,14 @@ use Rattle.pp_spec.specs.Object.{Object}
 use Rattle.pp_keyed.specs.Keys.{Keys}
 use Rattle.pp_mem.specs.declared.op.MemOp.{MemOp}
 use Rattle.pp_mem.specs.declared.op.MemOp.TheVariants.{Read}
+use Rattle.pp_mem.specs.declared.undo.Undo.{Undo}
 use Rattle.pp_mem.specs.Values.{value_at, HasNoZero}
 use Rattle.pp_mem.specs.Operations.{address_of, Finds, left_by, call_of, recorded_by, given_by}
 use Rattle.pp_mem.specs.Operations.{memory_after, kept_by, memory_before, in_clique, is_ranged}
 use Rattle.pp_mem.specs.Contexts.{refuting_lists}
 
 -- numbers at addresses, at first 0 everywhere, which operations read and write
-abbrev pub memory : Object (Unit {0}) (FinMap int_cmp ℤ) MemOp ℤ
+abbrev pub memory : Object (Unit {0}) (FinMap int_cmp ℤ) MemOp Undo
 memory = record {
   start = λ shape. empty;
   shape = λ m. tt;

@@ -10,6 +10,8 @@ use Rattle.pp_core.specs.declared.call.Method.TheVariants.{Cas as CasCall}
 use Rattle.pp_spec.specs.Numbers.{in_range}
 use Rattle.pp_mem.specs.declared.op.MemOp.{MemOp}
 use Rattle.pp_mem.specs.declared.op.MemOp.TheVariants.{Read, Write, Cas}
+use Rattle.pp_mem.specs.declared.undo.Undo.{Undo}
+use Rattle.pp_mem.specs.declared.undo.Undo.TheVariants.{Covered, Nothing}
 use Rattle.pp_mem.specs.Values.{value_at, written}
 
 -- its address
@@ -23,6 +25,12 @@ abbrev pub is_write : MemOp → Bool
 is_write (Read a v) = false
 is_write (Write a v) = true
 is_write (Cas a e n done) = false
+
+-- it writes at this address, whatever stands there
+abbrev pub writes_at : MemOp → ℤ → Bool
+writes_at (Read a v) address = false
+writes_at (Write a v) address = int_eq a address
+writes_at (Cas a e n done) address = false
 
 -- whether this number may stand there before it, by its result
 abbrev pub Finds : MemOp → ℤ → Type 0
@@ -65,17 +73,22 @@ memory_after m (Read a v) = m
 memory_after m (Write a v) = written m a v
 memory_after m (Cas a e n done) = if int_eq (value_at m a) e then written m a n else m
 
--- the number that a write covers, and the memory that it brings back; a compare-and-swap tells
--- itself what it covered
-abbrev pub kept_by : FinMap int_cmp ℤ → MemOp → ℤ
-kept_by m (Read a v) = pos 0
-kept_by m (Write a v) = value_at m a
-kept_by m (Cas a e n done) = pos 0
+-- the number that a write covers, with its address; a compare-and-swap tells itself what it covered
+abbrev pub kept_by : FinMap int_cmp ℤ → MemOp → Undo
+kept_by m (Read a v) = Nothing
+kept_by m (Write a v) = Covered a (value_at m a)
+kept_by m (Cas a e n done) = Nothing
 
-abbrev pub memory_before : FinMap int_cmp ℤ → MemOp → ℤ → FinMap int_cmp ℤ
-memory_before m (Read a v) was = m
-memory_before m (Write a v) was = written m a was
-memory_before m (Cas a e n done) was = if done then written m a e else m
+-- the number that a write covered, or 0
+abbrev pub number_of : Undo → ℤ
+number_of (Covered a number) = number
+number_of Nothing = pos 0
+
+-- the memory that this brings back
+abbrev pub memory_before : FinMap int_cmp ℤ → MemOp → Undo → FinMap int_cmp ℤ
+memory_before m (Read a v) undo = m
+memory_before m (Write a v) undo = written m a (number_of undo)
+memory_before m (Cas a e n done) undo = if done then written m a e else m
 
 -- all its numbers lie in the range of records
 abbrev pub is_ranged : MemOp → Bool

@@ -6,7 +6,9 @@ mod mem;
 mod memory;
 mod movers;
 mod op;
+mod undo;
 
 pub use mem::Mem;
 pub use memory::Memory;
 pub use op::MemOp;
+pub use undo::Undo;

@@ -1,4 +1,5 @@
 //! The calls of a memory.
+ghost use Rattle.pp_spec.specs.Object.{KeptAs, MayKeep, Swaps};
 ghost use Rattle.pp_mem.specs.Memories.{memory};
 ghost use Rattle.pp_mem.specs.laws.Lawful.{memory_lawful};
 
@@ -6,14 +7,31 @@ use crate::contexts::lists_round;
 use crate::memory::Memory;
 use crate::movers::may_swap;
 use crate::op::MemOp;
+use crate::undo::Undo;
 use pp_core::{Answer, OutOfMemory, Ticks};
 use pp_spec::{Applied, Context, Spec};
 use std::alloc::Global;
 use std::sync::ledger::Ledger;
 
-/// Memories. What a write keeps is the number that it covers.
+/// Memories. What a write keeps is the number that it covers, with its address.
 #[derive(Drop)]
 pub struct Mem;
+
+impl Mem {
+    /// Whether an operation and one that it lets pass keep in turn what takes them back, as what the
+    /// other one keeps tells: so do two writes at one address, and else each keeps the same in both
+    /// orders.
+    #[inline(always)]
+    pub fn keep_in_turn(a: &MemOp, kept: &Undo) -> bool
+        ensures { (b : MemOp) → MayKeep memory b kept.now → Swaps memory a.now b
+            → KeptAs memory result a.now b }
+    {
+        match *kept {
+            Undo::Covered { at, number: _ } => a.writes_at(at),
+            Undo::Nothing => false,
+        }
+    }
+}
 
 impl Spec for Mem {
     type Shape = ();
@@ -22,7 +40,7 @@ impl Spec for Mem {
 
     type Op = MemOp;
 
-    type Undo = i64;
+    type Undo = Undo;
 
     ghost object = { memory };
 
@@ -67,16 +85,16 @@ impl Spec for Mem {
         state: &mut Memory,
         op: &MemOp,
         ticks: &mut Ticks<L>,
-    ) -> Result<Applied<i64>, OutOfMemory> {
+    ) -> Result<Applied<Undo>, OutOfMemory> {
         ticks.tick();
         if !Self::legal(state, op) {
             return Ok(Applied::Differs);
         }
         match *op {
-            MemOp::Read { at: _, value: _ } => Ok(Applied::Done(0)),
+            MemOp::Read { at: _, value: _ } => Ok(Applied::Done(Undo::Nothing)),
             MemOp::Write { at, value } => {
-                let was = state.write(at, value)?;
-                Ok(Applied::Done(was))
+                let number = state.write(at, value)?;
+                Ok(Applied::Done(Undo::Covered { at, number }))
             }
             MemOp::Cas {
                 at,
@@ -85,23 +103,23 @@ impl Spec for Mem {
                 ..
             } => {
                 state.write(at, new)?;
-                Ok(Applied::Done(0))
+                Ok(Applied::Done(Undo::Nothing))
             }
-            MemOp::Cas { done: false, .. } => Ok(Applied::Done(0)),
+            MemOp::Cas { done: false, .. } => Ok(Applied::Done(Undo::Nothing)),
         }
     }
 
     fn undo<L: Ledger>(
         state: &mut Memory,
         op: &MemOp,
-        undo: i64,
+        undo: Undo,
         ticks: &mut Ticks<L>,
     ) -> Result<(), OutOfMemory> {
         ticks.tick();
         match *op {
             MemOp::Read { at: _, value: _ } => {}
             MemOp::Write { at, value: _ } => {
-                state.write(at, undo)?;
+                state.write(at, undo.number())?;
             }
             MemOp::Cas {
                 at,
@@ -119,14 +137,6 @@ impl Spec for Mem {
     #[inline(always)]
     fn swaps(a: &MemOp, b: &MemOp) -> bool {
         may_swap(a, b)
-    }
-
-    #[inline(always)]
-    fn keep_in_turn(a: &MemOp, b: &MemOp) -> bool {
-        if a.address() != b.address() {
-            return false;
-        }
-        a.is_write() && b.is_write()
     }
 
     #[inline(always)]

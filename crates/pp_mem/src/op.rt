@@ -1,7 +1,7 @@
 //! The operations of a memory.
 ghost use Rattle.std.specs.Prelude.{◌≡◌};
 ghost use Rattle.pp_mem.specs.Operations.{address_of, is_write, call_of, recorded_by, is_ranged};
-ghost use Rattle.pp_mem.specs.Operations.{in_clique};
+ghost use Rattle.pp_mem.specs.Operations.{in_clique, writes_at};
 
 use pp_core::{Answer, Call, Method};
 use pp_spec::in_range;
@@ -49,6 +49,18 @@ impl MemOp {
         match *self {
             MemOp::Read { at: _, value: _ } => false,
             MemOp::Write { at: _, value: _ } => true,
+            MemOp::Cas { .. } => false,
+        }
+    }
+
+    /// Whether it writes at this address, whatever stands there.
+    #[inline]
+    pub fn writes_at(&self, address: i64) -> bool
+        ensures { result ≡ writes_at self.now address }
+    {
+        match *self {
+            MemOp::Read { at: _, value: _ } => false,
+            MemOp::Write { at, value: _ } => at == address,
             MemOp::Cas { .. } => false,
         }
     }

@@ -3,9 +3,9 @@ use Rattle.std.proofs.Common.{◌≡◌, Bool, true, false, IsTrue, ◌↔◌, r
 use Rattle.pp_core.specs.declared.call.Kind.{Kind}
 use Rattle.pp_spec.specs.Calls.{WasApplied}
 use Rattle.pp_spec.specs.Object.{IsReached, Swaps}
+use Rattle.pp_mem.specs.declared.undo.Undo.{Undo}
 use Rattle.pp_object.specs.declared.act.Act.{Act}
 use Rattle.pp_object.specs.declared.states.ObjectState.{ObjectState}
-use Rattle.pp_object.specs.declared.states.Undo.{Undo}
 use Rattle.pp_object.specs.One.{one}
 use Rattle.pp_object.specs.laws.Kinds.{Ops, States, act_of, its_act, object_of, state_of, undo_from}
 use Rattle.pp_object.specs.laws.Acts.{swaps_in, swaps_out}

@@ -1,18 +1,24 @@
 -- Proof machinery: what is kept of a pair is as the object alone keeps it.
-use Rattle.std.proofs.Common.{◌≡◌, ℕ, Bool, true, false, IsTrue, List, [], ◌∷◌, Option, Some, sym, ◌∙◌}
+use Rattle.std.proofs.Common.{◌≡◌, ℕ, Bool, true, false, IsTrue, List, [], ◌∷◌, Option, Some, refl, sym, ◌∙◌}
 use Rattle.std.proofs.Common.{ap, subst}
 use Rattle.std.proofs.Common.{inl, inr}
 use Rattle.std.proofs.lemmas.Bool.Decides.{eqb_tells}
 use Rattle.std.specs.List.{slice_get}
 use Rattle.pp_core.specs.declared.call.Kind.{Kind}
-use Rattle.pp_spec.specs.Object.{IsLegal, KeptAs, KeptAsAt, Swaps}
+use Rattle.pp_core.specs.declared.call.Kind.TheVariants as kinds
+use Rattle.pp_spec.specs.Object.{IsLegal, MayKeep, KeptAs, KeptAsAt, Swaps}
+use Rattle.pp_mem.specs.declared.op.MemOp.{MemOp}
+use Rattle.pp_mem.specs.declared.undo.Undo.{Undo}
 use Rattle.pp_object.specs.declared.act.Act.{Act}
+use Rattle.pp_object.specs.declared.act.Act.TheVariants.{Memory, KeySet, KeyMap, Counter, Queue}
+use Rattle.pp_object.specs.declared.act.Act.TheVariants.{Stack, PriorityQueue}
 use Rattle.pp_object.specs.declared.act.Op.{Op}
 use Rattle.pp_object.specs.declared.states.ObjectState.{ObjectState}
 use Rattle.pp_object.specs.One.{one}
 use Rattle.pp_object.specs.Objects.{objects, kept_in, act_at}
 use Rattle.pp_object.specs.laws.Kinds.{Ops, States, act_of, from_state, its_act, its_state, kept_is}
-use Rattle.pp_object.specs.laws.Kinds.{next_is, object_of, only_kind, state_of, undo_as}
+use Rattle.pp_object.specs.laws.Kinds.{next_is, object_of, one_undo, only_kind, state_of}
+use Rattle.pp_object.specs.laws.Kinds.{undo_as, undo_from}
 use Rattle.pp_object.specs.laws.Acts.{legal_out, swaps_out}
 use Rattle.pp_object.specs.laws.One.{one_lawful}
 use Rattle.pp_object.specs.laws.Objects.{objects_placed}
@@ -63,7 +69,7 @@ module _ (k : Kind) where
       subst P (sym u.1) there is h g l
 
   -- A pair of the kind.
-  pub pair_kept : (in_turn : Bool) (x y : Act) (a b : Ops k) → x ≡ act_of k a → y ≡ act_of k b
+  pair_kept : (in_turn : Bool) (x y : Act) (a b : Ops k) → x ≡ act_of k a → y ≡ act_of k b
       → (Swaps (object_of k) a b → KeptAs (object_of k) in_turn a b)
       → Swaps one x y → KeptAs one in_turn x y
   pair_kept in_turn x y a b e f kept =
@@ -80,11 +86,29 @@ module _ (k : Kind) where
       let kind = only_kind k (one.shape s) a own.0 in
       its_act k y (subst (λ (q : Kind). IsTrue (one.fits q y)) kind g.0)
 
-  -- An act of another kind is never legal beside it.
-  pub strangers_kept : (x y : Act) (a : Ops k) → x ≡ act_of k a
-      → ((b : Ops k) → y ≡ act_of k b → ⊥) → Swaps one x y → KeptAs one false x y
-  strangers_kept x y a e never swaps s is h g l =
-      let b = beside x y a e s h g in absurd (never b.0 b.1)
+  -- What is kept of an act of the kind.
+  keeps_out : (b : Ops k) (u : Undo) → MayKeep one (act_of k b) u
+      → MayKeep (object_of k) b (undo_from k u)
+  keeps_out b u keeps =
+      let t = its_state k keeps.0 (only_kind k (one.shape keeps.0) b keeps.1.0) in
+      let legal = subst (λ (s : ObjectState). IsLegal one s (act_of k b)) t.1 keeps.1 in
+      let kept = sym (kept_is k t.0 b)
+      ∙ ap (λ (s : ObjectState). one.upkeep.kept s (act_of k b)) (sym t.1) ∙ keeps.2 in (
+        t.0,
+        legal_out k t.0 b legal,
+        sym (one_undo k ((object_of k).upkeep.kept t.0 b))
+            ∙ ap (undo_from k) kept,
+      )
+
+  -- An act of the kind with any other one, of which this is kept.
+  pub told_kept : (in_turn : Bool) (x : Act) (a : Ops k) (u : Undo) → x ≡ act_of k a
+      → ((b : Ops k) → MayKeep (object_of k) b (undo_from k u) → Swaps (object_of k) a b
+      → KeptAs (object_of k) in_turn a b)
+      → (y : Act) → MayKeep one y u → Swaps one x y → KeptAs one in_turn x y
+  told_kept in_turn x a u e kept y keeps swaps s is h g l =
+      let b = beside x y a e s h g in
+      let told = keeps_out b.0 u (subst (λ (v : Act). MayKeep one v u) b.1 keeps) in
+      pair_kept in_turn x y a b.0 e b.1 (kept b.0 told) swaps s is h g l
 
   -- An act that keeps in turn with none of its kind does so with none.
   pub alone_kept : (alone : Bool) (x : Act) (a : Ops k) → x ≡ act_of k a
@@ -93,6 +117,27 @@ module _ (k : Kind) where
   alone_kept alone x a e kept t y swaps s is h g l =
       let b = beside x y a e s h g in
       pair_kept false x y a b.0 e b.1 (kept t b.0) swaps s is h g l
+
+-- Where the same is kept of an act in each state, it keeps in turn with none.
+nothing_kept : (k : Kind) (x : Act) (a : Ops k) → x ≡ act_of k a
+    → ((s t : States k) (b : Ops k)
+    → (object_of k).upkeep.kept s b ≡ (object_of k).upkeep.kept t b)
+    → (y : Act) → Swaps one x y → KeptAs one false x y
+nothing_kept k x a e same = alone_kept k true x a e
+    (λ t b swaps s is f g l. (same s ((object_of k).next s a) b, same ((object_of k).next s b) s a))
+    refl
+
+-- An act on another object than a memory keeps in turn with none, as nothing is kept of it.
+pub other_kept : (x : Act) → ((a : MemOp) → x ≡ Memory a → ⊥) → (y : Act) → Swaps one x y
+    → KeptAs one false x y
+other_kept (Memory a) h = absurd (h a refl)
+other_kept (KeySet a) h = nothing_kept kinds.KeySet (KeySet a) a refl (λ s t b. refl)
+other_kept (KeyMap a) h = nothing_kept kinds.KeyMap (KeyMap a) a refl (λ s t b. refl)
+other_kept (Counter a) h = nothing_kept kinds.Counter (Counter a) a refl (λ s t b. refl)
+other_kept (Queue a) h = nothing_kept kinds.Queue (Queue a) a refl (λ s t b. refl)
+other_kept (Stack a) h = nothing_kept kinds.Stack (Stack a) a refl (λ s t b. refl)
+other_kept (PriorityQueue a) h = nothing_kept kinds.PriorityQueue (PriorityQueue a) a refl
+    (λ s t b. refl)
 
 -- Operations of one place.
 seen_there : (p : ℕ) (ss : List ObjectState) (a : Act) (s : ObjectState) → slice_get ss p ≡ Some s
@@ -136,8 +181,14 @@ same_place_kept in_turn a b e kept =
     let there : P a.object = in_place in_turn a.object a.act b.act kept in
     subst P e there
 
+pub keeps_there : (b : Op) (u : Undo) → MayKeep objects b u → MayKeep one b.act u
+keeps_there b u keeps =
+    let s = legal_there one one_lawful keeps.0 b keeps.1 in
+    let both = allowed_alone one one_lawful b.object (b.act ∷ []) keeps.0 s.0 s.1 (keeps.1, tt) in
+    (s.0, both.0, sym (seen_there b.object keeps.0 b.act s.0 s.1) ∙ keeps.2)
+
 -- Operations of different places.
-pub other_place_kept : (a b : Op) → (a.object ≡ b.object → ⊥) → KeptAs objects false a b
+other_place_kept : (a b : Op) → (a.object ≡ b.object → ⊥) → KeptAs objects false a b
 other_place_kept a b apart ss is h g l = (
   objects_placed.kept_there ss (objects.next ss a) b
       (objects_placed.next_elsewhere ss a b.object (λ e. apart (sym e))),

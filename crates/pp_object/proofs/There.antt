@@ -9,10 +9,10 @@ use Rattle.pp_spec.specs.Calls.{Applies, WasApplied}
 use Rattle.pp_spec.specs.Object.{Swaps}
 use Rattle.pp_spec.specs.declared.spec.Applied.{Applied}
 use Rattle.pp_spec.specs.declared.spec.Applied.TheVariants.{Done, Differs}
+use Rattle.pp_mem.specs.declared.undo.Undo.{Undo}
 use Rattle.pp_object.specs.declared.act.Act.{Act}
 use Rattle.pp_object.specs.declared.act.Op.{Op}
 use Rattle.pp_object.specs.declared.states.ObjectState.{ObjectState}
-use Rattle.pp_object.specs.declared.states.Undo.{Undo}
 use Rattle.pp_object.specs.One.{one}
 use Rattle.pp_object.specs.Objects.{objects, gives_in, kept_in, fits_in, put, act_at}
 use Rattle.pp_object.specs.laws.Elements.{set_own}

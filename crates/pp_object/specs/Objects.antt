@@ -8,11 +8,11 @@ use Rattle.pp_core.specs.declared.answer.Answer.{Answer}
 use Rattle.pp_core.specs.declared.answer.Answer.TheVariants.{None as NoAnswer}
 use Rattle.pp_core.specs.declared.call.Kind.{Kind}
 use Rattle.pp_spec.specs.Object.{Object}
+use Rattle.pp_mem.specs.declared.undo.Undo.{Undo}
+use Rattle.pp_mem.specs.declared.undo.Undo.TheVariants.{Nothing}
 use Rattle.pp_object.specs.declared.act.Act.{Act}
 use Rattle.pp_object.specs.declared.act.Op.{Op}
 use Rattle.pp_object.specs.declared.states.ObjectState.{ObjectState}
-use Rattle.pp_object.specs.declared.states.Undo.{Undo}
-use Rattle.pp_object.specs.declared.states.Undo.TheVariants.{Nothing}
 use Rattle.pp_object.specs.One.{one, both_as}
 
 -- the act on the object at a place

@@ -1,6 +1,5 @@
 -- Meaning: what one object means, of whatever kind: what its kind means.
-use Rattle.std.specs.Prelude.{ℤ, Bool, true, false, List, map, Option, Some, None, pos, Result, Ok}
-use Rattle.std.specs.Prelude.{Err}
+use Rattle.std.specs.Prelude.{Bool, true, false, List, map, Option, Some, None, Result, Ok, Err}
 use Rattle.pp_core.specs.declared.answer.OutOfMemory.{OutOfMemory}
 use Rattle.pp_spec.specs.declared.spec.Applied.{Applied}
 use Rattle.pp_spec.specs.declared.spec.Applied.TheVariants.{Done, Differs}
@@ -17,13 +16,13 @@ use Rattle.pp_counter.specs.Count.{counter}
 use Rattle.pp_queue.specs.Fifo.{fifo}
 use Rattle.pp_stack.specs.Stacks.{stack}
 use Rattle.pp_prio.specs.Prios.{prio}
+use Rattle.pp_mem.specs.declared.undo.Undo.{Undo}
+use Rattle.pp_mem.specs.declared.undo.Undo.TheVariants.{Nothing}
 use Rattle.pp_object.specs.declared.act.Act.{Act}
 use Rattle.pp_object.specs.declared.act.Act.TheVariants.{Memory, KeySet, KeyMap, Counter, Queue}
 use Rattle.pp_object.specs.declared.act.Act.TheVariants.{Stack, PriorityQueue}
 use Rattle.pp_object.specs.declared.states.ObjectState.{ObjectState}
 use Rattle.pp_object.specs.declared.states.ObjectState.TheVariants as states
-use Rattle.pp_object.specs.declared.states.Undo.{Undo}
-use Rattle.pp_object.specs.declared.states.Undo.TheVariants.{Covered, Nothing}
 
 -- it is the state of some run of its kind
 abbrev pub IsState : ObjectState → Type 0
@@ -128,20 +127,14 @@ state_after (states.Stack s) (Stack a) = states.Stack (stack.next s a)
 state_after (states.PriorityQueue s) (PriorityQueue a) = states.PriorityQueue (prio.next s a)
 state_after s a = s
 
--- what is kept to take it back: a memory's number, and else nothing
+-- what is kept to take it back: what a memory keeps, and else nothing
 abbrev pub kept_by : ObjectState → Act → Undo
-kept_by (states.Memory s) (Memory a) = Covered (memory.upkeep.kept s a)
+kept_by (states.Memory s) (Memory a) = memory.upkeep.kept s a
 kept_by s a = Nothing
-
--- the number that was kept
-abbrev pub covered_by : Undo → ℤ
-covered_by (Covered number) = number
-covered_by Nothing = pos 0
 
 -- the state that this brings back
 abbrev pub state_before : ObjectState → Act → Undo → ObjectState
-state_before (states.Memory s) (Memory a) undo =
-    states.Memory (memory.upkeep.back s a (covered_by undo))
+state_before (states.Memory s) (Memory a) undo = states.Memory (memory.upkeep.back s a undo)
 state_before (states.KeySet s) (KeySet a) undo = states.KeySet (key_set.upkeep.back s a tt)
 state_before (states.KeyMap s) (KeyMap a) undo = states.KeyMap (key_map.upkeep.back s a tt)
 state_before (states.Counter s) (Counter a) undo = states.Counter (counter.upkeep.back s a tt)
@@ -167,12 +160,12 @@ refuting_lists (Stack a) (Stack b) = both_as Stack (stack.refuting a b)
 refuting_lists (PriorityQueue a) (PriorityQueue b) = both_as PriorityQueue (prio.refuting a b)
 refuting_lists a b = None
 
--- what `apply` did, with what is kept among what all kinds keep
-abbrev pub kept_as : {U : Type 0} → (U → Undo) → Result (Applied U) OutOfMemory
+-- what `apply` did, with nothing kept
+abbrev pub keeping_nothing : Result (Applied (Unit {0})) OutOfMemory
     → Result (Applied Undo) OutOfMemory
-kept_as f (Ok (Done undo)) = Ok (Done (f undo))
-kept_as f (Ok Differs) = Ok Differs
-kept_as f (Err refused) = Err refused
+keeping_nothing (Ok (Done u)) = Ok (Done Nothing)
+keeping_nothing (Ok Differs) = Ok Differs
+keeping_nothing (Err refused) = Err refused
 
 -- it is in the clique of its kind
 abbrev pub in_clique : Act → Bool

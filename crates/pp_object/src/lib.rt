@@ -18,4 +18,4 @@ pub use form::{Form, answer_form};
 pub use objects::Objects;
 pub use one::OneObject;
 pub use pieces::{Piece, Pieces, show};
-pub use states::{ObjectState, ObjectStates, Undo};
+pub use states::{ObjectState, ObjectStates};

@@ -8,8 +8,9 @@ ghost use Rattle.pp_object.specs.laws.Objects.{objects_lawful, objects_placed};
 use crate::act::Op;
 use crate::acts::context_at;
 use crate::one::OneObject;
-use crate::states::{ObjectState, ObjectStates, Undo};
+use crate::states::{ObjectState, ObjectStates};
 use pp_core::{Answer, Call, Kinds, OutOfMemory, Ticks};
+use pp_mem::Undo;
 use pp_spec::{Applied, Context, Placed, Spec};
 use std::alloc::Global;
 use std::sync::ledger::Ledger;
@@ -110,14 +111,6 @@ impl Spec for Objects {
     }
 
     #[inline(always)]
-    fn keep_in_turn(a: &Op, b: &Op) -> bool {
-        if a.object != b.object {
-            return false;
-        }
-        OneObject::keep_in_turn(&a.act, &b.act)
-    }
-
-    #[inline(always)]
     fn keeps_alone(a: &Op) -> bool {
         OneObject::keeps_alone(&a.act)
     }
@@ -140,6 +133,11 @@ impl Placed for Objects {
 
     fn place(op: &Op) -> u16 {
         op.object
+    }
+
+    #[inline(always)]
+    fn keep_in_turn(a: &Op, kept: &Undo) -> bool {
+        OneObject::keep_in_turn(&a.act, kept)
     }
 
     fn call(op: &Op) -> Call {

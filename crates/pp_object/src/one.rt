@@ -1,17 +1,16 @@
 //! One object of any kind, by a match on its kind.
 ghost use Rattle.std.specs.Prelude.{◌≡◌, ◌↔◌, IsTrue};
-ghost use Rattle.pp_spec.specs.Object.{Swaps};
-ghost use Rattle.pp_object.specs.One.{one, kept_as};
-ghost use Rattle.pp_object.specs.declared.states.Undo.TheVariants.{Covered, Nothing};
+ghost use Rattle.pp_spec.specs.Object.{MayKeep, KeptAs, Swaps};
+ghost use Rattle.pp_object.specs.One.{one, keeping_nothing};
 ghost use Rattle.pp_object.specs.laws.One.{one_lawful};
 
 use crate::act::Act;
 use crate::acts::context_of;
-use crate::states::{ObjectState, Undo};
+use crate::states::ObjectState;
 use pp_core::{Answer, Kind, OutOfMemory, Ticks};
 use pp_counter::Count;
 use pp_map::KeyMap;
-use pp_mem::Mem;
+use pp_mem::{Mem, Undo};
 use pp_prio::Prio;
 use pp_queue::Fifo;
 use pp_set::KeySet;
@@ -24,20 +23,9 @@ use std::sync::ledger::Ledger;
 #[derive(Drop)]
 pub struct OneObject;
 
-/// What `apply` of a memory did.
-fn covered(applied: Result<Applied<i64>, OutOfMemory>) -> Result<Applied<Undo>, OutOfMemory>
-    ensures { result ≡ kept_as Covered applied }
-{
-    match applied {
-        Ok(Applied::Done(number)) => Ok(Applied::Done(Undo::Covered(number))),
-        Ok(Applied::Differs) => Ok(Applied::Differs),
-        Err(refused) => Err(refused),
-    }
-}
-
-/// What `apply` of any other kind did.
-fn uncovered(applied: Result<Applied<()>, OutOfMemory>) -> Result<Applied<Undo>, OutOfMemory>
-    ensures { result ≡ kept_as (λ u. Nothing) applied }
+/// What `apply` of a kind that keeps nothing did.
+fn keeping_nothing(applied: Result<Applied<()>, OutOfMemory>) -> Result<Applied<Undo>, OutOfMemory>
+    ensures { result ≡ keeping_nothing applied }
 {
     match applied {
         Ok(Applied::Done(())) => Ok(Applied::Done(Undo::Nothing)),
@@ -60,6 +48,21 @@ fn may_swap(a: &Act, b: &Act) -> bool
         (Act::Stack(a), Act::Stack(b)) => Stack::swaps(a, b),
         (Act::PriorityQueue(a), Act::PriorityQueue(b)) => Prio::swaps(a, b),
         _ => true,
+    }
+}
+
+impl OneObject {
+    /// Whether an act and one that it lets pass keep in turn what takes them back, as what the other
+    /// one keeps tells. Only acts on a memory keep anything.
+    #[inline(always)]
+    pub fn keep_in_turn(a: &Act, kept: &Undo) -> bool
+        ensures { (b : Act) → MayKeep one b kept.now → Swaps one a.now b
+            → KeptAs one result a.now b }
+    {
+        match a {
+            Act::Memory(a) => Mem::keep_in_turn(a, kept),
+            _ => false,
+        }
     }
 }
 
@@ -139,23 +142,25 @@ impl Spec for OneObject {
         ticks: &mut Ticks<L>,
     ) -> Result<Applied<Undo>, OutOfMemory> {
         match (state, op) {
-            (ObjectState::Memory(state), Act::Memory(op)) => covered(Mem::apply(state, op, ticks)),
+            (ObjectState::Memory(state), Act::Memory(op)) => Mem::apply(state, op, ticks),
             (ObjectState::KeySet(state), Act::KeySet(op)) => {
-                uncovered(KeySet::apply(state, op, ticks))
+                keeping_nothing(KeySet::apply(state, op, ticks))
             }
             (ObjectState::KeyMap(state), Act::KeyMap(op)) => {
-                uncovered(KeyMap::apply(state, op, ticks))
+                keeping_nothing(KeyMap::apply(state, op, ticks))
             }
             (ObjectState::Counter(state), Act::Counter(op)) => {
-                uncovered(Count::apply(state, op, ticks))
+                keeping_nothing(Count::apply(state, op, ticks))
             }
-            (ObjectState::Queue(state), Act::Queue(op)) => uncovered(Fifo::apply(state, op, ticks)),
-            (ObjectState::Stack(state), Act::Stack(op)) => uncovered(Stack::apply(
+            (ObjectState::Queue(state), Act::Queue(op)) => keeping_nothing(Fifo::apply(
                 state, op, ticks,
             )),
-            (ObjectState::PriorityQueue(state), Act::PriorityQueue(op)) => uncovered(Prio::apply(
+            (ObjectState::Stack(state), Act::Stack(op)) => keeping_nothing(Stack::apply(
                 state, op, ticks,
             )),
+            (ObjectState::PriorityQueue(state), Act::PriorityQueue(op)) => keeping_nothing(
+                Prio::apply(state, op, ticks),
+            ),
             _ => {
                 ticks.tick();
                 Ok(Applied::Differs)
@@ -170,9 +175,7 @@ impl Spec for OneObject {
         ticks: &mut Ticks<L>,
     ) -> Result<(), OutOfMemory> {
         match (state, op) {
-            (ObjectState::Memory(state), Act::Memory(op)) => {
-                Mem::undo(state, op, undo.covered(), ticks)
-            }
+            (ObjectState::Memory(state), Act::Memory(op)) => Mem::undo(state, op, undo, ticks),
             (ObjectState::KeySet(state), Act::KeySet(op)) => KeySet::undo(state, op, (), ticks),
             (ObjectState::KeyMap(state), Act::KeyMap(op)) => KeyMap::undo(state, op, (), ticks),
             (ObjectState::Counter(state), Act::Counter(op)) => Count::undo(state, op, (), ticks),
@@ -194,20 +197,6 @@ impl Spec for OneObject {
     #[inline]
     fn swaps(a: &Act, b: &Act) -> bool {
         may_swap(a, b)
-    }
-
-    #[inline]
-    fn keep_in_turn(a: &Act, b: &Act) -> bool {
-        match (a, b) {
-            (Act::Memory(a), Act::Memory(b)) => Mem::keep_in_turn(a, b),
-            (Act::KeySet(a), Act::KeySet(b)) => KeySet::keep_in_turn(a, b),
-            (Act::KeyMap(a), Act::KeyMap(b)) => KeyMap::keep_in_turn(a, b),
-            (Act::Counter(a), Act::Counter(b)) => Count::keep_in_turn(a, b),
-            (Act::Queue(a), Act::Queue(b)) => Fifo::keep_in_turn(a, b),
-            (Act::Stack(a), Act::Stack(b)) => Stack::keep_in_turn(a, b),
-            (Act::PriorityQueue(a), Act::PriorityQueue(b)) => Prio::keep_in_turn(a, b),
-            _ => false,
-        }
     }
 
     #[inline]

@@ -1,7 +1,6 @@
 //! The states of objects of any kind.
 ghost use Rattle.std.specs.Prelude.{◌≡◌, length, slice_get};
 ghost use Rattle.std.specs.Option.{option_copied};
-ghost use Rattle.pp_object.specs.One.{covered_by};
 
 use pp_keyed::Cells;
 use pp_mem::Memory;
@@ -21,27 +20,6 @@ pub enum ObjectState {
     Queue(Queue),
     Stack(Pile),
     PriorityQueue(Bag),
-}
-
-/// What takes an operation back, beside the operation.
-#[derive(Drop)]
-pub enum Undo {
-    /// The number that a write covered.
-    Covered(i64),
-    /// The operation says it all.
-    Nothing,
-}
-
-impl Undo {
-    /// The number that a write covered, or 0.
-    pub fn covered(&self) -> i64
-        ensures { result ≡ covered_by self.now }
-    {
-        match *self {
-            Undo::Covered(number) => number,
-            Undo::Nothing => 0,
-        }
-    }
 }
 
 /// The states of the objects, in the catalog's order. Contracts see it as their list.

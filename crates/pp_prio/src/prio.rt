@@ -96,11 +96,6 @@ impl Spec for Prio {
     }
 
     #[inline(always)]
-    fn keep_in_turn(_a: &PrioOp, _b: &PrioOp) -> bool {
-        false
-    }
-
-    #[inline(always)]
     fn keeps_alone(_a: &PrioOp) -> bool {
         true
     }

@@ -95,11 +95,6 @@ impl Spec for Fifo {
     }
 
     #[inline(always)]
-    fn keep_in_turn(_a: &QueueOp, _b: &QueueOp) -> bool {
-        false
-    }
-
-    #[inline(always)]
     fn keeps_alone(_a: &QueueOp) -> bool {
         true
     }

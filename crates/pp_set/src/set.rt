@@ -92,11 +92,6 @@ impl Spec for KeySet {
     }
 
     #[inline(always)]
-    fn keep_in_turn(_a: &SetOp, _b: &SetOp) -> bool {
-        false
-    }
-
-    #[inline(always)]
     fn keeps_alone(_a: &SetOp) -> bool {
         true
     }

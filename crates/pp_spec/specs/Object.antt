@@ -121,6 +121,10 @@ module _ {Shape State Op Undo : Type 0} (o : Object Shape State Op Undo) where
       (s : State) → o.upkeep.IsState s → IsLegal s a → IsLegal s b → IsLegal (o.next s a) b
       → KeptAsAt in_turn s a b
 
+  -- In some state in which it is legal, this is what is kept of it.
+  abbrev pub MayKeep : Op → Undo → Type 0
+  MayKeep a u = (s : State) × IsLegal s a × (o.upkeep.kept s a ≡ u)
+
   -- Any two operations in the clique swap.
   abbrev pub CliqueSwaps : Type 0
   CliqueSwaps = (a b : Op) → IsTrue (o.upkeep.in_clique a) → IsTrue (o.upkeep.in_clique b)

@@ -1,7 +1,7 @@
 //! The traits of a kind: its calls, each with its meaning, and the laws that hold of every kind.
 ghost use Rattle.std.specs.Prelude.{◌≡◌, ◌≢◌, ◌+◌, ℕ, false, IsTrue, IfOk, OnOk, OnErr, ◌↔◌};
 ghost use Rattle.pp_model.specs.Object.{TellsStates};
-ghost use Rattle.pp_spec.specs.Object.{Object, Swaps, SwapsNowhere, KeptAs, FitNowhere};
+ghost use Rattle.pp_spec.specs.Object.{Object, Swaps, SwapsNowhere, KeptAs, MayKeep, FitNowhere};
 ghost use Rattle.pp_spec.specs.Object.{Commutes, IsReached, IsLawful, IsPlaced, UndoneBehindOthers, rules_of};
 ghost use Rattle.pp_spec.specs.Calls.{Applies, WasApplied, lists_of};
 
@@ -100,13 +100,8 @@ pub trait Spec: Drop {
         ensures only { Swaps object a.now b.now → IsTrue result }
         ensures never { result ≡ false → SwapsNowhere object a.now b.now };
 
-    /// How two operations that swap keep what takes them back. True: in turn, so the one that comes
-    /// first keeps the same, whichever it is, and so does the other. False: each keeps the same in
-    /// both orders. Where both are so, as where nothing is kept, either may be answered.
-    fn keep_in_turn(a: &Self::Op, b: &Self::Op) -> bool
-        ensures { Swaps object a.now b.now → KeptAs object result a.now b.now };
-
-    /// Whether false is right of it and each operation that it lets pass. False says nothing.
+    /// Whether it and each operation that it lets pass keep the same in both orders. False says
+    /// nothing.
     fn keeps_alone(a: &Self::Op) -> bool
         ensures { IsTrue result →
             (b : Self.Op) → Swaps object a.now b → KeptAs object false a.now b };
@@ -137,6 +132,14 @@ pub trait Placed: Spec {
     /// The place of its object.
     fn place(op: &Self::Op) -> u16
         ensures { result ≡ place_of op.now };
+
+    /// How an operation and one of its place that it lets pass keep what takes them back, as what the
+    /// other one keeps tells. True: in turn, so the one that comes first keeps the same, whichever it
+    /// is, and so does the other. False: each keeps the same in both orders. Where both are so, as
+    /// where nothing is kept, either may be answered.
+    fn keep_in_turn(a: &Self::Op, kept: &Self::Undo) -> bool
+        ensures { (b : Self.Op) → place_of a.now ≡ place_of b → MayKeep Self.object b kept.now
+            → Swaps Self.object a.now b → KeptAs Self.object result a.now b };
 
     /// Its call, without the recorded result.
     fn call(op: &Self::Op) -> Call

@@ -95,11 +95,6 @@ impl Spec for Stack {
     }
 
     #[inline(always)]
-    fn keep_in_turn(_a: &StackOp, _b: &StackOp) -> bool {
-        false
-    }
-
-    #[inline(always)]
     fn keeps_alone(_a: &StackOp) -> bool {
         true
     }

@@ -13,9 +13,10 @@ use Rattle.pp_keyed.specs.Keys.{IsKeyed}
 use Rattle.pp_keyed.proofs.Rule.{same_key, key_is, stands_at, covered}
 use Rattle.pp_mem.specs.declared.op.MemOp.{MemOp}
 use Rattle.pp_mem.specs.declared.op.MemOp.TheVariants.{Read, Write, Cas}
+use Rattle.pp_mem.specs.declared.undo.Undo.{Undo}
 use Rattle.pp_mem.specs.Values.{value_at, written, HasNoZero}
 use Rattle.pp_mem.specs.Operations.{address_of, Finds, left_by, call_of, recorded_by, given_by}
-use Rattle.pp_mem.specs.Operations.{is_ranged, memory_after, kept_by, memory_before}
+use Rattle.pp_mem.specs.Operations.{is_ranged, memory_after, kept_by, memory_before, number_of}
 use Rattle.pp_mem.specs.Memories.{memory, addresses}
 use Rattle.pp_mem.specs.laws.Written.{written_at, written_has_no_zero, empty_has_no_zero}
 use Rattle.pp_mem.specs.laws.Written.{one_memory}
@@ -103,10 +104,10 @@ next_has_no_zero m (Read a v) h = h
 next_has_no_zero m (Write a v) h = written_has_no_zero m a v h
 next_has_no_zero m (Cas a e n done) h = chosen_has_no_zero (int_eq (value_at m a) e) m a n h
 
-back_has_no_zero : (m : FinMap int_cmp ℤ) (a : MemOp) (u : ℤ) → HasNoZero m
+back_has_no_zero : (m : FinMap int_cmp ℤ) (a : MemOp) (u : Undo) → HasNoZero m
     → HasNoZero (memory_before m a u)
 back_has_no_zero m (Read a v) u h = h
-back_has_no_zero m (Write a v) u h = written_has_no_zero m a u h
+back_has_no_zero m (Write a v) u h = written_has_no_zero m a (number_of u) h
 back_has_no_zero m (Cas a e n done) u h = chosen_has_no_zero done m a e h
 
 -- Operations of one call are given one answer.

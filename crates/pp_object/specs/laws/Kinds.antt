@@ -35,14 +35,14 @@ use Rattle.pp_prio.specs.Prios.{prio}
 use Rattle.pp_prio.specs.laws.Lawful.{prio_lawful}
 use Rattle.pp_prio.specs.declared.op.PrioOp.{PrioOp}
 use Rattle.pp_prio.specs.declared.op.PrioOp.TheVariants as prios
+use Rattle.pp_mem.specs.declared.undo.Undo.{Undo}
+use Rattle.pp_mem.specs.declared.undo.Undo.TheVariants.{Nothing}
 use Rattle.pp_object.specs.declared.act.Act.{Act}
 use Rattle.pp_object.specs.declared.act.Act.TheVariants.{Memory, KeySet, KeyMap, Counter, Queue}
 use Rattle.pp_object.specs.declared.act.Act.TheVariants.{Stack, PriorityQueue}
 use Rattle.pp_object.specs.declared.states.ObjectState.{ObjectState}
 use Rattle.pp_object.specs.declared.states.ObjectState.TheVariants as states
-use Rattle.pp_object.specs.declared.states.Undo.{Undo}
-use Rattle.pp_object.specs.declared.states.Undo.TheVariants.{Covered, Nothing}
-use Rattle.pp_object.specs.One.{one, both_as, covered_by, kind_for}
+use Rattle.pp_object.specs.One.{one, both_as, kind_for}
 
 -- The states, the operations and the undo values of a kind.
 abbrev pub States : Kind → Type 0
@@ -64,7 +64,7 @@ Ops kinds.Stack = StackOp
 Ops kinds.PriorityQueue = PrioOp
 
 abbrev pub Undos : Kind → Type 0
-Undos kinds.Memory = ℤ
+Undos kinds.Memory = Undo
 Undos k = Unit {0}
 
 -- What it means by itself, and that it is lawful.
@@ -106,11 +106,11 @@ act_of kinds.Stack a = Stack a
 act_of kinds.PriorityQueue a = PriorityQueue a
 
 abbrev pub undo_as : (k : Kind) → Undos k → Undo
-undo_as kinds.Memory u = Covered u
+undo_as kinds.Memory u = u
 undo_as k u = Nothing
 
 abbrev pub undo_from : (k : Kind) → Undo → Undos k
-undo_from kinds.Memory u = covered_by u
+undo_from kinds.Memory u = u
 undo_from k u = tt
 
 -- Each state and each act is one of its kind.

@@ -10,10 +10,10 @@ use Rattle.pp_core.specs.declared.call.Call.{Call}
 use Rattle.pp_core.specs.declared.call.Kind.{Kind}
 use Rattle.pp_spec.specs.Object.{Object, IsLegal, IsAllowed, AllRanged, Swaps, IsRefutedBy}
 use Rattle.pp_spec.specs.Object.{IsLawful, IsPlaced, AllowsAllOf}
+use Rattle.pp_mem.specs.declared.undo.Undo.{Undo}
 use Rattle.pp_object.specs.declared.act.Act.{Act}
 use Rattle.pp_object.specs.declared.act.Op.{Op}
 use Rattle.pp_object.specs.declared.states.ObjectState.{ObjectState}
-use Rattle.pp_object.specs.declared.states.Undo.{Undo}
 use Rattle.pp_object.specs.One.{one, both_as}
 use Rattle.pp_object.specs.Objects.{many, objects, place_of, SameAt, fits_in, gives_in, kept_in}
 use Rattle.pp_object.specs.Objects.{put, act_at}

@@ -9,9 +9,9 @@ use Rattle.pp_spec.specs.Numbers.{has_ranged_arguments, is_ranged_answer}
 use Rattle.pp_spec.specs.Object.{IsLegal, AllowedFrom, IsAllowed, state_after, Swaps, IsRefutedBy}
 use Rattle.pp_spec.specs.Object.{IsLawful, AllowsAllOf}
 use Rattle.pp_spec.proofs.Lists.{keeps_shape, swaps_where_turned}
+use Rattle.pp_mem.specs.declared.undo.Undo.{Undo}
 use Rattle.pp_object.specs.declared.act.Act.{Act}
 use Rattle.pp_object.specs.declared.states.ObjectState.{ObjectState}
-use Rattle.pp_object.specs.declared.states.Undo.{Undo}
 use Rattle.pp_object.specs.One.{one, both_as}
 use Rattle.pp_object.specs.laws.Kinds.{Ops, States, Undos, act_of, back_is, call_is, each_act}
 use Rattle.pp_object.specs.laws.Kinds.{each_state, fits, from_state, has_kind, into_state, its_act}

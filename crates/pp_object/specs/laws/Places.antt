@@ -11,10 +11,10 @@ use Rattle.pp_spec.specs.Object.{Object, IsLegal, AllowedFrom, state_from, state
 use Rattle.pp_spec.specs.Object.{IsLawful, IsReached, Swaps, Commutes, AllowsAllOf}
 use Rattle.pp_spec.proofs.Lists.{commuting_swap, keeps_shape, MayTurn, turned_there}
 use Rattle.pp_spec.proofs.Lists.{swaps_where_turned}
+use Rattle.pp_mem.specs.declared.undo.Undo.{Undo}
 use Rattle.pp_object.specs.declared.act.Act.{Act}
 use Rattle.pp_object.specs.declared.act.Op.{Op}
 use Rattle.pp_object.specs.declared.states.ObjectState.{ObjectState}
-use Rattle.pp_object.specs.declared.states.Undo.{Undo}
 use Rattle.pp_object.specs.Objects.{many, fits_in, gives_in, kept_in, put, act_at}
 use Rattle.pp_object.specs.laws.Elements.{same_place, same_some, get_set, get_other, map_set}
 use Rattle.pp_object.specs.laws.Elements.{get_replicate}

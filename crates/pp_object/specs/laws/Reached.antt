@@ -4,9 +4,9 @@ use Rattle.std.proofs.lemmas.List.{length-map}
 use Rattle.pp_core.specs.declared.call.Kind.{Kind}
 use Rattle.pp_spec.specs.Calls.{WasApplied}
 use Rattle.pp_spec.specs.Object.{IsLegal, AllRanged, IsAllowed, state_after, IsReached}
+use Rattle.pp_mem.specs.declared.undo.Undo.{Undo}
 use Rattle.pp_object.specs.declared.act.Act.{Act}
 use Rattle.pp_object.specs.declared.states.ObjectState.{ObjectState}
-use Rattle.pp_object.specs.declared.states.Undo.{Undo}
 use Rattle.pp_object.specs.One.{one}
 use Rattle.pp_object.specs.laws.Kinds.{Ops, States, act_of, has_kind, its_state, kept_is, next_is}
 use Rattle.pp_object.specs.laws.Kinds.{object_of, one_state, one_undo, only_kind, ranged_is}

@@ -1,15 +1,14 @@
-use Rattle.std.proofs.Common.{◌≡◌, ◌<◌, ◌+◌, ◌-◌, ℕ, length, map, sym, ◌∙◌, arith}
-use Rattle.std.proofs.lemmas.List.{length-map}
+use Rattle.std.proofs.Common.{◌≡◌, ◌<◌, ◌+◌, ◌-◌, ℕ, length, sym, ◌∙◌, arith}
 use Rattle.pp_log.specs.Room.{ids_of}
-use Rattle.pp_log.proofs.Leaves.{behind_is, behind_lent, found_somewhere, index_now, left_first, left_last, left_next}
-use Rattle.pp_log.proofs.Leaves.{more_left, now, now_log, stands_now, within_others}
+use Rattle.pp_log.proofs.Leaves.{found_somewhere, index_now, left_first, left_last, left_next, now, now_log}
+use Rattle.pp_log.proofs.Leaves.{stands_now}
 use Rattle.pp_log.proofs.leave.take_all_back.Goals as goal
 
 pub loop-left-init : goal.loop-left-init
 loop-left-init g c = record {
   within = omega arith;
   cost = omega arith;
-  left = left_first g.S.Spec.object g.S.Placed.place_of c.args.own.now (map g.T.Side.item_of c.args.others.now) c.args.size c.args.state.now c.args.places.now.items c.args.ids.now (length c.args.own.now) (omega arith);
+  left = left_first g.S.Spec.object g.S.Placed.place_of c.args.own.now c.args.state.now c.args.places.now.items c.args.ids.now (length c.args.own.now) (omega arith);
 }
 
 pub offset_bounds-own-left : goal.offset_bounds-own-left
@@ -23,8 +22,6 @@ unreachable-requires g c =
     let o = g.S.Spec.object in
     let place = g.S.Placed.place_of in
     let own = c.args.own.now in
-    let others = map g.T.Side.item_of c.args.others.now in
-    let all = c.args.size in
     let s = c.args.state.now in
     let ps = c.args.places.now.items in
     let ids = c.args.ids.now in
@@ -39,104 +36,16 @@ unreachable-requires g c =
     let t = c.loop-left.state in
     let qs = c.loop-left.places.items in
     let js = c.loop-left.ids in
-    let size = c.loop-left.size in
     let left = c.loop-left.invariant.left in
     let h = c.requires in
-    found_somewhere o place own others all s ps ids k e lt is n n_is t qs js size left h.log h.keeps h.leaves
-    (sym (c.find.ensures (ids_of (now_log o place own others all s ps ids k e lt is n n_is t qs js size left h.log h.keeps h.leaves)) (index_now o place own others all s ps ids k e lt is n n_is t qs js size left h.log h.keeps h.leaves)) ∙ c.in_default.is)
-
-pub overflow_sub-size : goal.overflow_sub-size
-overflow_sub-size g c =
-    let o = g.S.Spec.object in
-    let place = g.S.Placed.place_of in
-    let own = c.args.own.now in
-    let others = map g.T.Side.item_of c.args.others.now in
-    let all = c.args.size in
-    let s = c.args.state.now in
-    let ps = c.args.places.now.items in
-    let ids = c.args.ids.now in
-    let k : ℕ = c.loop-left.left - 1 in
-    let test = c.loop-left-test.true in
-    let bound = c.loop-left.invariant.within in
-    let lt : k < length own = omega arith in
-    let n_is : c.loop-left.left ≡ k + 1 = omega arith in
-    let e = c.index-own-left.result in
-    let is = c.index-own-left.is in
-    let n = c.loop-left.left in
-    let t = c.loop-left.state in
-    let qs = c.loop-left.places.items in
-    let js = c.loop-left.ids in
-    let size = c.loop-left.size in
-    let left = c.loop-left.invariant.left in
-    let h = c.requires in
-    let found = sym (c.find.ensures (ids_of (now_log o place own others all s ps ids k e lt is n n_is t qs js size left h.log h.keeps h.leaves)) (index_now o place own others all s ps ids k e lt is n n_is t qs js size left h.log h.keeps h.leaves)) ∙ c.in-Some.is in
-    let more = more_left o place own others all s ps ids k e lt is n n_is t qs js size left h.log h.keeps h.leaves c.in-Some.i found in
-    omega arith
-
-pub overflow_sub-behind : goal.overflow_sub-behind
-overflow_sub-behind g c =
-    let o = g.S.Spec.object in
-    let place = g.S.Placed.place_of in
-    let own = c.args.own.now in
-    let others = map g.T.Side.item_of c.args.others.now in
-    let all = c.args.size in
-    let s = c.args.state.now in
-    let ps = c.args.places.now.items in
-    let ids = c.args.ids.now in
-    let k : ℕ = c.loop-left.left - 1 in
-    let test = c.loop-left-test.true in
-    let bound = c.loop-left.invariant.within in
-    let lt : k < length own = omega arith in
-    let n_is : c.loop-left.left ≡ k + 1 = omega arith in
-    let e = c.index-own-left.result in
-    let is = c.index-own-left.is in
-    let n = c.loop-left.left in
-    let t = c.loop-left.state in
-    let qs = c.loop-left.places.items in
-    let js = c.loop-left.ids in
-    let size = c.loop-left.size in
-    let left = c.loop-left.invariant.left in
-    let h = c.requires in
-    let found = sym (c.find.ensures (ids_of (now_log o place own others all s ps ids k e lt is n n_is t qs js size left h.log h.keeps h.leaves)) (index_now o place own others all s ps ids k e lt is n n_is t qs js size left h.log h.keeps h.leaves)) ∙ c.in-Some.is in
-    let more = more_left o place own others all s ps ids k e lt is n n_is t qs js size left h.log h.keeps h.leaves c.in-Some.i found in
-    omega arith
-
-pub overflow_sub-behind-in-loop-left : goal.overflow_sub-behind-in-loop-left
-overflow_sub-behind-in-loop-left g c =
-    let o = g.S.Spec.object in
-    let place = g.S.Placed.place_of in
-    let own = c.args.own.now in
-    let others = map g.T.Side.item_of c.args.others.now in
-    let all = c.args.size in
-    let s = c.args.state.now in
-    let ps = c.args.places.now.items in
-    let ids = c.args.ids.now in
-    let k : ℕ = c.loop-left.left - 1 in
-    let test = c.loop-left-test.true in
-    let bound = c.loop-left.invariant.within in
-    let lt : k < length own = omega arith in
-    let n_is : c.loop-left.left ≡ k + 1 = omega arith in
-    let e = c.index-own-left.result in
-    let is = c.index-own-left.is in
-    let n = c.loop-left.left in
-    let t = c.loop-left.state in
-    let qs = c.loop-left.places.items in
-    let js = c.loop-left.ids in
-    let size = c.loop-left.size in
-    let left = c.loop-left.invariant.left in
-    let h = c.requires in
-    let found = sym (c.find.ensures (ids_of (now_log o place own others all s ps ids k e lt is n n_is t qs js size left h.log h.keeps h.leaves)) (index_now o place own others all s ps ids k e lt is n n_is t qs js size left h.log h.keeps h.leaves)) ∙ c.in-Some.is in
-    let within = within_others o place own others all s ps ids k e lt is n n_is t qs js size left h.log h.keeps h.leaves c.in-Some.i found in
-    let same = length-map c.args.others.now g.T.Side.item_of in
-    omega arith
+    found_somewhere o place own s ps ids k e lt is n n_is t qs js left h.log h.keeps h.may
+    (sym (c.find.ensures (ids_of (now_log o place own s ps ids k e lt is n n_is t qs js left h.log h.keeps h.may)) (index_now o place own s ps ids k e lt is n n_is t qs js left h.log h.keeps h.may)) ∙ c.in_default.is)
 
 pub take_one_back-requires : goal.take_one_back-requires
 take_one_back-requires g c =
     let o = g.S.Spec.object in
     let place = g.S.Placed.place_of in
     let own = c.args.own.now in
-    let others = map g.T.Side.item_of c.args.others.now in
-    let all = c.args.size in
     let s = c.args.state.now in
     let ps = c.args.places.now.items in
     let ids = c.args.ids.now in
@@ -151,15 +60,13 @@ take_one_back-requires g c =
     let t = c.loop-left.state in
     let qs = c.loop-left.places.items in
     let js = c.loop-left.ids in
-    let size = c.loop-left.size in
     let left = c.loop-left.invariant.left in
     let h = c.requires in
-    let found = sym (c.find.ensures (ids_of (now_log o place own others all s ps ids k e lt is n n_is t qs js size left h.log h.keeps h.leaves)) (index_now o place own others all s ps ids k e lt is n n_is t qs js size left h.log h.keeps h.leaves)) ∙ c.in-Some.is in
-    let behind = behind_lent g.T.Side.item_of c.args.others.now (size - 1 - c.in-Some.i) ∙ behind_is o place own others all s ps ids k e lt is n n_is t qs js size left h.log h.keeps h.leaves c.in-Some.i found in
+    let found = sym (c.find.ensures (ids_of (now_log o place own s ps ids k e lt is n n_is t qs js left h.log h.keeps h.may)) (index_now o place own s ps ids k e lt is n n_is t qs js left h.log h.keeps h.may)) ∙ c.in-Some.is in
     record {
-      log = now_log o place own others all s ps ids k e lt is n n_is t qs js size left h.log h.keeps h.leaves;
-      keeps = (now o place own others all s ps ids k e lt is n n_is t qs js size left h.log h.keeps h.leaves).0;
-      stands = stands_now o place own others all s ps ids k e lt is n n_is t qs js size left h.log h.keeps h.leaves c.in-Some.i found _ behind;
+      log = now_log o place own s ps ids k e lt is n n_is t qs js left h.log h.keeps h.may;
+      keeps = (now o place own s ps ids k e lt is n n_is t qs js left h.log h.keeps h.may).0;
+      stands = stands_now o place own s ps ids k e lt is n n_is t qs js left h.log h.keeps h.may c.in-Some.i found;
     }
 
 pub loop-left-preserved : goal.loop-left-preserved
@@ -167,8 +74,6 @@ loop-left-preserved g c =
     let o = g.S.Spec.object in
     let place = g.S.Placed.place_of in
     let own = c.args.own.now in
-    let others = map g.T.Side.item_of c.args.others.now in
-    let all = c.args.size in
     let s = c.args.state.now in
     let ps = c.args.places.now.items in
     let ids = c.args.ids.now in
@@ -183,7 +88,6 @@ loop-left-preserved g c =
     let t = c.loop-left.state in
     let qs = c.loop-left.places.items in
     let js = c.loop-left.ids in
-    let size = c.loop-left.size in
     let left = c.loop-left.invariant.left in
     let cost = c.loop-left.invariant.cost in
     let tick = c.in_ok-take_one_back.ensures.cost in
@@ -191,12 +95,11 @@ loop-left-preserved g c =
       within = omega arith;
       cost = omega arith;
       left = record {
-        keeps = λ log keeps leaves.
-            let found = sym (c.find.ensures (ids_of (now_log o place own others all s ps ids k e lt is n n_is t qs js size left log keeps leaves)) (index_now o place own others all s ps ids k e lt is n n_is t qs js size left log keeps leaves)) ∙ c.in-Some.is in
-            let behind = behind_lent g.T.Side.item_of c.args.others.now (size - 1 - c.in-Some.i) ∙ behind_is o place own others all s ps ids k e lt is n n_is t qs js size left log keeps leaves c.in-Some.i found in
-            let stands = stands_now o place own others all s ps ids k e lt is n n_is t qs js size left log keeps leaves c.in-Some.i found _ behind in
-            let less = c.in_ok-take_one_back.ensures.leaves (now_log o place own others all s ps ids k e lt is n n_is t qs js size left log keeps leaves) (now o place own others all s ps ids k e lt is n n_is t qs js size left log keeps leaves).0 stands in
-            left_next o place own others all s ps ids k e lt is n n_is t qs js size left log keeps leaves c.in-Some.i found c.take_one_back.new.state c.take_one_back.new.places.items c.take_one_back.new.ids less.0 less.1;
+        keeps = λ log keeps may.
+            let found = sym (c.find.ensures (ids_of (now_log o place own s ps ids k e lt is n n_is t qs js left log keeps may)) (index_now o place own s ps ids k e lt is n n_is t qs js left log keeps may)) ∙ c.in-Some.is in
+            let stands = stands_now o place own s ps ids k e lt is n n_is t qs js left log keeps may c.in-Some.i found in
+            let less = c.in_ok-take_one_back.ensures.leaves (now_log o place own s ps ids k e lt is n n_is t qs js left log keeps may) (now o place own s ps ids k e lt is n n_is t qs js left log keeps may).0 stands in
+            left_next o place own s ps ids k e lt is n n_is t qs js left log keeps may c.in-Some.i found c.take_one_back.new.state c.take_one_back.new.places.items c.take_one_back.new.ids less.0 less.1;
       };
     }
 
@@ -216,8 +119,8 @@ returns-in_err-take_one_back-clause-bound g c =
 
 pub returns-clause-leaves : goal.returns-clause-leaves
 returns-clause-leaves g c =
-    left_last g.S.Spec.object g.S.Placed.place_of c.args.own.now (map g.T.Side.item_of c.args.others.now) c.args.size c.args.state.now c.args.places.now.items c.args.ids.now
-    c.loop-left.left c.loop-left.state c.loop-left.places.items c.loop-left.ids c.loop-left.size (let test = c.loop-left-test.false in omega arith) c.loop-left.invariant.left
+    left_last g.S.Spec.object g.S.Placed.place_of c.args.own.now c.args.state.now c.args.places.now.items c.args.ids.now
+    c.loop-left.left c.loop-left.state c.loop-left.places.items c.loop-left.ids (let test = c.loop-left-test.false in omega arith) c.loop-left.invariant.left
 
 pub returns-clause-cost : goal.returns-clause-cost
 returns-clause-cost g c = let cost = c.loop-left.invariant.cost in let test = c.loop-left-test.false in omega arith

@@ -1,7 +1,5 @@
-use Rattle.std.proofs.Common.{map, sym, ◌∙◌, ap, subst, arith}
-use Rattle.std.proofs.lemmas.List.{length-map}
+use Rattle.std.proofs.Common.{map, sym, ◌∙◌, ap, subst}
 use Rattle.pp_log.specs.Keeps.{KeepsAll}
-use Rattle.pp_log.specs.Leaves.{LeavesOthers}
 use Rattle.pp_log.specs.Leaving.{MayLeave, without_items}
 use Rattle.pp_log.proofs.Lists.{pair}
 use Rattle.pp_log.proofs.Others.{without_mapped}
@@ -15,16 +13,10 @@ leave_out-requires g c =
 pub take_all_back-requires : goal.take_all_back-requires
 take_all_back-requires g c =
     let f = g.T.Side.item_of in
-    let x = c.self.inside.entries.items in
-    let may = subst (MayLeave g.S.Spec.object c.args.own.now) (sym (ap (λ p. map f p.1) c.self.view_is)) c.requires in
     record {
-      log = map f x;
+      log = map f c.self.inside.entries.items;
       keeps = c.self.invariant;
-      leaves = record {
-        may = may;
-        others_are = ap (map f) (c.deref.ensures.value ∙ c.leave_out.ensures) ∙ without_mapped f c.args.own.now x;
-        size_is = (let same = length-map x f in omega arith);
-      };
+      may = subst (MayLeave g.S.Spec.object c.args.own.now) (sym (ap (λ p. map f p.1) c.self.view_is)) c.requires;
     }
 
 pub invariant_of-result : goal.invariant_of-result
@@ -34,13 +26,9 @@ invariant_of-result g c =
     let own = c.args.own.now in
     let x = c.self.inside.entries.items in
     let may = subst (MayLeave o own) (sym (ap (λ p. map f p.1) c.self.view_is)) c.requires in
-    let leaves : LeavesOthers o own (map f x) (map f c.deref.result.now) c.len-size.result = record {
-      may = may;
-      others_are = ap (map f) (c.deref.ensures.value ∙ c.leave_out.ensures) ∙ without_mapped f own x;
-      size_is = (let same = length-map x f in omega arith);
-    } in
-    let left = c.in_ok-take_all_back.ensures.leaves (map f x) c.self.invariant leaves in
-    subst (λ y. KeepsAll o g.S.Placed.place_of c.take_all_back.new.state (map f y) c.take_all_back.new.places.items c.take_all_back.new.ids) c.deref.ensures.value left.0
+    let left = c.in_ok-take_all_back.ensures.leaves (map f x) c.self.invariant may in
+    let others = ap (map f) c.leave_out.ensures ∙ without_mapped f own x in
+    subst (λ y. KeepsAll o g.S.Placed.place_of c.take_all_back.new.state y c.take_all_back.new.places.items c.take_all_back.new.ids) (sym others) left.0
 
 pub returns-clause-log : goal.returns-clause-log
 returns-clause-log g c =
@@ -49,12 +37,7 @@ returns-clause-log g c =
     let own = c.args.own.now in
     let x = c.self.inside.entries.items in
     let may = subst (MayLeave o own) (sym (ap (λ p. map f p.1) c.self.view_is)) c.requires in
-    let leaves : LeavesOthers o own (map f x) (map f c.deref.result.now) c.len-size.result = record {
-      may = may;
-      others_are = ap (map f) (c.deref.ensures.value ∙ c.leave_out.ensures) ∙ without_mapped f own x;
-      size_is = (let same = length-map x f in omega arith);
-    } in
-    let left = c.in_ok-take_all_back.ensures.leaves (map f x) c.self.invariant leaves in
+    let left = c.in_ok-take_all_back.ensures.leaves (map f x) c.self.invariant may in
     let shape = left.1 ∙ ap (λ p. p.0) c.self.view_is in
     let log = c.leave_out.ensures ∙ ap (λ p. without_items f own p.1) c.self.view_is in
     ap (λ sh. pair sh c.leave_out.new.entries.items) shape ∙ ap (λ y. pair c.args.self.0 y) log

@@ -1,15 +1,11 @@
-use Rattle.std.proofs.Common.{◌∙◌, rules}
 use Rattle.pp_object.proofs.Alone.{was_applied_here}
 use Rattle.pp_core.specs.declared.call.Kind.TheVariants as kinds
 use Rattle.pp_object.proofs.one.OneObjectSpec.undo.Goals as goal
 
 pub undo-requires : goal.undo-requires
 undo-requires g c =
-    let w = was_applied_here kinds.Memory c.args.state.now c.in-Memory-Memory.state c.args.op.now
+    was_applied_here kinds.Memory c.args.state.now c.in-Memory-Memory.state c.args.op.now
     c.in-Memory-Memory.op c.args.undo c.in-Memory-Memory.is-0 c.in-Memory-Memory.is-1 c.requires
-    in
-    let e = c.covered.ensures ∙ w.5 in
-    (w.0, w.1, w.2, w.3, w.4, search (rules, e))
 
 pub undo-requires-in-KeySet-KeySet : goal.undo-requires-in-KeySet-KeySet
 undo-requires-in-KeySet-KeySet g c =
