@@ -2,7 +2,7 @@
 use Rattle.std.proofs.Common.{◌≡◌, ℕ, ◌<◌, ◌≤◌, ◌+◌, ◌-◌, zero, suc, Bool, not, cond, nat_lt, List, []}
 use Rattle.std.proofs.Common.{◌∷◌, ◌++◌, length, take, drop, map, get_or, refl, sym, ◌∙◌, ap, arith}
 use Rattle.std.proofs.Common.{inl, inr, Some, None}
-use Rattle.std.specs.List.{slice_get, slice_set, remove, position, position_or_len}
+use Rattle.std.specs.List.{slice_get, slice_set, remove, swap, position, position_or_len}
 use Rattle.std.proofs.lemmas.List.{drop_more, get_or-append-add, get_or_default, length-drop}
 use Rattle.std.proofs.lemmas.List.{length-map, take_all}
 use Rattle.std.proofs.Math.Seq.{drop-append-add}
@@ -43,6 +43,23 @@ all_behind x i = let size = length-drop i x in take_all (length x - i) (drop i x
 pub remove_mid : {A : Type 0} (u v : List A) (e : A) → remove (u ++ e ∷ v) (length u) ≡ u ++ v
 remove_mid [] v e = refl
 remove_mid {A} (d ∷ u) v e = ap (λ (z : List A). d ∷ z) (remove_mid u v e)
+
+-- two that stand one behind the other
+pub get_second : {A : Type 0} (u v : List A) (d e f : A) (n : ℕ) → length u ≡ n → get_or (u ++ d ∷ e ∷ v) (n + 1) f ≡ e
+get_second {A} u v d e f n is = ap (λ (k : ℕ). get_or (u ++ d ∷ e ∷ v) (k + 1) f) (sym is) ∙ get_or-append-add u (d ∷ e ∷ v) 1 f
+
+set_both : {A : Type 0} (u v : List A) (d e f : A) → slice_set (slice_set (u ++ d ∷ e ∷ v) (length u) (get_or (u ++ d ∷ e ∷ v) (suc (length u)) f))
+    (suc (length u)) (get_or (u ++ d ∷ e ∷ v) (length u) f) ≡ u ++ e ∷ d ∷ v
+set_both [] v d e f = refl
+set_both {A} (a ∷ u) v d e f = ap (λ (z : List A). a ∷ z) (set_both u v d e f)
+
+swap_both : {A : Type 0} (u v : List A) (d e : A) → swap (u ++ d ∷ e ∷ v) (length u) (suc (length u)) ≡ u ++ e ∷ d ∷ v
+swap_both [] v d e = refl
+swap_both (a ∷ u) v d e = set_both (a ∷ u) v d e a
+
+pub swap_mid : {A : Type 0} (u v : List A) (d e : A) (n : ℕ) → length u ≡ n → swap (u ++ d ∷ e ∷ v) n (n + 1) ≡ u ++ e ∷ d ∷ v
+swap_mid u v d e n is =
+    ap (λ (k : ℕ). swap (u ++ d ∷ e ∷ v) k (n + 1)) (sym is) ∙ ap (swap (u ++ d ∷ e ∷ v) (length u)) (let next : n + 1 ≡ suc (length u) = omega arith in next) ∙ swap_both u v d e
 
 pub drop_there : {A : Type 0} (x : List A) (i : ℕ) (e : A) → i < length x → e ≡ get_or x i e → drop i x ≡ e ∷ drop (i + 1) x
 drop_there {A} x i e h is = drop_more x i e h ∙ ap (λ (b : A). b ∷ drop (i + 1) x) (sym is)

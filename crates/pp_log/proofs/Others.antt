@@ -3,6 +3,7 @@ use Rattle.std.proofs.Common.{◌≡◌, ℕ, zero, suc, ◌<◌, ◌≤◌, ◌
 use Rattle.std.proofs.Common.{length, map, take, drop, get_or, refl, sym, ◌∙◌, ap, subst, arith, inl, inr, Some, None}
 use Rattle.std.proofs.Common.{append_assoc, append-nil, length-append}
 use Rattle.std.specs.List.{slice_get, slice_set}
+use Rattle.std.proofs.Math.Seq.{get_or-append_seam, set-append_seam}
 use Rattle.std.proofs.lemmas.List.{length-drop, length-map, length-take-le, take-append-drop, take-map, take_all, take_more}
 use Rattle.std.proofs.lemmas.Option.{get_or_from_slice_get, slice_get-get_or, slice_get_within}
 use Rattle.std.proofs.Math.ListN.{get_or-map}
@@ -171,14 +172,6 @@ module _ {Op : Type 0} (own log : List (Item Op)) (from : ℕ) (st : StandFrom o
         ];
       }
 
-get_mid : {A : Type 0} (x y : List A) (v d : A) → get_or (x ++ v ∷ y) (length x) d ≡ v
-get_mid [] y v d = refl
-get_mid (a ∷ x) y v d = get_mid x y v d
-
-set_mid : {A : Type 0} (x y : List A) (v w : A) → slice_set (x ++ v ∷ y) (length x) w ≡ x ++ w ∷ y
-set_mid [] y v w = refl
-set_mid {A} (a ∷ x) y v w = ap (λ (z : List A). a ∷ z) (set_mid x y v w)
-
 take_front : {A : Type 0} (x y : List A) → take (length x) (x ++ y) ≡ x
 take_front [] y = refl
 take_front {A} (a ∷ x) y = ap (λ (z : List A). a ∷ z) (take_front x y)
@@ -259,7 +252,7 @@ module _ {Op E : Type 0} (f : E → Item Op) (own : List (Item Op)) (x : List E)
       e_is = is ∙ ap (λ (z : List E). get_or z at e) (h.now_is ∙ ap (λ (z : List E). kept_of (take at x) ++ (h.gap ++ z)) rest_first
           ∙ sym (append_assoc (kept_of (take at x)) h.gap (get_or x at e ∷ drop (at + 1) x)))
           ∙ ap (λ (n : ℕ). get_or ((kept_of (take at x) ++ h.gap) ++ get_or x at e ∷ drop (at + 1) x) n e) (sym front_size)
-          ∙ get_mid (kept_of (take at x) ++ h.gap) (drop (at + 1) x) (get_or x at e) e
+          ∙ get_or-append_seam (kept_of (take at x) ++ h.gap) (get_or x at e) (drop (at + 1) x) e
 
       left_rest : drop at x ≡ e ∷ drop (at + 1) x
       left_rest = rest_first ∙ ap (λ (d : E). d ∷ drop (at + 1) x) (sym e_is)
@@ -309,10 +302,10 @@ module _ {Op E : Type 0} (f : E → Item Op) (own : List (Item Op)) (x : List E)
         where
           -- what is written over is the first of the gap, where there is one
           over : (g : List E) → (g' : List E) × (slice_set (kept_of (take at x) ++ (g ++ e ∷ drop (at + 1) x)) (length (kept_of (take at x))) e ≡ (kept_of (take at x) ++ e ∷ []) ++ (g' ++ drop (at + 1) x)) × (length g' ≡ length g)
-          over [] = ([], set_mid (kept_of (take at x)) (drop (at + 1) x) e e ∙ sym (append_assoc (kept_of (take at x)) (e ∷ []) (drop (at + 1) x)), refl)
+          over [] = ([], set-append_seam (kept_of (take at x)) e (drop (at + 1) x) e ∙ sym (append_assoc (kept_of (take at x)) (e ∷ []) (drop (at + 1) x)), refl)
           over (d ∷ g) = (
             g ++ e ∷ [],
-            set_mid (kept_of (take at x)) (g ++ e ∷ drop (at + 1) x) d e
+            set-append_seam (kept_of (take at x)) d (g ++ e ∷ drop (at + 1) x) e
                 ∙ ap (λ (z : List E). kept_of (take at x) ++ e ∷ z) (sym (append_assoc g (e ∷ []) (drop (at + 1) x)))
                 ∙ sym (append_assoc (kept_of (take at x)) (e ∷ []) ((g ++ e ∷ []) ++ drop (at + 1) x)),
             (let l = length-append g (e ∷ []) in omega arith),

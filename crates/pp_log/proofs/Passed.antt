@@ -2,9 +2,9 @@
 use Rattle.std.proofs.Common.{◌≡◌, ℕ, ◌<◌, ◌+◌, ◌-◌, map, inl, inr, Bool, true, false, IsTrue}
 use Rattle.std.proofs.Common.{List, [], ◌∷◌, ◌++◌, length, take, drop, get_or, refl, sym, ◌∙◌, ap, subst}
 use Rattle.std.proofs.Common.{arith, append_assoc, append-nil, length-append}
-use Rattle.std.specs.List.{remove, slice_set}
-use Rattle.std.proofs.Math.Seq.{take-length}
-use Rattle.std.proofs.lemmas.List.{length-drop, length-take-le, map-append}
+use Rattle.std.specs.List.{remove, swap}
+use Rattle.std.proofs.Math.Seq.{get_or_at, take-length}
+use Rattle.std.proofs.lemmas.List.{length-take-le, map-append}
 use Rattle.std.proofs.lemmas.Option.{get_or_from_slice_get, slice_get_within}
 use Rattle.std.proofs.lemmas.List.Edits.{length-remove}
 use Rattle.pp_core.specs.declared.entry.Item.{Item}
@@ -16,27 +16,14 @@ use Rattle.pp_spec.specs.Object.{MayKeep, KeptAs, KeptAsAt, LetsPass, Swaps, sta
 use Rattle.pp_spec.proofs.Lists.{allowed-append, allowed-first, allowed-second, state-append}
 use Rattle.pp_spec.proofs.Passing.{IsPair, left_by, pair, passed_last, turned}
 use Rattle.pp_spec.proofs.Places.{reached_is_state}
-use Rattle.pp_log.specs.Carries.{Carries, IsCarried, IsOnWay}
+use Rattle.pp_log.specs.Carries.{CarriesOut, IsCarried, IsOnWay}
 use Rattle.pp_log.specs.Parts.{AllAt, there, with_first}
 use Rattle.pp_log.specs.Runs.{IsRun, kept_along}
 use Rattle.pp_log.specs.TakesOut.{Passes}
 use Rattle.pp_log.proofs.Edits.{ranged-remove, run_without}
-use Rattle.pp_log.proofs.Lists.{all_behind, at_first, behind_first, cut_there, drop_there, remove_mid}
+use Rattle.pp_log.proofs.Lists.{all_behind, at_first, behind_first, cut_there, drop_there, get_second, remove_mid, swap_mid}
 use Rattle.pp_log.proofs.Parted.{first_of, is_at, there_at, there_off}
-use Rattle.pp_log.proofs.Runs.{kept-push, length-kept, length-ops, log-append, ranged-get}
-
-set_mid : {A : Type 0} (x y : List A) (v w : A) → slice_set (x ++ v ∷ y) (length x) w ≡ x ++ w ∷ y
-set_mid [] y v w = refl
-set_mid {A} (a ∷ x) y v w = ap (λ (z : List A). a ∷ z) (set_mid x y v w)
-
-get_mid : {A : Type 0} (x y : List A) (v d : A) → get_or (x ++ v ∷ y) (length x) d ≡ v
-get_mid [] y v d = refl
-get_mid (a ∷ x) y v d = get_mid x y v d
-
-module _ {Shape State Op Undo : Type 0} (o : Object Shape State Op Undo) where
-  kept-append : (s : State) (x y : List Op) → kept_along o s (x ++ y) ≡ kept_along o s x ++ kept_along o (state_from o s x) y
-  kept-append s [] y = refl
-  kept-append s (a ∷ x) y = ap (λ (us : List Undo). o.upkeep.kept s a ∷ us) (kept-append (o.next s a) x y)
+use Rattle.pp_log.proofs.Runs.{kept-append, length-kept, length-ops, log-append, ranged-get}
 
 -- Operations from the state b of a log on.
 module _ {Shape State Op Undo : Type 0} (o : Object Shape State Op Undo) (laws : IsLawful o) (b : State) (base : List Op) (log : IsLog o b base) where
@@ -67,62 +54,79 @@ module _ {Shape State Op Undo : Type 0} (o : Object Shape State Op Undo) (laws :
     kept_at : (t : Bool) → KeptAs o t a c → KeptAsAt o t (state_from o b x) a c
     kept_at t kept = kept (state_from o b x) stands.is_state stands.first stands.other stands.second
 
-    -- what was kept of c and of those behind it, before and after
-    was : (us : List Undo) (u : Undo) → IsCarried o b x (c ∷ z) a us u → us ≡ kept_along o b x ++ o.upkeep.kept (o.next (state_from o b x) a) c ∷ kept_along o (o.next (o.next (state_from o b x) a) c) z
-    was us u at = at.others
+    abbrev s : State
+    s = state_from o b x
 
-    is_now : kept_along o b (x ++ c ∷ []) ++ kept_along o (o.next (state_from o b (x ++ c ∷ [])) a) z
-        ≡ kept_along o b x ++ o.upkeep.kept (state_from o b x) c ∷ kept_along o (o.next (o.next (state_from o b x) a) c) z
-    is_now =
+    abbrev front : List Undo
+    front = kept_along o b x
+
+    abbrev rest : List Undo
+    rest = kept_along o (o.next (o.next s a) c) z
+
+    -- what was kept of all, before and after
+    before : kept_along o b (x ++ a ∷ c ∷ z) ≡ front ++ o.upkeep.kept s a ∷ o.upkeep.kept (o.next s a) c ∷ rest
+    before = kept-append o b x (a ∷ c ∷ z)
+
+    after : kept_along o b ((x ++ c ∷ []) ++ a ∷ z) ≡ front ++ o.upkeep.kept s c ∷ o.upkeep.kept (o.next s c) a ∷ rest
+    after = ap (kept_along o b) (append_assoc x (c ∷ []) (a ∷ z)) ∙ kept-append o b x (c ∷ a ∷ z)
+        ∙ ap (λ (t : State). front ++ o.upkeep.kept s c ∷ o.upkeep.kept (o.next s c) a ∷ kept_along o t z) (sym stands.one_state)
+
+    both_now : (v w : Undo) → o.upkeep.kept s c ≡ v → o.upkeep.kept (o.next s c) a ≡ w → front ++ v ∷ w ∷ rest ≡ kept_along o b ((x ++ c ∷ []) ++ a ∷ z)
+    both_now v w first second = sym (after ∙ ap (λ (u : Undo). front ++ u ∷ o.upkeep.kept (o.next s c) a ∷ rest) first ∙ ap (λ (u : Undo). front ++ v ∷ u ∷ rest) second)
+
+    -- what stands for c is what it keeps in some state
+    pub other_may_keep : (us : List Undo) (d : Undo) (n : ℕ) → length x ≡ n → us ≡ kept_along o b (x ++ a ∷ c ∷ z) → MayKeep o c (get_or us (n + 1) d)
+    other_may_keep us d n is kept = (
+      o.next s a,
+      stands.second,
+      sym (ap (λ (l : List Undo). get_or l (n + 1) d) (kept ∙ before)
+          ∙ get_second front rest (o.upkeep.kept s a) (o.upkeep.kept (o.next s a) c) d n (length-kept o b x ∙ is)),
+    )
+
+    -- a comes behind c; each keeps what it kept, and the two values are exchanged
+    pub kept_alone : (us : List Undo) (n : ℕ) → length x ≡ n → KeptAs o false a c → us ≡ kept_along o b (x ++ a ∷ c ∷ z) → swap us n (n + 1) ≡ kept_along o b ((x ++ c ∷ []) ++ a ∷ z)
+    kept_alone us n is alone kept =
+        let both = kept_at false alone in
+        ap (λ (l : List Undo). swap l n (n + 1)) (kept ∙ before)
+        ∙ swap_mid front rest (o.upkeep.kept s a) (o.upkeep.kept (o.next s a) c) n (length-kept o b x ∙ is)
+        ∙ both_now (o.upkeep.kept (o.next s a) c) (o.upkeep.kept s a) both.0 both.1
+
+    -- or they keep in turn, and the list stays
+    pub kept_in_turn : (us : List Undo) → KeptAs o true a c → us ≡ kept_along o b (x ++ a ∷ c ∷ z) → us ≡ kept_along o b ((x ++ c ∷ []) ++ a ∷ z)
+    kept_in_turn us in_turn kept =
+        let both = kept_at true in_turn in
+        kept ∙ before ∙ both_now (o.upkeep.kept s a) (o.upkeep.kept (o.next s a) c) both.0 both.1
+
+  -- an operation that keeps alone leaves what the others kept, and keeps the same behind them
+  module _ (a : Op) (alone : (c : Op) → Swaps o a c → KeptAs o false a c) where
+    along : (z x : List Op) → LetsPass o a z → AllowedFrom o b (x ++ a ∷ z)
+        → (kept_along o (o.next (state_from o b x) a) z ≡ kept_along o (state_from o b x) z) × (o.upkeep.kept (state_from o b (x ++ z)) a ≡ o.upkeep.kept (state_from o b x) a)
+    along [] x p h = (refl, ap (λ (l : List Op). o.upkeep.kept (state_from o b l) a) (append-nil x))
+    along (c ∷ z) x p h =
         let s = state_from o b x in
-        let rest = kept_along o (o.next (o.next s a) c) z in
-        ap (λ (t : State). kept_along o b (x ++ c ∷ []) ++ kept_along o (o.next t a) z) (state-append o b x (c ∷ []))
-        ∙ ap (λ (t : State). kept_along o b (x ++ c ∷ []) ++ kept_along o t z) (sym stands.one_state)
-        ∙ ap (λ (l : List Undo). l ++ rest) (kept-push o b x c)
-        ∙ append_assoc (kept_along o b x) (o.upkeep.kept s c ∷ []) rest
-
-    own_now : o.upkeep.kept (state_from o b (x ++ c ∷ [])) a ≡ o.upkeep.kept (o.next (state_from o b x) c) a
-    own_now = ap (λ (t : State). o.upkeep.kept t a) (state-append o b x (c ∷ []))
-
-    -- what stands for c among the others is what it keeps in some state
-    pub other_may_keep : (us : List Undo) (u d : Undo) → IsCarried o b x (c ∷ z) a us u → MayKeep o c (get_or us (length x) d)
-    other_may_keep us u d at =
-        let s = state_from o b x in
-        let rest = kept_along o (o.next (o.next s a) c) z in (
-          o.next s a,
-          stands.second,
-          sym (ap (λ (l : List Undo). get_or l (length x) d) (was us u at)
-              ∙ ap (λ (n : ℕ). get_or (kept_along o b x ++ o.upkeep.kept (o.next s a) c ∷ rest) n d) (sym (length-kept o b x))
-              ∙ get_mid (kept_along o b x) rest (o.upkeep.kept (o.next s a) c) d),
+        let both = kept_at x z a c p.0 h false (alone c p.0) in
+        let stand = stands x z a c p.0 h in
+        let rest = along z (x ++ c ∷ []) p.1 (turned_on x z a c p.0 h) in
+        let next : state_from o b (x ++ c ∷ []) ≡ o.next s c = state-append o b x (c ∷ []) in (
+          ap (λ (u : Undo). u ∷ kept_along o (o.next (o.next s a) c) z) (sym both.0)
+              ∙ ap (λ (t : State). o.upkeep.kept s c ∷ kept_along o t z) stand.one_state
+              ∙ ap (λ (us : List Undo). o.upkeep.kept s c ∷ us) (subst (λ (t : State). kept_along o (o.next t a) z ≡ kept_along o t z) next rest.0),
+          ap (λ (l : List Op). o.upkeep.kept (state_from o b l) a) (sym (append_assoc x (c ∷ []) z)) ∙ rest.1 ∙ ap (λ (t : State). o.upkeep.kept t a) next ∙ both.1,
         )
 
-    -- a comes behind c
-    pub carried_alone : (us : List Undo) (u : Undo) → KeptAs o false a c → IsCarried o b x (c ∷ z) a us u → IsCarried o b (x ++ c ∷ []) z a us u
-    carried_alone us u kept at =
+    pub carried_alone : (x z : List Op) (us : List Undo) (d : Undo) (n : ℕ) → length x ≡ n → LetsPass o a z → AllowedFrom o b (x ++ a ∷ z) → us ≡ kept_along o b (x ++ a ∷ z)
+        → IsCarried o b (x ++ z) a (remove us n) (get_or us n d)
+    carried_alone x z us d n is p h kept =
         let s = state_from o b x in
-        let rest = kept_along o (o.next (o.next s a) c) z in
-        let both = kept_at false kept in
+        let front = kept_along o b x in
+        let rest = kept_along o (o.next s a) z in
+        let cut = kept ∙ kept-append o b x (a ∷ z) in
+        let size : length front ≡ n = length-kept o b x ∙ is in
+        let both = along z x p h in
         record {
-          others = was us u at ∙ ap (λ (v : Undo). kept_along o b x ++ v ∷ rest) (sym both.0) ∙ sym is_now;
-          own = at.own ∙ sym both.1 ∙ sym own_now;
-        }
-
-    pub carried_in_turn : (us : List Undo) (u : Undo) → KeptAs o true a c → IsCarried o b x (c ∷ z) a us u
-        → IsCarried o b (x ++ c ∷ []) z a (slice_set us (length x) u) (get_or us (length x) u)
-    carried_in_turn us u kept at =
-        let s = state_from o b x in
-        let rest = kept_along o (o.next (o.next s a) c) z in
-        let both = kept_at true kept in
-        let size = length-kept o b x in
-        record {
-          others = ap (λ (l : List Undo). slice_set l (length x) u) (was us u at)
-              ∙ ap (λ (n : ℕ). slice_set (kept_along o b x ++ o.upkeep.kept (o.next s a) c ∷ rest) n u) (sym size)
-              ∙ set_mid (kept_along o b x) rest (o.upkeep.kept (o.next s a) c) u
-              ∙ ap (λ (v : Undo). kept_along o b x ++ v ∷ rest) (at.own ∙ sym both.0) ∙ sym is_now;
-          own = ap (λ (l : List Undo). get_or l (length x) u) (was us u at)
-              ∙ ap (λ (n : ℕ). get_or (kept_along o b x ++ o.upkeep.kept (o.next s a) c ∷ rest) n u) (sym size)
-              ∙ get_mid (kept_along o b x) rest (o.upkeep.kept (o.next s a) c) u
-              ∙ sym both.1 ∙ sym own_now;
+          others = ap (λ (l : List Undo). remove l n) cut ∙ ap (remove (front ++ o.upkeep.kept s a ∷ rest)) (sym size)
+              ∙ remove_mid front rest (o.upkeep.kept s a) ∙ ap (λ (l : List Undo). front ++ l) both.0 ∙ sym (kept-append o b x z);
+          own = ap (λ (l : List Undo). get_or l n d) cut ∙ get_or_at front (o.upkeep.kept s a) rest d n size ∙ sym both.1;
         }
 
 -- one more entry passes, or is of another place
@@ -179,20 +183,9 @@ module _ {Shape State Op Undo : Type 0} (o : Object Shape State Op Undo) (laws :
   size : length (take i items) ≡ i
   size = length-take-le i items (omega arith)
 
-  front : length (kept_along o b x) ≡ i
-  front = length-kept o b x ∙ length-ops (take i items) ∙ size
-
-  undos : us ≡ kept_along o b x ++ o.upkeep.kept (state_from o b x) a ∷ kept_along o (o.next (state_from o b x) a) y
-  undos = h.kept ∙ ap (kept_along o b) whole_list ∙ kept-append o b x (a ∷ y)
-
-  -- where it stands, before it is carried behind any
-  pub carried_first : (u : Undo) → u ≡ get_or us i u → IsCarried o b x y a (remove us i) u
-  carried_first u kept = record {
-    others = ap (λ (n : ℕ). remove us n) (sym front) ∙ ap (λ (l : List Undo). remove l (length (kept_along o b x))) undos
-        ∙ remove_mid (kept_along o b x) (kept_along o (o.next (state_from o b x) a) y) (o.upkeep.kept (state_from o b x) a);
-    own = kept ∙ ap (λ (n : ℕ). get_or us n u) (sym front) ∙ ap (λ (l : List Undo). get_or l (length (kept_along o b x)) u) undos
-        ∙ get_mid (kept_along o b x) (kept_along o (o.next (state_from o b x) a) y) (o.upkeep.kept (state_from o b x) a) u;
-  }
+  -- what was kept of them all
+  pub undos : us ≡ kept_along o b (x ++ a ∷ y)
+  undos = h.kept ∙ ap (kept_along o b) whole_list
 
   -- the operations that are left
   ops_left : ops (remove items i) ≡ x ++ y
@@ -201,7 +194,7 @@ module _ {Shape State Op Undo : Type 0} (o : Object Shape State Op Undo) (laws :
       ∙ ap ops (remove_mid (take i items) (drop (i + 1) items) e) ∙ map-append (λ (f : Item Op). f.op) (take i items) (drop (i + 1) items)
 
   -- it was carried behind all
-  module _ (p : LetsPass o e.op (ops (drop (i + 1) items))) (vs : List Undo) (u : Undo) (carried : IsCarried o b (x ++ y) [] a vs u) where
+  module _ (p : LetsPass o e.op (ops (drop (i + 1) items))) (vs : List Undo) (u : Undo) (carried : IsCarried o b (x ++ y) a vs u) where
     last : IsAllowed o (o.shape b) (((h.base ++ x) ++ y) ++ a ∷ [])
     last = passed_last o laws (o.shape b) (h.base ++ x) y a p
         (subst (IsAllowed o (o.shape b)) (sym (append_assoc h.base x (a ∷ y))) (long o laws b h.base h.log (x ++ a ∷ y) allowed_there))
@@ -239,11 +232,8 @@ module _ {Shape State Op Undo : Type 0} (o : Object Shape State Op Undo) (laws :
         let ranged = subst (λ (f : Item Op). IsTrue (o.ranged f.op)) (sym is) (ranged-get o items i e k h.ranged) in
         (state_from o b (x ++ y), reached, ranged, legal, state_is, carried.own)
 
-    undos_left : vs ≡ kept_along o b (x ++ y)
-    undos_left = carried.others ∙ append-nil (kept_along o b (x ++ y))
-
     pub all_left : length vs ≡ length (remove items i)
-    all_left = ap length undos_left ∙ length-kept o b (x ++ y) ∙ ap length (sym ops_left) ∙ length-ops (remove items i)
+    all_left = ap length carried.others ∙ length-kept o b (x ++ y) ∙ ap length (sym ops_left) ∙ length-ops (remove items i)
 
     -- and then the others are what was applied
     pub run_left : IsRun o b (remove items i) vs (o.upkeep.back s a u)
@@ -276,7 +266,7 @@ module _ {Shape State Op Undo : Type 0} (o : Object Shape State Op Undo) (laws :
           is = ap (λ (r : State). o.upkeep.back r a u) state_is
               ∙ ap (o.upkeep.back (o.next (state_from o b (x ++ y)) a) a) carried.own
               ∙ laws.taken_back (state_from o b (x ++ y)) a here legal ∙ ap (state_from o b) (sym full);
-          kept = undos_left ∙ ap (kept_along o b) (sym full);
+          kept = carried.others ∙ ap (kept_along o b) (sym full);
         }
 
 -- The i-th item, with the operation a, lets those behind it pass.
@@ -292,38 +282,27 @@ module _ {Shape State Op Undo : Type 0} (o : Object Shape State Op Undo) (laws :
   behind = subst (λ (l : List (Item Op)). LetsPass o passes.item.op (ops l)) (sym passes.others) (subst (λ (c : Op). LetsPass o c (ops z)) (sym passes.op) passes.behind)
 
   -- before it is carried
-  way_first : (u : Undo) → u ≡ get_or us i u → IsOnWay o b h.base (ops (take i items)) (ops z) a (remove us i) u
-  way_first u kept =
-      subst (λ (l : List (Item Op)). IsOnWay o b h.base (ops (take i items)) (ops l) a (remove us i) u) passes.others
-      (subst (λ (c : Op). IsOnWay o b h.base (ops (take i items)) (ops (drop (i + 1) items)) c (remove us i) u) passes.op (record {
+  way_first : IsOnWay o b h.base (ops (take i items)) (ops z) a us
+  way_first =
+      subst (λ (l : List (Item Op)). IsOnWay o b h.base (ops (take i items)) (ops l) a us) passes.others
+      (subst (λ (c : Op). IsOnWay o b h.base (ops (take i items)) (ops (drop (i + 1) items)) c us) passes.op (record {
         log = h.log;
         allowed = allowed_there o laws b s items us h all i passes.item within is;
-        carried = carried_first o laws b s items us h all i passes.item within is u kept;
+        kept = undos o laws b s items us h all i passes.item within is;
       }))
 
   many_before : length (ops (take i items)) ≡ i
   many_before = let k = within in length-ops (take i items) ∙ length-take-le i items (omega arith)
 
-  room_behind : i + length (ops z) ≡ length (remove us i)
-  room_behind =
-      let k = within in
-      let n = length-remove us i (omega (arith, all, k)) in
-      let m = ap length passes.others ∙ sym (length-ops z) in
-      let d = length-drop (i + 1) items in
-      omega (arith, all, k, n, m, d)
-
   -- carried behind all
-  pub way_last : (place : Op → ℕ) (rest vs : List Undo) (u v : Undo) → rest ≡ remove us i → u ≡ get_or us i u → AllAt place (place a) (ops z)
-      → Carries o place a i rest u vs v → IsCarried o b (ops (take i items) ++ ops z) [] a vs v
-  way_last place rest vs u v is kept one_place carries =
-      (carries b h.base (ops (take i items)) (ops z) many_before (subst (λ (l : List Undo). i + length (ops z) ≡ length l) (sym is) room_behind) passes.behind one_place
-      (subst (λ (l : List Undo). IsOnWay o b h.base (ops (take i items)) (ops z) a l u) (sym is) (way_first u kept))).carried
+  pub way_last : (place : Op → ℕ) (vs : List Undo) (v : Undo) → AllAt place (place a) (ops z) → CarriesOut o place a i us vs v → IsCarried o b (ops (take i items) ++ ops z) a vs v
+  way_last place vs v one_place carries = carries b h.base (ops (take i items)) (ops z) many_before passes.behind one_place way_first
 
   -- and then it is out
-  module _ (vs : List Undo) (v : Undo) (carried : IsCarried o b (ops (take i items) ++ ops z) [] a vs v) where
-    carried_all : IsCarried o b (ops (take i items) ++ ops (drop (i + 1) items)) [] passes.item.op vs v
-    carried_all = subst (λ (l : List (Item Op)). IsCarried o b (ops (take i items) ++ ops l) [] passes.item.op vs v) (sym passes.others)
-        (subst (λ (c : Op). IsCarried o b (ops (take i items) ++ ops z) [] c vs v) (sym passes.op) carried)
+  module _ (vs : List Undo) (v : Undo) (carried : IsCarried o b (ops (take i items) ++ ops z) a vs v) where
+    carried_all : IsCarried o b (ops (take i items) ++ ops (drop (i + 1) items)) passes.item.op vs v
+    carried_all = subst (λ (l : List (Item Op)). IsCarried o b (ops (take i items) ++ ops l) passes.item.op vs v) (sym passes.others)
+        (subst (λ (c : Op). IsCarried o b (ops (take i items) ++ ops z) c vs v) (sym passes.op) carried)
 
     pub applied_out : WasApplied o a v s
     applied_out = subst (λ (c : Op). WasApplied o c v s) passes.op (was_applied o laws b s items us h all i passes.item within is behind vs v carried_all)

@@ -43,9 +43,12 @@ module _ {Shape State Op Undo : Type 0} (o : Object Shape State Op Undo) where
   fit-get sh (f ∷ x) zero e h r = r.0
   fit-get sh (f ∷ x) (suc i) e h r = fit-get sh x i e (omega arith) r.1
 
+  pub kept-append : (s : State) (x y : List Op) → kept_along o s (x ++ y) ≡ kept_along o s x ++ kept_along o (state_from o s x) y
+  kept-append s [] y = refl
+  kept-append s (a ∷ x) y = ap (λ (us : List Undo). o.upkeep.kept s a ∷ us) (kept-append (o.next s a) x y)
+
   pub kept-push : (s : State) (x : List Op) (a : Op) → kept_along o s (x ++ a ∷ []) ≡ kept_along o s x ++ o.upkeep.kept (state_from o s x) a ∷ []
-  kept-push s [] a = refl
-  kept-push s (b ∷ x) a = ap (λ (us : List Undo). o.upkeep.kept s b ∷ us) (kept-push (o.next s b) x a)
+  kept-push s x a = kept-append s x (a ∷ [])
 
   pub length-kept : (s : State) (x : List Op) → length (kept_along o s x) ≡ length x
   length-kept s [] = refl

@@ -1,35 +1,37 @@
 //! What takes an operation back, carried behind the operations that it lets pass.
-ghost use Rattle.std.specs.Prelude.{◌≡◌, ◌<◌, length};
-ghost use Rattle.pp_log.specs.Carries.{Carries, CarriesOver};
+ghost use Rattle.std.specs.Prelude.{◌≡◌, ◌<◌, ◌+◌, length};
+ghost use Rattle.pp_log.specs.Carries.{CarriesOut, CarriesOver};
 
 use pp_spec::Placed;
 
-/// Carries what takes an operation back behind another operation of its place. What takes that one
-/// back stands at a position, and the two are exchanged where the operations keep in turn.
-fn carry_over<S: Placed>(op: &S::Op, undo: S::Undo, undos: &mut Vec<S::Undo>, at: usize) -> S::Undo
-    requires { at < length undos.old.items }
+/// Carries an operation behind the next one of its place. What takes it back stands at a position,
+/// and what takes the other one back stands behind that. Where the two keep in turn, both values
+/// stay, and else they are exchanged.
+fn carry_over<S: Placed>(op: &S::Op, undos: &mut Vec<S::Undo>, at: usize)
+    requires { at + 1 < length undos.old.items }
     ensures size { length undos.new.items ≡ length undos.old.items }
-    ensures carries { CarriesOver S.object S.place_of op.now at undos.old.items undo
-        undos.new.items result }
+    ensures carries { CarriesOver S.object S.place_of op.now at
+        undos.old.items undos.new.items }
 {
-    let mut undo = undo;
-    if S::keep_in_turn(op, &undos[at]) {
-        std::mem::swap(&mut undo, &mut undos[at]);
+    if !S::keep_in_turn(op, &undos[at + 1]) {
+        undos.swap(at, at + 1);
     }
-    undo
 }
 
-/// Carries what takes an operation back behind all of its place that stand behind it: what takes
-/// these back stands from a position on.
-pub fn carry<S: Placed>(op: &S::Op, undo: S::Undo, undos: &mut Vec<S::Undo>, from: usize) -> S::Undo
-    ensures { Carries S.object S.place_of op.now from undos.old.items undo undos.new.items result }
+/// Carries an operation, for which what takes it back stands at a position, behind all of its place
+/// that stand behind it, and takes out what takes it back there.
+pub fn carry_out<S: Placed>(op: &S::Op, undos: &mut Vec<S::Undo>, from: usize) -> S::Undo
+    requires { from < length undos.old.items }
+    ensures { CarriesOut S.object S.place_of op.now from undos.old.items undos.new.items result }
 {
     if S::keeps_alone(op) {
-        return undo;
+        return undos.remove(from);
     }
-    let mut undo = undo;
-    for at in from..undos.len() {
-        undo = carry_over::<S>(op, undo, undos, at);
+    for at in from..undos.len() - 1 {
+        carry_over::<S>(op, undos, at);
     }
+    let Some(undo) = undos.pop() else {
+        unreachable!()
+    };
     undo
 }

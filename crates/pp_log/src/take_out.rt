@@ -8,7 +8,7 @@ ghost use Rattle.pp_log.specs.Logs.{removal_ticks};
 ghost use Rattle.pp_log.specs.Parts.{there, with_first};
 ghost use Rattle.pp_log.specs.TakesOut.{CanPassOut, HasWhole, PassesOutOf, TakesOutOf};
 
-use crate::carry::carry;
+use crate::carry::carry_out;
 use crate::index::Index;
 use crate::place::{Place, Removed};
 use crate::run::{rewind, unwind};
@@ -101,8 +101,7 @@ pub fn pass_out<S: Placed, L: Ledger>(
     ensures cost { ticks.new ≡ ticks.old + 1 }
 {
     let _ = place.ids.remove(from);
-    let undo = place.undos.remove(from);
-    let undo = carry::<S>(op, undo, &mut place.undos, from);
+    let undo = carry_out::<S>(op, &mut place.undos, from);
     S::undo(state, op, undo, ticks)?;
     Ok(())
 }

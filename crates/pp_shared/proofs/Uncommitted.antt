@@ -16,7 +16,7 @@ use Rattle.pp_model.proofs.Lists.{in_cases, in_filter}
 use Rattle.pp_parts.specs.declared.part.Part.{Part}
 use Rattle.pp_parts.specs.Parts.{Covers, PartsSwap, SampleList}
 use Rattle.pp_spec.specs.Object.{Object, Swaps}
-use Rattle.pp_shared.specs.declared.open.OpenPart.{OpenPart}
+use Rattle.pp_shared.specs.declared.open_parts.OpenPart.{OpenPart}
 use Rattle.pp_shared.specs.Blocking.{AllGiveWay}
 use Rattle.pp_shared.specs.Uncommitted.{same_part, is_open_in, open_in, Tells, TellsOf}
 use Rattle.pp_shared.specs.Uncommitted.{KeepsOpen, LosesOne, LosesAt, LeavesOut}

@@ -10,7 +10,7 @@ use Rattle.pp_model.specs.Names.{Name}
 use Rattle.pp_parts.specs.declared.part.Part.{Part}
 use Rattle.pp_parts.specs.Parts.{Covers, SampleList}
 use Rattle.pp_spec.specs.Object.{Object}
-use Rattle.pp_shared.specs.declared.open.OpenPart.{OpenPart}
+use Rattle.pp_shared.specs.declared.open_parts.OpenPart.{OpenPart}
 use Rattle.pp_shared.specs.Blocking.{IsSettled}
 
 -- The parts are the same.

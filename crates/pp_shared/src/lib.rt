@@ -1,7 +1,7 @@
 //! The shared log of a run.
 #![tactic(auto)]
 
-mod open;
+mod open_parts;
 mod shared;
 
 pub use pp_core::SharedEntry;

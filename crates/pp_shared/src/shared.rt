@@ -16,7 +16,7 @@ ghost use Rattle.pp_shared.specs.Blocking.{IsSettled};
 ghost use Rattle.pp_shared.specs.Committing.{HoldsIdsOf, IsCommittedOn};
 ghost use Rattle.pp_shared.specs.Uncommitted.{CommitsOne, KeepsOpen, KeepsShared};
 
-use crate::open::OpenParts;
+use crate::open_parts::OpenParts;
 use pp_core::{Answer, Item, Items, Name, OutOfMemory, SharedEntry, Ticks};
 use pp_log::{Log, Removed, SharedSide};
 use pp_parts::Parted;

@@ -15,10 +15,9 @@ undo-requires g c =
     let us = c.args.place.now.undos.items in
     let i = c.args.from in
     let a = c.args.op.now in
-    let vs = c.carry-undo.new.undos.items in
-    let carried = way_last o laws b s h.items h.behind us i a h.whole.run h.whole.all h.passes g.S.Placed.place_of c.remove-undo.new.self.items vs
-    c.remove-undo.result c.carry-undo.result c.remove-undo.ensures.items c.remove-undo.ensures.value h.one_place c.carry-undo.ensures in
-    applied_out o laws b s h.items h.behind us i a h.whole.run h.whole.all h.passes vs c.carry-undo.result carried
+    let vs = c.carry_out-undo.new.undos.items in
+    let carried = way_last o laws b s h.items h.behind us i a h.whole.run h.whole.all h.passes g.S.Placed.place_of vs c.carry_out-undo.result h.one_place c.carry_out-undo.ensures in
+    applied_out o laws b s h.items h.behind us i a h.whole.run h.whole.all h.passes vs c.carry_out-undo.result carried
 
 pub returns-clause-takes : goal.returns-clause-takes
 returns-clause-takes g c = λ b x z passes one_place whole.
@@ -28,12 +27,11 @@ returns-clause-takes g c = λ b x z passes one_place whole.
     let us = c.args.place.now.undos.items in
     let i = c.args.from in
     let a = c.args.op.now in
-    let vs = c.carry-undo.new.undos.items in
-    let carried = way_last o laws b s x z us i a whole.run whole.all passes g.S.Placed.place_of c.remove-undo.new.self.items vs
-    c.remove-undo.result c.carry-undo.result c.remove-undo.ensures.items c.remove-undo.ensures.value one_place c.carry-undo.ensures in
-    let run = run_out o laws b s x z us i a whole.run whole.all passes vs c.carry-undo.result carried in
+    let vs = c.carry_out-undo.new.undos.items in
+    let carried = way_last o laws b s x z us i a whole.run whole.all passes g.S.Placed.place_of vs c.carry_out-undo.result one_place c.carry_out-undo.ensures in
+    let run = run_out o laws b s x z us i a whole.run whole.all passes vs c.carry_out-undo.result carried in
     record {
       run = subst (IsRun o b (remove x i) vs) (sym c.in_ok-undo.ensures.ok) run;
-      all = all_out o laws b s x z us i a whole.run whole.all passes vs c.carry-undo.result carried;
+      all = all_out o laws b s x z us i a whole.run whole.all passes vs c.carry_out-undo.result carried;
       ids = c.remove.ensures.items ∙ ap (λ l. remove l i) whole.ids ∙ ids-remove x i;
     }

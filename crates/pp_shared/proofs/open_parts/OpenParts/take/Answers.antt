@@ -1,7 +1,7 @@
 use Rattle.std.proofs.Common.{IsSome, Some, refl, subst, sym}
 use Rattle.pp_shared.specs.Uncommitted.{open_in}
 use Rattle.pp_shared.proofs.Uncommitted.{less_at, told_at}
-use Rattle.pp_shared.proofs.open.OpenParts.take.Goals as goal
+use Rattle.pp_shared.proofs.open_parts.OpenParts.take.Goals as goal
 
 pub returns-in-Some : goal.returns-in-Some
 returns-in-Some g c = λ x y kept out.

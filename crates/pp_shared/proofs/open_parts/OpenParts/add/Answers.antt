@@ -3,7 +3,7 @@ use Rattle.std.specs.Map.{lookup}
 use Rattle.indexmap.specs.Entry.{entry_map_ref, entry_value, map_with_value}
 use Rattle.pp_shared.specs.Uncommitted.{open_in, same_part, Tells}
 use Rattle.pp_shared.proofs.Uncommitted.{counted, more_at, told_at}
-use Rattle.pp_shared.proofs.open.OpenParts.add.Goals as goal
+use Rattle.pp_shared.proofs.open_parts.OpenParts.add.Goals as goal
 
 pub note-requires : goal.note-requires
 note-requires g c =

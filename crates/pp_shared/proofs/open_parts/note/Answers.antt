@@ -1,8 +1,8 @@
 use Rattle.std.proofs.Common.{◌≡◌, true, false, refl, sym, ◌∙◌}
 use Rattle.pp_model.proofs.Names.{names-true}
 use Rattle.pp_shared.proofs.Uncommitted.{tells_more}
-use Rattle.pp_shared.proofs.open.note.Goals.{then-slot, else-slot}
-use Rattle.pp_shared.proofs.open.note.Goals as goal
+use Rattle.pp_shared.proofs.open_parts.note.Goals.{then-slot, else-slot}
+use Rattle.pp_shared.proofs.open_parts.note.Goals as goal
 
 pub returns : goal.returns
 returns g c = λ x told.

@@ -3,8 +3,8 @@ use Rattle.std.specs.Map.{lookup}
 use Rattle.pp_model.proofs.Names.{names-true}
 use Rattle.pp_shared.specs.Uncommitted.{same_part}
 use Rattle.pp_shared.proofs.Uncommitted.{none_in_the_way, none_left, owner_alone, samples_swap}
-use Rattle.pp_shared.proofs.open.OpenParts.lets.Goals.{then-slot, else-slot}
-use Rattle.pp_shared.proofs.open.OpenParts.lets.Goals as goal
+use Rattle.pp_shared.proofs.open_parts.OpenParts.lets.Goals.{then-slot, else-slot}
+use Rattle.pp_shared.proofs.open_parts.OpenParts.lets.Goals as goal
 
 pub returns-in_default : goal.returns-in_default
 returns-in_default g c = λ _ x kept.
