@@ -24,7 +24,8 @@ IsPrinted statuses.WriteFault = ⊥
 IsPrinted statuses.OutOfMemory = ⊥
 IsPrinted statuses.TooLarge = Unit {0}
 
--- the output was not written, or not to its end
+-- a write or the flush failed, or memory was refused: of an output a prefix at most was written,
+-- which may be all of it
 abbrev pub IsUnwritten : Status → Type 0
 IsUnwritten statuses.Accepted = ⊥
 IsUnwritten statuses.Rejected = ⊥

@@ -42,15 +42,21 @@ impl<R: Read + Drop> Source for StdSource<R> {
 #[derive(Drop)]
 pub struct StdSink<W: Write + Drop> {
     stream: W,
+    flushes: u64,
     faults: u64,
 }
 
 impl<W: Write + Drop> StdSink<W> {
-    /// A sink with no fault so far.
+    /// A sink with no flush and no fault so far.
     pub fn new(stream: W) -> StdSink<W>
-        ensures { result.faults ≡ 0 }
+        ensures flushes { result.flushes ≡ 0 }
+        ensures faults { result.faults ≡ 0 }
     {
-        StdSink { stream, faults: 0 }
+        StdSink {
+            stream,
+            flushes: 0,
+            faults: 0,
+        }
     }
 }
 
@@ -60,6 +66,8 @@ impl<W: Write + Drop> Sink for StdSink<W> {
     ghost held = { λ s. None };
 
     ghost sent = { λ s. None };
+
+    ghost flushes = { λ s. s.flushes };
 
     ghost faults = { λ s. s.faults };
 
@@ -81,6 +89,7 @@ impl<W: Write + Drop> Sink for StdSink<W> {
     }
 
     fn flush(&mut self) -> Result<(), SinkFault> {
+        self.flushes = self.flushes.saturating_add(1);
         match self.stream.flush() {
             Ok(()) => Ok(()),
             Err(_) => {

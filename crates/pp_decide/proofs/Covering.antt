@@ -12,16 +12,13 @@ use Rattle.pp_json.specs.declared.fault.RecordFault.{RecordFault}
 use Rattle.pp_json.specs.declared.header.Header.{Header}
 use Rattle.pp_json.specs.Headers.{header_of}
 use Rattle.pp_json.specs.Records.{record_of}
-use Rattle.pp_model.specs.Rules.{StartMeets}
 use Rattle.pp_object.specs.declared.act.Op.{Op}
 use Rattle.pp_object.specs.Objects.{kinds_of, objects, place_of}
-use Rattle.pp_quick.specs.Held.{Held, Takes}
-use Rattle.pp_quick.specs.Reading.{held_at}
+use Rattle.pp_quick.specs.Held.{Held, Takes, held_first}
 use Rattle.pp_quick.specs.Runs.{IsBoosted}
 use Rattle.pp_quick.proofs.Failures.{failure_law}
 use Rattle.pp_reading.specs.declared.cause.Cause.{Cause}
 use Rattle.pp_reading.specs.declared.cause.Cause.TheVariants.{NotBoosted}
-use Rattle.pp_certify.specs.Causes.{cause_of}
 use Rattle.pp_certify.specs.Objects.{object_of, start_of, translation_of}
 use Rattle.pp_certify.specs.Progresses.{IsRefused, IsTallied, is_too_many, with_line, with_record}
 use Rattle.pp_certify.specs.Scans.{InputScan, nothing, scan_line, with_fault, with_header, with_next}
@@ -84,7 +81,7 @@ module _ (line : ℕ) (header : Header) (positive : 0 < line) (style : header.st
   header_covers (Waiting lines) t = absurd t
   header_covers (Running tally quick) t =
       let kinds : List Kind = kinds_of header.catalog in
-      let good : AreGood first_scan first_tally (held_at objects place_of kinds (start_of header) kinds) = record {
+      let good : AreGood first_scan first_tally (held_first objects place_of kinds (start_of header)) = record {
         follows = first_follows;
         style = style;
         shape = refl;

@@ -16,9 +16,12 @@ use Rattle.pp_object.specs.declared.act.Op.{Op}
 use Rattle.pp_quick.specs.Brief.{brief}
 use Rattle.pp_quick.specs.Failures.{FailsIn, all_steps}
 use Rattle.pp_quick.specs.Held.{Held, Takes}
-use Rattle.pp_quick.specs.Reading.{HasRead, IsReader, held_at}
-use Rattle.pp_quick.specs.Runs.{BriefRuns, IsBoosted, boosting, brief_after}
+use Rattle.pp_quick.specs.Laws.{IsBriefed, KeepsBoosted}
+use Rattle.pp_quick.specs.Reading.{IsReader}
+use Rattle.pp_quick.specs.Runs.{BriefRuns, boosting, brief_after}
 use Rattle.pp_quick.specs.Sums.{AreTried}
+use Rattle.pp_quick.proofs.Briefs.{briefed}
+use Rattle.pp_quick.proofs.Deciding.{quick as boosted_law}
 use Rattle.pp_quick.proofs.Reading.{reader}
 use Rattle.pp_quick.proofs.Short.{apart_of}
 use Rattle.pp_spec.specs.Object.{rules_of}
@@ -31,6 +34,13 @@ use Rattle.pp_decide.specs.Taking.{AreGood}
 
 pub reads : (ks : List Kind) (h : Option (Start Op)) → IsReader objects place_of ks h
 reads ks h = reader objects place_of (apart_of objects place_of SameAt objects_placed) ks h
+
+-- what holds of boosted configurations over the objects of a header, and of their briefs
+pub keeps_boosted : (header : Header) → KeepsBoosted (object_of header) place_of
+keeps_boosted header = boosted_law (object_of header) place_of (apart_of objects place_of SameAt objects_placed (kinds_of header.catalog))
+
+pub is_briefed : (header : Header) → IsBriefed (object_of header) place_of
+is_briefed header = briefed (object_of header) place_of (apart_of objects place_of SameAt objects_placed (kinds_of header.catalog))
 
 module _ (sc : InputScan) (tally : Tally) (quick : Held (List Kind) Op) (c : AreGood sc tally quick) where
   abbrev h : Header

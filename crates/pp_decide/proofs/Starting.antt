@@ -20,12 +20,11 @@ use Rattle.pp_model.specs.Config.{Start}
 use Rattle.pp_model.specs.Rules.{StartMeets}
 use Rattle.pp_object.specs.declared.act.Op.{Op}
 use Rattle.pp_object.specs.Objects.{kinds_of, objects, place_of}
-use Rattle.pp_quick.specs.Held.{Held, IsItemAsked, IsRecordAsked, IsStepAsked, Starts, held_first, held_started, start_of as start_with}
-use Rattle.pp_quick.specs.Reading.{held_at}
+use Rattle.pp_quick.specs.Held.{Held, IsItemAsked, IsRecordAsked, IsStepAsked, Starts, held_first, start_of as start_with}
 use Rattle.pp_spec.specs.Object.{rules_of}
 use Rattle.pp_certify.specs.Costs.{start_at_most}
 use Rattle.pp_certify.specs.Objects.{object_of, start_of}
-use Rattle.pp_decide.specs.Taking.{HasStarted}
+use Rattle.pp_decide.specs.Taking.{StartsQuick}
 
 -- ---- what was read may be asked
 
@@ -63,7 +62,7 @@ asked_record catalog shape r is h = subst (λ (k : List Kind). IsRecordAsked obj
 twice_as_many : (old new n : ℕ) → new ≤ old + n → new ≤ old + 2 * n
 twice_as_many old new n bound = omega (arith, bound)
 
-module _ (header : Header) (quick : Held (List Kind) Op) (new : quick ≡ held_first objects place_of (kinds_of header.catalog)) where
+module _ (header : Header) (quick : Held (List Kind) Op) (new : quick ≡ held_first objects place_of (kinds_of header.catalog) None) where
   abbrev ks : List Kind
   ks = kinds_of header.catalog
 
@@ -71,8 +70,8 @@ module _ (header : Header) (quick : Held (List Kind) Op) (new : quick ≡ held_f
   shape_is = ap (λ (q : Held (List Kind) Op). q.shape) new
 
   -- it is as `new` made it
-  pub is_first : quick ≡ held_first objects place_of quick.shape
-  is_first = new ∙ ap (λ (k : List Kind). held_first objects place_of k) (sym shape_is)
+  pub is_first : quick ≡ held_first objects place_of quick.shape None
+  is_first = new ∙ ap (λ (k : List Kind). held_first objects place_of k None) (sym shape_is)
 
   pub items_asked : (items : List (Item Op)) → All (IsReadableItem header.catalog) items → All (IsItemAsked objects quick.shape) items
   items_asked items all =
@@ -80,25 +79,25 @@ module _ (header : Header) (quick : Held (List Kind) Op) (new : quick ≡ held_f
       (All-weaker (IsReadableItem header.catalog) (IsItemAsked objects ks) (λ p h. (h.1, h.2)) items all)
 
   -- without a start
-  pub none_started : header.start ≡ None → HasStarted header true quick
+  pub none_started : header.start ≡ None → StartsQuick header true quick
   none_started is =
       let none : start_of header ≡ None = ap (λ (z : Option HeaderStart). option_map (λ s. start_with s.tx s.ops) z) is in
-      subst (λ (h : Option (Start Op)). StartMeets (object_of header) h × (quick ≡ held_at objects place_of ks h ks)) (sym none) (refl, new)
+      subst (λ (h : Option (Start Op)). StartMeets (object_of header) h × (quick ≡ held_first objects place_of ks h)) (sym none) (refl, new)
 
   one : (z : HeaderStart) → header.start ≡ Some z → start_of header ≡ Some (start_with z.tx z.ops)
   one z is = ap (λ (w : Option HeaderStart). option_map (λ s. start_with s.tx s.ops) w) is
 
   -- with one
-  some_started : (z : HeaderStart) → header.start ≡ Some z → (good : Bool) (after : Held (List Kind) Op) → Starts objects place_of quick (start_with z.tx z.ops) good after → HasStarted header good after
+  some_started : (z : HeaderStart) → header.start ≡ Some z → (good : Bool) (after : Held (List Kind) Op) → Starts objects place_of quick (start_with z.tx z.ops) good after → StartsQuick header good after
   some_started z is true after s =
-      subst (λ (h : Option (Start Op)). StartMeets (object_of header) h × (after ≡ held_at objects place_of ks h ks)) (sym (one z is))
-      (subst (λ (k : List Kind). StartMeets (rules_of objects k) (Some (start_with z.tx z.ops)) × (after ≡ held_started objects place_of k (start_with z.tx z.ops))) shape_is s)
+      subst (λ (h : Option (Start Op)). StartMeets (object_of header) h × (after ≡ held_first objects place_of ks h)) (sym (one z is))
+      (subst (λ (k : List Kind). StartMeets (rules_of objects k) (Some (start_with z.tx z.ops)) × (after ≡ held_first objects place_of k (Some (start_with z.tx z.ops)))) shape_is s)
   some_started z is false after s =
       subst (λ (h : Option (Start Op)). StartMeets (object_of header) h → ⊥) (sym (one z is))
       (subst (λ (k : List Kind). StartMeets (rules_of objects k) (Some (start_with z.tx z.ops)) → ⊥) shape_is s.0)
 
   -- the same of what the Quick answers
-  pub started_result : (z : HeaderStart) → header.start ≡ Some z → (r : Result (Held (List Kind) Op × Bool) OutOfMemory) → IfOk r (λ x. Starts objects place_of quick (start_with z.tx z.ops) x.1 x.0) → IfOk r (λ x. HasStarted header x.1 x.0)
+  pub started_result : (z : HeaderStart) → header.start ≡ Some z → (r : Result (Held (List Kind) Op × Bool) OutOfMemory) → IfOk r (λ x. Starts objects place_of quick (start_with z.tx z.ops) x.1 x.0) → IfOk r (λ x. StartsQuick header x.1 x.0)
   started_result z is r s = IfOk-weaker r _ _ (λ x k. some_started z is x.1 x.0 k) s
 
   -- and of what it costs

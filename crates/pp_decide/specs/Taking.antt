@@ -11,8 +11,8 @@ use Rattle.pp_json.specs.declared.header.Header.{Header}
 use Rattle.pp_model.specs.Rules.{StartMeets}
 use Rattle.pp_object.specs.declared.act.Op.{Op}
 use Rattle.pp_object.specs.Objects.{kinds_of, objects, place_of}
-use Rattle.pp_quick.specs.Held.{Held}
-use Rattle.pp_quick.specs.Reading.{HasRead, held_at}
+use Rattle.pp_quick.specs.Held.{Held, held_first}
+use Rattle.pp_quick.specs.Reading.{HasRead}
 use Rattle.pp_quick.specs.Sums.{count_ops}
 use Rattle.pp_reading.specs.declared.cause.Cause.{Cause}
 use Rattle.pp_reading.specs.declared.cause.Cause.TheVariants.{NotBoosted}
@@ -94,19 +94,19 @@ IsHeaderRefused (Err fault) cause = cause_of fault ≡ Ok cause
 IsHeaderRefused (Ok header) cause = (is_boosted header.style ≡ false) × (cause ≡ NotBoosted)
 
 -- what the start of a header, if it has one, answers and leaves of a Quick that is as `new` made it
-abbrev pub HasStarted : Header → Bool → Held (List Kind) Op → Type 0
-HasStarted header true quick =
+abbrev pub StartsQuick : Header → Bool → Held (List Kind) Op → Type 0
+StartsQuick header true quick =
     let kinds = kinds_of header.catalog in
     StartMeets (object_of header) (start_of header)
-    × (quick ≡ held_at objects place_of kinds (start_of header) kinds)
-HasStarted header false quick = StartMeets (object_of header) (start_of header) → ⊥
+    × (quick ≡ held_first objects place_of kinds (start_of header))
+StartsQuick header false quick = StartMeets (object_of header) (start_of header) → ⊥
 
 -- a header is taken, with its start, if there is one: it holds, or it does not
 abbrev pub HeaderTaken : Header → ℕ → Deciding → Type 0
 HeaderTaken header line (Waiting lines) = ⊥
 HeaderTaken header line (Running tally quick) =
     (tally ≡ record { header = header; lines = line; begins = 0 })
-    × HasStarted header true quick
+    × StartsQuick header true quick
 HeaderTaken header line (Rejected tally at) =
     (tally ≡ record { header = header; lines = line; begins = 0 }) × (at ≡ line)
     × (StartMeets (object_of header) (start_of header) → ⊥)

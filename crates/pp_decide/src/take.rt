@@ -10,7 +10,7 @@ ghost use Rattle.pp_certify.specs.Costs.{start_at_most};
 ghost use Rattle.pp_certify.specs.Objects.{start_of};
 ghost use Rattle.pp_certify.specs.Progresses.{header_at_most};
 ghost use Rattle.pp_decide.specs.Decisions.{is_boosted};
-ghost use Rattle.pp_decide.specs.Taking.{HasStarted, HeaderTaken, IsHeaderRefused, lines_of};
+ghost use Rattle.pp_decide.specs.Taking.{HeaderTaken, IsHeaderRefused, StartsQuick, lines_of};
 ghost use Rattle.pp_decide.specs.Taking.{quick_reading, with_blank};
 ghost use Rattle.pp_decide.specs.declared.standing.Deciding.TheVariants.{Rejected, Running};
 
@@ -54,7 +54,7 @@ fn start_quick<L: Ledger>(
     ticks: &mut Ticks<L>,
 ) -> Result<(Quick<Objects>, bool), OutOfMemory>
     requires { IsReadableStart header.now.catalog header.now.start }
-    ensures starts { IfOk result (λ r. HasStarted header.now r.1 r.0) }
+    ensures starts { IfOk result (λ r. StartsQuick header.now r.1 r.0) }
     ensures rises { ticks.old ≤ ticks.new }
     ensures bound { ticks.new ≤ ticks.old + start_at_most (start_of header.now) }
 {

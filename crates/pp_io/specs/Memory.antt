@@ -41,13 +41,15 @@ after_failed_read source =
     record source { calls = counted source.calls; faults = counted source.faults }
 
 -- the bytes that were taken and those that were sent on, how many a call takes at most, the numbers
--- of the calls that fail, how many calls were made and failed, and how many were refused memory
+-- of the calls that fail, how many calls were made, asked to send on and failed, and how many were
+-- refused memory
 pub record SinkInMemory : Type 0 where
   pub held : List ℕ
   pub sent : List ℕ
   pub most : ℕ
   pub failing : List ℕ
   pub calls : ℕ
+  pub flushes : ℕ
   pub faults : ℕ
   pub refusals : ℕ
 
@@ -59,6 +61,7 @@ fresh_sink most failing = record {
   most = max most 1;
   failing = failing;
   calls = 0;
+  flushes = 0;
   faults = 0;
   refusals = 0;
 }
@@ -73,24 +76,33 @@ after_write sink bytes = record sink { held = sink.held ++ bytes; calls = counte
 
 -- after a call that sent on all
 abbrev pub after_flush : SinkInMemory → SinkInMemory
-after_flush sink = record sink { sent = sink.held; calls = counted sink.calls }
+after_flush sink = record sink {
+  sent = sink.held;
+  calls = counted sink.calls;
+  flushes = counted sink.flushes;
+}
 
 -- after a call that failed
 abbrev pub after_failed_write : SinkInMemory → SinkInMemory
 after_failed_write sink = record sink { calls = counted sink.calls; faults = counted sink.faults }
+
+-- after a call to send on that failed
+abbrev pub after_failed_flush : SinkInMemory → SinkInMemory
+after_failed_flush sink = record (after_failed_write sink) { flushes = counted sink.flushes }
 
 -- after a call that was refused memory
 abbrev pub after_refused_write : SinkInMemory → SinkInMemory
 after_refused_write sink =
     record sink { calls = counted sink.calls; refusals = counted sink.refusals }
 
--- the bytes that a sink took which never fails, those that it sent on, and how often it was refused
--- memory
+-- the bytes that a sink took which never fails, those that it sent on, how often it was asked to,
+-- and how often it was refused memory
 pub record SteadyBytes : Type 0 where
   pub held : List ℕ
   pub sent : List ℕ
+  pub flushes : ℕ
   pub refusals : ℕ
 
 -- before the first call
 abbrev pub fresh_steady : SteadyBytes
-fresh_steady = record { held = []; sent = []; refusals = 0 }
+fresh_steady = record { held = []; sent = []; flushes = 0; refusals = 0 }

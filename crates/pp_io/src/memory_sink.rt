@@ -2,9 +2,9 @@
 ghost use Rattle.std.specs.Prelude.{◌≡◌, ◌≤◌, Some, [], Ok, Err, length, take, min, IfOk, OnErr};
 ghost use Rattle.std.specs.Prelude.{IsErrOf, IsTrue, OnOk, ◌↔◌};
 ghost use Rattle.std.specs.Io.KnownBytes.{WriteAppends, Keeps};
-ghost use Rattle.pp_io.specs.Faults.{CountsNothing, HasRisen};
+ghost use Rattle.pp_io.specs.Faults.{CountsNothing, HasRisen, counted};
 ghost use Rattle.pp_io.specs.Memory.{WriteFails, after_write, after_flush, fresh_sink};
-ghost use Rattle.pp_io.specs.Memory.{after_failed_write, after_refused_write};
+ghost use Rattle.pp_io.specs.Memory.{after_failed_flush, after_failed_write, after_refused_write};
 ghost use Rattle.pp_io.specs.Sent.{SendsAll};
 ghost use Rattle.pp_io.specs.declared.sink.SinkFault.TheVariants.{Failed, OutOfMemory};
 
@@ -22,6 +22,7 @@ pub struct MemorySink {
     most: usize,
     failing: Vec<u64>,
     calls: u64,
+    flushes: u64,
     faults: u64,
     refusals: u64,
 }
@@ -38,6 +39,7 @@ impl Model for MemorySink {
       most = s.most;
       failing = s.failing.items;
       calls = s.calls;
+      flushes = s.flushes;
       faults = s.faults;
       refusals = s.refusals;
     } };
@@ -56,6 +58,7 @@ impl MemorySink {
             most: most.max(1),
             failing,
             calls: 0,
+            flushes: 0,
             faults: 0,
             refusals: 0,
         }
@@ -98,6 +101,8 @@ impl Sink for MemorySink {
 
     ghost sent = { λ s. Some s.sent };
 
+    ghost flushes = { λ s. s.flushes };
+
     ghost faults = { λ s. s.faults };
 
     ghost refusals = { λ s. s.refusals };
@@ -106,6 +111,7 @@ impl Sink for MemorySink {
         ensures bound { IfOk result (λ n. n ≤ length bytes.now) }
         ensures bytes { WriteAppends (Some self.old.held) (Some self.new.held) result bytes.now }
         ensures unsent { self.new.sent ≡ self.old.sent }
+        ensures unflushed { self.new.flushes ≡ self.old.flushes }
         ensures count { self.old.faults ≤ self.new.faults }
         ensures nothing { IfOk result (λ n.
             CountsNothing n bytes.now self.old.faults self.new.faults) }
@@ -140,14 +146,16 @@ impl Sink for MemorySink {
     fn flush(&mut self) -> Result<(), SinkFault>
         ensures bytes { Keeps (Some self.old.held) (Some self.new.held) }
         ensures sent { OnOk result (self.new.sent ≡ self.new.held) }
+        ensures flushed { self.new.flushes ≡ counted self.old.flushes }
         ensures count { self.old.faults ≤ self.new.faults }
         ensures failed { IsErrOf result Failed → HasRisen self.old.faults self.new.faults }
         ensures refusals { self.new.refusals ≡ self.old.refusals }
         ensures fails { WriteFails self.old →
-            (result ≡ Err Failed) × (self.new ≡ after_failed_write self.old) }
+            (result ≡ Err Failed) × (self.new ≡ after_failed_flush self.old) }
         ensures passes { ¬ WriteFails self.old →
             (result ≡ Ok tt) × (self.new ≡ after_flush self.old) }
     {
+        self.flushes = self.flushes.saturating_add(1);
         if self.fails() {
             return Err(SinkFault::Failed);
         }

@@ -1,7 +1,7 @@
 //! Where bytes go to.
 ghost use Rattle.std.specs.Prelude.{◌≡◌, ◌≤◌, ℕ, List, Option, length, IfOk, OnOk, OnErr, IsErrOf};
 ghost use Rattle.std.specs.Io.KnownBytes.{WriteAppends, Keeps};
-ghost use Rattle.pp_io.specs.Faults.{CountsNothing, HasRisen};
+ghost use Rattle.pp_io.specs.Faults.{CountsNothing, HasRisen, counted};
 ghost use Rattle.pp_io.specs.Sent.{SendsAll};
 ghost use Rattle.pp_io.specs.declared.sink.SinkFault.TheVariants.{Failed, OutOfMemory};
 
@@ -19,8 +19,11 @@ pub trait Sink {
     /// The bytes taken so far, where it tells.
     ghost held: { Self → Option (List ℕ) };
 
-    /// Those of them that were sent on, where it tells.
+    /// The bytes that were sent on, where it tells.
     ghost sent: { Self → Option (List ℕ) };
+
+    /// How often it was asked to send on what it took, up to the end of 64 bits.
+    ghost flushes: { Self → ℕ };
 
     /// How often it has failed, up to the end of 64 bits.
     ghost faults: { Self → ℕ };
@@ -34,6 +37,7 @@ pub trait Sink {
         ensures bound { IfOk result (λ n. n ≤ length bytes.now) }
         ensures bytes { WriteAppends (held self.old) (held self.new) result bytes.now }
         ensures unsent { Keeps (sent self.old) (sent self.new) }
+        ensures unflushed { flushes self.new ≡ flushes self.old }
         ensures count { faults self.old ≤ faults self.new }
         ensures nothing { IfOk result (λ n.
             CountsNothing n bytes.now (faults self.old) (faults self.new)) }
@@ -48,6 +52,7 @@ pub trait Sink {
     fn flush(&mut self) -> Result<(), SinkFault>
         ensures bytes { Keeps (held self.old) (held self.new) }
         ensures sent { OnOk result (SendsAll (sent self.old) (sent self.new) (held self.new)) }
+        ensures flushed { flushes self.new ≡ counted (flushes self.old) }
         ensures count { faults self.old ≤ faults self.new }
         ensures failed { IsErrOf result Failed → HasRisen (faults self.old) (faults self.new) }
         ensures refusals { refusals self.old ≤ refusals self.new }

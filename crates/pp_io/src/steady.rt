@@ -58,11 +58,12 @@ impl Source for SteadySource {
 }
 
 /// Keeps what it takes, and never fails. Contracts see the bytes that were taken, those of them
-/// that were sent on, and how often memory was refused.
+/// that were sent on, how often it was asked to send on, and how often memory was refused.
 #[derive(Drop)]
 pub struct SteadySink {
     held: Vec<u8>,
     sent: usize,
+    flushes: u64,
     refusals: u64,
 }
 
@@ -75,6 +76,7 @@ impl Model for SteadySink {
     ghost view = { λ s. record {
       held = s.held.items;
       sent = take s.sent s.held.items;
+      flushes = s.flushes;
       refusals = s.refusals;
     } };
 
@@ -89,6 +91,7 @@ impl SteadySink {
         SteadySink {
             held: Vec::new(alloc),
             sent: 0,
+            flushes: 0,
             refusals: 0,
         }
     }
@@ -113,6 +116,8 @@ impl Sink for SteadySink {
 
     ghost sent = { λ s. Some s.sent };
 
+    ghost flushes = { λ s. s.flushes };
+
     ghost faults = { λ _. 0 };
 
     ghost refusals = { λ s. s.refusals };
@@ -134,8 +139,12 @@ impl Sink for SteadySink {
     }
 
     fn flush(&mut self) -> Result<(), SinkFault>
-        ensures { (result ≡ Ok tt) × (self.new ≡ record self.old { sent = self.old.held }) }
+        ensures { (result ≡ Ok tt) × (self.new ≡ record self.old {
+          sent = self.old.held;
+          flushes = counted self.old.flushes;
+        }) }
     {
+        self.flushes = self.flushes.saturating_add(1);
         self.sent = self.held.len();
         Ok(())
     }

@@ -22,7 +22,7 @@ use Rattle.pp_front.specs.Records.{RunRecord}
 use Rattle.pp_front.specs.Records as records
 use Rattle.pp_quick.specs.Runs.{IsBoosted}
 use Rattle.pp_quick.specs.Boosted.{PlacesSwap, Boosted, Anchored, Good, GoodOp, OfOpen}
-use Rattle.pp_quick.specs.Laws.{IsQuick}
+use Rattle.pp_quick.specs.Laws.{KeepsBoosted}
 use Rattle.pp_quick.proofs.OnOp.{as_boosting, op_runs, op_good, op_boosted}
 use Rattle.pp_quick.proofs.OnCommit.{begin_boosted, cmt_holds, cmt_word, cmt_boosted}
 use Rattle.pp_quick.proofs.Back.{Left, all_back}
@@ -152,7 +152,7 @@ module _ {Op State : Type 0} (O : Object Op State) (place : Op → ℕ) (apart :
         (λ t g. subst (λ (w : Option (Tx Op)). Boosted O place (after_from c (steps_of_open w (Note t) (λ l. Note t ∷ taken_out t l)))) (sym g.1)
         (empty_boosted t (after_from c (taken_out t (g.0).local)) (whole t g.0 g.1).1))
 
-  pub quick : IsQuick O place
+  pub quick : KeepsBoosted O place
   quick =
       record {
         start = λ h k. none_open O place h k;

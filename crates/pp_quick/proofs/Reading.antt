@@ -16,8 +16,8 @@ use Rattle.pp_front.proofs.Whole.{led_config, led_more}
 use Rattle.pp_quick.specs.Boosted.{Boosted, PlacesSwap}
 use Rattle.pp_quick.specs.Brief.{Brief, BriefGood, brief}
 use Rattle.pp_quick.specs.Failures.{FailsIn, all_steps, standing_after}
-use Rattle.pp_quick.specs.Held.{Held, IsHeldOf, Takes, held_next}
-use Rattle.pp_quick.specs.Reading.{IsReader, HasRead, held_at}
+use Rattle.pp_quick.specs.Held.{Held, IsHeldOf, Takes, held_first, held_next}
+use Rattle.pp_quick.specs.Reading.{IsReader, HasRead}
 use Rattle.pp_quick.specs.Runs.{AreBoosted, BriefRuns, IsBoosted, boosting, brief_after}
 use Rattle.pp_quick.specs.Sums.{AreTried}
 use Rattle.pp_quick.proofs.Briefs.{briefed}
@@ -39,7 +39,7 @@ module _ {Shape State Op Undo : Type 0} (o : Object Shape State Op Undo) (place 
   abbrev T : Translation Front (RunRecord Op) Op
   T = boosting place ks
 
-  nothing : (shape : Shape) → StartMeets (rules_of o shape) h → HasRead o place ks h [] (held_at o place ks h shape)
+  nothing : (shape : Shape) → StartMeets (rules_of o shape) h → HasRead o place ks h [] (held_first o place shape h)
   nothing shape m =
       record {
         boosted = tt;

@@ -27,7 +27,7 @@ use Rattle.pp_quick.specs.Boosted.{PlacesSwap}
 use Rattle.pp_quick.specs.Brief.{Brief, BriefTx, brief}
 use Rattle.pp_quick.specs.Held.{IsItemAsked, start_of}
 use Rattle.pp_quick.specs.Shown.{AreThreads, Holds, IsFine, Kept, at, filled, shown, shown_tx, threads_of}
-use Rattle.pp_quick.specs.Starting.{HasStarted, IsNew, StartAnswers, posted}
+use Rattle.pp_quick.specs.Starting.{PutsStart, IsNew, StartAnswers, posted}
 use Rattle.pp_quick.specs.declared.parts.OpenTx.{OpenTx}
 use Rattle.pp_quick.proofs.Deciding.{quick}
 use Rattle.pp_quick.proofs.Judging.{not_used, used_in}
@@ -197,7 +197,7 @@ module _ {Shape State Op Undo : Type 0} (o : Object Shape State Op Undo) (place 
     commits_are : (q : ℕ) → at q w.commits.items ≡ []
     commits_are q = ap (λ (l : List (List ℕ)). at q l) commits ∙ no_commits q
 
-    pub started : length items ≤ 256 → StartMeets (rules_of o v.shape) (Some z) → HasStarted o place v z w
+    pub started : length items ≤ 256 → StartMeets (rules_of o v.shape) (Some z) → PutsStart o place v z w
     started few meets =
         record {
           shape = shape;

@@ -17,7 +17,7 @@ use Rattle.pp_front.proofs.Whole.{joined_more, led_config}
 use Rattle.pp_quick.specs.Boosted.{PlacesSwap, Boosted, Good}
 use Rattle.pp_quick.specs.Brief.{Brief, BriefGood, brief, brief_then}
 use Rattle.pp_quick.specs.Runs.{AreBoosted, BriefRuns, IsBoosted, boosting, brief_after}
-use Rattle.pp_quick.specs.Laws.{IsQuick, IsBriefed, IsDecided}
+use Rattle.pp_quick.specs.Laws.{KeepsBoosted, IsBriefed, BriefsDecide}
 use Rattle.pp_quick.proofs.Deciding.{quick}
 use Rattle.pp_quick.proofs.Briefs.{briefed}
 use Rattle.pp_quick.proofs.Failures.{cut_verdict, lined_there}
@@ -29,7 +29,7 @@ module _ {Op State : Type 0} (O : Object Op State) (place : Op → ℕ) (apart :
   abbrev At : Type 0
   At = Standing Front Op
 
-  q : IsQuick O place
+  q : KeepsBoosted O place
   q = quick O place apart
 
   w : IsBriefed O place
@@ -144,7 +144,7 @@ module _ {Op State : Type 0} (O : Object Op State) (place : Op → ℕ) (apart :
         let t = lined_there (joined_steps T p rs) r.line e (joined_steps T (after_record T d r.what) more) k l (omega arith) in
         ap (λ (z : Lined (Step Op)). z.line) (same_Some s t.0 (sym (subst (λ (z : LinedSteps Op). slice_get z k ≡ Some s) steps_are f) ∙ t.1)) ∙ t.2
 
-pub decided : {Op State : Type 0} (O : Object Op State) (place : Op → ℕ) → PlacesSwap O place → IsDecided O place
+pub decided : {Op State : Type 0} (O : Object Op State) (place : Op → ℕ) → PlacesSwap O place → BriefsDecide O place
 decided O place apart =
     record {
       accepted = λ ks p rs s b. (runs O place apart ks rs p s b, briefs O place apart ks rs p s b);

@@ -45,8 +45,8 @@ pub record GoodOp {Op State : Type 0} (O : Object Op State) (place : Op → ℕ)
 abbrev pub OfOpen : {Op : Type 0} → Config Op → Name → (Tx Op → Type 0) → Type 0
 OfOpen {Op} c t P = (x : Tx Op) × (tx t c.opened ≡ Some x) × P x
 
--- A record of a boosted run is good. A plain step of a boosted run is a begin; other plain steps,
--- and the last seven, are none of it.
+-- A record of a boosted run is good. A plain step is asked what its rule asks; of a boosted run it
+-- is a begin. The last seven are none of it.
 abbrev pub Good : {Op State : Type 0} → Object Op State → (Op → ℕ) → Config Op → RunRecord Op →
     Type 0
 Good O place c (records.Plain step) = Meets O c step

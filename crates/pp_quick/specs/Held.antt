@@ -1,5 +1,5 @@
 -- Meaning: what contracts see of a Quick, and what taking a record does.
-use Rattle.std.specs.Prelude.{◌≡◌, ◌+◌, ℕ, Bool, true, false, IsTrue, List, length, Some, None}
+use Rattle.std.specs.Prelude.{◌≡◌, ◌+◌, ℕ, Bool, true, false, IsTrue, List, length, Option, Some}
 use Rattle.pp_core.specs.declared.call.Style.TheVariants as styles
 use Rattle.pp_core.specs.declared.entry.Item.{Item}
 use Rattle.pp_core.specs.Trees.{IsWithinLimits}
@@ -88,18 +88,14 @@ module _ {Shape State Op Undo : Type 0} (o : Object Shape State Op Undo) (place 
   abbrev pub Takes : Held Shape Op → RunRecord Op → Bool → Held Shape Op → Type 0
   Takes v r answer w = (f : Front) (c : Config Op) → IsHeldOf v c → TakesIn v r answer w f c
 
-  -- a new Quick, and one behind this start
-  abbrev pub held_first : Shape → Held Shape Op
-  held_first shape = record { shape = shape; brief = brief place (first None); count = 0 }
-
-  abbrev pub held_started : Shape → Start Op → Held Shape Op
-  held_started shape z =
-      record { shape = shape; brief = brief place (first (Some z)); count = 0 }
+  -- the Quick before the first record, behind this start, or behind none
+  abbrev pub held_first : Shape → Option (Start Op) → Held Shape Op
+  held_first shape h = record { shape = shape; brief = brief place (first h); count = 0 }
 
   -- What it is to start. False says that the start fails, and the Quick is as it was.
   abbrev pub Starts : Held Shape Op → Start Op → Bool → Held Shape Op → Type 0
   Starts v z true w =
-      StartMeets (rules_of o v.shape) (Some z) × (w ≡ held_started v.shape z)
+      StartMeets (rules_of o v.shape) (Some z) × (w ≡ held_first v.shape (Some z))
   Starts v z false w = (StartMeets (rules_of o v.shape) (Some z) → ⊥) × (w ≡ v)
 
 -- How many own operations an open transaction has.

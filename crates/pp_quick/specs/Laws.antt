@@ -27,8 +27,9 @@ FrontLaw {Op} O =
     Reorders O (map shared_item c.shared)
     (map item x.local ++ map shared_item (rest x.local c.shared))
 
-pub record IsQuick {Op State : Type 0} (O : Object Op State) (place : Op → ℕ) : Type 0 where
-  -- the first configuration is boosted
+-- Where the start holds, the first configuration is boosted, and good records keep it so.
+pub record KeepsBoosted {Op State : Type 0} (O : Object Op State) (place : Op → ℕ) : Type 0 where
+  -- where the start holds, the first configuration is boosted
   pub start : (h : Option (Start Op)) → StartMeets O h → Boosted O place (first h)
   -- a record is good exactly where every step that it stands for holds
   pub good : (f : Front) (c : Config Op) (r : RunRecord Op) → IsBoosted r → Boosted O place c →
@@ -37,8 +38,8 @@ pub record IsQuick {Op State : Type 0} (O : Object Op State) (place : Op → ℕ
   pub kept : (f : Front) (c : Config Op) (r : RunRecord Op) → IsBoosted r → Boosted O place c →
       Good O place c r → Boosted O place (after_from c (expand place styles.Boosted f c r))
 
-abbrev pub QuickLaw : {Op State : Type 0} → Object Op State → Type 0
-QuickLaw {Op} O = (place : Op → ℕ) → PlacesSwap O place → IsQuick O place
+abbrev pub BoostedLaw : {Op State : Type 0} → Object Op State → Type 0
+BoostedLaw {Op} O = (place : Op → ℕ) → PlacesSwap O place → KeepsBoosted O place
 
 -- The brief decides whether a record is good, and which brief a good one leads to.
 pub record IsBriefed {Op State : Type 0} (O : Object Op State) (place : Op → ℕ) : Type 0 where
@@ -53,7 +54,7 @@ abbrev pub BriefLaw : {Op State : Type 0} → Object Op State → Type 0
 BriefLaw {Op} O = (place : Op → ℕ) → PlacesSwap O place → IsBriefed O place
 
 -- The briefs decide a run of records: where it is accepted, and whose step is the first that fails.
-pub record IsDecided {Op State : Type 0} (O : Object Op State) (place : Op → ℕ) : Type 0 where
+pub record BriefsDecide {Op State : Type 0} (O : Object Op State) (place : Op → ℕ) : Type 0 where
   pub accepted :
       (ks : List Kind) (p : Standing Front Op) (rs : Records (RunRecord Op)) → AreBoosted rs →
       Boosted O place p.config →
@@ -95,7 +96,7 @@ pub record IsDecided {Op State : Type 0} (O : Object Op State) (place : Op → �
       s.line ≡ r.line
 
 abbrev pub DecidedLaw : {Op State : Type 0} → Object Op State → Type 0
-DecidedLaw {Op} O = (place : Op → ℕ) → PlacesSwap O place → IsDecided O place
+DecidedLaw {Op} O = (place : Op → ℕ) → PlacesSwap O place → BriefsDecide O place
 
 -- the shared log without the entries of these ids
 abbrev pub without_ids : {Op : Type 0} → List ℕ → List (SharedEntry Op) → List (SharedEntry Op)

@@ -10,16 +10,12 @@ use Rattle.pp_front.specs.Records.{RunRecord}
 use Rattle.pp_front.specs.Runs.{Lined, Records, bare}
 use Rattle.pp_quick.specs.Brief.{brief}
 use Rattle.pp_quick.specs.Failures.{FailsIn, FailureLaw, all_steps, standing_after}
-use Rattle.pp_quick.specs.Held.{Held, IsHeldOf, Takes}
+use Rattle.pp_quick.specs.Held.{Held, IsHeldOf, Takes, held_first}
 use Rattle.pp_quick.specs.Runs.{AreBoosted, BriefRuns, IsBoosted, boosting, brief_after}
 use Rattle.pp_quick.specs.Sums.{AreTried}
 
 module _ {Shape State Op Undo : Type 0} (o : Object Shape State Op Undo) (place : Op → ℕ)
     (ks : List Kind) (h : Option (Start Op)) where
-  -- the Quick before the first record
-  abbrev pub held_at : Shape → Held Shape Op
-  held_at shape = record { shape = shape; brief = brief place (first h); count = 0 }
-
   -- The records are of a boosted run, whose start and each of whose steps hold, and this is the
   -- Quick behind them.
   pub record HasRead (rs : Records (RunRecord Op)) (v : Held Shape Op) : Type 0 where
@@ -31,7 +27,8 @@ module _ {Shape State Op Undo : Type 0} (o : Object Shape State Op Undo) (place 
 
   -- What a reader of records keeps.
   pub record IsReader : Type 0 where
-    pub nothing : (shape : Shape) → StartMeets (rules_of o shape) h → HasRead [] (held_at shape)
+    pub nothing : (shape : Shape) → StartMeets (rules_of o shape) h →
+        HasRead [] (held_first o place shape h)
     -- a record that is taken
     pub more :
         (rs : Records (RunRecord Op)) (r : Lined (RunRecord Op)) (v w : Held Shape Op) →

@@ -28,7 +28,7 @@ module _ {Shape State Op Undo : Type 0} (o : Object Shape State Op Undo) (place 
     pub count : v.count ≡ 0
 
   -- what a start makes of it that meets its criteria
-  pub record HasStarted (v : Kept Shape Op) (z : Start Op) (w : Kept Shape Op) : Type 0 where
+  pub record PutsStart (v : Kept Shape Op) (z : Start Op) (w : Kept Shape Op) : Type 0 where
     pub shape : w.shape ≡ v.shape
     pub count : w.count ≡ v.count
     pub shown : shown place w ≡ brief place (first (Some z))
@@ -36,5 +36,5 @@ module _ {Shape State Op Undo : Type 0} (o : Object Shape State Op Undo) (place 
 
   -- What starting answers, and what is kept then.
   abbrev pub StartAnswers : Kept Shape Op → Start Op → Bool → Kept Shape Op → Type 0
-  StartAnswers v z true w = StartMeets (rules_of o v.shape) (Some z) × HasStarted v z w
+  StartAnswers v z true w = StartMeets (rules_of o v.shape) (Some z) × PutsStart v z w
   StartAnswers v z false w = (StartMeets (rules_of o v.shape) (Some z) → ⊥) × (w ≡ v)

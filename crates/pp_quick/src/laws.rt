@@ -1,7 +1,7 @@
 //! The laws of boosted runs, each over every kind. A law about places holds of every choice of them
 //! for which operations of different places swap.
 ghost use Rattle.pp_quick.specs.Boosted.{PlacesSwap};
-ghost use Rattle.pp_quick.specs.Laws.{BriefLaw, DecidedLaw, FrontLaw, LeaveLaw, QuickLaw};
+ghost use Rattle.pp_quick.specs.Laws.{BoostedLaw, BriefLaw, DecidedLaw, FrontLaw, LeaveLaw};
 ghost use Rattle.pp_quick.specs.Reading.{BoostedFailureLaw, ReaderLaw};
 ghost use Rattle.pp_quick.specs.Sums.{SumsLaw};
 ghost use Rattle.pp_spec.specs.Object.{rules_of};
@@ -15,8 +15,8 @@ pub fn front_law<S: Spec>()
 
 /// A boosted record is good exactly where every step that it stands for holds, and then the next
 /// configuration is boosted too.
-pub fn quick_law<S: Spec>()
-    ensures { (shape : S.Shape) → QuickLaw (rules_of S.object shape) }
+pub fn boosted_law<S: Spec>()
+    ensures { (shape : S.Shape) → BoostedLaw (rules_of S.object shape) }
 {}
 
 /// The brief of a boosted configuration decides whether a record is good, and which brief it leads

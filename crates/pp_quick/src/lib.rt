@@ -18,7 +18,7 @@ mod take;
 mod undo;
 
 pub use laws::{
-    brief_law, decided_law, failure_law, front_law, leave_law, placed_law, quick_law, reader_law,
+    boosted_law, brief_law, decided_law, failure_law, front_law, leave_law, placed_law, reader_law,
     sum_law,
 };
 pub use pp_front::RunRecord;

@@ -1,11 +1,12 @@
 //! A boosted run, decided without its local logs.
-ghost use Rattle.std.specs.Prelude.{◌≡◌, ◌+◌, ◌≤◌, ◌<◌, IfOk, IsTrue, length};
+ghost use Rattle.std.specs.Prelude.{◌≡◌, ◌+◌, ◌≤◌, ◌<◌, IfOk, IsTrue, None, length};
 ghost use Rattle.std.specs.List.{All};
 ghost use Rattle.pp_front.specs.Records.{record_meaning};
+ghost use Rattle.pp_model.specs.Config.{Config};
 ghost use Rattle.pp_model.specs.Object.{HasDistinctIds};
 ghost use Rattle.pp_model.specs.Sound.{serial_ops};
 ghost use Rattle.pp_quick.specs.Held.{IsItemAsked, IsRecordAsked, Starts, TakeCosts, Takes};
-ghost use Rattle.pp_quick.specs.Held.{held_first, start_of, take_most};
+ghost use Rattle.pp_quick.specs.Held.{IsHeldOf, held_first, start_of, take_most};
 ghost use Rattle.pp_quick.specs.Runs.{IsBoosted};
 ghost use Rattle.pp_spec.specs.Object.{AllRanged, IsAllowed};
 
@@ -54,7 +55,7 @@ impl<S: Parted> Model for Quick<S> {
 impl<S: Parted> Quick<S> {
     /// A run with no transaction. The only error is that memory was refused.
     pub fn new(alloc: Global, shape: S::Shape) -> Result<Self, OutOfMemory>
-        ensures { IfOk result (λ q. q ≡ held_first S.object S.place_of shape) }
+        ensures { IfOk result (λ q. q ≡ held_first S.object S.place_of shape None) }
     {
         let shared = Shared::new(alloc, &shape)?;
         let parts = Parts {
@@ -82,7 +83,7 @@ impl<S: Parted> Quick<S> {
         items: &Items<S::Op>,
         ticks: &mut Ticks<L>,
     ) -> Result<(Self, bool), OutOfMemory>
-        requires new { self ≡ held_first S.object S.place_of self.shape }
+        requires new { self ≡ held_first S.object S.place_of self.shape None }
         requires asked { All (IsItemAsked S.object self.shape) items.now }
         requires few { length items.now ≤ 256 }
         ensures starts { IfOk result (λ r.
@@ -122,9 +123,10 @@ impl<S: Parted> Quick<S> {
         Ok((Quick { parts }, good))
     }
 
-    /// How many records were taken.
+    /// How many records were taken. A Quick is always the brief of some boosted configuration.
     pub fn count(&self) -> u32
-        ensures { result ≡ self.now.count }
+        ensures count { result ≡ self.now.count }
+        ensures boosted { (c : Config S.Op) × IsHeldOf S.object S.place_of self.now c }
     {
         self.parts.count
     }

@@ -6,7 +6,7 @@ ghost use Rattle.pp_model.specs.Object.{HasDistinctIds};
 ghost use Rattle.pp_model.specs.Rules.{StartMeets};
 ghost use Rattle.pp_quick.specs.Held.{IsItemAsked, start_of};
 ghost use Rattle.pp_quick.specs.Shown.{Holds};
-ghost use Rattle.pp_quick.specs.Starting.{HasStarted, IsNew, Posts, StartAnswers, posted};
+ghost use Rattle.pp_quick.specs.Starting.{IsNew, Posts, PutsStart, StartAnswers, posted};
 ghost use Rattle.pp_spec.specs.Object.{rules_of};
 
 use crate::own::Own;
@@ -100,7 +100,7 @@ fn put_start<S: Parted>(
     requires ids { reverse ids ≡ map (λ p. p.id) items.now }
     requires log { shared ≡ (parts.old.shape, posted tx.now items.now) }
     ensures { OnOk result
-        (HasStarted S.object S.place_of parts.old (start_of tx.now items.now) parts.new) }
+        (PutsStart S.object S.place_of parts.old (start_of tx.now items.now) parts.new) }
 {
     let mut shared = shared;
     shared.commit(tx, items);

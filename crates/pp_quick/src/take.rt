@@ -104,7 +104,7 @@ fn in_box<S: Parted>(
     Ok(Box::new(alloc, parts)?)
 }
 
-/// Takes an abort record where it is good. A removal consumes the shared log, so the parts leave
+/// Takes an abort record where it is good. `take_back` consumes the shared log, so the parts leave
 /// their box meanwhile. This is a function of its own, so that `take` has no room for them on its
 /// stack.
 fn take_abort<S: Parted, L: Ledger>(

@@ -8,6 +8,7 @@ use Rattle.pp_certify.specs.Inputs.{scan}
 use Rattle.pp_certify.specs.Reports.{IsCertified}
 use Rattle.pp_certify.specs.Scans.{InputScan}
 use Rattle.pp_decide.proofs.Deciding.{decided}
+use Rattle.pp_decide.proofs.Readers.{is_briefed, keeps_boosted}
 use Rattle.pp_run.specs.Promises.{IsDecidedAsRun, SeesKept}
 use Rattle.std.proofs.Common.{refl, subst}
 
@@ -16,6 +17,8 @@ decided_as_run sc =
     record {
       verdict = λ header decision v here is verdict. decided.verdict header sc.records decision v is verdict;
       agrees = λ header report decision here boosted is told. decided.agrees sc header report decision here boosted is told;
+      keeps_boosted = λ header here. keeps_boosted header.what;
+      is_briefed = λ header here. is_briefed header.what;
     }
 
 -- views of an accepted run are those of one that is certified

@@ -33,8 +33,8 @@ RisesAtMost (Some (Drill n)) left old new = CostsAtMost (drill_scan n) old new
 
 -- Where the command answers with this status, the counter rises at least by one for each step that
 -- applies or takes back one operation and meets its criteria (under `quick`, at accepted alone, for
--- each record that is an operation), and by the serial run, which `expand` has not. Of
--- certificates and of views nothing is said.
+-- each record that is an operation), and, where the run is accepted, by the serial run, which
+-- `expand` has not. Of certificates and of views nothing is said.
 abbrev pub RisesAtLeast : Option Command → Option (List ℕ) → Status → (old new : ℕ) → Type 0
 RisesAtLeast None left status old new = Unit {0}
 RisesAtLeast (Some Certify) left status old new = IsDecided status →

@@ -1,8 +1,8 @@
 //! The program but for its edge: from its words and its input to its status and what it writes.
 ghost use Rattle.std.specs.Prelude.{◌≡◌, ◌≢◌, ◌≤◌, ◌↔◌, ◌⊎◌, ℕ, List, None, Some, IfOk, IsErrOf};
-ghost use Rattle.std.specs.Io.KnownBytes.{IsAtEnd, Keeps};
+ghost use Rattle.std.specs.Io.KnownBytes.{IsAtEnd};
 ghost use Rattle.pp_core.specs.declared.status.Status.TheVariants as statuses;
-ghost use Rattle.pp_io.specs.Faults.{HasRisen};
+ghost use Rattle.pp_io.specs.Faults.{HasRisen, counted};
 ghost use Rattle.pp_io.specs.Sent.{SendsAll};
 ghost use Rattle.pp_reading.specs.declared.stop.Failure.TheVariants.{ReadFault};
 ghost use Rattle.pp_reading.specs.Sources.{WhereTold};
@@ -21,6 +21,7 @@ ghost use Rattle.pp_run.specs.Outputs.{IsOfWhole, IsOutput, IsVerdictOrSize, OfI
 ghost use Rattle.pp_run.specs.Outputs.{PrintsOnly, PrintsPrefix, PrintsPrefixOnly, ReadsSound};
 ghost use Rattle.pp_run.specs.Promises.{IsDecidedAsRun, SeesKept};
 ghost use Rattle.pp_run.specs.Words.{DrivesMachine, Reads, command_of};
+ghost use Rattle.pp_run.specs.Writing.{FlushesOnceAtMost};
 
 use crate::words::{Command, read_words};
 use crate::write::{WriteError, send};
@@ -95,9 +96,13 @@ pub fn run<S: Source, K: Sink, L: Ledger>(
     ensures only { IsPrinted result → OfInput (command_of words.now) (S.left source.old) λ bytes.
         PrintsOnly (command_of words.now) bytes result (K.held sink.old) (K.held sink.new) }
 
-    // All of it was sent on, where the sink tells what it sent.
+    // All of it was sent on, where the sink tells what it sent. It is flushed once, and whatever is
+    // answered, once at most.
     ensures sent { IsPrinted result → result ≢ statuses.BadWords →
         SendsAll (K.sent sink.old) (K.sent sink.new) (K.held sink.new) }
+    ensures flushed { IsPrinted result → result ≢ statuses.BadWords →
+        K.flushes sink.new ≡ counted (K.flushes sink.old) }
+    ensures once { FlushesOnceAtMost (K.flushes sink.old) (K.flushes sink.new) }
 
     // Words that are no command touch nothing, and a command that reads no input leaves the source
     // as it was.
@@ -108,10 +113,11 @@ pub fn run<S: Source, K: Sink, L: Ledger>(
     // What a command finds on the whole of its input leaves a source that tells its bytes with none.
     ensures end { IsOfWhole (command_of words.now) result → IsAtEnd (S.left source.new) }
 
-    // A failed read is told only where one failed, and no fault in what was read is hidden.
+    // A failed read is told only where one failed, the sink was not touched, and no fault in what
+    // was read is hidden.
     ensures read_fault { result ≡ statuses.ReadFault →
         HasRisen (S.faults source.old) (S.faults source.new)
-        × Keeps (K.held sink.old) (K.held sink.new)
+        × (sink.new ≡ sink.old)
         × ReadsSound (command_of words.now) (S.left source.old) (S.left source.new) }
     ensures reading { result ≡ statuses.ReadFault → Reads (command_of words.now) }
 
@@ -122,9 +128,9 @@ pub fn run<S: Source, K: Sink, L: Ledger>(
         OfInput (command_of words.now) (S.left source.old) λ bytes.
         PrintsPrefix (command_of words.now) bytes (K.held sink.old) (K.held sink.new) }
 
-    // Where memory was refused, nothing was written, or the sink itself answered that it was, and
-    // a prefix of the output was written.
-    ensures refused { result ≡ statuses.OutOfMemory → Keeps (K.held sink.old) (K.held sink.new)
+    // Where memory was refused, the sink was not touched, or the sink itself answered that it was,
+    // and a prefix of the output was written.
+    ensures refused { result ≡ statuses.OutOfMemory → (sink.new ≡ sink.old)
         ⊎ (HasRisen (K.refusals sink.old) (K.refusals sink.new)
         × OfInput (command_of words.now) (S.left source.old) λ bytes.
         PrintsPrefix (command_of words.now) bytes (K.held sink.old) (K.held sink.new)) }
@@ -171,7 +177,8 @@ pub fn run<S: Source, K: Sink, L: Ledger>(
     ensures shown { DrivesMachine (command_of words.now) → result ≡ statuses.Rejected →
         WhereTold (S.left source.old) λ bytes. IsEvident (scan bytes) }
 
-    // What is decided of a boosted run without its local logs is the verdict of all its steps.
+    // What is decided of a boosted run without its local logs is the verdict of all its steps. Over
+    // its objects good records keep a configuration boosted, and briefs tell which records are good.
     ensures decided { command_of words.now ≡ Some Quick → IsDecided result →
         WhereTold (S.left source.old) λ bytes. IsDecidedAsRun (scan bytes) }
 

@@ -1,9 +1,9 @@
 //! Writing all of an output.
-ghost use Rattle.std.specs.Prelude.{◌≤◌, OnOk, OnErr, IsErrOf};
+ghost use Rattle.std.specs.Prelude.{◌≡◌, ◌≤◌, OnOk, OnErr, IsErrOf};
 ghost use Rattle.std.specs.Io.KnownBytes.{Appends};
-ghost use Rattle.pp_io.specs.Faults.{HasRisen};
+ghost use Rattle.pp_io.specs.Faults.{HasRisen, counted};
 ghost use Rattle.pp_io.specs.Sent.{SendsAll};
-ghost use Rattle.pp_run.specs.Writing.{AppendsPrefix};
+ghost use Rattle.pp_run.specs.Writing.{AppendsPrefix, FlushesOnceAtMost};
 ghost use Rattle.pp_run.specs.declared.write.WriteError.TheVariants.{Memory, WriteFault};
 
 use pp_io::{Sink, SinkFault};
@@ -13,7 +13,7 @@ use pp_io::{Sink, SinkFault};
 pub enum WriteError {
     /// The sink answered that memory was refused.
     Memory,
-    /// A write failed, or took nothing.
+    /// A write or the flush failed, or a write took nothing.
     WriteFault,
 }
 
@@ -22,6 +22,8 @@ pub enum WriteError {
 pub fn send<K: Sink>(sink: &mut K, bytes: &[u8]) -> Result<(), WriteError>
     ensures ok { OnOk result (Appends (K.held sink.old) (K.held sink.new) bytes.now) }
     ensures sent { OnOk result (SendsAll (K.sent sink.old) (K.sent sink.new) (K.held sink.new)) }
+    ensures flushed { OnOk result (K.flushes sink.new ≡ counted (K.flushes sink.old)) }
+    ensures once { FlushesOnceAtMost (K.flushes sink.old) (K.flushes sink.new) }
     ensures err { OnErr result (AppendsPrefix (K.held sink.old) (K.held sink.new) bytes.now) }
     ensures count { K.faults sink.old ≤ K.faults sink.new }
     ensures write_fault { IsErrOf result WriteFault →

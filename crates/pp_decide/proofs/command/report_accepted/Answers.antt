@@ -42,7 +42,7 @@ pub returns-clause-report : goal.returns-clause-report
 returns-clause-report g c =
     let committed = c.committed-committed.result.now in
     IfOk-weaker c.quick_accepted.result _ _ (λ text text_is sc good.
-    acceptance_told sc c.args.tally.now c.args.quick.now good c.count-records.result committed c.in_ok-states.states text c.count-records.ensures c.committed-committed.ensures.done
+    acceptance_told sc c.args.tally.now c.args.quick.now good c.count-records.result committed c.in_ok-states.states text c.count-records.ensures.count c.committed-committed.ensures.done
     (c.in_ok-states.ensures.state ∙ ap (λ k. state_after objects k (serial_ops committed)) c.in_ok-kinds.ensures) text_is)
     c.quick_accepted.ensures
 
