@@ -18,7 +18,8 @@ pub record IsCarried {Shape State Op Undo : Type 0} (o : Object Shape State Op U
   pub others : us ≡ kept_along o b x
   pub own : u ≡ o.upkeep.kept (state_from o b x) a
 
--- From this position it comes behind the next operation, which has its place, and which it lets pass.
+-- From this position it comes behind the next operation, which has its place, and which it lets
+-- pass.
 abbrev pub CarriesOver : {Shape State Op Undo : Type 0} → Object Shape State Op Undo → (Op → ℕ) →
     Op → ℕ → List Undo → List Undo → Type 0
 CarriesOver {Shape} {State} {Op} o place a at us vs =

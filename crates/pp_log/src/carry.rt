@@ -18,8 +18,8 @@ fn carry_over<S: Placed>(op: &S::Op, undos: &mut Vec<S::Undo>, at: usize)
     }
 }
 
-/// Carries an operation, for which what takes it back stands at a position, behind all of its place
-/// that stand behind it, and takes out what takes it back there.
+/// Carries the operation whose undo value stands at `from` behind all of its place that stand behind
+/// it, and takes its undo value out there.
 pub fn carry_out<S: Placed>(op: &S::Op, undos: &mut Vec<S::Undo>, from: usize) -> S::Undo
     requires { from < length undos.old.items }
     ensures { CarriesOut S.object S.place_of op.now from undos.old.items undos.new.items result }

@@ -82,11 +82,10 @@ fn keep_others<O: Copy, T: Side<O>>(entries: &mut Vec<T::Entry>, own: &[Item<O>]
     let mut kept = from;
     let mut next = 0;
     for at in from..entries.len() {
-        let entry = entries[at];
-        if is_next::<O, T>(&entry, own, next) {
+        if is_next::<O, T>(&entries[at], own, next) {
             next += 1;
         } else {
-            entries[kept] = entry;
+            entries[kept] = entries[at];
             kept += 1;
         }
     }

@@ -15,6 +15,10 @@ pub trait Side<O: Copy> {
     /// The id of an entry with its operation.
     fn item(entry: &Self::Entry) -> Item<O>
         ensures { result ≡ item_of entry.now };
+
+    /// Its operation alone, which is lent and not copied: a walk over a log asks each entry for it.
+    fn op(entry: &Self::Entry) -> &O
+        ensures { result.now ≡ (item_of entry.now).op };
 }
 
 /// The side of a transaction, with its own log.
@@ -36,6 +40,10 @@ impl<O: Copy> Side<O> for LocalSide {
             op: entry.op,
         }
     }
+
+    fn op(entry: &LocalEntry<O>) -> &O {
+        &entry.op
+    }
 }
 
 impl<O: Copy> Side<O> for SharedSide {
@@ -48,5 +56,9 @@ impl<O: Copy> Side<O> for SharedSide {
             id: entry.id,
             op: entry.op,
         }
+    }
+
+    fn op(entry: &SharedEntry<O>) -> &O {
+        &entry.op
     }
 }

@@ -78,8 +78,7 @@ fn lets_pass<S: Placed, T: Side<S::Op>>(op: &S::Op, entries: &[T::Entry]) -> boo
         (ops (there S.place_of (S.place_of op.now) (map T.item_of entries.now))) }
 {
     for k in (0..entries.len()).rev() {
-        let other = T::item(&entries[k]).op;
-        if !lets_one_pass::<S>(op, &other) {
+        if !lets_one_pass::<S>(op, T::op(&entries[k])) {
             return false;
         }
     }

@@ -1,5 +1,6 @@
 use Rattle.std.proofs.Common.{◌≡◌, ◌<◌, ◌≤◌, ◌+◌, length, get_or, sym, ◌∙◌, ap, subst, arith}
 use Rattle.std.specs.List.{slice_set}
+use Rattle.std.proofs.lemmas.List.{get_or_default}
 use Rattle.pp_log.proofs.Others.{IsKeeping, keeping_first, keeping_keep, keeping_last, keeping_skip, kept_before, now_size}
 use Rattle.pp_log.proofs.leave.keep_others.Goals as goal
 use Rattle.pp_log.proofs.leave.keep_others.Goals.{then-is_next, else-is_next}
@@ -64,7 +65,10 @@ loop-at-preserved g c = λ st.
           (subst (λ v. IsKeeping f own x from st (at + 1) kept (next + 1) v.items) (sym w.entries-is) skip))
       | else-is_next w ↦
           let keep = keeping_keep f own x from st at kept next now h e lt is (c.is_next.ensures.no w.if-is_next.false) in
-          let written : c.if-is_next.entries.items ≡ slice_set now kept e = ap (λ v. v.items) w.entries-is in
+          let size = now_size f own x from st at kept next now h in
+          let it = w.index-else-is_next.result.now in
+          let again : it ≡ e = w.index-else-is_next.ensures ∙ get_or_default now at it e (omega arith) ∙ sym is in
+          let written : c.if-is_next.entries.items ≡ slice_set now kept e = ap (λ v. v.items) w.entries-is ∙ ap (slice_set now kept) again in
           subst (λ n. IsKeeping f own x from st (at + 1) c.if-is_next.kept n c.if-is_next.entries.items) (sym w.next-is)
           (subst (λ n. IsKeeping f own x from st (at + 1) n next c.if-is_next.entries.items) (sym w.kept-is)
           (subst (λ v. IsKeeping f own x from st (at + 1) (kept + 1) next v) (sym written) keep))

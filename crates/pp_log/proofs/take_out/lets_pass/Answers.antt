@@ -17,7 +17,7 @@ loop-k-preserved g c =
     let some = c.loop-k-test.true in
     let next : c.loop-k.k ≡ at + 1 = omega arith in
     let rest = subst (λ k. LetsPass o a (ops (there place (place a) (map f (drop k x))))) next c.loop-k.invariant in
-    let passes = subst (λ d. place d.op ≡ place a → Swaps o a d.op) c.item.ensures (c.lets_one_pass.ensures c.if-not-lets_one_pass.false) in
+    let passes = subst (λ d. place d ≡ place a → Swaps o a d) c.op.ensures (c.lets_one_pass.ensures c.if-not-lets_one_pass.false) in
     one_passes o place f a (place a) x at c.index-entries-k.result (omega arith) c.index-entries-k.is passes rest
 
 pub returns : goal.returns
