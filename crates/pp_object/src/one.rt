@@ -35,7 +35,7 @@ fn keeping_nothing(applied: Result<Applied<()>, OutOfMemory>) -> Result<Applied<
 }
 
 /// Whether two acts swap. Those that no object has together always do.
-#[inline]
+#[inline(always)]
 fn may_swap(a: &Act, b: &Act) -> bool
     ensures { IsTrue result ↔ Swaps one a.now b.now }
 {
@@ -194,7 +194,7 @@ impl Spec for OneObject {
         }
     }
 
-    #[inline]
+    #[inline(always)]
     fn swaps(a: &Act, b: &Act) -> bool {
         may_swap(a, b)
     }
