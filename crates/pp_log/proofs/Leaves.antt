@@ -25,7 +25,7 @@ use Rattle.pp_log.specs.TakesOut.{CanPassOut, Passes, PassesOutOf, itself}
 use Rattle.pp_log.proofs.Carried.{all_there}
 use Rattle.pp_log.proofs.Distinct.{IsNew}
 use Rattle.pp_log.proofs.Ids.{position_of_id}
-use Rattle.pp_log.proofs.Leaving.{lets_behind, leaves_next, now_distinct, still_there}
+use Rattle.pp_log.proofs.Leaving.{lets_behind, leaves_next, now_distinct, still_there, without_none}
 use Rattle.pp_log.proofs.Lists.{at_first, behind_first, cut_there, drop_there, none_len, stands_in}
 use Rattle.pp_log.proofs.Maps.{new_len}
 use Rattle.pp_log.proofs.Parted.{there_at}
@@ -126,6 +126,37 @@ found_item {Op} x distinct e i found inside =
     let one : get_or x i e ≡ e = by_key (λ (d : Item Op). d.id) x distinct (get_or x i e) e (stands_in x i (get_or x i e) there) inside (eqb-true (get_or x i e).id e.id p.1) in
     there ∙ ap (λ (d : Item Op). Some d) one
 
+-- Those behind the k-th of the items, e, have left the list, and e is to leave.
+module _ {Shape State Op Undo : Type 0} (o : Object Shape State Op Undo) (own log : List (Item Op)) (distinct : HasDistinctIds log) (may : MayLeave o own log)
+    (k : ℕ) (e : Item Op) (lt : k < length own) (is : e ≡ get_or own k e) where
+  abbrev pub now_of : List (Item Op)
+  now_of = without_items itself (drop (k + 1) own) log
+
+  cut : own ≡ take k own ++ e ∷ drop (k + 1) own
+  cut = cut_there own k e lt is
+
+  pub still_in : In e now_of
+  still_in = still_there o own log distinct may (take k own) (drop (k + 1) own) e cut
+
+  pub not_nowhere : position (nat_eq e.id) (ids_of now_of) ≡ None → ⊥
+  not_nowhere none = nowhere now_of e (sym (position_of_id now_of e.id) ∙ none) still_in
+
+  pub distinct_now : HasDistinctIds now_of
+  distinct_now = now_distinct o own log distinct may (drop (k + 1) own)
+
+  pub item_at : (i : ℕ) → position (nat_eq e.id) (ids_of now_of) ≡ Some i → slice_get now_of i ≡ Some e
+  item_at i found = found_item now_of distinct_now e i (sym (position_of_id now_of e.id) ∙ found) still_in
+
+  module _ (i : ℕ) (at : slice_get now_of i ≡ Some e) where
+    pub may_pass : (place : Op → ℕ) → MayPassOut o place now_of i e
+    may_pass place = record {
+      is = at;
+      passes = lets_behind o own log distinct may (take k own) (drop (k + 1) own) e cut i at place;
+    }
+
+    pub one_gone : without_items itself (drop k own) log ≡ remove now_of i
+    one_gone = ap (λ (l : List (Item Op)). without_items itself l log) (drop_there own k e lt is) ∙ leaves_next o own log distinct may (take k own) (drop (k + 1) own) e cut i at
+
 -- Those of its own from the k-th on have left.
 pub record HaveLeft {Shape State Op Undo : Type 0} (o : Object Shape State Op Undo) (place : Op → ℕ) (own : List (Item Op)) (s : State) (ps : List (Place Undo)) (ids : Index)
     (k : ℕ) (t : State) (qs : List (Place Undo)) (js : Index) : Type 0 where
@@ -133,14 +164,10 @@ pub record HaveLeft {Shape State Op Undo : Type 0} (o : Object Shape State Op Un
       → KeepsAll o place t (without_items itself (drop k own) log) qs js × (o.shape t ≡ o.shape s)
 
 module _ {Shape State Op Undo : Type 0} (o : Object Shape State Op Undo) (place : Op → ℕ) (own : List (Item Op)) (s : State) (ps : List (Place Undo)) (ids : Index) where
-  without_none : (log : List (Item Op)) → without_items itself [] log ≡ log
-  without_none [] = refl
-  without_none (e ∷ log) = ap (λ (z : List (Item Op)). e ∷ z) (without_none log)
-
   pub left_first : (n : ℕ) → n ≡ length own → HaveLeft o place own s ps ids n s ps ids
   left_first n is = record {
     keeps = λ log h leaves.
-        let none : without_items itself (drop n own) log ≡ log = ap (λ (l : List (Item Op)). without_items itself l log) (drop_all n own (omega arith)) ∙ without_none log in
+        let none : without_items itself (drop n own) log ≡ log = ap (λ (l : List (Item Op)). without_items itself l log) (drop_all n own (omega arith)) ∙ without_none itself log in
         (subst (λ (l : List (Item Op)). KeepsAll o place s l ps ids) (sym none) h, refl);
   }
 
@@ -160,33 +187,21 @@ module _ {Shape State Op Undo : Type 0} (o : Object Shape State Op Undo) (place 
       pub now : KeepsAll o place t now_log qs js × (o.shape t ≡ o.shape s)
       now = subst (λ (j : ℕ). KeepsAll o place t (without_items itself (drop j own) log) qs js × (o.shape t ≡ o.shape s)) n_is (left.keeps log h leaves)
 
-      distinct : HasDistinctIds log
-      distinct = h.keeps.distinct
-
-      cut : own ≡ take k own ++ e ∷ drop (k + 1) own
-      cut = cut_there own k e lt is
-
-      there_now : In e now_log
-      there_now = still_there o own log distinct leaves (take k own) (drop (k + 1) own) e cut
-
       pub found_somewhere : position (nat_eq e.id) (ids_of now_log) ≡ None → ⊥
-      found_somewhere none = nowhere now_log e (sym (position_of_id now_log e.id) ∙ none) there_now
+      found_somewhere = not_nowhere o own log h.keeps.distinct leaves k e lt is
 
       pub index_now : IsIndexOf js (ids_of now_log)
       index_now = now.0.index
 
       module _ (i : ℕ) (found : position (nat_eq e.id) (ids_of now_log) ≡ Some i) where
         e_at : slice_get now_log i ≡ Some e
-        e_at = found_item now_log (now_distinct o own log distinct leaves (drop (k + 1) own)) e i (sym (position_of_id now_log e.id) ∙ found) there_now
+        e_at = item_at o own log h.keeps.distinct leaves k e lt is i found
 
         pub stands_now : MayPassOut o place now_log i e
-        stands_now = record {
-          is = e_at;
-          passes = lets_behind o own log distinct leaves (take k own) (drop (k + 1) own) e cut i e_at place;
-        }
+        stands_now = may_pass o own log h.keeps.distinct leaves k e lt is i e_at place
 
         next_is : without_items itself (drop k own) log ≡ remove now_log i
-        next_is = ap (λ (l : List (Item Op)). without_items itself l log) (drop_there own k e lt is) ∙ leaves_next o own log distinct leaves (take k own) (drop (k + 1) own) e cut i e_at
+        next_is = one_gone o own log h.keeps.distinct leaves k e lt is i e_at
 
         pub left_next : (u : State) (rs : List (Place Undo)) (ls : Index) → KeepsAll o place u (remove now_log i) rs ls → o.shape u ≡ o.shape t
             → KeepsAll o place u (without_items itself (drop k own) log) rs ls × (o.shape u ≡ o.shape s)

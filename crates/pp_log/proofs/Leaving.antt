@@ -64,7 +64,7 @@ filter-append {A} t (a ∷ x) y = ap (λ (z : List A). cond (t a) (a ∷ z) z) (
     by true = refl
     by false = refl
 
-filter_twice : {A : Type 0} (p q r : A → Bool) (x : List A) → ((a : A) → In a x → (q a && p a) ≡ r a) → filter p (filter q x) ≡ filter r x
+pub filter_twice : {A : Type 0} (p q r : A → Bool) (x : List A) → ((a : A) → In a x → (q a && p a) ≡ r a) → filter p (filter q x) ≡ filter r x
 filter_twice p q r [] h = refl
 filter_twice {A} p q r (a ∷ x) h = by (q a) refl (filter_twice p q r x (λ d i. h d (inr i)))
   where
@@ -87,6 +87,27 @@ removed_filter {A} less key (a ∷ x) (suc i) e at d out stay =
     in_at [] j c h = cc
     in_at (b ∷ y) zero c h = let w : b ≡ c = cc in inl (sym w)
     in_at (b ∷ y) (suc j) c h = inr (in_at y j c h)
+
+-- to leave out one more item is to remove the entry of this item from what is left
+pub one_less : {Op E : Type 0} (f : E → Item Op) (x : List E) (e : Item Op) (last : List (Item Op)) (i : ℕ) (a : E) → slice_get (without_items f last x) i ≡ Some a → f a ≡ e
+    → ((p q : E) → Before p q (without_items f last x) → (f p).id ≡ (f q).id → ⊥) → without_items f (e ∷ last) x ≡ remove (without_items f last x) i
+one_less {Op} {E} f x e last i a at is distinct =
+    let less = λ (r : E). not (has_id (f r).id (ids_of (e ∷ last))) in
+    let keep = λ (r : E). not (has_id (f r).id (ids_of last)) in
+    let one = λ (r : E). not (e.id == (f r).id) in
+    let same = ap (λ (r : Item Op). r.id) is in
+    sym (filter_twice one keep less x (λ r j. both (has_id (f r).id (ids_of last)) (e.id == (f r).id)))
+    ∙ removed_filter one (λ (r : E). (f r).id) (without_items f last x) i a at distinct (ap not (eq-eqb e.id (f a).id (sym same)))
+    (λ d j n. ap not (is_false (e.id == (f d).id) (λ t. n (sym (eqb-true e.id (f d).id t) ∙ sym same))))
+  where
+    both : (a b : Bool) → (not a && not b) ≡ not (b || a)
+    both true true = refl
+    both true false = refl
+    both false true = refl
+    both false false = refl
+
+pub without_none : {Op E : Type 0} (f : E → Item Op) (x : List E) → without_items f [] x ≡ x
+without_none f x = filter_all (λ e. not (has_id (f e).id [])) x (λ e i. refl)
 
 lets_all : {Shape State Op Undo : Type 0} (o : Object Shape State Op Undo) (a : Op) (x : List (Item Op)) → ((q : Item Op) → In q x → Swaps o a q.op) → LetsPass o a (ops x)
 lets_all o a [] h = tt
@@ -129,18 +150,7 @@ module _ {Shape State Op Undo : Type 0} (o : Object Shape State Op Undo) (own lo
 
     module _ (i : ℕ) (at : slice_get (left_of last) i ≡ Some e) where
       pub leaves_next : left_of (e ∷ last) ≡ remove (left_of last) i
-      leaves_next =
-          let less = λ (r : Item Op). not (has_id r.id (ids_of (e ∷ last))) in
-          let keep = λ (r : Item Op). not (has_id r.id (ids_of last)) in
-          let one = λ (r : Item Op). not (e.id == r.id) in
-          sym (filter_twice one keep less log (λ r j. both (has_id r.id (ids_of last)) (e.id == r.id)))
-          ∙ removed_filter one (λ (r : Item Op). r.id) (left_of last) i e at (now_distinct last) (ap not (eq-eqb e.id e.id refl)) (λ d j n. ap not (is_false (e.id == d.id) (λ t. n (sym (eqb-true e.id d.id t)))))
-        where
-          both : (a b : Bool) → (not a && not b) ≡ not (b || a)
-          both true true = refl
-          both true false = refl
-          both false true = refl
-          both false false = refl
+      leaves_next = one_less itself log e last i e at refl (now_distinct last)
 
       parts : left_of last ≡ take i (left_of last) ++ e ∷ drop (i + 1) (left_of last)
       parts = cut_there (left_of last) i e (slice_get_within (left_of last) i e at) (sym (get_or_from_slice_get (left_of last) i e e at))

@@ -1,21 +1,21 @@
 -- The entries that are none of some items, which stand in their order.
-use Rattle.std.proofs.Common.{◌≡◌, ℕ, zero, suc, ◌<◌, ◌≤◌, ◌+◌, Bool, true, false, cond, not, ◌⊎◌, List, [], ◌∷◌, ◌++◌}
+use Rattle.std.proofs.Common.{◌≡◌, ℕ, ◌<◌, ◌≤◌, ◌+◌, Bool, true, false, cond, not, ◌⊎◌, List, [], ◌∷◌, ◌++◌}
 use Rattle.std.proofs.Common.{length, map, take, drop, get_or, refl, sym, ◌∙◌, ap, subst, arith, inl, inr, Some, None}
 use Rattle.std.proofs.Common.{append_assoc, append-nil, length-append}
 use Rattle.std.specs.List.{slice_get, slice_set}
 use Rattle.std.proofs.Math.Seq.{get_or-append_seam, set-append_seam}
-use Rattle.std.proofs.lemmas.List.{length-drop, length-map, length-take-le, take-append-drop, take-map, take_all, take_more}
+use Rattle.std.proofs.lemmas.List.{get_or_default, length-drop, length-map, length-take-le, take-append-drop, take-map, take_all, take_more}
 use Rattle.std.proofs.lemmas.Option.{get_or_from_slice_get, slice_get-get_or, slice_get_within}
 use Rattle.std.proofs.Math.ListN.{get_or-map}
 use Rattle.pp_core.specs.declared.entry.Item.{Item}
 use Rattle.pp_model.specs.Lists.{Before, In}
 use Rattle.pp_model.specs.Serial.{has_id}
-use Rattle.pp_model.proofs.Lists.{before_across, before_right, by_key, in_cases, in_left, in_right, not_both}
+use Rattle.pp_model.proofs.Lists.{before_across, before_right, by_key, in_cases, in_map, in_left, in_right, not_both}
 use Rattle.pp_log.specs.Leaves.{HasIdAt, StandFrom}
 use Rattle.pp_log.specs.Leaving.{without_items}
 use Rattle.pp_log.specs.Room.{ids_of}
 use Rattle.pp_log.specs.TakesOut.{itself}
-use Rattle.pp_log.proofs.Leaving.{filter-append, filter_all, has_none, has_one}
+use Rattle.pp_log.proofs.Leaving.{filter-append, filter_all, has_none, has_one, without_none}
 use Rattle.pp_log.proofs.Lists.{cut_there, drop_there}
 
 first_or_behind : {A : Type 0} (x : List A) (a b : A) → slice_get x 0 ≡ Some a → In b x → (b ≡ a) ⊎ Before a b x
@@ -40,7 +40,7 @@ module _ {Op : Type 0} (own log : List (Item Op)) (from : ℕ) (st : StandFrom o
   in_back : (k : ℕ) (p : Item Op) → In p (drop k log) → In p log
   in_back k p i = subst (In p) (take-append-drop k log) (in_right p (take k log) (drop k log) i)
 
-  across : (k : ℕ) (p q : Item Op) → In p (take k log) → In q (drop k log) → Before p q log
+  pub across : (k : ℕ) (p q : Item Op) → In p (take k log) → In q (drop k log) → Before p q log
   across k p q i j = subst (Before p q) (take-append-drop k log) (before_across p q (take k log) (drop k log) i j)
 
   never : (k : ℕ) (p q : Item Op) → In p (take k log) → In q (drop k log) → p.id ≡ q.id → ⊥
@@ -66,13 +66,13 @@ module _ {Op : Type 0} (own log : List (Item Op)) (from : ℕ) (st : StandFrom o
   none_before d i = has_none d.id own (λ p j e. never from d p i (first_left p j) (sym e))
 
   module _ (at next : ℕ) (here : IsAt own log at next) (d : Item Op) (within : at < length log) (is : d ≡ get_or log at d) where
-    rest : drop at log ≡ d ∷ drop (at + 1) log
+    pub rest : drop at log ≡ d ∷ drop (at + 1) log
     rest = drop_there log at d within is
 
-    front : take (at + 1) log ≡ take at log ++ d ∷ []
+    pub front : take (at + 1) log ≡ take at log ++ d ∷ []
     front = take_more log at d within ∙ ap (λ (r : Item Op). take at log ++ r ∷ []) (sym is)
 
-    d_there : In d (drop at log)
+    pub d_there : In d (drop at log)
     d_there = subst (In d) (sym rest) (inl refl)
 
     in_more : (p : Item Op) → In p (take at log) → In p (take (at + 1) log)
@@ -83,7 +83,7 @@ module _ {Op : Type 0} (own log : List (Item Op)) (from : ℕ) (st : StandFrom o
 
     -- it is the next one
     module _ (h : HasIdAt own next d.id) where
-      own_within : next < length own
+      pub own_within : next < length own
       own_within = slice_get_within own next h.0 h.1
 
       own_is : h.0 ≡ get_or own next h.0
@@ -92,7 +92,7 @@ module _ {Op : Type 0} (own log : List (Item Op)) (from : ℕ) (st : StandFrom o
       own_rest : drop next own ≡ h.0 ∷ drop (next + 1) own
       own_rest = drop_there own next h.0 own_within own_is
 
-      own_front : take (next + 1) own ≡ take next own ++ h.0 ∷ []
+      pub own_front : take (next + 1) own ≡ take next own ++ h.0 ∷ []
       own_front = take_more own next h.0 own_within ∙ ap (λ (r : Item Op). take next own ++ r ∷ []) (sym own_is)
 
       own_cut : own ≡ take next own ++ h.0 ∷ drop (next + 1) own
@@ -101,7 +101,7 @@ module _ {Op : Type 0} (own log : List (Item Op)) (from : ℕ) (st : StandFrom o
       p_own : In h.0 own
       p_own = subst (In h.0) (sym own_cut) (in_right h.0 (take next own) (h.0 ∷ drop (next + 1) own) (inl refl))
 
-      same : h.0 ≡ d
+      pub same : h.0 ≡ d
       same = one h.0 d (st.stand h.0 p_own) (in_back at d d_there) h.2
 
       pub has_it : has_id d.id (ids_of own) ≡ true
@@ -133,7 +133,7 @@ module _ {Op : Type 0} (own log : List (Item Op)) (from : ℕ) (st : StandFrom o
           by [] k j same = j
           by (q ∷ y) k j same =
               let lt : next < length own = (let size = ap length k ∙ refl in let m = length-drop next own in omega arith) in
-              let at_q : slice_get own next ≡ Some q = slice_get-get_or own next q lt ∙ ap (λ (r : Item Op). Some r) (first_is (drop_there own next (get_or own next q) lt (again own next q lt)) k) in
+              let at_q : slice_get own next ≡ Some q = slice_get-get_or own next q lt ∙ ap (λ (r : Item Op). Some r) (first_is (drop_there own next (get_or own next q) lt (get_or_default own next q (get_or own next q) lt)) k) in
               let cut_q = cut_there own next q lt (sym (get_or_from_slice_get own next q q at_q)) in
               let y_is : y ≡ drop (next + 1) own = rest_is (drop_there own next q lt (sym (get_or_from_slice_get own next q q at_q))) k in
               let q_left : In q (drop at log) = here.left q (subst (In q) (sym k) (inl refl)) in
@@ -155,11 +155,6 @@ module _ {Op : Type 0} (own log : List (Item Op)) (from : ℕ) (st : StandFrom o
               rest_is : {u : Item Op} {x y : List (Item Op)} → drop next own ≡ u ∷ x → drop next own ≡ u ∷ y → y ≡ x
               rest_is {u} {x} {y} a b = let c : u ∷ x ≡ u ∷ y = sym a ∙ b in cc
 
-              again : (z : List (Item Op)) (i : ℕ) (d' : Item Op) → i < length z → get_or z i d' ≡ get_or z i (get_or z i d')
-              again [] i d' lt = refl
-              again (c ∷ z) zero d' lt = refl
-              again (c ∷ z) (suc i) d' lt = again z i d' (omega arith)
-
       pub has_not_it : has_id d.id (ids_of own) ≡ false
       has_not_it = has_none d.id own none
 
@@ -172,7 +167,7 @@ module _ {Op : Type 0} (own log : List (Item Op)) (from : ℕ) (st : StandFrom o
         ];
       }
 
-take_front : {A : Type 0} (x y : List A) → take (length x) (x ++ y) ≡ x
+pub take_front : {A : Type 0} (x y : List A) → take (length x) (x ++ y) ≡ x
 take_front [] y = refl
 take_front {A} (a ∷ x) y = ap (λ (z : List A). a ∷ z) (take_front x y)
 
@@ -196,12 +191,7 @@ module _ {Op E : Type 0} (f : E → Item Op) (own : List (Item Op)) (x : List E)
   from_within = let w = slice_get_within (map f x) from st.first st.first_there in let m = length-map x f in omega arith
 
   front_stays : (e : E) → In e (take from x) → stays e ≡ true
-  front_stays e i = ap not (none_before own (map f x) from st (f e) (subst (In (f e)) (sym (take-map f from x)) (in_mapped (take from x) e i)))
-    where
-      in_mapped : (z : List E) (e : E) → In e z → In (f e) (map f z)
-      in_mapped [] e i = i
-      in_mapped (d ∷ z) e (inl h) = inl (ap f h)
-      in_mapped (d ∷ z) e (inr h) = inr (in_mapped z e h)
+  front_stays e i = ap not (none_before own (map f x) from st (f e) (subst (In (f e)) (sym (take-map f from x)) (in_map f e (take from x) i)))
 
   front_kept : kept_of (take from x) ≡ take from x
   front_kept = filter_all stays (take from x) front_stays
@@ -241,12 +231,7 @@ module _ {Op E : Type 0} (f : E → Item Op) (own : List (Item Op)) (x : List E)
       front_size = length-append (kept_of (take at x)) h.gap ∙ (let k = h.kept_is in let g = h.gap_size in omega arith)
 
       rest_first : drop at x ≡ get_or x at e ∷ drop (at + 1) x
-      rest_first = drop_there x at (get_or x at e) lt (again x at e lt)
-        where
-          again : (z : List E) (i : ℕ) (d : E) → i < length z → get_or z i d ≡ get_or z i (get_or z i d)
-          again [] i d w = refl
-          again (c ∷ z) zero d w = refl
-          again (c ∷ z) (suc i) d w = again z i d (omega arith)
+      rest_first = drop_there x at (get_or x at e) lt (get_or_default x at e (get_or x at e) lt)
 
       e_is : e ≡ get_or x at e
       e_is = is ∙ ap (λ (z : List E). get_or z at e) (h.now_is ∙ ap (λ (z : List E). kept_of (take at x) ++ (h.gap ++ z)) rest_first
@@ -313,7 +298,7 @@ module _ {Op E : Type 0} (f : E → Item Op) (own : List (Item Op)) (x : List E)
 
 -- where there are no items, nothing is left out
 pub without_nothing : {Op E : Type 0} (f : E → Item Op) (own : List (Item Op)) (x : List E) → slice_get own 0 ≡ None → without_items f own x ≡ x
-without_nothing f [] x h = filter_all (λ e. not (has_id (f e).id [])) x (λ e i. refl)
+without_nothing f [] x h = without_none f x
 without_nothing f (p ∷ own) x h = cc
 
 -- the items of what is left

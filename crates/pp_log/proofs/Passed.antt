@@ -51,6 +51,11 @@ module _ {Shape State Op Undo : Type 0} (o : Object Shape State Op Undo) (laws :
     turned_on = short ((x ++ c ∷ []) ++ a ∷ z) (subst (IsAllowed o sh) (append_assoc base (x ++ c ∷ []) (a ∷ z))
         (subst (λ (w : List Op). IsAllowed o sh (w ++ a ∷ z)) (append_assoc base x (c ∷ [])) (turned o laws sh (base ++ x) z a c swaps whole)))
 
+    -- in both orders they lead to one state
+    pub one_end : state_from o b (x ++ a ∷ c ∷ z) ≡ state_from o b ((x ++ c ∷ []) ++ a ∷ z)
+    one_end = state-append o b x (a ∷ c ∷ z) ∙ ap (λ (t : State). state_from o t z) stands.one_state
+        ∙ sym (state-append o b x (c ∷ a ∷ z)) ∙ ap (state_from o b) (sym (append_assoc x (c ∷ []) (a ∷ z)))
+
     kept_at : (t : Bool) → KeptAs o t a c → KeptAsAt o t (state_from o b x) a c
     kept_at t kept = kept (state_from o b x) stands.is_state stands.first stands.other stands.second
 

@@ -1,7 +1,10 @@
 //! What takes an operation back, carried behind the operations that it lets pass.
-ghost use Rattle.std.specs.Prelude.{◌≡◌, ◌<◌, ◌+◌, length};
+ghost use Rattle.std.specs.Prelude.{◌≡◌, ◌<◌, ◌≤◌, ◌+◌, IsTrue, false, length};
+ghost use Rattle.pp_log.specs.Batches.{CanGather, CarriesAllOver, Gathers};
 ghost use Rattle.pp_log.specs.Carries.{CarriesOut, CarriesOver};
+ghost use Rattle.pp_log.specs.Leaves.{HasIdAt};
 
+use pp_core::Item;
 use pp_spec::Placed;
 
 /// Carries an operation behind the next one of its place. What takes it back stands at a position,
@@ -34,4 +37,47 @@ pub fn carry_out<S: Placed>(op: &S::Op, undos: &mut Vec<S::Undo>, from: usize) -
         unreachable!()
     };
     undo
+}
+
+/// Carries a batch of operations, whose undo values stand together right before a position, behind
+/// the one that stands there.
+fn carry_all_over<S: Placed>(batch: &[Item<S::Op>], undos: &mut Vec<S::Undo>, at: usize)
+    requires before { length batch.now ≤ at }
+    requires within { at < length undos.old.items }
+    ensures size { length undos.new.items ≡ length undos.old.items }
+    ensures carries { CarriesAllOver S.object S.place_of batch.now at
+        undos.old.items undos.new.items }
+{
+    let first = at - batch.len();
+    let mut left = batch.len();
+    while left > 0 {
+        left -= 1;
+        carry_over::<S>(&batch[left].op, undos, first + left);
+    }
+}
+
+/// Whether the item at a position has this id.
+pub fn has_id_at<O: Copy>(items: &[Item<O>], at: usize, id: u32) -> bool
+    ensures yes { IsTrue result → HasIdAt items.now at id }
+    ensures no { result ≡ false → HasIdAt items.now at id → ⊥ }
+{
+    at < items.len() && items[at].id == id
+}
+
+/// Carries a batch of operations of a place behind all others there, in one walk over these. The
+/// undo value of the first of them stands at `from`.
+pub fn gather<S: Placed>(batch: &[Item<S::Op>], ids: &[u32], undos: &mut Vec<S::Undo>, from: usize)
+    requires { CanGather S.object S.place_of batch.now from ids.now undos.old.items }
+    ensures size { length undos.new.items ≡ length undos.old.items }
+    ensures gathers { Gathers S.object S.place_of batch.now from ids.now
+        undos.old.items undos.new.items }
+{
+    let mut next = 0;
+    for at in from..ids.len() {
+        if has_id_at(batch, next, ids[at]) {
+            next += 1;
+        } else {
+            carry_all_over::<S>(&batch[..next], undos, at);
+        }
+    }
 }

@@ -4,6 +4,8 @@ ghost use Rattle.pp_log.specs.Leaves.{AllLeave, CanAllLeave, CanLeave, CanLeaveO
 ghost use Rattle.pp_log.specs.Leaves.{Leaves, StandFrom};
 ghost use Rattle.pp_log.specs.Leaving.{without_items};
 
+use crate::carry::has_id_at;
+use crate::entries::Entries;
 use crate::index::Index;
 use crate::place::Place;
 use crate::sides::Side;
@@ -39,7 +41,7 @@ fn take_one_back<S: Placed, L: Ledger>(
 
 /// Takes items back from the last to the first, each of which lets the others behind it pass. What
 /// is kept is then of the others.
-pub fn take_all_back<S: Placed, L: Ledger>(
+pub fn take_each_back<S: Placed, L: Ledger>(
     own: &[Item<S::Op>],
     ids: &mut Index,
     places: &mut Vec<Place<S::Undo>>,
@@ -70,31 +72,57 @@ fn is_next<O: Copy, T: Side<O>>(entry: &T::Entry, own: &[Item<O>], next: usize) 
     ensures yes { IsTrue result → HasIdAt own.now next (T.item_of entry.now).id }
     ensures no { result ≡ false → HasIdAt own.now next (T.item_of entry.now).id → ⊥ }
 {
-    next < own.len() && own[next].id == T::item(entry).id
+    has_id_at(own, next, T::item(entry).id)
 }
 
 /// Leaves out the entries that are these items, which stand in their order, the first of them at a
-/// position.
-fn keep_others<O: Copy, T: Side<O>>(entries: &mut Vec<T::Entry>, own: &[Item<O>], from: usize)
+/// position. Those that stay behind it move up, each once.
+fn keep_others<O: Copy, T: Side<O>>(entries: &mut Entries<T::Entry>, own: &[Item<O>], from: usize)
     requires { StandFrom own.now (map T.item_of entries.old.items) from }
     ensures { entries.new.items ≡ without_items T.item_of own.now entries.old.items }
 {
     let mut kept = from;
     let mut next = 0;
     for at in from..entries.len() {
-        if is_next::<O, T>(&entries[at], own, next) {
+        if is_next::<O, T>(&entries.as_slice()[at], own, next) {
             next += 1;
         } else {
-            entries[kept] = entries[at];
+            let entry = entries.as_slice()[at];
+            entries.set(kept, entry);
             kept += 1;
         }
     }
     entries.truncate(kept);
 }
 
+/// Takes out the entries that are these items, which stand in their order, one after another, from
+/// the last to the first. At each the fewer others move.
+fn take_each_out<O: Copy, T: Side<O>>(entries: &mut Entries<T::Entry>, ids: &Index, own: &[Item<O>])
+    requires { CanLeaveOut own.now (map T.item_of entries.old.items) ids.now }
+    ensures { entries.new.items ≡ without_items T.item_of own.now entries.old.items }
+{
+    let mut rest = own.len();
+    while rest > 0 {
+        rest -= 1;
+        let item = &own[rest];
+        // It stands where it stood, since those that have left stood behind it.
+        let Some(i) = ids.find(item.id) else {
+            unreachable!()
+        };
+        entries.remove(i);
+    }
+}
+
+/// Whether each of these items stands so near the front that to move all before it, one item after
+/// another, is surely no more than to move those behind the first. What it answers changes no result.
+fn stand_in_front<O: Copy>(own: &[Item<O>], ids: &Index, from: usize, len: usize) -> bool {
+    own.last().and_then(|item| ids.find(item.id)).is_some_and(|to| own.len().saturating_mul(to)
+        < len.saturating_sub(from))
+}
+
 /// Leaves out the entries that are these items, which stand in their order. It looks at none before
-/// the first of them.
-pub fn leave_out<O: Copy, T: Side<O>>(entries: &mut Vec<T::Entry>, ids: &Index, own: &[Item<O>])
+/// the first of them, or moves no more than stand from it on.
+pub fn leave_out<O: Copy, T: Side<O>>(entries: &mut Entries<T::Entry>, ids: &Index, own: &[Item<O>])
     requires { CanLeaveOut own.now (map T.item_of entries.old.items) ids.now }
     ensures { entries.new.items ≡ without_items T.item_of own.now entries.old.items }
 {
@@ -104,5 +132,9 @@ pub fn leave_out<O: Copy, T: Side<O>>(entries: &mut Vec<T::Entry>, ids: &Index, 
     let Some(from) = ids.find(first.id) else {
         unreachable!()
     };
-    keep_others::<O, T>(entries, own, from);
+    if stand_in_front(own, ids, from, entries.len()) {
+        take_each_out::<O, T>(entries, ids, own);
+    } else {
+        keep_others::<O, T>(entries, own, from);
+    }
 }

@@ -3,6 +3,7 @@
 #![tactic(auto)]
 
 mod carry;
+mod entries;
 mod id_table;
 mod index;
 mod leave;
@@ -12,6 +13,7 @@ mod room;
 mod run;
 mod sides;
 mod take_out;
+mod together;
 
 pub use log::Log;
 pub use place::Removed;

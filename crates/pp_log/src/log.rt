@@ -11,12 +11,14 @@ ghost use Rattle.pp_log.specs.Logs.{GoesBehind, HasItemAt, IsFirstFrom, IsOn, No
 ghost use Rattle.pp_log.specs.Logs.{RemovalBound, RemovalCosts, RemovesEntry};
 ghost use Rattle.pp_log.specs.Logs.{answer_behind, entry_ops};
 
+use crate::entries::Entries;
 use crate::index::Index;
-use crate::leave::{leave_out, take_all_back};
+use crate::leave::leave_out;
 use crate::place::{Place, Removed};
 use crate::room::make_room;
 use crate::sides::Side;
 use crate::take_out::{position_in_place, take_out};
+use crate::together::take_all_back;
 use pp_core::{Answer, Item, OutOfMemory, Ticks};
 use pp_spec::{Applied, Placed};
 use std::alloc::Global;
@@ -28,7 +30,7 @@ use std::sync::ledger::Ledger;
 /// with what takes them back.
 #[derive(Drop)]
 pub struct Log<S: Placed, T: Side<S::Op>> {
-    entries: Vec<T::Entry>,
+    entries: Entries<T::Entry>,
     ids: Index,
     places: Vec<Place<S::Undo>>,
     state: S::State,
@@ -51,7 +53,7 @@ impl<S: Placed, T: Side<S::Op>> Log<S, T> {
     {
         let state = S::empty(alloc, shape)?;
         Ok(Log {
-            entries: Vec::new(alloc),
+            entries: Entries::new(alloc),
             ids: Index::new(),
             places: Vec::new(alloc),
             state,
@@ -74,14 +76,14 @@ impl<S: Placed, T: Side<S::Op>> Log<S, T> {
     pub fn get(&self, i: usize) -> Option<&T::Entry>
         ensures { option_copied result ≡ slice_get self.now.1 i }
     {
-        self.entries.get(i)
+        self.entries.as_slice().get(i)
     }
 
     /// All entries, in order.
     pub fn entries(&self) -> &[T::Entry]
         ensures { result.now ≡ self.now.1 }
     {
-        &self.entries
+        self.entries.as_slice()
     }
 
     /// Where the entry with this id stands. It looks through at most sixteen ids, and asks a table
@@ -167,9 +169,7 @@ impl<S: Placed, T: Side<S::Op>> Log<S, T> {
             unreachable!()
         };
         self.places[p].keep(item.id, undo);
-        let Ok(()) = self.entries.push(entry) else {
-            unreachable!()
-        };
+        self.entries.push(entry);
         self.ids.push(item.id);
         Ok(())
     }
@@ -180,7 +180,7 @@ impl<S: Placed, T: Side<S::Op>> Log<S, T> {
         requires same { HasItemAt T.item_of self.old.1 i entry }
         ensures { self.new ≡ (self.old.0, slice_set self.old.1 i entry) }
     {
-        self.entries[i] = entry;
+        self.entries.set(i, entry);
     }
 
     /// Takes out the i-th entry. Where it lets the later operations of its place pass, it alone is
@@ -204,15 +204,16 @@ impl<S: Placed, T: Side<S::Op>> Log<S, T> {
             mut state,
             alloc,
         } = self;
-        let item = T::item(&entries[i]);
+        let all = entries.as_slice();
+        let item = T::item(&all[i]);
         let p = usize::from(S::place(&item.op));
         let place = &mut places[p];
         let Some(from) = position_in_place(&place.ids, &ids, i, item.id) else {
             unreachable!()
         };
-        let removed = take_out::<S, T, L>(place, from, &entries[i..], &mut state, ticks, alloc)?;
+        let removed = take_out::<S, T, L>(place, from, &all[i..], &mut state, ticks, alloc)?;
         if let Removed::Done = removed {
-            let _ = entries.remove(i);
+            entries.remove(i);
             ids.remove(i, item.id);
         }
         let log = Log {

@@ -1,9 +1,9 @@
 //! Room for one more entry, so that nothing is refused once its operation was applied.
-ghost use Rattle.std.specs.Prelude.{◌≡◌, ◌<◌, ◌≤◌, OnOk, length, vec_len};
-ghost use Rattle.std.specs.Vec.{vec_capacity};
+ghost use Rattle.std.specs.Prelude.{◌≡◌, ◌<◌, ◌≤◌, OnOk, length};
 ghost use Rattle.pp_log.specs.Index.{HasIndexRoom, IsSameIndex};
 ghost use Rattle.pp_log.specs.Room.{ArePlacesSame, HasRoom, HasRoomAt};
 
+use crate::entries::Entries;
 use crate::index::Index;
 use crate::place::Place;
 use pp_core::OutOfMemory;
@@ -47,7 +47,7 @@ fn make_room_there<U: Drop>(place: &mut Place<U>) -> Result<(), OutOfMemory>
 
 /// Makes room for one more entry with this id, which is of the p-th place.
 pub fn make_room<E: Copy, U: Drop>(
-    entries: &mut Vec<E>,
+    entries: &mut Entries<E>,
     ids: &mut Index,
     id: u32,
     places: &mut Vec<Place<U>>,
@@ -59,11 +59,11 @@ pub fn make_room<E: Copy, U: Drop>(
     ensures ids { IsSameIndex ids.old ids.new }
     ensures same { ArePlacesSame places.old.items places.new.items }
     ensures there { OnOk result (p < length places.new.items) }
-    ensures room { OnOk result (vec_len entries.new < vec_capacity entries.new) }
+    ensures room { OnOk result (0 < entries.new.room) }
     ensures id_room { OnOk result (HasIndexRoom id ids.new) }
     ensures place_room { OnOk result (HasRoomAt places.new.items p) }
 {
-    entries.reserve(1)?;
+    entries.reserve()?;
     ids.reserve(id, alloc)?;
     make_places(places, p, alloc)?;
     make_room_there(&mut places[p])?;

@@ -16,7 +16,7 @@ pub trait Side<O: Copy> {
     fn item(entry: &Self::Entry) -> Item<O>
         ensures { result ≡ item_of entry.now };
 
-    /// Its operation alone, which is lent and not copied: a walk over a log asks each entry for it.
+    /// The operation of an entry, lent and not copied.
     fn op(entry: &Self::Entry) -> &O
         ensures { result.now ≡ (item_of entry.now).op };
 }

@@ -16,6 +16,7 @@ use Rattle.pp_model.specs.Serial.{has_id}
 use Rattle.pp_model.proofs.Lists.{before_across, before_from_map, before_in_second, before_map, from_map, in_right}
 use Rattle.pp_log.specs.Leaving.{MayLeave, without_items}
 use Rattle.pp_log.specs.Room.{ids_of}
+use Rattle.pp_log.proofs.Leaving.{without_none}
 use Rattle.pp_log.proofs.Lists.{cut_there, stands_in}
 use Rattle.pp_parts.specs.declared.part.Part.{Part}
 use Rattle.pp_spec.specs.Object.{Object}
@@ -104,14 +105,9 @@ before_at key (c ∷ x) distinct a b (suc j) (inr later) at =
     let below = r.1 in
     (suc r.0, omega arith, r.2)
 
--- a list without nothing
-pub without_none : {Op : Type 0} (x : List (SharedEntry Op)) → without_items shared_item [] x ≡ x
-without_none [] = refl
-without_none {Op} (e ∷ x) = ap (λ (z : List (SharedEntry Op)). e ∷ z) (without_none x)
-
 -- none is the first
 pub settled_none : {Op : Type 0} (own : List (Item Op)) (x : List (SharedEntry Op)) (settled : ℕ) → slice_get own 0 ≡ None → IsSettled x settled → IsSettled (without_items shared_item own x) settled
-settled_none {Op} [] x settled none h = subst (λ (z : List (SharedEntry Op)). IsSettled z settled) (sym (without_none x)) h
+settled_none {Op} [] x settled none h = subst (λ (z : List (SharedEntry Op)). IsSettled z settled) (sym (without_none shared_item x)) h
 settled_none (p ∷ own) x settled none h = cc
 
 pub first_in : {E : Type 0} (x : List E) (a : E) → slice_get x 0 ≡ Some a → In a x

@@ -8,37 +8,60 @@ use Rattle.pp_log.proofs.leave.keep_others.Goals.{then-is_next, else-is_next}
 pub loop-at-init : goal.loop-at-init
 loop-at-init g c = λ st. keeping_first g.T.Side.item_of c.args.own.now c.args.entries.now.items c.args.from st
 
-pub index_mut-requires : goal.index_mut-requires
-index_mut-requires g c =
-    let f = g.T.Side.item_of in
-    let own = c.args.own.now in
-    let x = c.args.entries.now.items in
-    let from = c.args.from in
-    let st = c.requires in
-    let kept = c.loop-at.kept in
-    let at = c.loop-at.at in
-    let next = c.loop-at.next in
-    let now = c.loop-at.entries.items in
-    let h = c.loop-at.invariant st in
-    let size = now_size f own x from st at kept next now h in
-    let before = kept_before f own x from st at kept next now h in
+pub offset_bounds-as_slice-at : goal.offset_bounds-as_slice-at
+offset_bounds-as_slice-at g c =
+    let h = c.loop-at.invariant c.requires in
+    let size = now_size _ _ _ _ _ _ _ _ _ h in
+    let before = kept_before _ _ _ _ _ _ _ _ _ h in
+    let test = c.loop-at-test.true in
+    let all = c.len-at-end.ensures in
+    let lent = ap length c.as_slice.ensures in
+    omega arith
+
+pub bounds-as_slice-at : goal.bounds-as_slice-at
+bounds-as_slice-at g c =
+    let h = c.loop-at.invariant c.requires in
+    let size = now_size _ _ _ _ _ _ _ _ _ h in
+    let before = kept_before _ _ _ _ _ _ _ _ _ h in
+    let test = c.loop-at-test.true in
+    let all = c.len-at-end.ensures in
+    let lent = ap length c.as_slice.ensures in
+    omega arith
+
+pub offset_bounds-as_slice-at-else-is_next : goal.offset_bounds-as_slice-at-else-is_next
+offset_bounds-as_slice-at-else-is_next g c =
+    let h = c.loop-at.invariant c.requires in
+    let size = now_size _ _ _ _ _ _ _ _ _ h in
+    let before = kept_before _ _ _ _ _ _ _ _ _ h in
+    let test = c.loop-at-test.true in
+    let all = c.len-at-end.ensures in
+    let lent = ap length c.as_slice-else-is_next.ensures in
+    omega arith
+
+pub bounds-as_slice-at-else-is_next : goal.bounds-as_slice-at-else-is_next
+bounds-as_slice-at-else-is_next g c =
+    let h = c.loop-at.invariant c.requires in
+    let size = now_size _ _ _ _ _ _ _ _ _ h in
+    let before = kept_before _ _ _ _ _ _ _ _ _ h in
+    let test = c.loop-at-test.true in
+    let all = c.len-at-end.ensures in
+    let lent = ap length c.as_slice-else-is_next.ensures in
+    omega arith
+
+pub set-requires : goal.set-requires
+set-requires g c =
+    let h = c.loop-at.invariant c.requires in
+    let size = now_size _ _ _ _ _ _ _ _ _ h in
+    let before = kept_before _ _ _ _ _ _ _ _ _ h in
     let test = c.loop-at-test.true in
     let all = c.len-at-end.ensures in
     omega arith
 
 pub overflow_add-kept : goal.overflow_add-kept
 overflow_add-kept g c =
-    let f = g.T.Side.item_of in
-    let own = c.args.own.now in
-    let x = c.args.entries.now.items in
-    let from = c.args.from in
-    let st = c.requires in
-    let kept = c.loop-at.kept in
-    let at = c.loop-at.at in
-    let next = c.loop-at.next in
-    let now = c.loop-at.entries.items in
-    let h = c.loop-at.invariant st in
-    let before = kept_before f own x from st at kept next now h in
+    let h = c.loop-at.invariant c.requires in
+    let size = now_size _ _ _ _ _ _ _ _ _ h in
+    let before = kept_before _ _ _ _ _ _ _ _ _ h in
     let test = c.loop-at-test.true in
     let all = c.len-at-end.ensures in
     omega arith
@@ -54,9 +77,13 @@ loop-at-preserved g c = λ st.
     let next = c.loop-at.next in
     let now = c.loop-at.entries.items in
     let h = c.loop-at.invariant st in
-    let e = c.index.result.now in
-    let lt : at < length x = (let test = c.loop-at-test.true in let size = c.len-at-end.ensures in omega arith) in
-    let is : e ≡ get_or now at e = c.index.ensures in
+    let size = now_size f own x from st at kept next now h in
+    let before = kept_before f own x from st at kept next now h in
+    let test = c.loop-at-test.true in
+    let all = c.len-at-end.ensures in
+    let e = c.index-as_slice-at.result in
+    let lt : at < length x = omega arith in
+    let is : e ≡ get_or now at e = c.index-as_slice-at.is ∙ ap (λ z. get_or z at e) c.as_slice.ensures in
     elim c.if-is_next.branch [
       | then-is_next w ↦
           let skip = keeping_skip f own x from st at kept next now h e lt is (c.is_next.ensures.yes w.if-is_next.true) in
@@ -65,14 +92,22 @@ loop-at-preserved g c = λ st.
           (subst (λ v. IsKeeping f own x from st (at + 1) kept (next + 1) v.items) (sym w.entries-is) skip))
       | else-is_next w ↦
           let keep = keeping_keep f own x from st at kept next now h e lt is (c.is_next.ensures.no w.if-is_next.false) in
-          let size = now_size f own x from st at kept next now h in
-          let it = w.index-else-is_next.result.now in
-          let again : it ≡ e = w.index-else-is_next.ensures ∙ get_or_default now at it e (omega arith) ∙ sym is in
-          let written : c.if-is_next.entries.items ≡ slice_set now kept e = ap (λ v. v.items) w.entries-is ∙ ap (slice_set now kept) again in
+          let it = w.index-as_slice-at-else-is_next.result in
+          let same : it ≡ get_or now at it = w.index-as_slice-at-else-is_next.is ∙ ap (λ z. get_or z at it) w.as_slice-else-is_next.ensures in
+          let again : it ≡ e = same ∙ get_or_default now at it e (omega arith) ∙ sym is in
+          let written : c.if-is_next.entries.items ≡ slice_set now kept e = ap (λ v. v.items) w.entries-is ∙ w.set.ensures.items ∙ ap (slice_set now kept) again in
           subst (λ n. IsKeeping f own x from st (at + 1) c.if-is_next.kept n c.if-is_next.entries.items) (sym w.next-is)
           (subst (λ n. IsKeeping f own x from st (at + 1) n next c.if-is_next.entries.items) (sym w.kept-is)
           (subst (λ v. IsKeeping f own x from st (at + 1) (kept + 1) next v) (sym written) keep))
     ]
+
+pub truncate-requires : goal.truncate-requires
+truncate-requires g c =
+    let h = c.loop-at.invariant c.requires in
+    let size = now_size _ _ _ _ _ _ _ _ _ h in
+    let before = kept_before _ _ _ _ _ _ _ _ _ h in
+    let bound = h.within in
+    omega arith
 
 pub returns : goal.returns
 returns g c =

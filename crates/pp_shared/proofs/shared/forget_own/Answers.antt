@@ -1,14 +1,15 @@
 use Rattle.std.proofs.Common.{◌+◌, subst, sym, take}
 use Rattle.pp_model.specs.Config.{shared_item}
 use Rattle.pp_log.specs.Leaving.{without_items}
+use Rattle.pp_log.proofs.Leaving.{without_none}
 use Rattle.pp_shared.specs.Uncommitted.{KeepsOpen}
 use Rattle.pp_shared.proofs.Committing.{not_missing}
-use Rattle.pp_shared.proofs.Leaving.{is_found, item_in, leaves_next, without_none}
+use Rattle.pp_shared.proofs.Leaving.{is_found, item_in, leaves_next}
 use Rattle.pp_shared.proofs.shared.forget_own.Goals as goal
 
 pub loop-item-init : goal.loop-item-init
 loop-item-init g c = λ kept.
-    subst (λ z. KeepsOpen g.S.Spec.object g.S.Parted.part_of c.args.parts.now.slots.entries z) (sym (without_none c.args.log.now.1)) kept
+    subst (λ z. KeepsOpen g.S.Spec.object g.S.Parted.part_of c.args.parts.now.slots.entries z) (sym (without_none shared_item c.args.log.now.1)) kept
 
 pub unreachable-requires : goal.unreachable-requires
 unreachable-requires g c =

@@ -62,7 +62,7 @@ invariant_of-self-2 g c =
     let applied = rw c.in-Done.is at c.in_ok-undo.ensures.applied in
     let more = grown o g.S.Placed.place_of g.S.Placed.SameAt g.met.S.Spec.lawful g.met.S.Placed.placed s c.apply.new.state (map f x) ps e c.from-p.result q c.keep.new.self c.in-Done.undo same.keeps legal ranged new few (sym (c.from-p.ensures ∙ c.place.ensures)) room.there at applied.2 applied.1 c.keep.ensures.ids c.keep.ensures.undos in
     let items : map f c.push.new.self.items ≡ map f x ++ e ∷ [] =
-    ap (map f) (c.in-Ok.ensures.items ∙ ap (λ z. z ++ c.args.entry ∷ []) room.entries) ∙ map_push f x c.args.entry ∙ ap (λ d. map f x ++ d ∷ []) (sym c.item-item.ensures) in
+    ap (map f) (c.push.ensures.items ∙ ap (λ z. z ++ c.args.entry ∷ []) room.entries) ∙ map_push f x c.args.entry ∙ ap (λ d. map f x ++ d ∷ []) (sym c.item-item.ensures) in
     let index = subst (λ z. IsIndexOf c.push-2.new.self z) (sym (ids-append (map f x) (e ∷ []))) (c.push-2.ensures (ids_of (map f x)) same.index (new_id (map f x) e.id new)) in
     subst (λ z. KeepsAll o g.S.Placed.place_of c.apply.new.state z (slice_set ps c.from-p.result c.keep.new.self) c.push-2.new.self) (sym items) (record { keeps = more.0; index = index })
 
@@ -73,4 +73,4 @@ returns-clause-ok g c =
     let legal = legal_seen o g.T.Side.item_of s c.self.inside.entries.items c.args.self.now c.args.entry c.item-item.result c.self.view_is c.self.invariant.keeps.is c.item-item.ensures c.requires.allowed in
     let applied = rw c.in-Done.is at c.in_ok-undo.ensures.applied in
     let shape = ap o.shape applied.2 ∙ g.met.S.Spec.lawful.next_shape s c.item-item.result.op legal in
-    seen_more (o.shape s) (o.shape c.apply.new.state) c.self.inside.entries.items c.push.new.self.items c.args.entry c.args.self.now c.self.view_is shape (c.in-Ok.ensures.items ∙ ap (λ z. z ++ c.args.entry ∷ []) c.in_ok-make_room.ensures.entries)
+    seen_more (o.shape s) (o.shape c.apply.new.state) c.self.inside.entries.items c.push.new.self.items c.args.entry c.args.self.now c.self.view_is shape (c.push.ensures.items ∙ ap (λ z. z ++ c.args.entry ∷ []) c.in_ok-make_room.ensures.entries)

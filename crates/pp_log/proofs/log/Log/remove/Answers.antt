@@ -1,4 +1,4 @@
-use Rattle.std.proofs.Common.{◌≡◌, ◌-◌, ◌++◌, drop, length, map, take, sym, ◌∙◌, ap, subst, arith}
+use Rattle.std.proofs.Common.{◌≡◌, ◌-◌, ◌++◌, drop, get_or, length, map, take, sym, ◌∙◌, ap, subst, arith}
 use Rattle.std.proofs.lemmas.List.{length-drop, length-map}
 use Rattle.std.specs.List.{slice_get, slice_set}
 use Rattle.pp_model.specs.Lists.{In}
@@ -33,7 +33,8 @@ index_mut-place-requires g c =
     let keeps = c.self.invariant.keeps in
     let e = c.item-item.result in
     let p = c.from-p.result in
-    let site = site_seen place f (o.shape s) x c.args.self c.args.i c.index.result.now e p c.self.view_is c.requires c.index.ensures c.item-item.ensures (c.from-p.ensures ∙ c.place.ensures) in
+    let at : c.index-all-i.result ≡ get_or x c.args.i c.index-all-i.result = c.index-all-i.is ∙ ap (λ z. get_or z c.args.i c.index-all-i.result) c.as_slice-all.ensures in
+    let site = site_seen place f (o.shape s) x c.args.self c.args.i c.index-all-i.result e p c.self.view_is c.requires at c.item-item.ensures (c.from-p.ensures ∙ c.place.ensures) in
     let is = place_there o place s log ps c.args.i e p keeps site in
     omega arith
 
@@ -49,7 +50,8 @@ unreachable-requires g c =
     let keeps = c.self.invariant.keeps in
     let e = c.item-item.result in
     let p = c.from-p.result in
-    let site = site_seen place f (o.shape s) x c.args.self c.args.i c.index.result.now e p c.self.view_is c.requires c.index.ensures c.item-item.ensures (c.from-p.ensures ∙ c.place.ensures) in
+    let at : c.index-all-i.result ≡ get_or x c.args.i c.index-all-i.result = c.index-all-i.is ∙ ap (λ z. get_or z c.args.i c.index-all-i.result) c.as_slice-all.ensures in
+    let site = site_seen place f (o.shape s) x c.args.self c.args.i c.index-all-i.result e p c.self.view_is c.requires at c.item-item.ensures (c.from-p.ensures ∙ c.place.ensures) in
     let q = c.index_mut-place.result.now in
     let value = c.index_mut-place.ensures.value in
     let none = c.in_default.ensures.none in
@@ -59,10 +61,10 @@ pub take_out-requires-clause-some : goal.take_out-requires-clause-some
 take_out-requires-clause-some g c =
     let f = g.T.Side.item_of in
     let x = c.self.inside.entries.items in
-    let lent = c.deref-2.result.now in
+    let lent = c.as_slice-all.result.now in
     let within = inside f (g.S.Spec.object.shape c.self.inside.state) x c.args.self c.args.i c.self.view_is c.requires in
     let size = length-map x f in
-    let same = ap length c.deref-2.ensures.value in
+    let same = ap length c.as_slice-all.ensures in
     let behind = length-drop c.args.i lent in
     let all = ap length (all_behind lent c.args.i) in
     omega arith
@@ -79,14 +81,15 @@ take_out-requires-clause-whole g c =
     let keeps = c.self.invariant.keeps in
     let e = c.item-item.result in
     let p = c.from-p.result in
-    let site = site_seen place f (o.shape s) x c.args.self c.args.i c.index.result.now e p c.self.view_is c.requires c.index.ensures c.item-item.ensures (c.from-p.ensures ∙ c.place.ensures) in
+    let at : c.index-all-i.result ≡ get_or x c.args.i c.index-all-i.result = c.index-all-i.is ∙ ap (λ z. get_or z c.args.i c.index-all-i.result) c.as_slice-all.ensures in
+    let site = site_seen place f (o.shape s) x c.args.self c.args.i c.index-all-i.result e p c.self.view_is c.requires at c.item-item.ensures (c.from-p.ensures ∙ c.place.ensures) in
     let q = c.index_mut-place.result.now in
     let value = c.index_mut-place.ensures.value in
     let stands = ap (λ z. slice_get z c.in-Some.from) (sym c.deref.ensures.value) ∙ c.in-Some.ensures.found in
     let within = inside f (o.shape s) x c.args.self c.args.i c.self.view_is c.requires in
     let found = found_in o place s log ps c.args.i e p c.in-Some.from q keeps within site value stands in
     let b = state_after o (o.shape s) (ops (elsewhere place p log)) in
-    let tail = tail_of place f x c.deref-2.result.now c.args.i c.index.result.now e p c.deref-2.ensures.value within c.index.ensures c.item-item.ensures (c.from-p.ensures ∙ c.place.ensures) found.site in
+    let tail = tail_of place f x c.as_slice-all.result.now c.args.i c.index-all-i.result e p c.as_slice-all.ensures within at c.item-item.ensures (c.from-p.ensures ∙ c.place.ensures) found.site in
     record {
       start = b;
       before = found.site.u;
@@ -106,13 +109,14 @@ returns-in_err-removed-clause-bound g c =
     let keeps = c.self.invariant.keeps in
     let e = c.item-item.result in
     let p = c.from-p.result in
-    let site = site_seen place f (o.shape s) x c.args.self c.args.i c.index.result.now e p c.self.view_is c.requires c.index.ensures c.item-item.ensures (c.from-p.ensures ∙ c.place.ensures) in
+    let at : c.index-all-i.result ≡ get_or x c.args.i c.index-all-i.result = c.index-all-i.is ∙ ap (λ z. get_or z c.args.i c.index-all-i.result) c.as_slice-all.ensures in
+    let site = site_seen place f (o.shape s) x c.args.self c.args.i c.index-all-i.result e p c.self.view_is c.requires at c.item-item.ensures (c.from-p.ensures ∙ c.place.ensures) in
     let q = c.index_mut-place.result.now in
     let value = c.index_mut-place.ensures.value in
     let stands = ap (λ z. slice_get z c.in-Some.from) (sym c.deref.ensures.value) ∙ c.in-Some.ensures.found in
     let within = inside f (o.shape s) x c.args.self c.args.i c.self.view_is c.requires in
     let found = found_in o place s log ps c.args.i e p c.in-Some.from q keeps within site value stands in
-    let tail = tail_of place f x c.deref-2.result.now c.args.i c.index.result.now e p c.deref-2.ensures.value within c.index.ensures c.item-item.ensures (c.from-p.ensures ∙ c.place.ensures) site in
+    let tail = tail_of place f x c.as_slice-all.result.now c.args.i c.index-all-i.result e p c.as_slice-all.ensures within at c.item-item.ensures (c.from-p.ensures ∙ c.place.ensures) site in
     let behind = ap length tail in
     let count = site.count in
     let size = count_seen place f (o.shape s) x c.args.self c.args.i c.self.view_is in
@@ -131,14 +135,15 @@ invariant_of-log g c =
     let keeps = c.self.invariant.keeps in
     let e = c.item-item.result in
     let p = c.from-p.result in
-    let site = site_seen place f (o.shape s) x c.args.self c.args.i c.index.result.now e p c.self.view_is c.requires c.index.ensures c.item-item.ensures (c.from-p.ensures ∙ c.place.ensures) in
+    let at : c.index-all-i.result ≡ get_or x c.args.i c.index-all-i.result = c.index-all-i.is ∙ ap (λ z. get_or z c.args.i c.index-all-i.result) c.as_slice-all.ensures in
+    let site = site_seen place f (o.shape s) x c.args.self c.args.i c.index-all-i.result e p c.self.view_is c.requires at c.item-item.ensures (c.from-p.ensures ∙ c.place.ensures) in
     let q = c.index_mut-place.result.now in
     let value = c.index_mut-place.ensures.value in
     let stands = ap (λ z. slice_get z c.in-Some.from) (sym c.deref.ensures.value) ∙ c.in-Some.ensures.found in
     let within = inside f (o.shape s) x c.args.self c.args.i c.self.view_is c.requires in
     let found = found_in o place s log ps c.args.i e p c.in-Some.from q keeps within site value stands in
     let b = state_after o (o.shape s) (ops (elsewhere place p log)) in
-    let tail = tail_of place f x c.deref-2.result.now c.args.i c.index.result.now e p c.deref-2.ensures.value within c.index.ensures c.item-item.ensures (c.from-p.ensures ∙ c.place.ensures) found.site in
+    let tail = tail_of place f x c.as_slice-all.result.now c.args.i c.index-all-i.result e p c.as_slice-all.ensures within at c.item-item.ensures (c.from-p.ensures ∙ c.place.ensures) found.site in
     let parts = found.site.here ∙ ap (λ z. found.site.u ++ z) (sym tail) in
     let whole = subst (λ z. IsWhole o b z q s) parts (whole_of o place g.S.Placed.SameAt g.met.S.Spec.lawful g.met.S.Placed.placed p s log ps q keeps found.at) in
     let removed = c.in_ok-removed.removed in
@@ -150,7 +155,7 @@ invariant_of-log g c =
     ] in
     let index = c.self.invariant.index in
     let once = ids_once log (apart log keeps.distinct) in
-    let stands_there = id_stands f (o.shape s) x c.args.self c.args.i c.index.result.now e c.self.view_is c.requires c.index.ensures c.item-item.ensures in
+    let stands_there = id_stands f (o.shape s) x c.args.self c.args.i c.index-all-i.result e c.self.view_is c.requires at c.item-item.ensures in
     let ids : IsIndexOf c.match-removed.ids (ids_of (left removed log c.args.i)) = elim c.match-removed.branch [
       | in-Done w ↦ subst (λ z. IsIndexOf z (ids_of (left removed log c.args.i))) (sym w.ids-is)
           (subst (λ z. IsIndexOf w.remove-in-Done.new.self z) (ids-remove log c.args.i ∙ ap (λ r. ids_of (left r log c.args.i)) (sym w.in-Done.is)) (w.remove-in-Done.ensures (ids_of log) index once stands_there))
@@ -171,14 +176,15 @@ returns-clause-removes g c =
     let keeps = c.self.invariant.keeps in
     let e = c.item-item.result in
     let p = c.from-p.result in
-    let site = site_seen place f (o.shape s) x c.args.self c.args.i c.index.result.now e p c.self.view_is c.requires c.index.ensures c.item-item.ensures (c.from-p.ensures ∙ c.place.ensures) in
+    let at : c.index-all-i.result ≡ get_or x c.args.i c.index-all-i.result = c.index-all-i.is ∙ ap (λ z. get_or z c.args.i c.index-all-i.result) c.as_slice-all.ensures in
+    let site = site_seen place f (o.shape s) x c.args.self c.args.i c.index-all-i.result e p c.self.view_is c.requires at c.item-item.ensures (c.from-p.ensures ∙ c.place.ensures) in
     let q = c.index_mut-place.result.now in
     let value = c.index_mut-place.ensures.value in
     let stands = ap (λ z. slice_get z c.in-Some.from) (sym c.deref.ensures.value) ∙ c.in-Some.ensures.found in
     let within = inside f (o.shape s) x c.args.self c.args.i c.self.view_is c.requires in
     let found = found_in o place s log ps c.args.i e p c.in-Some.from q keeps within site value stands in
     let b = state_after o (o.shape s) (ops (elsewhere place p log)) in
-    let tail = tail_of place f x c.deref-2.result.now c.args.i c.index.result.now e p c.deref-2.ensures.value within c.index.ensures c.item-item.ensures (c.from-p.ensures ∙ c.place.ensures) found.site in
+    let tail = tail_of place f x c.as_slice-all.result.now c.args.i c.index-all-i.result e p c.as_slice-all.ensures within at c.item-item.ensures (c.from-p.ensures ∙ c.place.ensures) found.site in
     let parts = found.site.here ∙ ap (λ z. found.site.u ++ z) (sym tail) in
     let whole = subst (λ z. IsWhole o b z q s) parts (whole_of o place g.S.Placed.SameAt g.met.S.Spec.lawful g.met.S.Placed.placed p s log ps q keeps found.at) in
     let removed = c.in_ok-removed.removed in
@@ -204,17 +210,18 @@ returns-clause-cost g c =
     let keeps = c.self.invariant.keeps in
     let e = c.item-item.result in
     let p = c.from-p.result in
-    let site = site_seen place f (o.shape s) x c.args.self c.args.i c.index.result.now e p c.self.view_is c.requires c.index.ensures c.item-item.ensures (c.from-p.ensures ∙ c.place.ensures) in
+    let at : c.index-all-i.result ≡ get_or x c.args.i c.index-all-i.result = c.index-all-i.is ∙ ap (λ z. get_or z c.args.i c.index-all-i.result) c.as_slice-all.ensures in
+    let site = site_seen place f (o.shape s) x c.args.self c.args.i c.index-all-i.result e p c.self.view_is c.requires at c.item-item.ensures (c.from-p.ensures ∙ c.place.ensures) in
     let q = c.index_mut-place.result.now in
     let value = c.index_mut-place.ensures.value in
     let stands = ap (λ z. slice_get z c.in-Some.from) (sym c.deref.ensures.value) ∙ c.in-Some.ensures.found in
     let within = inside f (o.shape s) x c.args.self c.args.i c.self.view_is c.requires in
     let found = found_in o place s log ps c.args.i e p c.in-Some.from q keeps within site value stands in
-    let tail = tail_of place f x c.deref-2.result.now c.args.i c.index.result.now e p c.deref-2.ensures.value within c.index.ensures c.item-item.ensures (c.from-p.ensures ∙ c.place.ensures) site in
+    let tail = tail_of place f x c.as_slice-all.result.now c.args.i c.index-all-i.result e p c.as_slice-all.ensures within at c.item-item.ensures (c.from-p.ensures ∙ c.place.ensures) site in
     let behind = ap length tail in
     let count = site.count in
     let all = count_seen place f (o.shape s) x c.args.self c.args.i c.self.view_is in
-    let lent = c.deref-2.result.now in
+    let lent = c.as_slice-all.result.now in
     let size : length (with_first place f (take (length lent - c.args.i) (drop c.args.i lent))) ≡ from_place place (entry_ops f c.args.self.1) c.args.i = omega arith in
     subst (λ k. removal_ticks c.in_ok-removed.removed k c.args.ticks.now c.take_out.new.ticks) size c.in_ok-removed.ensures.cost
 
@@ -230,13 +237,14 @@ returns-clause-bound g c =
     let keeps = c.self.invariant.keeps in
     let e = c.item-item.result in
     let p = c.from-p.result in
-    let site = site_seen place f (o.shape s) x c.args.self c.args.i c.index.result.now e p c.self.view_is c.requires c.index.ensures c.item-item.ensures (c.from-p.ensures ∙ c.place.ensures) in
+    let at : c.index-all-i.result ≡ get_or x c.args.i c.index-all-i.result = c.index-all-i.is ∙ ap (λ z. get_or z c.args.i c.index-all-i.result) c.as_slice-all.ensures in
+    let site = site_seen place f (o.shape s) x c.args.self c.args.i c.index-all-i.result e p c.self.view_is c.requires at c.item-item.ensures (c.from-p.ensures ∙ c.place.ensures) in
     let q = c.index_mut-place.result.now in
     let value = c.index_mut-place.ensures.value in
     let stands = ap (λ z. slice_get z c.in-Some.from) (sym c.deref.ensures.value) ∙ c.in-Some.ensures.found in
     let within = inside f (o.shape s) x c.args.self c.args.i c.self.view_is c.requires in
     let found = found_in o place s log ps c.args.i e p c.in-Some.from q keeps within site value stands in
-    let tail = tail_of place f x c.deref-2.result.now c.args.i c.index.result.now e p c.deref-2.ensures.value within c.index.ensures c.item-item.ensures (c.from-p.ensures ∙ c.place.ensures) site in
+    let tail = tail_of place f x c.as_slice-all.result.now c.args.i c.index-all-i.result e p c.as_slice-all.ensures within at c.item-item.ensures (c.from-p.ensures ∙ c.place.ensures) site in
     let behind = ap length tail in
     let count = site.count in
     let size = count_seen place f (o.shape s) x c.args.self c.args.i c.self.view_is in

@@ -2,7 +2,7 @@ use Rattle.std.proofs.Common.{◌≡◌, ◌<◌, ◌+◌, ◌-◌, ℕ, length,
 use Rattle.pp_log.specs.Room.{ids_of}
 use Rattle.pp_log.proofs.Leaves.{found_somewhere, index_now, left_first, left_last, left_next, now, now_log}
 use Rattle.pp_log.proofs.Leaves.{stands_now}
-use Rattle.pp_log.proofs.leave.take_all_back.Goals as goal
+use Rattle.pp_log.proofs.leave.take_each_back.Goals as goal
 
 pub loop-left-init : goal.loop-left-init
 loop-left-init g c = record {

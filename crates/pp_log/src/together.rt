@@ -1,0 +1,136 @@
+//! Items that leave a log together, a batch of one place after another.
+ghost use Rattle.std.specs.Prelude.{◌≡◌, ◌<◌, ◌≤◌, ◌+◌, OnOk, List, drop, length};
+ghost use Rattle.pp_core.specs.declared.entry.Item.{Item as ItemOf};
+ghost use Rattle.pp_log.specs.Batches.{AreOnOnePlace, CanForget, Forgets};
+ghost use Rattle.pp_log.specs.Leaves.{AllLeave, CanAllLeave};
+
+use crate::carry::gather;
+use crate::index::Index;
+use crate::leave::take_each_back;
+use crate::place::Place;
+use crate::run::unwind;
+use crate::take_out::position_in_place;
+use pp_core::{Item, OutOfMemory, Ticks};
+use pp_spec::Placed;
+use std::sync::ledger::Ledger;
+
+/// Where the last items that have one place begin.
+fn start_of_batch<S: Placed>(own: &[Item<S::Op>]) -> usize
+    requires { 0 < length own.now }
+    ensures within { result < length own.now }
+    ensures one_place { AreOnOnePlace S.place_of (drop result own.now) }
+{
+    let mut start = own.len() - 1;
+    let place = S::place(&own[start].op);
+    while start > 0 && S::place(&own[start - 1].op) == place {
+        start -= 1;
+    }
+    start
+}
+
+/// Forgets the ids of items, from the last to the first, in the index and among those of a place.
+fn forget_all<S: Placed>(batch: &[Item<S::Op>], ids: &mut Index, here: &mut Vec<u32>)
+    requires { (log items : List (ItemOf S.Op))
+        × CanForget S.object batch.now ids.old here.old.items log items }
+    ensures { Forgets S.object batch.now ids.old here.old.items ids.new here.new.items }
+{
+    let mut left = batch.len();
+    while left > 0 {
+        left -= 1;
+        let id = batch[left].id;
+        let Some(i) = ids.find(id) else {
+            unreachable!()
+        };
+        let Some(at) = position_in_place(here, ids, i, id) else {
+            unreachable!()
+        };
+        let _ = here.remove(at);
+        ids.remove(i, id);
+    }
+}
+
+/// Takes items of one place back, each of which lets the others behind it pass: they are carried
+/// behind these in one walk. What is kept is then of the others.
+fn take_batch_back<S: Placed, L: Ledger>(
+    batch: &[Item<S::Op>],
+    ids: &mut Index,
+    places: &mut Vec<Place<S::Undo>>,
+    state: &mut S::State,
+    ticks: &mut Ticks<L>,
+) -> Result<(), OutOfMemory>
+    requires some { 0 < length batch.now }
+    requires one_place { AreOnOnePlace S.place_of batch.now }
+    requires leave { CanAllLeave S.object S.place_of
+        state.old places.old.items ids.old batch.now }
+    ensures leaves { OnOk result (AllLeave S.object S.place_of batch.now
+        state.old places.old.items ids.old state.new places.new.items ids.new) }
+    ensures cost { OnOk result (ticks.new ≡ ticks.old + length batch.now) }
+    ensures rises { ticks.old ≤ ticks.new }
+    ensures bound { ticks.new ≤ ticks.old + length batch.now }
+{
+    let first = &batch[0];
+    let Some(i) = ids.find(first.id) else {
+        unreachable!()
+    };
+    let p = usize::from(S::place(&first.op));
+    let place = &mut places[p];
+    let Some(from) = position_in_place(&place.ids, ids, i, first.id) else {
+        unreachable!()
+    };
+    gather::<S>(batch, &place.ids, &mut place.undos, from);
+    let others = place.undos.len() - batch.len();
+    unwind::<S, L>(batch, &mut place.undos, others, state, ticks)?;
+    forget_all::<S>(batch, ids, &mut place.ids);
+    Ok(())
+}
+
+/// Takes items of one place back, each of which lets the others behind it pass. Where none of them
+/// keeps anything in turn with others, what takes each back is taken out where it stands.
+fn take_back_there<S: Placed, L: Ledger>(
+    batch: &[Item<S::Op>],
+    ids: &mut Index,
+    places: &mut Vec<Place<S::Undo>>,
+    state: &mut S::State,
+    ticks: &mut Ticks<L>,
+) -> Result<(), OutOfMemory>
+    requires some { 0 < length batch.now }
+    requires one_place { AreOnOnePlace S.place_of batch.now }
+    requires leave { CanAllLeave S.object S.place_of
+        state.old places.old.items ids.old batch.now }
+    ensures leaves { OnOk result (AllLeave S.object S.place_of batch.now
+        state.old places.old.items ids.old state.new places.new.items ids.new) }
+    ensures cost { OnOk result (ticks.new ≡ ticks.old + length batch.now) }
+    ensures rises { ticks.old ≤ ticks.new }
+    ensures bound { ticks.new ≤ ticks.old + length batch.now }
+{
+    if batch.iter().all(|item| S::keeps_alone(&item.op)) {
+        take_each_back::<S, L>(batch, ids, places, state, ticks)
+    } else {
+        take_batch_back::<S, L>(batch, ids, places, state, ticks)
+    }
+}
+
+/// Takes items back, the last ones that have one place together, and then those before them. Each
+/// lets the others behind it pass. What is kept is then of the others.
+pub fn take_all_back<S: Placed, L: Ledger>(
+    own: &[Item<S::Op>],
+    ids: &mut Index,
+    places: &mut Vec<Place<S::Undo>>,
+    state: &mut S::State,
+    ticks: &mut Ticks<L>,
+) -> Result<(), OutOfMemory>
+    requires { CanAllLeave S.object S.place_of state.old places.old.items ids.old own.now }
+    ensures leaves { OnOk result (AllLeave S.object S.place_of own.now
+        state.old places.old.items ids.old state.new places.new.items ids.new) }
+    ensures cost { OnOk result (ticks.new ≡ ticks.old + length own.now) }
+    ensures rises { ticks.old ≤ ticks.new }
+    ensures bound { ticks.new ≤ ticks.old + length own.now }
+{
+    let mut left = own.len();
+    while left > 0 {
+        let start = start_of_batch::<S>(&own[..left]);
+        take_back_there::<S, L>(&own[start..left], ids, places, state, ticks)?;
+        left = start;
+    }
+    Ok(())
+}
