@@ -13,7 +13,7 @@ use Rattle.pp_core.specs.declared.step.Rule.TheVariants as rules
 use Rattle.pp_json.specs.declared.header.Header.{Header}
 use Rattle.pp_json.specs.declared.start.Start.{Start as HeaderStart}
 use Rattle.pp_json.specs.Items.{IsReadableItem}
-use Rattle.pp_model.specs.Config.{Start, first}
+use Rattle.pp_model.specs.Config.{Start, first, start_of as start_with}
 use Rattle.pp_model.specs.Rules.{StartBreaks, StartMeets}
 use Rattle.pp_object.specs.declared.act.Op.{Op}
 use Rattle.pp_object.specs.Objects.{kinds_of, objects}
@@ -21,7 +21,6 @@ use Rattle.pp_rules.specs.Evidence.{Fits}
 use Rattle.pp_rules.specs.Machines.{Seen}
 use Rattle.pp_rules.specs.Shown.{HoldsAtNumber}
 use Rattle.pp_rules.specs.StartAnswers.{IsAskedItem, IsStartShown, Started, start_facts}
-use Rattle.pp_rules.specs.Starts.{start_of as start_with}
 use Rattle.pp_rules.specs.declared.detail.Detail.{Detail}
 use Rattle.pp_rules.specs.declared.machine.Outcome.{Outcome}
 use Rattle.pp_rules.specs.declared.machine.Outcome.TheVariants.{Done, False}

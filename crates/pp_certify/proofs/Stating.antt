@@ -24,10 +24,10 @@ use Rattle.pp_lines.specs.Statable.{CanStart, IfGiven, IsCatalog, IsId, IsOpOn, 
 use Rattle.pp_lines.specs.Statable.{IsStatableBody, IsStatableRecord}
 use Rattle.pp_lines.proofs.HeadersRead.{is_catalog, can_start}
 use Rattle.pp_lines.proofs.StepsRead.{is_statable}
+use Rattle.pp_model.specs.Config.{start_of as start_with}
 use Rattle.pp_model.specs.Lists.{Each}
 use Rattle.pp_object.specs.Objects.{kinds_of, place_of}
 use Rattle.pp_object.specs.declared.act.Op.{Op}
-use Rattle.pp_rules.specs.Starts.{start_of as start_with}
 use Rattle.pp_io.specs.Overruns.{scanned_lines}
 use Rattle.pp_reading.specs.declared.cause.Cause.{Cause}
 use Rattle.pp_reading.specs.declared.cause.Cause.TheVariants.{TooManyTransactions}

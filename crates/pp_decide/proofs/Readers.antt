@@ -23,7 +23,7 @@ use Rattle.pp_quick.specs.Sums.{AreTried}
 use Rattle.pp_quick.proofs.Briefs.{briefed}
 use Rattle.pp_quick.proofs.Deciding.{quick as boosted_law}
 use Rattle.pp_quick.proofs.Reading.{reader}
-use Rattle.pp_quick.proofs.Short.{apart_of}
+use Rattle.pp_quick.proofs.HeldOf.{apart_of}
 use Rattle.pp_spec.specs.Object.{rules_of}
 use Rattle.pp_certify.specs.Objects.{object_of, start_of, translation_of}
 use Rattle.pp_certify.specs.Scans.{InputScan}

@@ -16,11 +16,11 @@ use Rattle.pp_json.specs.declared.start.Start.{Start as HeaderStart}
 use Rattle.pp_json.specs.Items.{IsReadableItem}
 use Rattle.pp_json.specs.Records.{IsReadable}
 use Rattle.pp_json.specs.Rules.{IsReadableStep}
-use Rattle.pp_model.specs.Config.{Start}
+use Rattle.pp_model.specs.Config.{Start, start_of as start_with}
 use Rattle.pp_model.specs.Rules.{StartMeets}
 use Rattle.pp_object.specs.declared.act.Op.{Op}
 use Rattle.pp_object.specs.Objects.{kinds_of, objects, place_of}
-use Rattle.pp_quick.specs.Held.{Held, IsItemAsked, IsRecordAsked, IsStepAsked, Starts, held_first, start_of as start_with}
+use Rattle.pp_quick.specs.Held.{Held, IsItemAsked, IsRecordAsked, IsStepAsked, Starts, held_first}
 use Rattle.pp_spec.specs.Object.{rules_of}
 use Rattle.pp_certify.specs.Costs.{start_at_most}
 use Rattle.pp_certify.specs.Objects.{object_of, start_of}

@@ -40,6 +40,10 @@ pub record Start (Op : Type 0) : Type 0 where
   pub tx : Name
   pub items : List (Item Op)
 
+-- The start of this transaction with these items.
+abbrev pub start_of : {Op : Type 0} → Name → List (Item Op) → Start Op
+start_of tx items = record { tx = tx; items = items }
+
 abbrev pub item : {Op : Type 0} → LocalEntry Op → Item Op
 item e = record { id = e.id; op = e.op }
 

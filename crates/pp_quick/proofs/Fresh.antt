@@ -13,12 +13,12 @@ use Rattle.pp_model.proofs.Serial.{allowed_front, ordered, serial_law}
 use Rattle.pp_spec.specs.Object.{Object, AllRanged, IsAllowed, rules_of}
 use Rattle.pp_quick.specs.Boosted.{PlacesSwap}
 use Rattle.pp_quick.specs.Brief.{Brief, BriefTx, brief}
-use Rattle.pp_quick.specs.Shown.{AreThreads, Holds, IsFine, Kept, WasCommitted, at, filled, shown, shown_tx, threads_of}
+use Rattle.pp_quick.specs.Shown.{AreThreads, Holds, IsFine, Kept, WasCommitted, at, filled, held, shown, shown_tx, threads_of}
 use Rattle.pp_quick.specs.declared.parts.OpenTx.{OpenTx}
 use Rattle.pp_quick.proofs.Fitting.{in_ranged, ranged_in, serial_fits}
 use Rattle.pp_quick.proofs.Moving.{same_brief}
 use Rattle.pp_quick.proofs.Deciding.{quick}
-use Rattle.pp_quick.proofs.Short.{done_stands}
+use Rattle.pp_quick.proofs.HeldOf.{done_stands}
 
 module _ {Shape State Op Undo : Type 0} (o : Object Shape State Op Undo) (place : Op → ℕ) (apart : (shape : Shape) → PlacesSwap (rules_of o shape) place) where
   -- a Quick that keeps nothing
@@ -37,7 +37,7 @@ module _ {Shape State Op Undo : Type 0} (o : Object Shape State Op Undo) (place 
     pub fresh_holds : Holds o place v
     fresh_holds =
         record {
-          short = record { config = first None; boosted = (quick (rules_of o v.shape) place (apart v.shape)).start None refl; is = sym fresh_shown };
+          is_held = (first None, record { boosted = (quick (rules_of o v.shape) place (apart v.shape)).start None refl; is = sym fresh_shown });
           names = subst (λ (z : List (Name × Option (OpenTx (List (Item Op))))). (s t : Name) → Before s t (keys_of z) → s ≢ t) (sym slots) (λ s t b. absurd b);
           threads =
               subst (λ (z : List (BriefTx Op)). AreThreads v.threads.keys (threads_of z)) (sym opened_none)
@@ -56,19 +56,19 @@ module _ {Shape State Op Undo : Type 0} (o : Object Shape State Op Undo) (place 
   -- the committed transactions
   pub done_allowed : (v : Kept Shape Op) → Holds o place v → IsAllowed o v.shape (serial_ops v.committed)
   done_allowed v h =
-      let k = h.short in
-      subst (λ (b : Brief Op). IsAllowed o v.shape (serial_ops b.done)) k.is (serial_allowed v.shape k.config (k.boosted).sound)
+      let k = h.is_held in
+      subst (λ (b : Brief Op). IsAllowed o v.shape (serial_ops b.done)) k.1.is (serial_allowed v.shape k.0 k.1.boosted.sound)
 
   pub done_few : (v : Kept Shape Op) → Holds o place v → length (serial_ops v.committed) ≤ v.count + 256
   done_few v h =
-      let k = h.short in
-      let all : length (serial_ops k.config.done) ≤ length k.config.shared = serial_fits (rules_of o v.shape) k.config (k.boosted).sound in
-      let done : length (serial_ops k.config.done) ≡ length (serial_ops v.committed) = ap (λ (b : Brief Op). length (serial_ops b.done)) k.is in
-      let shared : length k.config.shared ≡ length v.shared.1 = ap (λ (b : Brief Op). length b.shared) k.is in
+      let k = h.is_held in
+      let all : length (serial_ops k.0.done) ≤ length k.0.shared = serial_fits (rules_of o v.shape) k.0 k.1.boosted.sound in
+      let done : length (serial_ops k.0.done) ≡ length (serial_ops v.committed) = ap (λ (b : Brief Op). length (serial_ops b.done)) k.1.is in
+      let shared : length k.0.shared ≡ length v.shared.1 = ap (λ (b : Brief Op). length b.shared) k.1.is in
       omega (arith, all, done, shared, h.few)
 
   pub done_ranged : (v : Kept Shape Op) → Holds o place v → AllRanged o (shared_ops v.shared.1) → AllRanged o (serial_ops v.committed)
   done_ranged v h r = in_ranged o (serial_ops v.committed) (λ a i.
       let m = from_map (λ (p : Item Op). p.op) a (serial_items v.committed) i in
-      let s = done_stands o place apart v.shape (shown place v) h.short m.0 m.1 in
+      let s = done_stands o place apart (held place v) h.is_held m.0 m.1 in
       subst (λ (z : Op). IsTrue (o.ranged z)) (sym m.2) (ranged_in o (shared_ops v.shared.1) r (m.0).op (in_map (λ (g : SharedEntry Op). g.op) (as_shared s.0 true m.0) v.shared.1 s.1)))

@@ -7,7 +7,7 @@ pub mod Threads
 pub mod Filled
 pub mod Looking
 pub mod Fitting
-pub mod Short
+pub mod HeldOf
 pub mod Unseen
 pub mod Moving
 pub mod Judging

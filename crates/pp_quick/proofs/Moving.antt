@@ -28,12 +28,12 @@ use Rattle.pp_quick.specs.Brief.{Brief, BriefTx, at_brief, brief_of, brief_then,
 use Rattle.pp_quick.specs.Moving.{IsGood, Moves}
 use Rattle.pp_quick.specs.Passing.{IsGrown, ids_at, items_at}
 use Rattle.pp_quick.specs.Runs.{IsBoosted}
-use Rattle.pp_quick.specs.Shown.{AreThreads, Holds, IsFine, IsShort, Kept, WasCommitted, at, calls_of, filled, in_slot, open_in, shown, shown_tx, threads_of, unseen}
+use Rattle.pp_quick.specs.Shown.{AreThreads, Holds, IsFine, Kept, WasCommitted, at, calls_of, filled, held, in_slot, open_in, shown, shown_tx, threads_of, unseen}
 use Rattle.pp_quick.specs.declared.parts.OpenTx.{OpenTx}
 use Rattle.pp_quick.proofs.Filled.{Apart, among, filled_more, filled_out, filled_set, found_is, in_set, keys_stay}
 use Rattle.pp_quick.proofs.Looking.{any_in, in_reverse, reverse_more}
 use Rattle.pp_quick.proofs.Relog.{map_id, map_map}
-use Rattle.pp_quick.proofs.Short.{advance, distinct, done_stands, is_owned, names_apart, own_stands, without_is}
+use Rattle.pp_quick.proofs.HeldOf.{advance, distinct, done_stands, is_owned, names_apart, own_stands, without_is}
 use Rattle.pp_quick.proofs.Threads.{apart_more, threads_less, threads_more}
 use Rattle.pp_quick.proofs.Unseen.{unseen_committed, unseen_fewer, unseen_grown, unseen_none, unseen_wider}
 
@@ -135,7 +135,7 @@ module _ {Shape State Op Undo : Type 0} (o : Object Shape State Op Undo) (place 
         shown = is;
         holds =
             record {
-              short = subst (λ (z : Shape). IsShort o place z (shown place w)) (sym shape) (subst (λ (z : Brief Op). IsShort o place v.shape z) (sym is) (advance o place apart v.shape B r h.short s g));
+              is_held = advance o place apart (held place v) h.is_held (held place w) r shape is s g;
               names = names;
               threads = subst (λ (z : Brief Op). AreThreads w.threads.keys (threads_of z.opened)) (sym is) threads;
               fine = fine;
@@ -161,7 +161,7 @@ module _ {Shape State Op Undo : Type 0} (o : Object Shape State Op Undo) (place 
   threads_gone : (t : Name) (x : OpenTx (List (Item Op))) (us : List Name) → open_in t es ≡ Some x → ((q : Name) → list_any (λ z. q =ⁿ z) us ≡ cond (x.thread =ⁿ q) false (list_any (λ z. q =ⁿ z) v.threads.keys)) →
       AreThreads us (threads_of (without_brief t B.opened))
   threads_gone t x us e u =
-      let a = among t B.opened (show t x) (names_apart o place apart v.shape B h.short) (open_there t x e) in
+      let a = among t B.opened (show t x) (names_apart o place apart (held place v) h.is_held) (open_there t x e) in
       let cut : threads_of B.opened ≡ threads_of a.before ++ x.thread ∷ threads_of a.after = ap (λ (l : List (BriefTx Op)). threads_of l) a.is ∙ map-append (λ (y : BriefTx Op). y.thread) a.before (show t x ∷ a.after) in
       subst (λ (l : List Name). AreThreads us l) (sym (ap (λ (l : List (BriefTx Op)). threads_of l) a.without ∙ map-append (λ (y : BriefTx Op). y.thread) a.before a.after))
       (threads_less v.threads.keys us (threads_of a.before) (threads_of a.after) x.thread (subst (λ (l : List Name). AreThreads v.threads.keys l) cut h.threads) u)
@@ -263,7 +263,7 @@ module _ {Shape State Op Undo : Type 0} (o : Object Shape State Op Undo) (place 
         ∙ ap (λ (z : List (Name × Option (OpenTx (List (Item Op))))). filled (shown_tx place more commits) z) slots
         ∙ filled_set t show (shown_tx place more commits) (named G commits) (grown place G id op) x y es h.names (slot_there t x found)
         (same_tx t y.thread x.thread y.walk.body x.walk.body y.own (x.own ++ p ∷ []) (unseen place more commits y.seen.entries) _ grows.thread grows.body grows.own
-        (unseen_wider place G commits y.seen.entries t p ∙ unseen_grown place G commits x.seen.entries y.seen.entries op (distinct o place apart v.shape B h.short) grows.seen))
+        (unseen_wider place G commits y.seen.entries t p ∙ unseen_grown place G commits x.seen.entries y.seen.entries op (distinct o place apart (held place v) h.is_held) grows.seen))
         (λ n z i q. same_tx n z.thread z.thread z.walk.body z.walk.body z.own z.own (unseen place more commits z.seen.entries) (unseen place G commits z.seen.entries) refl refl refl (unseen_wider place G commits z.seen.entries t p)))
         log_is
         committed
@@ -326,9 +326,9 @@ module _ {Shape State Op Undo : Type 0} (o : Object Shape State Op Undo) (place 
     other_missed n z i q =
         let f = h.fine n z i in
         same_tx n z.thread z.thread z.walk.body z.walk.body z.own z.own (unseen place (commit_all t G) w.commits.items z.seen.entries) _ refl refl refl
-        (unseen_committed place G commits w.commits.items z.seen.entries t z.own x.own (distinct o place apart v.shape B h.short)
-        (is_owned o place apart v.shape B h.short t (show t x) here) (own_stands o place apart v.shape B h.short t (show t x) here) f.sees f.within grow
-        (λ q id j. let k = h.commits q id j in let s = done_stands o place apart v.shape B h.short k.0 k.1 in (as_shared s.0 true k.0, s.1, refl, k.2)))
+        (unseen_committed place G commits w.commits.items z.seen.entries t z.own x.own (distinct o place apart (held place v) h.is_held)
+        (is_owned o place apart (held place v) h.is_held t (show t x) here) (own_stands o place apart (held place v) h.is_held t (show t x) here) f.sees f.within grow
+        (λ q id j. let k = h.commits q id j in let s = done_stands o place apart (held place v) h.is_held k.0 k.1 in (as_shared s.0 true k.0, s.1, refl, k.2)))
 
     committed_shown : shown place w ≡ brief_then place B (records.Commit t)
     committed_shown = same_brief _ _ _ _ _ _ _ _ _ _
@@ -370,7 +370,7 @@ module _ {Shape State Op Undo : Type 0} (o : Object Shape State Op Undo) (place 
   -- the entries of t leave the shared log
   module _ (t : Name) (x : OpenTx (List (Item Op))) (found : open_in t es ≡ Some x) (w : Kept Shape Op) (shared : w.shared ≡ (v.shared.0, without_items shared_item x.own G)) where
     left_is : w.shared.1 ≡ without_owner t G
-    left_is = ap (λ (z : Shape × List (SharedEntry Op)). z.1) shared ∙ without_is o place apart v.shape B h.short t (show t x) (open_there t x found)
+    left_is = ap (λ (z : Shape × List (SharedEntry Op)). z.1) shared ∙ without_is o place apart (held place v) h.is_held t (show t x) (open_there t x found)
 
     less : length w.shared.1 ≤ length G
     less = let e : length w.shared.1 ≡ length (without_owner t G) = ap (λ (z : List (SharedEntry Op)). length z) left_is in
@@ -378,7 +378,7 @@ module _ {Shape State Op Undo : Type 0} (o : Object Shape State Op Undo) (place 
 
     same_missed : (n : Name) (z : OpenTx (List (Item Op))) → shown_tx place (without_owner t G) commits n z ≡ show n z
     same_missed n z = same_tx n z.thread z.thread z.walk.body z.walk.body z.own z.own (unseen place (without_owner t G) commits z.seen.entries) (unseen place G commits z.seen.entries) refl refl refl
-        (unseen_fewer place G commits z.seen.entries t (λ a i e. ap (λ (c : SharedEntry Op). c.committed) (is_owned o place apart v.shape B h.short t (show t x) (open_there t x found) a i e).2))
+        (unseen_fewer place G commits z.seen.entries t (λ a i e. ap (λ (c : SharedEntry Op). c.committed) (is_owned o place apart (held place v) h.is_held t (show t x) (open_there t x found) a i e).2))
 
     -- an abort
     module _ (g : IsGood o place v (records.Abort t)) (slots : w.slots.entries ≡ set_value (λ n. t =ⁿ n) es None)

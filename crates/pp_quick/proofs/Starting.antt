@@ -12,7 +12,7 @@ use Rattle.pp_core.specs.declared.entry.Item.{Item}
 use Rattle.pp_core.specs.declared.entry.SharedEntry.{SharedEntry}
 use Rattle.pp_log.specs.Logs.{GoesBehind}
 use Rattle.pp_log.proofs.Lists.{cut_there}
-use Rattle.pp_model.specs.Config.{Start, as_shared, commit_all, first, shared_ops}
+use Rattle.pp_model.specs.Config.{Start, as_shared, commit_all, first, shared_ops, start_of}
 use Rattle.pp_model.specs.Lists.{Before, In}
 use Rattle.pp_model.specs.Names.{Name, ◌=ⁿ◌}
 use Rattle.pp_model.specs.Object.{HasDistinctIds, ops}
@@ -25,7 +25,7 @@ use Rattle.pp_shared.specs.Committing.{HoldsIdsOf}
 use Rattle.pp_spec.specs.Object.{Object, IsAllowed, rules_of}
 use Rattle.pp_quick.specs.Boosted.{PlacesSwap}
 use Rattle.pp_quick.specs.Brief.{Brief, BriefTx, brief}
-use Rattle.pp_quick.specs.Held.{IsItemAsked, start_of}
+use Rattle.pp_quick.specs.Held.{IsItemAsked}
 use Rattle.pp_quick.specs.Shown.{AreThreads, Holds, IsFine, Kept, at, filled, shown, shown_tx, threads_of}
 use Rattle.pp_quick.specs.Starting.{PutsStart, IsNew, StartAnswers, posted}
 use Rattle.pp_quick.specs.declared.parts.OpenTx.{OpenTx}
@@ -205,11 +205,13 @@ module _ {Shape State Op Undo : Type 0} (o : Object Shape State Op Undo) (place 
           shown = started_shown;
           holds =
               record {
-                short = record {
-                  config = first (Some z);
-                  boosted = (quick (rules_of o w.shape) place (apart w.shape)).start (Some z) (subst (λ (s : Shape). StartMeets (rules_of o s) (Some z)) (sym shape) meets);
-                  is = sym started_shown;
-                };
+                is_held = (
+                  first (Some z),
+                  record {
+                    boosted = (quick (rules_of o w.shape) place (apart w.shape)).start (Some z) (subst (λ (s : Shape). StartMeets (rules_of o s) (Some z)) (sym shape) meets);
+                    is = sym started_shown;
+                  },
+                );
                 names = subst (λ (l : List (Name × Option (OpenTx (List (Item Op))))). (s r : Name) → Before s r (keys_of l) → s ≢ r) (sym slots_are) only_one;
                 threads =
                     subst (λ (l : List (BriefTx Op)). AreThreads w.threads.keys (threads_of l)) (sym opened_are)

@@ -44,10 +44,6 @@ abbrev pub IsItemAsked : {Shape State Op Undo : Type 0} → Object Shape State O
     Item Op → Type 0
 IsItemAsked o shape p = IsOpAsked o shape p.op
 
--- The start of this transaction with these items.
-abbrev pub start_of : {Op : Type 0} → Name → List (Item Op) → Start Op
-start_of tx items = record { tx = tx; items = items }
-
 -- What a record asks.
 abbrev pub IsRecordAsked : {Shape State Op Undo : Type 0} → Object Shape State Op Undo → Shape →
     RunRecord Op → Type 0

@@ -13,9 +13,9 @@ use Rattle.pp_model.specs.Lists.{Before, In}
 use Rattle.pp_model.specs.Names.{Name, ◌=ⁿ◌}
 use Rattle.pp_model.specs.Serial.{has_id}
 use Rattle.pp_model.specs.Sound.{serial_items}
-use Rattle.pp_spec.specs.Object.{Object, rules_of}
-use Rattle.pp_quick.specs.Boosted.{Boosted}
-use Rattle.pp_quick.specs.Brief.{Brief, BriefTx, brief, shared_ids, touches}
+use Rattle.pp_spec.specs.Object.{Object}
+use Rattle.pp_quick.specs.Brief.{Brief, BriefTx, shared_ids, touches}
+use Rattle.pp_quick.specs.Held.{Held, IsHeldOf}
 use Rattle.pp_quick.specs.declared.parts.OpenTx.{OpenTx}
 use Rattle.pp_quick.specs.declared.parts.Parts.{Parts}
 
@@ -90,6 +90,10 @@ shown place v =
       done = v.committed;
     }
 
+-- the Quick that it is
+abbrev pub held : {Shape Op : Type 0} → (Op → ℕ) → Kept Shape Op → Held Shape Op
+held place v = record { shape = v.shape; brief = shown place v; count = v.count }
+
 abbrev pub threads_of : {Op : Type 0} → List (BriefTx Op) → List Name
 threads_of opened = map (λ x. x.thread) opened
 
@@ -109,12 +113,6 @@ pub record AreThreads (threads busy : List Name) : Type 0 where
   pub are : (p : Name) → list_any (λ q. p =ⁿ q) threads ≡ list_any (λ q. q =ⁿ p) busy
 
 module _ {Shape State Op Undo : Type 0} (o : Object Shape State Op Undo) (place : Op → ℕ) where
-  -- It is the brief of a boosted configuration.
-  pub record IsShort (shape : Shape) (B : Brief Op) : Type 0 where
-    pub config : Config Op
-    pub boosted : Boosted (rules_of o shape) place config
-    pub is : brief place config ≡ B
-
   -- What is kept of an open transaction: its walk has taken its own calls, and what it has seen is
   -- told of the places of its own operations, and of no others.
   pub record IsFine (commits : List (List ℕ)) (x : OpenTx (List (Item Op))) : Type 0 where
@@ -125,7 +123,7 @@ module _ {Shape State Op Undo : Type 0} (o : Object Shape State Op Undo) (place 
 
   -- What a Quick keeps.
   pub record Holds (v : Kept Shape Op) : Type 0 where
-    pub short : IsShort v.shape (shown place v)
+    pub is_held : (c : Config Op) × IsHeldOf o place (held place v) c
     pub names : (s t : Name) → Before s t (keys_of v.slots.entries) → s ≢ t
     pub threads : AreThreads v.threads.keys (threads_of (shown place v).opened)
     pub fine : (n : Name) (x : OpenTx (List (Item Op))) → In (n, Some x) v.slots.entries →

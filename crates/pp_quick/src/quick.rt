@@ -2,11 +2,11 @@
 ghost use Rattle.std.specs.Prelude.{◌≡◌, ◌+◌, ◌≤◌, ◌<◌, IfOk, IsTrue, None, length};
 ghost use Rattle.std.specs.List.{All};
 ghost use Rattle.pp_front.specs.Records.{record_meaning};
-ghost use Rattle.pp_model.specs.Config.{Config};
+ghost use Rattle.pp_model.specs.Config.{Config, start_of};
 ghost use Rattle.pp_model.specs.Object.{HasDistinctIds};
 ghost use Rattle.pp_model.specs.Sound.{serial_ops};
 ghost use Rattle.pp_quick.specs.Held.{IsItemAsked, IsRecordAsked, Starts, TakeCosts, Takes};
-ghost use Rattle.pp_quick.specs.Held.{IsHeldOf, held_first, start_of, take_most};
+ghost use Rattle.pp_quick.specs.Held.{IsHeldOf, held_first, take_most};
 ghost use Rattle.pp_quick.specs.Runs.{IsBoosted};
 ghost use Rattle.pp_spec.specs.Object.{AllRanged, IsAllowed};
 
@@ -36,18 +36,14 @@ pub struct Quick<S: Parted> {
 impl<S: Parted> Model for Quick<S> {
     ghost use Rattle.pp_core.specs.TreeCodes.{tree_code};
     ghost use Rattle.pp_quick.specs.Held.{Held};
-    ghost use Rattle.pp_quick.specs.Shown.{Holds, shown};
+    ghost use Rattle.pp_quick.specs.Shown.{Holds, held};
     ghost use Rattle.std.specs.Coded.{codes};
 
     ghost Value = { Held S.Shape S.Op };
 
     ghost coded = { Prim.hlevel (codes, tree_code, S.Shape.code, S.Op.code) };
 
-    ghost view = { λ a. record {
-      shape = a.parts.value.shape;
-      brief = shown S.place_of a.parts.value;
-      count = a.parts.value.count;
-    } };
+    ghost view = { λ a. held S.place_of a.parts.value };
 
     ghost invariant = { λ a. Holds S.object S.place_of a.parts.value };
 }

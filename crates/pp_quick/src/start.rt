@@ -2,9 +2,10 @@
 ghost use Rattle.std.specs.Prelude.{◌≡◌, ◌≤◌, ◌+◌, length, map, reverse, IfOk, OnOk};
 ghost use Rattle.std.specs.Prelude.{IfNone, IfSome, Some, IsTrue};
 ghost use Rattle.std.specs.List.{All};
+ghost use Rattle.pp_model.specs.Config.{start_of};
 ghost use Rattle.pp_model.specs.Object.{HasDistinctIds};
 ghost use Rattle.pp_model.specs.Rules.{StartMeets};
-ghost use Rattle.pp_quick.specs.Held.{IsItemAsked, start_of};
+ghost use Rattle.pp_quick.specs.Held.{IsItemAsked};
 ghost use Rattle.pp_quick.specs.Shown.{Holds};
 ghost use Rattle.pp_quick.specs.Starting.{IsNew, Posts, PutsStart, StartAnswers, posted};
 ghost use Rattle.pp_spec.specs.Object.{rules_of};

@@ -3,15 +3,10 @@ use Rattle.std.specs.Prelude.{◌==◌, ℕ, Bool, cond, List, [], ◌∷◌, �
 use Rattle.std.specs.List.{list_any}
 use Rattle.pp_core.specs.declared.entry.Item.{Item}
 use Rattle.pp_model.specs.Config.{Start}
-use Rattle.pp_model.specs.Names.{Name}
 use Rattle.pp_spec.specs.Object.{Object}
 use Rattle.pp_rules.specs.Evidence.{at_number, first_differing}
 use Rattle.pp_rules.specs.declared.detail.Detail.{Detail}
 use Rattle.pp_rules.specs.declared.detail.Detail.TheVariants.{Nothing, Entry}
-
--- The start of this transaction with these items.
-abbrev pub start_of : {Op : Type 0} → Name → List (Item Op) → Start Op
-start_of tx items = record { tx = tx; items = items }
 
 -- one of the items has this id
 abbrev pub has_id : {Op : Type 0} → ℕ → List (Item Op) → Bool

@@ -2,13 +2,13 @@
 ghost use Rattle.std.specs.Prelude.{◌≡◌, ◌≤◌, ◌+◌, [], length, map, reverse, IfOk, OnOk, None};
 ghost use Rattle.std.specs.Prelude.{Some};
 ghost use Rattle.std.specs.List.{All};
-ghost use Rattle.pp_model.specs.Config.{first};
+ghost use Rattle.pp_model.specs.Config.{first, start_of};
 ghost use Rattle.pp_model.specs.Object.{HasDistinctIds};
 ghost use Rattle.pp_model.specs.Rules.{StartMeets};
 ghost use Rattle.pp_spec.specs.Object.{rules_of};
 ghost use Rattle.pp_rules.specs.Starting.{JudgesStart, Posts, entry_told, posted};
 ghost use Rattle.pp_rules.specs.StartAnswers.{IsAskedItem, IsStartShown, Started};
-ghost use Rattle.pp_rules.specs.Starts.{first_repeated, has_id, start_of};
+ghost use Rattle.pp_rules.specs.Starts.{first_repeated, has_id};
 
 use crate::detail::{Detail, Judged, told};
 use crate::machine::{Machine, Outcome, refused};

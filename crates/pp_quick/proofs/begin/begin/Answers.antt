@@ -5,7 +5,7 @@ use Rattle.pp_front.specs.Records.{Plain}
 use Rattle.pp_quick.specs.Moving.{IsGood}
 use Rattle.pp_quick.proofs.Judging.{begun_name, busy_thread, fresh_name, idle_thread}
 use Rattle.pp_quick.proofs.Moving.{begun_moves}
-use Rattle.pp_quick.proofs.Short.{apart_of}
+use Rattle.pp_quick.proofs.HeldOf.{apart_of}
 use Rattle.pp_quick.proofs.begin.begin.Goals as goal
 
 pub returns-then-contains_key : goal.returns-then-contains_key

@@ -5,13 +5,13 @@ use Rattle.pp_model.specs.Body.{IsWord}
 use Rattle.pp_model.specs.Rules.{calls}
 use Rattle.pp_shared.specs.Committing.{HoldsIdsOf}
 use Rattle.pp_quick.specs.Passing.{ids_at}
-use Rattle.pp_quick.specs.Shown.{at, in_slot, shown, shown_tx}
+use Rattle.pp_quick.specs.Shown.{at, held, in_slot, shown_tx}
 use Rattle.pp_spec.specs.Object.{rules_of}
 use Rattle.pp_quick.proofs.Filled.{slot_at}
 use Rattle.pp_quick.proofs.Judging.{not_open}
 use Rattle.pp_quick.proofs.Looking.{set_at}
 use Rattle.pp_quick.proofs.Moving.{committed_moves, open_there}
-use Rattle.pp_quick.proofs.Short.{apart_of, holds_ids}
+use Rattle.pp_quick.proofs.HeldOf.{apart_of, holds_ids}
 use Rattle.pp_quick.proofs.commit.commit.Goals as goal
 
 pub unreachable-requires : goal.unreachable-requires
@@ -35,7 +35,7 @@ commit-requires g c =
     let apart = apart_of g.S.Spec.object g.S.Placed.place_of g.S.Placed.SameAt g.met.S.Placed.placed in
     let there = slot_at c.args.tx.now c.args.parts.now.slots.entries c.args.position c.requires.position in
     subst (λ l. HoldsIdsOf c.args.tx.now l c.args.parts.now.shared.1) (sym c.into_items-own.ensures)
-    (holds_ids g.S.Spec.object g.S.Placed.place_of apart c.args.parts.now.shape (shown g.S.Placed.place_of c.args.parts.now) c.requires.holds.short c.args.tx.now
+    (holds_ids g.S.Spec.object g.S.Placed.place_of apart (held g.S.Placed.place_of c.args.parts.now) c.requires.holds.is_held c.args.tx.now
     (shown_tx g.S.Placed.place_of c.args.parts.now.shared.1 c.args.parts.now.commits.items c.args.tx.now c.in-Some-take.it)
     (open_there g.S.Spec.object g.S.Placed.place_of apart c.args.parts.now c.requires.holds c.args.tx.now c.in-Some-take.it (there ∙ sym (ap in_slot c.in-Some.ensures.value) ∙ sym c.in-Some-take.ensures.value)))
 

@@ -1,5 +1,5 @@
 use Rattle.pp_quick.proofs.Reading.{reader}
-use Rattle.pp_quick.proofs.Short.{apart_of}
+use Rattle.pp_quick.proofs.HeldOf.{apart_of}
 use Rattle.pp_quick.proofs.laws.reader_law.Goals as goal
 
 pub returns : goal.returns

@@ -1,7 +1,7 @@
 use Rattle.std.proofs.Common.{◌∙◌, subst, sym}
 use Rattle.pp_body.specs.Walks.{TellsBegins}
 use Rattle.pp_quick.proofs.Judging.{blocked, good, illegal, own_ids, stopped, unbegun, used}
-use Rattle.pp_quick.proofs.Short.{apart_of}
+use Rattle.pp_quick.proofs.HeldOf.{apart_of}
 use Rattle.pp_quick.proofs.op.may_do.Goals as goal
 
 pub returns-then-contains-clause-no : goal.returns-then-contains-clause-no

@@ -7,7 +7,7 @@ use Rattle.pp_quick.proofs.Filled.{slot_at}
 use Rattle.pp_quick.proofs.Judging.{is_new, may_take, not_open, unused}
 use Rattle.pp_quick.proofs.Looking.{set_at}
 use Rattle.pp_quick.proofs.Moving.{grown_moves}
-use Rattle.pp_quick.proofs.Short.{apart_of}
+use Rattle.pp_quick.proofs.HeldOf.{apart_of}
 use Rattle.pp_quick.proofs.op.push.Goals as goal
 
 pub unreachable-requires : goal.unreachable-requires

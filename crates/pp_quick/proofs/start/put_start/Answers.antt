@@ -1,7 +1,7 @@
 use Rattle.std.proofs.Common.{◌++◌, ◌∷◌, ◌∙◌, [], ap, refl, subst, sym}
 use Rattle.pp_model.specs.Config.{commit_all}
 use Rattle.pp_shared.specs.Committing.{HoldsIdsOf}
-use Rattle.pp_quick.proofs.Short.{apart_of}
+use Rattle.pp_quick.proofs.HeldOf.{apart_of}
 use Rattle.pp_quick.proofs.Starting.{ids_posted, not_begun, started}
 use Rattle.pp_quick.proofs.start.put_start.Goals as goal
 

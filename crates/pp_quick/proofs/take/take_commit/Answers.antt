@@ -4,7 +4,7 @@ use Rattle.pp_model.specs.Rules.{calls}
 use Rattle.pp_spec.specs.Object.{rules_of}
 use Rattle.pp_quick.proofs.Judging.{it_is, not_open, of_it, word_is}
 use Rattle.pp_quick.proofs.Looking.{decided, decided_not}
-use Rattle.pp_quick.proofs.Short.{apart_of}
+use Rattle.pp_quick.proofs.HeldOf.{apart_of}
 use Rattle.pp_quick.proofs.take.take_commit.Goals as goal
 
 pub returns-in_default : goal.returns-in_default

@@ -3,7 +3,7 @@ use Rattle.pp_quick.specs.Brief.{BriefGoodOp}
 use Rattle.pp_quick.specs.Shown.{shown}
 use Rattle.pp_spec.specs.Object.{rules_of}
 use Rattle.pp_quick.proofs.Judging.{not_open}
-use Rattle.pp_quick.proofs.Short.{apart_of}
+use Rattle.pp_quick.proofs.HeldOf.{apart_of}
 use Rattle.pp_quick.proofs.take.take_op.Goals as goal
 
 pub returns-in_default-clause-answers : goal.returns-in_default-clause-answers

@@ -4,10 +4,10 @@ use Rattle.std.specs.Str.{bytes_eq}
 use Rattle.pp_model.specs.Config.{shared_item}
 use Rattle.pp_log.specs.Leaving.{MayLeave, without_items}
 use Rattle.pp_quick.specs.Brief.{own_list}
-use Rattle.pp_quick.specs.Shown.{Kept, shown, shown_tx}
+use Rattle.pp_quick.specs.Shown.{Kept, held, shown_tx}
 use Rattle.pp_quick.proofs.Judging.{it_is, not_open, slot_stays, some_there}
 use Rattle.pp_quick.proofs.Moving.{fine_of, open_there, retried_moves}
-use Rattle.pp_quick.proofs.Short.{apart_of, may_leave}
+use Rattle.pp_quick.proofs.HeldOf.{apart_of, may_leave}
 use Rattle.pp_quick.proofs.undo.retry.Goals as goal
 
 pub returns-in_default-clause-answers : goal.returns-in_default-clause-answers
@@ -22,7 +22,7 @@ pub take_back-requires : goal.take_back-requires
 take_back-requires g c =
     let apart = apart_of g.S.Spec.object g.S.Placed.place_of g.S.Placed.SameAt g.met.S.Placed.placed in
     subst (λ l. MayLeave g.S.Spec.object l (map shared_item c.args.parts.shared.1)) (sym c.as_slice.ensures)
-    (may_leave g.S.Spec.object g.S.Placed.place_of apart c.args.parts.shape (shown g.S.Placed.place_of c.args.parts) c.requires.holds.short c.args.tx.now
+    (may_leave g.S.Spec.object g.S.Placed.place_of apart (held g.S.Placed.place_of c.args.parts) c.requires.holds.is_held c.args.tx.now
     (shown_tx g.S.Placed.place_of c.args.parts.shared.1 c.args.parts.commits.items c.args.tx.now c.in-Some.it)
     (open_there g.S.Spec.object g.S.Placed.place_of apart c.args.parts c.requires.holds c.args.tx.now c.in-Some.it (sym c.in-Some.ensures.found)) g.met.S.Spec.lawful)
 

@@ -3,7 +3,7 @@ use Rattle.pp_model.specs.Config.{shared_ops}
 use Rattle.pp_model.specs.Sound.{serial_ops}
 use Rattle.pp_spec.specs.Object.{AllRanged, IsAllowed}
 use Rattle.pp_quick.proofs.Fresh.{done_allowed, done_few, done_ranged}
-use Rattle.pp_quick.proofs.Short.{apart_of}
+use Rattle.pp_quick.proofs.HeldOf.{apart_of}
 use Rattle.pp_quick.proofs.quick.Quick.committed.Goals as goal
 
 pub returns-clause-allowed : goal.returns-clause-allowed

@@ -5,6 +5,4 @@ use Rattle.pp_quick.proofs.quick.Quick.count.Goals as goal
 
 pub returns-clause-boosted : goal.returns-clause-boosted
 returns-clause-boosted g c =
-    let short = c.self.invariant.short in
-    subst (λ v. (x : Config _) × IsHeldOf g.S.Spec.object g.S.Placed.place_of v x) c.self.view_is
-    (short.config, record { boosted = short.boosted; is = short.is })
+    subst (λ v. (x : Config _) × IsHeldOf g.S.Spec.object g.S.Placed.place_of v x) c.self.view_is c.self.invariant.is_held

@@ -1,7 +1,7 @@
 use Rattle.std.proofs.Common.{◌∙◌, ap, refl, subst, sym}
-use Rattle.pp_quick.specs.Shown.{Holds, Kept, shown}
+use Rattle.pp_quick.specs.Shown.{Holds, Kept, held}
 use Rattle.pp_quick.proofs.Fresh.{fresh_holds, fresh_shown}
-use Rattle.pp_quick.proofs.Short.{apart_of}
+use Rattle.pp_quick.proofs.HeldOf.{apart_of}
 use Rattle.pp_quick.proofs.Taking.{same_held}
 use Rattle.pp_quick.proofs.quick.Quick.new.Goals as goal
 
@@ -25,5 +25,5 @@ returns g c =
       commits = c.new-6.result;
       count = 0;
     } in
-    ap (λ z. record { shape = z.shape; brief = shown g.S.Placed.place_of z; count = z.count }) c.in_ok-parts.ensures.ok
+    ap (held g.S.Placed.place_of) c.in_ok-parts.ensures.ok
     ∙ same_held _ _ _ _ _ _ refl (fresh_shown g.S.Spec.object g.S.Placed.place_of apart v c.new-2.ensures.empty c.new-3.ensures.empty c.new-4.ensures c.in_ok-shared.ensures c.new-5.ensures c.new-6.ensures.items) refl

@@ -1,7 +1,8 @@
 use Rattle.std.proofs.Common.{◌≡◌, ◌+◌, IfOk, OnOk, [], ap, length, subst, ◌∙◌}
 use Rattle.std.proofs.lemmas.Result.{IfOk-weaker}
 use Rattle.pp_rules.specs.Starting.{JudgesStart}
-use Rattle.pp_rules.specs.Starts.{first_repeated, start_of}
+use Rattle.pp_model.specs.Config.{start_of}
+use Rattle.pp_rules.specs.Starts.{first_repeated}
 use Rattle.pp_rules.proofs.Starting.{judged, repeated_refused, told_distinct}
 use Rattle.pp_rules.proofs.Lent.{lent_view}
 use Rattle.pp_rules.proofs.machine.Machine.judge_start.Goals as goal

@@ -1,8 +1,8 @@
 use Rattle.std.proofs.Common.{◌≡◌, ◌+◌, OnOk, Some, length, subst, sym, ◌∙◌}
+use Rattle.pp_model.specs.Config.{start_of}
 use Rattle.pp_model.specs.Rules.{StartMeets}
 use Rattle.pp_spec.specs.Object.{rules_of}
 use Rattle.pp_rules.specs.Starting.{JudgesStart, posted}
-use Rattle.pp_rules.specs.Starts.{start_of}
 use Rattle.pp_rules.specs.declared.machine.Outcome.TheVariants.{Done, False}
 use Rattle.pp_rules.proofs.Starting.{refused_start, start_shown}
 use Rattle.pp_rules.proofs.machine.Machine.start.Goals as goal

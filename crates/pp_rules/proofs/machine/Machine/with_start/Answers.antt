@@ -1,6 +1,5 @@
 use Rattle.std.proofs.Common.{[], ◌∷◌, ◌++◌, ap, ◌∙◌, subst, sym}
-use Rattle.pp_model.specs.Config.{commit_all}
-use Rattle.pp_rules.specs.Starts.{start_of}
+use Rattle.pp_model.specs.Config.{commit_all, start_of}
 use Rattle.pp_shared.specs.Committing.{HoldsIdsOf}
 use Rattle.pp_rules.proofs.Lent.{lent_view}
 use Rattle.pp_rules.proofs.Started.{holds_started, ids_posted, not_begun, seen_started}

@@ -23,8 +23,8 @@ use Rattle.pp_front.specs.Fronts.{new_front}
 use Rattle.pp_front.specs.Records.{RunRecord}
 use Rattle.pp_quick.specs.Boosted.{Boosted, PlacesSwap}
 use Rattle.pp_quick.specs.Brief.{Brief, BriefGood, BriefTx, brief_of, brief_then, brief_tx, without_owner}
+use Rattle.pp_quick.specs.Held.{Held, IsHeldOf}
 use Rattle.pp_quick.specs.Runs.{IsBoosted}
-use Rattle.pp_quick.specs.Shown.{IsShort}
 use Rattle.pp_quick.proofs.Briefs.{brief_of_is, briefed, differ, has_in, in_has, to_brief}
 use Rattle.pp_quick.proofs.Fitting.{fits_in, swaps_everywhere}
 use Rattle.pp_quick.proofs.Leave.{moved, own_before}
@@ -43,18 +43,6 @@ found_of place c t y None e h = absurd (cc)
 found_of place c t y (Some x) e h = (x, e, (let z : Some (brief_tx place c.shared x) ≡ Some y = h in cc))
 
 module _ {Shape State Op Undo : Type 0} (o : Object Shape State Op Undo) (place : Op → ℕ) (apart : (shape : Shape) → PlacesSwap (rules_of o shape) place) (shape : Shape) where
-  -- a good record leads to the brief of another
-  pub advance : (B : Brief Op) (r : RunRecord Op) → IsShort o place shape B → IsBoosted r → BriefGood (rules_of o shape) place B r → IsShort o place shape (brief_then place B r)
-  advance B r k s h =
-      let O = rules_of o shape in
-      let w = briefed O place (apart shape) in
-      let g = (w.good k.config r s k.boosted).1 (subst (λ (b : Brief Op). BriefGood O place b r) (sym k.is) h) in
-      record {
-        config = after_from k.config (expand place styles.Boosted (new_front []) k.config r);
-        boosted = (quick O place (apart shape)).kept (new_front []) k.config r s k.boosted g;
-        is = w.step (new_front []) k.config r s k.boosted g ∙ ap (λ (b : Brief Op). brief_then place b r) k.is;
-      }
-
   module _ (c : Config Op) (b : Boosted (rules_of o shape) place c) where
     c_new : (id : ℕ) → (In id c.ids → ⊥) → (g : SharedEntry Op) → In g c.shared → g.id ≡ id → ⊥
     c_new id n g i e = n (subst (λ (j : ℕ). In j c.ids) e (shared_used (rules_of o shape) c b.sound g i))
@@ -131,51 +119,66 @@ module _ {Shape State Op Undo : Type 0} (o : Object Shape State Op Undo) (place 
             | inr r ↦ absurd (differ (g.owner =ⁿ t) h r.0)
           ])))
 
-  -- the same of a brief
-  module _ (B : Brief Op) (k : IsShort o place shape B) where
-    pub new_id : (id : ℕ) → (In id B.ids → ⊥) → (g : SharedEntry Op) → In g B.shared → g.id ≡ id → ⊥
-    new_id = subst (λ (w : Brief Op). (id : ℕ) → (In id w.ids → ⊥) → (g : SharedEntry Op) → In g w.shared → g.id ≡ id → ⊥) k.is (c_new k.config k.boosted)
+-- the same of the brief of a boosted configuration
+module _ {Shape State Op Undo : Type 0} (o : Object Shape State Op Undo) (place : Op → ℕ) (apart : (shape : Shape) → PlacesSwap (rules_of o shape) place) (v : Held Shape Op) (k : (c : Config Op) × IsHeldOf o place v c) where
+  -- a good record leads to the brief of another
+  pub advance : (w : Held Shape Op) (r : RunRecord Op) → w.shape ≡ v.shape → w.brief ≡ brief_then place v.brief r → IsBoosted r → BriefGood (rules_of o v.shape) place v.brief r
+      → (c : Config Op) × IsHeldOf o place w c
+  advance w r shape next s h =
+      let O = rules_of o v.shape in
+      let b = briefed O place (apart v.shape) in
+      let g = (b.good k.0 r s k.1.boosted).1 (subst (λ (B : Brief Op). BriefGood O place B r) (sym k.1.is) h) in
+      let c = after_from k.0 (expand place styles.Boosted (new_front []) k.0 r) in (
+        c,
+        record {
+          boosted = subst (λ (z : Shape). Boosted (rules_of o z) place c) (sym shape) ((quick O place (apart v.shape)).kept (new_front []) k.0 r s k.1.boosted g);
+          is = b.step (new_front []) k.0 r s k.1.boosted g ∙ ap (λ (B : Brief Op). brief_then place B r) k.1.is ∙ sym next;
+        },
+      )
 
-    pub distinct : (g h : SharedEntry Op) → Before g h B.shared → g.id ≡ h.id → ⊥
-    distinct = subst (λ (w : Brief Op). (g h : SharedEntry Op) → Before g h w.shared → g.id ≡ h.id → ⊥) k.is (k.boosted).sound.shared_ids
+  pub new_id : (id : ℕ) → (In id v.brief.ids → ⊥) → (g : SharedEntry Op) → In g v.brief.shared → g.id ≡ id → ⊥
+  new_id = subst (λ (w : Brief Op). (id : ℕ) → (In id w.ids → ⊥) → (g : SharedEntry Op) → In g w.shared → g.id ≡ id → ⊥) k.1.is (c_new o place apart v.shape k.0 k.1.boosted)
 
-    pub done_stands : (p : Item Op) → In p (serial_items B.done) → (n : Name) × In (as_shared n true p) B.shared
-    done_stands = subst (λ (w : Brief Op). (p : Item Op) → In p (serial_items w.done) → (n : Name) × In (as_shared n true p) w.shared) k.is (c_done k.config k.boosted)
+  pub distinct : (g h : SharedEntry Op) → Before g h v.brief.shared → g.id ≡ h.id → ⊥
+  distinct = subst (λ (w : Brief Op). (g h : SharedEntry Op) → Before g h w.shared → g.id ≡ h.id → ⊥) k.1.is k.1.boosted.sound.shared_ids
 
-    pub fits : IsLawful o → (g : SharedEntry Op) → In g B.shared → IsTrue (o.fits shape g.op)
-    fits laws = subst (λ (w : Brief Op). (g : SharedEntry Op) → In g w.shared → IsTrue (o.fits shape g.op)) k.is
-        (fit k.config k.boosted laws)
+  pub done_stands : (p : Item Op) → In p (serial_items v.brief.done) → (n : Name) × In (as_shared n true p) v.brief.shared
+  done_stands = subst (λ (w : Brief Op). (p : Item Op) → In p (serial_items w.done) → (n : Name) × In (as_shared n true p) w.shared) k.1.is (c_done o place apart v.shape k.0 k.1.boosted)
 
-    pub names_apart : (y z : BriefTx Op) → Before y z B.opened → y.name ≢ z.name
-    names_apart = subst (λ (w : Brief Op). (y z : BriefTx Op) → Before y z w.opened → y.name ≢ z.name) k.is (λ y z i.
-        let m = before_from_map (brief_tx place (k.config).shared) y z (k.config).opened i in
-        λ e. (k.boosted).sound.open_names m.0 m.1 m.2 (ap (λ (w : BriefTx Op). w.name) (sym m.3) ∙ e ∙ ap (λ (w : BriefTx Op). w.name) m.4))
+  pub fits : IsLawful o → (g : SharedEntry Op) → In g v.brief.shared → IsTrue (o.fits v.shape g.op)
+  fits laws = subst (λ (w : Brief Op). (g : SharedEntry Op) → In g w.shared → IsTrue (o.fits v.shape g.op)) k.1.is
+      (fit o place apart v.shape k.0 k.1.boosted laws)
 
-    module _ (t : Name) (y : BriefTx Op) (found : brief_of t B.opened ≡ Some y) where
-      there : (x : Tx Op) × (tx t (k.config).opened ≡ Some x) × (brief_tx place (k.config).shared x ≡ y)
-      there = found_of place k.config t y (tx t (k.config).opened) refl
-          (sym (brief_of_is place (k.config).shared t (k.config).opened) ∙ ap (λ (w : Brief Op). brief_of t w.opened) k.is ∙ found)
+  pub names_apart : (y z : BriefTx Op) → Before y z v.brief.opened → y.name ≢ z.name
+  names_apart = subst (λ (w : Brief Op). (y z : BriefTx Op) → Before y z w.opened → y.name ≢ z.name) k.1.is (λ y z i.
+      let m = before_from_map (brief_tx place k.0.shared) y z k.0.opened i in
+      λ e. k.1.boosted.sound.open_names m.0 m.1 m.2 (ap (λ (w : BriefTx Op). w.name) (sym m.3) ∙ e ∙ ap (λ (w : BriefTx Op). w.name) m.4))
 
-      own_is : own_items (there.0).local ≡ y.own
-      own_is = ap (λ (w : BriefTx Op). w.own) there.2
+  module _ (t : Name) (y : BriefTx Op) (found : brief_of t v.brief.opened ≡ Some y) where
+    there : (x : Tx Op) × (tx t k.0.opened ≡ Some x) × (brief_tx place k.0.shared x ≡ y)
+    there = found_of place k.0 t y (tx t k.0.opened) refl
+        (sym (brief_of_is place k.0.shared t k.0.opened) ∙ ap (λ (w : Brief Op). brief_of t w.opened) k.1.is ∙ found)
 
-      log_is : (k.config).shared ≡ B.shared
-      log_is = ap (λ (w : Brief Op). w.shared) k.is
+    own_is : own_items (there.0).local ≡ y.own
+    own_is = ap (λ (w : BriefTx Op). w.own) there.2
 
-      both : (P : List (Item Op) → List (SharedEntry Op) → Type 0) → P (own_items (there.0).local) (k.config).shared → P y.own B.shared
-      both P h = subst (λ (w : List (Item Op)). P w B.shared) own_is (subst (λ (w : List (SharedEntry Op)). P (own_items (there.0).local) w) log_is h)
+    log_is : k.0.shared ≡ v.brief.shared
+    log_is = ap (λ (w : Brief Op). w.shared) k.1.is
 
-      pub own_stands : (p : Item Op) → In p y.own → In (as_shared t false p) B.shared
-      own_stands = both (λ l G. (p : Item Op) → In p l → In (as_shared t false p) G) (stands k.config k.boosted t there.0 there.1)
+    both : (P : List (Item Op) → List (SharedEntry Op) → Type 0) → P (own_items (there.0).local) k.0.shared → P y.own v.brief.shared
+    both P h = subst (λ (w : List (Item Op)). P w v.brief.shared) own_is (subst (λ (w : List (SharedEntry Op)). P (own_items (there.0).local) w) log_is h)
 
-      pub is_owned : (g : SharedEntry Op) → In g B.shared → g.owner ≡ t → (p : Item Op) × In p y.own × (g ≡ as_shared t false p)
-      is_owned = both (λ l G. (g : SharedEntry Op) → In g G → g.owner ≡ t → (p : Item Op) × In p l × (g ≡ as_shared t false p)) (owned k.config k.boosted t there.0 there.1)
+    pub own_stands : (p : Item Op) → In p y.own → In (as_shared t false p) v.brief.shared
+    own_stands = both (λ l G. (p : Item Op) → In p l → In (as_shared t false p) G) (stands o place apart v.shape k.0 k.1.boosted t there.0 there.1)
 
-      pub holds_ids : HoldsIdsOf t y.own B.shared
-      holds_ids e i u n = let w = is_owned e i n in (w.0, w.1, ap (λ (z : SharedEntry Op). z.id) (sym w.2))
+    pub is_owned : (g : SharedEntry Op) → In g v.brief.shared → g.owner ≡ t → (p : Item Op) × In p y.own × (g ≡ as_shared t false p)
+    is_owned = both (λ l G. (g : SharedEntry Op) → In g G → g.owner ≡ t → (p : Item Op) × In p l × (g ≡ as_shared t false p)) (owned o place apart v.shape k.0 k.1.boosted t there.0 there.1)
 
-      pub may_leave : IsLawful o → MayLeave o y.own (map shared_item B.shared)
-      may_leave laws = both (λ l G. MayLeave o l (map shared_item G)) (leaves k.config k.boosted t there.0 there.1 laws)
+    pub holds_ids : HoldsIdsOf t y.own v.brief.shared
+    holds_ids e i u n = let w = is_owned e i n in (w.0, w.1, ap (λ (z : SharedEntry Op). z.id) (sym w.2))
 
-      pub without_is : without_items shared_item y.own B.shared ≡ without_owner t B.shared
-      without_is = both (λ l G. without_items shared_item l G ≡ without_owner t G) (without k.config k.boosted t there.0 there.1)
+    pub may_leave : IsLawful o → MayLeave o y.own (map shared_item v.brief.shared)
+    may_leave laws = both (λ l G. MayLeave o l (map shared_item G)) (leaves o place apart v.shape k.0 k.1.boosted t there.0 there.1 laws)
+
+    pub without_is : without_items shared_item y.own v.brief.shared ≡ without_owner t v.brief.shared
+    without_is = both (λ l G. without_items shared_item l G ≡ without_owner t G) (without o place apart v.shape k.0 k.1.boosted t there.0 there.1)
