@@ -9,6 +9,7 @@ ghost use Rattle.pp_reading.specs.Sources.{WhereTold};
 ghost use Rattle.pp_certificate.specs.Rechecked.{IsCheckedSound};
 ghost use Rattle.pp_certify.specs.Certified.{IsDecided, IsPrinted, IsUnwritten};
 ghost use Rattle.pp_certify.specs.Inputs.{scan};
+ghost use Rattle.pp_certify.specs.Scans.{InputScan};
 ghost use Rattle.pp_certify.specs.Accepted.{IsAloneAccepted, IsSimulated};
 ghost use Rattle.pp_certify.specs.Rejected.{IsEvident};
 ghost use Rattle.pp_certify.specs.Restated.{PrintsAgain};
@@ -177,10 +178,11 @@ pub fn run<S: Source, K: Sink, L: Ledger>(
     ensures shown { DrivesMachine (command_of words.now) → result ≡ statuses.Rejected →
         WhereTold (S.left source.old) λ bytes. IsEvident (scan bytes) }
 
-    // What is decided of a boosted run without its local logs is the verdict of all its steps. Over
-    // its objects good records keep a configuration boosted, and briefs tell which records are good.
-    ensures decided { command_of words.now ≡ Some Quick → IsDecided result →
-        WhereTold (S.left source.old) λ bytes. IsDecidedAsRun (scan bytes) }
+    // What is decided of a boosted run without its local logs, whatever the input is, is the verdict
+    // of all its steps. Over its objects good records keep a configuration boosted, and briefs tell
+    // which records are good.
+    ensures decided { command_of words.now ≡ Some Quick → (input : InputScan) →
+        IsDecidedAsRun input }
 
     // What a committed transaction saw that undid nothing since is what some number of the
     // transactions committed before it give.

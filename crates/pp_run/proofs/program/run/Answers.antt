@@ -7,7 +7,6 @@ use Rattle.pp_drill.proofs.Drilling.{prints_lines}
 use Rattle.pp_exchanges.proofs.Rechecking.{prints_certificate}
 use Rattle.pp_exchanges.specs.Swaps.{IsSwaps}
 use Rattle.pp_attempts.specs.Outputs.{IsViews}
-use Rattle.pp_certify.specs.Inputs.{scan}
 use Rattle.pp_run.proofs.Numbers.{drill_within}
 use Rattle.pp_run.proofs.Promises.{decided_as_run, sees_kept}
 use Rattle.pp_run.proofs.Printing.{prints, prints_only, prints_prefix, prints_prefix_only}
@@ -129,7 +128,19 @@ returns-in-Ok-send-clause-drilled g c = λ n is accepted.
     prints_lines n within.0 within.1
 
 pub returns-in-Ok-send-clause-decided : goal.returns-in-Ok-send-clause-decided
-returns-in-Ok-send-clause-decided g c = λ quick told bytes is. decided_as_run (scan bytes)
+returns-in-Ok-send-clause-decided g c = λ quick input. decided_as_run input
+
+pub returns-in-Err-ReadFault-clause-decided : goal.returns-in-Err-ReadFault-clause-decided
+returns-in-Err-ReadFault-clause-decided g c = λ quick input. decided_as_run input
+
+pub returns-in-Err-OutOfMemory-clause-decided : goal.returns-in-Err-OutOfMemory-clause-decided
+returns-in-Err-OutOfMemory-clause-decided g c = λ quick input. decided_as_run input
+
+pub returns-in-Err-WriteFault-clause-decided : goal.returns-in-Err-WriteFault-clause-decided
+returns-in-Err-WriteFault-clause-decided g c = λ quick input. decided_as_run input
+
+pub returns-clause-decided : goal.returns-clause-decided
+returns-clause-decided g c = λ quick input. decided_as_run input
 
 pub returns-in-Ok-send-clause-seen : goal.returns-in-Ok-send-clause-seen
 returns-in-Ok-send-clause-seen g c = λ views accepted bytes is.
