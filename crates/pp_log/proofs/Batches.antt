@@ -1,10 +1,10 @@
 -- Operations of a batch, carried together behind the others of their place.
-use Rattle.std.proofs.Common.{◌≡◌, ℕ, suc, ◌<◌, ◌≤◌, ◌+◌, List, [], ◌∷◌, ◌++◌, length, take, drop}
-use Rattle.std.proofs.Common.{get_or, cond, not, Bool, false, refl, sym, ◌∙◌, ap, subst, arith, inl, inr}
+use Rattle.std.proofs.Common.{◌≡◌, ℕ, ◌<◌, ◌≤◌, ◌+◌, List, [], ◌∷◌, ◌++◌, length, take, drop}
+use Rattle.std.proofs.Common.{get_or, cond, not, Bool, false, refl, sym, ◌∙◌, ap, subst, arith, inl}
 use Rattle.std.proofs.Common.{append_assoc, append-nil, length-append}
 use Rattle.std.proofs.Math.Seq.{take-length}
 use Rattle.std.proofs.Math.ListN.{get_or-map}
-use Rattle.std.proofs.lemmas.List.{get_or_default, drop_all, length-drop, length-take-le, take-append-drop, take_all, take_more}
+use Rattle.std.proofs.lemmas.List.{length-map, get_or_default, drop_all, length-drop, length-take-le, take-append-drop, take_all, take_more}
 use Rattle.std.proofs.lemmas.Option.{slice_get_within}
 use Rattle.pp_core.specs.declared.entry.Item.{Item}
 use Rattle.pp_model.specs.Lists.{In}
@@ -76,11 +76,8 @@ module _ {Shape State Op Undo : Type 0} (o : Object Shape State Op Undo) (laws :
     rest_of = drop_there batch k e lt is
 
     inside : In e batch
-    inside = subst (In e) (take-append-drop (k + 1) batch) (in_left e (take (k + 1) batch) (drop (k + 1) batch) (subst (In e) (sym front_of) (last (take k batch))))
-      where
-        last : (l : List (Item Op)) → In e (l ++ e ∷ [])
-        last [] = inl refl
-        last (d ∷ l) = inr (last l)
+    inside = subst (In e) (take-append-drop (k + 1) batch)
+        (in_left e (take (k + 1) batch) (drop (k + 1) batch) (subst (In e) (sym front_of) (in_right e (take k batch) (e ∷ []) (inl refl))))
 
     pub over_next : (n first : ℕ) (vs ws : List Undo) → n ≡ k + 1 → first + length batch ≡ at → length ws ≡ length vs → CarriesOver o place e.op (first + k) vs ws → IsPartOver o place batch at us n vs → IsPartOver o place batch at us k ws
     over_next n first vs ws n_is first_is one_size over part = record {
@@ -122,11 +119,7 @@ module _ {Shape State Op Undo : Type 0} (o : Object Shape State Op Undo) (place 
   others x = without_items itself batch x
 
   pub many : length ids ≡ length items
-  many = ap length h.same_ids ∙ length-ids items
-    where
-      length-ids : (x : List (Item Op)) → length (ids_of x) ≡ length x
-      length-ids [] = refl
-      length-ids (e ∷ x) = ap suc (length-ids x)
+  many = ap length h.same_ids ∙ length-map items (λ e. e.id)
 
   -- the id of the item at a position
   pub id_of_item : (at : ℕ) → at < length items → (get_or items at h.stand.first).id ≡ get_or ids at 0

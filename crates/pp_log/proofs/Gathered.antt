@@ -3,13 +3,17 @@ use Rattle.std.proofs.Common.{◌≡◌, ℕ, nat_eq, ◌<◌, ◌≤◌, ◌+�
 use Rattle.std.proofs.Common.{filter, length, take, get_or, refl, sym, ◌∙◌, ap, subst, arith, inl, inr, Some, length-append}
 use Rattle.std.specs.List.{slice_get, slice_set}
 use Rattle.std.proofs.Math.Seq.{take-length}
-use Rattle.std.proofs.lemmas.Bool.{eq-eqb, eqb-true}
+use Rattle.std.proofs.Math.Bool.{and_comm}
+use Rattle.std.proofs.lemmas.Bool.{eq-eqb, eqb-true, not-true}
+use Rattle.std.proofs.lemmas.List.{take_at}
+use Rattle.std.proofs.lemmas.List.Sums.{count_by-le-length, length-filter}
 use Rattle.std.proofs.lemmas.Option.{get_or_from_slice_get}
 use Rattle.pp_core.specs.declared.entry.Item.{Item}
 use Rattle.pp_model.specs.Lists.{Before, In}
 use Rattle.pp_model.specs.Object.{HasDistinctIds, ops}
 use Rattle.pp_model.specs.Serial.{has_id}
 use Rattle.pp_model.proofs.Lists.{before_filter, before_from_filter, before_in_first, before_in_second, by_key, from_filter, in_cases, in_filter}
+use Rattle.pp_spec.proofs.Lists.{allowed-first}
 use Rattle.pp_spec.specs.Object.{AllRanged, AllowedFrom, IsAllowed, IsLawful, IsPlaced, Object, state_after, state_from}
 use Rattle.pp_log.specs.Batches.{AreOnOnePlace, CanGather, Gathers, HasBatch, IsAlong}
 use Rattle.pp_log.specs.declared.place.Place.{Place}
@@ -22,8 +26,7 @@ use Rattle.pp_log.specs.TakesOut.{IsWhole, itself}
 use Rattle.pp_log.proofs.Distinct.{apart, distinct_there, told}
 use Rattle.pp_log.proofs.Forgotten.{item_with}
 use Rattle.pp_log.proofs.Leaving.{filter_twice, has_none, now_distinct}
-use Rattle.pp_log.proofs.Lists.{in_at, set_other, set_same}
-use Rattle.pp_log.proofs.Others.{first_in, take_front}
+use Rattle.pp_log.proofs.Lists.{in_at, set_other, set_same, stands_in}
 use Rattle.pp_log.proofs.Parted.{ops-append}
 use Rattle.pp_log.proofs.Runs.{length-kept, length-ops}
 use Rattle.pp_log.proofs.Sites.{IsSite, id_there, kept_of, place_at, place_there, site_of}
@@ -57,21 +60,6 @@ module _ {Shape State Op Undo : Type 0} (o : Object Shape State Op Undo) where
   ranged_of [] h = tt
   ranged_of (d ∷ x) h = (h d (inl refl), ranged_of x (λ e i. h e (inr i)))
 
-  fit_front : (sh : Shape) (x y : List Op) → AllFit o sh (x ++ y) → AllFit o sh x
-  fit_front sh [] y h = tt
-  fit_front sh (a ∷ x) y h = (h.0, fit_front sh x y h.1)
-
-short_filter : {A : Type 0} (t : A → Bool) (x : List A) → length (filter t x) ≤ length x
-short_filter t [] = omega arith
-short_filter {A} t (a ∷ x) = by (t a) (short_filter t x)
-  where
-    by : (b : Bool) → length (filter t x) ≤ length x → length (cond b (a ∷ filter t x) (filter t x)) ≤ length (a ∷ x)
-    by true h = omega arith
-    by false h = omega arith
-
-front_of : {A : Type 0} (x y : List A) (n : ℕ) → n ≡ length x → take n (x ++ y) ≡ x
-front_of {A} x y n is = ap (λ (k : ℕ). take k (x ++ y)) is ∙ take_front x y
-
 -- The batch may leave the log, and its items have the place of the first of them.
 module _ {Shape State Op Undo : Type 0} (o : Object Shape State Op Undo) (place : Op → ℕ) (SameAt : ℕ → State → State → Type 0) (laws : IsLawful o) (places : IsPlaced o place SameAt)
     (s : State) (ps : List (Place Undo)) (log : List (Item Op)) (h : Keeps o place s log ps)
@@ -92,7 +80,7 @@ module _ {Shape State Op Undo : Type 0} (o : Object Shape State Op Undo) (place 
   b = state_after o (o.shape s) (ops (elsewhere place p log))
 
   inside : In first batch
-  inside = first_in batch first first_own
+  inside = stands_in batch 0 first first_own
 
   batch_at : (e : Item Op) → In e batch → at_place place p e ≡ true
   batch_at e i = eq-eqb (place e.op) p (one_place e first i inside)
@@ -218,7 +206,7 @@ module _ {Shape State Op Undo : Type 0} (o : Object Shape State Op Undo) (place 
               let k = many_others n n_is in
               let m = length-ops others in
               let size : length ws ≡ length (ops others) = omega arith in
-              ap (take (length ws)) (ops-append others batch) ∙ front_of (ops others) (ops batch) (length ws) size
+              ap (take (length ws)) (ops-append others batch) ∙ take_at (ops others) (ops batch) (length ws) (sym size)
               ∙ sym (ap (λ (j : ℕ). take j (ops others)) size ∙ take-length (ops others))
 
           whole_left : IsWhole o b others r t
@@ -227,7 +215,7 @@ module _ {Shape State Op Undo : Type 0} (o : Object Shape State Op Undo) (place 
               base = left.base;
               log = left.log;
               few = let few = left.few in let two = length-append others batch in omega arith;
-              fit = fit_front o (o.shape b) (ops others) (ops batch) (subst (AllFit o (o.shape b)) (ops-append others batch) left.fit);
+              fit = allowed_fit o laws b (ops others) (allowed-first o b (ops others) (ops batch) (subst (AllowedFrom o b) (ops-append others batch) behind.allowed));
               ranged = ranged_of o others (λ e w. ranged_at o items ranged_items e (from_filter (λ (d : Item Op). not (has_id d.id (ids_of batch))) e items w).0);
               within = let k = many_others n n_is in omega arith;
               allowed = subst (AllowedFrom o b) ws_taken left.allowed;
@@ -241,12 +229,6 @@ module _ {Shape State Op Undo : Type 0} (o : Object Shape State Op Undo) (place 
           abbrev stays : Item Op → Bool
           stays e = not (has_id e.id (ids_of batch))
 
-          both : (u v : Bool) → (u && v) ≡ (v && u)
-          both true true = refl
-          both true false = refl
-          both false true = refl
-          both false false = refl
-
           -- the other places are as they were
           off_stays : (e : Item Op) → In e log → at_place place p e ≡ false → stays e ≡ true
           off_stays e i off = ap not (has_none e.id batch (λ d j k.
@@ -257,7 +239,7 @@ module _ {Shape State Op Undo : Type 0} (o : Object Shape State Op Undo) (place 
           there_left : there place p rest_log ≡ others
           there_left = there_is place p rest_log
               ∙ filter_twice (at_place place p) stays (λ (e : Item Op). stays e && at_place place p e) log (λ e i. refl)
-              ∙ sym (filter_twice stays (at_place place p) (λ (e : Item Op). stays e && at_place place p e) log (λ e i. both (at_place place p e) (stays e)))
+              ∙ sym (filter_twice stays (at_place place p) (λ (e : Item Op). stays e && at_place place p e) log (λ e i. and_comm (at_place place p e) (stays e)))
               ∙ ap (filter stays) (sym items_is)
 
           others_left : (t : Item Op → Bool) → ((e : Item Op) → In e log → t e ≡ true → at_place place p e ≡ false) → filter t rest_log ≡ filter t log
@@ -265,14 +247,10 @@ module _ {Shape State Op Undo : Type 0} (o : Object Shape State Op Undo) (place 
             where
               by : (e : Item Op) → In e log → (v : Bool) → t e ≡ v → (stays e && v) ≡ v
               by e i true k = ap (λ (w : Bool). w && true) (off_stays e i (off e i k))
-              by e i false k = both (stays e) false
+              by e i false k = and_comm (stays e) false
 
           elsewhere_left : elsewhere place p rest_log ≡ elsewhere place p log
-          elsewhere_left = elsewhere_is place p rest_log ∙ others_left (λ e. not (at_place place p e)) (λ e i k. is_not (at_place place p e) k) ∙ sym (elsewhere_is place p log)
-            where
-              is_not : (v : Bool) → not v ≡ true → v ≡ false
-              is_not true k = cc
-              is_not false k = refl
+          elsewhere_left = elsewhere_is place p rest_log ∙ others_left (λ e. not (at_place place p e)) (λ e i k. not-true (at_place place p e) k) ∙ sym (elsewhere_is place p log)
 
           there_others : (r' : ℕ) → (p ≡ r' → ⊥) → there place r' rest_log ≡ there place r' log
           there_others r' n' = there_is place r' rest_log
@@ -286,7 +264,8 @@ module _ {Shape State Op Undo : Type 0} (o : Object Shape State Op Undo) (place 
           keeps_rest =
               let sh = o.shape s in
               let base : ops (elsewhere place p log) ≡ ops (elsewhere place p rest_log) = ap (λ (l : List (Item Op)). ops l) (sym elsewhere_left) in
-              let shorter = short_filter stays log in
+              let shorter = count_by-le-length stays log in
+              let counted = length-filter stays log in
               let few = h.few in
               log_of o place SameAt laws places p sh t rest_log (slice_set ps p r) r
               (subst (IsAllowed o sh) base (base_allowed o place SameAt laws places p (o.start sh) log h.allowed))

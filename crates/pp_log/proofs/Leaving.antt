@@ -3,7 +3,7 @@ use Rattle.std.proofs.Common.{◌≡◌, ◌==◌, ℕ, zero, suc, ◌+◌, Bool
 use Rattle.std.proofs.Common.{List, [], ◌∷◌, ◌++◌, filter, take, drop}
 use Rattle.std.proofs.Common.{refl, sym, ◌∙◌, ap, subst, inl, inr, Some}
 use Rattle.std.specs.List.{remove, slice_get}
-use Rattle.std.proofs.lemmas.Bool.{eq-eqb, eqb-true}
+use Rattle.std.proofs.lemmas.Bool.{eq-eqb, eqb-true, not-true}
 use Rattle.std.proofs.lemmas.Option.{get_or_from_slice_get, slice_get_within}
 use Rattle.pp_core.specs.declared.entry.Item.{Item}
 use Rattle.pp_model.specs.Lists.{Before, In}
@@ -22,10 +22,6 @@ use Rattle.pp_log.proofs.Parted.{is_at, there_at, there_off}
 is_false : (b : Bool) → (b ≡ true → ⊥) → b ≡ false
 is_false true h = absurd (h refl)
 is_false false h = refl
-
-is_not : (b : Bool) → not b ≡ true → b ≡ false
-is_not true h = cc
-is_not false h = refl
 
 -- whether an id is among those of some items
 pub has_one : {Op : Type 0} (j : ℕ) (x : List (Item Op)) (p : Item Op) → In p x → p.id ≡ j → has_id j (ids_of x) ≡ true
@@ -88,6 +84,12 @@ removed_filter {A} less key (a ∷ x) (suc i) e at d out stay =
     in_at (b ∷ y) zero c h = let w : b ≡ c = cc in inl (sym w)
     in_at (b ∷ y) (suc j) c h = inr (in_at y j c h)
 
+pub neither : (a b : Bool) → (not a && not b) ≡ not (b || a)
+neither true true = refl
+neither true false = refl
+neither false true = refl
+neither false false = refl
+
 -- to leave out one more item is to remove the entry of this item from what is left
 pub one_less : {Op E : Type 0} (f : E → Item Op) (x : List E) (e : Item Op) (last : List (Item Op)) (i : ℕ) (a : E) → slice_get (without_items f last x) i ≡ Some a → f a ≡ e
     → ((p q : E) → Before p q (without_items f last x) → (f p).id ≡ (f q).id → ⊥) → without_items f (e ∷ last) x ≡ remove (without_items f last x) i
@@ -96,15 +98,9 @@ one_less {Op} {E} f x e last i a at is distinct =
     let keep = λ (r : E). not (has_id (f r).id (ids_of last)) in
     let one = λ (r : E). not (e.id == (f r).id) in
     let same = ap (λ (r : Item Op). r.id) is in
-    sym (filter_twice one keep less x (λ r j. both (has_id (f r).id (ids_of last)) (e.id == (f r).id)))
+    sym (filter_twice one keep less x (λ r j. neither (has_id (f r).id (ids_of last)) (e.id == (f r).id)))
     ∙ removed_filter one (λ (r : E). (f r).id) (without_items f last x) i a at distinct (ap not (eq-eqb e.id (f a).id (sym same)))
     (λ d j n. ap not (is_false (e.id == (f d).id) (λ t. n (sym (eqb-true e.id (f d).id t) ∙ sym same))))
-  where
-    both : (a b : Bool) → (not a && not b) ≡ not (b || a)
-    both true true = refl
-    both true false = refl
-    both false true = refl
-    both false false = refl
 
 pub without_none : {Op E : Type 0} (f : E → Item Op) (x : List E) → without_items f [] x ≡ x
 without_none f x = filter_all (λ e. not (has_id (f e).id [])) x (λ e i. refl)
@@ -171,7 +167,7 @@ module _ {Shape State Op Undo : Type 0} (o : Object Shape State Op Undo) (own lo
             | inl f ↦ not_both (λ (r : Item Op). r.id) log distinct e q b (subst (λ (r : Item Op). Before r e log) one (then_e p f))
             | inr r ↦ elim r [
               | inl here ↦ distinct e q b (ap (λ (w : Item Op). w.id) (sym here) ∙ h)
-              | inr later ↦ has_not q.id last (is_not (has_id q.id (ids_of last)) inside.1) p later h
+              | inr later ↦ has_not q.id last (not-true (has_id q.id (ids_of last)) inside.1) p later h
             ]
           ])
 

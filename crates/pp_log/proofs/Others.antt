@@ -3,7 +3,7 @@ use Rattle.std.proofs.Common.{◌≡◌, ℕ, ◌<◌, ◌≤◌, ◌+◌, Bool,
 use Rattle.std.proofs.Common.{length, map, take, drop, get_or, refl, sym, ◌∙◌, ap, subst, arith, inl, inr, Some, None}
 use Rattle.std.proofs.Common.{append_assoc, append-nil, length-append}
 use Rattle.std.specs.List.{slice_get, slice_set}
-use Rattle.std.proofs.Math.Seq.{get_or-append_seam, set-append_seam}
+use Rattle.std.proofs.Math.Seq.{get_or-append_seam, set-append_seam, take-append_seam}
 use Rattle.std.proofs.lemmas.List.{get_or_default, length-drop, length-map, length-take-le, take-append-drop, take-map, take_all, take_more}
 use Rattle.std.proofs.lemmas.Option.{get_or_from_slice_get, slice_get-get_or, slice_get_within}
 use Rattle.std.proofs.Math.ListN.{get_or-map}
@@ -23,10 +23,6 @@ first_or_behind [] a b first inside = absurd inside
 first_or_behind (c ∷ x) a b first inside =
     let same : c ≡ a = cc in
     elim inside [ inl here ↦ inl (here ∙ same) | inr later ↦ inr (inl (sym same, later)) ]
-
-pub first_in : {A : Type 0} (x : List A) (a : A) → slice_get x 0 ≡ Some a → In a x
-first_in [] a h = cc
-first_in (b ∷ x) a h = let same : b ≡ a = cc in inl (sym same)
 
 -- Which of the items stand before a position, and which from it on.
 pub record IsAt {Op : Type 0} (own log : List (Item Op)) (at next : ℕ) : Type 0 where
@@ -83,7 +79,7 @@ module _ {Op : Type 0} (own log : List (Item Op)) (from : ℕ) (st : StandFrom o
 
     -- it is the next one
     module _ (h : HasIdAt own next d.id) where
-      pub own_within : next < length own
+      own_within : next < length own
       own_within = slice_get_within own next h.0 h.1
 
       own_is : h.0 ≡ get_or own next h.0
@@ -167,10 +163,6 @@ module _ {Op : Type 0} (own log : List (Item Op)) (from : ℕ) (st : StandFrom o
         ];
       }
 
-pub take_front : {A : Type 0} (x y : List A) → take (length x) (x ++ y) ≡ x
-take_front [] y = refl
-take_front {A} (a ∷ x) y = ap (λ (z : List A). a ∷ z) (take_front x y)
-
 module _ {Op E : Type 0} (f : E → Item Op) (own : List (Item Op)) (x : List E) (from : ℕ) (st : StandFrom own (map f x) from) where
   abbrev stays : E → Bool
   stays e = not (has_id (f e).id (ids_of own))
@@ -224,7 +216,7 @@ module _ {Op E : Type 0} (f : E → Item Op) (own : List (Item Op)) (x : List E)
     keeping_last all =
         let whole = take_all at x all in
         ap (λ (z : List E). take kept z) h.now_is ∙ ap (λ (k : ℕ). take k (kept_of (take at x) ++ (h.gap ++ drop at x))) h.kept_is
-        ∙ take_front (kept_of (take at x)) (h.gap ++ drop at x) ∙ ap kept_of whole
+        ∙ take-append_seam (kept_of (take at x)) (h.gap ++ drop at x) ∙ ap kept_of whole
 
     module _ (e : E) (lt : at < length x) (is : e ≡ get_or now at e) where
       front_size : length (kept_of (take at x) ++ h.gap) ≡ at

@@ -1,4 +1,4 @@
--- What stands in a list behind some elements in front, where one of it is taken out or replaced.
+-- What stands in a list behind some elements in front, where one of it is taken out, or where those in front move.
 use Rattle.std.proofs.Common.{◌≡◌, ℕ, zero, suc, ◌<◌, ◌≤◌, ◌+◌, ◌-◌, List, [], ◌∷◌, ◌++◌, length, take, drop, refl, sym, ◌∙◌, ap, arith}
 use Rattle.std.specs.List.{copy_within, remove}
 use Rattle.std.proofs.Math.Seq.{drop-nil, take-length}

@@ -1,12 +1,15 @@
 -- Items that leave a log, a batch after another.
 use Rattle.std.proofs.Common.{◌≡◌, ◌==◌, ℕ, ◌≤◌, ◌-◌, Bool, true, false, not, ◌&&◌, ◌||◌, List, [], ◌∷◌, ◌++◌, take, drop}
 use Rattle.std.proofs.Common.{refl, sym, ◌∙◌, ap, subst, arith, inl, inr}
+use Rattle.std.proofs.Math.Bool.{or_assoc}
+use Rattle.std.proofs.lemmas.Bool.{not-true}
 use Rattle.std.proofs.lemmas.List.{drop-drop, take-append-drop}
 use Rattle.pp_core.specs.declared.entry.Item.{Item}
 use Rattle.pp_model.specs.Lists.{Before, In}
 use Rattle.pp_model.specs.Object.{HasDistinctIds}
 use Rattle.pp_model.specs.Serial.{has_id}
-use Rattle.pp_model.proofs.Lists.{before_across, before_filter, before_from_filter, before_in_first, before_in_second, before_left, before_right, by_key, from_filter, in_cases, in_filter, in_left, in_right, not_both}
+use Rattle.pp_model.proofs.Lists.{before_across, before_filter, before_from_filter, before_in_first, before_in_second, before_left, before_right}
+use Rattle.pp_model.proofs.Lists.{by_key, from_filter, in_cases, in_filter, in_left, in_right, not_both}
 use Rattle.pp_spec.specs.Object.{Object}
 use Rattle.pp_log.specs.declared.index.Index.{Index}
 use Rattle.pp_log.specs.declared.place.Place.{Place}
@@ -16,7 +19,7 @@ use Rattle.pp_log.specs.Leaving.{MayLeave, without_items}
 use Rattle.pp_log.specs.Room.{ids_of}
 use Rattle.pp_log.specs.TakesOut.{itself}
 use Rattle.pp_log.proofs.Leaves.{HaveLeft}
-use Rattle.pp_log.proofs.Leaving.{filter_twice, has_none, has_not}
+use Rattle.pp_log.proofs.Leaving.{filter_twice, has_none, has_not, neither}
 
 -- The last items have left the list, and a batch right before them is to leave.
 module _ {Shape State Op Undo : Type 0} (o : Object Shape State Op Undo) (own log : List (Item Op)) (distinct : HasDistinctIds log) (may : MayLeave o own log)
@@ -33,7 +36,7 @@ module _ {Shape State Op Undo : Type 0} (o : Object Shape State Op Undo) (own lo
   stays : (p : Item Op) → In p batch → not (has_id p.id (ids_of last)) ≡ true
   stays p i = ap not (has_none p.id last (λ q j k. distinct p q (in_order p q (before_across p q batch last i j)) (sym k)))
 
-  -- none of its own that does not stand in the batch stands behind it
+  -- what still stands behind one of the batch, and is not of the batch, is none of its own
   no_other : (p q : Item Op) → In p batch → Before p q log → not (has_id q.id (ids_of last)) ≡ true → has_id q.id (ids_of batch) ≡ false → has_id q.id (ids_of own) ≡ false
   no_other p q i w left_in other = has_none q.id own (λ e j k.
       let one : e ≡ q = by_key (λ (d : Item Op). d.id) log distinct e q (may.stand e j) (before_in_second p q log w) k in
@@ -42,13 +45,9 @@ module _ {Shape State Op Undo : Type 0} (o : Object Shape State Op Undo) (own lo
             (may.order e p (subst (Before e p) (sym cut) (before_across e p front (batch ++ last) f (in_left p batch last i)))))
         | inr r ↦ elim (in_cases e batch last r) [
           | inl m ↦ has_not q.id batch other e m k
-          | inr l ↦ has_not q.id last (is_not (has_id q.id (ids_of last)) left_in) e l k
+          | inr l ↦ has_not q.id last (not-true (has_id q.id (ids_of last)) left_in) e l k
         ]
       ])
-    where
-      is_not : (v : Bool) → not v ≡ true → v ≡ false
-      is_not true k = cc
-      is_not false k = refl
 
   pub may_now : MayLeave o batch now_of
   may_now = record {
@@ -62,21 +61,11 @@ module _ {Shape State Op Undo : Type 0} (o : Object Shape State Op Undo) (own lo
 
   has_of_both : (j : ℕ) (x y : List (Item Op)) → has_id j (ids_of (x ++ y)) ≡ (has_id j (ids_of x) || has_id j (ids_of y))
   has_of_both j [] y = refl
-  has_of_both j (d ∷ x) y = ap (λ (v : Bool). (d.id == j) || v) (has_of_both j x y) ∙ assoc (d.id == j) (has_id j (ids_of x)) (has_id j (ids_of y))
-    where
-      assoc : (u v w : Bool) → (u || (v || w)) ≡ ((u || v) || w)
-      assoc true v w = refl
-      assoc false v w = refl
+  has_of_both j (d ∷ x) y = ap (λ (v : Bool). (d.id == j) || v) (has_of_both j x y) ∙ sym (or_assoc (d.id == j) (has_id j (ids_of x)) (has_id j (ids_of y)))
 
   pub gone_next : without_items itself (batch ++ last) log ≡ without_items itself batch now_of
   gone_next = sym (filter_twice (λ (d : Item Op). not (has_id d.id (ids_of batch))) (λ (d : Item Op). not (has_id d.id (ids_of last))) (λ (d : Item Op). not (has_id d.id (ids_of (batch ++ last)))) log
-      (λ d i. both (has_id d.id (ids_of last)) (has_id d.id (ids_of batch)) ∙ ap not (sym (has_of_both d.id batch last))))
-    where
-      both : (u v : Bool) → (not u && not v) ≡ not (v || u)
-      both true true = refl
-      both true false = refl
-      both false true = refl
-      both false false = refl
+      (λ d i. neither (has_id d.id (ids_of last)) (has_id d.id (ids_of batch)) ∙ ap not (sym (has_of_both d.id batch last))))
 
 -- The own items from the k-th on have left, and those from the i-th on are next.
 module _ {Shape State Op Undo : Type 0} (o : Object Shape State Op Undo) (place : Op → ℕ) (own : List (Item Op)) (s : State) (ps : List (Place Undo)) (ids : Index)

@@ -1,4 +1,4 @@
-//! Entries that leave a log together.
+//! Entries that leave a log, one after another.
 ghost use Rattle.std.specs.Prelude.{◌≡◌, ◌+◌, ◌≤◌, IsTrue, OnOk, false, length, map};
 ghost use Rattle.pp_log.specs.Leaves.{AllLeave, CanAllLeave, CanLeave, CanLeaveOut, HasIdAt};
 ghost use Rattle.pp_log.specs.Leaves.{Leaves, StandFrom};
@@ -114,7 +114,7 @@ fn take_each_out<O: Copy, T: Side<O>>(entries: &mut Entries<T::Entry>, ids: &Ind
 }
 
 /// Whether each of these items stands so near the front that to move all before it, one item after
-/// another, is surely no more than to move those behind the first. What it answers changes no result.
+/// another, surely moves no more than those behind the first. Nothing is promised of it.
 fn stand_in_front<O: Copy>(own: &[Item<O>], ids: &Index, from: usize, len: usize) -> bool {
     own.last().and_then(|item| ids.find(item.id)).is_some_and(|to| own.len().saturating_mul(to)
         < len.saturating_sub(from))

@@ -2,6 +2,7 @@
 //! lead to, and from which an entry may be taken out.
 #![tactic(auto)]
 
+mod batch;
 mod carry;
 mod entries;
 mod id_table;
@@ -13,7 +14,6 @@ mod room;
 mod run;
 mod sides;
 mod take_out;
-mod together;
 
 pub use log::Log;
 pub use place::Removed;

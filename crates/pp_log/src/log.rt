@@ -11,6 +11,7 @@ ghost use Rattle.pp_log.specs.Logs.{GoesBehind, HasItemAt, IsFirstFrom, IsOn, No
 ghost use Rattle.pp_log.specs.Logs.{RemovalBound, RemovalCosts, RemovesEntry};
 ghost use Rattle.pp_log.specs.Logs.{answer_behind, entry_ops};
 
+use crate::batch::take_all_back;
 use crate::entries::Entries;
 use crate::index::Index;
 use crate::leave::leave_out;
@@ -18,7 +19,6 @@ use crate::place::{Place, Removed};
 use crate::room::make_room;
 use crate::sides::Side;
 use crate::take_out::{position_in_place, take_out};
-use crate::together::take_all_back;
 use pp_core::{Answer, Item, OutOfMemory, Ticks};
 use pp_spec::{Applied, Placed};
 use std::alloc::Global;

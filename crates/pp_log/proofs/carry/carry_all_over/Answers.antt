@@ -1,7 +1,11 @@
 use Rattle.std.proofs.Common.{◌<◌, ◌-◌, ℕ, length, get_or, arith}
 use Rattle.std.proofs.lemmas.List.{get_or_default}
-use Rattle.pp_log.proofs.Batches.{over_last, over_next}
+use Rattle.pp_log.proofs.Batches.{over_first, over_last, over_next}
 use Rattle.pp_log.proofs.carry.carry_all_over.Goals as goal
+
+pub loop-left-init : goal.loop-left-init
+loop-left-init g c =
+    over_first g.S.Spec.object g.met.S.Spec.lawful g.S.Placed.place_of c.args.batch.now c.args.at c.args.undos.now.items (length c.args.batch.now) (omega arith)
 
 pub loop-left-preserved : goal.loop-left-preserved
 loop-left-preserved g c =

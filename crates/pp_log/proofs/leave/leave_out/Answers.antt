@@ -2,7 +2,8 @@ use Rattle.std.proofs.Common.{map, sym, ◌∙◌}
 use Rattle.pp_log.specs.Room.{ids_of}
 use Rattle.pp_log.proofs.Ids.{position_of_id}
 use Rattle.pp_log.proofs.Leaves.{found_item, nowhere}
-use Rattle.pp_log.proofs.Others.{first_in, without_nothing}
+use Rattle.pp_log.proofs.Lists.{stands_in}
+use Rattle.pp_log.proofs.Others.{without_nothing}
 use Rattle.pp_log.proofs.leave.leave_out.Goals as goal
 
 pub returns-in_default : goal.returns-in_default
@@ -12,14 +13,14 @@ pub unreachable-requires : goal.unreachable-requires
 unreachable-requires g c =
     let log = map g.T.Side.item_of c.args.entries.now.items in
     let e = c.in-Some.first.now in
-    let inside = c.requires.stand e (first_in c.args.own.now e (sym c.in-Some.ensures.value)) in
+    let inside = c.requires.stand e (stands_in c.args.own.now 0 e (sym c.in-Some.ensures.value)) in
     nowhere log e (sym (position_of_id log e.id) ∙ sym (c.find.ensures (ids_of log) c.requires.index) ∙ c.in_default-find.is) inside
 
 pub keep_others-requires : goal.keep_others-requires
 keep_others-requires g c =
     let log = map g.T.Side.item_of c.args.entries.now.items in
     let e = c.in-Some.first.now in
-    let inside = c.requires.stand e (first_in c.args.own.now e (sym c.in-Some.ensures.value)) in
+    let inside = c.requires.stand e (stands_in c.args.own.now 0 e (sym c.in-Some.ensures.value)) in
     record {
       stand = c.requires.stand;
       order = c.requires.order;

@@ -1,6 +1,6 @@
 use Rattle.std.proofs.Common.{◌≡◌, ◌+◌, ◌≤◌, length}
 use Rattle.pp_log.proofs.Leaves.{HaveLeft}
-use Rattle.pp_log.proofs.together.take_all_back.Given as goal
+use Rattle.pp_log.proofs.batch.take_all_back.Given as goal
 
 -- those from a position on have left
 abbrev pub invariant-loop-left : goal.invariant-loop-left

@@ -1,4 +1,4 @@
-//! Items that leave a log together, a batch of one place after another.
+//! Items of one place that leave a log as a batch.
 ghost use Rattle.std.specs.Prelude.{◌≡◌, ◌<◌, ◌≤◌, ◌+◌, OnOk, List, drop, length};
 ghost use Rattle.pp_core.specs.declared.entry.Item.{Item as ItemOf};
 ghost use Rattle.pp_log.specs.Batches.{AreOnOnePlace, CanForget, Forgets};
@@ -14,7 +14,8 @@ use pp_core::{Item, OutOfMemory, Ticks};
 use pp_spec::Placed;
 use std::sync::ledger::Ledger;
 
-/// Where the last items that have one place begin.
+/// A position from which on all items have one place. That the one before has another place is not
+/// promised.
 fn start_of_batch<S: Placed>(own: &[Item<S::Op>]) -> usize
     requires { 0 < length own.now }
     ensures within { result < length own.now }
@@ -29,10 +30,10 @@ fn start_of_batch<S: Placed>(own: &[Item<S::Op>]) -> usize
 }
 
 /// Forgets the ids of items, from the last to the first, in the index and among those of a place.
-fn forget_all<S: Placed>(batch: &[Item<S::Op>], ids: &mut Index, here: &mut Vec<u32>)
+fn forget_all<S: Placed>(batch: &[Item<S::Op>], ids: &mut Index, ids_there: &mut Vec<u32>)
     requires { (log items : List (ItemOf S.Op))
-        × CanForget S.object batch.now ids.old here.old.items log items }
-    ensures { Forgets S.object batch.now ids.old here.old.items ids.new here.new.items }
+        × CanForget S.object batch.now ids.old ids_there.old.items log items }
+    ensures { Forgets S.object batch.now ids.old ids_there.old.items ids.new ids_there.new.items }
 {
     let mut left = batch.len();
     while left > 0 {
@@ -41,16 +42,17 @@ fn forget_all<S: Placed>(batch: &[Item<S::Op>], ids: &mut Index, here: &mut Vec<
         let Some(i) = ids.find(id) else {
             unreachable!()
         };
-        let Some(at) = position_in_place(here, ids, i, id) else {
+        let Some(at) = position_in_place(ids_there, ids, i, id) else {
             unreachable!()
         };
-        let _ = here.remove(at);
+        let _ = ids_there.remove(at);
         ids.remove(i, id);
     }
 }
 
 /// Takes items of one place back, each of which lets the others behind it pass: they are carried
-/// behind these in one walk. What is kept is then of the others.
+/// behind these in one walk. Where none of them keeps anything in turn with others, what takes each
+/// back is taken out where it stands. What is kept is then of the others.
 fn take_batch_back<S: Placed, L: Ledger>(
     batch: &[Item<S::Op>],
     ids: &mut Index,
@@ -68,6 +70,9 @@ fn take_batch_back<S: Placed, L: Ledger>(
     ensures rises { ticks.old ≤ ticks.new }
     ensures bound { ticks.new ≤ ticks.old + length batch.now }
 {
+    if batch.iter().all(|item| S::keeps_alone(&item.op)) {
+        return take_each_back::<S, L>(batch, ids, places, state, ticks);
+    }
     let first = &batch[0];
     let Some(i) = ids.find(first.id) else {
         unreachable!()
@@ -82,32 +87,6 @@ fn take_batch_back<S: Placed, L: Ledger>(
     unwind::<S, L>(batch, &mut place.undos, others, state, ticks)?;
     forget_all::<S>(batch, ids, &mut place.ids);
     Ok(())
-}
-
-/// Takes items of one place back, each of which lets the others behind it pass. Where none of them
-/// keeps anything in turn with others, what takes each back is taken out where it stands.
-fn take_back_there<S: Placed, L: Ledger>(
-    batch: &[Item<S::Op>],
-    ids: &mut Index,
-    places: &mut Vec<Place<S::Undo>>,
-    state: &mut S::State,
-    ticks: &mut Ticks<L>,
-) -> Result<(), OutOfMemory>
-    requires some { 0 < length batch.now }
-    requires one_place { AreOnOnePlace S.place_of batch.now }
-    requires leave { CanAllLeave S.object S.place_of
-        state.old places.old.items ids.old batch.now }
-    ensures leaves { OnOk result (AllLeave S.object S.place_of batch.now
-        state.old places.old.items ids.old state.new places.new.items ids.new) }
-    ensures cost { OnOk result (ticks.new ≡ ticks.old + length batch.now) }
-    ensures rises { ticks.old ≤ ticks.new }
-    ensures bound { ticks.new ≤ ticks.old + length batch.now }
-{
-    if batch.iter().all(|item| S::keeps_alone(&item.op)) {
-        take_each_back::<S, L>(batch, ids, places, state, ticks)
-    } else {
-        take_batch_back::<S, L>(batch, ids, places, state, ticks)
-    }
 }
 
 /// Takes items back, the last ones that have one place together, and then those before them. Each
@@ -129,7 +108,7 @@ pub fn take_all_back<S: Placed, L: Ledger>(
     let mut left = own.len();
     while left > 0 {
         let start = start_of_batch::<S>(&own[..left]);
-        take_back_there::<S, L>(&own[start..left], ids, places, state, ticks)?;
+        take_batch_back::<S, L>(&own[start..left], ids, places, state, ticks)?;
         left = start;
     }
     Ok(())

@@ -1,7 +1,7 @@
 use Rattle.std.proofs.Common.{◌≡◌, ◌<◌, drop, length}
 use Rattle.pp_core.specs.declared.entry.Item.{Item}
 use Rattle.pp_model.specs.Lists.{In}
-use Rattle.pp_log.proofs.together.start_of_batch.Given as goal
+use Rattle.pp_log.proofs.batch.start_of_batch.Given as goal
 
 -- those from a position on have the place
 abbrev pub invariant-loop-start : goal.invariant-loop-start

@@ -10,8 +10,8 @@ use Rattle.pp_log.specs.TakesOut.{itself}
 use Rattle.pp_log.proofs.Gathered.{can_gather, distinct_items, has_id_there, has_place, has_run, ids_there, items, keeps_rest, may_items, sizes}
 use Rattle.pp_log.proofs.Leaves.{nowhere}
 use Rattle.pp_log.proofs.Ids.{position_of_id}
-use Rattle.pp_log.proofs.Others.{first_in}
-use Rattle.pp_log.proofs.together.take_batch_back.Goals as goal
+use Rattle.pp_log.proofs.Lists.{stands_in}
+use Rattle.pp_log.proofs.batch.take_batch_back.Goals as goal
 
 pub unreachable-requires : goal.unreachable-requires
 unreachable-requires g c =
@@ -21,7 +21,7 @@ unreachable-requires g c =
     let first_own : slice_get batch 0 ≡ Some first = slice_get-get_or batch 0 first some ∙ ap Some (sym c.index-batch-0.is) in
     let log = c.requires.leave.log in
     let none = sym (c.find.ensures (ids_of log) c.requires.leave.keeps.index) ∙ c.in_default.is in
-    nowhere log first (sym (position_of_id log first.id) ∙ none) (c.requires.leave.may.stand first (first_in batch first first_own))
+    nowhere log first (sym (position_of_id log first.id) ∙ none) (c.requires.leave.may.stand first (stands_in batch 0 first first_own))
 
 pub index_mut-place-requires : goal.index_mut-place-requires
 index_mut-place-requires g c =
@@ -203,8 +203,8 @@ returns-clause-leaves g c = λ log keeps may.
     } in
     let forgotten = c.forget_all.ensures log here can in
     let rest = keeps_rest o place SameAt laws places s ps log keeps.keeps batch may c.requires.one_place first first_own q value from found vs gathers c.gather.ensures.size (c.len.result - length batch) (omega arith)
-    c.unwind.new.undos.items c.unwind.new.state c.in_ok-unwind.ensures.run c.in_ok-unwind.ensures.len (record { ids = c.forget_all.new.here; undos = c.unwind.new.undos }) refl forgotten.1 in (
-      subst (λ n. KeepsAll o place c.unwind.new.state (without_items itself batch log) (slice_set ps n (record { ids = c.forget_all.new.here; undos = c.unwind.new.undos })) c.forget_all.new.ids) (sym p_is)
+    c.unwind.new.undos.items c.unwind.new.state c.in_ok-unwind.ensures.run c.in_ok-unwind.ensures.len (record { ids = c.forget_all.new.ids_there; undos = c.unwind.new.undos }) refl forgotten.1 in (
+      subst (λ n. KeepsAll o place c.unwind.new.state (without_items itself batch log) (slice_set ps n (record { ids = c.forget_all.new.ids_there; undos = c.unwind.new.undos })) c.forget_all.new.ids) (sym p_is)
           (record { keeps = rest.0; index = forgotten.0 }),
       rest.1,
     )

@@ -8,10 +8,10 @@ use Rattle.pp_log.proofs.Distinct.{apart}
 use Rattle.pp_log.proofs.Forgotten.{forgotten_both, forgotten_first, forgotten_last, id_here, id_stands, index_before, index_within, log_now}
 use Rattle.pp_log.proofs.Ids.{ids_once}
 use Rattle.pp_log.proofs.Leaves.{distinct_now}
-use Rattle.pp_log.proofs.together.forget_all.Goals as goal
+use Rattle.pp_log.proofs.batch.forget_all.Goals as goal
 
 pub loop-left-init : goal.loop-left-init
-loop-left-init g c = forgotten_first g.S.Spec.object c.args.batch.now c.args.ids.now c.args.here.now.items (length c.args.batch.now) (omega arith)
+loop-left-init g c = forgotten_first g.S.Spec.object c.args.batch.now c.args.ids.now c.args.ids_there.now.items (length c.args.batch.now) (omega arith)
 
 pub unreachable-requires : goal.unreachable-requires
 unreachable-requires g c =
@@ -25,9 +25,9 @@ unreachable-requires g c =
     let e = get_or batch k c.index-batch-left.result in
     let is = get_or_default batch k c.index-batch-left.result e lt in
     let ids = c.args.ids.now in
-    let here = c.args.here.now.items in
+    let here = c.args.ids_there.now.items in
     let js = c.loop-left.ids in
-    let now = c.loop-left.here.items in
+    let now = c.loop-left.ids_there.items in
     let n = c.loop-left.left in
     let part = c.loop-left.invariant in
     let log = c.requires.0 in
@@ -48,9 +48,9 @@ unreachable-requires-in_default-position_in_place g c =
     let e = get_or batch k c.index-batch-left.result in
     let is = get_or_default batch k c.index-batch-left.result e lt in
     let ids = c.args.ids.now in
-    let here = c.args.here.now.items in
+    let here = c.args.ids_there.now.items in
     let js = c.loop-left.ids in
-    let now = c.loop-left.here.items in
+    let now = c.loop-left.ids_there.items in
     let n = c.loop-left.left in
     let part = c.loop-left.invariant in
     let inside = id_here o batch ids here k e lt is n n_is js now part c.requires.0 c.requires.1 c.requires.2 in
@@ -59,7 +59,7 @@ unreachable-requires-in_default-position_in_place g c =
 pub remove-requires : goal.remove-requires
 remove-requires g c =
     let there = ap (λ l. slice_get l c.in-Some-position_in_place.at) (sym c.deref.ensures.value) ∙ c.in-Some-position_in_place.ensures.found in
-    let within = slice_get_within c.loop-left.here.items c.in-Some-position_in_place.at _ there in
+    let within = slice_get_within c.loop-left.ids_there.items c.in-Some-position_in_place.at _ there in
     omega arith
 
 pub remove-requires-in-loop-left : goal.remove-requires-in-loop-left
@@ -74,9 +74,9 @@ remove-requires-in-loop-left g c =
     let e = get_or batch k c.index-batch-left.result in
     let is = get_or_default batch k c.index-batch-left.result e lt in
     let ids = c.args.ids.now in
-    let here = c.args.here.now.items in
+    let here = c.args.ids_there.now.items in
     let js = c.loop-left.ids in
-    let now = c.loop-left.here.items in
+    let now = c.loop-left.ids_there.items in
     let n = c.loop-left.left in
     let part = c.loop-left.invariant in
     let log = c.requires.0 in
@@ -97,9 +97,9 @@ loop-left-preserved g c =
     let e = get_or batch k c.index-batch-left.result in
     let is = get_or_default batch k c.index-batch-left.result e lt in
     let ids = c.args.ids.now in
-    let here = c.args.here.now.items in
+    let here = c.args.ids_there.now.items in
     let js = c.loop-left.ids in
-    let now = c.loop-left.here.items in
+    let now = c.loop-left.ids_there.items in
     let n = c.loop-left.left in
     let part = c.loop-left.invariant in
     let there = ap (λ l. slice_get l c.in-Some-position_in_place.at) (sym c.deref.ensures.value) ∙ c.in-Some-position_in_place.ensures.found in
@@ -115,5 +115,5 @@ loop-left-preserved g c =
 
 pub returns : goal.returns
 returns g c =
-    forgotten_last g.S.Spec.object c.args.batch.now c.args.ids.now c.args.here.now.items c.loop-left.left c.loop-left.ids c.loop-left.here.items
+    forgotten_last g.S.Spec.object c.args.batch.now c.args.ids.now c.args.ids_there.now.items c.loop-left.left c.loop-left.ids c.loop-left.ids_there.items
     (let test = c.loop-left-test.false in omega arith) c.loop-left.invariant
