@@ -13,7 +13,7 @@ use Rattle.pp_core.specs.declared.step.Rule.TheVariants as rules
 use Rattle.pp_json.specs.declared.header.Header.{Header}
 use Rattle.pp_json.specs.declared.start.Start.{Start as HeaderStart}
 use Rattle.pp_json.specs.Items.{IsReadableItem}
-use Rattle.pp_model.specs.Config.{Start, first, start_of as start_with}
+use Rattle.pp_model.specs.Config.{Start, first, start_with}
 use Rattle.pp_model.specs.Rules.{StartBreaks, StartMeets}
 use Rattle.pp_object.specs.declared.act.Op.{Op}
 use Rattle.pp_object.specs.Objects.{kinds_of, objects}

@@ -24,7 +24,7 @@ use Rattle.pp_lines.specs.Statable.{CanStart, IfGiven, IsCatalog, IsId, IsOpOn, 
 use Rattle.pp_lines.specs.Statable.{IsStatableBody, IsStatableRecord}
 use Rattle.pp_lines.proofs.HeadersRead.{is_catalog, can_start}
 use Rattle.pp_lines.proofs.StepsRead.{is_statable}
-use Rattle.pp_model.specs.Config.{start_of as start_with}
+use Rattle.pp_model.specs.Config.{start_with}
 use Rattle.pp_model.specs.Lists.{Each}
 use Rattle.pp_object.specs.Objects.{kinds_of, place_of}
 use Rattle.pp_object.specs.declared.act.Op.{Op}

@@ -16,7 +16,7 @@ use Rattle.pp_json.specs.declared.start.Start.{Start as HeaderStart}
 use Rattle.pp_json.specs.Items.{IsReadableItem}
 use Rattle.pp_json.specs.Records.{IsReadable}
 use Rattle.pp_json.specs.Rules.{IsReadableStep}
-use Rattle.pp_model.specs.Config.{Start, start_of as start_with}
+use Rattle.pp_model.specs.Config.{Start, start_with}
 use Rattle.pp_model.specs.Rules.{StartMeets}
 use Rattle.pp_object.specs.declared.act.Op.{Op}
 use Rattle.pp_object.specs.Objects.{kinds_of, objects, place_of}

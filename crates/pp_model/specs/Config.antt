@@ -41,8 +41,8 @@ pub record Start (Op : Type 0) : Type 0 where
   pub items : List (Item Op)
 
 -- The start of this transaction with these items.
-abbrev pub start_of : {Op : Type 0} → Name → List (Item Op) → Start Op
-start_of tx items = record { tx = tx; items = items }
+abbrev pub start_with : {Op : Type 0} → Name → List (Item Op) → Start Op
+start_with tx items = record { tx = tx; items = items }
 
 abbrev pub item : {Op : Type 0} → LocalEntry Op → Item Op
 item e = record { id = e.id; op = e.op }

@@ -12,7 +12,7 @@ use Rattle.pp_core.specs.declared.entry.Item.{Item}
 use Rattle.pp_core.specs.declared.entry.SharedEntry.{SharedEntry}
 use Rattle.pp_log.specs.Logs.{GoesBehind}
 use Rattle.pp_log.proofs.Lists.{cut_there}
-use Rattle.pp_model.specs.Config.{Start, as_shared, commit_all, first, shared_ops, start_of}
+use Rattle.pp_model.specs.Config.{Start, as_shared, commit_all, first, shared_ops, start_with}
 use Rattle.pp_model.specs.Lists.{Before, In}
 use Rattle.pp_model.specs.Names.{Name, ◌=ⁿ◌}
 use Rattle.pp_model.specs.Object.{HasDistinctIds, ops}
@@ -177,7 +177,7 @@ module _ {Shape State Op Undo : Type 0} (o : Object Shape State Op Undo) (place 
       (slots : w.slots.entries ≡ v.slots.entries ++ (t, None) ∷ []) (threads : w.threads.keys ≡ v.threads.keys) (ids : reverse w.ids ≡ map (λ p. p.id) items)
       (shared : w.shared ≡ (v.shape, commit_all t (posted t items))) (committed : w.committed ≡ v.committed ++ record { name = t; entries = items } ∷ []) (commits : w.commits.items ≡ v.commits.items) where
     abbrev z : Start Op
-    z = start_of t items
+    z = start_with t items
 
     slots_are : w.slots.entries ≡ (t, None) ∷ []
     slots_are = slots ∙ ap (λ (l : List (Name × Option (OpenTx (List (Item Op))))). l ++ (t, None) ∷ []) no_slots

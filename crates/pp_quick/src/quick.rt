@@ -2,7 +2,7 @@
 ghost use Rattle.std.specs.Prelude.{◌≡◌, ◌+◌, ◌≤◌, ◌<◌, IfOk, IsTrue, None, length};
 ghost use Rattle.std.specs.List.{All};
 ghost use Rattle.pp_front.specs.Records.{record_meaning};
-ghost use Rattle.pp_model.specs.Config.{Config, start_of};
+ghost use Rattle.pp_model.specs.Config.{Config, start_with};
 ghost use Rattle.pp_model.specs.Object.{HasDistinctIds};
 ghost use Rattle.pp_model.specs.Sound.{serial_ops};
 ghost use Rattle.pp_quick.specs.Held.{IsItemAsked, IsRecordAsked, Starts, TakeCosts, Takes};
@@ -83,7 +83,7 @@ impl<S: Parted> Quick<S> {
         requires asked { All (IsItemAsked S.object self.shape) items.now }
         requires few { length items.now ≤ 256 }
         ensures starts { IfOk result (λ r.
-            Starts S.object S.place_of self (start_of tx items.now) r.1 r.0) }
+            Starts S.object S.place_of self (start_with tx items.now) r.1 r.0) }
         ensures cost { IfOk result (λ r.
             IsTrue r.1 → ticks.new ≡ ticks.old + length items.now) }
         ensures repeated { (HasDistinctIds items.now → ⊥) → ticks.new ≡ ticks.old }

@@ -2,7 +2,7 @@
 ghost use Rattle.std.specs.Prelude.{◌≡◌, ◌≤◌, ◌+◌, length, map, reverse, IfOk, OnOk};
 ghost use Rattle.std.specs.Prelude.{IfNone, IfSome, Some, IsTrue};
 ghost use Rattle.std.specs.List.{All};
-ghost use Rattle.pp_model.specs.Config.{start_of};
+ghost use Rattle.pp_model.specs.Config.{start_with};
 ghost use Rattle.pp_model.specs.Object.{HasDistinctIds};
 ghost use Rattle.pp_model.specs.Rules.{StartMeets};
 ghost use Rattle.pp_quick.specs.Held.{IsItemAsked};
@@ -97,11 +97,11 @@ fn put_start<S: Parted>(
     requires new { IsNew S.object S.place_of parts.old }
     requires few { length items.now ≤ 256 }
     requires meets { StartMeets (rules_of S.object parts.old.shape)
-        (Some (start_of tx.now items.now)) }
+        (Some (start_with tx.now items.now)) }
     requires ids { reverse ids ≡ map (λ p. p.id) items.now }
     requires log { shared ≡ (parts.old.shape, posted tx.now items.now) }
     ensures { OnOk result
-        (PutsStart S.object S.place_of parts.old (start_of tx.now items.now) parts.new) }
+        (PutsStart S.object S.place_of parts.old (start_with tx.now items.now) parts.new) }
 {
     let mut shared = shared;
     shared.commit(tx, items);
@@ -126,7 +126,7 @@ pub fn start<S: Parted, L: Ledger>(
     requires asked { All (IsItemAsked S.object parts.old.shape) items.now }
     requires few { length items.now ≤ 256 }
     ensures answers { IfOk result (λ good. StartAnswers S.object S.place_of parts.old
-        (start_of tx.now items.now) good parts.new) }
+        (start_with tx.now items.now) good parts.new) }
     ensures cost { IfOk result (λ good. IsTrue good → ticks.new ≡ ticks.old + length items.now) }
     ensures repeated { (HasDistinctIds items.now → ⊥) → ticks.new ≡ ticks.old }
     ensures rises { ticks.old ≤ ticks.new }

@@ -2,7 +2,7 @@
 ghost use Rattle.std.specs.Prelude.{◌≡◌, ◌≤◌, ◌+◌, [], length, map, reverse, IfOk, OnOk, None};
 ghost use Rattle.std.specs.Prelude.{Some};
 ghost use Rattle.std.specs.List.{All};
-ghost use Rattle.pp_model.specs.Config.{first, start_of};
+ghost use Rattle.pp_model.specs.Config.{first, start_with};
 ghost use Rattle.pp_model.specs.Object.{HasDistinctIds};
 ghost use Rattle.pp_model.specs.Rules.{StartMeets};
 ghost use Rattle.pp_spec.specs.Object.{rules_of};
@@ -109,7 +109,7 @@ impl<S: Parted> Machine<S> {
         requires asked { All (IsAskedItem S.object self.now.shape) items.now }
         requires few { length items.now ≤ 256 }
         ensures judges { IfOk result
-            (JudgesStart S.object self.now.shape (start_of tx.now items.now)) }
+            (JudgesStart S.object self.now.shape (start_with tx.now items.now)) }
         ensures cost { IfOk result (λ r. OnOk r (ticks.new ≡ ticks.old + length items.now)) }
         ensures rises { ticks.old ≤ ticks.new }
         ensures bound { ticks.new ≤ ticks.old + length items.now }
@@ -134,11 +134,12 @@ impl<S: Parted> Machine<S> {
         requires uncounted { self.count ≡ 0 }
         requires asked { All (IsAskedItem S.object self.shape) items.now }
         requires few { length items.now ≤ 256 }
-        requires meets { StartMeets (rules_of S.object self.shape) (Some (start_of tx items.now)) }
+        requires meets { StartMeets (rules_of S.object self.shape)
+            (Some (start_with tx items.now)) }
         requires log { shared ≡ (self.shape, posted tx items.now) }
         ensures { IfOk result (λ m. m ≡ record {
           shape = self.shape;
-          config = first (Some (start_of tx items.now));
+          config = first (Some (start_with tx items.now));
           count = 0;
         }) }
     {
@@ -169,9 +170,9 @@ impl<S: Parted> Machine<S> {
         requires asked { All (IsAskedItem S.object self.shape) items.now }
         requires few { length items.now ≤ 256 }
         ensures effect { IfOk result (λ r.
-            Started S.object self (start_of tx items.now) r.1 r.0) }
+            Started S.object self (start_with tx items.now) r.1 r.0) }
         ensures shown { IfOk result (λ r.
-            IsStartShown S.object self (start_of tx items.now) r.1) }
+            IsStartShown S.object self (start_with tx items.now) r.1) }
         ensures cost { IfOk result (λ r.
             r.1 ≡ Outcome.Done → ticks.new ≡ ticks.old + length items.now) }
         ensures rises { ticks.old ≤ ticks.new }

@@ -1,5 +1,5 @@
 use Rattle.std.proofs.Common.{◌∙◌, ap, subst}
-use Rattle.pp_model.specs.Config.{start_of}
+use Rattle.pp_model.specs.Config.{start_with}
 use Rattle.pp_quick.specs.Held.{Starts}
 use Rattle.pp_quick.specs.Shown.{held}
 use Rattle.pp_quick.specs.Starting.{StartAnswers}
@@ -9,7 +9,7 @@ use Rattle.pp_quick.proofs.quick.Quick.start.Goals as goal
 pub returns-clause-starts : goal.returns-clause-starts
 returns-clause-starts g c =
     let now = c.start.new.parts in
-    let posted = start_of c.args.tx c.args.items.now in
+    let posted = start_with c.args.tx c.args.items.now in
     subst (λ q. Starts g.S.Spec.object g.S.Placed.place_of q posted c.in_ok-good.good (held g.S.Placed.place_of now)) c.self.view_is
     (starts_of g.S.Spec.object g.S.Placed.place_of c.self.inside.parts.value now posted c.in_ok-good.good (ap (λ q. q.count) (c.self.view_is ∙ c.requires.new))
     (subst (λ z. StartAnswers g.S.Spec.object g.S.Placed.place_of z posted c.in_ok-good.good now) c.deref_mut.ensures.value c.in_ok-good.ensures.answers))

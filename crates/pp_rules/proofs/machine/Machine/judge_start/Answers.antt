@@ -1,7 +1,7 @@
 use Rattle.std.proofs.Common.{◌≡◌, ◌+◌, IfOk, OnOk, [], ap, length, subst, ◌∙◌}
 use Rattle.std.proofs.lemmas.Result.{IfOk-weaker}
 use Rattle.pp_rules.specs.Starting.{JudgesStart}
-use Rattle.pp_model.specs.Config.{start_of}
+use Rattle.pp_model.specs.Config.{start_with}
 use Rattle.pp_rules.specs.Starts.{first_repeated}
 use Rattle.pp_rules.proofs.Starting.{judged, repeated_refused, told_distinct}
 use Rattle.pp_rules.proofs.Lent.{lent_view}
@@ -18,8 +18,8 @@ pub returns-clause-judges : goal.returns-clause-judges
 returns-clause-judges g c =
     IfOk-weaker c.posted.result _ _
     (λ r h.
-    subst (λ k. JudgesStart g.S.Spec.object k (start_of c.args.tx.now c.args.items.now) r) (ap (λ v. v.shape) (lent_view c.deref-parts.ensures c.self.view_is))
-    (subst (λ l. JudgesStart g.S.Spec.object c.deref-parts.result.now.shape (start_of c.args.tx.now l) r) c.as_slice-items.ensures
+    subst (λ k. JudgesStart g.S.Spec.object k (start_with c.args.tx.now c.args.items.now) r) (ap (λ v. v.shape) (lent_view c.deref-parts.ensures c.self.view_is))
+    (subst (λ l. JudgesStart g.S.Spec.object c.deref-parts.result.now.shape (start_with c.args.tx.now l) r) c.as_slice-items.ensures
     (judged g.S.Spec.object g.met.S.Spec.lawful c.deref-parts.result.now.shape c.args.tx.now c.as_slice-items.result.now (told_distinct c.as_slice-items.result.now c.in_default.ensures) r h)))
     c.posted.ensures.posts
 

@@ -1,5 +1,5 @@
 use Rattle.std.proofs.Common.{[], ◌∷◌, ◌++◌, ap, ◌∙◌, subst, sym}
-use Rattle.pp_model.specs.Config.{commit_all, start_of}
+use Rattle.pp_model.specs.Config.{commit_all, start_with}
 use Rattle.pp_shared.specs.Committing.{HoldsIdsOf}
 use Rattle.pp_rules.proofs.Lent.{lent_view}
 use Rattle.pp_rules.proofs.Started.{holds_started, ids_posted, not_begun, seen_started}
@@ -15,8 +15,8 @@ commit-requires g c =
 
 pub invariant_of-self : goal.invariant_of-self
 invariant_of-self g c =
-    holds_started g.S.Spec.object c.deref_mut-parts.result.now.shape c.deref_mut-parts.result.now.transactions c.deref_mut-parts.result.now.ids c.deref_mut-parts.result.now.shared c.deref_mut-parts.result.now.committed c.deref_mut-parts.result.now.count _ (lent_view c.deref_mut-parts.ensures.value c.self.view_is) c.requires.empty (start_of c.args.tx c.args.items.now) c.use_name.new.self c.in_ok-ids.ids c.commit.new.self c.push.new.self c.in_ok-use_name.ensures.ok c.in_ok-ids.ensures (c.commit.ensures ∙ ap (λ z. (z.0, commit_all c.args.tx z.1)) c.requires.log) (c.in_ok-push.ensures.ok ∙ ap (λ l. c.deref_mut-parts.result.now.committed ++ record { name = c.args.tx; entries = l } ∷ []) c.in_ok-entries.ensures) c.requires.asked c.requires.few c.requires.meets
+    holds_started g.S.Spec.object c.deref_mut-parts.result.now.shape c.deref_mut-parts.result.now.transactions c.deref_mut-parts.result.now.ids c.deref_mut-parts.result.now.shared c.deref_mut-parts.result.now.committed c.deref_mut-parts.result.now.count _ (lent_view c.deref_mut-parts.ensures.value c.self.view_is) c.requires.empty (start_with c.args.tx c.args.items.now) c.use_name.new.self c.in_ok-ids.ids c.commit.new.self c.push.new.self c.in_ok-use_name.ensures.ok c.in_ok-ids.ensures (c.commit.ensures ∙ ap (λ z. (z.0, commit_all c.args.tx z.1)) c.requires.log) (c.in_ok-push.ensures.ok ∙ ap (λ l. c.deref_mut-parts.result.now.committed ++ record { name = c.args.tx; entries = l } ∷ []) c.in_ok-entries.ensures) c.requires.asked c.requires.few c.requires.meets
 
 pub returns : goal.returns
 returns g c =
-    seen_started g.S.Spec.object c.deref_mut-parts.result.now.shape c.deref_mut-parts.result.now.transactions c.deref_mut-parts.result.now.ids c.deref_mut-parts.result.now.shared c.deref_mut-parts.result.now.committed c.deref_mut-parts.result.now.count _ (lent_view c.deref_mut-parts.ensures.value c.self.view_is) c.requires.empty (start_of c.args.tx c.args.items.now) c.use_name.new.self c.in_ok-ids.ids c.commit.new.self c.push.new.self c.in_ok-use_name.ensures.ok c.in_ok-ids.ensures (c.commit.ensures ∙ ap (λ z. (z.0, commit_all c.args.tx z.1)) c.requires.log) (c.in_ok-push.ensures.ok ∙ ap (λ l. c.deref_mut-parts.result.now.committed ++ record { name = c.args.tx; entries = l } ∷ []) c.in_ok-entries.ensures) c.requires.uncounted
+    seen_started g.S.Spec.object c.deref_mut-parts.result.now.shape c.deref_mut-parts.result.now.transactions c.deref_mut-parts.result.now.ids c.deref_mut-parts.result.now.shared c.deref_mut-parts.result.now.committed c.deref_mut-parts.result.now.count _ (lent_view c.deref_mut-parts.ensures.value c.self.view_is) c.requires.empty (start_with c.args.tx c.args.items.now) c.use_name.new.self c.in_ok-ids.ids c.commit.new.self c.push.new.self c.in_ok-use_name.ensures.ok c.in_ok-ids.ensures (c.commit.ensures ∙ ap (λ z. (z.0, commit_all c.args.tx z.1)) c.requires.log) (c.in_ok-push.ensures.ok ∙ ap (λ l. c.deref_mut-parts.result.now.committed ++ record { name = c.args.tx; entries = l } ∷ []) c.in_ok-entries.ensures) c.requires.uncounted
