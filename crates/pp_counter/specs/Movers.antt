@@ -1,5 +1,6 @@
 -- Meaning: which operations of a counter swap, by a table.
-use Rattle.std.specs.Prelude.{pos, ◌+ℤ◌, ℕ, Bool, List, [], ◌∷◌}
+use Rattle.std.specs.Prelude.{ℤ, pos, ◌+ℤ◌, ℕ, Bool, List, [], ◌∷◌, if◌then◌else◌}
+use Rattle.std.specs.Ordering.{int_eq}
 use Rattle.pp_table.specs.declared.table.Condition.{Condition}
 use Rattle.pp_table.specs.declared.table.Condition.TheVariants.{Always, Chain, FirstStill}
 use Rattle.pp_table.specs.declared.table.Condition.TheVariants.{SecondStill}
@@ -19,6 +20,16 @@ abbrev pub figures_of : CounterOp → Figures
 figures_of (Add by) = record { from = pos 0; to = pos 0; shift = by }
 figures_of (Get value) = record { from = value; to = value; shift = pos 0 }
 figures_of (FetchAdd by was) = record { from = was; to = was +ℤ by; shift = by }
+
+-- the number that it leads to
+abbrev pub number_of : CounterOp → ℤ
+number_of op = (figures_of op).to
+
+-- the form that its gates know: its row, and another where it leaves the number that it finds
+abbrev pub gate_form_of : CounterOp → ℕ
+gate_form_of (Add by) = if int_eq by (pos 0) then 3 else 0
+gate_form_of (Get value) = 4
+gate_form_of (FetchAdd by was) = if int_eq by (pos 0) then 5 else 2
 
 -- a row for each first operation, and a column for each second
 abbrev pub counter_table : List (List Condition)

@@ -7,4 +7,5 @@ mod movers;
 mod op;
 
 pub use count::Count;
+pub use movers::{gate, gate_form, number};
 pub use op::CounterOp;

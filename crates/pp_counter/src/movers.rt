@@ -1,10 +1,14 @@
 //! Which pairs of operations swap, by a table.
 ghost use Rattle.std.specs.Prelude.{◌≡◌};
-ghost use Rattle.pp_counter.specs.Movers.{figures_of, form_of, counter_table, may_swap};
+ghost use Rattle.pp_spec.specs.Object.{Swaps};
+ghost use Rattle.pp_table.specs.Gates.{IsGateBefore};
+ghost use Rattle.pp_counter.specs.Count.{counter};
+ghost use Rattle.pp_counter.specs.Movers.{figures_of, form_of, counter_table, gate_form_of, may_swap};
+ghost use Rattle.pp_counter.specs.Movers.{number_of};
 
 use crate::op::CounterOp;
 use pp_table::Condition::{Always, Chain, FirstStill, SecondStill};
-use pp_table::{Figures, MoverTable};
+use pp_table::{Figures, Gate, MoverTable, Reading};
 
 /// The row and the column of an operation's form.
 #[inline(always)]
@@ -42,6 +46,26 @@ fn figures(op: &CounterOp) -> Figures
     }
 }
 
+/// The form that its gates know: its row, and another where it leaves the number that it finds.
+#[inline(always)]
+pub fn gate_form(op: &CounterOp) -> usize
+    ensures { result ≡ gate_form_of op.now }
+{
+    match *op {
+        CounterOp::Add { by } => if by == 0 { 3 } else { 0 },
+        CounterOp::Get { value: _ } => 4,
+        CounterOp::FetchAdd { by, was: _ } => if by == 0 { 5 } else { 2 },
+    }
+}
+
+/// The number that it leads to.
+#[inline(always)]
+pub fn number(op: &CounterOp) -> i128
+    ensures { result ≡ number_of op.now }
+{
+    figures(op).to
+}
+
 /// A condition for each pair of forms: a row for the first operation, a column for the second.
 #[inline(always)]
 fn mover_table() -> MoverTable<3>
@@ -59,4 +83,17 @@ pub fn may_swap(a: &CounterOp, b: &CounterOp) -> bool
     ensures { result ≡ may_swap a.now b.now }
 {
     mover_table().holds(form(a), &figures(a), form(b), &figures(b))
+}
+
+/// Which operations of a form are known to swap with this one behind them, by their numbers.
+#[inline(always)]
+pub fn gate(first: usize, op: &CounterOp) -> Gate
+    ensures { IsGateBefore gate_form_of number_of (Swaps counter) first op.now result }
+{
+    let table = mover_table();
+    if first < 3 {
+        table.gate(first, Reading::To, form(op), &figures(op))
+    } else {
+        table.gate(first - 3, Reading::Still, form(op), &figures(op))
+    }
 }

@@ -35,6 +35,10 @@ figures_of op = record {
       pos 0;
 }
 
+-- the number that it leads to
+abbrev pub number_of : MapOp → ℤ
+number_of op = (figures_of op).to
+
 -- a row for each first operation, and a column for each second: put, get and remove, each without
 -- and with a value that they found
 abbrev pub map_table : List (List Condition)

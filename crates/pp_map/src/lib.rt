@@ -7,4 +7,5 @@ mod movers;
 mod op;
 
 pub use key_map::KeyMap;
+pub use movers::{form, gate, number};
 pub use op::MapOp;

@@ -1,10 +1,13 @@
 //! Which pairs of operations swap, by a table.
 ghost use Rattle.std.specs.Prelude.{◌≡◌};
-ghost use Rattle.pp_map.specs.Movers.{figure_of, figures_of, form_by, form_of, map_table, may_swap};
+ghost use Rattle.pp_spec.specs.Object.{Swaps};
+ghost use Rattle.pp_table.specs.Gates.{IsGateBefore};
+ghost use Rattle.pp_map.specs.KeyMap.{key_map};
+ghost use Rattle.pp_map.specs.Movers.{figure_of, figures_of, form_by, form_of, map_table, may_swap, number_of};
 
 use crate::op::MapOp;
 use pp_table::Condition::{Always, Chain, Never, Unequal};
-use pp_table::{Figures, MoverTable};
+use pp_table::{Figures, Gate, MoverTable, Reading};
 
 /// One of two forms, by whether there was a value.
 #[inline(always)]
@@ -19,7 +22,7 @@ fn form_by(found: Option<i64>, absent: usize, present: usize) -> usize
 
 /// The row and the column of an operation's form.
 #[inline(always)]
-fn form(op: &MapOp) -> usize
+pub fn form(op: &MapOp) -> usize
     ensures { result ≡ form_of op.now }
 {
     match *op {
@@ -65,6 +68,14 @@ fn figures(op: &MapOp) -> Figures
     }
 }
 
+/// The number that it leads to.
+#[inline(always)]
+pub fn number(op: &MapOp) -> i128
+    ensures { result ≡ number_of op.now }
+{
+    figures(op).to
+}
+
 /// A condition for each pair of forms: a row for the first operation, a column for the second.
 /// Each call has two, by whether it found no value or one.
 #[inline(always)]
@@ -97,4 +108,12 @@ pub fn may_swap(a: &MapOp, b: &MapOp) -> bool
     } else {
         true
     }
+}
+
+/// Which operations of a form are known to swap with this one behind them, by their numbers.
+#[inline(always)]
+pub fn gate(first: usize, op: &MapOp) -> Gate
+    ensures { IsGateBefore form_of number_of (Swaps key_map) first op.now result }
+{
+    mover_table().gate(first, Reading::To, form(op), &figures(op))
 }

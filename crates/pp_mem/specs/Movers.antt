@@ -1,5 +1,5 @@
 -- Meaning: which operations of a memory swap, by a table.
-use Rattle.std.specs.Prelude.{pos, ◌-ℤ◌, ℕ, Bool, true, false, if◌then◌else◌, List, [], ◌∷◌}
+use Rattle.std.specs.Prelude.{ℤ, pos, ◌-ℤ◌, ℕ, Bool, true, false, if◌then◌else◌, List, [], ◌∷◌}
 use Rattle.std.specs.Ordering.{int_eq}
 use Rattle.pp_table.specs.declared.table.Condition.{Condition}
 use Rattle.pp_table.specs.declared.table.Condition.TheVariants.{Always, Equal, Unequal, Chain}
@@ -25,6 +25,19 @@ figures_of (Read a v) = record { from = v; to = v; shift = pos 0 }
 figures_of (Write a v) = record { from = pos 0; to = v; shift = pos 0 }
 figures_of (Cas a e n true) = record { from = e; to = n; shift = n -ℤ e }
 figures_of (Cas a e n false) = record { from = e; to = e; shift = pos 0 }
+
+-- the number that its gates read: the one that it leads to, and of a compare-and-swap that was done
+-- the one that it expected
+abbrev pub number_of : MemOp → ℤ
+number_of (Cas a e n true) = e
+number_of op = (figures_of op).to
+
+-- the form that its gates know: its row, and another where it leaves the number that it finds
+abbrev pub gate_form_of : MemOp → ℕ
+gate_form_of (Read a v) = 4
+gate_form_of (Write a v) = 1
+gate_form_of (Cas a e n true) = if int_eq e n then 6 else 2
+gate_form_of (Cas a e n false) = 7
 
 -- a row for each first operation, and a column for each second
 abbrev pub memory_table : List (List Condition)

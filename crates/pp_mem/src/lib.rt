@@ -10,5 +10,6 @@ mod undo;
 
 pub use mem::Mem;
 pub use memory::Memory;
+pub use movers::{gate, gate_form, number};
 pub use op::MemOp;
 pub use undo::Undo;

@@ -1,10 +1,13 @@
 //! Which pairs of operations swap, by a table.
 ghost use Rattle.std.specs.Prelude.{◌≡◌};
-ghost use Rattle.pp_mem.specs.Movers.{figures_of, form_of, memory_table, may_swap};
+ghost use Rattle.pp_spec.specs.Object.{Swaps};
+ghost use Rattle.pp_table.specs.Gates.{IsGateBefore};
+ghost use Rattle.pp_mem.specs.Memories.{memory};
+ghost use Rattle.pp_mem.specs.Movers.{figures_of, form_of, gate_form_of, memory_table, may_swap, number_of};
 
 use crate::op::MemOp;
 use pp_table::Condition::{Always, Apart, Chain, Equal, FromApart, IntoApart, Settled, Unequal};
-use pp_table::{Figures, MoverTable};
+use pp_table::{Figures, Gate, MoverTable, Reading};
 
 /// The row and the column of an operation's form.
 #[inline(always)]
@@ -57,6 +60,37 @@ fn figures(op: &MemOp) -> Figures
     }
 }
 
+/// The form that its gates know: its row, and another where it leaves the number that it finds.
+#[inline(always)]
+pub fn gate_form(op: &MemOp) -> usize
+    ensures { result ≡ gate_form_of op.now }
+{
+    match *op {
+        MemOp::Read { at: _, value: _ } => 4,
+        MemOp::Write { at: _, value: _ } => 1,
+        MemOp::Cas {
+            expected,
+            new,
+            done: true,
+            ..
+        } => if expected == new { 6 } else { 2 },
+        MemOp::Cas { done: false, .. } => 7,
+    }
+}
+
+/// The number that its gates read: the one that it leads to, and of a compare-and-swap that was
+/// done the one that it expected.
+#[inline(always)]
+pub fn number(op: &MemOp) -> i128
+    ensures { result ≡ number_of op.now }
+{
+    match *op {
+        MemOp::Read { at: _, value } => i128::from(value),
+        MemOp::Write { at: _, value } => i128::from(value),
+        MemOp::Cas { expected, .. } => i128::from(expected),
+    }
+}
+
 /// A condition for each pair of forms: a row for the first operation, a column for the second.
 #[inline(always)]
 fn mover_table() -> MoverTable<4>
@@ -78,5 +112,20 @@ pub fn may_swap(a: &MemOp, b: &MemOp) -> bool
         mover_table().holds(form(a), &figures(a), form(b), &figures(b))
     } else {
         true
+    }
+}
+
+/// Which operations of a form are known to swap with this one behind them, by their numbers.
+#[inline(always)]
+pub fn gate(first: usize, op: &MemOp) -> Gate
+    ensures { IsGateBefore gate_form_of number_of (Swaps memory) first op.now result }
+{
+    let table = mover_table();
+    if first == 2 {
+        table.gate(2, Reading::From, form(op), &figures(op))
+    } else if first < 4 {
+        table.gate(first, Reading::To, form(op), &figures(op))
+    } else {
+        table.gate(first - 4, Reading::Still, form(op), &figures(op))
     }
 }

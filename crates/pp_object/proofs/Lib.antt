@@ -5,3 +5,4 @@ pub mod Items
 pub mod Made
 pub mod Named
 pub mod Standing
+pub mod Gates

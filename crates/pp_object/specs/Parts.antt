@@ -1,13 +1,22 @@
 -- Meaning: what the operations of a run are about: an object, and a key where its kind has keys.
 use Rattle.std.specs.Prelude.{ℤ, pos, Bool, false, not}
 use Rattle.std.specs.Ordering.{int_eq}
+use Rattle.pp_parts.specs.declared.label.Label.{Label}
 use Rattle.pp_parts.specs.declared.part.Part.{Part}
 use Rattle.pp_mem.specs.Operations as memories
 use Rattle.pp_set.specs.Operations as sets
 use Rattle.pp_map.specs.Operations as maps
+use Rattle.pp_mem.specs.Movers as mem
+use Rattle.pp_set.specs.Movers as set
+use Rattle.pp_map.specs.Movers as map
+use Rattle.pp_counter.specs.Movers as counts
+use Rattle.pp_queue.specs.Movers as queues
+use Rattle.pp_stack.specs.Movers as stacks
+use Rattle.pp_prio.specs.Movers as prios
 use Rattle.pp_counter.specs.declared.op.CounterOp.TheVariants.{Add}
 use Rattle.pp_object.specs.declared.act.Act.{Act}
-use Rattle.pp_object.specs.declared.act.Act.TheVariants.{Memory, KeySet, KeyMap, Counter}
+use Rattle.pp_object.specs.declared.act.Act.TheVariants.{Memory, KeySet, KeyMap, Counter, Queue}
+use Rattle.pp_object.specs.declared.act.Act.TheVariants.{Stack, PriorityQueue}
 use Rattle.pp_object.specs.declared.act.Op.{Op}
 
 -- the key that an act is on, or 0 where its kind has none
@@ -20,6 +29,19 @@ key_of a = pos 0
 -- the object of an operation, and the key there
 abbrev pub part_of : Op → Part
 part_of op = record { object = op.object; key = key_of op.act }
+
+-- the form of an act, among those of its kind, and the number that it leads to
+abbrev pub act_label : Act → Label
+act_label (Memory a) = record { form = mem.gate_form_of a; number = mem.number_of a }
+act_label (KeySet a) = record { form = set.form_of a; number = set.number_of a }
+act_label (KeyMap a) = record { form = map.form_of a; number = map.number_of a }
+act_label (Counter a) = record { form = counts.gate_form_of a; number = counts.number_of a }
+act_label (Queue a) = record { form = queues.form_of a; number = queues.number_of a }
+act_label (Stack a) = record { form = stacks.form_of a; number = stacks.number_of a }
+act_label (PriorityQueue a) = record { form = prios.form_of a; number = prios.number_of a }
+
+abbrev pub label_of : Op → Label
+label_of op = act_label op.act
 
 -- both add to a counter, and the first adds another number than 0
 abbrev pub both_add : Act → Act → Bool

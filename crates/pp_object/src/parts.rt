@@ -1,9 +1,9 @@
 //! What operations are about, and which stand for others.
 ghost use Rattle.std.specs.Prelude.{◌≡◌, IsTrue};
-ghost use Rattle.pp_parts.specs.Parts.{StandsFor};
+ghost use Rattle.pp_parts.specs.Parts.{IsGate, StandsFor};
 ghost use Rattle.pp_object.specs.Objects.{objects};
-ghost use Rattle.pp_object.specs.Parts.{both_add, part_of};
-ghost use Rattle.pp_object.specs.One.{in_clique};
+ghost use Rattle.pp_object.specs.Parts.{act_label, both_add, label_of, part_of};
+ghost use Rattle.pp_object.specs.One.{in_clique, one};
 ghost use Rattle.pp_object.specs.laws.Cliques.{clique_swaps};
 ghost use Rattle.pp_object.specs.laws.Parts.{other_parts_swap};
 
@@ -12,7 +12,8 @@ use crate::objects::Objects;
 use pp_counter::CounterOp;
 use pp_map::MapOp;
 use pp_mem::MemOp;
-use pp_parts::{Part, Parted};
+use pp_parts::{Label, Part, Parted};
+use pp_table::Gate;
 
 /// Whether both add to a counter, and the first adds another number than 0.
 fn both_add(a: &Act, b: &Act) -> bool
@@ -138,8 +139,64 @@ fn in_clique(act: &Act) -> bool
     }
 }
 
+/// The form of an act, among those of its kind, and the number that it leads to.
+#[inline]
+fn label(act: &Act) -> Label
+    ensures { result ≡ act_label act.now }
+{
+    match act {
+        Act::Memory(op) => Label {
+            form: pp_mem::gate_form(op),
+            number: pp_mem::number(op),
+        },
+        Act::KeySet(op) => Label {
+            form: pp_set::form(op),
+            number: 0,
+        },
+        Act::KeyMap(op) => Label {
+            form: pp_map::form(op),
+            number: pp_map::number(op),
+        },
+        Act::Counter(op) => Label {
+            form: pp_counter::gate_form(op),
+            number: pp_counter::number(op),
+        },
+        Act::Queue(op) => Label {
+            form: pp_queue::form(op),
+            number: pp_queue::number(op),
+        },
+        Act::Stack(op) => Label {
+            form: pp_stack::form(op),
+            number: pp_stack::number(op),
+        },
+        Act::PriorityQueue(op) => Label {
+            form: pp_prio::form(op),
+            number: pp_prio::number(op),
+        },
+    }
+}
+
+/// Which acts of a form are known to swap with this one behind them, by their numbers. Those of
+/// other kinds always do.
+#[inline]
+fn gate(form: usize, act: &Act) -> Gate
+    ensures { IsGate one act_label form act.now result }
+{
+    match act {
+        Act::Memory(op) => pp_mem::gate(form, op),
+        Act::KeySet(op) => pp_set::gate(form, op),
+        Act::KeyMap(op) => pp_map::gate(form, op),
+        Act::Counter(op) => pp_counter::gate(form, op),
+        Act::Queue(op) => pp_queue::gate(form, op),
+        Act::Stack(op) => pp_stack::gate(form, op),
+        Act::PriorityQueue(op) => pp_prio::gate(form, op),
+    }
+}
+
 impl Parted for Objects {
     ghost part_of = { part_of };
+
+    ghost label_of = { label_of };
 
     #[inline]
     fn part(op: &Op) -> Part {
@@ -147,6 +204,16 @@ impl Parted for Objects {
             object: op.object,
             key: op.act.key(),
         }
+    }
+
+    #[inline]
+    fn label(op: &Op) -> Label {
+        label(&op.act)
+    }
+
+    #[inline]
+    fn gate(form: usize, op: &Op) -> Gate {
+        gate(form, &op.act)
     }
 
     fn stands_for(a: &Op, b: &Op) -> bool {

@@ -1,8 +1,11 @@
 -- Meaning: operations that are about different things, and operations that stand for others.
-use Rattle.std.specs.Prelude.{◌≡◌, ◌≢◌, Bool, false, true, IsTrue, List, [], ◌∷◌, Option}
+use Rattle.std.specs.Prelude.{◌≡◌, ◌≢◌, ℕ, Bool, false, true, IsTrue, List, [], ◌∷◌, Option}
 use Rattle.std.specs.Prelude.{None, Some}
 use Rattle.pp_model.specs.Lists.{In}
 use Rattle.pp_spec.specs.Object.{Object, Swaps}
+use Rattle.pp_table.specs.declared.gate.Gate.{Gate}
+use Rattle.pp_table.specs.Gates.{IsGateBefore}
+use Rattle.pp_parts.specs.declared.label.Label.{Label}
 use Rattle.pp_parts.specs.declared.part.Part.{Part}
 
 -- Operations that stand for all that were added; cut says that there were too many of them, so that
@@ -29,6 +32,11 @@ module _ {Shape State Op Undo : Type 0} (o : Object Shape State Op Undo) where
   -- Each operation that a swaps with, before it or behind it, b swaps with too.
   abbrev pub StandsFor : Op → Op → Type 0
   StandsFor a b = ((c : Op) → Swaps o a c → Swaps o b c) × ((c : Op) → Swaps o c a → Swaps o c b)
+
+  -- Each operation of the form whose number passes swaps with b behind it.
+  abbrev pub IsGate : (Op → Label) → ℕ → Op → Gate → Type 0
+  IsGate label_of form b gate =
+      IsGateBefore (λ a. (label_of a).form) (λ a. (label_of a).number) (Swaps o) form b gate
 
   -- One of these stands for the operation.
   abbrev pub IsStoodForBy : List Op → Op → Type 0

@@ -3,22 +3,36 @@ ghost use Rattle.std.specs.Prelude.{◌≡◌, ◌≢◌, IsTrue};
 ghost use Rattle.pp_spec.specs.Object.{CliqueSwaps, Swaps};
 ghost use Rattle.pp_parts.specs.Parts.{PartsSwap, StandsFor};
 
+use crate::label::Label;
 use crate::part::Part;
 use pp_spec::Placed;
+use pp_table::Gate;
 
 /// A kind of several objects, of which each operation has one, and there one part.
 pub trait Parted: Placed {
     ghost use Rattle.std.specs.Prelude.{◌≡◌, IsTrue};
+    ghost use Rattle.pp_parts.specs.declared.label.Label.{Label as LabelOf};
     ghost use Rattle.pp_parts.specs.declared.part.Part.{Part as PartOf};
-    ghost use Rattle.pp_parts.specs.Parts.{PartsSwap, StandsFor};
+    ghost use Rattle.pp_parts.specs.Parts.{IsGate, PartsSwap, StandsFor};
     ghost use Rattle.pp_spec.specs.Object.{CliqueSwaps};
 
     /// The part that an operation is about.
     ghost part_of: { Self.Op → PartOf };
 
+    /// The form of an operation, and the number that it leads to.
+    ghost label_of: { Self.Op → LabelOf };
+
     /// The part that it is about.
     fn part(op: &Self::Op) -> Part
         ensures { result ≡ part_of op.now };
+
+    /// Its form, and the number that it leads to.
+    fn label(op: &Self::Op) -> Label
+        ensures { result ≡ label_of op.now };
+
+    /// Which operations of a form are known to swap with this one behind them, by their numbers.
+    fn gate(form: usize, op: &Self::Op) -> Gate
+        ensures { IsGate Self.object label_of form op.now result };
 
     /// Whether the first may stand for the second: wherever it swaps, the second is known to swap.
     fn stands_for(a: &Self::Op, b: &Self::Op) -> bool

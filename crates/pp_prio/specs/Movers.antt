@@ -26,6 +26,10 @@ value_of (Least value) = unwrap_or value (pos 0)
 abbrev pub figures_of : PrioOp → Figures
 figures_of op = record { from = value_of op; to = value_of op; shift = pos 0 }
 
+-- the number that it leads to
+abbrev pub number_of : PrioOp → ℤ
+number_of op = (figures_of op).to
+
 -- a row for each first operation, and a column for each second
 abbrev pub prio_table : List (List Condition)
 prio_table =

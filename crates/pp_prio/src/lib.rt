@@ -8,5 +8,6 @@ mod op;
 mod prio;
 
 pub use bag::Bag;
+pub use movers::{form, gate, number};
 pub use op::PrioOp;
 pub use prio::Prio;

@@ -1,14 +1,17 @@
 //! Which pairs of operations swap, by a table.
 ghost use Rattle.std.specs.Prelude.{◌≡◌};
-ghost use Rattle.pp_prio.specs.Movers.{value_of, figures_of, form_of, prio_table, may_swap};
+ghost use Rattle.pp_spec.specs.Object.{Swaps};
+ghost use Rattle.pp_table.specs.Gates.{IsGateBefore};
+ghost use Rattle.pp_prio.specs.Prios.{prio};
+ghost use Rattle.pp_prio.specs.Movers.{value_of, figures_of, form_of, prio_table, may_swap, number_of};
 
 use crate::op::PrioOp;
 use pp_table::Condition::{Always, Falling, Never, Rising, Unequal};
-use pp_table::{Figures, MoverTable};
+use pp_table::{Figures, Gate, MoverTable, Reading};
 
 /// The row and the column of an operation's form.
 #[inline(always)]
-fn form(op: &PrioOp) -> usize
+pub fn form(op: &PrioOp) -> usize
     ensures { result ≡ form_of op.now }
 {
     match *op {
@@ -45,6 +48,14 @@ fn figures(op: &PrioOp) -> Figures
     }
 }
 
+/// The number that it leads to.
+#[inline(always)]
+pub fn number(op: &PrioOp) -> i128
+    ensures { result ≡ number_of op.now }
+{
+    figures(op).to
+}
+
 /// A condition for each pair of forms: a row for the first operation, a column for the second.
 #[inline(always)]
 fn mover_table() -> MoverTable<4>
@@ -63,4 +74,12 @@ pub fn may_swap(a: &PrioOp, b: &PrioOp) -> bool
     ensures { result ≡ may_swap a.now b.now }
 {
     mover_table().holds(form(a), &figures(a), form(b), &figures(b))
+}
+
+/// Which operations of a form are known to swap with this one behind them, by their numbers.
+#[inline(always)]
+pub fn gate(first: usize, op: &PrioOp) -> Gate
+    ensures { IsGateBefore form_of number_of (Swaps prio) first op.now result }
+{
+    mover_table().gate(first, Reading::To, form(op), &figures(op))
 }

@@ -1,5 +1,5 @@
 -- Meaning: which operations of a queue swap, by a table.
-use Rattle.std.specs.Prelude.{pos, ℕ, Bool, List, [], ◌∷◌, Some, None}
+use Rattle.std.specs.Prelude.{ℤ, pos, ℕ, Bool, List, [], ◌∷◌, Some, None}
 use Rattle.pp_table.specs.declared.table.Condition.{Condition}
 use Rattle.pp_table.specs.declared.table.Condition.TheVariants.{Always, Never, Equal, Unequal}
 use Rattle.pp_table.specs.declared.table.Figures.{Figures}
@@ -18,6 +18,10 @@ abbrev pub figures_of : QueueOp → Figures
 figures_of (Enq value) = record { from = value; to = value; shift = pos 0 }
 figures_of (Deq (Some x)) = record { from = x; to = x; shift = pos 0 }
 figures_of (Deq None) = record { from = pos 0; to = pos 0; shift = pos 0 }
+
+-- the number that it leads to
+abbrev pub number_of : QueueOp → ℤ
+number_of op = (figures_of op).to
 
 -- a row for each first operation, and a column for each second
 abbrev pub queue_table : List (List Condition)

@@ -9,5 +9,6 @@ mod op;
 mod queue;
 
 pub use fifo::Fifo;
+pub use movers::{form, gate, number};
 pub use op::QueueOp;
 pub use queue::Queue;

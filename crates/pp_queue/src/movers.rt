@@ -1,14 +1,17 @@
 //! Which pairs of operations swap, by a table.
 ghost use Rattle.std.specs.Prelude.{◌≡◌};
-ghost use Rattle.pp_queue.specs.Movers.{figures_of, form_of, queue_table, may_swap};
+ghost use Rattle.pp_spec.specs.Object.{Swaps};
+ghost use Rattle.pp_table.specs.Gates.{IsGateBefore};
+ghost use Rattle.pp_queue.specs.Fifo.{fifo};
+ghost use Rattle.pp_queue.specs.Movers.{figures_of, form_of, queue_table, may_swap, number_of};
 
 use crate::op::QueueOp;
 use pp_table::Condition::{Always, Equal, Never, Unequal};
-use pp_table::{Figures, MoverTable};
+use pp_table::{Figures, Gate, MoverTable, Reading};
 
 /// The row and the column of an operation's form.
 #[inline(always)]
-fn form(op: &QueueOp) -> usize
+pub fn form(op: &QueueOp) -> usize
     ensures { result ≡ form_of op.now }
 {
     match *op {
@@ -35,6 +38,14 @@ fn figures(op: &QueueOp) -> Figures
     }
 }
 
+/// The number that it leads to.
+#[inline(always)]
+pub fn number(op: &QueueOp) -> i128
+    ensures { result ≡ number_of op.now }
+{
+    figures(op).to
+}
+
 /// A condition for each pair of forms: a row for the first operation, a column for the second.
 #[inline(always)]
 fn mover_table() -> MoverTable<3>
@@ -52,4 +63,12 @@ pub fn may_swap(a: &QueueOp, b: &QueueOp) -> bool
     ensures { result ≡ may_swap a.now b.now }
 {
     mover_table().holds(form(a), &figures(a), form(b), &figures(b))
+}
+
+/// Which operations of a form are known to swap with this one behind them, by their numbers.
+#[inline(always)]
+pub fn gate(first: usize, op: &QueueOp) -> Gate
+    ensures { IsGateBefore form_of number_of (Swaps fifo) first op.now result }
+{
+    mover_table().gate(first, Reading::To, form(op), &figures(op))
 }

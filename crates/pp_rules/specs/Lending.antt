@@ -3,6 +3,7 @@ use Rattle.std.specs.Prelude.{ℕ, Option}
 use Rattle.std.specs.Borrow.{Fml, RattleType, MutBor, LendsIf}
 use Rattle.std.specs.declared.clone.Clone.{Ghosts}
 use Rattle.pp_model.specs.Names.{Name}
+use Rattle.pp_parts.specs.declared.label.Label.{Label}
 use Rattle.pp_parts.specs.declared.part.Part.{Part}
 use Rattle.pp_spec.specs.Object.{Object}
 use Rattle.pp_rules.specs.Courses.{Guided}
@@ -13,16 +14,16 @@ use Rattle.pp_rules.specs.contracts.transactions.Transactions as txs
 module _ (S Shape State Op Undo : RattleType)
     (object : Object Shape.Denot State.Denot Op.Denot Undo.Denot)
     (place_of : Op.Denot → ℕ) (SameAt : ℕ → State.Denot → State.Denot → Type 0)
-    (part_of : Op.Denot → Part) (clone : Ghosts Op.Denot) where
+    (part_of : Op.Denot → Part) (label_of : Op.Denot → Label) (clone : Ghosts Op.Denot) where
   -- the types of the transactions and of a course, as the logic holds them
   abbrev txs_row : RattleType
   txs_row =
-      txs.the_row S Shape State Op Undo (record { part_of = part_of })
+      txs.the_row S Shape State Op Undo (record { part_of = part_of; label_of = label_of })
       (record { place_of = place_of; SameAt = SameAt }) (record { object = object }) clone
 
   abbrev course_row : RattleType
   course_row =
-      course.the_row S Shape State Op Undo (record { part_of = part_of })
+      course.the_row S Shape State Op Undo (record { part_of = part_of; label_of = label_of })
       (record { place_of = place_of; SameAt = SameAt }) (record { object = object }) clone
 
   -- The open transaction t ends with the last course written through r, and all else stays.

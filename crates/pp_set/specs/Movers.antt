@@ -1,5 +1,5 @@
 -- Meaning: which operations of a set swap, by a table.
-use Rattle.std.specs.Prelude.{pos, ℕ, Bool, true, false, if◌then◌else◌, List, [], ◌∷◌}
+use Rattle.std.specs.Prelude.{ℤ, pos, ℕ, Bool, true, false, if◌then◌else◌, List, [], ◌∷◌}
 use Rattle.std.specs.Ordering.{int_eq}
 use Rattle.pp_table.specs.declared.table.Condition.{Condition}
 use Rattle.pp_table.specs.declared.table.Condition.TheVariants.{Always, Never}
@@ -21,6 +21,10 @@ form_of (Contains k false) = 5
 -- no number matters
 abbrev pub no_figures : Figures
 no_figures = record { from = pos 0; to = pos 0; shift = pos 0 }
+
+-- so each counts as leading to 0
+abbrev pub number_of : SetOp → ℤ
+number_of op = pos 0
 
 -- a row for each first operation, and a column for each second
 abbrev pub set_table : List (List Condition)

@@ -8,5 +8,6 @@ mod op;
 mod set;
 
 pub use members::Members;
+pub use movers::{form, gate};
 pub use op::SetOp;
 pub use set::KeySet;

@@ -1,14 +1,17 @@
 //! Which pairs of operations swap, by a table.
 ghost use Rattle.std.specs.Prelude.{◌≡◌};
-ghost use Rattle.pp_set.specs.Movers.{no_figures, form_of, set_table, may_swap};
+ghost use Rattle.pp_spec.specs.Object.{Swaps};
+ghost use Rattle.pp_table.specs.Gates.{IsGateBefore};
+ghost use Rattle.pp_set.specs.Sets.{key_set};
+ghost use Rattle.pp_set.specs.Movers.{no_figures, form_of, set_table, may_swap, number_of};
 
 use crate::op::SetOp;
 use pp_table::Condition::{Always, Never};
-use pp_table::{Figures, MoverTable};
+use pp_table::{Figures, Gate, MoverTable, Reading};
 
 /// The row and the column of an operation's form, which is its call with its result.
 #[inline(always)]
-fn form(op: &SetOp) -> usize
+pub fn form(op: &SetOp) -> usize
     ensures { result ≡ form_of op.now }
 {
     match *op {
@@ -54,4 +57,13 @@ pub fn may_swap(a: &SetOp, b: &SetOp) -> bool
     } else {
         true
     }
+}
+
+/// Which operations of a form are known to swap with this one behind them: all or none, since no
+/// number matters.
+#[inline(always)]
+pub fn gate(first: usize, op: &SetOp) -> Gate
+    ensures { IsGateBefore form_of number_of (Swaps key_set) first op.now result }
+{
+    mover_table().gate(first, Reading::To, form(op), &no_figures())
 }

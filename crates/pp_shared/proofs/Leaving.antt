@@ -61,21 +61,21 @@ filter_same {E} keep less (a ∷ x) same =
     ap (λ (b : Bool). cond b (a ∷ filter less x) (filter less x)) (same a (inl refl))
     ∙ ap (λ (z : List E). cond (keep a) (a ∷ z) z) (filter_same keep less x (λ d inside. same d (inr inside)))
 
-loses_kept : {E : Type 0} (test keep less : E → Bool) (key : E → ℕ) (e : E) → keep e ≡ true → less e ≡ false → ((d : E) → (key d ≡ key e → ⊥) → less d ≡ keep d) → (x : List E) → ((p q : E) → Before p q x → key p ≡ key q → ⊥) → In e x → LosesAt (test e) (filter test (filter keep x)) (filter test (filter less x))
+loses_kept : {E : Type 0} (test keep less : E → Bool) (key : E → ℕ) (e : E) → keep e ≡ true → less e ≡ false → ((d : E) → (key d ≡ key e → ⊥) → less d ≡ keep d) → (x : List E) → ((p q : E) → Before p q x → key p ≡ key q → ⊥) → In e x → LosesAt e (test e) (filter test (filter keep x)) (filter test (filter less x))
 loses_kept test keep less key e kept left others [] distinct inside = absurd inside
 loses_kept {E} test keep less key e kept left others (a ∷ x) distinct (inl here) =
     let rest : filter less x ≡ filter keep x = filter_same keep less x (λ d inside. others d (λ one. distinct a d (inl (refl, inside)) (ap key (sym here) ∙ sym one))) in
     let old : filter keep (a ∷ x) ≡ a ∷ filter keep x = ap (λ (b : Bool). cond b (a ∷ filter keep x) (filter keep x)) (ap keep (sym here) ∙ kept) in
     let new : filter less (a ∷ x) ≡ filter keep x = ap (λ (b : Bool). cond b (a ∷ filter less x) (filter less x)) (ap less (sym here) ∙ left) ∙ rest in
-    let first : LosesAt (test e) (filter test (a ∷ filter keep x)) (filter test (filter keep x)) = subst (λ (d : E). LosesAt (test d) (filter test (a ∷ filter keep x)) (filter test (filter keep x))) (sym here) (loses_first (test a) a (filter test (filter keep x))) in
-    subst (λ (z : List E). LosesAt (test e) (filter test z) (filter test (filter less (a ∷ x)))) (sym old)
-    (subst (λ (z : List E). LosesAt (test e) (filter test (a ∷ filter keep x)) (filter test z)) (sym new) first)
+    let first : LosesAt e (test e) (filter test (a ∷ filter keep x)) (filter test (filter keep x)) = subst (λ (d : E). LosesAt d (test d) (filter test (a ∷ filter keep x)) (filter test (filter keep x))) (sym here) (loses_first (test a) a (filter test (filter keep x))) in
+    subst (λ (z : List E). LosesAt e (test e) (filter test z) (filter test (filter less (a ∷ x)))) (sym old)
+    (subst (λ (z : List E). LosesAt e (test e) (filter test (a ∷ filter keep x)) (filter test z)) (sym new) first)
 loses_kept {E} test keep less key e kept left others (a ∷ x) distinct (inr later) =
-    subst (λ (b : Bool). LosesAt (test e) (filter test (filter keep (a ∷ x))) (filter test (cond b (a ∷ filter less x) (filter less x)))) (sym (others a (λ one. distinct a e (inl (refl, later)) one)))
+    subst (λ (b : Bool). LosesAt e (test e) (filter test (filter keep (a ∷ x))) (filter test (cond b (a ∷ filter less x) (filter less x)))) (sym (others a (λ one. distinct a e (inl (refl, later)) one)))
     (by (keep a) (loses_kept test keep less key e kept left others x (λ p q before. distinct p q (inr before)) later))
   where
-    by : (b : Bool) → LosesAt (test e) (filter test (filter keep x)) (filter test (filter less x)) → LosesAt (test e) (filter test (cond b (a ∷ filter keep x) (filter keep x))) (filter test (cond b (a ∷ filter less x) (filter less x)))
-    by true h = loses_later (test e) (test a) a (filter test (filter keep x)) (filter test (filter less x)) h
+    by : (b : Bool) → LosesAt e (test e) (filter test (filter keep x)) (filter test (filter less x)) → LosesAt e (test e) (filter test (cond b (a ∷ filter keep x) (filter keep x))) (filter test (cond b (a ∷ filter less x) (filter less x)))
+    by true h = loses_later e (test e) (test a) a (filter test (filter keep x)) (filter test (filter less x)) h
     by false h = h
 
 -- the front of which each entry passes
@@ -177,7 +177,7 @@ module _ {Shape State Op Undo : Type 0} (o : Object Shape State Op Undo) (own : 
     pub leaves_next : (part_of : Op → Part) → LeavesOut part_of e (without_items shared_item (take i own) log) (without_items shared_item (take (i + 1) own) log)
     leaves_next part_of part =
         let test = is_open_in part_of part in
-        subst (λ (z : List (Item Op)). LosesAt (test e) (filter test (without_items shared_item (take i own) log)) (filter test (without_items shared_item z log))) (sym next)
+        subst (λ (z : List (Item Op)). LosesAt e (test e) (filter test (without_items shared_item (take i own) log)) (filter test (without_items shared_item z log))) (sym next)
         (loses_kept test (λ (d : SharedEntry Op). not (has_id d.id (ids_of (take i own)))) (λ (d : SharedEntry Op). not (has_id d.id (ids_of (take i own ++ p ∷ [])))) (λ (d : SharedEntry Op). d.id) e
         (ap not not_yet) (ap not out_now) (λ d apart. ap not (others d apart)) log ids_apart (stands_in log k e at))
 

@@ -1,3 +1,4 @@
 pub mod Blocking
 pub mod Committing
+pub mod Numbers
 pub mod Uncommitted

@@ -5,6 +5,7 @@ ghost use Rattle.pp_core.specs.declared.entry.SharedEntry.{SharedEntry as EntryO
 ghost use Rattle.pp_shared.specs.Blocking.{AllGiveWay};
 ghost use Rattle.pp_shared.specs.Uncommitted.{KeepsOpen, LeavesOut, LosesOne, Tells};
 
+use crate::numbers::{Numbers, count_less, count_more, numbers_in, numbers_let};
 use indexmap::IndexMap;
 use indexmap::map::Entry;
 use pp_core::{Name, OutOfMemory, SharedEntry};
@@ -21,11 +22,13 @@ pub struct OpenPart<T> {
     /// Whether all of them are the owner's.
     pub alone: bool,
     pub samples: T,
+    /// Their numbers, where these are kept.
+    pub numbers: Option<Numbers>,
 }
 
 /// What is known where the entry is the only one.
 fn first<S: Parted>(alloc: Global, entry: &SharedEntry<S::Op>) -> OpenPart<Samples<S>>
-    ensures { Tells S.object result (entry.now ∷ []) }
+    ensures { Tells S.object S.label_of result (entry.now ∷ []) }
 {
     let mut samples = Samples::<S>::new(alloc);
     samples.add(&entry.op);
@@ -34,14 +37,15 @@ fn first<S: Parted>(alloc: Global, entry: &SharedEntry<S::Op>) -> OpenPart<Sampl
         owner: entry.owner,
         alone: true,
         samples,
+        numbers: None,
     }
 }
 
 /// One more entry. Where there was none, what is known begins anew.
 fn note<S: Parted>(alloc: Global, slot: &mut OpenPart<Samples<S>>, entry: &SharedEntry<S::Op>)
     requires { slot.old.count < 1_000_000 }
-    ensures { (x : List (EntryOf S.Op)) → Tells S.object slot.old x →
-        Tells S.object slot.new (x ++ entry.now ∷ []) }
+    ensures { (x : List (EntryOf S.Op)) → Tells S.object S.label_of slot.old x →
+        Tells S.object S.label_of slot.new (x ++ entry.now ∷ []) }
 {
     if slot.count == 0 {
         *slot = first::<S>(alloc, entry);
@@ -50,19 +54,32 @@ fn note<S: Parted>(alloc: Global, slot: &mut OpenPart<Samples<S>>, entry: &Share
     slot.count += 1;
     slot.alone = slot.alone && slot.owner.same(&entry.owner);
     slot.samples.add(&entry.op);
+    count_more::<S>(&mut slot.numbers, entry);
 }
 
-/// One entry less.
-fn forget<S: Parted>(slot: &mut OpenPart<Samples<S>>)
-    ensures { (x y : List (EntryOf S.Op)) → Tells S.object slot.old x → LosesOne x y →
-        Tells S.object slot.new y }
+/// One entry less. Where it was the last, no numbers are kept.
+fn forget<S: Parted>(slot: &mut OpenPart<Samples<S>>, entry: &SharedEntry<S::Op>)
+    ensures { (x y : List (EntryOf S.Op)) → Tells S.object S.label_of slot.old x →
+        LosesOne entry.now x y → Tells S.object S.label_of slot.new y }
 {
     slot.count = slot.count.saturating_sub(1);
+    if slot.count == 0 {
+        slot.numbers = None;
+        return;
+    }
+    count_less::<S>(&mut slot.numbers, entry);
+}
+
+/// Whether numbers are worth keeping, since nothing else is known of the operations of several
+/// owners.
+fn wants_numbers<S: Parted>(slot: &OpenPart<Samples<S>>) -> bool {
+    !slot.alone && slot.numbers.is_none() && slot.samples.tell_nothing()
 }
 
 /// What is known of the uncommitted entries of a log: for each part that has some, or had some, how
-/// many there are, whose, and operations that stand for theirs. A part keeps its slot when its last
-/// entry is left out, since operations come to the same parts again.
+/// many there are, whose, operations that stand for theirs, and, where these are too many, their
+/// numbers. A part keeps its slot when its last entry is left out, since operations come to the
+/// same parts again.
 #[derive(Drop)]
 pub struct OpenParts<S: Parted> {
     pub slots: IndexMap<Part, OpenPart<Samples<S>>>,
@@ -89,39 +106,58 @@ impl<S: Parted> OpenParts<S> {
         Ok(())
     }
 
-    /// Adds an entry, for which there is room.
-    pub fn add(&mut self, entry: &SharedEntry<S::Op>)
+    /// Adds an entry, for which there is room. Whether numbers of its part are worth keeping.
+    pub fn add(&mut self, entry: &SharedEntry<S::Op>) -> bool
         requires room { 0 < spare self.old.slots }
         requires few { (x : List (EntryOf S.Op))
-            × KeepsOpen S.object S.part_of self.old.slots.entries x × (length x < 1_000_000) }
+            × KeepsOpen S.object S.label_of S.part_of self.old.slots.entries x
+            × (length x < 1_000_000) }
         ensures { entry.now.committed ≡ false → (x : List (EntryOf S.Op)) →
-            KeepsOpen S.object S.part_of self.old.slots.entries x →
-            KeepsOpen S.object S.part_of self.new.slots.entries (x ++ entry.now ∷ []) }
+            KeepsOpen S.object S.label_of S.part_of self.old.slots.entries x →
+            KeepsOpen S.object S.label_of S.part_of self.new.slots.entries (x ++ entry.now ∷ []) }
     {
         let alloc = self.alloc;
         let Ok(slot) = self.slots.entry(S::part(&entry.op)) else {
             unreachable!()
         };
         match slot {
-            Entry::Occupied(slot) => note::<S>(alloc, slot.into_mut(), entry),
+            Entry::Occupied(slot) => {
+                let slot = slot.into_mut();
+                note::<S>(alloc, slot, entry);
+                wants_numbers::<S>(slot)
+            }
             Entry::Vacant(slot) => {
                 slot.insert(first::<S>(alloc, entry));
+                false
             }
+        }
+    }
+
+    /// Begins to keep the numbers of an operation's part, which one walk over the log finds. Where
+    /// memory is refused none are kept.
+    pub fn keep_numbers(&mut self, op: &S::Op, entries: &[SharedEntry<S::Op>])
+        ensures { KeepsOpen S.object S.label_of S.part_of self.old.slots.entries entries.now →
+            KeepsOpen S.object S.label_of S.part_of self.new.slots.entries entries.now }
+    {
+        let part = S::part(op);
+        let numbers = numbers_in::<S>(self.alloc, entries, part);
+        if let Some(slot) = self.slots.get_mut(&part) {
+            slot.numbers = numbers;
         }
     }
 
     /// Leaves out an entry that was committed or taken out. Nothing is known of committed ones.
     pub fn take(&mut self, entry: &SharedEntry<S::Op>)
         ensures { (x y : List (EntryOf S.Op)) →
-            KeepsOpen S.object S.part_of self.old.slots.entries x →
+            KeepsOpen S.object S.label_of S.part_of self.old.slots.entries x →
             LeavesOut S.part_of entry.now x y →
-            KeepsOpen S.object S.part_of self.new.slots.entries y }
+            KeepsOpen S.object S.label_of S.part_of self.new.slots.entries y }
     {
         if entry.committed {
             return;
         }
         if let Some(slot) = self.slots.get_mut(&S::part(&entry.op)) {
-            forget::<S>(slot);
+            forget::<S>(slot, entry);
         }
     }
 
@@ -129,7 +165,7 @@ impl<S: Parted> OpenParts<S> {
     /// behind it. False says nothing.
     pub fn lets(&self, owner: &Name, op: &S::Op) -> bool
         ensures { IsTrue result → (x : List (EntryOf S.Op)) →
-            KeepsOpen S.object S.part_of self.now.slots.entries x →
+            KeepsOpen S.object S.label_of S.part_of self.now.slots.entries x →
             AllGiveWay S.object owner.now op.now x }
     {
         let part = S::part(op);
@@ -139,6 +175,9 @@ impl<S: Parted> OpenParts<S> {
         if slot.count == 0 {
             return true;
         }
-        slot.alone && slot.owner.same(owner) || slot.samples.all_before(op)
+        if slot.alone && slot.owner.same(owner) {
+            return true;
+        }
+        slot.samples.all_before(op) || numbers_let::<S>(&slot.numbers, owner, op)
     }
 }

@@ -41,7 +41,7 @@ impl<S: Parted> Model for Shared<S> {
 
     ghost view = { λ a. a.log };
 
-    ghost invariant = { λ a. KeepsShared S.object S.part_of a.log.1 a.open.slots.entries
+    ghost invariant = { λ a. KeepsShared S.object S.label_of S.part_of a.log.1 a.open.slots.entries
         a.settled };
 }
 
@@ -100,8 +100,8 @@ fn settled_without<S: Parted>(
 fn forget_own<S: Parted>(parts: &mut OpenParts<S>, log: &Log<S, SharedSide>, own: &[Item<S::Op>])
     requires distinct { HasDistinctIds (map shared_item log.now.1) }
     requires leave { MayLeave S.object own.now (map shared_item log.now.1) }
-    ensures { KeepsOpen S.object S.part_of parts.old.slots.entries log.now.1 →
-        KeepsOpen S.object S.part_of parts.new.slots.entries
+    ensures { KeepsOpen S.object S.label_of S.part_of parts.old.slots.entries log.now.1 →
+        KeepsOpen S.object S.label_of S.part_of parts.new.slots.entries
         (without_items shared_item own.now log.now.1) }
 {
     for item in own {
@@ -227,7 +227,9 @@ impl<S: Parted> Shared<S> {
     {
         self.open.make_room()?;
         self.log.append(entry, ticks)?;
-        self.open.add(&entry);
+        if self.open.add(&entry) {
+            self.open.keep_numbers(&entry.op, self.log.entries());
+        }
         Ok(())
     }
 

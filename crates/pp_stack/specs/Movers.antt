@@ -1,5 +1,5 @@
 -- Meaning: which operations of a stack swap, by a table.
-use Rattle.std.specs.Prelude.{pos, ℕ, Bool, List, [], ◌∷◌, Some, None}
+use Rattle.std.specs.Prelude.{ℤ, pos, ℕ, Bool, List, [], ◌∷◌, Some, None}
 use Rattle.pp_table.specs.declared.table.Condition.{Condition}
 use Rattle.pp_table.specs.declared.table.Condition.TheVariants.{Always, Never, Equal, Unequal}
 use Rattle.pp_table.specs.declared.table.Figures.{Figures}
@@ -18,6 +18,10 @@ abbrev pub figures_of : StackOp → Figures
 figures_of (Push value) = record { from = value; to = value; shift = pos 0 }
 figures_of (Pop (Some x)) = record { from = x; to = x; shift = pos 0 }
 figures_of (Pop None) = record { from = pos 0; to = pos 0; shift = pos 0 }
+
+-- the number that it leads to
+abbrev pub number_of : StackOp → ℤ
+number_of op = (figures_of op).to
 
 -- a row for each first operation, and a column for each second
 abbrev pub stack_table : List (List Condition)

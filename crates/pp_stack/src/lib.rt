@@ -7,6 +7,7 @@ mod op;
 mod pile;
 mod stack;
 
+pub use movers::{form, gate, number};
 pub use op::StackOp;
 pub use pile::Pile;
 pub use stack::Stack;

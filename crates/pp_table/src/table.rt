@@ -1,6 +1,10 @@
 //! Tables of conditions on pairs of operations.
 ghost use Rattle.std.specs.Prelude.{◌≡◌, ◌<◌};
+ghost use Rattle.pp_table.specs.declared.gate.Reading.TheVariants.{From, Still, To};
+ghost use Rattle.pp_table.specs.Gates.{IsGateOf};
 ghost use Rattle.pp_table.specs.Table.{condition_holds, entry};
+
+use crate::gate::{Gate, Reading};
 
 /// When a pair of operations swaps, by their figures.
 #[derive(Clone, Copy, Debug, PartialEq, Eq)]
@@ -69,6 +73,72 @@ impl Condition {
             Condition::Falling => y.to <= x.to,
         }
     }
+
+    /// Its gate where the number that the first leads to is read.
+    #[inline(always)]
+    fn gate_to(self, y: &Figures) -> Gate
+        ensures { IsGateOf self To y.now result }
+    {
+        match self {
+            Condition::Always => Gate::Open,
+            Condition::Never => Gate::Shut,
+            Condition::Equal => Gate::Only(y.to),
+            Condition::Unequal => Gate::Unless(y.from),
+            Condition::Chain => Gate::Unless(y.from),
+            Condition::FirstStill => Gate::Shut,
+            Condition::SecondStill => if y.shift == 0 { Gate::Open } else { Gate::Shut },
+            Condition::Settled => Gate::Shut,
+            Condition::Apart => Gate::Unless(y.to),
+            Condition::FromApart => Gate::Only(y.to),
+            Condition::IntoApart => Gate::Unless(y.to),
+            Condition::Rising => Gate::AtMost(y.to),
+            Condition::Falling => Gate::AtLeast(y.to),
+        }
+    }
+
+    /// Its gate where the number that the first starts from is read.
+    #[inline(always)]
+    fn gate_from(self, y: &Figures) -> Gate
+        ensures { IsGateOf self From y.now result }
+    {
+        match self {
+            Condition::Always => Gate::Open,
+            Condition::SecondStill => if y.shift == 0 { Gate::Open } else { Gate::Shut },
+            Condition::FromApart => Gate::Unless(y.to),
+            _ => Gate::Shut,
+        }
+    }
+
+    /// Its gate where the first starts from the number that it leads to, and shifts nothing.
+    #[inline(always)]
+    fn gate_still(self, y: &Figures) -> Gate
+        ensures { IsGateOf self Still y.now result }
+    {
+        match self {
+            Condition::Chain => if y.from == y.to {
+                Gate::Open
+            } else {
+                Gate::Unless(y.from)
+            },
+            Condition::FirstStill => Gate::Open,
+            Condition::Settled => Gate::Only(y.to),
+            Condition::FromApart => Gate::Open,
+            _ => self.gate_to(y),
+        }
+    }
+
+    /// Which first operations are known to meet it with a second of these figures, by one number of
+    /// theirs alone.
+    #[inline(always)]
+    pub fn gate(self, reading: Reading, y: &Figures) -> Gate
+        ensures { IsGateOf self reading y.now result }
+    {
+        match reading {
+            Reading::To => self.gate_to(y),
+            Reading::From => self.gate_from(y),
+            Reading::Still => self.gate_still(y),
+        }
+    }
 }
 
 /// A condition for each pair of forms of operations, with a row for each form of the first and a
@@ -105,5 +175,19 @@ impl<const N: usize> MoverTable<N> {
         ensures { result ≡ condition_holds (entry self.now.rows a b) x.now y.now }
     {
         self.condition(a, b).holds(x, y)
+    }
+
+    /// Which first operations of the form of a row are known to meet their entry with a second of
+    /// these form and figures. None has a form that has no row.
+    #[inline(always)]
+    pub fn gate(&self, a: usize, reading: Reading, b: usize, y: &Figures) -> Gate
+        requires column { b < N }
+        ensures { IsGateOf (entry self.now.rows a b) reading y.now result }
+    {
+        if a < N {
+            self.condition(a, b).gate(reading, y)
+        } else {
+            Gate::Shut
+        }
     }
 }

@@ -9,7 +9,7 @@ use Rattle.pp_shared.proofs.shared.forget_own.Goals as goal
 
 pub loop-item-init : goal.loop-item-init
 loop-item-init g c = λ kept.
-    subst (λ z. KeepsOpen g.S.Spec.object g.S.Parted.part_of c.args.parts.now.slots.entries z) (sym (without_none shared_item c.args.log.now.1)) kept
+    subst (λ z. KeepsOpen g.S.Spec.object g.S.Parted.label_of g.S.Parted.part_of c.args.parts.now.slots.entries z) (sym (without_none shared_item c.args.log.now.1)) kept
 
 pub unreachable-requires : goal.unreachable-requires
 unreachable-requires g c =

@@ -7,5 +7,5 @@ use Rattle.pp_shared.proofs.shared.forget_own.Given as goal
 -- the items before this one are left out
 abbrev pub invariant-loop-item : goal.invariant-loop-item
 invariant-loop-item g l =
-    KeepsOpen g.S.Spec.object g.S.Parted.part_of l.initial.parts.slots.entries l.log.1 →
-    KeepsOpen g.S.Spec.object g.S.Parted.part_of l.parts.slots.entries (without_items shared_item (take l.item-index l.own) l.log.1)
+    KeepsOpen g.S.Spec.object g.S.Parted.label_of g.S.Parted.part_of l.initial.parts.slots.entries l.log.1 →
+    KeepsOpen g.S.Spec.object g.S.Parted.label_of g.S.Parted.part_of l.parts.slots.entries (without_items shared_item (take l.item-index l.own) l.log.1)

@@ -22,5 +22,5 @@ invariant_of-result g c =
     let list = ap (λ z. z.1) c.in_ok-log.ensures.log in
     record {
       settles = subst (λ z. IsSettled z c.settled_without-settled.result) (sym list) c.settled_without-settled.ensures;
-      opens = subst (λ z. KeepsOpen g.S.Spec.object g.S.Parted.part_of c.forget_own.new.parts.slots.entries z) (sym list) (c.forget_own.ensures c.self.invariant.opens);
+      opens = subst (λ z. KeepsOpen g.S.Spec.object g.S.Parted.label_of g.S.Parted.part_of c.forget_own.new.parts.slots.entries z) (sym list) (c.forget_own.ensures c.self.invariant.opens);
     }
