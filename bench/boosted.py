@@ -9,6 +9,10 @@ over a map of 64 keys.
   each finds entries of others that are committed and that it has not seen.
 - aborts in front of others: many transactions write one number at one address, then one more does as often, and
   then the first ones abort, one after another.
+- beside an open addition: one transaction adds 0 to a counter and stays open, while another adds 1 to it, asks it,
+  takes the 1 back and asks it again, and so on.
+- beside open insertions: a queue has many items; one transaction inserts as many others and stays open, while
+  another takes the first ones.
 
 Beside the time of `quick` on each stands that of only reading it. `certify` stops at 200,000 steps;
 beside its time on as many transactions as it can take stands that of `quick` on them.
@@ -24,9 +28,12 @@ COUNT = 20_000
 CERTIFIED = 221
 KEYS, PUTS = 64, 8
 ABORTED, WRITES, BEHIND = 4_000, 2, 20_000
+TURNS, ITEMS = 49_000, 66_000
 SLOTS = KEYS // PUTS
 HEADER = {"run": 1, "style": "boosted", "objects": [{"name": "m", "kind": "map"}]}
 CELL_HEADER = {"run": 1, "style": "boosted", "objects": [{"name": "m", "kind": "mem"}]}
+COUNTER_HEADER = {"run": 1, "style": "boosted", "objects": [{"name": "m", "kind": "counter"}]}
+QUEUE_HEADER = {"run": 1, "style": "boosted", "objects": [{"name": "m", "kind": "queue"}]}
 FAILING = {"step": "commit", "tx": "none"}
 
 
@@ -72,6 +79,26 @@ def aborted_in_front():
     return [*itertools.chain(*fronts), *behind, *aborts, {"step": "commit", "tx": "last"}]
 
 
+def operations(tx, first, calls):
+    """Begins, and makes these calls."""
+    yield begin(tx, f"p{tx}")
+    for number, (call, args, result) in enumerate(calls, first):
+        yield {"step": "op", "tx": tx, "id": number, "on": "m", "call": call, "args": args, "result": result}
+
+
+def beside_an_open_addition():
+    turn = [("add", [1], None), ("get", [], 1), ("add", [-1], None), ("get", [], 0)]
+    still, others = operations("t0", 0, [("add", [0], None)]), operations("t1", 1, turn * TURNS)
+    return [*still, *others, {"step": "commit", "tx": "t1"}]
+
+
+def beside_open_insertions():
+    items = operations("t0", 0, [("enq", [item], None) for item in range(ITEMS)])
+    others = operations("t1", ITEMS, [("enq", [-1 - item], None) for item in range(ITEMS)])
+    takes = operations("t2", 2 * ITEMS, [("deq", [], item) for item in range(ITEMS)])
+    return [*items, {"step": "commit", "tx": "t0"}, *others, *takes, {"step": "commit", "tx": "t2"}]
+
+
 def measure(program, path, name, records, header=HEADER, committed=COUNT):
     write(path, [header, FAILING, *records[:-1]])
     read = answered(program, "quick", path, "quick rejected line 2")
@@ -98,6 +125,8 @@ def main():
         measure(program, path, "one after another", one_after_another(COUNT))
         measure(program, path, "eight open at once", open_at_once(COUNT))
         measure(program, path, "aborts in front of others", aborted_in_front(), CELL_HEADER, 1)
+        measure(program, path, "beside an open addition", beside_an_open_addition(), COUNTER_HEADER, 1)
+        measure(program, path, "beside open insertions", beside_open_insertions(), QUEUE_HEADER, 2)
         measure_certified(program, path)
 
 

@@ -65,7 +65,7 @@ impl Tallies {
         }
     }
 
-    /// Counts one more entry. False says that memory was refused.
+    /// Counts one more entry. False says that memory was refused, or there are too many.
     fn add(&mut self, owner: Option<Name>, label: &Label) -> bool
         ensures { IsTrue result → Gains self.old self.new owner label.now }
     {
@@ -169,7 +169,7 @@ impl Numbers {
         }
     }
 
-    /// Counts one more entry. False says that memory was refused.
+    /// Counts one more entry. False says that memory was refused, or there are too many.
     fn add<S: Parted>(&mut self, entry: &SharedEntry<S::Op>) -> bool
         ensures { IsTrue result → GainsEntry S.label_of self.old self.new entry.now }
     {
@@ -197,7 +197,7 @@ impl Numbers {
 }
 
 /// Counts one entry more, where it is an uncommitted one of a part. False says that memory was
-/// refused.
+/// refused, or there are too many.
 fn add_open<S: Parted>(numbers: &mut Numbers, entry: &SharedEntry<S::Op>, part: Part) -> bool
     ensures { IsTrue result → (x : List (EntryOf S.Op)) →
         CountsAll S.label_of numbers.old (open_in S.part_of part x) →
@@ -209,7 +209,8 @@ fn add_open<S: Parted>(numbers: &mut Numbers, entry: &SharedEntry<S::Op>, part: 
     numbers.add::<S>(entry)
 }
 
-/// The numbers of the uncommitted entries of a part in a log, or none where memory is refused.
+/// The numbers of the uncommitted entries of a part in a log, or none where memory is refused, or
+/// there are too many.
 pub fn numbers_in<S: Parted>(
     alloc: Global,
     entries: &[SharedEntry<S::Op>],
@@ -226,7 +227,8 @@ pub fn numbers_in<S: Parted>(
     Some(numbers)
 }
 
-/// One entry more, where numbers are kept. Where memory is refused they are kept no longer.
+/// One entry more, where numbers are kept. Where memory is refused, or there are too many, they are
+/// given up.
 pub fn count_more<S: Parted>(numbers: &mut Option<Numbers>, entry: &SharedEntry<S::Op>)
     ensures { (x : List (EntryOf S.Op)) → CountsAllOf S.label_of numbers.old x →
         CountsAllOf S.label_of numbers.new (x ++ entry.now ∷ []) }

@@ -70,16 +70,22 @@ fn forget<S: Parted>(slot: &mut OpenPart<Samples<S>>, entry: &SharedEntry<S::Op>
     count_less::<S>(&mut slot.numbers, entry);
 }
 
-/// Whether numbers are worth keeping, since nothing else is known of the operations of several
-/// owners.
-fn wants_numbers<S: Parted>(slot: &OpenPart<Samples<S>>) -> bool {
-    !slot.alone && slot.numbers.is_none() && slot.samples.tell_nothing()
+/// Whether numbers are worth keeping, since they may show more than the samples, which leave open
+/// whether the entries of others give way to this one. Nothing is promised of it.
+fn wants_numbers<S: Parted>(slot: &OpenPart<Samples<S>>, entry: &SharedEntry<S::Op>) -> bool {
+    if slot.count == 0 || slot.numbers.is_some() {
+        return false;
+    }
+    if slot.alone && slot.owner.same(&entry.owner) {
+        return false;
+    }
+    !slot.samples.all_before(&entry.op)
 }
 
 /// What is known of the uncommitted entries of a log: for each part that has some, or had some, how
-/// many there are, whose, operations that stand for theirs, and, where these are too many, their
-/// numbers. A part keeps its slot when its last entry is left out, since operations come to the
-/// same parts again.
+/// many there are, whose, operations that stand for theirs, and, where these do not show that all of
+/// several owners give way, their numbers. A part keeps its slot when its last entry is left out,
+/// since operations come to the same parts again.
 #[derive(Drop)]
 pub struct OpenParts<S: Parted> {
     pub slots: IndexMap<Part, OpenPart<Samples<S>>>,
@@ -106,7 +112,8 @@ impl<S: Parted> OpenParts<S> {
         Ok(())
     }
 
-    /// Adds an entry, for which there is room. Whether numbers of its part are worth keeping.
+    /// Adds an entry, for which there is room. The answer is whether numbers of its part are worth
+    /// keeping; nothing is promised of it.
     pub fn add(&mut self, entry: &SharedEntry<S::Op>) -> bool
         requires room { 0 < spare self.old.slots }
         requires few { (x : List (EntryOf S.Op))
@@ -123,8 +130,9 @@ impl<S: Parted> OpenParts<S> {
         match slot {
             Entry::Occupied(slot) => {
                 let slot = slot.into_mut();
+                let wanted = wants_numbers::<S>(slot, entry);
                 note::<S>(alloc, slot, entry);
-                wants_numbers::<S>(slot)
+                wanted
             }
             Entry::Vacant(slot) => {
                 slot.insert(first::<S>(alloc, entry));
@@ -133,8 +141,8 @@ impl<S: Parted> OpenParts<S> {
         }
     }
 
-    /// Begins to keep the numbers of an operation's part, which one walk over the log finds. Where
-    /// memory is refused none are kept.
+    /// Begins to keep the numbers of an operation's part, which one walk over the entries finds.
+    /// Where memory is refused none are kept.
     pub fn keep_numbers(&mut self, op: &S::Op, entries: &[SharedEntry<S::Op>])
         ensures { KeepsOpen S.object S.label_of S.part_of self.old.slots.entries entries.now →
             KeepsOpen S.object S.label_of S.part_of self.new.slots.entries entries.now }

@@ -25,6 +25,9 @@ use std::alloc::Global;
 use std::marker::Model;
 use std::sync::ledger::Ledger;
 
+/// A walk over so many entries costs less than to keep numbers of them.
+const SHORT_WALK: usize = 64;
+
 /// The shared log: the operations that transactions pushed, which are allowed one after another.
 /// Contracts see the objects of the run, and the entries in order.
 #[derive(Drop)]
@@ -227,8 +230,10 @@ impl<S: Parted> Shared<S> {
     {
         self.open.make_room()?;
         self.log.append(entry, ticks)?;
-        if self.open.add(&entry) {
-            self.open.keep_numbers(&entry.op, self.log.entries());
+        let wanted = self.open.add(&entry);
+        if wanted && self.log.len() > self.settled.saturating_add(SHORT_WALK) {
+            let entries = self.log.entries();
+            self.open.keep_numbers(&entry.op, &entries[self.settled..]);
         }
         Ok(())
     }

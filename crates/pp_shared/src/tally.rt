@@ -111,6 +111,7 @@ impl Tally {
         }
         match gate {
             Gate::Open => true,
+            Gate::Shut => false,
             Gate::Unless(number) => self.count(number) <= own.count(number),
             // Mostly all of them pass, and then it is not asked whose they are.
             _ => self.each_passes(gate) || self.each_passes_or_is_own(own, gate),
