@@ -18,7 +18,8 @@ use Rattle.pp_log.specs.Leaves.{HasIdAt}
 use Rattle.pp_log.specs.Leaving.{without_items}
 use Rattle.pp_log.specs.Room.{ids_of}
 use Rattle.pp_log.specs.TakesOut.{itself}
-use Rattle.pp_log.proofs.Leaving.{filter-append, filter_all}
+use Rattle.std.proofs.lemmas.List.Elements.{filter-append}
+use Rattle.pp_log.proofs.Leaving.{filter_all}
 use Rattle.pp_log.proofs.Lists.{drop_there}
 use Rattle.pp_log.proofs.Others.{IsAt, across, d_there, front, has_it, has_not_it, none_before, own_front, rest, same}
 use Rattle.pp_log.proofs.Parted.{ops-append}

@@ -73,22 +73,6 @@ module _ {Shape State Op Undo : Type 0} (o : Object Shape State Op Undo) where
         kept = r.kept ∙ ap (kept_along o b) same;
       }
 
-  -- and with it again
-  pub run_with : (b s t : State) (x : List (Item Op)) (us vs : List Undo) (i : ℕ) → length us ≤ i → i < length x → IsRun o b x vs t → IsRun o b (remove x i) us s → IsRun o b x us s
-  run_with b s t x us vs i h k whole r =
-      let same = take-remove x i (length us) h in
-      record {
-        base = whole.base;
-        log = whole.log;
-        few = whole.few;
-        fit = whole.fit;
-        ranged = whole.ranged;
-        within = omega arith;
-        allowed = subst (AllowedFrom o b) same r.allowed;
-        is = r.is ∙ ap (state_from o b) same;
-        kept = r.kept ∙ ap (kept_along o b) same;
-      }
-
   -- nothing differs in a list that was applied before
   pub never_differs : (b s t : State) (x : List (Item Op)) (us vs : List Undo) (e : Item Op) → IsRun o b x vs t → length vs ≡ length x → IsRun o b x us s → length us < length x → e ≡ get_or x (length us) e → o.gives s e.op ≡ o.recorded e.op
   never_differs b s t x us vs e whole all r h is =

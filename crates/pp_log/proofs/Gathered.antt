@@ -1,5 +1,5 @@
 -- A batch of items of one place leaves a log.
-use Rattle.std.proofs.Common.{◌≡◌, ℕ, nat_eq, ◌<◌, ◌≤◌, ◌+◌, ◌-◌, Bool, true, false, cond, not, ◌&&◌, IsTrue, List, [], ◌∷◌, ◌++◌}
+use Rattle.std.proofs.Common.{◌≡◌, ℕ, nat_eq, ◌<◌, ◌+◌, ◌-◌, Bool, true, false, cond, not, ◌&&◌, IsTrue, List, [], ◌∷◌, ◌++◌}
 use Rattle.std.proofs.Common.{filter, length, take, get_or, refl, sym, ◌∙◌, ap, subst, arith, inl, inr, Some, length-append}
 use Rattle.std.specs.List.{slice_get, slice_set}
 use Rattle.std.proofs.Math.Seq.{take-length}
@@ -21,7 +21,7 @@ use Rattle.pp_log.specs.Keeps.{KeptIn, Keeps}
 use Rattle.pp_log.specs.Leaving.{MayLeave, without_items}
 use Rattle.pp_log.specs.Parts.{elsewhere, there}
 use Rattle.pp_log.specs.Room.{ids_of}
-use Rattle.pp_log.specs.Runs.{AllFit, GoesOn, HasRun, IsRun, kept_along}
+use Rattle.pp_log.specs.Runs.{GoesOn, HasRun, IsRun, kept_along}
 use Rattle.pp_log.specs.TakesOut.{IsWhole, itself}
 use Rattle.pp_log.proofs.Distinct.{apart, distinct_there, told}
 use Rattle.pp_log.proofs.Forgotten.{item_with}

@@ -52,14 +52,6 @@ pub filter_all : {A : Type 0} (t : A → Bool) (x : List A) → ((a : A) → In 
 filter_all t [] h = refl
 filter_all {A} t (a ∷ x) h = ap (λ (b : Bool). cond b (a ∷ filter t x) (filter t x)) (h a (inl refl)) ∙ ap (λ (z : List A). a ∷ z) (filter_all t x (λ d i. h d (inr i)))
 
-pub filter-append : {A : Type 0} (t : A → Bool) (x y : List A) → filter t (x ++ y) ≡ filter t x ++ filter t y
-filter-append t [] y = refl
-filter-append {A} t (a ∷ x) y = ap (λ (z : List A). cond (t a) (a ∷ z) z) (filter-append t x y) ∙ by (t a)
-  where
-    by : (b : Bool) → cond b (a ∷ (filter t x ++ filter t y)) (filter t x ++ filter t y) ≡ cond b (a ∷ filter t x) (filter t x) ++ filter t y
-    by true = refl
-    by false = refl
-
 pub filter_twice : {A : Type 0} (p q r : A → Bool) (x : List A) → ((a : A) → In a x → (q a && p a) ≡ r a) → filter p (filter q x) ≡ filter r x
 filter_twice p q r [] h = refl
 filter_twice {A} p q r (a ∷ x) h = by (q a) refl (filter_twice p q r x (λ d i. h d (inr i)))

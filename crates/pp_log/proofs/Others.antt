@@ -15,7 +15,8 @@ use Rattle.pp_log.specs.Leaves.{HasIdAt, StandFrom}
 use Rattle.pp_log.specs.Leaving.{without_items}
 use Rattle.pp_log.specs.Room.{ids_of}
 use Rattle.pp_log.specs.TakesOut.{itself}
-use Rattle.pp_log.proofs.Leaving.{filter-append, filter_all, has_none, has_one, without_none}
+use Rattle.std.proofs.lemmas.List.Elements.{filter-append}
+use Rattle.pp_log.proofs.Leaving.{filter_all, has_none, has_one, without_none}
 use Rattle.pp_log.proofs.Lists.{cut_there, drop_there}
 
 first_or_behind : {A : Type 0} (x : List A) (a b : A) → slice_get x 0 ≡ Some a → In b x → (b ≡ a) ⊎ Before a b x

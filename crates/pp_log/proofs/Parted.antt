@@ -1,12 +1,15 @@
 use Rattle.std.proofs.Common.{append-nil, ◌≡◌, ℕ, ◌<◌, ◌+◌, suc, map, take, drop, get_or, ◌==◌, Bool, true, false, cond, filter}
 use Rattle.std.proofs.Common.{List, [], ◌∷◌, ◌++◌, length, refl, sym, ◌∙◌, ap, arith, eq-eqb, ◌⊎◌}
-use Rattle.std.proofs.Common.{inl, inr}
-use Rattle.std.proofs.lemmas.List.{map_push, take_more}
+use Rattle.std.proofs.Common.{inl, inr, append_assoc, length-append, zero}
+use Rattle.std.proofs.lemmas.List.{get_or-append-add, length_push, map-append, map_push, take-append-drop, take_more}
 use Rattle.std.proofs.lemmas.Bool.{ne_eqb}
 use Rattle.std.proofs.lemmas.Bool.Decides.{eqb_tells}
 use Rattle.pp_core.specs.declared.entry.Item.{Item}
+use Rattle.pp_model.specs.Lists.{In}
 use Rattle.pp_model.specs.Object.{ops}
-use Rattle.pp_log.specs.Parts.{there, elsewhere, with_first}
+use Rattle.pp_log.specs.Parts.{there, elsewhere, items_on, with_first}
+use Rattle.pp_log.specs.TakesOut.{itself}
+use Rattle.pp_log.proofs.Lists.{found_behind}
 
 -- Lists of items and their parts by places.
 pub ops-append : {Op : Type 0} (x y : List (Item Op)) → ops (x ++ y) ≡ ops x ++ ops y
@@ -115,7 +118,46 @@ module _ {E Op : Type 0} (place : Op → ℕ) (f : E → Item Op) (p : ℕ) (x :
   pub none_more_there : (place (f d).op ≡ p → ⊥) → there place p (map f (take (i + 1) x)) ≡ front
   none_more_there off = longer ∙ ap (λ (z : List (Item Op)). front ++ z) (there_off place p (f d) [] off) ∙ append-nil front
 
+  -- where it has the place, it is the one behind those before it
+  pub stands_there : place (f d).op ≡ p → f d ≡ get_or (items_on place f p x) (length front) (f d)
+  stands_there at =
+      let rest = there place p (map f (drop (i + 1) x)) in
+      let split : items_on place f p x ≡ (front ++ f d ∷ []) ++ rest =
+      ap (λ (z : List E). there place p (map f z)) (sym (take-append-drop (i + 1) x)) ∙ ap (there place p) (map-append f (take (i + 1) x) (drop (i + 1) x))
+      ∙ there-append place p (map f (take (i + 1) x)) (map f (drop (i + 1) x)) ∙ ap (λ (z : List (Item Op)). z ++ rest) (one_more_there at) in
+      sym (ap (λ (z : List (Item Op)). get_or z (length front) (f d)) (split ∙ append_assoc front (f d ∷ []) rest) ∙ ap (λ (k : ℕ). get_or (front ++ f d ∷ rest) k (f d)) (omega arith)
+      ∙ get_or-append-add front (f d ∷ rest) 0 (f d))
+
+  -- so it is with others before them all
+  pub stands_behind : (before : List (Item Op)) (n : ℕ) → n ≡ length before + length front → place (f d).op ≡ p → f d ≡ get_or (before ++ items_on place f p x) n (f d)
+  stands_behind before n n_is at = found_behind before (items_on place f p x) (length front) n (f d) n_is (stands_there at)
+
+  pub one_more : place (f d).op ≡ p → length (items_on place f p (take (i + 1) x)) ≡ length front + 1
+  one_more at = ap length (one_more_there at) ∙ length_push front (f d)
+
+  -- they are some of all
+  pub fewer : place (f d).op ≡ p → length front < length (items_on place f p x)
+  fewer at =
+      let rest = there place p (map f (drop (i + 1) x)) in
+      let split : items_on place f p x ≡ (front ++ f d ∷ []) ++ rest =
+      ap (λ (z : List E). there place p (map f z)) (sym (take-append-drop (i + 1) x)) ∙ ap (there place p) (map-append f (take (i + 1) x) (drop (i + 1) x))
+      ∙ there-append place p (map f (take (i + 1) x)) (map f (drop (i + 1) x)) ∙ ap (λ (z : List (Item Op)). z ++ rest) (one_more_there at) in
+      let size = ap length split in
+      let two = length-append (front ++ f d ∷ []) rest in
+      let one = length_push front (f d) in
+      omega arith
+
+-- where some of the first entries have the place, there are some of them
+pub some_first : {E Op : Type 0} (place : Op → ℕ) (f : E → Item Op) (p : ℕ) (x : List E) (n : ℕ) → 0 < length (items_on place f p (take n x)) → 0 < n
+some_first place f p x zero h = absurd (omega arith)
+some_first place f p x (suc n) h = omega arith
+
 -- Of some entries, the items of the place of the first one.
 pub first_of : {E Op : Type 0} (place : Op → ℕ) (f : E → Item Op) (y : List E) (a : E) → 0 < length y → a ≡ get_or y 0 a → with_first place f y ≡ f a ∷ there place (place (f a).op) (map f (drop 1 y))
 first_of place f [] a h is = absurd (omega arith)
 first_of {E} place f (b ∷ y) a h is = ap (λ (d : E). with_first place f (d ∷ y)) (sym is) ∙ there_at place (place (f a).op) (f a) (map f y) refl
+
+-- Items that all have a place are those that have it.
+pub all_on : {Op : Type 0} (place : Op → ℕ) (p : ℕ) (x : List (Item Op)) → ((e : Item Op) → In e x → place e.op ≡ p) → items_on place itself p x ≡ x
+all_on place p [] h = refl
+all_on {Op} place p (e ∷ x) h = there_at place p e (map itself x) (h e (inl refl)) ∙ ap (λ (z : List (Item Op)). e ∷ z) (all_on place p x (λ d i. h d (inr i)))

@@ -7,6 +7,10 @@ abbrev pub there : {Op : Type 0} → (Op → ℕ) → ℕ → List (Item Op) →
 there place p [] = []
 there place p (e ∷ x) = cond (nat_eq (place e.op) p) (e ∷ there place p x) (there place p x)
 
+-- The items of the entries that have a place.
+abbrev pub items_on : {Op E : Type 0} → (Op → ℕ) → (E → Item Op) → ℕ → List E → List (Item Op)
+items_on place item_of p entries = there place p (map item_of entries)
+
 -- The items of all other places.
 abbrev pub elsewhere : {Op : Type 0} → (Op → ℕ) → ℕ → List (Item Op) → List (Item Op)
 elsewhere place p [] = []

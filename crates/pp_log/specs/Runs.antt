@@ -1,10 +1,12 @@
 -- Proof machinery: items of a place that are applied one after another, and how far.
-use Rattle.std.specs.Prelude.{◌≡◌, ◌≢◌, ◌≤◌, ◌+◌, ℕ, IsTrue, List, [], ◌∷◌, ◌++◌, length, take}
-use Rattle.std.specs.Prelude.{Option, Some, None, slice_get}
+use Rattle.std.specs.Prelude.{◌≡◌, ◌≢◌, ◌<◌, ◌≤◌, ◌+◌, ℕ, IsTrue, List, [], ◌∷◌, ◌++◌, length}
+use Rattle.std.specs.Prelude.{Option, Some, None, option_map, slice_get, take}
 use Rattle.pp_core.specs.declared.answer.Answer.{Answer}
 use Rattle.pp_core.specs.declared.entry.Item.{Item}
 use Rattle.pp_model.specs.Object.{ops}
 use Rattle.pp_spec.specs.Object.{Object, AllowedFrom, AllRanged, IsLog, state_from}
+use Rattle.pp_log.specs.declared.run.Stop.{Stop}
+use Rattle.pp_log.specs.Parts.{items_on}
 
 -- What each operation left to take it back, from a state on.
 abbrev pub kept_along :
@@ -45,6 +47,18 @@ Stops {Shape} {State} {Op} {Undo} o items us s (Some answer) =
 abbrev pub Costs : Option Answer → ℕ → ℕ → ℕ → ℕ → Type 0
 Costs None old from to new = new + from ≡ old + to
 Costs (Some answer) old from to new = new + from ≡ old + to + 1
+
+-- The answer of the entry where they stop.
+abbrev pub answer_at : Option Stop → Option Answer
+answer_at stop = option_map (λ s. s.answer) stop
+
+-- They stop at an entry of the place. All before it that have the place were applied, behind others,
+-- `from` in number.
+pub record IsStop {Op E : Type 0} (place : Op → ℕ) (item_of : E → Item Op) (p : ℕ)
+    (entries : List E) (at from : ℕ) {Undo : Type 0} (us : List Undo) : Type 0 where
+  pub within : at < length entries
+  pub size : length us ≡ from + length (items_on place item_of p (take at entries))
+  pub here : (e : E) → slice_get entries at ≡ Some e → place (item_of e).op ≡ p
 
 -- With some items before them, `from` in number, the items make a run.
 pub record HasRun {Shape State Op Undo : Type 0} (o : Object Shape State Op Undo)

@@ -1,4 +1,4 @@
-//! Items of one place that leave a log as a batch.
+//! Items that leave a log, a batch of one place after another.
 ghost use Rattle.std.specs.Prelude.{◌≡◌, ◌<◌, ◌≤◌, ◌+◌, OnOk, List, drop, length};
 ghost use Rattle.pp_core.specs.declared.entry.Item.{Item as ItemOf};
 ghost use Rattle.pp_log.specs.Batches.{AreOnOnePlace, CanForget, Forgets};
@@ -9,6 +9,7 @@ use crate::index::Index;
 use crate::leave::take_each_back;
 use crate::place::Place;
 use crate::run::unwind;
+use crate::sides::ItemSide;
 use crate::take_out::position_in_place;
 use pp_core::{Item, OutOfMemory, Ticks};
 use pp_spec::Placed;
@@ -50,9 +51,9 @@ fn forget_all<S: Placed>(batch: &[Item<S::Op>], ids: &mut Index, ids_there: &mut
     }
 }
 
-/// Takes items of one place back, each of which lets the others behind it pass: they are carried
-/// behind these in one walk. Where none of them keeps anything in turn with others, what takes each
-/// back is taken out where it stands. What is kept is then of the others.
+/// Takes items of one place back, each of which lets the others behind it pass. They are carried
+/// behind these in one walk, unless none of them keeps anything in turn with others: then what takes
+/// each back is taken out where it stands. What is kept is then of the others.
 fn take_batch_back<S: Placed, L: Ledger>(
     batch: &[Item<S::Op>],
     ids: &mut Index,
@@ -77,14 +78,15 @@ fn take_batch_back<S: Placed, L: Ledger>(
     let Some(i) = ids.find(first.id) else {
         unreachable!()
     };
-    let p = usize::from(S::place(&first.op));
+    let here = S::place(&first.op);
+    let p = usize::from(here);
     let place = &mut places[p];
     let Some(from) = position_in_place(&place.ids, ids, i, first.id) else {
         unreachable!()
     };
     gather::<S>(batch, &place.ids, &mut place.undos, from);
     let others = place.undos.len() - batch.len();
-    unwind::<S, L>(batch, &mut place.undos, others, state, ticks)?;
+    unwind::<S, ItemSide, L>(batch, here, &mut place.undos, others, state, ticks)?;
     forget_all::<S>(batch, ids, &mut place.ids);
     Ok(())
 }

@@ -211,7 +211,7 @@ impl<S: Placed, T: Side<S::Op>> Log<S, T> {
         let Some(from) = position_in_place(&place.ids, &ids, i, item.id) else {
             unreachable!()
         };
-        let removed = take_out::<S, T, L>(place, from, &all[i..], &mut state, ticks, alloc)?;
+        let removed = take_out::<S, T, L>(place, from, &all[i..], &mut state, ticks)?;
         if let Removed::Done = removed {
             entries.remove(i);
             ids.remove(i, item.id);

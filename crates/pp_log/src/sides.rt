@@ -2,6 +2,7 @@
 ghost use Rattle.std.specs.Prelude.{◌≡◌};
 ghost use Rattle.pp_core.specs.declared.entry.Item.{Item as ItemOf};
 ghost use Rattle.pp_model.specs.Config.{item, shared_item};
+ghost use Rattle.pp_log.specs.TakesOut.{itself};
 
 use pp_core::{Item, LocalEntry, SharedEntry};
 
@@ -59,6 +60,24 @@ impl<O: Copy> Side<O> for SharedSide {
     }
 
     fn op(entry: &SharedEntry<O>) -> &O {
+        &entry.op
+    }
+}
+
+/// The side of items, which stand in no log.
+#[derive(Drop)]
+pub struct ItemSide;
+
+impl<O: Copy> Side<O> for ItemSide {
+    type Entry = Item<O>;
+
+    ghost item_of = { itself };
+
+    fn item(entry: &Item<O>) -> Item<O> {
+        *entry
+    }
+
+    fn op(entry: &Item<O>) -> &O {
         &entry.op
     }
 }

@@ -13,9 +13,8 @@ use crate::index::Index;
 use crate::place::{Place, Removed};
 use crate::run::{rewind, unwind};
 use crate::sides::Side;
-use pp_core::{Item, OutOfMemory, Ticks};
-use pp_spec::{Placed, Spec};
-use std::alloc::Global;
+use pp_core::{OutOfMemory, Ticks};
+use pp_spec::Placed;
 use std::sync::ledger::Ledger;
 
 /// Where this id stands last.
@@ -105,25 +104,6 @@ pub fn pass_out<S: Placed, L: Ledger>(
     Ok(())
 }
 
-/// The items of the entries that have this place.
-fn items_there<S: Placed, T: Side<S::Op>>(
-    entries: &[T::Entry],
-    place: u16,
-    alloc: Global,
-) -> Result<Vec<Item<S::Op>>, OutOfMemory>
-    ensures { IfOk result (λ items.
-        items.items ≡ there S.place_of place (map T.item_of entries.now)) }
-{
-    let mut items = Vec::new(alloc);
-    for entry in entries {
-        let item = T::item(entry);
-        if S::place(&item.op) == place {
-            items.push(item)?;
-        }
-    }
-    Ok(items)
-}
-
 /// Takes the first of these entries, which stands at `from` in its place, out of that place. Where
 /// it does not let those behind it pass, these are taken back, and applied again without it; where
 /// one of them differs, the place is as it was.
@@ -133,7 +113,6 @@ pub fn take_out<S: Placed, T: Side<S::Op>, L: Ledger>(
     entries: &[T::Entry],
     state: &mut S::State,
     ticks: &mut Ticks<L>,
-    alloc: Global,
 ) -> Result<Removed, OutOfMemory>
     requires some { 0 < length entries.now }
     requires whole { HasWhole S.object from (with_first S.place_of T.item_of entries.now)
@@ -152,38 +131,42 @@ pub fn take_out<S: Placed, T: Side<S::Op>, L: Ledger>(
         pass_out::<S, L>(place, from, &op, state, ticks)?;
         return Ok(Removed::Done);
     }
-    let items = items_there::<S, T>(entries, S::place(&op), alloc)?;
-    replay::<S, L>(place, from, &items, state, ticks)
+    replay::<S, T, L>(place, from, entries, state, ticks)
 }
 
-/// Takes the first of these items, which stands at `from` in its place, out of it, and those behind
-/// it back, which are then applied again. Where one differs, the place is as it was.
-fn replay<S: Spec, L: Ledger>(
+/// Takes the operation of the first of these entries, which stands at `from` in its place, out of
+/// it, and those behind it there back, which are then applied again. Where one differs, the place is
+/// as it was.
+fn replay<S: Placed, T: Side<S::Op>, L: Ledger>(
     place: &mut Place<S::Undo>,
     from: usize,
-    items: &[Item<S::Op>],
+    entries: &[T::Entry],
     state: &mut S::State,
     ticks: &mut Ticks<L>,
 ) -> Result<Removed, OutOfMemory>
-    requires some { 0 < length items.now }
-    requires whole { HasWhole S.object from items.now place.old state.old }
-    ensures takes { IfOk result (TakesOutOf S.object from items.now
-        place.old state.old place.new state.new) }
-    ensures cost { IfOk result (λ removed. removal_ticks removed (length items.now)
-        ticks.old ticks.new) }
+    requires some { 0 < length entries.now }
+    requires whole { HasWhole S.object from (with_first S.place_of T.item_of entries.now)
+        place.old state.old }
+    ensures takes { IfOk result (TakesOutOf S.object from
+        (with_first S.place_of T.item_of entries.now) place.old state.old place.new state.new) }
+    ensures cost { IfOk result (λ removed. removal_ticks removed
+        (length (with_first S.place_of T.item_of entries.now)) ticks.old ticks.new) }
     ensures rises { ticks.old ≤ ticks.new }
-    ensures bound { ticks.new + 3 ≤ ticks.old + 4 * length items.now }
+    ensures bound { ticks.new + 3
+        ≤ ticks.old + 4 * length (with_first S.place_of T.item_of entries.now) }
 {
-    unwind::<S, L>(items, &mut place.undos, from, state, ticks)?;
-    let others = &items[1..];
-    let Some(answer) = rewind::<S, L>(others, &mut place.undos, state, ticks)? else {
+    let p = S::place(T::op(&entries[0]));
+    unwind::<S, T, L>(entries, p, &mut place.undos, from, state, ticks)?;
+    let others = &entries[1..];
+    let Some(stop) = rewind::<S, T, L>(others, p, &mut place.undos, state, ticks)? else {
         let _ = place.ids.remove(from);
         return Ok(Removed::Done);
     };
-    let id = others[place.undos.len() - from].id;
-    unwind::<S, L>(others, &mut place.undos, from, state, ticks)?;
-    let None = rewind::<S, L>(items, &mut place.undos, state, ticks)? else {
+    unwind::<S, T, L>(&others[..stop.at], p, &mut place.undos, from, state, ticks)?;
+    let None = rewind::<S, T, L>(entries, p, &mut place.undos, state, ticks)? else {
         unreachable!()
     };
+    let id = T::item(&others[stop.at]).id;
+    let answer = stop.answer;
     Ok(Removed::Differs { entry: id, answer })
 }
