@@ -3,7 +3,8 @@ ghost use Rattle.std.specs.Prelude.{◌≡◌};
 ghost use Rattle.pp_spec.specs.Object.{Swaps};
 ghost use Rattle.pp_table.specs.Gates.{IsGateBefore};
 ghost use Rattle.pp_counter.specs.Count.{counter};
-ghost use Rattle.pp_counter.specs.Movers.{figures_of, form_of, counter_table, gate_form_of, may_swap};
+ghost use Rattle.pp_counter.specs.Movers.{counter_table, figures_of, form_of, gate_form_of};
+ghost use Rattle.pp_counter.specs.Movers.{may_swap};
 ghost use Rattle.pp_counter.specs.Movers.{number_of};
 
 use crate::op::CounterOp;

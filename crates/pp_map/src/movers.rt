@@ -3,7 +3,8 @@ ghost use Rattle.std.specs.Prelude.{◌≡◌};
 ghost use Rattle.pp_spec.specs.Object.{Swaps};
 ghost use Rattle.pp_table.specs.Gates.{IsGateBefore};
 ghost use Rattle.pp_map.specs.KeyMap.{key_map};
-ghost use Rattle.pp_map.specs.Movers.{figure_of, figures_of, form_by, form_of, map_table, may_swap, number_of};
+ghost use Rattle.pp_map.specs.Movers.{figure_of, figures_of, form_by, form_of, map_table, may_swap};
+ghost use Rattle.pp_map.specs.Movers.{number_of};
 
 use crate::op::MapOp;
 use pp_table::Condition::{Always, Chain, Never, Unequal};

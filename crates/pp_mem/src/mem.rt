@@ -68,6 +68,7 @@ impl Spec for Mem {
         }
     }
 
+    #[inline(always)]
     fn legal(state: &Memory, op: &MemOp) -> bool {
         match *op {
             MemOp::Read { at, value } => state.value_at(at) == value,
@@ -81,6 +82,7 @@ impl Spec for Mem {
         }
     }
 
+    #[inline(always)]
     fn apply<L: Ledger>(
         state: &mut Memory,
         op: &MemOp,
@@ -109,6 +111,7 @@ impl Spec for Mem {
         }
     }
 
+    #[inline(always)]
     fn undo<L: Ledger>(
         state: &mut Memory,
         op: &MemOp,

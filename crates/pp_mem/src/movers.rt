@@ -3,7 +3,8 @@ ghost use Rattle.std.specs.Prelude.{◌≡◌};
 ghost use Rattle.pp_spec.specs.Object.{Swaps};
 ghost use Rattle.pp_table.specs.Gates.{IsGateBefore};
 ghost use Rattle.pp_mem.specs.Memories.{memory};
-ghost use Rattle.pp_mem.specs.Movers.{figures_of, form_of, gate_form_of, memory_table, may_swap, number_of};
+ghost use Rattle.pp_mem.specs.Movers.{figures_of, form_of, gate_form_of, may_swap, memory_table};
+ghost use Rattle.pp_mem.specs.Movers.{number_of};
 
 use crate::op::MemOp;
 use pp_table::Condition::{Always, Apart, Chain, Equal, FromApart, IntoApart, Settled, Unequal};

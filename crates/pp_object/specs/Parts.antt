@@ -30,7 +30,7 @@ key_of a = pos 0
 abbrev pub part_of : Op → Part
 part_of op = record { object = op.object; key = key_of op.act }
 
--- the form of an act, among those of its kind, and the number that it leads to
+-- the form of an act, among those that the gates of its kind know, and the number that they read
 abbrev pub act_label : Act → Label
 act_label (Memory a) = record { form = mem.gate_form_of a; number = mem.number_of a }
 act_label (KeySet a) = record { form = set.form_of a; number = set.number_of a }

@@ -83,6 +83,7 @@ impl Spec for Objects {
         }
     }
 
+    #[inline(always)]
     fn apply<L: Ledger>(
         state: &mut ObjectStates,
         op: &Op,
@@ -91,6 +92,7 @@ impl Spec for Objects {
         OneObject::apply(&mut state.states[usize::from(op.object)], &op.act, ticks)
     }
 
+    #[inline(always)]
     fn undo<L: Ledger>(
         state: &mut ObjectStates,
         op: &Op,

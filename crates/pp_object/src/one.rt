@@ -136,6 +136,7 @@ impl Spec for OneObject {
         }
     }
 
+    #[inline(always)]
     fn apply<L: Ledger>(
         state: &mut ObjectState,
         op: &Act,
@@ -168,6 +169,7 @@ impl Spec for OneObject {
         }
     }
 
+    #[inline(always)]
     fn undo<L: Ledger>(
         state: &mut ObjectState,
         op: &Act,

@@ -139,7 +139,7 @@ fn in_clique(act: &Act) -> bool
     }
 }
 
-/// The form of an act, among those of its kind, and the number that it leads to.
+/// The form of an act, among those that the gates of its kind know, and the number that they read.
 #[inline]
 fn label(act: &Act) -> Label
     ensures { result ≡ act_label act.now }

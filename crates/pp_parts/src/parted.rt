@@ -19,14 +19,14 @@ pub trait Parted: Placed {
     /// The part that an operation is about.
     ghost part_of: { Self.Op → PartOf };
 
-    /// The form of an operation, and the number that it leads to.
+    /// The form of an operation that gates know, and the number of it that they read.
     ghost label_of: { Self.Op → LabelOf };
 
     /// The part that it is about.
     fn part(op: &Self::Op) -> Part
         ensures { result ≡ part_of op.now };
 
-    /// Its form, and the number that it leads to.
+    /// Its form that gates know, and its number that they read.
     fn label(op: &Self::Op) -> Label
         ensures { result ≡ label_of op.now };
 

@@ -1,5 +1,5 @@
 //! Operations that stand for many others.
-ghost use Rattle.std.specs.Prelude.{◌≡◌, ◌&&◌, not, All, IsTrue, List, []};
+ghost use Rattle.std.specs.Prelude.{◌≡◌, All, IsTrue, List, []};
 ghost use Rattle.pp_spec.specs.Object.{Swaps};
 ghost use Rattle.pp_parts.specs.Parts.{Covers, KeepsClique, IsStoodForBy, first_and, no_samples};
 
@@ -190,13 +190,6 @@ impl<S: Parted> Samples<S> {
             return false;
         }
         first_swaps_behind::<S>(&self.first, op) && all_swap_behind::<S>(&self.others, op)
-    }
-
-    /// Whether too many were added, and some outside the clique: then nothing is known of any.
-    pub fn tell_nothing(&self) -> bool
-        ensures { result ≡ self.now.cut && not self.now.all_in_clique }
-    {
-        self.cut && !self.all_in_clique
     }
 
     /// Forgets all that was added.

@@ -3,7 +3,8 @@ ghost use Rattle.std.specs.Prelude.{◌≡◌};
 ghost use Rattle.pp_spec.specs.Object.{Swaps};
 ghost use Rattle.pp_table.specs.Gates.{IsGateBefore};
 ghost use Rattle.pp_prio.specs.Prios.{prio};
-ghost use Rattle.pp_prio.specs.Movers.{value_of, figures_of, form_of, prio_table, may_swap, number_of};
+ghost use Rattle.pp_prio.specs.Movers.{figures_of, form_of, may_swap, number_of, prio_table};
+ghost use Rattle.pp_prio.specs.Movers.{value_of};
 
 use crate::op::PrioOp;
 use pp_table::Condition::{Always, Falling, Never, Rising, Unequal};

@@ -8,6 +8,8 @@ use Rattle.std.specs.Option.{option_eq, unwrap_or}
 use Rattle.std.specs.Ordering.{int_eq}
 use Rattle.std.specs.Str.{bytes_eq}
 use Rattle.std.proofs.lemmas.Bool.{and_parts}
+use Rattle.std.proofs.lemmas.List.{length-append}
+use Rattle.std.proofs.lemmas.List.Elements.{filter-append}
 use Rattle.std.proofs.lemmas.Bool.Decides.{Decides-eqb, Decides-int_eq, nat_tests}
 use Rattle.pp_core.specs.declared.entry.SharedEntry.{SharedEntry}
 use Rattle.pp_model.specs.Lists.{In}
@@ -30,19 +32,14 @@ one_longer true a x = omega arith
 one_longer false a x = omega arith
 
 -- how many pass a test, of one list behind another
-filter_both : {E : Type 0} (test : E → Bool) (x y : List E) → length (filter test (x ++ y)) ≡ length (filter test x) + length (filter test y)
-filter_both test [] y = omega arith
-filter_both {E} test (a ∷ x) y =
-    let more = one_longer (test a) a (filter test (x ++ y)) in
-    let fewer = one_longer (test a) a (filter test x) in
-    let rest = filter_both test x y in
-    omega arith
+pass_both : {E : Type 0} (test : E → Bool) (x y : List E) → length (filter test (x ++ y)) ≡ length (filter test x) + length (filter test y)
+pass_both test x y = ap length (filter-append test x y) ∙ length-append (filter test x) (filter test y)
 
 -- how many pass, with one in their midst
 filter_with : {E : Type 0} (test : E → Bool) (u v : List E) (e : E) → length (filter test (u ++ e ∷ v)) ≡ length (filter test (u ++ v)) + one_if (test e)
 filter_with test u v e =
-    let with_it = filter_both test u (e ∷ v) in
-    let without = filter_both test u v in
+    let with_it = pass_both test u (e ∷ v) in
+    let without = pass_both test u v in
     let one = one_longer (test e) e (filter test v) in
     omega arith
 
@@ -170,7 +167,7 @@ module _ {Op : Type 0} (view : Name → Option Name) (label_of : Op → Label) w
         let was = counts.counts h q in
         let is = gains h q in
         let test = is_held_at view label_of h q in
-        let both = filter_both test x (e ∷ []) in
+        let both = pass_both test x (e ∷ []) in
         let one = one_longer (test e) e [] in
         omega arith;
   }

@@ -110,10 +110,6 @@ pub settled_none : {Op : Type 0} (own : List (Item Op)) (x : List (SharedEntry O
 settled_none {Op} [] x settled none h = subst (λ (z : List (SharedEntry Op)). IsSettled z settled) (sym (without_none shared_item x)) h
 settled_none (p ∷ own) x settled none h = cc
 
-pub first_in : {E : Type 0} (x : List E) (a : E) → slice_get x 0 ≡ Some a → In a x
-first_in [] a first = cc
-first_in (b ∷ x) a first = let same : b ≡ a = cc in inl (sym same)
-
 pub item_in : {E : Type 0} (x : List E) (i : ℕ) (a : E) → i < length x → a ≡ get_or x i a → In a x
 item_in {E} x i a within is = subst (λ (z : List E). In a z) (sym (cut_there x i a within is)) (in_right a (take i x) (a ∷ drop (i + 1) x) (inl refl))
 

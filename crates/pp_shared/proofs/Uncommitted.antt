@@ -7,7 +7,8 @@ use Rattle.std.specs.Map.{lookup}
 use Rattle.std.specs.Ordering.{int_eq}
 use Rattle.std.proofs.lemmas.Bool.{and_parts}
 use Rattle.std.proofs.lemmas.Bool.Decides.{Decides-eqb, Decides-int_eq}
-use Rattle.std.proofs.lemmas.List.{length_push}
+use Rattle.std.proofs.lemmas.List.{append-nil, length_push}
+use Rattle.std.proofs.lemmas.List.Elements.{filter-append}
 use Rattle.pp_core.specs.declared.entry.SharedEntry.{SharedEntry}
 use Rattle.pp_model.specs.Lists.{In}
 use Rattle.pp_model.specs.Names.{Name}
@@ -36,19 +37,13 @@ pub same_part-itself : (p : Part) → same_part p p ≡ true
 same_part-itself p =
     ap (λ (b : Bool). b && int_eq p.key p.key) ((Decides-eqb p.object p.object).1 refl) ∙ (Decides-int_eq p.key p.key).1 refl
 
--- a list behind which one more stands
-behind : {E : Type 0} (b : Bool) (a : E) (z : List E) (e : E) → cond b (a ∷ z ++ e ∷ []) (z ++ e ∷ []) ≡ cond b (a ∷ z) z ++ e ∷ []
-behind true a z e = refl
-behind false a z e = refl
+-- those that pass a test, of a list with one more behind it
+pub filter_push : {E : Type 0} (test : E → Bool) (x : List E) (e : E) (b : Bool) → test e ≡ b → filter test (x ++ e ∷ []) ≡ filter test x ++ cond b (e ∷ []) []
+filter_push {E} test x e b h = filter-append test x (e ∷ []) ∙ ap (λ (c : Bool). filter test x ++ cond c (e ∷ []) []) h
 
-pub filter_push-true : {E : Type 0} (test : E → Bool) (x : List E) (e : E) → test e ≡ true → filter test (x ++ e ∷ []) ≡ filter test x ++ e ∷ []
-filter_push-true {E} test [] e h = ap (λ (b : Bool). cond b (e ∷ []) []) h
-filter_push-true {E} test (a ∷ x) e h =
-    ap (λ (z : List E). cond (test a) (a ∷ z) z) (filter_push-true test x e h) ∙ behind (test a) a (filter test x) e
-
+-- and where it does not pass, they are the same
 pub filter_push-false : {E : Type 0} (test : E → Bool) (x : List E) (e : E) → test e ≡ false → filter test (x ++ e ∷ []) ≡ filter test x
-filter_push-false {E} test [] e h = ap (λ (b : Bool). cond b (e ∷ []) []) h
-filter_push-false {E} test (a ∷ x) e h = ap (λ (z : List E). cond (test a) (a ∷ z) z) (filter_push-false test x e h)
+filter_push-false test x e h = filter_push test x e false h ∙ append-nil (filter test x)
 
 -- a list without one
 pub loses_first : {E : Type 0} (b : Bool) (a : E) (x : List E) → LosesAt a b (cond b (a ∷ x) x) x
@@ -190,7 +185,7 @@ module _ {Shape State Op Undo : Type 0} (o : Object Shape State Op Undo) (label_
             let counts : is_open_in part_of p e ≡ true = ap (λ (b : Bool). not b && same_part (part_of e.op) p) uncommitted ∙ same in
             let found : lookup (same_part p) new ≡ Some slot = is p ∙ ap (λ (b : Bool). cond b (Some slot) (lookup (same_part p) old)) same in
             let there : Tells o label_of slot (open_in part_of p x ++ e ∷ []) = subst (λ (q : Part). Tells o label_of slot (open_in part_of q x ++ e ∷ [])) here told in
-            let all : Tells o label_of slot (open_in part_of p (x ++ e ∷ [])) = subst (Tells o label_of slot) (sym (filter_push-true (is_open_in part_of p) x e counts)) there in
+            let all : Tells o label_of slot (open_in part_of p (x ++ e ∷ [])) = subst (Tells o label_of slot) (sym (filter_push (is_open_in part_of p) x e true counts)) there in
             subst (λ (s : Option (OpenPart (SampleList Op))). TellsOf o label_of s (open_in part_of p (x ++ e ∷ []))) (sym found) all
         at p false other =
             let counts : is_open_in part_of p e ≡ false = ap (λ (b : Bool). not b && same_part (part_of e.op) p) uncommitted ∙ other in

@@ -71,7 +71,7 @@ fn forget<S: Parted>(slot: &mut OpenPart<Samples<S>>, entry: &SharedEntry<S::Op>
 }
 
 /// Whether numbers are worth keeping, since they may show more than the samples, which leave open
-/// whether the entries of others give way to this one. Nothing is promised of it.
+/// whether the entries of others, if there are any, give way to this one. Nothing is promised of it.
 fn wants_numbers<S: Parted>(slot: &OpenPart<Samples<S>>, entry: &SharedEntry<S::Op>) -> bool {
     if slot.count == 0 || slot.numbers.is_some() {
         return false;
@@ -84,8 +84,8 @@ fn wants_numbers<S: Parted>(slot: &OpenPart<Samples<S>>, entry: &SharedEntry<S::
 
 /// What is known of the uncommitted entries of a log: for each part that has some, or had some, how
 /// many there are, whose, operations that stand for theirs, and, where these do not show that all of
-/// several owners give way, their numbers. A part keeps its slot when its last entry is left out,
-/// since operations come to the same parts again.
+/// several owners give way, and the log is long behind the settled position, their numbers. A part
+/// keeps its slot when its last entry is left out, since operations come to the same parts again.
 #[derive(Drop)]
 pub struct OpenParts<S: Parted> {
     pub slots: IndexMap<Part, OpenPart<Samples<S>>>,

@@ -25,7 +25,8 @@ use std::alloc::Global;
 use std::marker::Model;
 use std::sync::ledger::Ledger;
 
-/// A walk over so many entries costs less than to keep numbers of them.
+/// Numbers are kept where more entries than these, with the new one, stand from the settled position
+/// on: a shorter walk is taken to cost less.
 const SHORT_WALK: usize = 64;
 
 /// The shared log: the operations that transactions pushed, which are allowed one after another.

@@ -2,8 +2,8 @@
 ghost use Rattle.std.specs.Prelude.{◌≡◌};
 ghost use Rattle.pp_table.specs.Gates.{passes};
 
-/// Which numbers pass: those that first operations of a form lead to, of which each that passes is
-/// known to swap with one second operation.
+/// Which numbers pass. A number is read of each first operation of a form; each whose number passes
+/// is known to swap with one second operation.
 #[derive(Clone, Copy, Debug, PartialEq, Eq)]
 pub enum Gate {
     /// All.

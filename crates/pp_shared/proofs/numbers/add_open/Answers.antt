@@ -2,7 +2,7 @@ use Rattle.std.proofs.Common.{◌≡◌, false, true, subst, sym}
 use Rattle.pp_shared.specs.Numbers.{CountsAll}
 use Rattle.pp_shared.specs.Uncommitted.{is_open_in, open_in}
 use Rattle.pp_shared.proofs.Counting.{counts_all_more}
-use Rattle.pp_shared.proofs.Uncommitted.{filter_push-false, filter_push-true}
+use Rattle.pp_shared.proofs.Uncommitted.{filter_push, filter_push-false}
 use Rattle.pp_shared.proofs.numbers.add_open.Goals as goal
 
 pub returns-then-not-is_open_in : goal.returns-then-not-is_open_in
@@ -19,6 +19,6 @@ returns g c = λ yes x counts.
     let e = c.args.entry.now in
     let inside : is_open_in part_of c.args.part e ≡ true = cc in
     subst (λ z. CountsAll label_of c.add.new.self z)
-    (sym (filter_push-true (is_open_in part_of c.args.part) x e inside))
+    (sym (filter_push (is_open_in part_of c.args.part) x e true inside))
     (counts_all_more label_of c.args.numbers.now c.add.new.self (open_in part_of c.args.part x) e
     (c.add.ensures yes) counts)
