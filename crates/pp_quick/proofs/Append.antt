@@ -18,7 +18,7 @@ use Rattle.pp_model.proofs.Alone.{there_is}
 use Rattle.pp_model.proofs.Keeps.{step_keeps}
 use Rattle.pp_model.proofs.Push.{mark_at, mark_cases, remark}
 use Rattle.pp_front.specs.Expansions.{stands_in}
-use Rattle.pp_quick.specs.Boosted.{PlacesSwap, Follows, Boosted, Boosting, Anchored, IsDoneAt, ComesBefore, rest}
+use Rattle.pp_quick.specs.Boosted.{PlacesSwap, Follows, Boosted, BoostedBut, Anchored, IsDoneAt, ComesBefore, rest}
 use Rattle.pp_quick.proofs.Entries.{is_there, entry_in, was_false}
 use Rattle.pp_quick.proofs.Front.{stands, end_allowed}
 use Rattle.pp_quick.proofs.Lookups.{tx_is, mark_is, there_of}
@@ -57,7 +57,7 @@ follows_wider {Op} O place G L p u new f =
     ]
 
 module _ {Op State : Type 0} (O : Object Op State) (place : Op → ℕ) (apart : PlacesSwap O place)
-    (t : Name) (c : Config Op) (b : Boosting O place t c) (x : Tx Op) (lookup : tx t c.opened ≡ Some x) (id : ℕ) (op : Op)
+    (t : Name) (c : Config Op) (b : BoostedBut O place t c) (x : Tx Op) (lookup : tx t c.opened ≡ Some x) (id : ℕ) (op : Op)
     (full : (r : SharedEntry Op) → IsDoneAt place (place op) c.shared r → stands_in x.local r.id ≡ true) where
   -- what the two steps ask
   pub record Asked : Type 0 where

@@ -21,7 +21,7 @@ use Rattle.pp_model.proofs.Permute.{permuted}
 use Rattle.pp_model.proofs.Push.{remark, elsewhere}
 use Rattle.pp_model.proofs.Serial.{allowed_front}
 use Rattle.pp_front.specs.Expansions.{taken_at, taken_out}
-use Rattle.pp_quick.specs.Boosted.{PlacesSwap, Follows, Boosting, Anchored}
+use Rattle.pp_quick.specs.Boosted.{PlacesSwap, Follows, BoostedBut, Anchored}
 use Rattle.pp_quick.proofs.Entries.{ops_items}
 use Rattle.pp_quick.proofs.Lookups.{tx_is, mark_is, done_by_other}
 use Rattle.pp_quick.proofs.Append.{marked_last}
@@ -80,10 +80,10 @@ follows_without {Op} O place G L id new f =
 module _ {Op State : Type 0} (O : Object Op State) (place : Op → ℕ) (apart : PlacesSwap O place) (t : Name) where
   -- the log of t is now P
   abbrev pub Left : List (LocalEntry Op) → Config Op → Type 0
-  Left P c = Boosting O place t c × ((x : Tx Op) × (tx t c.opened ≡ Some x) × (x.local ≡ P))
+  Left P c = BoostedBut O place t c × ((x : Tx Op) × (tx t c.opened ≡ Some x) × (x.local ≡ P))
 
   -- the last entry of the log
-  module _ (c : Config Op) (b : Boosting O place t c) (x : Tx Op) (lookup : tx t c.opened ≡ Some x)
+  module _ (c : Config Op) (b : BoostedBut O place t c) (x : Tx Op) (lookup : tx t c.opened ≡ Some x)
       (P : List (LocalEntry Op)) (e : LocalEntry Op) (cut : x.local ≡ P ++ e ∷ []) where
     ix : In x c.opened
     ix = (found_tx t c.opened x lookup).0

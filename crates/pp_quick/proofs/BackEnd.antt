@@ -15,7 +15,7 @@ use Rattle.pp_model.proofs.Trace.{keep_all}
 use Rattle.pp_model.proofs.Push.{remark}
 use Rattle.pp_front.specs.Expansions.{taken_at, taken_out}
 use Rattle.pp_quick.specs.Brief.{without_owner}
-use Rattle.pp_quick.specs.Boosted.{PlacesSwap, Boosting}
+use Rattle.pp_quick.specs.Boosted.{PlacesSwap, BoostedBut}
 use Rattle.pp_quick.proofs.Append.{marked_last}
 use Rattle.pp_quick.proofs.Relog.{on_log-twice, filter_within}
 use Rattle.pp_front.proofs.Ends.{after_append}
@@ -27,7 +27,7 @@ pub record Since {Op : Type 0} (c0 : Config Op) (t : Name) (P : List (LocalEntry
   pub others : without_owner t c.shared ≡ without_owner t c0.shared
 
 module _ {Op State : Type 0} (O : Object Op State) (place : Op → ℕ) (apart : PlacesSwap O place) (t : Name) (c0 : Config Op) where
-  module _ (c : Config Op) (b : Boosting O place t c) (x : Tx Op) (lookup : tx t c.opened ≡ Some x)
+  module _ (c : Config Op) (b : BoostedBut O place t c) (x : Tx Op) (lookup : tx t c.opened ≡ Some x)
       (P : List (LocalEntry Op)) (e : LocalEntry Op) (cut : x.local ≡ P ++ e ∷ []) (k : Since c0 t (P ++ e ∷ []) c) where
     ix : In x c.opened
     ix = (found_tx t c.opened x lookup).0

@@ -23,12 +23,12 @@ use Rattle.pp_front.specs.Records.{RunRecord}
 use Rattle.pp_front.specs.Records as records
 use Rattle.pp_quick.specs.Runs.{IsBoosted}
 use Rattle.pp_quick.specs.Boosted.{PlacesSwap, Boosted, Good, GoodOp, OfOpen}
-use Rattle.pp_quick.specs.Brief.{BriefTx, touches, shared_ids, is_missed, missed, brief_tx, brief, brief_of, BriefGood, BriefGoodOp, InBrief, at_brief, without_brief, without_owner, grown, missing_more, emptied, own_list, brief_then}
+use Rattle.pp_quick.specs.Brief.{BriefTx, any_at, shared_ids, is_missed, missed, brief_tx, brief, brief_of, BriefGood, BriefGoodOp, InBrief, at_brief, without_brief, without_owner, grown, missing_more, emptied, own_list, brief_then}
 use Rattle.pp_quick.specs.Laws.{IsBriefed}
 use Rattle.pp_quick.proofs.Entries.{is_there, not_there, was_false, or_true, or_right}
 use Rattle.pp_quick.proofs.Lookups.{and_true, done_by_other}
 use Rattle.pp_quick.proofs.Relog.{map_map, same_bool, filter_same, filter_none, filter_within, filter_map, on_log-same, without_on}
-use Rattle.pp_quick.proofs.OnOp.{as_boosting, op_runs, op_grown, Grown}
+use Rattle.pp_quick.proofs.OnOp.{as_boosted_but, op_runs, op_grown, Grown}
 use Rattle.pp_quick.proofs.OnCommit.{commit_rest}
 use Rattle.pp_front.proofs.Ends.{after_append}
 use Rattle.pp_quick.proofs.BackEnd.{all_since, none_owned}
@@ -52,38 +52,35 @@ and_false : (a : Bool) → (a && false) ≡ false
 and_false true = refl
 and_false false = refl
 
-not_true : (b : Bool) → b ≡ false → not b ≡ true
-not_true b e = ap not e
-
 pub differ : (b : Bool) → b ≡ true → b ≡ false → ⊥
 differ b h k = let z : true ≡ false = sym h ∙ k in cc
 
-pub touches_from : {Op : Type 0} (place : Op → ℕ) (o : ℕ) (l : List (Item Op)) → touches place o l ≡ true → (q : Item Op) × In q l × (place q.op ≡ o)
-touches_from place o [] h = absurd (cc)
-touches_from place o (p ∷ l) h = elim (or_true (place p.op == o) (touches place o l) h) [
+pub from_any_at : {Op : Type 0} (place : Op → ℕ) (o : ℕ) (l : List (Item Op)) → any_at place o l ≡ true → (q : Item Op) × In q l × (place q.op ≡ o)
+from_any_at place o [] h = absurd (cc)
+from_any_at place o (p ∷ l) h = elim (or_true (place p.op == o) (any_at place o l) h) [
   | inl k ↦ (p, inl refl, eqb-true (place p.op) o k)
-  | inr k ↦ let r = touches_from place o l k in (r.0, inr r.1, r.2)
+  | inr k ↦ let r = from_any_at place o l k in (r.0, inr r.1, r.2)
 ]
 
-pub touched : {Op : Type 0} (place : Op → ℕ) (o : ℕ) (l : List (Item Op)) (q : Item Op) → In q l → place q.op ≡ o → touches place o l ≡ true
-touched place o [] q h e = absurd h
-touched {Op} place o (p ∷ l) q (inl h) e = or_left (place p.op == o) (touches place o l) (eq-eqb (place p.op) o (ap (λ (w : Item Op). place w.op) (sym h) ∙ e))
-touched place o (p ∷ l) q (inr h) e = or_right (place p.op == o) (touches place o l) (touched place o l q h e)
+pub to_any_at : {Op : Type 0} (place : Op → ℕ) (o : ℕ) (l : List (Item Op)) (q : Item Op) → In q l → place q.op ≡ o → any_at place o l ≡ true
+to_any_at place o [] q h e = absurd h
+to_any_at {Op} place o (p ∷ l) q (inl h) e = or_left (place p.op == o) (any_at place o l) (eq-eqb (place p.op) o (ap (λ (w : Item Op). place w.op) (sym h) ∙ e))
+to_any_at place o (p ∷ l) q (inr h) e = or_right (place p.op == o) (any_at place o l) (to_any_at place o l q h e)
 
 -- the parts of a missed entry
 abbrev Parts : {Op : Type 0} → (Op → ℕ) → List (LocalEntry Op) → SharedEntry Op → Type 0
-Parts place L g = (g.committed ≡ true) × (touches place (place g.op) (own_items L) ≡ true) × (stands_in L g.id ≡ false)
+Parts place L g = (g.committed ≡ true) × (any_at place (place g.op) (own_items L) ≡ true) × (stands_in L g.id ≡ false)
 
 parts : {Op : Type 0} (place : Op → ℕ) (L : List (LocalEntry Op)) (g : SharedEntry Op) → is_missed place L g ≡ true → Parts place L g
 parts place L g h =
-    let a = and_parts g.committed (touches place (place g.op) (own_items L) && not (stands_in L g.id)) h in
-    let b = and_parts (touches place (place g.op) (own_items L)) (not (stands_in L g.id)) a.1 in
+    let a = and_parts g.committed (any_at place (place g.op) (own_items L) && not (stands_in L g.id)) h in
+    let b = and_parts (any_at place (place g.op) (own_items L)) (not (stands_in L g.id)) a.1 in
     (a.0, b.0, was_false (stands_in L g.id) b.1)
 
 from_parts : {Op : Type 0} (place : Op → ℕ) (L : List (LocalEntry Op)) (g : SharedEntry Op) → Parts place L g → is_missed place L g ≡ true
 from_parts place L g p =
-    and_true g.committed (touches place (place g.op) (own_items L) && not (stands_in L g.id)) p.0
-    (and_true (touches place (place g.op) (own_items L)) (not (stands_in L g.id)) p.1 (ap not p.2))
+    and_true g.committed (any_at place (place g.op) (own_items L) && not (stands_in L g.id)) p.0
+    (and_true (any_at place (place g.op) (own_items L)) (not (stands_in L g.id)) p.1 (ap not p.2))
 
 -- its id is among the missed ones exactly where an entry is missed
 has_missed : {Op : Type 0} (place : Op → ℕ) (G : List (SharedEntry Op)) (L : List (LocalEntry Op)) → ((g h : SharedEntry Op) → Before g h G → g.id ≢ h.id) → (g : SharedEntry Op) → In g G →
@@ -168,7 +165,7 @@ module _ {Op State : Type 0} (O : Object Op State) (place : Op → ℕ) (apart :
         begins = g.begins;
         swaps = λ a p i j n. g.swaps (item a) p (in_own x.local a i.0 i.1) i.2 j.0 j.2
             (has_in p.id (missed place c.shared x.local) (has_missed place c.shared x.local b.sound.shared_ids p j.0
-            ∙ from_parts place x.local p (j.1, touched place (place p.op) (own_items x.local) (item a) (in_own x.local a i.0 i.1) (i.2 ∙ sym j.2), n)));
+            ∙ from_parts place x.local p (j.1, to_any_at place (place p.op) (own_items x.local) (item a) (in_own x.local a i.0 i.1) (i.2 ∙ sym j.2), n)));
         passes = g.passes;
         allowed = g.allowed;
       }
@@ -214,9 +211,9 @@ module _ {Op State : Type 0} (O : Object Op State) (place : Op → ℕ) (apart :
       to_old m =
           let k = parts place g.log h m in
           let away : place h.op ≢ place op = λ e. differ (stands_in g.log h.id) (g.full h (i, k.0, e)) k.2 in
-          let q = touches_from place (place h.op) (own_items g.log) k.1 in
-          let here : touches place (place h.op) (own_items x.local) ≡ true = elim (in_cases q.0 (own_items x.local) (p ∷ []) (subst (λ (w : List (Item Op)). In q.0 w) g.own q.1)) [
-            | inl j ↦ touched place (place h.op) (own_items x.local) q.0 j q.2
+          let q = from_any_at place (place h.op) (own_items g.log) k.1 in
+          let here : any_at place (place h.op) (own_items x.local) ≡ true = elim (in_cases q.0 (own_items x.local) (p ∷ []) (subst (λ (w : List (Item Op)). In q.0 w) g.own q.1)) [
+            | inl j ↦ to_any_at place (place h.op) (own_items x.local) q.0 j q.2
             | inr (inl j) ↦ absurd (away (sym q.2 ∙ ap (λ (w : Item Op). place w.op) j))
             | inr (inr j) ↦ absurd j
           ] in
@@ -229,10 +226,10 @@ module _ {Op State : Type 0} (O : Object Op State) (place : Op → ℕ) (apart :
           let a = and_parts (has_id h.id (missed place c.shared x.local)) (not (place h.op == place op)) m in
           let k = parts place x.local h (sym (has_missed place c.shared x.local b.sound.shared_ids h i) ∙ a.0) in
           let away : place h.op ≢ place op = not_eqb (place h.op) (place op) a.1 in
-          let q = touches_from place (place h.op) (own_items x.local) k.1 in
+          let q = from_any_at place (place h.op) (own_items x.local) k.1 in
           from_parts place g.log h (
             k.0,
-            touched place (place h.op) (own_items g.log) q.0 (subst (λ (w : List (Item Op)). In q.0 w) (sym g.own) (in_left q.0 (own_items x.local) (p ∷ []) q.1)) q.2,
+            to_any_at place (place h.op) (own_items g.log) q.0 (subst (λ (w : List (Item Op)). In q.0 w) (sym g.own) (in_left q.0 (own_items x.local) (p ∷ []) q.1)) q.2,
             not_there h.id g.log (λ e j n. elim (g.added e j) [
               | inl l ↦ differ (stands_in x.local h.id) (is_there h.id x.local e l n) k.2
               | inr l ↦ away (l h i (sym n))
@@ -262,40 +259,40 @@ module _ {Op State : Type 0} (O : Object Op State) (place : Op → ℕ) (apart :
 
   -- a commit
   commit_missed : (t : Name) (x : Tx Op) → In x c.opened → x.name ≡ t → (y : Tx Op) → In y c.opened → y.name ≢ t → (h : SharedEntry Op) → In h c.shared →
-      is_missed place y.local (commit t h) ≡ (has_id h.id (missed place c.shared y.local) || ((h.owner =ⁿ t) && touches place (place h.op) (own_items y.local)))
+      is_missed place y.local (commit t h) ≡ (has_id h.id (missed place c.shared y.local) || ((h.owner =ⁿ t) && any_at place (place h.op) (own_items y.local)))
   commit_missed t x ix nx y iy ny h i =
-      same_bool (is_missed place y.local (commit t h)) (has_id h.id (missed place c.shared y.local) || ((h.owner =ⁿ t) && touches place (place h.op) (own_items y.local))) to_old to_new
+      same_bool (is_missed place y.local (commit t h)) (has_id h.id (missed place c.shared y.local) || ((h.owner =ⁿ t) && any_at place (place h.op) (own_items y.local))) to_old to_new
     where
       L : List (LocalEntry Op)
       L = y.local
 
-      touch : touches place (place (commit t h).op) (own_items y.local) ≡ touches place (place h.op) (own_items y.local)
-      touch = ap (λ (w : Op). touches place (place w) (own_items y.local)) (commit_rest t h).1
+      any_there : any_at place (place (commit t h).op) (own_items y.local) ≡ any_at place (place h.op) (own_items y.local)
+      any_there = ap (λ (w : Op). any_at place (place w) (own_items y.local)) (commit_rest t h).1
 
       inside : stands_in y.local (commit t h).id ≡ stands_in y.local h.id
       inside = ap (λ (w : ℕ). stands_in y.local w) (commit_rest t h).0
 
-      to_old : is_missed place y.local (commit t h) ≡ true → (has_id h.id (missed place c.shared y.local) || ((h.owner =ⁿ t) && touches place (place h.op) (own_items y.local))) ≡ true
-      to_old m = let k = parts place y.local (commit t h) m in by h.committed refl k.0 (sym touch ∙ k.1) (sym inside ∙ k.2)
+      to_old : is_missed place y.local (commit t h) ≡ true → (has_id h.id (missed place c.shared y.local) || ((h.owner =ⁿ t) && any_at place (place h.op) (own_items y.local))) ≡ true
+      to_old m = let k = parts place y.local (commit t h) m in by h.committed refl k.0 (sym any_there ∙ k.1) (sym inside ∙ k.2)
         where
-          by : (z : Bool) → h.committed ≡ z → (commit t h).committed ≡ true → touches place (place h.op) (own_items y.local) ≡ true → stands_in y.local h.id ≡ false →
-              (has_id h.id (missed place c.shared y.local) || ((h.owner =ⁿ t) && touches place (place h.op) (own_items y.local))) ≡ true
-          by true u v w o = or_left (has_id h.id (missed place c.shared y.local)) ((h.owner =ⁿ t) && touches place (place h.op) (own_items y.local))
+          by : (z : Bool) → h.committed ≡ z → (commit t h).committed ≡ true → any_at place (place h.op) (own_items y.local) ≡ true → stands_in y.local h.id ≡ false →
+              (has_id h.id (missed place c.shared y.local) || ((h.owner =ⁿ t) && any_at place (place h.op) (own_items y.local))) ≡ true
+          by true u v w o = or_left (has_id h.id (missed place c.shared y.local)) ((h.owner =ⁿ t) && any_at place (place h.op) (own_items y.local))
               (has_missed place c.shared y.local b.sound.shared_ids h i ∙ from_parts place y.local h (u, w, o))
-          by false u v w o = or_right (has_id h.id (missed place c.shared y.local)) ((h.owner =ⁿ t) && touches place (place h.op) (own_items y.local))
-              (and_true (h.owner =ⁿ t) (touches place (place h.op) (own_items y.local)) (elim (names_tell h.owner t) [
+          by false u v w o = or_right (has_id h.id (missed place c.shared y.local)) ((h.owner =ⁿ t) && any_at place (place h.op) (own_items y.local))
+              (and_true (h.owner =ⁿ t) (any_at place (place h.op) (own_items y.local)) (elim (names_tell h.owner t) [
                 | inl r ↦ r.0
                 | inr r ↦ absurd (differ (commit t h).committed v (ap (λ (z : Bool). (cond z (as_committed h) h).committed) r.0 ∙ u))
               ]) w)
 
-      to_new : (has_id h.id (missed place c.shared y.local) || ((h.owner =ⁿ t) && touches place (place h.op) (own_items y.local))) ≡ true → is_missed place y.local (commit t h) ≡ true
-      to_new m = elim (or_true (has_id h.id (missed place c.shared y.local)) ((h.owner =ⁿ t) && touches place (place h.op) (own_items y.local)) m) [
+      to_new : (has_id h.id (missed place c.shared y.local) || ((h.owner =ⁿ t) && any_at place (place h.op) (own_items y.local))) ≡ true → is_missed place y.local (commit t h) ≡ true
+      to_new m = elim (or_true (has_id h.id (missed place c.shared y.local)) ((h.owner =ⁿ t) && any_at place (place h.op) (own_items y.local)) m) [
         | inl a ↦
             let k = parts place y.local h (sym (has_missed place c.shared y.local b.sound.shared_ids h i) ∙ a) in
-            from_parts place y.local (commit t h) (stays (h.owner =ⁿ t) k.0, touch ∙ k.1, inside ∙ k.2)
+            from_parts place y.local (commit t h) (stays (h.owner =ⁿ t) k.0, any_there ∙ k.1, inside ∙ k.2)
         | inr a ↦
-            let k = and_parts (h.owner =ⁿ t) (touches place (place h.op) (own_items y.local)) a in
-            from_parts place y.local (commit t h) (ap (λ (z : Bool). (cond z (as_committed h) h).committed) k.0, touch ∙ k.1, inside ∙ not_there h.id y.local (other (names-true h.owner t k.0)))
+            let k = and_parts (h.owner =ⁿ t) (any_at place (place h.op) (own_items y.local)) a in
+            from_parts place y.local (commit t h) (ap (λ (z : Bool). (cond z (as_committed h) h).committed) k.0, any_there ∙ k.1, inside ∙ not_there h.id y.local (other (names-true h.owner t k.0)))
       ]
         where
           stays : (z : Bool) → h.committed ≡ true → (cond z (as_committed h) h).committed ≡ true
@@ -325,20 +322,20 @@ module _ {Op State : Type 0} (O : Object Op State) (place : Op → ℕ) (apart :
       f = found_tx t c.opened x lookup
 
       more : (y : Tx Op) → In y c.opened → y.name ≢ t →
-          missed place (commit_all t c.shared) y.local ≡ shared_ids (filter (λ (h : SharedEntry Op). has_id h.id (missed place c.shared y.local) || ((h.owner =ⁿ t) && touches place (place h.op) (own_items y.local))) c.shared)
+          missed place (commit_all t c.shared) y.local ≡ shared_ids (filter (λ (h : SharedEntry Op). has_id h.id (missed place c.shared y.local) || ((h.owner =ⁿ t) && any_at place (place h.op) (own_items y.local))) c.shared)
       more y i n =
           ap (λ (w : List (SharedEntry Op)). shared_ids w) (filter_map (is_missed place y.local) (commit t) c.shared)
           ∙ map_map (λ (w : SharedEntry Op). w.id) (commit t) (filter (λ h. is_missed place y.local (commit t h)) c.shared)
           ∙ map_same (λ (w : SharedEntry Op). (commit t w).id) (λ (w : SharedEntry Op). w.id) (filter (λ h. is_missed place y.local (commit t h)) c.shared) (λ w j. (commit_rest t w).0)
           ∙ ap (λ (w : List (SharedEntry Op)). shared_ids w) (filter_same (λ (h : SharedEntry Op). is_missed place y.local (commit t h))
-          (λ (h : SharedEntry Op). has_id h.id (missed place c.shared y.local) || ((h.owner =ⁿ t) && touches place (place h.op) (own_items y.local))) c.shared (commit_missed t x f.0 f.1 y i n))
+          (λ (h : SharedEntry Op). has_id h.id (missed place c.shared y.local) || ((h.owner =ⁿ t) && any_at place (place h.op) (own_items y.local))) c.shared (commit_missed t x f.0 f.1 y i n))
 
   -- what is left when the log of t is taken back
   taken_back : (t : Name) (x : Tx Op) → tx t c.opened ≡ Some x →
       after_from c (taken_out t x.local) ≡ record { names = c.names; ids = c.ids; opened = on_log t (λ l. []) c.opened; shared = without_owner t c.shared; done = c.done }
   taken_back t x e =
       let f = found_tx t c.opened x e in
-      let k = all_since O place apart t c x.local [] c (as_boosting O place t c b, (x, e, refl))
+      let k = all_since O place apart t c x.local [] c (as_boosted_but O place t c b, (x, e, refl))
       (record { is = ap (λ (w : List (Tx Op)). record c { opened = w }) (sym (on_log-same O c b.sound t x f.0 f.1)); others = refl }) in
       let d = after_from c (taken_out t x.local) in
       k.is ∙ ap (λ (w : List (SharedEntry Op)). record { names = c.names; ids = c.ids; opened = on_log t (λ l. []) c.opened; shared = w; done = c.done })

@@ -23,7 +23,7 @@ use Rattle.pp_front.specs.Records as records
 use Rattle.pp_quick.specs.Runs.{IsBoosted}
 use Rattle.pp_quick.specs.Boosted.{PlacesSwap, Boosted, Anchored, Good, GoodOp, OfOpen}
 use Rattle.pp_quick.specs.Laws.{KeepsBoosted}
-use Rattle.pp_quick.proofs.OnOp.{as_boosting, op_runs, op_good, op_boosted}
+use Rattle.pp_quick.proofs.OnOp.{as_boosted_but, op_runs, op_good, op_boosted}
 use Rattle.pp_quick.proofs.OnCommit.{begin_boosted, cmt_holds, cmt_word, cmt_boosted}
 use Rattle.pp_quick.proofs.Back.{Left, all_back}
 use Rattle.pp_front.proofs.Ends.{after_append, runs_append}
@@ -97,7 +97,7 @@ module _ {Op State : Type 0} (O : Object Op State) (place : Op → ℕ) (apart :
 
   module _ (c : Config Op) (b : Boosted O place c) where
     pub whole : (t : Name) (x : Tx Op) → tx t c.opened ≡ Some x → RunsFrom O c (taken_out t x.local) × Left O place apart t [] (after_from c (taken_out t x.local))
-    whole t x e = all_back O place apart t x.local [] c (as_boosting O place t c b, (x, e, refl))
+    whole t x e = all_back O place apart t x.local [] c (as_boosted_but O place t c b, (x, e, refl))
 
     abort_runs : (t : Name) (x : Tx Op) → tx t c.opened ≡ Some x → RunsFrom O c (taken_out t x.local ++ Quit t ∷ [])
     abort_runs t x e = let k = whole t x e in runs_append O c (taken_out t x.local) (Quit t ∷ []) k.0 (quit_holds t (after_from c (taken_out t x.local)) k.1, tt)

@@ -1,12 +1,10 @@
 -- The transactions in slots, after a change of one.
-use Rattle.std.specs.Prelude.{◌≡◌, ◌≢◌, ◌⊎◌, ◌||◌, ℕ, position, slice_get, Bool, true, false, not, cond, List, [], ◌∷◌, ◌++◌, map, is_some, option_map, Option, None, Some}
+use Rattle.std.specs.Prelude.{◌≡◌, ◌≢◌, ◌⊎◌, ◌||◌, Bool, true, false, not, cond, List, [], ◌∷◌, ◌++◌, map, is_some, option_map, Option, None, Some}
 use Rattle.std.specs.List.{list_any}
-use Rattle.std.specs.Map.{keys_of, lookup, set_value, values_of}
-use Rattle.std.specs.Str.{bytes_eq}
+use Rattle.std.specs.Map.{keys_of, lookup, set_value}
 use Rattle.std.proofs.Common.{refl, sym, ap, ◌∙◌}
 use Rattle.std.proofs.lemmas.Option.{same_Some}
 use mathlib.Core.Logic.{inl, inr}
-use Rattle.indexmap.proofs.MapLemmas.{Found-position}
 use Rattle.pp_model.specs.Lists.{In, Before}
 use Rattle.pp_model.specs.Names.{Name, ◌=ⁿ◌}
 use Rattle.pp_model.proofs.Names.{eq-names, names_tell}
@@ -39,10 +37,6 @@ in_set {X} t (d ∷ es) x e h = by (t =ⁿ d.0) h (λ k. in_set t es x e k)
     by true (inr k) r = inl (inr k)
     by false (inl k) r = inl (inl k)
     by false (inr k) r = elim (r k) [ inl j ↦ inl (inr j) | inr j ↦ inr j ]
-
--- what is open is in the slot at the name's position
-pub slot_at : {X : Type 0} (t : Name) (es : List (Name × Option X)) (i : ℕ) → position (bytes_eq t) (keys_of es) ≡ Some i → open_in t es ≡ in_slot (slice_get (values_of es) i)
-slot_at t es i p = ap in_slot (Found-position (bytes_eq t) es i p).value
 
 -- the names in the slots are told apart
 abbrev pub Apart : {X : Type 0} → List (Name × X) → Type 0

@@ -8,14 +8,14 @@ use Rattle.pp_model.specs.Config.{Config, SharedEntry, as_shared, first, shared_
 use Rattle.pp_model.specs.Lists.{Before, In}
 use Rattle.pp_model.specs.Names.{Name}
 use Rattle.pp_model.specs.Sound.{Sound, serial_items, serial_ops}
-use Rattle.pp_model.proofs.Lists.{from_map, in_map}
+use Rattle.pp_model.proofs.Lists.{from_map}
 use Rattle.pp_model.proofs.Serial.{allowed_front, ordered, serial_law}
 use Rattle.pp_spec.specs.Object.{Object, AllRanged, IsAllowed, rules_of}
 use Rattle.pp_quick.specs.Boosted.{PlacesSwap}
 use Rattle.pp_quick.specs.Brief.{Brief, BriefTx, brief}
-use Rattle.pp_quick.specs.Shown.{AreThreads, Holds, IsFine, Kept, WasCommitted, at, filled, held, shown, shown_tx, threads_of}
+use Rattle.pp_quick.specs.Shown.{AreThreads, KeepsQuick, IsFine, Kept, WasCommitted, at, filled, as_held, shown, shown_tx, threads_of}
 use Rattle.pp_quick.specs.declared.parts.OpenTx.{OpenTx}
-use Rattle.pp_quick.proofs.Fitting.{in_ranged, ranged_in, serial_fits}
+use Rattle.pp_quick.proofs.Fitting.{in_ranged, serial_fits}
 use Rattle.pp_quick.proofs.Moving.{same_brief}
 use Rattle.pp_quick.proofs.Deciding.{quick}
 use Rattle.pp_quick.proofs.HeldOf.{done_stands}
@@ -34,8 +34,8 @@ module _ {Shape State Op Undo : Type 0} (o : Object Shape State Op Undo) (place 
         (ap (λ (z : Shape × List (SharedEntry Op)). z.1) shared)
         committed
 
-    pub fresh_holds : Holds o place v
-    fresh_holds =
+    pub fresh_keeps : KeepsQuick o place v
+    fresh_keeps =
         record {
           is_held = (first None, record { boosted = (quick (rules_of o v.shape) place (apart v.shape)).start None refl; is = sym fresh_shown });
           names = subst (λ (z : List (Name × Option (OpenTx (List (Item Op))))). (s t : Name) → Before s t (keys_of z) → s ≢ t) (sym slots) (λ s t b. absurd b);
@@ -45,6 +45,7 @@ module _ {Shape State Op Undo : Type 0} (o : Object Shape State Op Undo) (place 
           fine = subst (λ (z : List (Name × Option (OpenTx (List (Item Op))))). (n : Name) (x : OpenTx (List (Item Op))) → In (n, Some x) z → IsFine o place v.commits.items x) (sym slots) (λ n x i. absurd i);
           commits = subst (λ (z : List (List ℕ)). (q id : ℕ) → In id (at q z) → WasCommitted place v.committed q id) (sym commits) (λ q id i. absurd i);
           same_shape = ap (λ (z : Shape × List (SharedEntry Op)). z.0) shared;
+          ranged = λ g i. absurd (subst (λ (z : Shape × List (SharedEntry Op)). In g z.1) shared i);
           few = let e : length v.shared.1 ≡ 0 = ap (λ (z : Shape × List (SharedEntry Op)). length z.1) shared in omega arith;
         }
 
@@ -54,12 +55,12 @@ module _ {Shape State Op Undo : Type 0} (o : Object Shape State Op Undo) (place 
       (serial_law (rules_of o shape) c.shared c.done [] (ordered (rules_of o shape) c s) (subst (λ (z : List Op). IsAllowed o shape z) (sym (append-nil (shared_ops c.shared))) s.shared_allowed))
 
   -- the committed transactions
-  pub done_allowed : (v : Kept Shape Op) → Holds o place v → IsAllowed o v.shape (serial_ops v.committed)
+  pub done_allowed : (v : Kept Shape Op) → KeepsQuick o place v → IsAllowed o v.shape (serial_ops v.committed)
   done_allowed v h =
       let k = h.is_held in
       subst (λ (b : Brief Op). IsAllowed o v.shape (serial_ops b.done)) k.1.is (serial_allowed v.shape k.0 k.1.boosted.sound)
 
-  pub done_few : (v : Kept Shape Op) → Holds o place v → length (serial_ops v.committed) ≤ v.count + 256
+  pub done_few : (v : Kept Shape Op) → KeepsQuick o place v → length (serial_ops v.committed) ≤ v.count + 256
   done_few v h =
       let k = h.is_held in
       let all : length (serial_ops k.0.done) ≤ length k.0.shared = serial_fits (rules_of o v.shape) k.0 k.1.boosted.sound in
@@ -67,8 +68,8 @@ module _ {Shape State Op Undo : Type 0} (o : Object Shape State Op Undo) (place 
       let shared : length k.0.shared ≡ length v.shared.1 = ap (λ (b : Brief Op). length b.shared) k.1.is in
       omega (arith, all, done, shared, h.few)
 
-  pub done_ranged : (v : Kept Shape Op) → Holds o place v → AllRanged o (shared_ops v.shared.1) → AllRanged o (serial_ops v.committed)
-  done_ranged v h r = in_ranged o (serial_ops v.committed) (λ a i.
+  pub done_ranged : (v : Kept Shape Op) → KeepsQuick o place v → AllRanged o (serial_ops v.committed)
+  done_ranged v h = in_ranged o (serial_ops v.committed) (λ a i.
       let m = from_map (λ (p : Item Op). p.op) a (serial_items v.committed) i in
-      let s = done_stands o place apart (held place v) h.is_held m.0 m.1 in
-      subst (λ (z : Op). IsTrue (o.ranged z)) (sym m.2) (ranged_in o (shared_ops v.shared.1) r (m.0).op (in_map (λ (g : SharedEntry Op). g.op) (as_shared s.0 true m.0) v.shared.1 s.1)))
+      let s = done_stands o place apart (as_held place v) h.is_held m.0 m.1 in
+      subst (λ (z : Op). IsTrue (o.ranged z)) (sym m.2) (h.ranged (as_shared s.0 true m.0) s.1))

@@ -1,9 +1,8 @@
 -- Lists that are walked from the front and from the end.
-use Rattle.std.specs.Prelude.{◌≡◌, ◌⊎◌, ◌<◌, ◌≤◌, ◌+◌, ℕ, zero, suc, Bool, cond, List, [], ◌∷◌, ◌++◌, filter, take, drop, length, slice_get, Some}
+use Rattle.std.specs.Prelude.{◌≡◌, ◌⊎◌, ◌<◌, ◌≤◌, ◌+◌, ℕ, zero, suc, List, [], ◌∷◌, ◌++◌, take, drop, length, slice_get, Some}
 use Rattle.std.proofs.Common.{refl, sym, ap, subst, ◌∙◌, arith, get_or}
 use Rattle.std.proofs.lemmas.Option.{same_Some}
 use mathlib.Core.Logic.{inl, inr}
-use Rattle.std.proofs.lemmas.List.Elements.{filter-append}
 use Rattle.pp_log.proofs.Lists.{cut_there}
 use Rattle.pp_model.specs.Lists.{In}
 use Rattle.pp_model.proofs.Lists.{in_cases, in_right}
@@ -47,10 +46,6 @@ drop_in (x ∷ xs) zero zero a l h = inl (sym (same_Some x a h))
 drop_in (x ∷ xs) zero (suc j) a l h = inr (drop_in xs zero j a (omega arith) h)
 drop_in (x ∷ xs) (suc k) zero a l h = absurd (omega arith)
 drop_in (x ∷ xs) (suc k) (suc j) a l h = drop_in xs k j a (omega arith) h
-
--- one more is among those that pass, or not
-pub filter_next : {A : Type 0} (test : A → Bool) (xs : List A) (i : ℕ) (e : A) → i < length xs → e ≡ get_or xs i e → filter test (take (i + 1) xs) ≡ filter test (take i xs) ++ cond (test e) (e ∷ []) []
-filter_next {A} test xs i e l h = ap (filter test) (take_next xs i e l h) ∙ filter-append test (take i xs) (e ∷ [])
 
 pub below_next : (j k : ℕ) → j < k + 1 → (j < k) ⊎ (j ≡ k)
 below_next zero zero l = inr refl

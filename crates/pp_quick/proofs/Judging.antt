@@ -24,8 +24,8 @@ use Rattle.pp_front.specs.Records as records
 use Rattle.pp_quick.specs.Boosted.{PlacesSwap}
 use Rattle.pp_quick.specs.Brief.{Brief, BriefGoodOp, BriefTx, brief_of}
 use Rattle.pp_quick.specs.Moving.{IsGood}
-use Rattle.pp_quick.specs.Passing.{HaveOwnIds, LetAllPass, StopsOne}
-use Rattle.pp_quick.specs.Shown.{Holds, Kept, at, calls_of, held, in_slot, is_unseen, ids_behind, open_in, shown, shown_tx, threads_of, unseen_at}
+use Rattle.pp_quick.specs.Passing.{HaveEntries, HaveOwnIds, LetAllPass, StopsOne}
+use Rattle.pp_quick.specs.Shown.{KeepsQuick, Kept, at, calls_of, as_held, in_slot, is_unseen, ids_behind, open_in, shown, shown_tx, threads_of, unseen_at}
 use Rattle.pp_quick.specs.declared.parts.OpenTx.{OpenTx}
 use Rattle.pp_quick.proofs.Briefs.{has_in, in_has}
 use Rattle.pp_quick.proofs.Filled.{begun_is}
@@ -65,7 +65,7 @@ slot_stays {A} t ((n, o) ∷ es) x s e = elim (names_tell t n) [
 pub some_there : {A : Type 0} (o : Option A) (x : A) → o ≡ Some x → IsSome o
 some_there o x e = subst (λ z. IsSome z) (sym e) refl
 
-module _ {Shape State Op Undo : Type 0} (o : Object Shape State Op Undo) (place : Op → ℕ) (apart : (shape : Shape) → PlacesSwap (rules_of o shape) place) (v : Kept Shape Op) (h : Holds o place v) where
+module _ {Shape State Op Undo : Type 0} (o : Object Shape State Op Undo) (place : Op → ℕ) (apart : (shape : Shape) → PlacesSwap (rules_of o shape) place) (v : Kept Shape Op) (h : KeepsQuick o place v) where
   abbrev B : Brief Op
   B = shown place v
 
@@ -76,7 +76,14 @@ module _ {Shape State Op Undo : Type 0} (o : Object Shape State Op Undo) (place 
   commits = v.commits.items
 
   pub own_ids : HaveOwnIds G
-  own_ids = distinct o place apart (held place v) h.is_held
+  own_ids = distinct o place apart (as_held place v) h.is_held
+
+  -- what was committed at a place stands in the shared log
+  pub have_entries : (q : ℕ) → HaveEntries G (at q commits)
+  have_entries q id i =
+      let k = h.commits q id i in
+      let s = done_stands o place apart (as_held place v) h.is_held k.0 k.1 in
+      (as_shared s.0 true k.0, s.1, k.2)
 
   -- names and threads
   pub begun_name : (t : Name) → is_some (lookup (λ n. t =ⁿ n) v.slots.entries) ≡ true → In t B.names
@@ -135,7 +142,7 @@ module _ {Shape State Op Undo : Type 0} (o : Object Shape State Op Undo) (place 
       missed : (p : SharedEntry Op) → In p G → In p.id (unseen_at (place op) commits x.seen.entries) → (place p.op ≡ place op) × In p.id show.missed
       missed p i u =
           let k = h.commits (place op) p.id (in_behind (lookup (nat_eq (place op)) x.seen.entries) (at (place op) commits) p.id u) in
-          let s = done_stands o place apart (held place v) h.is_held k.0 k.1 in
+          let s = done_stands o place apart (as_held place v) h.is_held k.0 k.1 in
           let same : as_shared s.0 true k.0 ≡ p = by_key (λ (w : SharedEntry Op). w.id) G own_ids (as_shared s.0 true k.0) p s.1 i k.2 in
           let there : place p.op ≡ place op = ap (λ (w : SharedEntry Op). place w.op) (sym same) ∙ k.3 in
           let has : is_unseen place commits x.seen.entries p ≡ true =
@@ -147,14 +154,14 @@ module _ {Shape State Op Undo : Type 0} (o : Object Shape State Op Undo) (place 
       stopped laws s g =
           let m = missed s.entry s.is s.among in
           let a = s.stops in
-          let fit_a = fits o place apart (held place v) h.is_held laws (as_shared t false a.item) (own_stands o place apart (held place v) h.is_held t show here a.item a.is) in
-          let fit_p = fits o place apart (held place v) h.is_held laws s.entry s.is in
+          let fit_a = fits o place apart (as_held place v) h.is_held laws (as_shared t false a.item) (own_stands o place apart (as_held place v) h.is_held t show here a.item a.is) in
+          let fit_p = fits o place apart (as_held place v) h.is_held laws s.entry s.is in
           a.stays v.shape fit_a fit_p ((of_it Good g).swaps a.item s.entry a.is (a.there ∙ m.0) s.is m.0 m.1)
 
       pub blocked : IsLawful o → IsTrue (o.fits v.shape op) → (k : ℕ) → IsFirstBlocking o t op G k → IsGood o place v (records.Op t id op) → ⊥
       blocked laws fit k b g =
           let i = stands_in G k b.entry b.is in
-          b.blocks.stays v.shape (fits o place apart (held place v) h.is_held laws b.entry i) fit ((of_it Good g).passes b.entry i b.blocks.uncommitted b.blocks.other)
+          b.blocks.stays v.shape (fits o place apart (as_held place v) h.is_held laws b.entry i) fit ((of_it Good g).passes b.entry i b.blocks.uncommitted b.blocks.other)
 
       pub illegal : (answer : Bool) → IsTrue answer ↔ GoesBehind o v.shared.0 (shared_ops G) op → answer ≡ false → IsGood o place v (records.Op t id op) → ⊥
       illegal answer w e g =
@@ -182,9 +189,6 @@ module _ {Shape State Op Undo : Type 0} (o : Object Shape State Op Undo) (place 
       pub may_take : IsGood o place v (records.Op t id op) → MayTake x.walk (o.call op)
       may_take g = (calls_of o x.own, (fine_of o place apart v h t x found).taken, (of_it Good g).begins)
 
-      pub goes_behind : IsGood o place v (records.Op t id op) → GoesBehind o v.shared.0 (shared_ops G) op
-      goes_behind g = subst (λ (s : Shape). IsAllowed o s (shared_ops G ++ op ∷ [])) (sym h.same_shape) (of_it Good g).allowed
-
       pub is_new : IsGood o place v (records.Op t id op) → position (λ e. e.id == id) G ≡ None
       is_new g = by (position (λ e. e.id == id) G) refl
         where
@@ -192,7 +196,7 @@ module _ {Shape State Op Undo : Type 0} (o : Object Shape State Op Undo) (place 
           by None e = refl
           by (Some k) e =
               let p = placed (λ (z : SharedEntry Op). z.id == id) G k e in
-              absurd (new_id o place apart (held place v) h.is_held id (of_it Good g).new p.0 (stands_in G k p.0 p.1) (eqb-true (p.0).id id p.2))
+              absurd (new_id o place apart (as_held place v) h.is_held id (of_it Good g).new p.0 (stands_in G k p.0 p.1) (eqb-true (p.0).id id p.2))
 
       pub unused : IsGood o place v (records.Op t id op) → list_any (λ i. id == i) v.ids ≡ false
       unused g = by (list_any (λ i. id == i) v.ids) refl

@@ -6,11 +6,13 @@ pub mod Counts
 pub mod Threads
 pub mod Filled
 pub mod Looking
+pub mod Lent
 pub mod Fitting
 pub mod HeldOf
 pub mod Unseen
 pub mod Moving
 pub mod Judging
+pub mod Undoing
 pub mod Taking
 pub mod Fresh
 pub mod Starting

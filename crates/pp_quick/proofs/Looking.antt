@@ -1,16 +1,13 @@
 -- What tests, places and lookups say of a list.
-use Rattle.std.proofs.Common.{◌≡◌, ◌↔◌, IsTrue, ℕ, ◌+◌, ◌≤◌, Bool, true, false, cond}
-use Rattle.std.proofs.Common.{not, ◌||◌, List, [], ◌∷◌, ◌++◌, length, Option, Some, None, position, nat_lt, find}
-use Rattle.std.proofs.Common.{slice_get, reverse, refl, sym, ◌∙◌, ap, one-add, subst, inl, inr}
+use Rattle.std.proofs.Common.{◌≡◌, ◌↔◌, IsTrue, ℕ, ◌≤◌, Bool, true, false, cond}
+use Rattle.std.proofs.Common.{◌||◌, List, [], ◌∷◌, ◌++◌, length, Option, Some, None, position, nat_lt, find}
+use Rattle.std.proofs.Common.{slice_get, reverse, refl, sym, ◌∙◌, ap, subst, inl, inr}
 use Rattle.std.specs.List.{list_any, position_or_len}
-use Rattle.std.specs.Map.{keys_of, set_value}
 use Rattle.std.proofs.lemmas.Bool.{ltb-false}
 use Rattle.std.proofs.lemmas.List.{reverse-append}
 use Rattle.std.proofs.lemmas.List.Folds.{find_at}
 use Rattle.std.proofs.lemmas.List.Quantifiers.{position-Some}
 use Rattle.std.proofs.lemmas.Option.{slice_get_past}
-use Rattle.indexmap.specs.Layout.{set_value_at}
-use Rattle.indexmap.proofs.MapLemmas.{Found-position}
 use Rattle.pp_model.specs.Lists.{In}
 use Rattle.pp_model.proofs.Lists.{in_cases, in_left, in_right}
 use Rattle.pp_model.proofs.Logs.{found}
@@ -107,17 +104,3 @@ nowhere {X} p xs n = go (position p xs) refl
     go : (r : Option ℕ) → position p xs ≡ r → r ≡ None
     go None e = refl
     go (Some i) e = let k = placed p xs i e in let z : true ≡ false = sym k.2 ∙ n k.0 (stands_in xs i k.0 k.1) in absurd (cc)
-
--- a value set at the position of the first key that passes a test
-module _ {K X : Type 0} (test : K → Bool) where
-  set_first : (es : List (K × X)) (x : X) → set_value_at es (position_or_len test (keys_of es)) x ≡ set_value test es x
-  set_first [] x = refl
-  set_first (e ∷ es) x = by (test e.0) (set_first es x)
-    where
-      by : (b : Bool) → set_value_at es (position_or_len test (keys_of es)) x ≡ set_value test es x →
-          set_value_at (e ∷ es) (cond (not b) (1 + position_or_len test (keys_of es)) 0) x ≡ cond b ((e.0, x) ∷ es) (e ∷ set_value test es x)
-      by true k = refl
-      by false k = ap (λ (n : ℕ). set_value_at (e ∷ es) n x) (one-add (position_or_len test (keys_of es))) ∙ ap (λ (w : List (K × X)). e ∷ w) k
-
-  pub set_at : (es : List (K × X)) (i : ℕ) (x : X) → position test (keys_of es) ≡ Some i → set_value_at es i x ≡ set_value test es x
-  set_at es i x p = ap (λ (k : ℕ). set_value_at es k x) (sym (Found-position test es i p).or_len) ∙ set_first es x

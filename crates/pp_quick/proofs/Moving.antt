@@ -1,5 +1,5 @@
 -- What each record makes of what a Quick keeps.
-use Rattle.std.specs.Prelude.{◌≡◌, ◌≢◌, ◌==◌, ◌+◌, ◌≤◌, ℕ, suc, nat_eq, Bool, true, false, cond, not, ◌||◌, List, [], ◌∷◌, ◌++◌, filter, length, reverse, is_some, option_map, Option, None, Some}
+use Rattle.std.specs.Prelude.{◌≡◌, ◌≢◌, ◌==◌, ◌+◌, ◌≤◌, ℕ, suc, nat_eq, Bool, true, false, cond, not, ◌||◌, List, [], ◌∷◌, ◌++◌, filter, length, reverse, is_some, option_map, Option, None, Some, IsTrue}
 use Rattle.std.specs.List.{list_any}
 use Rattle.std.specs.Map.{keys_of, lookup, set_value}
 use Rattle.std.proofs.Common.{refl, sym, ap, subst, ◌∙◌, append_assoc, arith, length-append}
@@ -24,14 +24,15 @@ use Rattle.pp_spec.specs.Object.{Object, rules_of}
 use Rattle.pp_front.specs.Records.{RunRecord}
 use Rattle.pp_front.specs.Records as records
 use Rattle.pp_quick.specs.Boosted.{PlacesSwap}
-use Rattle.pp_quick.specs.Brief.{Brief, BriefTx, at_brief, brief_of, brief_then, emptied, grown, missing_more, own_list, touches, without_brief, without_owner}
+use Rattle.pp_quick.specs.Brief.{Brief, BriefTx, at_brief, brief_of, brief_then, emptied, grown, missing_more, own_list, any_at, without_brief, without_owner}
 use Rattle.pp_quick.specs.Moving.{IsGood, Moves}
 use Rattle.pp_quick.specs.Passing.{IsGrown, ids_at, items_at}
 use Rattle.pp_quick.specs.Runs.{IsBoosted}
-use Rattle.pp_quick.specs.Shown.{AreThreads, Holds, IsFine, Kept, WasCommitted, at, calls_of, filled, held, in_slot, open_in, shown, shown_tx, threads_of, unseen}
+use Rattle.pp_quick.specs.Shown.{AreThreads, KeepsQuick, IsFine, Kept, WasCommitted, at, calls_of, filled, as_held, in_slot, open_in, shown, shown_tx, threads_of, unseen}
 use Rattle.pp_quick.specs.declared.parts.OpenTx.{OpenTx}
 use Rattle.pp_quick.proofs.Filled.{Apart, among, filled_more, filled_out, filled_set, found_is, in_set, keys_stay}
 use Rattle.pp_quick.proofs.Looking.{any_in, in_reverse, reverse_more}
+use Rattle.pp_quick.proofs.OnCommit.{commit_rest}
 use Rattle.pp_quick.proofs.Relog.{map_id, map_map}
 use Rattle.pp_quick.proofs.HeldOf.{advance, distinct, done_stands, is_owned, names_apart, own_stands, without_is}
 use Rattle.pp_quick.proofs.Threads.{apart_more, threads_less, threads_more}
@@ -83,7 +84,7 @@ slot_is : {A : Type 0} (o : Option (Option A)) (x : A) → in_slot o ≡ Some x 
 slot_is None x e = absurd (cc)
 slot_is (Some s) x e = ap (λ z. Some z) e
 
-module _ {Shape State Op Undo : Type 0} (o : Object Shape State Op Undo) (place : Op → ℕ) (apart : (shape : Shape) → PlacesSwap (rules_of o shape) place) (v : Kept Shape Op) (h : Holds o place v) where
+module _ {Shape State Op Undo : Type 0} (o : Object Shape State Op Undo) (place : Op → ℕ) (apart : (shape : Shape) → PlacesSwap (rules_of o shape) place) (v : Kept Shape Op) (h : KeepsQuick o place v) where
   abbrev B : Brief Op
   B = shown place v
 
@@ -127,20 +128,22 @@ module _ {Shape State Op Undo : Type 0} (o : Object Shape State Op Undo) (place 
 
   moves : (r : RunRecord Op) (w : Kept Shape Op) → IsBoosted r → IsGood o place v r → w.shape ≡ v.shape → w.count ≡ v.count + 1 → shown place w ≡ brief_then place B r → Apart w.slots.entries →
       AreThreads w.threads.keys (threads_of (brief_then place B r).opened) → ((n : Name) (x : OpenTx (List (Item Op))) → In (n, Some x) w.slots.entries → IsFine o place w.commits.items x) →
-      ((q id : ℕ) → In id (at q w.commits.items) → WasCommitted place w.committed q id) → w.shared.0 ≡ v.shape → length w.shared.1 ≤ v.count + 1 + 256 → Moves o place v r w
-  moves r w s g shape count is names threads fine done same few =
+      ((q id : ℕ) → In id (at q w.commits.items) → WasCommitted place w.committed q id) → w.shared.0 ≡ v.shape → ((a : SharedEntry Op) → In a w.shared.1 → IsTrue (o.ranged a.op)) →
+      length w.shared.1 ≤ v.count + 1 + 256 → Moves o place v r w
+  moves r w s g shape count is names threads fine done same ranged few =
       record {
         shape = shape;
         count = count;
         shown = is;
-        holds =
+        keeps =
             record {
-              is_held = advance o place apart (held place v) h.is_held (held place w) r shape is s g;
+              is_held = advance o place apart (as_held place v) h.is_held (as_held place w) r shape is s g;
               names = names;
               threads = subst (λ (z : Brief Op). AreThreads w.threads.keys (threads_of z.opened)) (sym is) threads;
               fine = fine;
               commits = done;
               same_shape = same ∙ sym shape;
+              ranged = ranged;
               few = omega (arith, few, count);
             };
       }
@@ -161,7 +164,7 @@ module _ {Shape State Op Undo : Type 0} (o : Object Shape State Op Undo) (place 
   threads_gone : (t : Name) (x : OpenTx (List (Item Op))) (us : List Name) → open_in t es ≡ Some x → ((q : Name) → list_any (λ z. q =ⁿ z) us ≡ cond (x.thread =ⁿ q) false (list_any (λ z. q =ⁿ z) v.threads.keys)) →
       AreThreads us (threads_of (without_brief t B.opened))
   threads_gone t x us e u =
-      let a = among t B.opened (show t x) (names_apart o place apart (held place v) h.is_held) (open_there t x e) in
+      let a = among t B.opened (show t x) (names_apart o place apart (as_held place v) h.is_held) (open_there t x e) in
       let cut : threads_of B.opened ≡ threads_of a.before ++ x.thread ∷ threads_of a.after = ap (λ (l : List (BriefTx Op)). threads_of l) a.is ∙ map-append (λ (y : BriefTx Op). y.thread) a.before (show t x ∷ a.after) in
       subst (λ (l : List Name). AreThreads us l) (sym (ap (λ (l : List (BriefTx Op)). threads_of l) a.without ∙ map-append (λ (y : BriefTx Op). y.thread) a.before a.after))
       (threads_less v.threads.keys us (threads_of a.before) (threads_of a.after) x.thread (subst (λ (l : List Name). AreThreads v.threads.keys l) cut h.threads) u)
@@ -185,7 +188,7 @@ module _ {Shape State Op Undo : Type 0} (o : Object Shape State Op Undo) (place 
   fresh_fine cs x taken own seen =
       record {
         taken = subst (λ (l : List (Item Op)). HasTaken x.walk (calls_of o l)) (sym own) taken;
-        sees = λ q. ap (λ (l : List (ℕ × ℕ)). is_some (lookup (nat_eq q) l)) seen ∙ sym (ap (λ (l : List (Item Op)). touches place q l) own);
+        sees = λ q. ap (λ (l : List (ℕ × ℕ)). is_some (lookup (nat_eq q) l)) seen ∙ sym (ap (λ (l : List (Item Op)). any_at place q l) own);
         within = λ q k e. absurd (let z : None ≡ Some k = sym (ap (λ (l : List (ℕ × ℕ)). lookup (nat_eq q) l) seen) ∙ e in cc);
       }
 
@@ -237,10 +240,11 @@ module _ {Shape State Op Undo : Type 0} (o : Object Shape State Op Undo) (place 
         ])
         (commits_stay w commits_are committed)
         (ap (λ (z : Shape × List (SharedEntry Op)). z.0) shared ∙ h.same_shape)
+        (λ a i. h.ranged a (subst (λ (z : Shape × List (SharedEntry Op)). In a z.1) shared i))
         (let e : length w.shared.1 ≡ length G = ap (λ (z : Shape × List (SharedEntry Op)). length z.1) shared in omega (arith, e, h.few))
 
   -- an op
-  module _ (t : Name) (id : ℕ) (op : Op) (x y : OpenTx (List (Item Op))) (w : Kept Shape Op) (g : IsGood o place v (records.Op t id op)) (found : open_in t es ≡ Some x)
+  module _ (t : Name) (id : ℕ) (op : Op) (x y : OpenTx (List (Item Op))) (w : Kept Shape Op) (g : IsGood o place v (records.Op t id op)) (asked : IsTrue (o.ranged op)) (found : open_in t es ≡ Some x)
       (grows : IsGrown o place commits x (record { id = id; op = op }) y)
       (slots : w.slots.entries ≡ set_value (λ n. t =ⁿ n) es (Some y)) (shape : w.shape ≡ v.shape)
       (shared : w.shared ≡ (v.shared.0, G ++ as_shared t false (record { id = id; op = op }) ∷ [])) (ids : w.ids ≡ v.ids ++ id ∷ []) (threads : w.threads.keys ≡ v.threads.keys)
@@ -263,7 +267,7 @@ module _ {Shape State Op Undo : Type 0} (o : Object Shape State Op Undo) (place 
         ∙ ap (λ (z : List (Name × Option (OpenTx (List (Item Op))))). filled (shown_tx place more commits) z) slots
         ∙ filled_set t show (shown_tx place more commits) (named G commits) (grown place G id op) x y es h.names (slot_there t x found)
         (same_tx t y.thread x.thread y.walk.body x.walk.body y.own (x.own ++ p ∷ []) (unseen place more commits y.seen.entries) _ grows.thread grows.body grows.own
-        (unseen_wider place G commits y.seen.entries t p ∙ unseen_grown place G commits x.seen.entries y.seen.entries op (distinct o place apart (held place v) h.is_held) grows.seen))
+        (unseen_wider place G commits y.seen.entries t p ∙ unseen_grown place G commits x.seen.entries y.seen.entries op (distinct o place apart (as_held place v) h.is_held) grows.seen))
         (λ n z i q. same_tx n z.thread z.thread z.walk.body z.walk.body z.own z.own (unseen place more commits z.seen.entries) (unseen place G commits z.seen.entries) refl refl refl (unseen_wider place G commits z.seen.entries t p)))
         log_is
         committed
@@ -274,22 +278,22 @@ module _ {Shape State Op Undo : Type 0} (o : Object Shape State Op Undo) (place 
         record {
           taken = subst (λ (l : List (Item Op)). HasTaken y.walk (calls_of o l)) (sym grows.own)
               (subst (λ l. HasTaken y.walk l) (sym (map-append (λ (q : Item Op). o.call q.op) x.own (p ∷ []))) (grows.taken (calls_of o x.own) f.taken));
-          sees = λ q. ap (λ m. is_some m) (grows.seen q) ∙ by q (place op == q) refl ∙ sym (ap (λ (l : List (Item Op)). touches place q l) grows.own ∙ touches_more q x.own);
+          sees = λ q. ap (λ m. is_some m) (grows.seen q) ∙ by q (place op == q) refl ∙ sym (ap (λ (l : List (Item Op)). any_at place q l) grows.own ∙ any_at_more q x.own);
           within = λ q k e. at_most q k (place op == q) refl (sym (grows.seen q) ∙ e);
         }
       where
-        touches_more : (q : ℕ) (l : List (Item Op)) → touches place q (l ++ p ∷ []) ≡ ((place op == q) || touches place q l)
-        touches_more q [] = refl
-        touches_more q (a ∷ l) = ap (λ (b : Bool). (place a.op == q) || b) (touches_more q l) ∙ swap (place a.op == q) (place op == q) (touches place q l)
+        any_at_more : (q : ℕ) (l : List (Item Op)) → any_at place q (l ++ p ∷ []) ≡ ((place op == q) || any_at place q l)
+        any_at_more q [] = refl
+        any_at_more q (a ∷ l) = ap (λ (b : Bool). (place a.op == q) || b) (any_at_more q l) ∙ swap (place a.op == q) (place op == q) (any_at place q l)
           where
             swap : (a b c : Bool) → (a || (b || c)) ≡ (b || (a || c))
             swap true true c = refl
             swap true false c = refl
             swap false b c = refl
 
-        by : (q : ℕ) (b : Bool) → (place op == q) ≡ b → is_some (cond (nat_eq (place op) q) (Some (length (at (place op) commits))) (lookup (nat_eq q) x.seen.entries)) ≡ ((place op == q) || touches place q x.own)
-        by q true e = ap (λ (b : Bool). is_some (cond b (Some (length (at (place op) commits))) (lookup (nat_eq q) x.seen.entries))) e ∙ sym (ap (λ (b : Bool). b || touches place q x.own) e)
-        by q false e = ap (λ (b : Bool). is_some (cond b (Some (length (at (place op) commits))) (lookup (nat_eq q) x.seen.entries))) e ∙ (fine_of t x found).sees q ∙ sym (ap (λ (b : Bool). b || touches place q x.own) e)
+        by : (q : ℕ) (b : Bool) → (place op == q) ≡ b → is_some (cond (nat_eq (place op) q) (Some (length (at (place op) commits))) (lookup (nat_eq q) x.seen.entries)) ≡ ((place op == q) || any_at place q x.own)
+        by q true e = ap (λ (b : Bool). is_some (cond b (Some (length (at (place op) commits))) (lookup (nat_eq q) x.seen.entries))) e ∙ sym (ap (λ (b : Bool). b || any_at place q x.own) e)
+        by q false e = ap (λ (b : Bool). is_some (cond b (Some (length (at (place op) commits))) (lookup (nat_eq q) x.seen.entries))) e ∙ (fine_of t x found).sees q ∙ sym (ap (λ (b : Bool). b || any_at place q x.own) e)
 
         at_most : (q k : ℕ) (b : Bool) → (place op == q) ≡ b → cond (nat_eq (place op) q) (Some (length (at (place op) commits))) (lookup (nat_eq q) x.seen.entries) ≡ Some k → k ≤ length (at q commits)
         at_most q k true e m =
@@ -307,6 +311,11 @@ module _ {Shape State Op Undo : Type 0} (o : Object Shape State Op Undo) (place 
         (λ z e. subst (λ (c : List (List ℕ)). IsFine o place c z) (sym commits_are) (subst (λ (u : OpenTx (List (Item Op))). IsFine o place commits u) (same_Some y z e) grown_fine)))
         (commits_stay w commits_are committed)
         (ap (λ (z : Shape × List (SharedEntry Op)). z.0) shared ∙ h.same_shape)
+        (λ a i. elim (in_cases a G (as_shared t false p ∷ []) (subst (λ (z : List (SharedEntry Op)). In a z) log_is i)) [
+          | inl j ↦ h.ranged a j
+          | inr (inl j) ↦ subst (λ (z : SharedEntry Op). IsTrue (o.ranged z.op)) (sym j) asked
+          | inr (inr j) ↦ absurd j
+        ])
         (let e : length w.shared.1 ≡ length more = ap (λ (z : List (SharedEntry Op)). length z) log_is in
         let l : length more ≡ length G + 1 = length-append G (as_shared t false p ∷ []) in omega (arith, e, l, h.few))
 
@@ -326,9 +335,9 @@ module _ {Shape State Op Undo : Type 0} (o : Object Shape State Op Undo) (place 
     other_missed n z i q =
         let f = h.fine n z i in
         same_tx n z.thread z.thread z.walk.body z.walk.body z.own z.own (unseen place (commit_all t G) w.commits.items z.seen.entries) _ refl refl refl
-        (unseen_committed place G commits w.commits.items z.seen.entries t z.own x.own (distinct o place apart (held place v) h.is_held)
-        (is_owned o place apart (held place v) h.is_held t (show t x) here) (own_stands o place apart (held place v) h.is_held t (show t x) here) f.sees f.within grow
-        (λ q id j. let k = h.commits q id j in let s = done_stands o place apart (held place v) h.is_held k.0 k.1 in (as_shared s.0 true k.0, s.1, refl, k.2)))
+        (unseen_committed place G commits w.commits.items z.seen.entries t z.own x.own (distinct o place apart (as_held place v) h.is_held)
+        (is_owned o place apart (as_held place v) h.is_held t (show t x) here) (own_stands o place apart (as_held place v) h.is_held t (show t x) here) f.sees f.within grow
+        (λ q id j. let k = h.commits q id j in let s = done_stands o place apart (as_held place v) h.is_held k.0 k.1 in (as_shared s.0 true k.0, s.1, refl, k.2)))
 
     committed_shown : shown place w ≡ brief_then place B (records.Commit t)
     committed_shown = same_brief _ _ _ _ _ _ _ _ _ _
@@ -364,21 +373,27 @@ module _ {Shape State Op Undo : Type 0} (o : Object Shape State Op Undo) (place 
               (m.0, subst (λ (l : List (Item Op)). In m.0 l) (sym serial_is) (in_right m.0 (serial_items v.committed) x.own k.0), sym m.2, eqb-true (place (m.0).op) q k.1)
         ])
         (ap (λ (z : Shape × List (SharedEntry Op)). z.0) shared ∙ h.same_shape)
+        (λ a i.
+        let m = from_map (commit t) a G (subst (λ (z : List (SharedEntry Op)). In a z) all_is i) in
+        subst (λ (z : Op). IsTrue (o.ranged z)) (sym (ap (λ (z : SharedEntry Op). z.op) m.2 ∙ (commit_rest t m.0).1)) (h.ranged m.0 m.1))
         (let e : length w.shared.1 ≡ length (commit_all t G) = ap (λ (z : List (SharedEntry Op)). length z) all_is in
         let l : length (commit_all t G) ≡ length G = length-map G (commit t) in omega (arith, e, l, h.few))
 
   -- the entries of t leave the shared log
   module _ (t : Name) (x : OpenTx (List (Item Op))) (found : open_in t es ≡ Some x) (w : Kept Shape Op) (shared : w.shared ≡ (v.shared.0, without_items shared_item x.own G)) where
     left_is : w.shared.1 ≡ without_owner t G
-    left_is = ap (λ (z : Shape × List (SharedEntry Op)). z.1) shared ∙ without_is o place apart (held place v) h.is_held t (show t x) (open_there t x found)
+    left_is = ap (λ (z : Shape × List (SharedEntry Op)). z.1) shared ∙ without_is o place apart (as_held place v) h.is_held t (show t x) (open_there t x found)
 
     less : length w.shared.1 ≤ length G
     less = let e : length w.shared.1 ≡ length (without_owner t G) = ap (λ (z : List (SharedEntry Op)). length z) left_is in
         let l = filter_short (λ (a : SharedEntry Op). not (a.owner =ⁿ t)) G in omega (arith, e, l)
 
+    left_ranged : (a : SharedEntry Op) → In a w.shared.1 → IsTrue (o.ranged a.op)
+    left_ranged a i = h.ranged a (from_filter (λ (b : SharedEntry Op). not (b.owner =ⁿ t)) a G (subst (λ (z : List (SharedEntry Op)). In a z) left_is i)).0
+
     same_missed : (n : Name) (z : OpenTx (List (Item Op))) → shown_tx place (without_owner t G) commits n z ≡ show n z
     same_missed n z = same_tx n z.thread z.thread z.walk.body z.walk.body z.own z.own (unseen place (without_owner t G) commits z.seen.entries) (unseen place G commits z.seen.entries) refl refl refl
-        (unseen_fewer place G commits z.seen.entries t (λ a i e. ap (λ (c : SharedEntry Op). c.committed) (is_owned o place apart (held place v) h.is_held t (show t x) (open_there t x found) a i e).2))
+        (unseen_fewer place G commits z.seen.entries t (λ a i e. ap (λ (c : SharedEntry Op). c.committed) (is_owned o place apart (as_held place v) h.is_held t (show t x) (open_there t x found) a i e).2))
 
     -- an abort
     module _ (g : IsGood o place v (records.Abort t)) (slots : w.slots.entries ≡ set_value (λ n. t =ⁿ n) es None)
@@ -401,6 +416,7 @@ module _ {Shape State Op Undo : Type 0} (o : Object Shape State Op Undo) (place 
           (fine_set t None w.slots.entries w.commits.items slots (λ z k. subst (λ (c : List (List ℕ)). IsFine o place c z) (sym commits_are) k) (λ z e. absurd (cc)))
           (commits_stay w commits_are committed)
           (ap (λ (z : Shape × List (SharedEntry Op)). z.0) shared ∙ h.same_shape)
+          left_ranged
           (omega (arith, less, h.few))
 
     -- a retry
@@ -432,4 +448,5 @@ module _ {Shape State Op Undo : Type 0} (o : Object Shape State Op Undo) (place 
           (λ z e. subst (λ (u : OpenTx (List (Item Op))). IsFine o place w.commits.items u) (same_Some y z e) (fresh_fine w.commits.items y taken own seen)))
           (commits_stay w commits_are committed)
           (ap (λ (z : Shape × List (SharedEntry Op)). z.0) shared ∙ h.same_shape)
+          left_ranged
           (omega (arith, less, h.few))

@@ -12,7 +12,7 @@ use Rattle.pp_model.specs.Rules.{Meets, RunsFrom, calls}
 use Rattle.pp_model.proofs.Lists.{in_left, in_right, in_cases}
 use Rattle.pp_model.proofs.Logs.{found_tx}
 use Rattle.pp_front.specs.Expansions.{stands_in, refresh}
-use Rattle.pp_quick.specs.Boosted.{PlacesSwap, Boosted, Boosting, Anchored, GoodOp, IsDoneAt, IsOwnAt}
+use Rattle.pp_quick.specs.Boosted.{PlacesSwap, Boosted, BoostedBut, Anchored, GoodOp, IsDoneAt, IsOwnAt}
 use Rattle.pp_model.proofs.Local.{shared_used}
 use Rattle.pp_model.proofs.Steps.{own_items-append}
 use Rattle.pp_quick.proofs.Entries.{is_there, entry_in}
@@ -22,8 +22,8 @@ use Rattle.pp_quick.proofs.Append.{Asked, asked_app, asked_push, app_holds, push
 use Rattle.pp_quick.proofs.Relog.{on_log-same, on_log-twice}
 use Rattle.pp_front.proofs.Ends.{after_append, runs_append, runs_front, runs_back}
 
-pub as_boosting : {Op State : Type 0} (O : Object Op State) (place : Op → ℕ) (t : Name) (c : Config Op) → Boosted O place c → Boosting O place t c
-as_boosting O place t c b = record { sound = b.sound; follows = b.follows; anchored = λ y i n. b.anchored y i }
+pub as_boosted_but : {Op State : Type 0} (O : Object Op State) (place : Op → ℕ) (t : Name) (c : Config Op) → Boosted O place c → BoostedBut O place t c
+as_boosted_but O place t c b = record { sound = b.sound; follows = b.follows; anchored = λ y i n. b.anchored y i }
 
 -- what an op record of x makes of the configuration c
 pub record Grown {Op : Type 0} (place : Op → ℕ) (c : Config Op) (t : Name) (id : ℕ) (op : Op) (x : Tx Op) (d : Config Op) : Type 0 where
@@ -48,7 +48,7 @@ module _ {Op State : Type 0} (O : Object Op State) (place : Op → ℕ) (apart :
   begun : Refreshing O place t c x (place op) [] c.shared c x
   begun =
       record {
-        boosting = as_boosting O place t c b;
+        boosted_but = as_boosted_but O place t c b;
         lookup = lookup;
         is = ap (λ (w : List (Tx Op)). record c { opened = w }) (sym (on_log-same O c b.sound t x (found_tx t c.opened x lookup).0 (found_tx t c.opened x lookup).1));
         shared = refl;
@@ -72,7 +72,7 @@ module _ {Op State : Type 0} (O : Object Op State) (place : Op → ℕ) (apart :
     full : (q : SharedEntry Op) → IsDoneAt place (place op) d.shared q → stands_in y.local q.id ≡ true
     full q k = r.seen q (subst (λ (w : List (SharedEntry Op)). In q w) (r.cut ∙ append-nil K) k.0, k.1, k.2)
 
-    asked : GoodOp O place c id op x → Asked O place apart t d r.boosting y r.lookup id op full
+    asked : GoodOp O place c id op x → Asked O place apart t d r.boosted_but y r.lookup id op full
     asked g =
         record {
           new = subst (λ (w : List ℕ). In id w → ⊥) (sym r.ids) g.new;
@@ -83,16 +83,16 @@ module _ {Op State : Type 0} (O : Object Op State) (place : Op → ℕ) (apart :
         }
 
     app : GoodOp O place c id op x → Meets O d (App t id op)
-    app g = app_holds O place apart t d r.boosting y r.lookup id op full (asked g)
+    app g = app_holds O place apart t d r.boosted_but y r.lookup id op full (asked g)
 
     end_runs : GoodOp O place c id op x → RunsFrom O d ends
-    end_runs g = (app g, (push_holds O place apart t d r.boosting y r.lookup id op full (app g) (asked g), tt))
+    end_runs g = (app g, (push_holds O place apart t d r.boosted_but y r.lookup id op full (app g) (asked g), tt))
 
     end_good : RunsFrom O d ends → ((a : LocalEntry Op) (p : SharedEntry Op) → IsOwnAt place (place op) x.local a → IsDoneAt place (place op) c.shared p → stands_in x.local p.id ≡ false → Swaps O a.op p.op) →
         GoodOp O place c id op x
     end_good h sw =
-        let k = asked_app O place apart t d r.boosting y r.lookup id op full h.0 in
-        let l = asked_push O place apart t d r.boosting y r.lookup id op full h.0 h.1.0 in
+        let k = asked_app O place apart t d r.boosted_but y r.lookup id op full h.0 in
+        let l = asked_push O place apart t d r.boosted_but y r.lookup id op full h.0 h.1.0 in
         record {
           new = subst (λ (w : List ℕ). In id w → ⊥) r.ids k.0;
           begins = subst (λ (w : Option Tree). Begins w (calls O (own_items x.local) ++ O.call op ∷ [])) r.body
@@ -116,11 +116,11 @@ module _ {Op State : Type 0} (O : Object Op State) (place : Op → ℕ) (apart :
     ]
 
     end_boosted : RunsFrom O d ends → Boosted O place (after_from d ends)
-    end_boosted h = subst (λ (w : Config Op). Boosted O place w) (sym (then_two O place apart t d r.boosting y r.lookup id op full h.0))
-        (two_boosted O place apart t d r.boosting y r.lookup id op full h.0 h.1.0 anchors)
+    end_boosted h = subst (λ (w : Config Op). Boosted O place w) (sym (then_two O place apart t d r.boosted_but y r.lookup id op full h.0))
+        (two_boosted O place apart t d r.boosted_but y r.lookup id op full h.0 h.1.0 anchors)
 
     new_here : RunsFrom O d ends → In id d.ids → ⊥
-    new_here h = (asked_app O place apart t d r.boosting y r.lookup id op full h.0).0
+    new_here h = (asked_app O place apart t d r.boosted_but y r.lookup id op full h.0).0
 
     iy : In y d.opened
     iy = (found_tx t d.opened y r.lookup).0
@@ -129,7 +129,7 @@ module _ {Op State : Type 0} (O : Object Op State) (place : Op → ℕ) (apart :
     unpushed = record { id = id; owner = t; mark = Unpushed; op = op }
 
     end_is : RunsFrom O d ends → after_from d ends ≡ record { names = c.names; ids = id ∷ c.ids; opened = on_log t (λ l. y.local ++ now_pushed ∷ []) c.opened; shared = c.shared ++ as_shared t false (record { id = id; op = op }) ∷ []; done = c.done }
-    end_is h = then_two O place apart t d r.boosting y r.lookup id op full h.0
+    end_is h = then_two O place apart t d r.boosted_but y r.lookup id op full h.0
         ∙ ap (λ (w : Config Op). record { names = w.names; ids = id ∷ w.ids; opened = on_log t (set_mark id Pushed) (on_log t (λ l. l ++ unpushed ∷ []) w.opened); shared = w.shared ++ as_shared t false (record { id = id; op = op }) ∷ []; done = w.done }) r.is
         ∙ ap (λ (w : List (Tx Op)). record { names = c.names; ids = id ∷ c.ids; opened = w; shared = c.shared ++ as_shared t false (record { id = id; op = op }) ∷ []; done = c.done }) logs
       where
@@ -137,7 +137,7 @@ module _ {Op State : Type 0} (O : Object Op State) (place : Op → ℕ) (apart :
         logs = ap (λ (w : List (Tx Op)). on_log t (set_mark id Pushed) w) (on_log-twice t (λ l. l ++ unpushed ∷ []) y.local c.opened)
             ∙ on_log-twice t (set_mark id Pushed) (y.local ++ unpushed ∷ []) c.opened
             ∙ ap (λ (w : List (LocalEntry Op)). on_log t (λ l. w) c.opened)
-            (marked_last id Pushed y.local unpushed (λ a i n. new_here h (subst (λ (w : ℕ). In w d.ids) n (r.boosting.sound.local_used y iy a i))) refl)
+            (marked_last id Pushed y.local unpushed (λ a i n. new_here h (subst (λ (w : ℕ). In w d.ids) n (r.boosted_but.sound.local_used y iy a i))) refl)
 
     end_grown : RunsFrom O d ends → Grown place c t id op x (after_from d ends)
     end_grown h =
@@ -149,10 +149,10 @@ module _ {Op State : Type 0} (O : Object Op State) (place : Op → ℕ) (apart :
           added = λ a i. elim (in_cases a y.local (now_pushed ∷ []) i) [
             | inl j ↦ elim (r.added a j) [
               | inl k ↦ inl k
-              | inr k ↦ inr (λ g k' n. ap (λ (w : Item Op). place w.op) (is_item O place apart d r.boosting.sound y iy (r.boosting.follows y iy) a j g (subst (λ (w : List (SharedEntry Op)). In g w) (sym r.shared) k') n) ∙ k.1)
+              | inr k ↦ inr (λ g k' n. ap (λ (w : Item Op). place w.op) (is_item O place apart d r.boosted_but.sound y iy (r.boosted_but.follows y iy) a j g (subst (λ (w : List (SharedEntry Op)). In g w) (sym r.shared) k') n) ∙ k.1)
             ]
             | inr (inl j) ↦ inr (λ g k n. absurd (new_here h (subst (λ (w : ℕ). In w d.ids) (n ∙ ap (λ (w : LocalEntry Op). w.id) j)
-                (shared_used O d r.boosting.sound g (subst (λ (w : List (SharedEntry Op)). In g w) (sym r.shared) k)))))
+                (shared_used O d r.boosted_but.sound g (subst (λ (w : List (SharedEntry Op)). In g w) (sym r.shared) k)))))
             | inr (inr j) ↦ absurd j
           ];
           full = λ q k.

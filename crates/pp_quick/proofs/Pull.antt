@@ -13,7 +13,7 @@ use Rattle.pp_model.proofs.Logs.{found_tx, on_each}
 use Rattle.pp_model.proofs.Alone.{there_is}
 use Rattle.pp_model.proofs.Keeps.{step_keeps}
 use Rattle.pp_front.specs.Expansions.{stands_in}
-use Rattle.pp_quick.specs.Boosted.{PlacesSwap, Follows, Boosting, Anchored, IsDoneAt, ComesBefore, rest}
+use Rattle.pp_quick.specs.Boosted.{PlacesSwap, Follows, BoostedBut, Anchored, IsDoneAt, ComesBefore, rest}
 use Rattle.pp_quick.proofs.Entries.{is_there, entry_in, was_false}
 use Rattle.pp_quick.proofs.Front.{next_allowed}
 use Rattle.pp_quick.proofs.Lookups.{there_of, other_is, done_by_other, open_before_done, in_first_part}
@@ -21,7 +21,7 @@ use Rattle.pp_quick.proofs.Entries.{same_or_not}
 use Rattle.pp_model.specs.Config.{as_pulled}
 
 module _ {Op State : Type 0} (O : Object Op State) (place : Op → ℕ) (apart : PlacesSwap O place)
-    (t : Name) (c : Config Op) (b : Boosting O place t c) (x : Tx Op) (lookup : tx t c.opened ≡ Some x)
+    (t : Name) (c : Config Op) (b : BoostedBut O place t c) (x : Tx Op) (lookup : tx t c.opened ≡ Some x)
     (K H : List (SharedEntry Op)) (g : SharedEntry Op) (cut : c.shared ≡ K ++ g ∷ H) (u : g.committed ≡ true)
     (out : stands_in x.local g.id ≡ false)
     (seen : (r : SharedEntry Op) → IsDoneAt place (place g.op) K r → stands_in x.local r.id ≡ true) where
@@ -127,8 +127,8 @@ module _ {Op State : Type 0} (O : Object Op State) (place : Op → ℕ) (apart :
           let k = entry_in r.id x.local (seen r (in_K r rg, d.1, d.2 ∙ ap (λ (w : LocalEntry Op). place w.op) e)) in
           (k.0, as_pulled g, before_across k.0 (as_pulled g) x.local (as_pulled g ∷ []) k.1 (inl refl), k.2, ap (λ (w : LocalEntry Op). w.id) (sym e))
 
-  pub pull_boosting : Meets O c (Pull t g.id) → Boosting O place t next
-  pull_boosting h =
+  pub pull_boosted_but : Meets O c (Pull t g.id) → BoostedBut O place t next
+  pull_boosted_but h =
       record {
         sound = subst (λ (w : Config Op). Sound O w) pull_then (step_keeps O c (Pull t g.id) b.sound h);
         follows = on_each t longer c.opened (λ (w : Tx Op). Follows O place c.shared w.local)

@@ -13,11 +13,11 @@ use Rattle.pp_model.proofs.Lists.{in_left, in_right, in_cases}
 use Rattle.pp_model.proofs.Logs.{found_tx, in_on_same}
 use Rattle.pp_model.proofs.Steps.{own_items-append}
 use Rattle.pp_front.specs.Expansions.{stands_in}
-use Rattle.pp_quick.specs.Boosted.{PlacesSwap, Boosting, IsDoneAt, IsOwnAt}
+use Rattle.pp_quick.specs.Boosted.{PlacesSwap, BoostedBut, IsDoneAt, IsOwnAt}
 use Rattle.pp_quick.proofs.Entries.{is_there, entry_in, stands_in-snoc, was_false}
 use Rattle.pp_quick.proofs.Lookups.{tx_is}
 use Rattle.pp_quick.proofs.Relog.{relogged, on_log-twice}
-use Rattle.pp_quick.proofs.Pull.{pull_holds, pull_swaps, pull_then, pull_boosting}
+use Rattle.pp_quick.proofs.Pull.{pull_holds, pull_swaps, pull_then, pull_boosted_but}
 use Rattle.std.proofs.lemmas.Bool.{and_parts}
 use Rattle.pp_quick.proofs.Entries.{same_or_not}
 use Rattle.pp_model.specs.Config.{as_pulled}
@@ -28,7 +28,7 @@ is_missing place o L g = (g.committed && (place g.op == o)) && not (stands_in L 
 
 -- Of a refresh of x0 in c0 at the place o, what holds in c, where x is the transaction now: G is cut to K ++ H, and K is done.
 pub record Refreshing {Op State : Type 0} (O : Object Op State) (place : Op → ℕ) (t : Name) (c0 : Config Op) (x0 : Tx Op) (o : ℕ) (K H : List (SharedEntry Op)) (c : Config Op) (x : Tx Op) : Type 0 where
-  pub boosting : Boosting O place t c
+  pub boosted_but : BoostedBut O place t c
   pub lookup : tx t c.opened ≡ Some x
   pub is : c ≡ relogged c0 t x.local
   pub shared : c.shared ≡ c0.shared
@@ -68,11 +68,11 @@ module _ {Op State : Type 0} (O : Object Op State) (place : Op → ℕ) (apart :
 
   -- after one PULL
   pulled_on : (c : Config Op) (x : Tx Op) (K H : List (SharedEntry Op)) (g : SharedEntry Op) → Refreshing O place t c0 x0 o K (g ∷ H) c x →
-      place g.op ≡ o → Boosting O place t (record c { opened = on_log t (λ l. l ++ as_pulled g ∷ []) c.opened }) →
+      place g.op ≡ o → BoostedBut O place t (record c { opened = on_log t (λ l. l ++ as_pulled g ∷ []) c.opened }) →
       Refreshing O place t c0 x0 o (K ++ g ∷ []) H (record c { opened = on_log t (λ l. l ++ as_pulled g ∷ []) c.opened }) (relog (λ l. l ++ as_pulled g ∷ []) x)
   pulled_on c x K H g r p b =
       record {
-        boosting = b;
+        boosted_but = b;
         lookup = tx_is O n b.sound t (relog more x) (in_on_same t more x c.opened f.0 f.1) f.1;
         is = ap (λ (w : Config Op). record w { opened = on_log t more w.opened }) r.is ∙ ap (λ (w : List (Tx Op)). record c0 { opened = w }) (on_log-twice t more x.local c0.opened);
         shared = r.shared;
@@ -113,7 +113,7 @@ module _ {Op State : Type 0} (O : Object Op State) (place : Op → ℕ) (apart :
       is_g a (inr k) = elim k [ ]
 
       distinct : (q : SharedEntry Op) → In q H → g.id ≢ q.id
-      distinct q i = r.boosting.sound.shared_ids g q (subst (λ (w : List (SharedEntry Op)). Before g q w) (sym r.cut) (later K))
+      distinct q i = r.boosted_but.sound.shared_ids g q (subst (λ (w : List (SharedEntry Op)). Before g q w) (sym r.cut) (later K))
         where
           later : (K : List (SharedEntry Op)) → Before g q (K ++ g ∷ H)
           later [] = inl (refl, i)
@@ -124,7 +124,7 @@ module _ {Op State : Type 0} (O : Object Op State) (place : Op → ℕ) (apart :
       is_missing place o x0.local g ≡ false → Refreshing O place t c0 x0 o (K ++ g ∷ []) H c x
   passed_on c x K H g r m =
       record {
-        boosting = r.boosting;
+        boosted_but = r.boosted_but;
         lookup = r.lookup;
         is = r.is;
         shared = r.shared;
@@ -179,16 +179,16 @@ module _ {Op State : Type 0} (O : Object Op State) (place : Op → ℕ) (apart :
       seen q d = r.seen q (d.0, d.1, d.2 ∙ at_o)
 
       holds : ((a : LocalEntry Op) → In a x.local → is_own a.mark ≡ true → Swaps O a.op g.op) → Meets O c (Pull t g.id)
-      holds = pull_holds O place apart t c r.boosting x r.lookup K H g r.cut parts.0 out seen
+      holds = pull_holds O place apart t c r.boosted_but x r.lookup K H g r.cut parts.0 out seen
 
       swap : Meets O c (Pull t g.id) → (a : LocalEntry Op) → In a x.local → is_own a.mark ≡ true → Swaps O a.op g.op
-      swap = pull_swaps O place apart t c r.boosting x r.lookup K H g r.cut parts.0 out seen
+      swap = pull_swaps O place apart t c r.boosted_but x r.lookup K H g r.cut parts.0 out seen
 
       on : Meets O c (Pull t g.id) → Goal H (then c (Pull t g.id)) (pulls (filter (is_missing place o x0.local) H))
       on h = subst (λ (w : Config Op). Goal H w (pulls (filter (is_missing place o x0.local) H)))
-          (sym (pull_then O place apart t c r.boosting x r.lookup K H g r.cut parts.0 out seen))
+          (sym (pull_then O place apart t c r.boosted_but x r.lookup K H g r.cut parts.0 out seen))
           (rec (K ++ g ∷ []) (record c { opened = on_log t (λ l. l ++ as_pulled g ∷ []) c.opened }) (relog (λ l. l ++ as_pulled g ∷ []) x)
-          (pulled_on c x K H g r at_o (pull_boosting O place apart t c r.boosting x r.lookup K H g r.cut parts.0 out seen h)))
+          (pulled_on c x K H g r at_o (pull_boosted_but O place apart t c r.boosted_but x r.lookup K H g r.cut parts.0 out seen h)))
 
       own_passes : Passing (g ∷ H) → (a : LocalEntry Op) → In a x.local → is_own a.mark ≡ true → Swaps O a.op g.op
       own_passes h a i w = elim (same_or_not (place a.op) o) [

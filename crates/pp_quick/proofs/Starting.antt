@@ -5,7 +5,7 @@ use Rattle.std.specs.Map.{keys_of, lookup}
 use Rattle.std.proofs.Common.{refl, sym, ap, subst, ◌∙◌, append_assoc, arith, get_or}
 use Rattle.std.proofs.lemmas.Bool.{eqb-true, false_from_ne_true}
 use Rattle.std.proofs.lemmas.List.{drop_more, length-map, map-append, take_more}
-use Rattle.std.proofs.lemmas.List.Elements.{All-get_or}
+use Rattle.std.proofs.lemmas.List.Elements.{All-get_or, All-head, All-tail}
 use mathlib.Core.Logic.{inl, inr}
 use Rattle.pp_core.specs.declared.entry.CommittedTx.{CommittedTx}
 use Rattle.pp_core.specs.declared.entry.Item.{Item}
@@ -26,8 +26,8 @@ use Rattle.pp_spec.specs.Object.{Object, IsAllowed, rules_of}
 use Rattle.pp_quick.specs.Boosted.{PlacesSwap}
 use Rattle.pp_quick.specs.Brief.{Brief, BriefTx, brief}
 use Rattle.pp_quick.specs.Held.{IsItemAsked}
-use Rattle.pp_quick.specs.Shown.{AreThreads, Holds, IsFine, Kept, at, filled, shown, shown_tx, threads_of}
-use Rattle.pp_quick.specs.Starting.{PutsStart, IsNew, StartAnswers, posted}
+use Rattle.pp_quick.specs.Shown.{AreThreads, KeepsQuick, IsFine, Kept, at, filled, shown, shown_tx, threads_of}
+use Rattle.pp_quick.specs.Starting.{PutsStart, IsNew, start_entries}
 use Rattle.pp_quick.specs.declared.parts.OpenTx.{OpenTx}
 use Rattle.pp_quick.proofs.Deciding.{quick}
 use Rattle.pp_quick.proofs.Judging.{not_used, used_in}
@@ -78,24 +78,21 @@ module _ {Op : Type 0} (items : List (Item Op)) (k : ℕ) (p : Item Op) (lt : k 
       pub distinct_back : HasDistinctIds (drop (k + 1) items) → HasDistinctIds (drop k items)
       distinct_back d = subst (λ (w : List (Item Op)). HasDistinctIds w) (sym left) (with_it d)
 
-posted_ops : {Op : Type 0} (tx : Name) (l : List (Item Op)) → shared_ops (posted tx l) ≡ ops l
-posted_ops tx [] = refl
-posted_ops {Op} tx (p ∷ l) = ap (λ (w : List Op). p.op ∷ w) (posted_ops tx l)
+start_entries_ops : {Op : Type 0} (tx : Name) (l : List (Item Op)) → shared_ops (start_entries tx l) ≡ ops l
+start_entries_ops tx [] = refl
+start_entries_ops {Op} tx (p ∷ l) = ap (λ (w : List Op). p.op ∷ w) (start_entries_ops tx l)
 
 -- The log of the first items, which takes the one at a place or tells that it differs.
 module _ {Shape State Op Undo : Type 0} (o : Object Shape State Op Undo) (shape : Shape) (tx : Name) (items : List (Item Op)) where
-  module _ (k : ℕ) (p : Item Op) (lt : k < length items) (is : p ≡ get_or items k p) (log : Shape × List (SharedEntry Op)) (so_far : log ≡ (shape, posted tx (take k items))) where
+  module _ (k : ℕ) (p : Item Op) (lt : k < length items) (is : p ≡ get_or items k p) (log : Shape × List (SharedEntry Op)) (so_far : log ≡ (shape, start_entries tx (take k items))) where
     shape_is : log.0 ≡ shape
     shape_is = ap (λ (z : Shape × List (SharedEntry Op)). z.0) so_far
 
     ops_are : shared_ops log.1 ≡ ops (take k items)
-    ops_are = ap (λ (z : Shape × List (SharedEntry Op)). shared_ops z.1) so_far ∙ posted_ops tx (take k items)
+    ops_are = ap (λ (z : Shape × List (SharedEntry Op)). shared_ops z.1) so_far ∙ start_entries_ops tx (take k items)
 
     asked_at : All (IsItemAsked o shape) items → IsItemAsked o shape p
     asked_at asked = subst (IsItemAsked o shape) (sym is) (All-get_or (IsItemAsked o shape) items k p lt asked)
-
-    pub fits_at : All (IsItemAsked o shape) items → IsTrue (o.fits log.0 p.op)
-    fits_at asked = subst (λ (z : Shape). IsTrue (o.fits z p.op)) (sym shape_is) (asked_at asked).0
 
     pub ranged_at : All (IsItemAsked o shape) items → IsTrue (o.ranged p.op)
     ranged_at asked = (asked_at asked).1
@@ -106,11 +103,11 @@ module _ {Shape State Op Undo : Type 0} (o : Object Shape State Op Undo) (shape 
         ap (λ (z : SharedEntry Op). z.id == p.id) m.2
         ∙ false_from_ne_true ((m.0).id == p.id) (λ t. d m.0 p (earlier items k p lt is m.0 m.1) (eqb-true (m.0).id p.id t)))
 
-    pub posted_more : (new : Shape × List (SharedEntry Op)) → new ≡ (log.0, log.1 ++ as_shared tx false p ∷ []) → new ≡ (shape, posted tx (take (k + 1) items))
-    posted_more new e =
+    pub log_more : (new : Shape × List (SharedEntry Op)) → new ≡ (log.0, log.1 ++ as_shared tx false p ∷ []) → new ≡ (shape, start_entries tx (take (k + 1) items))
+    log_more new e =
         e
         ∙ ap (λ (z : Shape × List (SharedEntry Op)). (z.0, z.1 ++ as_shared tx false p ∷ [])) so_far
-        ∙ ap (λ (z : List (SharedEntry Op)). (shape, z)) (sym (ap (λ (z : List (Item Op)). posted tx z) (taken items k p lt is) ∙ map-append (as_shared tx false) (take k items) (p ∷ [])))
+        ∙ ap (λ (z : List (SharedEntry Op)). (shape, z)) (sym (ap (λ (z : List (Item Op)). start_entries tx z) (taken items k p lt is) ∙ map-append (as_shared tx false) (take k items) (p ∷ [])))
 
     goes_there : GoesBehind o log.0 (shared_ops log.1) p.op → IsAllowed o shape (ops (take k items) ++ p.op ∷ [])
     goes_there h = subst (λ (z : List Op). IsAllowed o shape (z ++ p.op ∷ [])) ops_are (subst (λ (z : Shape). IsAllowed o z (shared_ops log.1 ++ p.op ∷ [])) shape_is h)
@@ -134,14 +131,20 @@ module _ {Shape State Op Undo : Type 0} (o : Object Shape State Op Undo) (shape 
     differs_at n a = n (goes_here (allowed_front (rules_of o shape) (o.start shape) (ops (take k items) ++ p.op ∷ []) (ops (drop (k + 1) items)) (subst (λ (z : List Op). IsAllowed o shape z) ops_cut a)))
 
 -- the ids of the items are those of the entries
-pub ids_posted : {Op : Type 0} (t : Name) (items : List (Item Op)) → HoldsIdsOf t items (posted t items)
-ids_posted {Op} t items e i n owner = let m = from_map (as_shared t false) e items i in (m.0, m.1, ap (λ (w : SharedEntry Op). w.id) (sym m.2))
+pub start_entries_ids : {Op : Type 0} (t : Name) (items : List (Item Op)) → HoldsIdsOf t items (start_entries t items)
+start_entries_ids {Op} t items e i n owner = let m = from_map (as_shared t false) e items i in (m.0, m.1, ap (λ (w : SharedEntry Op). w.id) (sym m.2))
 
-committed_all : {Op : Type 0} (t : Name) (l : List (Item Op)) → commit_all t (posted t l) ≡ map (as_shared t true) l
+committed_all : {Op : Type 0} (t : Name) (l : List (Item Op)) → commit_all t (start_entries t l) ≡ map (as_shared t true) l
 committed_all t [] = refl
 committed_all {Op} t (p ∷ l) =
-    ap (λ (b : Bool). cond b (as_shared t true p) (as_shared t false p) ∷ commit_all t (posted t l)) (eq-names t t refl)
+    ap (λ (b : Bool). cond b (as_shared t true p) (as_shared t false p) ∷ commit_all t (start_entries t l)) (eq-names t t refl)
     ∙ ap (λ (w : List (SharedEntry Op)). as_shared t true p ∷ w) (committed_all t l)
+
+-- what all items meet each of them meets
+all_in : {X : Type 0} (P : X → Type 0) (l : List X) (x : X) → All P l → In x l → P x
+all_in P [] x all i = absurd i
+all_in P (y ∷ l) x all (inl e) = subst P (sym e) (All-head P y l all)
+all_in P (y ∷ l) x all (inr i) = all_in P l x (All-tail P y l all) i
 
 -- lists with nothing in them
 nothing : {X : Type 0} (l : List X) → ((x : X) → In x l → ⊥) → l ≡ []
@@ -155,7 +158,7 @@ no_keys : {X : Type 0} (es : List (Name × X)) → keys_of es ≡ [] → es ≡ 
 no_keys [] e = refl
 no_keys (x ∷ es) e = absurd (subst (λ (w : List Name). In x.0 w) e (inl refl))
 
-module _ {Shape State Op Undo : Type 0} (o : Object Shape State Op Undo) (place : Op → ℕ) (apart : (shape : Shape) → PlacesSwap (rules_of o shape) place) (v : Kept Shape Op) (h : Holds o place v) (n : IsNew o place v) where
+module _ {Shape State Op Undo : Type 0} (o : Object Shape State Op Undo) (place : Op → ℕ) (apart : (shape : Shape) → PlacesSwap (rules_of o shape) place) (v : Kept Shape Op) (h : KeepsQuick o place v) (n : IsNew o place v) where
   -- a Quick that is new keeps nothing
   pub no_slots : v.slots.entries ≡ []
   no_slots = no_keys v.slots.entries (none_turned (keys_of v.slots.entries) (ap (λ (b : Brief Op). b.names) n.shown))
@@ -175,7 +178,7 @@ module _ {Shape State Op Undo : Type 0} (o : Object Shape State Op Undo) (place 
   -- what a start makes of it
   module _ (t : Name) (items : List (Item Op)) (w : Kept Shape Op) (shape : w.shape ≡ v.shape) (count : w.count ≡ v.count)
       (slots : w.slots.entries ≡ v.slots.entries ++ (t, None) ∷ []) (threads : w.threads.keys ≡ v.threads.keys) (ids : reverse w.ids ≡ map (λ p. p.id) items)
-      (shared : w.shared ≡ (v.shape, commit_all t (posted t items))) (committed : w.committed ≡ v.committed ++ record { name = t; entries = items } ∷ []) (commits : w.commits.items ≡ v.commits.items) where
+      (shared : w.shared ≡ (v.shape, commit_all t (start_entries t items))) (committed : w.committed ≡ v.committed ++ record { name = t; entries = items } ∷ []) (commits : w.commits.items ≡ v.commits.items) where
     abbrev z : Start Op
     z = start_with t items
 
@@ -197,13 +200,13 @@ module _ {Shape State Op Undo : Type 0} (o : Object Shape State Op Undo) (place 
     commits_are : (q : ℕ) → at q w.commits.items ≡ []
     commits_are q = ap (λ (l : List (List ℕ)). at q l) commits ∙ no_commits q
 
-    pub started : length items ≤ 256 → StartMeets (rules_of o v.shape) (Some z) → PutsStart o place v z w
-    started few meets =
+    pub started : length items ≤ 256 → All (IsItemAsked o v.shape) items → StartMeets (rules_of o v.shape) (Some z) → PutsStart o place v z w
+    started few asked meets =
         record {
           shape = shape;
           count = count;
           shown = started_shown;
-          holds =
+          keeps =
               record {
                 is_held = (
                   first (Some z),
@@ -219,6 +222,9 @@ module _ {Shape State Op Undo : Type 0} (o : Object Shape State Op Undo) (place 
                 fine = subst (λ (l : List (Name × Option (OpenTx (List (Item Op))))). (m : Name) (x : OpenTx (List (Item Op))) → In (m, Some x) l → IsFine o place w.commits.items x) (sym slots_are) none_fine;
                 commits = λ q id i. absurd (subst (λ (l : List ℕ). In id l) (commits_are q) i);
                 same_shape = ap (λ (l : Shape × List (SharedEntry Op)). l.0) shared ∙ sym shape;
+                ranged = λ a i.
+                    let m = from_map (as_shared t true) a items (subst (λ (l : List (SharedEntry Op)). In a l) shared_are i) in
+                    subst (λ (e : SharedEntry Op). IsTrue (o.ranged e.op)) (sym m.2) (all_in (IsItemAsked o v.shape) items m.0 asked m.1).1;
                 few =
                     let e : length w.shared.1 ≡ length items = ap (λ (l : List (SharedEntry Op)). length l) shared_are ∙ length-map items (as_shared t true) in
                     omega (arith, e, few);
@@ -232,9 +238,3 @@ module _ {Shape State Op Undo : Type 0} (o : Object Shape State Op Undo) (place 
         none_fine : (m : Name) (x : OpenTx (List (Item Op))) → In {A = Name × Option (OpenTx (List (Item Op)))} (m, Some x) ((t, None) ∷ []) → IsFine o place w.commits.items x
         none_fine m x (inl e) = absurd (let k : Some x ≡ None = ap (λ (s : Name × Option (OpenTx (List (Item Op)))). s.1) e in cc)
         none_fine m x (inr i) = absurd i
-
--- what is kept behind a start
-module _ {Shape State Op Undo : Type 0} (o : Object Shape State Op Undo) (place : Op → ℕ) where
-  pub start_holds : (v w : Kept Shape Op) (z : Start Op) (answer : Bool) → StartAnswers o place v z answer w → Holds o place v → Holds o place w
-  start_holds v w z true a h = a.1.holds
-  start_holds v w z false a h = subst (λ (u : Kept Shape Op). Holds o place u) (sym a.1) h

@@ -15,7 +15,7 @@ use Rattle.pp_model.proofs.Commit.{commit, as_committed}
 use Rattle.pp_model.proofs.Lists.{by_key, from_filter, from_map, in_filter, in_map}
 use Rattle.pp_model.proofs.Names.{names_tell, names_not}
 use Rattle.pp_model.proofs.Trace.{map_same}
-use Rattle.pp_quick.specs.Brief.{is_met, shared_ids, touches, without_owner}
+use Rattle.pp_quick.specs.Brief.{is_met, shared_ids, any_at, without_owner}
 use Rattle.pp_quick.specs.Passing.{ids_at, items_at}
 use Rattle.pp_quick.specs.Shown.{at, is_unseen, ids_behind, unseen, unseen_at}
 use Rattle.pp_log.proofs.Lists.{stands_in}
@@ -107,7 +107,7 @@ module _ {Op : Type 0} (place : Op → ℕ) where
       (d : (g h : SharedEntry Op) → Before g h G → g.id ≡ h.id → ⊥)
       (owned : (g : SharedEntry Op) → In g G → g.owner ≡ t → (p : Item Op) × In p mine × (g ≡ as_shared t false p))
       (stands : (p : Item Op) → In p mine → In (as_shared t false p) G)
-      (sees : (q : ℕ) → is_some (lookup (nat_eq q) seen) ≡ touches place q own)
+      (sees : (q : ℕ) → is_some (lookup (nat_eq q) seen) ≡ any_at place q own)
       (within : (q k : ℕ) → lookup (nat_eq q) seen ≡ Some k → k ≤ length (at q commits))
       (grows : (q : ℕ) → at q later ≡ at q commits ++ ids_at place q mine)
       (done : (q id : ℕ) → In id (at q commits) → (g : SharedEntry Op) × In g G × (g.committed ≡ true) × (g.id ≡ id)) where
@@ -152,8 +152,8 @@ module _ {Op : Type 0} (place : Op → ℕ) where
         old : Bool
         old = has_id g.id (unseen_at (place g.op) commits seen)
 
-        touch : Bool
-        touch = touches place (place g.op) own
+        any_there : Bool
+        any_there = any_at place (place g.op) own
 
         lone : (a b : Bool) → a ≡ false → (a || (b && true)) ≡ b
         lone true b e = absurd (cc)
@@ -169,17 +169,17 @@ module _ {Op : Type 0} (place : Op → ℕ) where
             absurd (differ g.committed (ap (λ (w : SharedEntry Op). w.committed) (by_key (λ (w : SharedEntry Op). w.id) G d g c.0 i c.1 (sym c.3)) ∙ c.2) u)
 
         by : (z : Bool) → g.committed ≡ z → (((g.owner =ⁿ t) ≡ true) × (g.owner ≡ t)) ⊎ (((g.owner =ⁿ t) ≡ false) × (g.owner ≢ t)) →
-            ((commit t g).committed && (old || (touch && (g.owner =ⁿ t)))) ≡ ((g.committed && old) || ((g.owner =ⁿ t) && touch))
+            ((commit t g).committed && (old || (any_there && (g.owner =ⁿ t)))) ≡ ((g.committed && old) || ((g.owner =ⁿ t) && any_there))
         by true u (inl r) = absurd (differ g.committed u (ap (λ (w : SharedEntry Op). w.committed) (owned g i r.1).2))
         by false u (inl r) =
-            ap (λ (b : Bool). (cond b (as_committed g) g).committed && (old || (touch && b))) r.0
-            ∙ lone old touch (none old refl u)
-            ∙ sym (ap (λ (b : Bool). (b && old) || ((g.owner =ⁿ t) && touch)) u ∙ ap (λ (b : Bool). b && touch) r.0)
+            ap (λ (b : Bool). (cond b (as_committed g) g).committed && (old || (any_there && b))) r.0
+            ∙ lone old any_there (none old refl u)
+            ∙ sym (ap (λ (b : Bool). (b && old) || ((g.owner =ⁿ t) && any_there)) u ∙ ap (λ (b : Bool). b && any_there) r.0)
         by z u (inr r) =
-            ap (λ (b : Bool). (cond b (as_committed g) g).committed && (old || (touch && b))) r.0
-            ∙ ap (λ (b : Bool). g.committed && (old || b)) (and_false touch)
+            ap (λ (b : Bool). (cond b (as_committed g) g).committed && (old || (any_there && b))) r.0
+            ∙ ap (λ (b : Bool). g.committed && (old || b)) (and_false any_there)
             ∙ ap (λ (b : Bool). g.committed && b) (or_none old)
-            ∙ sym (ap (λ (b : Bool). (g.committed && old) || (b && touch)) r.0 ∙ or_none (g.committed && old))
+            ∙ sym (ap (λ (b : Bool). (g.committed && old) || (b && any_there)) r.0 ∙ or_none (g.committed && old))
 
     pub unseen_committed : unseen place (commit_all t G) later seen ≡ shared_ids (filter (λ g. has_id g.id (unseen place G commits seen) || is_met place t own g) G)
     unseen_committed =

@@ -92,8 +92,9 @@ pub record Boosted {Op State : Type 0} (O : Object Op State) (place : Op → ℕ
   pub follows : (x : Tx Op) → In x c.opened → Follows O place c.shared x.local
   pub anchored : (x : Tx Op) → In x c.opened → Anchored place x.local
 
--- So it is between the PULL steps of a refresh of t, whose log need not be anchored.
-pub record Boosting {Op State : Type 0} (O : Object Op State) (place : Op → ℕ) (t : Name)
+-- Boosted but that the log of t need not be anchored: so it is between the PULL steps of a refresh
+-- of t.
+pub record BoostedBut {Op State : Type 0} (O : Object Op State) (place : Op → ℕ) (t : Name)
     (c : Config Op) : Type 0 where
   pub sound : Sound O c
   pub follows : (x : Tx Op) → In x c.opened → Follows O place c.shared x.local

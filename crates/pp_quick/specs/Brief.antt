@@ -31,9 +31,9 @@ pub record Brief (Op : Type 0) : Type 0 where
   pub done : List (CommittedTx Op)
 
 -- one of the operations is at the place o
-abbrev pub touches : {Op : Type 0} → (Op → ℕ) → ℕ → List (Item Op) → Bool
-touches place o [] = false
-touches place o (p ∷ l) = (place p.op == o) || touches place o l
+abbrev pub any_at : {Op : Type 0} → (Op → ℕ) → ℕ → List (Item Op) → Bool
+any_at place o [] = false
+any_at place o (p ∷ l) = (place p.op == o) || any_at place o l
 
 abbrev pub shared_ids : {Op : Type 0} → List (SharedEntry Op) → List ℕ
 shared_ids G = map (λ g. g.id) G
@@ -41,7 +41,7 @@ shared_ids G = map (λ g. g.id) G
 -- committed, at the place of an own entry of L, and not in L
 abbrev pub is_missed : {Op : Type 0} → (Op → ℕ) → List (LocalEntry Op) → SharedEntry Op → Bool
 is_missed place l g =
-    g.committed && (touches place (place g.op) (own_items l) && not (stands_in l g.id))
+    g.committed && (any_at place (place g.op) (own_items l) && not (stands_in l g.id))
 
 abbrev pub missed : {Op : Type 0} → (Op → ℕ) → List (SharedEntry Op) → List (LocalEntry Op) → List ℕ
 missed place G l = shared_ids (filter (is_missed place l) G)
@@ -139,7 +139,7 @@ grown place G id op x =
 
 -- it is owned by t, and at the place of one of the operations
 abbrev pub is_met : {Op : Type 0} → (Op → ℕ) → Name → List (Item Op) → SharedEntry Op → Bool
-is_met place t own g = (g.owner =ⁿ t) && touches place (place g.op) own
+is_met place t own g = (g.owner =ⁿ t) && any_at place (place g.op) own
 
 -- t commits: its entries at the places of own ones are missed too
 abbrev pub missing_more : {Op : Type 0} → (Op → ℕ) → List (SharedEntry Op) → Name → BriefTx Op →

@@ -15,14 +15,14 @@ use Rattle.pp_front.specs.Expansions.{expand}
 use Rattle.pp_front.specs.Fronts.{Front}
 use Rattle.pp_front.specs.Records.{RunRecord}
 use Rattle.pp_front.specs.Runs.{Lined, Records, Standing, after_records, bare, joined_steps, outset}
-use Rattle.pp_quick.specs.Boosted.{Boosted, Boosting, Good, PlacesSwap, rest}
+use Rattle.pp_quick.specs.Boosted.{Boosted, BoostedBut, Good, PlacesSwap, rest}
 use Rattle.pp_quick.specs.Brief.{BriefGood, brief, brief_then}
 use Rattle.pp_quick.specs.Runs.{AreBoosted, BriefRuns, IsBoosted, boosting, brief_after}
 
 -- The entries of L, in its order, may be put before the rest of the shared log.
 abbrev pub FrontLaw : {Op State : Type 0} → Object Op State → Type 0
 FrontLaw {Op} O =
-    (place : Op → ℕ) → PlacesSwap O place → (t : Name) (c : Config Op) → Boosting O place t c →
+    (place : Op → ℕ) → PlacesSwap O place → (t : Name) (c : Config Op) → BoostedBut O place t c →
     (x : Tx Op) → In x c.opened →
     Reorders O (map shared_item c.shared)
     (map item x.local ++ map shared_item (rest x.local c.shared))

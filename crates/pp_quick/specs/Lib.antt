@@ -12,4 +12,5 @@ pub mod Failures
 pub mod Reading
 pub mod Sums
 pub mod Moving
+pub mod Undoing
 pub mod Starting

@@ -3,7 +3,7 @@ use Rattle.std.specs.Prelude.{◌≡◌, ◌+◌, ℕ, Bool, true, false}
 use Rattle.pp_spec.specs.Object.{Object, rules_of}
 use Rattle.pp_front.specs.Records.{RunRecord}
 use Rattle.pp_quick.specs.Brief.{BriefGood, brief_then}
-use Rattle.pp_quick.specs.Shown.{Holds, Kept, shown}
+use Rattle.pp_quick.specs.Shown.{KeepsQuick, Kept, shown}
 
 module _ {Shape State Op Undo : Type 0} (o : Object Shape State Op Undo) (place : Op → ℕ) where
   -- the record is good
@@ -15,7 +15,7 @@ module _ {Shape State Op Undo : Type 0} (o : Object Shape State Op Undo) (place 
     pub shape : w.shape ≡ v.shape
     pub count : w.count ≡ v.count + 1
     pub shown : shown place w ≡ brief_then place (shown place v) r
-    pub holds : Holds o place w
+    pub keeps : KeepsQuick o place w
 
   -- What taking it answers, and what is kept then.
   abbrev pub Answers : Kept Shape Op → RunRecord Op → Bool → Kept Shape Op → Type 0

@@ -25,6 +25,10 @@ with_commit place p q ids = cond (nat_eq (place p.op) q) (ids ++ p.id ∷ []) id
 abbrev pub HaveOwnIds : {Op : Type 0} → List (SharedEntry Op) → Type 0
 HaveOwnIds {Op} G = (g h : SharedEntry Op) → Before g h G → g.id ≡ h.id → ⊥
 
+-- Each of these ids is that of an entry.
+abbrev pub HaveEntries : {Op : Type 0} → List (SharedEntry Op) → List ℕ → Type 0
+HaveEntries {Op} G ids = (id : ℕ) → In id ids → (g : SharedEntry Op) × In g G × (g.id ≡ id)
+
 module _ {Shape State Op Undo : Type 0} (o : Object Shape State Op Undo) (place : Op → ℕ) where
   -- Each of the items at its place lets the operation pass.
   abbrev pub LetPass : List (Item Op) → Op → Type 0

@@ -1,6 +1,7 @@
 -- Proof machinery: what a Quick keeps, and the brief that it shows.
 use Rattle.std.specs.Prelude.{◌≡◌, ◌≢◌, ◌+◌, ◌≤◌, ℕ, Bool, ◌&&◌, nat_eq, List, [], ◌∷◌}
-use Rattle.std.specs.Prelude.{filter, map, reverse, drop, length, is_some, slice_get, Option, None, Some}
+use Rattle.std.specs.Prelude.{filter, map, reverse, drop, length, is_some, slice_get}
+use Rattle.std.specs.Prelude.{Option, None, Some, IsTrue}
 use Rattle.std.specs.List.{list_any}
 use Rattle.std.specs.Map.{keys_of, lookup}
 use Rattle.pp_body.specs.Walks.{HasTaken}
@@ -14,7 +15,7 @@ use Rattle.pp_model.specs.Names.{Name, ◌=ⁿ◌}
 use Rattle.pp_model.specs.Serial.{has_id}
 use Rattle.pp_model.specs.Sound.{serial_items}
 use Rattle.pp_spec.specs.Object.{Object}
-use Rattle.pp_quick.specs.Brief.{Brief, BriefTx, shared_ids, touches}
+use Rattle.pp_quick.specs.Brief.{Brief, BriefTx, any_at, shared_ids}
 use Rattle.pp_quick.specs.Held.{Held, IsHeldOf}
 use Rattle.pp_quick.specs.declared.parts.OpenTx.{OpenTx}
 use Rattle.pp_quick.specs.declared.parts.Parts.{Parts}
@@ -90,9 +91,9 @@ shown place v =
       done = v.committed;
     }
 
--- the Quick that it is
-abbrev pub held : {Shape Op : Type 0} → (Op → ℕ) → Kept Shape Op → Held Shape Op
-held place v = record { shape = v.shape; brief = shown place v; count = v.count }
+-- what contracts see of it
+abbrev pub as_held : {Shape Op : Type 0} → (Op → ℕ) → Kept Shape Op → Held Shape Op
+as_held place v = record { shape = v.shape; brief = shown place v; count = v.count }
 
 abbrev pub threads_of : {Op : Type 0} → List (BriefTx Op) → List Name
 threads_of opened = map (λ x. x.thread) opened
@@ -117,17 +118,18 @@ module _ {Shape State Op Undo : Type 0} (o : Object Shape State Op Undo) (place 
   -- told of the places of its own operations, and of no others.
   pub record IsFine (commits : List (List ℕ)) (x : OpenTx (List (Item Op))) : Type 0 where
     pub taken : HasTaken x.walk (calls_of o x.own)
-    pub sees : (q : ℕ) → is_some (lookup (nat_eq q) x.seen.entries) ≡ touches place q x.own
+    pub sees : (q : ℕ) → is_some (lookup (nat_eq q) x.seen.entries) ≡ any_at place q x.own
     pub within : (q k : ℕ) → lookup (nat_eq q) x.seen.entries ≡ Some k →
         k ≤ length (at q commits)
 
   -- What a Quick keeps.
-  pub record Holds (v : Kept Shape Op) : Type 0 where
-    pub is_held : (c : Config Op) × IsHeldOf o place (held place v) c
+  pub record KeepsQuick (v : Kept Shape Op) : Type 0 where
+    pub is_held : (c : Config Op) × IsHeldOf o place (as_held place v) c
     pub names : (s t : Name) → Before s t (keys_of v.slots.entries) → s ≢ t
     pub threads : AreThreads v.threads.keys (threads_of (shown place v).opened)
     pub fine : (n : Name) (x : OpenTx (List (Item Op))) → In (n, Some x) v.slots.entries →
         IsFine v.commits.items x
     pub commits : (q id : ℕ) → In id (at q v.commits.items) → WasCommitted place v.committed q id
     pub same_shape : v.shared.0 ≡ v.shape
+    pub ranged : (g : SharedEntry Op) → In g v.shared.1 → IsTrue (o.ranged g.op)
     pub few : length v.shared.1 ≤ v.count + 256

@@ -8,18 +8,19 @@ use Rattle.pp_model.specs.Object.{ops}
 use Rattle.pp_model.specs.Rules.{StartMeets}
 use Rattle.pp_spec.specs.Object.{Object, IsAllowed, rules_of}
 use Rattle.pp_quick.specs.Brief.{brief}
-use Rattle.pp_quick.specs.Shown.{Holds, Kept, shown}
+use Rattle.pp_quick.specs.Shown.{KeepsQuick, Kept, shown}
 
 -- the items as uncommitted entries of the transaction
-abbrev pub posted : {Op : Type 0} → Name → List (Item Op) → List (SharedEntry Op)
-posted tx items = map (as_shared tx false) items
+abbrev pub start_entries : {Op : Type 0} → Name → List (Item Op) → List (SharedEntry Op)
+start_entries tx items = map (as_shared tx false) items
 
 module _ {Shape State Op Undo : Type 0} (o : Object Shape State Op Undo) where
   -- The items are allowed and make this log, or they are not allowed.
-  abbrev pub Posts : Shape → Name → List (Item Op) → Option (Shape × List (SharedEntry Op)) → Type 0
-  Posts shape tx items (Some log) =
-      IsAllowed o shape (ops items) × (log ≡ (shape, posted tx items))
-  Posts shape tx items None = IsAllowed o shape (ops items) → ⊥
+  abbrev pub MakesLog : Shape → Name → List (Item Op) → Option (Shape × List (SharedEntry Op)) →
+      Type 0
+  MakesLog shape tx items (Some log) =
+      IsAllowed o shape (ops items) × (log ≡ (shape, start_entries tx items))
+  MakesLog shape tx items None = IsAllowed o shape (ops items) → ⊥
 
 module _ {Shape State Op Undo : Type 0} (o : Object Shape State Op Undo) (place : Op → ℕ) where
   -- nothing was taken so far, and there was no start
@@ -32,7 +33,7 @@ module _ {Shape State Op Undo : Type 0} (o : Object Shape State Op Undo) (place 
     pub shape : w.shape ≡ v.shape
     pub count : w.count ≡ v.count
     pub shown : shown place w ≡ brief place (first (Some z))
-    pub holds : Holds o place w
+    pub keeps : KeepsQuick o place w
 
   -- What starting answers, and what is kept then.
   abbrev pub StartAnswers : Kept Shape Op → Start Op → Bool → Kept Shape Op → Type 0

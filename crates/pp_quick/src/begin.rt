@@ -4,7 +4,7 @@ ghost use Rattle.pp_core.specs.Steps.{Begin};
 ghost use Rattle.pp_core.specs.Trees.{IsWithinLimits, tree};
 ghost use Rattle.pp_front.specs.Records.{Plain};
 ghost use Rattle.pp_quick.specs.Moving.{Answers};
-ghost use Rattle.pp_quick.specs.Shown.{Holds};
+ghost use Rattle.pp_quick.specs.Shown.{KeepsQuick};
 
 use crate::open_tx::fresh;
 use crate::own::Own;
@@ -22,7 +22,7 @@ pub fn begin<S: Parted>(
     thread: &Name,
     body: &Option<Body>,
 ) -> Result<bool, OutOfMemory>
-    requires holds { Holds S.object S.place_of parts.old }
+    requires keeps { KeepsQuick S.object S.place_of parts.old }
     requires within { IsWithinLimits (option_map tree body.now) }
     requires few { parts.old.count < 200_000 }
     ensures { IfOk result (λ answer. Answers S.object S.place_of parts.old

@@ -1,10 +1,8 @@
 //! A commit record.
-ghost use Rattle.std.specs.Prelude.{◌≡◌, ◌<◌, OnOk, Some};
-ghost use Rattle.std.specs.Str.{bytes_eq};
-ghost use Rattle.indexmap.specs.IndexMap.{index_of_by};
+ghost use Rattle.std.specs.Prelude.{◌<◌, IfOk};
 ghost use Rattle.pp_front.specs.Records.{Commit};
-ghost use Rattle.pp_quick.specs.Moving.{IsGood, Moves};
-ghost use Rattle.pp_quick.specs.Shown.{Holds};
+ghost use Rattle.pp_quick.specs.Moving.{Answers};
+ghost use Rattle.pp_quick.specs.Shown.{KeepsQuick};
 
 use crate::commits::add_commits;
 use crate::own::Own;
@@ -13,24 +11,27 @@ use pp_core::{CommittedTx, Name, OutOfMemory};
 use pp_parts::Parted;
 use pp_shared::Shared;
 
-/// The transaction whose slot is at a position commits. The only error is that memory was refused.
+/// Takes a commit record where it is good: the open transaction has come to an end of its body, and
+/// its operations stand committed. The only error is that memory was refused.
 pub fn commit<S: Parted>(
     parts: &mut Parts<S::Shape, S::Op, Shared<S>, Own<S>>,
-    position: usize,
     tx: &Name,
-) -> Result<(), OutOfMemory>
-    requires holds { Holds S.object S.place_of parts.old }
-    requires position { index_of_by (bytes_eq tx.now) parts.old.slots ≡ Some position }
-    requires good { IsGood S.object S.place_of parts.old (Commit tx.now) }
+) -> Result<bool, OutOfMemory>
+    requires keeps { KeepsQuick S.object S.place_of parts.old }
     requires few { parts.old.count < 200_000 }
-    ensures { OnOk result (Moves S.object S.place_of parts.old (Commit tx.now) parts.new) }
+    ensures { IfOk result (λ good. Answers S.object S.place_of parts.old (Commit tx.now) good
+        parts.new) }
 {
-    let Some(slot) = parts.slots.get_index_mut(position) else {
-        unreachable!()
+    let Some(slot) = parts.slots.get_mut(tx) else {
+        return Ok(false);
     };
     let Some(it) = slot.take() else {
-        unreachable!()
+        return Ok(false);
     };
+    if !it.walk.complete() {
+        *slot = Some(it);
+        return Ok(false);
+    }
     let OpenTx {
         thread,
         walk: _,
@@ -46,5 +47,5 @@ pub fn commit<S: Parted>(
         entries: own,
     })?;
     parts.count += 1;
-    Ok(())
+    Ok(true)
 }

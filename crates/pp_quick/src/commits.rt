@@ -1,6 +1,7 @@
 //! What was committed at each place, and what an open transaction has seen of it.
 ghost use Rattle.std.specs.Prelude.{◌≡◌, ◌<◌, ◌∷◌, ◌++◌, [], ℕ, false, IsTrue, OnOk, drop, length};
-ghost use Rattle.pp_quick.specs.Passing.{HaveOwnIds, LetAllPass, StopsOne, ids_at, with_commit};
+ghost use Rattle.pp_quick.specs.Passing.{HaveEntries, HaveOwnIds, LetAllPass, StopsOne};
+ghost use Rattle.pp_quick.specs.Passing.{ids_at, with_commit};
 ghost use Rattle.pp_quick.specs.Shown.{at, unseen_at};
 
 use crate::own::Own;
@@ -62,17 +63,17 @@ pub fn add_commits<S: Placed>(
     Ok(())
 }
 
-/// Whether the own operations let the operation of the entry with this id pass. An id without an
-/// entry passes; a commit has one, since a committed entry stays in the shared log.
+/// Whether the own operations let the operation of the entry with this id pass.
 fn lets_pass<S: Parted>(own: &Own<S>, shared: &Shared<S>, id: u32) -> bool
-    requires { HaveOwnIds shared.now.1 }
+    requires ids { HaveOwnIds shared.now.1 }
+    requires entries { HaveEntries shared.now.1 (id ∷ []) }
     ensures yes { IsTrue result →
         LetAllPass S.object S.place_of own.now shared.now.1 (id ∷ []) }
     ensures no { result ≡ false →
         StopsOne S.object S.place_of own.now shared.now.1 (id ∷ []) }
 {
     let Some(position) = shared.find(id) else {
-        return true;
+        unreachable!()
     };
     let Some(entry) = shared.entry(position) else {
         unreachable!()
@@ -82,7 +83,8 @@ fn lets_pass<S: Parted>(own: &Own<S>, shared: &Shared<S>, id: u32) -> bool
 
 /// Whether the own operations let the operations of these ids pass, from a position on.
 fn let_all_pass<S: Parted>(own: &Own<S>, shared: &Shared<S>, done: &[u32], from: usize) -> bool
-    requires { HaveOwnIds shared.now.1 }
+    requires ids { HaveOwnIds shared.now.1 }
+    requires entries { HaveEntries shared.now.1 done.now }
     ensures yes { IsTrue result →
         LetAllPass S.object S.place_of own.now shared.now.1 (drop from done.now) }
     ensures no { result ≡ false →
@@ -104,7 +106,8 @@ pub fn passes_unseen<S: Parted>(
     commits: &Commits,
     op: &S::Op,
 ) -> bool
-    requires { HaveOwnIds shared.now.1 }
+    requires ids { HaveOwnIds shared.now.1 }
+    requires entries { (q : ℕ) → HaveEntries shared.now.1 (at q commits.now.items) }
     ensures yes { IsTrue result → LetAllPass S.object S.place_of it.now.own shared.now.1
         (unseen_at (S.place_of op.now) commits.now.items it.now.seen.entries) }
     ensures no { result ≡ false → StopsOne S.object S.place_of it.now.own shared.now.1

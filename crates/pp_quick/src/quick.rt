@@ -36,16 +36,16 @@ pub struct Quick<S: Parted> {
 impl<S: Parted> Model for Quick<S> {
     ghost use Rattle.pp_core.specs.TreeCodes.{tree_code};
     ghost use Rattle.pp_quick.specs.Held.{Held};
-    ghost use Rattle.pp_quick.specs.Shown.{Holds, held};
+    ghost use Rattle.pp_quick.specs.Shown.{KeepsQuick, as_held};
     ghost use Rattle.std.specs.Coded.{codes};
 
     ghost Value = { Held S.Shape S.Op };
 
     ghost coded = { Prim.hlevel (codes, tree_code, S.Shape.code, S.Op.code) };
 
-    ghost view = { λ a. held S.place_of a.parts.value };
+    ghost view = { λ a. as_held S.place_of a.parts.value };
 
-    ghost invariant = { λ a. Holds S.object S.place_of a.parts.value };
+    ghost invariant = { λ a. KeepsQuick S.object S.place_of a.parts.value };
 }
 
 impl<S: Parted> Quick<S> {
@@ -135,8 +135,6 @@ impl<S: Parted> Quick<S> {
         ensures ranged { AllRanged S.object (serial_ops self.now.brief.done) }
         ensures few { length (serial_ops self.now.brief.done) ≤ self.now.count + 256 }
     {
-        // It stands here for what its clauses say of the log.
-        let _ranged = self.parts.shared.len();
         &self.parts.committed
     }
 }

@@ -1,9 +1,7 @@
-//! The slots of the transactions: finding an open one, and changing it.
+//! The slots of the transactions.
 ghost use Rattle.std.specs.Prelude.{◌≡◌, ◌++◌, ◌∷◌, [], IfNone, IfSome, IsSome, None, Some, OnOk};
-ghost use Rattle.std.specs.Prelude.{option_map};
 ghost use Rattle.std.specs.Map.{lookup, set_value};
 ghost use Rattle.std.specs.Str.{bytes_eq};
-ghost use Rattle.indexmap.specs.IndexMap.{index_of_by};
 ghost use Rattle.pp_quick.specs.Shown.{open_in};
 
 use indexmap::IndexMap;
@@ -12,16 +10,6 @@ use pp_core::{Name, OutOfMemory};
 /// Each name that was begun, and what it has while it is open.
 pub type Slots<T> = IndexMap<Name, Option<T>>;
 
-/// The position of the name's slot, and what it has, if it is open.
-pub fn find<'a, T>(slots: &'a Slots<T>, tx: &Name) -> Option<(usize, &'a T)>
-    ensures found { option_map (λ r. r.1.now) result ≡ open_in tx.now slots.now.entries }
-    ensures position { IfSome result (λ r. index_of_by (bytes_eq tx.now) slots.now ≡ Some r.0) }
-{
-    let (position, _name, slot) = slots.get_full(tx)?;
-    let it = slot.as_ref()?;
-    Some((position, it))
-}
-
 /// Empties the slot of an open name, and gives what it had. Of another name it changes nothing.
 pub fn take_out<T>(slots: &mut Slots<T>, tx: &Name) -> Option<T>
     ensures found { result ≡ open_in tx.now slots.old.entries }
@@ -29,12 +17,11 @@ pub fn take_out<T>(slots: &mut Slots<T>, tx: &Name) -> Option<T>
         ≡ set_value (bytes_eq tx.now) slots.old.entries None) }
     ensures same { IfNone result (slots.new ≡ slots.old) }
 {
-    let (position, _it) = find(slots, tx)?;
-    let slot = slots.get_index_mut(position)?;
+    let slot = slots.get_mut(tx)?;
     slot.take()
 }
 
-/// Fills a slot.
+/// Fills the slot of a name that has one.
 pub fn put_back<T: Drop>(slots: &mut Slots<T>, tx: &Name, it: T)
     requires { IsSome (lookup (bytes_eq tx.now) slots.old.entries) }
     ensures { slots.new.entries ≡ set_value (bytes_eq tx.now) slots.old.entries (Some it) }

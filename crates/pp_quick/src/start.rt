@@ -6,8 +6,9 @@ ghost use Rattle.pp_model.specs.Config.{start_with};
 ghost use Rattle.pp_model.specs.Object.{HasDistinctIds};
 ghost use Rattle.pp_model.specs.Rules.{StartMeets};
 ghost use Rattle.pp_quick.specs.Held.{IsItemAsked};
-ghost use Rattle.pp_quick.specs.Shown.{Holds};
-ghost use Rattle.pp_quick.specs.Starting.{IsNew, Posts, PutsStart, StartAnswers, posted};
+ghost use Rattle.pp_quick.specs.Shown.{KeepsQuick};
+ghost use Rattle.pp_quick.specs.Starting.{IsNew, MakesLog, PutsStart, StartAnswers};
+ghost use Rattle.pp_quick.specs.Starting.{start_entries};
 ghost use Rattle.pp_spec.specs.Object.{rules_of};
 
 use crate::own::Own;
@@ -43,7 +44,7 @@ fn distinct_ids<O: Copy>(alloc: Global, items: &[Item<O>]) -> Result<Option<IdSe
 
 /// The log with the items as uncommitted entries of the transaction, unless they are not allowed.
 /// The only error is that memory was refused.
-fn posted<S: Parted, L: Ledger>(
+fn make_log<S: Parted, L: Ledger>(
     alloc: Global,
     shape: &S::Shape,
     tx: &Name,
@@ -53,7 +54,7 @@ fn posted<S: Parted, L: Ledger>(
     requires asked { All (IsItemAsked S.object shape.now) items.now }
     requires few { length items.now ≤ 256 }
     requires distinct { HasDistinctIds items.now }
-    ensures posts { IfOk result (Posts S.object shape.now tx.now items.now) }
+    ensures log { IfOk result (MakesLog S.object shape.now tx.now items.now) }
     ensures cost { IfOk result (λ r. IfSome r (λ _. ticks.new ≡ ticks.old + length items.now)) }
     ensures rises { ticks.old ≤ ticks.new }
     ensures bound { ticks.new ≤ ticks.old + length items.now }
@@ -93,13 +94,14 @@ fn put_start<S: Parted>(
     ids: IdSet,
     shared: Shared<S>,
 ) -> Result<(), OutOfMemory>
-    requires holds { Holds S.object S.place_of parts.old }
+    requires keeps { KeepsQuick S.object S.place_of parts.old }
     requires new { IsNew S.object S.place_of parts.old }
+    requires asked { All (IsItemAsked S.object parts.old.shape) items.now }
     requires few { length items.now ≤ 256 }
     requires meets { StartMeets (rules_of S.object parts.old.shape)
         (Some (start_with tx.now items.now)) }
     requires ids { reverse ids ≡ map (λ p. p.id) items.now }
-    requires log { shared ≡ (parts.old.shape, posted tx.now items.now) }
+    requires log { shared ≡ (parts.old.shape, start_entries tx.now items.now) }
     ensures { OnOk result
         (PutsStart S.object S.place_of parts.old (start_with tx.now items.now) parts.new) }
 {
@@ -121,7 +123,7 @@ pub fn start<S: Parted, L: Ledger>(
     items: &Items<S::Op>,
     ticks: &mut Ticks<L>,
 ) -> Result<bool, OutOfMemory>
-    requires holds { Holds S.object S.place_of parts.old }
+    requires keeps { KeepsQuick S.object S.place_of parts.old }
     requires new { IsNew S.object S.place_of parts.old }
     requires asked { All (IsItemAsked S.object parts.old.shape) items.now }
     requires few { length items.now ≤ 256 }
@@ -135,8 +137,8 @@ pub fn start<S: Parted, L: Ledger>(
     let Some(ids) = distinct_ids(parts.alloc, items.as_slice())? else {
         return Ok(false);
     };
-    let posted = posted(parts.alloc, &parts.shape, tx, items.as_slice(), ticks)?;
-    let Some(shared) = posted else {
+    let log = make_log(parts.alloc, &parts.shape, tx, items.as_slice(), ticks)?;
+    let Some(shared) = log else {
         return Ok(false);
     };
     put_start(parts, tx, items, ids, shared)?;

@@ -1,9 +1,9 @@
 //! An abort record, and a retry record.
-ghost use Rattle.std.specs.Prelude.{◌+◌, ◌<◌, ◌≤◌, IfOk};
-ghost use Rattle.pp_front.specs.Records.{Abort, Retry};
-ghost use Rattle.pp_quick.specs.Held.{TakeCosts, take_most};
+ghost use Rattle.std.specs.Prelude.{◌≡◌, ◌+◌, ◌<◌, ◌≤◌, IfOk};
+ghost use Rattle.pp_quick.specs.Held.{TakeCosts, own_count};
 ghost use Rattle.pp_quick.specs.Moving.{Answers};
-ghost use Rattle.pp_quick.specs.Shown.{Holds, shown};
+ghost use Rattle.pp_quick.specs.Shown.{KeepsQuick, shown};
+ghost use Rattle.pp_quick.specs.Undoing.{undo_record};
 
 use crate::open_tx::anew;
 use crate::own::Own;
@@ -14,59 +14,79 @@ use pp_parts::Parted;
 use pp_shared::Shared;
 use std::sync::ledger::Ledger;
 
-/// Takes an abort record where the transaction is open: it gives up. The only error is that memory
+/// What becomes of an open transaction that takes back what it did.
+#[derive(Drop)]
+pub enum Undoing {
+    /// It gives up.
+    Abort,
+    /// It begins anew.
+    Retry,
+}
+
+/// Takes an abort or a retry record where the transaction is open. The only error is that memory
 /// was refused.
-pub fn abort<S: Parted, L: Ledger>(
+fn undo_parts<S: Parted, L: Ledger>(
     parts: Parts<S::Shape, S::Op, Shared<S>, Own<S>>,
+    how: Undoing,
     tx: &Name,
     ticks: &mut Ticks<L>,
 ) -> Result<(Parts<S::Shape, S::Op, Shared<S>, Own<S>>, bool), OutOfMemory>
-    requires holds { Holds S.object S.place_of parts }
+    requires keeps { KeepsQuick S.object S.place_of parts }
     requires few { parts.count < 200_000 }
     ensures answers { IfOk result (λ r.
-        Answers S.object S.place_of parts (Abort tx.now) r.1 r.0) }
+        Answers S.object S.place_of parts (undo_record how tx.now) r.1 r.0) }
     ensures cost { IfOk result (λ r. TakeCosts (shown S.place_of parts)
-        (Abort tx.now) r.1 ticks.old ticks.new) }
+        (undo_record how tx.now) r.1 ticks.old ticks.new) }
     ensures rises { ticks.old ≤ ticks.new }
-    ensures bound { ticks.new
-        ≤ ticks.old + take_most (shown S.place_of parts) (Abort tx.now) }
+    ensures bound { ticks.new ≤ ticks.old + own_count tx.now (shown S.place_of parts) }
 {
     let mut parts = parts;
     let Some(it) = take_out(&mut parts.slots, tx) else {
         return Ok((parts, false));
     };
-    parts.threads.swap_remove(&it.thread);
     let shared = parts.shared.take_back(it.own.as_slice(), ticks)?;
     parts.shared = shared;
+    match how {
+        Undoing::Abort => {
+            parts.threads.swap_remove(&it.thread);
+        }
+        Undoing::Retry => {
+            put_back(&mut parts.slots, tx, anew::<S>(parts.alloc, it));
+        }
+    }
     parts.count += 1;
     Ok((parts, true))
 }
 
-/// Takes a retry record where the transaction is open: it begins anew. The only error is that
-/// memory was refused.
-pub fn retry<S: Parted, L: Ledger>(
+/// Puts what was taken out of its box into one again. The only error is that memory was refused.
+fn in_box<S: Parted>(
     parts: Parts<S::Shape, S::Op, Shared<S>, Own<S>>,
+) -> Result<Box<Parts<S::Shape, S::Op, Shared<S>, Own<S>>>, OutOfMemory>
+    ensures { IfOk result (λ b. b.value ≡ parts) }
+{
+    let alloc = parts.alloc;
+    Ok(Box::new(alloc, parts)?)
+}
+
+/// Takes an abort or a retry record where it is good: the entries of the open transaction leave the
+/// shared log, and it gives up or begins anew. `take_back` consumes the shared log, so the parts
+/// leave their box meanwhile, in a function of its own, so that `take` has no room for them on its
+/// stack. The only error is that memory was refused.
+pub fn undo<S: Parted, L: Ledger>(
+    parts: Box<Parts<S::Shape, S::Op, Shared<S>, Own<S>>>,
+    how: Undoing,
     tx: &Name,
     ticks: &mut Ticks<L>,
-) -> Result<(Parts<S::Shape, S::Op, Shared<S>, Own<S>>, bool), OutOfMemory>
-    requires holds { Holds S.object S.place_of parts }
-    requires few { parts.count < 200_000 }
+) -> Result<(Box<Parts<S::Shape, S::Op, Shared<S>, Own<S>>>, bool), OutOfMemory>
+    requires keeps { KeepsQuick S.object S.place_of parts.value }
+    requires few { parts.value.count < 200_000 }
     ensures answers { IfOk result (λ r.
-        Answers S.object S.place_of parts (Retry tx.now) r.1 r.0) }
-    ensures cost { IfOk result (λ r. TakeCosts (shown S.place_of parts)
-        (Retry tx.now) r.1 ticks.old ticks.new) }
+        Answers S.object S.place_of parts.value (undo_record how tx.now) r.1 r.0.value) }
+    ensures cost { IfOk result (λ r. TakeCosts (shown S.place_of parts.value)
+        (undo_record how tx.now) r.1 ticks.old ticks.new) }
     ensures rises { ticks.old ≤ ticks.new }
-    ensures bound { ticks.new
-        ≤ ticks.old + take_most (shown S.place_of parts) (Retry tx.now) }
+    ensures bound { ticks.new ≤ ticks.old + own_count tx.now (shown S.place_of parts.value) }
 {
-    let mut parts = parts;
-    let Some(it) = take_out(&mut parts.slots, tx) else {
-        return Ok((parts, false));
-    };
-    let shared = parts.shared.take_back(it.own.as_slice(), ticks)?;
-    parts.shared = shared;
-    let it = anew::<S>(parts.alloc, it);
-    put_back(&mut parts.slots, tx, it);
-    parts.count += 1;
-    Ok((parts, true))
+    let (parts, good) = undo_parts(Box::into_inner(parts), how, tx, ticks)?;
+    Ok((in_box::<S>(parts)?, good))
 }

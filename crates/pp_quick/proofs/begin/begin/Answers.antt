@@ -11,22 +11,22 @@ use Rattle.pp_quick.proofs.begin.begin.Goals as goal
 pub returns-then-contains_key : goal.returns-then-contains_key
 returns-then-contains_key g c =
     let apart = apart_of g.S.Spec.object g.S.Placed.place_of g.S.Placed.SameAt g.met.S.Placed.placed in
-    ((λ k. k.0 (begun_name g.S.Spec.object g.S.Placed.place_of apart c.args.parts.now c.requires.holds c.args.tx.now (sym c.contains_key.ensures ∙ c.if-contains_key.true))), refl)
+    ((λ k. k.0 (begun_name g.S.Spec.object g.S.Placed.place_of apart c.args.parts.now c.requires.keeps c.args.tx.now (sym c.contains_key.ensures ∙ c.if-contains_key.true))), refl)
 
 pub returns-then-contains : goal.returns-then-contains
 returns-then-contains g c =
     let apart = apart_of g.S.Spec.object g.S.Placed.place_of g.S.Placed.SameAt g.met.S.Placed.placed in
-    ((λ k. busy_thread g.S.Spec.object g.S.Placed.place_of apart c.args.parts.now c.requires.holds c.args.thread.now (sym c.contains.ensures ∙ c.if-contains.true) k.1), refl)
+    ((λ k. busy_thread g.S.Spec.object g.S.Placed.place_of apart c.args.parts.now c.requires.keeps c.args.thread.now (sym c.contains.ensures ∙ c.if-contains.true) k.1), refl)
 
 pub returns : goal.returns
 returns g c =
     let apart = apart_of g.S.Spec.object g.S.Placed.place_of g.S.Placed.SameAt g.met.S.Placed.placed in
     let good : IsGood g.S.Spec.object g.S.Placed.place_of c.args.parts.now (Plain (Begin c.args.tx.now c.args.thread.now (option_map tree c.args.body.now))) = (
-      fresh_name g.S.Spec.object g.S.Placed.place_of apart c.args.parts.now c.requires.holds c.args.tx.now (sym c.contains_key.ensures ∙ c.if-contains_key.false),
-      idle_thread g.S.Spec.object g.S.Placed.place_of apart c.args.parts.now c.requires.holds c.args.thread.now (sym c.contains.ensures ∙ c.if-contains.false),
+      fresh_name g.S.Spec.object g.S.Placed.place_of apart c.args.parts.now c.requires.keeps c.args.tx.now (sym c.contains_key.ensures ∙ c.if-contains_key.false),
+      idle_thread g.S.Spec.object g.S.Placed.place_of apart c.args.parts.now c.requires.keeps c.args.thread.now (sym c.contains.ensures ∙ c.if-contains.false),
     ) in (
       good,
-      begun_moves g.S.Spec.object g.S.Placed.place_of apart c.args.parts.now c.requires.holds c.args.tx.now c.args.thread.now (option_map tree c.args.body.now) c.in_ok-it.it _ good
+      begun_moves g.S.Spec.object g.S.Placed.place_of apart c.args.parts.now c.requires.keeps c.args.tx.now c.args.thread.now (option_map tree c.args.body.now) c.in_ok-it.it _ good
           c.in_ok-it.ensures.thread c.in_ok-it.ensures.body c.in_ok-it.ensures.taken c.in_ok-it.ensures.own c.in_ok-it.ensures.seen c.in_ok-put_new.ensures c.in_ok-insert.ensures.updates.0
           refl refl refl refl refl refl,
     )

@@ -1,10 +1,17 @@
-use Rattle.std.proofs.Common.{ap, ◌∙◌, ◌∷◌, [], sym, subst, inl, inr, arith, ◌<◌, ◌≤◌, length, refl}
+use Rattle.std.proofs.Common.{ℕ, ap, ◌∙◌, ◌∷◌, [], sym, subst, inl, inr, arith, ◌<◌, ◌≤◌, length, refl}
 use Rattle.std.specs.List.{slice_get}
 use Rattle.std.proofs.lemmas.Option.{get_or_from_slice_get, slice_get-get_or}
+use Rattle.pp_log.proofs.Lists.{stands_in}
+use Rattle.pp_model.specs.Lists.{In}
 use Rattle.pp_quick.specs.Passing.{LetAllPass}
 use Rattle.pp_quick.proofs.Items.{below_next, drop_in, in_drop}
 use Rattle.pp_quick.proofs.Passing.{stops_among}
 use Rattle.pp_quick.proofs.commits.let_all_pass.Goals as goal
+
+pub lets_pass-requires-clause-entries : goal.lets_pass-requires-clause-entries
+lets_pass-requires-clause-entries g c = λ id i.
+    let at = slice_get-get_or c.args.done.now c.loop-k.k 0 (omega arith) in
+    elim i [ inl e ↦ c.requires.entries id (subst (λ (w : ℕ). In w c.args.done.now) (sym e) (stands_in c.args.done.now c.loop-k.k _ at)) | inr e ↦ absurd e ]
 
 pub returns-then-not-lets_pass-clause-no : goal.returns-then-not-lets_pass-clause-no
 returns-then-not-lets_pass-clause-no g c = λ _.

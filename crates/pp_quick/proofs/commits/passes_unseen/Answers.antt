@@ -1,10 +1,23 @@
 use Rattle.std.proofs.Common.{◌≡◌, ◌<◌, ap, ◌∙◌, sym, subst, drop, length, refl, arith, Some}
 use Rattle.std.specs.List.{slice_get}
 use Rattle.std.proofs.lemmas.Option.{slice_get_read}
-use Rattle.pp_quick.specs.Passing.{StopsOne}
-use Rattle.pp_quick.specs.Shown.{unseen_at}
+use Rattle.pp_quick.specs.Passing.{HaveEntries, StopsOne}
+use Rattle.pp_quick.specs.Shown.{ids_or_none, unseen_at}
 use Rattle.pp_quick.proofs.Passing.{unseen_is}
 use Rattle.pp_quick.proofs.commits.passes_unseen.Goals as goal
+
+pub let_all_pass-requires-clause-entries : goal.let_all_pass-requires-clause-entries
+let_all_pass-requires-clause-entries g c =
+    let q = c.place-place.result in
+    let lists = c.deref.result.now in
+    let done = c.in-Some-get.done.now in
+    let found = c.in-Some-get.ensures.lookup in
+    let i = c.from.result in
+    let within : i < length lists = omega arith in
+    let read = slice_get_read lists (length lists) i done refl within found.1 in
+    let there : slice_get c.args.commits.now.items q ≡ Some done =
+    subst (λ n. slice_get c.args.commits.now.items n ≡ Some done) c.from.ensures (subst (λ r. slice_get r i ≡ Some done) c.deref.ensures.value read) in
+    subst (λ r. HaveEntries c.args.shared.now.1 r) (sym c.as_slice.ensures) (subst (λ r. HaveEntries c.args.shared.now.1 r) (ap ids_or_none there) (c.requires.entries q))
 
 pub returns-clause-no : goal.returns-clause-no
 returns-clause-no g c = λ h.

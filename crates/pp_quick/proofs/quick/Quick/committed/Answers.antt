@@ -1,5 +1,4 @@
 use Rattle.std.proofs.Common.{◌≤◌, ◌+◌, length, subst}
-use Rattle.pp_model.specs.Config.{shared_ops}
 use Rattle.pp_model.specs.Sound.{serial_ops}
 use Rattle.pp_spec.specs.Object.{AllRanged, IsAllowed}
 use Rattle.pp_quick.proofs.Fresh.{done_allowed, done_few, done_ranged}
@@ -14,8 +13,7 @@ returns-clause-allowed g c =
 pub returns-clause-ranged : goal.returns-clause-ranged
 returns-clause-ranged g c =
     let apart = apart_of g.S.Spec.object g.S.Placed.place_of g.S.Placed.SameAt g.met.S.Placed.placed in
-    subst (λ z. AllRanged g.S.Spec.object (serial_ops z.brief.done)) c.self.view_is (done_ranged g.S.Spec.object g.S.Placed.place_of apart c.self.inside.parts.value c.self.invariant
-    (subst (λ z. AllRanged g.S.Spec.object (shared_ops z.shared.1)) c.deref.ensures c.len-ranged.ensures.ranged))
+    subst (λ z. AllRanged g.S.Spec.object (serial_ops z.brief.done)) c.self.view_is (done_ranged g.S.Spec.object g.S.Placed.place_of apart c.self.inside.parts.value c.self.invariant)
 
 pub returns-clause-few : goal.returns-clause-few
 returns-clause-few g c =

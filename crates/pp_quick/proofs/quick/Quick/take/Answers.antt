@@ -1,9 +1,9 @@
 use Rattle.std.proofs.Common.{◌∙◌, ◌+◌, ◌≤◌, ap, subst, sym}
 use Rattle.pp_front.specs.Records.{record_meaning}
 use Rattle.pp_quick.specs.Held.{IsRecordAsked, TakeCosts, Takes, take_most}
-use Rattle.pp_quick.specs.Shown.{held}
+use Rattle.pp_quick.specs.Shown.{as_held}
 use Rattle.pp_quick.proofs.HeldOf.{apart_of}
-use Rattle.pp_quick.proofs.Taking.{holds_after, shape_after, takes_of}
+use Rattle.pp_quick.proofs.Taking.{keeps_after, shape_after, takes_of}
 use Rattle.pp_quick.proofs.quick.Quick.take.Goals as goal
 
 pub take-requires-clause-asked : goal.take-requires-clause-asked
@@ -11,12 +11,12 @@ take-requires-clause-asked g c = subst (λ z. IsRecordAsked g.S.Spec.object z.sh
 
 pub invariant_of-result : goal.invariant_of-result
 invariant_of-result g c =
-    holds_after g.S.Spec.object g.S.Placed.place_of c.self.inside.parts.value c.in_ok-parts.parts.value (record_meaning c.args.recorded.now) c.in_ok-parts.good c.in_ok-parts.ensures.answers c.self.invariant
+    keeps_after g.S.Spec.object g.S.Placed.place_of c.self.inside.parts.value c.in_ok-parts.parts.value (record_meaning c.args.recorded.now) c.in_ok-parts.good c.in_ok-parts.ensures.answers c.self.invariant
 
 pub returns-clause-takes : goal.returns-clause-takes
 returns-clause-takes g c =
     let apart = apart_of g.S.Spec.object g.S.Placed.place_of g.S.Placed.SameAt g.met.S.Placed.placed in
-    subst (λ z. Takes g.S.Spec.object g.S.Placed.place_of z (record_meaning c.args.recorded.now) c.in_ok-parts.good (held g.S.Placed.place_of c.in_ok-parts.parts.value)) c.self.view_is
+    subst (λ z. Takes g.S.Spec.object g.S.Placed.place_of z (record_meaning c.args.recorded.now) c.in_ok-parts.good (as_held g.S.Placed.place_of c.in_ok-parts.parts.value)) c.self.view_is
     (takes_of g.S.Spec.object g.S.Placed.place_of apart c.self.inside.parts.value c.in_ok-parts.parts.value (record_meaning c.args.recorded.now) c.in_ok-parts.good c.requires.style c.in_ok-parts.ensures.answers)
 
 pub returns-clause-shape : goal.returns-clause-shape
