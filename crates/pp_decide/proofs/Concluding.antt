@@ -34,7 +34,7 @@ use Rattle.pp_decide.specs.Costs.{OfTried, QuickCostsAtLeast, QuickCostsAtMost, 
 use Rattle.pp_decide.specs.Decisions.{Accepts, AllHold, Decision, Faulty, IsDecision, IsDecisionBehind, IsDecisionOf, IsDecisionTold, IsQuick, Rejects, acceptance, quick_fault, steps_behind}
 use Rattle.pp_decide.specs.Reports.{quick_accepted_text, quick_rejected_text}
 use Rattle.pp_decide.specs.Taking.{AreGood, HasFailed}
-use Rattle.pp_decide.specs.declared.standing.Deciding.TheVariants.{Running, Rejected}
+use Rattle.pp_decide.specs.declared.deciding.Deciding.TheVariants.{Running, Rejected}
 use Rattle.pp_decide.proofs.Covering.{covers_fault, headed}
 use Rattle.pp_decide.proofs.Readers.{all_hold, committed_are}
 

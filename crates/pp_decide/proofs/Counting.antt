@@ -32,8 +32,8 @@ use Rattle.pp_certify.proofs.Scanning.{scan_blank}
 use Rattle.pp_decide.specs.Costs.{OfTried, RecordsCostAtMost, first_brief, tried_most}
 use Rattle.pp_decide.specs.Decisions.{is_boosted}
 use Rattle.pp_decide.specs.Taking.{AreGood, Counts, Covers, HasFailed, HeaderTaken, good_ops, with_blank}
-use Rattle.pp_decide.specs.declared.standing.Deciding.{Deciding}
-use Rattle.pp_decide.specs.declared.standing.Deciding.TheVariants.{Waiting, Running, Rejected}
+use Rattle.pp_decide.specs.declared.deciding.Deciding.{Deciding}
+use Rattle.pp_decide.specs.declared.deciding.Deciding.TheVariants.{Waiting, Running, Rejected}
 use Rattle.pp_decide.proofs.Covering.{covers_sound, header_scan}
 use Rattle.pp_decide.proofs.Readers.{all_tried, brief_is, good_runs}
 

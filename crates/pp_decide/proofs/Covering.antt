@@ -27,8 +27,8 @@ use Rattle.pp_certify.proofs.Covering.{follows_next, on_record, record_fault, sc
 use Rattle.pp_certify.proofs.Scanning.{faulty_at, scan_blank, scan_header}
 use Rattle.pp_decide.specs.Decisions.{FailsOn, is_boosted, quick_fault, style_fault}
 use Rattle.pp_decide.specs.Taking.{AreGood, Covers, HasFailed, HeaderTaken, IsHeaderRefused, lines_of, with_blank}
-use Rattle.pp_decide.specs.declared.standing.Deciding.{Deciding}
-use Rattle.pp_decide.specs.declared.standing.Deciding.TheVariants.{Waiting, Running, Rejected}
+use Rattle.pp_decide.specs.declared.deciding.Deciding.{Deciding}
+use Rattle.pp_decide.specs.declared.deciding.Deciding.TheVariants.{Waiting, Running, Rejected}
 use Rattle.pp_decide.proofs.Faults.{boosted_fault, boosted_is}
 use Rattle.pp_decide.proofs.Readers.{fails_next, reads}
 

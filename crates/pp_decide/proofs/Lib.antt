@@ -5,4 +5,5 @@ pub mod Covering
 pub mod Counting
 pub mod Lines
 pub mod Concluding
-pub mod Deciding
+pub mod Verdicts
+pub mod Decided

@@ -29,8 +29,8 @@ use Rattle.pp_decide.specs.Conclusions.{Concludes, OpsCounted, conclusion_of}
 use Rattle.pp_decide.specs.Costs.{RecordsCostAtMost}
 use Rattle.pp_decide.specs.Decisions.{QuickReadsNoFault, quick_fault}
 use Rattle.pp_decide.specs.Taking.{AreGood, Counts, Covers, HasFailed, Leads, lines_of, quick_reading}
-use Rattle.pp_decide.specs.declared.standing.Deciding.{Deciding}
-use Rattle.pp_decide.specs.declared.standing.Deciding.TheVariants.{Waiting, Running, Rejected}
+use Rattle.pp_decide.specs.declared.deciding.Deciding.{Deciding}
+use Rattle.pp_decide.specs.declared.deciding.Deciding.TheVariants.{Waiting, Running, Rejected}
 use Rattle.pp_decide.proofs.Counting.{counts_nothing, most_widens}
 use Rattle.pp_decide.proofs.Covering.{covers_fault, covers_sound}
 use Rattle.pp_decide.proofs.Faults.{fault_stays}

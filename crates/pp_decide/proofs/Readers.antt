@@ -16,7 +16,7 @@ use Rattle.pp_object.specs.declared.act.Op.{Op}
 use Rattle.pp_quick.specs.Brief.{brief}
 use Rattle.pp_quick.specs.Failures.{FailsIn, all_steps}
 use Rattle.pp_quick.specs.Held.{Held, Takes}
-use Rattle.pp_quick.specs.Laws.{IsBriefed, KeepsBoosted}
+use Rattle.pp_quick.specs.Laws.{BriefsDecide, IsBriefed, KeepsBoosted}
 use Rattle.pp_quick.specs.Reading.{IsReader}
 use Rattle.pp_quick.specs.Runs.{BriefRuns, boosting, brief_after}
 use Rattle.pp_quick.specs.Sums.{AreTried}
@@ -24,6 +24,7 @@ use Rattle.pp_quick.proofs.Briefs.{briefed}
 use Rattle.pp_quick.proofs.Deciding.{quick as boosted_law}
 use Rattle.pp_quick.proofs.Reading.{reader}
 use Rattle.pp_quick.proofs.HeldOf.{apart_of}
+use Rattle.pp_quick.proofs.Whole.{decided}
 use Rattle.pp_spec.specs.Object.{rules_of}
 use Rattle.pp_certify.specs.Objects.{object_of, start_of, translation_of}
 use Rattle.pp_certify.specs.Scans.{InputScan}
@@ -41,6 +42,9 @@ keeps_boosted header = boosted_law (object_of header) place_of (apart_of objects
 
 pub is_briefed : (header : Header) → IsBriefed (object_of header) place_of
 is_briefed header = briefed (object_of header) place_of (apart_of objects place_of SameAt objects_placed (kinds_of header.catalog))
+
+pub briefs_decide : (header : Header) → BriefsDecide (object_of header) place_of
+briefs_decide header = decided (object_of header) place_of (apart_of objects place_of SameAt objects_placed (kinds_of header.catalog))
 
 module _ (sc : InputScan) (tally : Tally) (quick : Held (List Kind) Op) (c : AreGood sc tally quick) where
   abbrev h : Header

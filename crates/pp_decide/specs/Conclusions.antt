@@ -14,16 +14,16 @@ use Rattle.pp_certify.specs.Scans.{InputScan}
 use Rattle.pp_certify.specs.declared.progress.Tally.{Tally}
 use Rattle.pp_decide.specs.Decisions.{IsDecisionTold, acceptance, quick_fault}
 use Rattle.pp_decide.specs.Taking.{AreGood, HasFailed}
-use Rattle.pp_decide.specs.declared.standing.Deciding.{Deciding}
-use Rattle.pp_decide.specs.declared.standing.Deciding.TheVariants as places
+use Rattle.pp_decide.specs.declared.deciding.Deciding.{Deciding}
+use Rattle.pp_decide.specs.declared.deciding.Deciding.TheVariants as deciding
 use Rattle.pp_decide.specs.declared.conclusion.Conclusion.{Conclusion}
 use Rattle.pp_decide.specs.declared.conclusion.Conclusion.TheVariants.{Faulty, Rejected, Accepted}
 
 -- what is concluded where all lines lead to here: without a header there is a fault behind them
 abbrev pub conclusion_of : Deciding → Conclusion
-conclusion_of (places.Waiting lines) = Faulty (lines + 1) NoHeader
-conclusion_of (places.Running tally quick) = Accepted tally quick
-conclusion_of (places.Rejected tally line) = Rejected line
+conclusion_of (deciding.Waiting lines) = Faulty (lines + 1) NoHeader
+conclusion_of (deciding.Running tally quick) = Accepted tally quick
+conclusion_of (deciding.Rejected tally line) = Rejected line
 
 -- the conclusion is that of the input
 abbrev pub Concludes : Option (List ℕ) → Option (List ℕ) → Conclusion → Type 0

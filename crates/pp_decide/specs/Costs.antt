@@ -21,13 +21,18 @@ abbrev pub tried_most : Header → List (RunRecord Op) → ℕ
 tried_most header tried =
     start_at_most (start_of header) + records_most place_of (first_brief header) tried
 
--- Of what the start costs at most, and the records up to and with the first that is not good, this
--- holds (there is one list of them at most). Without a header nothing costs.
+-- tried are the records behind a header up to and with the first that is not good, and all of them
+-- where each is
+abbrev pub AreTriedBehind : Header → Records (RunRecord Op) → List (RunRecord Op) → Type 0
+AreTriedBehind header records tried =
+    AreTried (object_of header) place_of (first_brief header) (bare records) tried
+
+-- Of what the start costs at most, and the records that are tried, this holds (there is one list of
+-- them). Without a header nothing costs.
 abbrev pub OfTried : Option (Lined Header) → Records (RunRecord Op) → (ℕ → Type 0) → Type 0
 OfTried None records P = P 0
 OfTried (Some header) records P = (tried : List (RunRecord Op)) →
-    AreTried (object_of header.what) place_of (first_brief header.what) (bare records) tried →
-    P (tried_most header.what tried)
+    AreTriedBehind header.what records tried → P (tried_most header.what tried)
 
 -- the counter rises at most by this, without the serial run
 abbrev pub RecordsCostAtMost : InputScan → (old new : ℕ) → Type 0

@@ -11,7 +11,7 @@ use Rattle.pp_front.specs.Runs.{Lined, LinedSteps, Records, bare}
 use Rattle.pp_json.specs.declared.header.Header.{Header}
 use Rattle.pp_model.specs.Config.{first}
 use Rattle.pp_model.specs.Object.{state}
-use Rattle.pp_model.specs.Rules.{RunsFrom, StartMeets}
+use Rattle.pp_model.specs.Rules.{IsVerdict, RunsFrom, StartMeets, Verdict}
 use Rattle.pp_model.specs.Serial.{Attempt, attempts, committed_tx, serial}
 use Rattle.pp_object.specs.declared.act.Op.{Op}
 use Rattle.pp_object.specs.declared.states.ObjectState.{ObjectState}
@@ -62,6 +62,11 @@ pub data Decision : Type 0 where
 -- all steps of the records behind a header, however many they are
 abbrev pub steps_behind : Header → Records (RunRecord Op) → LinedSteps Op
 steps_behind header rs = all_steps (translation_of header) (start_of header) rs
+
+-- the verdict of all steps of the records
+abbrev pub IsVerdictBehind : Header → Records (RunRecord Op) → Verdict → Type 0
+IsVerdictBehind header rs v =
+    IsVerdict (object_of header) (start_of header) (bare (steps_behind header rs)) v
 
 -- the start and each step hold
 abbrev pub AllHold : Header → Records (RunRecord Op) → Type 0

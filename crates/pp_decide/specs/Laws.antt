@@ -1,21 +1,21 @@
 -- Meaning: the laws of what `quick` decides.
-use Rattle.std.specs.Prelude.{◌≡◌, ℕ, zero, suc, List, slice_get, Some}
+use Rattle.std.specs.Prelude.{◌≡◌, ◌≢◌, ℕ, zero, suc, List, slice_get, Some}
 use Rattle.pp_core.specs.declared.call.Style.TheVariants.{Boosted}
 use Rattle.pp_core.specs.declared.status.Status.{Status}
 use Rattle.pp_front.specs.Inputs as reports
 use Rattle.pp_front.specs.Inputs.{IsReport}
 use Rattle.pp_front.specs.Records.{RunRecord}
-use Rattle.pp_front.specs.Runs.{Lined, Records, bare}
+use Rattle.pp_front.specs.Runs.{Lined, Records}
 use Rattle.pp_json.specs.declared.header.Header.{Header}
 use Rattle.pp_model.specs.Config.{Step}
-use Rattle.pp_model.specs.Rules.{Accepted, IsVerdict, Rejected, Verdict}
+use Rattle.pp_model.specs.Rules.{Accepted, Rejected, Verdict}
 use Rattle.pp_object.specs.declared.act.Op.{Op}
 use Rattle.pp_reading.specs.declared.cause.Cause.TheVariants.{TooManySteps}
-use Rattle.pp_certify.specs.Objects.{object_of, setting_of, start_of}
+use Rattle.pp_certify.specs.Objects.{setting_of}
 use Rattle.pp_certify.specs.Reports.{RunReport}
 use Rattle.pp_certify.specs.Scans.{InputScan}
-use Rattle.pp_decide.specs.Decisions.{Accepts, Decision, IsDecision, IsDecisionOf, IsQuick, Rejects}
-use Rattle.pp_decide.specs.Decisions.{acceptance, steps_behind}
+use Rattle.pp_decide.specs.Decisions.{Accepts, Decision, Faulty, IsDecision, IsDecisionOf, IsQuick}
+use Rattle.pp_decide.specs.Decisions.{IsVerdictBehind, Rejects, acceptance, steps_behind}
 
 -- the decision tells this verdict of all steps of the records: step 0 is the start, whose line is
 -- that of the header
@@ -25,10 +25,11 @@ TellsVerdict header rs (Rejected zero criterion) decision = decision ≡ Rejects
 TellsVerdict header rs (Rejected (suc i) criterion) decision = (step : Lined (Step Op))
     × (slice_get (steps_behind header.what rs) i ≡ Some step) × (decision ≡ Rejects step.line)
 
--- the decision is that of this report of `certify`, and where it rejects, on the same line; of an
--- input that has a fault there nothing is said
+-- the decision is that of this report of `certify`: the same fault on the same line, but that
+-- nothing is said where it is TooManySteps, or the same serial run, or a rejection on the same line
 abbrev pub IsSameDecision : RunReport → Decision → Type 0
-IsSameDecision (reports.Faulty line cause) decision = Unit {0}
+IsSameDecision (reports.Faulty line cause) decision =
+    cause ≢ TooManySteps → decision ≡ Faulty line cause
 IsSameDecision (reports.Accepts steps committed final) decision =
     (records : ℕ) × (decision ≡ Accepts records committed final)
 IsSameDecision (reports.StartRejected line criterion) decision = decision ≡ Rejects line
@@ -39,16 +40,15 @@ pub record DecisionLaw : Type 0 where
   -- an input has one status and one text at most
   pub one : (bytes : List ℕ) (s s' : Status) (t t' : List ℕ) → IsQuick bytes s t →
       IsQuick bytes s' t' → (s ≡ s') × (t ≡ t')
-  -- Records behind a header can not be without a decision. (Which step fails can not be computed
-  -- from the criteria alone.)
+  -- Records behind a header can not be without a decision and a verdict of all their steps. (Which
+  -- step fails can not be computed from the criteria alone.)
   pub some : (header : Lined Header) (rs : Records (RunRecord Op)) →
-      ((decision : Decision) → IsDecisionOf header rs decision → ⊥) → ⊥
-  -- The decision is that of the verdict of all steps, of which there is one at most. There is no
-  -- limit on steps.
+      ((decision : Decision) (v : Verdict) → IsDecisionOf header rs decision →
+      IsVerdictBehind header.what rs v → ⊥) → ⊥
+  -- The decision tells this verdict, of which there is one at most. There is no limit on steps.
   pub verdict : (header : Lined Header) (rs : Records (RunRecord Op)) (decision : Decision)
-      (v : Verdict) → IsDecisionOf header rs decision →
-      IsVerdict (object_of header.what) (start_of header.what) (bare (steps_behind header.what rs))
-      v → TellsVerdict header rs v decision
+      (v : Verdict) → IsDecisionOf header rs decision → IsVerdictBehind header.what rs v →
+      TellsVerdict header rs v decision
   -- an input of style boosted is decided as `certify` reports it
   pub agrees : (sc : InputScan) (header : Lined Header) (report : RunReport) (decision : Decision) →
       sc.header ≡ Some header → header.what.style ≡ Boosted →

@@ -24,8 +24,8 @@ use Rattle.pp_certify.specs.Scans.{InputScan, nothing, scan_lines}
 use Rattle.pp_certify.specs.declared.progress.Tally.{Tally}
 use Rattle.pp_decide.specs.Costs.{RecordsCostAtMost}
 use Rattle.pp_decide.specs.Decisions.{FailsOn, is_boosted, quick_fault}
-use Rattle.pp_decide.specs.declared.standing.Deciding.{Deciding}
-use Rattle.pp_decide.specs.declared.standing.Deciding.TheVariants.{Waiting, Running, Rejected}
+use Rattle.pp_decide.specs.declared.deciding.Deciding.{Deciding}
+use Rattle.pp_decide.specs.declared.deciding.Deciding.TheVariants.{Waiting, Running, Rejected}
 
 -- how many lines were taken
 abbrev pub lines_of : Deciding → ℕ

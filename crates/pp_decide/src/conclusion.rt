@@ -10,7 +10,7 @@ ghost use Rattle.pp_decide.specs.Costs.{RecordsCostAtMost};
 ghost use Rattle.pp_decide.specs.Decisions.{QuickReadsNoFault};
 ghost use Rattle.pp_decide.specs.Taking.{lines_of};
 
-use crate::standing::Deciding;
+use crate::deciding::Deciding;
 use pp_certify::Tally;
 use pp_core::Ticks;
 use pp_io::Source;

@@ -3,9 +3,9 @@
 
 mod command;
 mod conclusion;
+mod deciding;
 mod law;
 mod report;
-mod standing;
 mod take;
 
 pub use command::quick;

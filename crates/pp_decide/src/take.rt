@@ -12,9 +12,9 @@ ghost use Rattle.pp_certify.specs.Progresses.{header_at_most};
 ghost use Rattle.pp_decide.specs.Decisions.{is_boosted};
 ghost use Rattle.pp_decide.specs.Taking.{HeaderTaken, IsHeaderRefused, StartsQuick, lines_of};
 ghost use Rattle.pp_decide.specs.Taking.{quick_reading, with_blank};
-ghost use Rattle.pp_decide.specs.declared.standing.Deciding.TheVariants.{Rejected, Running};
+ghost use Rattle.pp_decide.specs.declared.deciding.Deciding.TheVariants.{Rejected, Running};
 
-use crate::standing::Deciding;
+use crate::deciding::Deciding;
 use pp_certify::{Tally, read_next, stop_at, with_line, with_record};
 use pp_core::{OutOfMemory, Style, Ticks};
 use pp_io::{Line, is_blank};

@@ -29,3 +29,13 @@ whole_sound s whole fault = at_fault (subst IsVerdictOrSize fault whole)
     at_fault : IsVerdictOrSize statuses.InputFault → ⊥
     at_fault (inl decided) = decided
     at_fault (inr large) = let no : statuses.InputFault ≡ statuses.TooLarge = large in cc
+
+-- a verdict or a fault tells no size
+pub decided_fits : (s : Status) → IsDecided s ⊎ (s ≡ statuses.InputFault) → s ≡ statuses.TooLarge → ⊥
+decided_fits s (inl decided) large = subst IsDecided large decided
+decided_fits s (inr fault) large = let no : statuses.InputFault ≡ statuses.TooLarge = cc in cc
+
+pub checked_fits : (s : Status) → (s ≡ statuses.Accepted) ⊎ (s ≡ statuses.Rejected) ⊎ (s ≡ statuses.InputFault) → s ≡ statuses.TooLarge → ⊥
+checked_fits s (inl accepted) large = let no : statuses.Accepted ≡ statuses.TooLarge = cc in cc
+checked_fits s (inr (inl rejected)) large = let no : statuses.Rejected ≡ statuses.TooLarge = cc in cc
+checked_fits s (inr (inr fault)) large = let no : statuses.InputFault ≡ statuses.TooLarge = cc in cc

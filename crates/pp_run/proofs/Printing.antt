@@ -10,7 +10,7 @@ use Rattle.pp_run.specs.Writing.{AppendsPrefix}
 use Rattle.pp_certify.proofs.Concluding.{one_certified}
 use Rattle.pp_certify.proofs.Expanding.{one_expanded}
 use Rattle.pp_attempts.proofs.Viewed.{one_views}
-use Rattle.pp_decide.proofs.Deciding.{one_quick}
+use Rattle.pp_decide.proofs.Decided.{one_quick}
 use Rattle.pp_drill.proofs.Drilling.{one_drilled}
 use Rattle.pp_exchanges.proofs.Swapping.{one_swaps}
 use Rattle.pp_verify.proofs.Rechecking.{one_recheck}

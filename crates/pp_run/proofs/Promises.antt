@@ -1,24 +1,45 @@
 -- What is promised of what commands answer, from the laws of their crates.
-use Rattle.std.specs.Prelude.{◌≡◌, ℕ, List}
+use Rattle.std.specs.Prelude.{◌≡◌, ℕ, List, Some}
 use Rattle.pp_core.specs.declared.status.Status.{Status}
 use Rattle.pp_core.specs.declared.status.Status.TheVariants as statuses
 use Rattle.pp_attempts.proofs.Viewed.{kept_views}
 use Rattle.pp_attempts.specs.Outputs.{IsViews, IsViewsOf}
 use Rattle.pp_certify.specs.Inputs.{scan}
+use Rattle.pp_certify.specs.Objects.{object_of, translation_of}
 use Rattle.pp_certify.specs.Reports.{IsCertified}
 use Rattle.pp_certify.specs.Scans.{InputScan}
-use Rattle.pp_decide.proofs.Deciding.{decided}
-use Rattle.pp_decide.proofs.Readers.{is_briefed, keeps_boosted}
-use Rattle.pp_run.specs.Promises.{IsDecidedAsRun, SeesKept}
+use Rattle.pp_decide.proofs.Decided.{decided}
+use Rattle.pp_decide.proofs.Readers.{briefs_decide, is_briefed, keeps_boosted}
+use Rattle.pp_decide.proofs.Verdicts.{some_verdict}
+use Rattle.pp_decide.specs.Costs.{first_brief}
+use Rattle.pp_front.proofs.Whole.{one_run_law}
+use Rattle.pp_front.specs.Runs.{Lined, bare}
+use Rattle.pp_json.specs.declared.header.Header.{Header}
+use Rattle.pp_model.proofs.Verdict.{one_verdict}
+use Rattle.pp_object.specs.Objects.{place_of}
+use Rattle.pp_quick.proofs.Sums.{sum_law}
+use Rattle.pp_run.specs.Promises.{HaveOneRun, IsDecidedAsRun, SeesKept}
 use Rattle.std.proofs.Common.{refl, subst}
 
-pub decided_as_run : (sc : InputScan) → IsDecidedAsRun sc
-decided_as_run sc =
+pub have_one_run : (header : Header) → HaveOneRun header
+have_one_run header =
     record {
-      verdict = λ header decision v here is verdict. decided.verdict header sc.records decision v is verdict;
-      agrees = λ header report decision here boosted is told. decided.agrees sc header report decision here boosted is told;
-      keeps_boosted = λ header here. keeps_boosted header.what;
-      is_briefed = λ header here. is_briefed header.what;
+      run = one_run_law (object_of header) (translation_of header);
+      some_verdict = some_verdict (object_of header);
+      one_verdict = one_verdict (object_of header);
+    }
+
+pub decided_as_run : (sc : InputScan) (header : Lined Header) → sc.header ≡ Some header → IsDecidedAsRun sc header
+decided_as_run sc header here =
+    record {
+      some = decided.some header sc.records;
+      verdict = decided.verdict header sc.records;
+      some_tried = (sum_law (object_of header.what) place_of).some (first_brief header.what) (bare sc.records);
+      one_tried = (sum_law (object_of header.what) place_of).one (first_brief header.what) (bare sc.records);
+      agrees = λ report decision. decided.agrees sc header report decision here;
+      keeps_boosted = keeps_boosted header.what;
+      is_briefed = is_briefed header.what;
+      decides = briefs_decide header.what;
     }
 
 -- views of an accepted run are those of one that is certified

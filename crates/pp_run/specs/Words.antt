@@ -63,3 +63,14 @@ DrivesMachine (Some Swaps) = Unit {0}
 DrivesMachine (Some Recheck) = ⊥
 DrivesMachine (Some Views) = Unit {0}
 DrivesMachine (Some (Drill n)) = ⊥
+
+-- the command prints what may be above a limit: a certificate, or views
+abbrev pub TellsSize : Option Command → Type 0
+TellsSize None = ⊥
+TellsSize (Some Certify) = ⊥
+TellsSize (Some Expand) = ⊥
+TellsSize (Some Quick) = ⊥
+TellsSize (Some Swaps) = Unit {0}
+TellsSize (Some Recheck) = ⊥
+TellsSize (Some Views) = Unit {0}
+TellsSize (Some (Drill n)) = ⊥

@@ -3,7 +3,9 @@ ghost use Rattle.std.specs.Prelude.{◌≡◌, ◌≢◌, ◌≤◌, ◌↔◌, 
 ghost use Rattle.std.specs.Io.KnownBytes.{IsAtEnd};
 ghost use Rattle.pp_core.specs.declared.status.Status.TheVariants as statuses;
 ghost use Rattle.pp_io.specs.Faults.{HasRisen, counted};
+ghost use Rattle.pp_front.specs.Runs.{Lined};
 ghost use Rattle.pp_io.specs.Sent.{SendsAll};
+ghost use Rattle.pp_json.specs.declared.header.Header.{Header as HeaderOf};
 ghost use Rattle.pp_reading.specs.declared.stop.Failure.TheVariants.{ReadFault};
 ghost use Rattle.pp_reading.specs.Sources.{WhereTold};
 ghost use Rattle.pp_certificate.specs.Rechecked.{IsCheckedSound};
@@ -20,8 +22,8 @@ ghost use Rattle.pp_run.specs.declared.words.Command.TheVariants.{Recheck, Swaps
 ghost use Rattle.pp_run.specs.Bounds.{RisesAtLeast, RisesAtMost};
 ghost use Rattle.pp_run.specs.Outputs.{IsOfWhole, IsOutput, IsVerdictOrSize, OfInput, Prints};
 ghost use Rattle.pp_run.specs.Outputs.{PrintsOnly, PrintsPrefix, PrintsPrefixOnly, ReadsSound};
-ghost use Rattle.pp_run.specs.Promises.{IsDecidedAsRun, SeesKept};
-ghost use Rattle.pp_run.specs.Words.{DrivesMachine, Reads, command_of};
+ghost use Rattle.pp_run.specs.Promises.{HaveOneRun, IsDecidedAsRun, SeesKept};
+ghost use Rattle.pp_run.specs.Words.{DrivesMachine, Reads, TellsSize, command_of};
 ghost use Rattle.pp_run.specs.Writing.{FlushesOnceAtMost};
 
 use crate::words::{Command, read_words};
@@ -50,6 +52,7 @@ fn perform<S: Source, L: Ledger>(
     ensures output { IfOk result (λ r. OfInput (Some command) (S.left source.old) λ bytes.
         IsOutput (Some command) bytes r.0 r.1) }
     ensures status { IfOk result (λ r. IsVerdictOrSize r.0 ⊎ (r.0 ≡ statuses.InputFault)) }
+    ensures size { IfOk result (λ r. r.0 ≡ statuses.TooLarge → TellsSize (Some command)) }
     ensures end { IfOk result (λ r. IsOfWhole (Some command) r.0 → IsAtEnd (S.left source.new)) }
     ensures shown { IfOk result (λ r. DrivesMachine (Some command) → r.0 ≡ statuses.Rejected →
         WhereTold (S.left source.old) λ bytes. IsEvident (scan bytes)) }
@@ -111,8 +114,12 @@ pub fn run<S: Source, K: Sink, L: Ledger>(
     ensures source_untouched { ¬ Reads (command_of words.now) → source.new ≡ source.old }
     ensures sink_untouched { result ≡ statuses.BadWords → sink.new ≡ sink.old }
 
-    // What a command finds on the whole of its input leaves a source that tells its bytes with none.
+    // What a command finds on the whole of its input leaves a source that tells its bytes with
+    // none.
     ensures end { IsOfWhole (command_of words.now) result → IsAtEnd (S.left source.new) }
+
+    // Only a command that prints a certificate or views may have more to print than a limit lets.
+    ensures size { result ≡ statuses.TooLarge → TellsSize (command_of words.now) }
 
     // A failed read is told only where one failed, the sink was not touched, and no fault in what
     // was read is hidden.
@@ -178,11 +185,14 @@ pub fn run<S: Source, K: Sink, L: Ledger>(
     ensures shown { DrivesMachine (command_of words.now) → result ≡ statuses.Rejected →
         WhereTold (S.left source.old) λ bytes. IsEvident (scan bytes) }
 
+    // Whatever records stand behind a header, they have one run, with one verdict.
+    ensures one_run { (header : HeaderOf) → HaveOneRun header }
+
     // What is decided of a boosted run without its local logs, whatever the input is, is the verdict
     // of all its steps. Over its objects good records keep a configuration boosted, and briefs tell
     // which records are good.
-    ensures decided { command_of words.now ≡ Some Quick → (input : InputScan) →
-        IsDecidedAsRun input }
+    ensures decided { command_of words.now ≡ Some Quick → (input : InputScan)
+        (header : Lined HeaderOf) → input.header ≡ Some header → IsDecidedAsRun input header }
 
     // What a committed transaction saw that undid nothing since is what some number of the
     // transactions committed before it give.

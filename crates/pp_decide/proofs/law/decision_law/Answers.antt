@@ -1,4 +1,4 @@
-use Rattle.pp_decide.proofs.Deciding.{decided}
+use Rattle.pp_decide.proofs.Decided.{decided}
 use Rattle.pp_decide.proofs.law.decision_law.Goals as goal
 
 pub returns : goal.returns

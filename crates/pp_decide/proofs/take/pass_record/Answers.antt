@@ -7,8 +7,8 @@ use Rattle.pp_certify.specs.Progresses.{IsRefused}
 use Rattle.pp_certify.specs.Scans.{scan_line}
 use Rattle.pp_certify.proofs.Covering.{few_begins}
 use Rattle.pp_decide.specs.Taking.{Counts, HasFailed}
-use Rattle.pp_decide.specs.declared.standing.Deciding.{Deciding}
-use Rattle.pp_decide.specs.declared.standing.Deciding.TheVariants.{Rejected}
+use Rattle.pp_decide.specs.declared.deciding.Deciding.{Deciding}
+use Rattle.pp_decide.specs.declared.deciding.Deciding.TheVariants.{Rejected}
 use Rattle.pp_decide.proofs.Counting.{counts_passed}
 use Rattle.pp_decide.proofs.Covering.{cover_passed, cover_refused}
 use Rattle.pp_decide.proofs.Lines.{leads_on, next_few, next_number, some_cover, stops_at}

@@ -5,7 +5,7 @@ use Rattle.pp_json.specs.Headers.{header_of}
 use Rattle.pp_reading.specs.Takers.{IsNext, LeadsOn, StopsAt, StopsWith}
 use Rattle.pp_reading.proofs.Takers.{on_err}
 use Rattle.pp_decide.specs.Taking.{Counts, Covers, IsHeaderRefused, quick_reading}
-use Rattle.pp_decide.specs.declared.standing.Deciding.{Deciding}
+use Rattle.pp_decide.specs.declared.deciding.Deciding.{Deciding}
 use Rattle.pp_decide.proofs.Counting.{counts_blank, counts_header, header_cost}
 use Rattle.pp_decide.proofs.Covering.{blank_lines, cover_blank, cover_header, cover_header_refused, header_lines}
 use Rattle.pp_decide.proofs.Lines.{leads_on, next_few, next_number, stops_at, stops_still, stops_with}

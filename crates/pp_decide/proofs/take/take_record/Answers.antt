@@ -11,8 +11,8 @@ use Rattle.pp_certify.specs.Scans.{scan_line}
 use Rattle.pp_certify.proofs.Covering.{few_begins}
 use Rattle.pp_reading.proofs.Takers.{on_err}
 use Rattle.pp_decide.specs.Taking.{Counts, Covers}
-use Rattle.pp_decide.specs.declared.standing.Deciding.{Deciding}
-use Rattle.pp_decide.specs.declared.standing.Deciding.TheVariants.{Running, Rejected}
+use Rattle.pp_decide.specs.declared.deciding.Deciding.{Deciding}
+use Rattle.pp_decide.specs.declared.deciding.Deciding.TheVariants.{Running, Rejected}
 use Rattle.pp_decide.proofs.Counting.{counts_bad, counts_good, record_cost}
 use Rattle.pp_decide.proofs.Covering.{cover_bad, cover_good, cover_refused}
 use Rattle.pp_decide.proofs.Lines.{few_records, leads_on, next_few, next_number, some_cover, stops_at, stops_still, stops_with}

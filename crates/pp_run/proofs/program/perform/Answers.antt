@@ -1,10 +1,10 @@
 use Rattle.std.proofs.Common.{◌≡◌, ◌≢◌, ℕ, Some, inl, inr, subst, sym}
 use Rattle.std.proofs.lemmas.Result.{IfOk-weaker}
 use Rattle.pp_reading.proofs.Takers.{if_ok_all}
-use Rattle.pp_run.proofs.Performing.{answered, checked, sized, whole_sound}
+use Rattle.pp_run.proofs.Performing.{answered, checked, checked_fits, decided_fits, sized, whole_sound}
 use Rattle.pp_run.specs.Bounds.{RisesAtLeast, RisesAtMost}
 use Rattle.pp_run.specs.Outputs.{IsOfWhole, IsOutput, OfInput, ReadsSound}
-use Rattle.pp_run.specs.Words.{DrivesMachine, Reads}
+use Rattle.pp_run.specs.Words.{DrivesMachine, Reads, TellsSize}
 use Rattle.pp_run.specs.declared.words.Command.{Command}
 use Rattle.pp_run.proofs.program.perform.Goals as goal
 
@@ -59,6 +59,26 @@ returns-in-Recheck-clause-status g c = IfOk-weaker c.recheck.result _ _ (λ r. c
 
 pub returns-in-Views-clause-status : goal.returns-in-Views-clause-status
 returns-in-Views-clause-status g c = IfOk-weaker c.views.result _ _ (λ r. sized r.0) c.views.ensures.status
+
+-- ---- whether it tells a size
+
+pub returns-in-Certify-clause-size : goal.returns-in-Certify-clause-size
+returns-in-Certify-clause-size g c = IfOk-weaker c.certify.result _ _ (λ r told large. absurd (decided_fits r.0 told large)) c.certify.ensures.status
+
+pub returns-in-Expand-clause-size : goal.returns-in-Expand-clause-size
+returns-in-Expand-clause-size g c = IfOk-weaker c.expand.result _ _ (λ r told large. absurd (decided_fits r.0 told large)) c.expand.ensures.status
+
+pub returns-in-Quick-clause-size : goal.returns-in-Quick-clause-size
+returns-in-Quick-clause-size g c = IfOk-weaker c.quick.result _ _ (λ r told large. absurd (decided_fits r.0 told large)) c.quick.ensures.status
+
+pub returns-in-Recheck-clause-size : goal.returns-in-Recheck-clause-size
+returns-in-Recheck-clause-size g c = IfOk-weaker c.recheck.result _ _ (λ r told large. absurd (checked_fits r.0 told large)) c.recheck.ensures.status
+
+pub returns-in-Swaps-clause-size : goal.returns-in-Swaps-clause-size
+returns-in-Swaps-clause-size g c = if_ok_all c.swaps.result _ (λ r large. subst (λ (k : Command). TellsSize (Some k)) (sym c.in-Swaps.is) tt)
+
+pub returns-in-Views-clause-size : goal.returns-in-Views-clause-size
+returns-in-Views-clause-size g c = if_ok_all c.views.result _ (λ r large. subst (λ (k : Command). TellsSize (Some k)) (sym c.in-Views.is) tt)
 
 -- ---- what is read to its end
 

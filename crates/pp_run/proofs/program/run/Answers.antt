@@ -8,11 +8,11 @@ use Rattle.pp_exchanges.proofs.Rechecking.{prints_certificate}
 use Rattle.pp_exchanges.specs.Swaps.{IsSwaps}
 use Rattle.pp_attempts.specs.Outputs.{IsViews}
 use Rattle.pp_run.proofs.Numbers.{drill_within}
-use Rattle.pp_run.proofs.Promises.{decided_as_run, sees_kept}
+use Rattle.pp_run.proofs.Promises.{decided_as_run, have_one_run, sees_kept}
 use Rattle.pp_run.proofs.Printing.{prints, prints_only, prints_prefix, prints_prefix_only}
 use Rattle.pp_run.specs.Bounds.{RisesAtLeast, RisesAtMost}
 use Rattle.pp_run.specs.Outputs.{IsOfWhole, IsOutput, OfInput}
-use Rattle.pp_run.specs.Words.{DrivesMachine, command_of}
+use Rattle.pp_run.specs.Words.{DrivesMachine, TellsSize, command_of}
 use Rattle.pp_run.specs.Writing.{AppendsPrefix}
 use Rattle.pp_run.specs.declared.words.Command.{Command}
 use Rattle.pp_run.specs.declared.words.Command.TheVariants.{Certify, Drill, Expand, Quick, Recheck, Swaps, Views}
@@ -128,19 +128,19 @@ returns-in-Ok-send-clause-drilled g c = λ n is accepted.
     prints_lines n within.0 within.1
 
 pub returns-in-Ok-send-clause-decided : goal.returns-in-Ok-send-clause-decided
-returns-in-Ok-send-clause-decided g c = λ quick input. decided_as_run input
+returns-in-Ok-send-clause-decided g c = λ quick. decided_as_run
 
 pub returns-in-Err-ReadFault-clause-decided : goal.returns-in-Err-ReadFault-clause-decided
-returns-in-Err-ReadFault-clause-decided g c = λ quick input. decided_as_run input
+returns-in-Err-ReadFault-clause-decided g c = λ quick. decided_as_run
 
 pub returns-in-Err-OutOfMemory-clause-decided : goal.returns-in-Err-OutOfMemory-clause-decided
-returns-in-Err-OutOfMemory-clause-decided g c = λ quick input. decided_as_run input
+returns-in-Err-OutOfMemory-clause-decided g c = λ quick. decided_as_run
 
 pub returns-in-Err-WriteFault-clause-decided : goal.returns-in-Err-WriteFault-clause-decided
-returns-in-Err-WriteFault-clause-decided g c = λ quick input. decided_as_run input
+returns-in-Err-WriteFault-clause-decided g c = λ quick. decided_as_run
 
 pub returns-clause-decided : goal.returns-clause-decided
-returns-clause-decided g c = λ quick input. decided_as_run input
+returns-clause-decided g c = λ quick. decided_as_run
 
 pub returns-in-Ok-send-clause-seen : goal.returns-in-Ok-send-clause-seen
 returns-in-Ok-send-clause-seen g c = λ views accepted bytes is.
@@ -148,6 +148,33 @@ returns-in-Ok-send-clause-seen g c = λ views accepted bytes is.
     let left = g.S.Source.left c.args.source.now in
     let told = subst (λ (k : Command). OfInput (Some k) left (λ bs. IsOutput (Some k) bs c.in-Ok.report.0 c.in-Ok.report.1)) same c.in-Ok.ensures.output bytes is in
     sees_kept bytes c.in-Ok.report.1 (subst (λ s. IsViews bytes s c.in-Ok.report.1) accepted told)
+
+-- ---- what holds of each header
+
+pub returns-in_default-clause-one_run : goal.returns-in_default-clause-one_run
+returns-in_default-clause-one_run g c = have_one_run
+
+pub returns-in-Ok-send-clause-one_run : goal.returns-in-Ok-send-clause-one_run
+returns-in-Ok-send-clause-one_run g c = have_one_run
+
+pub returns-in-Err-ReadFault-clause-one_run : goal.returns-in-Err-ReadFault-clause-one_run
+returns-in-Err-ReadFault-clause-one_run g c = have_one_run
+
+pub returns-in-Err-OutOfMemory-clause-one_run : goal.returns-in-Err-OutOfMemory-clause-one_run
+returns-in-Err-OutOfMemory-clause-one_run g c = have_one_run
+
+pub returns-in-Err-WriteFault-clause-one_run : goal.returns-in-Err-WriteFault-clause-one_run
+returns-in-Err-WriteFault-clause-one_run g c = have_one_run
+
+pub returns-clause-one_run : goal.returns-clause-one_run
+returns-clause-one_run g c = have_one_run
+
+-- ---- whether it tells a size
+
+pub returns-in-Ok-send-clause-size : goal.returns-in-Ok-send-clause-size
+returns-in-Ok-send-clause-size g c = λ large.
+    let command : command_of c.args.words.now ≡ Some c.in-Some.command = search rules in
+    subst TellsSize (sym command) (c.in-Ok.ensures.size large)
 
 -- ---- what the counter shows
 

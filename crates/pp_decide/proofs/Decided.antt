@@ -11,7 +11,7 @@ use Rattle.pp_front.specs.Runs.{Lined, Records, bare}
 use Rattle.pp_front.proofs.Reporting.{input_law}
 use Rattle.pp_json.specs.declared.header.Header.{Header}
 use Rattle.pp_model.specs.Config.{Step}
-use Rattle.pp_model.specs.Rules.{Accepted, IsVerdict, Rejected, StartMeets, Verdict}
+use Rattle.pp_model.specs.Rules.{Accepted, Rejected, StartMeets, Verdict}
 use Rattle.pp_model.specs.Serial.{committed_tx}
 use Rattle.pp_model.proofs.Verdict.{accepted_iff, one_verdict}
 use Rattle.pp_object.specs.declared.act.Op.{Op}
@@ -23,10 +23,11 @@ use Rattle.pp_certify.specs.Inputs.{scan}
 use Rattle.pp_certify.specs.Objects.{object_of, setting_of, start_of, translation_of}
 use Rattle.pp_certify.specs.Reports.{RunReport}
 use Rattle.pp_certify.specs.Scans.{InputScan}
-use Rattle.pp_decide.specs.Decisions.{Accepts, AllHold, Decision, FailsOn, Faulty, IsDecision, IsDecisionBehind, IsDecisionOf, IsDecisionTold, IsQuick, Rejects, acceptance, quick_fault, steps_behind}
+use Rattle.pp_decide.specs.Decisions.{Accepts, AllHold, Decision, FailsOn, Faulty, IsDecision, IsDecisionBehind, IsDecisionOf, IsDecisionTold, IsQuick, IsVerdictBehind, Rejects, acceptance, quick_fault, steps_behind}
 use Rattle.pp_decide.specs.Reports.{quick_accepted_text}
 use Rattle.pp_decide.specs.Laws.{DecisionLaw, IsSameDecision, TellsVerdict}
 use Rattle.pp_decide.proofs.Faults.{boosted_fault}
+use Rattle.pp_decide.proofs.Verdicts.{some_verdict}
 
 module _ (header : Lined Header) (rs : Records (RunRecord Op)) where
   abbrev O_law : FailureLaw (object_of header.what) (translation_of header.what)
@@ -53,16 +54,20 @@ module _ (header : Lined Header) (rs : Records (RunRecord Op)) where
 
   -- ---- some
 
-  some_of : ((d : Decision) → IsDecisionOf header rs d → ⊥) → ⊥
-  some_of nowhere =
+  some_decision : ((d : Decision) → IsDecisionOf header rs d → ⊥) → ⊥
+  some_decision nowhere =
       let unmet : StartMeets (object_of header.what) (start_of header.what) → ⊥ = λ m.
       O_law.some (start_of header.what) rs m (λ hold. nowhere (acceptance header.what rs) (inl ((m, hold), refl)))
       (λ r f. nowhere (Rejects r.line) (inr (r.line, inr (r, f, refl), refl))) in
       nowhere (Rejects header.line) (inr (header.line, inl (unmet, refl), refl))
 
+  some_of : ((d : Decision) (v : Verdict) → IsDecisionOf header rs d → IsVerdictBehind header.what rs v → ⊥) → ⊥
+  some_of nowhere =
+      some_decision (λ d is. some_verdict (object_of header.what) (start_of header.what) (bare (steps_behind header.what rs)) (λ v verdict. nowhere d v is verdict))
+
   -- ---- the verdict
 
-  told_failing : (line : ℕ) (d : Decision) (v : Verdict) → FailsOn header rs line → d ≡ Rejects line → IsVerdict (object_of header.what) (start_of header.what) (bare (steps_behind header.what rs)) v → TellsVerdict header rs v d
+  told_failing : (line : ℕ) (d : Decision) (v : Verdict) → FailsOn header rs line → d ≡ Rejects line → IsVerdictBehind header.what rs v → TellsVerdict header rs v d
   told_failing line d v (inl k) is verdict =
       let n = O_law.unbegun (start_of header.what) rs v k.0 verdict in
       subst (λ (w : Verdict). TellsVerdict header rs w d) (sym n.1) (is ∙ ap (λ (m : ℕ). Rejects m) k.1)
@@ -70,7 +75,7 @@ module _ (header : Lined Header) (rs : Records (RunRecord Op)) where
       let n = O_law.verdict (start_of header.what) rs k.0 v k.1 verdict in
       subst (λ (w : Verdict). TellsVerdict header rs w d) (sym n.2) (n.3.0, n.3.1, is ∙ ap (λ (m : ℕ). Rejects m) (k.2 ∙ sym n.3.2))
 
-  told_verdict : (d : Decision) (v : Verdict) → IsDecisionOf header rs d → IsVerdict (object_of header.what) (start_of header.what) (bare (steps_behind header.what rs)) v → TellsVerdict header rs v d
+  told_verdict : (d : Decision) (v : Verdict) → IsDecisionOf header rs d → IsVerdictBehind header.what rs v → TellsVerdict header rs v d
   told_verdict d v (inl a) verdict =
       let accepted = (accepted_iff (object_of header.what) (start_of header.what) (bare (steps_behind header.what rs))).1 a.0 in
       let same : Accepted ≡ v = one_verdict (object_of header.what) (start_of header.what) (bare (steps_behind header.what rs)) Accepted v accepted verdict in
@@ -123,7 +128,13 @@ agrees sc header report d there style (fault, is, told) decision = by fault is t
         same_of header sc.records all.0 report d all.2 (told_verdict header sc.records d all.0 here all.1)
 
     by : (o : Option (ℕ × Cause)) → IsFault setting_of TooManySteps sc o → IsReportBehind setting_of o sc report → IsSameDecision report d
-    by (Some f) k t = subst (λ (w : RunReport). IsSameDecision w d) (sym t) tt
+    by (Some f) (inl k) t =
+        let many : f ≡ (k.0, TooManySteps) = same_Some f (k.0, TooManySteps) k.2 in
+        subst (λ (w : RunReport). IsSameDecision w d) (sym t) (λ other. absurd (other (ap (λ (g : ℕ × Cause). g.1) many)))
+    by (Some f) (inr k) t =
+        let same : quick_fault sc ≡ Some f = boosted_fault sc header there style ∙ sym k.1 in
+        let decided : d ≡ Faulty f.0 f.1 = subst (λ (o : Option (ℕ × Cause)). IsDecisionBehind o sc d) same decision in
+        subst (λ (w : RunReport). IsSameDecision w d) (sym t) (λ other. decided)
     by None (inl k) t = absurd (let e : None ≡ Some (k.0, TooManySteps) = k.2 in cc)
     by None (inr k) t = without (sym k.1) t
 
