@@ -9,8 +9,8 @@ What is given back is a write, or an insertion; behind it stand:
 - failed compare-and-swaps: at its own address, so it changes places with none.
 - writes at many addresses: behind one failed compare-and-swap at its own, the only one that it does not change places
   with.
-- insertions: of greater numbers into a priority queue, behind one that was taken, the only one that it does not change
-  places with.
+- insertions: of greater numbers into a priority queue, behind an insertion and a take of its own number; the take is the
+  only one that it does not change places with.
 
 Where it changes places with all, it alone is taken back; else all behind it are too, and are applied again without it.
 Each run is measured with half as many given back, too.
