@@ -3,9 +3,11 @@
 
 mod contexts;
 mod count;
+mod gap;
 mod movers;
 mod op;
 
 pub use count::Count;
+pub use gap::CounterGap;
 pub use movers::{gate, gate_form, number};
 pub use op::CounterOp;

@@ -18,6 +18,7 @@ pub enum CounterOp {
 
 impl CounterOp {
     /// The number that it adds.
+    #[inline(always)]
     pub fn shift(&self) -> i64
         ensures { result ≡ shift_of self.now }
     {

@@ -3,3 +3,4 @@ pub mod Movers
 pub mod Contexts
 pub mod KeyMap
 pub mod laws
+pub mod Gaps

@@ -19,7 +19,7 @@ pub struct KeyMap;
 
 /// Makes this the value at a key, or leaves the key without one. The only error is that memory was
 /// refused.
-fn set_value(values: &mut Cells, key: i64, value: Option<i64>) -> Result<(), OutOfMemory>
+pub fn set_value(values: &mut Cells, key: i64, value: Option<i64>) -> Result<(), OutOfMemory>
     ensures ok { OnOk result (values.new ≡ with_value values.old key value) }
     ensures err { OnErr result (values.new ≡ values.old) }
 {

@@ -1,6 +1,7 @@
 //! The operations of a map.
 ghost use Rattle.std.specs.Prelude.{◌≡◌};
-ghost use Rattle.pp_map.specs.Operations.{key_of, found_by, call_of, recorded_by, is_ranged};
+ghost use Rattle.pp_map.specs.Operations.{key_of, found_by, left_by, call_of, recorded_by};
+ghost use Rattle.pp_map.specs.Operations.{is_ranged};
 
 use pp_core::{Answer, Call, Method};
 use pp_spec::{answer_of, in_range, is_ranged_found};
@@ -28,7 +29,7 @@ pub enum MapOp {
 
 impl MapOp {
     /// Its key.
-    #[inline]
+    #[inline(always)]
     pub fn key(&self) -> i64
         ensures { result ≡ key_of self.now }
     {
@@ -44,6 +45,7 @@ impl MapOp {
     }
 
     /// The value that it found at its key, by its recorded result.
+    #[inline(always)]
     pub fn found(&self) -> Option<i64>
         ensures { result ≡ found_by self.now }
     {
@@ -55,6 +57,22 @@ impl MapOp {
             } => was,
             MapOp::Get { key: _, found } => found,
             MapOp::Remove { key: _, was } => was,
+        }
+    }
+
+    /// The value that it leaves there.
+    #[inline(always)]
+    pub fn left(&self) -> Option<i64>
+        ensures { result ≡ left_by self.now }
+    {
+        match *self {
+            MapOp::Put {
+                key: _,
+                value,
+                was: _,
+            } => Some(value),
+            MapOp::Get { key: _, found } => found,
+            MapOp::Remove { key: _, was: _ } => None,
         }
     }
 

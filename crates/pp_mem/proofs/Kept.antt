@@ -19,7 +19,7 @@ use Rattle.pp_mem.specs.laws.Acting.{memory_keyed}
 use Rattle.pp_mem.specs.laws.Lawful.{may_swap_exact}
 
 -- It depends on the number at its address alone.
-kept_there : (m n : FinMap int_cmp ℤ) (a : MemOp)
+pub kept_there : (m n : FinMap int_cmp ℤ) (a : MemOp)
     → value_at m (address_of a) ≡ value_at n (address_of a) → kept_by m a ≡ kept_by n a
 kept_there m n (Read a v) h = refl
 kept_there m n (Write a v) h = ap (Covered a) h

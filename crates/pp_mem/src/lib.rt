@@ -2,12 +2,14 @@
 #![tactic(auto)]
 
 mod contexts;
+mod gap;
 mod mem;
 mod memory;
 mod movers;
 mod op;
 mod undo;
 
+pub use gap::MemGap;
 pub use mem::Mem;
 pub use memory::Memory;
 pub use movers::{gate, gate_form, number};

@@ -30,7 +30,7 @@ pub enum MemOp {
 
 impl MemOp {
     /// Its address.
-    #[inline]
+    #[inline(always)]
     pub fn address(&self) -> i64
         ensures { result ≡ address_of self.now }
     {

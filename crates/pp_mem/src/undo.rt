@@ -13,7 +13,7 @@ pub enum Undo {
 
 impl Undo {
     /// The number that a write covered, or 0.
-    #[inline]
+    #[inline(always)]
     pub fn number(&self) -> i64
         ensures { result ≡ number_of self.now }
     {

@@ -4,18 +4,20 @@ use Rattle.std.proofs.Common.{int_eq, List, [], ◌∷◌, ◌++◌, length, Opt
 use Rattle.std.proofs.Common.{◌∙◌, ap, subst, append_assoc, arith}
 use Rattle.std.proofs.lemmas.Int.{ints}
 use Rattle.std.proofs.lemmas.Map.{lookup-none}
-use Rattle.std.proofs.lemmas.Map.Entries.{none_below_head}
+use Rattle.std.proofs.lemmas.Map.Entries.{none_below_head, none_past_head}
+use Rattle.std.proofs.lemmas.Map.Keys.{IsDistinct-from_sorted}
 use Rattle.std.specs.declared.cmp.Ordering.{Ordering}
 use Rattle.std.specs.declared.cmp.Ordering.TheVariants.{Less, Equal, Greater}
 use Rattle.std.specs.Ordering.{int_cmp, is_eq, match_ordering, MatchOrdering}
-use Rattle.std.specs.Cmp.{int_cmp_total, int_ranks}
+use Rattle.std.specs.Cmp.{eq_by_cmp_equiv, int_cmp_total, int_ranks}
 use Rattle.std.specs.List.{slice_get}
 use Rattle.std.specs.List.Sorted.{IsStrictlySortedBy}
 use Rattle.std.specs.BTreeMap.{insert_entry, is_at}
 use Rattle.std.specs.Map.{keys_of, lookup, remove_entry}
-use Rattle.pp_prio.specs.Values.{least_of, with_one, without_one}
+use Rattle.pp_prio.specs.Values.{copies_of, least_of, with_one, without_one}
 use Rattle.pp_prio.specs.Copies.{copies, spread}
 use Rattle.pp_prio.specs.laws.Values.{put_before, put_behind, taken_here, taken_past}
+use Rattle.pp_prio.specs.laws.Values.{copies_here, copies_past}
 
 -- How many further copies there are with one more.
 abbrev pub one_more : Option ℕ → ℕ
@@ -225,6 +227,60 @@ pub fewer_seen : (es fs : List (ℤ × ℕ)) (seen : List ℤ) (v j : ℤ) (n : 
 fewer_seen es fs seen v j n e i s h g =
     ap spread g ∙ fewer j es n s h ∙ ap (λ (x : ℤ). without_one x (spread es)) i
     ∙ ap (without_one v) e
+
+-- How many of the values are one of them: its further copies, and the first.
+counted_past : (v x : ℤ) (n : ℕ) (values : List ℤ) → int_eq v x ≡ false
+    → copies_of v (copies x n values) ≡ copies_of v values
+counted_past v x zero values h = refl
+counted_past v x (suc n) values h = copies_past v x (copies x n values) h
+    ∙ counted_past v x n values h
+
+counted_here : (v x : ℤ) (n : ℕ) (values : List ℤ) → int_eq v x ≡ true
+    → copies_of v (copies x n values) ≡ n + copies_of v values
+counted_here v x zero values h = omega arith
+counted_here v x (suc n) values h =
+    let here = copies_here v x (copies x n values) h in
+    let k = counted_here v x n values h in omega arith
+
+-- The value of the first entry stands in no later one.
+none_later : (v : ℤ) (e : ℤ × ℕ) (es : List (ℤ × ℕ)) → int_cmp v e.0 ≡ Equal
+    → IsStrictlySortedBy int_cmp (keys_of (e ∷ es)) → lookup (is_at (int_cmp v)) es ≡ None
+none_later v e es i s = lookup-none (is_at (int_cmp v)) es
+    (none_past_head (eq_by_cmp_equiv int_cmp_total) v e es
+    (IsDistinct-from_sorted int_cmp (keys_of (e ∷ es)) s) (ap is_eq i))
+
+counted_by : (v : ℤ) (e : ℤ × ℕ) (es : List (ℤ × ℕ)) (o : Ordering) → int_cmp v e.0 ≡ o
+    → IsStrictlySortedBy int_cmp (keys_of (e ∷ es))
+    → copies_of v (spread es) ≡ one_more (lookup (is_at (int_cmp v)) es)
+    → copies_of v (spread (e ∷ es))
+    ≡ one_more (cond (is_eq o) (Some e.1) (lookup (is_at (int_cmp v)) es))
+counted_by v e es Less i s k =
+    let other = unlike v e.0 Less i refl in
+    copies_past v e.0 (copies e.0 e.1 (spread es)) other
+    ∙ counted_past v e.0 e.1 (spread es) other ∙ k
+counted_by v e es Equal i s k =
+    let same = same_test v e.0 (equal v e.0 i) in
+    let here = copies_here v e.0 (copies e.0 e.1 (spread es)) same in
+    let further = counted_here v e.0 e.1 (spread es) same in
+    let none = k ∙ ap one_more (none_later v e es i s) in
+    omega arith
+counted_by v e es Greater i s k =
+    let other = unlike v e.0 Greater i refl in
+    copies_past v e.0 (copies e.0 e.1 (spread es)) other
+    ∙ counted_past v e.0 e.1 (spread es) other ∙ k
+
+counted : (v : ℤ) (es : List (ℤ × ℕ)) → IsStrictlySortedBy int_cmp (keys_of es)
+    → copies_of v (spread es) ≡ one_more (lookup (is_at (int_cmp v)) es)
+unfolding IsStrictlySortedBy
+counted v [] s = refl
+counted v (e ∷ es) s = counted_by v e es (int_cmp v e.0) refl s (counted v es s.1)
+
+pub counted_seen : (es : List (ℤ × ℕ)) (seen : List ℤ) (v j : ℤ) (f : Option ℕ)
+    → spread es ≡ seen → j ≡ v → IsStrictlySortedBy int_cmp (keys_of es)
+    → lookup (is_at (int_cmp j)) es ≡ f → copies_of v seen ≡ one_more f
+counted_seen es seen v j f e i s h =
+    ap (copies_of v) (sym e) ∙ ap (λ (x : ℤ). copies_of x (spread es)) (sym i) ∙ counted j es s
+    ∙ ap one_more h
 
 -- Copies that are added one after another, behind others.
 one_copy_more : (x : ℤ) (n : ℕ) → copies x n [] ++ x ∷ [] ≡ copies x (suc n) []

@@ -4,4 +4,5 @@ pub mod Movers
 pub mod Contexts
 pub mod Prios
 pub mod Copies
+pub mod Gaps
 pub mod laws

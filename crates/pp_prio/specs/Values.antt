@@ -1,5 +1,6 @@
 -- Meaning: lists of numbers in ascending order, repeats kept.
-use Rattle.std.specs.Prelude.{ℤ, int_le, IsTrue, if◌then◌else◌, List, [], ◌∷◌, Option, Some, None}
+use Rattle.std.specs.Prelude.{ℕ, suc, ℤ, int_le, IsTrue, if◌then◌else◌, List, [], ◌∷◌}
+use Rattle.std.specs.Prelude.{Option, Some, None}
 use Rattle.std.specs.Ordering.{int_eq}
 
 -- the least value, which stands first, if there is one
@@ -21,6 +22,11 @@ with_one v (x ∷ values) = if int_le v x then v ∷ x ∷ values else x ∷ wit
 abbrev pub without_one : ℤ → List ℤ → List ℤ
 without_one v [] = []
 without_one v (x ∷ values) = if int_eq v x then values else x ∷ without_one v values
+
+-- how many of the values are this one
+abbrev pub copies_of : ℤ → List ℤ → ℕ
+copies_of v [] = 0
+copies_of v (x ∷ values) = if int_eq v x then suc (copies_of v values) else copies_of v values
 
 -- no value is less than this one, by the first of them
 abbrev pub BeginsAt : ℤ → List ℤ → Type 0

@@ -1,6 +1,7 @@
 //! Numbers in ascending order, repeats kept.
-ghost use Rattle.std.specs.Prelude.{◌≡◌, ◌<◌, ◌^◌, [], ◌∷◌, ◌++◌, length, IfOk, OnOk, OnErr};
-ghost use Rattle.pp_prio.specs.Values.{least_of, without_least, with_one, without_one};
+ghost use Rattle.std.specs.Prelude.{◌≡◌, ◌<◌, ◌≤◌, ◌^◌, [], ◌∷◌, ◌++◌, length, IfOk, OnOk, OnErr};
+ghost use Rattle.std.specs.Prelude.{IsTrue, ◌↔◌};
+ghost use Rattle.pp_prio.specs.Values.{copies_of, least_of, without_least, with_one, without_one};
 ghost use Rattle.pp_prio.specs.Copies.{copies};
 
 use pp_core::{OutOfMemory, Sequence};
@@ -42,6 +43,19 @@ impl Bag {
         match self.further.first_key_value() {
             Some((value, _)) => Some(*value),
             None => None,
+        }
+    }
+
+    /// Whether at least so many of the values are this one.
+    #[inline(always)]
+    pub fn has_copies(&self, value: i64, count: u64) -> bool
+        ensures { IsTrue result ↔ (count ≤ copies_of value self.now) }
+    {
+        // It stands here for its clause that each value is there once.
+        let _ordered = self.further.len();
+        match self.further.get(&value).copied() {
+            Some(further) => count == 0 || count - 1 <= further,
+            None => count == 0,
         }
     }
 

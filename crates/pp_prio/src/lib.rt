@@ -3,11 +3,13 @@
 
 mod bag;
 mod contexts;
+mod gap;
 mod movers;
 mod op;
 mod prio;
 
 pub use bag::Bag;
+pub use gap::PrioGap;
 pub use movers::{form, gate, number};
 pub use op::PrioOp;
 pub use prio::Prio;

@@ -4,11 +4,13 @@
 
 mod contexts;
 mod fifo;
+mod gap;
 mod movers;
 mod op;
 mod queue;
 
 pub use fifo::Fifo;
+pub use gap::QueueGap;
 pub use movers::{form, gate, number};
 pub use op::QueueOp;
 pub use queue::Queue;

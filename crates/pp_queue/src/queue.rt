@@ -1,5 +1,6 @@
 //! Lists of numbers with a front and a back.
-ghost use Rattle.std.specs.Prelude.{◌≡◌, List, [], ◌∷◌, ◌++◌, length, slice_get, OnOk, OnErr};
+ghost use Rattle.std.specs.Prelude.{◌≡◌, ◌<◌, List, [], ◌∷◌, ◌++◌, length, slice_get, OnOk, OnErr};
+ghost use Rattle.std.specs.List.{remove};
 ghost use Rattle.pp_queue.specs.Operations.{front_of, behind_front, without_last};
 
 use pp_core::OutOfMemory;
@@ -32,6 +33,7 @@ impl Queue {
     }
 
     /// How many items there are.
+    #[inline(always)]
     pub fn len(&self) -> usize
         ensures { result ≡ length self.now }
     {
@@ -82,5 +84,13 @@ impl Queue {
         ensures { self.new ≡ without_last self.old }
     {
         let _back = self.items.pop_back();
+    }
+
+    /// Takes the item at a place away, from 0 at the front. The items on its shorter side move.
+    pub fn remove_at(&mut self, i: usize)
+        requires { i < length self.old }
+        ensures { self.new ≡ remove self.old i }
+    {
+        let _item = self.items.remove(i);
     }
 }

@@ -4,3 +4,4 @@ pub mod Movers
 pub mod Contexts
 pub mod Sets
 pub mod laws
+pub mod Gaps

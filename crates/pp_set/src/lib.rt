@@ -2,11 +2,13 @@
 #![tactic(auto)]
 
 mod contexts;
+mod gap;
 mod members;
 mod movers;
 mod op;
 mod set;
 
+pub use gap::SetGap;
 pub use members::Members;
 pub use movers::{form, gate};
 pub use op::SetOp;

@@ -1,6 +1,7 @@
 //! The operations of a set.
 ghost use Rattle.std.specs.Prelude.{◌≡◌};
-ghost use Rattle.pp_set.specs.Operations.{key_of, bit_before, call_of, recorded_by, is_ranged};
+ghost use Rattle.pp_set.specs.Operations.{key_of, bit_before, bit_after, call_of, recorded_by};
+ghost use Rattle.pp_set.specs.Operations.{is_ranged};
 
 use pp_core::{Answer, Call, Method};
 use pp_spec::in_range;
@@ -18,7 +19,7 @@ pub enum SetOp {
 
 impl SetOp {
     /// Its key.
-    #[inline]
+    #[inline(always)]
     pub fn key(&self) -> i64
         ensures { result ≡ key_of self.now }
     {
@@ -30,12 +31,25 @@ impl SetOp {
     }
 
     /// Whether the key was in before it, by its result.
+    #[inline(always)]
     pub fn was_present(&self) -> bool
         ensures { result ≡ bit_before self.now }
     {
         match *self {
             SetOp::Add { key: _, changed } => !changed,
             SetOp::Remove { key: _, changed } => changed,
+            SetOp::Contains { key: _, present } => present,
+        }
+    }
+
+    /// Whether the key is in after it.
+    #[inline(always)]
+    pub fn is_present(&self) -> bool
+        ensures { result ≡ bit_after self.now }
+    {
+        match *self {
+            SetOp::Add { key: _, changed: _ } => true,
+            SetOp::Remove { key: _, changed: _ } => false,
             SetOp::Contains { key: _, present } => present,
         }
     }

@@ -2,10 +2,12 @@
 #![tactic(auto)]
 
 mod found;
+mod gapped;
 mod range;
 mod spec;
 
 pub use found::{answer_of, is_ranged_found};
+pub use gapped::{Crossed, Gapped, Left};
 pub use range::{GREATEST_NUMBER, in_range};
 pub use spec::{
     Applied, Context, Placed, Spec, commuting_operations_swap, futures_tell_states,

@@ -5,6 +5,7 @@ ghost use Rattle.pp_spec.specs.Object.{Object, Swaps, SwapsNowhere, KeptAs, MayK
 ghost use Rattle.pp_spec.specs.Object.{Commutes, IsReached, IsLawful, IsPlaced, UndoneBehindOthers, rules_of};
 ghost use Rattle.pp_spec.specs.Calls.{Applies, WasApplied, lists_of};
 
+use crate::gapped::Gapped;
 use pp_core::{Answer, Call, Ops, OutOfMemory, Ticks};
 use std::alloc::Global;
 use std::sync::ledger::Ledger;
@@ -122,7 +123,7 @@ pub trait Spec: Drop {
 }
 
 /// A kind of several objects, of which each operation has one.
-pub trait Placed: Spec {
+pub trait Placed: Gapped {
     /// The place of an operation's object.
     ghost place_of: { Self.Op → ℕ };
 

@@ -2,11 +2,13 @@
 #![tactic(auto)]
 
 mod contexts;
+mod gap;
 mod movers;
 mod op;
 mod pile;
 mod stack;
 
+pub use gap::StackGap;
 pub use movers::{form, gate, number};
 pub use op::StackOp;
 pub use pile::Pile;

@@ -1,5 +1,7 @@
 //! Lists of numbers with a top.
-ghost use Rattle.std.specs.Prelude.{◌≡◌, List, [], ◌∷◌, ◌++◌, length, slice_get, OnOk, OnErr};
+ghost use Rattle.std.specs.Prelude.{◌≡◌, ◌<◌, ◌≤◌, List, [], ◌∷◌, ◌++◌, length, slice_get};
+ghost use Rattle.std.specs.Prelude.{OnOk, OnErr};
+ghost use Rattle.std.specs.List.{insert, remove};
 ghost use Rattle.pp_stack.specs.Operations.{top_of, without_top};
 
 use pp_core::OutOfMemory;
@@ -31,6 +33,7 @@ impl Pile {
     }
 
     /// How many items there are.
+    #[inline(always)]
     pub fn len(&self) -> usize
         ensures { result ≡ length self.now }
     {
@@ -38,6 +41,7 @@ impl Pile {
     }
 
     /// The item at a place, from 0 at the bottom, if there is one.
+    #[inline(always)]
     pub fn get(&self, i: usize) -> Option<i64>
         ensures { result ≡ slice_get self.now i }
     {
@@ -65,5 +69,24 @@ impl Pile {
         ensures { self.new ≡ without_top self.old }
     {
         let _top = self.items.pop();
+    }
+
+    /// Takes the item at a place away, from 0 at the bottom.
+    pub fn remove_at(&mut self, i: usize)
+        requires { i < length self.old }
+        ensures { self.new ≡ remove self.old i }
+    {
+        let _item = self.items.remove(i);
+    }
+
+    /// Puts an item in at a place, from 0 at the bottom, below those that stood from there on. The
+    /// only error is that memory was refused.
+    pub fn insert_at(&mut self, i: usize, value: i64) -> Result<(), OutOfMemory>
+        requires { i ≤ length self.old }
+        ensures ok { OnOk result (self.new ≡ insert self.old i value) }
+        ensures err { OnErr result (self.new ≡ self.old) }
+    {
+        self.items.insert(i, value)?;
+        Ok(())
     }
 }

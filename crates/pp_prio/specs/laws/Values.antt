@@ -1,9 +1,9 @@
 -- Proof machinery: ascending lists with one value more or less.
 use Rattle.std.proofs.Common.{◌≡◌, ◌≢◌, ℤ, Bool, true, false, int_le, int_eq, IsTrue, if◌then◌else◌}
-use Rattle.std.proofs.Common.{List, [], ◌∷◌, Some, None, refl, sym, ◌∙◌, ap, arith}
+use Rattle.std.proofs.Common.{suc, List, [], ◌∷◌, Some, None, refl, sym, ◌∙◌, ap, arith}
 use Rattle.std.proofs.lemmas.Int.{ints}
-use Rattle.pp_prio.specs.Values.{least_of, without_least, with_one, without_one, BeginsAt}
-use Rattle.pp_prio.specs.Values.{IsAscending}
+use Rattle.pp_prio.specs.Values.{copies_of, least_of, without_least, with_one, without_one}
+use Rattle.pp_prio.specs.Values.{BeginsAt, IsAscending}
 
 -- A value goes before the first that is not less, and past one that is less.
 pub put_before : (v x : ℤ) (values : List ℤ) → int_le v x ≡ true
@@ -24,6 +24,17 @@ taken_here v x values h = ap (λ (b : Bool). if b then values else x ∷ without
 pub taken_past : (v x : ℤ) (values : List ℤ) → int_eq v x ≡ false
     → without_one v (x ∷ values) ≡ x ∷ without_one v values
 taken_past v x values h = ap (λ (b : Bool). if b then values else x ∷ without_one v values) h
+
+-- One more of a value where it stands, and none where another stands.
+pub copies_here : (v x : ℤ) (values : List ℤ) → int_eq v x ≡ true
+    → copies_of v (x ∷ values) ≡ suc (copies_of v values)
+copies_here v x values h =
+    ap (λ (b : Bool). if b then suc (copies_of v values) else copies_of v values) h
+
+pub copies_past : (v x : ℤ) (values : List ℤ) → int_eq v x ≡ false
+    → copies_of v (x ∷ values) ≡ copies_of v values
+copies_past v x values h =
+    ap (λ (b : Bool). if b then suc (copies_of v values) else copies_of v values) h
 
 -- Order of two numbers.
 same_test : (v : ℤ) → int_eq v v ≡ true
