@@ -6,3 +6,5 @@ pub mod Made
 pub mod Named
 pub mod Standing
 pub mod Gates
+pub mod Gaps
+pub mod GapsAmong
