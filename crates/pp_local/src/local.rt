@@ -214,11 +214,11 @@ impl<S: Parted> Local<S> {
     }
 
     /// Takes out the i-th entry, unless the list without it is not allowed. The ticks are those of
-    /// its place alone: where each operation there behind the entry lets it pass, it alone is taken
-    /// back; else, with k operations there from the entry on, itself counted, these are taken back,
-    /// and the k - 1 others applied again; where one of them differs, what was applied is taken back
-    /// too, and all k are applied as they were. The only error is that memory was refused, and the
-    /// log is then lost.
+    /// its place alone: where the entry is the last one there, it is taken back; where the gap that
+    /// it leaves is known behind the others there and borne, one tick at most; else, with k
+    /// operations there from the entry on, itself counted, these are taken back, and the k - 1 others
+    /// applied again; where one of them differs, what was applied is taken back too, and all k are
+    /// applied as they were. The only error is that memory was refused, and the log is then lost.
     pub fn remove<L: Ledger>(
         self,
         i: usize,

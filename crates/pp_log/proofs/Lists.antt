@@ -183,3 +183,18 @@ none_len p x h = elim (cases_lt (position_or_len p x) (length x)) [
       let both : Some (position_or_len p x) ≡ None = sym there ∙ h in cc
   | inr l ↦ l
 ]
+
+-- the one behind the first ones is set
+pub set_behind : {A : Type 0} (x y : List A) (i n : ℕ) (a : A) → n ≡ length x + i → slice_set (x ++ y) n a ≡ x ++ slice_set y i a
+set_behind {A} [] y i n a e = let same : n ≡ i = omega arith in ap (λ (k : ℕ). slice_set y k a) same
+set_behind (b ∷ x) y i zero a e = absurd (omega arith)
+set_behind {A} (b ∷ x) y i (suc n) a e = ap (λ (z : List A). b ∷ z) (set_behind x y i n a (omega arith))
+
+pub set_mid : {A : Type 0} (x y : List A) (a b : A) → slice_set (x ++ a ∷ y) (length x) b ≡ x ++ b ∷ y
+set_mid [] y a b = refl
+set_mid {A} (c ∷ x) y a b = ap (λ (z : List A). c ∷ z) (set_mid x y a b)
+
+-- a list of one item has none behind it
+pub only_one : {X : Type 0} (x : X) (l : List X) → length (x ∷ l) ≡ 1 → l ≡ []
+only_one x [] h = refl
+only_one x (z ∷ l) h = absurd (omega arith)

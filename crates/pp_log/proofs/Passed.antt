@@ -1,5 +1,5 @@
 -- An item that lets those behind it pass, carried behind them and taken back there.
-use Rattle.std.proofs.Common.{◌≡◌, ℕ, ◌<◌, ◌+◌, ◌-◌, map, inl, inr, Bool, true, false, IsTrue}
+use Rattle.std.proofs.Common.{◌≡◌, ℕ, ◌<◌, ◌+◌, Bool, true, false, IsTrue}
 use Rattle.std.proofs.Common.{List, [], ◌∷◌, ◌++◌, length, take, drop, get_or, refl, sym, ◌∙◌, ap, subst}
 use Rattle.std.proofs.Common.{arith, append_assoc, append-nil, length-append}
 use Rattle.std.specs.List.{remove, swap}
@@ -17,12 +17,11 @@ use Rattle.pp_spec.proofs.Lists.{allowed-append, allowed-first, allowed-second, 
 use Rattle.pp_spec.proofs.Passing.{IsPair, left_by, pair, passed_last, turned}
 use Rattle.pp_spec.proofs.Places.{reached_is_state}
 use Rattle.pp_log.specs.Carries.{CarriesOut, IsCarried, IsOnWay}
-use Rattle.pp_log.specs.Parts.{AllAt, there, with_first}
+use Rattle.pp_log.specs.Parts.{AllAt}
 use Rattle.pp_log.specs.Runs.{IsRun, kept_along}
 use Rattle.pp_log.specs.TakesOut.{Passes}
 use Rattle.pp_log.proofs.Edits.{ranged-remove, run_without}
-use Rattle.pp_log.proofs.Lists.{all_behind, at_first, behind_first, cut_there, drop_there, get_second, remove_mid, swap_mid}
-use Rattle.pp_log.proofs.Parted.{first_of, is_at, there_at, there_off}
+use Rattle.pp_log.proofs.Lists.{cut_there, get_second, remove_mid, swap_mid}
 use Rattle.pp_log.proofs.Runs.{kept-append, length-kept, length-ops, log-append, ranged-get}
 
 -- Operations from the state b of a log on.
@@ -133,36 +132,6 @@ module _ {Shape State Op Undo : Type 0} (o : Object Shape State Op Undo) (laws :
               ∙ remove_mid front rest (o.upkeep.kept s a) ∙ ap (λ (l : List Undo). front ++ l) both.0 ∙ sym (kept-append o b x z);
           own = ap (λ (l : List Undo). get_or l n d) cut ∙ get_or_at front (o.upkeep.kept s a) rest d n size ∙ sym both.1;
         }
-
--- one more entry passes, or is of another place
-pub one_passes : {Shape State Op Undo E : Type 0} (o : Object Shape State Op Undo) (place : Op → ℕ) (f : E → Item Op) (a : Op) (p : ℕ) (x : List E) (k : ℕ) (d : E) → k < length x → d ≡ get_or x k d → (place (f d).op ≡ p → Swaps o a (f d).op) →
-    LetsPass o a (ops (there place p (map f (drop (k + 1) x)))) → LetsPass o a (ops (there place p (map f (drop k x))))
-one_passes {Shape} {State} {Op} {Undo} {E} o place f a p x k d lt is here rest =
-    let behind = map f (drop (k + 1) x) in
-    subst (λ (l : List E). LetsPass o a (ops (there place p (map f l)))) (sym (drop_there x k d lt is)) (elim (is_at place (f d) p) [
-      | inl at ↦ subst (λ (l : List (Item Op)). LetsPass o a (ops l)) (sym (there_at place p (f d) behind at)) (here at, rest)
-      | inr off ↦ subst (λ (l : List (Item Op)). LetsPass o a (ops l)) (sym (there_off place p (f d) behind off)) rest
-    ])
-
--- the first of some items, with any items before them
-pub first_passes : {Shape State Op Undo : Type 0} (o : Object Shape State Op Undo) (before items v : List (Item Op)) (i : ℕ) (e : Item Op) → length before ≡ i → items ≡ e ∷ v → LetsPass o e.op (ops v) → Passes o (before ++ items) i e.op v
-first_passes {Shape} {State} {Op} {Undo} o before items v i e size is h =
-    subst (λ (j : ℕ). Passes o (before ++ items) j e.op v) size (subst (λ (z : List (Item Op)). Passes o (before ++ z) (length before) e.op v) (sym is) (record {
-      item = e;
-      is = at_first before v e;
-      op = refl;
-      others = behind_first before v e;
-      behind = h;
-    }))
-
--- of some entries, the first one
-pub first_can_pass : {Shape State Op Undo E : Type 0} (o : Object Shape State Op Undo) (place : Op → ℕ) (f : E → Item Op) (y : List E) (a : E) (e : Item Op) (before : List (Item Op)) (i : ℕ) → 0 < length y → a ≡ get_or y 0 a → e ≡ f a → length before ≡ i →
-    LetsPass o e.op (ops (there place (place e.op) (map f (take (length y - 1) (drop 1 y))))) → Passes o (before ++ with_first place f y) i e.op (there place (place e.op) (map f (take (length y - 1) (drop 1 y))))
-first_can_pass {Shape} {State} {Op} {Undo} {E} o place f y a e before i h at is size pass =
-    let first = subst (λ (d : Item Op). with_first place f y ≡ d ∷ there place (place d.op) (map f (drop 1 y))) (sym is) (first_of place f y a h at) in
-    subst (λ (z : List E). Passes o (before ++ with_first place f y) i e.op (there place (place e.op) (map f z))) (sym (all_behind y 1))
-    (first_passes o before (with_first place f y) (there place (place e.op) (map f (drop 1 y))) i e size first
-    (subst (λ (z : List E). LetsPass o e.op (ops (there place (place e.op) (map f z)))) (all_behind y 1) pass))
 
 -- All items of the place were applied, of which the i-th lets those behind it pass.
 module _ {Shape State Op Undo : Type 0} (o : Object Shape State Op Undo) (laws : IsLawful o) (b s : State) (items : List (Item Op)) (us : List Undo) (h : IsRun o b items us s) (all : length us ≡ length items)

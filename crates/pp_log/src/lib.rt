@@ -5,6 +5,7 @@
 mod batch;
 mod carry;
 mod entries;
+mod gap;
 mod id_table;
 mod index;
 mod leave;

@@ -183,9 +183,10 @@ impl<S: Placed, T: Side<S::Op>> Log<S, T> {
         self.entries.set(i, entry);
     }
 
-    /// Takes out the i-th entry. Where it lets the later operations of its place pass, it alone is
-    /// taken back; else it is with them, and they are then applied again. Where one of them differs,
-    /// all is put back. The only error is that memory was refused, and the log is then lost.
+    /// Takes out the i-th entry. Where it is the last of its place, it alone is taken back; where the
+    /// gap that it leaves is known behind the later ones and borne, at most that gap is closed; else
+    /// they are taken back with it, and applied again. Where one of them differs, all is put back.
+    /// The only error is that memory was refused, and the log is then lost.
     pub fn remove<L: Ledger>(
         self,
         i: usize,

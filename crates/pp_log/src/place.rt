@@ -1,5 +1,5 @@
 //! What a log keeps of one place, and what a removal answers.
-ghost use Rattle.std.specs.Prelude.{◌≡◌, List, [], ◌∷◌, ◌++◌};
+ghost use Rattle.std.specs.Prelude.{◌≡◌, ◌<◌, List, [], ◌∷◌, ◌++◌, length, remove};
 ghost use Rattle.pp_log.specs.Room.{HasRoom};
 
 use pp_core::Answer;
@@ -35,5 +35,16 @@ impl<U: Drop> Place<U> {
         let Ok(()) = self.undos.push(undo) else {
             unreachable!()
         };
+    }
+
+    /// Takes out the id that stands at a position, and what stands there beside it.
+    pub fn forget(&mut self, from: usize)
+        requires id { from < length self.old.ids.items }
+        requires undo { from < length self.old.undos.items }
+        ensures ids { self.new.ids.items ≡ remove self.old.ids.items from }
+        ensures undos { self.new.undos.items ≡ remove self.old.undos.items from }
+    {
+        let _ = self.ids.remove(from);
+        let _ = self.undos.remove(from);
     }
 }

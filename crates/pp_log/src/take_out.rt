@@ -1,14 +1,14 @@
 //! Taking an entry out of its place.
 ghost use Rattle.std.specs.Prelude.{◌≡◌, ◌<◌, ◌≤◌, ◌+◌, ◌*◌, IfOk, OnOk, IfSome, IfNone};
-ghost use Rattle.std.specs.Prelude.{IsTrue, Some, length, map, slice_get};
+ghost use Rattle.std.specs.Prelude.{IsTrue, Some, false, length, slice_get};
 ghost use Rattle.pp_model.specs.Lists.{In};
-ghost use Rattle.pp_model.specs.Object.{ops};
-ghost use Rattle.pp_spec.specs.Object.{LetsPass, Swaps};
+ghost use Rattle.pp_log.specs.declared.place.Removed.TheVariants.{Done};
 ghost use Rattle.pp_log.specs.Logs.{removal_ticks};
-ghost use Rattle.pp_log.specs.Parts.{there, with_first};
+ghost use Rattle.pp_log.specs.Parts.{with_first};
 ghost use Rattle.pp_log.specs.TakesOut.{CanPassOut, HasWhole, PassesOutOf, TakesOutOf};
 
 use crate::carry::carry_out;
+use crate::gap::{Crossing, gap_behind};
 use crate::index::Index;
 use crate::place::{Place, Removed};
 use crate::run::{rewind, unwind};
@@ -62,28 +62,6 @@ pub fn position_in_place(ids: &[u32], index: &Index, i: usize, id: u32) -> Optio
     last_with(ids, id)
 }
 
-/// Whether an operation lets another one pass, of which nothing is asked where it has another place.
-/// False says nothing.
-fn lets_one_pass<S: Placed>(op: &S::Op, other: &S::Op) -> bool
-    ensures { IsTrue result → S.place_of other.now ≡ S.place_of op.now
-        → Swaps S.object op.now other.now }
-{
-    S::place(other) != S::place(op) || S::swaps(op, other)
-}
-
-/// Whether an operation lets those of its place among these entries pass. False says nothing.
-fn lets_pass<S: Placed, T: Side<S::Op>>(op: &S::Op, entries: &[T::Entry]) -> bool
-    ensures { IsTrue result → LetsPass S.object op.now
-        (ops (there S.place_of (S.place_of op.now) (map T.item_of entries.now))) }
-{
-    for k in (0..entries.len()).rev() {
-        if !lets_one_pass::<S>(op, T::op(&entries[k])) {
-            return false;
-        }
-    }
-    true
-}
-
 /// Takes the entry with this operation that stands at `from` out of its place, as if it were the
 /// last one there, where it lets those behind it pass.
 pub fn pass_out<S: Placed, L: Ledger>(
@@ -104,9 +82,54 @@ pub fn pass_out<S: Placed, L: Ledger>(
     Ok(())
 }
 
+/// Takes the first of these entries, which stands at `from` in its place with others behind it,
+/// out of that place, where the gap that it leaves is known behind these, and borne. Else all
+/// stays, and it answers false. Only closing a gap ticks.
+fn leave_by_gap<S: Placed, T: Side<S::Op>, L: Ledger>(
+    place: &mut Place<S::Undo>,
+    from: usize,
+    entries: &[T::Entry],
+    state: &mut S::State,
+    ticks: &mut Ticks<L>,
+) -> Result<bool, OutOfMemory>
+    requires some { 0 < length entries.now }
+    requires whole { HasWhole S.object from (with_first S.place_of T.item_of entries.now)
+        place.old state.old }
+    ensures takes { IfOk result (λ left. IsTrue left → TakesOutOf S.object from
+        (with_first S.place_of T.item_of entries.now) place.old state.old place.new state.new
+        Done) }
+    ensures place { IfOk result (λ left. left ≡ false → place.new ≡ place.old) }
+    ensures state { IfOk result (λ left. left ≡ false → state.new ≡ state.old) }
+    ensures none { IfOk result (λ left. left ≡ false → ticks.new ≡ ticks.old) }
+    ensures rises { ticks.old ≤ ticks.new }
+    ensures bound { ticks.new ≤ ticks.old + 1 }
+{
+    match gap_behind::<S, T>(T::op(&entries[0]), &place.undos[from], &entries[1..]) {
+        Crossing::Idle => {
+            place.forget(from);
+            Ok(true)
+        }
+        Crossing::Apart(gap) => {
+            if !S::bears(&gap, state) {
+                return Ok(false);
+            }
+            place.forget(from);
+            S::close(state, &gap, ticks)?;
+            Ok(true)
+        }
+        Crossing::Same { at, undo } => {
+            place.forget(from);
+            place.undos[from + at] = undo;
+            Ok(true)
+        }
+        Crossing::Unknown => Ok(false),
+    }
+}
+
 /// Takes the first of these entries, which stands at `from` in its place, out of that place. Where
-/// it does not let those behind it pass, these are taken back, and applied again without it; where
-/// one of them differs, the place is as it was.
+/// it is the last one there, it alone is taken back. Else the gap that it leaves is closed; where
+/// that is not known or not borne, those behind it are taken back too, and applied again without it;
+/// where one of them differs, the place is as it was.
 pub fn take_out<S: Placed, T: Side<S::Op>, L: Ledger>(
     place: &mut Place<S::Undo>,
     from: usize,
@@ -125,10 +148,13 @@ pub fn take_out<S: Placed, T: Side<S::Op>, L: Ledger>(
     ensures bound { ticks.new + 3
         ≤ ticks.old + 4 * length (with_first S.place_of T.item_of entries.now) }
 {
-    let op = T::item(&entries[0]).op;
-    let behind = &entries[1..];
-    if lets_pass::<S, T>(&op, behind) {
-        pass_out::<S, L>(place, from, &op, state, ticks)?;
+    let op = T::op(&entries[0]);
+    let is_last = from + 1 == place.undos.len();
+    if is_last {
+        pass_out::<S, L>(place, from, op, state, ticks)?;
+        return Ok(Removed::Done);
+    }
+    if leave_by_gap::<S, T, L>(place, from, entries, state, ticks)? {
         return Ok(Removed::Done);
     }
     replay::<S, T, L>(place, from, entries, state, ticks)

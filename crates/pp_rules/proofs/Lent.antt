@@ -10,20 +10,20 @@ use Rattle.pp_rules.specs.Transactions.{course_of, open_at}
 use Rattle.pp_rules.specs.declared.machine.Parts.{Parts}
 use Rattle.pp_rules.proofs.Opened.{holds_local, rest}
 
-module _ {S Shape State Op Undo : Type 0} where
+module _ {S Gap Shape State Op Undo : Type 0} where
   -- what is seen of a machine with these parts
-  abbrev pub seen_of : Parts S Shape State Op Undo → Seen Shape Op
+  abbrev pub seen_of : Parts S Gap Shape State Op Undo → Seen Shape Op
   seen_of p = record { shape = p.shape; config = config_of p.transactions p.ids p.shared.1 p.committed; count = p.count }
 
   -- what the parts in the box keep, those lent keep
-  pub lent_holds : (o : Object Shape State Op Undo) {p q : Parts S Shape State Op Undo} → q ≡ p → Holds o p.shape p.transactions p.ids p.shared p.committed p.count → Holds o q.shape q.transactions q.ids q.shared q.committed q.count
-  lent_holds o is h = subst (λ (p : Parts S Shape State Op Undo). Holds o p.shape p.transactions p.ids p.shared p.committed p.count) (sym is) h
+  pub lent_holds : (o : Object Shape State Op Undo) {p q : Parts S Gap Shape State Op Undo} → q ≡ p → Holds o p.shape p.transactions p.ids p.shared p.committed p.count → Holds o q.shape q.transactions q.ids q.shared q.committed q.count
+  lent_holds o is h = subst (λ (p : Parts S Gap Shape State Op Undo). Holds o p.shape p.transactions p.ids p.shared p.committed p.count) (sym is) h
 
   -- so is what is seen of them
-  pub lent_view : {p q : Parts S Shape State Op Undo} {v : Seen Shape Op} → q ≡ p → seen_of p ≡ v → seen_of q ≡ v
+  pub lent_view : {p q : Parts S Gap Shape State Op Undo} {v : Seen Shape Op} → q ≡ p → seen_of p ≡ v → seen_of q ≡ v
   lent_view is e = ap seen_of is ∙ e
 
-  module _ (o : Object Shape State Op Undo) (q : Parts S Shape State Op Undo) {w : Seen Shape Op} (same : seen_of q ≡ w)
+  module _ (o : Object Shape State Op Undo) (q : Parts S Gap Shape State Op Undo) {w : Seen Shape Op} (same : seen_of q ≡ w)
       (h : Holds o q.shape q.transactions q.ids q.shared q.committed q.count) (t : Name) (k : Guided Shape Op)
       (is_open : Some k ≡ option_map course_of (open_at t q.transactions.opened)) (P : Seen Shape Op → Type 0) where
     -- what is said of each machine with this local log

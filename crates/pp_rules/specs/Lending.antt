@@ -11,20 +11,24 @@ use Rattle.pp_rules.specs.Transactions.{Txs, with_course}
 use Rattle.pp_rules.specs.contracts.course.Course as course
 use Rattle.pp_rules.specs.contracts.transactions.Transactions as txs
 
-module _ (S Shape State Op Undo : RattleType)
+module _ (S Gap Shape State Op Undo : RattleType)
     (object : Object Shape.Denot State.Denot Op.Denot Undo.Denot)
+    (Bears : Gap.Denot → State.Denot → Type 0)
+    (Differ : Gap.Denot → State.Denot → State.Denot → Type 0)
     (place_of : Op.Denot → ℕ) (SameAt : ℕ → State.Denot → State.Denot → Type 0)
     (part_of : Op.Denot → Part) (label_of : Op.Denot → Label) (clone : Ghosts Op.Denot) where
   -- the types of the transactions and of a course, as the logic holds them
   abbrev txs_row : RattleType
   txs_row =
-      txs.the_row S Shape State Op Undo (record { part_of = part_of; label_of = label_of })
-      (record { place_of = place_of; SameAt = SameAt }) (record { object = object }) clone
+      txs.the_row S Gap Shape State Op Undo (record { part_of = part_of; label_of = label_of })
+      (record { place_of = place_of; SameAt = SameAt })
+      (record { Bears = Bears; Differ = Differ }) (record { object = object }) clone
 
   abbrev course_row : RattleType
   course_row =
-      course.the_row S Shape State Op Undo (record { part_of = part_of; label_of = label_of })
-      (record { place_of = place_of; SameAt = SameAt }) (record { object = object }) clone
+      course.the_row S Gap Shape State Op Undo (record { part_of = part_of; label_of = label_of })
+      (record { place_of = place_of; SameAt = SameAt })
+      (record { Bears = Bears; Differ = Differ }) (record { object = object }) clone
 
   -- The open transaction t ends with the last course written through r, and all else stays.
   abbrev pub LendsCourse : MutBor (Txs Shape.Denot Op.Denot) → Name →

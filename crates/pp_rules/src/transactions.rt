@@ -161,9 +161,9 @@ impl<S: Parted> Transactions<S> {
 
     /// Lends the course of an open transaction. All else stays.
     pub fn course_mut(&mut self, tx: &Name) -> Option<&mut Course<S>>
-        ensures* lends { sem 𝓛 (LendsCourse S.row S.Shape.row S.State.row S.Op.row S.Undo.row
-            S.object S.place_of S.SameAt S.part_of S.label_of S.Op.Clone self.entry tx.now
-            result) }
+        ensures* lends { sem 𝓛 (LendsCourse S.row S.Gap.row S.Shape.row S.State.row S.Op.row
+            S.Undo.row S.object S.Bears S.Differ S.place_of S.SameAt S.part_of S.label_of
+            S.Op.Clone self.entry tx.now result) }
         ensures course { option_copied_mut result
             ≡ option_map course_of (open_at tx.now self.old.opened) }
     {
