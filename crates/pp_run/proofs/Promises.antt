@@ -12,13 +12,20 @@ use Rattle.pp_decide.proofs.Decided.{decided}
 use Rattle.pp_decide.proofs.Readers.{briefs_decide, is_briefed, keeps_boosted}
 use Rattle.pp_decide.proofs.Verdicts.{some_verdict}
 use Rattle.pp_decide.specs.Costs.{first_brief}
+use Rattle.pp_drill.proofs.Drilling.{prints_lines}
+use Rattle.pp_drill.specs.Prints.{PrintsLines}
 use Rattle.pp_front.proofs.Whole.{one_run_law}
 use Rattle.pp_front.specs.Runs.{Lined, bare}
 use Rattle.pp_json.specs.declared.header.Header.{Header}
 use Rattle.pp_model.proofs.Verdict.{one_verdict}
 use Rattle.pp_object.specs.Objects.{place_of}
+use Rattle.pp_prefixes.proofs.Prefixes.{certified_prefix_law, prefix_law}
+use Rattle.pp_prefixes.specs.Prefixes.{CertifiedPrefixLaw, PrefixLaw}
 use Rattle.pp_quick.proofs.Sums.{sum_law}
+use Rattle.pp_run.proofs.Numbers.{drill_within}
 use Rattle.pp_run.specs.Promises.{HaveOneRun, IsDecidedAsRun, SeesKept}
+use Rattle.pp_run.specs.Words.{command_of}
+use Rattle.pp_run.specs.declared.words.Command.TheVariants.{Drill}
 use Rattle.std.proofs.Common.{refl, subst}
 
 pub have_one_run : (header : Header) → HaveOneRun header
@@ -56,3 +63,12 @@ accepted_how sc statuses.TooLarge report text told = absurd told
 pub sees_kept : (bytes text : List ℕ) → IsViews bytes statuses.Accepted text → SeesKept (scan bytes)
 sees_kept bytes text (how, report, certified, told) =
     kept_views bytes report (subst (λ (s : Status). IsCertified bytes s report) (accepted_how (scan bytes) how report text told) certified)
+
+-- what is printed of the run of the number that words ask for
+pub drilled_lines : (words : List (List ℕ)) (n : ℕ) → command_of words ≡ Some (Drill n) → PrintsLines n
+drilled_lines words n is =
+    let within = drill_within words n is in
+    prints_lines n within.0 within.1
+
+pub prefixes_accepted : PrefixLaw × CertifiedPrefixLaw
+prefixes_accepted = (prefix_law, certified_prefix_law)

@@ -17,6 +17,7 @@ ghost use Rattle.pp_certify.specs.Rejected.{IsEvident};
 ghost use Rattle.pp_certify.specs.Restated.{PrintsAgain};
 ghost use Rattle.pp_drill.specs.Prints.{PrintsLines};
 ghost use Rattle.pp_exchanges.specs.Prints.{PrintsCertificate};
+ghost use Rattle.pp_prefixes.specs.Prefixes.{CertifiedPrefixLaw, PrefixLaw};
 ghost use Rattle.pp_run.specs.declared.words.Command.TheVariants.{Certify, Drill, Expand, Quick};
 ghost use Rattle.pp_run.specs.declared.words.Command.TheVariants.{Recheck, Swaps, Views};
 ghost use Rattle.pp_run.specs.Bounds.{RisesAtLeast, RisesAtMost};
@@ -156,14 +157,13 @@ pub fn run<S: Source, K: Sink, L: Ledger>(
         (result ≡ statuses.OutOfMemory) ⊎ IsPrinted result }
 
     // A command that reads no input does not ask whether a read failed. The run that `drill` makes
-    // is accepted, and what it prints has the numbers of that run.
+    // is accepted, and what is printed of it has the numbers of that run.
     ensures no_input { ¬ Reads (command_of words.now) →
         ¬ HasRisen (K.faults sink.old) (K.faults sink.new) →
         (result ≡ statuses.OutOfMemory) ⊎ IsPrinted result }
     ensures accepted { (n : ℕ) → command_of words.now ≡ Some (Drill n) → IsPrinted result →
         result ≡ statuses.Accepted }
-    ensures drilled { (n : ℕ) → command_of words.now ≡ Some (Drill n) →
-        result ≡ statuses.Accepted → PrintsLines n }
+    ensures drilled { (n : ℕ) → command_of words.now ≡ Some (Drill n) → PrintsLines n }
 
     // A run that is certified is simulated by its committed transactions, one after another in
     // commit order, and these transactions, each alone, are an accepted run.
@@ -171,6 +171,11 @@ pub fn run<S: Source, K: Sink, L: Ledger>(
         WhereTold (S.left source.old) λ bytes. IsSimulated (scan bytes) }
     ensures alone { command_of words.now ≡ Some Certify → result ≡ statuses.Accepted →
         WhereTold (S.left source.old) λ bytes. IsAloneAccepted (scan bytes) }
+
+    // Each prefix of an input that `certify` accepts is accepted by it too, without a fault, where
+    // it holds the header's line whole and ends behind a byte 10. Its run and its committed
+    // transactions are the first of those of the whole.
+    ensures prefixes { PrefixLaw × CertifiedPrefixLaw }
 
     // What is printed of a run that is expanded is the text of its steps, which is an input again,
     // without a fault and within all limits: its records are the steps, its report is the same but

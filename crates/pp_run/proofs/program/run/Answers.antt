@@ -3,12 +3,11 @@ use Rattle.std.specs.Io.KnownBytes.{Appends}
 use Rattle.pp_certify.proofs.Concluding.{accepted_alone, accepted_simulated}
 use Rattle.pp_certify.proofs.Restated.{prints_again}
 use Rattle.pp_certify.specs.Reports.{IsCertified}
-use Rattle.pp_drill.proofs.Drilling.{prints_lines}
 use Rattle.pp_exchanges.proofs.Rechecking.{prints_certificate}
 use Rattle.pp_exchanges.specs.Swaps.{IsSwaps}
 use Rattle.pp_attempts.specs.Outputs.{IsViews}
 use Rattle.pp_run.proofs.Numbers.{drill_within}
-use Rattle.pp_run.proofs.Promises.{decided_as_run, have_one_run, sees_kept}
+use Rattle.pp_run.proofs.Promises.{decided_as_run, drilled_lines, have_one_run, prefixes_accepted, sees_kept}
 use Rattle.pp_run.proofs.Printing.{prints, prints_only, prints_prefix, prints_prefix_only}
 use Rattle.pp_run.specs.Bounds.{RisesAtLeast, RisesAtMost}
 use Rattle.pp_run.specs.Outputs.{IsOfWhole, IsOutput, OfInput}
@@ -122,11 +121,6 @@ returns-in-Ok-send-clause-certified g c = λ swaps accepted bytes is.
     prints_certificate bytes c.in-Ok.report.1 (g.K.Sink.held c.args.sink.now) (g.K.Sink.held c.send.new.sink) (subst (λ s. IsSwaps bytes s c.in-Ok.report.1) accepted told)
     (subst (Appends (g.K.Sink.held c.args.sink.now) (g.K.Sink.held c.send.new.sink)) c.bytes.ensures c.in-Ok-send.ensures.ok)
 
-pub returns-in-Ok-send-clause-drilled : goal.returns-in-Ok-send-clause-drilled
-returns-in-Ok-send-clause-drilled g c = λ n is accepted.
-    let within = drill_within c.args.words.now n is in
-    prints_lines n within.0 within.1
-
 pub returns-in-Ok-send-clause-decided : goal.returns-in-Ok-send-clause-decided
 returns-in-Ok-send-clause-decided g c = λ quick. decided_as_run
 
@@ -197,3 +191,41 @@ pub returns-in-Ok-send-clause-least : goal.returns-in-Ok-send-clause-least
 returns-in-Ok-send-clause-least g c =
     let command : command_of c.args.words.now ≡ Some c.in-Some.command = search rules in
     subst (λ (o : Option Command). RisesAtLeast o (g.S.Source.left c.args.source.now) c.in-Ok.report.0 c.args.ticks.now c.perform.new.ticks) (sym command) c.in-Ok.ensures.least
+
+-- ---- what holds of each number of transactions, and of each input
+
+pub returns-in_default-clause-drilled : goal.returns-in_default-clause-drilled
+returns-in_default-clause-drilled g c = drilled_lines c.args.words.now
+
+pub returns-in-Ok-send-clause-drilled : goal.returns-in-Ok-send-clause-drilled
+returns-in-Ok-send-clause-drilled g c = drilled_lines c.args.words.now
+
+pub returns-in-Err-ReadFault-clause-drilled : goal.returns-in-Err-ReadFault-clause-drilled
+returns-in-Err-ReadFault-clause-drilled g c = drilled_lines c.args.words.now
+
+pub returns-in-Err-OutOfMemory-clause-drilled : goal.returns-in-Err-OutOfMemory-clause-drilled
+returns-in-Err-OutOfMemory-clause-drilled g c = drilled_lines c.args.words.now
+
+pub returns-in-Err-WriteFault-clause-drilled : goal.returns-in-Err-WriteFault-clause-drilled
+returns-in-Err-WriteFault-clause-drilled g c = drilled_lines c.args.words.now
+
+pub returns-clause-drilled : goal.returns-clause-drilled
+returns-clause-drilled g c = drilled_lines c.args.words.now
+
+pub returns-in_default-clause-prefixes : goal.returns-in_default-clause-prefixes
+returns-in_default-clause-prefixes g c = prefixes_accepted
+
+pub returns-in-Ok-send-clause-prefixes : goal.returns-in-Ok-send-clause-prefixes
+returns-in-Ok-send-clause-prefixes g c = prefixes_accepted
+
+pub returns-in-Err-ReadFault-clause-prefixes : goal.returns-in-Err-ReadFault-clause-prefixes
+returns-in-Err-ReadFault-clause-prefixes g c = prefixes_accepted
+
+pub returns-in-Err-OutOfMemory-clause-prefixes : goal.returns-in-Err-OutOfMemory-clause-prefixes
+returns-in-Err-OutOfMemory-clause-prefixes g c = prefixes_accepted
+
+pub returns-in-Err-WriteFault-clause-prefixes : goal.returns-in-Err-WriteFault-clause-prefixes
+returns-in-Err-WriteFault-clause-prefixes g c = prefixes_accepted
+
+pub returns-clause-prefixes : goal.returns-clause-prefixes
+returns-clause-prefixes g c = prefixes_accepted
