@@ -12,7 +12,8 @@ const ADDED_REPORT: &[u8] = b"accepted steps 4 committed 1\ntx t1\nop 1 c.add(2)
 fn each_read_may_fail(rt: HostRuntime) -> Result<(), Fail> {
     let alloc = rt.alloc();
     for call in 0..250u64 {
-        let input = added(alloc)?;
+        let mut input = added(alloc)?;
+        input.extend_from_slice(b"\n")?;
         let last = input.len() as u64;
         let pieces = vec![in alloc; 1usize; input.len()]?;
         let source = MemorySource::new(input, pieces, vec![in alloc; call]?);
@@ -63,7 +64,9 @@ fn a_fault_is_told_though_the_next_read_fails(rt: HostRuntime) -> Result<(), Fai
 fn each_write_may_fail(rt: HostRuntime) -> Result<(), Fail> {
     let alloc = rt.alloc();
     for call in 0..100usize {
-        let source = MemorySource::new(added(alloc)?, Vec::new(alloc), Vec::new(alloc));
+        let mut input = added(alloc)?;
+        input.extend_from_slice(b"\n")?;
+        let source = MemorySource::new(input, Vec::new(alloc), Vec::new(alloc));
         let sink = MemorySink::new(alloc, 1, vec![in alloc; call as u64]?);
         let answer = answered(alloc, b"certify", source, sink)?;
         let status = if call <= ADDED_REPORT.len() {
