@@ -5,17 +5,19 @@
 
 A writer publishes a value that it never commits, and three hundred transactions commit three additions each. Nine
 thousand transactions then pull that value and are given up: some of their reads are true after each of the commits,
-and the last, of that value, is true after none. They are measured with one read, with two, and with eight.
+and the last, of that value, is true after none. They are measured with one read, with two, and with eight. Then one
+transaction makes as many tries that begin alike: behind many reads it reads that value, and takes that read back.
 """
 import os
 import tempfile
 
 from measure import answered, app, begin, cmt, header, named, program_named, write
 
-ATTEMPTS = 9_000
+TRIES = 9_000
 COMMITS = 300
 ADDITIONS = 3
 READS = [1, 2, 8]
+COMMON_READS = 100
 UNTOLD = 7
 
 
@@ -29,7 +31,7 @@ def committed():
         yield cmt(tx)
 
 
-def attempt(tx, first, reads):
+def one_try(tx, first, reads):
     """Reads other addresses, which stay 0, and then the value that is not committed."""
     numbers = range(first, first + reads)
     yield begin(tx)
@@ -43,28 +45,46 @@ def attempt(tx, first, reads):
     yield {"step": "quit", "tx": tx}
 
 
-def run(reads):
+def before():
+    """What stands before the tries, and the next id."""
     records = [header("mem", "counter"), begin("writer", "p0")]
     records += [app("writer", 0, "write", [0, UNTOLD]), named("push", "writer", 0), *committed()]
-    behind = 1 + ADDITIONS * COMMITS
-    for k in range(ATTEMPTS):
-        records += attempt(f"t{k}", behind + reads * k, reads)
+    return records, 1 + ADDITIONS * COMMITS
+
+
+def apart(reads):
+    """Tries of so many reads, each of another transaction."""
+    records, behind = before()
+    for k in range(TRIES):
+        records += one_try(f"t{k}", behind + reads * k, reads)
     return records
 
 
-def measure(program, path, reads):
-    records = run(reads)
+def alike():
+    """Tries of one transaction, which differ in their last read."""
+    records, behind = before()
+    last = behind + COMMON_READS
+    records += [begin("t"), named("pull", "t", 0)]
+    records += [app("t", number, "read", [number], 0) for number in range(behind, last)]
+    for number in range(last, last + TRIES):
+        records += [app("t", number, "read", [0], UNTOLD), named("unapp", "t", number)]
+    return records
+
+
+def measure(program, path, name, records):
     write(path, records)
     accepted = f"accepted steps {len(records) - 1} committed {COMMITS}"
     views, certified = (answered(program, word, path, accepted) for word in ("views", "certify"))
-    print(f"{ATTEMPTS} peaks of {reads}, {len(records) - 1} steps: views {views:.2f} s, certify {certified:.2f} s, "
+    print(f"{TRIES} peaks of {name}, {len(records) - 1} steps: views {views:.2f} s, certify {certified:.2f} s, "
           f"ratio {views / certified:.2f}", flush=True)
 
 
 def main():
     with tempfile.TemporaryDirectory() as folder:
+        path = os.path.join(folder, "run.jsonl")
         for reads in READS:
-            measure(program_named(), os.path.join(folder, "run.jsonl"), reads)
+            measure(program_named(), path, f"{reads}", apart(reads))
+        measure(program_named(), path, f"{COMMON_READS + 1} that begin alike", alike())
 
 
 if __name__ == "__main__":

@@ -34,7 +34,7 @@ use Rattle.pp_views.specs.Peaks.{IsOrderly, operations, peaks}
 use Rattle.pp_views.specs.declared.view.View.{View}
 use Rattle.pp_views.specs.Views.{AreViews, MayBeTried}
 use Rattle.pp_views.proofs.KeptPeaks.{applied, peak_short}
-use Rattle.pp_views.proofs.Leaving.{each_in}
+use Rattle.pp_front.proofs.Carrying.{each_in}
 use Rattle.pp_views.proofs.Runs.{orderly}
 use Rattle.pp_certify.proofs.Concluding.{accepted_told, committed_are, fault_report, run_report}
 use Rattle.pp_certify.proofs.Counting.{is_run_so_far, run_so_far}

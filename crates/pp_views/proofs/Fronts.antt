@@ -1,6 +1,6 @@
 -- Proof machinery: a list at the element that a loop is at.
-use Rattle.std.proofs.Common.{◌≡◌, ◌<◌, ◌+◌, ℕ, List, [], ◌∷◌, ◌++◌, length, take, drop, get_or}
-use Rattle.std.proofs.Common.{sym, ap, subst, ◌∙◌, take-append-drop, inl, refl}
+use Rattle.std.proofs.Common.{◌≡◌, ◌<◌, ◌+◌, ℕ, suc, zero, List, [], ◌∷◌, ◌++◌, length, take, drop, get_or}
+use Rattle.std.proofs.Common.{sym, ap, subst, ◌∙◌, arith, take-append-drop, inl, inr, refl}
 use Rattle.std.proofs.lemmas.List.{take_more, drop_more, get_or-map, length-map}
 use Rattle.pp_model.specs.Lists.{In}
 use Rattle.pp_model.specs.Object.{Item, ops}
@@ -19,6 +19,11 @@ module _ {A : Type 0} (xs : List A) (i : ℕ) (x : A) (there : i < length xs) (i
   pub in_there : In x xs
   in_there = subst (λ (w : List A). In x w) (sym cut_there)
       (in_right x (take i xs) (x ∷ drop (i + 1) xs) (inl refl))
+
+pub in_default : {A : Type 0} (xs : List A) (i : ℕ) (d : A) → i < length xs → In (get_or xs i d) xs
+in_default [] i d there = absurd (omega (arith, there))
+in_default (x ∷ xs) zero d there = inl refl
+in_default (x ∷ xs) (suc i) d there = inr (in_default xs i d (omega (arith, there)))
 
 pub op_at : {Op : Type 0} (l : List (Item Op)) (i : ℕ) (p : Item Op) → i < length l
     → p ≡ get_or l i p → p.op ≡ get_or (ops l) i p.op

@@ -13,7 +13,7 @@ use Rattle.pp_model.specs.Rules.{RunsFrom, StartMeets}
 use Rattle.pp_model.specs.Serial.{Attempt, applied_items, attempt_of, attempts, commits, committed_tx}
 use Rattle.pp_model.specs.Serial.{has_id, own_of, start_attempts, unapplied_ids}
 use Rattle.pp_model.specs.Sound.{serial_items, serial_ops}
-use Rattle.pp_model.proofs.Lists.{from_filter, from_map, in_cases, in_left, in_map, in_right}
+use Rattle.pp_model.proofs.Lists.{from_filter, from_map, in_cases, in_left, in_map, in_order, in_right}
 use Rattle.pp_model.proofs.Logs.{found_tx}
 use Rattle.pp_model.proofs.Names.{names_tell}
 use Rattle.pp_model.proofs.Serial.{allowed_front}
@@ -22,7 +22,7 @@ use Rattle.pp_model.proofs.Steps.{there_holds}
 use Rattle.pp_model.proofs.Trace.{applied-append, dropped-append}
 use Rattle.pp_views.specs.Laws.{IsKeptPeak, SeesKeptPeaks, peak_behind}
 use Rattle.pp_views.specs.Lists.{peak_at}
-use Rattle.pp_views.specs.Peaks.{Peak, goes_on, peaks_behind, peaks}
+use Rattle.pp_views.specs.Peaks.{IdsTell, IsOrderly, Peak, goes_on, peaks_behind, peaks}
 use Rattle.pp_views.specs.Tops.{is_top}
 use Rattle.pp_views.specs.Views.{Explains, IsLeastBelow}
 use Rattle.pp_views.proofs.Collecting.{peaks_step}
@@ -115,6 +115,21 @@ applied_within {Op} past (s ∷ ss) p i n m =
 
 pub applied : {Op : Type 0} (ss : List (Step Op)) (p : Peak Op) (i : Item Op) → In p (peaks ss) → In i p.ops → In (App p.tx i.id i.op) ss
 applied ss p i n m = applied_within [] ss p i n m
+
+pub ids_tell : {Op : Type 0} (ss : List (Step Op)) → IsOrderly ss → IdsTell (peaks ss)
+ids_tell {Op} ss orderly p q i j of_p of_q in_p in_q same =
+    let first = applied ss p i of_p in_p in
+    let second = subst (λ (n : ℕ). In (App q.tx n j.op) ss) (sym same) (applied ss q j of_q in_q) in
+    elim (in_order (App p.tx i.id i.op) (App q.tx i.id j.op) ss first second) [
+      | inl e ↦ alike i.id j.id i.op j.op same (ops_alike p.tx q.tx i.id i.op j.op e)
+      | inr apart ↦ elim apart [ inl b ↦ absurd (orderly.once p.tx q.tx i.id i.op j.op b) | inr b ↦ absurd (orderly.once q.tx p.tx i.id j.op i.op b) ]
+    ]
+  where
+    ops_alike : (t u : Name) (n : ℕ) (a b : Op) → App t n a ≡ App u n b → a ≡ b
+    ops_alike t u n a b e = cc
+
+    alike : (n m : ℕ) (a b : Op) → n ≡ m → a ≡ b → ◌≡◌ {A = Item Op} (record { id = n; op = a }) (record { id = m; op = b })
+    alike n m a b e f = cc
 
 -- a peak has no more operations than the run has steps
 short_within : {Op : Type 0} (past ss : List (Step Op)) (p : Peak Op) → In p (peaks_behind past ss) → length p.ops ≤ length past + length ss

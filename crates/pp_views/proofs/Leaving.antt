@@ -1,29 +1,24 @@
 -- Proof machinery: the places of the views that have no number yet.
 use Rattle.std.specs.Prelude.{◌≡◌, ◌≢◌, ◌≤◌, ◌<◌, ◌+◌, ◌*◌, ◌⊎◌, ℕ, suc, zero, List}
-use Rattle.std.specs.Prelude.{[], ◌∷◌, ◌++◌, length, take, drop, set, Option, None, Some}
+use Rattle.std.specs.Prelude.{[], ◌∷◌, ◌++◌, length, take, drop, set, sum_by, Option, None, Some}
 use Rattle.std.proofs.Common.{refl, sym, ap, subst, ◌∙◌, arith, get_or, inl, inr}
-use Rattle.std.proofs.lemmas.List.{length-set, drop_more, get_or-set_same, get_or-set_other}
+use Rattle.std.proofs.Math.Seq.{take-length}
+use Rattle.std.proofs.lemmas.List.{drop_more, length-set, get_or-set_same, get_or-set_other, map-append}
+use Rattle.std.proofs.lemmas.List.Sums.{sum_by-cons, sum_by_push}
 use Rattle.pp_model.specs.Config.{CommittedTx}
-use Rattle.pp_model.specs.Lists.{Each, In}
+use Rattle.pp_model.specs.Lists.{In}
 use Rattle.pp_model.specs.Object as model
 use Rattle.pp_model.specs.Object.{Item, ops}
-use Rattle.pp_model.proofs.Lists.{in_cases}
+use Rattle.pp_model.proofs.Lists.{in_left}
 use Rattle.pp_spec.specs.Object.{Object, AllowedFrom, rules_of, state_from}
 use Rattle.pp_views.specs.Peaks.{Peak, operations}
-use Rattle.pp_views.specs.Trying.{ArePlaces, AreRising, AreUnnumbered, IsStateAt, IsUntried, StandsAt}
+use Rattle.pp_views.specs.Trying.{AreAlike, AreApart, AreCandidates, ArePlaces, AreUnnumbered, Candidate, IsStateAt, IsUntried, StandsAt}
+use Rattle.pp_views.specs.Trying.{length_at, places_of}
 use Rattle.pp_views.specs.Views.{Explains, IsLeastBelow, IsViewBelow, Pairwise, View}
-use Rattle.pp_views.proofs.Viewing.{below_next, explains_there, operations-append, operations_next, operations_within}
-use Rattle.pp_views.proofs.Viewing.{pairwise_as}
+use Rattle.pp_views.proofs.LiningUp.{alike_or_not, apart_more, in_end, in_last, length_there, nobody, stand_same}
+use Rattle.pp_views.proofs.Viewing.{below_next, explains_there, pairwise_as}
 
 -- ---- what stands at a place
-
-pub stand_same : {A : Type 0} (xs : List A) (i : ℕ) (x y : A) → StandsAt xs i x → StandsAt xs i y → x ≡ y
-stand_same [] i x y a b = absurd (let l = a.0 in omega (arith, l))
-stand_same (z ∷ xs) zero x y a b = a.1 ∙ sym b.1
-stand_same (z ∷ xs) (suc i) x y a b =
-    let l = a.0 in
-    let k = b.0 in
-    stand_same xs i x y (omega (arith, l), a.1) (omega (arith, k), b.1)
 
 pub stand_written : {A : Type 0} (xs : List A) (i : ℕ) (x : A) → i < length xs → StandsAt (set xs i x) i x
 stand_written xs i x there = (omega (arith, there, length-set xs i x), sym (get_or-set_same xs i x x there))
@@ -53,49 +48,14 @@ module _ {A B : Type 0} (R : A → B → Type 0) where
     pairwise_from xs ys (omega (arith, e)) (λ i x y s t. let l = s.0 in let k = t.0 in h (suc i) x y (omega (arith, l), s.1) (omega (arith, k), t.1)),
   )
 
--- ---- rising places
-
-pub each_in : {A : Type 0} (P : A → Type 0) (xs : List A) → Each P xs → (x : A) → In x xs → P x
-each_in P [] h x n = absurd n
-each_in P (y ∷ xs) h x (inl e) = subst P (sym e) h.0
-each_in P (y ∷ xs) h x (inr n) = each_in P xs h.1 x n
-
-pub rising_more : (is : List ℕ) (j : ℕ) → AreRising is → ((i : ℕ) → In i is → i < j) → AreRising (is ++ j ∷ [])
-rising_more [] j r h = (tt, tt)
-rising_more (i ∷ is) j r h = (behind is r.0 (h i (inl refl)), rising_more is j r.1 (λ k n. h k (inr n)))
-  where
-    behind : (ks : List ℕ) → Each (λ k. i < k) ks → i < j → Each (λ k. i < k) (ks ++ j ∷ [])
-    behind [] e l = (l, tt)
-    behind (k ∷ ks) e l = (e.0, behind ks e.1 l)
-
-in_last : (i j : ℕ) (is : List ℕ) → In i (is ++ j ∷ []) → In i is ⊎ (i ≡ j)
-in_last i j is n = elim (in_cases i is (j ∷ []) n) [ inl a ↦ inl a | inr b ↦ elim b [ inl e ↦ inr e | inr never ↦ absurd never ] ]
-
-in_front : (i j : ℕ) (is : List ℕ) → In i is → In i (is ++ j ∷ [])
-in_front i j [] n = absurd n
-in_front i j (k ∷ is) (inl e) = inl e
-in_front i j (k ∷ is) (inr n) = inr (in_front i j is n)
-
-in_end : (j : ℕ) (is : List ℕ) → In j (is ++ j ∷ [])
-in_end j [] = inl refl
-in_end j (k ∷ is) = inr (in_end j is)
-
-pub no_places : ArePlaces 0 []
-no_places = record { rising = tt; within = λ i n. absurd n; all = λ i l. absurd (omega (arith, l)) }
-
-pub one_place_more : (n : ℕ) (is js : List ℕ) → js ≡ is ++ n ∷ [] → ArePlaces n is → ArePlaces (n + 1) js
-one_place_more n is js e h = subst (λ (w : List ℕ). ArePlaces (n + 1) w) (sym e) (record {
-  rising = rising_more is n h.rising h.within;
-  within = λ i m. elim (in_last i n is m) [ inl a ↦ (let l = h.within i a in omega (arith, l)) | inr same ↦ omega (arith, same) ];
-  all = λ i l. elim (below_next i n l) [ inl less ↦ in_front i n is (h.all i less) | inr same ↦ subst (λ (k : ℕ). In k (is ++ n ∷ [])) (sym same) (in_end n is) ];
-})
+-- ---- the first candidates
 
 -- of views that were not tried each is without a number
-pub all_unnumbered : {Op : Type 0} (ps : List (Peak Op)) (vs : List View) (n : ℕ) (is : List ℕ) → length ps ≡ n → length vs ≡ length ps → Pairwise IsUntried ps vs → ArePlaces n is → AreUnnumbered vs is
-all_unnumbered {Op} ps vs n is count long untried places = record {
-  rising = places.rising;
-  there = λ i m. let l = places.within i m in one ps vs i untried (omega (arith, l, count));
-  all = λ i v s none. let l = s.0 in places.all i (omega (arith, l, long, count));
+pub all_unnumbered : {Op : Type 0} (ps : List (Peak Op)) (vs : List View) (is : List ℕ) → length vs ≡ length ps → Pairwise IsUntried ps vs → ArePlaces ps (length ps) is → AreUnnumbered vs is
+all_unnumbered {Op} ps vs is long untried places = record {
+  apart = places.apart;
+  there = λ i m. one ps vs i untried (places.within i m);
+  all = λ i v s none. let l = s.0 in places.all i (omega (arith, l, long));
 }
   where
     one : (qs : List (Peak Op)) (ws : List View) (i : ℕ) → Pairwise IsUntried qs ws → i < length qs → (v : View) × StandsAt ws i v × (v.after ≡ None)
@@ -106,6 +66,18 @@ all_unnumbered {Op} ps vs n is count long untried places = record {
         let r = one qs ws i h.1 (omega (arith, l)) in
         let k = (r.1).0 in
         (r.0, (omega (arith, k), (r.1).1), r.2)
+
+-- the first line has them all
+pub first_line : {Op : Type 0} (ps : List (Peak Op)) (vs : List View) (cs : List Candidate) → length vs ≡ length ps → Pairwise IsUntried ps vs → ArePlaces ps (length ps) (places_of cs)
+    → AreAlike ps [] cs → AreCandidates ps vs cs
+first_line {Op} ps vs cs long untried places alike = record {
+  unnumbered = all_unnumbered ps vs (places_of cs) long untried places;
+  alike = alike;
+  cost =
+      let all : operations (take (length ps) ps) ≡ operations ps = ap (λ (w : List (Peak Op)). operations w) (take-length ps) in
+      let cost = places.cost in
+      omega (arith, cost, all);
+}
 
 -- ---- the number of a view, one round on
 
@@ -125,7 +97,7 @@ none_yet n P a none h never = subst (λ (w : Option ℕ). IsLeastBelow (n + 1) P
 
 module _ {Shape State Op Undo : Type 0} (o : Object Shape State Op Undo) (ps : List (Peak Op)) where
   -- where each view has a number, they are the views up to any number of committed transactions
-  pub all_numbered : (shape : Shape) (D : List (CommittedTx Op)) (n m : ℕ) (vs : List View) (left : List ℕ) → length left ≡ 0 → n ≤ m → AreUnnumbered vs left
+  pub all_numbered : (shape : Shape) (D : List (CommittedTx Op)) (n m : ℕ) (vs : List View) (left : List Candidate) → length left ≡ 0 → n ≤ m → AreUnnumbered vs (places_of left)
       → Pairwise (IsViewBelow n (rules_of o shape) D) ps vs → Pairwise (IsViewBelow m (rules_of o shape) D) ps vs
   all_numbered shape D n m vs (j ∷ left) empty le un h = absurd (omega (arith, empty))
   all_numbered shape D n m vs [] empty le un h = pairwise_from (IsViewBelow m O D) ps vs (long ps vs h) (λ i p v s t.
@@ -167,9 +139,9 @@ module _ {Shape State Op Undo : Type 0} (o : Object Shape State Op Undo) (ps : L
       pub same : (i : ℕ) (v : View) → In i rest → StandsAt old i v → StandsAt views i v
       pub done : (shape : Shape) (D : List (CommittedTx Op)) → IsStateAt o shape D number state → Pairwise (IsViewBelow number (rules_of o shape) D) ps old
           → (i : ℕ) (p : Peak Op) (v : View) → StandsAt ps i p → StandsAt views i v → (In i rest → ⊥) → IsViewBelow (number + 1) (rules_of o shape) D p v
-      pub rest_rising : AreRising rest
-      pub still_rising : AreRising still
-      pub before : (i j : ℕ) → In i still → In j rest → i < j
+      pub rest_apart : AreApart rest
+      pub still_apart : AreApart still
+      pub other : (i : ℕ) → In i still → In i rest → ⊥
       pub rest_there : (i : ℕ) → In i rest → (v : View) × StandsAt old i v × (v.after ≡ None)
       pub still_there : (i : ℕ) → In i still → (v : View) × StandsAt views i v × (v.after ≡ None)
       pub all : (i : ℕ) (v : View) → StandsAt views i v → v.after ≡ None → In i still ⊎ In i rest
@@ -182,9 +154,9 @@ module _ {Shape State Op Undo : Type 0} (o : Object Shape State Op Undo) (ps : L
           let now = pairwise_at (IsViewBelow number (rules_of o shape) D) ps old i p v h s t in
           let le : number ≤ number + 1 = omega arith in
           record { tx = now.tx; ops = now.ops; after = wider number (number + 1) (Explains (rules_of o shape) D p.ops) v.after le (λ none. out (un.all i v t none)) now.after };
-      rest_rising = un.rising;
-      still_rising = tt;
-      before = λ i j n m. absurd n;
+      rest_apart = un.apart;
+      still_apart = tt;
+      other = λ i n m. n;
       rest_there = un.there;
       still_there = λ i n. absurd n;
       all = λ i v s none. inr (un.all i v s none);
@@ -192,7 +164,7 @@ module _ {Shape State Op Undo : Type 0} (o : Object Shape State Op Undo) (ps : L
 
     pub all_tried : (views : List View) (still : List ℕ) → AreTried views [] still → AreUnnumbered views still
     all_tried views still h = record {
-      rising = h.still_rising;
+      apart = h.still_apart;
       there = h.still_there;
       all = λ i v s none. elim (h.all i v s none) [ inl n ↦ n | inr never ↦ absurd never ];
     }
@@ -202,16 +174,16 @@ module _ {Shape State Op Undo : Type 0} (o : Object Shape State Op Undo) (ps : L
     tried_round views still count h shape D at before =
         pairwise_from (IsViewBelow (number + 1) (rules_of o shape) D) ps views (h.long ∙ count) (λ i p v s t. h.done shape D at before i p v s t (λ never. never))
 
-    -- at a place of a loop
-    module _ (views : List View) (places still : List ℕ) (k : ℕ) (there : k < length places) (h : AreTried views (drop k places) still) where
-      pub at_place : AreTried views (get_or places k 0 ∷ drop (k + 1) places) still
-      at_place = subst (λ (is : List ℕ). AreTried views is still) (drop_more places k 0 there) h
+    -- at a candidate of a loop
+    module _ (views : List View) (left : List Candidate) (still : List ℕ) (k : ℕ) (there : k < length left) (h : AreTried views (places_of (drop k left)) still) where
+      pub at_candidate : AreTried views ((get_or left k nobody).place ∷ places_of (drop (k + 1) left)) still
+      at_candidate = subst (λ (cs : List Candidate). AreTried views (places_of cs) still) (drop_more left k nobody there) h
 
-      pub place_within : get_or places k 0 < length views
-      place_within = let r = at_place.rest_there (get_or places k 0) (inl refl) in (at_place.same (get_or places k 0) r.0 (inl refl) r.1).0
+      pub view_within : (get_or left k nobody).place < length views
+      view_within = let r = at_candidate.rest_there (get_or left k nobody).place (inl refl) in (at_candidate.same (get_or left k nobody).place r.0 (inl refl) r.1).0
 
-      pub place_among : length old ≡ length ps → get_or places k 0 < length ps
-      place_among long = let l = place_within in let same = h.long in omega (arith, l, same, long)
+      pub peak_within : length old ≡ length ps → (get_or left k nobody).place < length ps
+      peak_within long = let l = view_within in let same = h.long in omega (arith, l, same, long)
 
     -- one place on
     module _ (views : List View) (j : ℕ) (rest still : List ℕ) (p : Peak Op) (v : View) (h : AreTried views (j ∷ rest) still) (here : StandsAt ps j p) (now : StandsAt views j v) where
@@ -226,26 +198,20 @@ module _ {Shape State Op Undo : Type 0} (o : Object Shape State Op Undo) (ps : L
           subst (λ (w : View). StandsAt old j w) (stand_same views j r.0 v (h.same j r.0 (inl refl) r.1) now) r.1
 
       later : (i : ℕ) → In i rest → i ≢ j
-      later i n e = let l = each_in (λ k. j < k) rest (h.rest_rising).0 i n in omega (arith, l, e)
+      later i n e = (h.rest_apart).0 (subst (λ (k : ℕ). In k rest) e n)
 
       earlier : (i : ℕ) → In i still → i ≢ j
-      earlier i n e = let l = h.before i j n (inl refl) in omega (arith, l, e)
+      earlier i n e = h.other i n (inl e)
 
       not_here : (i : ℕ) → i ≢ j → (In i rest → ⊥) → In i (j ∷ rest) → ⊥
       not_here i other out n = elim n [ inl e ↦ other e | inr m ↦ out m ]
-
-      apart : (i k : ℕ) → (i ≡ k) ⊎ (i ≢ k)
-      apart zero zero = inl refl
-      apart zero (suc k) = inr (λ e. omega (arith, e))
-      apart (suc i) zero = inr (λ e. omega (arith, e))
-      apart (suc i) (suc k) = elim (apart i k) [ inl e ↦ inl (ap suc e) | inr n ↦ inr (λ e. n (omega (arith, e))) ]
 
       -- the number explains the peak there, which is told
       pub one_found : (w : View) (ws : List View) → ws ≡ set views j w → w.tx ≡ v.tx → w.ops ≡ v.ops → w.after ≡ Some number → AllowedFrom o state (ops p.ops) → AreTried ws rest still
       one_found w ws written tx count found allowed = subst (λ (us : List View). AreTried us rest still) (sym written) (record {
         long = length-set views j w ∙ h.long;
         same = λ i u n s. stand_kept views j i w u (later i n) (h.same i u (inr n) s);
-        done = λ shape D at below i q u s t out. elim (apart i j) [
+        done = λ shape D at below i q u s t out. elim (alike_or_not i j) [
           | inl e ↦
               let O = rules_of o shape in
               let q_is : q ≡ p = stand_same ps j q p (subst (λ (k : ℕ). StandsAt ps k q) e s) here in
@@ -259,12 +225,12 @@ module _ {Shape State Op Undo : Type 0} (o : Object Shape State Op Undo) (ps : L
               }))
           | inr other ↦ h.done shape D at below i q u s (stand_before views j i w u other t) (not_here i other out)
         ];
-        rest_rising = (h.rest_rising).1;
-        still_rising = h.still_rising;
-        before = λ i k n m. h.before i k n (inr m);
+        rest_apart = (h.rest_apart).1;
+        still_apart = h.still_apart;
+        other = λ i n m. h.other i n (inr m);
         rest_there = λ i n. h.rest_there i (inr n);
         still_there = λ i n. let r = h.still_there i n in (r.0, stand_kept views j i w r.0 (earlier i n) r.1, r.2);
-        all = λ i u s none. elim (apart i j) [
+        all = λ i u s none. elim (alike_or_not i j) [
           | inl e ↦ absurd (let u_is : u ≡ w = stand_same (set views j w) j u w (subst (λ (k : ℕ). StandsAt (set views j w) k u) e s) (stand_written views j w now.0) in
               none_some number (sym none ∙ ap (λ (x : View). x.after) u_is ∙ found))
           | inr other ↦ elim (h.all i u (stand_before views j i w u other s) none) [
@@ -282,7 +248,7 @@ module _ {Shape State Op Undo : Type 0} (o : Object Shape State Op Undo) (ps : L
       one_left more pushed never = subst (λ (is : List ℕ). AreTried views rest is) (sym pushed) (record {
         long = h.long;
         same = λ i u n s. h.same i u (inr n) s;
-        done = λ shape D at below i q u s t out. elim (apart i j) [
+        done = λ shape D at below i q u s t out. elim (alike_or_not i j) [
           | inl e ↦
               let O = rules_of o shape in
               let q_is : q ≡ p = stand_same ps j q p (subst (λ (k : ℕ). StandsAt ps k q) e s) here in
@@ -295,73 +261,73 @@ module _ {Shape State Op Undo : Type 0} (o : Object Shape State Op Undo) (ps : L
               }))
           | inr other ↦ h.done shape D at below i q u s t (not_here i other out)
         ];
-        rest_rising = (h.rest_rising).1;
-        still_rising = rising_more still j h.still_rising (λ i n. h.before i j n (inl refl));
-        before = λ i k n m. elim (in_last i j still n) [
-          | inl a ↦ h.before i k a (inr m)
-          | inr e ↦ (let l = each_in (λ (x : ℕ). j < x) rest (h.rest_rising).0 k m in omega (arith, l, e))
-        ];
+        rest_apart = (h.rest_apart).1;
+        still_apart = apart_more still j h.still_apart (λ n. h.other j n (inl refl));
+        other = λ i n m. elim (in_last i j still n) [ inl a ↦ h.other i a (inr m) | inr e ↦ later i m e ];
         rest_there = λ i n. h.rest_there i (inr n);
         still_there = λ i n. elim (in_last i j still n) [
           | inl a ↦ h.still_there i a
           | inr e ↦ (v, subst (λ (k : ℕ). StandsAt views k v) (sym e) now, none_here)
         ];
         all = λ i u s none. elim (h.all i u s none) [
-          | inl a ↦ inl (in_front i j still a)
+          | inl a ↦ inl (in_left i still (j ∷ []) a)
           | inr n ↦ elim n [ inl e ↦ inl (subst (λ (k : ℕ). In k (still ++ j ∷ [])) (sym e) (in_end j still)) | inr m ↦ inr m ]
         ];
       })
 
--- ---- what a round costs: the peaks at rising places are some of all peaks
+-- ---- what a round costs
 
--- the peaks up to m cost what was spent, and those at `rest` stand behind them
-pub record IsSpent {Op : Type 0} (ps : List (Peak Op)) (rest : List ℕ) (old new : ℕ) : Type 0 where
-  pub upto : ℕ
+-- Twice the operations of the peaks before those at `rest` were spent, less what stands applied.
+pub record IsSpent {Op : Type 0} (ps : List (Peak Op)) (rest : List ℕ) (applied old new : ℕ) : Type 0 where
   pub rises : old ≤ new
-  pub most : new ≤ old + 2 * operations (take upto ps)
-  pub behind : (i : ℕ) → In i rest → upto ≤ i
+  pub most : new + applied + 2 * sum_by (length_at ps) rest ≤ old + 2 * operations ps
 
-pub nothing_spent : {Op : Type 0} (ps : List (Peak Op)) (rest : List ℕ) (old : ℕ) → IsSpent ps rest old old
-nothing_spent ps rest old = record { upto = 0; rises = omega arith; most = omega arith; behind = λ i n. omega arith }
+pub nothing_spent : {Op : Type 0} (ps : List (Peak Op)) (rest : List ℕ) (applied old : ℕ) → applied ≡ 0 → sum_by (length_at ps) rest ≤ operations ps → IsSpent ps rest applied old old
+nothing_spent ps rest applied old none few = record { rises = omega arith; most = omega (arith, none, few) }
 
-more_operations : {Op : Type 0} (ps : List (Peak Op)) (n m : ℕ) → n ≤ m → operations (take n ps) ≤ operations (take m ps)
-more_operations ps zero m le = omega arith
-more_operations ps (suc n) zero le = absurd (omega (arith, le))
-more_operations [] (suc n) (suc m) le = omega arith
-more_operations {Op} (p ∷ ps) (suc n) (suc m) le =
-    let rest = more_operations ps n m (omega (arith, le)) in
-    let first : operations (take (suc n) (p ∷ ps)) ≡ operations (p ∷ []) + operations (take n ps) = operations-append (p ∷ []) (take n ps) in
-    let second : operations (take (suc m) (p ∷ ps)) ≡ operations (p ∷ []) + operations (take m ps) = operations-append (p ∷ []) (take m ps) in
-    omega (arith, rest, first, second)
+pub spent_at : {Op : Type 0} (ps : List (Peak Op)) (left : List Candidate) (k : ℕ) → k < length left → {applied old now : ℕ} → IsSpent ps (places_of (drop k left)) applied old now
+    → IsSpent ps ((get_or left k nobody).place ∷ places_of (drop (k + 1) left)) applied old now
+spent_at ps left k there {applied} {old} {now} spent = subst (λ (cs : List Candidate). IsSpent ps (places_of cs) applied old now) (drop_more left k nobody there) spent
 
-pub spent_at : {Op : Type 0} (ps : List (Peak Op)) (places : List ℕ) (k old now : ℕ) → k < length places → IsSpent ps (drop k places) old now → IsSpent ps (get_or places k 0 ∷ drop (k + 1) places) old now
-spent_at ps places k old now there spent = subst (λ (is : List ℕ). IsSpent ps is old now) (drop_more places k 0 there) spent
+pub spent_all : {Op : Type 0} (ps : List (Peak Op)) (rest : List ℕ) (applied old now : ℕ) → IsSpent ps rest applied old now → now + applied ≤ old + 2 * operations ps
+spent_all ps rest applied old now spent = let most = spent.most in omega (arith, most)
 
-pub spent_all : {Op : Type 0} (ps : List (Peak Op)) (rest : List ℕ) (old now : ℕ) → IsSpent ps rest old now → now ≤ old + 2 * operations ps
-spent_all ps rest old now spent = let most = spent.most in omega (arith, most, operations_within ps spent.upto)
-
-pub past_end : (n : ℕ) (xs : List ℕ) → length xs ≤ n → drop n xs ≡ []
+pub past_end : {A : Type 0} (n : ℕ) (xs : List A) → length xs ≤ n → drop n xs ≡ []
 past_end zero [] le = refl
 past_end (suc n) [] le = refl
 past_end zero (x ∷ xs) le = absurd (omega (arith, le))
 past_end (suc n) (x ∷ xs) le = past_end n xs (omega (arith, le))
 
-module _ {Op : Type 0} (ps : List (Peak Op)) (j : ℕ) (rest : List ℕ) (old now new : ℕ) (p : Peak Op) (here : StandsAt ps j p) (spent : IsSpent ps (j ∷ rest) old now)
-    (rises : now ≤ new) (most : new ≤ now + 2 * length p.ops) where
-  pub spent_upto : new ≤ old + 2 * operations (take (j + 1) ps)
-  spent_upto =
-      let so_far = spent.most in
-      let next = operations_next ps j p here.0 here.1 in
-      let wide = more_operations ps spent.upto j (spent.behind j (inl refl)) in
-      omega (arith, so_far, next, wide, most)
+-- one peak: of what stood applied some is taken back, and then its own is applied
+module _ {Op : Type 0} (ps : List (Peak Op)) (j : ℕ) (rest : List ℕ) (old now mid new was shared : ℕ) (p : Peak Op) (here : StandsAt ps j p)
+    (spent : IsSpent ps (j ∷ rest) was old now) (back : now ≤ mid) (cost : mid + shared ≡ now + was) (rises : mid ≤ new) (bound : new + shared ≤ mid + length p.ops) where
+  next : sum_by (length_at ps) (j ∷ rest) ≡ length p.ops + sum_by (length_at ps) rest
+  next = sum_by-cons (length_at ps) j rest ∙ ap (λ (n : ℕ). n + sum_by (length_at ps) rest) (length_there ps j p here)
+
+  pub one_spent : (applied : ℕ) → applied ≤ length p.ops → IsSpent ps rest applied old new
+  one_spent applied some = record {
+    rises = let low = spent.rises in omega (arith, low, back, rises);
+    most = let most = spent.most in omega (arith, most, next, cost, bound, some);
+  }
 
   pub spent_within : new ≤ old + 2 * operations ps
-  spent_within = omega (arith, spent_upto, operations_within ps (j + 1))
+  spent_within = let most = spent.most in omega (arith, most, next, cost, bound)
 
-  pub one_spent : AreRising (j ∷ rest) → IsSpent ps rest old new
-  one_spent rising = record {
-    upto = j + 1;
-    rises = let low = spent.rises in omega (arith, low, rises);
-    most = spent_upto;
-    behind = λ i n. let l = each_in (λ k. j < k) rest rising.0 i n in omega (arith, l);
-  }
+-- those that stay and those to come have no more operations than all
+module _ {Op : Type 0} (ps : List (Peak Op)) (still left : List Candidate) (k m : ℕ) (there : k < length left)
+    (few : sum_by (length_at ps) (places_of still) + sum_by (length_at ps) (places_of (drop k left)) ≤ m) where
+  head_first : sum_by (length_at ps) (places_of (drop k left)) ≡ length_at ps (get_or left k nobody).place + sum_by (length_at ps) (places_of (drop (k + 1) left))
+  head_first = ap (λ (cs : List Candidate). sum_by (length_at ps) (places_of cs)) (drop_more left k nobody there)
+      ∙ sum_by-cons (length_at ps) (get_or left k nobody).place (places_of (drop (k + 1) left))
+
+  pub few_found : sum_by (length_at ps) (places_of still) + sum_by (length_at ps) (places_of (drop (k + 1) left)) ≤ m
+  few_found = omega (arith, few, head_first)
+
+  pub few_left : (more : List Candidate) (c : Candidate) → c.place ≡ (get_or left k nobody).place → more ≡ still ++ c ∷ []
+      → sum_by (length_at ps) (places_of more) + sum_by (length_at ps) (places_of (drop (k + 1) left)) ≤ m
+  few_left more c same pushed =
+      let grown : sum_by (length_at ps) (places_of more) ≡ sum_by (length_at ps) (places_of still) + length_at ps (get_or left k nobody).place =
+      ap (λ (cs : List Candidate). sum_by (length_at ps) (places_of cs)) pushed
+      ∙ ap (λ (is : List ℕ). sum_by (length_at ps) is) (map-append (λ (d : Candidate). d.place) still (c ∷ []))
+      ∙ sum_by_push (length_at ps) (places_of still) c.place ∙ ap (λ (i : ℕ). sum_by (length_at ps) (places_of still) + length_at ps i) same in
+      omega (arith, few, head_first, grown)

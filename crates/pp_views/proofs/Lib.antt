@@ -3,6 +3,7 @@ pub mod Orders
 pub mod Collecting
 pub mod Trails
 pub mod Viewing
+pub mod LiningUp
 pub mod Leaving
 pub mod Runs
 pub mod KeptPeaks

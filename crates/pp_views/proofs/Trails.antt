@@ -2,7 +2,7 @@
 use Rattle.std.specs.Prelude.{◌≡◌, ◌≤◌, ◌<◌, ◌+◌, ℕ, suc, IsTrue, List, [], ◌∷◌, ◌++◌, length, take, drop}
 use Rattle.std.proofs.Common.{refl, sym, ap, subst, ◌∙◌, arith, get_or, append_assoc}
 use Rattle.std.proofs.Math.Seq.{take-length}
-use Rattle.std.proofs.lemmas.List.{length-append, length-take, take-append-drop, append-nil}
+use Rattle.std.proofs.lemmas.List.{length-append, length-take, take-append-drop, take-map, take-take, append-nil}
 use Rattle.pp_model.specs.Lists.{Each}
 use Rattle.pp_model.specs.Object.{Item, ops}
 use Rattle.pp_spec.specs.Calls.{WasApplied}
@@ -10,8 +10,15 @@ use Rattle.pp_spec.specs.Object.{Object, IsLegal, AllowedFrom, AllRanged, IsLog,
 use Rattle.pp_spec.specs.Object.{IsLawful, state_from}
 use Rattle.pp_spec.proofs.Lists.{state-append, allowed-first, allowed-second, allowed-append}
 use Rattle.pp_spec.proofs.Lists.{log_grows, keeps_shape, allowed_is_state}
-use Rattle.pp_views.specs.Trying.{kept_from, IsTrail, MayBeTriedFrom}
+use Rattle.pp_views.specs.Trying.{kept_from, IsApplied, IsTrail, MayBeTriedFrom, Share}
 use Rattle.pp_views.proofs.Fronts.{cut_there, take_there, length-ops, op_at}
+
+-- lists that share their beginnings
+pub share_less : {A : Type 0} (n m : ℕ) (xs ys : List A) → m ≤ n → Share n xs ys → Share m xs ys
+share_less {A} n m xs ys less alike = first xs ∙ ap (λ (w : List A). take m w) alike ∙ sym (first ys)
+  where
+    first : (zs : List A) → take m zs ≡ take m (take n zs)
+    first zs = sym (take-take m n zs less)
 
 -- lists with one element at their ends
 head_is : {A : Type 0} (x y : A) (xs ys : List A) → x ∷ xs ≡ y ∷ ys → (x ≡ y) × (xs ≡ ys)
@@ -31,10 +38,6 @@ module _ {Shape State Op Undo : Type 0} (o : Object Shape State Op Undo) where
       → kept_from o s (x ++ a ∷ []) ≡ kept_from o s x ++ o.upkeep.kept (state_from o s x) a ∷ []
   kept-append s [] a = refl
   kept-append s (b ∷ x) a = ap (λ (w : List Undo). o.upkeep.kept s b ∷ w) (kept-append (o.next s b) x a)
-
-  pub length-kept : (s : State) (x : List Op) → length (kept_from o s x) ≡ length x
-  length-kept s [] = refl
-  length-kept s (b ∷ x) = ap suc (length-kept (o.next s b) x)
 
   pub no_trail : (s t : State) (us : List Undo) → us ≡ [] → t ≡ s → IsTrail o s [] us t
   no_trail s t us none e = record { allowed = tt; kept = none; leads = e }
@@ -144,19 +147,80 @@ module _ {Shape State Op Undo : Type 0} (o : Object Shape State Op Undo) where
           },
         )
 
-    -- the last of the operations is taken back, which is the n-th from 0
-    pub last_taken_back : (s t : State) (items : List (Item Op)) (us vs : List Undo) (u : Undo) (p : Item Op) → MayBeTriedFrom o s items
-        → IsTrail o s (take (length us) (ops items)) us t → us ≡ vs ++ u ∷ [] → length us ≤ length items → p ≡ get_or items (length vs) p
-        → WasApplied o p.op u t × IsTrail o s (take (length vs) (ops items)) vs (o.upkeep.back t p.op u)
-    last_taken_back s t items us vs u p may trail popped some is =
-        let long : length us ≡ length vs + 1 = ap (λ (w : List Undo). length w) popped ∙ length-append vs (u ∷ []) in
-        let there : length vs < length items = omega (arith, long, some) in
-        let whole = subst (λ (n : ℕ). IsTrail o s (take n (ops items)) us t) long trail in
-        taken_back_there s t items (length vs) vs u p.op may (subst (λ (w : List Undo). IsTrail o s (take (length vs + 1) (ops items)) w t) popped whole)
-        (omega (arith, there, length-ops items)) (op_at items (length vs) p there is)
+    -- the next one, where the first of the items were applied from s to t
+    module _ (s t : State) (items : List (Item Op)) (us : List Undo) (may : MayBeTriedFrom o s items) (h : IsApplied o s items us t)
+        (p : Item Op) (there : length us < length items) (is : p ≡ get_or items (length us) p) where
+      there_too : length us < length (ops items)
+      there_too = omega (arith, there, length-ops items)
 
-  -- where as many were kept as there are operations, all of them are allowed
-  pub whole_trail : (s t : State) (items : List (Item Op)) (us : List Undo) → IsTrail o s (take (length us) (ops items)) us t
-      → length us ≡ length items → AllowedFrom o s (ops items)
-  whole_trail s t items us trail all = subst (λ (w : List Op). AllowedFrom o s w)
-      (ap (λ (n : ℕ). take n (ops items)) (all ∙ sym (length-ops items)) ∙ take-length (ops items)) trail.allowed
+      is_op : p.op ≡ get_or (ops items) (length us) p.op
+      is_op = op_at items (length us) p there is
+
+      pub next_fits : IsTrue (o.fits (o.shape t) p.op)
+      next_fits = fits_there s t items (length us) us may h.trail h.some p.op there_too is_op
+
+      pub next_ranged : IsTrue (o.ranged p.op)
+      next_ranged = ranged_at (ops items) (length us) p.op may.may.ranged there_too is_op
+
+      pub next_reached : IsReached o t
+      next_reached = reached_there s t items (length us) us may h.trail h.some
+
+      pub next_legal : AllowedFrom o s (ops items) → IsLegal o t p.op
+      next_legal allowed = would_be_legal s t (ops items) (length us) p.op allowed there_too is_op h.trail.leads
+
+      pub next_applied : (t2 : State) (u : Undo) (vs : List Undo) → o.gives t p.op ≡ o.recorded p.op → u ≡ o.upkeep.kept t p.op → t2 ≡ o.next t p.op → vs ≡ us ++ u ∷ []
+          → IsApplied o s items vs t2
+      next_applied t2 u vs gives kept leads pushed =
+          let long : length vs ≡ length us + 1 = ap (λ (w : List Undo). length w) pushed ∙ length-append us (u ∷ []) in
+          record {
+            some = omega (arith, long, there);
+            trail = subst (λ (n : ℕ). IsTrail o s (take n (ops items)) vs t2) (sym long)
+                (trail_grows s t t2 (take (length us) (ops items)) (take (length us + 1) (ops items)) us vs p.op u h.trail (next_fits, gives) kept leads
+                (take_there (ops items) (length us) p.op there_too is_op) pushed);
+          }
+
+    -- the last one that was applied is taken back
+    pub last_taken_back : (s t : State) (items : List (Item Op)) (us vs : List Undo) (u : Undo) (p : Item Op) → MayBeTriedFrom o s items
+        → IsApplied o s items us t → us ≡ vs ++ u ∷ [] → p ≡ get_or items (length vs) p
+        → WasApplied o p.op u t × IsApplied o s items vs (o.upkeep.back t p.op u)
+    last_taken_back s t items us vs u p may h popped is =
+        let long : length us ≡ length vs + 1 = ap (λ (w : List Undo). length w) popped ∙ length-append vs (u ∷ []) in
+        let some = h.some in
+        let there : length vs < length items = omega (arith, long, some) in
+        let whole = subst (λ (n : ℕ). IsTrail o s (take n (ops items)) us t) long h.trail in
+        let back = taken_back_there s t items (length vs) vs u p.op may (subst (λ (w : List Undo). IsTrail o s (take (length vs + 1) (ops items)) w t) popped whole)
+        (omega (arith, there, length-ops items)) (op_at items (length vs) p there is) in
+        (back.0, record { some = omega (arith, there); trail = back.1 })
+
+  -- where all were applied, all of them are allowed
+  pub whole_applied : (s t : State) (items : List (Item Op)) (us : List Undo) → IsApplied o s items us t → length us ≡ length items → AllowedFrom o s (ops items)
+  whole_applied s t items us h all = subst (λ (w : List Op). AllowedFrom o s w)
+      (ap (λ (n : ℕ). take n (ops items)) (all ∙ sym (length-ops items)) ∙ take-length (ops items)) h.trail.allowed
+
+  pub none_applied : (s t : State) (items : List (Item Op)) (us : List Undo) → us ≡ [] → t ≡ s → IsApplied o s items us t
+  none_applied s t items us none e =
+      let long : length us ≡ 0 = ap (λ (w : List Undo). length w) none in
+      record {
+        some = omega (arith, long);
+        trail = subst (λ (n : ℕ). IsTrail o s (take n (ops items)) us t) (sym long) (no_trail s t us none e);
+      }
+
+  pub back_again : (s t : State) (items : List (Item Op)) (us : List Undo) → IsApplied o s items us t → length us ≤ 0 → t ≡ s
+  back_again s t items us h none =
+      let long : length us ≡ 0 = omega (arith, none) in
+      h.trail.leads ∙ ap (λ (n : ℕ). state_from o s (take n (ops items))) long
+
+  -- what was applied of the one list was applied of the other, where they share it
+  pub applied_alike : (s t : State) (xs ys : List (Item Op)) (us : List Undo) (n : ℕ) → IsApplied o s xs us t → Share n xs ys → length us ≤ n → IsApplied o s ys us t
+  applied_alike s t xs ys us n h alike within =
+      let same : take (length us) xs ≡ take (length us) ys = share_less n (length us) xs ys within alike in
+      let some = h.some in
+      let left : length (take (length us) xs) ≡ length us = omega (arith, length-take (length us) xs, some) in
+      let right = ap (λ (w : List (Item Op)). length w) same in
+      record {
+        some = omega (arith, left, right, length-take (length us) ys);
+        trail = subst (λ (w : List Op). IsTrail o s w us t) (ops_share (length us) xs ys same) h.trail;
+      }
+    where
+      ops_share : (n : ℕ) (xs ys : List (Item Op)) → take n xs ≡ take n ys → take n (ops xs) ≡ take n (ops ys)
+      ops_share n xs ys e = take-map (λ (w : Item Op). w.op) n xs ∙ ap (λ (w : List (Item Op)). ops w) e ∙ sym (take-map (λ (w : Item Op). w.op) n ys)

@@ -227,5 +227,13 @@ module _ {Shape State Op Undo : Type 0} (o : Object Shape State Op Undo) where
         may = subst (λ (w : Shape). MayBeTried o w 0 items) (sym same) may;
       }
 
+  -- nothing may be tried wherever something may
+  pub nothing_tried : (s : State) (items : List (Item Op)) → MayBeTriedFrom o s items → MayBeTriedFrom o s []
+  nothing_tried s items may = record {
+    before = may.before;
+    log = may.log;
+    may = record { fit = tt; ranged = tt; few = let few = may.may.few in omega (arith, few) };
+  }
+
   pub may_alone : (shape : Shape) (n : ℕ) (items : List (Item Op)) → MayBeTried o shape n items → MayBeTried o shape 0 items
   may_alone shape n items may = record { fit = may.fit; ranged = may.ranged; few = let few = may.few in omega (arith, few) }

@@ -4,7 +4,7 @@ use Rattle.std.specs.Prelude.{length, Some}
 use Rattle.pp_core.specs.declared.step.Step.{Step as StepOf}
 use Rattle.pp_core.specs.Steps.{Step, App, Unapp, meaning}
 use Rattle.pp_model.specs.Config.{last}
-use Rattle.pp_model.specs.Lists.{Before}
+use Rattle.pp_model.specs.Lists.{Before, In}
 use Rattle.pp_model.specs.Names.{Name, ◌=ⁿ◌}
 use Rattle.pp_model.specs.Object.{Item}
 use Rattle.pp_model.specs.Serial.{own_of}
@@ -46,6 +46,12 @@ operations ps = sum (map (λ p. length p.ops) ps)
 abbrev pub IsFaultOf : ℕ → ℕ → PeakFault → Type 0
 IsFaultOf n most (TooMany count) = (count ≡ n) × (most < n)
 IsFaultOf n most OutOfMemory = Unit {0}
+
+-- Entries of these peaks that have one id are one.
+abbrev pub IdsTell : {Op : Type 0} → List (Peak Op) → Type 0
+IdsTell {Op} ps =
+    (p q : Peak Op) (i j : Item Op) → In p ps → In q ps → In i p.ops → In j q.ops → i.id ≡ j.id
+    → i ≡ j
 
 -- What the steps of an accepted run have.
 pub record IsOrderly {Op : Type 0} (ss : List (Step Op)) : Type 0 where

@@ -1,11 +1,13 @@
 -- Proof machinery: operations that are tried from a state, and taken back.
-use Rattle.std.specs.Prelude.{◌≡◌, ◌<◌, ℕ, List, [], ◌∷◌, length, take, get_or, None}
+use Rattle.std.specs.Prelude.{◌≡◌, ◌<◌, ◌≤◌, ℕ, suc, zero, List, [], ◌∷◌, length, map, take, get_or}
+use Rattle.std.specs.Prelude.{None, sum_by}
 use Rattle.pp_model.specs.Config.{CommittedTx}
-use Rattle.pp_model.specs.Lists.{Each, In}
-use Rattle.pp_model.specs.Object.{Item}
+use Rattle.pp_model.specs.Lists.{In}
+use Rattle.pp_model.specs.Object.{Item, ops}
 use Rattle.pp_model.specs.Sound.{serial_ops}
 use Rattle.pp_spec.specs.Object.{Object, AllowedFrom, AllRanged, IsAllowed, IsLog, state_from}
-use Rattle.pp_views.specs.Peaks.{Peak}
+pub use Rattle.pp_views.specs.declared.order.Candidate.{Candidate}
+use Rattle.pp_views.specs.Peaks.{Peak, operations}
 use Rattle.pp_views.specs.Views.{MayBeTried, View}
 
 -- It tells the peak's transaction and how many operations it has, and no number yet.
@@ -14,26 +16,59 @@ pub record IsUntried {Op : Type 0} (p : Peak Op) (v : View) : Type 0 where
   pub ops : v.ops ≡ length p.ops
   pub after : v.after ≡ None
 
--- each number is less than those behind it
-abbrev pub AreRising : List ℕ → Type 0
-AreRising [] = Unit {0}
-AreRising (i ∷ is) = Each (λ j. i < j) is × AreRising is
+-- no place stands twice among these
+abbrev pub AreApart : List ℕ → Type 0
+AreApart [] = Unit {0}
+AreApart (i ∷ is) = (In i is → ⊥) × AreApart is
 
--- the places from 0 to n - 1, in order
-pub record ArePlaces (n : ℕ) (places : List ℕ) : Type 0 where
-  pub rising : AreRising places
-  pub within : (i : ℕ) → In i places → i < n
-  pub all : (i : ℕ) → i < n → In i places
+-- how many operations the peak at a place has
+abbrev pub length_at : {Op : Type 0} → List (Peak Op) → ℕ → ℕ
+length_at [] i = 0
+length_at (p ∷ ps) zero = length p.ops
+length_at (p ∷ ps) (suc i) = length_at ps i
+
+-- the places of the first n peaks, each once
+pub record ArePlaces {Op : Type 0} (ps : List (Peak Op)) (n : ℕ) (is : List ℕ) : Type 0 where
+  pub apart : AreApart is
+  pub within : (i : ℕ) → In i is → i < n
+  pub all : (i : ℕ) → i < n → In i is
+  pub cost : sum_by (length_at ps) is ≡ operations (take n ps)
 
 -- x stands at this place
 abbrev pub StandsAt : {A : Type 0} → List A → ℕ → A → Type 0
 StandsAt xs i x = (i < length xs) × (x ≡ get_or xs i x)
 
--- the places of the views that have no number, in order
-pub record AreUnnumbered (views : List View) (places : List ℕ) : Type 0 where
-  pub rising : AreRising places
-  pub there : (i : ℕ) → In i places → (v : View) × StandsAt views i v × (v.after ≡ None)
-  pub all : (i : ℕ) (v : View) → StandsAt views i v → v.after ≡ None → In i places
+-- the places of the views that have no number
+pub record AreUnnumbered (views : List View) (is : List ℕ) : Type 0 where
+  pub apart : AreApart is
+  pub there : (i : ℕ) → In i is → (v : View) × StandsAt views i v × (v.after ≡ None)
+  pub all : (i : ℕ) (v : View) → StandsAt views i v → v.after ≡ None → In i is
+
+-- the first n are the same
+abbrev pub Share : {A : Type 0} → ℕ → List A → List A → Type 0
+Share n xs ys = take n xs ≡ take n ys
+
+-- Each candidate's peak shares what the candidate says with the peak of the one before it, the
+-- first with `before`; and the last, or `before` where there is none, shares n with `behind`.
+abbrev pub AreAlikeTo : {Op : Type 0} → List (Peak Op) → List (Item Op) → List Candidate → ℕ
+    → List (Item Op) → Type 0
+AreAlikeTo ps before [] n behind = Share n before behind
+AreAlikeTo {Op} ps before (c ∷ cs) n behind =
+    (p : Peak Op) → StandsAt ps c.place p → Share c.shared before p.ops
+    × AreAlikeTo ps p.ops cs n behind
+
+abbrev pub AreAlike : {Op : Type 0} → List (Peak Op) → List (Item Op) → List Candidate → Type 0
+AreAlike ps before cs = AreAlikeTo ps before cs 0 []
+
+abbrev pub places_of : List Candidate → List ℕ
+places_of cs = map (λ c. c.place) cs
+
+-- the peaks whose views have no number, with what each shares with the one before it
+pub record AreCandidates {Op : Type 0} (ps : List (Peak Op)) (views : List View)
+    (cs : List Candidate) : Type 0 where
+  pub unnumbered : AreUnnumbered views (places_of cs)
+  pub alike : AreAlike ps [] cs
+  pub cost : sum_by (length_at ps) (places_of cs) ≤ operations ps
 
 module _ {Shape State Op Undo : Type 0} (o : Object Shape State Op Undo) where
   -- what is kept of these operations, one after another from the state s
@@ -46,6 +81,12 @@ module _ {Shape State Op Undo : Type 0} (o : Object Shape State Op Undo) where
     pub allowed : AllowedFrom o s x
     pub kept : undos ≡ kept_from s x
     pub leads : t ≡ state_from o s x
+
+  -- The first of the items were applied, from the state s to t, and these were kept.
+  pub record IsApplied (s : State) (items : List (Item Op)) (undos : List Undo)
+      (t : State) : Type 0 where
+    pub some : length undos ≤ length items
+    pub trail : IsTrail s (take (length undos) (ops items)) undos t
 
   -- A log led to the state, and the items may be tried behind it.
   pub record MayBeTriedFrom (s : State) (items : List (Item Op)) : Type 0 where

@@ -4,6 +4,7 @@
 
 mod collect;
 mod law;
+mod order;
 mod own;
 mod peak;
 mod top;

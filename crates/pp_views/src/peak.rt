@@ -1,7 +1,7 @@
 //! The peaks of a run.
 ghost use Rattle.std.specs.Prelude.{◌≡◌, ◌≤◌, IfErr, IfOk, OnOk, length};
 ghost use Rattle.pp_core.specs.declared.limits.TheConstants.{MOST_STEPS};
-ghost use Rattle.pp_views.specs.Peaks.{IsFaultOf, IsOrderly, meanings, operations, peaks};
+ghost use Rattle.pp_views.specs.Peaks.{IdsTell, IsFaultOf, IsOrderly, meanings, operations, peaks};
 
 use crate::collect::collect;
 use crate::top::tops;
@@ -58,6 +58,7 @@ pub fn peaks_of<O: Copy>(
     requires few { length list.now ≤ MOST_STEPS }
     requires orderly { IsOrderly (meanings list.now) }
     ensures peaks { IfOk result (λ found. found ≡ peaks (meanings list.now)) }
+    ensures ids { IfOk result (λ found. IdsTell found) }
     ensures few { OnOk result (operations (peaks (meanings list.now)) ≤ most) }
     ensures fault { IfErr result (IsFaultOf (operations (peaks (meanings list.now))) most) }
 {

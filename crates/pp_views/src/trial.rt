@@ -1,79 +1,65 @@
-//! Trying operations from a state, which they leave as it was.
-ghost use Rattle.std.specs.Prelude.{◌≡◌, ◌+◌, ◌*◌, ◌≤◌, ◌↔◌, IsTrue, IfOk, OnOk, length, take};
+//! Trying operations from a state, as far as each gives its recorded result.
+ghost use Rattle.std.specs.Prelude.{◌≡◌, ◌+◌, ◌≤◌, OnOk, length};
 ghost use Rattle.pp_model.specs.Object.{ops};
 ghost use Rattle.pp_spec.specs.Object.{AllowedFrom};
-ghost use Rattle.pp_views.specs.Trying.{IsTrail, MayBeTriedFrom};
+ghost use Rattle.pp_views.specs.Trying.{IsApplied, MayBeTriedFrom};
 
 use pp_core::{Item, OutOfMemory, Ticks};
 use pp_spec::{Applied, Spec};
-use std::alloc::Global;
 use std::sync::ledger::Ledger;
 
-/// Applies the operations, one after another, as far as each gives its recorded result, and keeps
-/// what takes them back.
-fn apply_legal<S: Spec, L: Ledger>(
-    alloc: Global,
+/// Applies the operations behind the first ones, which were applied, one after another, as far as
+/// each gives its recorded result, and keeps what takes them back.
+pub(crate) fn apply_rest<S: Spec, L: Ledger>(
     state: &mut S::State,
     items: &[Item<S::Op>],
-    ticks: &mut Ticks<L>,
-) -> Result<Vec<S::Undo>, OutOfMemory>
-    requires { MayBeTriedFrom S.object state.old items.now }
-    ensures trail { IfOk result (λ undos. IsTrail S.object state.old
-        (take (length undos.items) (ops items.now)) undos.items state.new) }
-    ensures some { IfOk result (λ undos. length undos.items ≤ length items.now) }
-    ensures all { IfOk result (λ undos. AllowedFrom S.object state.old (ops items.now)
-        → length undos.items ≡ length items.now) }
-    ensures rises { ticks.old ≤ ticks.new }
-    ensures bound { ticks.new ≤ ticks.old + length items.now }
-{
-    let mut undos = Vec::new(alloc);
-    for item in items {
-        match S::apply(state, &item.op, ticks)? {
-            Applied::Done(undo) => undos.push(undo)?,
-            Applied::Differs => return Ok(undos),
-        }
-    }
-    Ok(undos)
-}
-
-/// Takes back the first operations, as many as there are undo values.
-fn take_back<S: Spec, L: Ledger>(
-    state: &mut S::State,
-    items: &[Item<S::Op>],
-    mut undos: Vec<S::Undo>,
+    undos: &mut Vec<S::Undo>,
     ticks: &mut Ticks<L>,
 ) -> Result<(), OutOfMemory>
-    requires some { length undos.items ≤ length items.now }
-    requires trail { (s : S.State) × MayBeTriedFrom S.object s items.now
-        × IsTrail S.object s (take (length undos.items) (ops items.now)) undos.items state.old }
-    ensures back { OnOk result ((s : S.State) → MayBeTriedFrom S.object s items.now
-        → IsTrail S.object s (take (length undos.items) (ops items.now)) undos.items state.old
-        → state.new ≡ s) }
+    requires { (s : S.State) × MayBeTriedFrom S.object s items.now
+        × IsApplied S.object s items.now undos.old.items state.old }
+    ensures applied { OnOk result ((s : S.State) → MayBeTriedFrom S.object s items.now
+        → IsApplied S.object s items.now undos.old.items state.old
+        → IsApplied S.object s items.now undos.new.items state.new) }
+    ensures all { OnOk result ((s : S.State) → MayBeTriedFrom S.object s items.now
+        → IsApplied S.object s items.now undos.old.items state.old
+        → AllowedFrom S.object s (ops items.now) → length undos.new.items ≡ length items.now) }
     ensures rises { ticks.old ≤ ticks.new }
-    ensures bound { ticks.new ≤ ticks.old + length undos.items }
+    ensures bound { ticks.new + length undos.old.items ≤ ticks.old + length items.now }
 {
-    while let Some(undo) = undos.pop() {
-        S::undo(state, &items[undos.len()].op, undo, ticks)?;
+    for at in undos.len()..items.len() {
+        match S::apply(state, &items[at].op, ticks)? {
+            Applied::Done(undo) => undos.push(undo)?,
+            Applied::Differs => return Ok(()),
+        }
     }
     Ok(())
 }
 
-/// Whether the operations are allowed from the state.
-pub(crate) fn is_allowed_from<S: Spec, L: Ledger>(
-    alloc: Global,
+/// Takes those back that were applied behind so many first ones, the last one first.
+pub(crate) fn take_back_to<S: Spec, L: Ledger>(
     state: &mut S::State,
     items: &[Item<S::Op>],
+    undos: &mut Vec<S::Undo>,
+    len: usize,
     ticks: &mut Ticks<L>,
-) -> Result<bool, OutOfMemory>
-    requires { MayBeTriedFrom S.object state.old items.now }
-    ensures allowed { IfOk result
-        (λ allowed. IsTrue allowed ↔ AllowedFrom S.object state.old (ops items.now)) }
-    ensures same { OnOk result (state.new ≡ state.old) }
+) -> Result<(), OutOfMemory>
+    requires { (s : S.State) × MayBeTriedFrom S.object s items.now
+        × IsApplied S.object s items.now undos.old.items state.old }
+    ensures back { OnOk result ((s : S.State) → MayBeTriedFrom S.object s items.now
+        → IsApplied S.object s items.now undos.old.items state.old
+        → IsApplied S.object s items.now undos.new.items state.new) }
+    ensures few { OnOk result (length undos.new.items ≤ len) }
+    ensures cost { OnOk result
+        (ticks.new + length undos.new.items ≡ ticks.old + length undos.old.items) }
     ensures rises { ticks.old ≤ ticks.new }
-    ensures bound { ticks.new ≤ ticks.old + 2 * length items.now }
+    ensures bound { ticks.new ≤ ticks.old + length undos.old.items }
 {
-    let undos = apply_legal::<S, L>(alloc, state, items, ticks)?;
-    let allowed = undos.len() == items.len();
-    take_back::<S, L>(state, items, undos, ticks)?;
-    Ok(allowed)
+    while undos.len() > len {
+        let Some(undo) = undos.pop() else {
+            unreachable!()
+        };
+        S::undo(state, &items[undos.len()].op, undo, ticks)?;
+    }
+    Ok(())
 }

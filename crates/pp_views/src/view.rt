@@ -1,17 +1,18 @@
 //! After how many committed transactions the results of peaks are what the object gives.
-ghost use Rattle.std.specs.Prelude.{◌≡◌, ◌+◌, ◌*◌, ◌<◌, ◌≤◌, ◌^◌, ℕ, List, IfOk, OnOk, length};
+ghost use Rattle.std.specs.Prelude.{◌≡◌, ◌+◌, ◌*◌, ◌<◌, ◌≤◌, ◌^◌, ℕ, List, [], IfOk, OnOk, length};
 ghost use Rattle.pp_model.specs.Config.{CommittedTx as TxOf};
 ghost use Rattle.pp_model.specs.Lists.{In};
 ghost use Rattle.pp_model.specs.Object.{ops};
 ghost use Rattle.pp_model.specs.Sound.{serial_ops};
 ghost use Rattle.pp_spec.specs.Object.{AllRanged, AllowedFrom, IsAllowed, rules_of, state_from};
-ghost use Rattle.pp_views.specs.Peaks.{Peak as PeakOf, operations};
-ghost use Rattle.pp_views.specs.Trying.{ArePlaces, AreUnnumbered, IsStateAt, IsUntried, MayRun};
+ghost use Rattle.pp_views.specs.Peaks.{IdsTell, Peak as PeakOf, operations};
+ghost use Rattle.pp_views.specs.Trying.{AreCandidates, IsStateAt, IsUntried, MayRun};
 ghost use Rattle.pp_views.specs.Trying.{MayBeTriedFrom};
 ghost use Rattle.pp_views.specs.Views.{AreViews, IsViewBelow, MayBeTried, Pairwise};
 
+use crate::order::{Candidate, line_up};
 use crate::peak::{Peak, Peaks};
-use crate::trial::is_allowed_from;
+use crate::trial::{apply_rest, take_back_to};
 use pp_core::{Committed, CommittedTx, Item, Name, OutOfMemory, Sequence, Ticks};
 use pp_spec::{Applied, Spec};
 use std::alloc::Global;
@@ -67,78 +68,79 @@ fn go_on<S: Spec, L: Ledger>(
     Ok(())
 }
 
-/// The first places, as many as asked for.
-fn places(alloc: Global, count: usize) -> Result<Vec<usize>, OutOfMemory>
-    ensures { IfOk result (λ places. ArePlaces count places.items) }
-{
-    let mut places = Vec::new(alloc);
-    for place in 0..count {
-        places.push(place)?;
-    }
-    Ok(places)
-}
-
-/// Tries the peaks at the places of the views without a number, after so many committed
-/// transactions, and answers the places of those that still have none.
+/// Tries the candidates after so many committed transactions, one after another, and answers those
+/// that still have no number. Of what was applied for one, as much stays as the next one shares.
 fn try_left<S: Spec, L: Ledger>(
     alloc: Global,
     state: &mut S::State,
     peaks: &[Peak<S::Op>],
     views: &mut Vec<View>,
-    left: &[usize],
+    left: &[Candidate],
     number: u32,
     ticks: &mut Ticks<L>,
-) -> Result<Vec<usize>, OutOfMemory>
+) -> Result<Vec<Candidate>, OutOfMemory>
+    requires reached { MayBeTriedFrom S.object state.old [] }
     requires may { (p : PeakOf S.Op) → In p peaks.now → MayBeTriedFrom S.object state.old p.ops }
     requires as_long { length views.old.items ≡ length peaks.now }
-    requires left { AreUnnumbered views.old.items left.now }
+    requires left { AreCandidates peaks.now views.old.items left.now }
     ensures tried { OnOk result ((shape : S.Shape) (committed : List (TxOf S.Op))
         → IsStateAt S.object shape committed number state.old
         → Pairwise (IsViewBelow number (rules_of S.object shape) committed) peaks.now
         views.old.items
         → Pairwise (IsViewBelow (number + 1) (rules_of S.object shape) committed) peaks.now
         views.new.items) }
-    ensures left { IfOk result (λ still. AreUnnumbered views.new.items still.items) }
+    ensures left { IfOk result (λ still. AreCandidates peaks.now views.new.items still.items) }
     ensures same { OnOk result (state.new ≡ state.old) }
     ensures rises { ticks.old ≤ ticks.new }
     ensures bound { ticks.new ≤ ticks.old + 2 * operations peaks.now }
 {
     let mut still = Vec::new(alloc);
-    for place in left {
-        let items = peaks[*place].ops.as_slice();
-        let allowed = is_allowed_from::<S, L>(alloc, state, items, ticks)?;
-        if allowed {
-            views[*place].after = Some(number);
+    let mut undos = Vec::new(alloc);
+    let mut before: &[Item<S::Op>] = &[];
+    let mut shared = 0usize;
+    for candidate in left {
+        let items = peaks[candidate.place].ops.as_slice();
+        shared = shared.min(candidate.shared);
+        take_back_to::<S, L>(state, before, &mut undos, candidate.shared, ticks)?;
+        apply_rest::<S, L>(state, items, &mut undos, ticks)?;
+        if undos.len() == items.len() {
+            views[candidate.place].after = Some(number);
         } else {
-            still.push(*place)?;
+            still.push(Candidate {
+                place: candidate.place,
+                shared,
+            })?;
+            shared = items.len();
         }
+        before = items;
     }
+    take_back_to::<S, L>(state, before, &mut undos, 0, ticks)?;
     Ok(still)
 }
 
-/// Tries the peaks from the state before any operation. It answers that state, and the places of
-/// the views that have no number.
+/// Tries the peaks from the state before any operation. It answers that state, and those that have
+/// no number.
 fn start_all<S: Spec, L: Ledger>(
     alloc: Global,
     shape: &S::Shape,
     peaks: &[Peak<S::Op>],
     views: &mut Vec<View>,
     ticks: &mut Ticks<L>,
-) -> Result<(S::State, Vec<usize>), OutOfMemory>
+) -> Result<(S::State, Vec<Candidate>), OutOfMemory>
     requires may { (p : PeakOf S.Op) → In p peaks.now → MayBeTried S.object shape.now 0 p.ops }
+    requires ids { IdsTell peaks.now }
     requires untried { Pairwise IsUntried peaks.now views.old.items }
     ensures state { IfOk result (λ r. r.0 ≡ S.object.start shape.now) }
     ensures tried { OnOk result ((committed : List (TxOf S.Op))
         → Pairwise (IsViewBelow 1 (rules_of S.object shape.now) committed) peaks.now
         views.new.items) }
-    ensures left { IfOk result (λ r. AreUnnumbered views.new.items r.1.items) }
+    ensures left { IfOk result (λ r. AreCandidates peaks.now views.new.items r.1.items) }
     ensures rises { ticks.old ≤ ticks.new }
     ensures bound { ticks.new ≤ ticks.old + 2 * operations peaks.now }
 {
-    let all = places(alloc, peaks.len())?;
+    let all = line_up(alloc, peaks)?;
     let mut state = S::empty(alloc, shape)?;
-    let places = all.as_slice();
-    let left = try_left::<S, L>(alloc, &mut state, peaks, views, places, 0, ticks)?;
+    let left = try_left::<S, L>(alloc, &mut state, peaks, views, all.as_slice(), 0, ticks)?;
     Ok((state, left))
 }
 
@@ -150,16 +152,18 @@ fn try_behind<S: Spec, L: Ledger>(
     entries: &[Item<S::Op>],
     peaks: &[Peak<S::Op>],
     views: &mut Vec<View>,
-    left: Vec<usize>,
+    left: Vec<Candidate>,
     number: u32,
     ticks: &mut Ticks<L>,
-) -> Result<Vec<usize>, OutOfMemory>
+) -> Result<Vec<Candidate>, OutOfMemory>
     requires goes_on { MayBeTriedFrom S.object state.old entries.now }
     requires allowed { AllowedFrom S.object state.old (ops entries.now) }
+    requires reached { MayBeTriedFrom S.object
+        (state_from S.object state.old (ops entries.now)) [] }
     requires may { (p : PeakOf S.Op) → In p peaks.now
         → MayBeTriedFrom S.object (state_from S.object state.old (ops entries.now)) p.ops }
     requires as_long { length views.old.items ≡ length peaks.now }
-    requires left { AreUnnumbered views.old.items left.items }
+    requires left { AreCandidates peaks.now views.old.items left.items }
     ensures state { OnOk result (state.new ≡ state_from S.object state.old (ops entries.now)) }
     ensures tried { OnOk result ((shape : S.Shape) (committed : List (TxOf S.Op)) (before : ℕ)
         → number ≡ before + 1 → IsStateAt S.object shape committed before state.old
@@ -169,7 +173,7 @@ fn try_behind<S: Spec, L: Ledger>(
         views.old.items
         → Pairwise (IsViewBelow (number + 1) (rules_of S.object shape) committed) peaks.now
         views.new.items) }
-    ensures left { IfOk result (λ still. AreUnnumbered views.new.items still.items) }
+    ensures left { IfOk result (λ still. AreCandidates peaks.now views.new.items still.items) }
     ensures rises { ticks.old ≤ ticks.new }
     ensures bound { ticks.new ≤ ticks.old + length entries.now + 2 * operations peaks.now }
 {
@@ -177,8 +181,8 @@ fn try_behind<S: Spec, L: Ledger>(
         return Ok(left);
     }
     go_on::<S, L>(state, entries, ticks)?;
-    let places = left.as_slice();
-    let still = try_left::<S, L>(alloc, state, peaks, views, places, number, ticks)?;
+    let left = left.as_slice();
+    let still = try_left::<S, L>(alloc, state, peaks, views, left, number, ticks)?;
     Ok(still)
 }
 
@@ -194,6 +198,7 @@ fn number_all<S: Spec, L: Ledger>(
 ) -> Result<(), OutOfMemory>
     requires few { length committed.now < 2 ^ 32 }
     requires runs { MayRun S.object shape.now committed.now peaks.now }
+    requires ids { IdsTell peaks.now }
     requires untried { Pairwise IsUntried peaks.now views.old.items }
     ensures views { OnOk result
         (AreViews (rules_of S.object shape.now) committed.now peaks.now views.new.items) }
@@ -232,6 +237,7 @@ pub fn explain<S: Spec, L: Ledger>(
     requires ranged { AllRanged S.object (serial_ops committed.now) }
     requires may { (p : PeakOf S.Op) → In p peaks.now
         → MayBeTried S.object shape.now (length (serial_ops committed.now)) p.ops }
+    requires ids { IdsTell peaks.now }
     ensures views { IfOk result
         (AreViews (rules_of S.object shape.now) committed.now peaks.now) }
     ensures rises { ticks.old ≤ ticks.new }

@@ -8,11 +8,12 @@ use Rattle.pp_object.specs.Objects.{kinds_of, objects}
 use Rattle.pp_object.specs.declared.act.Op.{Op}
 use Rattle.pp_spec.specs.Object.{AllRanged, rules_of}
 use Rattle.pp_views.specs.declared.peak.Peak.{Peak}
-use Rattle.pp_views.specs.Peaks.{operations}
+use Rattle.pp_views.specs.Peaks.{IdsTell, operations}
 use Rattle.pp_views.specs.Views.{AreViews, MayBeTried}
 use Rattle.pp_certify.proofs.Fitting.{serial_fits}
 use Rattle.pp_certify.proofs.Naming.{allowed_over}
-use Rattle.pp_attempts.proofs.Telling.{few_committed, may_be_tried}
+use Rattle.pp_attempts.proofs.Telling.{few_committed, may_be_tried, orderly_steps}
+use Rattle.pp_views.proofs.KeptPeaks.{ids_tell}
 use Rattle.pp_attempts.proofs.report.run_views.Goals as goal
 
 pub explain-requires-clause-few : goal.explain-requires-clause-few
@@ -40,6 +41,12 @@ explain-requires-clause-may g c = λ p i.
     let few : n ≤ 200_256 = omega (arith, same, serial_fits (rules_of objects machine.shape) machine.config c.count-count.ensures.sound, short, count) in
     subst (λ (k : List Kind). MayBeTried objects k n p.ops) (sym c.in_ok-kinds.ensures)
     (may_be_tried c.requires.0 c.args.tally.now machine c.requires.1 h p n (subst (λ (w : List (Peak Op)). In p w) c.requires.3 i) few)
+
+pub explain-requires-clause-ids : goal.explain-requires-clause-ids
+explain-requires-clause-ids g c =
+    let steps = c.requires.1 in
+    subst (λ (ps : List (Peak Op)). IdsTell ps) (sym c.requires.3)
+    (ids_tell steps (orderly_steps c.requires.0 c.args.tally.now c.args.machine.now steps c.requires.2))
 
 pub returns-clause-views : goal.returns-clause-views
 returns-clause-views g c =

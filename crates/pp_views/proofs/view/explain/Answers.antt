@@ -2,7 +2,7 @@ use Rattle.std.proofs.Common.{length, arith, subst, sym, ◌∙◌, List}
 use Rattle.pp_model.specs.Config.{CommittedTx}
 use Rattle.pp_model.specs.Lists.{In}
 use Rattle.pp_model.specs.Sound.{serial_ops}
-use Rattle.pp_views.specs.Peaks.{Peak}
+use Rattle.pp_views.specs.Peaks.{IdsTell, Peak}
 use Rattle.pp_views.specs.Trying.{IsUntried, MayRun}
 use Rattle.pp_views.specs.Views.{Pairwise}
 use Rattle.pp_views.proofs.Viewing.{few_alone}
@@ -29,3 +29,6 @@ number_all-requires-clause-runs g c =
 pub number_all-requires-clause-untried : goal.number_all-requires-clause-untried
 number_all-requires-clause-untried g c =
     subst (λ (w : List (Peak _)). Pairwise IsUntried w c.in_ok-views.views.items) (c.as_slice.ensures ∙ sym c.as_slice-2.ensures) c.in_ok-views.ensures
+
+pub number_all-requires-clause-ids : goal.number_all-requires-clause-ids
+number_all-requires-clause-ids g c = subst (λ (w : List (Peak _)). IdsTell w) (sym c.as_slice-2.ensures) c.requires.ids

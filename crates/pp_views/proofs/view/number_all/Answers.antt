@@ -1,4 +1,4 @@
-use Rattle.std.proofs.Common.{◌≡◌, ◌≤◌, ◌+◌, List, length, take, arith, rules, subst, sym, ap, ◌∙◌, refl}
+use Rattle.std.proofs.Common.{◌≡◌, ◌≤◌, ◌+◌, [], List, length, take, arith, rules, subst, sym, ap, ◌∙◌, refl}
 use Rattle.std.proofs.lemmas.List.{length-append}
 use Rattle.pp_model.specs.Object.{Item, ops}
 use Rattle.pp_model.specs.Sound.{serial_ops}
@@ -38,7 +38,7 @@ returns-then-len-eq0-clause-views g c =
     let empty : length c.loop-transaction.left.items ≡ 0 = let len : c.len.result ≡ length c.loop-transaction.left.items = search rules in sym len ∙ c.if-len-eq0.true in
     let le : i + 1 ≤ length D + 1 = omega (arith, c.loop-transaction-test.true) in
     all_numbered g.S.Spec.object c.args.peaks.now c.args.shape.now D (i + 1) (length D + 1) c.loop-transaction.views.items c.loop-transaction.left.items empty le
-    c.loop-transaction.invariant.left c.loop-transaction.invariant.views
+    c.loop-transaction.invariant.left.unnumbered c.loop-transaction.invariant.views
 
 pub returns-then-len-eq0-clause-bound : goal.returns-then-len-eq0-clause-bound
 returns-then-len-eq0-clause-bound g c =
@@ -65,6 +65,17 @@ try_behind-requires-clause-allowed g c =
     subst (λ (w : List (Item _)). AllowedFrom o c.loop-transaction.state (ops w)) (sym c.as_slice-entries.ensures)
     (next_allowed o c.args.shape.now c.args.committed.now c.loop-transaction.transaction-index c.loop-transaction.state c.loop-transaction.invariant.state
     g.met.S.Spec.lawful d c.loop-transaction-test.true c.transaction-item.is c.requires.runs.allowed c.requires.runs.ranged)
+
+pub try_behind-requires-clause-reached : goal.try_behind-requires-clause-reached
+try_behind-requires-clause-reached g c =
+    let o = g.S.Spec.object in
+    let d = c.transaction-item.result in
+    let s = state_from o c.loop-transaction.state (ops c.as_slice-entries.result.now) in
+    let at = next_state o c.args.shape.now c.args.committed.now c.loop-transaction.transaction-index c.loop-transaction.state c.loop-transaction.invariant.state
+    g.met.S.Spec.lawful d c.loop-transaction-test.true c.transaction-item.is c.requires.runs.allowed c.requires.runs.ranged s
+    (ap (λ (w : List (Item _)). state_from o c.loop-transaction.state (ops w)) c.as_slice-entries.ensures) in
+    let few = c.requires.runs.few in
+    may_be_tried_there o c.args.shape.now c.args.committed.now (c.loop-transaction.transaction-index + 1) s at [] (record { fit = tt; ranged = tt; few = omega (arith, few) })
 
 pub try_behind-requires-clause-may : goal.try_behind-requires-clause-may
 try_behind-requires-clause-may g c = λ p i.

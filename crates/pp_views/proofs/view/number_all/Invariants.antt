@@ -2,7 +2,7 @@ use Rattle.std.proofs.Common.{◌≡◌, ◌≤◌, ◌+◌, ◌*◌, take, leng
 use Rattle.pp_model.specs.Sound.{serial_ops}
 use Rattle.pp_spec.specs.Object.{rules_of}
 use Rattle.pp_views.specs.Peaks.{operations}
-use Rattle.pp_views.specs.Trying.{AreUnnumbered, IsStateAt}
+use Rattle.pp_views.specs.Trying.{AreCandidates, IsStateAt}
 use Rattle.pp_views.specs.Views.{IsViewBelow, Pairwise}
 use Rattle.pp_views.proofs.view.number_all.Given as goal
 
@@ -11,7 +11,7 @@ invariant-loop-transaction g l = record {
   number : l.number ≡ l.transaction-index;
   state : IsStateAt g.S.Spec.object l.shape l.committed l.transaction-index l.state;
   views : Pairwise (IsViewBelow (l.transaction-index + 1) (rules_of g.S.Spec.object l.shape) l.committed) l.peaks l.views.items;
-  left : AreUnnumbered l.views.items l.left.items;
+  left : AreCandidates l.peaks l.views.items l.left.items;
   rises : l.fn.ticks ≤ l.ticks;
   cost : l.ticks ≤ l.fn.ticks + length (serial_ops (take l.transaction-index l.committed))
       + 2 * ((l.transaction-index + 1) * operations l.peaks);

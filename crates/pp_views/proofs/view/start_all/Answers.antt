@@ -1,10 +1,9 @@
-use Rattle.std.proofs.Common.{◌∙◌, subst, sym}
+use Rattle.std.proofs.Common.{◌∙◌, [], arith, subst, sym}
 use Rattle.pp_spec.specs.Object.{rules_of}
-use Rattle.pp_views.specs.Trying.{AreUnnumbered, IsUntried}
+use Rattle.pp_views.specs.Trying.{AreCandidates, IsUntried}
 use Rattle.pp_views.specs.Views.{IsViewBelow}
-use Rattle.pp_views.proofs.Leaving.{all_unnumbered}
+use Rattle.pp_views.proofs.Leaving.{first_line}
 use Rattle.pp_views.proofs.Viewing.{first_state, pairwise_as, pairwise_long, start_may, untried_below}
-use Rattle.std.proofs.Common.{refl}
 use Rattle.pp_views.proofs.view.start_all.Goals as goal
 
 pub try_left-requires-clause-may : goal.try_left-requires-clause-may
@@ -16,8 +15,14 @@ try_left-requires-clause-as_long g c = pairwise_long IsUntried c.args.peaks.now 
 
 pub try_left-requires-clause-left : goal.try_left-requires-clause-left
 try_left-requires-clause-left g c =
-    subst (λ is. AreUnnumbered c.args.views.now.items is) (sym c.as_slice-places.ensures.value)
-    (all_unnumbered c.args.peaks.now c.args.views.now.items _ c.in_ok-all.all.items refl (pairwise_long IsUntried c.args.peaks.now c.args.views.now.items c.requires.untried) c.requires.untried c.in_ok-all.ensures)
+    let ps = c.args.peaks.now in
+    let vs = c.args.views.now.items in
+    subst (λ cs. AreCandidates ps vs cs) (sym c.as_slice.ensures.value)
+    (first_line ps vs c.in_ok-all.all.items (pairwise_long IsUntried ps vs c.requires.untried) c.requires.untried c.in_ok-all.ensures.places c.in_ok-all.ensures.alike)
+
+pub try_left-requires-clause-reached : goal.try_left-requires-clause-reached
+try_left-requires-clause-reached g c =
+    start_may g.S.Spec.object g.met.S.Spec.lawful c.args.shape.now c.in_ok-state.state [] c.in_ok-state.ensures (record { fit = tt; ranged = tt; few = omega arith })
 
 pub returns-clause-state : goal.returns-clause-state
 returns-clause-state g c = c.in_ok-left.ensures.same ∙ c.in_ok-state.ensures
