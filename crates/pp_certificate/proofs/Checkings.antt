@@ -25,7 +25,7 @@ use Rattle.pp_recheck.proofs.Over.{head_over, taken_over}
 use Rattle.pp_recheck.proofs.Read.{leads_on, read_on}
 use Rattle.pp_certificate.specs.Checkings.{line_in, read_in, Closes, Covers, CoversBlank}
 use Rattle.pp_certificate.specs.Checkings.{CoversNamed, LeadsOn, TakesLine}
-use Rattle.pp_certificate.specs.Reading.{first_line, line_of, later_line, objects_on, objects_in}
+use Rattle.pp_certificate.specs.Reading.{first_line, line_of, objects_on, objects_in}
 use Rattle.pp_certificate.specs.Reading.{objects_named, reader, reader_of}
 use Rattle.pp_certificate.specs.declared.checking.Checking.{Checking}
 use Rattle.pp_certificate.specs.declared.checking.Checking.TheVariants.{Before, Within}
@@ -33,15 +33,6 @@ use Rattle.pp_certificate.proofs.Naming.{shown_named}
 
 abbrev So : Type 0
 So = ReadSoFar (List Kind) Op
-
--- no line was read
-pub covers_nothing : CoversBlank [] (record { stage = Fresh; lines = 0 })
-covers_nothing = record {
-  unnamed = λ more. refl;
-  leads = λ catalog. refl;
-  fresh = refl;
-  count = refl;
-}
 
 module _ (lines : List (List ℕ)) (line : List ℕ) where
   -- one line more

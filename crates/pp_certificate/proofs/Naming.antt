@@ -11,7 +11,7 @@ use Rattle.pp_object.specs.declared.states.ObjectState.{ObjectState}
 use Rattle.pp_object.specs.laws.Objects.{objects_lawful}
 use Rattle.pp_spec.specs.Object.{AllowedFrom, IsAllowed, state_after}
 use Rattle.pp_spec.proofs.Places.{reached_shape}
-use Rattle.pp_text.specs.Texts.{AreStatesOf, IsNamed}
+use Rattle.pp_text.specs.Texts.{AreStatesOf}
 use Rattle.pp_recheck.specs.declared.shown.Shown.{Shown}
 use Rattle.pp_recheck.specs.Laws.{ShowsAllowed}
 use Rattle.pp_certificate.specs.Checkings.{IsShownOf}

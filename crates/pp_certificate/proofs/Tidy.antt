@@ -9,12 +9,12 @@ use Rattle.pp_core.specs.declared.entry.Item.{Item}
 use Rattle.pp_model.specs.Lists.{Each}
 use Rattle.pp_object.specs.One.{call_of, recorded_by}
 use Rattle.pp_object.specs.declared.act.Op.{Op}
-use Rattle.pp_lines.specs.Headers.{object_value, item_value}
+use Rattle.pp_lines.specs.Headers.{item_value}
 use Rattle.pp_lines.specs.Lines.{IsOneLine}
 use Rattle.pp_lines.specs.Operations.{arity_in}
 use Rattle.pp_lines.specs.Statable.{IsId, IsOpOn}
 use Rattle.pp_lines.proofs.Bodies.{arguments_flat}
-use Rattle.pp_lines.proofs.Headers.{kind_is_word}
+use Rattle.pp_lines.proofs.Headers.{objects_flat, objects_tidy}
 use Rattle.pp_lines.proofs.Names.{named_at}
 use Rattle.pp_lines.proofs.Operations.{there, op_tidy, whole_numbers, near_numbers}
 use Rattle.pp_lines.proofs.Steps.{answer_flat}
@@ -23,12 +23,6 @@ use Rattle.pp_certificate.specs.Lines.{head_value, position_value, row_value, se
 use Rattle.pp_certificate.specs.Lines.{head_bytes, entry_bytes, row_bytes, serial_bytes}
 
 -- ---- the head
-objects_tidy : (P : Num → Type 0) (catalog : Objects) → HasNames catalog
-    → AreTidy P (items_of (map object_value catalog))
-objects_tidy P [] h = tt
-objects_tidy P (e ∷ es) h =
-    ((refl, (refl, kind_is_word e.1, (refl, h.0.bytes, tt))), objects_tidy P es h.1)
-
 head_tidy : (P : Num → Type 0) (catalog : Objects) → HasNames catalog → P (unsigned 1)
     → IsTidy P (head_value catalog)
 head_tidy P catalog h p = (refl, (refl, p, (refl, objects_tidy P catalog h, tt)))
@@ -41,10 +35,6 @@ head_no_float catalog h = no_float (head_value catalog) (head_tidy IsWhole catal
 
 pub head_one_line : (catalog : Objects) → HasNames catalog → IsOneLine (head_bytes catalog)
 head_one_line catalog h = one_line_text (head_value catalog) (head_tidy IsWhole catalog h tt)
-
-objects_flat : (catalog : Objects) → items_depth (items_of (map object_value catalog)) ≤ 1
-objects_flat [] = omega arith
-objects_flat (e ∷ es) = omega (arith, objects_flat es)
 
 pub head_shallow : (catalog : Objects) → depth (head_value catalog) ≤ max_depth
 head_shallow catalog = omega (arith, objects_flat catalog)

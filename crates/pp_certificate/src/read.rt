@@ -50,6 +50,7 @@ fn found<X: Drop>(read: Result<X, RecordFault>) -> Result<Option<X>, OutOfMemory
     }
 }
 
+/// The object that the line is, or nothing where it is none.
 #[tactic(auto, using(crate::proofs::Parsed::found_is))]
 fn object_found(alloc: Global, line: &[u8]) -> Result<Option<Value>, OutOfMemory>
     ensures { IfOk result (λ value. option_map view value ≡ found (object_of line.now)) }
@@ -57,6 +58,7 @@ fn object_found(alloc: Global, line: &[u8]) -> Result<Option<Value>, OutOfMemory
     found(object_on(alloc, line))
 }
 
+/// The objects that the value names, or nothing where they are not of their form.
 #[tactic(auto, using(crate::proofs::Parsed::same_found))]
 fn objects_found(alloc: Global, value: &Value) -> Result<Option<Catalog>, OutOfMemory>
     ensures { IfOk result (λ catalog. catalog ≡ found (catalog_of (view value.now))) }
@@ -64,6 +66,7 @@ fn objects_found(alloc: Global, value: &Value) -> Result<Option<Catalog>, OutOfM
     found(catalog_in(alloc, value))
 }
 
+/// The operation with its id that the value is, or nothing where it is none.
 #[tactic(auto, using(crate::proofs::Parsed::same_found))]
 fn item_found(catalog: &Catalog, value: &Value) -> Result<Option<Item<Op>>, OutOfMemory>
     ensures item { IfOk result (λ item. item ≡ found (item_of catalog.now (view value.now))) }
@@ -99,6 +102,7 @@ pub fn read_objects(alloc: Global, line: &[u8]) -> Result<Option<Catalog>, OutOf
     }
 }
 
+/// These values as whole numbers from 0 to 999,999,999, or nothing where one is none.
 #[tactic(auto, using(crate::proofs::Parsed::walk))]
 fn numbers_among(alloc: Global, values: &[Value]) -> Result<Option<Positions>, OutOfMemory>
     ensures numbers { IfOk result (λ list. list ≡ numbers_of (items_view values.now)) }
@@ -114,7 +118,7 @@ fn numbers_among(alloc: Global, values: &[Value]) -> Result<Option<Positions>, O
     Ok(Some(list))
 }
 
-/// A row of exchanges.
+/// The row of 1 to 1000 positions that the value is, or nothing where it is none.
 #[tactic(auto, unfolding(crate::specs::Reading::row_of), using(pp_json::proofs::Objects::count_view))]
 fn row_in(alloc: Global, value: &Value) -> Result<Option<Positions>, OutOfMemory>
     ensures row { IfOk result (λ row. row ≡ row_of (view value.now)) }
@@ -129,6 +133,7 @@ fn row_in(alloc: Global, value: &Value) -> Result<Option<Positions>, OutOfMemory
     }
 }
 
+/// What a line says that has this row.
 fn row_said(alloc: Global, row: &Value) -> Result<Line<Kinds, Op>, OutOfMemory>
     ensures line { IfOk result (λ line. line ≡ line_of Exchanges (row_of (view row.now))) }
     ensures readable { IfOk result (IsReadable objects) }
@@ -139,6 +144,7 @@ fn row_said(alloc: Global, row: &Value) -> Result<Line<Kinds, Op>, OutOfMemory>
     }
 }
 
+/// What a line says that has this serial number.
 fn serial_said(serial: &Value) -> Line<Kinds, Op>
     ensures line { result ≡ line_of Serial (number_of (view serial.now)) }
     ensures readable { IsReadable objects result }
@@ -149,6 +155,7 @@ fn serial_said(serial: &Value) -> Line<Kinds, Op>
     }
 }
 
+/// What a line says that has neither: an entry.
 fn item_said(catalog: &Catalog, value: &Value) -> Result<Line<Kinds, Op>, OutOfMemory>
     ensures line { IfOk result (λ line.
         line ≡ line_of Entry (found (item_of catalog.now (view value.now)))) }

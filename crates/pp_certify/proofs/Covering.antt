@@ -58,7 +58,7 @@ few_begins sc tally f = omega (arith, f.begun, f.fewer, length_filter test_begin
 
 -- a blank line
 
-follows_line : (sc : InputScan) (tally : Tally) → IsTallied sc tally → IsTallied sc (with_line tally)
+unfoldable pub follows_line : (sc : InputScan) (tally : Tally) → IsTallied sc tally → IsTallied sc (with_line tally)
 follows_line sc tally f = record { at = f.at; header = f.header; sound = f.sound; begun = f.begun; fewer = omega (arith, f.fewer) }
 
 skip_covers : (sc : InputScan) (p : Progress) → Covers sc p → Covers sc (with_blank p)

@@ -12,6 +12,7 @@ ghost use Rattle.pp_json.specs.Records.{IsReadable, record_of};
 ghost use Rattle.pp_json.specs.Starts.{IsReadableStart};
 ghost use Rattle.pp_json.specs.declared.header.Header.{Header as HeaderOf};
 ghost use Rattle.pp_json.specs.declared.fault.RecordFault.{RecordFault as FaultOf};
+ghost use Rattle.pp_json.specs.declared.fault.RecordFault.TheVariants as faults;
 ghost use Rattle.pp_model.specs.Config.{first};
 ghost use Rattle.pp_object.specs.Objects.{kinds_of, objects, place_of};
 ghost use Rattle.pp_styles.specs.AnyFronts.{any_style};
@@ -19,6 +20,8 @@ ghost use Rattle.pp_styles.specs.Driving.{CostAtMost};
 ghost use Rattle.pp_styles.specs.Meanings.{meanings};
 ghost use Rattle.pp_reading.specs.Takers.{IfFault, IsNext, LeadsOn, StopsAt, StopsWith};
 ghost use Rattle.pp_reading.specs.declared.cause.Cause.TheVariants.{TooManySteps};
+ghost use Rattle.pp_reading.specs.declared.stop.Failure.TheVariants as failures;
+ghost use Rattle.pp_reading.specs.declared.stop.Stop.TheVariants as stops;
 ghost use Rattle.pp_certify.specs.declared.progress.Progress.TheVariants.{Running, Rejected};
 ghost use Rattle.pp_certify.specs.Costs.{start_at_most};
 ghost use Rattle.pp_certify.specs.Expansions.{Brings};
@@ -44,8 +47,10 @@ use std::alloc::Global;
 use std::sync::ledger::Ledger;
 
 /// The stop at a line that can not be read.
+#[tactic(auto, using(crate::proofs::Refused::refused_alone))]
 pub fn stop_at(line: u32, fault: RecordFault) -> Stop<Cause>
-    ensures { IfFault result (λ at cause. (at ≡ line) × (cause_of fault ≡ Ok cause)) }
+    ensures fault { IfFault result (λ at cause. (at ≡ line) × (cause_of fault ≡ Ok cause)) }
+    ensures memory { result ≡ stops.Failure failures.OutOfMemory → fault ≡ faults.OutOfMemory }
 {
     match cause_of(fault) {
         Ok(cause) => Stop::Fault(line, cause),

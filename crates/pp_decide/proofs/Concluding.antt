@@ -4,7 +4,6 @@ use Rattle.std.proofs.Common.{refl, sym, ap, ◌∙◌, subst, arith}
 use mathlib.Core.Logic.{inl, inr}
 use Rattle.pp_core.specs.declared.call.Kind.{Kind}
 use Rattle.pp_core.specs.declared.entry.CommittedTx.{CommittedTx}
-use Rattle.pp_core.specs.declared.status.Status.{Status}
 use Rattle.pp_core.specs.declared.status.Status.TheVariants as statuses
 use Rattle.pp_front.specs.Records.{RunRecord}
 use Rattle.pp_front.specs.Runs.{IsRun, Lined, LinedSteps, Records, bare}
@@ -31,7 +30,7 @@ use Rattle.pp_certify.specs.Scans.{InputScan}
 use Rattle.pp_certify.specs.declared.progress.Tally.{Tally}
 use Rattle.pp_certify.proofs.Concluding.{serial_is}
 use Rattle.pp_decide.specs.Costs.{OfTried, QuickCostsAtLeast, QuickCostsAtMost, RecordsCostAtMost, tried_most}
-use Rattle.pp_decide.specs.Decisions.{Accepts, AllHold, Decision, Faulty, IsDecision, IsDecisionBehind, IsDecisionOf, IsDecisionTold, IsQuick, Rejects, acceptance, quick_fault, steps_behind}
+use Rattle.pp_decide.specs.Decisions.{Decision, Faulty, IsDecision, IsDecisionBehind, IsDecisionOf, IsDecisionTold, IsQuick, Rejects, acceptance, quick_fault, steps_behind}
 use Rattle.pp_decide.specs.Reports.{quick_accepted_text, quick_rejected_text}
 use Rattle.pp_decide.specs.Taking.{AreGood, HasFailed}
 use Rattle.pp_decide.specs.declared.deciding.Deciding.TheVariants.{Running, Rejected}

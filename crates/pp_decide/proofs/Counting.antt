@@ -1,6 +1,6 @@
 -- How far the counter of operations rises, line by line.
 use Rattle.std.specs.Prelude.{◌≡◌, ◌≤◌, ◌+◌, ℕ, true, false, List, [], ◌∷◌, ◌++◌, Option, None, Some, Result, Ok, Err}
-use Rattle.std.proofs.Common.{refl, sym, ap, ◌∙◌, subst, arith}
+use Rattle.std.proofs.Common.{refl, sym, ap, subst, arith}
 use mathlib.Core.Logic.{inl, inr}
 use Rattle.pp_core.specs.declared.answer.OutOfMemory.{OutOfMemory}
 use Rattle.pp_core.specs.declared.call.Kind.{Kind}
@@ -27,11 +27,11 @@ use Rattle.pp_certify.specs.Objects.{object_of, start_of}
 use Rattle.pp_certify.specs.Progresses.{header_at_most, is_too_many, with_record}
 use Rattle.pp_certify.specs.Scans.{InputScan, nothing, scan_line, with_fault, with_header, with_next}
 use Rattle.pp_certify.specs.declared.progress.Tally.{Tally}
+use Rattle.pp_certify.proofs.Counting.{add_le, up_more}
 use Rattle.pp_certify.proofs.Covering.{on_record, scan_next}
 use Rattle.pp_certify.proofs.Scanning.{scan_blank}
 use Rattle.pp_decide.specs.Costs.{OfTried, RecordsCostAtMost, first_brief, tried_most}
-use Rattle.pp_decide.specs.Decisions.{is_boosted}
-use Rattle.pp_decide.specs.Taking.{AreGood, Counts, Covers, HasFailed, HeaderTaken, good_ops, with_blank}
+use Rattle.pp_decide.specs.Taking.{AreGood, Counts, Covers, HasFailed, good_ops, with_blank}
 use Rattle.pp_decide.specs.declared.deciding.Deciding.{Deciding}
 use Rattle.pp_decide.specs.declared.deciding.Deciding.TheVariants.{Waiting, Running, Rejected}
 use Rattle.pp_decide.proofs.Covering.{covers_sound, header_scan}
@@ -39,14 +39,8 @@ use Rattle.pp_decide.proofs.Readers.{all_tried, brief_is, good_runs}
 
 -- ---- numbers
 
-up_more : (old new a b : ℕ) → new ≤ old + a → a ≤ b → new ≤ old + b
-up_more old new a b x y = omega (arith, x, y)
-
 from_none : (old new a : ℕ) → new ≤ old + 0 → new ≤ old + a
 from_none old new a x = omega (arith, x)
-
-add_to : (s a b : ℕ) → a ≤ b → s + a ≤ s + b
-add_to s a b x = omega (arith, x)
 
 tried_next : (old now new s m t u n : ℕ) → now ≤ old + (s + m) → m + u ≤ n → t ≡ u → new ≤ now + t → new ≤ old + (s + n)
 tried_next old now new s m t u n x y e z = omega (arith, x, y, e, z)
@@ -90,7 +84,7 @@ wider_most header rs more old new most tried k =
     let B = first_brief header.what in
     let f = tried_front (object_of header.what) place_of (bare rs) B (bare more) tried (subst (λ (l : List (RunRecord Op)). AreTried (object_of header.what) place_of B l tried) (bare_append rs more) k) in
     up_more old new (tried_most header.what f.0) (tried_most header.what tried) (most f.0 f.1)
-    (add_to (start_at_most (start_of header.what)) (records_most place_of B f.0) (records_most place_of B tried) f.2)
+    (add_le (start_at_most (start_of header.what)) (records_most place_of B f.0) (records_most place_of B tried) f.2)
 
 pub most_widens : (sc wider : InputScan) (more : Records (RunRecord Op)) (old new : ℕ) → ((h : Lined Header) → sc.header ≡ Some h → wider.header ≡ Some h) → wider.records ≡ sc.records ++ more → RecordsCostAtMost sc old new
     → RecordsCostAtMost wider old new

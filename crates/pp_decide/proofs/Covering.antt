@@ -20,10 +20,10 @@ use Rattle.pp_quick.proofs.Failures.{failure_law}
 use Rattle.pp_reading.specs.declared.cause.Cause.{Cause}
 use Rattle.pp_reading.specs.declared.cause.Cause.TheVariants.{NotBoosted}
 use Rattle.pp_certify.specs.Objects.{object_of, start_of, translation_of}
-use Rattle.pp_certify.specs.Progresses.{IsRefused, IsTallied, is_too_many, with_line, with_record}
+use Rattle.pp_certify.specs.Progresses.{IsRefused, IsTallied, is_too_many, with_record}
 use Rattle.pp_certify.specs.Scans.{InputScan, nothing, scan_line, with_fault, with_header, with_next}
 use Rattle.pp_certify.specs.declared.progress.Tally.{Tally}
-use Rattle.pp_certify.proofs.Covering.{follows_next, on_record, record_fault, scan_next}
+use Rattle.pp_certify.proofs.Covering.{follows_line, follows_next, on_record, record_fault, scan_next}
 use Rattle.pp_certify.proofs.Scanning.{faulty_at, scan_blank, scan_header}
 use Rattle.pp_decide.specs.Decisions.{FailsOn, is_boosted, quick_fault, style_fault}
 use Rattle.pp_decide.specs.Taking.{AreGood, Covers, HasFailed, HeaderTaken, IsHeaderRefused, lines_of, with_blank}
@@ -48,9 +48,6 @@ covers_fault sc other (Running tally quick) c same = boosted_fault other (headed
 covers_fault sc other (Rejected tally line) c same = boosted_fault other (headed sc tally c.follows) (same ∙ c.follows.header) c.style
 
 -- ---- a blank line
-
-follows_line : (sc : InputScan) (tally : Tally) → IsTallied sc tally → IsTallied sc (with_line tally)
-follows_line sc tally f = record { at = f.at; header = f.header; sound = f.sound; begun = f.begun; fewer = omega (arith, f.fewer) }
 
 skip_covers : (sc : InputScan) (p : Deciding) → Covers sc p → Covers sc (with_blank p)
 unfolding follows_line

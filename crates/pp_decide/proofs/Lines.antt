@@ -6,7 +6,6 @@ use Rattle.std.proofs.Common.{refl, lit≤, sym, ap, ◌∙◌, subst, arith, le
 use mathlib.Core.Logic.{inl, inr}
 use Rattle.pp_core.specs.declared.call.Kind.{Kind}
 use Rattle.pp_core.specs.declared.limits.TheConstants.{MOST_LINES}
-use Rattle.pp_front.specs.Inputs.{Widens}
 use Rattle.pp_front.specs.Runs.{Lined}
 use Rattle.pp_io.specs.Lines.{NumberedLine}
 use Rattle.pp_io.specs.Overruns.{early_lines, overrun, scanned_lines}
@@ -20,7 +19,7 @@ use Rattle.pp_reading.specs.declared.stop.Stop.{Stop}
 use Rattle.pp_reading.specs.Limits.{limit_fault}
 use Rattle.pp_reading.specs.Takers.{CountsTo, HasFaultBehind, HasInputFault, IfFault, IsNext, LeadsOn, ReadsAll, ReadsSoFar, StopsAt, StopsWith}
 use Rattle.pp_reading.proofs.Takers.{if_fault, taken_all}
-use Rattle.pp_certify.specs.Inputs.{early_scan, no_header, or_fault, scan}
+use Rattle.pp_certify.specs.Inputs.{no_header, or_fault, scan}
 use Rattle.pp_certify.specs.Scans.{InputScan, scan_line, scan_lines}
 use Rattle.pp_certify.specs.declared.progress.Tally.{Tally}
 use Rattle.pp_certify.proofs.Scanning.{scan_more}

@@ -1,6 +1,6 @@
 -- What a Quick over the objects of a header says of its records.
 use Rattle.std.specs.Prelude.{◌≡◌, false, List, ◌∷◌, ◌++◌, [], map, Option}
-use Rattle.std.proofs.Common.{sym, subst, ◌∙◌}
+use Rattle.std.proofs.Common.{sym, subst}
 use Rattle.pp_core.specs.declared.call.Kind.{Kind}
 use Rattle.pp_core.specs.declared.call.Style.{Style}
 use Rattle.pp_front.specs.Records.{RunRecord}

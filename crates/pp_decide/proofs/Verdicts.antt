@@ -1,5 +1,5 @@
 -- Steps can not be without a verdict.
-use Rattle.std.specs.Prelude.{◌≡◌, ℕ, zero, suc, List, [], ◌∷◌, Option}
+use Rattle.std.specs.Prelude.{ℕ, zero, suc, List, [], ◌∷◌, Option}
 use Rattle.std.proofs.Common.{refl}
 use mathlib.Core.Logic.{inl, inr}
 use Rattle.pp_front.proofs.Ends.{some_number}

@@ -1,6 +1,5 @@
 -- The steps of the run in one list, part by part.
 use Rattle.std.proofs.Common.{◌≡◌, ℕ, zero, suc, ◌+◌, ◌-◌, ◌*◌, ◌/◌, ◌%◌, ◌≤◌, List, [], ◌∷◌, ◌++◌, None, sym, ap, ◌∙◌, append_assoc, add-one, arith}
-use Rattle.std.proofs.lemmas.List.{append-nil}
 use Rattle.pp_core.specs.Steps.{Step, Begin, Pull}
 use Rattle.pp_core.specs.declared.step.Step.{Step as StepOf}
 use Rattle.pp_object.specs.declared.act.Op.{Op}
@@ -15,9 +14,6 @@ adds_both : (old mid new : List (StepOf Op)) (steps more : List (Step Op)) → A
 adds_both old mid new steps more first next = next ∙ ap (λ (ss : List (Step Op)). ss ++ more) first ∙ append_assoc (meanings old) steps more
 
 -- the pull of a first transaction
-pub no_pull : (p a : ℕ) (old : List (StepOf Op)) → p ≡ 0 → Adds old old (pulls p a)
-no_pull p a old e = sym (append-nil (meanings old)) ∙ ap (λ (k : ℕ). meanings old ++ pulls k a) (sym e)
-
 pulls_at : (p a : ℕ) → 1 ≤ p → Pull (name_of a) (id_of (2 * p - 1) 2) ∷ [] ≡ pulls p a
 pulls_at zero a h = absurd (omega arith)
 pulls_at (suc q) a h = let e : 2 * suc q - 1 ≡ 2 * q + 1 = omega arith in ap (λ (k : ℕ). Pull (name_of a) (id_of k 2) ∷ []) e
@@ -60,13 +56,6 @@ unpaired_added p a old l1 l2 l3 new x s3 s4 ea ex e3 e4 h1 h2 h3 h4 =
     (adds_both l1 l2 new (pulls p a) (first ++ ends) h2
     (adds_both l2 l3 new first ends (adds_as l2 l3 s3 first h3 e3) (adds_as l3 new s4 ends h4 e4))) in
     all ∙ ap (λ (k : ℕ). meanings old ++ unpaired p k) ea
-
--- a transaction that is left
-pub none_left : (n : ℕ) (old : List (StepOf Op)) → n % 2 ≡ 0 → Adds old old (left_over (n % 2) (n / 2))
-none_left n old e = sym (append-nil (meanings old)) ∙ ap (λ (r : ℕ). meanings old ++ left_over r (n / 2)) (sym e)
-
-pub one_left : (n : ℕ) (old new : List (StepOf Op)) → n % 2 ≡ 1 → Adds old new (unpaired (n / 2) (2 * (n / 2) + 1)) → Adds old new (left_over (n % 2) (n / 2))
-one_left n old new e adds = adds_as old new (unpaired (n / 2) (2 * (n / 2) + 1)) (left_over (n % 2) (n / 2)) adds (ap (λ (r : ℕ). left_over r (n / 2)) (sym e))
 
 -- the whole
 pub whole : (n : ℕ) (paired all : List (StepOf Op)) → meanings paired ≡ pairs (n / 2) → Adds paired all (left_over (n % 2) (n / 2)) → meanings all ≡ drill_steps n

@@ -9,9 +9,9 @@ use std::alloc::Global;
 
 /// A transaction of the run: its number, from 1, and its name.
 #[derive(Clone, Copy)]
-pub struct Transaction {
-    pub number: u32,
-    pub name: Name,
+pub(crate) struct Transaction {
+    pub(crate) number: u32,
+    pub(crate) name: Name,
 }
 
 /// The name with this text.

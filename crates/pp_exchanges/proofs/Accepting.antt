@@ -9,7 +9,6 @@ use Rattle.pp_model.specs.Object.{state}
 use Rattle.pp_model.specs.Rules.{Accepted, Rejected, RunsFrom, StartMeets}
 use Rattle.pp_model.specs.Serial.{attempts, committed_tx, serial}
 use Rattle.pp_model.proofs.Verdict.{accepted_iff}
-use Rattle.pp_object.specs.declared.act.Op.{Op}
 use Rattle.pp_report.specs.Reports.{accepted_text}
 use Rattle.pp_reading.specs.declared.cause.Cause.{Cause}
 use Rattle.pp_certify.specs.Accepted.{HasRun}

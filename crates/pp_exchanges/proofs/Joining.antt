@@ -1,16 +1,13 @@
 -- Proof machinery: lines with their ends, written one after another.
-use Rattle.std.proofs.Common.{◌≡◌, ◌<◌, ◌≤◌, ◌+◌, ◌-◌, ℕ, suc, List, [], ◌∷◌, ◌++◌, map, take, drop}
-use Rattle.std.proofs.Common.{length, get_or, refl, sym, ap, ◌∙◌, arith, append_assoc, append-nil, add-one}
-use Rattle.std.proofs.Common.{drop-cons, take_all, length-drop, drop-drop}
+use Rattle.std.proofs.Common.{◌≡◌, ◌<◌, ◌≤◌, ◌+◌, ◌-◌, ℕ, List, [], ◌∷◌, ◌++◌, map, take, drop}
+use Rattle.std.proofs.Common.{length, refl, sym, ap, ◌∙◌, arith, append_assoc}
+use Rattle.std.proofs.Common.{take_all, length-drop, drop-drop}
 use Rattle.std.proofs.lemmas.List.{drop_all}
 use Rattle.std.specs.List.{flat_map}
 use Rattle.pp_io.specs.Joined.{joined_lines}
+use Rattle.pp_lines.proofs.RunTexts.{joined_both}
 use Rattle.pp_recheck.specs.Laws.{rows}
 use Rattle.pp_recheck.proofs.Rows.{rows_cut}
-
-pub joined_both : (lines more : List (List ℕ)) → joined_lines (lines ++ more) ≡ joined_lines lines ++ joined_lines more
-joined_both [] more = refl
-joined_both (l ∷ ls) more = ap (λ (text : List ℕ). l ++ 10 ∷ text) (joined_both ls more) ∙ sym (append_assoc l (10 ∷ joined_lines ls) (joined_lines more))
 
 -- a line more is written, and others are left
 line_more : (line : List ℕ) (lines : List (List ℕ)) (text longer whole : List ℕ) → text ++ joined_lines (line ∷ lines) ≡ whole → longer ≡ text ++ joined_lines (line ∷ []) → longer ++ joined_lines lines ≡ whole
@@ -44,10 +41,6 @@ module _ (f : List ℕ → List ℕ) (is : List ℕ) (at : ℕ) (text longer who
       let cut : rows left ≡ left ∷ [] =
       rows_cut left (omega (arith, length-drop at is)) ∙ ap (λ (l : List ℕ). l ∷ rows (drop 1000 left)) (take_all 1000 left long) ∙ ap (λ (l : List ℕ). left ∷ rows l) (drop_all 1000 left long) in
       next ∙ ap (λ (ls : List (List ℕ)). text ++ joined_lines (map f ls)) (sym cut) ∙ so_far
-
-  -- no position is left
-  pub row_none : length is ≤ at → text ≡ whole
-  row_none none = sym (append-nil text) ∙ ap (λ (l : List ℕ). text ++ joined_lines (map f (rows l))) (sym (drop_all at is none)) ∙ so_far
 
 -- ---- the whole of it
 abbrev J : List (List ℕ) → List ℕ

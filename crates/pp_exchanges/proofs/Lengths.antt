@@ -1,84 +1,34 @@
 -- Proof machinery: a certificate keeps to the limits of an input.
-use Rattle.std.proofs.Common.{◌≡◌, ◌≤◌, ◌<◌, ◌+◌, ◌*◌, ◌-◌, ◌==◌, not, ℕ, zero, suc, List, [], ◌∷◌, ◌++◌}
-use Rattle.std.proofs.Common.{map, length, slice_index, true, false, IsTrue, Some, refl, sym, ap, subst, ◌∙◌, arith, inr}
+use Rattle.std.proofs.Common.{◌≡◌, ◌≤◌, ◌+◌, ◌*◌, ◌-◌, ℕ, zero, suc, List, [], ◌∷◌, ◌++◌}
+use Rattle.std.proofs.Common.{map, length, refl, sym, ap, subst, ◌∙◌, arith, inr}
 use Rattle.std.proofs.Common.{length-append}
-use Rattle.std.proofs.lemmas.Bool.{and_from}
-use Rattle.std.proofs.lemmas.Bool.Decides.{nat_tests}
 use Rattle.std.proofs.lemmas.List.{length-map}
-use Rattle.std.specs.List.{list_all}
 use Rattle.serde_json.specs.View.{items_of}
 use Rattle.pp_core.specs.Catalogs.{HasNames, Objects}
-use Rattle.pp_core.specs.Words.{kind_word}
-use Rattle.pp_core.specs.declared.call.Kind.{Kind}
-use Rattle.pp_core.specs.declared.call.Kind.TheVariants as kinds
 use Rattle.pp_core.specs.declared.entry.Item.{Item}
-use Rattle.pp_io.specs.Joined.{AreAllowed, AreLines, AreShort, IsLine, joined_lines}
+use Rattle.pp_io.specs.Joined.{AreAllowed, AreLines, AreShort, joined_lines}
 use Rattle.pp_model.specs.Lists.{Each, joined}
-use Rattle.pp_object.specs.One.{call_of, kind_for, recorded_by}
 use Rattle.pp_object.specs.Objects.{kinds_of}
 use Rattle.pp_object.specs.declared.act.Op.{Op}
-use Rattle.pp_lines.specs.Headers.{item_value, object_value}
+use Rattle.pp_lines.specs.Headers.{item_value}
 use Rattle.pp_lines.specs.Lines.{IsOneLine}
-use Rattle.pp_lines.specs.Operations.{arity_in}
 use Rattle.pp_lines.specs.Statable.{IsCatalog, IsId, IsOpOn}
-use Rattle.pp_lines.proofs.Bodies.{arguments_wide, call_wide}
-use Rattle.pp_lines.proofs.Names.{named_at}
-use Rattle.pp_lines.proofs.Operations.{there}
-use Rattle.pp_lines.proofs.Steps.{answer_wide}
-use Rattle.pp_lines.proofs.Texts.{items_width, short_text, width}
+use Rattle.pp_lines.proofs.Headers.{item_wide, objects_wide}
+use Rattle.pp_lines.proofs.RunTexts.{is_line, joined_both}
+use Rattle.pp_lines.proofs.Texts.{items_width, short_text}
 use Rattle.pp_recheck.specs.Laws.{certificate, rows, rows_from}
 use Rattle.pp_recheck.proofs.Rows.{Fits, each_joined, rows_fit, rows_joined}
 use Rattle.pp_certificate.specs.Lines.{entry_bytes, head_bytes, head_value, line_bytes, position_value}
 use Rattle.pp_certificate.specs.Lines.{row_bytes, row_value, serial_bytes, serial_value}
 use Rattle.pp_certificate.proofs.Tidy.{entry_one_line, head_one_line, near_entry, near_head, near_row}
 use Rattle.pp_certificate.proofs.Tidy.{near_serial, row_one_line, serial_one_line}
-use Rattle.pp_exchanges.proofs.Joining.{joined_both}
-
--- ---- bytes that are no control bytes can be a line
-inner : (b : ℕ) → 32 ≤ b → not (b == 10) ≡ true
-inner b h = grind (arith, nat_tests)
-
-kept_byte : (b : ℕ) → 32 ≤ b → (b == 13) ≡ false
-kept_byte b h = grind (arith, nat_tests)
-
-unbroken : (line : List ℕ) → IsOneLine line → IsTrue (list_all (λ byte. not (byte == 10)) line)
-unbroken [] h = refl
-unbroken (b ∷ bs) h = and_from (not (b == 10)) (list_all (λ byte. not (byte == 10)) bs) (inner b h.0) (unbroken bs h.1)
-
-no_return : (line : List ℕ) (i : ℕ) → IsOneLine line → (slice_index line i == 13) ≡ false
-no_return [] i h = refl
-no_return (b ∷ bs) zero h = kept_byte b h.0
-no_return (b ∷ bs) (suc i) h = no_return bs i h.1
-
-is_line : (line : List ℕ) → IsOneLine line → IsLine line
-is_line line h = record { unbroken = unbroken line h; kept = rw (no_return line (length line - 1) h) refl }
 
 -- ---- each line is short
-kind_wide : (kind : Kind) → length (kind_word kind) ≤ 7
-kind_wide kinds.Memory = omega arith
-kind_wide kinds.KeySet = omega arith
-kind_wide kinds.KeyMap = omega arith
-kind_wide kinds.Counter = omega arith
-kind_wide kinds.Queue = omega arith
-kind_wide kinds.Stack = omega arith
-kind_wide kinds.PriorityQueue = omega arith
-
-objects_wide : (catalog : Objects) → HasNames catalog → items_width (items_of (map object_value catalog)) ≤ 54 * length catalog + 1
-objects_wide [] h = omega arith
-objects_wide (e ∷ es) h = let few = h.0.few in omega (arith, kind_wide e.1, objects_wide es h.1)
-
 head_short : (catalog : Objects) → IsCatalog catalog → length (head_bytes catalog) ≤ 60_000
 head_short catalog h = let few = h.few in omega (arith, short_text (head_value catalog) (near_head catalog h.named), objects_wide catalog h.named)
 
-entry_wide : (catalog : Objects) (p : Item Op) → HasNames catalog → IsOpOn catalog p.op → width (item_value catalog p) ≤ 176
-entry_wide catalog p names h =
-    let name = named_at catalog p.op.object names (there catalog p.op h) in
-    let few = name.few in
-    let c = call_of p.op.act in
-    omega (arith, arguments_wide (arity_in p.op.act) (Some c.first) (Some c.second) (Some c.third), call_wide (kind_for p.op.act) c.method, answer_wide (recorded_by p.op.act))
-
 entry_short : (catalog : Objects) (p : Item Op) → HasNames catalog → IsId p.id → IsOpOn catalog p.op → length (entry_bytes catalog p) ≤ 176
-entry_short catalog p names small h = omega (arith, short_text (item_value catalog p) (near_entry catalog p names small h), entry_wide catalog p names h)
+entry_short catalog p names small h = omega (arith, short_text (item_value catalog p) (near_entry catalog p names small h), item_wide catalog p names h)
 
 positions_wide : (is : List ℕ) → items_width (items_of (map position_value is)) ≤ 21 * length is + 1
 positions_wide [] = omega arith

@@ -17,7 +17,7 @@ use Rattle.pp_model.specs.Sound.{Sound}
 use Rattle.pp_model.proofs.Begin.{start_sound}
 use Rattle.pp_model.proofs.Keeps.{run_keeps}
 use Rattle.pp_model.proofs.Lists.{before_from_map, each_from, from_filter, from_map, in_cases}
-use Rattle.pp_model.proofs.Lists.{in_left, in_map, in_right, split_at}
+use Rattle.pp_model.proofs.Lists.{in_left, in_right, split_at}
 use Rattle.pp_model.proofs.Logs.{found_mark, found_other, found_tx}
 use Rattle.pp_exchanges.specs.Logs.{AppliesOnly, ArePlain, LogLaw, start_items}
 

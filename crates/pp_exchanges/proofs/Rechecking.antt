@@ -1,28 +1,27 @@
 -- Proof machinery: `recheck` accepts what `swaps` writes.
-use Rattle.std.proofs.Common.{◌≡◌, ◌<◌, ◌≤◌, ◌+◌, ◌*◌, ℕ, nat_le, IsTrue, List, [], ◌∷◌, ◌++◌, map, length, Option, None, Some}
+use Rattle.std.proofs.Common.{◌≡◌, ◌≤◌, ◌+◌, ℕ, nat_le, IsTrue, List, [], ◌∷◌, ◌++◌, map, length, Option, None, Some}
 use Rattle.std.proofs.Common.{refl, sym, ap, subst, ◌∙◌, arith, inl, inr, le-leb}
 use Rattle.std.proofs.lemmas.Bool.{and_from, and_parts}
 use Rattle.std.proofs.lemmas.Bool.Decides.{nat_tests}
 use Rattle.std.proofs.lemmas.Grind.{flat_map-append}
-use Rattle.std.proofs.lemmas.List.{length-append, length-map}
+use Rattle.std.proofs.lemmas.List.{length-map}
 use Rattle.std.specs.Io.KnownBytes.{Appends}
 use Rattle.std.specs.List.{flat_map}
 use Rattle.pp_core.specs.Catalogs.{Objects}
-use Rattle.pp_core.specs.declared.call.Kind.{Kind}
 use Rattle.pp_core.specs.declared.entry.CommittedTx.{CommittedTx}
 use Rattle.pp_core.specs.declared.status.Status.{Status}
 use Rattle.pp_core.specs.declared.status.Status.TheVariants as statuses
-use Rattle.pp_front.specs.Runs.{LinedSteps, bare}
+use Rattle.pp_front.specs.Runs.{bare}
 use Rattle.pp_io.specs.Joined.{AreAllowed, AreLines}
 use Rattle.pp_io.specs.Lines.{NumberedLine, numbered_from}
-use Rattle.pp_io.specs.Overruns.{overrun, scanned_lines}
+use Rattle.pp_io.specs.Overruns.{overrun}
 use Rattle.pp_io.proofs.Joined as joining
 use Rattle.pp_io.specs.declared.fault.LineFault.{LineFault}
 use Rattle.pp_json.specs.declared.header.Header.{Header}
 use Rattle.pp_json.specs.declared.start.Start.{Start as HeaderStart}
-use Rattle.pp_lines.specs.Statable.{CanStart, IsCatalog, IsId, IsOpOn, IsStatable, IsStatableRun}
-use Rattle.pp_model.specs.Config.{Config, SharedEntry, Start, Step, Begin, App, Unapp, Push, Unpush}
-use Rattle.pp_model.specs.Config.{Pull, Unpull, Cmt, Quit, Note, after, first, shared_item, uncommitted}
+use Rattle.pp_lines.specs.Statable.{CanStart, IsId, IsOpOn, IsStatable, IsStatableRun}
+use Rattle.pp_model.specs.Config.{Config, SharedEntry, Step, Begin, App, Unapp, Push, Unpush}
+use Rattle.pp_model.specs.Config.{Pull, Unpull, Cmt, Quit, Note, after, first, shared_item}
 use Rattle.pp_model.specs.Lists.{Each, In}
 use Rattle.pp_model.specs.Object.{Item, state}
 use Rattle.pp_model.specs.Serial.{attempts, committed_tx, serial}
@@ -35,8 +34,8 @@ use Rattle.pp_object.specs.declared.act.Op.{Op}
 use Rattle.pp_object.specs.declared.states.ObjectState.{ObjectState}
 use Rattle.pp_object.specs.laws.Objects.{objects_lawful}
 use Rattle.pp_report.specs.Reports.{accepted_text, op_line}
-use Rattle.pp_spec.specs.Object.{rules_of, state_after}
-use Rattle.pp_swaps.specs.Exchanges.{EachExchange, Inverted, Permutes, inverted, route}
+use Rattle.pp_spec.specs.Object.{state_after}
+use Rattle.pp_swaps.specs.Exchanges.{Inverted, Permutes, inverted, route}
 use Rattle.pp_swaps.specs.Laws.{log_of, target_of}
 use Rattle.pp_swaps.proofs.Routes.{length_route, route_each}
 use Rattle.pp_swaps.proofs.Targets.{log_fits, targets}
@@ -53,7 +52,7 @@ use Rattle.pp_certify.specs.Inputs.{IsFaultOf, scan}
 use Rattle.pp_certify.specs.Objects.{object_of, start_of}
 use Rattle.pp_certify.specs.Reports.{IsCertified}
 use Rattle.pp_certify.specs.Scans.{InputScan}
-use Rattle.pp_certify.proofs.Concluding.{one_certified, only_run, serial_is}
+use Rattle.pp_certify.proofs.Concluding.{only_run, serial_is}
 use Rattle.pp_certify.proofs.Fitting.{serial_fits}
 use Rattle.pp_certify.proofs.Restated.{is_restated}
 use Rattle.pp_exchanges.specs.Logs.{AppliesOnly, ArePlain, start_items}

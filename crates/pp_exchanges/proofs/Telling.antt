@@ -1,5 +1,5 @@
 -- Proof machinery: what is told of a configuration, and of an input.
-use Rattle.std.proofs.Common.{◌≡◌, ◌≢◌, ◌⊎◌, ◌<◌, ◌≤◌, ℕ, List, length, refl, sym, ap, subst, ◌∙◌, arith}
+use Rattle.std.proofs.Common.{◌≡◌, ◌<◌, ◌≤◌, ℕ, List, length, refl, sym, ap, subst, ◌∙◌, arith}
 use Rattle.std.proofs.Common.{inl, inr, Some, ◌+◌, ◌++◌, map}
 use Rattle.std.proofs.lemmas.List.{length-map}
 use Rattle.pp_core.specs.Catalogs.{Objects}
@@ -28,7 +28,6 @@ use Rattle.pp_reading.specs.FaultTexts.{fault_text}
 use Rattle.pp_reading.specs.declared.cause.Cause.{Cause}
 use Rattle.pp_certificate.specs.Lines.{line_bytes}
 use Rattle.pp_certify.specs.Accepted.{HasRun}
-use Rattle.pp_certify.specs.Certified.{IsDecided}
 use Rattle.pp_certify.specs.Inputs.{IsFaultOf, scan}
 use Rattle.pp_certify.specs.Progresses.{IsRejected, IsRunning}
 use Rattle.pp_certify.specs.Reports.{IsRunTold}
@@ -100,14 +99,6 @@ module _ (catalog : Objects) (c : Config Op) (log target : List (Item Op)) (log_
     refl,
     text_is ∙ ap (λ (m : ℕ). too_large_text m) (is ∙ count_is),
   )
-
-pub told_status : (catalog : Objects) (c : Config Op) (status : Status) (text : List ℕ) → IsTold catalog c status text → IsDecided status ⊎ (status ≡ statuses.InputFault) ⊎ (status ≡ statuses.TooLarge)
-told_status catalog c status text (inl small) = inl (subst (λ (s : Status). IsDecided s) (sym small.1) tt)
-told_status catalog c status text (inr large) = inr (inr large.1)
-
-pub never_rejected : (catalog : Objects) (c : Config Op) (status : Status) (text : List ℕ) → IsTold catalog c status text → status ≡ statuses.Rejected → ⊥
-never_rejected catalog c status text (inl small) is = let e : statuses.Accepted ≡ statuses.Rejected = sym small.1 ∙ is in cc
-never_rejected catalog c status text (inr large) is = let e : statuses.TooLarge ≡ statuses.Rejected = sym large.1 ∙ is in cc
 
 -- ---- an input
 

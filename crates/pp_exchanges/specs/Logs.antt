@@ -1,7 +1,7 @@
 -- Meaning: how long the shared log of a run gets, and what stands in it.
-use Rattle.std.specs.Prelude.{◌≤◌, ◌+◌, ◌*◌, ℕ, Bool, IsTrue, List, [], length, Option, None, Some}
+use Rattle.std.specs.Prelude.{◌≤◌, ◌+◌, ◌*◌, Bool, IsTrue, List, [], length, Option, None, Some}
 use Rattle.pp_model.specs.Config.{Start, Step, Begin, App, Unapp, Push, Unpush, Pull, Unpull, Cmt}
-use Rattle.pp_model.specs.Config.{Quit, Note, SharedEntry, after, first, shared_item}
+use Rattle.pp_model.specs.Config.{Quit, Note, after, first, shared_item}
 use Rattle.pp_model.specs.Lists.{Each}
 use Rattle.pp_model.specs.Object.{Item, Object}
 use Rattle.pp_model.specs.Rules.{RunsFrom, StartMeets}

@@ -56,7 +56,7 @@ abbrev pub CertifiedLaw : Type 0
 CertifiedLaw =
     (bytes text : List ℕ) → IsSwaps bytes statuses.Accepted text → IsCertificateOf bytes text
 
--- An input has one status and one text.
+-- An input has one status and one text at most.
 abbrev pub OneAnswerLaw : Type 0
 OneAnswerLaw = (bytes : List ℕ) (s s' : Status) (t t' : List ℕ)
     → IsSwaps bytes s t → IsSwaps bytes s' t' → (s ≡ s') × (t ≡ t')

@@ -95,8 +95,8 @@ pub fn swaps<S: Source, L: Ledger>(
             Ok((Status::Rejected, text))
         }
         Finding::Accepted(tally, machine) => {
-            let r = told(alloc, &tally.header.catalog, &machine)?;
-            Ok(r)
+            let report = told(alloc, &tally.header.catalog, &machine)?;
+            Ok(report)
         }
     }
 }

@@ -11,7 +11,7 @@ pub fn log_law<S: Spec>()
     ensures { (shape : S.Shape) → LogLaw (rules_of S.object shape) }
 {}
 
-/// An input has one status and one text.
+/// An input has one status and one text at most.
 pub fn one_answer_law()
     ensures { OneAnswerLaw }
 {}

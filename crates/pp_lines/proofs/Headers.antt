@@ -40,7 +40,7 @@ kind_is_word kinds.Queue = refl
 kind_is_word kinds.Stack = refl
 kind_is_word kinds.PriorityQueue = refl
 
-objects_tidy : (P : Num → Type 0) (catalog : Objects) → HasNames catalog → AreTidy P (items_of (map object_value catalog))
+pub objects_tidy : (P : Num → Type 0) (catalog : Objects) → HasNames catalog → AreTidy P (items_of (map object_value catalog))
 objects_tidy P [] h = tt
 objects_tidy P (e ∷ es) h = ((refl, (refl, kind_is_word e.1, (refl, h.0.bytes, tt))), objects_tidy P es h.1)
 
@@ -69,7 +69,7 @@ goes_on catalog values i v so_far at =
     map-append view values (v ∷ []) ∙ ap (λ (l : List Data). l ++ view v ∷ []) so_far ∙ sym (one_more catalog i (view v) at) ∙ ap (λ (n : ℕ). map object_value (take n catalog)) (sym next)
 
 -- ---- how deep and how long it is
-objects_flat : (catalog : Objects) → items_depth (items_of (map object_value catalog)) ≤ 1
+pub objects_flat : (catalog : Objects) → items_depth (items_of (map object_value catalog)) ≤ 1
 objects_flat [] = omega arith
 objects_flat (e ∷ es) = omega (arith, objects_flat es)
 
@@ -85,7 +85,7 @@ kind_wide kinds.Queue = omega arith
 kind_wide kinds.Stack = omega arith
 kind_wide kinds.PriorityQueue = omega arith
 
-objects_wide : (catalog : Objects) → HasNames catalog → items_width (items_of (map object_value catalog)) ≤ 54 * length catalog + 1
+pub objects_wide : (catalog : Objects) → HasNames catalog → items_width (items_of (map object_value catalog)) ≤ 54 * length catalog + 1
 objects_wide [] h = omega arith
 objects_wide (e ∷ es) h = let few = h.0.few in omega (arith, kind_wide e.1, objects_wide es h.1)
 
@@ -136,7 +136,7 @@ ops_depth catalog (p ∷ ps) = omega (arith, item_depth catalog p, ops_depth cat
 pub shallow_2 : (catalog : Objects) (tx : List ℕ) (ops : List (Item Op)) → depth (header_value_2 catalog tx ops) ≤ max_depth
 shallow_2 catalog tx ops = omega (arith, objects_flat catalog, ops_depth catalog ops)
 
-item_wide : (catalog : Objects) (p : Item Op) → HasNames catalog → IsOpOn catalog p.op → width (item_value catalog p) ≤ 176
+pub item_wide : (catalog : Objects) (p : Item Op) → HasNames catalog → IsOpOn catalog p.op → width (item_value catalog p) ≤ 176
 item_wide catalog p names h =
     let name = named_at catalog p.op.object names (there catalog p.op h) in
     let few = name.few in

@@ -38,7 +38,7 @@ taken_more [] i step lt is = absurd (omega arith)
 taken_more (s ∷ ss) zero step lt is = ap (λ (x : StepOf Op). meaning x ∷ []) (sym is)
 taken_more (s ∷ ss) (suc i) step lt is = ap (λ (l : List (Step Op)). meaning s ∷ l) (taken_more ss i step (omega arith) is)
 
-joined_both : (lines more : List (List ℕ)) → joined_lines (lines ++ more) ≡ joined_lines lines ++ joined_lines more
+pub joined_both : (lines more : List (List ℕ)) → joined_lines (lines ++ more) ≡ joined_lines lines ++ joined_lines more
 joined_both [] more = refl
 joined_both (l ∷ ls) more = ap (λ (text : List ℕ). l ++ 10 ∷ text) (joined_both ls more) ∙ sym (append_assoc l (10 ∷ joined_lines ls) (joined_lines more))
 
@@ -80,7 +80,7 @@ no_return [] i h = refl
 no_return (b ∷ bs) zero h = kept_byte b h.0
 no_return (b ∷ bs) (suc i) h = no_return bs i h.1
 
-is_line : (line : List ℕ) → IsOneLine line → IsLine line
+pub is_line : (line : List ℕ) → IsOneLine line → IsLine line
 is_line line h = record { unbroken = unbroken line h; kept = rw (no_return line (length line - 1) h) refl }
 
 -- ---- its lines

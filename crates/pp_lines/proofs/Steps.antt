@@ -15,7 +15,7 @@ use Rattle.pp_lines.specs.Operations.{answer_value, arity_in}
 use Rattle.pp_lines.specs.Statable.{IsCatalog, IsNamed, IsWritable, IsStatable}
 use Rattle.pp_lines.specs.Steps.{tx_members, tx_value, entry_value, begin_members, step_value, step_bytes}
 use Rattle.pp_lines.proofs.Words.{IsWord}
-use Rattle.pp_lines.proofs.Texts.{IsTidy, HasTidy, IsWhole, IsNear, width, members_width, short_text, one_line_text}
+use Rattle.pp_lines.proofs.Texts.{IsTidy, HasTidy, IsWhole, IsNear, width, short_text, one_line_text}
 use Rattle.pp_lines.proofs.Texts as texts
 use Rattle.pp_lines.proofs.Names.{named_at}
 use Rattle.pp_lines.proofs.Operations.{there, op_tidy, whole_numbers, near_numbers}

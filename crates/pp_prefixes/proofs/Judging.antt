@@ -1,7 +1,7 @@
 -- The first records of an accepted run are accepted too.
-use Rattle.std.specs.Prelude.{◌≡◌, ◌≤◌, ℕ, zero, suc, List, ◌++◌, length, map, Option, None}
+use Rattle.std.specs.Prelude.{◌≡◌, ℕ, zero, suc, List, ◌++◌, length, map, Option, None}
 use Rattle.std.specs.Prelude.{Some}
-use Rattle.std.proofs.Common.{refl, sym, ap, subst, ◌∙◌, arith, length-append}
+use Rattle.std.proofs.Common.{refl, sym, ap, subst, ◌∙◌}
 use mathlib.Core.Logic.{inl, inr}
 use Rattle.pp_model.specs.Config.{Step, first}
 use Rattle.pp_model.specs.Object.{state}
@@ -77,9 +77,6 @@ module _ {H F R Op State Cause : Type 0} (setting : H → Setting F R Op State) 
           joined_steps s.translation (after_records s.translation p sc.records) records.0,
           ap (λ (rs : Records R). steps_of s rs) records.1 ∙ (extends_law s.object s.translation).steps p sc.records records.0,
         )
-
-    pub first_few : length (steps_of s sc.records) ≤ length (steps_of s wider.records)
-    first_few = omega (arith, ap (λ (ss : LinedSteps Op). length ss) first_steps.1, length-append (steps_of s sc.records) first_steps.0)
 
     first_bare : steps_in wider.records ≡ steps_in sc.records ++ bare first_steps.0
     first_bare = ap (λ (ss : LinedSteps Op). bare ss) first_steps.1 ∙ bare_append (steps_of s sc.records) first_steps.0

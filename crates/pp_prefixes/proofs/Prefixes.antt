@@ -20,7 +20,7 @@ use Rattle.pp_certify.specs.Reports.{IsTold, RunReport}
 use Rattle.pp_certify.specs.Scans.{InputScan}
 use Rattle.pp_prefixes.specs.Prefixes.{Begins, CertifiedPrefixLaw, EndsLine, FirstLineLaw, PrefixLaw}
 use Rattle.pp_prefixes.proofs.Judging.{AreAccepted, accepted_parts, accepted_whole, first_accepted}
-use Rattle.pp_prefixes.proofs.Judging.{first_committed, first_few, first_sound, first_steps}
+use Rattle.pp_prefixes.proofs.Judging.{first_committed, first_sound, first_steps}
 use Rattle.pp_prefixes.proofs.Judging.{run_whole}
 use Rattle.pp_prefixes.proofs.Scanned.{front_header, front_records, front_sound}
 
@@ -50,7 +50,6 @@ prefix_law front back steps committed is (final, report) =
       fewer = length ss;
       earlier = earlier;
       accepted = accepted_whole setting_of TooManySteps is.header sc (length ss) earlier there (none, accepted, refl, refl);
-      steps_begin = subst (λ (n : ℕ). length ss ≤ n) (sym whole.2) (first_few setting_of TooManySteps is.header sc wider records);
       committed_begin = subst (λ (l : List (Attempt Op)). Begins (map committed_tx earlier) (map committed_tx l)) (sym whole.3)
           (first_committed setting_of TooManySteps is.header sc wider records whole.1);
       run_begins = λ run all. (

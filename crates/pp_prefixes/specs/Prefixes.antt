@@ -38,14 +38,12 @@ IsAccepted bytes steps committed = (final : List ObjectState)
 -- This prefix of an accepted input has its header and no fault, and is accepted too: its run and
 -- its committed transactions, each with its own operations, are the first of those of the whole.
 -- (Of the transactions the bodies are not compared; they stand in the steps of the runs.)
-pub record IsAcceptedPrefix (front back : List ℕ) (steps : ℕ) (committed : List (Attempt Op)) :
-    Type 0 where
+pub record IsAcceptedPrefix (front back : List ℕ) (committed : List (Attempt Op)) : Type 0 where
   pub header : (scan front).header ≡ (scan (front ++ back)).header
   pub no_fault : IsFaultOf (scan front) None
   pub fewer : ℕ
   pub earlier : List (Attempt Op)
   pub accepted : IsAccepted front fewer earlier
-  pub steps_begin : fewer ≤ steps
   pub committed_begin : Begins (map committed_tx earlier) (map committed_tx committed)
   pub run_begins : (run : HasRun (scan front)) (whole : HasRun (scan (front ++ back))) →
       Begins run.run whole.run
@@ -55,7 +53,7 @@ pub record IsAcceptedPrefix (front back : List ℕ) (steps : ℕ) (committed : L
 abbrev pub PrefixLaw : Type 0
 PrefixLaw = (front back : List ℕ) (steps : ℕ) (committed : List (Attempt Op)) →
     IsPrefixOfLines front back → IsAccepted (front ++ back) steps committed →
-    IsAcceptedPrefix front back steps committed
+    IsAcceptedPrefix front back committed
 
 -- Where the output that certifies an input says that it is accepted, so does that of the prefix.
 abbrev pub CertifiedPrefixLaw : Type 0

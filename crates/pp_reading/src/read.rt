@@ -3,10 +3,12 @@ ghost use Rattle.std.specs.Prelude.{◌≡◌, ◌≤◌, ℕ, List, [], ◌++�
 ghost use Rattle.std.specs.Prelude.{IfErr, OnOk, OnErr, IsErrOf};
 ghost use Rattle.std.specs.Io.KnownBytes.{IsAtEnd};
 ghost use Rattle.pp_io.specs.Faults.{HasRisen};
+ghost use Rattle.pp_io.specs.declared.fault.LineFault.TheVariants as limits;
 ghost use Rattle.pp_io.specs.Held.{fed};
 ghost use Rattle.pp_io.specs.Lines.{NumberedLine};
 ghost use Rattle.pp_io.specs.Overruns.{scanned_lines};
 ghost use Rattle.pp_io.specs.Reaches.{overrun_from};
+ghost use Rattle.pp_reading.specs.declared.stop.Failure.TheVariants as failures;
 ghost use Rattle.pp_reading.specs.declared.stop.Failure.TheVariants.{ReadFault};
 ghost use Rattle.pp_reading.specs.declared.stop.Stop.TheVariants.{Failure as StopsByFailure};
 ghost use Rattle.pp_reading.specs.Takers.{CountsEarly, CountsTo, Follows, HasEarlyFault};
@@ -26,8 +28,9 @@ const LONGEST_PIECE: usize = 65_536;
 
 /// The stop at a limit that is passed.
 fn stop_at_limit<T: TakesLines>(limit: LineFault) -> Stop<T::Fault>
-    ensures { IfFault result (λ at fault. (first : ℕ) →
+    ensures fault { IfFault result (λ at fault. (first : ℕ) →
         IsLimitFault (T.reading first) (Some limit) at fault) }
+    ensures memory { result ≡ StopsByFailure failures.OutOfMemory → limit ≡ limits.OutOfMemory }
 {
     match limit {
         LineFault::TooLong { line } => Stop::Fault(line, T::at_limit(Cause::TooLong)),

@@ -1,5 +1,5 @@
 -- Proof machinery: a line costs one operation at most.
-use Rattle.std.proofs.Common.{◌≤◌, ℕ, Bool, true, false, cond, arith}
+use Rattle.std.proofs.Common.{◌≤◌, Bool, true, false, cond, arith}
 use Rattle.pp_model.specs.Object.{Item}
 use Rattle.pp_spec.specs.Object.{Object}
 use Rattle.pp_recheck.specs.Certificates.{Line, Blank, Head, Entry, Exchanges, Serial, Other}

@@ -3,7 +3,6 @@ use Rattle.std.proofs.Common.{◌≡◌, ◌++◌, ◌∷◌, [], ℕ, Bool, tru
 use Rattle.std.proofs.Common.{refl, sym, subst, inl, inr}
 use Rattle.pp_model.specs.Object.{Item}
 use Rattle.pp_spec.specs.Object.{Object}
-use Rattle.pp_swaps.specs.Exchanges.{after_exchanges}
 use Rattle.pp_recheck.specs.Certificates.{Line, Blank, Head, Entry, Exchanges, Serial, Other}
 use Rattle.pp_recheck.specs.Certificates.{Stage, Fresh, Entered, Exchanged, Ended, Step}
 use Rattle.pp_recheck.specs.Certificates.{NotCertificate, Gives, Position, given}

@@ -59,10 +59,6 @@ module _ {A : Type 0} where
       (subst (λ (w : A). P a w) e p)
   at_pair_at P (x ∷ y ∷ l) (suc i) a b h d e p = at_pair_at P (y ∷ l) i a b (omega arith) d e p
 
-  exchanged_cons : (x : A) (l : List A) (i : ℕ) → exchanged (x ∷ l) (suc i) ≡ x ∷ exchanged l i
-  exchanged_cons x [] i = refl
-  exchanged_cons x (b ∷ l) i = refl
-
   set_both : (l : List A) (i : ℕ) (d : A) → suc i < length l →
       set (set l i (get_or l (suc i) d)) (suc i) (get_or l i d) ≡ exchanged l i
   set_both [] i d h = absurd (omega arith)

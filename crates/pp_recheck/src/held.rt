@@ -7,9 +7,9 @@ use pp_spec::Spec;
 /// The entries in their present order, and how many exchanges there were.
 #[derive(Drop)]
 pub(crate) struct Turned<H: Drop, O: Copy> {
-    pub shape: H,
-    pub list: Vec<Item<O>>,
-    pub count: u32,
+    pub(crate) shape: H,
+    pub(crate) list: Vec<Item<O>>,
+    pub(crate) count: u32,
 }
 
 /// What is kept of the lines that were taken.

@@ -3,7 +3,8 @@ ghost use Rattle.pp_recheck.specs.Laws.{CheckedLaw, TakenLaw, ReadLaw, RowsLaw, 
 
 use pp_spec::Spec;
 
-/// Lines have one verdict, and what an accepted certificate shows is allowed.
+/// Lines have one verdict. What an accepted certificate shows is allowed, and is what its lines
+/// say.
 pub fn checked_law<S: Spec, L>()
     ensures { CheckedLaw S.object L }
 {}

@@ -4,6 +4,7 @@ use pp_core::Items;
 /// What a certificate shows whose lines were all taken.
 #[derive(Drop)]
 pub struct Shown<H: Drop, T: Drop, O: Copy> {
+    /// The objects that the first line names.
     pub shape: H,
     /// How many entries there are.
     pub operations: u32,

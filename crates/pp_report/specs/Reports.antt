@@ -1,5 +1,5 @@
 -- Meaning: the report of a run, line by line.
-use Rattle.std.specs.Prelude.{◌≡◌, ℕ, List, [], ◌++◌, length, codes}
+use Rattle.std.specs.Prelude.{ℕ, List, [], ◌++◌, length, codes}
 use Rattle.std.specs.Fmt.{decimal}
 use Rattle.std.specs.List.{flat_map, range_with_len}
 use Rattle.pp_core.specs.Catalogs.{Objects}
@@ -57,10 +57,6 @@ abbrev pub accepted_text : Objects → ℕ → List (CommittedTx Op) → List Ob
 accepted_text catalog steps committed states =
     accepted_line steps (length committed) ++ all_tx_lines catalog committed
     ++ state_lines catalog states
-
--- the text is that report
-abbrev pub IsReport : Objects → ℕ → List (CommittedTx Op) → List ObjectState → List ℕ → Type 0
-IsReport catalog steps committed states text = text ≡ accepted_text catalog steps committed states
 
 -- where the failed step stands: its number, and the line of its record
 abbrev pub rejected_place : ℕ → ℕ → List ℕ

@@ -2,8 +2,9 @@
 ghost use Rattle.std.specs.Prelude.{◌≡◌, ◌++◌, IfOk, OnOk};
 ghost use Rattle.std.specs.List.{flat_map};
 ghost use Rattle.pp_text.specs.Texts.{IsNamed, IsObjectOf, AreStatesOf};
-ghost use Rattle.pp_report.specs.Reports.{accepted_line, op_line, tx_lines, all_tx_lines};
-ghost use Rattle.pp_report.specs.Reports.{state_line, state_lines, EachNamed, AreNamed, IsReport};
+ghost use Rattle.pp_report.specs.Reports.{accepted_line, accepted_text, op_line, tx_lines};
+ghost use Rattle.pp_report.specs.Reports.{all_tx_lines, state_line, state_lines, EachNamed};
+ghost use Rattle.pp_report.specs.Reports.{AreNamed};
 
 use pp_core::{Catalog, Committed, CommittedTx, Item, OutOfMemory, Text};
 use pp_object::{ObjectStates, Op};
@@ -123,7 +124,8 @@ pub fn accepted(
 ) -> Result<Text, OutOfMemory>
     requires named { AreNamed catalog.now committed.now }
     requires states { AreStatesOf catalog.now states.now }
-    ensures { IfOk result (IsReport catalog.now count committed.now states.now) }
+    ensures { IfOk result (λ text.
+        text ≡ accepted_text catalog.now count committed.now states.now) }
 {
     let mut text = Text::new(alloc);
     write_first_line(&mut text, count, committed.len())?;

@@ -73,6 +73,29 @@ ReadsSound (Some (Drill n)) old new = ⊥
 
 -- ---- what is printed
 
+-- the output was written to its end
+abbrev pub IsPrinted : Status → Type 0
+IsPrinted statuses.Accepted = Unit {0}
+IsPrinted statuses.Rejected = Unit {0}
+IsPrinted statuses.BadWords = Unit {0}
+IsPrinted statuses.InputFault = Unit {0}
+IsPrinted statuses.ReadFault = ⊥
+IsPrinted statuses.WriteFault = ⊥
+IsPrinted statuses.OutOfMemory = ⊥
+IsPrinted statuses.TooLarge = Unit {0}
+
+-- a write or the flush failed, or memory was refused: of an output a prefix at most was written,
+-- which may be all of it
+abbrev pub IsUnwritten : Status → Type 0
+IsUnwritten statuses.Accepted = ⊥
+IsUnwritten statuses.Rejected = ⊥
+IsUnwritten statuses.BadWords = ⊥
+IsUnwritten statuses.InputFault = ⊥
+IsUnwritten statuses.ReadFault = ⊥
+IsUnwritten statuses.WriteFault = Unit {0}
+IsUnwritten statuses.OutOfMemory = Unit {0}
+IsUnwritten statuses.TooLarge = ⊥
+
 -- known bytes grow by an output that is defined, with this status
 abbrev pub Prints : Option Command → List ℕ → Status → Option (List ℕ) → Option (List ℕ) → Type 0
 Prints command bytes status old new =

@@ -1,5 +1,5 @@
 -- Meaning: what is promised of what commands answer, beside their outputs.
-use Rattle.std.specs.Prelude.{◌≡◌, List, Option, Some}
+use Rattle.std.specs.Prelude.{◌≡◌, List, Option}
 use Rattle.pp_core.specs.declared.call.Style.TheVariants.{Boosted}
 use Rattle.pp_front.specs.Inputs.{IsReport}
 use Rattle.pp_front.specs.Laws.{OneRunLaw}

@@ -9,7 +9,7 @@ ghost use Rattle.pp_json.specs.declared.header.Header.{Header as HeaderOf};
 ghost use Rattle.pp_reading.specs.declared.stop.Failure.TheVariants.{ReadFault};
 ghost use Rattle.pp_reading.specs.Sources.{WhereTold};
 ghost use Rattle.pp_certificate.specs.Rechecked.{IsCheckedSound};
-ghost use Rattle.pp_certify.specs.Certified.{IsDecided, IsPrinted, IsUnwritten};
+ghost use Rattle.pp_certify.specs.Certified.{IsDecided};
 ghost use Rattle.pp_certify.specs.Inputs.{scan};
 ghost use Rattle.pp_certify.specs.Scans.{InputScan};
 ghost use Rattle.pp_certify.specs.Accepted.{IsAloneAccepted, IsSimulated};
@@ -18,11 +18,12 @@ ghost use Rattle.pp_certify.specs.Restated.{PrintsAgain};
 ghost use Rattle.pp_drill.specs.Prints.{PrintsLines};
 ghost use Rattle.pp_exchanges.specs.Prints.{PrintsCertificate};
 ghost use Rattle.pp_prefixes.specs.Prefixes.{CertifiedPrefixLaw, PrefixLaw};
-ghost use Rattle.pp_run.specs.declared.words.Command.TheVariants.{Certify, Drill, Expand, Quick};
+ghost use Rattle.pp_run.specs.declared.words.Command.TheVariants.{Certify, Drill, Expand};
 ghost use Rattle.pp_run.specs.declared.words.Command.TheVariants.{Recheck, Swaps, Views};
 ghost use Rattle.pp_run.specs.Bounds.{RisesAtLeast, RisesAtMost};
-ghost use Rattle.pp_run.specs.Outputs.{IsOfWhole, IsOutput, IsVerdictOrSize, OfInput, Prints};
-ghost use Rattle.pp_run.specs.Outputs.{PrintsOnly, PrintsPrefix, PrintsPrefixOnly, ReadsSound};
+ghost use Rattle.pp_run.specs.Outputs.{IsOfWhole, IsOutput, IsPrinted, IsUnwritten, OfInput};
+ghost use Rattle.pp_run.specs.Outputs.{IsVerdictOrSize, Prints, PrintsOnly, PrintsPrefix};
+ghost use Rattle.pp_run.specs.Outputs.{PrintsPrefixOnly, ReadsSound};
 ghost use Rattle.pp_run.specs.Promises.{HaveOneRun, IsDecidedAsRun, SeesKept};
 ghost use Rattle.pp_run.specs.Words.{DrivesMachine, Reads, TellsSize, command_of};
 ghost use Rattle.pp_run.specs.Writing.{FlushesOnceAtMost};
@@ -196,8 +197,8 @@ pub fn run<S: Source, K: Sink, L: Ledger>(
     // What is decided of a boosted run without its local logs, whatever the input is, is the verdict
     // of all its steps. Over its objects good records keep a configuration boosted, and briefs tell
     // which records are good.
-    ensures decided { command_of words.now ≡ Some Quick → (input : InputScan)
-        (header : Lined HeaderOf) → input.header ≡ Some header → IsDecidedAsRun input header }
+    ensures decided { (input : InputScan) (header : Lined HeaderOf) →
+        input.header ≡ Some header → IsDecidedAsRun input header }
 
     // What a committed transaction saw that undid nothing since is what some number of the
     // transactions committed before it give.

@@ -8,7 +8,7 @@ use std::str;
 
 /// What the program is asked to do.
 #[derive(Clone, Copy, Debug, PartialEq, Eq)]
-pub enum Command {
+pub(crate) enum Command {
     /// Say whether the input is a run of the machine.
     Certify,
     /// Print the run of rule steps that the input stands for.
@@ -80,7 +80,7 @@ fn command_with(word: &[u8], number: &[u8]) -> Option<Command>
 
 /// The command that the words are, None exactly where they are no command. The program's own name
 /// is not among them.
-pub fn read_words(words: &Words) -> Option<Command>
+pub(crate) fn read_words(words: &Words) -> Option<Command>
     ensures { result ≡ command_of words.now }
 {
     let word = words.get(0)?;

@@ -10,7 +10,7 @@ use pp_io::{Sink, SinkFault};
 
 /// Why an output was not written whole.
 #[derive(Clone, Copy, Debug, PartialEq, Eq)]
-pub enum WriteError {
+pub(crate) enum WriteError {
     /// The sink answered that memory was refused.
     Memory,
     /// A write or the flush failed, or a write took nothing.
@@ -19,7 +19,7 @@ pub enum WriteError {
 
 /// Writes all of these bytes, and sends them on. What was written when a write fails is a prefix of
 /// them.
-pub fn send<K: Sink>(sink: &mut K, bytes: &[u8]) -> Result<(), WriteError>
+pub(crate) fn send<K: Sink>(sink: &mut K, bytes: &[u8]) -> Result<(), WriteError>
     ensures ok { OnOk result (Appends (K.held sink.old) (K.held sink.new) bytes.now) }
     ensures sent { OnOk result (SendsAll (K.sent sink.old) (K.sent sink.new) (K.held sink.new)) }
     ensures flushed { OnOk result (K.flushes sink.new ≡ counted (K.flushes sink.old)) }

@@ -1,9 +1,9 @@
 -- Proof machinery: a list of operations, replayed one by one.
-use Rattle.std.proofs.Common.{◌≡◌, ◌<◌, ◌+◌, IsTrue, List, [], ◌∷◌, ◌++◌, length, refl, sym, ◌∙◌}
+use Rattle.std.proofs.Common.{◌≡◌, ◌<◌, ◌+◌, List, [], ◌∷◌, ◌++◌, length, refl, sym, ◌∙◌}
 use Rattle.std.proofs.Common.{ap, subst, arith}
 use Rattle.std.proofs.lemmas.List.{length-append}
-use Rattle.pp_spec.specs.Object.{Object, IsLegal, AllowedFrom, IsAllowed, AllRanged, IsLog}
-use Rattle.pp_spec.specs.Object.{IsReached, IsLawful, state_from, state_after}
+use Rattle.pp_spec.specs.Object.{Object, AllowedFrom, IsAllowed, AllRanged, IsLog, IsLawful}
+use Rattle.pp_spec.specs.Object.{state_from, state_after}
 use Rattle.pp_spec.proofs.Lists.{log_grows, allowed-first}
 
 -- In the state s, of which a run is known, the rest of a list may follow, and leads to the state t.
@@ -44,17 +44,6 @@ module _ {Shape State Op Undo : Type 0} (o : Object Shape State Op Undo) (laws :
     };
     few = omega (arith, few);
   }
-
-  pub next_is_legal : (t s : State) (x : Op) (rest : List Op) → IsReplaying o t s (x ∷ rest)
-      → IsLegal o s x
-  next_is_legal t s x rest k = k.allowed.0
-
-  pub next_is_ranged : (t s : State) (x : Op) (rest : List Op) → IsReplaying o t s (x ∷ rest)
-      → IsTrue (o.ranged x)
-  next_is_ranged t s x rest k = k.ranged.0
-
-  pub is_reached : (t s : State) (rest : List Op) → IsReplaying o t s rest → IsReached o s
-  is_reached t s rest k = record { ops = k.before; log = k.log; few = omega (arith, k.few) }
 
   pub goes_on : (t s u : State) (x : Op) (rest : List Op) → IsReplaying o t s (x ∷ rest)
       → u ≡ o.next s x → IsReplaying o t u rest

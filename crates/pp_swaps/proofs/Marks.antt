@@ -2,8 +2,7 @@
 use Rattle.std.proofs.Common.{◌≡◌, ℕ, zero, suc, ◌+◌, ◌-◌, ◌<◌, ◌≤◌, Bool, cond, sum, List, [], ◌∷◌}
 use Rattle.std.proofs.Common.{◌++◌, length, take, drop, set, get_or, replicate, refl, sym, ap}
 use Rattle.std.proofs.Common.{subst, ◌∙◌, arith, inl, inr, ne_eqb, append_assoc, Some}
-use Rattle.std.proofs.lemmas.List.{drop_more, at_drop_all, append-nil, length-set, length-append}
-use Rattle.std.proofs.lemmas.List.{length-replicate}
+use Rattle.std.proofs.lemmas.List.{drop_more, length-set, length-append, length-replicate}
 use Rattle.pp_model.specs.Lists.{In}
 use Rattle.pp_model.specs.Object.{Item, HasDistinctIds}
 use Rattle.pp_swaps.specs.Exchanges.{Permutes, position}
@@ -126,13 +125,6 @@ module _ {Op : Type 0} (log target : List (Item Op)) (h : Permutes log target) w
     counted = ap (λ (w : List ℕ). w ++ passes (kept (replicate (length log) 1) log) target) e
         ∙ ap (λ (w : List (Item Op)). passes w target) (all_kept log);
   }
-
-  pub draws_all : (ms counts : List ℕ) (i : ℕ) → Draws log target ms counts i → length target ≤ i →
-      counts ≡ passes log target
-  draws_all ms counts i d e =
-      sym (append-nil counts) ∙ ap (λ (w : List ℕ). counts ++ w)
-      (sym (at_drop_all (λ (w : List (Item Op)). passes (kept ms log) w) target i e))
-      ∙ d.counted
 
   module _ (ms counts : List ℕ) (i : ℕ) (e : Item Op) (d : Draws log target ms counts i)
       (lt : i < length target) (is : e ≡ get_or target i e) where

@@ -4,6 +4,6 @@ use Rattle.pp_swaps.specs.declared.exchange.SwapFault.{SwapFault}
 use Rattle.pp_swaps.specs.declared.exchange.SwapFault.TheVariants.{TooMany, OutOfMemory}
 
 -- Too many are told exactly where there are more inverted pairs than asked for, and how many.
-abbrev pub IsFaultOf : ℕ → ℕ → SwapFault → Type 0
-IsFaultOf n most (TooMany count) = (count ≡ n) × (most < n)
-IsFaultOf n most OutOfMemory = Unit {0}
+abbrev pub IsSwapFault : ℕ → ℕ → SwapFault → Type 0
+IsSwapFault n most (TooMany count) = (count ≡ n) × (most < n)
+IsSwapFault n most OutOfMemory = Unit {0}

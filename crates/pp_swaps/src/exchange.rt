@@ -2,7 +2,7 @@
 ghost use Rattle.std.specs.Prelude.{◌≡◌, ◌+◌, ◌<◌, ◌≤◌, ◌^◌, ◌++◌, ℕ, IfOk, IfErr, OnOk, length};
 ghost use Rattle.std.specs.Prelude.{sum, slice_index};
 ghost use Rattle.pp_swaps.specs.Exchanges.{Permutes, inverted, route, after_exchanges, down_to};
-ghost use Rattle.pp_swaps.specs.Faults.{IsFaultOf};
+ghost use Rattle.pp_swaps.specs.Faults.{IsSwapFault};
 ghost use Rattle.pp_swaps.specs.Laws.{InvertedSwap, ExchangesSwap};
 ghost use Rattle.pp_swaps.specs.Passes.{route_passing};
 
@@ -93,7 +93,7 @@ pub fn exchanges<S: Spec>(
     requires swaps { InvertedSwap S.object log.now target.now }
     ensures route { IfOk result (λ list. list ≡ route log.now target.now) }
     ensures few { OnOk result (inverted log.now target.now ≤ most) }
-    ensures fault { IfErr result (λ fault. IsFaultOf (inverted log.now target.now) most fault) }
+    ensures fault { IfErr result (IsSwapFault (inverted log.now target.now) most) }
     ensures swaps { IfOk result (λ list. ExchangesSwap S.object log.now list) }
     ensures last { IfOk result (λ list. after_exchanges log.now list ≡ target.now) }
     ensures long { IfOk result (λ list. length list ≡ inverted log.now target.now) }

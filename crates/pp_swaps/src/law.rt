@@ -4,7 +4,8 @@ ghost use Rattle.pp_swaps.specs.Laws.{RouteLaw, ExchangeLaw, OrderLaw, TargetLaw
 
 use pp_spec::Spec;
 
-/// A route ends in its target, and turns each inverted pair once.
+/// A route ends in its target. Each of its exchanges turns an inverted pair, and there are as many
+/// as `inverted` counts.
 pub fn route_law<O>()
     ensures { RouteLaw O }
 {}

@@ -7,7 +7,9 @@ use std::alloc::{AllocError, Global};
 /// Counts in a row; above them the sums of neighbours, and so on up to one sum.
 #[derive(Drop)]
 pub(crate) enum Tower {
+    /// One count.
     Top(u32),
+    /// A row of counts, and the tower over the sums of neighbours.
     Level(Vec<u32>, Box<Tower>),
 }
 
@@ -16,16 +18,16 @@ fn sums(alloc: Global, counts: &[u32]) -> Result<Vec<u32>, AllocError>
     requires small { sum counts.now < 2 ^ 32 }
     ensures { IfOk result (λ v. v.items ≡ pairs counts.now) }
 {
-    let mut v = Vec::new(alloc);
+    let mut row = Vec::new(alloc);
     let mut i = 0;
     while counts.len() - i >= 2 {
-        v.push(counts[i] + counts[i + 1])?;
+        row.push(counts[i] + counts[i + 1])?;
         i += 2;
     }
     if i < counts.len() {
-        v.push(counts[i])?;
+        row.push(counts[i])?;
     }
-    Ok(v)
+    Ok(row)
 }
 
 /// The tower over these counts.

@@ -1,13 +1,11 @@
 -- Proof machinery: the lines of an input, and what it is found to be as a certificate.
-use Rattle.std.proofs.Common.{◌≡◌, ◌≤◌, ◌<◌, ◌+◌, ◌*◌, ℕ, Bool, true, false, cond, List, [], ◌∷◌}
+use Rattle.std.proofs.Common.{◌≡◌, ◌≤◌, ◌+◌, ℕ, Bool, cond, List, [], ◌∷◌}
 use Rattle.std.proofs.Common.{◌++◌, length, map, Option, None, Some, refl, sym, ap, subst, ◌∙◌}
 use Rattle.std.proofs.Common.{◌⊎◌, Ok, Err, arith, inl, inr, append_assoc, lt-ltb, le-ltb}
-use Rattle.std.specs.Prelude.{nat_lt}
 use Rattle.std.specs.Io.KnownBytes.{IsAtEnd}
 use Rattle.std.proofs.lemmas.List.{map-append, length-append, length-map}
 use Rattle.pp_core.specs.Catalogs.{Objects}
 use Rattle.pp_core.specs.declared.call.Kind.{Kind}
-use Rattle.pp_core.specs.declared.limits.TheConstants.{MOST_LINES}
 use Rattle.pp_io.specs.Lines.{NumberedLine}
 use Rattle.pp_io.specs.Overruns.{overrun, scanned_lines}
 use Rattle.pp_object.specs.Objects.{objects}
@@ -27,7 +25,7 @@ use Rattle.pp_recheck.specs.Laws.{Leads}
 use Rattle.pp_certificate.specs.Checkings.{read_in, Covers}
 use Rattle.pp_certificate.specs.Checkings as checkings
 use Rattle.pp_certificate.specs.Reading.{objects_in, reader, reader_of}
-use Rattle.pp_certificate.specs.Rechecked.{texts, early_texts, Checked, Faulty, Shows, refused_at, checked}
+use Rattle.pp_certificate.specs.Rechecked.{texts, early_texts, Faulty, Shows, refused_at, checked}
 use Rattle.pp_certificate.specs.Rechecked.{IsChecked, RecheckReadsNoFault}
 use Rattle.pp_certificate.specs.declared.checking.Checking.{Checking}
 use Rattle.pp_certificate.specs.declared.checking.Checking.TheVariants.{Before, Within}
@@ -74,10 +72,6 @@ module _ (first : ℕ) (from : Examiner × ℕ) (line : NumberedLine) where
         covers_count (bare is.0) from.0.checking is.1.0,
       )
 
-  pub next_few : IsNext (check_reading first) from line
-      → (read_in from.0.checking).lines < MOST_LINES
-  next_few is = omega (arith, next_number is, is.3)
-
 -- the line is taken
 pub leads_on : (from : Examiner) (now new : ℕ) (line : NumberedLine) (to : Checking)
     → new ≤ now + 1
@@ -111,12 +105,6 @@ faulty_here from now line why number refused first lines leads more =
     subst (λ (ls : List (List ℕ)). HasCheckFault ls line.0 (faults.Refusal why)) (sym all)
     (subst (λ n. HasCheckFault (bare lines ++ line.1 ∷ bare more) n (faults.Refusal why))
     (sym count) there)
-
-pub stops_with : (from : Examiner) (now new : ℕ) (line : NumberedLine) → new ≤ now + 1
-    → (first : ℕ) (lines : List NumberedLine) → (check_reading first).Leads lines (from, now)
-    → (check_reading first).Stops (lines ++ line ∷ []) new
-stops_with from now new line cost first lines leads =
-    omega (arith, cost, leads.1, length-append lines (line ∷ []))
 
 -- ---- a line that is not taken, or a limit
 module _ (count at : ℕ) (why : Refusal) (within : at ≤ count) where

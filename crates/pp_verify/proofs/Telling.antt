@@ -4,7 +4,6 @@ use Rattle.std.specs.Io.KnownBytes.{IsAtEnd}
 use Rattle.pp_core.specs.Catalogs.{Objects}
 use Rattle.pp_core.specs.declared.status.Status.{Status}
 use Rattle.pp_core.specs.declared.status.Status.TheVariants as statuses
-use Rattle.pp_reading.specs.Sources.{WhereTold}
 use Rattle.pp_recheck.specs.declared.refusal.Refusal.{Refusal}
 use Rattle.pp_recheck.specs.declared.refusal.Refusal.TheVariants as refusals
 use Rattle.pp_certificate.specs.Reading.{objects_in}

@@ -22,12 +22,12 @@ pub(crate) enum CheckFault {
 /// What takes the lines of an input as those of a certificate.
 #[derive(Drop)]
 pub(crate) struct Examiner {
-    pub checking: Checking,
+    pub(crate) checking: Checking,
 }
 
 impl Examiner {
     /// No line was taken.
-    pub fn new(alloc: Global) -> Examiner
+    pub(crate) fn new(alloc: Global) -> Examiner
         ensures { Covers [] result.checking }
     {
         Examiner {

@@ -1,4 +1,4 @@
-use Rattle.std.proofs.Common.{◌≡◌, List, None, ap, ◌∙◌, subst}
+use Rattle.std.proofs.Common.{List, None, ap, ◌∙◌, subst}
 use Rattle.pp_core.specs.declared.call.Kind.{Kind}
 use Rattle.pp_json.specs.Starts.{IsReadableStart}
 use Rattle.pp_object.specs.Objects.{objects, place_of}

@@ -1,4 +1,4 @@
-use Rattle.std.proofs.Common.{◌≡◌, ◌<◌, ◌≤◌, true, false, refl, subst, sym, ap, ◌∙◌, arith, length}
+use Rattle.std.proofs.Common.{true, false, refl, subst, sym, ap, ◌∙◌, arith}
 use Rattle.std.proofs.lemmas.Result.{err_from_is_err_and}
 use Rattle.pp_front.specs.Expansions.{IsOfStyle}
 use Rattle.pp_front.specs.Records.{record_meaning}

@@ -5,7 +5,7 @@ use Rattle.pp_certify.specs.Rejected.{IsEvident}
 use Rattle.pp_reading.proofs.Takers.{taken_all}
 use Rattle.pp_certify.proofs.Concluding.{rejected_evident}
 use Rattle.pp_exchanges.specs.Swaps.{IsSwaps}
-use Rattle.pp_exchanges.proofs.Telling.{accepted_swaps, fault_swaps, never_rejected, rejected_swaps, told_status}
+use Rattle.pp_exchanges.proofs.Telling.{accepted_swaps, fault_swaps, rejected_swaps}
 use Rattle.pp_core.specs.declared.status.Status.TheVariants as statuses
 use Rattle.pp_exchanges.proofs.command.swaps.Goals as goal
 
@@ -31,10 +31,11 @@ returns-in_ok-text-in-Rejected-clause-shown g c = λ rejected bytes is.
     subst (λ bs. IsEvident (scan bs)) (taken_all old new found.0 bytes found.1 found.2 is)
     (rejected_evident (scan found.0) c.in-Rejected.tally c.in-Rejected.rejection found.3)
 
-pub returns-in_ok-r-in-Accepted-clause-output : goal.returns-in_ok-r-in-Accepted-clause-output
-returns-in_ok-r-in-Accepted-clause-output g c = λ bytes is.
+pub returns-in_ok-report-in-Accepted-clause-output : goal.returns-in_ok-report-in-Accepted-clause-output
+returns-in_ok-report-in-Accepted-clause-output g c = λ bytes is.
     let old = g.S.Source.left c.args.source.now in
     let new = g.S.Source.left c.examine.new.source in
     let found = subst (Finds old new) c.in-Accepted.is c.in_ok-line.ensures.found in
-    let r = c.in_ok-r-in-Accepted.r in
-    subst (λ bs. IsSwaps bs r.0 r.1) (taken_all old new found.0 bytes found.1 found.2 is) (accepted_swaps found.0 c.in-Accepted.tally c.in-Accepted.machine r.0 r.1 found.3 c.in_ok-r-in-Accepted.ensures)
+    let report = c.in_ok-report-in-Accepted.report in
+    subst (λ bs. IsSwaps bs report.0 report.1) (taken_all old new found.0 bytes found.1 found.2 is)
+    (accepted_swaps found.0 c.in-Accepted.tally c.in-Accepted.machine report.0 report.1 found.3 c.in_ok-report-in-Accepted.ensures)

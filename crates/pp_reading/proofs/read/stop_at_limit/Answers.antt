@@ -3,11 +3,11 @@ use Rattle.pp_reading.specs.declared.cause.Cause.TheVariants as causes
 use Rattle.pp_reading.specs.Limits.{limit_fault}
 use Rattle.pp_reading.proofs.read.stop_at_limit.Goals as goal
 
-pub returns-in-TooLong : goal.returns-in-TooLong
-returns-in-TooLong g c = λ first. (causes.TooLong, ap (λ limit. limit_fault (Some limit)) c.in-TooLong.is, c.at_limit.ensures first)
+pub returns-in-TooLong-clause-fault : goal.returns-in-TooLong-clause-fault
+returns-in-TooLong-clause-fault g c = λ first. (causes.TooLong, ap (λ limit. limit_fault (Some limit)) c.in-TooLong.is, c.at_limit.ensures first)
 
-pub returns-in-TooManyLines : goal.returns-in-TooManyLines
-returns-in-TooManyLines g c = λ first. (causes.TooManyLines, ap (λ limit. limit_fault (Some limit)) c.in-TooManyLines.is, c.at_limit-in-TooManyLines.ensures first)
+pub returns-in-TooManyLines-clause-fault : goal.returns-in-TooManyLines-clause-fault
+returns-in-TooManyLines-clause-fault g c = λ first. (causes.TooManyLines, ap (λ limit. limit_fault (Some limit)) c.in-TooManyLines.is, c.at_limit-in-TooManyLines.ensures first)
 
-pub returns-in-LineTooLong : goal.returns-in-LineTooLong
-returns-in-LineTooLong g c = λ first. (causes.LineTooLong, ap (λ limit. limit_fault (Some limit)) c.in-LineTooLong.is, c.at_limit-in-LineTooLong.ensures first)
+pub returns-in-LineTooLong-clause-fault : goal.returns-in-LineTooLong-clause-fault
+returns-in-LineTooLong-clause-fault g c = λ first. (causes.LineTooLong, ap (λ limit. limit_fault (Some limit)) c.in-LineTooLong.is, c.at_limit-in-LineTooLong.ensures first)

@@ -65,7 +65,7 @@ returns-in-Some-clause-stop g c = λ first.
     let follows = subst (λ h. Follows R lines h (c.args.taker, c.args.ticks.now)) (sym fed.0) (piece_follows R bytes piece held (c.args.taker, c.args.ticks.now) is) in
     let leads = follows_done R lines c.drain.new.lines (c.in_ok-taker.taker, c.drain.new.ticks) (c.in_ok-taker.ensures.ok first lines follows) c.in_ok-taker.ensures.whole in
     piece_passes R bytes piece held (c.args.taker, c.args.ticks.now) is (c.in_ok-taker.taker, c.drain.new.ticks) c.in-Some.limit at fault (fed.1 ∙ c.in-Some.is) (said first) leads)
-    c.stop_at_limit.ensures
+    c.stop_at_limit.ensures.fault
 
 pub returns-in-Some-clause-cost : goal.returns-in-Some-clause-cost
 returns-in-Some-clause-cost g c = λ first bytes is.

@@ -1,4 +1,4 @@
-use Rattle.std.proofs.Common.{◌≡◌, ◌≢◌, ℕ, Some, inl, inr, subst, sym}
+use Rattle.std.proofs.Common.{Some, subst, sym}
 use Rattle.std.proofs.lemmas.Result.{IfOk-weaker}
 use Rattle.pp_reading.proofs.Takers.{if_ok_all}
 use Rattle.pp_run.proofs.Performing.{answered, checked, checked_fits, decided_fits, sized, whole_sound}

@@ -14,7 +14,7 @@ use Rattle.pp_run.specs.Outputs.{IsOfWhole, IsOutput, OfInput}
 use Rattle.pp_run.specs.Words.{DrivesMachine, TellsSize, command_of}
 use Rattle.pp_run.specs.Writing.{AppendsPrefix}
 use Rattle.pp_run.specs.declared.words.Command.{Command}
-use Rattle.pp_run.specs.declared.words.Command.TheVariants.{Certify, Drill, Expand, Quick, Recheck, Swaps, Views}
+use Rattle.pp_run.specs.declared.words.Command.TheVariants.{Certify, Drill, Expand, Recheck, Swaps, Views}
 use Rattle.pp_run.proofs.program.run.Goals as goal
 
 -- the number of a drill is one of a run
@@ -121,20 +121,23 @@ returns-in-Ok-send-clause-certified g c = λ swaps accepted bytes is.
     prints_certificate bytes c.in-Ok.report.1 (g.K.Sink.held c.args.sink.now) (g.K.Sink.held c.send.new.sink) (subst (λ s. IsSwaps bytes s c.in-Ok.report.1) accepted told)
     (subst (Appends (g.K.Sink.held c.args.sink.now) (g.K.Sink.held c.send.new.sink)) c.bytes.ensures c.in-Ok-send.ensures.ok)
 
+pub returns-in_default-clause-decided : goal.returns-in_default-clause-decided
+returns-in_default-clause-decided g c = decided_as_run
+
 pub returns-in-Ok-send-clause-decided : goal.returns-in-Ok-send-clause-decided
-returns-in-Ok-send-clause-decided g c = λ quick. decided_as_run
+returns-in-Ok-send-clause-decided g c = decided_as_run
 
 pub returns-in-Err-ReadFault-clause-decided : goal.returns-in-Err-ReadFault-clause-decided
-returns-in-Err-ReadFault-clause-decided g c = λ quick. decided_as_run
+returns-in-Err-ReadFault-clause-decided g c = decided_as_run
 
 pub returns-in-Err-OutOfMemory-clause-decided : goal.returns-in-Err-OutOfMemory-clause-decided
-returns-in-Err-OutOfMemory-clause-decided g c = λ quick. decided_as_run
+returns-in-Err-OutOfMemory-clause-decided g c = decided_as_run
 
 pub returns-in-Err-WriteFault-clause-decided : goal.returns-in-Err-WriteFault-clause-decided
-returns-in-Err-WriteFault-clause-decided g c = λ quick. decided_as_run
+returns-in-Err-WriteFault-clause-decided g c = decided_as_run
 
 pub returns-clause-decided : goal.returns-clause-decided
-returns-clause-decided g c = λ quick. decided_as_run
+returns-clause-decided g c = decided_as_run
 
 pub returns-in-Ok-send-clause-seen : goal.returns-in-Ok-send-clause-seen
 returns-in-Ok-send-clause-seen g c = λ views accepted bytes is.

@@ -5,7 +5,7 @@ use Rattle.pp_swaps.proofs.tower.sums.Given as goal
 abbrev pub invariant-loop-i : goal.invariant-loop-i
 invariant-loop-i l = record {
   within : l.i ≤ length l.counts;
-  so_far : l.v.items ++ pairs
+  so_far : l.row.items ++ pairs
       (drop l.i l.counts) ≡ pairs l.counts;
 }
 
