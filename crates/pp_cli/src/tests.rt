@@ -7,6 +7,7 @@ mod failing_devices;
 mod faulty_inputs;
 mod given_words;
 mod hostile_lines;
+mod library_calls;
 mod long_inputs;
 mod made_runs;
 mod rejected_runs;
@@ -14,6 +15,7 @@ mod row;
 mod starts;
 mod style_faults;
 mod styled_runs;
+mod walks;
 
 use crate::run_counted;
 use crate::tests::accepted_runs::ACCEPTED;

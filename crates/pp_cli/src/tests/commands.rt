@@ -8,7 +8,7 @@ pub(crate) struct CommandRow {
     pub(crate) row: Row,
 }
 
-pub(crate) const COMMANDS: [CommandRow; 10] = [
+pub(crate) const COMMANDS: [CommandRow; 11] = [
     CommandRow {
         command: b"swaps",
         row: Row {
@@ -152,6 +152,20 @@ pub(crate) const COMMANDS: [CommandRow; 10] = [
 "#,
             status: Status::Accepted,
             report: b"quick accepted records 11 committed 3\ntx t0\nop 1 acct.put(1,100)=none\nop 2 acct.put(2,50)=none\ntx t2\nop 4 acct.put(3,5)=none\ntx t1\nop 3 acct.put(1,70)=100\nop 5 acct.put(2,80)=50\nstate acct 1=70 2=80 3=5\n",
+        },
+    },
+    CommandRow {
+        command: b"quick",
+        row: Row {
+            what: "a counter that does not start at 0",
+            header: b"",
+            records: br#"{"run":2,"style":"boosted","objects":[{"name":"c","kind":"counter"}],"start":{"tx":"t0","ops":[{"id":1,"on":"c","call":"add","args":[5],"result":null}]}}
+{"step":"begin","tx":"t1","thread":"p1"}
+{"step":"op","tx":"t1","id":2,"on":"c","call":"get","args":[],"result":5}
+{"step":"commit","tx":"t1"}
+"#,
+            status: Status::Accepted,
+            report: b"quick accepted records 3 committed 2\ntx t0\nop 1 c.add(5)=none\ntx t1\nop 2 c.get()=5\nstate c 5\n",
         },
     },
     CommandRow {

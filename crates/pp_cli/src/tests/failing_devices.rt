@@ -1,8 +1,11 @@
-//! Sources and sinks that fail at each of their calls.
+//! Sources and sinks that fail at each of their calls, and those that never fail.
+use crate::run_counted;
 use crate::tests::row::COUNTER;
 use crate::tests::{added, answered, assert_answer, status_of};
 use pp_core::{Status, Words};
-use pp_io::{MemorySink, MemorySource};
+use pp_io::{MemorySink, MemorySource, SteadySink, SteadySource};
+use std::marker::Brand;
+use std::sync::ledger::Blank;
 use std::test::Fail;
 
 /// What is reported of the run that adds.
@@ -91,5 +94,25 @@ fn a_failed_write_of_a_made_run_leaves_a_prefix(rt: HostRuntime) -> Result<(), F
     let status = status_of(&words, &mut source, &mut sink, alloc);
     let answer = (status, sink.held().to_vec(alloc)?);
     assert_answer(&rt, "a made run", &answer, Status::WriteFault, b"drill 1\n");
+    Ok(())
+}
+
+#[test]
+fn a_source_and_a_sink_may_never_fail(rt: HostRuntime) -> Result<(), Fail> {
+    let alloc = rt.alloc();
+    let mut words = Words::new(alloc);
+    words.push(b"certify")?;
+    let mut source = SteadySource::new(added(alloc)?);
+    let mut sink = SteadySink::new(alloc);
+    let status = run_counted::<Brand, _, _>(alloc, &words, &mut source, &mut sink, Blank::new(1));
+    let answer = (status, sink.held().to_vec(alloc)?);
+    assert_answer(
+        &rt,
+        "the run that adds",
+        &answer,
+        Status::Accepted,
+        ADDED_REPORT,
+    );
+    assert_eq!(rt; sink.sent(), ADDED_REPORT);
     Ok(())
 }
