@@ -99,4 +99,6 @@ def measure_twice(program, name, run, count):
 
 def program_named():
     """The program, whose path is the script's first word."""
+    if len(sys.argv) < 2:
+        sys.exit(f"usage: python3 {sys.argv[0]} crates/pp_cli/out/pp_cli")
     return os.path.abspath(sys.argv[1])

@@ -65,6 +65,10 @@ def insertions():
     return [("insert", [7], None), ("take", [], 7), *(("insert", [number], None) for number in numbers(OWN - 2))]
 
 
+def write(_number):
+    return ("write", [0, 0], None)
+
+
 def given_back(kind, pulled, own):
     """Runs of so many calls of another transaction, that are pulled, and given back behind these own ones."""
     def run(count):
@@ -86,7 +90,6 @@ def given_back(kind, pulled, own):
 
 def main():
     program = program_named()
-    write = lambda number: ("write", [0, 0], None)
     for name, kind, pulled, own in (
         ("writes elsewhere", "mem", write, writes_elsewhere),
         ("failed compare-and-swaps", "mem", write, failed_swaps),

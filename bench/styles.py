@@ -7,13 +7,12 @@ Each transaction adds to one counter and commits, so that the transaction of num
 transactions make some 199,000 steps. Beside the time of `certify` on the records stand the time of only reading
 them and that of `certify` on the steps that `expand` writes for them; the ratio is to both of these together.
 """
-import json
 import os
 import subprocess
 import sys
 import tempfile
 
-from measure import begin, program_named, seconds
+from measure import begin, program_named, seconds, write
 
 COUNT = 627
 
@@ -32,11 +31,6 @@ def records(style, count):
         run.append({"step": "op", "tx": tx, "id": j, "on": "c", "call": "add", "args": [1], "result": None})
         run.append({"step": "commit", "tx": tx})
     return run
-
-
-def write(path, lines):
-    with open(path, "w") as out:
-        out.writelines(json.dumps(line, separators=(",", ":")) + "\n" for line in lines)
 
 
 def certified(program, path, wanted):
