@@ -1,6 +1,7 @@
--- Proof machinery: the places of the views that have no number yet.
+-- Proof machinery: the views that get a number, and the peaks that are left.
 use Rattle.std.specs.Prelude.{◌≡◌, ◌≢◌, ◌≤◌, ◌<◌, ◌+◌, ◌*◌, ◌⊎◌, ℕ, suc, zero, List}
-use Rattle.std.specs.Prelude.{[], ◌∷◌, ◌++◌, length, take, drop, set, sum_by, Option, None, Some}
+use Rattle.std.specs.Prelude.{[], ◌∷◌, ◌++◌, length, take, drop, set, sum_by, Option, None, Some, false, true}
+use Rattle.std.specs.Option.{is_some}
 use Rattle.std.proofs.Common.{refl, sym, ap, subst, ◌∙◌, arith, get_or, inl, inr}
 use Rattle.std.proofs.Math.Seq.{take-length}
 use Rattle.std.proofs.lemmas.List.{drop_more, length-set, get_or-set_same, get_or-set_other, map-append}
@@ -9,22 +10,20 @@ use Rattle.pp_model.specs.Config.{CommittedTx}
 use Rattle.pp_model.specs.Lists.{In}
 use Rattle.pp_model.specs.Object as model
 use Rattle.pp_model.specs.Object.{Item, ops}
-use Rattle.pp_model.proofs.Lists.{in_left}
+use Rattle.pp_model.proofs.Lists.{in_left, in_map, in_right}
 use Rattle.pp_spec.specs.Object.{Object, AllowedFrom, rules_of, state_from}
 use Rattle.pp_views.specs.Peaks.{Peak, operations}
-use Rattle.pp_views.specs.Trying.{AreAlike, AreApart, AreCandidates, ArePlaces, AreUnnumbered, Candidate, IsStateAt, IsUntried, StandsAt}
+use Rattle.pp_views.specs.Trying.{AreApart, AreCandidates, Candidate, HasRest, IsLine, IsStateAt, Line, StandsAt}
 use Rattle.pp_views.specs.Trying.{length_at, places_of}
 use Rattle.pp_views.specs.Views.{Explains, IsLeastBelow, IsViewBelow, Pairwise, View}
-use Rattle.pp_views.proofs.LiningUp.{alike_or_not, apart_more, in_end, in_last, length_there, nobody, stand_same}
-use Rattle.pp_views.proofs.Viewing.{below_next, explains_there, pairwise_as}
+use Rattle.pp_views.proofs.Fronts.{in_default}
+use Rattle.pp_views.proofs.LiningUp.{alike_or_not, apart_more, in_last, length_there, nobody, stand_same}
+use Rattle.pp_views.proofs.Viewing.{below_next, explains_there, pairwise_as, pairwise_long}
 
 -- ---- what stands at a place
 
 pub stand_written : {A : Type 0} (xs : List A) (i : ℕ) (x : A) → i < length xs → StandsAt (set xs i x) i x
 stand_written xs i x there = (omega (arith, there, length-set xs i x), sym (get_or-set_same xs i x x there))
-
-pub stand_kept : {A : Type 0} (xs : List A) (i j : ℕ) (x y : A) → j ≢ i → StandsAt xs j y → StandsAt (set xs i x) j y
-stand_kept xs i j x y other s = (let l = s.0 in omega (arith, l, length-set xs i x), s.1 ∙ sym (get_or-set_other xs i j x y other))
 
 pub stand_before : {A : Type 0} (xs : List A) (i j : ℕ) (x y : A) → j ≢ i → StandsAt (set xs i x) j y → StandsAt xs j y
 stand_before xs i j x y other s = (let l = s.0 in omega (arith, l, length-set xs i x), s.1 ∙ get_or-set_other xs i j x y other)
@@ -50,32 +49,17 @@ module _ {A B : Type 0} (R : A → B → Type 0) where
 
 -- ---- the first candidates
 
--- of views that were not tried each is without a number
-pub all_unnumbered : {Op : Type 0} (ps : List (Peak Op)) (vs : List View) (is : List ℕ) → length vs ≡ length ps → Pairwise IsUntried ps vs → ArePlaces ps (length ps) is → AreUnnumbered vs is
-all_unnumbered {Op} ps vs is long untried places = record {
-  apart = places.apart;
-  there = λ i m. one ps vs i untried (places.within i m);
-  all = λ i v s none. let l = s.0 in places.all i (omega (arith, l, long));
-}
-  where
-    one : (qs : List (Peak Op)) (ws : List View) (i : ℕ) → Pairwise IsUntried qs ws → i < length qs → (v : View) × StandsAt ws i v × (v.after ≡ None)
-    one [] ws i h l = absurd (omega (arith, l))
-    one (q ∷ qs) [] i h l = absurd h
-    one (q ∷ qs) (w ∷ ws) zero h l = (w, (omega arith, refl), (h.0).after)
-    one (q ∷ qs) (w ∷ ws) (suc i) h l =
-        let r = one qs ws i h.1 (omega (arith, l)) in
-        let k = (r.1).0 in
-        (r.0, (omega (arith, k), (r.1).1), r.2)
-
 -- the first line has them all
-pub first_line : {Op : Type 0} (ps : List (Peak Op)) (vs : List View) (cs : List Candidate) → length vs ≡ length ps → Pairwise IsUntried ps vs → ArePlaces ps (length ps) (places_of cs)
-    → AreAlike ps [] cs → AreCandidates ps vs cs
-first_line {Op} ps vs cs long untried places alike = record {
-  unnumbered = all_unnumbered ps vs (places_of cs) long untried places;
-  alike = alike;
+pub first_line : {Op : Type 0} (ps : List (Peak Op)) (vs : List View) (line : Line Op) → length vs ≡ length ps → IsLine ps line → AreCandidates ps vs line
+first_line {Op} ps vs line long h = record {
+  apart = h.places.apart;
+  within = h.places.within;
+  all = λ i v s none. let l = s.0 in h.places.all i (omega (arith, l, long));
+  alike = h.alike;
+  rests = h.rests;
   cost =
       let all : operations (take (length ps) ps) ≡ operations ps = ap (λ (w : List (Peak Op)). operations w) (take-length ps) in
-      let cost = places.cost in
+      let cost = h.places.cost in
       omega (arith, cost, all);
 }
 
@@ -95,23 +79,35 @@ none_yet n P a none h never = subst (λ (w : Option ℕ). IsLeastBelow (n + 1) P
       | inr e ↦ never (subst P e p)
     ])
 
+none_some : (k : ℕ) → ◌≡◌ {A = Option ℕ} None (Some k) → ⊥
+none_some k e = cc
+
+some_none : {k : ℕ} → ◌≡◌ {A = Option ℕ} (Some k) None → ⊥
+some_none e = cc
+
+-- a number that does not explain: the view keeps its own, or has none still
+not_found : (n : ℕ) (P : ℕ → Type 0) (a : Option ℕ) → IsLeastBelow n P a → (P n → ⊥) → IsLeastBelow (n + 1) P a
+not_found n P None h never = none_yet n P None refl h never
+not_found n P (Some k) h never = wider n (n + 1) P (Some k) (omega arith) some_none h
+
+-- a number is kept
+kept : (n : ℕ) (P : ℕ → Type 0) (a : Option ℕ) → (a ≡ None → ⊥) → IsLeastBelow n P a → IsLeastBelow (n + 1) P a
+kept n P a some h = wider n (n + 1) P a (omega arith) some h
+
 module _ {Shape State Op Undo : Type 0} (o : Object Shape State Op Undo) (ps : List (Peak Op)) where
   -- where each view has a number, they are the views up to any number of committed transactions
-  pub all_numbered : (shape : Shape) (D : List (CommittedTx Op)) (n m : ℕ) (vs : List View) (left : List Candidate) → length left ≡ 0 → n ≤ m → AreUnnumbered vs (places_of left)
+  pub all_numbered : (shape : Shape) (D : List (CommittedTx Op)) (n m : ℕ) (vs : List View) (line : Line Op) → length line.candidates.items ≡ 0 → n ≤ m → AreCandidates ps vs line
       → Pairwise (IsViewBelow n (rules_of o shape) D) ps vs → Pairwise (IsViewBelow m (rules_of o shape) D) ps vs
-  all_numbered shape D n m vs (j ∷ left) empty le un h = absurd (omega (arith, empty))
-  all_numbered shape D n m vs [] empty le un h = pairwise_from (IsViewBelow m O D) ps vs (long ps vs h) (λ i p v s t.
-      let now = pairwise_at (IsViewBelow n O D) ps vs i p v h s t in
-      record { tx = now.tx; ops = now.ops; after = wider n m (Explains O D p.ops) v.after le (un.all i v t) now.after })
+  all_numbered shape D n m vs line empty le h views = pairwise_from (IsViewBelow m O D) ps vs (pairwise_long (IsViewBelow n O D) ps vs views) (λ i p v s t.
+      let now = pairwise_at (IsViewBelow n O D) ps vs i p v views s t in
+      record { tx = now.tx; ops = now.ops; after = wider n m (Explains O D p.ops) v.after le (λ none. nowhere line.candidates.items i empty (h.all i v t none)) now.after })
     where
       O : model.Object Op State
       O = rules_of o shape
 
-      long : (qs : List (Peak Op)) (ws : List View) → Pairwise (IsViewBelow n (rules_of o shape) D) qs ws → length ws ≡ length qs
-      long [] [] h = refl
-      long [] (w ∷ ws) h = absurd h
-      long (q ∷ qs) [] h = absurd h
-      long (q ∷ qs) (w ∷ ws) h = ap suc (long qs ws h.1)
+      nowhere : (cs : List Candidate) (i : ℕ) → length cs ≡ 0 → In i (places_of cs) → ⊥
+      nowhere [] i none n = n
+      nowhere (c ∷ cs) i none n = omega (arith, none)
 
   -- a transaction without operations gives no peak a number
   pub same_round : (shape : Shape) (D : List (CommittedTx Op)) (n m : ℕ) (s : State) (vs : List View) → m ≡ n + 1 → IsStateAt o shape D n s → IsStateAt o shape D m s
@@ -132,85 +128,94 @@ module _ {Shape State Op Undo : Type 0} (o : Object Shape State Op Undo) (ps : L
 
   -- ---- a round, while the peaks at the places are tried
 
-  -- behind some places: those at `rest` are to be tried, those at `still` were and got no number
+  -- behind some places: those at `rest` are to be tried
   module _ (number : ℕ) (state : State) (old : List View) where
-    pub record AreTried (views : List View) (rest still : List ℕ) : Type 0 where
+    pub record IsRound (views : List View) (rest : List ℕ) : Type 0 where
       pub long : length views ≡ length old
-      pub same : (i : ℕ) (v : View) → In i rest → StandsAt old i v → StandsAt views i v
+      pub apart : AreApart rest
+      pub same : (i : ℕ) (v : View) → In i rest → StandsAt views i v → StandsAt old i v
+      pub left : (i : ℕ) (v : View) → StandsAt views i v → v.after ≡ None → StandsAt old i v
       pub done : (shape : Shape) (D : List (CommittedTx Op)) → IsStateAt o shape D number state → Pairwise (IsViewBelow number (rules_of o shape) D) ps old
           → (i : ℕ) (p : Peak Op) (v : View) → StandsAt ps i p → StandsAt views i v → (In i rest → ⊥) → IsViewBelow (number + 1) (rules_of o shape) D p v
-      pub rest_apart : AreApart rest
-      pub still_apart : AreApart still
-      pub other : (i : ℕ) → In i still → In i rest → ⊥
-      pub rest_there : (i : ℕ) → In i rest → (v : View) × StandsAt old i v × (v.after ≡ None)
-      pub still_there : (i : ℕ) → In i still → (v : View) × StandsAt views i v × (v.after ≡ None)
-      pub all : (i : ℕ) (v : View) → StandsAt views i v → v.after ≡ None → In i still ⊎ In i rest
 
-    pub none_tried : (places : List ℕ) → AreUnnumbered old places → AreTried old places []
-    none_tried places un = record {
+    pub none_tried : (line : Line Op) → AreCandidates ps old line → IsRound old (places_of line.candidates.items)
+    none_tried line h = record {
       long = refl;
+      apart = h.apart;
       same = λ i v n s. s;
-      done = λ shape D at h i p v s t out.
-          let now = pairwise_at (IsViewBelow number (rules_of o shape) D) ps old i p v h s t in
-          let le : number ≤ number + 1 = omega arith in
-          record { tx = now.tx; ops = now.ops; after = wider number (number + 1) (Explains (rules_of o shape) D p.ops) v.after le (λ none. out (un.all i v t none)) now.after };
-      rest_apart = un.apart;
-      still_apart = tt;
-      other = λ i n m. n;
-      rest_there = un.there;
-      still_there = λ i n. absurd n;
-      all = λ i v s none. inr (un.all i v s none);
+      left = λ i v s none. s;
+      done = λ shape D at below i p v s t out.
+          let now = pairwise_at (IsViewBelow number (rules_of o shape) D) ps old i p v below s t in
+          record { tx = now.tx; ops = now.ops; after = kept number (Explains (rules_of o shape) D p.ops) v.after (λ none. out (h.all i v t none)) now.after };
     }
 
-    pub all_tried : (views : List View) (still : List ℕ) → AreTried views [] still → AreUnnumbered views still
-    all_tried views still h = record {
-      apart = h.still_apart;
-      there = h.still_there;
-      all = λ i v s none. elim (h.all i v s none) [ inl n ↦ n | inr never ↦ absurd never ];
-    }
-
-    pub tried_round : (views : List View) (still : List ℕ) → length old ≡ length ps → AreTried views [] still → (shape : Shape) (D : List (CommittedTx Op)) → IsStateAt o shape D number state
+    pub round_done : (views : List View) → length old ≡ length ps → IsRound views [] → (shape : Shape) (D : List (CommittedTx Op)) → IsStateAt o shape D number state
         → Pairwise (IsViewBelow number (rules_of o shape) D) ps old → Pairwise (IsViewBelow (number + 1) (rules_of o shape) D) ps views
-    tried_round views still count h shape D at before =
+    round_done views count h shape D at before =
         pairwise_from (IsViewBelow (number + 1) (rules_of o shape) D) ps views (h.long ∙ count) (λ i p v s t. h.done shape D at before i p v s t (λ never. never))
 
-    -- at a candidate of a loop
-    module _ (views : List View) (left : List Candidate) (still : List ℕ) (k : ℕ) (there : k < length left) (h : AreTried views (places_of (drop k left)) still) where
-      pub at_candidate : AreTried views ((get_or left k nobody).place ∷ places_of (drop (k + 1) left)) still
-      at_candidate = subst (λ (cs : List Candidate). AreTried views (places_of cs) still) (drop_more left k nobody there) h
-
-      pub view_within : (get_or left k nobody).place < length views
-      view_within = let r = at_candidate.rest_there (get_or left k nobody).place (inl refl) in (at_candidate.same (get_or left k nobody).place r.0 (inl refl) r.1).0
-
-      pub peak_within : length old ≡ length ps → (get_or left k nobody).place < length ps
-      peak_within long = let l = view_within in let same = h.long in omega (arith, l, same, long)
+    pub still_candidates : (views : List View) (line : Line Op) → IsRound views [] → AreCandidates ps old line → AreCandidates ps views line
+    still_candidates views line h cs = record {
+      apart = cs.apart;
+      within = cs.within;
+      all = λ i v s none. cs.all i v (h.left i v s none) none;
+      alike = cs.alike;
+      rests = cs.rests;
+      cost = cs.cost;
+    }
 
     -- one place on
-    module _ (views : List View) (j : ℕ) (rest still : List ℕ) (p : Peak Op) (v : View) (h : AreTried views (j ∷ rest) still) (here : StandsAt ps j p) (now : StandsAt views j v) where
-      none_here : v.after ≡ None
-      none_here =
-          let r = h.rest_there j (inl refl) in
-          ap (λ (w : View). w.after) (stand_same views j v r.0 now (h.same j r.0 (inl refl) r.1)) ∙ r.2
-
+    module _ (views : List View) (j : ℕ) (rest : List ℕ) (p : Peak Op) (v : View) (h : IsRound views (j ∷ rest)) (here : StandsAt ps j p) (now : StandsAt views j v) where
       was_here : StandsAt old j v
-      was_here =
-          let r = h.rest_there j (inl refl) in
-          subst (λ (w : View). StandsAt old j w) (stand_same views j r.0 v (h.same j r.0 (inl refl) r.1) now) r.1
+      was_here = h.same j v (inl refl) now
 
       later : (i : ℕ) → In i rest → i ≢ j
-      later i n e = (h.rest_apart).0 (subst (λ (k : ℕ). In k rest) e n)
-
-      earlier : (i : ℕ) → In i still → i ≢ j
-      earlier i n e = h.other i n (inl e)
+      later i n e = (h.apart).0 (subst (λ (k : ℕ). In k rest) e n)
 
       not_here : (i : ℕ) → i ≢ j → (In i rest → ⊥) → In i (j ∷ rest) → ⊥
       not_here i other out n = elim n [ inl e ↦ other e | inr m ↦ out m ]
 
-      -- the number explains the peak there, which is told
-      pub one_found : (w : View) (ws : List View) → ws ≡ set views j w → w.tx ≡ v.tx → w.ops ≡ v.ops → w.after ≡ Some number → AllowedFrom o state (ops p.ops) → AreTried ws rest still
-      one_found w ws written tx count found allowed = subst (λ (us : List View). AreTried us rest still) (sym written) (record {
+      -- the view stays as it is, which is right
+      stays : ((shape : Shape) (D : List (CommittedTx Op)) → IsStateAt o shape D number state → IsLeastBelow number (Explains (rules_of o shape) D p.ops) v.after
+          → IsLeastBelow (number + 1) (Explains (rules_of o shape) D p.ops) v.after) → IsRound views rest
+      stays right = record {
+        long = h.long;
+        apart = (h.apart).1;
+        same = λ i u n s. h.same i u (inr n) s;
+        left = h.left;
+        done = λ shape D at below i q u s t out. elim (alike_or_not i j) [
+          | inl e ↦
+              let O = rules_of o shape in
+              let q_is : q ≡ p = stand_same ps j q p (subst (λ (k : ℕ). StandsAt ps k q) e s) here in
+              let u_is : u ≡ v = stand_same views j u v (subst (λ (k : ℕ). StandsAt views k u) e t) now in
+              let was = pairwise_at (IsViewBelow number O D) ps old j p v below here was_here in
+              subst (λ (x : Peak Op). IsViewBelow (number + 1) O D x u) (sym q_is) (subst (λ (x : View). IsViewBelow (number + 1) O D p x) (sym u_is)
+              (record { tx = was.tx; ops = was.ops; after = right shape D at was.after }))
+          | inr other ↦ h.done shape D at below i q u s t (not_here i other out)
+        ];
+      }
+
+      -- it has a number
+      pub one_numbered : (v.after ≡ None → ⊥) → IsRound views rest
+      one_numbered some = stays (λ shape D at was. kept number (Explains (rules_of o shape) D p.ops) v.after some was)
+
+      -- this number does not explain the peak
+      pub one_left : (AllowedFrom o state (ops p.ops) → ⊥) → IsRound views rest
+      one_left never = stays (λ shape D at was. not_found number (Explains (rules_of o shape) D p.ops) v.after was
+          (λ explains. never ((explains_there o shape D number state at p.ops).0 explains)))
+
+      -- this number explains it, and it had none
+      pub one_found : (w : View) (ws : List View) → ws ≡ set views j w → w.tx ≡ v.tx → w.ops ≡ v.ops → w.after ≡ Some number → v.after ≡ None → AllowedFrom o state (ops p.ops)
+          → IsRound ws rest
+      one_found w ws written tx count found none allowed = subst (λ (us : List View). IsRound us rest) (sym written) (record {
         long = length-set views j w ∙ h.long;
-        same = λ i u n s. stand_kept views j i w u (later i n) (h.same i u (inr n) s);
+        apart = (h.apart).1;
+        same = λ i u n s. h.same i u (inr n) (stand_before views j i w u (later i n) s);
+        left = λ i u s nothing. elim (alike_or_not i j) [
+          | inl e ↦ absurd (let u_is : u ≡ w = stand_same (set views j w) j u w (subst (λ (k : ℕ). StandsAt (set views j w) k u) e s) (stand_written views j w now.0) in
+              none_some number (sym nothing ∙ ap (λ (x : View). x.after) u_is ∙ found))
+          | inr other ↦ h.left i u (stand_before views j i w u other s) nothing
+        ];
         done = λ shape D at below i q u s t out. elim (alike_or_not i j) [
           | inl e ↦
               let O = rules_of o shape in
@@ -221,59 +226,96 @@ module _ {Shape State Op Undo : Type 0} (o : Object Shape State Op Undo) (ps : L
               subst (λ (x : Peak Op). IsViewBelow (number + 1) O D x u) (sym q_is) (subst (λ (x : View). IsViewBelow (number + 1) O D p x) (sym u_is) (record {
                 tx = tx ∙ was.tx;
                 ops = count ∙ was.ops;
-                after = subst (λ (a : Option ℕ). IsLeastBelow (number + 1) (Explains O D p.ops) a) (sym found) (first_found number (Explains O D p.ops) v.after none_here was.after explains);
+                after = subst (λ (a : Option ℕ). IsLeastBelow (number + 1) (Explains O D p.ops) a) (sym found) (first_found number (Explains O D p.ops) v.after none was.after explains);
               }))
           | inr other ↦ h.done shape D at below i q u s (stand_before views j i w u other t) (not_here i other out)
         ];
+      })
+
+-- at a candidate of a loop over a line's candidates
+module _ {Op : Type 0} (ps : List (Peak Op)) (views : List View) (line : Line Op) (xs : List Candidate) (k : ℕ) (same : xs ≡ line.candidates.items) (there : k < length xs)
+    (h : AreCandidates ps views line) where
+  there_too : k < length line.candidates.items
+  there_too = subst (λ (w : List Candidate). k < length w) same there
+
+  among_them : In (get_or xs k nobody) line.candidates.items
+  among_them = subst (λ (w : List Candidate). In (get_or xs k nobody) w) same (in_default xs k nobody there)
+
+  pub peak_within : (get_or xs k nobody).place < length ps
+  peak_within = h.within (get_or xs k nobody).place (in_map (λ (c : Candidate). c.place) (get_or xs k nobody) line.candidates.items among_them)
+
+  pub rest_there : (p : Peak Op) → StandsAt ps (get_or xs k nobody).place p → HasRest line.ops.items (get_or xs k nobody) p.ops
+  rest_there p s = h.rests (get_or xs k nobody) p among_them s
+
+  pub cut_at : drop k line.candidates.items ≡ get_or xs k nobody ∷ drop (k + 1) line.candidates.items
+  cut_at = drop_more line.candidates.items k nobody there_too ∙ ap (λ (w : List Candidate). get_or w k nobody ∷ drop (k + 1) line.candidates.items) (sym same)
+
+-- ---- the line without those that have a number
+
+pub some_is_not_none : (a : Option ℕ) → is_some a ≡ true → a ≡ None → ⊥
+some_is_not_none None some none = cc
+some_is_not_none (Some n) some none = cc
+
+pub not_some : (a : Option ℕ) → is_some a ≡ false → a ≡ None
+not_some None none = refl
+not_some (Some n) none = absurd cc
+
+-- the candidates that stay, and those to come
+pub record IsLeft {Op : Type 0} (ps : List (Peak Op)) (views : List View) (still rest : List Candidate) : Type 0 where
+  pub apart : AreApart (places_of still)
+  pub rest_apart : AreApart (places_of rest)
+  pub other : (i : ℕ) → In i (places_of still) → In i (places_of rest) → ⊥
+  pub within : (i : ℕ) → In i (places_of still) → i < length ps
+  pub rest_within : (i : ℕ) → In i (places_of rest) → i < length ps
+  pub all : (i : ℕ) (v : View) → StandsAt views i v → v.after ≡ None → In i (places_of still) ⊎ In i (places_of rest)
+  pub few : sum_by (length_at ps) (places_of still) + sum_by (length_at ps) (places_of rest) ≤ operations ps
+
+module _ {Op : Type 0} (ps : List (Peak Op)) (views : List View) (still rest : List Candidate) (c : Candidate) (h : IsLeft ps views still (c ∷ rest)) where
+  sums : sum_by (length_at ps) (places_of (c ∷ rest)) ≡ length_at ps c.place + sum_by (length_at ps) (places_of rest)
+  sums = sum_by-cons (length_at ps) c.place (places_of rest)
+
+  -- its view has a number
+  pub leaves : (v : View) → StandsAt views c.place v → (v.after ≡ None → ⊥) → IsLeft ps views still rest
+  leaves v there some = record {
+    apart = h.apart;
+    rest_apart = (h.rest_apart).1;
+    other = λ i n m. h.other i n (inr m);
+    within = h.within;
+    rest_within = λ i n. h.rest_within i (inr n);
+    all = λ i u s nothing. elim (h.all i u s nothing) [
+      | inl n ↦ inl n
+      | inr n ↦ elim n [
+        | inl e ↦ absurd (some (ap (λ (w : View). w.after) (stand_same views c.place v u there (subst (λ (k : ℕ). StandsAt views k u) e s)) ∙ nothing))
+        | inr m ↦ inr m
+      ]
+    ];
+    few = let few = h.few in omega (arith, few, sums);
+  }
+
+  -- it has none
+  pub remains : (d : Candidate) (more : List Candidate) → d.place ≡ c.place → more ≡ still ++ d ∷ [] → IsLeft ps views more rest
+  remains d more same pushed =
+      let is : places_of more ≡ places_of still ++ c.place ∷ [] =
+      ap (λ (w : List Candidate). places_of w) pushed ∙ map-append (λ (w : Candidate). w.place) still (d ∷ []) ∙ ap (λ (i : ℕ). places_of still ++ i ∷ []) same in
+      let among : (i : ℕ) → In i (places_of more) → In i (places_of still) ⊎ (i ≡ c.place) = λ i n. in_last i c.place (places_of still) (subst (λ (w : List ℕ). In i w) is n) in
+      record {
+        apart = subst (λ (w : List ℕ). AreApart w) (sym is) (apart_more (places_of still) c.place h.apart (λ n. h.other c.place n (inl refl)));
         rest_apart = (h.rest_apart).1;
-        still_apart = h.still_apart;
-        other = λ i n m. h.other i n (inr m);
-        rest_there = λ i n. h.rest_there i (inr n);
-        still_there = λ i n. let r = h.still_there i n in (r.0, stand_kept views j i w r.0 (earlier i n) r.1, r.2);
-        all = λ i u s none. elim (alike_or_not i j) [
-          | inl e ↦ absurd (let u_is : u ≡ w = stand_same (set views j w) j u w (subst (λ (k : ℕ). StandsAt (set views j w) k u) e s) (stand_written views j w now.0) in
-              none_some number (sym none ∙ ap (λ (x : View). x.after) u_is ∙ found))
-          | inr other ↦ elim (h.all i u (stand_before views j i w u other s) none) [
-            | inl n ↦ inl n
-            | inr n ↦ elim n [ inl e ↦ absurd (other e) | inr m ↦ inr m ]
+        other = λ i n m. elim (among i n) [ inl a ↦ h.other i a (inr m) | inr e ↦ (h.rest_apart).0 (subst (λ (k : ℕ). In k (places_of rest)) e m) ];
+        within = λ i n. elim (among i n) [ inl a ↦ h.within i a | inr e ↦ h.rest_within i (inl e) ];
+        rest_within = λ i n. h.rest_within i (inr n);
+        all = λ i u s nothing. elim (h.all i u s nothing) [
+          | inl n ↦ inl (subst (λ (w : List ℕ). In i w) (sym is) (in_left i (places_of still) (c.place ∷ []) n))
+          | inr n ↦ elim n [
+            | inl e ↦ inl (subst (λ (w : List ℕ). In i w) (sym is) (in_right i (places_of still) (c.place ∷ []) (inl e)))
+            | inr m ↦ inr m
           ]
         ];
-      })
-        where
-          none_some : (k : ℕ) → ◌≡◌ {A = Option ℕ} None (Some k) → ⊥
-          none_some k e = cc
-
-      -- it does not, so the place stays
-      pub one_left : (more : List ℕ) → more ≡ still ++ j ∷ [] → (AllowedFrom o state (ops p.ops) → ⊥) → AreTried views rest more
-      one_left more pushed never = subst (λ (is : List ℕ). AreTried views rest is) (sym pushed) (record {
-        long = h.long;
-        same = λ i u n s. h.same i u (inr n) s;
-        done = λ shape D at below i q u s t out. elim (alike_or_not i j) [
-          | inl e ↦
-              let O = rules_of o shape in
-              let q_is : q ≡ p = stand_same ps j q p (subst (λ (k : ℕ). StandsAt ps k q) e s) here in
-              let u_is : u ≡ v = stand_same views j u v (subst (λ (k : ℕ). StandsAt views k u) e t) now in
-              let was = pairwise_at (IsViewBelow number O D) ps old j p v below here was_here in
-              subst (λ (x : Peak Op). IsViewBelow (number + 1) O D x u) (sym q_is) (subst (λ (x : View). IsViewBelow (number + 1) O D p x) (sym u_is) (record {
-                tx = was.tx;
-                ops = was.ops;
-                after = none_yet number (Explains O D p.ops) v.after none_here was.after (λ explains. never ((explains_there o shape D number state at p.ops).0 explains));
-              }))
-          | inr other ↦ h.done shape D at below i q u s t (not_here i other out)
-        ];
-        rest_apart = (h.rest_apart).1;
-        still_apart = apart_more still j h.still_apart (λ n. h.other j n (inl refl));
-        other = λ i n m. elim (in_last i j still n) [ inl a ↦ h.other i a (inr m) | inr e ↦ later i m e ];
-        rest_there = λ i n. h.rest_there i (inr n);
-        still_there = λ i n. elim (in_last i j still n) [
-          | inl a ↦ h.still_there i a
-          | inr e ↦ (v, subst (λ (k : ℕ). StandsAt views k v) (sym e) now, none_here)
-        ];
-        all = λ i u s none. elim (h.all i u s none) [
-          | inl a ↦ inl (in_left i still (j ∷ []) a)
-          | inr n ↦ elim n [ inl e ↦ inl (subst (λ (k : ℕ). In k (still ++ j ∷ [])) (sym e) (in_end j still)) | inr m ↦ inr m ]
-        ];
-      })
+        few =
+            let few = h.few in
+            let grown = ap (λ (w : List ℕ). sum_by (length_at ps) w) is ∙ sum_by_push (length_at ps) (places_of still) c.place in
+            omega (arith, few, sums, grown);
+      }
 
 -- ---- what a round costs
 
@@ -285,18 +327,8 @@ pub record IsSpent {Op : Type 0} (ps : List (Peak Op)) (rest : List ℕ) (applie
 pub nothing_spent : {Op : Type 0} (ps : List (Peak Op)) (rest : List ℕ) (applied old : ℕ) → applied ≡ 0 → sum_by (length_at ps) rest ≤ operations ps → IsSpent ps rest applied old old
 nothing_spent ps rest applied old none few = record { rises = omega arith; most = omega (arith, none, few) }
 
-pub spent_at : {Op : Type 0} (ps : List (Peak Op)) (left : List Candidate) (k : ℕ) → k < length left → {applied old now : ℕ} → IsSpent ps (places_of (drop k left)) applied old now
-    → IsSpent ps ((get_or left k nobody).place ∷ places_of (drop (k + 1) left)) applied old now
-spent_at ps left k there {applied} {old} {now} spent = subst (λ (cs : List Candidate). IsSpent ps (places_of cs) applied old now) (drop_more left k nobody there) spent
-
 pub spent_all : {Op : Type 0} (ps : List (Peak Op)) (rest : List ℕ) (applied old now : ℕ) → IsSpent ps rest applied old now → now + applied ≤ old + 2 * operations ps
 spent_all ps rest applied old now spent = let most = spent.most in omega (arith, most)
-
-pub past_end : {A : Type 0} (n : ℕ) (xs : List A) → length xs ≤ n → drop n xs ≡ []
-past_end zero [] le = refl
-past_end (suc n) [] le = refl
-past_end zero (x ∷ xs) le = absurd (omega (arith, le))
-past_end (suc n) (x ∷ xs) le = past_end n xs (omega (arith, le))
 
 -- one peak: of what stood applied some is taken back, and then its own is applied
 module _ {Op : Type 0} (ps : List (Peak Op)) (j : ℕ) (rest : List ℕ) (old now mid new was shared : ℕ) (p : Peak Op) (here : StandsAt ps j p)
@@ -313,21 +345,9 @@ module _ {Op : Type 0} (ps : List (Peak Op)) (j : ℕ) (rest : List ℕ) (old no
   pub spent_within : new ≤ old + 2 * operations ps
   spent_within = let most = spent.most in omega (arith, most, next, cost, bound)
 
--- those that stay and those to come have no more operations than all
-module _ {Op : Type 0} (ps : List (Peak Op)) (still left : List Candidate) (k m : ℕ) (there : k < length left)
-    (few : sum_by (length_at ps) (places_of still) + sum_by (length_at ps) (places_of (drop k left)) ≤ m) where
-  head_first : sum_by (length_at ps) (places_of (drop k left)) ≡ length_at ps (get_or left k nobody).place + sum_by (length_at ps) (places_of (drop (k + 1) left))
-  head_first = ap (λ (cs : List Candidate). sum_by (length_at ps) (places_of cs)) (drop_more left k nobody there)
-      ∙ sum_by-cons (length_at ps) (get_or left k nobody).place (places_of (drop (k + 1) left))
-
-  pub few_found : sum_by (length_at ps) (places_of still) + sum_by (length_at ps) (places_of (drop (k + 1) left)) ≤ m
-  few_found = omega (arith, few, head_first)
-
-  pub few_left : (more : List Candidate) (c : Candidate) → c.place ≡ (get_or left k nobody).place → more ≡ still ++ c ∷ []
-      → sum_by (length_at ps) (places_of more) + sum_by (length_at ps) (places_of (drop (k + 1) left)) ≤ m
-  few_left more c same pushed =
-      let grown : sum_by (length_at ps) (places_of more) ≡ sum_by (length_at ps) (places_of still) + length_at ps (get_or left k nobody).place =
-      ap (λ (cs : List Candidate). sum_by (length_at ps) (places_of cs)) pushed
-      ∙ ap (λ (is : List ℕ). sum_by (length_at ps) is) (map-append (λ (d : Candidate). d.place) still (c ∷ []))
-      ∙ sum_by_push (length_at ps) (places_of still) c.place ∙ ap (λ (i : ℕ). sum_by (length_at ps) (places_of still) + length_at ps i) same in
-      omega (arith, few, head_first, grown)
+-- nothing is done for a peak
+pub skipped_spent : {Op : Type 0} (ps : List (Peak Op)) (j : ℕ) (rest : List ℕ) (applied old now : ℕ) → IsSpent ps (j ∷ rest) applied old now → IsSpent ps rest applied old now
+skipped_spent ps j rest applied old now spent = record {
+  rises = spent.rises;
+  most = let most = spent.most in omega (arith, most, sum_by-cons (length_at ps) j rest);
+}

@@ -5,5 +5,6 @@ pub mod Trails
 pub mod Viewing
 pub mod LiningUp
 pub mod Leaving
+pub mod Rounds
 pub mod Runs
 pub mod KeptPeaks

@@ -1,20 +1,22 @@
 -- Proof machinery: candidates that stand in a line, each beginning as the one before it.
-use Rattle.std.specs.Prelude.{◌≡◌, ◌≢◌, ◌<◌, ◌+◌, ◌⊎◌, ℕ, suc, zero, false, List, [], ◌∷◌, ◌++◌}
-use Rattle.std.specs.Prelude.{length, map, take, drop, sum_by}
+use Rattle.std.specs.Prelude.{◌≡◌, ◌≢◌, ◌≤◌, ◌<◌, ◌+◌, ◌-◌, ◌⊎◌, ℕ, suc, zero, false, List, [], ◌∷◌, ◌++◌}
+use Rattle.std.specs.Prelude.{length, map, take, drop}
 use Rattle.std.specs.List.{AllByRecursion, Contains, IsDistinct}
 use Rattle.std.specs.List.Sorted.{IsPermutation}
 use Rattle.std.proofs.Common.{refl, sym, ap, subst, ◌∙◌, arith, get_or, eqb, inl, inr}
-use Rattle.std.proofs.lemmas.List.{drop_more, map-append, take_more}
+use Rattle.std.proofs.Math.Seq.{drop-append_seam}
+use Rattle.std.proofs.lemmas.List.{drop-append-le, drop-drop, length-append, length-drop, map-append, take-append-drop}
+use Rattle.std.proofs.lemmas.List.{take-append-le, take_all, take_more}
 use Rattle.std.proofs.lemmas.List.Sorted.{Contains-permutation, IsPermutation-sym, sum_by-IsPermutation}
 use Rattle.std.proofs.lemmas.List.Sums.{sum_by_push}
 use Rattle.std.proofs.lemmas.Bool.{eq-eqb, ne_eqb}
 use Rattle.std.proofs.lemmas.Map.Keys.{IsDistinct-IsPermutation}
 use Rattle.pp_model.specs.Lists.{In}
-use Rattle.pp_model.specs.Object.{Item}
+use Rattle.pp_model.specs.Object.{Item, ops}
 use Rattle.pp_model.proofs.Lists.{in_cases, in_left, in_map, in_right}
 use Rattle.pp_views.specs.Peaks.{Peak, operations}
-use Rattle.pp_views.specs.Trying.{AreAlike, AreAlikeTo, AreApart, ArePlaces, Candidate, Share, StandsAt, length_at, places_of}
-use Rattle.pp_views.proofs.Fronts.{in_default, take_there}
+use Rattle.pp_views.specs.Trying.{AreAlike, AreAlikeTo, AreApart, ArePlaces, Candidate, HasRest, HaveRests, Share, StandsAt, length_at, places_of}
+use Rattle.pp_views.proofs.Fronts.{in_default}
 use Rattle.pp_views.proofs.Viewing.{below_next, operations_next}
 
 pub stand_same : {A : Type 0} (xs : List A) (i : ℕ) (x y : A) → StandsAt xs i x → StandsAt xs i y → x ≡ y
@@ -25,10 +27,12 @@ stand_same (z ∷ xs) (suc i) x y a b =
     let k = b.0 in
     stand_same xs i x y (omega (arith, l), a.1) (omega (arith, k), b.1)
 
--- one element more is shared
-pub share_more : {A : Type 0} (n : ℕ) (xs ys : List A) (x y : A) → n < length xs → n < length ys → x ≡ get_or xs n x → y ≡ get_or ys n y → x ≡ y → Share n xs ys → Share (n + 1) xs ys
-share_more {A} n xs ys x y left right a b same share =
-    take_there xs n x left a ∙ ap (λ (w : A). take n xs ++ w ∷ []) same ∙ ap (λ (w : List A). w ++ y ∷ []) share ∙ sym (take_there ys n y right b)
+pub some_stands : {A : Type 0} (xs : List A) (i : ℕ) → i < length xs → (x : A) × StandsAt xs i x
+some_stands [] i there = absurd (omega (arith, there))
+some_stands (x ∷ xs) zero there = (x, (there, refl))
+some_stands (x ∷ xs) (suc i) there =
+    let r = some_stands xs i (omega (arith, there)) in
+    (r.0, (there, (r.1).1))
 
 -- ---- a list with one element more
 
@@ -51,9 +55,6 @@ pub length_there : {Op : Type 0} (ps : List (Peak Op)) (i : ℕ) (p : Peak Op) �
 length_there [] i p s = absurd (let l = s.0 in omega (arith, l))
 length_there {Op} (q ∷ ps) zero p s = ap (λ (w : Peak Op). length w.ops) (sym s.1)
 length_there (q ∷ ps) (suc i) p s = let l = s.0 in length_there ps i p (omega (arith, l), s.1)
-
-pub no_places : {Op : Type 0} (ps : List (Peak Op)) → ArePlaces ps 0 []
-no_places ps = record { apart = tt; within = λ i n. absurd n; all = λ i l. absurd (omega (arith, l)); cost = refl }
 
 pub one_place_more : {Op : Type 0} (ps : List (Peak Op)) (n : ℕ) (is js : List ℕ) (p : Peak Op) → StandsAt ps n p → js ≡ is ++ n ∷ [] → ArePlaces ps n is → ArePlaces ps (n + 1) js
 one_place_more {Op} ps n is js p s e h = subst (λ (w : List ℕ). ArePlaces ps (n + 1) w) (sym e) (record {
@@ -124,7 +125,7 @@ places_permuted ps n is js p h = record {
 
 -- what stands nowhere
 abbrev pub nobody : Candidate
-nobody = record { place = 0; shared = 0 }
+nobody = record { place = 0; shared = 0; from = 0; to = 0 }
 
 module _ {Op : Type 0} (ps : List (Peak Op)) where
   -- one candidate more, whose peak shares as many as it says
@@ -137,10 +138,10 @@ module _ {Op : Type 0} (ps : List (Peak Op)) where
       let rest = alike q t in
       (rest.0, alike_more q.ops cs c p n ys s rest.1 share)
 
-  -- a line, one candidate on
-  pub alike_at : (before : List (Item Op)) (cs : List Candidate) (k : ℕ) (p : Peak Op) → k < length cs → StandsAt ps (get_or cs k nobody).place p
-      → AreAlike ps before (drop k cs) → Share (get_or cs k nobody).shared before p.ops × AreAlike ps p.ops (drop (k + 1) cs)
-  alike_at before cs k p there s alike = subst (λ (ds : List Candidate). AreAlike ps before ds) (drop_more cs k nobody there) alike p s
+  -- the first candidate of a line
+  pub alike_first : (before : List (Item Op)) (c : Candidate) (cs : List Candidate) (p : Peak Op) → StandsAt ps c.place p → AreAlike ps before (c ∷ cs)
+      → Share c.shared before p.ops × AreAlike ps p.ops cs
+  alike_first before c cs p s alike = alike p s
 
 -- the places of some of a line, one on
 pub places_more : (os : List (ℕ × ℕ)) (cs ds : List Candidate) (k : ℕ) (c : Candidate) → k < length os → c.place ≡ (get_or os k (0, 0)).1 → ds ≡ cs ++ c ∷ []
@@ -153,3 +154,48 @@ places_more os cs ds k c there is pushed so =
 pub place_within : {Op : Type 0} (ps : List (Peak Op)) (os rs : List (ℕ × ℕ)) (k : ℕ) → k < length os → os ≡ rs → ArePlaces ps (length ps) (map (λ o. o.1) rs) → (get_or os k (0, 0)).1 < length ps
 place_within {Op} ps os rs k there same all = (subst (λ (w : List (ℕ × ℕ)). ArePlaces ps (length ps) (map (λ o. o.1) w)) (sym same) all).within (get_or os k (0, 0)).1
     (in_map (λ (o : ℕ × ℕ). o.1) (get_or os k (0, 0)) os (in_default os k (0, 0) there))
+
+-- ---- the operations that are not shared
+
+pub rest_grows : {Op : Type 0} (l m : List Op) (c : Candidate) (items : List (Item Op)) → HasRest l c items → HasRest (l ++ m) c items
+rest_grows {Op} l m c items h =
+    let before = h.before in
+    let within = h.within in
+    record {
+      shared = h.shared;
+      before = before;
+      within = omega (arith, within, length-append l m);
+      rest = ap (λ (w : List Op). take (c.to - c.from) w) (drop-append-le c.from l m (omega (arith, before, within)))
+          ∙ take-append-le (c.to - c.from) (drop c.from l) m (omega (arith, before, within, length-drop c.from l)) ∙ h.rest;
+    }
+
+-- one candidate more, whose other operations were added
+pub rests_more : {Op : Type 0} (ps : List (Peak Op)) (l m more : List Op) (cs ds : List Candidate) (d : Candidate) (p : Peak Op) → HaveRests ps l cs → more ≡ l ++ m → ds ≡ cs ++ d ∷ []
+    → StandsAt ps d.place p → d.shared ≤ length p.ops → d.from ≡ length l → d.to ≡ length more → m ≡ ops (drop d.shared p.ops) → HaveRests ps more ds
+rests_more {Op} ps l m more cs ds d p h added pushed here shared from to rest = λ c q n s. elim (in_last c d cs (subst (λ (w : List Candidate). In c w) pushed n)) [
+  | inl old ↦ subst (λ (w : List Op). HasRest w c q.ops) (sym added) (rest_grows l m c q.ops (h c q old s))
+  | inr new ↦
+      let same : p ≡ q = stand_same ps d.place p q here (subst (λ (w : Candidate). StandsAt ps w.place q) new s) in
+      subst (λ (w : Candidate). HasRest more w q.ops) (sym new) (subst (λ (w : Peak Op). HasRest more d w.ops) same mine)
+]
+  where
+    long : length more ≡ length l + length m
+    long = ap (λ (w : List Op). length w) added ∙ length-append l m
+
+    mine : HasRest more d p.ops
+    mine = record {
+      shared = shared;
+      before = omega (arith, from, to, long);
+      within = omega (arith, to);
+      rest = ap (λ (k : ℕ). take (d.to - d.from) (drop k more)) from ∙ ap (λ (w : List Op). take (d.to - d.from) (drop (length l) w)) added
+          ∙ ap (λ (w : List Op). take (d.to - d.from) w) (drop-append_seam l m) ∙ take_all (d.to - d.from) m (omega (arith, from, to, long)) ∙ rest;
+    }
+
+-- what is shared no more, and what was not shared before
+pub rests_joined : {Op : Type 0} (items : List (Item Op)) (a n : ℕ) → a ≤ n → ops (take (n - a) (drop a items)) ++ ops (drop n items) ≡ ops (drop a items)
+rests_joined {Op} items a n less =
+    let all : a + (n - a) ≡ n = omega (arith, less) in
+    sym (map-append (λ (w : Item Op). w.op) (take (n - a) (drop a items)) (drop n items))
+    ∙ ap (λ (k : ℕ). ops (take (n - a) (drop a items) ++ drop k items)) (sym all)
+    ∙ ap (λ (w : List (Item Op)). ops (take (n - a) (drop a items) ++ w)) (sym (drop-drop (n - a) a items))
+    ∙ ap (λ (w : List (Item Op)). ops w) (take-append-drop (n - a) (drop a items))

@@ -1,8 +1,9 @@
 -- Proof machinery: operations that are applied from a state, one after another, and taken back.
-use Rattle.std.specs.Prelude.{◌≡◌, ◌≤◌, ◌<◌, ◌+◌, ℕ, suc, IsTrue, List, [], ◌∷◌, ◌++◌, length, take, drop}
+use Rattle.std.specs.Prelude.{◌≡◌, ◌≤◌, ◌<◌, ◌+◌, ℕ, IsTrue, List, [], ◌∷◌, ◌++◌, length, map, take, drop}
 use Rattle.std.proofs.Common.{refl, sym, ap, subst, ◌∙◌, arith, get_or, append_assoc}
-use Rattle.std.proofs.Math.Seq.{take-length}
-use Rattle.std.proofs.lemmas.List.{length-append, length-take, take-append-drop, take-map, take-take, append-nil}
+use Rattle.std.proofs.Math.Seq.{take-append-add, take-append_seam, take-length}
+use Rattle.std.proofs.lemmas.List.{append-nil, length-append, length-map, length-take, map_push, same_from_push, take-append-drop}
+use Rattle.std.proofs.lemmas.List.{take-map, take-take}
 use Rattle.pp_model.specs.Lists.{Each}
 use Rattle.pp_model.specs.Object.{Item, ops}
 use Rattle.pp_spec.specs.Calls.{WasApplied}
@@ -10,8 +11,8 @@ use Rattle.pp_spec.specs.Object.{Object, IsLegal, AllowedFrom, AllRanged, IsLog,
 use Rattle.pp_spec.specs.Object.{IsLawful, state_from}
 use Rattle.pp_spec.proofs.Lists.{state-append, allowed-first, allowed-second, allowed-append}
 use Rattle.pp_spec.proofs.Lists.{log_grows, keeps_shape, allowed_is_state}
-use Rattle.pp_views.specs.Trying.{kept_from, IsApplied, IsTrail, MayBeTriedFrom, Share}
-use Rattle.pp_views.proofs.Fronts.{cut_there, take_there, length-ops, op_at}
+use Rattle.pp_views.specs.Trying.{Done, IsFurthest, IsTrail, MayFollow, Share, Stands, applied, kept_from}
+use Rattle.pp_views.proofs.Fronts.{cut_there}
 
 -- lists that share their beginnings
 pub share_less : {A : Type 0} (n m : ℕ) (xs ys : List A) → m ≤ n → Share n xs ys → Share m xs ys
@@ -20,38 +21,22 @@ share_less {A} n m xs ys less alike = first xs ∙ ap (λ (w : List A). take m w
     first : (zs : List A) → take m zs ≡ take m (take n zs)
     first zs = sym (take-take m n zs less)
 
--- lists with one element at their ends
-head_is : {A : Type 0} (x y : A) (xs ys : List A) → x ∷ xs ≡ y ∷ ys → (x ≡ y) × (xs ≡ ys)
-head_is x y xs ys e = (cc, cc)
+pub share_long : {A : Type 0} (n : ℕ) (xs ys : List A) → n ≤ length ys → Share n xs ys → n ≤ length xs
+share_long n xs ys within alike = let same = ap (λ w. length w) alike in omega (arith, within, same, length-take n xs, length-take n ys)
 
-pub ends_alike : {A : Type 0} (xs ys : List A) (x y : A) → xs ++ x ∷ [] ≡ ys ++ y ∷ [] → (xs ≡ ys) × (x ≡ y)
-ends_alike [] [] x y e = (refl, (head_is x y [] [] e).0)
-ends_alike [] (b ∷ ys) x y e = absurd (let n = ap (λ w. length w) e in let m = length-append ys (y ∷ []) in omega (arith, n, m))
-ends_alike (a ∷ xs) [] x y e = absurd (let n = ap (λ w. length w) e in let m = length-append xs (x ∷ []) in omega (arith, n, m))
-ends_alike {A} (a ∷ xs) (b ∷ ys) x y e =
-    let h = head_is a b (xs ++ x ∷ []) (ys ++ y ∷ []) e in
-    let r = ends_alike xs ys x y h.1 in
-    (ap (λ (w : A). w ∷ xs) h.0 ∙ ap (λ (w : List A). b ∷ w) r.0, r.1)
+pub share_ops : {Op : Type 0} (n : ℕ) (xs ys : List (Item Op)) → Share n xs ys → Share n (ops xs) (ops ys)
+share_ops {Op} n xs ys alike = take-map (λ (w : Item Op). w.op) n xs ∙ ap (λ (w : List (Item Op)). ops w) alike ∙ sym (take-map (λ (w : Item Op). w.op) n ys)
+
+-- a list whose first operations were applied, at the next one
+pub next_there : {Op : Type 0} (x y l : List Op) (i : ℕ) (a : Op) → y ≡ x ++ take i l → i < length l → a ≡ get_or l i a → x ++ l ≡ y ++ a ∷ drop (i + 1) l
+next_there {Op} x y l i a so_far there is = ap (λ (w : List Op). x ++ w) (cut_there l i a there is) ∙ sym (append_assoc x (take i l) (a ∷ drop (i + 1) l))
+    ∙ ap (λ (w : List Op). w ++ a ∷ drop (i + 1) l) (sym so_far)
 
 module _ {Shape State Op Undo : Type 0} (o : Object Shape State Op Undo) where
   pub kept-append : (s : State) (x : List Op) (a : Op)
       → kept_from o s (x ++ a ∷ []) ≡ kept_from o s x ++ o.upkeep.kept (state_from o s x) a ∷ []
   kept-append s [] a = refl
   kept-append s (b ∷ x) a = ap (λ (w : List Undo). o.upkeep.kept s b ∷ w) (kept-append (o.next s b) x a)
-
-  pub no_trail : (s t : State) (us : List Undo) → us ≡ [] → t ≡ s → IsTrail o s [] us t
-  no_trail s t us none e = record { allowed = tt; kept = none; leads = e }
-
-  pub trail_grows : (s t t2 : State) (x y : List Op) (us vs : List Undo) (a : Op) (u : Undo) → IsTrail o s x us t
-      → IsLegal o t a → u ≡ o.upkeep.kept t a → t2 ≡ o.next t a → y ≡ x ++ a ∷ [] → vs ≡ us ++ u ∷ [] → IsTrail o s y vs t2
-  trail_grows s t t2 x y us vs a u h legal kept leads e pushed = record {
-    allowed = subst (λ (w : List Op). AllowedFrom o s w) (sym e)
-        (allowed-append o s x (a ∷ []) h.allowed (subst (λ (w : State). IsLegal o w a) h.leads legal, tt));
-    kept = pushed ∙ ap (λ (w : List Undo). w ++ u ∷ []) h.kept
-        ∙ ap (λ (w : Undo). kept_from o s x ++ w ∷ []) (kept ∙ ap (λ (w : State). o.upkeep.kept w a) h.leads)
-        ∙ sym (kept-append s x a) ∙ ap (λ (w : List Op). kept_from o s w) (sym e);
-    leads = leads ∙ ap (λ (w : State). o.next w a) h.leads ∙ sym (state-append o s x (a ∷ [])) ∙ ap (λ (w : List Op). state_from o s w) (sym e);
-  }
 
   -- the operation that a walk over an allowed list is at
   pub would_be_legal : (s t : State) (l : List Op) (i : ℕ) (a : Op) → AllowedFrom o s l → i < length l → a ≡ get_or l i a
@@ -68,15 +53,43 @@ module _ {Shape State Op Undo : Type 0} (o : Object Shape State Op Undo) where
   ranged-second [] y h = h
   ranged-second (a ∷ x) y h = ranged-second x y h.1
 
-  pub ranged_at : (l : List Op) (i : ℕ) (a : Op) → AllRanged o l → i < length l → a ≡ get_or l i a → IsTrue (o.ranged a)
-  ranged_at l i a h there is = (ranged-second (take i l) (a ∷ drop (i + 1) l) (subst (λ (w : List Op). AllRanged o w) (cut_there l i a there is) h)).0
+  each-first : (P : Op → Type 0) (x y : List Op) → Each P (x ++ y) → Each P x
+  each-first P [] y h = tt
+  each-first P (a ∷ x) y h = (h.0, each-first P x y h.1)
 
-  pub each_at : (P : Op → Type 0) (l : List Op) (i : ℕ) (a : Op) → Each P l → i < length l → a ≡ get_or l i a → P a
-  each_at P l i a h there is = (second (take i l) (subst (λ (w : List Op). Each P w) (cut_there l i a there is) h)).0
-    where
-      second : (x : List Op) → Each P (x ++ a ∷ drop (i + 1) l) → Each P (a ∷ drop (i + 1) l)
-      second [] k = k
-      second (b ∷ x) k = second x k.1
+  each-second : (P : Op → Type 0) (x y : List Op) → Each P (x ++ y) → Each P y
+  each-second P [] y h = h
+  each-second P (a ∷ x) y h = each-second P x y h.1
+
+  -- fewer may follow as well
+  pub may-first : (s : State) (x y : List Op) → MayFollow o s (x ++ y) → MayFollow o s x
+  may-first s x y may = record {
+    before = may.before;
+    log = may.log;
+    fit = each-first (λ a. IsTrue (o.fits (o.shape s) a)) x y may.fit;
+    ranged = ranged-first x y may.ranged;
+    few = let few = may.few in omega (arith, few, length-append x y);
+  }
+
+  pub nothing_stands : (s t : State) (done : List (Done Op Undo)) → done ≡ [] → t ≡ s → Stands o s done t
+  nothing_stands s t done none e = subst (λ (w : List (Done Op Undo)). Stands o s w t) (sym none) (record { allowed = tt; kept = refl; leads = e })
+
+  -- one operation more was applied
+  pub stands_more : (s t t2 : State) (done more : List (Done Op Undo)) (d : Done Op Undo) → Stands o s done t
+      → IsLegal o t d.op → d.undo ≡ o.upkeep.kept t d.op → t2 ≡ o.next t d.op → more ≡ done ++ d ∷ [] → Stands o s more t2
+  stands_more s t t2 done more d h legal kept leads pushed =
+      let x = applied done in
+      let grown : applied more ≡ x ++ d.op ∷ [] = ap (λ (w : List (Done Op Undo)). applied w) pushed ∙ map_push (λ (w : Done Op Undo). w.op) done d in
+      let undos : map (λ (w : Done Op Undo). w.undo) more ≡ map (λ (w : Done Op Undo). w.undo) done ++ d.undo ∷ [] =
+      ap (λ (w : List (Done Op Undo)). map (λ (v : Done Op Undo). v.undo) w) pushed ∙ map_push (λ (w : Done Op Undo). w.undo) done d in
+      record {
+        allowed = subst (λ (w : List Op). AllowedFrom o s w) (sym grown)
+            (allowed-append o s x (d.op ∷ []) h.allowed (subst (λ (w : State). IsLegal o w d.op) h.leads legal, tt));
+        kept = undos ∙ ap (λ (w : List Undo). w ++ d.undo ∷ []) h.kept
+            ∙ ap (λ (w : Undo). kept_from o s x ++ w ∷ []) (kept ∙ ap (λ (w : State). o.upkeep.kept w d.op) h.leads)
+            ∙ sym (kept-append s x d.op) ∙ ap (λ (w : List Op). kept_from o s w) (sym grown);
+        leads = leads ∙ ap (λ (w : State). o.next w d.op) h.leads ∙ sym (state-append o s x (d.op ∷ [])) ∙ ap (λ (w : List Op). state_from o s w) (sym grown);
+      }
 
   module _ (laws : IsLawful o) where
     -- a log goes on by what is allowed behind it
@@ -89,138 +102,119 @@ module _ {Shape State Op Undo : Type 0} (o : Object Shape State Op Undo) where
     log_is_state s b h = subst (λ (w : State). o.upkeep.IsState w) (sym h.is)
         (allowed_is_state o (o.start (o.shape s)) b laws.next_is_state (laws.start_is_state (o.shape s)) h.allowed)
 
-    -- where the items may be tried from s, and their first i led to t
-    module _ (s t : State) (items : List (Item Op)) (i : ℕ) (us : List Undo) (may : MayBeTriedFrom o s items)
-        (trail : IsTrail o s (take i (ops items)) us t) (within : i ≤ length items) where
-      log_there : IsLog o t (may.before ++ take i (ops items))
-      log_there = subst (λ (w : State). IsLog o w (may.before ++ take i (ops items))) (sym trail.leads)
-          (log_further s may.before (take i (ops items)) may.log trail.allowed
-          (ranged-first (take i (ops items)) (drop i (ops items)) (subst (λ (w : List Op). AllRanged o w) (sym (take-append-drop i (ops items))) may.may.ranged)))
+    -- where the first of operations that may follow led to a state
+    module _ (s t : State) (x y : List Op) (us : List Undo) (may : MayFollow o s (x ++ y)) (trail : IsTrail o s x us t) where
+      log_there : IsLog o t (may.before ++ x)
+      log_there = subst (λ (w : State). IsLog o w (may.before ++ x)) (sym trail.leads)
+          (log_further s may.before x may.log trail.allowed (ranged-first x y may.ranged))
 
       pub reached_there : IsReached o t
       reached_there = record {
-        ops = may.before ++ take i (ops items);
+        ops = may.before ++ x;
         log = log_there;
-        few =
-            let few = may.may.few in
-            omega (arith, few, within, length-append may.before (take i (ops items)), length-take i (ops items), length-ops items);
+        few = let few = may.few in omega (arith, few, length-append may.before x, length-append x y);
       }
 
-      pub shape_there : o.shape t ≡ o.shape s
-      shape_there = ap o.shape trail.leads ∙ keeps_shape o laws.next_shape s (take i (ops items)) trail.allowed
+      state_there : o.upkeep.IsState t
+      state_there = log_is_state t (may.before ++ x) log_there
 
-      pub fits_there : (a : Op) → i < length (ops items) → a ≡ get_or (ops items) i a → IsTrue (o.fits (o.shape t) a)
-      fits_there a there is = subst (λ (w : Shape). IsTrue (o.fits w a)) (sym shape_there)
-          (each_at (λ (p : Op). IsTrue (o.fits (o.shape s) p)) (ops items) i a may.may.fit there is)
+    -- the next one
+    module _ (s t : State) (x y : List Op) (a : Op) (us : List Undo) (may : MayFollow o s (x ++ a ∷ y)) (trail : IsTrail o s x us t) where
+      pub next_fits : IsTrue (o.fits (o.shape t) a)
+      next_fits = subst (λ (w : Shape). IsTrue (o.fits w a)) (sym (ap o.shape trail.leads ∙ keeps_shape o laws.next_shape s x trail.allowed))
+          (each-second (λ b. IsTrue (o.fits (o.shape s) b)) x (a ∷ y) may.fit).0
 
-      pub state_there : o.upkeep.IsState t
-      state_there = log_is_state t (may.before ++ take i (ops items)) log_there
+      pub next_ranged : IsTrue (o.ranged a)
+      next_ranged = (ranged-second x (a ∷ y) may.ranged).0
 
-    -- the last of the operations is taken back
-    pub taken_back_there : (s t : State) (items : List (Item Op)) (n : ℕ) (us : List Undo) (u : Undo) (a : Op) → MayBeTriedFrom o s items
-        → IsTrail o s (take (n + 1) (ops items)) (us ++ u ∷ []) t → n < length (ops items) → a ≡ get_or (ops items) n a
-        → WasApplied o a u t × IsTrail o s (take n (ops items)) us (o.upkeep.back t a u)
-    taken_back_there s t items n us u a may trail there is =
-        let l = ops items in
-        let grown = take_there l n a there is in
-        let mid = state_from o s (take n l) in
-        let allowed : AllowedFrom o s (take n l ++ a ∷ []) = subst (λ (w : List Op). AllowedFrom o s w) grown trail.allowed in
-        let before = allowed-first o s (take n l) (a ∷ []) allowed in
-        let legal = (allowed-second o s (take n l) (a ∷ []) allowed).0 in
-        let kept = ends_alike us (kept_from o s (take n l)) u (o.upkeep.kept mid a) (trail.kept ∙ ap (λ (w : List Op). kept_from o s w) grown ∙ kept-append s (take n l) a) in
-        let leads : t ≡ o.next mid a = trail.leads ∙ ap (λ (w : List Op). state_from o s w) grown ∙ state-append o s (take n l) (a ∷ []) in
-        let shorter : IsTrail o s (take n l) us mid = record { allowed = before; kept = kept.0; leads = refl } in
-        let within : n ≤ length items = omega (arith, there, length-ops items) in (
+    -- the last one is taken back
+    pub last_taken_back : (s t : State) (done less : List (Done Op Undo)) (d : Done Op Undo) → done ≡ less ++ d ∷ [] → MayFollow o s (applied done) → Stands o s done t
+        → WasApplied o d.op d.undo t × MayFollow o s (applied less) × Stands o s less (o.upkeep.back t d.op d.undo)
+    last_taken_back s t done less d popped may h =
+        let a = d.op in
+        let x = applied less in
+        let grown : applied done ≡ x ++ a ∷ [] = ap (λ (w : List (Done Op Undo)). applied w) popped ∙ map_push (λ (w : Done Op Undo). w.op) less d in
+        let undos : map (λ (w : Done Op Undo). w.undo) done ≡ map (λ (w : Done Op Undo). w.undo) less ++ d.undo ∷ [] =
+        ap (λ (w : List (Done Op Undo)). map (λ (v : Done Op Undo). v.undo) w) popped ∙ map_push (λ (w : Done Op Undo). w.undo) less d in
+        let may_all : MayFollow o s (x ++ a ∷ []) = subst (λ (w : List Op). MayFollow o s w) grown may in
+        let mid = state_from o s x in
+        let allowed : AllowedFrom o s (x ++ a ∷ []) = subst (λ (w : List Op). AllowedFrom o s w) grown h.allowed in
+        let before = allowed-first o s x (a ∷ []) allowed in
+        let legal = (allowed-second o s x (a ∷ []) allowed).0 in
+        let kept = same_from_push (map (λ (w : Done Op Undo). w.undo) less) (kept_from o s x) d.undo (o.upkeep.kept mid a)
+        (sym undos ∙ h.kept ∙ ap (λ (w : List Op). kept_from o s w) grown ∙ kept-append s x a) in
+        let leads : t ≡ o.next mid a = h.leads ∙ ap (λ (w : List Op). state_from o s w) grown ∙ state-append o s x (a ∷ []) in
+        let shorter : Stands o s less mid = record { allowed = before; kept = kept.0; leads = refl } in (
           (
             mid,
-            reached_there s mid items n us may shorter within,
-            ranged_at l n a may.may.ranged there is,
+            reached_there s mid x (a ∷ []) (map (λ (w : Done Op Undo). w.undo) less) may_all shorter,
+            next_ranged s mid x [] a (map (λ (w : Done Op Undo). w.undo) less) may_all shorter,
             legal,
             leads,
             kept.1,
           ),
+          may-first s x (a ∷ []) may_all,
           record {
             allowed = before;
             kept = kept.0;
-            leads = ap (λ (w : State). o.upkeep.back w a u) leads ∙ ap (λ (w : Undo). o.upkeep.back (o.next mid a) a w) kept.1
-                ∙ laws.taken_back mid a (state_there s mid items n us may shorter within) legal;
+            leads = ap (λ (w : State). o.upkeep.back w a d.undo) leads ∙ ap (λ (w : Undo). o.upkeep.back (o.next mid a) a w) kept.1
+                ∙ laws.taken_back mid a (state_there s mid x (a ∷ []) (map (λ (w : Done Op Undo). w.undo) less) may_all shorter) legal;
           },
         )
 
-    -- the next one, where the first of the items were applied from s to t
-    module _ (s t : State) (items : List (Item Op)) (us : List Undo) (may : MayBeTriedFrom o s items) (h : IsApplied o s items us t)
-        (p : Item Op) (there : length us < length items) (is : p ≡ get_or items (length us) p) where
-      there_too : length us < length (ops items)
-      there_too = omega (arith, there, length-ops items)
+  -- ---- how far a list is allowed
 
-      is_op : p.op ≡ get_or (ops items) (length us) p.op
-      is_op = op_at items (length us) p there is
+  pub length-applied : (done : List (Done Op Undo)) → length (applied done) ≡ length done
+  length-applied done = length-map done (λ (w : Done Op Undo). w.op)
 
-      pub next_fits : IsTrue (o.fits (o.shape t) p.op)
-      next_fits = fits_there s t items (length us) us may h.trail h.some p.op there_too is_op
-
-      pub next_ranged : IsTrue (o.ranged p.op)
-      next_ranged = ranged_at (ops items) (length us) p.op may.may.ranged there_too is_op
-
-      pub next_reached : IsReached o t
-      next_reached = reached_there s t items (length us) us may h.trail h.some
-
-      pub next_legal : AllowedFrom o s (ops items) → IsLegal o t p.op
-      next_legal allowed = would_be_legal s t (ops items) (length us) p.op allowed there_too is_op h.trail.leads
-
-      pub next_applied : (t2 : State) (u : Undo) (vs : List Undo) → o.gives t p.op ≡ o.recorded p.op → u ≡ o.upkeep.kept t p.op → t2 ≡ o.next t p.op → vs ≡ us ++ u ∷ []
-          → IsApplied o s items vs t2
-      next_applied t2 u vs gives kept leads pushed =
-          let long : length vs ≡ length us + 1 = ap (λ (w : List Undo). length w) pushed ∙ length-append us (u ∷ []) in
-          record {
-            some = omega (arith, long, there);
-            trail = subst (λ (n : ℕ). IsTrail o s (take n (ops items)) vs t2) (sym long)
-                (trail_grows s t t2 (take (length us) (ops items)) (take (length us + 1) (ops items)) us vs p.op u h.trail (next_fits, gives) kept leads
-                (take_there (ops items) (length us) p.op there_too is_op) pushed);
-          }
-
-    -- the last one that was applied is taken back
-    pub last_taken_back : (s t : State) (items : List (Item Op)) (us vs : List Undo) (u : Undo) (p : Item Op) → MayBeTriedFrom o s items
-        → IsApplied o s items us t → us ≡ vs ++ u ∷ [] → p ≡ get_or items (length vs) p
-        → WasApplied o p.op u t × IsApplied o s items vs (o.upkeep.back t p.op u)
-    last_taken_back s t items us vs u p may h popped is =
-        let long : length us ≡ length vs + 1 = ap (λ (w : List Undo). length w) popped ∙ length-append vs (u ∷ []) in
-        let some = h.some in
-        let there : length vs < length items = omega (arith, long, some) in
-        let whole = subst (λ (n : ℕ). IsTrail o s (take n (ops items)) us t) long h.trail in
-        let back = taken_back_there s t items (length vs) vs u p.op may (subst (λ (w : List Undo). IsTrail o s (take (length vs + 1) (ops items)) w t) popped whole)
-        (omega (arith, there, length-ops items)) (op_at items (length vs) p there is) in
-        (back.0, record { some = omega (arith, there); trail = back.1 })
-
-  -- where all were applied, all of them are allowed
-  pub whole_applied : (s t : State) (items : List (Item Op)) (us : List Undo) → IsApplied o s items us t → length us ≡ length items → AllowedFrom o s (ops items)
-  whole_applied s t items us h all = subst (λ (w : List Op). AllowedFrom o s w)
-      (ap (λ (n : ℕ). take n (ops items)) (all ∙ sym (length-ops items)) ∙ take-length (ops items)) h.trail.allowed
-
-  pub none_applied : (s t : State) (items : List (Item Op)) (us : List Undo) → us ≡ [] → t ≡ s → IsApplied o s items us t
-  none_applied s t items us none e =
-      let long : length us ≡ 0 = ap (λ (w : List Undo). length w) none in
+  pub furthest_stopped : (s t : State) (l y : List Op) (a : Op) (done : List (Done Op Undo)) → Stands o s done t → l ≡ applied done ++ a ∷ y
+      → (IsLegal o t a → ⊥) → IsFurthest o s l done t
+  furthest_stopped s t l y a done h whole differs =
+      let x = applied done in
+      let n = length-applied done in
       record {
-        some = omega (arith, long);
-        trail = subst (λ (n : ℕ). IsTrail o s (take n (ops items)) us t) (sym long) (no_trail s t us none e);
+        stands = h;
+        within = let all = ap (λ (w : List Op). length w) whole in omega (arith, all, n, length-append x (a ∷ y));
+        front = sym (ap (λ (k : ℕ). take k l) (sym n) ∙ ap (λ (w : List Op). take (length x) w) whole ∙ take-append_seam x (a ∷ y));
+        stops = λ less allowed.
+            let one : take (length done + 1) l ≡ x ++ a ∷ [] = ap (λ (k : ℕ). take (k + 1) l) (sym n) ∙ ap (λ (w : List Op). take (length x + 1) w) whole
+            ∙ take-append-add x (a ∷ y) 1 in
+            differs (subst (λ (w : State). IsLegal o w a) (sym h.leads) (allowed-second o s x (a ∷ []) (subst (λ (w : List Op). AllowedFrom o s w) one allowed)).0);
       }
 
-  pub back_again : (s t : State) (items : List (Item Op)) (us : List Undo) → IsApplied o s items us t → length us ≤ 0 → t ≡ s
-  back_again s t items us h none =
-      let long : length us ≡ 0 = omega (arith, none) in
-      h.trail.leads ∙ ap (λ (n : ℕ). state_from o s (take n (ops items))) long
-
-  -- what was applied of the one list was applied of the other, where they share it
-  pub applied_alike : (s t : State) (xs ys : List (Item Op)) (us : List Undo) (n : ℕ) → IsApplied o s xs us t → Share n xs ys → length us ≤ n → IsApplied o s ys us t
-  applied_alike s t xs ys us n h alike within =
-      let same : take (length us) xs ≡ take (length us) ys = share_less n (length us) xs ys within alike in
-      let some = h.some in
-      let left : length (take (length us) xs) ≡ length us = omega (arith, length-take (length us) xs, some) in
-      let right = ap (λ (w : List (Item Op)). length w) same in
+  pub furthest_whole : (s t : State) (l : List Op) (done : List (Done Op Undo)) → Stands o s done t → l ≡ applied done → IsFurthest o s l done t
+  furthest_whole s t l done h whole =
+      let n = length-applied done in
+      let all = ap (λ (w : List Op). length w) whole in
       record {
-        some = omega (arith, left, right, length-take (length us) ys);
-        trail = subst (λ (w : List Op). IsTrail o s w us t) (ops_share (length us) xs ys same) h.trail;
+        stands = h;
+        within = omega (arith, all, n);
+        front = sym (ap (λ (k : ℕ). take k l) (sym n ∙ sym all) ∙ take-length l ∙ whole);
+        stops = λ less allowed. absurd (omega (arith, less, all, n));
       }
-    where
-      ops_share : (n : ℕ) (xs ys : List (Item Op)) → take n xs ≡ take n ys → take n (ops xs) ≡ take n (ops ys)
-      ops_share n xs ys e = take-map (λ (w : Item Op). w.op) n xs ∙ ap (λ (w : List (Item Op)). ops w) e ∙ sym (take-map (λ (w : Item Op). w.op) n ys)
+
+  module _ (s t : State) (l : List Op) (done : List (Done Op Undo)) (h : IsFurthest o s l done t) where
+    pub all_allowed : length done ≡ length l → AllowedFrom o s l
+    all_allowed all = subst (λ (w : List Op). AllowedFrom o s w) (h.front ∙ ap (λ (k : ℕ). take k l) all ∙ take-length l) (h.stands).allowed
+
+    pub not_allowed : length done < length l → AllowedFrom o s l → ⊥
+    not_allowed less allowed = h.stops less (allowed-first o s (take (length done + 1) l) (drop (length done + 1) l)
+        (subst (λ (w : List Op). AllowedFrom o s w) (sym (take-append-drop (length done + 1) l)) allowed))
+
+    -- what failed is shared by another list
+    pub fails_alike : (m : List Op) (n : ℕ) → Share n l m → n ≤ length l → n ≤ length m → length done < n → IsFurthest o s m done t
+    fails_alike m n alike left right less = record {
+      stands = h.stands;
+      within = omega (arith, right, less);
+      front = h.front ∙ share_less n (length done) l m (omega (arith, less)) alike;
+      stops = λ shorter allowed. h.stops (omega (arith, less, left))
+          (subst (λ (w : List Op). AllowedFrom o s w) (sym (share_less n (length done + 1) l m (omega (arith, less)) alike)) allowed);
+    }
+
+    -- the first of what was applied are the first of another list
+    pub first_alike : (m : List Op) (n : ℕ) (less : List (Done Op Undo)) → Share n l m → n ≤ length done → less ≡ take n done → applied less ≡ take n m
+    first_alike m n less alike within taken = ap (λ (w : List (Done Op Undo)). applied w) taken ∙ sym (take-map (λ (w : Done Op Undo). w.op) n done)
+        ∙ ap (λ (w : List Op). take n w) h.front ∙ take-take n (length done) l within ∙ alike
+
+  pub back_again : (s t : State) (done : List (Done Op Undo)) → done ≡ [] → Stands o s done t → t ≡ s
+  back_again s t done none h = h.leads ∙ ap (λ (w : List (Done Op Undo)). state_from o s (applied w)) none

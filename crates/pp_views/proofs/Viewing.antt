@@ -14,7 +14,7 @@ use Rattle.pp_spec.specs.Object.{Object, AllowedFrom, IsAllowed, AllRanged, IsLo
 use Rattle.pp_spec.specs.Object.{rules_of, state_from, state_after}
 use Rattle.pp_spec.proofs.Lists.{allowed-first, allowed-second, allowed-append, keeps_shape, state-append}
 use Rattle.pp_views.specs.Peaks.{Peak, operations}
-use Rattle.pp_views.specs.Trying.{IsStateAt, IsTrail, IsUntried, kept_from, MayBeTriedFrom}
+use Rattle.pp_views.specs.Trying.{IsStateAt, IsTrail, IsUntried, kept_from, MayFollow}
 use Rattle.pp_views.specs.Views.{Explains, IsLeastBelow, IsViewBelow, MayBeTried, Pairwise, View}
 use Rattle.pp_views.proofs.Fronts.{take_there, drop_there, length-ops}
 use Rattle.pp_views.proofs.Trails.{log_further, ranged-first, ranged-second}
@@ -64,12 +64,6 @@ pub operations_next : {Op : Type 0} (ps : List (Peak Op)) (i : ℕ) (p : Peak Op
     → operations (take (i + 1) ps) ≡ operations (take i ps) + length p.ops
 operations_next {Op} ps i p there is = ap (λ (w : List (Peak Op)). operations w) (take_there ps i p there is)
     ∙ operations-append (take i ps) (p ∷ []) ∙ ap (λ (n : ℕ). operations (take i ps) + n) (let e : operations (p ∷ []) ≡ length p.ops = one p in e)
-
-pub operations_within : {Op : Type 0} (ps : List (Peak Op)) (i : ℕ) → operations (take i ps) ≤ operations ps
-operations_within {Op} ps i =
-    let cut = ap (λ (w : List (Peak Op)). operations w) (take-append-drop i ps) in
-    let sums = operations-append (take i ps) (drop i ps) in
-    omega (arith, cut, sums)
 
 -- each round may cost twice the operations
 pub one_round_more : (n w : ℕ) → 2 * ((n + 1 + 1) * w) ≡ 2 * ((n + 1) * w) + 2 * w
@@ -154,15 +148,13 @@ module _ {Shape State Op Undo : Type 0} (o : Object Shape State Op Undo) where
       (λ h. allowed-append o (o.start shape) (serial_ops (take i D)) (ops items) allowed_there (subst (λ (w : State). AllowedFrom o w (ops items)) is_there h)),
     )
 
-    pub may_be_tried_there : (items : List (Item Op)) → MayBeTried o shape (length (serial_ops D)) items → MayBeTriedFrom o s items
-    may_be_tried_there items may = record {
+    pub may_follow_there : (items : List (Item Op)) → MayBeTried o shape (length (serial_ops D)) items → MayFollow o s (ops items)
+    may_follow_there items may = record {
       before = serial_ops (take i D);
       log = at.log;
-      may = record {
-        fit = subst (λ (w : Shape). Each (λ (a : Op). IsTrue (o.fits w a)) (ops items)) (sym at.same) may.fit;
-        ranged = may.ranged;
-        few = let few = may.few in omega (arith, few, serial_within D i);
-      };
+      fit = subst (λ (w : Shape). Each (λ (a : Op). IsTrue (o.fits w a)) (ops items)) (sym at.same) may.fit;
+      ranged = may.ranged;
+      few = let few = may.few in omega (arith, few, serial_within D i, length-ops items);
     }
 
     module _ (laws : IsLawful o) (d : CommittedTx Op) (there : i < length D) (is : d ≡ get_or D i d)
@@ -180,18 +172,16 @@ module _ {Shape State Op Undo : Type 0} (o : Object Shape State Op Undo) where
       next_ranged = ranged-first o (ops d.entries) (serial_ops (drop (i + 1) D))
           (ranged-second o (serial_ops (take i D)) (ops d.entries ++ serial_ops (drop (i + 1) D)) (subst (λ (w : List Op). AllRanged o w) cut ranged))
 
-      pub next_may : length (serial_ops D) < 1_000_000 → MayBeTriedFrom o s d.entries
+      pub next_may : length (serial_ops D) < 1_000_000 → MayFollow o s (ops d.entries)
       next_may few = record {
         before = serial_ops (take i D);
         log = at.log;
-        may = record {
-          fit = allowed_fit laws s (ops d.entries) next_allowed;
-          ranged = next_ranged;
-          few =
-              let more = serial_within D (i + 1) in
-              let next = ap (λ (w : List Op). length w) (serial_next D i d there is) in
-              omega (arith, few, more, next, length-append (serial_ops (take i D)) (ops d.entries), length-ops d.entries);
-        };
+        fit = allowed_fit laws s (ops d.entries) next_allowed;
+        ranged = next_ranged;
+        few =
+            let more = serial_within D (i + 1) in
+            let next = ap (λ (w : List Op). length w) (serial_next D i d there is) in
+            omega (arith, few, more, next, length-append (serial_ops (take i D)) (ops d.entries));
       }
 
       pub next_state : (t : State) → t ≡ state_from o s (ops d.entries) → IsStateAt o shape D (i + 1) t
@@ -217,23 +207,3 @@ module _ {Shape State Op Undo : Type 0} (o : Object Shape State Op Undo) where
 
   pub state_whole : (s t : State) (l : List Op) (i : ℕ) → length l ≤ i → t ≡ state_from o s (take i l) → t ≡ state_from o s l
   state_whole s t l i all leads = leads ∙ ap (λ (w : List Op). state_from o s w) (take_all i l all)
-
-  pub start_may : IsLawful o → (shape : Shape) (s : State) (items : List (Item Op)) → s ≡ o.start shape → MayBeTried o shape 0 items → MayBeTriedFrom o s items
-  start_may laws shape s items e may =
-      let same : o.shape s ≡ shape = ap o.shape e ∙ laws.start_shape shape in
-      record {
-        before = [];
-        log = record { allowed = tt; is = e ∙ ap o.start (sym same); ranged = tt };
-        may = subst (λ (w : Shape). MayBeTried o w 0 items) (sym same) may;
-      }
-
-  -- nothing may be tried wherever something may
-  pub nothing_tried : (s : State) (items : List (Item Op)) → MayBeTriedFrom o s items → MayBeTriedFrom o s []
-  nothing_tried s items may = record {
-    before = may.before;
-    log = may.log;
-    may = record { fit = tt; ranged = tt; few = let few = may.may.few in omega (arith, few) };
-  }
-
-  pub may_alone : (shape : Shape) (n : ℕ) (items : List (Item Op)) → MayBeTried o shape n items → MayBeTried o shape 0 items
-  may_alone shape n items may = record { fit = may.fit; ranged = may.ranged; few = let few = may.few in omega (arith, few) }

@@ -1,12 +1,14 @@
 -- Proof machinery: operations that are tried from a state, and taken back.
-use Rattle.std.specs.Prelude.{◌≡◌, ◌<◌, ◌≤◌, ℕ, suc, zero, List, [], ◌∷◌, length, map, take, get_or}
-use Rattle.std.specs.Prelude.{None, sum_by}
+use Rattle.std.specs.Prelude.{◌≡◌, ◌<◌, ◌≤◌, ◌+◌, ◌-◌, ℕ, suc, zero, IsTrue, List, [], ◌∷◌, length}
+use Rattle.std.specs.Prelude.{map, take, drop, get_or, None, sum_by}
 use Rattle.pp_model.specs.Config.{CommittedTx}
-use Rattle.pp_model.specs.Lists.{In}
+use Rattle.pp_model.specs.Lists.{Each, In}
 use Rattle.pp_model.specs.Object.{Item, ops}
 use Rattle.pp_model.specs.Sound.{serial_ops}
 use Rattle.pp_spec.specs.Object.{Object, AllowedFrom, AllRanged, IsAllowed, IsLog, state_from}
-pub use Rattle.pp_views.specs.declared.order.Candidate.{Candidate}
+pub use Rattle.pp_views.specs.declared.line.Candidate.{Candidate}
+pub use Rattle.pp_views.specs.declared.line.Line.{Line}
+pub use Rattle.pp_views.specs.declared.trial.Done.{Done}
 use Rattle.pp_views.specs.Peaks.{Peak, operations}
 use Rattle.pp_views.specs.Views.{MayBeTried, View}
 
@@ -27,7 +29,7 @@ length_at [] i = 0
 length_at (p ∷ ps) zero = length p.ops
 length_at (p ∷ ps) (suc i) = length_at ps i
 
--- the places of the first n peaks, each once
+-- the places of the first n peaks, each once; `cost` counts the operations of these peaks
 pub record ArePlaces {Op : Type 0} (ps : List (Peak Op)) (n : ℕ) (is : List ℕ) : Type 0 where
   pub apart : AreApart is
   pub within : (i : ℕ) → In i is → i < n
@@ -37,12 +39,6 @@ pub record ArePlaces {Op : Type 0} (ps : List (Peak Op)) (n : ℕ) (is : List �
 -- x stands at this place
 abbrev pub StandsAt : {A : Type 0} → List A → ℕ → A → Type 0
 StandsAt xs i x = (i < length xs) × (x ≡ get_or xs i x)
-
--- the places of the views that have no number
-pub record AreUnnumbered (views : List View) (is : List ℕ) : Type 0 where
-  pub apart : AreApart is
-  pub there : (i : ℕ) → In i is → (v : View) × StandsAt views i v × (v.after ≡ None)
-  pub all : (i : ℕ) (v : View) → StandsAt views i v → v.after ≡ None → In i is
 
 -- the first n are the same
 abbrev pub Share : {A : Type 0} → ℕ → List A → List A → Type 0
@@ -60,15 +56,43 @@ AreAlikeTo {Op} ps before (c ∷ cs) n behind =
 abbrev pub AreAlike : {Op : Type 0} → List (Peak Op) → List (Item Op) → List Candidate → Type 0
 AreAlike ps before cs = AreAlikeTo ps before cs 0 []
 
+-- The operations of these items that the candidate does not share stand where it says among those
+-- of the line.
+pub record HasRest {Op : Type 0} (l : List Op) (c : Candidate) (items : List (Item Op)) : Type 0
+  where
+    pub shared : c.shared ≤ length items
+    pub before : c.from ≤ c.to
+    pub within : c.to ≤ length l
+    pub rest : take (c.to - c.from) (drop c.from l) ≡ ops (drop c.shared items)
+
+-- It is so of each candidate's peak.
+abbrev pub HaveRests : {Op : Type 0} → List (Peak Op) → List Op → List Candidate → Type 0
+HaveRests {Op} ps l cs =
+    (c : Candidate) (p : Peak Op) → In c cs → StandsAt ps c.place p → HasRest l c p.ops
+
 abbrev pub places_of : List Candidate → List ℕ
 places_of cs = map (λ c. c.place) cs
 
--- the peaks whose views have no number, with what each shares with the one before it
+-- a line of all peaks
+pub record IsLine {Op : Type 0} (ps : List (Peak Op)) (line : Line Op) : Type 0 where
+  pub places : ArePlaces ps (length ps) (places_of line.candidates.items)
+  pub alike : AreAlike ps [] line.candidates.items
+  pub rests : HaveRests ps line.ops.items line.candidates.items
+
+-- a line of peaks, among which are all whose views have no number; `cost` bounds their operations
 pub record AreCandidates {Op : Type 0} (ps : List (Peak Op)) (views : List View)
-    (cs : List Candidate) : Type 0 where
-  pub unnumbered : AreUnnumbered views (places_of cs)
-  pub alike : AreAlike ps [] cs
-  pub cost : sum_by (length_at ps) (places_of cs) ≤ operations ps
+    (line : Line Op) : Type 0 where
+  pub apart : AreApart (places_of line.candidates.items)
+  pub within : (i : ℕ) → In i (places_of line.candidates.items) → i < length ps
+  pub all : (i : ℕ) (v : View) → StandsAt views i v → v.after ≡ None
+      → In i (places_of line.candidates.items)
+  pub alike : AreAlike ps [] line.candidates.items
+  pub rests : HaveRests ps line.ops.items line.candidates.items
+  pub cost : sum_by (length_at ps) (places_of line.candidates.items) ≤ operations ps
+
+-- the operations that were applied
+abbrev pub applied : {Op Undo : Type 0} → List (Done Op Undo) → List Op
+applied done = map (λ d. d.op) done
 
 module _ {Shape State Op Undo : Type 0} (o : Object Shape State Op Undo) where
   -- what is kept of these operations, one after another from the state s
@@ -82,17 +106,34 @@ module _ {Shape State Op Undo : Type 0} (o : Object Shape State Op Undo) where
     pub kept : undos ≡ kept_from s x
     pub leads : t ≡ state_from o s x
 
-  -- The first of the items were applied, from the state s to t, and these were kept.
-  pub record IsApplied (s : State) (items : List (Item Op)) (undos : List Undo)
-      (t : State) : Type 0 where
-    pub some : length undos ≤ length items
-    pub trail : IsTrail s (take (length undos) (ops items)) undos t
+  -- What was applied led from the state s to t, and can be taken back.
+  abbrev pub Stands : State → List (Done Op Undo) → State → Type 0
+  Stands s done t = IsTrail s (applied done) (map (λ d. d.undo) done) t
 
-  -- A log led to the state, and the items may be tried behind it.
-  pub record MayBeTriedFrom (s : State) (items : List (Item Op)) : Type 0 where
+  -- What was applied is the beginning of the list, as far as it is allowed from the state s.
+  pub record IsFurthest (s : State) (l : List Op) (done : List (Done Op Undo))
+      (t : State) : Type 0 where
+    pub stands : Stands s done t
+    pub within : length done ≤ length l
+    pub front : applied done ≡ take (length done) l
+    pub stops : length done < length l → AllowedFrom o s (take (length done + 1) l) → ⊥
+
+  -- A log led to the state, and the operations may be tried behind it: they are of its shape and
+  -- ranged, and all together are fewer than a million.
+  pub record MayFollow (s : State) (l : List Op) : Type 0 where
     pub before : List Op
     pub log : IsLog o s before
-    pub may : MayBeTried o (o.shape s) (length before) items
+    pub fit : Each (λ op. IsTrue (o.fits (o.shape s) op)) l
+    pub ranged : AllRanged o l
+    pub few : length before + length l < 1_000_000
+
+  -- The peaks may be tried from the state, and the candidates numbered.
+  pub record MayBeNumbered (s : State) (ps : List (Peak Op)) (views : List View)
+      (line : Line Op) : Type 0 where
+    pub long : length views ≡ length ps
+    pub candidates : AreCandidates ps views line
+    pub reached : MayFollow s []
+    pub may : (p : Peak Op) → In p ps → MayFollow s (ops p.ops)
 
   -- The first n committed transactions led to the state, from the empty one of this shape.
   pub record IsStateAt (shape : Shape) (committed : List (CommittedTx Op)) (n : ℕ)

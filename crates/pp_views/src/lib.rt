@@ -4,6 +4,7 @@
 
 mod collect;
 mod law;
+mod line;
 mod order;
 mod own;
 mod peak;

@@ -1,28 +1,20 @@
 //! In which order peaks are tried: those that begin alike stand together.
-ghost use Rattle.std.specs.Prelude.{◌≡◌, [], IfOk, length, map};
+ghost use Rattle.std.specs.Prelude.{◌≡◌, ◌≤◌, [], IfOk, length, map};
 ghost use Rattle.pp_core.specs.declared.entry.Item.{Item as ItemOf};
 ghost use Rattle.pp_model.specs.Lists.{In};
 ghost use Rattle.pp_views.specs.Peaks.{IdsTell};
-ghost use Rattle.pp_views.specs.Trying.{AreAlike, ArePlaces, Share, places_of};
+ghost use Rattle.pp_views.specs.Trying.{ArePlaces, IsLine, Share};
 
+use crate::line::{Candidate, Line, add_ops};
 use crate::peak::Peak;
 use pp_core::{Item, OutOfMemory};
 use std::alloc::Global;
 
-/// A peak that no number explains so far.
-#[derive(Clone, Copy)]
-pub(crate) struct Candidate {
-    /// Where the peak stands among all.
-    pub(crate) place: usize,
-    /// How many operations, from the first on, it has in common with the candidate before it. They
-    /// may have more.
-    pub(crate) shared: usize,
-}
-
 /// How many operations two lists have in common, from the first on.
 fn common<O: Copy>(a: &[Item<O>], b: &[Item<O>]) -> usize
     requires { (i j : ItemOf O) → In i a.now → In j b.now → i.id ≡ j.id → i ≡ j }
-    ensures { Share result a.now b.now }
+    ensures share { Share result a.now b.now }
+    ensures within { result ≤ length b.now }
 {
     let mut count = 0;
     while count < a.len() && count < b.len() && a[count].id == b[count].id {
@@ -32,7 +24,7 @@ fn common<O: Copy>(a: &[Item<O>], b: &[Item<O>]) -> usize
 }
 
 /// The places of the peaks, each behind the id of its first operation, in the order of these ids.
-fn ordered<O: Copy>(alloc: Global, peaks: &[Peak<O>]) -> Result<Vec<(u32, usize)>, OutOfMemory>
+fn by_first_id<O: Copy>(alloc: Global, peaks: &[Peak<O>]) -> Result<Vec<(u32, usize)>, OutOfMemory>
     ensures { IfOk result (λ order. ArePlaces peaks.now (length peaks.now)
         (map (λ o. o.1) order.items)) }
 {
@@ -45,27 +37,27 @@ fn ordered<O: Copy>(alloc: Global, peaks: &[Peak<O>]) -> Result<Vec<(u32, usize)
     Ok(order)
 }
 
-/// All peaks as candidates. Those with one first operation stand together, in their own order: so
-/// each begins as the one before it, as far as its transaction did not take that back.
-pub(crate) fn line_up<O: Copy>(
-    alloc: Global,
-    peaks: &[Peak<O>],
-) -> Result<Vec<Candidate>, OutOfMemory>
+/// All peaks in a line. Those with one first operation stand together, in their own order: so each
+/// begins as the one before it, as far as its transaction did not take that back.
+pub(crate) fn line_up<O: Copy>(alloc: Global, peaks: &[Peak<O>]) -> Result<Line<O>, OutOfMemory>
     requires { IdsTell peaks.now }
-    ensures places { IfOk result (λ all. ArePlaces peaks.now (length peaks.now)
-        (places_of all.items)) }
-    ensures alike { IfOk result (λ all. AreAlike peaks.now [] all.items) }
+    ensures { IfOk result (λ line. IsLine peaks.now line) }
 {
-    let order = ordered(alloc, peaks)?;
-    let mut candidates = Vec::new(alloc);
+    let order = by_first_id(alloc, peaks)?;
+    let mut line = Line::new(alloc);
     let mut before: &[Item<O>] = &[];
     for (_, place) in &order {
         let items = peaks[*place].ops.as_slice();
-        candidates.push(Candidate {
+        let shared = common(before, items);
+        let from = line.ops.len();
+        add_ops(&mut line.ops, &items[shared..])?;
+        line.candidates.push(Candidate {
             place: *place,
-            shared: common(before, items),
+            shared,
+            from,
+            to: line.ops.len(),
         })?;
         before = items;
     }
-    Ok(candidates)
+    Ok(line)
 }

@@ -1,65 +1,69 @@
 //! Trying operations from a state, as far as each gives its recorded result.
-ghost use Rattle.std.specs.Prelude.{◌≡◌, ◌+◌, ◌≤◌, OnOk, length};
-ghost use Rattle.pp_model.specs.Object.{ops};
-ghost use Rattle.pp_spec.specs.Object.{AllowedFrom};
-ghost use Rattle.pp_views.specs.Trying.{IsApplied, MayBeTriedFrom};
+ghost use Rattle.std.specs.Prelude.{◌≡◌, ◌++◌, ◌+◌, ◌↔◌, ◌≤◌, IfOk, IsTrue, OnOk, length, take};
+ghost use Rattle.pp_views.specs.Trying.{IsFurthest, MayFollow, Stands, applied};
 
-use pp_core::{Item, OutOfMemory, Ticks};
+use pp_core::{OutOfMemory, Ticks};
 use pp_spec::{Applied, Spec};
 use std::sync::ledger::Ledger;
 
-/// Applies the operations behind the first ones, which were applied, one after another, as far as
-/// each gives its recorded result, and keeps what takes them back.
-pub(crate) fn apply_rest<S: Spec, L: Ledger>(
+/// An operation that was applied, and what takes it back.
+#[derive(Drop)]
+pub(crate) struct Done<O: Copy, U> {
+    pub(crate) op: O,
+    pub(crate) undo: U,
+}
+
+/// Applies operations behind those that were applied, one after another, as far as each gives its
+/// recorded result, and answers whether all did.
+pub(crate) fn apply_all<S: Spec, L: Ledger>(
     state: &mut S::State,
-    items: &[Item<S::Op>],
-    undos: &mut Vec<S::Undo>,
+    done: &mut Vec<Done<S::Op, S::Undo>>,
+    ops: &[S::Op],
     ticks: &mut Ticks<L>,
-) -> Result<(), OutOfMemory>
-    requires { (s : S.State) × MayBeTriedFrom S.object s items.now
-        × IsApplied S.object s items.now undos.old.items state.old }
-    ensures applied { OnOk result ((s : S.State) → MayBeTriedFrom S.object s items.now
-        → IsApplied S.object s items.now undos.old.items state.old
-        → IsApplied S.object s items.now undos.new.items state.new) }
-    ensures all { OnOk result ((s : S.State) → MayBeTriedFrom S.object s items.now
-        → IsApplied S.object s items.now undos.old.items state.old
-        → AllowedFrom S.object s (ops items.now) → length undos.new.items ≡ length items.now) }
+) -> Result<bool, OutOfMemory>
+    requires { (s : S.State) × MayFollow S.object s (applied done.old.items ++ ops.now)
+        × Stands S.object s done.old.items state.old }
+    ensures furthest { OnOk result ((s : S.State)
+        → MayFollow S.object s (applied done.old.items ++ ops.now)
+        → Stands S.object s done.old.items state.old
+        → IsFurthest S.object s (applied done.old.items ++ ops.now) done.new.items state.new) }
+    ensures all { IfOk result (λ all.
+        IsTrue all ↔ (length done.new.items ≡ length done.old.items + length ops.now)) }
     ensures rises { ticks.old ≤ ticks.new }
-    ensures bound { ticks.new + length undos.old.items ≤ ticks.old + length items.now }
+    ensures bound { ticks.new ≤ ticks.old + length ops.now }
 {
-    for at in undos.len()..items.len() {
-        match S::apply(state, &items[at].op, ticks)? {
-            Applied::Done(undo) => undos.push(undo)?,
-            Applied::Differs => return Ok(()),
+    for op in ops {
+        match S::apply(state, op, ticks)? {
+            Applied::Done(undo) => done.push(Done { op: *op, undo })?,
+            Applied::Differs => return Ok(false),
         }
     }
-    Ok(())
+    Ok(true)
 }
 
 /// Takes those back that were applied behind so many first ones, the last one first.
 pub(crate) fn take_back_to<S: Spec, L: Ledger>(
     state: &mut S::State,
-    items: &[Item<S::Op>],
-    undos: &mut Vec<S::Undo>,
+    done: &mut Vec<Done<S::Op, S::Undo>>,
     len: usize,
     ticks: &mut Ticks<L>,
 ) -> Result<(), OutOfMemory>
-    requires { (s : S.State) × MayBeTriedFrom S.object s items.now
-        × IsApplied S.object s items.now undos.old.items state.old }
-    ensures back { OnOk result ((s : S.State) → MayBeTriedFrom S.object s items.now
-        → IsApplied S.object s items.now undos.old.items state.old
-        → IsApplied S.object s items.now undos.new.items state.new) }
-    ensures few { OnOk result (length undos.new.items ≤ len) }
+    requires { (s : S.State) × MayFollow S.object s (applied done.old.items)
+        × Stands S.object s done.old.items state.old }
+    ensures stands { OnOk result ((s : S.State) → MayFollow S.object s (applied done.old.items)
+        → Stands S.object s done.old.items state.old
+        → Stands S.object s done.new.items state.new) }
+    ensures first { OnOk result (done.new.items ≡ take len done.old.items) }
     ensures cost { OnOk result
-        (ticks.new + length undos.new.items ≡ ticks.old + length undos.old.items) }
+        (ticks.new + length done.new.items ≡ ticks.old + length done.old.items) }
     ensures rises { ticks.old ≤ ticks.new }
-    ensures bound { ticks.new ≤ ticks.old + length undos.old.items }
+    ensures bound { ticks.new ≤ ticks.old + length done.old.items }
 {
-    while undos.len() > len {
-        let Some(undo) = undos.pop() else {
+    while done.len() > len {
+        let Some(Done { op, undo }) = done.pop() else {
             unreachable!()
         };
-        S::undo(state, &items[undos.len()].op, undo, ticks)?;
+        S::undo(state, &op, undo, ticks)?;
     }
     Ok(())
 }

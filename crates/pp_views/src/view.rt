@@ -1,18 +1,20 @@
 //! After how many committed transactions the results of peaks are what the object gives.
-ghost use Rattle.std.specs.Prelude.{◌≡◌, ◌+◌, ◌*◌, ◌<◌, ◌≤◌, ◌^◌, ℕ, List, [], IfOk, OnOk, length};
+ghost use Rattle.std.specs.Prelude.{◌≡◌, ◌+◌, ◌*◌, ◌<◌, ◌≤◌, ◌^◌, ℕ, List, [], false};
+ghost use Rattle.std.specs.Prelude.{IfOk, OnOk, length};
 ghost use Rattle.pp_model.specs.Config.{CommittedTx as TxOf};
 ghost use Rattle.pp_model.specs.Lists.{In};
 ghost use Rattle.pp_model.specs.Object.{ops};
 ghost use Rattle.pp_model.specs.Sound.{serial_ops};
 ghost use Rattle.pp_spec.specs.Object.{AllRanged, AllowedFrom, IsAllowed, rules_of, state_from};
 ghost use Rattle.pp_views.specs.Peaks.{IdsTell, Peak as PeakOf, operations};
-ghost use Rattle.pp_views.specs.Trying.{AreCandidates, IsStateAt, IsUntried, MayRun};
-ghost use Rattle.pp_views.specs.Trying.{MayBeTriedFrom};
+ghost use Rattle.pp_views.specs.Trying.{AreCandidates, IsStateAt, IsUntried, MayBeNumbered};
+ghost use Rattle.pp_views.specs.Trying.{MayFollow, MayRun};
 ghost use Rattle.pp_views.specs.Views.{AreViews, IsViewBelow, MayBeTried, Pairwise};
 
-use crate::order::{Candidate, line_up};
+use crate::line::{Line, without_numbered};
+use crate::order::line_up;
 use crate::peak::{Peak, Peaks};
-use crate::trial::{apply_rest, take_back_to};
+use crate::trial::{Done, apply_all, take_back_to};
 use pp_core::{Committed, CommittedTx, Item, Name, OutOfMemory, Sequence, Ticks};
 use pp_spec::{Applied, Spec};
 use std::alloc::Global;
@@ -53,7 +55,7 @@ fn go_on<S: Spec, L: Ledger>(
     entries: &[Item<S::Op>],
     ticks: &mut Ticks<L>,
 ) -> Result<(), OutOfMemory>
-    requires may { MayBeTriedFrom S.object state.old entries.now }
+    requires may { MayFollow S.object state.old (ops entries.now) }
     requires allowed { AllowedFrom S.object state.old (ops entries.now) }
     ensures state { OnOk result (state.new ≡ state_from S.object state.old (ops entries.now)) }
     ensures rises { ticks.old ≤ ticks.new }
@@ -68,122 +70,98 @@ fn go_on<S: Spec, L: Ledger>(
     Ok(())
 }
 
-/// Tries the candidates after so many committed transactions, one after another, and answers those
-/// that still have no number. Of what was applied for one, as much stays as the next one shares.
-fn try_left<S: Spec, L: Ledger>(
-    alloc: Global,
+/// Tries the candidates after so many committed transactions, one after another: a peak that is
+/// explained and has no number gets this one. It answers whether there was one. Of what was applied
+/// for a candidate, as much stays as the next one shares; where the operation that failed is among
+/// these, the next one fails as well. In the end all is taken back.
+fn try_all<S: Spec, L: Ledger>(
     state: &mut S::State,
-    peaks: &[Peak<S::Op>],
+    done: &mut Vec<Done<S::Op, S::Undo>>,
     views: &mut Vec<View>,
-    left: &[Candidate],
+    line: &Line<S::Op>,
     number: u32,
     ticks: &mut Ticks<L>,
-) -> Result<Vec<Candidate>, OutOfMemory>
-    requires reached { MayBeTriedFrom S.object state.old [] }
-    requires may { (p : PeakOf S.Op) → In p peaks.now → MayBeTriedFrom S.object state.old p.ops }
-    requires as_long { length views.old.items ≡ length peaks.now }
-    requires left { AreCandidates peaks.now views.old.items left.now }
-    ensures tried { OnOk result ((shape : S.Shape) (committed : List (TxOf S.Op))
+) -> Result<bool, OutOfMemory>
+    requires empty { done.old.items ≡ [] }
+    requires line { (ps : List (PeakOf S.Op))
+        × MayBeNumbered S.object state.old ps views.old.items line.now }
+    ensures tried { OnOk result ((ps : List (PeakOf S.Op)) (shape : S.Shape)
+        (committed : List (TxOf S.Op))
+        → MayBeNumbered S.object state.old ps views.old.items line.now
         → IsStateAt S.object shape committed number state.old
-        → Pairwise (IsViewBelow number (rules_of S.object shape) committed) peaks.now
-        views.old.items
-        → Pairwise (IsViewBelow (number + 1) (rules_of S.object shape) committed) peaks.now
+        → Pairwise (IsViewBelow number (rules_of S.object shape) committed) ps views.old.items
+        → Pairwise (IsViewBelow (number + 1) (rules_of S.object shape) committed) ps
         views.new.items) }
-    ensures left { IfOk result (λ still. AreCandidates peaks.now views.new.items still.items) }
+    ensures line { OnOk result ((ps : List (PeakOf S.Op))
+        → MayBeNumbered S.object state.old ps views.old.items line.now
+        → AreCandidates ps views.new.items line.now) }
     ensures same { OnOk result (state.new ≡ state.old) }
+    ensures empty { OnOk result (done.new.items ≡ []) }
     ensures rises { ticks.old ≤ ticks.new }
-    ensures bound { ticks.new ≤ ticks.old + 2 * operations peaks.now }
+    ensures bound { (ps : List (PeakOf S.Op))
+        → MayBeNumbered S.object state.old ps views.old.items line.now
+        → ticks.new ≤ ticks.old + 2 * operations ps }
 {
-    let mut still = Vec::new(alloc);
-    let mut undos = Vec::new(alloc);
-    let mut before: &[Item<S::Op>] = &[];
-    let mut shared = 0usize;
-    for candidate in left {
-        let items = peaks[candidate.place].ops.as_slice();
-        shared = shared.min(candidate.shared);
-        take_back_to::<S, L>(state, before, &mut undos, candidate.shared, ticks)?;
-        apply_rest::<S, L>(state, items, &mut undos, ticks)?;
-        if undos.len() == items.len() {
-            views[candidate.place].after = Some(number);
-        } else {
-            still.push(Candidate {
-                place: candidate.place,
-                shared,
-            })?;
-            shared = items.len();
+    let mut numbered = false;
+    for candidate in &line.candidates {
+        if done.len() < candidate.shared {
+            continue;
         }
-        before = items;
+        take_back_to::<S, L>(state, done, candidate.shared, ticks)?;
+        let others = &line.ops[candidate.from..candidate.to];
+        let all = apply_all::<S, L>(state, done, others, ticks)?;
+        if all && views[candidate.place].after.is_none() {
+            views[candidate.place].after = Some(number);
+            numbered = true;
+        }
     }
-    take_back_to::<S, L>(state, before, &mut undos, 0, ticks)?;
-    Ok(still)
-}
-
-/// Tries the peaks from the state before any operation. It answers that state, and those that have
-/// no number.
-fn start_all<S: Spec, L: Ledger>(
-    alloc: Global,
-    shape: &S::Shape,
-    peaks: &[Peak<S::Op>],
-    views: &mut Vec<View>,
-    ticks: &mut Ticks<L>,
-) -> Result<(S::State, Vec<Candidate>), OutOfMemory>
-    requires may { (p : PeakOf S.Op) → In p peaks.now → MayBeTried S.object shape.now 0 p.ops }
-    requires ids { IdsTell peaks.now }
-    requires untried { Pairwise IsUntried peaks.now views.old.items }
-    ensures state { IfOk result (λ r. r.0 ≡ S.object.start shape.now) }
-    ensures tried { OnOk result ((committed : List (TxOf S.Op))
-        → Pairwise (IsViewBelow 1 (rules_of S.object shape.now) committed) peaks.now
-        views.new.items) }
-    ensures left { IfOk result (λ r. AreCandidates peaks.now views.new.items r.1.items) }
-    ensures rises { ticks.old ≤ ticks.new }
-    ensures bound { ticks.new ≤ ticks.old + 2 * operations peaks.now }
-{
-    let all = line_up(alloc, peaks)?;
-    let mut state = S::empty(alloc, shape)?;
-    let left = try_left::<S, L>(alloc, &mut state, peaks, views, all.as_slice(), 0, ticks)?;
-    Ok((state, left))
+    take_back_to::<S, L>(state, done, 0, ticks)?;
+    Ok(numbered)
 }
 
 /// Lets a committed transaction take effect, and tries the peaks behind it. Behind one without
 /// operations they give what they gave before it, and none is tried.
 fn try_behind<S: Spec, L: Ledger>(
-    alloc: Global,
     state: &mut S::State,
+    done: &mut Vec<Done<S::Op, S::Undo>>,
     entries: &[Item<S::Op>],
-    peaks: &[Peak<S::Op>],
     views: &mut Vec<View>,
-    left: Vec<Candidate>,
+    line: &Line<S::Op>,
     number: u32,
     ticks: &mut Ticks<L>,
-) -> Result<Vec<Candidate>, OutOfMemory>
-    requires goes_on { MayBeTriedFrom S.object state.old entries.now }
+) -> Result<bool, OutOfMemory>
+    requires empty { done.old.items ≡ [] }
+    requires goes_on { MayFollow S.object state.old (ops entries.now) }
     requires allowed { AllowedFrom S.object state.old (ops entries.now) }
-    requires reached { MayBeTriedFrom S.object
-        (state_from S.object state.old (ops entries.now)) [] }
-    requires may { (p : PeakOf S.Op) → In p peaks.now
-        → MayBeTriedFrom S.object (state_from S.object state.old (ops entries.now)) p.ops }
-    requires as_long { length views.old.items ≡ length peaks.now }
-    requires left { AreCandidates peaks.now views.old.items left.items }
+    requires line { (ps : List (PeakOf S.Op)) × MayBeNumbered S.object
+        (state_from S.object state.old (ops entries.now)) ps views.old.items line.now }
     ensures state { OnOk result (state.new ≡ state_from S.object state.old (ops entries.now)) }
-    ensures tried { OnOk result ((shape : S.Shape) (committed : List (TxOf S.Op)) (before : ℕ)
+    ensures tried { OnOk result ((ps : List (PeakOf S.Op)) (shape : S.Shape)
+        (committed : List (TxOf S.Op)) (before : ℕ)
+        → MayBeNumbered S.object (state_from S.object state.old (ops entries.now)) ps
+        views.old.items line.now
         → number ≡ before + 1 → IsStateAt S.object shape committed before state.old
         → IsStateAt S.object shape committed number
         (state_from S.object state.old (ops entries.now))
-        → Pairwise (IsViewBelow number (rules_of S.object shape) committed) peaks.now
-        views.old.items
-        → Pairwise (IsViewBelow (number + 1) (rules_of S.object shape) committed) peaks.now
+        → Pairwise (IsViewBelow number (rules_of S.object shape) committed) ps views.old.items
+        → Pairwise (IsViewBelow (number + 1) (rules_of S.object shape) committed) ps
         views.new.items) }
-    ensures left { IfOk result (λ still. AreCandidates peaks.now views.new.items still.items) }
+    ensures line { OnOk result ((ps : List (PeakOf S.Op))
+        → MayBeNumbered S.object (state_from S.object state.old (ops entries.now)) ps
+        views.old.items line.now
+        → AreCandidates ps views.new.items line.now) }
+    ensures empty { OnOk result (done.new.items ≡ []) }
     ensures rises { ticks.old ≤ ticks.new }
-    ensures bound { ticks.new ≤ ticks.old + length entries.now + 2 * operations peaks.now }
+    ensures bound { (ps : List (PeakOf S.Op))
+        → MayBeNumbered S.object (state_from S.object state.old (ops entries.now)) ps
+        views.old.items line.now
+        → ticks.new ≤ ticks.old + length entries.now + 2 * operations ps }
 {
     if entries.len() == 0 {
-        return Ok(left);
+        return Ok(false);
     }
     go_on::<S, L>(state, entries, ticks)?;
-    let left = left.as_slice();
-    let still = try_left::<S, L>(alloc, state, peaks, views, left, number, ticks)?;
-    Ok(still)
+    try_all::<S, L>(state, done, views, line, number, ticks)
 }
 
 /// Tries the peaks before any committed transaction and after each of them, until each has a
@@ -206,25 +184,28 @@ fn number_all<S: Spec, L: Ledger>(
     ensures bound { ticks.new ≤ ticks.old + length (serial_ops committed.now)
         + 2 * ((length committed.now + 1) * operations peaks.now) }
 {
-    let (start, all) = start_all::<S, L>(alloc, shape, peaks, views, ticks)?;
-    let mut state = start;
-    let mut left = all;
+    let mut line = line_up(alloc, peaks)?;
+    let mut done = Vec::new(alloc);
+    let mut state = S::empty(alloc, shape)?;
+    let mut numbered = try_all::<S, L>(&mut state, &mut done, views, &line, 0, ticks)?;
     let mut number = 0u32;
     for transaction in committed {
-        if left.len() == 0 {
+        if numbered {
+            line = without_numbered(alloc, peaks, views.as_slice(), &line)?;
+        }
+        if line.candidates.len() == 0 {
             return Ok(());
         }
-        let entries = transaction.entries.as_slice();
         number += 1;
-        left = try_behind::<S, L>(
-            alloc, &mut state, entries, peaks, views, left, number, ticks,
-        )?;
+        let entries = transaction.entries.as_slice();
+        numbered = try_behind::<S, L>(&mut state, &mut done, entries, views, &line, number, ticks)?;
     }
     Ok(())
 }
 
 /// For each peak the least number of committed transactions after which its results are what the
-/// object gives.
+/// object gives. Entries of the peaks with one id must be one, as they are in those of a run: so
+/// peaks that begin alike are known by their ids, and what they share is applied once for all.
 pub fn explain<S: Spec, L: Ledger>(
     alloc: Global,
     shape: &S::Shape,

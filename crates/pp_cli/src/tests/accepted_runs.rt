@@ -2,7 +2,7 @@
 use crate::tests::row::{COUNTER, MEMORY, PRIORITY_QUEUE, QUEUE, Row, STACK};
 use pp_core::Status;
 
-pub(crate) const ACCEPTED: [Row; 21] = [
+pub(crate) const ACCEPTED: [Row; 26] = [
     Row {
         what: "a header alone",
         header: COUNTER,
@@ -361,6 +361,157 @@ op 1 k.push(3)=none
 op 2 k.push(1)=none
 op 3 k.pop()=1
 state k 3
+"#,
+    },
+    Row {
+        what: "a compare-and-swap that is withdrawn from before a write and published again",
+        header: MEMORY,
+        records: br#"{"step":"begin","tx":"t1","thread":"p1"}
+{"step":"app","tx":"t1","id":1,"on":"m","call":"write","args":[0,4],"result":null}
+{"step":"app","tx":"t1","id":2,"on":"m","call":"cas","args":[0,4,5],"result":true}
+{"step":"app","tx":"t1","id":3,"on":"m","call":"write","args":[1,6],"result":null}
+{"step":"push","tx":"t1","id":1}
+{"step":"push","tx":"t1","id":2}
+{"step":"push","tx":"t1","id":3}
+{"step":"unpush","tx":"t1","id":2}
+{"step":"push","tx":"t1","id":2}
+{"step":"cmt","tx":"t1"}
+"#,
+        status: Status::Accepted,
+        report: br#"accepted steps 10 committed 1
+tx t1
+op 1 m.write(0,4)=none
+op 2 m.cas(0,4,5)=true
+op 3 m.write(1,6)=none
+state m 0=5 1=6
+"#,
+    },
+    Row {
+        what: "a put that is given up from before another that was pulled too, and pulled again",
+        header: br#"{"run":1,"style":"rules","objects":[{"name":"a","kind":"map"}]}
+"#,
+        records: br#"{"step":"begin","tx":"t1","thread":"p1"}
+{"step":"app","tx":"t1","id":1,"on":"a","call":"put","args":[1,5],"result":null}
+{"step":"app","tx":"t1","id":2,"on":"a","call":"put","args":[2,6],"result":null}
+{"step":"push","tx":"t1","id":1}
+{"step":"push","tx":"t1","id":2}
+{"step":"cmt","tx":"t1"}
+{"step":"begin","tx":"t2","thread":"p2"}
+{"step":"pull","tx":"t2","id":1}
+{"step":"pull","tx":"t2","id":2}
+{"step":"unpull","tx":"t2","id":1}
+{"step":"pull","tx":"t2","id":1}
+{"step":"app","tx":"t2","id":3,"on":"a","call":"get","args":[1],"result":5}
+{"step":"push","tx":"t2","id":3}
+{"step":"cmt","tx":"t2"}
+"#,
+        status: Status::Accepted,
+        report: br#"accepted steps 14 committed 2
+tx t1
+op 1 a.put(1,5)=none
+op 2 a.put(2,6)=none
+tx t2
+op 3 a.get(1)=5
+state a 1=5 2=6
+"#,
+    },
+    Row {
+        what: "an enq and a deq that are withdrawn from before other calls and published again",
+        header: QUEUE,
+        records: br#"{"step":"begin","tx":"t1","thread":"p1"}
+{"step":"app","tx":"t1","id":1,"on":"q","call":"enq","args":[3],"result":null}
+{"step":"app","tx":"t1","id":2,"on":"q","call":"enq","args":[3],"result":null}
+{"step":"app","tx":"t1","id":3,"on":"q","call":"deq","args":[],"result":3}
+{"step":"app","tx":"t1","id":4,"on":"q","call":"enq","args":[4],"result":null}
+{"step":"app","tx":"t1","id":5,"on":"q","call":"deq","args":[],"result":3}
+{"step":"app","tx":"t1","id":6,"on":"q","call":"deq","args":[],"result":4}
+{"step":"push","tx":"t1","id":1}
+{"step":"push","tx":"t1","id":2}
+{"step":"unpush","tx":"t1","id":1}
+{"step":"push","tx":"t1","id":1}
+{"step":"push","tx":"t1","id":3}
+{"step":"push","tx":"t1","id":4}
+{"step":"unpush","tx":"t1","id":3}
+{"step":"push","tx":"t1","id":3}
+{"step":"push","tx":"t1","id":5}
+{"step":"push","tx":"t1","id":6}
+{"step":"cmt","tx":"t1"}
+"#,
+        status: Status::Accepted,
+        report: br#"accepted steps 18 committed 1
+tx t1
+op 1 q.enq(3)=none
+op 2 q.enq(3)=none
+op 3 q.deq()=3
+op 4 q.enq(4)=none
+op 5 q.deq()=3
+op 6 q.deq()=4
+state q
+"#,
+    },
+    Row {
+        what: "a push and a pop that are withdrawn from before other calls and published again",
+        header: STACK,
+        records: br#"{"step":"begin","tx":"t1","thread":"p1"}
+{"step":"app","tx":"t1","id":1,"on":"k","call":"push","args":[5],"result":null}
+{"step":"app","tx":"t1","id":2,"on":"k","call":"push","args":[4],"result":null}
+{"step":"app","tx":"t1","id":3,"on":"k","call":"push","args":[4],"result":null}
+{"step":"app","tx":"t1","id":4,"on":"k","call":"pop","args":[],"result":4}
+{"step":"app","tx":"t1","id":5,"on":"k","call":"pop","args":[],"result":4}
+{"step":"app","tx":"t1","id":6,"on":"k","call":"pop","args":[],"result":5}
+{"step":"push","tx":"t1","id":1}
+{"step":"push","tx":"t1","id":2}
+{"step":"push","tx":"t1","id":3}
+{"step":"unpush","tx":"t1","id":2}
+{"step":"push","tx":"t1","id":2}
+{"step":"push","tx":"t1","id":4}
+{"step":"push","tx":"t1","id":5}
+{"step":"unpush","tx":"t1","id":4}
+{"step":"push","tx":"t1","id":4}
+{"step":"push","tx":"t1","id":6}
+{"step":"cmt","tx":"t1"}
+"#,
+        status: Status::Accepted,
+        report: br#"accepted steps 18 committed 1
+tx t1
+op 1 k.push(5)=none
+op 2 k.push(4)=none
+op 3 k.push(4)=none
+op 4 k.pop()=4
+op 5 k.pop()=4
+op 6 k.pop()=5
+state k
+"#,
+    },
+    Row {
+        what: "an insert and a take that are withdrawn from before other calls and published again",
+        header: PRIORITY_QUEUE,
+        records: br#"{"step":"begin","tx":"t1","thread":"p1"}
+{"step":"app","tx":"t1","id":1,"on":"h","call":"insert","args":[1],"result":null}
+{"step":"app","tx":"t1","id":2,"on":"h","call":"insert","args":[2],"result":null}
+{"step":"app","tx":"t1","id":3,"on":"h","call":"take","args":[],"result":1}
+{"step":"app","tx":"t1","id":4,"on":"h","call":"insert","args":[3],"result":null}
+{"step":"app","tx":"t1","id":5,"on":"h","call":"least","args":[],"result":2}
+{"step":"push","tx":"t1","id":1}
+{"step":"push","tx":"t1","id":2}
+{"step":"unpush","tx":"t1","id":1}
+{"step":"push","tx":"t1","id":1}
+{"step":"push","tx":"t1","id":3}
+{"step":"push","tx":"t1","id":4}
+{"step":"unpush","tx":"t1","id":3}
+{"step":"push","tx":"t1","id":3}
+{"step":"push","tx":"t1","id":5}
+{"step":"cmt","tx":"t1"}
+"#,
+        status: Status::Accepted,
+        report: br#"accepted steps 16 committed 1
+tx t1
+op 1 h.insert(1)=none
+op 2 h.insert(2)=none
+op 3 h.take()=1
+op 4 h.insert(3)=none
+op 5 h.least()=2
+state h 2 3
 "#,
     },
 ];

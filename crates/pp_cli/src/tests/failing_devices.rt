@@ -12,7 +12,7 @@ use std::test::Fail;
 const ADDED_REPORT: &[u8] = b"accepted steps 4 committed 1\ntx t1\nop 1 c.add(2)=none\nstate c 2\n";
 
 #[test]
-fn each_read_may_fail(rt: HostRuntime) -> Result<(), Fail> {
+fn whichever_read_fails_nothing_is_written(rt: HostRuntime) -> Result<(), Fail> {
     let alloc = rt.alloc();
     for call in 0..250u64 {
         let mut input = added(alloc)?;
@@ -31,7 +31,7 @@ fn each_read_may_fail(rt: HostRuntime) -> Result<(), Fail> {
         } else {
             (Status::Accepted, ADDED_REPORT)
         };
-        assert_answer(&rt, "a failed read", &answer, status, report);
+        assert_answer(&rt, "a failing read", &answer, status, report);
     }
     Ok(())
 }
@@ -43,7 +43,7 @@ const BEFORE_A_FAILED_READ: [(&[u8], Status, &[u8]); 2] = [
 ];
 
 #[test]
-fn a_fault_is_told_though_the_next_read_fails(rt: HostRuntime) -> Result<(), Fail> {
+fn a_failed_read_is_told_unless_a_fault_stands_before_it(rt: HostRuntime) -> Result<(), Fail> {
     let alloc = rt.alloc();
     for (records, status, report) in BEFORE_A_FAILED_READ {
         let mut input = COUNTER.to_vec(alloc)?;
@@ -64,7 +64,7 @@ fn a_fault_is_told_though_the_next_read_fails(rt: HostRuntime) -> Result<(), Fai
 }
 
 #[test]
-fn each_write_may_fail(rt: HostRuntime) -> Result<(), Fail> {
+fn whichever_write_fails_what_was_written_before_it_stands(rt: HostRuntime) -> Result<(), Fail> {
     let alloc = rt.alloc();
     for call in 0..100usize {
         let mut input = added(alloc)?;
@@ -78,7 +78,7 @@ fn each_write_may_fail(rt: HostRuntime) -> Result<(), Fail> {
             Status::Accepted
         };
         let held = &ADDED_REPORT[..call.min(ADDED_REPORT.len())];
-        assert_answer(&rt, "a failed write", &answer, status, held);
+        assert_answer(&rt, "a failing write", &answer, status, held);
     }
     Ok(())
 }
@@ -98,7 +98,7 @@ fn a_failed_write_of_a_made_run_leaves_a_prefix(rt: HostRuntime) -> Result<(), F
 }
 
 #[test]
-fn a_source_and_a_sink_may_never_fail(rt: HostRuntime) -> Result<(), Fail> {
+fn devices_that_never_fail_carry_the_whole_report(rt: HostRuntime) -> Result<(), Fail> {
     let alloc = rt.alloc();
     let mut words = Words::new(alloc);
     words.push(b"certify")?;

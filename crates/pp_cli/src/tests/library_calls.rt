@@ -95,7 +95,7 @@ fn committed(rt: &impl Abort, alloc: Global) -> Result<Committed<Op>, Fail>
     Ok(committed)
 }
 
-/// Tries the serial run of these transactions, and the line of a state that it leaves.
+/// Tries the serial run of these transactions, and the lines of the states that it leaves.
 fn try_serial<L: Ledger>(rt: &impl Abort, alloc: Global, blank: Blank) -> Result<(), Fail>
     requires name { blank.name ≡ L.name }
     requires parts { blank.parts ≡ L.parts }
@@ -107,8 +107,10 @@ fn try_serial<L: Ledger>(rt: &impl Abort, alloc: Global, blank: Blank) -> Result
     let mut ticks = Ticks::<L>::new(blank);
     let (list, states) = serial::<Objects, L>(alloc, &kinds, &transactions, &mut ticks)?;
     assert_eq!(rt; list.as_slice(), [WRITES, ADDS].as_slice());
-    let line = state_line(alloc, &catalog, &states, 0)?;
-    assert_text(rt, &line, b"state m 3=9");
+    let memory = state_line(alloc, &catalog, &states, 0)?;
+    assert_text(rt, &memory, b"state m 3=9");
+    let counter = state_line(alloc, &catalog, &states, 1)?;
+    assert_text(rt, &counter, b"state c 4");
     Ok(())
 }
 

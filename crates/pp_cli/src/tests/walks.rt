@@ -1,4 +1,4 @@
-//! A step of a walk that no command takes. With ample memory, it does not answer that there is none.
+//! A step of a walk that no command takes. With ample memory, no call answers that there is none.
 use pp_body::Walk;
 use pp_core::{Body, Call, Method, Pattern};
 use std::test::Fail;
@@ -22,8 +22,11 @@ const CALL: Call = Call {
 };
 
 #[test]
-fn a_walk_that_is_given_up_takes_a_call(rt: HostRuntime) -> Result<(), Fail> {
+fn a_walk_is_complete_once_it_has_taken_the_one_call_of_its_body(
+    rt: HostRuntime,
+) -> Result<(), Fail> {
     let walk = Walk::start(rt.alloc(), Some(Body::Step(ADDITION)))?;
+    assert!(rt; !walk.complete());
     let begins = walk.can(&CALL);
     assert!(rt; begins);
     assert!(rt; walk.take(CALL)?.complete());

@@ -1,6 +1,6 @@
-use Rattle.std.proofs.Common.{◌≡◌, ap, arith, get_or}
+use Rattle.std.proofs.Common.{◌≡◌, ◌∙◌, ap, arith, get_or, sym}
+use Rattle.std.proofs.lemmas.List.{get_or_default, take_more_same}
 use Rattle.pp_views.proofs.Fronts.{in_there}
-use Rattle.pp_views.proofs.LiningUp.{share_more}
 use Rattle.pp_views.proofs.order.common.Goals as goal
 
 pub loop-count-preserved : goal.loop-count-preserved
@@ -16,6 +16,6 @@ loop-count-preserved g c =
     let right = c.if-count-b.true in
     let same : x ≡ y = c.requires x y (in_there xs n x left x_is) (in_there ys n y right y_is) c.if-a-count.true in
     record {
-      share = share_more n xs ys x y left right x_is y_is same c.loop-count.invariant.share;
+      share = take_more_same xs ys n x left right c.loop-count.invariant.share (sym x_is ∙ same ∙ y_is ∙ get_or_default ys n y x right);
       within = omega (arith, left);
     }

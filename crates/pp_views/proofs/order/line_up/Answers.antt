@@ -1,19 +1,12 @@
-use Rattle.std.proofs.Common.{◌≡◌, [], ◌∷◌, ◌++◌, ℕ, List, length, map, ap, subst, sym, ◌∙◌, arith, get_or, refl}
-use Rattle.std.proofs.lemmas.List.{take_all}
+use Rattle.std.proofs.Common.{◌≡◌, ◌-◌, ◌++◌, ◌∷◌, [], List, arith, drop, get_or, length, rules, take}
+use Rattle.std.proofs.Common.{ap, subst, sym, ◌∙◌, refl}
+use Rattle.std.proofs.lemmas.List.{length-drop, take_all}
 use Rattle.pp_model.specs.Lists.{In}
-use Rattle.pp_model.specs.Object.{Item}
-use Rattle.pp_views.specs.Trying.{AreAlikeTo, ArePlaces, Candidate, Share, StandsAt, places_of}
+use Rattle.pp_model.specs.Object.{Item, ops}
+use Rattle.pp_views.specs.Trying.{AreAlikeTo, Candidate, Share, StandsAt}
 use Rattle.pp_views.proofs.Fronts.{in_there}
-use Rattle.pp_views.proofs.LiningUp.{alike_more, place_within, places_more}
+use Rattle.pp_views.proofs.LiningUp.{alike_more, place_within, places_more, rests_more}
 use Rattle.pp_views.proofs.order.line_up.Goals as goal
-
-pub loop-place-init : goal.loop-place-init
-loop-place-init g c = record {
-  within = omega arith;
-  places = ap (λ w. places_of w) c.new-candidates.ensures.items;
-  alike = λ n ys share. subst (λ w. AreAlikeTo c.args.peaks.now [] w n ys) (sym c.new-candidates.ensures.items) share;
-  among = λ i none. absurd none;
-}
 
 pub offset_bounds-peaks-place : goal.offset_bounds-peaks-place
 offset_bounds-peaks-place g c =
@@ -25,8 +18,8 @@ pub bounds-peaks-place : goal.bounds-peaks-place
 bounds-peaks-place g c =
     place_within c.args.peaks.now c.deref-place-items.result.now c.in_ok-order.order.items c.loop-place.place-index c.loop-place-test.true c.deref-place-items.ensures.value c.in_ok-order.ensures
 
-pub common-requires : goal.common-requires
-common-requires g c = λ i j m n same.
+pub common-shared-requires : goal.common-shared-requires
+common-shared-requires g c = λ i j m n same.
     let ps = c.args.peaks.now in
     let p = c.index-peaks-place.result in
     let within = place_within ps c.deref-place-items.result.now c.in_ok-order.order.items c.loop-place.place-index c.loop-place-test.true c.deref-place-items.ensures.value c.in_ok-order.ensures in
@@ -39,30 +32,30 @@ loop-place-preserved g c =
     let ps = c.args.peaks.now in
     let os = c.deref-place-items.result.now in
     let k = c.loop-place.place-index in
-    let cs = c.loop-place.candidates.items in
+    let line = c.loop-place.line in
+    let cs = line.candidates.items in
     let p = c.index-peaks-place.result in
     let place = (get_or os k (0, 0)).1 in
     let within = place_within ps os c.in_ok-order.order.items k c.loop-place-test.true c.deref-place-items.ensures.value c.in_ok-order.ensures in
     let there : StandsAt ps place p = (within, c.index-peaks-place.is) in
     let as_items = c.as_slice-items.ensures ∙ ap (λ x. x.ops) (sym c.index-peaks-place.is) in
-    let one : Candidate = record { place = place; shared = c.common.result } in
+    let shared = c.common-shared.result in
+    let items = c.as_slice-items.result.now in
+    let m : List _ = ops (take (length items - shared) (drop shared items)) in
+    let one : Candidate = record { place = place; shared = shared; from = c.len-from.result; to = c.len.result } in
     let pushed : c.push.new.self.items ≡ cs ++ one ∷ [] = c.in_ok-push.ensures.items in
-    let share : Share c.common.result c.loop-place.before.now p.ops = subst (λ (w : List (Item _)). Share c.common.result c.loop-place.before.now w) as_items c.common.ensures in
+    let share : Share shared c.loop-place.before.now p.ops = subst (λ (w : List (Item _)). Share shared c.loop-place.before.now w) as_items c.common-shared.ensures.share in
+    let from : c.len-from.result ≡ length line.ops.items = search rules in
+    let end : c.len.result ≡ length c.add_ops.new.list.items = search rules in
+    let short = c.common-shared.ensures.within in
+    let long = ap (λ (w : List (Item _)). length w) as_items in
     record {
       within = omega (arith, c.loop-place-test.true);
       places = places_more os cs c.push.new.self.items k one c.loop-place-test.true refl pushed c.loop-place.invariant.places;
       alike = λ n ys more. subst (λ w. AreAlikeTo ps [] w n ys) (sym pushed)
-          (alike_more ps [] cs one p n ys there (c.loop-place.invariant.alike c.common.result p.ops share) (subst (λ (w : List (Item _)). Share n w ys) as_items more));
+          (alike_more ps [] cs one p n ys there (c.loop-place.invariant.alike shared p.ops share) (subst (λ (w : List (Item _)). Share n w ys) as_items more));
+      rests = rests_more ps line.ops.items m c.add_ops.new.list.items cs c.push.new.self.items one p c.loop-place.invariant.rests c.in_ok-add_ops.ensures pushed there
+          (omega (arith, short, long)) from end
+          (ap (λ (w : List (Item _)). ops w) (take_all (length items - shared) (drop shared items) (omega (arith, length-drop shared items))) ∙ ap (λ (w : List (Item _)). ops (drop shared w)) as_items);
       among = λ i n. (p, in_there ps place p within c.index-peaks-place.is, subst (λ (w : List (Item _)). In i w) as_items n);
     }
-
-pub returns-clause-places : goal.returns-clause-places
-returns-clause-places g c =
-    let ps = c.args.peaks.now in
-    let os = c.deref-place-items.result.now in
-    let same : places_of c.loop-place.candidates.items ≡ map (λ o. o.1) c.in_ok-order.order.items =
-    c.loop-place.invariant.places ∙ ap (λ w. map (λ o. o.1) w) (take_all c.loop-place.place-index os (omega (arith, c.loop-place-test.false)) ∙ c.deref-place-items.ensures.value) in
-    subst (λ (w : List ℕ). ArePlaces ps (length ps) w) (sym same) c.in_ok-order.ensures
-
-pub returns-clause-alike : goal.returns-clause-alike
-returns-clause-alike g c = c.loop-place.invariant.alike 0 [] refl

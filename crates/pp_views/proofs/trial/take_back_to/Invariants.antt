@@ -1,15 +1,16 @@
-use Rattle.std.proofs.Common.{◌≡◌, ◌≤◌, ◌+◌, length}
-use Rattle.pp_views.specs.Trying.{IsApplied, MayBeTriedFrom}
+use Rattle.std.proofs.Common.{◌≡◌, ◌+◌, ◌≤◌, length, take}
+use Rattle.pp_views.specs.Trying.{MayFollow, Stands, applied}
 use Rattle.pp_views.proofs.trial.take_back_to.Given as goal
 
-abbrev pub invariant-loop-undos : goal.invariant-loop-undos
-invariant-loop-undos g l = record {
-  back : (s : _) → MayBeTriedFrom g.S.Spec.object s l.items
-      → IsApplied g.S.Spec.object s l.items l.fn.undos.items l.fn.state
-      → IsApplied g.S.Spec.object s l.items l.undos.items l.state;
-  fewer : length l.undos.items ≤ length l.fn.undos.items;
-  cost : l.ticks + length l.undos.items ≡ l.fn.ticks + length l.fn.undos.items;
+abbrev pub invariant-loop-done : goal.invariant-loop-done
+invariant-loop-done g l = record {
+  stands : (s : _) → MayFollow g.S.Spec.object s (applied l.fn.done.items)
+      → Stands g.S.Spec.object s l.fn.done.items l.fn.state
+      → MayFollow g.S.Spec.object s (applied l.done.items) × Stands g.S.Spec.object s l.done.items l.state;
+  first : take l.len l.done.items ≡ take l.len l.fn.done.items;
+  cost : l.ticks + length l.done.items ≡ l.fn.ticks + length l.fn.done.items;
+  rises : l.fn.ticks ≤ l.ticks;
 }
 
-abbrev pub decreases-loop-undos : goal.decreases-loop-undos
-decreases-loop-undos g l = length l.undos.items
+abbrev pub decreases-loop-done : goal.decreases-loop-done
+decreases-loop-done g l = length l.done.items

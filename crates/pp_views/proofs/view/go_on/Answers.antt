@@ -1,7 +1,10 @@
-use Rattle.std.proofs.Common.{◌<◌, ◌≤◌, length, arith}
+use Rattle.std.proofs.Common.{◌<◌, ◌+◌, drop, length, arith, subst, sym, take}
+use Rattle.std.proofs.lemmas.List.{take-append-drop}
 use Rattle.pp_model.specs.Object.{ops}
 use Rattle.pp_views.proofs.Fronts.{length-ops, op_at}
-use Rattle.pp_views.proofs.Trails.{reached_there, ranged_at, would_be_legal}
+use Rattle.pp_views.specs.Trying.{MayFollow}
+use Rattle.pp_views.proofs.Fronts.{cut_there}
+use Rattle.pp_views.proofs.Trails.{next_ranged, reached_there, would_be_legal}
 use Rattle.pp_views.proofs.Viewing.{trail_of, state_next, state_whole}
 use Rattle.pp_views.proofs.view.go_on.Goals as goal
 
@@ -20,15 +23,18 @@ apply-requires-clause-ranged g c =
     let i = c.loop-entry.entry-index in
     let p = c.entry-item.result in
     let there : i < length (ops l) = omega (arith, length-ops l, c.loop-entry-test.true) in
-    ranged_at g.S.Spec.object (ops l) i p.op c.requires.may.may.ranged there (op_at l i p c.loop-entry-test.true c.entry-item.is)
+    let a = p.op in
+    let trail = trail_of g.S.Spec.object c.args.state.now c.loop-entry.state (ops l) i c.requires.allowed c.loop-entry.invariant.leads in
+    next_ranged g.S.Spec.object g.met.S.Spec.lawful c.args.state.now c.loop-entry.state (take i (ops l)) (drop (i + 1) (ops l)) a _
+    (subst (λ w. MayFollow g.S.Spec.object c.args.state.now w) (cut_there (ops l) i a there (op_at l i p c.loop-entry-test.true c.entry-item.is)) c.requires.may) trail
 
 pub apply-requires-clause-reached : goal.apply-requires-clause-reached
 apply-requires-clause-reached g c =
     let l = c.args.entries.now in
     let i = c.loop-entry.entry-index in
-    let within : i ≤ length l = omega (arith, c.loop-entry-test.true) in
-    reached_there g.S.Spec.object g.met.S.Spec.lawful c.args.state.now c.loop-entry.state l i _ c.requires.may
-    (trail_of g.S.Spec.object c.args.state.now c.loop-entry.state (ops l) i c.requires.allowed c.loop-entry.invariant.leads) within
+    reached_there g.S.Spec.object g.met.S.Spec.lawful c.args.state.now c.loop-entry.state (take i (ops l)) (drop i (ops l)) _
+    (subst (λ w. MayFollow g.S.Spec.object c.args.state.now w) (sym (take-append-drop i (ops l))) c.requires.may)
+    (trail_of g.S.Spec.object c.args.state.now c.loop-entry.state (ops l) i c.requires.allowed c.loop-entry.invariant.leads)
 
 pub unreachable-requires : goal.unreachable-requires
 unreachable-requires g c =

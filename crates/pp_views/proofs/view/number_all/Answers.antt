@@ -1,52 +1,101 @@
-use Rattle.std.proofs.Common.{◌≡◌, ◌≤◌, ◌+◌, [], List, length, take, arith, rules, subst, sym, ap, ◌∙◌, refl}
+use Rattle.std.proofs.Common.{◌≡◌, ◌≤◌, ◌+◌, List, length, take, arith, rules, subst, sym, ap, ◌∙◌, refl}
 use Rattle.std.proofs.lemmas.List.{length-append}
 use Rattle.pp_model.specs.Object.{Item, ops}
 use Rattle.pp_model.specs.Sound.{serial_ops}
 use Rattle.pp_spec.specs.Object.{rules_of, state_from, AllowedFrom}
 use Rattle.pp_views.specs.Peaks.{operations}
-use Rattle.pp_views.specs.Trying.{IsStateAt, MayBeTriedFrom}
-use Rattle.pp_views.specs.Views.{IsViewBelow, Pairwise}
+use Rattle.pp_views.specs.Trying.{AreCandidates, IsStateAt, IsUntried, MayFollow}
+use Rattle.pp_views.specs.Views.{IsViewBelow, Pairwise, View}
 use Rattle.pp_views.proofs.Fronts.{length-ops}
-use Rattle.pp_views.proofs.Leaving.{all_numbered}
-use Rattle.pp_views.proofs.Viewing.{cost_so_far, first_state, may_alone, may_be_tried_there, next_allowed}
-use Rattle.pp_views.proofs.Viewing.{next_may, next_state, one_round_more, pairwise_long, serial_next, serial_within}
+use Rattle.pp_views.proofs.Leaving.{all_numbered, first_line}
+use Rattle.pp_views.proofs.Rounds.{may_be_numbered}
+use Rattle.pp_views.proofs.Viewing.{cost_so_far, first_state, next_allowed, next_may, next_state, one_round_more, pairwise_as, pairwise_long}
+use Rattle.pp_views.proofs.Viewing.{serial_next, serial_within, untried_below}
+use Rattle.pp_views.proofs.view.number_all.Goals.{then-numbered+in_ok-line-2, else-numbered}
 use Rattle.pp_views.proofs.view.number_all.Goals as goal
 
-pub start_all-requires-clause-may : goal.start_all-requires-clause-may
-start_all-requires-clause-may g c = λ p i.
-    may_alone g.S.Spec.object c.args.shape.now (length (serial_ops c.args.committed.now)) p.ops (c.requires.runs.may p i)
+-- ---- before any transaction
+
+pub try_all-requires-clause-line : goal.try_all-requires-clause-line
+try_all-requires-clause-line g c =
+    let o = g.S.Spec.object in
+    let ps = c.args.peaks.now in
+    let vs = c.args.views.now.items in
+    let long = pairwise_long IsUntried ps vs c.requires.untried in (
+      ps,
+      may_be_numbered o c.args.shape.now c.args.committed.now 0 c.in_ok-state.state
+          (first_state o g.met.S.Spec.lawful c.args.shape.now c.args.committed.now c.in_ok-state.state c.in_ok-state.ensures) ps c.requires.runs vs c.in_ok-line.line long
+          (first_line ps vs c.in_ok-line.line long c.in_ok-line.ensures),
+    )
+
+pub returns-in_err-numbered-clause-bound : goal.returns-in_err-numbered-clause-bound
+returns-in_err-numbered-clause-bound g c =
+    let o = g.S.Spec.object in
+    let D = c.args.committed.now in
+    let ps = c.args.peaks.now in
+    let vs = c.args.views.now.items in
+    let long = pairwise_long IsUntried ps vs c.requires.untried in
+    let bound = c.in_err-numbered.ensures.bound ps (may_be_numbered o c.args.shape.now D 0 c.in_ok-state.state
+    (first_state o g.met.S.Spec.lawful c.args.shape.now D c.in_ok-state.state c.in_ok-state.ensures) ps c.requires.runs vs c.in_ok-line.line long
+    (first_line ps vs c.in_ok-line.line long c.in_ok-line.ensures)) in
+    cost_so_far c.args.ticks.now c.try_all.new.ticks 0 (length (serial_ops D)) 0 (length D) (operations ps) (omega (arith, bound)) (omega arith) (omega arith)
 
 pub loop-transaction-init : goal.loop-transaction-init
 loop-transaction-init g c =
-    let rises = c.in_ok-start.ensures.rises in
-    let bound = c.in_ok-start.ensures.bound in
+    let o = g.S.Spec.object in
+    let D = c.args.committed.now in
+    let O = rules_of o c.args.shape.now in
+    let ps = c.args.peaks.now in
+    let vs = c.args.views.now.items in
+    let long = pairwise_long IsUntried ps vs c.requires.untried in
+    let at = first_state o g.met.S.Spec.lawful c.args.shape.now D c.in_ok-state.state c.in_ok-state.ensures in
+    let may = may_be_numbered o c.args.shape.now D 0 c.in_ok-state.state at ps c.requires.runs vs c.in_ok-line.line long (first_line ps vs c.in_ok-line.line long c.in_ok-line.ensures) in
+    let rises = c.in_ok-numbered.ensures.rises in
+    let bound = c.in_ok-numbered.ensures.bound ps may in
     record {
       number = refl;
-      state = first_state g.S.Spec.object g.met.S.Spec.lawful c.args.shape.now c.args.committed.now c.in_ok-start.start c.in_ok-start.ensures.state;
-      views = c.in_ok-start.ensures.tried c.args.committed.now;
-      left = c.in_ok-start.ensures.left;
+      state = subst (λ s. IsStateAt o c.args.shape.now D 0 s) (sym c.in_ok-numbered.ensures.same) at;
+      empty = c.in_ok-numbered.ensures.empty;
+      views = c.in_ok-numbered.ensures.tried ps c.args.shape.now D may at (pairwise_as IsUntried (IsViewBelow 0 O D) (untried_below O D) ps vs c.requires.untried);
+      line = c.in_ok-numbered.ensures.line ps may;
       rises = rises;
       cost = omega (arith, bound);
     }
 
--- ---- each view has a number
+-- ---- the peaks that have no number
+
+pub without_numbered-requires-clause-long : goal.without_numbered-requires-clause-long
+without_numbered-requires-clause-long g c =
+    ap (λ (w : List View). length w) c.as_slice.ensures.value ∙ pairwise_long _ c.args.peaks.now c.loop-transaction.views.items c.loop-transaction.invariant.views
+
+pub returns-in_err-line-2-clause-bound : goal.returns-in_err-line-2-clause-bound
+returns-in_err-line-2-clause-bound g c =
+    let D = c.args.committed.now in
+    let i = c.loop-transaction.transaction-index in
+    cost_so_far c.args.ticks.now c.loop-transaction.ticks (length (serial_ops (take i D))) (length (serial_ops D)) i (length D) (operations c.args.peaks.now)
+    c.loop-transaction.invariant.cost (serial_within D i) (omega (arith, c.loop-transaction-test.true))
 
 pub returns-then-len-eq0-clause-views : goal.returns-then-len-eq0-clause-views
 returns-then-len-eq0-clause-views g c =
     let D = c.args.committed.now in
+    let ps = c.args.peaks.now in
+    let vs = c.loop-transaction.views.items in
     let i = c.loop-transaction.transaction-index in
-    let empty : length c.loop-transaction.left.items ≡ 0 = let len : c.len.result ≡ length c.loop-transaction.left.items = search rules in sym len ∙ c.if-len-eq0.true in
+    let line : AreCandidates ps vs c.if-numbered.line = elim c.if-numbered.branch [
+      | then-numbered+in_ok-line-2 w ↦
+          subst (λ l. AreCandidates ps vs l) (sym w.line-is) (subst (λ (v : List View). AreCandidates ps v w.in_ok-line-2.line) w.as_slice.ensures.value w.in_ok-line-2.ensures)
+      | else-numbered w ↦ subst (λ l. AreCandidates ps vs l) (sym w.line-is) c.loop-transaction.invariant.line
+    ] in
+    let empty : length c.if-numbered.line.candidates.items ≡ 0 = let len : c.len.result ≡ length c.if-numbered.line.candidates.items = search rules in sym len ∙ c.if-len-eq0.true in
     let le : i + 1 ≤ length D + 1 = omega (arith, c.loop-transaction-test.true) in
-    all_numbered g.S.Spec.object c.args.peaks.now c.args.shape.now D (i + 1) (length D + 1) c.loop-transaction.views.items c.loop-transaction.left.items empty le
-    c.loop-transaction.invariant.left.unnumbered c.loop-transaction.invariant.views
+    all_numbered g.S.Spec.object ps c.args.shape.now D (i + 1) (length D + 1) vs c.if-numbered.line empty le line c.loop-transaction.invariant.views
 
 pub returns-then-len-eq0-clause-bound : goal.returns-then-len-eq0-clause-bound
 returns-then-len-eq0-clause-bound g c =
     let D = c.args.committed.now in
     let i = c.loop-transaction.transaction-index in
-    let le : i ≤ length D = omega (arith, c.loop-transaction-test.true) in
     cost_so_far c.args.ticks.now c.loop-transaction.ticks (length (serial_ops (take i D))) (length (serial_ops D)) i (length D) (operations c.args.peaks.now)
-    c.loop-transaction.invariant.cost (serial_within D i) le
+    c.loop-transaction.invariant.cost (serial_within D i) (omega (arith, c.loop-transaction-test.true))
 
 -- ---- a transaction
 
@@ -54,7 +103,7 @@ pub try_behind-requires-clause-goes_on : goal.try_behind-requires-clause-goes_on
 try_behind-requires-clause-goes_on g c =
     let o = g.S.Spec.object in
     let d = c.transaction-item.result in
-    subst (λ (w : List (Item _)). MayBeTriedFrom o c.loop-transaction.state w) (sym c.as_slice-entries.ensures)
+    subst (λ (w : List (Item _)). MayFollow o c.loop-transaction.state (ops w)) (sym c.as_slice-entries.ensures)
     (next_may o c.args.shape.now c.args.committed.now c.loop-transaction.transaction-index c.loop-transaction.state c.loop-transaction.invariant.state
     g.met.S.Spec.lawful d c.loop-transaction-test.true c.transaction-item.is c.requires.runs.allowed c.requires.runs.ranged c.requires.runs.few)
 
@@ -66,72 +115,88 @@ try_behind-requires-clause-allowed g c =
     (next_allowed o c.args.shape.now c.args.committed.now c.loop-transaction.transaction-index c.loop-transaction.state c.loop-transaction.invariant.state
     g.met.S.Spec.lawful d c.loop-transaction-test.true c.transaction-item.is c.requires.runs.allowed c.requires.runs.ranged)
 
-pub try_behind-requires-clause-reached : goal.try_behind-requires-clause-reached
-try_behind-requires-clause-reached g c =
+pub try_behind-requires-clause-line : goal.try_behind-requires-clause-line
+try_behind-requires-clause-line g c =
     let o = g.S.Spec.object in
-    let d = c.transaction-item.result in
-    let s = state_from o c.loop-transaction.state (ops c.as_slice-entries.result.now) in
-    let at = next_state o c.args.shape.now c.args.committed.now c.loop-transaction.transaction-index c.loop-transaction.state c.loop-transaction.invariant.state
-    g.met.S.Spec.lawful d c.loop-transaction-test.true c.transaction-item.is c.requires.runs.allowed c.requires.runs.ranged s
-    (ap (λ (w : List (Item _)). state_from o c.loop-transaction.state (ops w)) c.as_slice-entries.ensures) in
-    let few = c.requires.runs.few in
-    may_be_tried_there o c.args.shape.now c.args.committed.now (c.loop-transaction.transaction-index + 1) s at [] (record { fit = tt; ranged = tt; few = omega (arith, few) })
-
-pub try_behind-requires-clause-may : goal.try_behind-requires-clause-may
-try_behind-requires-clause-may g c = λ p i.
-    let o = g.S.Spec.object in
-    let d = c.transaction-item.result in
-    let s = state_from o c.loop-transaction.state (ops c.as_slice-entries.result.now) in
-    let at = next_state o c.args.shape.now c.args.committed.now c.loop-transaction.transaction-index c.loop-transaction.state c.loop-transaction.invariant.state
-    g.met.S.Spec.lawful d c.loop-transaction-test.true c.transaction-item.is c.requires.runs.allowed c.requires.runs.ranged s
-    (ap (λ (w : List (Item _)). state_from o c.loop-transaction.state (ops w)) c.as_slice-entries.ensures) in
-    may_be_tried_there o c.args.shape.now c.args.committed.now (c.loop-transaction.transaction-index + 1) s at p.ops (c.requires.runs.may p i)
-
-pub try_behind-requires-clause-as_long : goal.try_behind-requires-clause-as_long
-try_behind-requires-clause-as_long g c = pairwise_long _ c.args.peaks.now c.loop-transaction.views.items c.loop-transaction.invariant.views
-
-pub returns-in_err-left-clause-bound : goal.returns-in_err-left-clause-bound
-returns-in_err-left-clause-bound g c =
     let D = c.args.committed.now in
+    let ps = c.args.peaks.now in
+    let vs = c.loop-transaction.views.items in
     let i = c.loop-transaction.transaction-index in
     let d = c.transaction-item.result in
-    let there = c.loop-transaction-test.true in
-    let cost = c.loop-transaction.invariant.cost in
-    let more = c.in_err-left.ensures.bound in
+    let s = state_from o c.loop-transaction.state (ops c.as_slice-entries.result.now) in
+    let at = next_state o c.args.shape.now D i c.loop-transaction.state c.loop-transaction.invariant.state
+    g.met.S.Spec.lawful d c.loop-transaction-test.true c.transaction-item.is c.requires.runs.allowed c.requires.runs.ranged s
+    (ap (λ (w : List (Item _)). state_from o c.loop-transaction.state (ops w)) c.as_slice-entries.ensures) in
+    let line : AreCandidates ps vs c.if-numbered.line = elim c.if-numbered.branch [
+      | then-numbered+in_ok-line-2 w ↦
+          subst (λ l. AreCandidates ps vs l) (sym w.line-is) (subst (λ (v : List View). AreCandidates ps v w.in_ok-line-2.line) w.as_slice.ensures.value w.in_ok-line-2.ensures)
+      | else-numbered w ↦ subst (λ l. AreCandidates ps vs l) (sym w.line-is) c.loop-transaction.invariant.line
+    ] in
+    let may = may_be_numbered o c.args.shape.now D (i + 1) s at ps c.requires.runs vs c.if-numbered.line (pairwise_long _ ps vs c.loop-transaction.invariant.views) line in
+    (ps, may)
+
+pub returns-in_err-numbered-2-clause-bound : goal.returns-in_err-numbered-2-clause-bound
+returns-in_err-numbered-2-clause-bound g c =
+    let o = g.S.Spec.object in
+    let D = c.args.committed.now in
+    let ps = c.args.peaks.now in
+    let vs = c.loop-transaction.views.items in
+    let i = c.loop-transaction.transaction-index in
+    let d = c.transaction-item.result in
+    let s = state_from o c.loop-transaction.state (ops c.as_slice-entries.result.now) in
+    let at = next_state o c.args.shape.now D i c.loop-transaction.state c.loop-transaction.invariant.state
+    g.met.S.Spec.lawful d c.loop-transaction-test.true c.transaction-item.is c.requires.runs.allowed c.requires.runs.ranged s
+    (ap (λ (w : List (Item _)). state_from o c.loop-transaction.state (ops w)) c.as_slice-entries.ensures) in
+    let line : AreCandidates ps vs c.if-numbered.line = elim c.if-numbered.branch [
+      | then-numbered+in_ok-line-2 w ↦
+          subst (λ l. AreCandidates ps vs l) (sym w.line-is) (subst (λ (v : List View). AreCandidates ps v w.in_ok-line-2.line) w.as_slice.ensures.value w.in_ok-line-2.ensures)
+      | else-numbered w ↦ subst (λ l. AreCandidates ps vs l) (sym w.line-is) c.loop-transaction.invariant.line
+    ] in
+    let may = may_be_numbered o c.args.shape.now D (i + 1) s at ps c.requires.runs vs c.if-numbered.line (pairwise_long _ ps vs c.loop-transaction.invariant.views) line in
     let long = ap (λ (w : List (Item _)). length w) c.as_slice-entries.ensures in
-    let next = ap (λ (w : List _). length w) (serial_next D i d there c.transaction-item.is) ∙ length-append (serial_ops (take i D)) (ops d.entries) in
-    cost_so_far c.args.ticks.now c.try_behind.new.ticks (length (serial_ops (take (i + 1) D))) (length (serial_ops D)) (i + 1) (length D) (operations c.args.peaks.now)
-    (omega (arith, cost, more, long, next, length-ops d.entries, one_round_more i (operations c.args.peaks.now))) (serial_within D (i + 1)) (omega (arith, there))
+    let next = ap (λ (w : List _). length w) (serial_next D i d c.loop-transaction-test.true c.transaction-item.is) ∙ length-append (serial_ops (take i D)) (ops d.entries) in
+    let so_far = c.loop-transaction.invariant.cost in
+    let more = c.in_err-numbered-2.ensures.bound ps may in
+    cost_so_far c.args.ticks.now c.try_behind.new.ticks (length (serial_ops (take (i + 1) D))) (length (serial_ops D)) (i + 1) (length D) (operations ps)
+    (omega (arith, so_far, more, long, next, length-ops d.entries, one_round_more i (operations ps))) (serial_within D (i + 1)) (omega (arith, c.loop-transaction-test.true))
 
 pub loop-transaction-preserved : goal.loop-transaction-preserved
 loop-transaction-preserved g c =
     let o = g.S.Spec.object in
     let D = c.args.committed.now in
+    let ps = c.args.peaks.now in
+    let vs = c.loop-transaction.views.items in
     let i = c.loop-transaction.transaction-index in
     let d = c.transaction-item.result in
-    let there = c.loop-transaction-test.true in
-    let cost = c.loop-transaction.invariant.cost in
-    let rises = c.loop-transaction.invariant.rises in
-    let number = c.loop-transaction.invariant.number in
-    let more = c.in_ok-left.ensures.bound in
-    let higher = c.in_ok-left.ensures.rises in
-    let long = ap (λ (w : List (Item _)). length w) c.as_slice-entries.ensures in
-    let next = ap (λ (w : List _). length w) (serial_next D i d there c.transaction-item.is) ∙ length-append (serial_ops (take i D)) (ops d.entries) in
     let s = state_from o c.loop-transaction.state (ops c.as_slice-entries.result.now) in
     let at = next_state o c.args.shape.now D i c.loop-transaction.state c.loop-transaction.invariant.state
-    g.met.S.Spec.lawful d there c.transaction-item.is c.requires.runs.allowed c.requires.runs.ranged s
+    g.met.S.Spec.lawful d c.loop-transaction-test.true c.transaction-item.is c.requires.runs.allowed c.requires.runs.ranged s
     (ap (λ (w : List (Item _)). state_from o c.loop-transaction.state (ops w)) c.as_slice-entries.ensures) in
+    let line : AreCandidates ps vs c.if-numbered.line = elim c.if-numbered.branch [
+      | then-numbered+in_ok-line-2 w ↦
+          subst (λ l. AreCandidates ps vs l) (sym w.line-is) (subst (λ (v : List View). AreCandidates ps v w.in_ok-line-2.line) w.as_slice.ensures.value w.in_ok-line-2.ensures)
+      | else-numbered w ↦ subst (λ l. AreCandidates ps vs l) (sym w.line-is) c.loop-transaction.invariant.line
+    ] in
+    let may = may_be_numbered o c.args.shape.now D (i + 1) s at ps c.requires.runs vs c.if-numbered.line (pairwise_long _ ps vs c.loop-transaction.invariant.views) line in
+    let long = ap (λ (w : List (Item _)). length w) c.as_slice-entries.ensures in
+    let next = ap (λ (w : List _). length w) (serial_next D i d c.loop-transaction-test.true c.transaction-item.is) ∙ length-append (serial_ops (take i D)) (ops d.entries) in
+    let so_far = c.loop-transaction.invariant.cost in
+    let rises = c.loop-transaction.invariant.rises in
+    let number = c.loop-transaction.invariant.number in
+    let more = c.in_ok-numbered-2.ensures.bound ps may in
+    let higher = c.in_ok-numbered-2.ensures.rises in
+    let O = rules_of o c.args.shape.now in
     let one : c.loop-transaction.number + 1 ≡ i + 1 = omega (arith, number) in
     record {
       number = one;
-      state = subst (λ w. IsStateAt o c.args.shape.now D (i + 1) w) (sym c.in_ok-left.ensures.state) at;
-      views = subst (λ n. Pairwise (IsViewBelow (n + 1) (rules_of o c.args.shape.now) D) c.args.peaks.now c.try_behind.new.views.items) one
-          (c.in_ok-left.ensures.tried c.args.shape.now D i one c.loop-transaction.invariant.state (subst (λ n. IsStateAt o c.args.shape.now D n s) (sym one) at)
-          (subst (λ n. Pairwise (IsViewBelow n (rules_of o c.args.shape.now) D) c.args.peaks.now c.loop-transaction.views.items) (sym one)
-          c.loop-transaction.invariant.views));
-      left = c.in_ok-left.ensures.left;
+      state = subst (λ w. IsStateAt o c.args.shape.now D (i + 1) w) (sym c.in_ok-numbered-2.ensures.state) at;
+      empty = c.in_ok-numbered-2.ensures.empty;
+      views = subst (λ n. Pairwise (IsViewBelow (n + 1) O D) ps c.try_behind.new.views.items) one
+          (c.in_ok-numbered-2.ensures.tried ps c.args.shape.now D i may one c.loop-transaction.invariant.state (subst (λ n. IsStateAt o c.args.shape.now D n s) (sym one) at)
+          (subst (λ n. Pairwise (IsViewBelow n O D) ps vs) (sym one) c.loop-transaction.invariant.views));
+      line = c.in_ok-numbered-2.ensures.line ps may;
       rises = omega (arith, rises, higher);
-      cost = omega (arith, cost, more, long, next, length-ops d.entries, one_round_more i (operations c.args.peaks.now));
+      cost = omega (arith, so_far, more, long, next, length-ops d.entries, one_round_more i (operations ps));
     }
 
 -- ---- all of them

@@ -3,7 +3,7 @@ use Rattle.std.proofs.lemmas.List.{map-append}
 use Rattle.std.proofs.lemmas.List.Sorted.{IsPermutation-map}
 use Rattle.pp_views.specs.Trying.{ArePlaces}
 use Rattle.pp_views.proofs.LiningUp.{one_place_more, places_permuted}
-use Rattle.pp_views.proofs.order.ordered.Goals as goal
+use Rattle.pp_views.proofs.order.by_first_id.Goals as goal
 
 pub loop-place-preserved : goal.loop-place-preserved
 loop-place-preserved g c =
