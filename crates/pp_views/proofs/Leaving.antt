@@ -17,7 +17,7 @@ use Rattle.pp_views.specs.Trying.{AreApart, AreCandidates, Candidate, HasRest, I
 use Rattle.pp_views.specs.Trying.{length_at, places_of}
 use Rattle.pp_views.specs.Views.{Explains, IsLeastBelow, IsViewBelow, Pairwise, View}
 use Rattle.pp_views.proofs.Fronts.{in_default}
-use Rattle.pp_views.proofs.LiningUp.{alike_or_not, apart_more, in_last, length_there, nobody, stand_same}
+use Rattle.pp_views.proofs.LiningUp.{alike_or_not, apart_more, in_last, length_there, nobody, some_stands, stand_same}
 use Rattle.pp_views.proofs.Viewing.{below_next, explains_there, pairwise_as, pairwise_long}
 
 -- ---- what stands at a place
@@ -128,9 +128,10 @@ module _ {Shape State Op Undo : Type 0} (o : Object Shape State Op Undo) (ps : L
 
   -- ---- a round, while the peaks at the places are tried
 
-  -- behind some places: those at `rest` are to be tried
+  -- Some were tried, and those at the places `rest` were not yet: their views are as they were, as is
+  -- each that has no number; and each other view tells the least number, this one included.
   module _ (number : ℕ) (state : State) (old : List View) where
-    pub record IsRound (views : List View) (rest : List ℕ) : Type 0 where
+    pub record AreViewsSoFar (views : List View) (rest : List ℕ) : Type 0 where
       pub long : length views ≡ length old
       pub apart : AreApart rest
       pub same : (i : ℕ) (v : View) → In i rest → StandsAt views i v → StandsAt old i v
@@ -138,7 +139,7 @@ module _ {Shape State Op Undo : Type 0} (o : Object Shape State Op Undo) (ps : L
       pub done : (shape : Shape) (D : List (CommittedTx Op)) → IsStateAt o shape D number state → Pairwise (IsViewBelow number (rules_of o shape) D) ps old
           → (i : ℕ) (p : Peak Op) (v : View) → StandsAt ps i p → StandsAt views i v → (In i rest → ⊥) → IsViewBelow (number + 1) (rules_of o shape) D p v
 
-    pub none_tried : (line : Line Op) → AreCandidates ps old line → IsRound old (places_of line.candidates.items)
+    pub none_tried : (line : Line Op) → AreCandidates ps old line → AreViewsSoFar old (places_of line.candidates.items)
     none_tried line h = record {
       long = refl;
       apart = h.apart;
@@ -149,23 +150,13 @@ module _ {Shape State Op Undo : Type 0} (o : Object Shape State Op Undo) (ps : L
           record { tx = now.tx; ops = now.ops; after = kept number (Explains (rules_of o shape) D p.ops) v.after (λ none. out (h.all i v t none)) now.after };
     }
 
-    pub round_done : (views : List View) → length old ≡ length ps → IsRound views [] → (shape : Shape) (D : List (CommittedTx Op)) → IsStateAt o shape D number state
+    pub round_done : (views : List View) → length old ≡ length ps → AreViewsSoFar views [] → (shape : Shape) (D : List (CommittedTx Op)) → IsStateAt o shape D number state
         → Pairwise (IsViewBelow number (rules_of o shape) D) ps old → Pairwise (IsViewBelow (number + 1) (rules_of o shape) D) ps views
     round_done views count h shape D at before =
         pairwise_from (IsViewBelow (number + 1) (rules_of o shape) D) ps views (h.long ∙ count) (λ i p v s t. h.done shape D at before i p v s t (λ never. never))
 
-    pub still_candidates : (views : List View) (line : Line Op) → IsRound views [] → AreCandidates ps old line → AreCandidates ps views line
-    still_candidates views line h cs = record {
-      apart = cs.apart;
-      within = cs.within;
-      all = λ i v s none. cs.all i v (h.left i v s none) none;
-      alike = cs.alike;
-      rests = cs.rests;
-      cost = cs.cost;
-    }
-
     -- one place on
-    module _ (views : List View) (j : ℕ) (rest : List ℕ) (p : Peak Op) (v : View) (h : IsRound views (j ∷ rest)) (here : StandsAt ps j p) (now : StandsAt views j v) where
+    module _ (views : List View) (j : ℕ) (rest : List ℕ) (p : Peak Op) (v : View) (h : AreViewsSoFar views (j ∷ rest)) (here : StandsAt ps j p) (now : StandsAt views j v) where
       was_here : StandsAt old j v
       was_here = h.same j v (inl refl) now
 
@@ -177,7 +168,7 @@ module _ {Shape State Op Undo : Type 0} (o : Object Shape State Op Undo) (ps : L
 
       -- the view stays as it is, which is right
       stays : ((shape : Shape) (D : List (CommittedTx Op)) → IsStateAt o shape D number state → IsLeastBelow number (Explains (rules_of o shape) D p.ops) v.after
-          → IsLeastBelow (number + 1) (Explains (rules_of o shape) D p.ops) v.after) → IsRound views rest
+          → IsLeastBelow (number + 1) (Explains (rules_of o shape) D p.ops) v.after) → AreViewsSoFar views rest
       stays right = record {
         long = h.long;
         apart = (h.apart).1;
@@ -196,18 +187,18 @@ module _ {Shape State Op Undo : Type 0} (o : Object Shape State Op Undo) (ps : L
       }
 
       -- it has a number
-      pub one_numbered : (v.after ≡ None → ⊥) → IsRound views rest
+      pub one_numbered : (v.after ≡ None → ⊥) → AreViewsSoFar views rest
       one_numbered some = stays (λ shape D at was. kept number (Explains (rules_of o shape) D p.ops) v.after some was)
 
       -- this number does not explain the peak
-      pub one_left : (AllowedFrom o state (ops p.ops) → ⊥) → IsRound views rest
+      pub one_left : (AllowedFrom o state (ops p.ops) → ⊥) → AreViewsSoFar views rest
       one_left never = stays (λ shape D at was. not_found number (Explains (rules_of o shape) D p.ops) v.after was
           (λ explains. never ((explains_there o shape D number state at p.ops).0 explains)))
 
       -- this number explains it, and it had none
       pub one_found : (w : View) (ws : List View) → ws ≡ set views j w → w.tx ≡ v.tx → w.ops ≡ v.ops → w.after ≡ Some number → v.after ≡ None → AllowedFrom o state (ops p.ops)
-          → IsRound ws rest
-      one_found w ws written tx count found none allowed = subst (λ (us : List View). IsRound us rest) (sym written) (record {
+          → AreViewsSoFar ws rest
+      one_found w ws written tx count found none allowed = subst (λ (us : List View). AreViewsSoFar us rest) (sym written) (record {
         long = length-set views j w ∙ h.long;
         apart = (h.apart).1;
         same = λ i u n s. h.same i u (inr n) (stand_before views j i w u (later i n) s);
@@ -246,6 +237,12 @@ module _ {Op : Type 0} (ps : List (Peak Op)) (views : List View) (line : Line Op
 
   pub rest_there : (p : Peak Op) → StandsAt ps (get_or xs k nobody).place p → HasRest line.ops.items (get_or xs k nobody) p.ops
   rest_there p s = h.rests (get_or xs k nobody) p among_them s
+
+  pub others_within : ((get_or xs k nobody).from ≤ (get_or xs k nobody).to) × ((get_or xs k nobody).to ≤ length line.ops.items)
+  others_within =
+      let p = some_stands ps (get_or xs k nobody).place peak_within in
+      let r = rest_there p.0 p.1 in
+      (r.before, r.within)
 
   pub cut_at : drop k line.candidates.items ≡ get_or xs k nobody ∷ drop (k + 1) line.candidates.items
   cut_at = drop_more line.candidates.items k nobody there_too ∙ ap (λ (w : List Candidate). get_or w k nobody ∷ drop (k + 1) line.candidates.items) (sym same)
@@ -319,16 +316,14 @@ module _ {Op : Type 0} (ps : List (Peak Op)) (views : List View) (still rest : L
 
 -- ---- what a round costs
 
--- Twice the operations of the peaks before those at `rest` were spent, less what stands applied.
+-- At most twice the operations of the peaks before those at `rest` were spent, less what stands
+-- applied and is still to be taken back.
 pub record IsSpent {Op : Type 0} (ps : List (Peak Op)) (rest : List ℕ) (applied old new : ℕ) : Type 0 where
   pub rises : old ≤ new
   pub most : new + applied + 2 * sum_by (length_at ps) rest ≤ old + 2 * operations ps
 
 pub nothing_spent : {Op : Type 0} (ps : List (Peak Op)) (rest : List ℕ) (applied old : ℕ) → applied ≡ 0 → sum_by (length_at ps) rest ≤ operations ps → IsSpent ps rest applied old old
 nothing_spent ps rest applied old none few = record { rises = omega arith; most = omega (arith, none, few) }
-
-pub spent_all : {Op : Type 0} (ps : List (Peak Op)) (rest : List ℕ) (applied old now : ℕ) → IsSpent ps rest applied old now → now + applied ≤ old + 2 * operations ps
-spent_all ps rest applied old now spent = let most = spent.most in omega (arith, most)
 
 -- one peak: of what stood applied some is taken back, and then its own is applied
 module _ {Op : Type 0} (ps : List (Peak Op)) (j : ℕ) (rest : List ℕ) (old now mid new was shared : ℕ) (p : Peak Op) (here : StandsAt ps j p)

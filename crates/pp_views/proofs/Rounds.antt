@@ -6,11 +6,11 @@ use Rattle.pp_model.specs.Config.{CommittedTx}
 use Rattle.pp_model.specs.Object.{Item, ops}
 use Rattle.pp_spec.specs.Object.{Object, rules_of}
 use Rattle.pp_views.specs.Peaks.{Peak, operations}
-use Rattle.pp_views.specs.Trying.{AreAlike, AreCandidates, Candidate, Done, HasRest, IsFurthest, IsStateAt, Line, MayBeNumbered, MayFollow, MayRun}
+use Rattle.pp_views.specs.Trying.{AreAlike, AreCandidates, Candidate, AppliedOp, HasRest, IsFurthest, IsStateAt, Line, MayBeNumbered, MayFollow, MayRun}
 use Rattle.pp_views.specs.Trying.{Share, StandsAt, applied, places_of}
 use Rattle.pp_views.specs.Views.{IsViewBelow, Pairwise, View}
 use Rattle.pp_views.proofs.Fronts.{in_there, length-ops}
-use Rattle.pp_views.proofs.Leaving.{IsRound, IsSpent, cut_at, none_tried, nothing_spent, one_found, one_left, one_numbered, one_spent}
+use Rattle.pp_views.proofs.Leaving.{AreViewsSoFar, IsSpent, cut_at, none_tried, nothing_spent, one_found, one_left, one_numbered, one_spent}
 use Rattle.pp_views.proofs.Leaving.{peak_within, rest_there, round_done, skipped_spent, spent_within}
 use Rattle.pp_views.proofs.LiningUp.{alike_first, nobody, some_stands}
 use Rattle.pp_views.proofs.Trails.{all_allowed, fails_alike, first_alike, furthest_whole, length-applied, may-first, not_allowed, nothing_stands}
@@ -18,27 +18,27 @@ use Rattle.pp_views.proofs.Trails.{share_long, share_ops}
 use Rattle.pp_views.proofs.Viewing.{may_follow_there}
 
 module _ {Shape State Op Undo : Type 0} (o : Object Shape State Op Undo) (ps : List (Peak Op)) (number : ℕ) (s : State) (old : List View) (line : Line Op) where
-  -- The candidates before the place k were tried, and the last one of them was applied as far as it
+  -- The first k candidates were tried, and the last one of them was applied as far as it
   -- is allowed.
-  pub record InRound (k : ℕ) (views : List View) (done : List (Done Op Undo)) (t : State) (first now : ℕ) : Type 0 where
+  pub record InRound (k : ℕ) (views : List View) (done : List (AppliedOp Op Undo)) (t : State) (first now : ℕ) : Type 0 where
     pub before : List (Item Op)
     pub may : MayFollow o s (ops before)
     pub furthest : IsFurthest o s (ops before) done t
     pub next : AreAlike ps before (drop k line.candidates.items)
-    pub round : IsRound o ps number s old views (places_of (drop k line.candidates.items))
+    pub round : AreViewsSoFar o ps number s old views (places_of (drop k line.candidates.items))
     pub spent : IsSpent ps (places_of (drop k line.candidates.items)) (length done) first now
 
-  pub begin : (done : List (Done Op Undo)) (first : ℕ) → done ≡ [] → MayBeNumbered o s ps old line → InRound 0 old done s first first
-  begin done first none may = record {
+  pub round_begins : (done : List (AppliedOp Op Undo)) (first : ℕ) → done ≡ [] → MayBeNumbered o s ps old line → InRound 0 old done s first first
+  round_begins done first none may = record {
     before = [];
     may = may.reached;
-    furthest = furthest_whole o s s [] done (nothing_stands o s s done none refl) (ap (λ (w : List (Done Op Undo)). applied w) (sym none));
+    furthest = furthest_whole o s s [] done (nothing_stands o s s done none refl) (ap (λ (w : List (AppliedOp Op Undo)). applied w) (sym none));
     next = may.candidates.alike;
     round = none_tried o ps number s old line may.candidates;
-    spent = nothing_spent ps (places_of line.candidates.items) (length done) first (ap (λ (w : List (Done Op Undo)). length w) none) may.candidates.cost;
+    spent = nothing_spent ps (places_of line.candidates.items) (length done) first (ap (λ (w : List (AppliedOp Op Undo)). length w) none) may.candidates.cost;
   }
 
-  module _ (k : ℕ) (views : List View) (done : List (Done Op Undo)) (t : State) (first now : ℕ) (h : InRound k views done t first now) where
+  module _ (k : ℕ) (views : List View) (done : List (AppliedOp Op Undo)) (t : State) (first now : ℕ) (h : InRound k views done t first now) where
     pub may_stand : MayFollow o s (applied done)
     may_stand = may-first o s (applied done) (drop (length done) (ops h.before)) (subst (λ (w : List Op). MayFollow o s w)
         (sym (take-append-drop (length done) (ops h.before)) ∙ ap (λ (w : List Op). w ++ drop (length done) (ops h.before)) (sym h.furthest.front)) h.may)
@@ -64,8 +64,8 @@ module _ {Shape State Op Undo : Type 0} (o : Object Shape State Op Undo) (ps : L
       cut : drop k line.candidates.items ≡ at ∷ behind
       cut = cut_at ps old line xs k same there may.candidates
 
-      round_here : IsRound o ps number s old views (at.place ∷ places_of behind)
-      round_here = subst (λ (w : List Candidate). IsRound o ps number s old views (places_of w)) cut h.round
+      round_here : AreViewsSoFar o ps number s old views (at.place ∷ places_of behind)
+      round_here = subst (λ (w : List Candidate). AreViewsSoFar o ps number s old views (places_of w)) cut h.round
 
       spent_here : IsSpent ps (at.place ∷ places_of behind) (length done) first now
       spent_here = subst (λ (w : List Candidate). IsSpent ps (places_of w) (length done) first now) cut h.spent
@@ -88,9 +88,9 @@ module _ {Shape State Op Undo : Type 0} (o : Object Shape State Op Undo) (ps : L
       share : Share at.shared h.before p.ops × AreAlike ps p.ops behind
       share = alike_first ps h.before at behind p here (subst (λ (w : List Candidate). AreAlike ps h.before w) cut h.next)
 
-      -- what failed is shared
-      pub skipped : length done < at.shared → InRound (k + 1) views done t first now
-      skipped less =
+      -- the operation that failed is shared
+      pub round_after_skip : length done < at.shared → InRound (k + 1) views done t first now
+      round_after_skip less =
           let right : at.shared ≤ length (ops p.ops) = let short = rest.shared in omega (arith, short, length-ops p.ops) in
           let alike = share_ops at.shared h.before p.ops share.0 in
           let left = share_long at.shared (ops h.before) (ops p.ops) right alike in
@@ -108,7 +108,7 @@ module _ {Shape State Op Undo : Type 0} (o : Object Shape State Op Undo) (ps : L
           }
 
       -- the other operations are tried behind what is shared
-      module _ (less : List (Done Op Undo)) (others : List Op) (enough : at.shared ≤ length done) (taken : less ≡ take at.shared done)
+      module _ (less : List (AppliedOp Op Undo)) (others : List Op) (enough : at.shared ≤ length done) (taken : less ≡ take at.shared done)
           (are : others ≡ take (at.to - at.from) (drop at.from line.ops.items)) where
         pub whole : applied less ++ others ≡ ops p.ops
         whole =
@@ -131,13 +131,13 @@ module _ {Shape State Op Undo : Type 0} (o : Object Shape State Op Undo) (ps : L
         within_bound mid new back cost rises bound = spent_within ps at.place (places_of behind) first now mid new (length done) (length less) p here spent_here back cost rises
             (let all = count in omega (arith, bound, all))
 
-        module _ (more : List (Done Op Undo)) (u : State) (mid new : ℕ) (furthest : IsFurthest o s (applied less ++ others) more u)
+        module _ (more : List (AppliedOp Op Undo)) (u : State) (mid new : ℕ) (furthest : IsFurthest o s (applied less ++ others) more u)
             (back : now ≤ mid) (cost : mid + length less ≡ now + length done) (rises : mid ≤ new) (bound : new ≤ mid + length others) where
           further : IsFurthest o s (ops p.ops) more u
           further = subst (λ (w : List Op). IsFurthest o s w more u) whole furthest
 
-          tried : (vs : List View) → IsRound o ps number s old vs (places_of behind) → InRound (k + 1) vs more u first new
-          tried vs round = record {
+          round_after_trial : (vs : List View) → AreViewsSoFar o ps number s old vs (places_of behind) → InRound (k + 1) vs more u first new
+          round_after_trial vs round = record {
             before = p.ops;
             may = may_peak;
             furthest = further;
@@ -149,28 +149,28 @@ module _ {Shape State Op Undo : Type 0} (o : Object Shape State Op Undo) (ps : L
 
           module _ (v : View) (stands : StandsAt views at.place v) where
             -- not all of them gave their results
-            pub failed : (length more ≡ length less + length others → ⊥) → InRound (k + 1) views more u first new
-            failed some = tried views (one_left o ps number s old views at.place (places_of behind) p v round_here here stands
+            pub round_after_failure : (length more ≡ length less + length others → ⊥) → InRound (k + 1) views more u first new
+            round_after_failure some = round_after_trial views (one_left o ps number s old views at.place (places_of behind) p v round_here here stands
                 (not_allowed o s u (ops p.ops) more further (let most = further.within in let all = count in omega (arith, some, most, all, length-ops p.ops))))
 
             -- all did, and the view has a number
-            pub numbered : (v.after ≡ None → ⊥) → InRound (k + 1) views more u first new
-            numbered some = tried views (one_numbered o ps number s old views at.place (places_of behind) p v round_here here stands some)
+            pub round_after_number : (v.after ≡ None → ⊥) → InRound (k + 1) views more u first new
+            round_after_number some = round_after_trial views (one_numbered o ps number s old views at.place (places_of behind) p v round_here here stands some)
 
             -- all did, and it had none
-            pub found : (w : View) (vs : List View) → vs ≡ set views at.place w → w.tx ≡ v.tx → w.ops ≡ v.ops → w.after ≡ Some number → v.after ≡ None
+            pub round_after_find : (w : View) (vs : List View) → vs ≡ set views at.place w → w.tx ≡ v.tx → w.ops ≡ v.ops → w.after ≡ Some number → v.after ≡ None
                 → length more ≡ length less + length others → InRound (k + 1) vs more u first new
-            found w vs written tx same_ops after none all = tried vs (one_found o ps number s old views at.place (places_of behind) p v round_here here stands w vs written tx same_ops after none
+            round_after_find w vs written tx same_ops after none all = round_after_trial vs (one_found o ps number s old views at.place (places_of behind) p v round_here here stands w vs written tx same_ops after none
                 (all_allowed o s u (ops p.ops) more further (let n = count in omega (arith, all, n, length-ops p.ops))))
 
     -- ---- the round is over
 
-    pub over : length line.candidates.items ≤ k → IsRound o ps number s old views []
-    over end = subst (λ (w : List Candidate). IsRound o ps number s old views (places_of w)) (drop_all k line.candidates.items end) h.round
+    pub round_over : length line.candidates.items ≤ k → AreViewsSoFar o ps number s old views []
+    round_over end = subst (λ (w : List Candidate). AreViewsSoFar o ps number s old views (places_of w)) (drop_all k line.candidates.items end) h.round
 
-    pub over_numbered : length line.candidates.items ≤ k → MayBeNumbered o s ps old line → (shape : Shape) (D : List (CommittedTx Op)) → IsStateAt o shape D number s
+    pub views_after_round : length line.candidates.items ≤ k → MayBeNumbered o s ps old line → (shape : Shape) (D : List (CommittedTx Op)) → IsStateAt o shape D number s
         → Pairwise (IsViewBelow number (rules_of o shape) D) ps old → Pairwise (IsViewBelow (number + 1) (rules_of o shape) D) ps views
-    over_numbered end may shape D at below = round_done o ps number s old views may.long (over end) shape D at below
+    views_after_round end may shape D at below = round_done o ps number s old views may.long (round_over end) shape D at below
 
 -- ---- between rounds
 

@@ -11,7 +11,7 @@ use Rattle.pp_spec.specs.Object.{Object, IsLegal, AllowedFrom, AllRanged, IsLog,
 use Rattle.pp_spec.specs.Object.{IsLawful, state_from}
 use Rattle.pp_spec.proofs.Lists.{state-append, allowed-first, allowed-second, allowed-append}
 use Rattle.pp_spec.proofs.Lists.{log_grows, keeps_shape, allowed_is_state}
-use Rattle.pp_views.specs.Trying.{Done, IsFurthest, IsTrail, MayFollow, Share, Stands, applied, kept_from}
+use Rattle.pp_views.specs.Trying.{AppliedOp, IsFurthest, IsTrail, MayFollow, Share, Stands, applied, kept_from}
 use Rattle.pp_views.proofs.Fronts.{cut_there}
 
 -- lists that share their beginnings
@@ -71,17 +71,17 @@ module _ {Shape State Op Undo : Type 0} (o : Object Shape State Op Undo) where
     few = let few = may.few in omega (arith, few, length-append x y);
   }
 
-  pub nothing_stands : (s t : State) (done : List (Done Op Undo)) → done ≡ [] → t ≡ s → Stands o s done t
-  nothing_stands s t done none e = subst (λ (w : List (Done Op Undo)). Stands o s w t) (sym none) (record { allowed = tt; kept = refl; leads = e })
+  pub nothing_stands : (s t : State) (done : List (AppliedOp Op Undo)) → done ≡ [] → t ≡ s → Stands o s done t
+  nothing_stands s t done none e = subst (λ (w : List (AppliedOp Op Undo)). Stands o s w t) (sym none) (record { allowed = tt; kept = refl; leads = e })
 
   -- one operation more was applied
-  pub stands_more : (s t t2 : State) (done more : List (Done Op Undo)) (d : Done Op Undo) → Stands o s done t
+  pub stands_more : (s t t2 : State) (done more : List (AppliedOp Op Undo)) (d : AppliedOp Op Undo) → Stands o s done t
       → IsLegal o t d.op → d.undo ≡ o.upkeep.kept t d.op → t2 ≡ o.next t d.op → more ≡ done ++ d ∷ [] → Stands o s more t2
   stands_more s t t2 done more d h legal kept leads pushed =
       let x = applied done in
-      let grown : applied more ≡ x ++ d.op ∷ [] = ap (λ (w : List (Done Op Undo)). applied w) pushed ∙ map_push (λ (w : Done Op Undo). w.op) done d in
-      let undos : map (λ (w : Done Op Undo). w.undo) more ≡ map (λ (w : Done Op Undo). w.undo) done ++ d.undo ∷ [] =
-      ap (λ (w : List (Done Op Undo)). map (λ (v : Done Op Undo). v.undo) w) pushed ∙ map_push (λ (w : Done Op Undo). w.undo) done d in
+      let grown : applied more ≡ x ++ d.op ∷ [] = ap (λ (w : List (AppliedOp Op Undo)). applied w) pushed ∙ map_push (λ (w : AppliedOp Op Undo). w.op) done d in
+      let undos : map (λ (w : AppliedOp Op Undo). w.undo) more ≡ map (λ (w : AppliedOp Op Undo). w.undo) done ++ d.undo ∷ [] =
+      ap (λ (w : List (AppliedOp Op Undo)). map (λ (v : AppliedOp Op Undo). v.undo) w) pushed ∙ map_push (λ (w : AppliedOp Op Undo). w.undo) done d in
       record {
         allowed = subst (λ (w : List Op). AllowedFrom o s w) (sym grown)
             (allowed-append o s x (d.op ∷ []) h.allowed (subst (λ (w : State). IsLegal o w d.op) h.leads legal, tt));
@@ -128,27 +128,27 @@ module _ {Shape State Op Undo : Type 0} (o : Object Shape State Op Undo) where
       next_ranged = (ranged-second x (a ∷ y) may.ranged).0
 
     -- the last one is taken back
-    pub last_taken_back : (s t : State) (done less : List (Done Op Undo)) (d : Done Op Undo) → done ≡ less ++ d ∷ [] → MayFollow o s (applied done) → Stands o s done t
+    pub last_taken_back : (s t : State) (done less : List (AppliedOp Op Undo)) (d : AppliedOp Op Undo) → done ≡ less ++ d ∷ [] → MayFollow o s (applied done) → Stands o s done t
         → WasApplied o d.op d.undo t × MayFollow o s (applied less) × Stands o s less (o.upkeep.back t d.op d.undo)
     last_taken_back s t done less d popped may h =
         let a = d.op in
         let x = applied less in
-        let grown : applied done ≡ x ++ a ∷ [] = ap (λ (w : List (Done Op Undo)). applied w) popped ∙ map_push (λ (w : Done Op Undo). w.op) less d in
-        let undos : map (λ (w : Done Op Undo). w.undo) done ≡ map (λ (w : Done Op Undo). w.undo) less ++ d.undo ∷ [] =
-        ap (λ (w : List (Done Op Undo)). map (λ (v : Done Op Undo). v.undo) w) popped ∙ map_push (λ (w : Done Op Undo). w.undo) less d in
+        let grown : applied done ≡ x ++ a ∷ [] = ap (λ (w : List (AppliedOp Op Undo)). applied w) popped ∙ map_push (λ (w : AppliedOp Op Undo). w.op) less d in
+        let undos : map (λ (w : AppliedOp Op Undo). w.undo) done ≡ map (λ (w : AppliedOp Op Undo). w.undo) less ++ d.undo ∷ [] =
+        ap (λ (w : List (AppliedOp Op Undo)). map (λ (v : AppliedOp Op Undo). v.undo) w) popped ∙ map_push (λ (w : AppliedOp Op Undo). w.undo) less d in
         let may_all : MayFollow o s (x ++ a ∷ []) = subst (λ (w : List Op). MayFollow o s w) grown may in
         let mid = state_from o s x in
         let allowed : AllowedFrom o s (x ++ a ∷ []) = subst (λ (w : List Op). AllowedFrom o s w) grown h.allowed in
         let before = allowed-first o s x (a ∷ []) allowed in
         let legal = (allowed-second o s x (a ∷ []) allowed).0 in
-        let kept = same_from_push (map (λ (w : Done Op Undo). w.undo) less) (kept_from o s x) d.undo (o.upkeep.kept mid a)
+        let kept = same_from_push (map (λ (w : AppliedOp Op Undo). w.undo) less) (kept_from o s x) d.undo (o.upkeep.kept mid a)
         (sym undos ∙ h.kept ∙ ap (λ (w : List Op). kept_from o s w) grown ∙ kept-append s x a) in
         let leads : t ≡ o.next mid a = h.leads ∙ ap (λ (w : List Op). state_from o s w) grown ∙ state-append o s x (a ∷ []) in
         let shorter : Stands o s less mid = record { allowed = before; kept = kept.0; leads = refl } in (
           (
             mid,
-            reached_there s mid x (a ∷ []) (map (λ (w : Done Op Undo). w.undo) less) may_all shorter,
-            next_ranged s mid x [] a (map (λ (w : Done Op Undo). w.undo) less) may_all shorter,
+            reached_there s mid x (a ∷ []) (map (λ (w : AppliedOp Op Undo). w.undo) less) may_all shorter,
+            next_ranged s mid x [] a (map (λ (w : AppliedOp Op Undo). w.undo) less) may_all shorter,
             legal,
             leads,
             kept.1,
@@ -158,16 +158,16 @@ module _ {Shape State Op Undo : Type 0} (o : Object Shape State Op Undo) where
             allowed = before;
             kept = kept.0;
             leads = ap (λ (w : State). o.upkeep.back w a d.undo) leads ∙ ap (λ (w : Undo). o.upkeep.back (o.next mid a) a w) kept.1
-                ∙ laws.taken_back mid a (state_there s mid x (a ∷ []) (map (λ (w : Done Op Undo). w.undo) less) may_all shorter) legal;
+                ∙ laws.taken_back mid a (state_there s mid x (a ∷ []) (map (λ (w : AppliedOp Op Undo). w.undo) less) may_all shorter) legal;
           },
         )
 
   -- ---- how far a list is allowed
 
-  pub length-applied : (done : List (Done Op Undo)) → length (applied done) ≡ length done
-  length-applied done = length-map done (λ (w : Done Op Undo). w.op)
+  pub length-applied : (done : List (AppliedOp Op Undo)) → length (applied done) ≡ length done
+  length-applied done = length-map done (λ (w : AppliedOp Op Undo). w.op)
 
-  pub furthest_stopped : (s t : State) (l y : List Op) (a : Op) (done : List (Done Op Undo)) → Stands o s done t → l ≡ applied done ++ a ∷ y
+  pub furthest_stopped : (s t : State) (l y : List Op) (a : Op) (done : List (AppliedOp Op Undo)) → Stands o s done t → l ≡ applied done ++ a ∷ y
       → (IsLegal o t a → ⊥) → IsFurthest o s l done t
   furthest_stopped s t l y a done h whole differs =
       let x = applied done in
@@ -182,7 +182,7 @@ module _ {Shape State Op Undo : Type 0} (o : Object Shape State Op Undo) where
             differs (subst (λ (w : State). IsLegal o w a) (sym h.leads) (allowed-second o s x (a ∷ []) (subst (λ (w : List Op). AllowedFrom o s w) one allowed)).0);
       }
 
-  pub furthest_whole : (s t : State) (l : List Op) (done : List (Done Op Undo)) → Stands o s done t → l ≡ applied done → IsFurthest o s l done t
+  pub furthest_whole : (s t : State) (l : List Op) (done : List (AppliedOp Op Undo)) → Stands o s done t → l ≡ applied done → IsFurthest o s l done t
   furthest_whole s t l done h whole =
       let n = length-applied done in
       let all = ap (λ (w : List Op). length w) whole in
@@ -193,7 +193,7 @@ module _ {Shape State Op Undo : Type 0} (o : Object Shape State Op Undo) where
         stops = λ less allowed. absurd (omega (arith, less, all, n));
       }
 
-  module _ (s t : State) (l : List Op) (done : List (Done Op Undo)) (h : IsFurthest o s l done t) where
+  module _ (s t : State) (l : List Op) (done : List (AppliedOp Op Undo)) (h : IsFurthest o s l done t) where
     pub all_allowed : length done ≡ length l → AllowedFrom o s l
     all_allowed all = subst (λ (w : List Op). AllowedFrom o s w) (h.front ∙ ap (λ (k : ℕ). take k l) all ∙ take-length l) (h.stands).allowed
 
@@ -212,9 +212,9 @@ module _ {Shape State Op Undo : Type 0} (o : Object Shape State Op Undo) where
     }
 
     -- the first of what was applied are the first of another list
-    pub first_alike : (m : List Op) (n : ℕ) (less : List (Done Op Undo)) → Share n l m → n ≤ length done → less ≡ take n done → applied less ≡ take n m
-    first_alike m n less alike within taken = ap (λ (w : List (Done Op Undo)). applied w) taken ∙ sym (take-map (λ (w : Done Op Undo). w.op) n done)
+    pub first_alike : (m : List Op) (n : ℕ) (less : List (AppliedOp Op Undo)) → Share n l m → n ≤ length done → less ≡ take n done → applied less ≡ take n m
+    first_alike m n less alike within taken = ap (λ (w : List (AppliedOp Op Undo)). applied w) taken ∙ sym (take-map (λ (w : AppliedOp Op Undo). w.op) n done)
         ∙ ap (λ (w : List Op). take n w) h.front ∙ take-take n (length done) l within ∙ alike
 
-  pub back_again : (s t : State) (done : List (Done Op Undo)) → done ≡ [] → Stands o s done t → t ≡ s
-  back_again s t done none h = h.leads ∙ ap (λ (w : List (Done Op Undo)). state_from o s (applied w)) none
+  pub back_again : (s t : State) (done : List (AppliedOp Op Undo)) → done ≡ [] → Stands o s done t → t ≡ s
+  back_again s t done none h = h.leads ∙ ap (λ (w : List (AppliedOp Op Undo)). state_from o s (applied w)) none

@@ -8,7 +8,7 @@ use Rattle.pp_model.specs.Sound.{serial_ops}
 use Rattle.pp_spec.specs.Object.{Object, AllowedFrom, AllRanged, IsAllowed, IsLog, state_from}
 pub use Rattle.pp_views.specs.declared.line.Candidate.{Candidate}
 pub use Rattle.pp_views.specs.declared.line.Line.{Line}
-pub use Rattle.pp_views.specs.declared.trial.Done.{Done}
+pub use Rattle.pp_views.specs.declared.trial.AppliedOp.{AppliedOp}
 use Rattle.pp_views.specs.Peaks.{Peak, operations}
 use Rattle.pp_views.specs.Views.{MayBeTried, View}
 
@@ -53,6 +53,7 @@ AreAlikeTo {Op} ps before (c ∷ cs) n behind =
     (p : Peak Op) → StandsAt ps c.place p → Share c.shared before p.ops
     × AreAlikeTo ps p.ops cs n behind
 
+-- of the last nothing is asked
 abbrev pub AreAlike : {Op : Type 0} → List (Peak Op) → List (Item Op) → List Candidate → Type 0
 AreAlike ps before cs = AreAlikeTo ps before cs 0 []
 
@@ -79,7 +80,8 @@ pub record IsLine {Op : Type 0} (ps : List (Peak Op)) (line : Line Op) : Type 0 
   pub alike : AreAlike ps [] line.candidates.items
   pub rests : HaveRests ps line.ops.items line.candidates.items
 
--- a line of peaks, among which are all whose views have no number; `cost` bounds their operations
+-- a line of peaks: all whose views have no number are among them, and others may be; `cost` bounds
+-- their operations
 pub record AreCandidates {Op : Type 0} (ps : List (Peak Op)) (views : List View)
     (line : Line Op) : Type 0 where
   pub apart : AreApart (places_of line.candidates.items)
@@ -91,7 +93,7 @@ pub record AreCandidates {Op : Type 0} (ps : List (Peak Op)) (views : List View)
   pub cost : sum_by (length_at ps) (places_of line.candidates.items) ≤ operations ps
 
 -- the operations that were applied
-abbrev pub applied : {Op Undo : Type 0} → List (Done Op Undo) → List Op
+abbrev pub applied : {Op Undo : Type 0} → List (AppliedOp Op Undo) → List Op
 applied done = map (λ d. d.op) done
 
 module _ {Shape State Op Undo : Type 0} (o : Object Shape State Op Undo) where
@@ -107,11 +109,11 @@ module _ {Shape State Op Undo : Type 0} (o : Object Shape State Op Undo) where
     pub leads : t ≡ state_from o s x
 
   -- What was applied led from the state s to t, and can be taken back.
-  abbrev pub Stands : State → List (Done Op Undo) → State → Type 0
+  abbrev pub Stands : State → List (AppliedOp Op Undo) → State → Type 0
   Stands s done t = IsTrail s (applied done) (map (λ d. d.undo) done) t
 
   -- What was applied is the beginning of the list, as far as it is allowed from the state s.
-  pub record IsFurthest (s : State) (l : List Op) (done : List (Done Op Undo))
+  pub record IsFurthest (s : State) (l : List Op) (done : List (AppliedOp Op Undo))
       (t : State) : Type 0 where
     pub stands : Stands s done t
     pub within : length done ≤ length l

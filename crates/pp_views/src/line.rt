@@ -53,8 +53,9 @@ pub(crate) fn add_ops<O: Copy>(list: &mut Vec<O>, items: &[Item<O>]) -> Result<(
     Ok(())
 }
 
-/// The line without the peaks whose views have a number. What one of these began alike with the
-/// one before it, the next one has to begin alike with as well.
+/// The line without the peaks whose views have a number. A peak that stays shares with the one that
+/// stays before it the least that it and those left out between them shared. What it did not share
+/// before is copied from the line, as a round reads it, and not from the peak, which lies elsewhere.
 pub(crate) fn without_numbered<O: Copy>(
     alloc: Global,
     peaks: &[Peak<O>],

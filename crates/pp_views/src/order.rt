@@ -23,7 +23,8 @@ fn common<O: Copy>(a: &[Item<O>], b: &[Item<O>]) -> usize
     count
 }
 
-/// The places of the peaks, each behind the id of its first operation, in the order of these ids.
+/// The places of the peaks, each behind the id of its first operation, in the order of these ids,
+/// and of the places where these are the same. Of a peak without operations the id is taken as 0.
 fn by_first_id<O: Copy>(alloc: Global, peaks: &[Peak<O>]) -> Result<Vec<(u32, usize)>, OutOfMemory>
     ensures { IfOk result (λ order. ArePlaces peaks.now (length peaks.now)
         (map (λ o. o.1) order.items)) }
@@ -37,8 +38,8 @@ fn by_first_id<O: Copy>(alloc: Global, peaks: &[Peak<O>]) -> Result<Vec<(u32, us
     Ok(order)
 }
 
-/// All peaks in a line. Those with one first operation stand together, in their own order: so each
-/// begins as the one before it, as far as its transaction did not take that back.
+/// All peaks in a line. Those with the same first operation stand together, in their own order: so
+/// each begins as the one before it, as far as its transaction did not take that back.
 pub(crate) fn line_up<O: Copy>(alloc: Global, peaks: &[Peak<O>]) -> Result<Line<O>, OutOfMemory>
     requires { IdsTell peaks.now }
     ensures { IfOk result (λ line. IsLine peaks.now line) }

@@ -8,7 +8,7 @@ use std::sync::ledger::Ledger;
 
 /// An operation that was applied, and what takes it back.
 #[derive(Drop)]
-pub(crate) struct Done<O: Copy, U> {
+pub(crate) struct AppliedOp<O: Copy, U> {
     pub(crate) op: O,
     pub(crate) undo: U,
 }
@@ -17,7 +17,7 @@ pub(crate) struct Done<O: Copy, U> {
 /// recorded result, and answers whether all did.
 pub(crate) fn apply_all<S: Spec, L: Ledger>(
     state: &mut S::State,
-    done: &mut Vec<Done<S::Op, S::Undo>>,
+    done: &mut Vec<AppliedOp<S::Op, S::Undo>>,
     ops: &[S::Op],
     ticks: &mut Ticks<L>,
 ) -> Result<bool, OutOfMemory>
@@ -34,7 +34,7 @@ pub(crate) fn apply_all<S: Spec, L: Ledger>(
 {
     for op in ops {
         match S::apply(state, op, ticks)? {
-            Applied::Done(undo) => done.push(Done { op: *op, undo })?,
+            Applied::Done(undo) => done.push(AppliedOp { op: *op, undo })?,
             Applied::Differs => return Ok(false),
         }
     }
@@ -44,7 +44,7 @@ pub(crate) fn apply_all<S: Spec, L: Ledger>(
 /// Takes those back that were applied behind so many first ones, the last one first.
 pub(crate) fn take_back_to<S: Spec, L: Ledger>(
     state: &mut S::State,
-    done: &mut Vec<Done<S::Op, S::Undo>>,
+    done: &mut Vec<AppliedOp<S::Op, S::Undo>>,
     len: usize,
     ticks: &mut Ticks<L>,
 ) -> Result<(), OutOfMemory>
@@ -60,7 +60,7 @@ pub(crate) fn take_back_to<S: Spec, L: Ledger>(
     ensures bound { ticks.new ≤ ticks.old + length done.old.items }
 {
     while done.len() > len {
-        let Some(Done { op, undo }) = done.pop() else {
+        let Some(AppliedOp { op, undo }) = done.pop() else {
             unreachable!()
         };
         S::undo(state, &op, undo, ticks)?;

@@ -14,7 +14,7 @@ ghost use Rattle.pp_views.specs.Views.{AreViews, IsViewBelow, MayBeTried, Pairwi
 use crate::line::{Line, without_numbered};
 use crate::order::line_up;
 use crate::peak::{Peak, Peaks};
-use crate::trial::{Done, apply_all, take_back_to};
+use crate::trial::{AppliedOp, apply_all, take_back_to};
 use pp_core::{Committed, CommittedTx, Item, Name, OutOfMemory, Sequence, Ticks};
 use pp_spec::{Applied, Spec};
 use std::alloc::Global;
@@ -50,7 +50,7 @@ fn untried<O: Copy>(alloc: Global, peaks: &[Peak<O>]) -> Result<Vec<View>, OutOf
 }
 
 /// Lets the operations of a committed transaction take effect.
-fn go_on<S: Spec, L: Ledger>(
+fn apply_committed<S: Spec, L: Ledger>(
     state: &mut S::State,
     entries: &[Item<S::Op>],
     ticks: &mut Ticks<L>,
@@ -71,12 +71,13 @@ fn go_on<S: Spec, L: Ledger>(
 }
 
 /// Tries the candidates after so many committed transactions, one after another: a peak that is
-/// explained and has no number gets this one. It answers whether there was one. Of what was applied
-/// for a candidate, as much stays as the next one shares; where the operation that failed is among
-/// these, the next one fails as well. In the end all is taken back.
+/// explained and has no number gets this one, and a peak that has one keeps it. It answers whether
+/// any peak got one. Of what was applied for a candidate, as much stays as the next one shares.
+/// Where the operation that failed is one that the next one shares, that one fails too, and is
+/// passed over. In the end all is taken back.
 fn try_all<S: Spec, L: Ledger>(
     state: &mut S::State,
-    done: &mut Vec<Done<S::Op, S::Undo>>,
+    done: &mut Vec<AppliedOp<S::Op, S::Undo>>,
     views: &mut Vec<View>,
     line: &Line<S::Op>,
     number: u32,
@@ -109,8 +110,8 @@ fn try_all<S: Spec, L: Ledger>(
         }
         take_back_to::<S, L>(state, done, candidate.shared, ticks)?;
         let others = &line.ops[candidate.from..candidate.to];
-        let all = apply_all::<S, L>(state, done, others, ticks)?;
-        if all && views[candidate.place].after.is_none() {
+        let all_done = apply_all::<S, L>(state, done, others, ticks)?;
+        if all_done && views[candidate.place].after.is_none() {
             views[candidate.place].after = Some(number);
             numbered = true;
         }
@@ -123,7 +124,7 @@ fn try_all<S: Spec, L: Ledger>(
 /// operations they give what they gave before it, and none is tried.
 fn try_behind<S: Spec, L: Ledger>(
     state: &mut S::State,
-    done: &mut Vec<Done<S::Op, S::Undo>>,
+    done: &mut Vec<AppliedOp<S::Op, S::Undo>>,
     entries: &[Item<S::Op>],
     views: &mut Vec<View>,
     line: &Line<S::Op>,
@@ -131,7 +132,7 @@ fn try_behind<S: Spec, L: Ledger>(
     ticks: &mut Ticks<L>,
 ) -> Result<bool, OutOfMemory>
     requires empty { done.old.items ≡ [] }
-    requires goes_on { MayFollow S.object state.old (ops entries.now) }
+    requires may { MayFollow S.object state.old (ops entries.now) }
     requires allowed { AllowedFrom S.object state.old (ops entries.now) }
     requires line { (ps : List (PeakOf S.Op)) × MayBeNumbered S.object
         (state_from S.object state.old (ops entries.now)) ps views.old.items line.now }
@@ -160,7 +161,7 @@ fn try_behind<S: Spec, L: Ledger>(
     if entries.len() == 0 {
         return Ok(false);
     }
-    go_on::<S, L>(state, entries, ticks)?;
+    apply_committed::<S, L>(state, entries, ticks)?;
     try_all::<S, L>(state, done, views, line, number, ticks)
 }
 

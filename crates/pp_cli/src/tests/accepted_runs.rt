@@ -364,7 +364,7 @@ state k 3
 "#,
     },
     Row {
-        what: "a compare-and-swap that is withdrawn from before a write and published again",
+        what: "a compare-and-swap withdrawn while a write stands behind it, and published again",
         header: MEMORY,
         records: br#"{"step":"begin","tx":"t1","thread":"p1"}
 {"step":"app","tx":"t1","id":1,"on":"m","call":"write","args":[0,4],"result":null}
@@ -387,7 +387,7 @@ state m 0=5 1=6
 "#,
     },
     Row {
-        what: "a put that is given up from before another that was pulled too, and pulled again",
+        what: "a pulled put given up while another stands behind it, and pulled again",
         header: br#"{"run":1,"style":"rules","objects":[{"name":"a","kind":"map"}]}
 "#,
         records: br#"{"step":"begin","tx":"t1","thread":"p1"}
@@ -416,7 +416,7 @@ state a 1=5 2=6
 "#,
     },
     Row {
-        what: "an enq and a deq that are withdrawn from before other calls and published again",
+        what: "an enq and a deq withdrawn while calls stand behind them, and published again",
         header: QUEUE,
         records: br#"{"step":"begin","tx":"t1","thread":"p1"}
 {"step":"app","tx":"t1","id":1,"on":"q","call":"enq","args":[3],"result":null}
@@ -450,7 +450,7 @@ state q
 "#,
     },
     Row {
-        what: "a push and a pop that are withdrawn from before other calls and published again",
+        what: "a push and a pop withdrawn while calls stand behind them, and published again",
         header: STACK,
         records: br#"{"step":"begin","tx":"t1","thread":"p1"}
 {"step":"app","tx":"t1","id":1,"on":"k","call":"push","args":[5],"result":null}
@@ -484,7 +484,7 @@ state k
 "#,
     },
     Row {
-        what: "an insert and a take that are withdrawn from before other calls and published again",
+        what: "an insert and a take withdrawn while calls stand behind them, and published again",
         header: PRIORITY_QUEUE,
         records: br#"{"step":"begin","tx":"t1","thread":"p1"}
 {"step":"app","tx":"t1","id":1,"on":"h","call":"insert","args":[1],"result":null}

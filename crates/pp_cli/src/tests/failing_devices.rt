@@ -64,7 +64,7 @@ fn a_failed_read_is_told_unless_a_fault_stands_before_it(rt: HostRuntime) -> Res
 }
 
 #[test]
-fn whichever_write_fails_what_was_written_before_it_stands(rt: HostRuntime) -> Result<(), Fail> {
+fn a_failed_write_leaves_what_was_written_before_it(rt: HostRuntime) -> Result<(), Fail> {
     let alloc = rt.alloc();
     for call in 0..100usize {
         let mut input = added(alloc)?;

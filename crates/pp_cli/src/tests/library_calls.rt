@@ -95,7 +95,7 @@ fn committed(rt: &impl Abort, alloc: Global) -> Result<Committed<Op>, Fail>
     Ok(committed)
 }
 
-/// Tries the serial run of these transactions, and the lines of the states that it leaves.
+/// Tries the serial run of the two transactions, and the lines of the states that it leaves.
 fn try_serial<L: Ledger>(rt: &impl Abort, alloc: Global, blank: Blank) -> Result<(), Fail>
     requires name { blank.name ≡ L.name }
     requires parts { blank.parts ≡ L.parts }

@@ -5,7 +5,7 @@ use Rattle.std.proofs.lemmas.List.{append_assoc}
 use Rattle.pp_model.specs.Object.{Item, ops}
 use Rattle.pp_views.specs.Peaks.{Peak}
 use Rattle.pp_views.specs.Trying.{AreAlike, AreAlikeTo, Candidate, HaveRests, Share, StandsAt}
-use Rattle.pp_views.proofs.Leaving.{IsLeft, cut_at, leaves, peak_within, remains, rest_there, some_is_not_none}
+use Rattle.pp_views.proofs.Leaving.{IsLeft, cut_at, leaves, others_within, peak_within, remains, rest_there, some_is_not_none}
 use Rattle.pp_views.specs.Views.{View}
 use Rattle.pp_views.proofs.LiningUp.{alike_first, alike_more, nobody, rests_joined, rests_more, some_stands}
 use Rattle.pp_views.proofs.Trails.{share_less}
@@ -69,56 +69,29 @@ slice_bounds-add_ops-end g c =
 
 pub offset_bounds-deref-candidate : goal.offset_bounds-deref-candidate
 offset_bounds-deref-candidate g c =
-    let ps = c.args.peaks.now in
-    let xs = c.deref-candidate-items.result.now in
-    let k = c.loop-candidate.candidate-index in
-    let at = get_or xs k nobody in
-    let p = c.index-peaks-candidate.result in
-    let within = peak_within ps c.args.views.now c.args.line.now xs k c.deref-candidate-items.ensures.value c.loop-candidate-test.true c.requires.line in
-    let rest = rest_there ps c.args.views.now c.args.line.now xs k c.deref-candidate-items.ensures.value c.loop-candidate-test.true c.requires.line p (within, c.index-peaks-candidate.is) in
-    let before = rest.before in
-    let end = rest.within in
+    let r = others_within c.args.peaks.now c.args.views.now c.args.line.now c.deref-candidate-items.result.now c.loop-candidate.candidate-index
+    c.deref-candidate-items.ensures.value c.loop-candidate-test.true c.requires.line in
     let long = ap (λ (w : List _). length w) c.deref.ensures.value in
-    omega (arith, before, end, long)
+    omega (arith, r.0, r.1, long)
 
 pub slice_bounds-extend_from_slice-count : goal.slice_bounds-extend_from_slice-count
 slice_bounds-extend_from_slice-count g c =
-    let ps = c.args.peaks.now in
-    let xs = c.deref-candidate-items.result.now in
-    let k = c.loop-candidate.candidate-index in
-    let at = get_or xs k nobody in
-    let p = c.index-peaks-candidate.result in
-    let within = peak_within ps c.args.views.now c.args.line.now xs k c.deref-candidate-items.ensures.value c.loop-candidate-test.true c.requires.line in
-    let rest = rest_there ps c.args.views.now c.args.line.now xs k c.deref-candidate-items.ensures.value c.loop-candidate-test.true c.requires.line p (within, c.index-peaks-candidate.is) in
-    rest.before
+    let r = others_within c.args.peaks.now c.args.views.now c.args.line.now c.deref-candidate-items.result.now c.loop-candidate.candidate-index
+    c.deref-candidate-items.ensures.value c.loop-candidate-test.true c.requires.line in
+    r.0
 
 pub slice_bounds-extend_from_slice-start : goal.slice_bounds-extend_from_slice-start
 slice_bounds-extend_from_slice-start g c =
-    let ps = c.args.peaks.now in
-    let xs = c.deref-candidate-items.result.now in
-    let k = c.loop-candidate.candidate-index in
-    let at = get_or xs k nobody in
-    let p = c.index-peaks-candidate.result in
-    let within = peak_within ps c.args.views.now c.args.line.now xs k c.deref-candidate-items.ensures.value c.loop-candidate-test.true c.requires.line in
-    let rest = rest_there ps c.args.views.now c.args.line.now xs k c.deref-candidate-items.ensures.value c.loop-candidate-test.true c.requires.line p (within, c.index-peaks-candidate.is) in
-    let before = rest.before in
-    let end = rest.within in
-    let long = ap (λ (w : List _). length w) c.deref.ensures.value in
-    before
+    let r = others_within c.args.peaks.now c.args.views.now c.args.line.now c.deref-candidate-items.result.now c.loop-candidate.candidate-index
+    c.deref-candidate-items.ensures.value c.loop-candidate-test.true c.requires.line in
+    r.0
 
 pub slice_bounds-extend_from_slice-end : goal.slice_bounds-extend_from_slice-end
 slice_bounds-extend_from_slice-end g c =
-    let ps = c.args.peaks.now in
-    let xs = c.deref-candidate-items.result.now in
-    let k = c.loop-candidate.candidate-index in
-    let at = get_or xs k nobody in
-    let p = c.index-peaks-candidate.result in
-    let within = peak_within ps c.args.views.now c.args.line.now xs k c.deref-candidate-items.ensures.value c.loop-candidate-test.true c.requires.line in
-    let rest = rest_there ps c.args.views.now c.args.line.now xs k c.deref-candidate-items.ensures.value c.loop-candidate-test.true c.requires.line p (within, c.index-peaks-candidate.is) in
-    let before = rest.before in
-    let end = rest.within in
+    let r = others_within c.args.peaks.now c.args.views.now c.args.line.now c.deref-candidate-items.result.now c.loop-candidate.candidate-index
+    c.deref-candidate-items.ensures.value c.loop-candidate-test.true c.requires.line in
     let long = ap (λ (w : List _). length w) c.deref.ensures.value in
-    omega (arith, end, long)
+    omega (arith, r.1, long)
 
 pub loop-candidate-preserved : goal.loop-candidate-preserved
 loop-candidate-preserved g c =

@@ -1,6 +1,6 @@
 use Rattle.std.proofs.Common.{◌≡◌, ◌+◌, ◌++◌, ◌∷◌, [], List, length, take, drop, arith, subst, sym, ap, ◌∙◌}
 use Rattle.std.proofs.lemmas.List.{append_assoc, length_push, map_push, take_all}
-use Rattle.pp_views.specs.Trying.{Done, MayFollow, Stands, applied}
+use Rattle.pp_views.specs.Trying.{AppliedOp, MayFollow, Stands, applied}
 use Rattle.pp_views.proofs.Fronts.{take_there}
 use Rattle.pp_views.proofs.Trails.{furthest_stopped, furthest_whole, next_fits, next_ranged, next_there, reached_there, stands_more}
 use Rattle.pp_views.proofs.trial.apply_all.Goals as goal
@@ -63,7 +63,7 @@ loop-op-preserved g c =
     let done = c.loop-op.done.items in
     let x = applied done in
     let old = applied c.args.done.now.items in
-    let d : Done _ _ = record { op = a; undo = c.in-Done.undo } in
+    let d : AppliedOp _ _ = record { op = a; undo = c.in-Done.undo } in
     let effect = rw c.in-Done.is at c.in_ok-undo.ensures.applied in
     let pushed : c.push.new.self.items ≡ done ++ d ∷ [] = c.in_ok-push-in-Done.ensures.items in
     let so_far = c.loop-op.invariant.front in
@@ -76,10 +76,10 @@ loop-op-preserved g c =
           let now = c.loop-op.invariant.stands s may first in
           let fits = next_fits o g.met.S.Spec.lawful s c.loop-op.state x (drop (i + 1) l) a _ (subst (λ (w : List _). MayFollow o s w) whole may) now in
           stands_more o s c.loop-op.state c.apply.new.state done c.push.new.self.items d now (fits, effect.0) effect.1 effect.2 pushed;
-      front = ap (λ (w : List (Done _ _)). applied w) pushed ∙ map_push (λ (w : Done _ _). w.op) done d ∙ ap (λ (w : List _). w ++ a ∷ []) so_far
+      front = ap (λ (w : List (AppliedOp _ _)). applied w) pushed ∙ map_push (λ (w : AppliedOp _ _). w.op) done d ∙ ap (λ (w : List _). w ++ a ∷ []) so_far
           ∙ append_assoc old (take i l) (a ∷ []) ∙ ap (λ (w : List _). old ++ w) (sym (take_there l i a c.loop-op-test.true c.op-item.is));
       within = omega (arith, c.loop-op-test.true);
-      long = let longer = ap (λ (w : List (Done _ _)). length w) pushed ∙ length_push done d in omega (arith, long, longer);
+      long = let longer = ap (λ (w : List (AppliedOp _ _)). length w) pushed ∙ length_push done d in omega (arith, long, longer);
       cost = omega (arith, cost, more);
     }
 

@@ -99,8 +99,8 @@ returns-then-len-eq0-clause-bound g c =
 
 -- ---- a transaction
 
-pub try_behind-requires-clause-goes_on : goal.try_behind-requires-clause-goes_on
-try_behind-requires-clause-goes_on g c =
+pub try_behind-requires-clause-may : goal.try_behind-requires-clause-may
+try_behind-requires-clause-may g c =
     let o = g.S.Spec.object in
     let d = c.transaction-item.result in
     subst (λ (w : List (Item _)). MayFollow o c.loop-transaction.state (ops w)) (sym c.as_slice-entries.ensures)

@@ -2,17 +2,17 @@ use Rattle.std.proofs.Common.{◌≡◌, ◌≤◌, ◌+◌, ◌-◌, None, List
 use Rattle.std.proofs.Common.{refl, sym, ap, subst, ◌∙◌, arith, rules}
 use Rattle.pp_views.specs.Trying.{StandsAt}
 use Rattle.pp_views.specs.Views.{View}
-use Rattle.pp_views.proofs.Leaving.{not_some, some_is_not_none}
+use Rattle.pp_views.proofs.Leaving.{not_some, others_within, some_is_not_none}
 use Rattle.pp_views.proofs.LiningUp.{nobody, some_stands, stand_same}
-use Rattle.pp_views.proofs.Rounds.{InRound, begin, failed, found, may_stand, may_try, numbered, over_numbered, rest, skipped}
+use Rattle.pp_views.proofs.Rounds.{InRound, round_begins, round_after_failure, round_after_find, may_stand, may_try, round_after_number, views_after_round, round_after_skip}
 use Rattle.pp_views.proofs.Rounds.{view_within, within_bound}
 use Rattle.pp_views.proofs.Trails.{back_again}
-use Rattle.pp_views.proofs.view.try_all.Goals.{then-all+then-is_none, else-all, else-all-via-then-all+else-is_none, else-all-via-else-all}
+use Rattle.pp_views.proofs.view.try_all.Goals.{then-all_done+then-is_none, else-all_done, else-all_done-via-then-all_done+else-is_none, else-all_done-via-else-all_done}
 use Rattle.pp_views.proofs.view.try_all.Goals as goal
 
 pub loop-candidate-init : goal.loop-candidate-init
 loop-candidate-init g c = λ ps may.
-    begin g.S.Spec.object ps c.args.number c.args.state.now c.args.views.now.items c.args.line.now c.args.done.now.items c.args.ticks.now c.requires.empty may
+    round_begins g.S.Spec.object ps c.args.number c.args.state.now c.args.views.now.items c.args.line.now c.args.done.now.items c.args.ticks.now c.requires.empty may
 
 pub loop-candidate-preserved-then-len-candidate : goal.loop-candidate-preserved-then-len-candidate
 loop-candidate-preserved-then-len-candidate g c = λ ps may.
@@ -32,7 +32,7 @@ loop-candidate-preserved-then-len-candidate g c = λ ps may.
     let h = c.loop-candidate.invariant ps may in
     let len : c.len.result ≡ length done = search rules in
     let test = c.if-len-candidate.true in
-    skipped o ps c.args.number s old line k vs done t t0 t1 h may xs same there (omega (arith, len, test))
+    round_after_skip o ps c.args.number s old line k vs done t t0 t1 h may xs same there (omega (arith, len, test))
 
 pub take_back_to-requires : goal.take_back_to-requires
 take_back_to-requires g c =
@@ -40,10 +40,7 @@ take_back_to-requires g c =
     let s = c.args.state.now in
     let old = c.args.views.now.items in
     let line = c.args.line.now in
-    let xs = c.deref-candidate-items.result.now in
     let k = c.loop-candidate.candidate-index in
-    let same = c.deref-candidate-items.ensures.value in
-    let there = c.loop-candidate-test.true in
     let vs = c.loop-candidate.views.items in
     let done = c.loop-candidate.done.items in
     let t = c.loop-candidate.state in
@@ -56,89 +53,29 @@ take_back_to-requires g c =
 
 pub offset_bounds-deref-candidate : goal.offset_bounds-deref-candidate
 offset_bounds-deref-candidate g c =
-    let o = g.S.Spec.object in
-    let s = c.args.state.now in
-    let old = c.args.views.now.items in
-    let line = c.args.line.now in
-    let xs = c.deref-candidate-items.result.now in
-    let k = c.loop-candidate.candidate-index in
-    let same = c.deref-candidate-items.ensures.value in
-    let there = c.loop-candidate-test.true in
-    let vs = c.loop-candidate.views.items in
-    let done = c.loop-candidate.done.items in
-    let t = c.loop-candidate.state in
-    let t0 = c.args.ticks.now in
-    let t1 = c.loop-candidate.ticks in
-    let ps = c.requires.line.0 in
-    let may = c.requires.line.1 in
-    let h = c.loop-candidate.invariant ps may in
-    let r = rest o ps c.args.number s old line k vs done t t0 t1 h may xs same there in
-    let before = r.before in
-    let end = r.within in
+    let r = others_within c.requires.line.0 c.args.views.now.items c.args.line.now c.deref-candidate-items.result.now c.loop-candidate.candidate-index
+    c.deref-candidate-items.ensures.value c.loop-candidate-test.true c.requires.line.1.candidates in
     let long = ap (λ (w : List _). length w) c.deref.ensures.value in
-    omega (arith, before, end, long)
+    omega (arith, r.0, r.1, long)
 
 pub slice_bounds-others-count : goal.slice_bounds-others-count
 slice_bounds-others-count g c =
-    let o = g.S.Spec.object in
-    let s = c.args.state.now in
-    let old = c.args.views.now.items in
-    let line = c.args.line.now in
-    let xs = c.deref-candidate-items.result.now in
-    let k = c.loop-candidate.candidate-index in
-    let same = c.deref-candidate-items.ensures.value in
-    let there = c.loop-candidate-test.true in
-    let vs = c.loop-candidate.views.items in
-    let done = c.loop-candidate.done.items in
-    let t = c.loop-candidate.state in
-    let t0 = c.args.ticks.now in
-    let t1 = c.loop-candidate.ticks in
-    let ps = c.requires.line.0 in
-    let may = c.requires.line.1 in
-    let h = c.loop-candidate.invariant ps may in
-    (rest o ps c.args.number s old line k vs done t t0 t1 h may xs same there).before
+    let r = others_within c.requires.line.0 c.args.views.now.items c.args.line.now c.deref-candidate-items.result.now c.loop-candidate.candidate-index
+    c.deref-candidate-items.ensures.value c.loop-candidate-test.true c.requires.line.1.candidates in
+    r.0
 
 pub slice_bounds-others-start : goal.slice_bounds-others-start
 slice_bounds-others-start g c =
-    let o = g.S.Spec.object in
-    let s = c.args.state.now in
-    let old = c.args.views.now.items in
-    let line = c.args.line.now in
-    let xs = c.deref-candidate-items.result.now in
-    let k = c.loop-candidate.candidate-index in
-    let same = c.deref-candidate-items.ensures.value in
-    let there = c.loop-candidate-test.true in
-    let vs = c.loop-candidate.views.items in
-    let done = c.loop-candidate.done.items in
-    let t = c.loop-candidate.state in
-    let t0 = c.args.ticks.now in
-    let t1 = c.loop-candidate.ticks in
-    let ps = c.requires.line.0 in
-    let may = c.requires.line.1 in
-    let h = c.loop-candidate.invariant ps may in
-    (rest o ps c.args.number s old line k vs done t t0 t1 h may xs same there).before
+    let r = others_within c.requires.line.0 c.args.views.now.items c.args.line.now c.deref-candidate-items.result.now c.loop-candidate.candidate-index
+    c.deref-candidate-items.ensures.value c.loop-candidate-test.true c.requires.line.1.candidates in
+    r.0
 
 pub slice_bounds-others-end : goal.slice_bounds-others-end
 slice_bounds-others-end g c =
-    let o = g.S.Spec.object in
-    let s = c.args.state.now in
-    let old = c.args.views.now.items in
-    let line = c.args.line.now in
-    let xs = c.deref-candidate-items.result.now in
-    let k = c.loop-candidate.candidate-index in
-    let same = c.deref-candidate-items.ensures.value in
-    let there = c.loop-candidate-test.true in
-    let vs = c.loop-candidate.views.items in
-    let done = c.loop-candidate.done.items in
-    let t = c.loop-candidate.state in
-    let t0 = c.args.ticks.now in
-    let t1 = c.loop-candidate.ticks in
-    let ps = c.requires.line.0 in
-    let may = c.requires.line.1 in
-    let h = c.loop-candidate.invariant ps may in
-    let end = (rest o ps c.args.number s old line k vs done t t0 t1 h may xs same there).within in
+    let r = others_within c.requires.line.0 c.args.views.now.items c.args.line.now c.deref-candidate-items.result.now c.loop-candidate.candidate-index
+    c.deref-candidate-items.ensures.value c.loop-candidate-test.true c.requires.line.1.candidates in
     let long = ap (λ (w : List _). length w) c.deref.ensures.value in
-    omega (arith, end, long)
+    omega (arith, r.1, long)
 
 pub apply_all-requires : goal.apply_all-requires
 apply_all-requires g c =
@@ -169,8 +106,8 @@ apply_all-requires g c =
       c.in_ok-take_back_to.ensures.stands s (may_stand o ps c.args.number s old line k vs done t t0 t1 h) h.furthest.stands,
     )
 
-pub returns-in_err-all-clause-bound : goal.returns-in_err-all-clause-bound
-returns-in_err-all-clause-bound g c = λ ps may.
+pub returns-in_err-all_done-clause-bound : goal.returns-in_err-all_done-clause-bound
+returns-in_err-all_done-clause-bound g c = λ ps may.
     let o = g.S.Spec.object in
     let s = c.args.state.now in
     let old = c.args.views.now.items in
@@ -193,7 +130,7 @@ returns-in_err-all-clause-bound g c = λ ps may.
     let others = take (at.to - at.from) (drop at.from c.deref.result.now) in
     let are = ap (λ (w : List _). take (at.to - at.from) (drop at.from w)) c.deref.ensures.value in
     within_bound o ps c.args.number s old line k vs done t t0 t1 h may xs same there less others enough c.in_ok-take_back_to.ensures.first are c.take_back_to.new.ticks c.apply_all.new.ticks
-    c.in_ok-take_back_to.ensures.rises c.in_ok-take_back_to.ensures.cost c.in_err-all.ensures.rises c.in_err-all.ensures.bound
+    c.in_ok-take_back_to.ensures.rises c.in_ok-take_back_to.ensures.cost c.in_err-all_done.ensures.rises c.in_err-all_done.ensures.bound
 
 pub index-requires : goal.index-requires
 index-requires g c =
@@ -265,31 +202,31 @@ loop-candidate-preserved g c = λ ps may.
     let first = c.in_ok-take_back_to.ensures.first in
     let more = c.apply_all.new.done.items in
     let u = c.apply_all.new.state in
-    let all = c.in_ok-all.ensures.all in
-    let furthest = c.in_ok-all.ensures.furthest s (may_try o ps c.args.number s old line k vs done t t0 t1 h may xs same there less others enough first are)
+    let all = c.in_ok-all_done.ensures.all in
+    let furthest = c.in_ok-all_done.ensures.furthest s (may_try o ps c.args.number s old line k vs done t t0 t1 h may xs same there less others enough first are)
     (c.in_ok-take_back_to.ensures.stands s (may_stand o ps c.args.number s old line k vs done t t0 t1 h) h.furthest.stands) in
     let back = c.in_ok-take_back_to.ensures.rises in
     let cost = c.in_ok-take_back_to.ensures.cost in
-    let rises = c.in_ok-all.ensures.rises in
-    let bound = c.in_ok-all.ensures.bound in
+    let rises = c.in_ok-all_done.ensures.rises in
+    let bound = c.in_ok-all_done.ensures.bound in
     let within = view_within o ps c.args.number s old line k vs done t t0 t1 h may xs same there in
-    elim c.if-all.branch [
-      | then-all+then-is_none w ↦
+    elim c.if-all_done.branch [
+      | then-all_done+then-is_none w ↦
           let v = w.index_mut.result.now in
           let stands : StandsAt vs at.place v = (within, w.index_mut.ensures.value) in
           let none = not_some w.index.result.now.after w.if-is_none.ensures in
           let none_too : v.after ≡ None = ap (λ (x : View). x.after) (stand_same vs at.place v w.index.result.now stands (within, w.index.ensures)) ∙ none in
-          found o ps c.args.number s old line k vs done t t0 t1 h may xs same there less others enough first are more u c.take_back_to.new.ticks c.apply_all.new.ticks furthest back cost rises bound v stands
-          _ c.if-all.views.items (ap (λ x. x.items) w.views-is) refl refl refl none_too (all.0 w.if-all.true)
-      | else-all w ↦
-          subst (λ x. InRound o ps c.args.number s old line (k + 1) x.items more u t0 c.apply_all.new.ticks) (sym w.views-is) (elim w.else-all.branch [
-            | else-all-via-then-all+else-is_none q ↦
-                numbered o ps c.args.number s old line k vs done t t0 t1 h may xs same there less others enough first are more u c.take_back_to.new.ticks c.apply_all.new.ticks furthest back cost rises bound
+          round_after_find o ps c.args.number s old line k vs done t t0 t1 h may xs same there less others enough first are more u c.take_back_to.new.ticks c.apply_all.new.ticks furthest back cost rises bound v stands
+          _ c.if-all_done.views.items (ap (λ x. x.items) w.views-is) refl refl refl none_too (all.0 w.if-all_done.true)
+      | else-all_done w ↦
+          subst (λ x. InRound o ps c.args.number s old line (k + 1) x.items more u t0 c.apply_all.new.ticks) (sym w.views-is) (elim w.else-all_done.branch [
+            | else-all_done-via-then-all_done+else-is_none q ↦
+                round_after_number o ps c.args.number s old line k vs done t t0 t1 h may xs same there less others enough first are more u c.take_back_to.new.ticks c.apply_all.new.ticks furthest back cost rises bound
                 q.index.result.now (within, q.index.ensures) (some_is_not_none q.index.result.now.after q.if-is_none.ensures)
-            | else-all-via-else-all q ↦
+            | else-all_done-via-else-all_done q ↦
                 let v = some_stands vs at.place within in
-                failed o ps c.args.number s old line k vs done t t0 t1 h may xs same there less others enough first are more u c.take_back_to.new.ticks c.apply_all.new.ticks furthest back cost rises bound
-                v.0 v.1 (λ e. let never = sym q.if-all.false ∙ all.1 e in cc)
+                round_after_failure o ps c.args.number s old line k vs done t t0 t1 h may xs same there less others enough first are more u c.take_back_to.new.ticks c.apply_all.new.ticks furthest back cost rises bound
+                v.0 v.1 (λ e. let never = sym q.if-all_done.false ∙ all.1 e in cc)
           ])
     ]
 
@@ -299,9 +236,7 @@ take_back_to-requires-2 g c =
     let s = c.args.state.now in
     let old = c.args.views.now.items in
     let line = c.args.line.now in
-    let xs = c.deref-candidate-items.result.now in
     let k = c.loop-candidate.candidate-index in
-    let same = c.deref-candidate-items.ensures.value in
     let vs = c.loop-candidate.views.items in
     let done = c.loop-candidate.done.items in
     let t = c.loop-candidate.state in
@@ -326,7 +261,7 @@ returns-clause-tried g c = λ ps shape committed may at below.
     let t1 = c.loop-candidate.ticks in
     let h = c.loop-candidate.invariant ps may in
     let end : length line.candidates.items ≤ k = let long = ap (λ (w : List _). length w) c.deref-candidate-items.ensures.value in omega (arith, long, c.loop-candidate-test.false) in
-    over_numbered o ps c.args.number s old line k vs done t t0 t1 h end may shape committed at below
+    views_after_round o ps c.args.number s old line k vs done t t0 t1 h end may shape committed at below
 
 pub returns-clause-same : goal.returns-clause-same
 returns-clause-same g c =

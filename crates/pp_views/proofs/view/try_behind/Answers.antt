@@ -12,4 +12,4 @@ returns-then-entries-eq0-clause-tried g c = λ ps shape committed before may is 
 pub try_all-requires-clause-line : goal.try_all-requires-clause-line
 try_all-requires-clause-line g c =
     let r = c.requires.line in
-    (r.0, subst (λ s. MayBeNumbered g.S.Spec.object s r.0 c.args.views.now.items c.args.line.now) (sym c.in_ok-go_on.ensures.state) r.1)
+    (r.0, subst (λ s. MayBeNumbered g.S.Spec.object s r.0 c.args.views.now.items c.args.line.now) (sym c.in_ok-apply_committed.ensures.state) r.1)

@@ -6,7 +6,7 @@ use Rattle.pp_views.specs.Trying.{MayFollow}
 use Rattle.pp_views.proofs.Fronts.{cut_there}
 use Rattle.pp_views.proofs.Trails.{next_ranged, reached_there, would_be_legal}
 use Rattle.pp_views.proofs.Viewing.{trail_of, state_next, state_whole}
-use Rattle.pp_views.proofs.view.go_on.Goals as goal
+use Rattle.pp_views.proofs.view.apply_committed.Goals as goal
 
 pub apply-requires-clause-fits : goal.apply-requires-clause-fits
 apply-requires-clause-fits g c =
