@@ -7,6 +7,8 @@ A writer publishes a value that it never commits, and three hundred transactions
 thousand transactions then pull that value and are given up: some of their reads are true after each of the commits,
 and the last, of that value, is true after none. They are measured with one read, with two, and with eight. Then one
 transaction makes as many tries that begin alike: behind many reads it reads that value, and takes that read back.
+Last, transactions read what the one before each wrote, so that behind each commit one more peak has a number, while
+reads of that value wait for theirs in vain.
 """
 import os
 import tempfile
@@ -19,6 +21,8 @@ ADDITIONS = 3
 READS = [1, 2, 8]
 COMMON_READS = 100
 UNTOLD = 7
+TURNS = 3_000
+WAITING = 20_000
 
 
 def committed():
@@ -71,11 +75,26 @@ def alike():
     return records
 
 
-def measure(program, path, name, records):
+def in_turn():
+    """A transaction that makes many reads in vain, and transactions that read what the one before each wrote."""
+    records = [header("mem"), begin("writer", "p0"), app("writer", 0, "write", [0, UNTOLD]), named("push", "writer", 0)]
+    records += [begin("t", "p2"), named("pull", "t", 0), app("t", 1, "read", [0], UNTOLD)]
+    records += [app("t", number, "read", [1], 0) for number in range(2, WAITING + 1)]
+    for k in range(TURNS):
+        tx, number = f"c{k}", WAITING + 1 + 2 * k
+        records += [begin(tx)]
+        records += [named("pull", tx, number - 1), app(tx, number, "read", [1 + k], 1)] if k else []
+        records += [app(tx, number + 1, "write", [2 + k, 1])]
+        records += [named("push", tx, number)] if k else []
+        records += [named("push", tx, number + 1), cmt(tx)]
+    return records
+
+
+def measure(program, path, name, records, commits=COMMITS):
     write(path, records)
-    accepted = f"accepted steps {len(records) - 1} committed {COMMITS}"
+    accepted = f"accepted steps {len(records) - 1} committed {commits}"
     views, certified = (answered(program, word, path, accepted) for word in ("views", "certify"))
-    print(f"{TRIES} peaks of {name}, {len(records) - 1} steps: views {views:.2f} s, certify {certified:.2f} s, "
+    print(f"{name}, {len(records) - 1} steps: views {views:.2f} s, certify {certified:.2f} s, "
           f"ratio {views / certified:.2f}", flush=True)
 
 
@@ -83,8 +102,9 @@ def main():
     with tempfile.TemporaryDirectory() as folder:
         path = os.path.join(folder, "run.jsonl")
         for reads in READS:
-            measure(program_named(), path, f"{reads}", apart(reads))
-        measure(program_named(), path, f"{COMMON_READS + 1} that begin alike", alike())
+            measure(program_named(), path, f"{TRIES} peaks of {reads}", apart(reads))
+        measure(program_named(), path, f"{TRIES} peaks of {COMMON_READS + 1} that begin alike", alike())
+        measure(program_named(), path, f"{TURNS} peaks that get numbers in turn", in_turn(), TURNS)
 
 
 if __name__ == "__main__":

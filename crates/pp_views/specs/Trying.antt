@@ -1,4 +1,4 @@
--- Proof machinery: operations that are tried from a state, and taken back.
+-- Proof machinery: lines of candidates, and operations that are tried from a state, and taken back.
 use Rattle.std.specs.Prelude.{◌≡◌, ◌<◌, ◌≤◌, ◌+◌, ◌-◌, ℕ, suc, zero, IsTrue, List, [], ◌∷◌, length}
 use Rattle.std.specs.Prelude.{map, take, drop, get_or, None, sum_by}
 use Rattle.pp_model.specs.Config.{CommittedTx}
@@ -66,7 +66,7 @@ pub record HasRest {Op : Type 0} (l : List Op) (c : Candidate) (items : List (It
     pub within : c.to ≤ length l
     pub rest : take (c.to - c.from) (drop c.from l) ≡ ops (drop c.shared items)
 
--- It is so of each candidate's peak.
+-- HasRest of each candidate and its peak.
 abbrev pub HaveRests : {Op : Type 0} → List (Peak Op) → List Op → List Candidate → Type 0
 HaveRests {Op} ps l cs =
     (c : Candidate) (p : Peak Op) → In c cs → StandsAt ps c.place p → HasRest l c p.ops
@@ -112,7 +112,8 @@ module _ {Shape State Op Undo : Type 0} (o : Object Shape State Op Undo) where
   abbrev pub Stands : State → List (AppliedOp Op Undo) → State → Type 0
   Stands s done t = IsTrail s (applied done) (map (λ d. d.undo) done) t
 
-  -- What was applied is the beginning of the list, as far as it is allowed from the state s.
+  -- What was applied is the beginning of the list, as far as it is allowed from the state s, and led
+  -- to t.
   pub record IsFurthest (s : State) (l : List Op) (done : List (AppliedOp Op Undo))
       (t : State) : Type 0 where
     pub stands : Stands s done t
@@ -120,7 +121,7 @@ module _ {Shape State Op Undo : Type 0} (o : Object Shape State Op Undo) where
     pub front : applied done ≡ take (length done) l
     pub stops : length done < length l → AllowedFrom o s (take (length done + 1) l) → ⊥
 
-  -- A log led to the state, and the operations may be tried behind it: they are of its shape and
+  -- A log led to the state, and the operations may be tried from it: they are of its shape and
   -- ranged, and all together are fewer than a million.
   pub record MayFollow (s : State) (l : List Op) : Type 0 where
     pub before : List Op

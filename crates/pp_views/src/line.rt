@@ -23,7 +23,7 @@ pub(crate) struct Candidate {
 }
 
 /// Candidates, one behind another, and beside them what each does not share with the one before it.
-/// These operations stand in the order in which they are tried, so that a round reads one list.
+/// These operations stand one behind another as they are tried, so that a round reads one list.
 #[derive(Drop)]
 pub(crate) struct Line<O: Copy> {
     pub(crate) candidates: Vec<Candidate>,

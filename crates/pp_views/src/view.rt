@@ -1,5 +1,5 @@
 //! After how many committed transactions the results of peaks are what the object gives.
-ghost use Rattle.std.specs.Prelude.{◌≡◌, ◌+◌, ◌*◌, ◌<◌, ◌≤◌, ◌^◌, ℕ, List, [], false};
+ghost use Rattle.std.specs.Prelude.{◌≡◌, ◌+◌, ◌*◌, ◌<◌, ◌≤◌, ◌^◌, ℕ, List, []};
 ghost use Rattle.std.specs.Prelude.{IfOk, OnOk, length};
 ghost use Rattle.pp_model.specs.Config.{CommittedTx as TxOf};
 ghost use Rattle.pp_model.specs.Lists.{In};
@@ -120,8 +120,9 @@ fn try_all<S: Spec, L: Ledger>(
     Ok(numbered)
 }
 
-/// Lets a committed transaction take effect, and tries the peaks behind it. Behind one without
-/// operations they give what they gave before it, and none is tried.
+/// Lets a committed transaction take effect, and tries the peaks behind it. It answers whether any
+/// peak got a number. Behind a transaction without operations the peaks give what they gave before
+/// it, and none is tried.
 fn try_behind<S: Spec, L: Ledger>(
     state: &mut S::State,
     done: &mut Vec<AppliedOp<S::Op, S::Undo>>,
@@ -166,7 +167,8 @@ fn try_behind<S: Spec, L: Ledger>(
 }
 
 /// Tries the peaks before any committed transaction and after each of them, until each has a
-/// number.
+/// number. Those that have one leave the line behind the first round, and then each time when as
+/// many rounds more were made: so the line is made anew a few times, and few are tried in vain.
 fn number_all<S: Spec, L: Ledger>(
     alloc: Global,
     shape: &S::Shape,
@@ -188,25 +190,30 @@ fn number_all<S: Spec, L: Ledger>(
     let mut line = line_up(alloc, peaks)?;
     let mut done = Vec::new(alloc);
     let mut state = S::empty(alloc, shape)?;
-    let mut numbered = try_all::<S, L>(&mut state, &mut done, views, &line, 0, ticks)?;
+    let mut stale = try_all::<S, L>(&mut state, &mut done, views, &line, 0, ticks)?;
     let mut number = 0u32;
+    let mut due = 0u32;
     for transaction in committed {
-        if numbered {
+        if stale && number >= due {
             line = without_numbered(alloc, peaks, views.as_slice(), &line)?;
+            stale = false;
+            due = number.saturating_mul(2);
         }
         if line.candidates.len() == 0 {
             return Ok(());
         }
         number += 1;
         let entries = transaction.entries.as_slice();
-        numbered = try_behind::<S, L>(&mut state, &mut done, entries, views, &line, number, ticks)?;
+        let more = try_behind::<S, L>(&mut state, &mut done, entries, views, &line, number, ticks)?;
+        stale = stale || more;
     }
     Ok(())
 }
 
 /// For each peak the least number of committed transactions after which its results are what the
 /// object gives. Entries of the peaks with one id must be one, as they are in those of a run: so
-/// peaks that begin alike are known by their ids, and what they share is applied once for all.
+/// peaks that begin alike are known by their ids, and for each number of committed transactions what
+/// a peak shares with the one tried before it is not applied again.
 pub fn explain<S: Spec, L: Ledger>(
     alloc: Global,
     shape: &S::Shape,

@@ -11,7 +11,7 @@ use Rattle.pp_views.proofs.Leaving.{all_numbered, first_line}
 use Rattle.pp_views.proofs.Rounds.{may_be_numbered}
 use Rattle.pp_views.proofs.Viewing.{cost_so_far, first_state, next_allowed, next_may, next_state, one_round_more, pairwise_as, pairwise_long}
 use Rattle.pp_views.proofs.Viewing.{serial_next, serial_within, untried_below}
-use Rattle.pp_views.proofs.view.number_all.Goals.{then-numbered+in_ok-line-2, else-numbered}
+use Rattle.pp_views.proofs.view.number_all.Goals.{then-stale+then-number-due+in_ok-line-2, else-stale}
 use Rattle.pp_views.proofs.view.number_all.Goals as goal
 
 -- ---- before any transaction
@@ -28,14 +28,14 @@ try_all-requires-clause-line g c =
           (first_line ps vs c.in_ok-line.line long c.in_ok-line.ensures),
     )
 
-pub returns-in_err-numbered-clause-bound : goal.returns-in_err-numbered-clause-bound
-returns-in_err-numbered-clause-bound g c =
+pub returns-in_err-stale-clause-bound : goal.returns-in_err-stale-clause-bound
+returns-in_err-stale-clause-bound g c =
     let o = g.S.Spec.object in
     let D = c.args.committed.now in
     let ps = c.args.peaks.now in
     let vs = c.args.views.now.items in
     let long = pairwise_long IsUntried ps vs c.requires.untried in
-    let bound = c.in_err-numbered.ensures.bound ps (may_be_numbered o c.args.shape.now D 0 c.in_ok-state.state
+    let bound = c.in_err-stale.ensures.bound ps (may_be_numbered o c.args.shape.now D 0 c.in_ok-state.state
     (first_state o g.met.S.Spec.lawful c.args.shape.now D c.in_ok-state.state c.in_ok-state.ensures) ps c.requires.runs vs c.in_ok-line.line long
     (first_line ps vs c.in_ok-line.line long c.in_ok-line.ensures)) in
     cost_so_far c.args.ticks.now c.try_all.new.ticks 0 (length (serial_ops D)) 0 (length D) (operations ps) (omega (arith, bound)) (omega arith) (omega arith)
@@ -50,14 +50,14 @@ loop-transaction-init g c =
     let long = pairwise_long IsUntried ps vs c.requires.untried in
     let at = first_state o g.met.S.Spec.lawful c.args.shape.now D c.in_ok-state.state c.in_ok-state.ensures in
     let may = may_be_numbered o c.args.shape.now D 0 c.in_ok-state.state at ps c.requires.runs vs c.in_ok-line.line long (first_line ps vs c.in_ok-line.line long c.in_ok-line.ensures) in
-    let rises = c.in_ok-numbered.ensures.rises in
-    let bound = c.in_ok-numbered.ensures.bound ps may in
+    let rises = c.in_ok-stale.ensures.rises in
+    let bound = c.in_ok-stale.ensures.bound ps may in
     record {
       number = refl;
-      state = subst (λ s. IsStateAt o c.args.shape.now D 0 s) (sym c.in_ok-numbered.ensures.same) at;
-      empty = c.in_ok-numbered.ensures.empty;
-      views = c.in_ok-numbered.ensures.tried ps c.args.shape.now D may at (pairwise_as IsUntried (IsViewBelow 0 O D) (untried_below O D) ps vs c.requires.untried);
-      line = c.in_ok-numbered.ensures.line ps may;
+      state = subst (λ s. IsStateAt o c.args.shape.now D 0 s) (sym c.in_ok-stale.ensures.same) at;
+      empty = c.in_ok-stale.ensures.empty;
+      views = c.in_ok-stale.ensures.tried ps c.args.shape.now D may at (pairwise_as IsUntried (IsViewBelow 0 O D) (untried_below O D) ps vs c.requires.untried);
+      line = c.in_ok-stale.ensures.line ps may;
       rises = rises;
       cost = omega (arith, bound);
     }
@@ -81,14 +81,14 @@ returns-then-len-eq0-clause-views g c =
     let ps = c.args.peaks.now in
     let vs = c.loop-transaction.views.items in
     let i = c.loop-transaction.transaction-index in
-    let line : AreCandidates ps vs c.if-numbered.line = elim c.if-numbered.branch [
-      | then-numbered+in_ok-line-2 w ↦
+    let line : AreCandidates ps vs c.if-stale.line = elim c.if-stale.branch [
+      | then-stale+then-number-due+in_ok-line-2 w ↦
           subst (λ l. AreCandidates ps vs l) (sym w.line-is) (subst (λ (v : List View). AreCandidates ps v w.in_ok-line-2.line) w.as_slice.ensures.value w.in_ok-line-2.ensures)
-      | else-numbered w ↦ subst (λ l. AreCandidates ps vs l) (sym w.line-is) c.loop-transaction.invariant.line
+      | else-stale w ↦ subst (λ l. AreCandidates ps vs l) (sym w.line-is) c.loop-transaction.invariant.line
     ] in
-    let empty : length c.if-numbered.line.candidates.items ≡ 0 = let len : c.len.result ≡ length c.if-numbered.line.candidates.items = search rules in sym len ∙ c.if-len-eq0.true in
+    let empty : length c.if-stale.line.candidates.items ≡ 0 = let len : c.len.result ≡ length c.if-stale.line.candidates.items = search rules in sym len ∙ c.if-len-eq0.true in
     let le : i + 1 ≤ length D + 1 = omega (arith, c.loop-transaction-test.true) in
-    all_numbered g.S.Spec.object ps c.args.shape.now D (i + 1) (length D + 1) vs c.if-numbered.line empty le line c.loop-transaction.invariant.views
+    all_numbered g.S.Spec.object ps c.args.shape.now D (i + 1) (length D + 1) vs c.if-stale.line empty le line c.loop-transaction.invariant.views
 
 pub returns-then-len-eq0-clause-bound : goal.returns-then-len-eq0-clause-bound
 returns-then-len-eq0-clause-bound g c =
@@ -127,16 +127,16 @@ try_behind-requires-clause-line g c =
     let at = next_state o c.args.shape.now D i c.loop-transaction.state c.loop-transaction.invariant.state
     g.met.S.Spec.lawful d c.loop-transaction-test.true c.transaction-item.is c.requires.runs.allowed c.requires.runs.ranged s
     (ap (λ (w : List (Item _)). state_from o c.loop-transaction.state (ops w)) c.as_slice-entries.ensures) in
-    let line : AreCandidates ps vs c.if-numbered.line = elim c.if-numbered.branch [
-      | then-numbered+in_ok-line-2 w ↦
+    let line : AreCandidates ps vs c.if-stale.line = elim c.if-stale.branch [
+      | then-stale+then-number-due+in_ok-line-2 w ↦
           subst (λ l. AreCandidates ps vs l) (sym w.line-is) (subst (λ (v : List View). AreCandidates ps v w.in_ok-line-2.line) w.as_slice.ensures.value w.in_ok-line-2.ensures)
-      | else-numbered w ↦ subst (λ l. AreCandidates ps vs l) (sym w.line-is) c.loop-transaction.invariant.line
+      | else-stale w ↦ subst (λ l. AreCandidates ps vs l) (sym w.line-is) c.loop-transaction.invariant.line
     ] in
-    let may = may_be_numbered o c.args.shape.now D (i + 1) s at ps c.requires.runs vs c.if-numbered.line (pairwise_long _ ps vs c.loop-transaction.invariant.views) line in
+    let may = may_be_numbered o c.args.shape.now D (i + 1) s at ps c.requires.runs vs c.if-stale.line (pairwise_long _ ps vs c.loop-transaction.invariant.views) line in
     (ps, may)
 
-pub returns-in_err-numbered-2-clause-bound : goal.returns-in_err-numbered-2-clause-bound
-returns-in_err-numbered-2-clause-bound g c =
+pub returns-in_err-more-clause-bound : goal.returns-in_err-more-clause-bound
+returns-in_err-more-clause-bound g c =
     let o = g.S.Spec.object in
     let D = c.args.committed.now in
     let ps = c.args.peaks.now in
@@ -147,16 +147,16 @@ returns-in_err-numbered-2-clause-bound g c =
     let at = next_state o c.args.shape.now D i c.loop-transaction.state c.loop-transaction.invariant.state
     g.met.S.Spec.lawful d c.loop-transaction-test.true c.transaction-item.is c.requires.runs.allowed c.requires.runs.ranged s
     (ap (λ (w : List (Item _)). state_from o c.loop-transaction.state (ops w)) c.as_slice-entries.ensures) in
-    let line : AreCandidates ps vs c.if-numbered.line = elim c.if-numbered.branch [
-      | then-numbered+in_ok-line-2 w ↦
+    let line : AreCandidates ps vs c.if-stale.line = elim c.if-stale.branch [
+      | then-stale+then-number-due+in_ok-line-2 w ↦
           subst (λ l. AreCandidates ps vs l) (sym w.line-is) (subst (λ (v : List View). AreCandidates ps v w.in_ok-line-2.line) w.as_slice.ensures.value w.in_ok-line-2.ensures)
-      | else-numbered w ↦ subst (λ l. AreCandidates ps vs l) (sym w.line-is) c.loop-transaction.invariant.line
+      | else-stale w ↦ subst (λ l. AreCandidates ps vs l) (sym w.line-is) c.loop-transaction.invariant.line
     ] in
-    let may = may_be_numbered o c.args.shape.now D (i + 1) s at ps c.requires.runs vs c.if-numbered.line (pairwise_long _ ps vs c.loop-transaction.invariant.views) line in
+    let may = may_be_numbered o c.args.shape.now D (i + 1) s at ps c.requires.runs vs c.if-stale.line (pairwise_long _ ps vs c.loop-transaction.invariant.views) line in
     let long = ap (λ (w : List (Item _)). length w) c.as_slice-entries.ensures in
     let next = ap (λ (w : List _). length w) (serial_next D i d c.loop-transaction-test.true c.transaction-item.is) ∙ length-append (serial_ops (take i D)) (ops d.entries) in
     let so_far = c.loop-transaction.invariant.cost in
-    let more = c.in_err-numbered-2.ensures.bound ps may in
+    let more = c.in_err-more.ensures.bound ps may in
     cost_so_far c.args.ticks.now c.try_behind.new.ticks (length (serial_ops (take (i + 1) D))) (length (serial_ops D)) (i + 1) (length D) (operations ps)
     (omega (arith, so_far, more, long, next, length-ops d.entries, one_round_more i (operations ps))) (serial_within D (i + 1)) (omega (arith, c.loop-transaction-test.true))
 
@@ -172,29 +172,29 @@ loop-transaction-preserved g c =
     let at = next_state o c.args.shape.now D i c.loop-transaction.state c.loop-transaction.invariant.state
     g.met.S.Spec.lawful d c.loop-transaction-test.true c.transaction-item.is c.requires.runs.allowed c.requires.runs.ranged s
     (ap (λ (w : List (Item _)). state_from o c.loop-transaction.state (ops w)) c.as_slice-entries.ensures) in
-    let line : AreCandidates ps vs c.if-numbered.line = elim c.if-numbered.branch [
-      | then-numbered+in_ok-line-2 w ↦
+    let line : AreCandidates ps vs c.if-stale.line = elim c.if-stale.branch [
+      | then-stale+then-number-due+in_ok-line-2 w ↦
           subst (λ l. AreCandidates ps vs l) (sym w.line-is) (subst (λ (v : List View). AreCandidates ps v w.in_ok-line-2.line) w.as_slice.ensures.value w.in_ok-line-2.ensures)
-      | else-numbered w ↦ subst (λ l. AreCandidates ps vs l) (sym w.line-is) c.loop-transaction.invariant.line
+      | else-stale w ↦ subst (λ l. AreCandidates ps vs l) (sym w.line-is) c.loop-transaction.invariant.line
     ] in
-    let may = may_be_numbered o c.args.shape.now D (i + 1) s at ps c.requires.runs vs c.if-numbered.line (pairwise_long _ ps vs c.loop-transaction.invariant.views) line in
+    let may = may_be_numbered o c.args.shape.now D (i + 1) s at ps c.requires.runs vs c.if-stale.line (pairwise_long _ ps vs c.loop-transaction.invariant.views) line in
     let long = ap (λ (w : List (Item _)). length w) c.as_slice-entries.ensures in
     let next = ap (λ (w : List _). length w) (serial_next D i d c.loop-transaction-test.true c.transaction-item.is) ∙ length-append (serial_ops (take i D)) (ops d.entries) in
     let so_far = c.loop-transaction.invariant.cost in
     let rises = c.loop-transaction.invariant.rises in
     let number = c.loop-transaction.invariant.number in
-    let more = c.in_ok-numbered-2.ensures.bound ps may in
-    let higher = c.in_ok-numbered-2.ensures.rises in
+    let more = c.in_ok-more.ensures.bound ps may in
+    let higher = c.in_ok-more.ensures.rises in
     let O = rules_of o c.args.shape.now in
     let one : c.loop-transaction.number + 1 ≡ i + 1 = omega (arith, number) in
     record {
       number = one;
-      state = subst (λ w. IsStateAt o c.args.shape.now D (i + 1) w) (sym c.in_ok-numbered-2.ensures.state) at;
-      empty = c.in_ok-numbered-2.ensures.empty;
+      state = subst (λ w. IsStateAt o c.args.shape.now D (i + 1) w) (sym c.in_ok-more.ensures.state) at;
+      empty = c.in_ok-more.ensures.empty;
       views = subst (λ n. Pairwise (IsViewBelow (n + 1) O D) ps c.try_behind.new.views.items) one
-          (c.in_ok-numbered-2.ensures.tried ps c.args.shape.now D i may one c.loop-transaction.invariant.state (subst (λ n. IsStateAt o c.args.shape.now D n s) (sym one) at)
+          (c.in_ok-more.ensures.tried ps c.args.shape.now D i may one c.loop-transaction.invariant.state (subst (λ n. IsStateAt o c.args.shape.now D n s) (sym one) at)
           (subst (λ n. Pairwise (IsViewBelow n O D) ps vs) (sym one) c.loop-transaction.invariant.views));
-      line = c.in_ok-numbered-2.ensures.line ps may;
+      line = c.in_ok-more.ensures.line ps may;
       rises = omega (arith, rises, higher);
       cost = omega (arith, so_far, more, long, next, length-ops d.entries, one_round_more i (operations ps));
     }
