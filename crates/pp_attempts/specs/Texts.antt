@@ -2,9 +2,9 @@
 use Rattle.std.specs.Prelude.{ℕ, List, ◌++◌, codes, Option, None, Some}
 use Rattle.std.specs.Fmt.{decimal}
 use Rattle.std.specs.List.{flat_map}
-use Rattle.pp_reading.specs.FaultTexts.{line}
 use Rattle.pp_report.specs.Reports.{accepted_line}
 use Rattle.pp_views.specs.declared.view.View.{View}
+use Rattle.pp_text.specs.Lines.{line}
 
 -- a number, if there is one
 abbrev pub number_bytes : Option ℕ → List ℕ

@@ -3,7 +3,6 @@
 #![tactic(auto)]
 
 mod command;
-mod copy;
 mod finding;
 mod law;
 mod report;

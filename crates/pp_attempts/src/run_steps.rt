@@ -1,10 +1,10 @@
 //! Taking the lines of a run whose steps are kept.
-ghost use Rattle.std.specs.Prelude.{◌≡◌, []};
+ghost use Rattle.std.specs.Prelude.{◌≡◌, ◌++◌, [], OnOk};
+ghost use Rattle.pp_styles.specs.Meanings.{meanings};
 ghost use Rattle.pp_certify.specs.declared.progress.Progress.TheVariants.{Waiting};
 
-use crate::copy::add_copies;
 use pp_certify::{Progress, take_line};
-use pp_core::Ticks;
+use pp_core::{OutOfMemory, Step, Ticks};
 use pp_io::Line;
 use pp_object::Op;
 use pp_reading::{Cause, Stop, TakesLines};
@@ -30,6 +30,16 @@ impl RunSteps {
             steps: StepList::new(alloc),
         }
     }
+}
+
+/// Adds copies of these steps.
+fn add_copies(alloc: Global, list: &mut StepList<Op>, steps: &[Step<Op>]) -> Result<(), OutOfMemory>
+    ensures { OnOk result (meanings list.new ≡ meanings list.old ++ meanings steps.now) }
+{
+    for step in steps {
+        list.push(step.copy(alloc)?)?;
+    }
+    Ok(())
 }
 
 impl TakesLines for RunSteps {

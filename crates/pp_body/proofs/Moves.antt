@@ -219,6 +219,3 @@ either_nowhere t = same_moves _ _ (or_zero_r t.moved) (or_zero_r t.fresh) (or_no
 
 pub passing_then : (t : Moves) → first_then passing t ≡ t
 passing_then t = same_moves _ _ (or_zero_l _ ∙ or_zero_r t.moved) (or_zero_l t.fresh) (or_nothing t.ended) refl
-
-pub nowhere_either : (t : Moves) → either nowhere t ≡ t
-nowhere_either t = same_moves _ _ (or_zero_l t.moved) (or_zero_l t.fresh) refl refl

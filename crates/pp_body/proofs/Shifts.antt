@@ -76,13 +76,6 @@ one_lies : (at : ℕ) (t : Bool) → Lies at (at + 1) (cond t (2 ^ at) 0)
 one_lies at true i h = let e = single at i h in (omega arith, omega arith)
 one_lies at false i h = absurd (none_has i h)
 
-joined_lies : (at mid end s t : ℕ) → at ≤ mid → mid ≤ end → Lies at mid s → Lies mid end t → Lies at end (bit_or s t)
-joined_lies at mid end s t a l f g i h =
-    elim (one_of s t i h) [ inl x ↦ let r = f i x in (omega arith, omega arith) | inr x ↦ let r = g i x in (omega arith, omega arith) ]
-
-wider : (at end s : ℕ) → Lies at end s → Lies at (end + 1) s
-wider at end s f i h = let r = f i h in (omega arith, omega arith)
-
 abbrev Until : ℕ → ℕ → ℕ → Type 0
 Until at n s = Lies at (at + n) s
 

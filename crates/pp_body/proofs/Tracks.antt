@@ -127,9 +127,6 @@ took o b reached pushed more given last s c taken some put e same last_is_it is 
     let all = put ∙ e ∙ ap (λ (x : ℕ). reached ++ x ∷ []) set_is ∙ ap (λ (ts : List ℕ). ts ++ shift b 0 (state b 0 true taken).0 (state b 0 true taken).1 c ∷ []) known in
     subst (λ (x : Option Tree). IsTracked x (taken ++ c ∷ []) more) (sym some) (all ∙ sym (sets_after_more b 0 true taken c))
 
-pub untracked : (o : Option Tree) (taken : List Call) (reached : List ℕ) → o ≡ None → IsTracked o taken reached
-untracked o taken reached e = subst (λ (x : Option Tree). IsTracked x taken reached) (sym e) tt
-
 -- the last set taken away
 back_from : (b : Tree) (taken : List Call) (c : Call) (reached less : List ℕ) (s : Option ℕ) → reached ≡ less ++ option_to_list s → (IsNone s → length reached ≡ 0)
     → reached ≡ sets_after b 0 true (taken ++ c ∷ []) → less ≡ sets_after b 0 true taken

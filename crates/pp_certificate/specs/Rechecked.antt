@@ -3,18 +3,17 @@ use Rattle.std.specs.Prelude.{◌≡◌, ℕ, nat_lt, List, ◌++◌, length, ma
 use Rattle.std.specs.Prelude.{Some, if◌then◌else◌}
 use Rattle.std.specs.Fmt.{decimal}
 use Rattle.std.specs.Io.KnownBytes.{Consumes}
-use Rattle.std.specs.List.{flat_map, range_with_len}
+use Rattle.std.specs.List.{flat_map}
 use Rattle.pp_core.specs.Catalogs.{Objects}
 use Rattle.pp_core.specs.declared.call.Kind.{Kind}
-use Rattle.pp_core.specs.declared.entry.Item.{Item}
 use Rattle.pp_core.specs.declared.status.Status.{Status}
 use Rattle.pp_core.specs.declared.status.Status.TheVariants as statuses
 use Rattle.pp_io.specs.Overruns.{early_lines, overrun, scanned_lines}
 use Rattle.pp_object.specs.Objects.{objects}
 use Rattle.pp_object.specs.declared.act.Op.{Op}
 use Rattle.pp_object.specs.declared.states.ObjectState.{ObjectState}
-use Rattle.pp_text.specs.Texts.{answer_bytes, op_bytes, state_bytes}
-use Rattle.pp_reading.specs.FaultTexts.{fault_text, line}
+use Rattle.pp_text.specs.Texts.{answer_bytes}
+use Rattle.pp_reading.specs.FaultTexts.{fault_text}
 use Rattle.pp_reading.specs.Limits.{limit_fault}
 use Rattle.pp_reading.specs.declared.cause.Cause.{Cause}
 use Rattle.pp_reading.specs.declared.cause.Cause.TheVariants as causes
@@ -24,6 +23,7 @@ use Rattle.pp_recheck.specs.declared.shown.Shown.{Shown}
 use Rattle.pp_recheck.specs.Certificates.{Stage, Fresh, Verdict, Holds, Refused, IsVerdictOf}
 use Rattle.pp_recheck.specs.Laws.{Leads, ShowsAllowed}
 use Rattle.pp_recheck.specs.Own.{ShowsOwn}
+use Rattle.pp_text.specs.Lines.{line, op_line, state_lines}
 use Rattle.pp_certificate.specs.Reading.{objects_in, reader_of}
 
 -- the lines of an input before the one that passes a limit
@@ -85,20 +85,6 @@ abbrev pub holds_line : ℕ → ℕ → ℕ → List ℕ
 holds_line operations swaps serial =
     line (codes "holds operations " ++ decimal operations ++ codes " swaps " ++ decimal swaps
     ++ codes " serial " ++ decimal serial)
-
--- the line of an operation
-abbrev pub op_line : Objects → Item Op → List ℕ
-op_line catalog entry =
-    line (codes "op " ++ decimal entry.id ++ codes " " ++ op_bytes catalog entry.op)
-
--- the line of the state of the object at a place
-abbrev pub state_line : Objects → List ObjectState → ℕ → List ℕ
-state_line catalog states place = line (state_bytes catalog states place)
-
--- the lines of the states of all objects, in their order
-abbrev pub state_lines : Objects → List ObjectState → List ℕ
-state_lines catalog states =
-    flat_map (state_line catalog states) (range_with_len 0 (length catalog))
 
 -- the report of a certificate: its serial entries, and the state after them
 abbrev pub holds_text : Objects → Shown (List Kind) (List ObjectState) Op → List ℕ

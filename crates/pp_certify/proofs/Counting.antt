@@ -44,9 +44,6 @@ use Rattle.pp_certify.proofs.Scanning.{scan_blank, scan_header}
 nothing_less : (n : ℕ) → 0 ≤ n
 nothing_less n = omega arith
 
-same_le : (n : ℕ) → n ≤ n
-same_le n = omega arith
-
 pub add_le : (a b c : ℕ) → b ≤ c → a + b ≤ a + c
 add_le a b c h = omega (arith, h)
 

@@ -1,5 +1,5 @@
 //! The bodies of transactions, and how large they are.
-ghost use Rattle.std.specs.Prelude.{◌≡◌, ◌+◌, ◌≤◌, min, IfOk};
+ghost use Rattle.std.specs.Prelude.{◌≡◌, ◌+◌, ◌≤◌, min, option_map, IfOk};
 ghost use Rattle.pp_core.specs.Trees.{tree, trees_of, nodes, nodes_of_all, depth, depth_of_all};
 
 use crate::answer::OutOfMemory;
@@ -119,6 +119,16 @@ impl Body {
         ensures { IfOk result (λ b. tree b ≡ tree self.now) }
     {
         copy(self, alloc)
+    }
+
+    /// An equal body, or none where there is none. The only error is that memory was refused.
+    pub fn copy_if_any(body: &Option<Body>, alloc: Global) -> Result<Option<Body>, OutOfMemory>
+        ensures { IfOk result (λ b. option_map tree b ≡ option_map tree body.now) }
+    {
+        match body {
+            None => Ok(None),
+            Some(body) => Ok(Some(copy(body, alloc)?)),
+        }
     }
 
     /// Whether it has at most 64 nodes and is at most 16 deep.

@@ -1,5 +1,5 @@
 //! A list that grows at its end.
-ghost use Rattle.std.specs.Prelude.{◌≡◌, [], ◌∷◌, ◌++◌, length, slice_get, OnOk, OnErr};
+ghost use Rattle.std.specs.Prelude.{◌≡◌, [], ◌∷◌, ◌++◌, length, slice_get, IfOk, OnOk, OnErr};
 ghost use Rattle.std.specs.Option.{option_copied};
 
 use crate::answer::OutOfMemory;
@@ -71,6 +71,16 @@ impl<T: Drop> Sequence<T> {
     {
         self.items.push(item)?;
         Ok(())
+    }
+}
+
+impl<T: Copy> Sequence<T> {
+    /// The same items once more. The only error is that memory was refused.
+    pub fn copy_of(items: &[T], alloc: Global) -> Result<Sequence<T>, OutOfMemory>
+        ensures { IfOk result (λ copy. copy ≡ items.now) }
+    {
+        let items: Vec<T> = items.iter().copied().collect(alloc)?;
+        Ok(Sequence { items })
     }
 }
 

@@ -1,10 +1,12 @@
 //! The steps of the machine, and the rules that they follow.
-ghost use Rattle.std.specs.Prelude.{◌≡◌};
+ghost use Rattle.std.specs.Prelude.{◌≡◌, IfOk};
 ghost use Rattle.pp_core.specs.Steps.{meaning, rule_of};
 ghost use Rattle.pp_core.specs.Words.{rule_word};
 
+use crate::answer::OutOfMemory;
 use crate::body::Body;
 use crate::name::Name;
+use std::alloc::Global;
 
 /// A step of the machine: what one transaction does at once.
 #[derive(Drop)]
@@ -48,6 +50,34 @@ pub enum Step<O> {
     Note {
         tx: Name,
     },
+}
+
+impl<O: Copy> Step<O> {
+    /// The same step. The only error is that memory was refused for its body.
+    pub fn copy(&self, alloc: Global) -> Result<Step<O>, OutOfMemory>
+        ensures { IfOk result (λ copy. meaning copy ≡ meaning self.now) }
+    {
+        match self {
+            Step::Begin { tx, thread, body } => Ok(Step::Begin {
+                tx: *tx,
+                thread: *thread,
+                body: Body::copy_if_any(body, alloc)?,
+            }),
+            Step::App { tx, id, op } => Ok(Step::App {
+                tx: *tx,
+                id: *id,
+                op: *op,
+            }),
+            Step::Unapp { tx, id } => Ok(Step::Unapp { tx: *tx, id: *id }),
+            Step::Push { tx, id } => Ok(Step::Push { tx: *tx, id: *id }),
+            Step::Unpush { tx, id } => Ok(Step::Unpush { tx: *tx, id: *id }),
+            Step::Pull { tx, id } => Ok(Step::Pull { tx: *tx, id: *id }),
+            Step::Unpull { tx, id } => Ok(Step::Unpull { tx: *tx, id: *id }),
+            Step::Cmt { tx } => Ok(Step::Cmt { tx: *tx }),
+            Step::Quit { tx } => Ok(Step::Quit { tx: *tx }),
+            Step::Note { tx } => Ok(Step::Note { tx: *tx }),
+        }
+    }
 }
 
 /// The rule that a step follows, or the start of a run.

@@ -5,8 +5,8 @@ use Rattle.pp_core.specs.Catalogs.{Objects}
 use Rattle.pp_core.specs.declared.entry.CommittedTx.{CommittedTx}
 use Rattle.pp_object.specs.declared.act.Op.{Op}
 use Rattle.pp_object.specs.declared.states.ObjectState.{ObjectState}
-use Rattle.pp_reading.specs.FaultTexts.{line}
-use Rattle.pp_report.specs.Reports.{all_tx_lines, state_lines}
+use Rattle.pp_text.specs.Lines.{line, state_lines}
+use Rattle.pp_report.specs.Reports.{all_tx_lines}
 
 -- the first line of an accepted run, with the number of its records and of its committed
 -- transactions

@@ -7,8 +7,8 @@ ghost use Rattle.pp_decide.specs.Reports.{quick_rejected_text};
 
 use pp_core::{Catalog, Committed, OutOfMemory, Text};
 use pp_object::{ObjectStates, Op};
-use pp_report::{write_states, write_transactions};
-use pp_text::write_number;
+use pp_report::write_transactions;
+use pp_text::{write_number, write_states};
 use std::alloc::Global;
 
 /// Adds the first line of an accepted run.

@@ -22,11 +22,11 @@ use Rattle.pp_model.specs.Sound.{serial_ops}
 use Rattle.pp_object.specs.Objects.{kinds_of, objects, place_of}
 use Rattle.pp_object.specs.declared.act.Op.{Op}
 use Rattle.pp_object.specs.declared.states.ObjectState.{ObjectState}
-use Rattle.pp_reading.specs.FaultTexts.{line}
 use Rattle.pp_reading.specs.declared.cause.Cause.TheVariants.{TooManySteps}
-use Rattle.pp_report.specs.Reports.{accepted_line, accepted_text, state_lines}
+use Rattle.pp_report.specs.Reports.{accepted_line, accepted_text}
 use Rattle.pp_rules.specs.Machines.{Seen}
 use Rattle.pp_spec.specs.Object.{state_after}
+use Rattle.pp_text.specs.Lines.{line, state_lines}
 use Rattle.pp_certify.proofs.Concluding.{accepted_alone, accepted_reported, accepted_simulated}
 use Rattle.pp_certify.proofs.Covering.{running_sound}
 use Rattle.pp_certify.specs.Inputs.{IsFaultOf}

@@ -5,7 +5,7 @@ use Rattle.pp_core.specs.declared.status.Status.{Status}
 use Rattle.pp_core.specs.declared.status.Status.TheVariants as statuses
 use Rattle.pp_front.specs.Runs.{bare}
 use Rattle.pp_model.specs.Serial.{attempts, committed_tx}
-use Rattle.pp_reading.specs.FaultTexts.{line}
+use Rattle.pp_text.specs.Lines.{line}
 use Rattle.pp_report.specs.Reports.{accepted_line, accepted_text}
 use Rattle.pp_certify.specs.Accepted.{HasRun, IsAloneAccepted, IsSimulated}
 use Rattle.pp_certify.specs.Inputs.{IsFaultOf}

@@ -7,9 +7,9 @@ use Rattle.pp_front.specs.Inputs.{Accepts, IsReport}
 use Rattle.pp_model.specs.Serial.{Attempt}
 use Rattle.pp_object.specs.declared.act.Op.{Op}
 use Rattle.pp_object.specs.declared.states.ObjectState.{ObjectState}
-use Rattle.pp_reading.specs.FaultTexts.{line}
+use Rattle.pp_text.specs.Lines.{line, state_lines}
 use Rattle.pp_reading.specs.declared.cause.Cause.TheVariants.{TooManySteps}
-use Rattle.pp_report.specs.Reports.{accepted_line, state_lines}
+use Rattle.pp_report.specs.Reports.{accepted_line}
 use Rattle.pp_certify.specs.Inputs.{scan}
 use Rattle.pp_certify.specs.Objects.{setting_of}
 use Rattle.pp_certify.specs.Scans.{InputScan}

@@ -6,8 +6,8 @@ ghost use Rattle.pp_drill.specs.Reports.{drill_report};
 
 use pp_core::{Catalog, OutOfMemory, Text};
 use pp_object::ObjectStates;
-use pp_report::{write_first_line, write_states};
-use pp_text::write_number;
+use pp_report::write_first_line;
+use pp_text::{write_number, write_states};
 use std::alloc::Global;
 
 /// The text of the command for n transactions. The only error is that memory was refused.

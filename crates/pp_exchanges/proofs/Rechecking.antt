@@ -33,7 +33,7 @@ use Rattle.pp_object.specs.Objects.{kinds_of, objects}
 use Rattle.pp_object.specs.declared.act.Op.{Op}
 use Rattle.pp_object.specs.declared.states.ObjectState.{ObjectState}
 use Rattle.pp_object.specs.laws.Objects.{objects_lawful}
-use Rattle.pp_report.specs.Reports.{accepted_text, op_line}
+use Rattle.pp_report.specs.Reports.{accepted_text}
 use Rattle.pp_spec.specs.Object.{state_after}
 use Rattle.pp_swaps.specs.Exchanges.{Inverted, Permutes, inverted, route}
 use Rattle.pp_swaps.specs.Laws.{log_of, target_of}
@@ -42,6 +42,7 @@ use Rattle.pp_swaps.proofs.Targets.{log_fits, targets}
 use Rattle.pp_reading.specs.Limits.{limit_fault}
 use Rattle.pp_recheck.specs.Certificates.{Holds, IsVerdictOf}
 use Rattle.pp_recheck.proofs.Rows.{positions_within}
+use Rattle.pp_text.specs.Lines.{op_line}
 use Rattle.pp_certificate.specs.Laws.{can_state, lines_of}
 use Rattle.pp_certificate.specs.Reading.{objects_in, reader_of}
 use Rattle.pp_certificate.specs.Rechecked.{IsChecked, IsRecheck, Shows, checked, holds_text, texts}
@@ -265,7 +266,6 @@ certified bytes text (how, report, is, swaps) =
           (is_rechecked bytes report a.0 own a.1.1 small.0);
       certified = subst (λ (t : List ℕ). IsCertified bytes statuses.Accepted t) (report_is bytes report a.0 own a.1.1) accepts;
       same_ops = lines_of_txs (op_line own.header.what.catalog) (config_of own).done;
-      same_states = λ states. refl;
     }
 
 pub prints_certificate : (bytes text : List ℕ) (old new : Option (List ℕ)) → IsSwaps bytes statuses.Accepted text → Appends old new text → PrintsCertificate bytes old new

@@ -11,11 +11,10 @@ use Rattle.pp_model.specs.Sound.{serial_items}
 use Rattle.pp_object.specs.Objects.{kinds_of, objects}
 use Rattle.pp_object.specs.declared.act.Op.{Op}
 use Rattle.pp_object.specs.declared.states.ObjectState.{ObjectState}
-use Rattle.pp_report.specs.Reports as certify
 use Rattle.pp_report.specs.Reports.{accepted_text}
 use Rattle.pp_recheck.specs.declared.shown.Shown.{Shown}
 use Rattle.pp_recheck.specs.Laws.{shown_of}
-use Rattle.pp_certificate.specs.Rechecked as recheck
+use Rattle.pp_text.specs.Lines.{op_line}
 use Rattle.pp_certificate.specs.Rechecked.{IsRecheck, holds_text}
 use Rattle.pp_certify.specs.Accepted.{HasRun}
 use Rattle.pp_certify.specs.Inputs.{scan}
@@ -39,12 +38,9 @@ pub record IsCertificateOf (bytes text : List ℕ) : Type 0 where
       (accepted_text run.header.what.catalog (length run.run) (config_of run).done
       (shown_in run.header.what.catalog (config_of run)).state)
   pub same_ops :
-      flat_map (recheck.op_line run.header.what.catalog) (serial_items (config_of run).done)
-      ≡ flat_map (λ tx. flat_map (certify.op_line run.header.what.catalog) tx.entries)
+      flat_map (op_line run.header.what.catalog) (serial_items (config_of run).done)
+      ≡ flat_map (λ tx. flat_map (op_line run.header.what.catalog) tx.entries)
       (config_of run).done
-  pub same_states : (states : List ObjectState)
-      → recheck.state_lines run.header.what.catalog states
-      ≡ certify.state_lines run.header.what.catalog states
 
 -- What was printed is such a certificate.
 abbrev pub PrintsCertificate : List ℕ → Option (List ℕ) → Option (List ℕ) → Type 0

@@ -11,8 +11,8 @@ use Rattle.pp_model.specs.Config.{Config, after}
 use Rattle.pp_object.specs.declared.act.Op.{Op}
 use Rattle.pp_swaps.specs.Exchanges.{inverted}
 use Rattle.pp_swaps.specs.Laws.{log_of, target_of}
+use Rattle.pp_text.specs.Lines.{line}
 use Rattle.pp_certificate.specs.Laws.{lines_of}
-use Rattle.pp_reading.specs.FaultTexts.{line}
 use Rattle.pp_certify.specs.Accepted.{HasRun}
 use Rattle.pp_certify.specs.Inputs.{scan}
 use Rattle.pp_certify.specs.Objects.{start_of}

@@ -6,6 +6,5 @@ pub mod Taking
 pub mod Reporting
 pub mod Carrying
 pub mod Pushing
-pub mod Keepless
 pub mod Reprinting
 pub mod Rows

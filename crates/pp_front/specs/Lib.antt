@@ -8,5 +8,4 @@ pub mod Effects
 pub mod Inputs
 pub mod PlainInputs
 pub mod Carried
-pub mod Stateless
 pub mod Reprints

@@ -1,8 +1,7 @@
 -- What the fields of `Lines` keep, as bytes are taken.
-use Rattle.std.proofs.Common.{◌≡◌, ◌≤◌, ◌<◌, ℕ, ◌+◌, List, [], ◌∷◌, ◌++◌, ◌==◌, length, map, Bool}
-use Rattle.std.proofs.Common.{true, false, is_some, Option, Some, refl, ap, ◌∙◌, arith}
+use Rattle.std.proofs.Common.{◌≡◌, ◌≤◌, ℕ, ◌+◌, List, [], ◌∷◌, ◌++◌, ◌==◌, length, map, Bool}
+use Rattle.std.proofs.Common.{true, false, is_some, Option, refl, ap, ◌∙◌, arith}
 use Rattle.std.proofs.lemmas.List.{length-append, length-map}
-use Rattle.pp_core.specs.declared.limits.TheConstants.{MOST_LINES}
 use Rattle.pp_io.specs.declared.reach.Reach.{Reach}
 use Rattle.pp_io.specs.Lines.{ended_behind, rest_behind, without_return}
 use Rattle.pp_io.specs.Reaches.{passed, past, within_from, reach_from, IsReach}
@@ -49,11 +48,3 @@ counted_fed at rest piece bytes old new tail last handed closed is open_yet with
       ahead = λ e. (le, first.1);
       room = rw first.1 (omega (arith, le, reached.0));
     }
-
--- the rest counts as a line
-pub counted_last : (whole : List (List ℕ)) (last : Option (List ℕ)) (rest line : List ℕ) (handed : ℕ) (at : Reach)
-    → IsCounted whole last rest handed at false → 0 < length rest → IsCounted whole (Some line) [] handed at true
-counted_last whole last rest line handed at is some =
-    let first = is.ahead refl in
-    let lines : at.lines < MOST_LINES = is.reached.1 (omega (arith, is.column)) in
-    record { reached = is.reached; column = omega arith; ahead = λ e. absurd (cc); room = omega (arith, first.0, lines) }

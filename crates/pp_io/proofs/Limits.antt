@@ -143,13 +143,6 @@ not_first false x more h = refl
 past_bytes : (at : Reach) (b : ℕ) → (past at b).bytes ≡ at.bytes + 1
 past_bytes at b = elim (b == 10) as (λ v. (cond {A = Reach} v (record { bytes = at.bytes + 1; lines = at.lines + 1; column = 0 }) (record { bytes = at.bytes + 1; lines = at.lines; column = at.column + 1 })).bytes ≡ at.bytes + 1) [ true ↦ refl | false ↦ refl ]
 
--- bytes that pass no limit are counted
-pub bytes_counted : (at : Reach) (bytes : List ℕ) → overrun_from at bytes ≡ None → (reach_from at bytes).bytes ≡ at.bytes + length bytes
-bytes_counted at [] none = omega arith
-bytes_counted at (b ∷ bs) none =
-    let first = none_first (passed at b) (overrun_from (past at b) bs) none in
-    rw first.0 (omega (arith, bytes_counted (past at b) bs first.1, past_bytes at b))
-
 -- and no more than may be are taken
 pub bytes_bounded : (at : Reach) (bytes : List ℕ) → at.bytes ≤ MOST_BYTES → (reach_from at bytes).bytes ≤ MOST_BYTES
 bytes_bounded at [] le = le

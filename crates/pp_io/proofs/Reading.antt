@@ -11,7 +11,7 @@ use Rattle.pp_io.specs.Lines.{numbered, ended_lines, numbered_lines}
 use Rattle.pp_io.specs.Reaches.{overrun_from, within_from, reach_from, start}
 use Rattle.pp_io.specs.Overruns.{reach_of, overrun, within, line_of, lines_before, scanned_lines}
 use Rattle.pp_io.specs.Overruns.{early_lines}
-use Rattle.pp_io.specs.Held.{Held, empty, fed, refused, finished, next_line, after_next, first_of}
+use Rattle.pp_io.specs.Held.{Held, fed, finished, next_line, after_next, first_of}
 use Rattle.pp_io.specs.Held.{after_first}
 use Rattle.pp_io.specs.Taken.{Hands, Took}
 use Rattle.pp_io.proofs.Limits.{ended_append, rest_append, overrun_stays, within_stays}
@@ -116,14 +116,6 @@ all_handed lines out handed (x ∷ xs) all h = absurd (cc)
 pub hands_all : (lines out : List (ℕ × List ℕ)) (held : Held) → Hands lines out held → next_line held ≡ None → out ≡ lines
 hands_all lines out held is h = all_handed lines out held.handed held.whole is.order h
 
--- no whole line is held
-pub hands_none : (lines out : List (ℕ × List ℕ)) (held : Held) → Hands lines out held → held.whole ≡ [] → out ≡ lines
-hands_none lines out held is none = hands_all lines out held is (ap (first_of held.handed) none)
-
--- nothing was fed
-pub took_empty : Took [] [] empty
-took_empty = record { hands = record { handed = refl; order = refl }; rest = refl; reach = refl; fault = refl; unclosed = refl }
-
 -- a piece is fed
 pub took_fed : (bytes piece : List ℕ) (out : List (ℕ × List ℕ)) (held : Held) → Took bytes out held → held.fault ≡ None → Took (bytes ++ piece) out (fed held piece)
 took_fed bytes piece out held is sound =
@@ -145,22 +137,6 @@ took_fed bytes piece out held is sound =
       unclosed = is.unclosed;
     }
 
-pub after_keeps : (held : Held) (whole : List (List ℕ)) → ((after_first held whole).rest ≡ held.rest) × ((after_first held whole).reach ≡ held.reach) × ((after_first held whole).fault ≡ held.fault) × ((after_first held whole).closed ≡ held.closed)
-after_keeps held [] = (refl, refl, refl, refl)
-after_keeps held (line ∷ lines) = (refl, refl, refl, refl)
-
--- a line is handed out before the input is at its end
-pub took_next : (bytes : List ℕ) (out : List (ℕ × List ℕ)) (line : ℕ × List ℕ) (held : Held) → Took bytes out held → next_line held ≡ Some line → Took bytes (out ++ line ∷ []) (after_next held)
-took_next bytes out line held is h =
-    let same = after_keeps held held.whole in
-    record {
-      hands = hands_next (early_lines bytes) out line held is.hands h;
-      rest = same.0 ∙ is.rest;
-      reach = same.1 ∙ is.reach;
-      fault = same.2 ∙ is.fault;
-      unclosed = same.3 ∙ is.unclosed;
-    }
-
 -- the input is at its end
 pub hands_finished : (bytes : List ℕ) (out : List (ℕ × List ℕ)) (held : Held) → Took bytes out held → held.fault ≡ None → Hands (scanned_lines bytes) out (finished held)
 hands_finished bytes out held is sound =
@@ -170,10 +146,6 @@ hands_finished bytes out held is sound =
     let hands : Hands (ended_lines bytes) out held = subst (λ ls. Hands ls out held) lines is.hands in
     let whole : (finished held).whole ≡ held.whole ++ map without_return (unended (rest bytes)) = rw (is.rest, all) refl in
     subst (λ ls. Hands ls out (finished held)) (sym (scanned_all bytes none)) (hands_more (ended bytes) (unended (rest bytes)) out held (finished held) hands refl whole)
-
--- want of memory takes no whole line
-pub hands_refused : (lines out : List (ℕ × List ℕ)) (held : Held) → Hands lines out held → Hands lines out (refused held)
-hands_refused lines out held is = record { handed = is.handed; order = is.order }
 
 -- a limit that the next piece passes is one that the whole input passes
 pub took_overrun : (bytes piece : List ℕ) (out : List (ℕ × List ℕ)) (held : Held) → Took bytes out held → held.fault ≡ None → overrun_from held.reach piece ≡ overrun (bytes ++ piece)

@@ -11,12 +11,13 @@ use Rattle.pp_core.specs.declared.entry.LocalEntry.{LocalEntry}
 use Rattle.pp_model.specs.Config.{Mark, Unpushed, Pushed, Pulled, is_mark, is_own, item, own}
 use Rattle.pp_model.specs.Lists.{In}
 use Rattle.pp_model.proofs.Lists.{in_cases}
+use Rattle.pp_model.proofs.Finding.{stands_in}
 use Rattle.pp_spec.specs.Object.{Object}
 use Rattle.pp_parts.specs.Parts.{Covers, SampleList}
 use Rattle.pp_log.specs.declared.place.Removed.{Removed}
 use Rattle.pp_log.specs.declared.place.Removed.TheVariants.{Done, Differs}
 use Rattle.pp_log.specs.Logs.{RemovesEntry}
-use Rattle.pp_log.proofs.Lists.{before_stays, front_stays, set_other, stands_in}
+use Rattle.pp_log.proofs.Lists.{before_stays, front_stays, set_other}
 use Rattle.pp_local.specs.Known.{KnowsOwn, NonePushedBut, NonePushedFrom, NoneUnpushedBefore}
 use Rattle.pp_local.specs.Known.{NoneUnpushedBut}
 

@@ -8,9 +8,10 @@ use Rattle.pp_core.specs.declared.entry.Mark.{Mark}
 use Rattle.pp_model.specs.Config.{item, set_mark}
 use Rattle.pp_model.specs.Lists.{In}
 use Rattle.pp_model.specs.Object.{HasDistinctIds}
-use Rattle.pp_log.proofs.Lists.{pair, stands_in}
+use Rattle.pp_log.proofs.Lists.{pair}
 use Rattle.pp_model.proofs.Lists.{in_map}
 use Rattle.pp_model.proofs.Push.{marked_other, remark}
+use Rattle.pp_model.proofs.Finding.{stands_in}
 
 -- to mark the i-th entry is to mark the one with its id
 pub set_is_marked : {Op : Type 0} (m : Mark) (x : List (LocalEntry Op)) (i : ℕ) (e : LocalEntry Op) → HasDistinctIds (map item x) → slice_get x i ≡ Some e → slice_set x i (record { id = e.id; owner = e.owner; mark = m; op = e.op }) ≡ set_mark e.id m x

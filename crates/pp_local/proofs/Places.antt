@@ -7,7 +7,8 @@ use Rattle.std.proofs.lemmas.Bool.{cases_lt, le-ltb, ltb-true}
 use Rattle.std.proofs.lemmas.List.{drop-take, length-drop}
 use borrow.Author.Tests.{lt-ltb}
 use Rattle.pp_model.specs.Lists.{In}
-use Rattle.pp_log.proofs.Lists.{in_at, stands_in}
+use Rattle.pp_model.proofs.Finding.{stands_in}
+use Rattle.pp_log.proofs.Lists.{in_at}
 
 lt_suc : (n m : ℕ) → nat_lt (1 + n) (suc m) ≡ nat_lt n m
 lt_suc n m = elim (cases_lt n m) [

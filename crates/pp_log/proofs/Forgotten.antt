@@ -8,6 +8,7 @@ use Rattle.pp_core.specs.declared.entry.Item.{Item}
 use Rattle.pp_model.specs.Lists.{In}
 use Rattle.pp_model.specs.Object.{HasDistinctIds}
 use Rattle.pp_model.proofs.Lists.{by_key, in_map}
+use Rattle.pp_model.proofs.Finding.{stands_in}
 use Rattle.pp_spec.specs.Object.{Object}
 use Rattle.pp_log.specs.declared.index.Index.{Index}
 use Rattle.pp_log.specs.Batches.{CanForget, Forgets}
@@ -18,7 +19,7 @@ use Rattle.pp_log.specs.TakesOut.{itself}
 use Rattle.pp_log.proofs.Grown.{ids-remove}
 use Rattle.pp_log.proofs.Leaves.{distinct_now, item_at, item_within, not_nowhere, now_of, one_gone, still_in}
 use Rattle.pp_log.proofs.Leaving.{without_none}
-use Rattle.pp_log.proofs.Lists.{mapped_from, stands_in}
+use Rattle.pp_log.proofs.Lists.{mapped_from}
 use Rattle.pp_log.proofs.Rest.{drop_none}
 
 -- an item is found by its id, where all are told apart

@@ -11,6 +11,7 @@ use Rattle.pp_core.specs.declared.entry.Item.{Item}
 use Rattle.pp_model.specs.Lists.{In}
 use Rattle.pp_model.specs.Object.{HasDistinctIds, ops}
 use Rattle.pp_model.proofs.Lists.{by_key}
+use Rattle.pp_model.proofs.Finding.{stands_in}
 use Rattle.pp_spec.specs.Object.{Object, IsLawful, IsPlaced, state_after}
 use Rattle.pp_log.specs.declared.index.Index.{Index}
 use Rattle.pp_log.specs.declared.place.Place.{Place}
@@ -26,7 +27,7 @@ use Rattle.pp_log.proofs.Carried.{all_there}
 use Rattle.pp_log.proofs.Distinct.{IsNew}
 use Rattle.pp_log.proofs.Ids.{position_of_id}
 use Rattle.pp_log.proofs.Leaving.{lets_behind, leaves_next, now_distinct, still_there, without_none}
-use Rattle.pp_log.proofs.Lists.{at_first, behind_first, cut_there, drop_there, none_len, stands_in}
+use Rattle.pp_log.proofs.Lists.{at_first, behind_first, cut_there, drop_there, none_len}
 use Rattle.pp_log.proofs.Maps.{new_len}
 use Rattle.pp_log.proofs.Parted.{there_at}
 use Rattle.pp_log.proofs.Sites.{IsFound, IsSite, found_in, id_there, place_at, place_there, site_of, taken_out}

@@ -3,7 +3,7 @@ use Rattle.std.proofs.Common.{◌≡◌, ℕ, ◌<◌, ◌≤◌, ◌+◌, ◌-�
 use Rattle.std.proofs.Common.{◌∷◌, ◌++◌, length, take, drop, map, get_or, refl, sym, ◌∙◌, ap, arith}
 use Rattle.std.proofs.Common.{inl, inr, Some, None}
 use Rattle.std.specs.List.{slice_get, slice_set, remove, swap, position, position_or_len}
-use Rattle.std.proofs.lemmas.List.{drop_more, get_or-append-add, get_or_default, length-drop}
+use Rattle.std.proofs.lemmas.List.{drop_more, get_or-append-add, length-drop}
 use Rattle.std.proofs.lemmas.List.{length-map, take_all}
 use Rattle.std.proofs.Math.Seq.{drop-append-add}
 use Rattle.std.proofs.lemmas.Bool.{cases_lt}
@@ -28,10 +28,6 @@ push-injective (a ∷ xs) (b ∷ ys) x y e =
     let h = push-injective xs ys x y rest in
     let both : (a ∷ xs) ≡ (b ∷ ys) = let k = h.0 in cc in
     (both, h.1)
-
--- an item that is found is the one there, whatever stands for none
-pub found_there : {A : Type 0} (x : List A) (i j : ℕ) (d : A) → i ≡ j → j < length x → get_or x i d ≡ get_or x j (get_or x i d)
-found_there x i j d e h = ap (λ (k : ℕ). get_or x k d) e ∙ get_or_default x j d (get_or x i d) h
 
 pub found_behind : {A : Type 0} (before x : List A) (i j : ℕ) (a : A) → j ≡ length before + i → a ≡ get_or x i a → a ≡ get_or (before ++ x) j a
 found_behind before x i j a e is = is ∙ sym (get_or-append-add before x i a) ∙ ap (λ (k : ℕ). get_or (before ++ x) k a) (sym e)
@@ -64,11 +60,6 @@ swap_mid u v d e n is =
 pub drop_there : {A : Type 0} (x : List A) (i : ℕ) (e : A) → i < length x → e ≡ get_or x i e → drop i x ≡ e ∷ drop (i + 1) x
 drop_there {A} x i e h is = drop_more x i e h ∙ ap (λ (b : A). b ∷ drop (i + 1) x) (sym is)
 
--- a list whose first elements are known, without the one behind them
-pub without_first : {A : Type 0} (before x : List A) (i : ℕ) → length before ≡ i → 0 < length x → remove (before ++ x) i ≡ before ++ drop 1 x
-without_first before [] i e h = absurd (omega arith)
-without_first before (a ∷ x) i e h = ap (remove (before ++ a ∷ x)) (sym e) ∙ remove_mid before x a
-
 pub at_first : {A : Type 0} (before x : List A) (a : A) → slice_get (before ++ a ∷ x) (length before) ≡ Some a
 at_first [] x a = refl
 at_first (b ∷ before) x a = at_first before x a
@@ -98,23 +89,12 @@ set_other (b ∷ x) zero (suc r) a n = refl
 set_other (b ∷ x) (suc p) zero a n = refl
 set_other (b ∷ x) (suc p) (suc r) a n = set_other x p r a (λ e. n (ap suc e))
 
--- what stands at a place is in the list
-pub stands_in : {A : Type 0} (x : List A) (i : ℕ) (a : A) → slice_get x i ≡ Some a → In a x
-stands_in [] i a h = cc
-stands_in (b ∷ x) zero a h = inl cc
-stands_in (b ∷ x) (suc i) a h = inr (stands_in x i a h)
-
 pub in_at : {A : Type 0} (x : List A) (a : A) → In a x → (j : ℕ) × (j < length x) × (slice_get x j ≡ Some a)
 in_at [] a h = absurd h
 in_at (b ∷ x) a h = elim h [
   | inl same ↦ (0, omega arith, ap Some (sym same))
   | inr later ↦ let r = in_at x a later in let lt : suc r.0 < length (b ∷ x) = omega arith in (suc r.0, lt, r.2)
 ]
-
-pub not_past : {A : Type 0} (x : List A) (k : ℕ) → k < length x → slice_get x k ≡ None → ⊥
-not_past [] k h at = absurd (omega arith)
-not_past (a ∷ x) zero h at = cc
-not_past (a ∷ x) (suc k) h at = not_past x k (omega arith) at
 
 -- what stands in front stays there
 pub front_stays : {A : Type 0} (x y : List A) (j : ℕ) → j < length x → slice_get (x ++ y) j ≡ slice_get x j

@@ -8,9 +8,9 @@ use mathlib.Core.Logic.{inl, inr}
 use Rattle.pp_model.specs.Lists.{In, Before}
 use Rattle.pp_model.specs.Names.{Name, ◌=ⁿ◌}
 use Rattle.pp_model.proofs.Names.{eq-names, names_tell}
+use Rattle.pp_model.proofs.NameLists.{names_turned}
 use Rattle.pp_quick.specs.Brief.{BriefTx, at_brief, brief_of, without_brief}
 use Rattle.pp_quick.specs.Shown.{filled, in_slot, open_in}
-use Rattle.pp_quick.proofs.Threads.{names_turned}
 
 pub keys_stay : {X : Type 0} (t : Name) (es : List (Name × X)) (x : X) → keys_of (set_value (λ n. t =ⁿ n) es x) ≡ keys_of es
 keys_stay t [] x = refl

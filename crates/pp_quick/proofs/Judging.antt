@@ -9,7 +9,6 @@ use mathlib.Core.Logic.{inl, inr}
 use Rattle.pp_body.specs.Walks.{MayTake, TellsBegins, TellsWord}
 use Rattle.pp_core.specs.declared.entry.Item.{Item}
 use Rattle.pp_log.specs.Logs.{GoesBehind}
-use Rattle.pp_log.proofs.Lists.{stands_in}
 use Rattle.pp_model.specs.Body.{IsWord}
 use Rattle.pp_model.specs.Config.{SharedEntry, as_shared, shared_ops}
 use Rattle.pp_model.specs.Lists.{In}
@@ -18,6 +17,7 @@ use Rattle.pp_model.specs.Rules.{calls}
 use Rattle.pp_model.specs.Serial.{has_id}
 use Rattle.pp_model.proofs.Lists.{by_key, from_map, in_filter, in_map}
 use Rattle.pp_model.proofs.Names.{eq-names, names-true, names_tell}
+use Rattle.pp_model.proofs.Finding.{any_in, from_reverse, in_reverse, none_in, placed, stands_in}
 use Rattle.pp_shared.specs.Blocking.{AllGiveWay, IsFirstBlocking}
 use Rattle.pp_spec.specs.Object.{Object, IsAllowed, IsLawful, SwapsIn, rules_of}
 use Rattle.pp_front.specs.Records as records
@@ -30,7 +30,6 @@ use Rattle.pp_quick.specs.declared.parts.OpenTx.{OpenTx}
 use Rattle.pp_quick.proofs.Briefs.{has_in, in_has}
 use Rattle.pp_quick.proofs.Filled.{begun_is}
 use Rattle.pp_quick.proofs.Items.{in_drop}
-use Rattle.pp_quick.proofs.Looking.{any_in, from_reverse, in_reverse, none_in, placed}
 use Rattle.pp_quick.proofs.Moving.{fine_of, open_is, open_there}
 use Rattle.pp_quick.proofs.HeldOf.{distinct, done_stands, fits, new_id, own_stands}
 use Rattle.pp_quick.proofs.Unseen.{has_unseen}

@@ -5,7 +5,6 @@ pub mod Filtered
 pub mod Counts
 pub mod Threads
 pub mod Filled
-pub mod Looking
 pub mod Lent
 pub mod Fitting
 pub mod HeldOf

@@ -19,6 +19,8 @@ use Rattle.pp_model.proofs.Lists.{from_filter, from_map, in_cases, in_left, in_r
 use Rattle.pp_model.proofs.Names.{names-true, names_tell}
 use Rattle.pp_model.proofs.Commit.{commit}
 use Rattle.pp_model.proofs.Trace.{map_same}
+use Rattle.pp_model.proofs.Finding.{any_in, in_reverse, reverse_more}
+use Rattle.pp_model.proofs.NameLists.{apart_more}
 use Rattle.pp_log.specs.Leaving.{without_items}
 use Rattle.pp_spec.specs.Object.{Object, rules_of}
 use Rattle.pp_front.specs.Records.{RunRecord}
@@ -31,11 +33,10 @@ use Rattle.pp_quick.specs.Runs.{IsBoosted}
 use Rattle.pp_quick.specs.Shown.{AreThreads, KeepsQuick, IsFine, Kept, WasCommitted, at, calls_of, filled, as_held, in_slot, open_in, shown, shown_tx, threads_of, unseen}
 use Rattle.pp_quick.specs.declared.parts.OpenTx.{OpenTx}
 use Rattle.pp_quick.proofs.Filled.{Apart, among, filled_more, filled_out, filled_set, found_is, in_set, keys_stay}
-use Rattle.pp_quick.proofs.Looking.{any_in, in_reverse, reverse_more}
 use Rattle.pp_quick.proofs.OnCommit.{commit_rest}
 use Rattle.pp_quick.proofs.Relog.{map_id, map_map}
 use Rattle.pp_quick.proofs.HeldOf.{advance, distinct, done_stands, is_owned, names_apart, own_stands, without_is}
-use Rattle.pp_quick.proofs.Threads.{apart_more, threads_less, threads_more}
+use Rattle.pp_quick.proofs.Threads.{threads_less, threads_more}
 use Rattle.pp_quick.proofs.Unseen.{unseen_committed, unseen_fewer, unseen_grown, unseen_none, unseen_wider}
 
 -- a brief is what its parts are

@@ -9,15 +9,14 @@ use Rattle.std.proofs.lemmas.Option.{same_Some}
 use mathlib.Core.Logic.{inl, inr}
 use Rattle.pp_core.specs.declared.entry.Item.{Item}
 use Rattle.pp_core.specs.declared.entry.SharedEntry.{SharedEntry}
-use Rattle.pp_log.proofs.Lists.{stands_in}
 use Rattle.pp_model.specs.Body.{Call}
 use Rattle.pp_model.specs.Lists.{In}
 use Rattle.pp_model.proofs.Lists.{by_key}
+use Rattle.pp_model.proofs.Finding.{find_nowhere, place_none, placed, stands_in}
 use Rattle.pp_spec.specs.Object.{Object}
 use Rattle.pp_quick.specs.Passing.{HaveOwnIds, LetAllPass, LetPass, Stops, StopsOne}
 use Rattle.pp_quick.specs.Shown.{at, calls_of, ids_behind, ids_or_none, unseen_at}
 use Rattle.pp_quick.proofs.Items.{some_there, take_next}
-use Rattle.pp_quick.proofs.Looking.{find_nowhere, place_none, placed}
 
 pub unseen_is : (q : ℕ) (commits : List (List ℕ)) (seen : List (ℕ × ℕ)) (k : ℕ) (l : List ℕ) →
     lookup (nat_eq q) seen ≡ Some k → slice_get commits q ≡ Some l → unseen_at q commits seen ≡ drop k l

@@ -21,6 +21,7 @@ use Rattle.pp_model.specs.Sound.{serial_items}
 use Rattle.pp_model.proofs.Lists.{before_across, before_right, from_map, in_map}
 use Rattle.pp_model.proofs.Names.{eq-names}
 use Rattle.pp_model.proofs.Serial.{allowed_front}
+use Rattle.pp_model.proofs.Finding.{from_reverse, in_reverse, nowhere, reverse_more}
 use Rattle.pp_shared.specs.Committing.{HoldsIdsOf}
 use Rattle.pp_spec.specs.Object.{Object, IsAllowed, rules_of}
 use Rattle.pp_quick.specs.Boosted.{PlacesSwap}
@@ -31,7 +32,6 @@ use Rattle.pp_quick.specs.Starting.{PutsStart, IsNew, start_entries}
 use Rattle.pp_quick.specs.declared.parts.OpenTx.{OpenTx}
 use Rattle.pp_quick.proofs.Deciding.{quick}
 use Rattle.pp_quick.proofs.Judging.{not_used, used_in}
-use Rattle.pp_quick.proofs.Looking.{from_reverse, in_reverse, nowhere, reverse_more}
 use Rattle.pp_quick.proofs.Moving.{same_brief}
 
 -- the item at a place of the walk

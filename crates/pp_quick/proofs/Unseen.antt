@@ -15,10 +15,10 @@ use Rattle.pp_model.proofs.Commit.{commit, as_committed}
 use Rattle.pp_model.proofs.Lists.{by_key, from_filter, from_map, in_filter, in_map}
 use Rattle.pp_model.proofs.Names.{names_tell, names_not}
 use Rattle.pp_model.proofs.Trace.{map_same}
+use Rattle.pp_model.proofs.Finding.{stands_in}
 use Rattle.pp_quick.specs.Brief.{is_met, shared_ids, any_at, without_owner}
 use Rattle.pp_quick.specs.Passing.{ids_at, items_at}
 use Rattle.pp_quick.specs.Shown.{at, is_unseen, ids_behind, unseen, unseen_at}
-use Rattle.pp_log.proofs.Lists.{stands_in}
 use Rattle.pp_quick.proofs.Briefs.{differ, has_in, in_has}
 use Rattle.pp_quick.proofs.Items.{in_drop}
 use Rattle.pp_quick.proofs.OnCommit.{commit_rest}

@@ -15,16 +15,6 @@ use pp_parts::Parted;
 use pp_spec::Placed;
 use std::alloc::Global;
 
-/// An equal body.
-fn copied(body: &Option<Body>, alloc: Global) -> Result<Option<Body>, OutOfMemory>
-    ensures { IfOk result (λ b. option_map tree b ≡ option_map tree body.now) }
-{
-    match body {
-        None => Ok(None),
-        Some(body) => Ok(Some(body.copy(alloc)?)),
-    }
-}
-
 /// A transaction that begins. The only error is that memory was refused.
 pub fn fresh<S: Parted>(
     alloc: Global,
@@ -38,7 +28,7 @@ pub fn fresh<S: Parted>(
     ensures own { IfOk result (λ x. x.own ≡ []) }
     ensures seen { IfOk result (λ x. x.seen.entries ≡ []) }
 {
-    let body = copied(body, alloc)?;
+    let body = Body::copy_if_any(body, alloc)?;
     let walk = Walk::start(alloc, body)?;
     Ok(OpenTx {
         thread: *thread,

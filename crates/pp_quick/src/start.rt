@@ -76,14 +76,6 @@ fn make_log<S: Parted, L: Ledger>(
     Ok(Some(shared))
 }
 
-/// The items once more.
-fn copy_of<O: Copy>(alloc: Global, items: &[Item<O>]) -> Result<Items<O>, OutOfMemory>
-    ensures { IfOk result (λ copy. copy ≡ items.now) }
-{
-    let copy: Vec<Item<O>> = items.iter().copied().collect(alloc)?;
-    Ok(Items::from(copy))
-}
-
 /// The operations stand committed, as those of a transaction of this name that has begun and
 /// ended, in the log that they make. No transaction can miss them, since none is open. The only
 /// error is that memory was refused.
@@ -110,7 +102,7 @@ fn put_start<S: Parted>(
     parts.shared = shared;
     parts.ids = ids;
     put_new(&mut parts.slots, tx, None)?;
-    let entries = copy_of(parts.alloc, items.as_slice())?;
+    let entries = Items::copy_of(items.as_slice(), parts.alloc)?;
     parts.committed.push(CommittedTx { name: *tx, entries })?;
     Ok(())
 }

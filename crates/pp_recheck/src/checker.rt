@@ -11,7 +11,7 @@ use crate::exchange::{end, exchange};
 use crate::held::Held;
 use crate::line::Line;
 use crate::refusal::Refusal;
-use crate::replay::show;
+use crate::show::show;
 use crate::shown::Shown;
 use pp_core::{OutOfMemory, Ticks};
 use pp_spec::Spec;

@@ -9,7 +9,7 @@ mod held;
 mod law;
 mod line;
 mod refusal;
-mod replay;
+mod show;
 mod shown;
 
 pub use checker::Checker;

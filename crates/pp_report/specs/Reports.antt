@@ -1,11 +1,10 @@
 -- Meaning: the report of a run, line by line.
 use Rattle.std.specs.Prelude.{ℕ, List, [], ◌++◌, length, codes}
 use Rattle.std.specs.Fmt.{decimal}
-use Rattle.std.specs.List.{flat_map, range_with_len}
+use Rattle.std.specs.List.{flat_map}
 use Rattle.pp_core.specs.Catalogs.{Objects}
 use Rattle.pp_core.specs.Words.{rule_word}
 use Rattle.pp_core.specs.declared.entry.CommittedTx.{CommittedTx}
-use Rattle.pp_core.specs.declared.entry.Item.{Item}
 use Rattle.pp_core.specs.declared.step.Rule.{Rule}
 use Rattle.pp_model.specs.Lists.{Each}
 use Rattle.pp_object.specs.declared.act.Op.{Op}
@@ -14,18 +13,13 @@ use Rattle.pp_object.specs.Objects.{kinds_of, objects}
 use Rattle.pp_rules.specs.Evidence.{Fits}
 use Rattle.pp_rules.specs.declared.detail.Detail.{Detail}
 use Rattle.pp_rules.specs.declared.detail.Detail.TheVariants.{Nothing, Entry, Gives, Swap}
-use Rattle.pp_text.specs.Texts.{IsNamed, answer_bytes, op_bytes, state_bytes}
-use Rattle.pp_reading.specs.FaultTexts.{line}
+use Rattle.pp_text.specs.Texts.{answer_bytes, op_bytes}
+use Rattle.pp_text.specs.Lines.{line, op_line, state_lines, EachNamed}
 
 -- the first line of an accepted run, with the number of its steps and of its committed transactions
 abbrev pub accepted_line : ℕ → ℕ → List ℕ
 accepted_line steps count =
     line (codes "accepted steps " ++ decimal steps ++ codes " committed " ++ decimal count)
-
--- the line of an operation
-abbrev pub op_line : Objects → Item Op → List ℕ
-op_line catalog entry =
-    line (codes "op " ++ decimal entry.id ++ codes " " ++ op_bytes catalog entry.op)
 
 -- the lines of a committed transaction
 abbrev pub tx_lines : Objects → CommittedTx Op → List ℕ
@@ -34,19 +28,6 @@ tx_lines catalog tx = line (codes "tx " ++ tx.name) ++ flat_map (op_line catalog
 -- the lines of committed transactions, in their order
 abbrev pub all_tx_lines : Objects → List (CommittedTx Op) → List ℕ
 all_tx_lines catalog committed = flat_map (tx_lines catalog) committed
-
--- the line of the state of the object at a place
-abbrev pub state_line : Objects → List ObjectState → ℕ → List ℕ
-state_line catalog states place = line (state_bytes catalog states place)
-
--- the lines of the states of all objects, in their order
-abbrev pub state_lines : Objects → List ObjectState → List ℕ
-state_lines catalog states =
-    flat_map (state_line catalog states) (range_with_len 0 (length catalog))
-
--- the objects that these operations name are in the catalog, with the kinds of their acts
-abbrev pub EachNamed : Objects → List (Item Op) → Type 0
-EachNamed catalog entries = Each (λ entry. IsNamed catalog entry.op) entries
 
 -- the same of the operations of committed transactions
 abbrev pub AreNamed : Objects → List (CommittedTx Op) → Type 0

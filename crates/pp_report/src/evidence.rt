@@ -2,7 +2,7 @@
 ghost use Rattle.std.specs.Prelude.{◌≡◌, ◌++◌, OnOk};
 ghost use Rattle.pp_model.specs.Lists.{Each};
 ghost use Rattle.pp_text.specs.Texts.{IsNamed};
-ghost use Rattle.pp_reading.specs.FaultTexts.{line};
+ghost use Rattle.pp_text.specs.Lines.{line};
 ghost use Rattle.pp_report.specs.Reports.{IsDetailNamed, detail_text, entry_bytes, ops_bytes};
 ghost use Rattle.pp_report.specs.Reports.{ops_line, spaced_bytes};
 

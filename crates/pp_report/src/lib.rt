@@ -5,5 +5,5 @@ mod evidence;
 mod run;
 mod verdict;
 
-pub use run::{accepted, write_first_line, write_states, write_transactions};
+pub use run::{accepted, write_first_line, write_transactions};
 pub use verdict::rejected;

@@ -12,10 +12,10 @@ use Rattle.pp_model.specs.Config.{commit_effect, entry_of, item, set_mark, of_ot
 use Rattle.pp_model.specs.Config.{own_items, as_shared, pull_effect, push_effect, relog, then, tx}
 use Rattle.pp_model.specs.Config.{without_local, without_shared, without_tx}
 use Rattle.pp_model.specs.Names.{Name, ◌=ⁿ◌}
+use Rattle.pp_model.proofs.Finding.{reverse_more}
 use Rattle.pp_rules.specs.Machines.{config_of, tx_of}
 use Rattle.pp_rules.specs.Transactions.{Open, Txs, open_of, with_open}
 use Rattle.pp_rules.specs.Transactions.{without_open}
-use Rattle.pp_rules.proofs.Finding.{reverse_more}
 
 -- the transaction with f at the entries of its local log
 abbrev pub relogged : {Shape Op : Type 0} → (List (LocalEntry Op) → List (LocalEntry Op)) →

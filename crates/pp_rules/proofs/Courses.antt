@@ -13,10 +13,10 @@ use Rattle.pp_model.specs.Object.{Item}
 use Rattle.pp_model.proofs.Lists.{by_key}
 use Rattle.pp_model.proofs.Steps.{own_items-append}
 use Rattle.pp_model.proofs.Push.{own_marked}
+use Rattle.pp_model.proofs.Finding.{stands_in}
 use Rattle.pp_log.specs.declared.place.Removed.{Removed}
 use Rattle.pp_log.specs.declared.place.Removed.TheVariants.{Done, Differs}
 use Rattle.pp_log.specs.Logs.{RemovesEntry}
-use Rattle.pp_log.proofs.Lists.{stands_in}
 use Rattle.pp_spec.specs.Object.{Object, IsAllowed}
 use Rattle.pp_body.specs.Walks.{Walked, HasTaken, MayGoBack}
 use Rattle.pp_rules.specs.Courses.{Guided, IsGivenBack, MayFollow, own_calls}

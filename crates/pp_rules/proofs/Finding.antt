@@ -1,50 +1,22 @@
 -- What tests, places and lookups say of a list.
-use Rattle.std.proofs.Common.{◌≡◌, ◌≢◌, ◌-◌, drop, filter, Bor, is_some, ◌==◌, ◌↔◌, IsTrue, ℕ, zero}
-use Rattle.std.proofs.Common.{suc, ◌<◌, ◌≤◌, ◌+◌, Bool, true, false, cond, not, ◌||◌, ◌&&◌, List}
-use Rattle.std.proofs.Common.{[], ◌∷◌, ◌++◌, map, take, length, get_or, Option, Some, None}
-use Rattle.std.proofs.Common.{option_map, add-one, position, nat_lt, find}
-use Rattle.std.proofs.Common.{slice_get, reverse, refl, sym, ◌∙◌, ap, subst, arith, inl, inr}
-use Rattle.std.specs.List.{list_any, position_or_len, remove}
-use Rattle.std.proofs.lemmas.Bool.{ltb-false, eqb-true, eq-eqb, false_from_ne_true}
-use Rattle.std.proofs.lemmas.List.{reverse-append}
-use Rattle.std.proofs.lemmas.List.Folds.{find_at}
-use Rattle.std.proofs.lemmas.List.Quantifiers.{position-Some}
-use Rattle.std.proofs.lemmas.Option.{get_or_from_slice_get, slice_get_past, slice_get_read}
+use Rattle.std.proofs.Common.{◌≡◌, ◌≢◌, ◌-◌, drop, filter, Bor, is_some, ◌==◌, ℕ, zero}
+use Rattle.std.proofs.Common.{suc, ◌<◌, ◌≤◌, ◌+◌, Bool, true, false, cond, not, ◌&&◌, List}
+use Rattle.std.proofs.Common.{[], ◌∷◌, map, take, length, get_or, Option, Some, None}
+use Rattle.std.proofs.Common.{option_map, add-one, position, find}
+use Rattle.std.proofs.Common.{slice_get, refl, sym, ◌∙◌, ap, subst, arith, inl, inr}
+use Rattle.std.specs.List.{remove}
+use Rattle.std.proofs.lemmas.Bool.{eqb-true, eq-eqb, false_from_ne_true}
+use Rattle.std.proofs.lemmas.Option.{get_or_from_slice_get, slice_get_read}
 use Rattle.std.proofs.lemmas.Option.{same_Some}
 use Rattle.std.specs.Option.{option_copied}
 use Rattle.pp_core.specs.declared.entry.LocalEntry.{LocalEntry}
 use Rattle.pp_model.specs.Config.{but_last, last}
 use Rattle.pp_model.specs.Lists.{In, Before}
-use Rattle.pp_model.proofs.Lists.{before_in_second, in_cases, in_left, in_right}
+use Rattle.pp_model.proofs.Lists.{before_in_second}
 use Rattle.pp_model.proofs.Logs.{found}
 use Rattle.pp_model.proofs.Trace.{keep_all}
-use Rattle.pp_log.proofs.Lists.{stands_in, not_past}
+use Rattle.pp_model.proofs.Finding.{find_nowhere, place_none, placed, stands_in}
 use Rattle.pp_local.proofs.Places.{from_within, get_taken, place_within, stands_from}
-
--- the first place of a test
-place_is : (n m i : ℕ) (b : Bool) → cond b (Some n) None ≡ Some i → n ≡ i
-place_is n m i true e = cc
-place_is n m i false e = absurd (cc)
-
-place_past : (n m : ℕ) (b : Bool) → nat_lt n m ≡ b → cond b (Some n) None ≡ None → m ≤ n
-place_past n m true e k = absurd (cc)
-place_past n m false e k = ltb-false n m e
-
-pub place_or_len : {X : Type 0} (p : X → Bool) (xs : List X) (i : ℕ) → position p xs ≡ Some i → position_or_len p xs ≡ i
-place_or_len p xs i h = place_is (position_or_len p xs) (length xs) i (nat_lt (position_or_len p xs) (length xs)) h
-
-pub place_find : {X : Type 0} (p : X → Bool) (xs : List X) (i : ℕ) → position p xs ≡ Some i → find p xs ≡ slice_get xs i
-place_find p xs i h = find_at p xs ∙ ap (slice_get xs) (place_or_len p xs i h)
-
-pub place_none : {X : Type 0} (p : X → Bool) (xs : List X) → position p xs ≡ None → find p xs ≡ None
-place_none p xs h = find_at p xs ∙ slice_get_past xs (position_or_len p xs) (place_past (position_or_len p xs) (length xs) (nat_lt (position_or_len p xs) (length xs)) refl h)
-
-pub place_there : {X : Type 0} (p : X → Bool) (xs : List X) (i : ℕ) → position p xs ≡ Some i → slice_get xs i ≡ None → ⊥
-place_there p [] i h e = absurd (cc)
-place_there p (y ∷ ys) i h e = not_past (y ∷ ys) i (position-Some p (y ∷ ys) i y h).0 e
-
-pub place_found : {X : Type 0} (p : X → Bool) (xs : List X) (i : ℕ) (x : X) → position p xs ≡ Some i → slice_get xs i ≡ Some x → find p xs ≡ Some x
-place_found p xs i x h e = place_find p xs i h ∙ e
 
 -- what is found by a key, and then has to pass another test
 found_both : {X : Type 0} (p q : X → Bool) (y x : X) (ys : List X) → q x ≡ true → (find p ys ≡ Some x → find (λ z. p z && q z) ys ≡ Some x) →
@@ -98,50 +70,6 @@ pub find_map : {X Y : Type 0} (f : X → Y) (p : Y → Bool) (xs : List X) → f
 find_map f p [] = refl
 find_map {X} {Y} f p (x ∷ xs) = ap (λ (r : Option Y). cond (p (f x)) (Some (f x)) r) (find_map f p xs) ∙ map_cond f x (find (λ y. p (f y)) xs) (p (f x))
 
-pub find_nowhere : {X : Type 0} (p : X → Bool) (xs : List X) → find p xs ≡ None → (x : X) → In x xs → p x ≡ false
-find_nowhere p [] h x i = elim i [ ]
-find_nowhere {X} p (y ∷ ys) h x i = go (p y) refl h i (λ k j. find_nowhere p ys k x j)
-  where
-    go : (b : Bool) → p y ≡ b → cond b (Some y) (find p ys) ≡ None → In x (y ∷ ys) → (find p ys ≡ None → In x ys → p x ≡ false) → p x ≡ false
-    go true e k j f = absurd (cc)
-    go false e k (inl j) f = ap p j ∙ e
-    go false e k (inr j) f = f k j
-
--- tests of some and of all
-pub any_in : {X : Type 0} (p : X → Bool) (xs : List X) → list_any p xs ≡ true → (x : X) × In x xs × (p x ≡ true)
-any_in p [] h = absurd (cc)
-any_in {X} p (y ∷ ys) h = go (p y) refl h (λ k. any_in p ys k)
-  where
-    go : (b : Bool) → p y ≡ b → (b || list_any p ys) ≡ true → (list_any p ys ≡ true → (x : X) × In x ys × (p x ≡ true)) → (x : X) × In x (y ∷ ys) × (p x ≡ true)
-    go true e k f = (y, inl refl, e)
-    go false e k f = let r = f k in (r.0, inr r.1, r.2)
-
-or_false : (a b : Bool) → (a || b) ≡ false → (a ≡ false) × (b ≡ false)
-or_false true b e = absurd (cc)
-or_false false b e = (refl, e)
-
-pub none_in : {X : Type 0} (p : X → Bool) (xs : List X) → list_any p xs ≡ false → (x : X) → In x xs → p x ≡ false
-none_in p [] h x i = elim i [ ]
-none_in p (y ∷ ys) h x (inl e) = ap p e ∙ (or_false (p y) (list_any p ys) h).0
-none_in p (y ∷ ys) h x (inr j) = none_in p ys (or_false (p y) (list_any p ys) h).1 x j
-
--- a list turned round
-pub reverse_more : {X : Type 0} (xs : List X) (x : X) → reverse (xs ++ x ∷ []) ≡ x ∷ reverse xs
-reverse_more xs x = reverse-append xs (x ∷ [])
-
-pub from_reverse : {X : Type 0} (x : X) (xs : List X) → In x (reverse xs) → In x xs
-from_reverse x [] h = h
-from_reverse {X} x (y ∷ ys) h = elim (in_cases x (reverse ys) (y ∷ []) (subst (λ (w : List X). In x w) (reverse-append (y ∷ []) ys) h)) [
-  | inl j ↦ inr (from_reverse x ys j)
-  | inr (inl e) ↦ inl e
-  | inr (inr j) ↦ absurd j
-]
-
-pub in_reverse : {X : Type 0} (x : X) (xs : List X) → In x xs → In x (reverse xs)
-in_reverse x [] h = h
-in_reverse {X} x (y ∷ ys) (inl e) = subst (λ (w : List X). In x w) (sym (reverse-append (y ∷ []) ys)) (in_right x (reverse ys) (y ∷ []) (inl e))
-in_reverse {X} x (y ∷ ys) (inr j) = subst (λ (w : List X). In x w) (sym (reverse-append (y ∷ []) ys)) (in_left x (reverse ys) (y ∷ []) (in_reverse x ys j))
-
 -- what stands at a place, and before it
 pub slice_within : {X : Type 0} (xs : List X) (i : ℕ) (x : X) → slice_get xs i ≡ Some x → i < length xs
 slice_within [] i x h = absurd (cc)
@@ -167,13 +95,6 @@ in_taken (suc i) a [] h = elim h [ ]
 in_taken (suc i) a (y ∷ ys) (inl e) = inl e
 in_taken (suc i) a (y ∷ ys) (inr h) = inr (in_taken i a ys h)
 
--- what a decided test says
-pub decided : (b : Bool) (P : Type 0) → IsTrue b ↔ P → b ≡ true → P
-decided b P h e = h.0 e
-
-pub decided_not : (b : Bool) (P : Type 0) → IsTrue b ↔ P → b ≡ false → P → ⊥
-decided_not b P h e p = let k : true ≡ false = sym (h.1 p) ∙ e in cc
-
 pub some_copied : {X : Type 0} (r : Option (Bor X)) → is_some r ≡ is_some (option_copied r)
 some_copied None = refl
 some_copied (Some x) = refl
@@ -191,13 +112,6 @@ a_place (Some k) b e t = (k, refl)
 pub no_place : (r : Option ℕ) (b : Bool) → b ≡ is_some r → b ≡ false → r ≡ None
 no_place None b e t = refl
 no_place (Some k) b e t = let z : true ≡ false = sym e ∙ t in cc
-
-pub placed : {X : Type 0} (p : X → Bool) (xs : List X) (i : ℕ) → position p xs ≡ Some i → (x : X) × (slice_get xs i ≡ Some x) × (p x ≡ true)
-placed {X} p xs i h = go (slice_get xs i) refl
-  where
-    go : (r : Option X) → slice_get xs i ≡ r → (x : X) × (slice_get xs i ≡ Some x) × (p x ≡ true)
-    go None e = absurd (place_there p xs i h e)
-    go (Some x) e = (x, e, (found p xs x (place_found p xs i x h e)).1)
 
 pub place_in : {X : Type 0} (p : X → Bool) (xs : List X) (i : ℕ) → position p xs ≡ Some i → (x : X) × In x xs × (p x ≡ true)
 place_in p xs i h = let q = placed p xs i h in (q.0, stands_in xs i q.0 q.1, q.2)

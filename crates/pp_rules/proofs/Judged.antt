@@ -12,6 +12,7 @@ use Rattle.pp_model.specs.Names.{Name}
 use Rattle.pp_model.specs.Rules.{IsLast}
 use Rattle.pp_model.proofs.Lists.{by_key}
 use Rattle.pp_model.proofs.Logs.{found_mark, found_tx, in_own}
+use Rattle.pp_model.proofs.Finding.{find_nowhere, place_none}
 use Rattle.pp_shared.specs.Committing.{HoldsIdsOf}
 use Rattle.pp_spec.specs.Object.{Object, SwapsIn}
 use Rattle.pp_rules.specs.Finding.{IsLastUnpushed}
@@ -24,7 +25,7 @@ use Rattle.pp_rules.specs.declared.detail.Refusal.{Refusal}
 use Rattle.pp_rules.specs.declared.machine.Outcome.{Outcome}
 use Rattle.pp_rules.specs.declared.machine.Outcome.TheVariants.{False}
 use Rattle.pp_rules.specs.Transactions.{Open, Txs}
-use Rattle.pp_rules.proofs.Finding.{find_nowhere, last_at, place_none}
+use Rattle.pp_rules.proofs.Finding.{last_at}
 use Rattle.pp_rules.proofs.Opened.{HasLog, logged, opened}
 
 not_both : true ≡ false → ⊥

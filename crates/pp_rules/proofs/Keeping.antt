@@ -28,8 +28,8 @@ use Rattle.pp_model.proofs.Names.{names_tell}
 use Rattle.pp_model.proofs.Steps.{there_holds}
 use Rattle.pp_model.proofs.Push.{ops_marked}
 use Rattle.pp_model.proofs.Commit.{ops_committed}
+use Rattle.pp_model.proofs.Finding.{placed, stands_in}
 use Rattle.pp_spec.specs.Object.{Object, AllRanged, IsAllowed, rules_of}
-use Rattle.pp_log.proofs.Lists.{stands_in}
 use Rattle.pp_rules.specs.Courses.{FollowsIfOwn, Guided}
 use Rattle.pp_rules.specs.Machines.{Holds, IsFine, Seen, config_of, stepped, tx_of}
 use Rattle.pp_rules.specs.Transactions.{HasOwn, MayLeave, is_begun, is_busy, Open, Takes, Txs}
@@ -39,7 +39,7 @@ use Rattle.pp_rules.proofs.Acting.{after_begin, after_app, after_unapp, after_pu
 use Rattle.pp_rules.proofs.Acting.{after_push, after_unpush, after_cmt, after_quit, relogged}
 use Rattle.pp_rules.proofs.Acting.{with_log}
 use Rattle.pp_local.proofs.Places.{nowhere}
-use Rattle.pp_rules.proofs.Finding.{but_last_short, filter_short, placed}
+use Rattle.pp_rules.proofs.Finding.{but_last_short, filter_short}
 use Rattle.pp_rules.proofs.Finding.{removed_filter, slice_within}
 use Rattle.pp_rules.proofs.Fitting.{in_ranged, ranged_in, ranged_more, serial_allowed, serial_more}
 use Rattle.pp_rules.proofs.Opened.{HasCourse, HasLog, begun_in, busy_in, distinct, opened, ranged_local}

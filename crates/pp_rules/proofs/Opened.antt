@@ -14,6 +14,7 @@ use Rattle.pp_model.specs.Names.{Name, ◌=ⁿ◌}
 use Rattle.pp_model.proofs.Lists.{in_map, from_map}
 use Rattle.pp_model.proofs.Logs.{found, found_tx}
 use Rattle.pp_model.proofs.Names.{eq-names, names-true}
+use Rattle.pp_model.proofs.Finding.{any_in, none_in, from_reverse, in_reverse}
 use Rattle.pp_spec.specs.Object.{Object, IsAllowed, IsLawful}
 use Rattle.pp_rules.specs.Machines.{Holds, IsFine, config_of, tx_of}
 use Rattle.pp_rules.specs.Courses.{Guided}
@@ -22,7 +23,7 @@ use Rattle.pp_rules.specs.Transactions.{Open, Txs, course_of, is_begun, is_busy,
 use Rattle.pp_rules.specs.Transactions.{threads_of}
 use Rattle.pp_rules.specs.Finding.{AreDistinct}
 use Rattle.pp_rules.proofs.Fitting.{local_fits, ranged_in, shared_fits}
-use Rattle.pp_rules.proofs.Finding.{any_in, none_in, find_map, from_reverse, in_reverse}
+use Rattle.pp_rules.proofs.Finding.{find_map}
 use Rattle.pp_rules.proofs.Finding.{mapped_some, mapped_none, mapped_twice}
 
 pub is_there : {X : Type 0} (r : Option X) → is_some r ≡ true → (x : X) × (r ≡ Some x)

@@ -15,11 +15,11 @@ use Rattle.pp_model.specs.Lists.{Before, In}
 use Rattle.pp_model.proofs.Lists.{from_filter, from_map, in_map}
 use Rattle.pp_model.proofs.Logs.{but_last_is}
 use Rattle.pp_model.proofs.Serial.{allowed_front}
+use Rattle.pp_model.proofs.Finding.{stands_in}
 use Rattle.pp_log.specs.declared.place.Removed.{Removed}
 use Rattle.pp_log.specs.declared.place.Removed.TheVariants.{Done, Differs}
 use Rattle.pp_log.specs.Logs.{DiffersFirst, RemovalBound, RemovesEntry, entry_ops, from_place}
 use Rattle.pp_log.specs.Logs.{removal_ticks}
-use Rattle.pp_log.proofs.Lists.{stands_in}
 use Rattle.pp_spec.specs.Object.{Object, AllRanged, IsAllowed, rules_of}
 use Rattle.pp_spec.proofs.Lists.{allowed-second}
 use Rattle.pp_rules.specs.Costs.{from_id}

@@ -12,11 +12,11 @@ use Rattle.pp_core.specs.declared.entry.LocalEntry.{LocalEntry}
 use Rattle.pp_log.specs.Logs.{DiffersFrom, entry_ops}
 use Rattle.pp_model.specs.Lists.{In}
 use Rattle.pp_model.proofs.Logs.{found}
+use Rattle.pp_model.proofs.Finding.{find_nowhere, place_found, place_none}
 use Rattle.pp_spec.specs.Object.{Object, AllowedFrom, state_from}
 use Rattle.pp_rules.specs.Evidence.{first_differing, first_entry, first_swap, is_same, swap_or}
 use Rattle.pp_rules.specs.declared.detail.Detail.{Detail}
 use Rattle.pp_rules.specs.declared.detail.Detail.TheVariants.{Nothing, Entry, Gives}
-use Rattle.pp_rules.proofs.Finding.{find_nowhere, place_found, place_none}
 
 -- two tests of which the first passes and not both
 pub second_fails : (a b : Bool) → (a && b) ≡ false → a ≡ true → b ≡ false

@@ -19,13 +19,13 @@ use Rattle.pp_model.specs.Sound.{Sound, serial_ops}
 use Rattle.pp_model.proofs.Begin.{start_sound}
 use Rattle.pp_model.proofs.Lists.{from_map, in_map}
 use Rattle.pp_model.proofs.Names.{eq-names}
+use Rattle.pp_model.proofs.Finding.{reverse_more}
 use Rattle.pp_shared.specs.Committing.{HoldsIdsOf}
 use Rattle.pp_spec.specs.Object.{Object, AllRanged, rules_of}
 use Rattle.pp_rules.specs.Machines.{Holds, Seen, config_of, tx_of}
 use Rattle.pp_rules.specs.Starting.{posted}
 use Rattle.pp_rules.specs.StartAnswers.{IsAskedItem}
 use Rattle.pp_rules.specs.Transactions.{Open, Txs, is_begun}
-use Rattle.pp_rules.proofs.Finding.{reverse_more}
 use Rattle.pp_rules.proofs.Fitting.{in_ranged}
 use Rattle.pp_rules.proofs.Opened.{begun_in}
 

@@ -23,6 +23,7 @@ use Rattle.pp_model.specs.Sound.{Sound}
 use Rattle.pp_model.proofs.Lists.{by_key, each_from, from_filter, in_left, in_right}
 use Rattle.pp_model.proofs.Logs.{found, found_mark, found_other, found_tx, is_mark-true}
 use Rattle.pp_model.proofs.Names.{eq-names, names_not}
+use Rattle.pp_model.proofs.Finding.{find_nowhere, place_found, placed}
 use Rattle.pp_spec.specs.Object.{Object, AllowedFrom, IsAllowed, IsLawful, IsLegal, IsRefutedBy}
 use Rattle.pp_spec.specs.Object.{Swaps, SwapsIn, rules_of}
 use Rattle.pp_spec.proofs.Lists.{allowed-append, keeps_shape}
@@ -37,8 +38,8 @@ use Rattle.pp_rules.specs.Stepping.{IsAsked}
 use Rattle.pp_rules.specs.declared.detail.Detail.{Detail}
 use Rattle.pp_rules.specs.declared.detail.Detail.TheVariants.{Nothing, Entry, Gives}
 use Rattle.pp_rules.proofs.Finding.{before_dropped, before_found, before_here, before_taken}
-use Rattle.pp_rules.proofs.Finding.{behind_here, dropped_before, find_nowhere, here_before}
-use Rattle.pp_rules.proofs.Finding.{here_behind, in_dropped, in_taken, place_found, placed}
+use Rattle.pp_rules.proofs.Finding.{behind_here, dropped_before, here_before}
+use Rattle.pp_rules.proofs.Finding.{here_behind, in_dropped, in_taken}
 use Rattle.pp_rules.proofs.Finding.{taken_before}
 use Rattle.pp_rules.proofs.Fitting.{fits_in, local_fits, marked_fits, shared_fits}
 use Rattle.pp_rules.proofs.Opened.{is_there}

@@ -9,11 +9,11 @@ use Rattle.pp_model.specs.Config.{is_own}
 use Rattle.pp_model.specs.Lists.{In}
 use Rattle.pp_model.proofs.Lists.{by_key}
 use Rattle.pp_model.proofs.Logs.{found, is_mark-true}
+use Rattle.pp_model.proofs.Finding.{find_nowhere, place_found, place_none}
 use Rattle.pp_rules.specs.Evidence.{first_entry}
 use Rattle.pp_rules.specs.Finding.{HaveOwnIds}
 use Rattle.pp_rules.specs.Standing.{StandsCommitted, is_committed, stands_committed}
 use Rattle.pp_rules.specs.declared.detail.Detail.TheVariants.{Entry}
-use Rattle.pp_rules.proofs.Finding.{find_nowhere, place_found, place_none}
 use Rattle.pp_rules.proofs.Showing.{entry_shown, second_fails}
 
 unpushed_own : (m : Mark) → is_mark m Unpushed ≡ true → (is_own m ≡ true) × (m ≡ Pushed → ⊥)

@@ -49,16 +49,6 @@ impl<S: Parted> Model for Course<S> {
     ghost invariant = { λ a. HasTaken a.walked.walk (own_calls S.object a.walked.log.1) };
 }
 
-/// An equal body.
-fn copied(body: &Option<Body>, alloc: Global) -> Result<Option<Body>, OutOfMemory>
-    ensures { IfOk result (λ b. option_map tree b ≡ option_map tree body.now) }
-{
-    match body {
-        None => Ok(None),
-        Some(body) => Ok(Some(body.copy(alloc)?)),
-    }
-}
-
 /// Adds an own entry at the end of a local log, and its call to the walk.
 fn append_own<S: Parted, L: Ledger>(
     walked: &mut Walked<Local<S>>,
@@ -101,7 +91,7 @@ impl<S: Parted> Course<S> {
         ensures { IfOk result (λ course. course
             ≡ record { body = option_map tree body.now; local = (shape.now, []) }) }
     {
-        let body = copied(body, alloc)?;
+        let body = Body::copy_if_any(body, alloc)?;
         let walk = Walk::start(alloc, body)?;
         let log = Local::new(alloc, shape)?;
         Ok(Course {

@@ -6,4 +6,4 @@ mod law;
 mod run;
 
 pub use law::permutation_law;
-pub use run::{SerialList, serial, serial_state};
+pub use run::{SerialList, serial, serial_state, state_of};

@@ -38,6 +38,28 @@ fn replay<S: Spec, L: Ledger>(
     Ok(())
 }
 
+/// The state after the operations of these entries, from the empty state. The only error is that
+/// memory was refused.
+pub fn state_of<S: Spec, L: Ledger>(
+    alloc: Global,
+    shape: &S::Shape,
+    entries: &[Item<S::Op>],
+    ticks: &mut Ticks<L>,
+) -> Result<S::State, OutOfMemory>
+    requires allowed { IsAllowed S.object shape.now (ops entries.now) }
+    requires ranged { AllRanged S.object (ops entries.now) }
+    requires few { length entries.now < 1_000_000 }
+    ensures state { IfOk result (λ state.
+        state ≡ state_after S.object shape.now (ops entries.now)) }
+    ensures cost { OnOk result (ticks.new ≡ ticks.old + length entries.now) }
+    ensures rises { ticks.old ≤ ticks.new }
+    ensures bound { ticks.new ≤ ticks.old + length entries.now }
+{
+    let mut after = S::empty(alloc, shape)?;
+    replay::<S, L>(&mut after, entries, ticks)?;
+    Ok(after)
+}
+
 /// The state after the operations of the committed transactions, in commit order. No list of them
 /// is made. The only error is that memory was refused.
 pub fn serial_state<S: Spec, L: Ledger>(

@@ -16,7 +16,8 @@ use Rattle.pp_model.specs.Object.{HasDistinctIds}
 use Rattle.pp_model.proofs.Commit.{as_committed, commit}
 use Rattle.pp_model.proofs.Lists.{by_key, before_map}
 use Rattle.pp_model.proofs.Names.{eq-names, names_tell}
-use Rattle.pp_log.proofs.Lists.{in_at, map_set_same, none_len, not_past, pair, stands_in}
+use Rattle.pp_model.proofs.Finding.{not_past, stands_in}
+use Rattle.pp_log.proofs.Lists.{in_at, map_set_same, none_len, pair}
 use Rattle.pp_shared.specs.Blocking.{IsSettled}
 use Rattle.pp_shared.specs.Committing.{HoldsIdsOf}
 use Rattle.pp_shared.specs.Uncommitted.{CommitsOne}

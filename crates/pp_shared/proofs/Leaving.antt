@@ -14,10 +14,11 @@ use Rattle.pp_model.specs.Lists.{Before, In}
 use Rattle.pp_model.specs.Object.{HasDistinctIds}
 use Rattle.pp_model.specs.Serial.{has_id}
 use Rattle.pp_model.proofs.Lists.{before_across, before_from_map, before_in_second, before_map, from_map, in_right}
+use Rattle.pp_model.proofs.Finding.{stands_in}
 use Rattle.pp_log.specs.Leaving.{MayLeave, without_items}
 use Rattle.pp_log.specs.Room.{ids_of}
 use Rattle.pp_log.proofs.Leaving.{without_none}
-use Rattle.pp_log.proofs.Lists.{cut_there, stands_in}
+use Rattle.pp_log.proofs.Lists.{cut_there}
 use Rattle.pp_parts.specs.declared.part.Part.{Part}
 use Rattle.pp_spec.specs.Object.{Object}
 use Rattle.pp_shared.specs.Blocking.{IsSettled}

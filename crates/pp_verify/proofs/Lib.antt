@@ -1,4 +1,3 @@
-pub mod Objects
 pub mod Examining
 pub mod Rechecking
 pub mod Telling

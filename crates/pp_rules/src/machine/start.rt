@@ -90,14 +90,6 @@ fn used_ids<O: Copy>(alloc: Global, items: &[Item<O>]) -> Result<IdSet, OutOfMem
     Ok(ids)
 }
 
-/// The items once more.
-fn copy_of<O: Copy>(alloc: Global, items: &[Item<O>]) -> Result<Items<O>, OutOfMemory>
-    ensures { IfOk result (λ copy. copy ≡ items.now) }
-{
-    let copy: Vec<Item<O>> = items.iter().copied().collect(alloc)?;
-    Ok(Items::from(copy))
-}
-
 impl<S: Parted> Machine<S> {
     /// The log that the start makes, or the refusal by its first false criterion.
     fn judge_start<L: Ledger>(
@@ -144,7 +136,7 @@ impl<S: Parted> Machine<S> {
         }) }
     {
         let parts = &mut *self.parts;
-        let entries = copy_of(parts.alloc, items)?;
+        let entries = Items::copy_of(items, parts.alloc)?;
         shared.commit(&tx, &entries);
         parts.shared = shared;
         parts.committed.push(CommittedTx { name: tx, entries })?;

@@ -2,6 +2,7 @@ use Rattle.std.proofs.Common.{◌≡◌, ◌-◌, length, get_or, sym, ◌∙◌
 use Rattle.std.specs.List.{slice_get, slice_set}
 use Rattle.std.proofs.lemmas.Option.{slice_get-get_or}
 use Rattle.pp_model.specs.Lists.{In}
+use Rattle.pp_model.proofs.Finding.{stands_in}
 use Rattle.pp_log.specs.Batches.{CanForget, CanGather, Gathers}
 use Rattle.pp_log.specs.Keeps.{KeepsAll}
 use Rattle.pp_log.specs.Leaving.{without_items}
@@ -11,7 +12,6 @@ use Rattle.pp_log.specs.TakesOut.{itself}
 use Rattle.pp_log.proofs.Gathered.{can_gather, distinct_items, has_id_there, has_place, has_run, ids_there, items, keeps_rest, may_items, sizes}
 use Rattle.pp_log.proofs.Leaves.{nowhere}
 use Rattle.pp_log.proofs.Ids.{position_of_id}
-use Rattle.pp_log.proofs.Lists.{stands_in}
 use Rattle.pp_log.proofs.Parted.{all_on}
 use Rattle.pp_log.proofs.batch.take_batch_back.Goals as goal
 

@@ -2,7 +2,7 @@ use Rattle.std.proofs.Common.{map, sym, ◌∙◌}
 use Rattle.pp_log.specs.Room.{ids_of}
 use Rattle.pp_log.proofs.Ids.{position_of_id}
 use Rattle.pp_log.proofs.Leaves.{found_item, nowhere}
-use Rattle.pp_log.proofs.Lists.{stands_in}
+use Rattle.pp_model.proofs.Finding.{stands_in}
 use Rattle.pp_log.proofs.Others.{without_nothing}
 use Rattle.pp_log.proofs.leave.leave_out.Goals as goal
 

@@ -3,13 +3,13 @@ use Rattle.std.specs.Map.{set_value}
 use Rattle.std.specs.Str.{bytes_eq}
 use Rattle.pp_model.specs.Body.{IsWord}
 use Rattle.pp_model.specs.Rules.{calls}
+use Rattle.pp_model.proofs.Finding.{decided, decided_not}
 use Rattle.pp_shared.specs.Committing.{HoldsIdsOf}
 use Rattle.pp_quick.specs.Passing.{ids_at}
 use Rattle.pp_quick.specs.Shown.{Kept, as_held, at, in_slot, shown_tx}
 use Rattle.pp_spec.specs.Object.{rules_of}
 use Rattle.pp_quick.proofs.HeldOf.{apart_of, holds_ids}
 use Rattle.pp_quick.proofs.Judging.{it_is, not_open, of_it, word_is}
-use Rattle.pp_quick.proofs.Looking.{decided, decided_not}
 use Rattle.pp_quick.proofs.Moving.{committed_moves, open_there}
 use Rattle.pp_quick.proofs.Lent.{given_back}
 use Rattle.pp_quick.proofs.commit.commit.Goals as goal

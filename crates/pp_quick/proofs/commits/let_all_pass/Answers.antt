@@ -1,8 +1,8 @@
 use Rattle.std.proofs.Common.{ℕ, ap, ◌∙◌, ◌∷◌, [], sym, subst, inl, inr, arith, ◌<◌, ◌≤◌, length, refl}
 use Rattle.std.specs.List.{slice_get}
 use Rattle.std.proofs.lemmas.Option.{get_or_from_slice_get, slice_get-get_or}
-use Rattle.pp_log.proofs.Lists.{stands_in}
 use Rattle.pp_model.specs.Lists.{In}
+use Rattle.pp_model.proofs.Finding.{stands_in}
 use Rattle.pp_quick.specs.Passing.{LetAllPass}
 use Rattle.pp_quick.proofs.Items.{below_next, drop_in, in_drop}
 use Rattle.pp_quick.proofs.Passing.{stops_among}

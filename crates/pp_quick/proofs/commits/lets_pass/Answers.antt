@@ -1,5 +1,5 @@
 use Rattle.std.proofs.Common.{◌==◌, inl, refl, sym}
-use Rattle.pp_quick.proofs.Looking.{place_there}
+use Rattle.pp_model.proofs.Finding.{place_there}
 use Rattle.pp_quick.proofs.Passing.{none_with_id, passes_alone, stops_alone, with_id}
 use Rattle.pp_quick.proofs.commits.lets_pass.Goals as goal
 

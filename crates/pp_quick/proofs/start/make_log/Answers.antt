@@ -1,5 +1,5 @@
 use Rattle.std.proofs.Common.{◌<◌, length, arith}
-use Rattle.pp_quick.proofs.Looking.{decided, decided_not}
+use Rattle.pp_model.proofs.Finding.{decided, decided_not}
 use Rattle.pp_quick.proofs.Starting.{allowed_more, differs_at, new_at, log_more, ranged_at}
 use Rattle.pp_quick.proofs.start.make_log.Goals as goal
 

@@ -1,5 +1,5 @@
 use Rattle.std.proofs.Common.{sym, ◌∙◌, ap, option_map}
-use Rattle.pp_rules.proofs.Finding.{place_there}
+use Rattle.pp_model.proofs.Finding.{place_there}
 use Rattle.pp_rules.proofs.Looking.{mark_absent, mark_there, mark_other}
 use Rattle.pp_rules.proofs.find.marked_at.Goals as goal
 

@@ -1,5 +1,5 @@
 use Rattle.std.proofs.Common.{sym, ◌∙◌}
-use Rattle.pp_rules.proofs.Finding.{place_there}
+use Rattle.pp_model.proofs.Finding.{place_there}
 use Rattle.pp_rules.proofs.Looking.{post_absent, post_there, post_own}
 use Rattle.pp_rules.proofs.find.other_at.Goals as goal
 

@@ -1,5 +1,5 @@
 use Rattle.std.proofs.Common.{sym}
-use Rattle.pp_rules.proofs.Finding.{place_there}
+use Rattle.pp_model.proofs.Finding.{place_there}
 use Rattle.pp_rules.proofs.Looking.{stands_absent, stands_there}
 use Rattle.pp_rules.proofs.find.stands_committed.Goals as goal
 

@@ -1,5 +1,5 @@
 use Rattle.std.proofs.Common.{◌≤◌, sym, arith}
-use Rattle.pp_log.proofs.Lists.{stands_in}
+use Rattle.pp_model.proofs.Finding.{stands_in}
 use Rattle.pp_shared.proofs.Leaving.{is_found, settled_before, settled_none}
 use Rattle.pp_shared.proofs.shared.settled_without.Goals as goal
 

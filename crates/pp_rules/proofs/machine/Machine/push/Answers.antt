@@ -1,6 +1,6 @@
 use Rattle.std.proofs.Common.{◌≡◌, Err, Ok, Some, ap, refl, slice_get, subst}
 use Rattle.pp_model.specs.Config.{Push, Pushed, set_mark}
-use Rattle.pp_log.proofs.Lists.{stands_in}
+use Rattle.pp_model.proofs.Finding.{stands_in}
 use Rattle.pp_rules.specs.Sites.{seen_with}
 use Rattle.pp_rules.specs.Judges.{JudgesPush}
 use Rattle.pp_rules.specs.Transactions.{HasOwn}

@@ -1,10 +1,10 @@
 use Rattle.std.proofs.Common.{◌∙◌, ap, refl, subst, sym, IsTrue}
 use Rattle.pp_log.specs.Logs.{answer_behind}
 use Rattle.pp_model.specs.Config.{local_ops}
+use Rattle.pp_model.proofs.Finding.{decided, decided_not}
 use Rattle.pp_rules.specs.Courses.{MayFollow}
 use Rattle.pp_rules.specs.Sites.{seen_with}
 use Rattle.pp_rules.specs.declared.detail.Detail.TheVariants.{Gives}
-use Rattle.pp_rules.proofs.Finding.{decided, decided_not}
 use Rattle.pp_rules.proofs.Judging.{app_2, app_3, app_4, app_0}
 use Rattle.pp_rules.proofs.Opened.{allowed_here, allowed_there, coursed, used_in, not_used}
 use Rattle.pp_rules.proofs.machine.app.judge_app.Goals as goal

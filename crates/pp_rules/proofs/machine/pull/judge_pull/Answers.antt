@@ -4,8 +4,9 @@ use Rattle.pp_log.specs.Logs.{answer_behind}
 use Rattle.pp_model.specs.Config.{local_ops}
 use Rattle.pp_rules.specs.declared.detail.Detail.TheVariants.{Gives}
 use Rattle.pp_model.proofs.Logs.{found_other}
+use Rattle.pp_model.proofs.Finding.{decided, decided_not}
 use Rattle.pp_spec.specs.Object.{IsAllowed}
-use Rattle.pp_rules.proofs.Finding.{a_place, decided, decided_not, no_place, place_in, not_placed}
+use Rattle.pp_rules.proofs.Finding.{a_place, no_place, place_in, not_placed}
 use Rattle.pp_rules.proofs.Finding.{found_within, read_place}
 use Rattle.pp_rules.specs.Sites.{seen_with}
 use Rattle.pp_rules.proofs.Judged.{of_other_is}

@@ -1,13 +1,13 @@
 use Rattle.std.proofs.Common.{◌∙◌, ◌++◌, ◌∷◌, [], arith, ◌<◌, take, length, slice_get, sym, ap, refl}
 use Rattle.std.proofs.Common.{subst, IsTrue}
 use Rattle.pp_log.specs.Logs.{answer_behind}
-use Rattle.pp_log.proofs.Lists.{stands_in}
 use Rattle.pp_model.specs.Config.{shared_ops}
 use Rattle.pp_model.proofs.Lists.{before_in_first}
+use Rattle.pp_model.proofs.Finding.{decided, decided_not, stands_in}
 use Rattle.pp_spec.specs.Object.{IsAllowed}
 use Rattle.pp_rules.specs.declared.detail.Detail.TheVariants.{Gives, Nothing}
 use Rattle.pp_rules.specs.Evidence.{swap_or}
-use Rattle.pp_rules.proofs.Finding.{decided, decided_not, read_taken, read_there, slice_within}
+use Rattle.pp_rules.proofs.Finding.{read_taken, read_there, slice_within}
 use Rattle.pp_rules.proofs.Finding.{taken_within}
 use Rattle.pp_rules.specs.Sites.{seen_with}
 use Rattle.pp_rules.proofs.Judged.{is_at}

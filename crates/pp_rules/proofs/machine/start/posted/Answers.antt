@@ -1,7 +1,7 @@
 use Rattle.std.proofs.Common.{◌<◌, Err, length, refl, arith, subst, sym}
 use Rattle.pp_rules.specs.Starting.{Posts}
 use Rattle.pp_rules.proofs.Starting.{allowed_more, differs_at, new_at, posted_more, ranged_at}
-use Rattle.pp_rules.proofs.Finding.{decided, decided_not}
+use Rattle.pp_model.proofs.Finding.{decided, decided_not}
 use Rattle.pp_rules.proofs.machine.start.posted.Goals as goal
 
 pub returns-then-not-legal-clause-posts : goal.returns-then-not-legal-clause-posts

@@ -1,6 +1,6 @@
 use Rattle.std.proofs.Common.{◌∙◌, ◌+◌, refl, sym}
 use Rattle.pp_model.proofs.Lists.{before_in_second}
-use Rattle.pp_log.proofs.Lists.{stands_in}
+use Rattle.pp_model.proofs.Finding.{stands_in}
 use Rattle.pp_local.specs.Movers.{stays_behind}
 use Rattle.pp_local.proofs.Places.{not_found_from}
 use Rattle.pp_rules.proofs.Finding.{behind_within, drop_next, read_behind}

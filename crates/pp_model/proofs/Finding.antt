@@ -1,7 +1,7 @@
 -- What tests, places and lookups say of a list.
-use Rattle.std.proofs.Common.{◌≡◌, ◌↔◌, IsTrue, ℕ, ◌≤◌, Bool, true, false, cond}
+use Rattle.std.proofs.Common.{◌≡◌, ◌↔◌, IsTrue, ℕ, zero, suc, ◌<◌, ◌≤◌, Bool, true, false, cond}
 use Rattle.std.proofs.Common.{◌||◌, List, [], ◌∷◌, ◌++◌, length, Option, Some, None, position, nat_lt, find}
-use Rattle.std.proofs.Common.{slice_get, reverse, refl, sym, ◌∙◌, ap, subst, inl, inr}
+use Rattle.std.proofs.Common.{slice_get, reverse, refl, sym, ◌∙◌, ap, subst, arith, inl, inr}
 use Rattle.std.specs.List.{list_any, position_or_len}
 use Rattle.std.proofs.lemmas.Bool.{ltb-false}
 use Rattle.std.proofs.lemmas.List.{reverse-append}
@@ -11,7 +11,17 @@ use Rattle.std.proofs.lemmas.Option.{slice_get_past}
 use Rattle.pp_model.specs.Lists.{In}
 use Rattle.pp_model.proofs.Lists.{in_cases, in_left, in_right}
 use Rattle.pp_model.proofs.Logs.{found}
-use Rattle.pp_log.proofs.Lists.{stands_in, not_past}
+
+-- what stands at a place
+pub stands_in : {A : Type 0} (x : List A) (i : ℕ) (a : A) → slice_get x i ≡ Some a → In a x
+stands_in [] i a h = cc
+stands_in (b ∷ x) zero a h = inl cc
+stands_in (b ∷ x) (suc i) a h = inr (stands_in x i a h)
+
+pub not_past : {A : Type 0} (x : List A) (k : ℕ) → k < length x → slice_get x k ≡ None → ⊥
+not_past [] k h at = absurd (omega arith)
+not_past (a ∷ x) zero h at = cc
+not_past (a ∷ x) (suc k) h at = not_past x k (omega arith) at
 
 -- the first place of a test
 place_is : (n m i : ℕ) (b : Bool) → cond b (Some n) None ≡ Some i → n ≡ i
@@ -82,8 +92,7 @@ in_reverse x [] h = h
 in_reverse {X} x (y ∷ ys) (inl e) = subst (λ (w : List X). In x w) (sym (reverse-append (y ∷ []) ys)) (in_right x (reverse ys) (y ∷ []) (inl e))
 in_reverse {X} x (y ∷ ys) (inr j) = subst (λ (w : List X). In x w) (sym (reverse-append (y ∷ []) ys)) (in_left x (reverse ys) (y ∷ []) (in_reverse x ys j))
 
--- what stands at a place, and before it
-
+-- a test and what it decides
 pub decided : (b : Bool) (P : Type 0) → IsTrue b ↔ P → b ≡ true → P
 decided b P h e = h.0 e
 

@@ -1,8 +1,0 @@
-use Rattle.std.proofs.Common.{◌≡◌, ◌++◌, drop}
-use Rattle.std.specs.List.{flat_map}
-use Rattle.pp_certificate.specs.Rechecked.{op_line}
-use Rattle.pp_verify.proofs.holds.write_entries.Given as goal
-
-abbrev pub invariant-loop-entry : goal.invariant-loop-entry
-invariant-loop-entry l = l.text ++ flat_map (op_line l.catalog) (drop l.entry-index l.entries)
-    ≡ l.fn.text ++ flat_map (op_line l.catalog) l.entries
