@@ -8,7 +8,6 @@ pub mod RecordCosts
 pub mod Starting
 pub mod Keeping
 pub mod Examining
-pub mod Fitting
 pub mod Naming
 pub mod Concluding
 pub mod Expanding

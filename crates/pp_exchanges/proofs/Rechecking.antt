@@ -29,6 +29,7 @@ use Rattle.pp_model.specs.Sound.{Sound, serial_items, serial_ops}
 use Rattle.pp_model.proofs.Begin.{start_sound}
 use Rattle.pp_model.proofs.Keeps.{run_keeps}
 use Rattle.pp_model.proofs.Simulate.{finished_are}
+use Rattle.pp_model.proofs.Lengths.{serial_fits}
 use Rattle.pp_object.specs.Objects.{kinds_of, objects}
 use Rattle.pp_object.specs.declared.act.Op.{Op}
 use Rattle.pp_object.specs.declared.states.ObjectState.{ObjectState}
@@ -54,7 +55,6 @@ use Rattle.pp_certify.specs.Objects.{object_of, start_of}
 use Rattle.pp_certify.specs.Reports.{IsCertified}
 use Rattle.pp_certify.specs.Scans.{InputScan}
 use Rattle.pp_certify.proofs.Concluding.{only_run, serial_is}
-use Rattle.pp_certify.proofs.Fitting.{serial_fits}
 use Rattle.pp_certify.proofs.Restated.{is_restated}
 use Rattle.pp_exchanges.specs.Logs.{AppliesOnly, ArePlain, start_items}
 use Rattle.pp_exchanges.specs.Prints.{IsCertificateOf, PrintsCertificate, shown_in}

@@ -15,6 +15,7 @@ use Rattle.pp_json.specs.declared.header.Header.{Header}
 use Rattle.pp_lines.specs.Statable.{AreWritable}
 use Rattle.pp_model.specs.Config.{Config, SharedEntry, shared_item, shared_ops, uncommitted}
 use Rattle.pp_model.specs.Sound.{Sound, serial_items, serial_ops}
+use Rattle.pp_model.proofs.Lengths.{serial_fits}
 use Rattle.pp_object.specs.Objects.{kinds_of, objects}
 use Rattle.pp_object.specs.declared.act.Op.{Op}
 use Rattle.pp_object.specs.laws.Objects.{objects_lawful}
@@ -37,7 +38,6 @@ use Rattle.pp_certify.specs.declared.progress.Tally.{Tally}
 use Rattle.pp_certify.proofs.Concluding.{accepted_told, fault_report, run_report}
 use Rattle.pp_certify.proofs.Counting.{is_run_so_far, run_so_far}
 use Rattle.pp_certify.proofs.Covering.{config_is, rejected_sound, running_sound}
-use Rattle.pp_certify.proofs.Fitting.{serial_fits}
 use Rattle.pp_exchanges.proofs.Targeting.{fit}
 use Rattle.pp_exchanges.specs.Swaps.{IsSwaps, IsTold, too_large_text}
 

@@ -19,13 +19,14 @@ use Rattle.pp_log.specs.Leaving.{without_items}
 use Rattle.pp_log.specs.Room.{ids_of}
 use Rattle.pp_log.specs.TakesOut.{itself}
 use Rattle.std.proofs.lemmas.List.Elements.{filter-append}
+use Rattle.pp_model.proofs.Lengths.{length-ops}
 use Rattle.pp_log.proofs.Leaving.{filter_all}
 use Rattle.pp_log.proofs.Lists.{drop_there}
 use Rattle.pp_log.proofs.Others.{IsAt, across, d_there, front, has_it, has_not_it, none_before, own_front, rest, same}
 use Rattle.pp_log.proofs.Parted.{ops-append}
 use Rattle.pp_log.proofs.Passed.{one_end}
 use Rattle.pp_log.proofs.Rest.{drop_none}
-use Rattle.pp_log.proofs.Runs.{length-kept, length-ops}
+use Rattle.pp_log.proofs.Runs.{length-kept}
 
 -- one operation comes behind the next one
 pub along_over : {Shape State Op Undo : Type 0} (o : Object Shape State Op Undo) (laws : IsLawful o) (place : Op → ℕ) (a c : Op) (at : ℕ) (us vs : List Undo) → CarriesOver o place a at us vs

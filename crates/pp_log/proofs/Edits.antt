@@ -12,10 +12,11 @@ use Rattle.pp_spec.proofs.Lists.{allowed-second}
 use Rattle.pp_model.specs.Object.{ops}
 use Rattle.pp_log.specs.Runs.{kept_along, AllFit, IsRun, Stops}
 use Rattle.std.proofs.lemmas.Option.{slice_get_within, get_or_from_slice_get}
+use Rattle.pp_model.proofs.Lengths.{length-ops}
 use Rattle.pp_log.specs.Logs.{DiffersFrom}
 use Rattle.pp_log.specs.TakesOut.{itself}
 use Rattle.pp_log.proofs.Lists.{cut_there}
-use Rattle.pp_log.proofs.Runs.{take_one_more, length-ops}
+use Rattle.pp_log.proofs.Runs.{take_one_more}
 
 -- Lists of items, of which one is taken out.
 pub take-remove : {Op : Type 0} (x : List (Item Op)) (i j : ℕ) → j ≤ i → take j (ops (remove x i)) ≡ take j (ops x)

@@ -1,15 +1,15 @@
 -- The gap that an operation leaves, carried over others, and a place where it is closed.
-use Rattle.std.proofs.Common.{◌≡◌, ℕ, ◌<◌, ◌+◌, ◌-◌, zero, suc, List, [], ◌∷◌, ◌++◌, length, map, take, drop, get_or}
+use Rattle.std.proofs.Common.{◌≡◌, ℕ, ◌<◌, ◌+◌, ◌-◌, List, [], ◌∷◌, ◌++◌, length, map, take, drop, get_or}
 use Rattle.std.proofs.Common.{refl, sym, ◌∙◌, ap, subst, arith, length-append}
 use Rattle.std.specs.List.{remove, slice_set}
 use Rattle.std.proofs.Math.Seq.{get_or_at, take-length}
 use Rattle.pp_core.specs.declared.entry.Item.{Item}
 use Rattle.pp_model.specs.Object.{ops}
+use Rattle.pp_model.proofs.Lengths.{length-ops}
 use Rattle.pp_spec.specs.Gaps.{ClosesTo, Crosses, MayClose}
 use Rattle.pp_spec.specs.Object.{AllowedFrom, AllRanged, IsLawful, IsLog, IsReached, Object, state_from}
 use Rattle.pp_spec.specs.declared.gapped.Crossed.TheVariants as crossed
 use Rattle.pp_spec.proofs.Lists.{allowed-append, allowed-first, allowed-second, allowed_is_state, state-append}
-use Rattle.pp_log.specs.declared.gap.Crossing.{Crossing}
 use Rattle.pp_log.specs.declared.gap.Crossing.TheVariants as crossing
 use Rattle.pp_log.specs.declared.place.Place.{Place}
 use Rattle.pp_log.specs.Gaps.{AllMeet, AllStayApart, CrossesAll, LeavesGap}
@@ -22,7 +22,7 @@ use Rattle.pp_log.proofs.Grown.{ids-remove}
 use Rattle.pp_log.proofs.Lists.{at_first, behind_first, drop_there, only_one, remove_mid, set_behind, set_mid}
 use Rattle.pp_log.proofs.Parted.{none_more_there, one_more_there, ops-append, there_at}
 use Rattle.pp_log.proofs.Replayed.{all_is, items_parts, whole_is}
-use Rattle.pp_log.proofs.Runs.{kept-append, kept-push, length-kept, length-ops, log-append, log_is_state}
+use Rattle.pp_log.proofs.Runs.{kept-append, kept-push, length-kept, log-append, log_is_state}
 
 module _ {Shape State Op Undo Gap : Type 0} (o : Object Shape State Op Undo) (laws : IsLawful o) (Bears : Gap → State → Type 0) (Differ : Gap → State → State → Type 0) where
   behind : (s : State) (x : List Op) → o.upkeep.IsState s → AllowedFrom o s x → o.upkeep.IsState (state_from o s x)

@@ -14,6 +14,7 @@ use Rattle.pp_model.specs.Object.{HasDistinctIds, ops}
 use Rattle.pp_model.specs.Serial.{has_id}
 use Rattle.pp_model.proofs.Lists.{before_filter, before_from_filter, before_in_first, before_in_second, by_key, from_filter, in_cases, in_filter}
 use Rattle.pp_model.proofs.Finding.{stands_in}
+use Rattle.pp_model.proofs.Lengths.{length-ops}
 use Rattle.pp_spec.proofs.Lists.{allowed-first}
 use Rattle.pp_spec.specs.Object.{AllRanged, AllowedFrom, IsAllowed, IsLawful, IsPlaced, Object, state_after, state_from}
 use Rattle.pp_log.specs.Batches.{AreOnOnePlace, CanGather, Gathers, HasBatch, IsAlong}
@@ -29,7 +30,7 @@ use Rattle.pp_log.proofs.Forgotten.{item_with}
 use Rattle.pp_log.proofs.Leaving.{filter_twice, has_none, now_distinct}
 use Rattle.pp_log.proofs.Lists.{in_at, set_other, set_same}
 use Rattle.pp_log.proofs.Parted.{ops-append}
-use Rattle.pp_log.proofs.Runs.{length-kept, length-ops}
+use Rattle.pp_log.proofs.Runs.{length-kept}
 use Rattle.pp_log.proofs.Sites.{IsSite, id_there, kept_of, place_at, place_there, site_of}
 use Rattle.pp_log.proofs.Whole.{allowed_fit, base_allowed, log_of, whole_of}
 

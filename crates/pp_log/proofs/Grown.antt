@@ -10,6 +10,7 @@ use Rattle.pp_spec.specs.Object.{AllRanged, state_after, state_from}
 use Rattle.pp_spec.proofs.Lists.{one_more, state_one_more, ranged-append}
 use Rattle.pp_log.specs.declared.place.Place.{Place}
 use Rattle.pp_model.specs.Object.{ops}
+use Rattle.pp_model.proofs.Lengths.{length-ops}
 use Rattle.pp_log.specs.Parts.{there}
 use Rattle.pp_log.proofs.Distinct.{IsNew, apart, one_more_id}
 use Rattle.pp_log.specs.Runs.{kept_along}
@@ -19,7 +20,7 @@ use Rattle.pp_log.specs.Index.{IsSameIndex}
 use Rattle.pp_log.specs.Room.{ids_of, SameIn, ArePlacesSame}
 use Rattle.pp_log.proofs.Lists.{set_same, set_other}
 use Rattle.pp_log.proofs.Ids.{ids_once}
-use Rattle.pp_log.proofs.Runs.{kept-push, length-ops}
+use Rattle.pp_log.proofs.Runs.{kept-push}
 use Rattle.pp_log.proofs.Parted.{ops-append, there_at, there_off, there-append}
 use Rattle.pp_log.proofs.Apart.{same_run, kept_at}
 

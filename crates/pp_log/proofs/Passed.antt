@@ -9,6 +9,7 @@ use Rattle.std.proofs.lemmas.Option.{get_or_from_slice_get, slice_get_within}
 use Rattle.std.proofs.lemmas.List.Edits.{length-remove}
 use Rattle.pp_core.specs.declared.entry.Item.{Item}
 use Rattle.pp_model.specs.Object.{ops}
+use Rattle.pp_model.proofs.Lengths.{length-ops}
 use Rattle.pp_spec.specs.Calls.{WasApplied}
 use Rattle.pp_spec.specs.Object.{Object, AllowedFrom, AllRanged, IsAllowed, IsLawful, IsLegal, IsLog}
 use Rattle.pp_spec.specs.Object.{IsReached}
@@ -22,7 +23,7 @@ use Rattle.pp_log.specs.Runs.{IsRun, kept_along}
 use Rattle.pp_log.specs.TakesOut.{Passes}
 use Rattle.pp_log.proofs.Edits.{ranged-remove, run_without}
 use Rattle.pp_log.proofs.Lists.{cut_there, get_second, remove_mid, swap_mid}
-use Rattle.pp_log.proofs.Runs.{kept-append, length-kept, length-ops, log-append, ranged-get}
+use Rattle.pp_log.proofs.Runs.{kept-append, length-kept, log-append, ranged-get}
 
 -- Operations from the state b of a log on.
 module _ {Shape State Op Undo : Type 0} (o : Object Shape State Op Undo) (laws : IsLawful o) (b : State) (base : List Op) (log : IsLog o b base) where

@@ -5,21 +5,18 @@ use Rattle.std.specs.List.{remove}
 use Rattle.std.proofs.lemmas.List.{map-append, take-append-drop, take-append-le}
 use Rattle.pp_core.specs.declared.entry.Item.{Item}
 use Rattle.pp_model.specs.Object.{ops}
+use Rattle.pp_model.proofs.Lengths.{length-ops}
 use Rattle.pp_spec.specs.Object.{AllRanged, AllowedFrom, Object, state_from}
+use Rattle.pp_spec.proofs.Lists.{ranged-first}
 use Rattle.pp_log.specs.Parts.{items_on, there, with_first}
 use Rattle.pp_log.specs.Runs.{AllFit, IsRun, kept_along}
 use Rattle.pp_log.proofs.Lists.{all_behind, remove_mid}
 use Rattle.pp_log.proofs.Parted.{first_of, ops-append, there-append}
-use Rattle.pp_log.proofs.Runs.{length-ops}
 
 module _ {Shape State Op Undo : Type 0} (o : Object Shape State Op Undo) where
   fit-first : (sh : Shape) (x y : List Op) → AllFit o sh (x ++ y) → AllFit o sh x
   fit-first sh [] y h = tt
   fit-first sh (a ∷ x) y h = (h.0, fit-first sh x y h.1)
-
-  ranged-first : (x y : List Op) → AllRanged o (x ++ y) → AllRanged o x
-  ranged-first [] y h = tt
-  ranged-first (a ∷ x) y h = (h.0, ranged-first x y h.1)
 
   -- of the operations before others, those of these
   front_ops : (n : ℕ) (x z : List (Item Op)) → n ≤ length x → take n (ops (x ++ z)) ≡ take n (ops x)
@@ -37,7 +34,7 @@ module _ {Shape State Op Undo : Type 0} (o : Object Shape State Op Undo) where
         log = r.log;
         few = omega arith;
         fit = fit-first (o.shape b) (ops x) (ops z) (subst (AllFit o (o.shape b)) parts r.fit);
-        ranged = ranged-first (ops x) (ops z) (subst (AllRanged o) parts r.ranged);
+        ranged = ranged-first o (ops x) (ops z) (subst (AllRanged o) parts r.ranged);
         within = le;
         allowed = subst (AllowedFrom o b) same r.allowed;
         is = r.is ∙ ap (state_from o b) same;

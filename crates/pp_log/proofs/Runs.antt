@@ -8,12 +8,9 @@ use Rattle.pp_spec.proofs.Lists.{state-append, allowed-first, allowed-second, al
 use Rattle.pp_spec.proofs.Lists.{ranged-append, allowed_is_state}
 use Rattle.pp_spec.proofs.Places.{shape_stays, reached_is_state}
 use Rattle.pp_model.specs.Object.{ops}
+use Rattle.pp_model.proofs.Lengths.{length-ops}
 use Rattle.pp_log.proofs.Lists.{push-injective}
 use Rattle.pp_log.specs.Runs.{kept_along, AllFit, IsRun}
-
-pub length-ops : {Op : Type 0} (x : List (Item Op)) → length (ops x) ≡ length x
-length-ops [] = refl
-length-ops (e ∷ x) = ap suc (length-ops x)
 
 get-ops : {Op : Type 0} (x : List (Item Op)) (i : ℕ) (e : Item Op) → get_or (ops x) i e.op ≡ (get_or x i e).op
 get-ops [] i e = refl

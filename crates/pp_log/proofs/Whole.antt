@@ -17,7 +17,8 @@ use Rattle.pp_log.specs.Keeps.{IsKept, KeptIn, Keeps}
 use Rattle.pp_log.specs.Logs.{DiffersFrom, DiffersFirst}
 use Rattle.pp_log.specs.TakesOut.{IsWhole, itself}
 use Rattle.pp_model.proofs.Lists.{not_empty}
-use Rattle.pp_log.proofs.Runs.{length-ops, length-kept, run_shape}
+use Rattle.pp_model.proofs.Lengths.{length-ops}
+use Rattle.pp_log.proofs.Runs.{length-kept, run_shape}
 use Rattle.pp_log.proofs.Parted.{is_at, there_at, there_off, elsewhere_at, elsewhere_off}
 use Rattle.pp_log.proofs.Parted.{there-append, there_of_elsewhere, there_of_others, parted}
 use Rattle.pp_log.proofs.Parted.{length-parts, ops-append}

@@ -10,12 +10,13 @@ use Rattle.pp_model.specs.Names.{Name}
 use Rattle.pp_model.specs.Sound.{Sound, serial_items, serial_ops}
 use Rattle.pp_model.proofs.Lists.{from_map}
 use Rattle.pp_model.proofs.Serial.{allowed_front, ordered, serial_law}
+use Rattle.pp_model.proofs.Lengths.{serial_fits}
 use Rattle.pp_spec.specs.Object.{Object, AllRanged, IsAllowed, rules_of}
+use Rattle.pp_spec.proofs.Fitting.{in_ranged}
 use Rattle.pp_quick.specs.Boosted.{PlacesSwap}
 use Rattle.pp_quick.specs.Brief.{Brief, BriefTx, brief}
 use Rattle.pp_quick.specs.Shown.{AreThreads, KeepsQuick, IsFine, Kept, WasCommitted, at, filled, as_held, shown, shown_tx, threads_of}
 use Rattle.pp_quick.specs.declared.parts.OpenTx.{OpenTx}
-use Rattle.pp_quick.proofs.Fitting.{in_ranged, serial_fits}
 use Rattle.pp_quick.proofs.Moving.{same_brief}
 use Rattle.pp_quick.proofs.Deciding.{quick}
 use Rattle.pp_quick.proofs.HeldOf.{done_stands}

@@ -21,12 +21,13 @@ use Rattle.pp_spec.specs.Object.{Object, IsLawful, IsPlaced, Swaps, SwapsIn, rul
 use Rattle.pp_front.specs.Expansions.{expand}
 use Rattle.pp_front.specs.Fronts.{new_front}
 use Rattle.pp_front.specs.Records.{RunRecord}
+use Rattle.pp_spec.proofs.Fitting.{fits_in}
 use Rattle.pp_quick.specs.Boosted.{Boosted, PlacesSwap}
 use Rattle.pp_quick.specs.Brief.{Brief, BriefGood, BriefTx, brief_of, brief_then, brief_tx, without_owner}
 use Rattle.pp_quick.specs.Held.{Held, IsHeldOf}
 use Rattle.pp_quick.specs.Runs.{IsBoosted}
 use Rattle.pp_quick.proofs.Briefs.{brief_of_is, briefed, differ, has_in, in_has, to_brief}
-use Rattle.pp_quick.proofs.Fitting.{fits_in, swaps_everywhere}
+use Rattle.pp_quick.proofs.Fitting.{swaps_everywhere}
 use Rattle.pp_quick.proofs.Leave.{moved, own_before}
 use Rattle.pp_quick.proofs.Lookups.{done_by_other}
 use Rattle.pp_quick.proofs.Deciding.{quick}

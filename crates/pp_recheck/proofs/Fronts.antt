@@ -1,13 +1,10 @@
 -- Proof machinery: the front of a list of entries.
-use Rattle.std.proofs.Common.{◌≡◌, ℕ, List, [], ◌∷◌, ◌++◌, length, take, drop, sym, ap, subst, ◌∙◌}
+use Rattle.std.proofs.Common.{◌≡◌, ℕ, List, ◌++◌, take, drop, sym, ap, subst, ◌∙◌}
 use Rattle.std.proofs.Common.{take-append-drop}
-use Rattle.std.proofs.lemmas.List.{map-append, length-map}
+use Rattle.std.proofs.lemmas.List.{map-append}
 use Rattle.pp_model.specs.Object.{Item, ops}
 use Rattle.pp_spec.specs.Object.{Object, IsAllowed, AllRanged}
-use Rattle.pp_spec.proofs.Lists.{allowed-first}
-
-pub length-ops : {Op : Type 0} (l : List (Item Op)) → length (ops l) ≡ length l
-length-ops {Op} l = length-map l (λ (w : Item Op). w.op)
+use Rattle.pp_spec.proofs.Lists.{allowed-first, ranged-first}
 
 module _ {Shape State Op Undo : Type 0} (o : Object Shape State Op Undo) where
   cut : (n : ℕ) (l : List (Item Op)) → ops l ≡ ops (take n l) ++ ops (drop n l)
@@ -19,11 +16,7 @@ module _ {Shape State Op Undo : Type 0} (o : Object Shape State Op Undo) where
   front_allowed shape n l h = allowed-first o (o.start shape) (ops (take n l)) (ops (drop n l))
       (subst (λ (w : List Op). IsAllowed o shape w) (cut n l) h)
 
-  ranged_first : (x y : List Op) → AllRanged o (x ++ y) → AllRanged o x
-  ranged_first [] y h = tt
-  ranged_first (a ∷ x) y h = (h.0, ranged_first x y h.1)
-
   pub front_ranged : (n : ℕ) (l : List (Item Op)) → AllRanged o (ops l) →
       AllRanged o (ops (take n l))
-  front_ranged n l h = ranged_first (ops (take n l)) (ops (drop n l))
+  front_ranged n l h = ranged-first o (ops (take n l)) (ops (drop n l))
       (subst (λ (w : List Op). AllRanged o w) (cut n l) h)

@@ -30,6 +30,7 @@ use Rattle.pp_model.proofs.Push.{ops_marked}
 use Rattle.pp_model.proofs.Commit.{ops_committed}
 use Rattle.pp_model.proofs.Finding.{placed, stands_in}
 use Rattle.pp_spec.specs.Object.{Object, AllRanged, IsAllowed, rules_of}
+use Rattle.pp_spec.proofs.Fitting.{in_ranged, ranged_in, ranged_more}
 use Rattle.pp_rules.specs.Courses.{FollowsIfOwn, Guided}
 use Rattle.pp_rules.specs.Machines.{Holds, IsFine, Seen, config_of, stepped, tx_of}
 use Rattle.pp_rules.specs.Transactions.{HasOwn, MayLeave, is_begun, is_busy, Open, Takes, Txs}
@@ -41,7 +42,7 @@ use Rattle.pp_rules.proofs.Acting.{with_log}
 use Rattle.pp_local.proofs.Places.{nowhere}
 use Rattle.pp_rules.proofs.Finding.{but_last_short, filter_short}
 use Rattle.pp_rules.proofs.Finding.{removed_filter, slice_within}
-use Rattle.pp_rules.proofs.Fitting.{in_ranged, ranged_in, ranged_more, serial_allowed, serial_more}
+use Rattle.pp_rules.proofs.Fitting.{serial_allowed, serial_more}
 use Rattle.pp_rules.proofs.Opened.{HasCourse, HasLog, begun_in, busy_in, distinct, opened, ranged_local}
 use Rattle.pp_rules.proofs.Opened.{ranged_shared, used_in}
 use Rattle.pp_rules.proofs.Removing.{ranged_posts}

@@ -16,13 +16,14 @@ use Rattle.pp_model.proofs.Logs.{found, found_tx}
 use Rattle.pp_model.proofs.Names.{eq-names, names-true}
 use Rattle.pp_model.proofs.Finding.{any_in, none_in, from_reverse, in_reverse}
 use Rattle.pp_spec.specs.Object.{Object, IsAllowed, IsLawful}
+use Rattle.pp_spec.proofs.Fitting.{ranged_in}
 use Rattle.pp_rules.specs.Machines.{Holds, IsFine, config_of, tx_of}
 use Rattle.pp_rules.specs.Courses.{Guided}
 use Rattle.pp_rules.specs.Sites.{HoldsCourse, HoldsLocal, Rest}
 use Rattle.pp_rules.specs.Transactions.{Open, Txs, course_of, is_begun, is_busy, open_at, open_of}
 use Rattle.pp_rules.specs.Transactions.{threads_of}
 use Rattle.pp_rules.specs.Finding.{AreDistinct}
-use Rattle.pp_rules.proofs.Fitting.{local_fits, ranged_in, shared_fits}
+use Rattle.pp_rules.proofs.Fitting.{local_fits, shared_fits}
 use Rattle.pp_rules.proofs.Finding.{find_map}
 use Rattle.pp_rules.proofs.Finding.{mapped_some, mapped_none, mapped_twice}
 

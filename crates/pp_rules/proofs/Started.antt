@@ -22,11 +22,11 @@ use Rattle.pp_model.proofs.Names.{eq-names}
 use Rattle.pp_model.proofs.Finding.{reverse_more}
 use Rattle.pp_shared.specs.Committing.{HoldsIdsOf}
 use Rattle.pp_spec.specs.Object.{Object, AllRanged, rules_of}
+use Rattle.pp_spec.proofs.Fitting.{in_ranged}
 use Rattle.pp_rules.specs.Machines.{Holds, Seen, config_of, tx_of}
 use Rattle.pp_rules.specs.Starting.{posted}
 use Rattle.pp_rules.specs.StartAnswers.{IsAskedItem}
 use Rattle.pp_rules.specs.Transactions.{Open, Txs, is_begun}
-use Rattle.pp_rules.proofs.Fitting.{in_ranged}
 use Rattle.pp_rules.proofs.Opened.{begun_in}
 
 -- the ids of the items are those of the entries

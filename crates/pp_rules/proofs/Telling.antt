@@ -27,6 +27,7 @@ use Rattle.pp_model.proofs.Finding.{find_nowhere, place_found, placed}
 use Rattle.pp_spec.specs.Object.{Object, AllowedFrom, IsAllowed, IsLawful, IsLegal, IsRefutedBy}
 use Rattle.pp_spec.specs.Object.{Swaps, SwapsIn, rules_of}
 use Rattle.pp_spec.proofs.Lists.{allowed-append, keeps_shape}
+use Rattle.pp_spec.proofs.Fitting.{fits_in}
 use Rattle.pp_rules.specs.Evidence.{Fits, entries_before, entries_behind, evidences}
 use Rattle.pp_rules.specs.Evidence.{first_differing, first_entry, first_swap, at_number}
 use Rattle.pp_rules.specs.Evidence.{gives_behind, if_there, is_same, swap_or}
@@ -41,7 +42,7 @@ use Rattle.pp_rules.proofs.Finding.{before_dropped, before_found, before_here, b
 use Rattle.pp_rules.proofs.Finding.{behind_here, dropped_before, here_before}
 use Rattle.pp_rules.proofs.Finding.{here_behind, in_dropped, in_taken}
 use Rattle.pp_rules.proofs.Finding.{taken_before}
-use Rattle.pp_rules.proofs.Fitting.{fits_in, local_fits, marked_fits, shared_fits}
+use Rattle.pp_rules.proofs.Fitting.{local_fits, marked_fits, shared_fits}
 use Rattle.pp_rules.proofs.Opened.{is_there}
 use Rattle.pp_rules.proofs.Showing.{answers_same, same_answer, second_fails, stops, swap_shown}
 use Rattle.pp_rules.proofs.Refuting.{refutes}

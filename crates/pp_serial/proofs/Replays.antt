@@ -4,7 +4,7 @@ use Rattle.std.proofs.Common.{ap, subst, arith}
 use Rattle.std.proofs.lemmas.List.{length-append}
 use Rattle.pp_spec.specs.Object.{Object, AllowedFrom, IsAllowed, AllRanged, IsLog, IsLawful}
 use Rattle.pp_spec.specs.Object.{state_from, state_after}
-use Rattle.pp_spec.proofs.Lists.{log_grows, allowed-first}
+use Rattle.pp_spec.proofs.Lists.{log_grows, allowed-first, ranged-first}
 
 -- In the state s, of which a run is known, the rest of a list may follow, and leads to the state t.
 pub record IsReplaying {Shape State Op Undo : Type 0} (o : Object Shape State Op Undo)
@@ -22,12 +22,8 @@ module _ {Shape State Op Undo : Type 0} (o : Object Shape State Op Undo) where
   allowed_front s x y l e h = allowed-first o s x y
       (subst (λ (w : List Op). AllowedFrom o s w) e h)
 
-  ranged_first : (x y : List Op) → AllRanged o (x ++ y) → AllRanged o x
-  ranged_first [] y h = tt
-  ranged_first (a ∷ x) y h = (h.0, ranged_first x y h.1)
-
   pub ranged_front : (x y l : List Op) → l ≡ x ++ y → AllRanged o l → AllRanged o x
-  ranged_front x y l e h = ranged_first x y (subst (λ (w : List Op). AllRanged o w) e h)
+  ranged_front x y l e h = ranged-first o x y (subst (λ (w : List Op). AllRanged o w) e h)
 
 module _ {Shape State Op Undo : Type 0} (o : Object Shape State Op Undo) (laws : IsLawful o) where
   pub begins : (sh : Shape) (l : List Op) (s : State) → s ≡ o.start sh → IsAllowed o sh l

@@ -24,6 +24,14 @@ module _ {Shape State Op Undo : Type 0} (o : Object Shape State Op Undo) where
   allowed-append s [] y h k = k
   allowed-append s (a ∷ x) y h k = (h.0, allowed-append (o.next s a) x y h.1 k)
 
+  pub ranged-first : (x y : List Op) → AllRanged o (x ++ y) → AllRanged o x
+  ranged-first [] y h = tt
+  ranged-first (a ∷ x) y h = (h.0, ranged-first x y h.1)
+
+  pub ranged-second : (x y : List Op) → AllRanged o (x ++ y) → AllRanged o y
+  ranged-second [] y h = h
+  ranged-second (a ∷ x) y h = ranged-second x y h.1
+
   pub ranged-append : (x y : List Op) → AllRanged o x → AllRanged o y → AllRanged o (x ++ y)
   ranged-append [] y h k = k
   ranged-append (a ∷ x) y h k = (h.0, ranged-append x y h.1 k)

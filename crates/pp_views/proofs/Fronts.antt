@@ -1,7 +1,7 @@
 -- Proof machinery: a list at the element that a loop is at.
 use Rattle.std.proofs.Common.{◌≡◌, ◌<◌, ◌+◌, ℕ, suc, zero, List, [], ◌∷◌, ◌++◌, length, take, drop, get_or}
 use Rattle.std.proofs.Common.{sym, ap, subst, ◌∙◌, arith, take-append-drop, inl, inr, refl}
-use Rattle.std.proofs.lemmas.List.{take_more, drop_more, get_or-map, length-map}
+use Rattle.std.proofs.lemmas.List.{take_more, drop_more, get_or-map}
 use Rattle.pp_model.specs.Lists.{In}
 use Rattle.pp_model.specs.Object.{Item, ops}
 use Rattle.pp_model.proofs.Lists.{in_right}
@@ -29,6 +29,3 @@ pub op_at : {Op : Type 0} (l : List (Item Op)) (i : ℕ) (p : Item Op) → i < l
     → p ≡ get_or l i p → p.op ≡ get_or (ops l) i p.op
 op_at {Op} l i p h e = ap (λ (w : Item Op). w.op) e
     ∙ sym (get_or-map (λ (w : Item Op). w.op) l i p p.op h)
-
-pub length-ops : {Op : Type 0} (l : List (Item Op)) → length (ops l) ≡ length l
-length-ops {Op} l = length-map l (λ (w : Item Op). w.op)

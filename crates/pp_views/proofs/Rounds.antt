@@ -4,12 +4,13 @@ use Rattle.std.proofs.Common.{refl, sym, ap, subst, ◌∙◌, arith, get_or}
 use Rattle.std.proofs.lemmas.List.{drop_all, length-append, map-append, take-append-drop, take-map}
 use Rattle.pp_model.specs.Config.{CommittedTx}
 use Rattle.pp_model.specs.Object.{Item, ops}
+use Rattle.pp_model.proofs.Lengths.{length-ops}
 use Rattle.pp_spec.specs.Object.{Object, rules_of}
 use Rattle.pp_views.specs.Peaks.{Peak, operations}
 use Rattle.pp_views.specs.Trying.{AreAlike, AreCandidates, Candidate, AppliedOp, HasRest, IsFurthest, IsStateAt, Line, MayBeNumbered, MayFollow, MayRun}
 use Rattle.pp_views.specs.Trying.{Share, StandsAt, applied, places_of}
 use Rattle.pp_views.specs.Views.{IsViewBelow, Pairwise, View}
-use Rattle.pp_views.proofs.Fronts.{in_there, length-ops}
+use Rattle.pp_views.proofs.Fronts.{in_there}
 use Rattle.pp_views.proofs.Leaving.{AreViewsSoFar, IsSpent, cut_at, none_tried, nothing_spent, one_found, one_left, one_numbered, one_spent}
 use Rattle.pp_views.proofs.Leaving.{peak_within, rest_there, round_done, skipped_spent, spent_within}
 use Rattle.pp_views.proofs.LiningUp.{alike_first, nobody, some_stands}

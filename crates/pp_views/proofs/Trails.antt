@@ -9,8 +9,9 @@ use Rattle.pp_model.specs.Object.{Item, ops}
 use Rattle.pp_spec.specs.Calls.{WasApplied}
 use Rattle.pp_spec.specs.Object.{Object, IsLegal, AllowedFrom, AllRanged, IsLog, IsReached}
 use Rattle.pp_spec.specs.Object.{IsLawful, state_from}
-use Rattle.pp_spec.proofs.Lists.{state-append, allowed-first, allowed-second, allowed-append}
-use Rattle.pp_spec.proofs.Lists.{log_grows, keeps_shape, allowed_is_state}
+use Rattle.pp_spec.proofs.Lists.{log_grows, keeps_shape, allowed_is_state, state-append}
+use Rattle.pp_spec.proofs.Lists.{allowed-first, allowed-second, allowed-append, ranged-first}
+use Rattle.pp_spec.proofs.Lists.{ranged-second}
 use Rattle.pp_views.specs.Trying.{AppliedOp, IsFurthest, IsTrail, MayFollow, Share, Stands, applied, kept_from}
 use Rattle.pp_views.proofs.Fronts.{cut_there}
 
@@ -45,14 +46,6 @@ module _ {Shape State Op Undo : Type 0} (o : Object Shape State Op Undo) where
       let cut = subst (λ (w : List Op). AllowedFrom o s w) (cut_there l i a there is) h in
       subst (λ (w : State). IsLegal o w a) (sym leads) (allowed-second o s (take i l) (a ∷ drop (i + 1) l) cut).0
 
-  pub ranged-first : (x y : List Op) → AllRanged o (x ++ y) → AllRanged o x
-  ranged-first [] y h = tt
-  ranged-first (a ∷ x) y h = (h.0, ranged-first x y h.1)
-
-  pub ranged-second : (x y : List Op) → AllRanged o (x ++ y) → AllRanged o y
-  ranged-second [] y h = h
-  ranged-second (a ∷ x) y h = ranged-second x y h.1
-
   each-first : (P : Op → Type 0) (x y : List Op) → Each P (x ++ y) → Each P x
   each-first P [] y h = tt
   each-first P (a ∷ x) y h = (h.0, each-first P x y h.1)
@@ -67,7 +60,7 @@ module _ {Shape State Op Undo : Type 0} (o : Object Shape State Op Undo) where
     before = may.before;
     log = may.log;
     fit = each-first (λ a. IsTrue (o.fits (o.shape s) a)) x y may.fit;
-    ranged = ranged-first x y may.ranged;
+    ranged = ranged-first o x y may.ranged;
     few = let few = may.few in omega (arith, few, length-append x y);
   }
 
@@ -106,7 +99,7 @@ module _ {Shape State Op Undo : Type 0} (o : Object Shape State Op Undo) where
     module _ (s t : State) (x y : List Op) (us : List Undo) (may : MayFollow o s (x ++ y)) (trail : IsTrail o s x us t) where
       log_there : IsLog o t (may.before ++ x)
       log_there = subst (λ (w : State). IsLog o w (may.before ++ x)) (sym trail.leads)
-          (log_further s may.before x may.log trail.allowed (ranged-first x y may.ranged))
+          (log_further s may.before x may.log trail.allowed (ranged-first o x y may.ranged))
 
       pub reached_there : IsReached o t
       reached_there = record {
@@ -125,7 +118,7 @@ module _ {Shape State Op Undo : Type 0} (o : Object Shape State Op Undo) where
           (each-second (λ b. IsTrue (o.fits (o.shape s) b)) x (a ∷ y) may.fit).0
 
       pub next_ranged : IsTrue (o.ranged a)
-      next_ranged = (ranged-second x (a ∷ y) may.ranged).0
+      next_ranged = (ranged-second o x (a ∷ y) may.ranged).0
 
     -- the last one is taken back
     pub last_taken_back : (s t : State) (done less : List (AppliedOp Op Undo)) (d : AppliedOp Op Undo) → done ≡ less ++ d ∷ [] → MayFollow o s (applied done) → Stands o s done t

@@ -10,14 +10,16 @@ use Rattle.pp_model.specs.Lists.{Each, In}
 use Rattle.pp_model.specs.Object as model
 use Rattle.pp_model.specs.Object.{Item, ops}
 use Rattle.pp_model.specs.Sound.{serial_items, serial_ops}
+use Rattle.pp_model.proofs.Lengths.{length-ops}
 use Rattle.pp_spec.specs.Object.{Object, AllowedFrom, IsAllowed, AllRanged, IsLog, IsLawful}
 use Rattle.pp_spec.specs.Object.{rules_of, state_from, state_after}
-use Rattle.pp_spec.proofs.Lists.{allowed-first, allowed-second, allowed-append, keeps_shape, state-append}
+use Rattle.pp_spec.proofs.Lists.{allowed-first, allowed-second, allowed-append, keeps_shape}
+use Rattle.pp_spec.proofs.Lists.{state-append, ranged-first, ranged-second}
 use Rattle.pp_views.specs.Peaks.{Peak, operations}
 use Rattle.pp_views.specs.Trying.{IsStateAt, IsTrail, IsUntried, kept_from, MayFollow}
 use Rattle.pp_views.specs.Views.{Explains, IsLeastBelow, IsViewBelow, MayBeTried, Pairwise, View}
-use Rattle.pp_views.proofs.Fronts.{take_there, drop_there, length-ops}
-use Rattle.pp_views.proofs.Trails.{log_further, ranged-first, ranged-second}
+use Rattle.pp_views.proofs.Fronts.{take_there, drop_there}
+use Rattle.pp_views.proofs.Trails.{log_further}
 
 -- the least of numbers, with one number more
 pub below_next : (k n : ℕ) → k < n + 1 → (k < n) ⊎ (k ≡ n)

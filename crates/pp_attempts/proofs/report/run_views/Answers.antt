@@ -4,13 +4,13 @@ use Rattle.pp_core.specs.declared.call.Kind.{Kind}
 use Rattle.pp_core.specs.declared.entry.CommittedTx.{CommittedTx}
 use Rattle.pp_model.specs.Lists.{In}
 use Rattle.pp_model.specs.Sound.{serial_ops}
+use Rattle.pp_model.proofs.Lengths.{serial_fits}
 use Rattle.pp_object.specs.Objects.{kinds_of, objects}
 use Rattle.pp_object.specs.declared.act.Op.{Op}
 use Rattle.pp_spec.specs.Object.{AllRanged, rules_of}
 use Rattle.pp_views.specs.declared.peak.Peak.{Peak}
 use Rattle.pp_views.specs.Peaks.{IdsTell, operations}
 use Rattle.pp_views.specs.Views.{AreViews, MayBeTried}
-use Rattle.pp_certify.proofs.Fitting.{serial_fits}
 use Rattle.pp_certify.proofs.Naming.{allowed_over}
 use Rattle.pp_attempts.proofs.Telling.{few_committed, may_be_tried, orderly_steps}
 use Rattle.pp_views.proofs.KeptPeaks.{ids_tell}

@@ -1,10 +1,10 @@
 use Rattle.std.proofs.Common.{◌≡◌, ◌+◌, List, length, sym, ◌∙◌, ap, arith}
 use Rattle.pp_core.specs.declared.entry.CommittedTx.{CommittedTx}
 use Rattle.pp_model.specs.Sound.{serial_ops}
+use Rattle.pp_model.proofs.Lengths.{serial_fits}
 use Rattle.pp_object.specs.Objects.{kinds_of, objects}
 use Rattle.pp_object.specs.declared.act.Op.{Op}
 use Rattle.pp_spec.specs.Object.{rules_of, state_after}
-use Rattle.pp_certify.proofs.Fitting.{serial_fits}
 use Rattle.pp_certify.proofs.Naming.{allowed_over, states_named}
 use Rattle.pp_certify.proofs.report.summary.Goals as goal
 

@@ -1,7 +1,8 @@
 use Rattle.std.proofs.Common.{◌<◌, ◌+◌, drop, length, arith, subst, sym, take}
 use Rattle.std.proofs.lemmas.List.{take-append-drop}
 use Rattle.pp_model.specs.Object.{ops}
-use Rattle.pp_views.proofs.Fronts.{length-ops, op_at}
+use Rattle.pp_model.proofs.Lengths.{length-ops}
+use Rattle.pp_views.proofs.Fronts.{op_at}
 use Rattle.pp_views.specs.Trying.{MayFollow}
 use Rattle.pp_views.proofs.Fronts.{cut_there}
 use Rattle.pp_views.proofs.Trails.{next_ranged, reached_there, would_be_legal}

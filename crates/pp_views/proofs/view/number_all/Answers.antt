@@ -2,11 +2,11 @@ use Rattle.std.proofs.Common.{◌≡◌, ◌≤◌, ◌+◌, List, length, take,
 use Rattle.std.proofs.lemmas.List.{length-append}
 use Rattle.pp_model.specs.Object.{Item, ops}
 use Rattle.pp_model.specs.Sound.{serial_ops}
+use Rattle.pp_model.proofs.Lengths.{length-ops}
 use Rattle.pp_spec.specs.Object.{rules_of, state_from, AllowedFrom}
 use Rattle.pp_views.specs.Peaks.{operations}
 use Rattle.pp_views.specs.Trying.{AreCandidates, IsStateAt, IsUntried, MayFollow}
 use Rattle.pp_views.specs.Views.{IsViewBelow, Pairwise, View}
-use Rattle.pp_views.proofs.Fronts.{length-ops}
 use Rattle.pp_views.proofs.Leaving.{all_numbered, first_line}
 use Rattle.pp_views.proofs.Rounds.{may_be_numbered}
 use Rattle.pp_views.proofs.Viewing.{cost_so_far, first_state, next_allowed, next_may, next_state, one_round_more, pairwise_as, pairwise_long}

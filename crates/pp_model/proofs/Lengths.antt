@@ -1,14 +1,17 @@
--- The serial run is no longer than the shared log.
-use Rattle.std.specs.Prelude.{◌≤◌, List, [], ◌∷◌, ◌++◌, length}
+-- How long lists of operations are.
+use Rattle.std.specs.Prelude.{◌≡◌, ◌≤◌, List, [], ◌∷◌, ◌++◌, length}
 use Rattle.std.proofs.Common.{refl, sym, ap, subst, arith, length-append}
 use Rattle.std.proofs.lemmas.List.{length-map}
 use mathlib.Core.Logic.{inl, inr}
 use Rattle.pp_model.specs.Config.{Config, shared_item, uncommitted}
 use Rattle.pp_model.specs.Lists.{In}
-use Rattle.pp_model.specs.Object.{HasDistinctIds, Item, Object}
+use Rattle.pp_model.specs.Object.{HasDistinctIds, Item, Object, ops}
 use Rattle.pp_model.specs.Sound.{Sound, serial_items, serial_ops}
 use Rattle.pp_model.proofs.Lists.{in_cases, in_left, in_right, split_at}
 use Rattle.pp_model.proofs.Serial.{items, ordered, reorders, target}
+
+pub length-ops : {Op : Type 0} (l : List (Item Op)) → length (ops l) ≡ length l
+length-ops {Op} l = length-map l (λ (p : Item Op). p.op)
 
 -- a list with distinct ids whose items all stand in another is no longer than that
 pub no_longer : {Op : Type 0} (xs ys : List (Item Op)) → HasDistinctIds xs → ((p : Item Op) → In p xs → In p ys) → length xs ≤ length ys
