@@ -4,6 +4,8 @@ use Rattle.std.specs.Prelude.{[], ◌∷◌, ◌++◌, length, take, drop, set, 
 use Rattle.std.specs.Option.{is_some}
 use Rattle.std.proofs.Common.{refl, sym, ap, subst, ◌∙◌, arith, get_or, inl, inr}
 use Rattle.std.proofs.Math.Seq.{take-length}
+use Rattle.std.proofs.lemmas.Bool.{cases_eq}
+use Rattle.std.proofs.lemmas.Option.{none-some}
 use Rattle.std.proofs.lemmas.List.{drop_more, length-set, get_or-set_same, get_or-set_other, map-append}
 use Rattle.std.proofs.lemmas.List.Sums.{sum_by-cons, sum_by_push}
 use Rattle.pp_model.specs.Config.{CommittedTx}
@@ -13,14 +15,14 @@ use Rattle.pp_model.specs.Object.{Item, ops}
 use Rattle.pp_model.proofs.Lists.{in_left, in_map, in_right}
 use Rattle.pp_spec.specs.Object.{Object, AllowedFrom, rules_of, state_from}
 use Rattle.pp_views.specs.Peaks.{Peak, operations}
-use Rattle.pp_views.specs.Trying.{AreApart, AreCandidates, Candidate, HasRest, IsLine, IsStateAt, Line, StandsAt}
-use Rattle.pp_views.specs.Trying.{length_at, places_of}
+use Rattle.pp_views.specs.Trying.{AreApart, AreCandidates, Candidate, HasRest, AreAllCandidates, IsStateAt, Candidates, StandsAt}
+use Rattle.pp_views.specs.Trying.{length_at, positions_of}
 use Rattle.pp_views.specs.Views.{Explains, IsLeastBelow, IsViewBelow, Pairwise, View}
 use Rattle.pp_views.proofs.Fronts.{in_default}
-use Rattle.pp_views.proofs.LiningUp.{alike_or_not, apart_more, in_last, length_there, nobody, some_stands, stand_same}
+use Rattle.pp_views.proofs.LiningUp.{apart_more, in_last, length_there, nobody, some_stands, stand_same}
 use Rattle.pp_views.proofs.Viewing.{below_next, explains_there, pairwise_as, pairwise_long}
 
--- ---- what stands at a place
+-- ---- what stands at a position
 
 pub stand_written : {A : Type 0} (xs : List A) (i : ℕ) (x : A) → i < length xs → StandsAt (set xs i x) i x
 stand_written xs i x there = (omega (arith, there, length-set xs i x), sym (get_or-set_same xs i x x there))
@@ -49,17 +51,17 @@ module _ {A B : Type 0} (R : A → B → Type 0) where
 
 -- ---- the first candidates
 
--- the first line has them all
-pub first_line : {Op : Type 0} (ps : List (Peak Op)) (vs : List View) (line : Line Op) → length vs ≡ length ps → IsLine ps line → AreCandidates ps vs line
-first_line {Op} ps vs line long h = record {
-  apart = h.places.apart;
-  within = h.places.within;
-  all = λ i v s none. let l = s.0 in h.places.all i (omega (arith, l, long));
+-- all are among them
+pub first_candidates : {Op : Type 0} (ps : List (Peak Op)) (vs : List View) (candidates : Candidates Op) → length vs ≡ length ps → AreAllCandidates ps candidates → AreCandidates ps vs candidates
+first_candidates {Op} ps vs candidates long h = record {
+  apart = h.positions.apart;
+  within = h.positions.within;
+  all = λ i v s none. let l = s.0 in h.positions.all i (omega (arith, l, long));
   alike = h.alike;
   rests = h.rests;
   cost =
       let all : operations (take (length ps) ps) ≡ operations ps = ap (λ (w : List (Peak Op)). operations w) (take-length ps) in
-      let cost = h.places.cost in
+      let cost = h.positions.cost in
       omega (arith, cost, all);
 }
 
@@ -79,33 +81,27 @@ none_yet n P a none h never = subst (λ (w : Option ℕ). IsLeastBelow (n + 1) P
       | inr e ↦ never (subst P e p)
     ])
 
-none_some : (k : ℕ) → ◌≡◌ {A = Option ℕ} None (Some k) → ⊥
-none_some k e = cc
-
-some_none : {k : ℕ} → ◌≡◌ {A = Option ℕ} (Some k) None → ⊥
-some_none e = cc
-
 -- a number that does not explain: the view keeps its own, or has none still
 not_found : (n : ℕ) (P : ℕ → Type 0) (a : Option ℕ) → IsLeastBelow n P a → (P n → ⊥) → IsLeastBelow (n + 1) P a
 not_found n P None h never = none_yet n P None refl h never
-not_found n P (Some k) h never = wider n (n + 1) P (Some k) (omega arith) some_none h
+not_found n P (Some k) h never = wider n (n + 1) P (Some k) (omega arith) (λ e. none-some k (sym e)) h
 
 -- a number is kept
-kept : (n : ℕ) (P : ℕ → Type 0) (a : Option ℕ) → (a ≡ None → ⊥) → IsLeastBelow n P a → IsLeastBelow (n + 1) P a
-kept n P a some h = wider n (n + 1) P a (omega arith) some h
+still_least : (n : ℕ) (P : ℕ → Type 0) (a : Option ℕ) → (a ≡ None → ⊥) → IsLeastBelow n P a → IsLeastBelow (n + 1) P a
+still_least n P a some h = wider n (n + 1) P a (omega arith) some h
 
 module _ {Shape State Op Undo : Type 0} (o : Object Shape State Op Undo) (ps : List (Peak Op)) where
   -- where each view has a number, they are the views up to any number of committed transactions
-  pub all_numbered : (shape : Shape) (D : List (CommittedTx Op)) (n m : ℕ) (vs : List View) (line : Line Op) → length line.candidates.items ≡ 0 → n ≤ m → AreCandidates ps vs line
+  pub all_numbered : (shape : Shape) (D : List (CommittedTx Op)) (n m : ℕ) (vs : List View) (candidates : Candidates Op) → length candidates.list.items ≡ 0 → n ≤ m → AreCandidates ps vs candidates
       → Pairwise (IsViewBelow n (rules_of o shape) D) ps vs → Pairwise (IsViewBelow m (rules_of o shape) D) ps vs
-  all_numbered shape D n m vs line empty le h views = pairwise_from (IsViewBelow m O D) ps vs (pairwise_long (IsViewBelow n O D) ps vs views) (λ i p v s t.
+  all_numbered shape D n m vs candidates empty le h views = pairwise_from (IsViewBelow m O D) ps vs (pairwise_long (IsViewBelow n O D) ps vs views) (λ i p v s t.
       let now = pairwise_at (IsViewBelow n O D) ps vs i p v views s t in
-      record { tx = now.tx; ops = now.ops; after = wider n m (Explains O D p.ops) v.after le (λ none. nowhere line.candidates.items i empty (h.all i v t none)) now.after })
+      record { tx = now.tx; ops = now.ops; after = wider n m (Explains O D p.ops) v.after le (λ none. nowhere candidates.list.items i empty (h.all i v t none)) now.after })
     where
       O : model.Object Op State
       O = rules_of o shape
 
-      nowhere : (cs : List Candidate) (i : ℕ) → length cs ≡ 0 → In i (places_of cs) → ⊥
+      nowhere : (cs : List Candidate) (i : ℕ) → length cs ≡ 0 → In i (positions_of cs) → ⊥
       nowhere [] i none n = n
       nowhere (c ∷ cs) i none n = omega (arith, none)
 
@@ -126,9 +122,9 @@ module _ {Shape State Op Undo : Type 0} (o : Object Shape State Op Undo) (ps : L
   no_effect s [] e = refl
   no_effect s (x ∷ l) e = absurd (omega (arith, e))
 
-  -- ---- a round, while the peaks at the places are tried
+  -- ---- a round, while the peaks at the positions are tried
 
-  -- Some were tried, and those at the places `rest` were not yet: their views are as they were, as is
+  -- Some were tried, and those at the positions `rest` were not yet: their views are as they were, as is
   -- each that has no number; and each other view tells the least number, this one included.
   module _ (number : ℕ) (state : State) (old : List View) where
     pub record AreViewsSoFar (views : List View) (rest : List ℕ) : Type 0 where
@@ -139,15 +135,15 @@ module _ {Shape State Op Undo : Type 0} (o : Object Shape State Op Undo) (ps : L
       pub done : (shape : Shape) (D : List (CommittedTx Op)) → IsStateAt o shape D number state → Pairwise (IsViewBelow number (rules_of o shape) D) ps old
           → (i : ℕ) (p : Peak Op) (v : View) → StandsAt ps i p → StandsAt views i v → (In i rest → ⊥) → IsViewBelow (number + 1) (rules_of o shape) D p v
 
-    pub none_tried : (line : Line Op) → AreCandidates ps old line → AreViewsSoFar old (places_of line.candidates.items)
-    none_tried line h = record {
+    pub none_tried : (candidates : Candidates Op) → AreCandidates ps old candidates → AreViewsSoFar old (positions_of candidates.list.items)
+    none_tried candidates h = record {
       long = refl;
       apart = h.apart;
       same = λ i v n s. s;
       left = λ i v s none. s;
       done = λ shape D at below i p v s t out.
           let now = pairwise_at (IsViewBelow number (rules_of o shape) D) ps old i p v below s t in
-          record { tx = now.tx; ops = now.ops; after = kept number (Explains (rules_of o shape) D p.ops) v.after (λ none. out (h.all i v t none)) now.after };
+          record { tx = now.tx; ops = now.ops; after = still_least number (Explains (rules_of o shape) D p.ops) v.after (λ none. out (h.all i v t none)) now.after };
     }
 
     pub round_done : (views : List View) → length old ≡ length ps → AreViewsSoFar views [] → (shape : Shape) (D : List (CommittedTx Op)) → IsStateAt o shape D number state
@@ -155,7 +151,7 @@ module _ {Shape State Op Undo : Type 0} (o : Object Shape State Op Undo) (ps : L
     round_done views count h shape D at before =
         pairwise_from (IsViewBelow (number + 1) (rules_of o shape) D) ps views (h.long ∙ count) (λ i p v s t. h.done shape D at before i p v s t (λ never. never))
 
-    -- one place on
+    -- one position on
     module _ (views : List View) (j : ℕ) (rest : List ℕ) (p : Peak Op) (v : View) (h : AreViewsSoFar views (j ∷ rest)) (here : StandsAt ps j p) (now : StandsAt views j v) where
       was_here : StandsAt old j v
       was_here = h.same j v (inl refl) now
@@ -174,7 +170,7 @@ module _ {Shape State Op Undo : Type 0} (o : Object Shape State Op Undo) (ps : L
         apart = (h.apart).1;
         same = λ i u n s. h.same i u (inr n) s;
         left = h.left;
-        done = λ shape D at below i q u s t out. elim (alike_or_not i j) [
+        done = λ shape D at below i q u s t out. elim (cases_eq i j) [
           | inl e ↦
               let O = rules_of o shape in
               let q_is : q ≡ p = stand_same ps j q p (subst (λ (k : ℕ). StandsAt ps k q) e s) here in
@@ -188,7 +184,7 @@ module _ {Shape State Op Undo : Type 0} (o : Object Shape State Op Undo) (ps : L
 
       -- it has a number
       pub one_numbered : (v.after ≡ None → ⊥) → AreViewsSoFar views rest
-      one_numbered some = stays (λ shape D at was. kept number (Explains (rules_of o shape) D p.ops) v.after some was)
+      one_numbered some = stays (λ shape D at was. still_least number (Explains (rules_of o shape) D p.ops) v.after some was)
 
       -- this number does not explain the peak
       pub one_left : (AllowedFrom o state (ops p.ops) → ⊥) → AreViewsSoFar views rest
@@ -202,12 +198,12 @@ module _ {Shape State Op Undo : Type 0} (o : Object Shape State Op Undo) (ps : L
         long = length-set views j w ∙ h.long;
         apart = (h.apart).1;
         same = λ i u n s. h.same i u (inr n) (stand_before views j i w u (later i n) s);
-        left = λ i u s nothing. elim (alike_or_not i j) [
+        left = λ i u s nothing. elim (cases_eq i j) [
           | inl e ↦ absurd (let u_is : u ≡ w = stand_same (set views j w) j u w (subst (λ (k : ℕ). StandsAt (set views j w) k u) e s) (stand_written views j w now.0) in
-              none_some number (sym nothing ∙ ap (λ (x : View). x.after) u_is ∙ found))
+              none-some number (sym nothing ∙ ap (λ (x : View). x.after) u_is ∙ found))
           | inr other ↦ h.left i u (stand_before views j i w u other s) nothing
         ];
-        done = λ shape D at below i q u s t out. elim (alike_or_not i j) [
+        done = λ shape D at below i q u s t out. elim (cases_eq i j) [
           | inl e ↦
               let O = rules_of o shape in
               let q_is : q ≡ p = stand_same ps j q p (subst (λ (k : ℕ). StandsAt ps k q) e s) here in
@@ -223,31 +219,31 @@ module _ {Shape State Op Undo : Type 0} (o : Object Shape State Op Undo) (ps : L
         ];
       })
 
--- at a candidate of a loop over a line's candidates
-module _ {Op : Type 0} (ps : List (Peak Op)) (views : List View) (line : Line Op) (xs : List Candidate) (k : ℕ) (same : xs ≡ line.candidates.items) (there : k < length xs)
-    (h : AreCandidates ps views line) where
-  there_too : k < length line.candidates.items
+-- at a candidate of a loop over the candidates
+module _ {Op : Type 0} (ps : List (Peak Op)) (views : List View) (candidates : Candidates Op) (xs : List Candidate) (k : ℕ) (same : xs ≡ candidates.list.items) (there : k < length xs)
+    (h : AreCandidates ps views candidates) where
+  there_too : k < length candidates.list.items
   there_too = subst (λ (w : List Candidate). k < length w) same there
 
-  among_them : In (get_or xs k nobody) line.candidates.items
+  among_them : In (get_or xs k nobody) candidates.list.items
   among_them = subst (λ (w : List Candidate). In (get_or xs k nobody) w) same (in_default xs k nobody there)
 
-  pub peak_within : (get_or xs k nobody).place < length ps
-  peak_within = h.within (get_or xs k nobody).place (in_map (λ (c : Candidate). c.place) (get_or xs k nobody) line.candidates.items among_them)
+  pub peak_within : (get_or xs k nobody).position < length ps
+  peak_within = h.within (get_or xs k nobody).position (in_map (λ (c : Candidate). c.position) (get_or xs k nobody) candidates.list.items among_them)
 
-  pub rest_there : (p : Peak Op) → StandsAt ps (get_or xs k nobody).place p → HasRest line.ops.items (get_or xs k nobody) p.ops
+  pub rest_there : (p : Peak Op) → StandsAt ps (get_or xs k nobody).position p → HasRest candidates.ops.items (get_or xs k nobody) p.ops
   rest_there p s = h.rests (get_or xs k nobody) p among_them s
 
-  pub others_within : ((get_or xs k nobody).from ≤ (get_or xs k nobody).to) × ((get_or xs k nobody).to ≤ length line.ops.items)
+  pub others_within : ((get_or xs k nobody).from ≤ (get_or xs k nobody).to) × ((get_or xs k nobody).to ≤ length candidates.ops.items)
   others_within =
-      let p = some_stands ps (get_or xs k nobody).place peak_within in
+      let p = some_stands ps (get_or xs k nobody).position peak_within in
       let r = rest_there p.0 p.1 in
       (r.before, r.within)
 
-  pub cut_at : drop k line.candidates.items ≡ get_or xs k nobody ∷ drop (k + 1) line.candidates.items
-  cut_at = drop_more line.candidates.items k nobody there_too ∙ ap (λ (w : List Candidate). get_or w k nobody ∷ drop (k + 1) line.candidates.items) (sym same)
+  pub cut_at : drop k candidates.list.items ≡ get_or xs k nobody ∷ drop (k + 1) candidates.list.items
+  cut_at = drop_more candidates.list.items k nobody there_too ∙ ap (λ (w : List Candidate). get_or w k nobody ∷ drop (k + 1) candidates.list.items) (sym same)
 
--- ---- the line without those that have a number
+-- ---- the candidates without those that have a number
 
 pub some_is_not_none : (a : Option ℕ) → is_some a ≡ true → a ≡ None → ⊥
 some_is_not_none None some none = cc
@@ -259,20 +255,21 @@ not_some (Some n) none = absurd cc
 
 -- the candidates that stay, and those to come
 pub record IsLeft {Op : Type 0} (ps : List (Peak Op)) (views : List View) (still rest : List Candidate) : Type 0 where
-  pub apart : AreApart (places_of still)
-  pub rest_apart : AreApart (places_of rest)
-  pub other : (i : ℕ) → In i (places_of still) → In i (places_of rest) → ⊥
-  pub within : (i : ℕ) → In i (places_of still) → i < length ps
-  pub rest_within : (i : ℕ) → In i (places_of rest) → i < length ps
-  pub all : (i : ℕ) (v : View) → StandsAt views i v → v.after ≡ None → In i (places_of still) ⊎ In i (places_of rest)
-  pub few : sum_by (length_at ps) (places_of still) + sum_by (length_at ps) (places_of rest) ≤ operations ps
+  pub apart : AreApart (positions_of still)
+  pub rest_apart : AreApart (positions_of rest)
+  pub other : (i : ℕ) → In i (positions_of still) → In i (positions_of rest) → ⊥
+  pub within : (i : ℕ) → In i (positions_of still) → i < length ps
+  pub rest_within : (i : ℕ) → In i (positions_of rest) → i < length ps
+  pub all : (i : ℕ) (v : View) → StandsAt views i v → v.after ≡ None → In i (positions_of still) ⊎ In i (positions_of rest)
+  pub unnumbered : (i : ℕ) (v : View) → In i (positions_of still) → StandsAt views i v → v.after ≡ None
+  pub few : sum_by (length_at ps) (positions_of still) + sum_by (length_at ps) (positions_of rest) ≤ operations ps
 
 module _ {Op : Type 0} (ps : List (Peak Op)) (views : List View) (still rest : List Candidate) (c : Candidate) (h : IsLeft ps views still (c ∷ rest)) where
-  sums : sum_by (length_at ps) (places_of (c ∷ rest)) ≡ length_at ps c.place + sum_by (length_at ps) (places_of rest)
-  sums = sum_by-cons (length_at ps) c.place (places_of rest)
+  sums : sum_by (length_at ps) (positions_of (c ∷ rest)) ≡ length_at ps c.position + sum_by (length_at ps) (positions_of rest)
+  sums = sum_by-cons (length_at ps) c.position (positions_of rest)
 
   -- its view has a number
-  pub leaves : (v : View) → StandsAt views c.place v → (v.after ≡ None → ⊥) → IsLeft ps views still rest
+  pub leaves : (v : View) → StandsAt views c.position v → (v.after ≡ None → ⊥) → IsLeft ps views still rest
   leaves v there some = record {
     apart = h.apart;
     rest_apart = (h.rest_apart).1;
@@ -282,35 +279,41 @@ module _ {Op : Type 0} (ps : List (Peak Op)) (views : List View) (still rest : L
     all = λ i u s nothing. elim (h.all i u s nothing) [
       | inl n ↦ inl n
       | inr n ↦ elim n [
-        | inl e ↦ absurd (some (ap (λ (w : View). w.after) (stand_same views c.place v u there (subst (λ (k : ℕ). StandsAt views k u) e s)) ∙ nothing))
+        | inl e ↦ absurd (some (ap (λ (w : View). w.after) (stand_same views c.position v u there (subst (λ (k : ℕ). StandsAt views k u) e s)) ∙ nothing))
         | inr m ↦ inr m
       ]
     ];
+    unnumbered = h.unnumbered;
     few = let few = h.few in omega (arith, few, sums);
   }
 
   -- it has none
-  pub remains : (d : Candidate) (more : List Candidate) → d.place ≡ c.place → more ≡ still ++ d ∷ [] → IsLeft ps views more rest
-  remains d more same pushed =
-      let is : places_of more ≡ places_of still ++ c.place ∷ [] =
-      ap (λ (w : List Candidate). places_of w) pushed ∙ map-append (λ (w : Candidate). w.place) still (d ∷ []) ∙ ap (λ (i : ℕ). places_of still ++ i ∷ []) same in
-      let among : (i : ℕ) → In i (places_of more) → In i (places_of still) ⊎ (i ≡ c.place) = λ i n. in_last i c.place (places_of still) (subst (λ (w : List ℕ). In i w) is n) in
+  pub remains : (v : View) → StandsAt views c.position v → v.after ≡ None → (d : Candidate) (more : List Candidate) → d.position ≡ c.position → more ≡ still ++ d ∷ []
+      → IsLeft ps views more rest
+  remains v there none d more same pushed =
+      let is : positions_of more ≡ positions_of still ++ c.position ∷ [] =
+      ap (λ (w : List Candidate). positions_of w) pushed ∙ map-append (λ (w : Candidate). w.position) still (d ∷ []) ∙ ap (λ (i : ℕ). positions_of still ++ i ∷ []) same in
+      let among : (i : ℕ) → In i (positions_of more) → In i (positions_of still) ⊎ (i ≡ c.position) = λ i n. in_last i c.position (positions_of still) (subst (λ (w : List ℕ). In i w) is n) in
       record {
-        apart = subst (λ (w : List ℕ). AreApart w) (sym is) (apart_more (places_of still) c.place h.apart (λ n. h.other c.place n (inl refl)));
+        apart = subst (λ (w : List ℕ). AreApart w) (sym is) (apart_more (positions_of still) c.position h.apart (λ n. h.other c.position n (inl refl)));
         rest_apart = (h.rest_apart).1;
-        other = λ i n m. elim (among i n) [ inl a ↦ h.other i a (inr m) | inr e ↦ (h.rest_apart).0 (subst (λ (k : ℕ). In k (places_of rest)) e m) ];
+        other = λ i n m. elim (among i n) [ inl a ↦ h.other i a (inr m) | inr e ↦ (h.rest_apart).0 (subst (λ (k : ℕ). In k (positions_of rest)) e m) ];
         within = λ i n. elim (among i n) [ inl a ↦ h.within i a | inr e ↦ h.rest_within i (inl e) ];
         rest_within = λ i n. h.rest_within i (inr n);
         all = λ i u s nothing. elim (h.all i u s nothing) [
-          | inl n ↦ inl (subst (λ (w : List ℕ). In i w) (sym is) (in_left i (places_of still) (c.place ∷ []) n))
+          | inl n ↦ inl (subst (λ (w : List ℕ). In i w) (sym is) (in_left i (positions_of still) (c.position ∷ []) n))
           | inr n ↦ elim n [
-            | inl e ↦ inl (subst (λ (w : List ℕ). In i w) (sym is) (in_right i (places_of still) (c.place ∷ []) (inl e)))
+            | inl e ↦ inl (subst (λ (w : List ℕ). In i w) (sym is) (in_right i (positions_of still) (c.position ∷ []) (inl e)))
             | inr m ↦ inr m
           ]
         ];
+        unnumbered = λ i u n s. elim (among i n) [
+          | inl a ↦ h.unnumbered i u a s
+          | inr e ↦ ap (λ (w : View). w.after) (stand_same views c.position u v (subst (λ (k : ℕ). StandsAt views k u) e s) there) ∙ none
+        ];
         few =
             let few = h.few in
-            let grown = ap (λ (w : List ℕ). sum_by (length_at ps) w) is ∙ sum_by_push (length_at ps) (places_of still) c.place in
+            let grown = ap (λ (w : List ℕ). sum_by (length_at ps) w) is ∙ sum_by_push (length_at ps) (positions_of still) c.position in
             omega (arith, few, sums, grown);
       }
 

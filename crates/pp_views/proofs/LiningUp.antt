@@ -1,5 +1,5 @@
--- Proof machinery: candidates that stand in a line, each beginning as the one before it.
-use Rattle.std.specs.Prelude.{◌≡◌, ◌≢◌, ◌≤◌, ◌<◌, ◌+◌, ◌-◌, ◌⊎◌, ℕ, suc, zero, false, List, [], ◌∷◌, ◌++◌}
+-- Proof machinery: candidates in a row, each beginning as the one before it.
+use Rattle.std.specs.Prelude.{◌≡◌, ◌≤◌, ◌<◌, ◌+◌, ◌-◌, ◌⊎◌, ℕ, suc, zero, false, List, [], ◌∷◌, ◌++◌}
 use Rattle.std.specs.Prelude.{length, map, take, drop}
 use Rattle.std.specs.List.{AllByRecursion, Contains, IsDistinct}
 use Rattle.std.specs.List.Sorted.{IsPermutation}
@@ -9,13 +9,13 @@ use Rattle.std.proofs.lemmas.List.{drop-append-le, drop-drop, length-append, len
 use Rattle.std.proofs.lemmas.List.{take-append-le, take_all, take_more}
 use Rattle.std.proofs.lemmas.List.Sorted.{Contains-permutation, IsPermutation-sym, sum_by-IsPermutation}
 use Rattle.std.proofs.lemmas.List.Sums.{sum_by_push}
-use Rattle.std.proofs.lemmas.Bool.{eq-eqb, ne_eqb}
+use Rattle.std.proofs.lemmas.Bool.{cases_eq, eq-eqb, ne_eqb}
 use Rattle.std.proofs.lemmas.Map.Keys.{IsDistinct-IsPermutation}
 use Rattle.pp_model.specs.Lists.{In}
 use Rattle.pp_model.specs.Object.{Item, ops}
 use Rattle.pp_model.proofs.Lists.{in_cases, in_left, in_map, in_right}
 use Rattle.pp_views.specs.Peaks.{Peak, operations}
-use Rattle.pp_views.specs.Trying.{AreAlike, AreAlikeTo, AreApart, ArePlaces, Candidate, HasRest, HaveRests, Share, StandsAt, length_at, places_of}
+use Rattle.pp_views.specs.Trying.{AreAlikeTo, AreApart, ArePositions, Candidate, HasRest, HaveRests, Share, StandsAt, length_at, positions_of}
 use Rattle.pp_views.proofs.Fronts.{in_default}
 use Rattle.pp_views.proofs.Viewing.{below_next, operations_next}
 
@@ -49,15 +49,15 @@ apart_more (i ∷ is) j h out = (
   apart_more is j h.1 (λ n. out (inr n)),
 )
 
--- ---- the places of peaks
+-- ---- the positions of peaks
 
 pub length_there : {Op : Type 0} (ps : List (Peak Op)) (i : ℕ) (p : Peak Op) → StandsAt ps i p → length_at ps i ≡ length p.ops
 length_there [] i p s = absurd (let l = s.0 in omega (arith, l))
 length_there {Op} (q ∷ ps) zero p s = ap (λ (w : Peak Op). length w.ops) (sym s.1)
 length_there (q ∷ ps) (suc i) p s = let l = s.0 in length_there ps i p (omega (arith, l), s.1)
 
-pub one_place_more : {Op : Type 0} (ps : List (Peak Op)) (n : ℕ) (is js : List ℕ) (p : Peak Op) → StandsAt ps n p → js ≡ is ++ n ∷ [] → ArePlaces ps n is → ArePlaces ps (n + 1) js
-one_place_more {Op} ps n is js p s e h = subst (λ (w : List ℕ). ArePlaces ps (n + 1) w) (sym e) (record {
+pub one_position_more : {Op : Type 0} (ps : List (Peak Op)) (n : ℕ) (is js : List ℕ) (p : Peak Op) → StandsAt ps n p → js ≡ is ++ n ∷ [] → ArePositions ps n is → ArePositions ps (n + 1) js
+one_position_more {Op} ps n is js p s e h = subst (λ (w : List ℕ). ArePositions ps (n + 1) w) (sym e) (record {
   apart = apart_more is n h.apart (λ m. let l = h.within n m in absurd (omega (arith, l)));
   within = λ i m. elim (in_last i n is m) [ inl a ↦ (let l = h.within i a in omega (arith, l)) | inr same ↦ omega (arith, same) ];
   all = λ i l. elim (below_next i n l) [ inl less ↦ in_left i is (n ∷ []) (h.all i less) | inr same ↦ subst (λ (k : ℕ). In k (is ++ n ∷ [])) (sym same) (in_end n is) ];
@@ -65,7 +65,7 @@ one_place_more {Op} ps n is js p s e h = subst (λ (w : List ℕ). ArePlaces ps 
       ∙ sym (operations_next ps n p s.0 s.1);
 })
 
--- the same places in another order
+-- the same positions in another order
 in_contains : {A : Type 0} (x : A) (xs : List A) → In x xs → Contains xs x
 in_contains x [] n = absurd n
 in_contains x (y ∷ xs) (inl e) = (0, omega arith, sym e)
@@ -79,14 +79,8 @@ contains_in x (y ∷ xs) (suc k, l, e) = inr (contains_in x xs (k, omega (arith,
 pub in_permuted : {A : Type 0} (xs ys : List A) (x : A) → IsPermutation xs ys → In x xs → In x ys
 in_permuted xs ys x p n = contains_in x ys (Contains-permutation xs ys x p (in_contains x xs n))
 
-pub alike_or_not : (i k : ℕ) → (i ≡ k) ⊎ (i ≢ k)
-alike_or_not zero zero = inl refl
-alike_or_not zero (suc k) = inr (λ e. omega (arith, e))
-alike_or_not (suc i) zero = inr (λ e. omega (arith, e))
-alike_or_not (suc i) (suc k) = elim (alike_or_not i k) [ inl e ↦ inl (ap suc e) | inr n ↦ inr (λ e. n (omega (arith, e))) ]
-
 eqb_flips : (i k : ℕ) → eqb i k ≡ eqb k i
-eqb_flips i k = elim (alike_or_not i k) [
+eqb_flips i k = elim (cases_eq i k) [
   | inl e ↦ eq-eqb i k e ∙ sym (eq-eqb k i (sym e))
   | inr n ↦ ne_eqb i k n ∙ sym (ne_eqb k i (λ e. n (sym e)))
 ]
@@ -113,8 +107,8 @@ distinct_apart (i ∷ is) h = (same is h.0, distinct_apart is h.1)
 pub apart_permuted : (is js : List ℕ) → IsPermutation is js → AreApart is → AreApart js
 apart_permuted is js p h = distinct_apart js (IsDistinct-IsPermutation eqb eqb_flips is js p (apart_distinct is h))
 
-pub places_permuted : {Op : Type 0} (ps : List (Peak Op)) (n : ℕ) (is js : List ℕ) → IsPermutation is js → ArePlaces ps n is → ArePlaces ps n js
-places_permuted ps n is js p h = record {
+pub positions_permuted : {Op : Type 0} (ps : List (Peak Op)) (n : ℕ) (is js : List ℕ) → IsPermutation is js → ArePositions ps n is → ArePositions ps n js
+positions_permuted ps n is js p h = record {
   apart = apart_permuted is js p h.apart;
   within = λ i m. h.within i (in_permuted js is i (IsPermutation-sym is js p) m);
   all = λ i l. in_permuted is js i p (h.all i l);
@@ -125,34 +119,29 @@ places_permuted ps n is js p h = record {
 
 -- what stands nowhere
 abbrev pub nobody : Candidate
-nobody = record { place = 0; shared = 0; from = 0; to = 0 }
+nobody = record { position = 0; shared = 0; from = 0; to = 0 }
 
 module _ {Op : Type 0} (ps : List (Peak Op)) where
   -- one candidate more, whose peak shares as many as it says
-  pub alike_more : (before : List (Item Op)) (cs : List Candidate) (c : Candidate) (p : Peak Op) (n : ℕ) (ys : List (Item Op)) → StandsAt ps c.place p
+  pub alike_more : (before : List (Item Op)) (cs : List Candidate) (c : Candidate) (p : Peak Op) (n : ℕ) (ys : List (Item Op)) → StandsAt ps c.position p
       → AreAlikeTo ps before cs c.shared p.ops → Share n p.ops ys → AreAlikeTo ps before (cs ++ c ∷ []) n ys
   alike_more before [] c p n ys s alike share = λ q t.
-      let same : p ≡ q = stand_same ps c.place p q s t in
+      let same : p ≡ q = stand_same ps c.position p q s t in
       (subst (λ (w : Peak Op). Share c.shared before w.ops) same alike, subst (λ (w : Peak Op). Share n w.ops ys) same share)
   alike_more before (d ∷ cs) c p n ys s alike share = λ q t.
       let rest = alike q t in
       (rest.0, alike_more q.ops cs c p n ys s rest.1 share)
 
-  -- the first candidate of a line
-  pub alike_first : (before : List (Item Op)) (c : Candidate) (cs : List Candidate) (p : Peak Op) → StandsAt ps c.place p → AreAlike ps before (c ∷ cs)
-      → Share c.shared before p.ops × AreAlike ps p.ops cs
-  alike_first before c cs p s alike = alike p s
-
--- the places of some of a line, one on
-pub places_more : (os : List (ℕ × ℕ)) (cs ds : List Candidate) (k : ℕ) (c : Candidate) → k < length os → c.place ≡ (get_or os k (0, 0)).1 → ds ≡ cs ++ c ∷ []
-    → places_of cs ≡ map (λ o. o.1) (take k os) → places_of ds ≡ map (λ o. o.1) (take (k + 1) os)
-places_more os cs ds k c there is pushed so =
-    ap (λ (w : List Candidate). places_of w) pushed ∙ map-append (λ (d : Candidate). d.place) cs (c ∷ []) ∙ ap (λ (w : List ℕ). w ++ c.place ∷ []) so
+-- the positions of some candidates, one on
+pub positions_more : (os : List (ℕ × ℕ)) (cs ds : List Candidate) (k : ℕ) (c : Candidate) → k < length os → c.position ≡ (get_or os k (0, 0)).1 → ds ≡ cs ++ c ∷ []
+    → positions_of cs ≡ map (λ o. o.1) (take k os) → positions_of ds ≡ map (λ o. o.1) (take (k + 1) os)
+positions_more os cs ds k c there is pushed so =
+    ap (λ (w : List Candidate). positions_of w) pushed ∙ map-append (λ (d : Candidate). d.position) cs (c ∷ []) ∙ ap (λ (w : List ℕ). w ++ c.position ∷ []) so
     ∙ ap (λ (i : ℕ). map (λ (o : ℕ × ℕ). o.1) (take k os) ++ i ∷ []) is ∙ sym (map-append (λ (o : ℕ × ℕ). o.1) (take k os) (get_or os k (0, 0) ∷ []))
     ∙ ap (λ (w : List (ℕ × ℕ)). map (λ (o : ℕ × ℕ). o.1) w) (sym (take_more os k (0, 0) there))
 
-pub place_within : {Op : Type 0} (ps : List (Peak Op)) (os rs : List (ℕ × ℕ)) (k : ℕ) → k < length os → os ≡ rs → ArePlaces ps (length ps) (map (λ o. o.1) rs) → (get_or os k (0, 0)).1 < length ps
-place_within {Op} ps os rs k there same all = (subst (λ (w : List (ℕ × ℕ)). ArePlaces ps (length ps) (map (λ o. o.1) w)) (sym same) all).within (get_or os k (0, 0)).1
+pub position_within : {Op : Type 0} (ps : List (Peak Op)) (os rs : List (ℕ × ℕ)) (k : ℕ) → k < length os → os ≡ rs → ArePositions ps (length ps) (map (λ o. o.1) rs) → (get_or os k (0, 0)).1 < length ps
+position_within {Op} ps os rs k there same all = (subst (λ (w : List (ℕ × ℕ)). ArePositions ps (length ps) (map (λ o. o.1) w)) (sym same) all).within (get_or os k (0, 0)).1
     (in_map (λ (o : ℕ × ℕ). o.1) (get_or os k (0, 0)) os (in_default os k (0, 0) there))
 
 -- ---- the operations that are not shared
@@ -171,11 +160,11 @@ rest_grows {Op} l m c items h =
 
 -- one candidate more, whose other operations were added
 pub rests_more : {Op : Type 0} (ps : List (Peak Op)) (l m more : List Op) (cs ds : List Candidate) (d : Candidate) (p : Peak Op) → HaveRests ps l cs → more ≡ l ++ m → ds ≡ cs ++ d ∷ []
-    → StandsAt ps d.place p → d.shared ≤ length p.ops → d.from ≡ length l → d.to ≡ length more → m ≡ ops (drop d.shared p.ops) → HaveRests ps more ds
+    → StandsAt ps d.position p → d.shared ≤ length p.ops → d.from ≡ length l → d.to ≡ length more → m ≡ ops (drop d.shared p.ops) → HaveRests ps more ds
 rests_more {Op} ps l m more cs ds d p h added pushed here shared from to rest = λ c q n s. elim (in_last c d cs (subst (λ (w : List Candidate). In c w) pushed n)) [
   | inl old ↦ subst (λ (w : List Op). HasRest w c q.ops) (sym added) (rest_grows l m c q.ops (h c q old s))
   | inr new ↦
-      let same : p ≡ q = stand_same ps d.place p q here (subst (λ (w : Candidate). StandsAt ps w.place q) new s) in
+      let same : p ≡ q = stand_same ps d.position p q here (subst (λ (w : Candidate). StandsAt ps w.position q) new s) in
       subst (λ (w : Candidate). HasRest more w q.ops) (sym new) (subst (λ (w : Peak Op). HasRest more d w.ops) same mine)
 ]
   where

@@ -1,4 +1,4 @@
--- Proof machinery: lines of candidates, and operations that are tried from a state, and taken back.
+-- Proof machinery: candidates, and operations that are tried from a state, and taken back.
 use Rattle.std.specs.Prelude.{◌≡◌, ◌<◌, ◌≤◌, ◌+◌, ◌-◌, ℕ, suc, zero, IsTrue, List, [], ◌∷◌, length}
 use Rattle.std.specs.Prelude.{map, take, drop, get_or, None, sum_by}
 use Rattle.pp_model.specs.Config.{CommittedTx}
@@ -6,8 +6,8 @@ use Rattle.pp_model.specs.Lists.{Each, In}
 use Rattle.pp_model.specs.Object.{Item, ops}
 use Rattle.pp_model.specs.Sound.{serial_ops}
 use Rattle.pp_spec.specs.Object.{Object, AllowedFrom, AllRanged, IsAllowed, IsLog, state_from}
-pub use Rattle.pp_views.specs.declared.line.Candidate.{Candidate}
-pub use Rattle.pp_views.specs.declared.line.Line.{Line}
+pub use Rattle.pp_views.specs.declared.candidates.Candidate.{Candidate}
+pub use Rattle.pp_views.specs.declared.candidates.Candidates.{Candidates}
 pub use Rattle.pp_views.specs.declared.trial.AppliedOp.{AppliedOp}
 use Rattle.pp_views.specs.Peaks.{Peak, operations}
 use Rattle.pp_views.specs.Views.{MayBeTried, View}
@@ -18,25 +18,25 @@ pub record IsUntried {Op : Type 0} (p : Peak Op) (v : View) : Type 0 where
   pub ops : v.ops ≡ length p.ops
   pub after : v.after ≡ None
 
--- no place stands twice among these
+-- no position stands twice among these
 abbrev pub AreApart : List ℕ → Type 0
 AreApart [] = Unit {0}
 AreApart (i ∷ is) = (In i is → ⊥) × AreApart is
 
--- how many operations the peak at a place has
+-- how many operations the peak at a position has
 abbrev pub length_at : {Op : Type 0} → List (Peak Op) → ℕ → ℕ
 length_at [] i = 0
 length_at (p ∷ ps) zero = length p.ops
 length_at (p ∷ ps) (suc i) = length_at ps i
 
--- the places of the first n peaks, each once; `cost` counts the operations of these peaks
-pub record ArePlaces {Op : Type 0} (ps : List (Peak Op)) (n : ℕ) (is : List ℕ) : Type 0 where
+-- the positions of the first n peaks, each once; `cost` counts the operations of these peaks
+pub record ArePositions {Op : Type 0} (ps : List (Peak Op)) (n : ℕ) (is : List ℕ) : Type 0 where
   pub apart : AreApart is
   pub within : (i : ℕ) → In i is → i < n
   pub all : (i : ℕ) → i < n → In i is
   pub cost : sum_by (length_at ps) is ≡ operations (take n ps)
 
--- x stands at this place
+-- x stands at this position
 abbrev pub StandsAt : {A : Type 0} → List A → ℕ → A → Type 0
 StandsAt xs i x = (i < length xs) × (x ≡ get_or xs i x)
 
@@ -50,7 +50,7 @@ abbrev pub AreAlikeTo : {Op : Type 0} → List (Peak Op) → List (Item Op) → 
     → List (Item Op) → Type 0
 AreAlikeTo ps before [] n behind = Share n before behind
 AreAlikeTo {Op} ps before (c ∷ cs) n behind =
-    (p : Peak Op) → StandsAt ps c.place p → Share c.shared before p.ops
+    (p : Peak Op) → StandsAt ps c.position p → Share c.shared before p.ops
     × AreAlikeTo ps p.ops cs n behind
 
 -- of the last nothing is asked
@@ -58,7 +58,7 @@ abbrev pub AreAlike : {Op : Type 0} → List (Peak Op) → List (Item Op) → Li
 AreAlike ps before cs = AreAlikeTo ps before cs 0 []
 
 -- The operations of these items that the candidate does not share stand where it says among those
--- of the line.
+-- of the candidates.
 pub record HasRest {Op : Type 0} (l : List Op) (c : Candidate) (items : List (Item Op)) : Type 0
   where
     pub shared : c.shared ≤ length items
@@ -69,28 +69,35 @@ pub record HasRest {Op : Type 0} (l : List Op) (c : Candidate) (items : List (It
 -- HasRest of each candidate and its peak.
 abbrev pub HaveRests : {Op : Type 0} → List (Peak Op) → List Op → List Candidate → Type 0
 HaveRests {Op} ps l cs =
-    (c : Candidate) (p : Peak Op) → In c cs → StandsAt ps c.place p → HasRest l c p.ops
+    (c : Candidate) (p : Peak Op) → In c cs → StandsAt ps c.position p → HasRest l c p.ops
 
-abbrev pub places_of : List Candidate → List ℕ
-places_of cs = map (λ c. c.place) cs
+abbrev pub positions_of : List Candidate → List ℕ
+positions_of cs = map (λ c. c.position) cs
 
--- a line of all peaks
-pub record IsLine {Op : Type 0} (ps : List (Peak Op)) (line : Line Op) : Type 0 where
-  pub places : ArePlaces ps (length ps) (places_of line.candidates.items)
-  pub alike : AreAlike ps [] line.candidates.items
-  pub rests : HaveRests ps line.ops.items line.candidates.items
+-- all peaks are candidates
+pub record AreAllCandidates {Op : Type 0} (ps : List (Peak Op)) (candidates : Candidates Op)
+    : Type 0 where
+  pub positions : ArePositions ps (length ps) (positions_of candidates.list.items)
+  pub alike : AreAlike ps [] candidates.list.items
+  pub rests : HaveRests ps candidates.ops.items candidates.list.items
 
--- a line of peaks: all whose views have no number are among them, and others may be; `cost` bounds
--- their operations
+-- candidates of the peaks: all whose views have no number are among them, and others may be; `cost`
+-- bounds their operations
 pub record AreCandidates {Op : Type 0} (ps : List (Peak Op)) (views : List View)
-    (line : Line Op) : Type 0 where
-  pub apart : AreApart (places_of line.candidates.items)
-  pub within : (i : ℕ) → In i (places_of line.candidates.items) → i < length ps
+    (candidates : Candidates Op) : Type 0 where
+  pub apart : AreApart (positions_of candidates.list.items)
+  pub within : (i : ℕ) → In i (positions_of candidates.list.items) → i < length ps
   pub all : (i : ℕ) (v : View) → StandsAt views i v → v.after ≡ None
-      → In i (places_of line.candidates.items)
-  pub alike : AreAlike ps [] line.candidates.items
-  pub rests : HaveRests ps line.ops.items line.candidates.items
-  pub cost : sum_by (length_at ps) (places_of line.candidates.items) ≤ operations ps
+      → In i (positions_of candidates.list.items)
+  pub alike : AreAlike ps [] candidates.list.items
+  pub rests : HaveRests ps candidates.ops.items candidates.list.items
+  pub cost : sum_by (length_at ps) (positions_of candidates.list.items) ≤ operations ps
+
+-- the view of no candidate has a number
+abbrev pub HaveNoNumber : {Op : Type 0} → List View → Candidates Op → Type 0
+HaveNoNumber views candidates =
+    (i : ℕ) (v : View) → In i (positions_of candidates.list.items) → StandsAt views i v
+    → v.after ≡ None
 
 -- the operations that were applied
 abbrev pub applied : {Op Undo : Type 0} → List (AppliedOp Op Undo) → List Op
@@ -132,9 +139,9 @@ module _ {Shape State Op Undo : Type 0} (o : Object Shape State Op Undo) where
 
   -- The peaks may be tried from the state, and the candidates numbered.
   pub record MayBeNumbered (s : State) (ps : List (Peak Op)) (views : List View)
-      (line : Line Op) : Type 0 where
+      (candidates : Candidates Op) : Type 0 where
     pub long : length views ≡ length ps
-    pub candidates : AreCandidates ps views line
+    pub are : AreCandidates ps views candidates
     pub reached : MayFollow s []
     pub may : (p : Peak Op) → In p ps → MayFollow s (ops p.ops)
 

@@ -2,9 +2,9 @@
 //! are what the object gives.
 #![tactic(auto)]
 
+mod candidates;
 mod collect;
 mod law;
-mod line;
 mod order;
 mod own;
 mod peak;

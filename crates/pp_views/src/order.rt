@@ -3,9 +3,9 @@ ghost use Rattle.std.specs.Prelude.{◌≡◌, ◌≤◌, [], IfOk, length, map}
 ghost use Rattle.pp_core.specs.declared.entry.Item.{Item as ItemOf};
 ghost use Rattle.pp_model.specs.Lists.{In};
 ghost use Rattle.pp_views.specs.Peaks.{IdsTell};
-ghost use Rattle.pp_views.specs.Trying.{ArePlaces, IsLine, Share};
+ghost use Rattle.pp_views.specs.Trying.{ArePositions, AreAllCandidates, Share};
 
-use crate::line::{Candidate, Line, add_ops};
+use crate::candidates::{Candidate, Candidates, add_ops};
 use crate::peak::Peak;
 use pp_core::{Item, OutOfMemory};
 use std::alloc::Global;
@@ -23,42 +23,45 @@ fn common<O: Copy>(a: &[Item<O>], b: &[Item<O>]) -> usize
     count
 }
 
-/// The places of the peaks, each behind the id of its first operation, in the order of these ids,
-/// and of the places where these are the same. Of a peak without operations the id is taken as 0.
+/// The positions of the peaks, each behind the id of its first operation, in the order of these ids,
+/// and of the positions where these are the same. Of a peak without operations the id is taken as 0.
 fn by_first_id<O: Copy>(alloc: Global, peaks: &[Peak<O>]) -> Result<Vec<(u32, usize)>, OutOfMemory>
-    ensures { IfOk result (λ order. ArePlaces peaks.now (length peaks.now)
+    ensures { IfOk result (λ order. ArePositions peaks.now (length peaks.now)
         (map (λ o. o.1) order.items)) }
 {
     let mut order = Vec::new(alloc);
-    for (place, peak) in peaks.iter().enumerate() {
+    for (position, peak) in peaks.iter().enumerate() {
         let first = peak.ops.as_slice().first().map_or(0, |item| item.id);
-        order.push((first, place))?;
+        order.push((first, position))?;
     }
     order.sort()?;
     Ok(order)
 }
 
-/// All peaks in a line. Those with the same first operation stand together, in their own order: so
-/// each begins as the one before it, as far as its transaction did not take that back.
-pub(crate) fn line_up<O: Copy>(alloc: Global, peaks: &[Peak<O>]) -> Result<Line<O>, OutOfMemory>
+/// All peaks as candidates. Those with the same first operation stand together, in their own order:
+/// so each begins as the one before it, as far as its transaction did not take that back.
+pub(crate) fn line_up<O: Copy>(
+    alloc: Global,
+    peaks: &[Peak<O>],
+) -> Result<Candidates<O>, OutOfMemory>
     requires { IdsTell peaks.now }
-    ensures { IfOk result (λ line. IsLine peaks.now line) }
+    ensures { IfOk result (λ candidates. AreAllCandidates peaks.now candidates) }
 {
     let order = by_first_id(alloc, peaks)?;
-    let mut line = Line::new(alloc);
+    let mut candidates = Candidates::new(alloc);
     let mut before: &[Item<O>] = &[];
-    for (_, place) in &order {
-        let items = peaks[*place].ops.as_slice();
+    for (_, position) in &order {
+        let items = peaks[*position].ops.as_slice();
         let shared = common(before, items);
-        let from = line.ops.len();
-        add_ops(&mut line.ops, &items[shared..])?;
-        line.candidates.push(Candidate {
-            place: *place,
+        let from = candidates.ops.len();
+        add_ops(&mut candidates.ops, &items[shared..])?;
+        candidates.list.push(Candidate {
+            position: *position,
             shared,
             from,
-            to: line.ops.len(),
+            to: candidates.ops.len(),
         })?;
         before = items;
     }
-    Ok(line)
+    Ok(candidates)
 }

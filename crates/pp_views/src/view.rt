@@ -11,7 +11,7 @@ ghost use Rattle.pp_views.specs.Trying.{AreCandidates, IsStateAt, IsUntried, May
 ghost use Rattle.pp_views.specs.Trying.{MayFollow, MayRun};
 ghost use Rattle.pp_views.specs.Views.{AreViews, IsViewBelow, MayBeTried, Pairwise};
 
-use crate::line::{Line, without_numbered};
+use crate::candidates::{Candidates, without_numbered};
 use crate::order::line_up;
 use crate::peak::{Peak, Peaks};
 use crate::trial::{AppliedOp, apply_all, take_back_to};
@@ -79,40 +79,40 @@ fn try_all<S: Spec, L: Ledger>(
     state: &mut S::State,
     done: &mut Vec<AppliedOp<S::Op, S::Undo>>,
     views: &mut Vec<View>,
-    line: &Line<S::Op>,
+    candidates: &Candidates<S::Op>,
     number: u32,
     ticks: &mut Ticks<L>,
 ) -> Result<bool, OutOfMemory>
     requires empty { done.old.items ≡ [] }
-    requires line { (ps : List (PeakOf S.Op))
-        × MayBeNumbered S.object state.old ps views.old.items line.now }
+    requires candidates { (ps : List (PeakOf S.Op))
+        × MayBeNumbered S.object state.old ps views.old.items candidates.now }
     ensures tried { OnOk result ((ps : List (PeakOf S.Op)) (shape : S.Shape)
         (committed : List (TxOf S.Op))
-        → MayBeNumbered S.object state.old ps views.old.items line.now
+        → MayBeNumbered S.object state.old ps views.old.items candidates.now
         → IsStateAt S.object shape committed number state.old
         → Pairwise (IsViewBelow number (rules_of S.object shape) committed) ps views.old.items
         → Pairwise (IsViewBelow (number + 1) (rules_of S.object shape) committed) ps
         views.new.items) }
-    ensures line { OnOk result ((ps : List (PeakOf S.Op))
-        → MayBeNumbered S.object state.old ps views.old.items line.now
-        → AreCandidates ps views.new.items line.now) }
+    ensures candidates { OnOk result ((ps : List (PeakOf S.Op))
+        → MayBeNumbered S.object state.old ps views.old.items candidates.now
+        → AreCandidates ps views.new.items candidates.now) }
     ensures same { OnOk result (state.new ≡ state.old) }
     ensures empty { OnOk result (done.new.items ≡ []) }
     ensures rises { ticks.old ≤ ticks.new }
     ensures bound { (ps : List (PeakOf S.Op))
-        → MayBeNumbered S.object state.old ps views.old.items line.now
+        → MayBeNumbered S.object state.old ps views.old.items candidates.now
         → ticks.new ≤ ticks.old + 2 * operations ps }
 {
     let mut numbered = false;
-    for candidate in &line.candidates {
+    for candidate in &candidates.list {
         if done.len() < candidate.shared {
             continue;
         }
         take_back_to::<S, L>(state, done, candidate.shared, ticks)?;
-        let others = &line.ops[candidate.from..candidate.to];
+        let others = &candidates.ops[candidate.from..candidate.to];
         let all_done = apply_all::<S, L>(state, done, others, ticks)?;
-        if all_done && views[candidate.place].after.is_none() {
-            views[candidate.place].after = Some(number);
+        if all_done && views[candidate.position].after.is_none() {
+            views[candidate.position].after = Some(number);
             numbered = true;
         }
     }
@@ -128,47 +128,48 @@ fn try_behind<S: Spec, L: Ledger>(
     done: &mut Vec<AppliedOp<S::Op, S::Undo>>,
     entries: &[Item<S::Op>],
     views: &mut Vec<View>,
-    line: &Line<S::Op>,
+    candidates: &Candidates<S::Op>,
     number: u32,
     ticks: &mut Ticks<L>,
 ) -> Result<bool, OutOfMemory>
     requires empty { done.old.items ≡ [] }
     requires may { MayFollow S.object state.old (ops entries.now) }
     requires allowed { AllowedFrom S.object state.old (ops entries.now) }
-    requires line { (ps : List (PeakOf S.Op)) × MayBeNumbered S.object
-        (state_from S.object state.old (ops entries.now)) ps views.old.items line.now }
+    requires candidates { (ps : List (PeakOf S.Op)) × MayBeNumbered S.object
+        (state_from S.object state.old (ops entries.now)) ps views.old.items candidates.now }
     ensures state { OnOk result (state.new ≡ state_from S.object state.old (ops entries.now)) }
     ensures tried { OnOk result ((ps : List (PeakOf S.Op)) (shape : S.Shape)
         (committed : List (TxOf S.Op)) (before : ℕ)
         → MayBeNumbered S.object (state_from S.object state.old (ops entries.now)) ps
-        views.old.items line.now
+        views.old.items candidates.now
         → number ≡ before + 1 → IsStateAt S.object shape committed before state.old
         → IsStateAt S.object shape committed number
         (state_from S.object state.old (ops entries.now))
         → Pairwise (IsViewBelow number (rules_of S.object shape) committed) ps views.old.items
         → Pairwise (IsViewBelow (number + 1) (rules_of S.object shape) committed) ps
         views.new.items) }
-    ensures line { OnOk result ((ps : List (PeakOf S.Op))
+    ensures candidates { OnOk result ((ps : List (PeakOf S.Op))
         → MayBeNumbered S.object (state_from S.object state.old (ops entries.now)) ps
-        views.old.items line.now
-        → AreCandidates ps views.new.items line.now) }
+        views.old.items candidates.now
+        → AreCandidates ps views.new.items candidates.now) }
     ensures empty { OnOk result (done.new.items ≡ []) }
     ensures rises { ticks.old ≤ ticks.new }
     ensures bound { (ps : List (PeakOf S.Op))
         → MayBeNumbered S.object (state_from S.object state.old (ops entries.now)) ps
-        views.old.items line.now
+        views.old.items candidates.now
         → ticks.new ≤ ticks.old + length entries.now + 2 * operations ps }
 {
     if entries.len() == 0 {
         return Ok(false);
     }
     apply_committed::<S, L>(state, entries, ticks)?;
-    try_all::<S, L>(state, done, views, line, number, ticks)
+    try_all::<S, L>(state, done, views, candidates, number, ticks)
 }
 
 /// Tries the peaks before any committed transaction and after each of them, until each has a
-/// number. Those that have one leave the line behind the first round, and then each time when as
-/// many rounds more were made: so the line is made anew a few times, and few are tried in vain.
+/// number. Those that have one leave the candidates behind the first round, and then each time when
+/// as many rounds more were made as before. So the candidates are made anew a few times, and no peak
+/// is tried in vain in more rounds than it was tried in before it had its number.
 fn number_all<S: Spec, L: Ledger>(
     alloc: Global,
     shape: &S::Shape,
@@ -187,24 +188,32 @@ fn number_all<S: Spec, L: Ledger>(
     ensures bound { ticks.new ≤ ticks.old + length (serial_ops committed.now)
         + 2 * ((length committed.now + 1) * operations peaks.now) }
 {
-    let mut line = line_up(alloc, peaks)?;
+    let mut candidates = line_up(alloc, peaks)?;
     let mut done = Vec::new(alloc);
     let mut state = S::empty(alloc, shape)?;
-    let mut stale = try_all::<S, L>(&mut state, &mut done, views, &line, 0, ticks)?;
+    let mut stale = try_all::<S, L>(&mut state, &mut done, views, &candidates, 0, ticks)?;
     let mut number = 0u32;
     let mut due = 0u32;
     for transaction in committed {
         if stale && number >= due {
-            line = without_numbered(alloc, peaks, views.as_slice(), &line)?;
+            candidates = without_numbered(alloc, peaks, views.as_slice(), &candidates)?;
             stale = false;
             due = number.saturating_mul(2);
         }
-        if line.candidates.len() == 0 {
+        if candidates.list.len() == 0 {
             return Ok(());
         }
         number += 1;
         let entries = transaction.entries.as_slice();
-        let more = try_behind::<S, L>(&mut state, &mut done, entries, views, &line, number, ticks)?;
+        let more = try_behind::<S, L>(
+            &mut state,
+            &mut done,
+            entries,
+            views,
+            &candidates,
+            number,
+            ticks,
+        )?;
         stale = stale || more;
     }
     Ok(())

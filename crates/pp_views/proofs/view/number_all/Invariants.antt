@@ -12,7 +12,7 @@ invariant-loop-transaction g l = record {
   state : IsStateAt g.S.Spec.object l.shape l.committed l.transaction-index l.state;
   empty : l.done.items ≡ [];
   views : Pairwise (IsViewBelow (l.transaction-index + 1) (rules_of g.S.Spec.object l.shape) l.committed) l.peaks l.views.items;
-  line : AreCandidates l.peaks l.views.items l.line;
+  candidates : AreCandidates l.peaks l.views.items l.candidates;
   rises : l.fn.ticks ≤ l.ticks;
   cost : l.ticks ≤ l.fn.ticks + length (serial_ops (take l.transaction-index l.committed))
       + 2 * ((l.transaction-index + 1) * operations l.peaks);

@@ -5,5 +5,5 @@ use Rattle.pp_views.proofs.Rounds.{InRound}
 use Rattle.pp_views.proofs.view.try_all.Given as goal
 
 abbrev pub invariant-loop-candidate : goal.invariant-loop-candidate
-invariant-loop-candidate g l = (ps : List (Peak _)) → MayBeNumbered g.S.Spec.object l.fn.state ps l.fn.views.items l.line
-    → InRound g.S.Spec.object ps l.number l.fn.state l.fn.views.items l.line l.candidate-index l.views.items l.done.items l.state l.fn.ticks l.ticks
+invariant-loop-candidate g l = (ps : List (Peak _)) → MayBeNumbered g.S.Spec.object l.fn.state ps l.fn.views.items l.candidates
+    → InRound g.S.Spec.object ps l.number l.fn.state l.fn.views.items l.candidates l.candidate-index l.views.items l.done.items l.state l.fn.ticks l.ticks

@@ -9,7 +9,7 @@ returns-then-entries-eq0-clause-tried g c = λ ps shape committed before may is 
     same_round o ps shape committed before c.args.number c.args.state.now c.args.views.now.items is at
     (subst (λ s. IsStateAt o shape committed c.args.number s) (no_effect o ps c.args.state.now c.args.entries.now c.if-entries-eq0.true) behind) h
 
-pub try_all-requires-clause-line : goal.try_all-requires-clause-line
-try_all-requires-clause-line g c =
-    let r = c.requires.line in
-    (r.0, subst (λ s. MayBeNumbered g.S.Spec.object s r.0 c.args.views.now.items c.args.line.now) (sym c.in_ok-apply_committed.ensures.state) r.1)
+pub try_all-requires-clause-candidates : goal.try_all-requires-clause-candidates
+try_all-requires-clause-candidates g c =
+    let r = c.requires.candidates in
+    (r.0, subst (λ s. MayBeNumbered g.S.Spec.object s r.0 c.args.views.now.items c.args.candidates.now) (sym c.in_ok-apply_committed.ensures.state) r.1)
