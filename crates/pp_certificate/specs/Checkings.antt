@@ -4,11 +4,9 @@ use Rattle.std.specs.Prelude.{Option, None, Some, Result, Ok, Err}
 use Rattle.pp_core.specs.Catalogs.{Objects}
 use Rattle.pp_core.specs.declared.call.Kind.{Kind}
 use Rattle.pp_io.specs.Lines.{blank}
-use Rattle.pp_model.specs.Lists.{Each}
 use Rattle.pp_object.specs.Objects.{objects, kinds_of}
 use Rattle.pp_object.specs.declared.act.Op.{Op}
 use Rattle.pp_object.specs.declared.states.ObjectState.{ObjectState}
-use Rattle.pp_text.specs.Texts.{AreStatesOf, IsNamed}
 use Rattle.pp_recheck.specs.declared.line.Line.{Line}
 use Rattle.pp_recheck.specs.declared.line.Line.TheVariants.{Blank}
 use Rattle.pp_recheck.specs.declared.refusal.Refusal.{Refusal}
@@ -17,6 +15,7 @@ use Rattle.pp_recheck.specs.declared.shown.Shown.{Shown}
 use Rattle.pp_recheck.specs.Certificates.{Fresh, Holds, Refused, IsVerdictOf}
 use Rattle.pp_recheck.specs.Checking.{ReadSoFar, Takes}
 use Rattle.pp_recheck.specs.Laws.{IsOver, Leads, ShowsAllowed}
+use Rattle.pp_text.specs.Texts.{AreStatesOf, EachNamed}
 use Rattle.pp_certificate.specs.Reading.{first_line, later_line, objects_on, objects_in}
 use Rattle.pp_certificate.specs.Reading.{reader, reader_of}
 use Rattle.pp_certificate.specs.declared.checking.Checking.{Checking}
@@ -79,7 +78,7 @@ LeadsOn lines line (Err why) = (more : List (List ℕ)) →
 -- The operations and the states that are shown are those of these objects.
 abbrev pub IsShownOf : Objects → Shown (List Kind) (List ObjectState) Op → Type 0
 IsShownOf catalog h =
-    Each (λ entry. IsNamed catalog entry.op) h.serial × AreStatesOf catalog h.state
+    EachNamed catalog h.serial × AreStatesOf catalog h.state
 
 -- What lines show that are all taken, with their objects. Where there is no serial number they end
 -- too early.

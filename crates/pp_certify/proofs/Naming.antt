@@ -15,9 +15,8 @@ use Rattle.pp_object.specs.declared.states.ObjectState.{ObjectState}
 use Rattle.pp_object.specs.laws.Objects.{objects_lawful}
 use Rattle.pp_spec.specs.Object.{AllowedFrom, IsAllowed, state_after}
 use Rattle.pp_spec.proofs.Places.{reached_shape}
+use Rattle.pp_text.specs.Texts.{AreStatesOf, IsNamed, EachNamed}
 use Rattle.pp_report.specs.Reports.{AreNamed}
-use Rattle.pp_text.specs.Texts.{AreStatesOf, IsNamed}
-use Rattle.pp_text.specs.Lines.{EachNamed}
 
 -- each operation of an allowed list fits its shape
 all_fit : (states : List ObjectState) (l : List Op) → AllowedFrom objects states l → Each (λ op. IsTrue (objects.fits (objects.shape states) op)) l

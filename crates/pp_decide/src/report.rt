@@ -8,7 +8,7 @@ ghost use Rattle.pp_decide.specs.Reports.{quick_rejected_text};
 use pp_core::{Catalog, Committed, OutOfMemory, Text};
 use pp_object::{ObjectStates, Op};
 use pp_report::write_transactions;
-use pp_text::{write_number, write_states};
+use pp_text::{write_number, write_state_lines};
 use std::alloc::Global;
 
 /// Adds the first line of an accepted run.
@@ -39,7 +39,7 @@ pub(crate) fn quick_accepted(
     let mut text = Text::new(alloc);
     write_quick_line(&mut text, records, committed.len())?;
     write_transactions(&mut text, catalog, committed.as_slice())?;
-    write_states(alloc, &mut text, catalog, states)?;
+    write_state_lines(alloc, &mut text, catalog, states)?;
     Ok(text)
 }
 

@@ -7,7 +7,7 @@ ghost use Rattle.pp_drill.specs.Reports.{drill_report};
 use pp_core::{Catalog, OutOfMemory, Text};
 use pp_object::ObjectStates;
 use pp_report::write_first_line;
-use pp_text::{write_number, write_states};
+use pp_text::{write_number, write_state_lines};
 use std::alloc::Global;
 
 /// The text of the command for n transactions. The only error is that memory was refused.
@@ -28,6 +28,6 @@ pub(crate) fn drill_report(
     write_number(&mut text, u64::from(n))?;
     text.append(b"\n")?;
     write_first_line(&mut text, steps, committed)?;
-    write_states(alloc, &mut text, catalog, states)?;
+    write_state_lines(alloc, &mut text, catalog, states)?;
     Ok(text)
 }

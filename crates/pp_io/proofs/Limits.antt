@@ -143,7 +143,7 @@ not_first false x more h = refl
 past_bytes : (at : Reach) (b : ℕ) → (past at b).bytes ≡ at.bytes + 1
 past_bytes at b = elim (b == 10) as (λ v. (cond {A = Reach} v (record { bytes = at.bytes + 1; lines = at.lines + 1; column = 0 }) (record { bytes = at.bytes + 1; lines = at.lines; column = at.column + 1 })).bytes ≡ at.bytes + 1) [ true ↦ refl | false ↦ refl ]
 
--- and no more than may be are taken
+-- no more bytes than may be are taken
 pub bytes_bounded : (at : Reach) (bytes : List ℕ) → at.bytes ≤ MOST_BYTES → (reach_from at bytes).bytes ≤ MOST_BYTES
 bytes_bounded at [] le = le
 bytes_bounded at (b ∷ bs) le =

@@ -7,7 +7,7 @@ use Rattle.std.proofs.lemmas.Bool.{cases_lt, le-ltb, ltb-true}
 use Rattle.std.proofs.lemmas.List.{drop-take, length-drop}
 use borrow.Author.Tests.{lt-ltb}
 use Rattle.pp_model.specs.Lists.{In}
-use Rattle.pp_model.proofs.Finding.{stands_in}
+use Rattle.pp_model.proofs.Finding.{stands_in, nowhere}
 use Rattle.pp_log.proofs.Lists.{in_at}
 
 lt_suc : (n m : ℕ) → nat_lt (1 + n) (suc m) ≡ nat_lt n m
@@ -43,11 +43,6 @@ met p x xs h =
     let front : position_or_len p (x ∷ xs) ≡ 0 = ap (λ (b : Bool). cond (not b) (1 + position_or_len p xs) 0) h in
     ap (λ (k : ℕ). cond (nat_lt k (suc (length xs))) (Some k) None) front
     ∙ ap (λ (b : Bool). cond b (Some 0) None) (lt-ltb 0 (suc (length xs)) (omega arith))
-
--- a test that fails of each element
-pub nowhere : {X : Type 0} (p : X → Bool) (xs : List X) → ((x : X) → In x xs → p x ≡ false) → position p xs ≡ None
-nowhere p [] n = refl
-nowhere {X} p (x ∷ xs) n = passed p x xs (n x (inl refl)) ∙ ap (option_map suc) (nowhere p xs (λ y i. n y (inr i)))
 
 -- elements of a front, and of a rest
 pub get_taken : {X : Type 0} (xs : List X) (n j : ℕ) (x : X) → slice_get (take n xs) j ≡ Some x → slice_get xs j ≡ Some x

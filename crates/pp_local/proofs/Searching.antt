@@ -5,12 +5,13 @@ use Rattle.std.proofs.Common.{is_some, not, Bool, refl}
 use Rattle.pp_core.specs.declared.entry.LocalEntry.{LocalEntry}
 use Rattle.pp_model.specs.Config.{Unpushed, Pushed, is_mark, is_own}
 use Rattle.pp_model.specs.Lists.{In}
+use Rattle.pp_model.proofs.Finding.{nowhere}
 use Rattle.pp_spec.specs.Object.{Object, IsLawful, Swaps}
 use Rattle.pp_local.specs.Known.{KnowsOwn}
 use Rattle.pp_local.specs.Movers.{holds_back, stands_first, stays_behind}
 use Rattle.pp_local.proofs.Known.{other_mark, swapping_own, swapping_pushed, swapping_unpushed}
 use Rattle.pp_local.proofs.Places.{before_from, from_before, in_front, in_rest, none_before}
-use Rattle.pp_local.proofs.Places.{none_from, nowhere}
+use Rattle.pp_local.proofs.Places.{none_from}
 
 module _ {Shape State Op Undo : Type 0} (o : Object Shape State Op Undo) (C : Op → Type 0) (log seen : Shape × List (LocalEntry Op)) (is : log ≡ seen) (n from to : ℕ) (known : KnowsOwn C log.1 n from to) (op : Op) where
   not_held : (j : ℕ) (e : LocalEntry Op) → j < from → slice_get seen.1 j ≡ Some e → holds_back o op e ≡ false

@@ -1,6 +1,5 @@
 -- What swaps in one shape that both operations fit swaps in each.
 use Rattle.std.proofs.Common.{◌≡◌, IsTrue, List, Option, None, Some, refl, subst}
-use Rattle.pp_model.specs.Object as model
 use Rattle.pp_spec.specs.Object.{Object, IsLawful, IsRefutedBy, Swaps, SwapsIn}
 use Rattle.pp_spec.proofs.Lists.{refuted_nowhere}
 

@@ -2,7 +2,6 @@
 use Rattle.std.specs.Prelude.{◌≡◌, true, false, cond, List, [], ◌∷◌, ◌++◌}
 use Rattle.std.specs.List.{list_any}
 use Rattle.std.proofs.Common.{sym, ap, ◌∙◌}
-use mathlib.Core.Logic.{inl, inr}
 use Rattle.pp_model.specs.Names.{Name, ◌=ⁿ◌}
 use Rattle.pp_model.proofs.NameLists.{any_joined, any_not, any_skip, apart_more, before_skip}
 use Rattle.pp_model.proofs.NameLists.{or_last}

@@ -9,7 +9,6 @@ mod held;
 mod law;
 mod line;
 mod refusal;
-mod show;
 mod shown;
 
 pub use checker::Checker;

@@ -13,8 +13,8 @@ use Rattle.pp_object.specs.Objects.{kinds_of, objects}
 use Rattle.pp_rules.specs.Evidence.{Fits}
 use Rattle.pp_rules.specs.declared.detail.Detail.{Detail}
 use Rattle.pp_rules.specs.declared.detail.Detail.TheVariants.{Nothing, Entry, Gives, Swap}
-use Rattle.pp_text.specs.Texts.{answer_bytes, op_bytes}
-use Rattle.pp_text.specs.Lines.{line, op_line, state_lines, EachNamed}
+use Rattle.pp_text.specs.Lines.{line, op_line, state_lines}
+use Rattle.pp_text.specs.Texts.{answer_bytes, op_bytes, EachNamed}
 
 -- the first line of an accepted run, with the number of its steps and of its committed transactions
 abbrev pub accepted_line : ℕ → ℕ → List ℕ
@@ -29,7 +29,8 @@ tx_lines catalog tx = line (codes "tx " ++ tx.name) ++ flat_map (op_line catalog
 abbrev pub all_tx_lines : Objects → List (CommittedTx Op) → List ℕ
 all_tx_lines catalog committed = flat_map (tx_lines catalog) committed
 
--- the same of the operations of committed transactions
+-- the objects that the operations of committed transactions name are in the catalog, with the kinds
+-- of their acts
 abbrev pub AreNamed : Objects → List (CommittedTx Op) → Type 0
 AreNamed catalog committed = Each (λ tx. EachNamed catalog tx.entries) committed
 

@@ -1,13 +1,12 @@
 //! The report of an accepted run, and the writers of its parts.
 ghost use Rattle.std.specs.Prelude.{◌≡◌, ◌++◌, IfOk, OnOk};
-ghost use Rattle.pp_text.specs.Texts.{AreStatesOf};
-ghost use Rattle.pp_text.specs.Lines.{EachNamed};
+ghost use Rattle.pp_text.specs.Texts.{AreStatesOf, EachNamed};
 ghost use Rattle.pp_report.specs.Reports.{accepted_line, accepted_text, tx_lines};
 ghost use Rattle.pp_report.specs.Reports.{all_tx_lines, AreNamed};
 
 use pp_core::{Catalog, Committed, CommittedTx, OutOfMemory, Text};
 use pp_object::{ObjectStates, Op};
-use pp_text::{write_entries, write_number, write_states};
+use pp_text::{write_number, write_op_lines, write_state_lines};
 use std::alloc::Global;
 
 /// Adds the first line of an accepted run. After a refusal the text may end with a part of it.
@@ -33,7 +32,7 @@ fn write_transaction(
     text.append(b"tx ")?;
     text.append(transaction.name.text())?;
     text.append(b"\n")?;
-    write_entries(text, catalog, transaction.entries.as_slice())
+    write_op_lines(text, catalog, transaction.entries.as_slice())
 }
 
 /// Adds the `tx` and `op` lines of committed transactions. After a refusal the text may end with a
@@ -69,6 +68,6 @@ pub fn accepted(
     let mut text = Text::new(alloc);
     write_first_line(&mut text, count, committed.len())?;
     write_transactions(&mut text, catalog, committed.as_slice())?;
-    write_states(alloc, &mut text, catalog, states)?;
+    write_state_lines(alloc, &mut text, catalog, states)?;
     Ok(text)
 }

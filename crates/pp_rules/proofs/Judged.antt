@@ -25,7 +25,7 @@ use Rattle.pp_rules.specs.declared.detail.Refusal.{Refusal}
 use Rattle.pp_rules.specs.declared.machine.Outcome.{Outcome}
 use Rattle.pp_rules.specs.declared.machine.Outcome.TheVariants.{False}
 use Rattle.pp_rules.specs.Transactions.{Open, Txs}
-use Rattle.pp_rules.proofs.Finding.{last_at}
+use Rattle.pp_rules.proofs.Cuts.{last_at}
 use Rattle.pp_rules.proofs.Opened.{HasLog, logged, opened}
 
 not_both : true ≡ false → ⊥

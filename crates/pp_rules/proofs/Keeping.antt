@@ -28,7 +28,7 @@ use Rattle.pp_model.proofs.Names.{names_tell}
 use Rattle.pp_model.proofs.Steps.{there_holds}
 use Rattle.pp_model.proofs.Push.{ops_marked}
 use Rattle.pp_model.proofs.Commit.{ops_committed}
-use Rattle.pp_model.proofs.Finding.{placed, stands_in}
+use Rattle.pp_model.proofs.Finding.{placed, stands_in, nowhere}
 use Rattle.pp_spec.specs.Object.{Object, AllRanged, IsAllowed, rules_of}
 use Rattle.pp_spec.proofs.Fitting.{in_ranged, ranged_in, ranged_more}
 use Rattle.pp_rules.specs.Courses.{FollowsIfOwn, Guided}
@@ -39,9 +39,8 @@ use Rattle.pp_rules.specs.Transactions.{with_open, without_open}
 use Rattle.pp_rules.proofs.Acting.{after_begin, after_app, after_unapp, after_pull, after_unpull}
 use Rattle.pp_rules.proofs.Acting.{after_push, after_unpush, after_cmt, after_quit, relogged}
 use Rattle.pp_rules.proofs.Acting.{with_log}
-use Rattle.pp_local.proofs.Places.{nowhere}
-use Rattle.pp_rules.proofs.Finding.{but_last_short, filter_short}
-use Rattle.pp_rules.proofs.Finding.{removed_filter, slice_within}
+use Rattle.pp_rules.proofs.Cuts.{but_last_short, filter_short}
+use Rattle.pp_rules.proofs.Cuts.{removed_filter, slice_within}
 use Rattle.pp_rules.proofs.Fitting.{serial_allowed, serial_more}
 use Rattle.pp_rules.proofs.Opened.{HasCourse, HasLog, begun_in, busy_in, distinct, opened, ranged_local}
 use Rattle.pp_rules.proofs.Opened.{ranged_shared, used_in}

@@ -1,7 +1,7 @@
 pub mod Acting
 pub mod Courses
 pub mod Dispatch
-pub mod Finding
+pub mod Cuts
 pub mod Fitting
 pub mod Judged
 pub mod Judging

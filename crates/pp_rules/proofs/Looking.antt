@@ -9,7 +9,7 @@ use Rattle.pp_model.specs.Names.{Name, ◌=ⁿ◌}
 use Rattle.pp_model.proofs.Finding.{place_none, place_found}
 use Rattle.pp_rules.specs.Finding.{AreDistinct, HaveOwnIds}
 use Rattle.pp_rules.specs.Standing.{is_committed, stands_committed}
-use Rattle.pp_rules.proofs.Finding.{find_both, find_neither, find_one}
+use Rattle.pp_rules.proofs.Cuts.{find_both, find_neither, find_one}
 
 module _ {Op : Type 0} (l : List (LocalEntry Op)) (id : ℕ) (m : Mark) where
   pub mark_absent : position (λ e. e.id == id) l ≡ None → at_mark id m l ≡ None

@@ -24,8 +24,8 @@ use Rattle.pp_rules.specs.Transactions.{Open, Txs, course_of, is_begun, is_busy,
 use Rattle.pp_rules.specs.Transactions.{threads_of}
 use Rattle.pp_rules.specs.Finding.{AreDistinct}
 use Rattle.pp_rules.proofs.Fitting.{local_fits, shared_fits}
-use Rattle.pp_rules.proofs.Finding.{find_map}
-use Rattle.pp_rules.proofs.Finding.{mapped_some, mapped_none, mapped_twice}
+use Rattle.pp_rules.proofs.Cuts.{find_map}
+use Rattle.pp_rules.proofs.Cuts.{mapped_some, mapped_none, mapped_twice}
 
 pub is_there : {X : Type 0} (r : Option X) → is_some r ≡ true → (x : X) × (r ≡ Some x)
 is_there None e = absurd (cc)

@@ -25,7 +25,7 @@ use Rattle.pp_spec.proofs.Lists.{allowed-second}
 use Rattle.pp_spec.proofs.Fitting.{in_ranged, ranged_in}
 use Rattle.pp_rules.specs.Costs.{from_id}
 use Rattle.pp_rules.specs.Transactions.{MayLeave}
-use Rattle.pp_rules.proofs.Finding.{last_at, removed_last}
+use Rattle.pp_rules.proofs.Cuts.{last_at, removed_last}
 
 module _ {Shape State Op Undo : Type 0} (o : Object Shape State Op Undo) where
   -- a list with an entry whose result differs is not allowed

@@ -20,7 +20,7 @@ use Rattle.pp_model.specs.Names.{Name}
 use Rattle.pp_model.specs.Object.{HasDistinctIds, ops}
 use Rattle.pp_model.specs.Rules.{StartBreaks, start_criteria}
 use Rattle.pp_model.proofs.Lists.{before_across, before_cases, before_right, from_map}
-use Rattle.pp_model.proofs.Finding.{any_in, none_in, reverse_more}
+use Rattle.pp_model.proofs.Finding.{any_in, none_in, reverse_more, nowhere}
 use Rattle.pp_spec.specs.Object.{Object, IsAllowed, IsLawful, rules_of}
 use Rattle.pp_rules.specs.Evidence.{Fits}
 use Rattle.pp_rules.specs.Machines.{Seen}
@@ -34,7 +34,6 @@ use Rattle.pp_rules.specs.declared.detail.Detail.TheVariants.{Nothing, Entry, Gi
 use Rattle.pp_rules.specs.declared.detail.Refusal.{Refusal}
 use Rattle.pp_rules.specs.declared.machine.Outcome.{Outcome}
 use Rattle.pp_rules.specs.declared.machine.Outcome.TheVariants.{Done, False}
-use Rattle.pp_local.proofs.Places.{nowhere}
 use Rattle.pp_rules.proofs.Opened.{used_in}
 use Rattle.pp_rules.proofs.Removing.{differs_not}
 use Rattle.pp_rules.proofs.Showing.{differing_shown}

@@ -13,7 +13,7 @@ use Rattle.pp_model.specs.Config.{Mark, Unpushed, Pushed, Pulled, is_mark, is_ow
 use Rattle.pp_model.specs.Lists.{In, Before}
 use Rattle.pp_model.proofs.Logs.{is_mark-true}
 use Rattle.pp_model.proofs.Names.{eq-names, names-true}
-use Rattle.pp_model.proofs.Finding.{place_found, place_or_len}
+use Rattle.pp_model.proofs.Finding.{place_found}
 use Rattle.pp_local.specs.Movers.{holds_back, stands_first, stays_behind}
 use Rattle.pp_shared.specs.Blocking.{GivesWay, IsFirstBlocking}
 use Rattle.pp_spec.specs.Object.{Object, IsLawful, IsRefutedBy, Swaps, SwapsIn}
@@ -21,10 +21,10 @@ use Rattle.pp_spec.proofs.Lists.{refuted_nowhere}
 use Rattle.pp_rules.specs.Evidence.{entries_before, entries_behind, first_swap, swap_or}
 use Rattle.pp_rules.specs.Finding.{AreDistinct}
 use Rattle.pp_rules.specs.declared.detail.Detail.TheVariants.{Nothing}
-use Rattle.pp_rules.proofs.Finding.{before_here, behind_here, here_behind, in_dropped, here_before}
-use Rattle.pp_rules.proofs.Finding.{in_taken}
 use Rattle.pp_rules.proofs.Opened.{is_there}
 use Rattle.pp_rules.proofs.Showing.{none_stops, stops_here, swap_shown}
+use Rattle.pp_rules.proofs.Cuts.{in_taken, before_here, behind_here, here_behind, in_dropped}
+use Rattle.pp_rules.proofs.Cuts.{here_before, place_or_len}
 
 mark_is : (m n : Mark) → m ≡ n → is_mark m n ≡ true
 mark_is m n e = subst (λ (z : Mark). is_mark z n ≡ true) (sym e) (itself n)

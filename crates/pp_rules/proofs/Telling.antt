@@ -38,10 +38,10 @@ use Rattle.pp_rules.specs.Standing.{StandsCommitted}
 use Rattle.pp_rules.specs.Stepping.{IsAsked}
 use Rattle.pp_rules.specs.declared.detail.Detail.{Detail}
 use Rattle.pp_rules.specs.declared.detail.Detail.TheVariants.{Nothing, Entry, Gives}
-use Rattle.pp_rules.proofs.Finding.{before_dropped, before_found, before_here, before_taken}
-use Rattle.pp_rules.proofs.Finding.{behind_here, dropped_before, here_before}
-use Rattle.pp_rules.proofs.Finding.{here_behind, in_dropped, in_taken}
-use Rattle.pp_rules.proofs.Finding.{taken_before}
+use Rattle.pp_rules.proofs.Cuts.{before_dropped, before_found, before_here, before_taken}
+use Rattle.pp_rules.proofs.Cuts.{behind_here, dropped_before, here_before}
+use Rattle.pp_rules.proofs.Cuts.{here_behind, in_dropped, in_taken}
+use Rattle.pp_rules.proofs.Cuts.{taken_before}
 use Rattle.pp_rules.proofs.Fitting.{local_fits, marked_fits, shared_fits}
 use Rattle.pp_rules.proofs.Opened.{is_there}
 use Rattle.pp_rules.proofs.Showing.{answers_same, same_answer, second_fails, stops, swap_shown}

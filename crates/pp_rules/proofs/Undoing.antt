@@ -31,7 +31,7 @@ use Rattle.pp_rules.specs.Judges.{FindsPushed, IsLastAt}
 use Rattle.pp_rules.specs.Removals.{CostsAt, RemovesAt}
 use Rattle.pp_rules.specs.Transactions.{MayLeave, Open, Txs, open_at, open_of, with_course}
 use Rattle.pp_rules.proofs.Acting.{with_log}
-use Rattle.pp_rules.proofs.Finding.{slice_within}
+use Rattle.pp_rules.proofs.Cuts.{slice_within}
 use Rattle.pp_rules.proofs.Judged.{HasEntry}
 use Rattle.pp_rules.proofs.Judging.{unpush_4, unpush_shown, unpush_0, unpull_3, unpull_shown}
 use Rattle.pp_rules.proofs.Judging.{unpull_0}

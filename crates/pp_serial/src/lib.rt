@@ -1,4 +1,4 @@
-//! The serial run of the committed transactions.
+//! The serial run of the committed transactions, and the state that a list of entries leads to.
 #![tactic(auto)]
 
 mod joined;
@@ -6,4 +6,4 @@ mod law;
 mod run;
 
 pub use law::permutation_law;
-pub use run::{SerialList, serial, serial_state, state_of};
+pub use run::{SerialList, serial, serial_state, state_after};

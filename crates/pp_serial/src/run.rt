@@ -1,4 +1,4 @@
-//! The state after the serial run, and its list.
+//! The states after entries and after the serial run, and the list of this.
 ghost use Rattle.std.specs.Prelude.{◌≡◌, ◌+◌, ◌≤◌, ◌<◌, List, length, IfOk, OnOk};
 ghost use Rattle.pp_model.specs.Object.{ops};
 ghost use Rattle.pp_spec.specs.Object.{AllowedFrom, IsAllowed, AllRanged, IsLog, state_from};
@@ -40,7 +40,7 @@ fn replay<S: Spec, L: Ledger>(
 
 /// The state after the operations of these entries, from the empty state. The only error is that
 /// memory was refused.
-pub fn state_of<S: Spec, L: Ledger>(
+pub fn state_after<S: Spec, L: Ledger>(
     alloc: Global,
     shape: &S::Shape,
     entries: &[Item<S::Op>],

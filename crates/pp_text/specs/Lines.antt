@@ -4,10 +4,9 @@ use Rattle.std.specs.Fmt.{decimal}
 use Rattle.std.specs.List.{flat_map, range_with_len}
 use Rattle.pp_core.specs.Catalogs.{Objects}
 use Rattle.pp_core.specs.declared.entry.Item.{Item}
-use Rattle.pp_model.specs.Lists.{Each}
 use Rattle.pp_object.specs.declared.act.Op.{Op}
 use Rattle.pp_object.specs.declared.states.ObjectState.{ObjectState}
-use Rattle.pp_text.specs.Texts.{IsNamed, op_bytes, state_bytes}
+use Rattle.pp_text.specs.Texts.{op_bytes, state_bytes}
 
 -- a text with its line end
 abbrev pub line : List ℕ → List ℕ
@@ -26,7 +25,3 @@ state_line catalog states place = line (state_bytes catalog states place)
 abbrev pub state_lines : Objects → List ObjectState → List ℕ
 state_lines catalog states =
     flat_map (state_line catalog states) (range_with_len 0 (length catalog))
-
--- the objects that these operations name are in the catalog, with the kinds of their acts
-abbrev pub EachNamed : Objects → List (Item Op) → Type 0
-EachNamed catalog entries = Each (λ entry. IsNamed catalog entry.op) entries

@@ -9,6 +9,8 @@ use Rattle.pp_core.specs.Words.{method_word}
 use Rattle.pp_core.specs.declared.answer.Answer.{Answer}
 use Rattle.pp_core.specs.declared.answer.Answer.TheVariants.{None as NoAnswer, Number, Truth}
 use Rattle.pp_core.specs.declared.call.Kind.{Kind}
+use Rattle.pp_core.specs.declared.entry.Item.{Item}
+use Rattle.pp_model.specs.Lists.{Each}
 use Rattle.pp_object.specs.declared.act.Act.{Act}
 use Rattle.pp_object.specs.declared.act.Op.{Op}
 use Rattle.pp_object.specs.declared.pieces.Piece.{Piece}
@@ -21,6 +23,10 @@ use Rattle.pp_object.specs.Pieces.{pieces_at}
 -- the object that an operation names is in the catalog, with the kind of its act
 abbrev pub IsNamed : Objects → Op → Type 0
 IsNamed catalog op = IsTrue (objects.fits (kinds_of catalog) op)
+
+-- the objects that these operations name are in the catalog, with the kinds of their acts
+abbrev pub EachNamed : Objects → List (Item Op) → Type 0
+EachNamed catalog entries = Each (λ entry. IsNamed catalog entry.op) entries
 
 -- the object at this place is there, and its state is one of its kind
 abbrev pub IsObjectOf : Objects → List ObjectState → ℕ → Type 0

@@ -1,8 +1,8 @@
 //! The lines of operations and of states in a report.
 ghost use Rattle.std.specs.Prelude.{◌≡◌, ◌++◌, OnOk};
 ghost use Rattle.std.specs.List.{flat_map};
-ghost use Rattle.pp_text.specs.Texts.{IsNamed, IsObjectOf, AreStatesOf};
-ghost use Rattle.pp_text.specs.Lines.{EachNamed, op_line, state_line, state_lines};
+ghost use Rattle.pp_text.specs.Lines.{op_line, state_line, state_lines};
+ghost use Rattle.pp_text.specs.Texts.{IsNamed, IsObjectOf, AreStatesOf, EachNamed};
 
 use crate::number::write_number;
 use crate::op::write_op;
@@ -12,7 +12,7 @@ use pp_object::{ObjectStates, Op};
 use std::alloc::Global;
 
 /// Adds the line of an operation.
-fn write_entry(text: &mut Text, catalog: &Catalog, entry: &Item<Op>) -> Result<(), OutOfMemory>
+fn write_op_line(text: &mut Text, catalog: &Catalog, entry: &Item<Op>) -> Result<(), OutOfMemory>
     requires { IsNamed catalog.now entry.now.op }
     ensures { OnOk result (text.new ≡ text.old ++ op_line catalog.now entry.now) }
 {
@@ -23,8 +23,8 @@ fn write_entry(text: &mut Text, catalog: &Catalog, entry: &Item<Op>) -> Result<(
     text.append(b"\n")
 }
 
-/// Adds the lines of operations. After a refusal the text may end with a part of them.
-pub fn write_entries(
+/// Adds the `op` lines of these operations. After a refusal the text may end with a part of them.
+pub fn write_op_lines(
     text: &mut Text,
     catalog: &Catalog,
     entries: &[Item<Op>],
@@ -33,7 +33,7 @@ pub fn write_entries(
     ensures { OnOk result (text.new ≡ text.old ++ flat_map (op_line catalog.now) entries.now) }
 {
     for entry in entries {
-        write_entry(text, catalog, entry)?;
+        write_op_line(text, catalog, entry)?;
     }
     Ok(())
 }
@@ -55,7 +55,7 @@ fn write_state_line(
 
 /// Adds the `state` lines of all objects. After a refusal the text may end with a part of them.
 #[tactic(auto, using(crate::proofs::Objects::is_object))]
-pub fn write_states(
+pub fn write_state_lines(
     alloc: Global,
     text: &mut Text,
     catalog: &Catalog,

@@ -7,7 +7,7 @@ ghost use Rattle.pp_certificate.specs.Rechecked.{holds_line, holds_text};
 use pp_core::{Catalog, Kinds, OutOfMemory, Text};
 use pp_object::{ObjectStates, Op};
 use pp_recheck::Shown;
-use pp_text::{write_entries, write_number, write_states};
+use pp_text::{write_number, write_op_lines, write_state_lines};
 use std::alloc::Global;
 
 /// Adds a word and a number.
@@ -46,7 +46,7 @@ pub(crate) fn holds(
 {
     let serial = shown.serial.as_slice();
     let mut text = first_line(alloc, shown.operations, shown.swaps, serial.len())?;
-    write_entries(&mut text, catalog, serial)?;
-    write_states(alloc, &mut text, catalog, &shown.state)?;
+    write_op_lines(&mut text, catalog, serial)?;
+    write_state_lines(alloc, &mut text, catalog, &shown.state)?;
     Ok(text)
 }

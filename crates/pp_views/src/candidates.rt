@@ -16,14 +16,14 @@ pub(crate) struct Candidate {
     /// How many operations, from the first on, it has in common with the candidate before it. They
     /// may have more.
     pub(crate) shared: usize,
-    /// Where its other operations begin in the list of these.
+    /// Where its other operations begin among `ops`.
     pub(crate) from: usize,
     /// Where they end.
     pub(crate) to: usize,
 }
 
 /// Candidates in the order in which they are tried, and beside them the operations that each does
-/// not share with the one before it, in the same order, so that a round reads one list.
+/// not share with the one before it, in the same order, so that a round reads them in a row.
 #[derive(Drop)]
 pub(crate) struct Candidates<O: Copy> {
     pub(crate) list: Vec<Candidate>,
@@ -55,7 +55,7 @@ pub(crate) fn add_ops<O: Copy>(list: &mut Vec<O>, items: &[Item<O>]) -> Result<(
 
 /// The candidates whose views have no number. One that stays shares with the one that stays before
 /// it the least that it and those left out between them shared. What it did not share before is
-/// copied from the list, as a round reads it, and not from the peak, which lies elsewhere.
+/// copied from `ops`, as a round reads them, and not from the peak, which lies elsewhere.
 pub(crate) fn without_numbered<O: Copy>(
     alloc: Global,
     peaks: &[Peak<O>],

@@ -70,9 +70,9 @@ fn apply_committed<S: Spec, L: Ledger>(
     Ok(())
 }
 
-/// Tries the candidates after so many committed transactions, one after another: a peak that is
-/// explained and has no number gets this one, and a peak that has one keeps it. It answers whether
-/// any peak got one. Of what was applied for a candidate, as much stays as the next one shares.
+/// Tries the candidates after so many committed transactions, one after another: a peak whose
+/// operations all give their results, and that has no number, gets the number of these, and a peak
+/// that has one keeps it. It answers whether any peak got one. Of what was applied for a candidate, as much stays as the next one shares.
 /// Where the operation that failed is one that the next one shares, that one fails too, and is
 /// passed over. In the end all is taken back.
 fn try_all<S: Spec, L: Ledger>(
@@ -167,9 +167,9 @@ fn try_behind<S: Spec, L: Ledger>(
 }
 
 /// Tries the peaks before any committed transaction and after each of them, until each has a
-/// number. Those that have one leave the candidates behind the first round, and then each time when
-/// as many rounds more were made as before. So the candidates are made anew a few times, and no peak
-/// is tried in vain in more rounds than it was tried in before it had its number.
+/// number. Those that have one are left out where some have got one since the last time, and as many
+/// transactions have passed as had by then. So the candidates are made anew a few times, and a peak
+/// with the number n is a candidate for numbers up to 2n at most.
 fn number_all<S: Spec, L: Ledger>(
     alloc: Global,
     shape: &S::Shape,

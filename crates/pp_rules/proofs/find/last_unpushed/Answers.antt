@@ -1,6 +1,6 @@
 use Rattle.std.proofs.Common.{◌-◌, ◌∙◌, arith, length, sym}
 use Rattle.pp_model.proofs.Logs.{is_mark-true}
-use Rattle.pp_rules.proofs.Finding.{last_at, slice_within}
+use Rattle.pp_rules.proofs.Cuts.{last_at, slice_within}
 use Rattle.pp_rules.proofs.Judged.{not_last, not_unpushed}
 use Rattle.pp_rules.proofs.find.last_unpushed.Goals.{else-last-id-via-then-last-id+else-is_mark}
 use Rattle.pp_rules.proofs.find.last_unpushed.Goals.{else-last-id-via-else-last-id}

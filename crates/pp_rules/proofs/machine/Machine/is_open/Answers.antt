@@ -1,6 +1,6 @@
 use Rattle.std.proofs.Common.{◌∙◌, ap, is_some}
 use Rattle.pp_model.specs.Config.{tx}
-use Rattle.pp_rules.proofs.Finding.{some_copied}
+use Rattle.pp_rules.proofs.Cuts.{some_copied}
 use Rattle.pp_rules.proofs.Lent.{lent_holds, lent_view}
 use Rattle.pp_rules.proofs.Opened.{open_seen}
 use Rattle.pp_rules.proofs.machine.Machine.is_open.Goals as goal

@@ -6,7 +6,7 @@ use Rattle.pp_rules.specs.Costs.{Costs}
 use Rattle.pp_rules.specs.Judges.{Refuses}
 use Rattle.pp_rules.specs.Machines.{Holds, Seen, config_of, stepped}
 use Rattle.pp_rules.specs.Transactions.{HasOwn, course_of, open_at, with_course}
-use Rattle.pp_rules.proofs.Finding.{mapped_none}
+use Rattle.pp_rules.proofs.Cuts.{mapped_none}
 use Rattle.pp_rules.proofs.Judged.{refused_cost, refused_step}
 use Rattle.pp_rules.proofs.Keeping.{holds_same, holds_unpush, of_course, owns, pushed_own}
 use Rattle.pp_rules.proofs.Keeping.{relogged_is, seen_same, seen_unpush}

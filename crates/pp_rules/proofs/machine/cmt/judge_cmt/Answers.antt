@@ -5,7 +5,7 @@ use Rattle.pp_model.proofs.Finding.{decided, decided_not}
 use Rattle.pp_rules.specs.declared.detail.Detail.TheVariants.{Entry}
 use Rattle.pp_rules.specs.Courses.{own_calls}
 use Rattle.pp_rules.specs.Sites.{seen_with}
-use Rattle.pp_rules.proofs.Finding.{read_found}
+use Rattle.pp_rules.proofs.Cuts.{read_found}
 use Rattle.pp_rules.proofs.Judging.{cmt_2, cmt_3, cmt_4, cmt_0}
 use Rattle.pp_rules.proofs.Opened.{coursed}
 use Rattle.pp_rules.proofs.Testing.{all_pushed, not_all_pushed, all_stand, not_all_stand}

@@ -6,8 +6,8 @@ use Rattle.pp_rules.specs.declared.detail.Detail.TheVariants.{Gives}
 use Rattle.pp_model.proofs.Logs.{found_other}
 use Rattle.pp_model.proofs.Finding.{decided, decided_not}
 use Rattle.pp_spec.specs.Object.{IsAllowed}
-use Rattle.pp_rules.proofs.Finding.{a_place, no_place, place_in, not_placed}
-use Rattle.pp_rules.proofs.Finding.{found_within, read_place}
+use Rattle.pp_rules.proofs.Cuts.{a_place, no_place, place_in, not_placed}
+use Rattle.pp_rules.proofs.Cuts.{found_within, read_place}
 use Rattle.pp_rules.specs.Sites.{seen_with}
 use Rattle.pp_rules.proofs.Judged.{of_other_is}
 use Rattle.pp_rules.proofs.Judging.{pull_2, pull_3, pull_4, pull_5, pull_0}

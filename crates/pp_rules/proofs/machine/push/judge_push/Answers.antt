@@ -7,8 +7,8 @@ use Rattle.pp_model.proofs.Finding.{decided, decided_not, stands_in}
 use Rattle.pp_spec.specs.Object.{IsAllowed}
 use Rattle.pp_rules.specs.declared.detail.Detail.TheVariants.{Gives, Nothing}
 use Rattle.pp_rules.specs.Evidence.{swap_or}
-use Rattle.pp_rules.proofs.Finding.{read_taken, read_there, slice_within}
-use Rattle.pp_rules.proofs.Finding.{taken_within}
+use Rattle.pp_rules.proofs.Cuts.{read_taken, read_there, slice_within}
+use Rattle.pp_rules.proofs.Cuts.{taken_within}
 use Rattle.pp_rules.specs.Sites.{seen_with}
 use Rattle.pp_rules.proofs.Judged.{is_at}
 use Rattle.pp_rules.proofs.Judging.{push_2, push_3, push_4, push_5, push_0}

@@ -3,7 +3,7 @@ use Rattle.pp_model.proofs.Lists.{before_in_second}
 use Rattle.pp_model.proofs.Finding.{stands_in}
 use Rattle.pp_local.specs.Movers.{stays_behind}
 use Rattle.pp_local.proofs.Places.{not_found_from}
-use Rattle.pp_rules.proofs.Finding.{behind_within, drop_next, read_behind}
+use Rattle.pp_rules.proofs.Cuts.{behind_within, drop_next, read_behind}
 use Rattle.pp_rules.specs.Sites.{seen_with}
 use Rattle.pp_rules.proofs.Judged.{finds_pushed, stands_posted}
 use Rattle.pp_rules.proofs.Judging.{unpush_2, unpush_3}

@@ -2,7 +2,7 @@ use Rattle.std.proofs.Common.{◌≡◌, None, Some, refl, slice_get, sym, ap, �
 use Rattle.indexmap.specs.Layout.{set_value_at}
 use Rattle.indexmap.proofs.CallerLemmas.{keys-with_value_at}
 use Rattle.pp_rules.specs.Transactions.{open_of}
-use Rattle.pp_rules.proofs.Finding.{mapped_some, mapped_none}
+use Rattle.pp_rules.proofs.Cuts.{mapped_some, mapped_none}
 use Rattle.pp_rules.proofs.Slots.{key_at, kept_empty, kept_ended, lookup_at, same_gone, seen_empty}
 use Rattle.pp_rules.proofs.Slots.{seen_ended, set_at, value_at}
 use Rattle.pp_rules.proofs.transactions.Transactions.end_at.Goals as goal

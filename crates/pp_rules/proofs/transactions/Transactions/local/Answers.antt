@@ -1,7 +1,7 @@
 use Rattle.std.proofs.Common.{Some, ap, option_map, sym, ◌∙◌}
 use Rattle.std.specs.Option.{option_copied}
 use Rattle.pp_rules.specs.Transactions.{course_of}
-use Rattle.pp_rules.proofs.Finding.{mapped_none, mapped_twice}
+use Rattle.pp_rules.proofs.Cuts.{mapped_none, mapped_twice}
 use Rattle.pp_rules.proofs.transactions.Transactions.local.Goals as goal
 
 pub returns-in_err-_place : goal.returns-in_err-_place

@@ -1,7 +1,7 @@
 use Rattle.std.proofs.Common.{◌≡◌, ℕ, suc, ◌+◌, ◌-◌, ◌<◌, List, ◌++◌, ◌∙◌, append_assoc, arith}
 use Rattle.std.specs.List.{flat_map, range_with_len}
 use Rattle.pp_text.specs.Lines.{state_line}
-use Rattle.pp_text.proofs.lines.write_states.Goals as goal
+use Rattle.pp_text.proofs.lines.write_state_lines.Goals as goal
 
 -- what is written at a place, and then what is still to write, is what was to write before
 at_place : {A : Type 0} (f : ℕ → List A) (before after : List A) (place count : ℕ) → place < count → after ≡ before ++ f place

@@ -1,11 +1,12 @@
--- What tests, places and lookups say of a list.
+-- Parts of lists: what is taken, dropped and left, and what is found in them.
 use Rattle.std.proofs.Common.{◌≡◌, ◌≢◌, ◌-◌, drop, filter, Bor, is_some, ◌==◌, ℕ, zero}
 use Rattle.std.proofs.Common.{suc, ◌<◌, ◌≤◌, ◌+◌, Bool, true, false, cond, not, ◌&&◌, List}
 use Rattle.std.proofs.Common.{[], ◌∷◌, map, take, length, get_or, Option, Some, None}
 use Rattle.std.proofs.Common.{option_map, add-one, position, find}
 use Rattle.std.proofs.Common.{slice_get, refl, sym, ◌∙◌, ap, subst, arith, inl, inr}
-use Rattle.std.specs.List.{remove}
+use Rattle.std.specs.List.{position_or_len, remove}
 use Rattle.std.proofs.lemmas.Bool.{eqb-true, eq-eqb, false_from_ne_true}
+use Rattle.std.proofs.lemmas.Grind.{common_steps}
 use Rattle.std.proofs.lemmas.Option.{get_or_from_slice_get, slice_get_read}
 use Rattle.std.proofs.lemmas.Option.{same_Some}
 use Rattle.std.specs.Option.{option_copied}
@@ -13,10 +14,13 @@ use Rattle.pp_core.specs.declared.entry.LocalEntry.{LocalEntry}
 use Rattle.pp_model.specs.Config.{but_last, last}
 use Rattle.pp_model.specs.Lists.{In, Before}
 use Rattle.pp_model.proofs.Lists.{before_in_second}
-use Rattle.pp_model.proofs.Logs.{found}
 use Rattle.pp_model.proofs.Trace.{keep_all}
 use Rattle.pp_model.proofs.Finding.{find_nowhere, place_none, placed, stands_in}
 use Rattle.pp_local.proofs.Places.{from_within, get_taken, place_within, stands_from}
+
+-- where a test holds first
+pub place_or_len : {X : Type 0} (p : X → Bool) (xs : List X) (i : ℕ) → position p xs ≡ Some i → position_or_len p xs ≡ i
+place_or_len p xs i h = grind (arith, common_steps)
 
 -- what is found by a key, and then has to pass another test
 found_both : {X : Type 0} (p q : X → Bool) (y x : X) (ys : List X) → q x ≡ true → (find p ys ≡ Some x → find (λ z. p z && q z) ys ≡ Some x) →

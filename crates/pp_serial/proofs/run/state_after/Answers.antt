@@ -2,7 +2,7 @@ use Rattle.std.proofs.Common.{arith}
 use Rattle.std.proofs.lemmas.List.{length-map}
 use Rattle.pp_model.specs.Object.{ops}
 use Rattle.pp_serial.proofs.Replays.{begins}
-use Rattle.pp_serial.proofs.run.state_of.Goals as goal
+use Rattle.pp_serial.proofs.run.state_after.Goals as goal
 
 pub replay-requires-clause-allowed : goal.replay-requires-clause-allowed
 replay-requires-clause-allowed g c =

@@ -1,14 +1,14 @@
 use Rattle.pp_recheck.proofs.Fronts.{front_allowed, front_ranged}
-use Rattle.pp_recheck.proofs.show.show.Goals as goal
+use Rattle.pp_recheck.proofs.shown.show.Goals as goal
 
-pub state_of-requires-clause-allowed : goal.state_of-requires-clause-allowed
-state_of-requires-clause-allowed g c =
+pub state_after-requires-clause-allowed : goal.state_after-requires-clause-allowed
+state_after-requires-clause-allowed g c =
     rw (c.deref.ensures.value, c.truncate.ensures.items)
     (front_allowed g.S.Spec.object c.args.turned.shape c.args.serial c.args.turned.list.items
     c.requires.allowed)
 
-pub state_of-requires-clause-ranged : goal.state_of-requires-clause-ranged
-state_of-requires-clause-ranged g c =
+pub state_after-requires-clause-ranged : goal.state_after-requires-clause-ranged
+state_after-requires-clause-ranged g c =
     rw (c.deref.ensures.value, c.truncate.ensures.items)
     (front_ranged g.S.Spec.object c.args.serial c.args.turned.list.items c.requires.ranged)
 
