@@ -27,7 +27,7 @@ AVOIDED = {
     r"\b(?:behind|in front of)\b": "after, before, past",
     r"\b(?:stands?|stood|standing)\b": "is, means",
     r"\b(?:tells?|told)\b": "reports, prints, says",
-    r"\bgives\b": "returns, has",
+    r"\bgives\b(?! up)": "returns, has",
     r"\banswer(?:s|ed)\b": "returns",
     r"\bwant of memory\b|\bmemory (?:is|was) refused\b": "out of memory",
     r"\bdear(?:er|est)?\b": "expensive, slow",
