@@ -39,6 +39,14 @@ def found_on_pages(pattern):
     return [found for page in PAGES for found in pattern.findall(page.read_text())]
 
 
+def unread():
+    """Lines that show a command, and that the patterns above do not take for one."""
+    for page in PAGES:
+        for line in re.findall(r"^ *\$ \./pp_cli .*\n", page.read_text(), re.MULTILINE):
+            if not (COMMAND.match(line) or MADE.match(line)):
+                yield f"{page.name}: this is no block of a known form: {line.strip()}"
+
+
 def shown():
     """The outputs on the pages, each with its command and the name of its file: a page may show one that another shows too."""
     return sorted({(name, command, unindented(block)) for command, name, block in found_on_pages(COMMAND)})
@@ -77,7 +85,8 @@ def main():
     outputs = shown()
     there = {file.name for file in (ROOT / "examples").iterdir()}
     reported = {name for name, command, _ in outputs if command in REPORTS}
-    wrong = [f"{name}: no page shows its output" for name in sorted(there - reported)]
+    wrong = [*unread()]
+    wrong += [f"{name}: no page shows its output" for name in sorted(there - reported)]
     wrong += [f"{name}: there is no such example" for name in sorted({name for name, _, _ in outputs} - there)]
     wrong += [f"{name}: no page shows its report beside its steps" for name, command, _ in outputs if command == "expand" and name not in reported]
     if program.is_file():
