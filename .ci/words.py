@@ -34,7 +34,7 @@ AVOIDED = {
     r"\b(?:is|are) known to\b|\bholds? of\b": "the plain statement",
     r"\bow(?:e|es|ed)\b": "requirement, condition",
     r"\b(?:words of the command line|source and (?:a |the )?sink)\b": "arguments, standard input and output",
-    r"\btries\b|\b(?:a|an|each|every|one|no|that|this|the|its) (?:try|peak)\b|\bpeaks\b": "attempt",
+    r"\b(?:a|an|each|every|one|no|that|this|the|its) (?:try|peak)\b|\bpeaks\b": "attempt",
     r"\b(?:lets?|give|gives) (?:pass|way)\b": "commutes with, may move past",
     r"\bfalse steps?\b": "a step that violates a criterion",
     r"\bcarr(?:y|ies|ied) out\b": "remove",
