@@ -40,7 +40,7 @@ AVOIDED = {
     r"\bcarr(?:y|ies|ied) out\b": "remove",
 }
 LATE_SUBJECT = re.compile(r"(?:Of (?:an?|each|the)|Where|What|That (?:an?|the|no|each|it)) ")
-SENTENCE_END = re.compile(r"(?<=[.?!])[)*_\"]* +(?=[\"(*_`\[]*[A-Z0-9`])")
+SENTENCE_END = re.compile(r"(?<=[.?!])[)*_\"]* +")
 
 
 def narrow_files():
