@@ -1,9 +1,9 @@
 #!/usr/bin/env python3
-"""Quick looks at the text of the repository: how wide clauses and definitions are, whether the edits and links of the documents are there,
+"""Quick looks at the text of the repository: how wide clauses and definitions are, whether the edits and links that the documents name exist,
 whether the documents are in plain English, and what no file should name.
 
-Plain English: README has at most 150 lines, a sentence has at most 25 words, begins with its subject, and has no word of the list below.
-Code, tables and headings have no sentences; the words of the list are looked for in tables and headings too.
+Plain English here means: README has at most 150 lines, and a sentence has at most 25 words and begins with its subject. Tables, headings and
+code have no sentences. No text but code has a word of the list below.
 """
 import pathlib
 import re
@@ -14,13 +14,13 @@ ROOT = pathlib.Path(__file__).resolve().parent.parent
 COLUMNS = 100
 # Crates with lines that are still wider. The list shrinks as they are laid out anew.
 WIDE = ("pp_core", "pp_json")
-# The rows of the tests are data, and stand as they are.
+# The rows of the tests are data, of any width.
 ROWS = "tests"
 OUTSIDE = re.compile(r"\b[TDRWP]\d{1,2}\b|/(?:work|opt|home|root|tmp)/|\bthe papers\b")
 
 README_LINES = 150
 SENTENCE_WORDS = 25
-# Documents that are still to be rewritten. The list shrinks to nothing.
+# Documents that are still to be rewritten: their prose and links are not checked. The list shrinks to nothing.
 TO_BE_REWRITTEN = ("ARCHITECTURE.md", "DECISIONS.md", "PROOFS.md", "RECORDING.md", "RULES.md")
 # A word that the documents avoid, and the word for it.
 AVOIDED = {
@@ -67,7 +67,7 @@ def lost_edits():
 
 
 def outside(file):
-    """Lines that name a place of some machine, or what stands in no file of the repository."""
+    """Lines that name a place of some machine, or a document that the repository does not have."""
     for number, line in enumerate(file.read_text().splitlines(), 1):
         found = OUTSIDE.search(line)
         if found:
@@ -79,7 +79,7 @@ def documents():
 
 
 def prose(document):
-    """The paragraphs, items, headings and rows of a document, each with the number of its first line: code is left out, or is one word."""
+    """The paragraphs, list items, headings and table rows of a document, each with the number of its first line. Blocks of code are left out."""
     text = re.sub(r"<!--.*?-->", "", document.read_text(), flags=re.DOTALL)
     block, begin, fenced = [], 0, False
     for number, line in enumerate([*text.splitlines(), ""], 1):
