@@ -20,8 +20,6 @@ OUTSIDE = re.compile(r"\b[TDRWP]\d{1,2}\b|/(?:work|opt|home|root|tmp)/|\bthe pap
 
 README_LINES = 150
 SENTENCE_WORDS = 25
-# Documents that are still to be rewritten: their prose and links are not checked. The list shrinks to nothing.
-TO_BE_REWRITTEN = ("ARCHITECTURE.md", "DECISIONS.md", "PROOFS.md", "RECORDING.md", "RULES.md")
 # A word that the documents avoid, and the word for it.
 AVOIDED = {
     r"\b(?:behind|in front of)\b": "after, before, past",
@@ -136,9 +134,8 @@ def unclear_documents():
     if lines > README_LINES:
         yield f"README.md: {lines} lines, and not {README_LINES} at most"
     for document in documents():
-        if document.name not in TO_BE_REWRITTEN:
-            yield from broken_links(document)
-            yield from unclear(document)
+        yield from broken_links(document)
+        yield from unclear(document)
 
 
 def main():
