@@ -50,7 +50,7 @@ decided_as_run sc header here =
     }
 
 -- views of an accepted run are those of one that is certified
-accepted_how : (sc : InputScan) (how : Status) (report text : List ℕ) → IsViewsOf sc how report statuses.Accepted text → how ≡ statuses.Accepted
+pub accepted_how : (sc : InputScan) (how : Status) (report text : List ℕ) → IsViewsOf sc how report statuses.Accepted text → how ≡ statuses.Accepted
 accepted_how sc statuses.Accepted report text told = refl
 accepted_how sc statuses.Rejected report text told = absurd (let no : statuses.Accepted ≡ statuses.Rejected = told.0 in cc)
 accepted_how sc statuses.InputFault report text told = absurd (let no : statuses.Accepted ≡ statuses.InputFault = told.0 in cc)

@@ -10,14 +10,14 @@ use Rattle.pp_run.specs.Outcomes.{Outcome}
 use Rattle.pp_run.specs.Promises.{HaveOneRun, IsDecidedAsRun}
 use Rattle.pp_run.specs.Streams.{Counts, StreamsPromise}
 
--- `SameSource` and `SameSink` say that the source and the sink are as they were. `sent` is what the
+-- `asked` is the command. `SameSource` and `SameSink` say that the source and the sink are as they were. `sent` is what the
 -- sink has sent on, if it tells that.
-pub record RunPromise (SameSource SameSink : Type 0) (command : Option Command) (o : Outcome)
+pub record RunPromise (SameSource SameSink : Type 0) (asked : Option Command) (o : Outcome)
     (sent_before sent : Option (List ℕ)) (n : Counts) : Type 0 where
   -- what is read and written, whatever the command is
-  pub streams : StreamsPromise SameSource SameSink command o sent_before sent n
+  pub streams : StreamsPromise SameSource SameSink asked o sent_before sent n
   -- what the command prints, and what that means
-  pub command : CommandPromise command o
+  pub command : CommandPromise asked o
 
 pub record RunLaws : Type 0 where
   -- Whatever records follow a header, they have one run, and steps have one verdict.

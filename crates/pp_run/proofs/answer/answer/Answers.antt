@@ -1,6 +1,8 @@
 use Rattle.std.proofs.Common.{◌≡◌, Option, Some, inr, rules, ap, subst, sym, ◌∙◌}
 use Rattle.std.specs.Io.KnownBytes.{Appends}
+use Rattle.pp_core.specs.declared.status.Status.TheVariants as statuses
 use Rattle.pp_run.proofs.Numbers.{drill_within}
+use Rattle.pp_run.proofs.Performing.{no_verdict_no_least}
 use Rattle.pp_run.proofs.Printing.{prints, prints_only, prints_prefix, prints_prefix_only}
 use Rattle.pp_run.specs.Bounds.{RisesAtLeast, RisesAtMost}
 use Rattle.pp_run.specs.Outputs.{IsOfWhole}
@@ -103,3 +105,11 @@ pub returns-in-Ok-send-clause-least : goal.returns-in-Ok-send-clause-least
 returns-in-Ok-send-clause-least g c =
     let command : command_of c.args.words.now ≡ Some c.in-Some.command = search rules in
     subst (λ (o : Option Command). RisesAtLeast o (g.S.Source.left c.args.source.now) c.in-Ok.report.0 c.args.ticks.now c.perform.new.ticks) (sym command) c.in-Ok.ensures.least
+
+pub returns-in-Err-WriteFault-clause-least : goal.returns-in-Err-WriteFault-clause-least
+returns-in-Err-WriteFault-clause-least g c =
+    no_verdict_no_least (command_of c.args.words.now) (g.S.Source.left c.args.source.now) statuses.WriteFault c.args.ticks.now c.perform.new.ticks (λ decided. decided)
+
+pub returns-clause-least : goal.returns-clause-least
+returns-clause-least g c =
+    no_verdict_no_least (command_of c.args.words.now) (g.S.Source.left c.args.source.now) statuses.OutOfMemory c.args.ticks.now c.perform.new.ticks (λ decided. decided)
