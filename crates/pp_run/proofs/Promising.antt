@@ -20,6 +20,7 @@ use Rattle.pp_exchanges.specs.Swaps.{IsSwaps, IsSwapsOf}
 use Rattle.pp_front.specs.Runs.{Lined}
 use Rattle.pp_json.specs.declared.header.Header.{Header}
 use Rattle.pp_reading.specs.declared.cause.Cause.{Cause}
+use Rattle.pp_real_time.proofs.Timely.{meets_timely}
 use Rattle.pp_run.proofs.Promises.{accepted_how, sees_kept}
 use Rattle.pp_run.specs.Bounds.{RisesAtLeast, RisesAtMost}
 use Rattle.pp_run.specs.Commands.{CommandPromise, IsSerializable}
@@ -43,8 +44,14 @@ pub record Answers (k : Option Command) (o : Outcome) : Type 0 where
 
 -- ---- an accepted run
 
-pub serializable : (sc : InputScan) → EachStepMeets sc → IsSerializable sc
-serializable sc m = record { steps = m; simulated = meets_simulated sc m; alone = meets_alone sc m }
+pub serializable : (bytes : List ℕ) → EachStepMeets (scan bytes) → IsSerializable bytes
+serializable bytes m =
+    record {
+      steps = m;
+      simulated = meets_simulated (scan bytes) m;
+      timely = meets_timely bytes m;
+      alone = meets_alone (scan bytes) m;
+    }
 
 certified_meets : (bytes text : List ℕ) → IsCertified bytes statuses.Accepted text → EachStepMeets (scan bytes)
 certified_meets bytes text r = ((certified_exact bytes statuses.Accepted text r).0 refl).1
@@ -107,7 +114,7 @@ promised (Some Certify) o a =
       exact = λ p bytes is. let out = a.output p bytes is in certified_exact bytes o.status out.0 out.1;
       accepted = λ e bytes is.
           let out = a.output (printed o statuses.Accepted e tt) bytes is in
-          serializable (scan bytes) (certified_meets bytes out.0 (subst (λ (s : Status). IsCertified bytes s out.0) e out.1));
+          serializable bytes (certified_meets bytes out.0 (subst (λ (s : Status). IsCertified bytes s out.0) e out.1));
       rejected = a.shown tt;
       most = a.most;
       least = a.least;
@@ -118,7 +125,7 @@ promised (Some Expand) o a =
       exact = λ p bytes is. let out = a.output p bytes is in certified_exact bytes o.status out.1.0 out.1.1;
       accepted = λ e bytes is.
           let out = a.output (printed o statuses.Accepted e tt) bytes is in
-          serializable (scan bytes) (certified_meets bytes out.1.0 (subst (λ (s : Status). IsCertified bytes s out.1.0) e out.1.1));
+          serializable bytes (certified_meets bytes out.1.0 (subst (λ (s : Status). IsCertified bytes s out.1.0) e out.1.1));
       rejected = a.shown tt;
       again = λ d bytes is.
           let out = a.output (decided_printed o.status d) bytes is in
@@ -131,7 +138,7 @@ promised (Some Quick) o a =
       prints = λ p bytes is. record { output = a.output p bytes is; only = a.only p bytes is };
       accepted = λ e bytes is.
           let out = a.output (printed o statuses.Accepted e tt) bytes is in
-          serializable (scan bytes) (quick_meets bytes out.0 (subst (λ (s : Status). IsQuick bytes s out.0) e out.1));
+          serializable bytes (quick_meets bytes out.0 (subst (λ (s : Status). IsQuick bytes s out.0) e out.1));
       most = a.most;
       least = a.least;
     }
@@ -140,7 +147,7 @@ promised (Some Swaps) o a =
       prints = λ p bytes is. record { output = a.output p bytes is; only = a.only p bytes is };
       accepted = λ e bytes is.
           let out = a.output (printed o statuses.Accepted e tt) bytes is in
-          serializable (scan bytes) (swaps_meets bytes out.0 (subst (λ (s : Status). IsSwaps bytes s out.0) e out.1));
+          serializable bytes (swaps_meets bytes out.0 (subst (λ (s : Status). IsSwaps bytes s out.0) e out.1));
       rejected = a.shown tt;
       certified = λ e bytes is.
           let out = a.output (printed o statuses.Accepted e tt) bytes is in
@@ -159,7 +166,7 @@ promised (Some Views) o a =
       prints = λ p bytes is. record { output = a.output p bytes is; only = a.only p bytes is };
       accepted = λ e bytes is.
           let out = a.output (printed o statuses.Accepted e tt) bytes is in
-          serializable (scan bytes) (views_meets bytes out.0 (subst (λ (s : Status). IsViews bytes s out.0) e out.1));
+          serializable bytes (views_meets bytes out.0 (subst (λ (s : Status). IsViews bytes s out.0) e out.1));
       rejected = a.shown tt;
       seen = λ e bytes is.
           let out = a.output (printed o statuses.Accepted e tt) bytes is in

@@ -1,5 +1,5 @@
 -- Meaning: what each command promises. Each field is one promise.
-use Rattle.std.specs.Prelude.{◌≡◌, ℕ, [], Option, None, Some}
+use Rattle.std.specs.Prelude.{◌≡◌, ℕ, List, [], Option, None, Some}
 use Rattle.pp_core.specs.declared.status.Status.TheVariants as statuses
 use Rattle.pp_certificate.specs.Rechecked.{IsCheckedSound, IsRecheck}
 use Rattle.pp_certify.specs.Accepted.{EachStepMeets, IsAloneAccepted, IsExact, IsSimulated}
@@ -9,7 +9,6 @@ use Rattle.pp_certify.specs.Inputs.{scan}
 use Rattle.pp_certify.specs.Rejected.{IsEvident}
 use Rattle.pp_certify.specs.Reports.{IsCertified, IsExpanded}
 use Rattle.pp_certify.specs.Restated.{PrintsAgain}
-use Rattle.pp_certify.specs.Scans.{InputScan}
 use Rattle.pp_attempts.specs.Costs.{ViewsCostAtMost}
 use Rattle.pp_attempts.specs.Outputs.{IsViews}
 use Rattle.pp_decide.specs.Costs.{QuickCostsAtLeast, QuickCostsAtMost}
@@ -18,6 +17,7 @@ use Rattle.pp_drill.specs.Prints.{PrintsLines}
 use Rattle.pp_drill.specs.Reports.{IsDrilled, drill_scan}
 use Rattle.pp_exchanges.specs.Prints.{PrintsCertificate}
 use Rattle.pp_exchanges.specs.Swaps.{IsSwaps}
+use Rattle.pp_real_time.specs.Timely.{IsTimely}
 use Rattle.pp_verify.specs.Costs.{CheckCostsAtMost}
 use Rattle.pp_run.specs.declared.words.Command.{Command}
 use Rattle.pp_run.specs.declared.words.Command.TheVariants.{Certify, Drill, Expand, Quick}
@@ -26,21 +26,23 @@ use Rattle.pp_run.specs.Outcomes.{IsTheOutput, OfItsInput, Outcome, PrintsJust}
 use Rattle.pp_run.specs.Outputs.{IsPrinted}
 use Rattle.pp_run.specs.Promises.{SeesKept}
 
--- What holds of a run of which each step meets its criteria, however long it is.
-pub record IsSerializable (sc : InputScan) : Type 0 where
+-- What holds of an input whose steps all meet their criteria, however many there are.
+pub record IsSerializable (bytes : List ℕ) : Type 0 where
   -- the start and each step meet their criteria
-  pub steps : EachStepMeets sc
+  pub steps : EachStepMeets (scan bytes)
   -- The committed transactions, one after another in commit order, give all recorded results, and
   -- lead to the same state.
-  pub simulated : IsSimulated sc
-  -- These transactions, each alone, are an accepted run.
-  pub alone : IsAloneAccepted sc
+  pub simulated : IsSimulated (scan bytes)
+  -- The commit order respects real time by the lines of the input, and the order of each thread.
+  pub timely : IsTimely (scan bytes)
+  -- The committed transactions, each alone, are an accepted run.
+  pub alone : IsAloneAccepted (scan bytes)
 
 pub record CertifyPromise (o : Outcome) : Type 0 where
   pub prints : PrintsJust IsCertified o
   -- accepted is printed exactly if the input has no fault and each step meets its criteria
   pub exact : IsPrinted o.status → OfItsInput o λ bytes. IsExact bytes o.status
-  pub accepted : o.status ≡ statuses.Accepted → OfItsInput o λ bytes. IsSerializable (scan bytes)
+  pub accepted : o.status ≡ statuses.Accepted → OfItsInput o λ bytes. IsSerializable bytes
   -- The evidence of a rejection shows that the criterion is false.
   pub rejected : o.status ≡ statuses.Rejected → OfItsInput o λ bytes. IsEvident (scan bytes)
   -- The counter rises at most by what the steps cost at most, and at least by what they cost at
@@ -52,7 +54,7 @@ pub record CertifyPromise (o : Outcome) : Type 0 where
 pub record ExpandPromise (o : Outcome) : Type 0 where
   pub prints : PrintsJust IsExpanded o
   pub exact : IsPrinted o.status → OfItsInput o λ bytes. IsExact bytes o.status
-  pub accepted : o.status ≡ statuses.Accepted → OfItsInput o λ bytes. IsSerializable (scan bytes)
+  pub accepted : o.status ≡ statuses.Accepted → OfItsInput o λ bytes. IsSerializable bytes
   pub rejected : o.status ≡ statuses.Rejected → OfItsInput o λ bytes. IsEvident (scan bytes)
   -- What is printed of a run is an input again, without a fault and within all limits: its records
   -- are the steps, its report is the same but for the lines, and of an accepted run `certify` prints
@@ -65,14 +67,14 @@ pub record ExpandPromise (o : Outcome) : Type 0 where
 pub record QuickPromise (o : Outcome) : Type 0 where
   pub prints : PrintsJust IsQuick o
   -- also of a run that has too many steps for `certify`
-  pub accepted : o.status ≡ statuses.Accepted → OfItsInput o λ bytes. IsSerializable (scan bytes)
+  pub accepted : o.status ≡ statuses.Accepted → OfItsInput o λ bytes. IsSerializable bytes
   pub most : OfItsInput o λ bytes. QuickCostsAtMost (scan bytes) o.before o.after
   pub least : o.status ≡ statuses.Accepted → OfItsInput o λ bytes.
       QuickCostsAtLeast (scan bytes) o.before o.after
 
 pub record SwapsPromise (o : Outcome) : Type 0 where
   pub prints : PrintsJust IsSwaps o
-  pub accepted : o.status ≡ statuses.Accepted → OfItsInput o λ bytes. IsSerializable (scan bytes)
+  pub accepted : o.status ≡ statuses.Accepted → OfItsInput o λ bytes. IsSerializable bytes
   pub rejected : o.status ≡ statuses.Rejected → OfItsInput o λ bytes. IsEvident (scan bytes)
   -- What is printed of an accepted run is a certificate of it, and one that `recheck` accepts.
   pub certified : o.status ≡ statuses.Accepted → OfItsInput o λ bytes.
@@ -89,7 +91,7 @@ pub record RecheckPromise (o : Outcome) : Type 0 where
 
 pub record ViewsPromise (o : Outcome) : Type 0 where
   pub prints : PrintsJust IsViews o
-  pub accepted : o.status ≡ statuses.Accepted → OfItsInput o λ bytes. IsSerializable (scan bytes)
+  pub accepted : o.status ≡ statuses.Accepted → OfItsInput o λ bytes. IsSerializable bytes
   pub rejected : o.status ≡ statuses.Rejected → OfItsInput o λ bytes. IsEvident (scan bytes)
   -- What a committed transaction saw that undid nothing since is what some number of the
   -- transactions committed before it leave.
