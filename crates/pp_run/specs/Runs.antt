@@ -4,6 +4,7 @@ use Rattle.pp_certify.specs.Scans.{InputScan}
 use Rattle.pp_front.specs.Runs.{Lined}
 use Rattle.pp_json.specs.declared.header.Header.{Header}
 use Rattle.pp_prefixes.specs.Prefixes.{CertifiedPrefixLaw, PrefixLaw}
+use Rattle.pp_readable.specs.Readable.{CertifyLaw, QuickLaw}
 use Rattle.pp_run.specs.declared.words.Command.{Command}
 use Rattle.pp_run.specs.Commands.{CommandPromise}
 use Rattle.pp_run.specs.Outcomes.{Outcome}
@@ -29,3 +30,6 @@ pub record RunLaws : Type 0 where
   -- after a byte 10, is accepted too. Its run and its committed transactions are the first of those
   -- of the whole.
   pub prefixes : PrefixLaw × CertifiedPrefixLaw
+  -- Two different lists of committed transactions never have the same report, under `certify` and
+  -- under `quick`. Two accepted inputs with the same report have the same committed transactions.
+  pub readable : CertifyLaw × QuickLaw
