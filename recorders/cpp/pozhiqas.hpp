@@ -206,7 +206,7 @@ struct Line {
 
 }  // namespace detail
 
-// The lines of one thread, which has one open transaction at a time. The places that it names never go back.
+// The lines of one thread, which has one open transaction at a time. Within a transaction places never go back.
 class alignas(64) Thread {
 public:
     Thread(const Thread&) = delete;
@@ -278,7 +278,7 @@ private:
     }
 
     void end(Place place, detail::Step step, const char* mistake) noexcept {
-        if (!require(open_, mistake)) return;
+        if (!require(open_, mistake) || !require(!(place == later), "an end of a transaction without a place")) return;
         append(place, step);
         open_ = false;
     }
@@ -568,16 +568,17 @@ private:
         if (is_quiet_point && thread.open_) throw Error("thread " + name + " has an open transaction at a quiet point");
     }
 
-    // Gives the lines without a place that of the next line, and leaves out those behind the last line with one.
+    // Gives the lines without a place that of the next line, and leaves out those behind the last line with one. A transaction whose
+    // places go back would be sorted into another order than its own, so that is an error.
     static void give_places(Thread& thread, const std::string& name) {
         while (!thread.lines_.empty() && thread.lines_.back().place() == later) thread.lines_.pop_back();
         Place next = later;
         for (auto line = thread.lines_.rbegin(); line != thread.lines_.rend(); ++line) {
             if (line->place() == later) line->put_at(next);
             if (next < line->place()) {
-                throw Error("thread " + name + " goes back from the place " + text_of(line->place()) + " to " + text_of(next));
+                throw Error("a transaction of " + name + " goes back from the place " + text_of(line->place()) + " to " + text_of(next));
             }
-            next = line->place();
+            next = line->step == detail::Step::begin ? later : line->place();
         }
     }
 
