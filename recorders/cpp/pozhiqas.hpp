@@ -212,9 +212,6 @@ public:
     Thread(const Thread&) = delete;
     Thread& operator=(const Thread&) = delete;
 
-    // Makes room for so many lines, so that recording them asks for no memory.
-    void reserve(std::size_t lines) { lines_.reserve(lines); }
-
     void begin(Place place = later) noexcept {
         if (!require(!open_, "a begin while a transaction is open")) return;
         open_ = true;
@@ -469,10 +466,14 @@ public:
         start_ = std::move(calls);
     }
 
-    // Threads have the names p0, p1 and so on, and their transactions p0_1, p0_2 and so on.
-    Thread& add_thread() {
+    // Threads have the names p0, p1 and so on, and their transactions p0_1, p0_2 and so on. The memory for the expected lines, 64 bytes
+    // each, is touched here, so that recording them meets no page that is not there yet. More lines than expected only take longer.
+    Thread& add_thread(std::size_t expected_lines = 8'192) {
+        std::unique_ptr<Thread> thread(new Thread());
+        thread->lines_.resize(expected_lines);
+        thread->lines_.clear();
         const std::lock_guard<std::mutex> guard(threads_lock_);
-        threads_.push_back(std::unique_ptr<Thread>(new Thread()));
+        threads_.push_back(std::move(thread));
         return *threads_.back();
     }
 
