@@ -1,14 +1,15 @@
 #!/usr/bin/env python3
-"""Builds the three memories of recorders/cpp, runs them, certifies each run, and checks that each row of the table below comes out.
+"""Builds the three memories of recorders/cpp, runs them, certifies each run, and checks each row of the table below.
 
     python3 recorders/run_all.py [--seeds N] [--keep FOLDER] [--sanitize] [MEMORY ...]
 
-MEMORY is tl2, boosted or libitm; all three if none is named. `--seeds` is how many seeds each random row has (6), `--keep` leaves the runs
-in a folder, and `--sanitize` also runs the right forms of tl2 and boosted under the thread sanitizer.
+MEMORY is tl2, boosted or libitm; these three if none is named. It may also be a folder here with a `run.py` of its own, which is then run.
+`--seeds` is how many seeds each random row has (6). `--keep` leaves the runs in a folder. `--sanitize` also runs the correct forms of tl2
+and boosted under the thread sanitizer.
 
-The program is $POZHIQAS, or crates/pp_cli/out/pp_cli. The compiler is $CXX, or g++. A row is one line: what came out, with the first line
-that the program printed. The status is 0 if every row holds, 1 if one does not, 2 for a wrong command line, 3 if there is no program, 4 if
-there is no compiler, 5 if the compiler has no libitm, 6 if something does not compile, and 7 if a file or a folder can not be written.
+The checker is the program that POZHIQAS names, or crates/pp_cli/out/pp_cli. The compiler is CXX, or g++. Each row is one line, which has
+the first line that the checker printed. Status 0: every row is as it should be. 1: some row is not. 2: wrong arguments. 3: no checker.
+4: no compiler. 5: something does not compile. 6: the compiler has no libitm. 7: a file or a folder cannot be written.
 """
 import argparse
 import os
@@ -24,10 +25,11 @@ HERE = pathlib.Path(__file__).resolve().parent
 ROOT = HERE.parent
 FLAGS = ("-std=c++17", "-O2", "-Wall", "-Wextra", "-pthread")
 MEMORIES = {"tl2": (), "boosted": (), "libitm": ("-fgnu-tm",)}
+OTHERS = {file.parent.name: file for file in sorted(HERE.glob("*/run.py"))}
 SECONDS = 120
-# A bug is looked for with more seeds than the right form has, and its row ends with the first that shows it.
+# A bug may need more seeds than the correct form has. Its row ends with the first seed that shows it.
 MOST_SEEDS = 20
-NO_PROGRAM, NO_COMPILER, NO_LIBITM, NO_BUILD, NO_FOLDER = 3, 4, 5, 6, 7
+NO_PROGRAM, NO_COMPILER, NO_BUILD, NO_LIBITM, NO_FOLDER = 3, 4, 5, 6, 7
 
 
 @dataclass(frozen=True)
@@ -44,8 +46,8 @@ class Row:
         return self.schedule.startswith("random")
 
 
-# Under a schedule a bug has one criterion. Random threads may meet it first at another place, so there a row may have several; a row holds
-# if one of its seeds is rejected, and by no other criterion.
+# Under a schedule a bug has one criterion. Random threads may meet it first at another place, so a row of theirs may have several. Such a
+# row is as it should be if one of its seeds is rejected, and none by another criterion.
 ROWS = (
     Row("tl2", "lost-update", example="recorded_tl2"),
     Row("tl2", "lost-update", "no-check", ("PUSH 5",), example="rejected_recorded_tl2"),
@@ -141,11 +143,11 @@ def require_libitm(cxx, folder):
         raise Missing(NO_LIBITM, f"{cxx} builds no program with -fgnu-tm: name GCC by CXX, with its libitm (in Debian's g++)")
 
 
-def build_memory(cxx, memory, folder, flags=()):
-    out = folder / (memory + "".join(flags).replace("=", "_"))
-    ran = build(cxx, HERE / "cpp" / f"{memory}.cpp", out, (*MEMORIES[memory], *flags))
+def build_source(cxx, name, folder, flags=()):
+    out = folder / (name + "".join(flags).replace("=", "_"))
+    ran = build(cxx, HERE / "cpp" / f"{name}.cpp", out, flags)
     if ran.returncode != 0:
-        raise Missing(NO_BUILD, f"{memory}.cpp does not compile: {(ran.stderr.splitlines() or ['no word of the compiler'])[0]}")
+        raise Missing(NO_BUILD, f"{name}.cpp does not compile: {(ran.stderr.splitlines() or ['the compiler prints nothing'])[0]}")
     return out
 
 
@@ -238,10 +240,10 @@ class Table:
 
 
 def sanitize(cxx, memories, folder):
-    """Whether the right forms run without a report of the thread sanitizer, which can not follow libitm."""
+    """Whether the correct forms run without a report of the thread sanitizer, which can not follow libitm."""
     holds = True
     for memory in (name for name in memories if name != "libitm"):
-        built = build_memory(cxx, memory, folder, ("-g", "-fsanitize=thread"))
+        built = build_source(cxx, memory, folder, ("-g", "-fsanitize=thread"))
         for schedule in sorted({row.schedule for row in ROWS if row.memory == memory and row.is_random}):
             command = [built, "--schedule", schedule, "--output", folder / "sanitized.jsonl"]
             ran = subprocess.run(command, capture_output=True, text=True, timeout=SECONDS, check=False)
@@ -259,25 +261,47 @@ def arguments():
     parser.add_argument("--keep", type=pathlib.Path)
     parser.add_argument("--sanitize", action="store_true")
     parsed = parser.parse_args()
-    strange = [memory for memory in parsed.memories if memory not in MEMORIES]
+    strange = [memory for memory in parsed.memories if memory not in (*MEMORIES, *OTHERS)]
     if strange:
-        parser.error(f"no memory {strange[0]}: there are {', '.join(MEMORIES)}")
+        parser.error(f"no memory {strange[0]}: there are {', '.join((*MEMORIES, *OTHERS))}")
     if parsed.seeds < 1:
         parser.error("--seeds: at least 1")
     return parsed
 
 
-def run(options, folder):
-    memories = options.memories or list(MEMORIES)
+def check_header(cxx, folder):
+    """Whether the header refuses what it must, and writes what it should."""
+    built = build_source(cxx, "check_header", folder)
+    ran = subprocess.run([built, folder / "header.jsonl"], capture_output=True, text=True, timeout=SECONDS, check=False)
+    holds = ran.returncode == 0
+    print(f"{'ok  ' if holds else 'FAIL'} pozhiqas.hpp {'as it should be' if holds else '; '.join((ran.stdout + ran.stderr).splitlines())}", flush=True)
+    return holds
+
+
+def run_own(options, memories, folder):
     table = Table(program(), options.keep or folder, options.seeds)
     cxx = compiler()
     if "libitm" in memories:
         require_libitm(cxx, folder)
-    table.memories = {memory: build_memory(cxx, memory, folder) for memory in memories}
-    held = [table.show(row) for row in ROWS if row.memory in memories]
+    table.memories = {memory: build_source(cxx, memory, folder, MEMORIES[memory]) for memory in memories}
+    held = [check_header(cxx, folder)]
+    held += [table.show(row) for row in ROWS if row.memory in memories]
     if options.sanitize:
         held.append(sanitize(cxx, memories, folder))
     return 0 if all(held) else 1
+
+
+def run_other(script, options):
+    keep = ("--keep", options.keep / script.parent.name) if options.keep else ()
+    return subprocess.run([sys.executable, script, *keep], check=False).returncode
+
+
+def run(options, folder):
+    names = options.memories or list(MEMORIES)
+    own = [memory for memory in MEMORIES if memory in names]
+    statuses = [run_own(options, own, folder)] if own else []
+    statuses += [run_other(OTHERS[name], options) for name in OTHERS if name in names]
+    return next((status for status in statuses if status != 0), 0)
 
 
 def main():

@@ -62,7 +62,7 @@ void check_then_add(Transaction& first, Transaction& second) {
     else ask(second);
 }
 
-// The second asks for 5 when the first has added it, and the first gives up.
+// The second asks for 5 when the first has added it, and the first aborts.
 void ask_then_abort(Transaction& first, Transaction& second) {
     first.begin();
     first.add(5);
@@ -104,7 +104,7 @@ void read_in_undo(Transaction& first, Transaction& second) {
     if (!is_done) look(second);
 }
 
-// The first adds 5, removes it and gives up.
+// The first adds 5, removes it and aborts.
 void add_remove_abort(Transaction& first, Transaction& second) {
     first.begin();
     first.add(5);
@@ -114,7 +114,7 @@ void add_remove_abort(Transaction& first, Transaction& second) {
     ask(second);
 }
 
-// The first replaces a value and gives up.
+// The first replaces a value and aborts.
 void replace_abort(Transaction& first, Transaction& second) {
     second.begin();
     put(second, 1);

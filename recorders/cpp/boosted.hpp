@@ -96,7 +96,7 @@ private:
 // An abstract lock. It keeps apart the transactions that call at its key, however short each call is.
 class Lock {
 public:
-    // Gives up after so many looks: to wait without an end could be a deadlock.
+    // False after so many looks: an endless wait could be a deadlock.
     bool try_acquire(const void* owner, unsigned looks) {
         for (unsigned look = 0; look < looks; ++look) {
             const void* seen = nullptr;

@@ -14,7 +14,7 @@
 // - One thread adds the objects and the start, before anything is recorded.
 // - Any thread may call `add_thread` and `next` at any time.
 // - A Thread is used by one thread of the program at a time. Nothing in it is locked or atomic.
-// - `write` and `close` are called while no thread records: after a join, or behind a barrier.
+// - `write` and `close` are called while no thread records: after a join, or after a barrier.
 //
 // Recording never throws, so a memory can call it inside its commit. A mistake that is found there (a call outside a transaction, no
 // memory for a line) is kept, and the next `write` or `close` throws it as an Error.
@@ -382,8 +382,8 @@ private:
     std::uint64_t next_id_ = 0;
 };
 
-// The file of a run. It is written beside its place, with `.part` behind its name, until it is whole: so a run that lost its last lines
-// is never taken for a whole one. Standard output, pipes and devices are written at once.
+// The file of a run. Its name ends with `.part` until it is whole, so a run that lost its last lines is never taken for a whole one.
+// Standard output, pipes and devices are written directly.
 class File {
 public:
     explicit File(std::string path) : path_(std::move(path)) {
@@ -484,8 +484,8 @@ public:
     // before a line that is written. After an Error there is no run.
     void write() { write_lines(true, false); }
 
-    // Writes the rest, and gives the file its name. A transaction may still be open; those of its lines that no place was given are
-    // left out. After an Error there is no run.
+    // Writes the rest, and names the file. A transaction may still be open: those of its lines that have no place are left out. After an
+    // Error there is no run.
     void close() { write_lines(false, true); }
 
 private:
@@ -569,8 +569,8 @@ private:
         if (is_quiet_point && thread.open_) throw Error("thread " + name + " has an open transaction at a quiet point");
     }
 
-    // Gives the lines without a place that of the next line, and leaves out those behind the last line with one. A transaction whose
-    // places go back would be sorted into another order than its own, so that is an error.
+    // A line without a place takes that of the next line. Lines after the last one with a place are left out. A transaction whose places
+    // go back would be sorted into another order than its own, so that is an error.
     static void give_places(Thread& thread, const std::string& name) {
         while (!thread.lines_.empty() && thread.lines_.back().place() == later) thread.lines_.pop_back();
         Place next = later;

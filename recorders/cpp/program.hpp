@@ -92,7 +92,7 @@ private:
     std::mt19937 generator_;
 };
 
-// Gives other threads a turn once in three times, so that transactions overlap even on one processor.
+// Lets other threads run once in three times, so that transactions overlap even on one processor.
 inline void maybe_yield(Choices& choices) {
     if (choices.below(3) == 0) std::this_thread::yield();
 }

@@ -168,7 +168,7 @@ void run_schedule(const Schedule& schedule, Bug bug, pozhiqas::Recorder& recorde
 
 // What one transaction of the random threads does, the same in each of its attempts.
 struct Plan {
-    enum class Kind { look, write_one, write_both, give_up } kind;
+    enum class Kind { look, write_one, write_both, abort } kind;
     Address from;
     Address to;
     Value value;  // this and the next one are written nowhere else
@@ -177,8 +177,9 @@ struct Plan {
 Plan chosen_plan(program::Choices& choices, Value value) {
     const std::uint32_t from = choices.below(addresses);
     const std::uint32_t to = (from + 1 + choices.below(addresses - 1)) % addresses;
-    static const std::array<Plan::Kind, 8> kinds = {Plan::Kind::look,       Plan::Kind::look,       Plan::Kind::write_one,  Plan::Kind::write_one,
-                                                    Plan::Kind::write_both, Plan::Kind::write_both, Plan::Kind::write_both, Plan::Kind::give_up};
+    using Kind = Plan::Kind;
+    static constexpr Kind kinds[8] = {Kind::look,       Kind::look,       Kind::write_one,  Kind::write_one,
+                                      Kind::write_both, Kind::write_both, Kind::write_both, Kind::abort};
     return {kinds[choices.below(8)], from, to, value};
 }
 
@@ -194,7 +195,7 @@ bool attempt(Transaction& transaction, const Plan& plan, program::Choices& choic
     if (plan.kind == Plan::Kind::write_one) return transaction.commit();
     transaction.write(plan.to, plan.value + 1);
     if (plan.kind == Plan::Kind::write_both) return transaction.commit();
-    transaction.give_up();
+    transaction.abort();
     return true;
 }
 

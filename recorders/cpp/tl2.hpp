@@ -102,7 +102,7 @@ public:
             return true;
         }
         if (!lock_writes()) return restart();
-        const Version version = ++memory_.clock;  // behind the locks and before the check
+        const Version version = ++memory_.clock;  // after the locks and before the check
         pause(Moment::committing);
         if (!may_commit()) {
             unlock_writes();
@@ -114,7 +114,7 @@ public:
         return true;
     }
 
-    void give_up() { lines_.abort(as_of_snapshot()); }
+    void abort() { lines_.abort(as_of_snapshot()); }
 
 private:
     bool has(Bug bug) const { return memory_.bug == bug; }
