@@ -1,7 +1,7 @@
 // Runs the collections of boosted.hpp, with a bug or without one, and writes down what they did.
 //
 //     boosted --schedule check-then-add --bug no-lock-on-contains --output run.jsonl   two transactions, interleaved as the schedule says
-//     boosted --seed 7 --threads 4 --transactions 30 --output run.jsonl                threads that choose by the seed
+//     boosted --seed 7 --threads 4 --transactions 25 --output run.jsonl                threads that choose by the seed
 //
 // Standard error has the number of commits that were counted beside the recorder, and what the collections hold at the end.
 #include "boosted.hpp"
@@ -199,8 +199,9 @@ void run_random(const program::Options& options, Collections& collections, pozhi
                 steps[place] = {choices.below(6), choices.below(Collections::key_count), 1 + 4 * number + static_cast<Value>(place)};
             }
             const bool gives_up = choices.below(6) == 0;
+            program::Backoff backoff;
             transaction.begin();
-            while (!attempt(transaction, steps, gives_up, choices)) program::maybe_yield(choices);
+            while (!attempt(transaction, steps, gives_up, choices)) backoff.wait();
         }
     });
     // A lost effect that no call sees is in no record, so the last transaction reads all.

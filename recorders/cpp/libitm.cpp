@@ -2,7 +2,7 @@
 // Compile it with -fgnu-tm.
 //
 //     libitm --schedule overlap --bug no-transactions --output run.jsonl   two transactions that overlap
-//     libitm --seed 7 --threads 4 --transactions 30 --output run.jsonl     threads that choose by the seed
+//     libitm --seed 7 --threads 4 --transactions 25 --output run.jsonl     threads that choose by the seed
 //
 // Standard error has the number of commits that were counted beside the recorder, and what the cells hold at the end.
 //

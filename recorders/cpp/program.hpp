@@ -4,6 +4,8 @@
 
 #include "pozhiqas.hpp"
 
+#include <algorithm>
+#include <chrono>
 #include <condition_variable>
 #include <cstdint>
 #include <cstdio>
@@ -26,7 +28,7 @@ struct Options {
     std::string bug = "none";
     unsigned seed = 1;
     unsigned threads = 4;
-    unsigned transactions = 30;  // of each thread
+    unsigned transactions = 25;  // of each thread
 };
 
 // The command line is wrong.
@@ -96,6 +98,20 @@ private:
 inline void maybe_yield(Choices& choices) {
     if (choices.below(3) == 0) std::this_thread::yield();
 }
+
+// Waits after a failed attempt, longer each time. Without it, thousands of attempts fail while a thread that holds a lock does not run, and
+// each of them is in the record.
+class Backoff {
+public:
+    void wait() {
+        if (failures_ < 3) std::this_thread::yield();
+        else std::this_thread::sleep_for(std::chrono::microseconds(50 << std::min(failures_ - 3, 5U)));
+        ++failures_;
+    }
+
+private:
+    unsigned failures_ = 0;
+};
 
 // Holds threads back until all have come.
 class Barrier {

@@ -1,7 +1,7 @@
 // Runs the memory of tl2.hpp, with a bug or without one, and writes down what it did.
 //
 //     tl2 --schedule lost-update --bug no-check --output run.jsonl    two transactions, interleaved as the schedule says
-//     tl2 --seed 7 --threads 4 --transactions 30 --output run.jsonl   threads that choose by the seed
+//     tl2 --seed 7 --threads 4 --transactions 25 --output run.jsonl   threads that choose by the seed
 //
 // `--schedule random-extending` is the second with a memory that moves snapshots forward. Standard error has the memory's own count of its
 // commits, and what it holds at the end.
@@ -209,8 +209,9 @@ void run_random(const program::Options& options, bool extends, Bug bug, pozhiqas
         transaction.pause = [&](Moment) { program::maybe_yield(choices); };
         for (unsigned count = 0; count < options.transactions; ++count) {
             const Plan plan = chosen_plan(choices, 1 + 2 * (Value{count} * options.threads + index));
+            program::Backoff backoff;
             transaction.begin();
-            while (!attempt(transaction, plan, choices)) program::maybe_yield(choices);
+            while (!attempt(transaction, plan, choices)) backoff.wait();
         }
     });
     // A lost effect that no call sees is in no record, so the last transaction reads all.
