@@ -7,9 +7,10 @@ MEMORY is tl2, boosted or libitm; these three if none is named. It may also be a
 `--seeds` is how many seeds each random row has (6). `--keep` leaves the runs in a folder. `--sanitize` also runs the correct forms of tl2
 and boosted under the thread sanitizer.
 
-The checker is the program that POZHIQAS names, or crates/pp_cli/out/pp_cli. The compiler is CXX, or g++. Each row is one line, which has
-the first line that the checker printed. Status 0: every row is as it should be. 1: some row is not. 2: wrong arguments. 3: no checker.
-4: no compiler. 5: something does not compile. 6: the compiler has no libitm. 7: a file or a folder cannot be written.
+The checker is the program that POZHIQAS names, or else crates/pp_cli/out/pp_cli or pp_cli in this repository. The compiler is CXX, or g++.
+Each row is one line, which has the first line that the checker printed.
+
+Status 0: every row is as it should be. 1: some row is not. 2: wrong arguments. 3: no checker. 4: no compiler. 5: something does not compile. 6: the compiler has no libitm. 7: a file or a folder cannot be written.
 """
 import argparse
 import os
@@ -29,7 +30,7 @@ OTHERS = {file.parent.name: file for file in sorted(HERE.glob("*/run.py"))}
 SECONDS = 120
 # A bug may need more seeds than the correct form has. Its row ends with the first seed that shows it.
 MOST_SEEDS = 20
-NO_PROGRAM, NO_COMPILER, NO_BUILD, NO_LIBITM, NO_FOLDER = 3, 4, 5, 6, 7
+NO_CHECKER, NO_COMPILER, NO_BUILD, NO_LIBITM, NO_FOLDER = 3, 4, 5, 6, 7
 
 
 @dataclass(frozen=True)
@@ -116,11 +117,13 @@ class Missing(Exception):
         self.status = status
 
 
-def program():
-    path = pathlib.Path(os.environ.get("POZHIQAS") or ROOT / "crates/pp_cli/out/pp_cli").resolve()
-    if not (path.is_file() and os.access(path, os.X_OK)):
-        raise Missing(NO_PROGRAM, f"no program at {path}: build it as README.md says, or name it by POZHIQAS")
-    return path
+def checker():
+    named = os.environ.get("POZHIQAS")
+    places = [pathlib.Path(named).resolve()] if named else [ROOT / "crates/pp_cli/out/pp_cli", ROOT / "pp_cli"]
+    for place in places:
+        if place.is_file() and os.access(place, os.X_OK):
+            return place
+    raise Missing(NO_CHECKER, f"no program at {places[0]}: build it as README.md says, or name it by POZHIQAS")
 
 
 def compiler():
@@ -164,7 +167,7 @@ class Table:
         try:
             ran = subprocess.run([self.checker, command], input=run, capture_output=True, timeout=SECONDS, check=False)
         except OSError as error:
-            raise Missing(NO_PROGRAM, f"{self.checker} does not run: {error.strerror}") from error
+            raise Missing(NO_CHECKER, f"{self.checker} does not run: {error.strerror}") from error
         return ran.stdout.decode().splitlines() or ["nothing printed"]
 
     def record(self, row, seed):
@@ -288,7 +291,7 @@ def check_header(cxx, folder):
 
 
 def run_own(options, memories, folder):
-    table = Table(program(), options.keep or folder, options.seeds)
+    table = Table(checker(), options.keep or folder, options.seeds)
     cxx = compiler()
     if "libitm" in memories:
         require_libitm(cxx, folder)

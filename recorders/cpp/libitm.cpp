@@ -1,4 +1,4 @@
-// Runs GCC's own transactional memory, libitm, which a program can not change, and writes down what it did in style optimistic.
+// Runs GCC's own transactional memory, libitm, which a program cannot change, and writes down what it did in style optimistic.
 // Compile it with -fgnu-tm.
 //
 //     libitm --schedule overlap --bug no-transactions --output run.jsonl   two transactions that overlap

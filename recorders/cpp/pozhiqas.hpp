@@ -44,7 +44,7 @@
 
 namespace pozhiqas {
 
-// The run can not be written: its file fails, a line is out of order, or this header was used wrongly.
+// The run cannot be written: its file fails, a line is out of order, or this header was used wrongly.
 class Error : public std::runtime_error {
 public:
     using std::runtime_error::runtime_error;
@@ -246,12 +246,12 @@ public:
 
     // Leaves out the lines of an attempt of which nobody could see anything. The transaction stays open.
     void drop_attempt() noexcept {
-        if (require(open_, "a dropped attempt outside a transaction")) cut(attempt_);
+        if (require(open_, "drop_attempt outside a transaction")) cut(attempt_);
     }
 
     // Leaves out the whole transaction, its begin too.
     void drop_transaction() noexcept {
-        if (!require(open_, "a dropped transaction outside a transaction")) return;
+        if (!require(open_, "drop_transaction outside a transaction")) return;
         cut(transaction_);
         open_ = false;
     }
@@ -447,7 +447,7 @@ public:
     Recorder(const Recorder&) = delete;
     Recorder& operator=(const Recorder&) = delete;
 
-    // A destructor can not throw, so a run that was never closed is reported here.
+    // A destructor cannot throw, so a run that was never closed is reported here.
     ~Recorder() {
         if (file_.is_open()) std::fprintf(stderr, "pozhiqas: %s: never closed, so there is no run\n", file_.path().c_str());
     }
@@ -480,8 +480,8 @@ public:
     // The next number of a counter that all threads share, as a place.
     Place next() noexcept { return {counter_.fetch_add(1), 0}; }
 
-    // Writes all lines so far and frees their memory. Only at a quiet point: no transaction is open, and no line to come is placed
-    // before a line that is written. After an Error there is no run.
+    // Writes all lines so far, and uses their memory for the next ones. Only at a quiet point: no transaction is open, and no later line
+    // has a place before one that is written. After an Error there is no run.
     void write() { write_lines(true, false); }
 
     // Writes the rest, and names the file. A transaction may still be open: those of its lines that have no place are left out. After an
