@@ -10,7 +10,8 @@ and boosted under the thread sanitizer.
 The checker is the program that POZHIQAS names, or else crates/pp_cli/out/pp_cli or pp_cli in this repository. The compiler is CXX, or g++.
 Each row is one line, which has the first line that the checker printed.
 
-Status 0: every row is as it should be. 1: some row is not. 2: wrong arguments. 3: no checker. 4: no compiler. 5: something does not compile. 6: the compiler has no libitm. 7: a file or a folder cannot be written.
+Status 0: every row is as it should be. 1: some row is not. 2: wrong arguments. 3: no checker. 4: no compiler. 5: something does not compile.
+6: the compiler has no libitm. 7: a file or a folder cannot be written.
 """
 import argparse
 import os
@@ -251,7 +252,7 @@ class Table:
 
 
 def sanitize(cxx, memories, folder):
-    """Whether the correct forms run without a report of the thread sanitizer, which can not follow libitm."""
+    """Whether the correct forms run without a report of the thread sanitizer, which cannot follow libitm."""
     holds = True
     for memory in (name for name in memories if name != "libitm"):
         built = build_source(cxx, memory, folder, ("-g", "-fsanitize=thread"))

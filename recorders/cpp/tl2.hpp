@@ -168,7 +168,7 @@ private:
         return true;
     }
 
-    // The buffer is ordered by address, so two commits can not each wait for a lock of the other. This one does not wait at all.
+    // The buffer is ordered by address, so two commits cannot each wait for a lock of the other. This one does not wait at all.
     bool lock_writes() {
         if (has(Bug::no_locks)) return true;
         for (const auto& write : buffer_) {
