@@ -1,0 +1,214 @@
+{-# LANGUAGE LambdaCase #-}
+
+-- | Programs over recorded transactions. Each prints its run on standard output, and on standard error how many
+-- transactions committed in how many attempts.
+module Main (main) where
+
+import Control.Applicative (Alternative (..))
+import Control.Concurrent (forkFinally, newEmptyMVar, putMVar, takeMVar, yield)
+import Control.Exception (Exception, throwIO)
+import Control.Monad (forM_, replicateM_, unless, when)
+import Data.Bits (shiftL, shiftR, xor)
+import Data.IORef
+import Data.List (intercalate)
+import Recorded
+import System.Environment (getArgs)
+import System.Exit (exitWith, ExitCode (..))
+import System.IO (hPutStrLn, stderr)
+import Text.Read (readMaybe)
+
+main :: IO ()
+main = getArgs >>= \case
+  [program, by] | Just run <- lookup program scripts, Just order <- lookup by orders -> run order
+  [program, by, threads, each, seed]
+    | Just run <- lookup program loads, Just order <- lookup by orders
+    , Just load <- Load <$> readMaybe threads <*> readMaybe each <*> readMaybe seed -> run order load
+  _ -> hPutStrLn stderr usage >> exitWith (ExitFailure 2)
+  where
+    orders = [("ticket", ByTicket), ("versions", ByVersions)]
+    usage = "usage: programs PROGRAM ticket|versions, PROGRAM one of " ++ names scripts
+      ++ "; or programs PROGRAM ticket|versions THREADS TRANSACTIONS SEED, PROGRAM one of " ++ names loads
+    names :: [(String, a)] -> String
+    names = intercalate ", " . map fst
+
+-- | Runs a program over some variables, lets a last transaction read them all, and prints the run.
+record :: Order -> Int -> [Var] -> ([Thread] -> IO ()) -> IO ()
+record order count vars program = do
+  threads <- newThreads order (count + 1)
+  program (take count threads)
+  transact (last threads) $ mapM_ readVar vars
+  runLines order vars threads >>= mapM_ putStrLn
+  (committed, attempted) <- counts threads
+  hPutStrLn stderr $ "committed " ++ show committed ++ " attempts " ++ show attempted
+
+newVars :: String -> [Int] -> IO [Var]
+newVars prefix starts = sequence [newVar (prefix ++ show i) start | (i, start) <- zip [0 :: Int ..] starts]
+
+-- * Correct programs with many threads
+
+data Load = Load { threadCount, transactionsEach, seedOf :: Int }
+
+loads :: [(String, Order -> Load -> IO ())]
+loads = [("bank", bank), ("slots", slots)]
+
+-- | Audits, and transfers that use 'empty', '<|>' and exceptions.
+bank :: Order -> Load -> IO ()
+bank order load = do
+  accounts <- newVars "a" (replicate 6 100)
+  record order (threadCount load) accounts $ \threads -> inParallel
+    [ mapM_ (transact thread . banking accounts) (take (transactionsEach load) (rolls (seedOf load) i))
+    | (i, thread) <- zip [0 ..] threads ]
+
+banking :: [Var] -> Int -> Tx ()
+banking accounts roll = case roll `mod` 8 of
+  0 -> mapM_ readVar accounts
+  1 -> overdraw from to amount
+  2 -> ((withdraw from amount <|> withdraw other amount) >> deposit to amount) <|> return ()
+  _ -> (withdraw from amount >> deposit to amount) <|> return ()
+  where
+    account n = accounts !! (n `mod` length accounts)
+    first = roll `div` 8
+    (from, to, other) = (account first, account (first + 1 + roll `div` 64 `mod` 2), account (first + 3))
+    amount = 1 + roll `div` 512 `mod` 60
+
+-- | Lets other threads run between the read and the write, so that transactions meet.
+withdraw :: Var -> Int -> Tx ()
+withdraw account amount = do
+  balance <- readVar account
+  when (balance < amount) empty
+  unsafeIO yield
+  writeVar account (balance - amount)
+
+deposit :: Var -> Int -> Tx ()
+deposit account amount = readVar account >>= writeVar account . (+ amount)
+
+data Overdrawn = Overdrawn
+  deriving Show
+
+instance Exception Overdrawn
+
+-- | Deposits first. If the other account has too little, an exception takes the deposit back.
+overdraw :: Var -> Var -> Int -> Tx ()
+overdraw from to amount = pay `catchTx` \Overdrawn -> return ()
+  where pay = deposit to amount >> (withdraw from amount <|> throwTx Overdrawn)
+
+-- | Half of the threads fill slots and wait while all are full. The others empty them and wait while all are empty.
+slots :: Order -> Load -> IO ()
+slots order load = do
+  vars <- newVars "s" [0, 0, 0]
+  let half = threadCount load `div` 2
+      values i = [seedOf load * 1000000 + i * 10000 + n | n <- [1 .. transactionsEach load]]
+  record order (2 * half) vars $ \threads -> inParallel $
+    [mapM_ (transact thread . fill vars) (values i) | (i, thread) <- zip [0 ..] (take half threads)]
+      ++ [replicateM_ (transactionsEach load) (transact thread (takeOut vars)) | thread <- drop half threads]
+
+-- | A slot with 0 is empty.
+fill :: [Var] -> Int -> Tx ()
+fill vars new = foldr (\var others -> fillOne var <|> others) empty vars
+  where fillOne var = readVar var >>= \old -> unless (old == 0) empty >> writeVar var new
+
+takeOut :: [Var] -> Tx ()
+takeOut = foldr (\var others -> takeOne var <|> others) empty
+  where takeOne var = readVar var >>= \old -> when (old == 0) empty >> writeVar var 0
+
+inParallel :: [IO ()] -> IO ()
+inParallel actions = do
+  done <- newEmptyMVar
+  forM_ actions $ \action -> forkFinally action (putMVar done)
+  replicateM_ (length actions) (takeMVar done >>= either throwIO return)
+
+-- | Random numbers of a thread (xorshift).
+rolls :: Int -> Int -> [Int]
+rolls seed i = map (`shiftR` 20) $ drop 8 $ iterate step (seed * 7919 + i * 104729 + 1)
+  where step = shifted 17 . (\x -> x `xor` (x `shiftR` 7 `mod` (1 `shiftL` 57))) . shifted 13
+        shifted n x = x `xor` (x `shiftL` n)
+
+-- * Programs that run step by step, so that each has one run
+
+-- | The first two are correct. In each of the others "p0" makes a mistake, and "p1" meets it.
+scripts :: [(String, Order -> IO ())]
+scripts =
+  [ ("or-else", orElseSlots), ("part-again", partAgain)
+  , ("split", split), ("early-read", earlyRead), ("unsafe-read", unsafeRead), ("nested", nested)
+  ]
+
+script :: Order -> [Var] -> (Thread -> Thread -> IO ()) -> IO ()
+script order vars program = record order 2 vars $ \threads -> program (head threads) (last threads)
+
+orElseSlots :: Order -> IO ()
+orElseSlots order = do
+  vars <- newVars "s" [0, 7]
+  script order vars $ \p0 p1 -> do
+    transact p0 $ takeOut vars
+    transact p1 $ fill vars 8
+
+-- | STM runs the body of a @catchSTM@ again, and not the whole transaction, if another thread changed what it read.
+partAgain :: Order -> IO ()
+partAgain order = do
+  account <- newVar "a0" 100
+  first <- newIORef True
+  script order [account] $ \p0 p1 -> transact p0 $
+    (deposit account 5 >> firstTime first (transact p1 $ deposit account 10)) `catchTx` \Overdrawn -> return ()
+
+-- | A transfer in two @atomically@ blocks, recorded as one transaction. An audit comes between the two.
+split :: Order -> IO ()
+split order = do
+  from <- newVar "a0" 100
+  to <- newVar "a1" 100
+  script order [from, to] $ \p0 p1 -> do
+    (_, half) <- perform p0 $ withdraw from 10
+    transact p1 $ mapM_ readVar [from, to]
+    (drawn, rest) <- perform p0 $ deposit to 10 >> drawTicket p0
+    keep p0 drawn (half ++ rest)
+
+-- | A transaction adds to what @readTVarIO@ read before it.
+earlyRead :: Order -> IO ()
+earlyRead order = do
+  account <- newVar "a0" 100
+  script order [account] $ \p0 p1 -> do
+    early <- readVarIO account
+    transact p1 $ deposit account 10
+    transact p0 $ note early >> writeVar account (given early + 5)
+
+-- | Two are on call, and each may leave if the other stays. "p0" looks by @unsafeIOToSTM (readTVarIO ..)@, so STM does
+-- not check at the commit what it saw.
+unsafeRead :: Order -> IO ()
+unsafeRead order = do
+  mine <- newVar "a0" 1
+  yours <- newVar "a1" 1
+  let leave place seen = when (sum seen == 2) $ writeVar place 0
+  script order [mine, yours] $ \p0 p1 -> transact p0 $ do
+    looks <- unsafeIO $ mapM readVarIO [mine, yours]
+    mapM_ note looks
+    unsafeIO $ onAnotherThread $ transact p1 $ mapM readVar [mine, yours] >>= leave yours
+    leave mine (map given looks)
+
+-- | A transaction counts itself by another that @unsafeIOToSTM@ runs inside it. STM does not take that back, so it is
+-- counted twice when STM runs it twice.
+nested :: Order -> IO ()
+nested order = do
+  account <- newVar "a0" 100
+  counter <- newVar "count" 0
+  inner <- newThreads order 1
+  first <- newIORef True
+  script order [account, counter] $ \p0 p1 -> transact p0 $ do
+    deposit account 5
+    (_, counted) <- unsafeIO $ onAnotherThread $ perform (head inner) $ deposit counter 1
+    mapM_ note counted
+    firstTime first $ transact p1 $ deposit account 10
+
+-- | Lets another thread commit inside the first attempt, which then can not commit.
+firstTime :: IORef Bool -> IO () -> Tx ()
+firstTime first action = unsafeIO $ readIORef first >>= \isFirst -> when isFirst $ do
+  writeIORef first False
+  onAnotherThread action
+
+given :: Call -> Int
+given (Read _ seen) = value seen
+given (Write _ new _) = new
+
+onAnotherThread :: IO a -> IO a
+onAnotherThread action = do
+  result <- newEmptyMVar
+  _ <- forkFinally action (putMVar result)
+  takeMVar result >>= either throwIO return
