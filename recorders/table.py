@@ -16,7 +16,11 @@ from typing import NamedTuple
 ROOT = pathlib.Path(__file__).resolve().parent.parent
 SECONDS = 300
 
-HOLDS, DIFFERS, NO_POZHIQAS, NO_COMPILER, NO_BUILD = 0, 1, 3, 4, 5
+HOLDS, DIFFERS, NO_POZHIQAS, NO_COMPILER, NO_BUILD, NO_RUN = 0, 1, 3, 4, 5, 6
+
+
+STATUSES = """Status 0: all rows hold. 1: some row does not. 2: wrong arguments. 3: no built program of this repository.
+4: a compiler or package is missing. 5: the recorder does not build. 6: its programs do not run to their end."""
 
 
 class Row(NamedTuple):
@@ -56,7 +60,7 @@ def build(command, folder):
 
 
 def certify(program, run):
-    """The first line that the program prints of a run."""
+    """The first line that `certify` prints of a run."""
     with run.open("rb") as lines:
         done = subprocess.run([program, "certify"], stdin=lines, capture_output=True, text=True, timeout=SECONDS, check=False)
     return done.stdout.partition("\n")[0] or f"nothing printed, status {done.returncode}"
@@ -82,17 +86,20 @@ def difference(row, program, run, counted):
     return None
 
 
-def check(row, program, command, folder, runs):
-    """Runs and certifies a row, and prints one line of it. Returns whether it is as it should be."""
-    run = runs / (row.arguments.replace(" ", "-") + ".jsonl")
-    with run.open("wb") as lines:
-        made = subprocess.run([*command, *row.arguments.split()], cwd=folder, stdout=lines, stderr=subprocess.PIPE, text=True,
-                              timeout=SECONDS, check=False)
-    counted = (made.stderr.splitlines() or ["nothing"])[-1]
-    if made.returncode != 0:
-        wrong = f"ended with status {made.returncode}: {counted}"
-    else:
-        wrong = difference(row, program, run, counted)
+def record(rows, command, folder, runs):
+    """Runs the program once for all rows, and returns what it printed of each."""
+    made = subprocess.run([*command, str(runs), *(row.arguments for row in rows)], cwd=folder, capture_output=True, text=True,
+                          timeout=SECONDS, check=False)
+    counted = made.stdout.splitlines()
+    if made.returncode != 0 or len(counted) != len(rows):
+        said = (made.stderr.splitlines() or ["nothing on standard error"])[0]
+        raise Stop(NO_RUN, f"{command[0]} ended with status {made.returncode} after {len(counted)} of {len(rows)} runs: {said}")
+    return counted
+
+
+def holds(row, program, runs, counted):
+    """Certifies the run of a row, and prints one line of it. Returns whether it is as it should be."""
+    wrong = difference(row, program, runs / (row.arguments.replace(" ", "-") + ".jsonl"), counted)
     print(f"DIFFERS  {row.arguments}: {wrong}" if wrong else f"ok       {row.arguments:24} {row.verdict:9} {counted}", flush=True)
     return wrong is None
 
@@ -100,17 +107,17 @@ def check(row, program, command, folder, runs):
 def rows_hold(rows, command, folder, keep):
     program = pozhiqas()
     with tempfile.TemporaryDirectory() as passing:
-        runs = pathlib.Path(keep or passing)
+        runs = pathlib.Path(keep or passing).resolve()
         runs.mkdir(parents=True, exist_ok=True)
-        held = sum(check(row, program, command, folder, runs) for row in rows)
+        counted = record(rows, command, folder, runs)
+        held = sum([holds(row, program, runs, of_row) for row, of_row in zip(rows, counted)])
     print(f"{held} of {len(rows)} rows hold")
     return held == len(rows)
 
 
 def main(about, rows, command, folder, prepare):
     """`prepare` builds what `command` runs in `folder`."""
-    parser = argparse.ArgumentParser(description=about, epilog="Status 0: all rows hold. 1: some row does not. 2: wrong arguments. "
-                                     "3: no built pozhiqas. 4: no compiler. 5: the recorder does not build.")
+    parser = argparse.ArgumentParser(description=about, epilog=STATUSES)
     parser.add_argument("--keep", metavar="FOLDER", help="keep the recorded runs here")
     keep = parser.parse_args().keep
     try:
@@ -122,4 +129,4 @@ def main(about, rows, command, folder, prepare):
         sys.exit(stop.status)
     except (OSError, subprocess.TimeoutExpired) as wrong:
         print(f"{pathlib.Path(sys.argv[0]).name}: {wrong}", file=sys.stderr)
-        sys.exit(DIFFERS)
+        sys.exit(NO_RUN)

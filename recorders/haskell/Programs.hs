@@ -1,45 +1,61 @@
 {-# LANGUAGE LambdaCase #-}
 
--- | Programs over recorded transactions. Each prints its run on standard output, and on standard error how many
--- transactions committed in how many attempts.
+-- | Programs over recorded transactions. @programs FOLDER RUN..@ runs one program for each RUN, and writes what it
+-- recorded to a file of its own in FOLDER. It prints how many transactions committed, and how many attempts these took.
 module Main (main) where
 
 import Control.Applicative (Alternative (..))
 import Control.Concurrent (forkFinally, newEmptyMVar, putMVar, takeMVar, yield)
 import Control.Exception (Exception, throwIO)
-import Control.Monad (forM_, replicateM_, unless, when)
+import Control.Monad (forM_, replicateM_, unless, when, zipWithM_)
 import Data.Bits (shiftL, shiftR, xor)
 import Data.IORef
 import Data.List (intercalate)
 import Recorded
 import System.Environment (getArgs)
 import System.Exit (exitWith, ExitCode (..))
-import System.IO (hPutStrLn, stderr)
+import System.IO (hPutStrLn, hSetBuffering, BufferMode (..), stderr, stdout)
 import Text.Read (readMaybe)
 
 main :: IO ()
 main = getArgs >>= \case
-  [program, by] | Just run <- lookup program scripts, Just order <- lookup by orders -> run order
-  [program, by, threads, each, seed]
-    | Just run <- lookup program loads, Just order <- lookup by orders
-    , Just load <- Load <$> readMaybe threads <*> readMaybe each <*> readMaybe seed -> run order load
+  folder : runs@(_ : _) | Just programs <- mapM (programOf . words) runs -> do
+    hSetBuffering stdout LineBuffering
+    zipWithM_ (save folder) runs programs
   _ -> hPutStrLn stderr usage >> exitWith (ExitFailure 2)
-  where
-    orders = [("ticket", ByTicket), ("versions", ByVersions)]
-    usage = "usage: programs PROGRAM ticket|versions, PROGRAM one of " ++ names scripts
-      ++ "; or programs PROGRAM ticket|versions THREADS TRANSACTIONS SEED, PROGRAM one of " ++ names loads
-    names :: [(String, a)] -> String
-    names = intercalate ", " . map fst
 
--- | Runs a program over some variables, lets a last transaction read them all, and prints the run.
-record :: Order -> Int -> [Var] -> ([Thread] -> IO ()) -> IO ()
+usage :: String
+usage = "usage: programs FOLDER RUN.., each RUN \"PROGRAM ORDER\" with PROGRAM one of " ++ names scripts
+  ++ "; or \"PROGRAM ORDER THREADS TRANSACTIONS SEED\" with PROGRAM one of " ++ names loads
+  ++ "; ORDER one of " ++ names orders
+  where names :: [(String, a)] -> String
+        names = intercalate ", " . map fst
+
+programOf :: [String] -> Maybe (IO Recording)
+programOf [program, order] = lookup program scripts <*> lookup order orders
+programOf [program, order, threads, each, seed] =
+  lookup program loads <*> lookup order orders <*> (Load <$> readMaybe threads <*> readMaybe each <*> readMaybe seed)
+programOf _ = Nothing
+
+orders :: [(String, Order)]
+orders = [("ticket", ByTicket), ("versions", ByVersions)]
+
+save :: FilePath -> String -> IO Recording -> IO ()
+save folder run program = do
+  recording <- program
+  writeFile (folder ++ "/" ++ map (\c -> if c == ' ' then '-' else c) run ++ ".jsonl") (unlines $ recordedLines recording)
+  putStrLn $ "committed " ++ show (committed recording) ++ " attempts " ++ show (attempted recording)
+
+data Recording = Recording { recordedLines :: [String], committed, attempted :: Int }
+
+-- | Runs a program over some variables, and lets a last transaction read them all.
+record :: Order -> Int -> [Var] -> ([Thread] -> IO ()) -> IO Recording
 record order count vars program = do
   threads <- newThreads order (count + 1)
   program (take count threads)
   transact (last threads) $ mapM_ readVar vars
-  runLines order vars threads >>= mapM_ putStrLn
-  (committed, attempted) <- counts threads
-  hPutStrLn stderr $ "committed " ++ show committed ++ " attempts " ++ show attempted
+  recorded <- runLines order vars threads
+  uncurry (Recording recorded) <$> counts threads
 
 newVars :: String -> [Int] -> IO [Var]
 newVars prefix starts = sequence [newVar (prefix ++ show i) start | (i, start) <- zip [0 :: Int ..] starts]
@@ -48,11 +64,11 @@ newVars prefix starts = sequence [newVar (prefix ++ show i) start | (i, start) <
 
 data Load = Load { threadCount, transactionsEach, seedOf :: Int }
 
-loads :: [(String, Order -> Load -> IO ())]
+loads :: [(String, Order -> Load -> IO Recording)]
 loads = [("bank", bank), ("slots", slots)]
 
 -- | Audits, and transfers that use 'empty', '<|>' and exceptions.
-bank :: Order -> Load -> IO ()
+bank :: Order -> Load -> IO Recording
 bank order load = do
   accounts <- newVars "a" (replicate 6 100)
   record order (threadCount load) accounts $ \threads -> inParallel
@@ -93,7 +109,7 @@ overdraw from to amount = pay `catchTx` \Overdrawn -> return ()
   where pay = deposit to amount >> (withdraw from amount <|> throwTx Overdrawn)
 
 -- | Half of the threads fill slots and wait while all are full. The others empty them and wait while all are empty.
-slots :: Order -> Load -> IO ()
+slots :: Order -> Load -> IO Recording
 slots order load = do
   vars <- newVars "s" [0, 0, 0]
   let half = threadCount load `div` 2
@@ -126,16 +142,16 @@ rolls seed i = map (`shiftR` 20) $ drop 8 $ iterate step (seed * 7919 + i * 1047
 -- * Programs that run step by step, so that each has one run
 
 -- | The first two are correct. In each of the others "p0" makes a mistake, and "p1" meets it.
-scripts :: [(String, Order -> IO ())]
+scripts :: [(String, Order -> IO Recording)]
 scripts =
   [ ("or-else", orElseSlots), ("part-again", partAgain)
   , ("split", split), ("early-read", earlyRead), ("unsafe-read", unsafeRead), ("nested", nested)
   ]
 
-script :: Order -> [Var] -> (Thread -> Thread -> IO ()) -> IO ()
+script :: Order -> [Var] -> (Thread -> Thread -> IO ()) -> IO Recording
 script order vars program = record order 2 vars $ \threads -> program (head threads) (last threads)
 
-orElseSlots :: Order -> IO ()
+orElseSlots :: Order -> IO Recording
 orElseSlots order = do
   vars <- newVars "s" [0, 7]
   script order vars $ \p0 p1 -> do
@@ -143,7 +159,7 @@ orElseSlots order = do
     transact p1 $ fill vars 8
 
 -- | STM runs the body of a @catchSTM@ again, and not the whole transaction, if another thread changed what it read.
-partAgain :: Order -> IO ()
+partAgain :: Order -> IO Recording
 partAgain order = do
   account <- newVar "a0" 100
   first <- newIORef True
@@ -151,7 +167,7 @@ partAgain order = do
     (deposit account 5 >> firstTime first (transact p1 $ deposit account 10)) `catchTx` \Overdrawn -> return ()
 
 -- | A transfer in two @atomically@ blocks, recorded as one transaction. An audit comes between the two.
-split :: Order -> IO ()
+split :: Order -> IO Recording
 split order = do
   from <- newVar "a0" 100
   to <- newVar "a1" 100
@@ -162,7 +178,7 @@ split order = do
     keep p0 drawn (half ++ rest)
 
 -- | A transaction adds to what @readTVarIO@ read before it.
-earlyRead :: Order -> IO ()
+earlyRead :: Order -> IO Recording
 earlyRead order = do
   account <- newVar "a0" 100
   script order [account] $ \p0 p1 -> do
@@ -172,7 +188,7 @@ earlyRead order = do
 
 -- | Two are on call, and each may leave if the other stays. "p0" looks by @unsafeIOToSTM (readTVarIO ..)@, so STM does
 -- not check at the commit what it saw.
-unsafeRead :: Order -> IO ()
+unsafeRead :: Order -> IO Recording
 unsafeRead order = do
   mine <- newVar "a0" 1
   yours <- newVar "a1" 1
@@ -185,7 +201,7 @@ unsafeRead order = do
 
 -- | A transaction counts itself by another that @unsafeIOToSTM@ runs inside it. STM does not take that back, so it is
 -- counted twice when STM runs it twice.
-nested :: Order -> IO ()
+nested :: Order -> IO Recording
 nested order = do
   account <- newVar "a0" 100
   counter <- newVar "count" 0
