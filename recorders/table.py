@@ -1,6 +1,6 @@
 """A table of programs whose recorded runs are certified, with the verdict that each must have.
 
-For the `run.py` of a folder beside this file, which says what to build and holds the rows.
+For the `run.py` of a folder beside this file, which holds the rows and says how to build and start the programs.
 """
 import argparse
 import json
@@ -16,117 +16,122 @@ from typing import NamedTuple
 ROOT = pathlib.Path(__file__).resolve().parent.parent
 SECONDS = 300
 
-HOLDS, DIFFERS, NO_POZHIQAS, NO_COMPILER, NO_BUILD, NO_RUN = 0, 1, 3, 4, 5, 6
-
-
-STATUSES = """Status 0: all rows hold. 1: some row does not. 2: wrong arguments. 3: no built program of this repository.
-4: a compiler or package is missing. 5: the recorder does not build. 6: its programs do not run to their end."""
+STATUSES = """The checker is the program that POZHIQAS names, or crates/pp_cli/out/pp_cli. Each row is one line, with the first line that the
+checker printed. Status 0: every row is as it should be. 1: some row is not. 2: wrong arguments. 3: no checker. 4: no compiler. 5: something
+does not compile. 7: a file or a folder cannot be written. 8: a recorded program does not run to its end."""
+NO_CHECKER, NO_COMPILER, NO_BUILD, NO_FILE, NO_END = 3, 4, 5, 7, 8
 
 
 class Row(NamedTuple):
-    arguments: str
-    verdict: str  # "accepted", or rule and criterion as in "PUSH 5"
-    example: str = ""  # the file of examples/ that holds this very run
+    run: str  # the program and its arguments
+    verdict: str  # "accepted", or the rule and the criterion, as in "PUSH 5"
+    example: str = ""  # the file of examples/ that is this very run
+    has_views: bool = False  # whether `views` must find a state that explains each attempt
+
+    def file_in(self, folder):
+        return folder / (self.run.replace(" ", "-") + ".jsonl")
 
 
-class Stop(Exception):
-    """Why no row can be run: one line, and the status to end with."""
+class Missing(Exception):
+    """Why no row can be checked, and the status that says so."""
 
     def __init__(self, status, line):
         super().__init__(line)
         self.status = status
 
 
-def pozhiqas():
-    """The built program: the file that POZHIQAS names, or the one that was built in this repository."""
-    named = os.environ.get("POZHIQAS")
-    places = [pathlib.Path(named).resolve()] if named else [ROOT / "crates/pp_cli/out/pp_cli", ROOT / "pp_cli"]
-    for place in places:
-        if place.is_file():
-            return place
-    raise Stop(NO_POZHIQAS, f"no program {places[0]}: build it as README.md says, or name one by POZHIQAS")
+def checker():
+    path = pathlib.Path(os.environ.get("POZHIQAS") or ROOT / "crates/pp_cli/out/pp_cli").resolve()
+    if not (path.is_file() and os.access(path, os.X_OK)):
+        raise Missing(NO_CHECKER, f"no program at {path}: build it as README.md says, or name it by POZHIQAS")
+    return path
 
 
-def need(command, packages):
+def need(command, package):
     if shutil.which(command) is None:
-        raise Stop(NO_COMPILER, f"no command {command}: apt-get install {packages}")
+        raise Missing(NO_COMPILER, f"no command {command}: install it (Debian: apt-get install {package})")
 
 
 def build(command, folder):
     built = subprocess.run(command, cwd=folder, capture_output=True, text=True, check=False)
     if built.returncode != 0:
-        wrong = [line for line in (built.stderr + built.stdout).splitlines() if "error" in line]
-        raise Stop(NO_BUILD, f"{folder.name} does not build: {(wrong or ['no error is named'])[0]}")
-
-
-def certify(program, run):
-    """The first line that `certify` prints of a run."""
-    with run.open("rb") as lines:
-        done = subprocess.run([program, "certify"], stdin=lines, capture_output=True, text=True, timeout=SECONDS, check=False)
-    return done.stdout.partition("\n")[0] or f"nothing printed, status {done.returncode}"
-
-
-def start_count(run):
-    """A start counts as one committed transaction."""
-    with run.open() as lines:
-        return 1 if json.loads(next(lines)).get("start") else 0
-
-
-def difference(row, program, run, counted):
-    """What is not as the row says, or nothing. `counted` is what the recorded program printed of its own commits."""
-    first = certify(program, run)
-    if row.verdict == "accepted":
-        committed = int(re.search(r"committed (\d+)", counted)[1]) + start_count(run)
-        if not re.fullmatch(rf"accepted steps \d+ committed {committed}", first):
-            return f"wanted accepted with committed {committed}, but certify prints: {first}"
-    elif not re.fullmatch(rf"rejected step \d+ line \d+ {row.verdict}", first):
-        return f"wanted {row.verdict}, but certify prints: {first}"
-    if row.example and run.read_bytes() != (ROOT / "examples" / row.example).read_bytes():
-        return f"the run is not that of examples/{row.example}"
-    return None
+        errors = [line for line in (built.stderr + built.stdout).splitlines() if "error" in line]
+        raise Missing(NO_BUILD, f"{folder.name} does not compile: {(errors or ['the compiler names no error'])[0]}")
 
 
 def record(rows, command, folder, runs):
-    """Runs the program once for all rows, and returns what it printed of each."""
-    made = subprocess.run([*command, str(runs), *(row.arguments for row in rows)], cwd=folder, capture_output=True, text=True,
+    """Starts the program once for all rows. It returns what the program printed of each."""
+    made = subprocess.run([*command, str(runs), *(row.run for row in rows)], cwd=folder, capture_output=True, text=True,
                           timeout=SECONDS, check=False)
     counted = made.stdout.splitlines()
     if made.returncode != 0 or len(counted) != len(rows):
-        said = (made.stderr.splitlines() or ["nothing on standard error"])[0]
-        raise Stop(NO_RUN, f"{command[0]} ended with status {made.returncode} after {len(counted)} of {len(rows)} runs: {said}")
+        said = (made.stderr.splitlines() or ["it prints nothing"])[0]
+        raise Missing(NO_END, f"{command[0]} ends with {made.returncode} after {len(counted)} of {len(rows)} runs: {said}")
     return counted
 
 
-def holds(row, program, runs, counted):
-    """Certifies the run of a row, and prints one line of it. Returns whether it is as it should be."""
-    wrong = difference(row, program, runs / (row.arguments.replace(" ", "-") + ".jsonl"), counted)
-    print(f"DIFFERS  {row.arguments}: {wrong}" if wrong else f"ok       {row.arguments:24} {row.verdict:9} {counted}", flush=True)
-    return wrong is None
+def ask(program, command, run):
+    with run.open("rb") as lines:
+        asked = subprocess.run([program, command], stdin=lines, capture_output=True, text=True, timeout=SECONDS, check=False)
+    return asked.stdout.splitlines() or ["nothing printed"]
 
 
-def rows_hold(rows, command, folder, keep):
-    program = pozhiqas()
-    with tempfile.TemporaryDirectory() as passing:
-        runs = pathlib.Path(keep or passing).resolve()
-        runs.mkdir(parents=True, exist_ok=True)
-        counted = record(rows, command, folder, runs)
-        held = sum([holds(row, program, runs, of_row) for row, of_row in zip(rows, counted)])
-    print(f"{held} of {len(rows)} rows hold")
-    return held == len(rows)
+def count_in_report(run, counted):
+    """The commits that the report must have: those that the recorded program counted, and a start."""
+    with run.open() as lines:
+        start = json.loads(next(lines)).get("start")
+    return int(re.search(r"committed (\d+)", counted)[1]) + (1 if start else 0)
+
+
+def wrong(row, program, run, counted, said):
+    """What is not as the row says, or nothing. `counted` is what the recorded program printed of itself."""
+    if row.verdict == "accepted":
+        expected = rf"accepted steps \d+ committed {count_in_report(run, counted)}"
+    else:
+        expected = rf"rejected step \d+ line \d+ {row.verdict}"
+    if not re.fullmatch(expected, said):
+        return f"not {row.verdict} with the commits that were counted"
+    if row.has_views and any(line.endswith(" after none") for line in ask(program, "views", run)):
+        return "views finds no state that explains some attempt"
+    if row.example and run.read_bytes() != (ROOT / "examples" / row.example).read_bytes():
+        return f"not the run of examples/{row.example}"
+    return None
+
+
+def show(row, program, runs, counted):
+    """Prints the line of a row, and returns whether it is as it should be."""
+    run = row.file_in(runs)
+    said = ask(program, "certify", run)[0]
+    found = wrong(row, program, run, counted, said)
+    line = f"{row.run:24} {counted:30} {said}"
+    print(f"FAIL {line}: {found}" if found else f"ok   {line}", flush=True)
+    return not found
+
+
+def check(rows, command, folder, runs):
+    program = checker()
+    runs.mkdir(parents=True, exist_ok=True)
+    counted = record(rows, command, folder, runs)
+    return all([show(row, program, runs, of_row) for row, of_row in zip(rows, counted)])
 
 
 def main(about, rows, command, folder, prepare):
-    """`prepare` builds what `command` runs in `folder`."""
+    """Checks the rows of a folder, whose programs `prepare` builds and `command` starts."""
     parser = argparse.ArgumentParser(description=about, epilog=STATUSES)
-    parser.add_argument("--keep", metavar="FOLDER", help="keep the recorded runs here")
+    parser.add_argument("--keep", metavar="FOLDER", type=pathlib.Path, help="leave the recorded runs in this folder")
     keep = parser.parse_args().keep
+    name = f"{folder.name}/run.py"
     try:
-        pozhiqas()
+        checker()
         prepare()
-        sys.exit(HOLDS if rows_hold(rows, command, folder, keep) else DIFFERS)
-    except Stop as stop:
-        print(f"{pathlib.Path(sys.argv[0]).name}: {stop}", file=sys.stderr)
-        sys.exit(stop.status)
-    except (OSError, subprocess.TimeoutExpired) as wrong:
-        print(f"{pathlib.Path(sys.argv[0]).name}: {wrong}", file=sys.stderr)
-        sys.exit(NO_RUN)
+        with tempfile.TemporaryDirectory() as passing:
+            return 0 if check(rows, command, folder, (keep or pathlib.Path(passing)).resolve()) else 1
+    except Missing as missing:
+        print(f"{name}: {missing}", file=sys.stderr)
+        return missing.status
+    except subprocess.TimeoutExpired as late:
+        print(f"{name}: {pathlib.Path(late.cmd[0]).name} was stopped after {SECONDS} s", file=sys.stderr)
+        return NO_END
+    except OSError as error:
+        print(f"{name}: {error.filename}: {error.strerror}", file=sys.stderr)
+        return NO_FILE

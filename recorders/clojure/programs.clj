@@ -79,6 +79,7 @@
                          (transact thread
                                    (let [others (mapv r/ensure (remove #{mine} places))
                                          here (pos? (r/deref mine))]
+                                     (Thread/yield)
                                      (cond
                                        (not here) (r/ref-set mine value)
                                        (some pos? others) (r/ref-set mine (- value)))))))

@@ -195,9 +195,9 @@
   "The run as lines of text. Lines of one place stay in the order of the threads."
   [objects threads]
   (let [start (map start-call (remove #(zero? (:start %)) objects))
-        header {:run 2, :style "optimistic"
-                :objects (for [{:keys [on kind]} objects] {:name on, :kind kind})
-                :start {:tx "t0", :ops (number-calls 0 start)}}
+        header (cond-> {:run 2, :style "optimistic"
+                        :objects (for [{:keys [on kind]} objects] {:name on, :kind kind})}
+                 (seq start) (assoc :start {:tx "t0", :ops (number-calls 0 start)}))
         lines (map :line (sort-by :place (mapcat placed-lines threads)))]
     (map json (cons header (number-calls (count start) lines)))))
 

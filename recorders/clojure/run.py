@@ -14,17 +14,17 @@ from table import Row  # noqa: E402
 
 # Program and order; of a program with many threads also their number, the transactions of each, and a seed.
 ROWS = [
-    Row("bank clock 2 60 1", "accepted"),
-    Row("bank clock 4 40 2", "accepted"),
-    Row("bank clock 8 20 3", "accepted"),
+    Row("bank clock 2 60 1", "accepted", has_views=True),
+    Row("bank clock 4 40 2", "accepted", has_views=True),
+    Row("bank clock 8 20 3", "accepted", has_views=True),
     Row("bank ticket 4 40 2", "accepted"),
-    Row("tally clock 2 60 1", "accepted"),
-    Row("tally clock 4 50 2", "accepted"),
-    Row("tally clock 8 30 3", "accepted"),
+    Row("tally clock 2 60 1", "accepted", has_views=True),
+    Row("tally clock 4 50 2", "accepted", has_views=True),
+    Row("tally clock 8 30 3", "accepted", has_views=True),
     Row("tally ticket 4 50 2", "accepted"),
-    Row("on-call clock 2 30 1", "accepted"),
-    Row("on-call clock 3 20 2", "accepted"),
-    Row("on-call clock 4 10 3", "accepted"),
+    Row("on-call clock 2 30 1", "accepted", has_views=True),
+    Row("on-call clock 3 20 2", "accepted", has_views=True),
+    Row("on-call clock 4 10 3", "accepted", has_views=True),
     Row("adds clock", "accepted", "clojure_adds.jsonl"),
     Row("skew clock", "PUSH 5", "rejected_clojure_skew.jsonl"),
     Row("skew snapshot", "APP 4"),
@@ -40,5 +40,9 @@ ROWS = [
 ]
 
 
+def prepare():
+    table.need("clojure", "clojure")
+
+
 if __name__ == "__main__":
-    table.main(__doc__.splitlines()[0], ROWS, ["clojure", "-cp", ".", "-m", "programs"], FOLDER, lambda: table.need("clojure", "clojure"))
+    sys.exit(table.main(__doc__.splitlines()[0], ROWS, ["clojure", "-cp", ".", "-m", "programs"], FOLDER, prepare))

@@ -204,12 +204,12 @@ byVersions run = concatMap flattenSCC $ stronglyConnComp [(one, name one, before
     previous Start = []
 
 header :: [Var] -> [Var] -> String
-header vars started = object
+header vars started = object $
   [ ("run", "2"), ("style", show "optimistic")
   , ("objects", array [object [("name", show (varName var)), ("kind", show "mem")] | var <- vars])
-  , ("start", object [("tx", show (show Start)), ("ops", array (zipWith write [0 ..] started))])
-  ]
-  where write i var = object $ callMembers i (Write (varName var) (initial var) Start)
+  ] ++ [("start", object [("tx", show (show Start)), ("ops", array ops)]) | not (null ops)]
+  where ops = zipWith write [0 ..] started
+        write i var = object $ callMembers i (Write (varName var) (initial var) Start)
 
 transactionLines :: Int -> Committed -> [String]
 transactionLines firstId (Committed tx@(Name thread _) _ done) =

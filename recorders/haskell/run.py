@@ -46,4 +46,4 @@ def build():
 
 
 if __name__ == "__main__":
-    table.main(__doc__.splitlines()[0], ROWS, ["out/programs"], FOLDER, build)
+    sys.exit(table.main(__doc__.splitlines()[0], ROWS, ["out/programs"], FOLDER, build))
