@@ -133,5 +133,5 @@ def main(about, rows, command, folder, prepare):
         print(f"{name}: {pathlib.Path(late.cmd[0]).name} was stopped after {SECONDS} s", file=sys.stderr)
         return NO_END
     except OSError as error:
-        print(f"{name}: {error.filename}: {error.strerror}", file=sys.stderr)
+        print(f"{name}: {error.filename or 'the output'}: {error.strerror}", file=sys.stderr)
         return NO_FILE

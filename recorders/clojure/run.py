@@ -33,6 +33,7 @@ ROWS = [
     Row("stale snapshot", "accepted", "clojure_stale.jsonl"),
     Row("stale ticket", "accepted"),
     Row("numbers clock", "PUSH 5", "rejected_clojure_numbers.jsonl"),
+    Row("numbers ticket", "accepted"),
     Row("peeks clock", "APP 4"),
     Row("doubles clock", "APP 4"),
     Row("early-read clock", "APP 4"),
