@@ -7,7 +7,8 @@
   `commute` again at the commit, under the lock of the ref, so the last number that it returns is that of the commit."
   (:refer-clojure :exclude [alter commute deref ensure ref-set])
   (:require [clojure.core :as core]
-            [clojure.string :as string]))
+            [clojure.string :as string])
+  (:import (clojure.lang LockingTransaction)))
 
 ;; ## Objects
 
@@ -78,7 +79,7 @@
   (note! object "write" [0 value] nil)
   value)
 
-(defn- found-and-made
+(defn- change-ref
   "Runs `change`, which is `alter` or `commute`, and returns the value that it found and the value that it made."
   [change object f args]
   (let [found (volatile! nil)
@@ -89,7 +90,7 @@
     [@found made]))
 
 (defn alter [{:keys [kind] :as object} f & args]
-  (let [[found made] (found-and-made core/alter object f args)]
+  (let [[found made] (change-ref core/alter object f args)]
     (if (= kind "mem")
       (do (note! object "read" [0] found)
           (note! object "write" [0 made] nil))
@@ -99,14 +100,14 @@
 (defn commute
   "Records what was added. It returns nothing, since `add` has no result: see `fetch-commute`."
   [object f & args]
-  (let [[found made] (found-and-made core/commute object f args)]
+  (let [[found made] (change-ref core/commute object f args)]
     (note! object "add" [(- made found)] nil)
     nil))
 
 (defn fetch-commute
   "A `commute` whose value the transaction uses: a `fetch_add`, which says what was found."
   [object f & args]
-  (let [[found made] (found-and-made core/commute object f args)]
+  (let [[found made] (change-ref core/commute object f args)]
     (note! object "fetch_add" [(- made found)] found)
     made))
 
@@ -120,11 +121,12 @@
   [order number]
   ;; Each commit replaces the clock's value, and an attempt needs the one of its snapshot, so old ones are kept.
   (let [clock (ref 0 :min-history 16 :max-history 4096)]
-    (mapv #(hash-map :order order, :clock clock, :index %, :ended (atom [])) (range number))))
+    (mapv (fn [index] {:order order, :clock clock, :index index, :transactions (atom [])})
+          (range number))))
 
-(defn transact* [{:keys [order clock ended]} body]
+(defn- run-and-keep [{:keys [order clock transactions]} body]
   (let [transaction (volatile! {:order order, :clock clock, :attempts []})
-        end! (fn [end] (swap! ended conj {:attempts (:attempts @transaction), :end end}))]
+        end! (fn [end] (swap! transactions conj {:attempts (:attempts @transaction), :end end}))]
     (binding [*transaction* transaction]
       (try
         (let [result (dosync
@@ -138,8 +140,13 @@
           (end! "abort")
           (throw thrown))))))
 
+(defn transact* [thread body]
+  (if (LockingTransaction/isRunning)
+    (body)
+    (run-and-keep thread body)))
+
 (defmacro transact
-  "A recorded `dosync`. If an exception leaves it, it is recorded with an `abort`."
+  "A recorded `dosync`. If an exception leaves it, it is recorded with an `abort`. One inside another belongs to it."
   [thread & body]
   `(transact* ~thread (fn [] ~@body)))
 
@@ -165,11 +172,11 @@
     (cons (placed (first attempts) {:step "begin", :tx tx, :thread (str "p" index)})
           (mapcat lines attempts ends))))
 
-(defn- placed-lines [{:keys [order ended] :as thread}]
+(defn- thread-lines [{:keys [order transactions] :as thread}]
   (let [shown (if (= order :ticket)
-                (for [{:keys [end] :as transaction} (core/deref ended) :when (= end "commit")]
+                (for [{:keys [end] :as transaction} (core/deref transactions) :when (= end "commit")]
                   (update transaction :attempts #(vector (peek %))))
-                (core/deref ended))]
+                (core/deref transactions))]
     (mapcat #(transaction-lines thread %1 %2) (range) shown)))
 
 (defn- number-calls
@@ -198,12 +205,12 @@
         header (cond-> {:run 2, :style "optimistic"
                         :objects (for [{:keys [on kind]} objects] {:name on, :kind kind})}
                  (seq start) (assoc :start {:tx "t0", :ops (number-calls 0 start)}))
-        lines (map :line (sort-by :place (mapcat placed-lines threads)))]
+        lines (map :line (sort-by :place (mapcat thread-lines threads)))]
     (map json (cons header (number-calls (count start) lines)))))
 
 (defn counts
   "How many transactions committed, and how many attempts all of them took."
   [threads]
-  (let [transactions (mapcat #(core/deref (:ended %)) threads)]
+  (let [transactions (mapcat #(core/deref (:transactions %)) threads)]
     {:committed (count (filter #(= "commit" (:end %)) transactions))
      :attempts (reduce + (map #(count (:attempts %)) transactions))}))

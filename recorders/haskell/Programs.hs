@@ -184,7 +184,7 @@ earlyRead order = do
   script order [account] $ \p0 p1 -> do
     early <- readVarIO account
     transact p1 $ deposit account 10
-    transact p0 $ note early >> writeVar account (given early + 5)
+    transact p0 $ note early >> writeVar account (valueOf early + 5)
 
 -- | Two are on call, and each may leave if the other stays. "p0" looks by @unsafeIOToSTM (readTVarIO ..)@, so STM does
 -- not check at the commit what it saw.
@@ -197,7 +197,7 @@ unsafeRead order = do
     looks <- unsafeIO $ mapM readVarIO [mine, yours]
     mapM_ note looks
     unsafeIO $ onAnotherThread $ transact p1 $ mapM readVar [mine, yours] >>= leave yours
-    leave mine (map given looks)
+    leave mine (map valueOf looks)
 
 -- | A transaction counts itself by another that @unsafeIOToSTM@ runs inside it. STM does not take that back, so it is
 -- counted twice when STM runs it twice.
@@ -219,9 +219,9 @@ firstTime first action = unsafeIO $ readIORef first >>= \isFirst -> when isFirst
   writeIORef first False
   onAnotherThread action
 
-given :: Call -> Int
-given (Read _ seen) = value seen
-given (Write _ new _) = new
+valueOf :: Call -> Int
+valueOf (Read _ seen) = value seen
+valueOf (Write _ new _) = new
 
 onAnotherThread :: IO a -> IO a
 onAnotherThread action = do

@@ -43,10 +43,10 @@ data Stamped = Stamped { value :: !Int, writer :: !Name }
 data Var = Var { varName :: !String, initial :: !Int, cell :: !(TVar Stamped) }
 
 newVar :: String -> Int -> IO Var
-newVar called start = Var called start <$> newTVarIO (Stamped start Start)
+newVar object start = Var object start <$> newTVarIO (Stamped start Start)
 
 data Call
-  = Read !String !Stamped     -- ^ of a variable: what it gave
+  = Read !String !Stamped     -- ^ of a variable: what it returned
   | Write !String !Int !Name  -- ^ to a variable: the new value, and who wrote the old one
 
 callOn :: Call -> String
@@ -55,7 +55,7 @@ callOn (Write on _ _) = on
 
 -- * Transactions
 
-data Context = Context { self :: !Name, made :: !(IORef [Call]) }  -- the last call first
+data Context = Context { self :: !Name, callList :: !(IORef [Call]) }  -- the last call first
 
 -- | A recorded transaction. 'empty' is @retry@, and '<|>' is @orElse@.
 newtype Tx a = Tx { within :: ReaderT Context STM a }
@@ -75,22 +75,21 @@ catchTx body = replaceable body catchSTM
 -- of the transaction (GHC 9.0 does so with the body of a @catchSTM@), so each begins with the list that it found at first.
 replaceable :: Tx a -> (STM a -> (e -> STM a) -> STM a) -> (e -> Tx a) -> Tx a
 replaceable part join instead = Tx $ ReaderT $ \context -> do
-  before <- unsafeIOToSTM $ readIORef (made context)
-  left <- unsafeIOToSTM $ newIORef Nothing
-  let with list = writeIORef (made context) list
-      begin = writeIORef left Nothing >> with before
+  before <- unsafeIOToSTM $ readIORef (callList context)
+  remains <- unsafeIOToSTM $ newIORef Nothing  -- the list without the part's writes, once the part was taken back
+  let begin = writeIORef remains Nothing >> writeIORef (callList context) before
       replace = do
-        found <- readIORef left >>= maybe (takenBack before <$> readIORef (made context)) return
-        writeIORef left (Just found) >> with found
-      after prepare tx = unsafeIOToSTM prepare >> runReaderT (within tx) context
-  after begin part `join` (after replace . instead)
+        list <- readIORef remains >>= maybe (removeWrites before <$> readIORef (callList context)) return
+        writeIORef remains (Just list) >> writeIORef (callList context) list
+      prepared action tx = unsafeIOToSTM action >> runReaderT (within tx) context
+  prepared begin part `join` (prepared replace . instead)
 
 -- | The list without the writes that came after @before@, its tail.
-takenBack :: [Call] -> [Call] -> [Call]
-takenBack before list = reverse (readsOfOthers (reverse part)) ++ before
+removeWrites :: [Call] -> [Call] -> [Call]
+removeWrites before list = reverse (readsOfOthers (reverse part)) ++ before
   where part = take (length list - length before) list
 
--- | What a part that was taken back has read, but for values that it wrote itself.
+-- | The reads of a part, but for those of values that it wrote itself.
 readsOfOthers :: [Call] -> [Call]
 readsOfOthers [] = []
 readsOfOthers (call@Read {} : later) = call : readsOfOthers later
@@ -117,7 +116,7 @@ stm = Tx . lift
 note :: Call -> Tx ()
 note call = do
   context <- Tx ask
-  unsafeIO $ modifyIORef' (made context) (call :)
+  unsafeIO $ modifyIORef' (callList context) (call :)
 
 unsafeIO :: IO a -> Tx a
 unsafeIO = stm . unsafeIOToSTM
@@ -138,9 +137,9 @@ data Committed = Committed { name :: !Name, number :: !Int, callsOf :: [Call] }
 data Thread = Thread
   { index :: !Int
   , ticket :: !(Maybe (TVar Int))
-  , begun :: !(IORef Int)
+  , nextCount :: !(IORef Int)
   , attempts :: !(IORef Int)
-  , kept :: !(IORef [Committed])
+  , transactions :: !(IORef [Committed])  -- the last first
   }
 
 newThreads :: Order -> Int -> IO [Thread]
@@ -159,7 +158,7 @@ transact thread body = do
 -- | Runs one @atomically@ block under the thread's next name, and returns the calls of the attempt that committed.
 perform :: Thread -> Tx a -> IO (a, [Call])
 perform thread body = do
-  count <- readIORef (begun thread)
+  count <- readIORef (nextCount thread)
   list <- newIORef []
   let beginAnew = writeIORef list [] >> modifyIORef' (attempts thread) (+ 1)
   result <- atomically $ runReaderT (within $ unsafeIO beginAnew >> body) (Context (Name (index thread) count) list)
@@ -171,21 +170,21 @@ drawTicket = maybe (return 0) (\next -> stm $ stateTVar next (\n -> (n, n + 1)))
 
 keep :: Thread -> Int -> [Call] -> IO ()
 keep thread drawn done = do
-  count <- readIORef (begun thread)
-  writeIORef (begun thread) (count + 1)
-  modifyIORef' (kept thread) (Committed (Name (index thread) count) drawn done :)
+  count <- readIORef (nextCount thread)
+  writeIORef (nextCount thread) (count + 1)
+  modifyIORef' (transactions thread) (Committed (Name (index thread) count) drawn done :)
 
 -- * The run
 
 -- | How many transactions committed, and how many attempts these took.
 counts :: [Thread] -> IO (Int, Int)
-counts threads = (,) <$> total begun <*> total attempts
+counts threads = (,) <$> total nextCount <*> total attempts
   where total part = sum <$> mapM (readIORef . part) threads
 
 -- | The run as lines: a header, and then the transactions in an order in which they can have run one after another.
 runLines :: Order -> [Var] -> [Thread] -> IO [String]
 runLines order vars threads = do
-  everything <- mapM (fmap reverse . readIORef . kept) threads
+  everything <- mapM (fmap reverse . readIORef . transactions) threads
   let ordered = if order == ByTicket then sortOn number else byVersions
       started = [var | var <- vars, initial var /= 0]
       transaction nextId one = (nextId + length (callsOf one), transactionLines nextId one)
@@ -204,28 +203,28 @@ byVersions run = concatMap flattenSCC $ stronglyConnComp [(one, name one, before
     previous Start = []
 
 header :: [Var] -> [Var] -> String
-header vars started = object $
+header vars started = jsonObject $
   [ ("run", "2"), ("style", show "optimistic")
-  , ("objects", array [object [("name", show (varName var)), ("kind", show "mem")] | var <- vars])
-  ] ++ [("start", object [("tx", show (show Start)), ("ops", array ops)]) | not (null ops)]
+  , ("objects", jsonArray [jsonObject [("name", show (varName var)), ("kind", show "mem")] | var <- vars])
+  ] ++ [("start", jsonObject [("tx", show (show Start)), ("ops", jsonArray ops)]) | not (null ops)]
   where ops = zipWith write [0 ..] started
-        write i var = object $ callMembers i (Write (varName var) (initial var) Start)
+        write i var = jsonObject $ callMembers i (Write (varName var) (initial var) Start)
 
 transactionLines :: Int -> Committed -> [String]
 transactionLines firstId (Committed tx@(Name thread _) _ done) =
   line "begin" [("thread", show ("p" ++ show thread))]
     : zipWith (\i call -> line "op" (callMembers i call)) [firstId ..] done ++ [line "commit" []]
-  where line step members = object $ [("step", show step), ("tx", show (show tx))] ++ members
+  where line step members = jsonObject $ [("step", show step), ("tx", show (show tx))] ++ members
 transactionLines _ (Committed Start _ _) = []
 
 callMembers :: Int -> Call -> [(String, String)]
 callMembers i call = [("id", show i), ("on", show (callOn call)), ("call", show word), ("args", args), ("result", result)]
   where (word, args, result) = case call of
-          Read _ seen -> ("read", array ["0"], show (value seen))
-          Write _ new _ -> ("write", array ["0", show new], "null")
+          Read _ seen -> ("read", jsonArray ["0"], show (value seen))
+          Write _ new _ -> ("write", jsonArray ["0", show new], "null")
 
-object :: [(String, String)] -> String
-object members = "{" ++ intercalate "," [show key ++ ":" ++ item | (key, item) <- members] ++ "}"
+jsonObject :: [(String, String)] -> String
+jsonObject members = "{" ++ intercalate "," [show key ++ ":" ++ item | (key, item) <- members] ++ "}"
 
-array :: [String] -> String
-array items = "[" ++ intercalate "," items ++ "]"
+jsonArray :: [String] -> String
+jsonArray items = "[" ++ intercalate "," items ++ "]"
