@@ -11,6 +11,7 @@ import Control.Monad (forM_, replicateM_, unless, when, zipWithM_)
 import Data.Bits (shiftL, shiftR, xor)
 import Data.IORef
 import Data.List (intercalate)
+import Data.Word (Word64)
 import Recorded
 import System.Environment (getArgs)
 import System.Exit (exitWith, ExitCode (..))
@@ -135,9 +136,10 @@ inParallel actions = do
 
 -- | Random numbers of a thread (xorshift).
 rolls :: Int -> Int -> [Int]
-rolls seed i = map (`shiftR` 20) $ drop 8 $ iterate step (seed * 7919 + i * 104729 + 1)
-  where step = shifted 17 . (\x -> x `xor` (x `shiftR` 7 `mod` (1 `shiftL` 57))) . shifted 13
-        shifted n x = x `xor` (x `shiftL` n)
+rolls seed i = map (fromIntegral . (`shiftR` 20)) $ drop 8 $ iterate step $ fromIntegral (seed * 7919 + i * 104729 + 1)
+  where step :: Word64 -> Word64
+        step = mix (`shiftL` 17) . mix (`shiftR` 7) . mix (`shiftL` 13)
+        mix shifted x = x `xor` shifted x
 
 -- * Programs that run step by step, so that each has one run
 
