@@ -2,7 +2,7 @@
 
     program = find_program()
     answer = ask(program, ["certify"], run_bytes)
-    answer.status, answer.lines          # as the program gave them
+    answer.status, answer.text           # as the program gave them
     report = read_report(answer)
     report.verdict, report.step, report.line, report.rule, report.criterion, report.evidence
 
@@ -46,10 +46,12 @@ HOLDS = re.compile(r"holds operations (?P<operations>\d+) swaps (?P<swaps>\d+) s
 REFUSED = re.compile(r"refused line (?P<line>\d+) (?P<reason>.+)")
 TOO_LARGE = re.compile(r"toolarge (?P<what>\w+) (?P<number>\d+)")
 DRILL = re.compile(r"drill (?P<number>\d+)")
-FIRST_LINES = (
+VERDICT_LINES = (
     ("accepted", ACCEPTED), ("accepted", QUICK_ACCEPTED), ("rejected", REJECTED), ("rejected", QUICK_REJECTED),
     ("fault", FAULT), ("holds", HOLDS), ("refused", REFUSED), ("toolarge", TOO_LARGE),
 )
+# The status that the program ends with, by its verdict.
+STATUSES = {"accepted": (0,), "rejected": (1,), "fault": (3,), "holds": (0,), "refused": (1,), "toolarge": (7,)}
 ENTRY = re.compile(r"entry (?P<entry>\d+)(?: gives (?P<gives>\S+))?")
 OPERATION = re.compile(rf"(?P<on>{NAME.pattern})\.(?P<call>\w+)\((?P<args>[-\d,]*)\)=(?P<result>[-\w]+)")
 NAMED_RESULTS = {"none": None, "true": True, "false": False}
@@ -75,8 +77,8 @@ class Answer:
         self.status = status
 
     @property
-    def lines(self):
-        return self.output.decode("utf-8", "replace").splitlines()
+    def text(self):
+        return self.output.decode("utf-8", "replace")
 
 
 class Evidence:
@@ -98,18 +100,20 @@ class Evidence:
 
 
 class Report:
-    """An answer, line by line, and the fields of its first line.
+    """An answer, line by line, and the fields of its verdict line.
 
-    `verdict` is accepted, rejected, fault, holds, refused, toolarge, or None if the first line is none of these.
-    `line`, `step`, `rule`, `criterion` and `cause` are None if the first line does not have them.
-    `fields` has all fields of the first line, numbers as int.
+    `verdict_line` is the first line, or after `drill N` the second.
+    `verdict` is accepted, rejected, fault, holds, refused, toolarge, or None if that line is none of these.
+    `line`, `step`, `rule`, `criterion` and `cause` are None if that line does not have them.
+    `fields` has all fields of that line, numbers as int.
     """
 
     def __init__(self, answer):
         self.answer = answer
-        self.lines = answer.lines
-        self.first_line = self.lines[0] if self.lines else ""
-        self.verdict, self.fields = first_line_fields(self.first_line)
+        self.lines = answer.text.splitlines()
+        place = 1 if self.lines and DRILL.fullmatch(self.lines[0]) else 0
+        self.verdict_line = self.lines[place] if place < len(self.lines) else ""
+        self.verdict, self.fields = verdict_fields(self.verdict_line)
         self.step, self.line = self.fields.get("step"), self.fields.get("line")
         self.rule, self.criterion = self.fields.get("rule"), self.fields.get("criterion")
         self.cause = self.fields.get("cause")
@@ -130,9 +134,9 @@ class Report:
         return [line for line in self.lines[1:] if line.startswith(word + " ")]
 
 
-def first_line_fields(line):
-    """The verdict that a first line has, and its fields."""
-    for verdict, pattern in FIRST_LINES:
+def verdict_fields(line):
+    """The verdict of a line, and its fields."""
+    for verdict, pattern in VERDICT_LINES:
         match = pattern.fullmatch(line)
         if match:
             given = match.groupdict()
@@ -141,7 +145,16 @@ def first_line_fields(line):
 
 
 def read_report(answer):
-    return Report(answer)
+    """The report in an answer. Raises ProgramFailed if its status is not that of its verdict: another program ran."""
+    report = Report(answer)
+    if answer.status not in (STATUSES[report.verdict] if report.verdict else statuses_of_lines(report)):
+        raise ProgramFailed("what was run printed no verdict: it is not the program")
+    return report
+
+
+def statuses_of_lines(report):
+    """The statuses that fit lines of JSON, which `expand` and `swaps` print in place of a verdict."""
+    return (0, 1) if report.verdict_line.startswith("{") else ()
 
 
 def result_of(text):
