@@ -208,17 +208,24 @@ def read_run_file(path):
 
 def numbered_lines(text):
     """The lines that are not blank, with their numbers from 1."""
-    if isinstance(text, str):
-        text = text.encode("utf-8", "surrogatepass")
-    for number, line in enumerate(text.split(b"\n"), 1):
-        if line.strip(b" \t\r"):
+    if isinstance(text, bytes):
+        text = decoded(text)
+    for number, line in enumerate(text.split("\n"), 1):
+        if line.strip(" \t\r"):
             yield number, line
+
+
+def decoded(text):
+    try:
+        return text.decode("utf-8")
+    except UnicodeDecodeError as error:
+        raise UnreadableRun(text.count(b"\n", 0, error.start) + 1, "not UTF-8") from None
 
 
 def json_object(number, line):
     """The JSON object on a line."""
     try:
-        value = json_value(line.decode("utf-8"))
+        value = json_value(line)
     except (ValueError, RecursionError):
         raise UnreadableRun(number, "not one JSON value") from None
     if not isinstance(value, dict):
