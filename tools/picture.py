@@ -1,13 +1,13 @@
 """Draws a recorded run as one self-contained HTML page.
 
-    picture.write_page(run, report, out, title="race.jsonl")
+    picture.write_page(run, why, out, title="race.jsonl")
 
-`run` is a Run of recorded_run, `report` is what the program printed of it, and `out` is a text file. The page shows the
-program's first line word for word. It reaches for nothing outside itself, and its security policy lets no other script
-run than its own. All that comes from the run is text in it, and never markup.
+`run` is a Run, and `why` is what the module why says of it. `out` is a text file. The page shows the program's verdict
+line word for word. It reaches for nothing outside itself, and its security policy lets no other script run than its own.
+All that comes from the run is text in it, and never markup.
 
 The page's parts are the files of picture_page/: one of markup, one of style, and five of code. The columns that they
-read are those that `page_data` builds: a *mark* is one recorded line or one call of the start.
+read are those that `page_data` builds. A *mark* is one recorded line or one call of the start.
 """
 import base64
 import hashlib
@@ -30,21 +30,19 @@ CALLING, COMMITTING = ("app", "op"), ("cmt", "commit")
 # The steps that name a call by its id, and those that name an object or a transaction, by which member.
 NAMING_CALLS = ("unapp", "push", "unpush", "pull", "unpull")
 NAMING_OTHERS = {"refresh": "on", "depend": "source", "drop": "source"}
-REJECTED = re.compile(r"rejected step (\d+) line (\d+) (\w+) (\d+)$")
-REJECTED_LINE = re.compile(r"quick rejected line (\d+)$")
-ENTRY = re.compile(r"entry (\d+)(?: gives (\S+))?$")
 
 
-def write_page(run, report, out, title="run"):
-    """Writes the page of a run, of which the program printed `report`."""
-    data = page_data(run, report, title)
+def write_page(run, why, out, title="run"):
+    """Writes the page of a run."""
+    title = title.encode("utf-8", "surrogateescape").decode("utf-8", "replace")
+    data = page_data(run, why, title)
     style, scripts = part("page.css"), [part(name) for name in SCRIPTS]
     parts = {
         "policy": policy(style, scripts),
         "title": html.escape(title),
-        "verdict": html.escape(data["report"][0]),
+        "verdict": html.escape(verdict_report(why).verdict_line),
+        "state": verdict_report(why).verdict or "other",
         "style_name": html.escape(run.style),
-        "state": state(data["report"][0]),
         "style": style,
         "data": script_text(data),
         "scripts": "\n".join(f"<script>{script}</script>" for script in scripts),
@@ -52,9 +50,9 @@ def write_page(run, report, out, title="run"):
     out.write(re.sub(r"{{(\w+)}}", lambda slot: parts[slot[1]], part("page.html")))
 
 
-def state(verdict):
-    """The word by which the page colours its verdict."""
-    return next((word for word in ("accepted", "rejected") if word in verdict.split()[:2]), "other")
+def verdict_report(why):
+    """The report whose verdict the page shows: that of `quick` if the run is too long for `certify`."""
+    return why.quick or why.report
 
 
 def part(name):
@@ -77,15 +75,15 @@ def script_text(data):
     return text.replace("<", "\\u003c").replace(">", "\\u003e").replace("&", "\\u0026")
 
 
-def page_data(run, report, title):
+def page_data(run, why, title):
     """All that the page's code reads, as a value for JSON."""
-    lines = report.splitlines() or [""]
-    rejected = rejection(lines)
-    marks = Marks(run, rejected and rejected["line"])
+    report = verdict_report(why)
+    is_rejected = report.verdict == "rejected"
+    marks = Marks(run, report.line if is_rejected else None)
     return {
         "title": title,
-        "report": lines[:MOST_REPORT_LINES],
-        "reportLines": len(lines),
+        "report": report.lines[:MOST_REPORT_LINES],
+        "reportLines": len(report.lines),
         "style": run.style,
         "objects": list(run.objects),
         "marks": marks.columns,
@@ -96,7 +94,8 @@ def page_data(run, report, title):
         "places": marks.places.names,
         "transactions": marks.transactions.names,
         "threads": marks.threads.names,
-        "failure": rejected and {**rejected, **failure(run, marks, rejected["line"], lines)},
+        "failure": failure(run, why, marks) if is_rejected else None,
+        "words": [] if is_rejected or report.verdict == "accepted" else [why.words, *why.lines],
     }
 
 
@@ -219,6 +218,10 @@ class Marks:
         self.drawn.append(Drawn(transaction, number, thread, end, len(self.rows)))
         return len(self.drawn) - 1
 
+    def of_call(self, call):
+        """The mark of a call, or -1 if there is none."""
+        return self.mark_of_call.get(call, -1)
+
     def add_links(self):
         """The sources of the calls, and what took them back."""
         for call, source in read_from.sources_of(self.run).items():
@@ -285,43 +288,21 @@ def lay_out(drawn):
     return [f"row {lane + 1}" for lane in range(len(free_from))]
 
 
-def rejection(lines):
-    """The line and the criterion of a rejection, or None."""
-    step, line = REJECTED.match(lines[0]), REJECTED_LINE.match(lines[0])
-    if step is not None:
-        return {"line": int(step[2]), "criterion": f"{step[3]} {step[4]}"}
-    return None if line is None else {"line": int(line[1]), "criterion": ""}
-
-
-def failure(run, marks, line, lines):
-    """The marks of the rejected step and of its evidence."""
-    shown = {"mark": marks.mark_of_line.get(line, -1), "entry": -1, "gives": "", "recorded": -1, "right": -1}
-    entry = ENTRY.match(lines[1]) if len(lines) > 1 else None
-    if entry is not None:
-        shown.update(evidence(run, marks, line, int(entry[1]), entry[2]))
-    if line == run.header_line:
+def failure(run, why, marks):
+    """The rejected step, what explains it, and the marks of the calls that the explanation is about."""
+    report, case, explained = verdict_report(why), why.case, why.explanation
+    shown = {"line": report.line, "mark": marks.mark_of_line.get(report.line, -1), "criterion": "", "gives": "",
+             "call": -1, "entry": -1, "recorded": -1, "right": -1, "words": why.words,
+             "rows": [{"text": line, "mark": -1} for line in why.lines]}
+    if case is None:
+        return shown
+    shown.update(call=marks.of_call(case.call), entry=marks.of_call(case.entry),
+                 recorded=marks.of_call(explained.recorded_by), right=marks.of_call(explained.right_by))
+    shown["criterion"] = " ".join(map(str, case.criterion))
+    if case.evidence is not None and case.evidence.gives is not None:
+        shown["gives"] = case.evidence.gives
+    for row, calls in zip(shown["rows"][len(why.lines) - len(explained.lines):], explained.calls):
+        row["mark"] = marks.of_call(calls[-1] if calls else None)
+    if report.line == run.header_line:
         shown["mark"] = shown["entry"]
     return shown
-
-
-def evidence(run, marks, line, number, gives):
-    """The call that the evidence names, who wrote its recorded value, and who wrote the one that it should have given."""
-    calls = [call for call in run.calls_with_id(number) if call.line <= line]
-    if not calls:
-        return {}
-    call = calls[-1]
-    shown = {"entry": marks.mark_of_call[call], "gives": gives or ""}
-    if gives is not None and call.kind in ("mem", "set", "map"):
-        wanted = read_from.found(call, result_value(gives))
-        known = marks.columns["source"][marks.mark_of_call[call]]
-        writers = {"recorded": read_from.last_that_left(run, call, read_from.found(call), call.line),
-                   "right": read_from.last_that_left(run, call, wanted, line)}
-        shown.update({name: marks.mark_of_call[writer] for name, writer in writers.items() if writer is not None})
-        if known >= 0:
-            shown["recorded"] = known
-    return shown
-
-
-def result_value(text):
-    """A result as the program printed it."""
-    return {"none": None, "true": True, "false": False}[text] if not re.match(r"-?\d", text) else int(text)

@@ -9,56 +9,21 @@ queue it is clear if only one call can have put the value there. In a counter it
 transaction could see, since the number depends on all of them.
 """
 from recorded_run import COMMITTED
+from sequential import EMPTY_VALUES, PUTS, TAKES, addition, found_by, writes, written_value
 
 # So many changes of a place are looked at for the last one that a transaction could see, so that the work stays small.
 LOOKED_AT = 256
 # A value that is in a queue, a stack or a priority queue more often than this at once gets no source.
 ITEMS_KEPT = 64
-UNKNOWN = object()
-ADDING = {"queue": "enq", "stack": "push", "prio": "insert"}
 
 
 def changes(call):
-    """Whether the call changes its object."""
-    if call.kind == "mem":
-        return call.name == "write" or (call.name == "cas" and call.result is True)
-    if call.kind == "set":
-        return call.name != "contains" and call.result is True
-    if call.kind == "map":
-        return call.name == "put" or (call.name == "remove" and call.result is not None)
+    """Whether the call changed its object, by its recorded result."""
+    if call.kind in EMPTY_VALUES:
+        return writes(call)
     if call.kind == "counter":
-        return call.name != "get"
-    return call.name == ADDING[call.kind] or (call.name != "least" and call.result is not None)
-
-
-def found(call, result=UNKNOWN):
-    """What the call found at its place, by its recorded result or by another one, or UNKNOWN."""
-    result = call.result if result is UNKNOWN else result
-    if call.kind == "mem":
-        if call.name == "cas":
-            return call.arguments[1] if result is True else UNKNOWN
-        return result if call.name == "read" else UNKNOWN
-    if call.kind == "set":
-        return result is not True if call.name == "add" else result
-    if call.kind == "counter" and call.name == "add" or call.name == ADDING.get(call.kind):
-        return UNKNOWN
-    return result
-
-
-def left(call):
-    """What a call that changes its place left there, or UNKNOWN."""
-    if call.kind == "mem":
-        return call.arguments[1 if call.name == "write" else 2]
-    if call.kind == "set":
-        return call.name == "add"
-    if call.kind == "map":
-        return call.arguments[1] if call.name == "put" else None
-    return call.arguments[0] if call.name == ADDING.get(call.kind) else UNKNOWN
-
-
-def same(first, second):
-    """Whether two values are one, with no confusion of 1 and true."""
-    return first is not UNKNOWN and type(first) is type(second) and first == second
+        return addition(call) != 0
+    return call.name == PUTS[call.kind] or (call.name == TAKES[call.kind] and call.result is not None)
 
 
 def standing(call, line):
@@ -214,14 +179,15 @@ class Walk:
 
     def find(self, call, view, look):
         """Notes the source of a call, and which item it takes or adds."""
-        if call.kind in ADDING:
+        if call.kind in PUTS:
             self.find_item(call, view, look)
             return
-        value = found(call)
-        if value is UNKNOWN and not (call.kind == "mem" and call.name == "cas"):
+        is_counter = call.kind == "counter"
+        value = None if is_counter else found_by(call)
+        if call.name == "add" if is_counter else value is None:
             return
         for source in self.last_changes(call, view, look):
-            if call.kind == "counter" or explains(source, call, value):
+            if is_counter or value.matches(written_value(source)):
                 self.sources[call] = source
                 return
 
@@ -243,7 +209,7 @@ class Walk:
                 return
 
     def add_item(self, call):
-        if call.name != ADDING.get(call.kind):
+        if call.name != PUTS.get(call.kind):
             return
         items = self.items.setdefault((call.object_name, call.arguments[0]), [])
         if items is not None and len(items) == ITEMS_KEPT:
@@ -259,27 +225,10 @@ class Walk:
         there = [item for item in items if item.is_there(view, look, call.line)]
         if len(there) == 1:
             self.sources[call] = there[0].call
-        if there and call.name != "least":
+        if there and call.name == TAKES[call.kind]:
             there[-1 if call.kind == "stack" else 0].takers.append(call)
-
-
-def explains(source, call, value):
-    """Whether what the source left is what the call found."""
-    if value is UNKNOWN:            # a compare-and-swap that failed: it found another value than it expected
-        return not same(left(source), call.arguments[1])
-    return same(left(source), value)
 
 
 def sources_of(run):
     """The call that wrote what each call found, for those calls of which that is clear."""
     return Walk(run).follow()
-
-
-def last_that_left(run, call, value, line):
-    """The last other call at the place of a call, before a line, that left a value there, or None."""
-    last = None
-    for other in run.calls:
-        if other.line <= line and other is not call and other.object_name == call.object_name and changes(other):
-            if (other.place == call.place) and same(left(other), value):
-                last = other
-    return last

@@ -182,7 +182,8 @@ function drawFound() {
 
 function drawRings() {
   for (const mark of [state.selected, state.hovered]) if (mark >= 0) ring(mark, colours.ink);
-  if (failure !== null && failure.entry >= 0) ring(failure.entry, colours.failure);
+  if (failure === null) return;
+  for (const mark of [failure.entry, againstEvidence]) if (mark >= 0) ring(mark, colours.failure);
 }
 
 // A full dot changes its object, an open one only looks; one that was taken back is dotted.
@@ -227,7 +228,8 @@ function drawLabels(seen, bar) {
   placed.forEach(label => drawLabel(label, bar));
 }
 
-const rank = mark => failure !== null && (mark === failure.entry || mark === failure.mark) ? 0 : isCall(mark) ? 1 : 2;
+const isNamed = mark => failure !== null && [failure.entry, failure.mark, againstEvidence].includes(mark);
+const rank = mark => isNamed(mark) ? 0 : isCall(mark) ? 1 : 2;
 
 function labelOf(mark) {
   const step = stepOf(mark);
@@ -268,11 +270,13 @@ function drawArrows(from, to) {
 }
 
 // Whether the arrow of a mark is drawn as one of the failure.
-const isOfFailure = mark => failure !== null && mark === failure.entry && marks.source[mark] === failure.recorded;
+const isOfFailure = mark => failure !== null && ((mark === failure.entry && marks.source[mark] === failure.recorded)
+  || (mark === againstEvidence && marks.source[mark] === failure.entry));
 
-// Whether the evidence is another call than the one that fails: the arrow then leads to it.
-const isPair = failure !== null && failure.entry >= 0 && failure.entry !== failure.mark
-  && failure.entry !== marks.about[failure.mark] && !failure.gives;
+// From where an arrow leads to the evidence, if that is another call than the one that fails: from the step's call, or
+// from its line if it has none.
+const againstEvidence = failure === null || failure.entry < 0 || failure.gives || failure.call === failure.entry ? -1
+  : failure.call >= 0 ? failure.call : failure.mark;
 
 let tags = [];
 function drawStrongArrows() {
@@ -285,7 +289,7 @@ function drawStrongArrows() {
     for (const reader of readers) drawArrow(reader, call, colours.arrow, 2.4);
   }
   if (failure === null || failure.entry < 0) return;
-  if (isPair) drawArrow(failure.mark, failure.entry, colours.failure, 2.2, [2, 3], "evidence");
+  if (againstEvidence >= 0) drawArrow(againstEvidence, failure.entry, colours.failure, 2.2, [2, 3], "evidence");
   if (failure.recorded >= 0) drawArrow(failure.entry, failure.recorded, colours.failure, 2.2, [6, 4], "recorded");
   if (failure.right >= 0) drawArrow(failure.entry, failure.right, colours.right, 2.4, [], "right");
 }

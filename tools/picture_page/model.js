@@ -75,7 +75,7 @@ function facts(mark) {
   if (source >= 0) rows.push({text: `found what ${wholeText(source)} of ${transactionOf(source)} left on line ${marks.line[source]}`, mark: source});
   if (marks.gone[mark] >= 0) rows.push({text: `taken back on line ${marks.line[marks.gone[mark]]}`, mark: marks.gone[mark]});
   if (marks.about[mark] >= 0) rows.push({text: `the call is on line ${marks.line[marks.about[mark]]}`, mark: marks.about[mark]});
-  for (const [name, text] of failureRoles()) if (failure[name] === mark) rows.push({text, strong: true});
+  for (const [name, text] of failureRoles()) if (failure[name] === mark && text !== "") rows.push({text, strong: true});
   return rows;
 }
 
@@ -84,6 +84,7 @@ function failureRoles() {
   if (failure === null) return [];
   const should = failure.gives ? `: it should have given ${failure.gives}` : "";
   return [
+    ["call", failure.call === failure.mark ? "" : `the rejected step on line ${failure.line} is about this call`],
     ["mark", `the program rejected the run here${failure.criterion ? `, by ${failure.criterion}` : ""}`],
     ["entry", `the program names this call as evidence${should}`],
     ["recorded", "left what the named call found"],
@@ -139,9 +140,16 @@ function withEnds(found) {
 
 // The lines that a rejection is about: those on the place of the evidence, of the transactions that it names.
 function storyOfFailure() {
-  const named = ["mark", "entry", "recorded", "right"].map(name => failure[name]).filter(mark => mark >= 0);
+  const named = marksOfFailure();
   const involved = new Set(named.map(mark => attempts.transaction[marks.attempt[mark]]));
   const entry = failure.entry >= 0 ? failure.entry : failure.mark;
+  const place = marks.place[entry];
   return marksWhere(mark => involved.has(attempts.transaction[marks.attempt[mark]])
-    && (marks.place[mark] === marks.place[entry] || named.includes(mark)));
+    && (place < 0 || marks.place[mark] === place || named.includes(mark)));
+}
+
+// The marks that the rejection and its explanation name.
+function marksOfFailure() {
+  const named = [failure.mark, failure.entry, failure.recorded, failure.right, ...failure.rows.map(row => row.mark)];
+  return named.filter(mark => mark >= 0);
 }

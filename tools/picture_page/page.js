@@ -97,33 +97,27 @@ function fillSelected() {
 
 function fillFailure() {
   const box = element("failure");
-  if (failure === null) return;
-  box.hidden = false;
-  element("to-failure").hidden = failure.mark < 0;
+  box.hidden = failure === null && run.words.length === 0;
+  if (failure === null) {
+    box.append(make("h2", "What this means"), ...run.words.map(text => make("p", text)));
+    return;
+  }
   box.append(make("h2", "Failing step"));
-  if (failure.mark < 0) return;
-  const row = make("p", "");
-  row.append(link(titleOf(failure.mark), failure.mark), ` of ${attemptText(marks.attempt[failure.mark])}`);
-  box.append(row);
-  if (run.words) box.append(make("p", `${failure.criterion}: ${run.words}`));
-  fillEvidence(box);
-}
-
-function fillEvidence(box) {
-  if (failure.entry < 0) return;
-  const entry = make("p", "");
-  const should = failure.gives ? `, which should have given ${failure.gives}` : "";
-  entry.append("Evidence: ", link(`${wholeText(failure.entry)} on line ${marks.line[failure.entry]}`, failure.entry),
-    ` of ${transactionOf(failure.entry)}${should}`);
-  box.append(entry);
-  for (const role of ["recorded", "right"]) {
-    const writer = failure[role];
-    if (writer < 0) continue;
-    const row = make("p", "", role);
-    row.append(make("span", role === "recorded" ? "\u2192" : "\u2192", "tag"), make("strong", `${role}: `),
-      link(`${wholeText(writer)} on line ${marks.line[writer]}`, writer), ` of ${attemptText(marks.attempt[writer])}`);
+  if (failure.mark >= 0) {
+    element("to-failure").hidden = false;
+    const row = make("p", "", "call");
+    row.append(link(titleOf(failure.mark), failure.mark), ` of ${transactionOf(failure.mark)}`);
     box.append(row);
   }
+  box.append(make("p", failure.words), ...failure.rows.map(failureRow));
+}
+
+// A sentence of the explanation, which leads to the call that it names.
+function failureRow({text, mark}) {
+  const role = mark < 0 ? "" : ["recorded", "right"].find(name => failure[name] === mark) || "";
+  const row = make("p", "", `why ${role}`);
+  row.append(mark < 0 ? text : link(text, mark));
+  return row;
 }
 
 function fillReport() {
@@ -337,8 +331,7 @@ function openView() {
   showOnly(null);
   resize();
   if (failure === null || failure.mark < 0) return showWhole();
-  const named = ["mark", "entry", "recorded", "right"].map(name => failure[name]).filter(mark => mark >= 0);
-  const slots = named.map(mark => view.slots[mark]);
+  const slots = marksOfFailure().map(mark => view.slots[mark]);
   const from = Math.min(...slots), to = Math.max(...slots);
   if (view.count <= ROOMY) showWhole();
   else if (to - from <= ROOMY) showSlots(from - 6, to + 8);
