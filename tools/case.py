@@ -5,15 +5,17 @@ from replay import logs_before
 class Case:
     """A rejected run, before the step that the program rejects.
 
-    It is made of the run, the report on it, its steps up to and with the rejected one, and the calls of its start.
+    It is made of the run, the report on it, its steps up to and with the rejected one, and the calls of its start. If
+    `is_cut`, the report and the steps are those of a shorter run, and its logs do not have all entries.
     `step` is that step as a record of style rules, or None for the start. `transaction` is who takes it.
     `logs` are the local logs and the shared log there.
     `call` is the call that the step makes, takes back, publishes, withdraws, takes over or gives up, or None.
     `entry` is the call that the evidence names, or None.
     """
 
-    def __init__(self, run, report, steps, first):
+    def __init__(self, run, report, steps, first, is_cut=False):
         self.run = run
+        self.is_cut = is_cut
         self.report = report
         self.line = report.line
         self.criterion = report.rule, report.criterion

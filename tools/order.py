@@ -134,7 +134,7 @@ def moved_lines(order):
             moved.append(f"{ended(transaction)}, comes after {ended(latest)}")
         else:
             latest = transaction
-    lines = moved[:MOST_NAMED] or ["the order is that of the commits"]
+    lines = moved[:MOST_NAMED] or ["the order is that of the commit lines"]
     if len(moved) > MOST_NAMED:
         lines.append(f"and {len(moved) - MOST_NAMED} more")
     against = against_real_time(order)
@@ -162,7 +162,7 @@ def serial_run(run, order):
     header = {name: run.header[name] for name in ("run", "objects", "start") if name in run.header}
     lines = [{**header, "style": "boosted"}]
     for transaction in order:
-        begin = {"step": "begin", "tx": transaction.name, "thread": transaction.attempt.thread}
+        begin = {"step": "begin", "tx": transaction.name, "thread": transaction.attempt.thread or transaction.name}
         lines.append(begin if transaction.body is None else {**begin, "body": transaction.body})
         lines += [{"step": "op", "tx": transaction.name, "id": call.id, "on": call.object_name, "call": call.name,
                    "args": call.arguments, "result": call.result} for call in transaction.calls]
@@ -188,8 +188,8 @@ class Order:
         if self.found is None:
             return shown
         if self.reordered is None:
-            return [*shown, "no order was found:", *self.found.lines]
-        return [*shown, "reordered:", *shown_lines(self.reordered), "the order:", *self.found.lines]
+            return [*shown, "", "no order was found:", *self.found.lines]
+        return [*shown, "reordered:", *shown_lines(self.reordered), "", *self.found.lines]
 
     def fields(self):
         """What `--json` adds to the fields of the report on the run as it was recorded."""

@@ -2,7 +2,7 @@
 from recorded_run import COMMITTED
 
 ENDS = {"commit": "committed", "cmt": "committed", "abort": "ABORTED", "retry": "RETRIED", "quit": "QUIT"}
-LATER_ENDS = {"commit": "commits", "cmt": "commits", "abort": "aborts", "retry": "retries", "quit": "quits"}
+LATER_ENDS = {"commit": "commits", "cmt": "commits", "abort": "ABORTS", "retry": "RETRIES", "quit": "QUITS"}
 
 
 def is_of_start(call):
@@ -25,12 +25,12 @@ def fate(call, line):
     if back is not None and back < line and back != end:
         return f"which took it back on line {back}"
     if end is None:
-        return "which had not ended by then, and never ends"
+        return "which was still open, and never ends"
     if end == line:
         return f"whose {attempt.end_step} this line is"
     if end < line:
         return f"which {ENDS[attempt.end_step]} on line {end}"
-    return f"which had not ended by then, and {LATER_ENDS[attempt.end_step]} on line {end}"
+    return f"which was still open, and {LATER_ENDS[attempt.end_step]} on line {end}"
 
 
 def by_whom(call, failing_call):

@@ -1,5 +1,5 @@
 """A table of lines: one column for each transaction that an explanation names, only the lines on one place."""
-from explanation import attempt_at
+from explanation import first_line
 from phrases import is_of_start
 
 MOST_ROWS = 40
@@ -19,18 +19,23 @@ class Row:
         self.is_failing = is_failing
         self.is_needed = is_needed or is_failing
 
+    def fields(self):
+        return {"line": self.line, "transaction": self.transaction, "text": self.text, "failing": self.is_failing}
+
 
 class Timeline:
     """The rows about some attempts and one place. If `place` is None, the rows have all calls of the attempts."""
 
     def __init__(self, run, logs, explanation, line, place):
         self.run, self.calls, self.line, self.place = run, logs.calls, line, place
-        self.attempts = {id(attempt): attempt for attempt in explanation.involved_attempts()}
-        self.transactions = {attempt.transaction for attempt in self.attempts.values()}
+        self.spans = {}     # the first and the last line of each attempt, by the name of its transaction
+        for attempt in explanation.involved_attempts():
+            begin, end = first_line(attempt) or 0, attempt.end_line or float("inf")
+            self.spans.setdefault(attempt.transaction, []).append((begin, end))
         self.named_lines = {call.line for call in explanation.named}
         self.rows = self.start_rows(explanation.named)
         for record in run.records:
-            if record.transaction in self.transactions or record.line == line:
+            if record.transaction in self.spans or record.line == line:
                 self.add_row(record)
         self.left_out = self.cut()
 
@@ -52,13 +57,8 @@ class Timeline:
         self.rows.append(Row(record.line, record.transaction, text, is_failing, is_needed))
 
     def is_involved(self, record):
-        """Whether a record belongs to one of the attempts. A retry belongs to two."""
-        attempts = self.run.transactions[record.transaction].attempts
-        if len(attempts) == 1:
-            return id(attempts[0]) in self.attempts
-        if record.step in ("begin", "retry") and any(attempt.begin_line == record.line for attempt in self.attempts.values()):
-            return True
-        return id(attempt_at(self.run, record.transaction, record.line)) in self.attempts
+        """Whether a record belongs to one of the attempts. A retry belongs to the one that it ends and to the next."""
+        return any(begin <= record.line <= end for begin, end in self.spans[record.transaction])
 
     def text_of(self, record):
         """What a row shows of a record, or None if it is not about the place."""

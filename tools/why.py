@@ -45,8 +45,7 @@ class Why:
     def fields(self):
         """What `--json` adds to the fields of the report."""
         rows = self.timeline.rows if self.timeline is not None else []
-        return {"words": self.words, "explanation": self.lines, "timeline": [
-            {"line": row.line, "transaction": row.transaction, "text": row.text, "failing": row.is_failing} for row in rows]}
+        return {"words": self.words, "explanation": self.lines, "timeline": [row.fields() for row in rows]}
 
 
 def why(program, data):
@@ -84,7 +83,7 @@ def explain_long_run(program, data, report, words):
         if cut_report.verdict == "rejected" and cut_report.line == quick.line:
             lines.append(f"of {cut.words} `certify` prints:")
             lines += ["  " + line for line in cut_report.lines]
-            case = Case(run, cut_report, steps_of(program, cut.text), cut.first_calls)
+            case = Case(run, cut_report, steps_of(program, cut.text), cut.first_calls, is_cut=True)
             explained = explain_case(case)
             explained.report, explained.words, explained.quick = report, words, quick
             explained.lines = [*lines, criterion_text(case), *explained.lines]

@@ -21,7 +21,9 @@ class WrongResult(Explanation):
         self.run, self.line, self.call, self.log_words = case.run, case.line, case.entry, log_words
         self.gives = result_of(case.evidence.gives)
         self.log = [call for call in log if call.place == self.call.place]
-        self.in_log = {call.id for call in self.log} | ({removed.id} if removed is not None else set())
+        self.in_log = {call.id for call in self.log}
+        self.removed = removed
+        self.is_cut = case.is_cut
         self.place = new_place(self.call.kind)
         for call in self.log:
             self.place.perform(call)
@@ -42,8 +44,10 @@ class WrongResult(Explanation):
 
     def say(self, what, call):
         """Adds a sentence that ends with a call and what became of it, and says if the log does not have it."""
-        outside = "" if call.id in self.in_log else f" (it is not in {self.log_words})"
-        self.add(with_fate(what, call, self.line) + outside, call)
+        is_outside = call.id not in self.in_log and call is not self.removed and not self.is_cut
+        outside = f" (it is not in {self.log_words})" if is_outside else ""
+        is_own = call.attempt is self.call.attempt and call.taken_back_line is None
+        self.add((what if is_own else with_fate(what, call, self.line)) + outside, call)
 
     def calls_here(self):
         """The calls of the whole run at this place but for the one that fails, nearest before it first, then those after."""
@@ -93,9 +97,14 @@ class WrongResult(Explanation):
     def explain_difference(self, difference):
         """Says which calls outside the log make the difference between the recorded number and the right one."""
         outside = [call for call in self.calls_here() if call.id not in self.in_log and addition(call)]
-        exact = [call for call in outside if addition(call) == difference]
-        if exact:
-            self.say(f"the difference of {difference} is {exact[0].text} by {by_whom(exact[0], self.call)}", exact[0])
+        exact = next((call for call in outside if addition(call) == difference), None)
+        if exact is not None:
+            self.say(f"the difference of {difference} is {exact.text} by {by_whom(exact, self.call)}", exact)
+            return
+        whole = next((calls for calls in by_attempt(outside) if sum(map(addition, calls)) == difference), None)
+        if whole is not None:
+            who = by_whom(whole[0], self.call)
+            self.say(f"the difference of {difference} is {len(whole)} additions, the last by {who}", whole[0])
             return
         for call in outside[:MOST_NAMED]:
             self.say(f"not counted: {call.text} by {by_whom(call, self.call)}", call)
@@ -129,6 +138,14 @@ class WrongResult(Explanation):
             self.say(f"{value} (recorded) was put in {later}by {by_whom(put, self.call)}", put)
         if take is not None and take.line <= self.line:
             self.say(f"{value} (recorded) was taken out by {by_whom(take, self.call)}", take)
+
+
+def by_attempt(calls):
+    """The calls of each attempt, in the order in which the attempts are met."""
+    attempts = {}
+    for call in calls:
+        attempts.setdefault(id(call.attempt), []).append(call)
+    return attempts.values()
 
 
 def without(log, removed):

@@ -26,8 +26,8 @@ def with_own_attempt(case, explanation):
 
 def not_open(case):
     """The transaction of the step is not open."""
-    transaction = case.run.transactions[case.transaction]
-    begun = [attempt for attempt in transaction.attempts if attempt.begin_line is not None]
+    transaction = case.run.transactions.get(case.transaction)
+    begun = [attempt for attempt in transaction.attempts if attempt.begin_line is not None] if transaction else []
     ended = [attempt for attempt in begun if attempt.end_line is not None and attempt.end_line < case.line]
     if ended:
         end = ended[-1]
