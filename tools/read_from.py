@@ -31,6 +31,11 @@ def standing(call, line):
     return call.taken_back_line is None or call.taken_back_line > line
 
 
+def has_committed(attempt, line):
+    """Whether the attempt committed on the line or before it."""
+    return attempt.end == COMMITTED and attempt.end_line <= line
+
+
 class Item:
     """A value in a queue, a stack or a priority queue: the call that put it there, and those that took it."""
 
@@ -44,10 +49,16 @@ class Item:
         """Whether the item is there for one who has this view."""
         return view.sees(self.call, look, line) and not any(view.sees(taker, look, line) for taker in self.takers)
 
+    def order(self, call):
+        """Where the item is in the order of the object, as far as items of one value need it: own ones are last."""
+        is_own = self.call.transaction == call.transaction
+        return is_own, self.call.line if is_own else self.call.published_line or 0, self.call.line
+
     def is_gone(self, line):
-        """Whether one who took the item has committed, or who put it there gave up."""
+        """Whether the item is gone for good: who put it there gave up, or one who took it put it there or has committed."""
         return not standing(self.call, line) or any(
-            taker.attempt.end == COMMITTED and taker.attempt.end_line <= line for taker in self.takers)
+            taker.taken_back_line is None and (taker.attempt is self.call.attempt or has_committed(taker.attempt, line))
+            for taker in self.takers)
 
 
 class View:
@@ -56,6 +67,7 @@ class View:
     def __init__(self, attempt):
         self.attempt = attempt
         self.own = {}               # the changes at each place
+        self.called = set()         # the objects that it called
         self.looked = {}            # the line at which it first looked at each object, if it does not look again
         self.granted = set()        # style dependent: the transactions whose uncommitted calls it sees
         self.section = None         # style hardware: the line on which the open section began
@@ -69,7 +81,7 @@ class View:
         owner = call.attempt
         if owner is self.attempt or owner.transaction in self.granted:
             return standing(call, line)
-        return owner.end == COMMITTED and owner.end_line <= look
+        return has_committed(owner, look) and call.taken_back_line is None
 
 
 class PulledView:
@@ -96,12 +108,14 @@ class Walk:
         self.calls = {}             # by line
         self.by_id = {}             # style rules
         self.unpublished = {}       # by transaction
+        self.committed_on = set()   # the objects that committed calls are on
 
     def follow(self):
         start = self.run.start.attempts[0].calls if self.run.start else []
         for call in start:
             self.add_item(call)
             self.by_id[call.id] = call
+            self.committed_on.add(call.object_name)
         self.publish(start)
         self.calls = {call.line: call for call in self.run.calls[len(start):]}
         step = self.follow_rules if self.style == "rules" else self.follow_other
@@ -143,13 +157,15 @@ class Walk:
             self.follow_call(self.calls[record.line], view)
         elif record.step in ("commit", "publish", "xend"):
             self.publish(self.unpublished.pop(record.transaction, ()))
-        elif record.step == "refresh":
-            view.looked[record.members["on"]] = record.line
+        elif record.step == "refresh" and record.members["on"] in self.committed_on | view.called:
+            view.looked[record.members["on"]] = record.line     # what finds nothing to take over is no look
         elif record.step == "depend":
             view.granted.add(record.members["source"])
         elif record.step == "drop":
             view.granted.discard(record.members["source"])
         self.follow_section(record, view)
+        if record.step == "commit":
+            self.committed_on |= view.called
         if record.step in ("commit", "abort", "retry"):
             self.unpublished.pop(record.transaction, None)
             del self.views[record.transaction]
@@ -163,6 +179,7 @@ class Walk:
 
     def follow_call(self, call, view):
         view.attempt = call.attempt
+        view.called.add(call.object_name)
         look = view.last_look(self.style, call)
         self.find(call, view, look)
         if changes(call):
@@ -226,6 +243,7 @@ class Walk:
         if len(there) == 1:
             self.sources[call] = there[0].call
         if there and call.name == TAKES[call.kind]:
+            there.sort(key=lambda item: item.order(call))
             there[-1 if call.kind == "stack" else 0].takers.append(call)
 
 
