@@ -25,7 +25,7 @@ from why import why
 
 ACCEPTED, REJECTED = "optimistic_memory.jsonl", "rejected_optimistic_update.jsonl"
 BROWSER = next((name for name in ("chromium", "chromium-browser", "google-chrome") if shutil.which(name)), None)
-SIZE = 1120, 520
+SIZE = 1280, 560
 SECONDS = 120
 # What a browser does at its first start, and need not do here.
 QUIET = ("--no-first-run", "--disable-extensions", "--disable-background-networking", "--disable-component-update",

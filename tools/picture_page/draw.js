@@ -42,10 +42,12 @@ function draw() {
   pen.clearRect(0, 0, view.width, view.height);
   const from = Math.max(0, Math.floor(view.top / view.laneHeight));
   const to = Math.min(view.lanes.length, Math.ceil((view.top + view.height) / view.laneHeight));
+  names = [];
   for (let row = from; row < to; row++) drawLane(row);
   drawUnjudged();
   if (state.arrows) drawArrows(from, to);
   drawStrongArrows();
+  names.forEach(drawName);
   drawFound();
   for (let row = from; row < to; row++) drawLaneMarks(row);
   drawRings();
@@ -125,19 +127,29 @@ function drawBar(attempt, left, width, bar) {
   pen.fill();
   pen.stroke();
   pen.setLineDash([]);
-  if (bar.tall) nameBar(attempt, left, width, bar);
+  if (bar.tall) names.push({attempt, left, width, bar});
 }
 
-// The transaction's name over the bar, and how it ended, if there is room.
-function nameBar(attempt, left, width, bar) {
-  const sign = {committed: " \u2713", undone: " \u2717", open: " \u2026", "not open": " ?"}[attempts.end[attempt]];
+// The transactions' names over the bars, and how they ended, if there is room. They are drawn after the arrows.
+let names = [];
+function drawName({attempt, left, width, bar}) {
+  const sign = isJudged(attempt) ? {committed: " \u2713", undone: " \u2717"}[attempts.end[attempt]] || "" : "";
   const again = attempts.number[attempt] > 1 ? ` (attempt ${attempts.number[attempt]})` : "";
   const name = run.transactions[attempts.transaction[attempt]];
   const text = [name + again + sign, name + sign, name].find(words => words.length * 6.6 < width + 6);
   if (text === undefined) return;
   pen.font = NAME_FONT;
-  pen.fillStyle = colours.ink;
-  pen.fillText(text, Math.max(left + 1, GUTTER + 4), bar.y - 5);
+  writeOver(text, Math.max(left + 1, GUTTER + 4), bar.y - 5, colours.ink);
+}
+
+// A text with a rim of paper, so that it can be read over lines.
+function writeOver(text, x, y, colour) {
+  pen.lineWidth = 4;
+  pen.lineJoin = "round";
+  pen.strokeStyle = colours.paper;
+  pen.strokeText(text, x, y);
+  pen.fillStyle = colour;
+  pen.fillText(text, x, y);
 }
 
 function drawLaneMarks(row) {
@@ -246,12 +258,7 @@ function drawLeader({mark, row}, bar) {
 function drawLabel({mark, text, row, left: x}, bar) {
   const y = bar.y + bar.height + 15 + row * ROW, named = rank(mark) === 0;
   pen.font = named ? `600 ${LABEL_FONT}` : LABEL_FONT;
-  pen.lineWidth = 4;
-  pen.lineJoin = "round";
-  pen.strokeStyle = colours.paper;
-  pen.strokeText(text, x, y);
-  pen.fillStyle = named ? colours.failure : isCall(mark) ? colours.ink : colours.faint;
-  pen.fillText(text, x, y);
+  writeOver(text, x, y, named ? colours.failure : isCall(mark) ? colours.ink : colours.faint);
 }
 
 // The arrows of the calls in view. If there are too many, none but those of the chosen mark are drawn.

@@ -33,13 +33,15 @@ function shortText(mark) {
 
 const knownEnd = attempt => KNOWN_ENDS.includes(attempts.end[attempt]) ? attempts.end[attempt] : "open";
 
+// Whether the attempt ended before the rejected step.
+const isJudged = attempt => failure === null || failure.mark < 0 || attempts.last[attempt] < failure.mark;
+
 function endOf(attempt) {
   const end = attempts.end[attempt], last = attempts.last[attempt], line = marks.line[last];
   if (end === "open") return "open at the end of the run";
   if (end === "not open") return "not open";
   if (failure !== null && last === failure.mark) return `whose ${stepOf(last)} this is`;
-  const isJudged = failure === null || failure.mark < 0 || last < failure.mark;
-  return isJudged ? `${end} on line ${line}` : `with its ${stepOf(last)} on line ${line}, which was not judged`;
+  return isJudged(attempt) ? `${end} on line ${line}` : `with its ${stepOf(last)} on line ${line}, which was not judged`;
 }
 
 function attemptText(attempt) {

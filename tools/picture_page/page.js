@@ -33,7 +33,6 @@ function resize() {
 
 function show(keep) {
   showOnly(keep);
-  element("only").setAttribute("aria-pressed", String(keep !== null));
   nameOnly();
   view.top = scroll.scrollTop = 0;
   resize();
@@ -161,8 +160,10 @@ function step(by) {
 function nameOnly() {
   const mark = state.selected, about = mark >= 0 ? placeOf(mark) || transactionOf(mark) : "";
   const story = state.found.length > 0 ? "Only what is found" : isOfStory() ? "Only the failure's lines" : `Only ${about}`;
-  element("only").textContent = view.filtered ? "All lines" : about === "" && story === "Only " ? "Only these lines" : story;
-  element("only").disabled = !view.filtered && state.found.length === 0 && mark < 0 && !isOfStory();
+  const hidden = `All lines (${view.count.toLocaleString("en")} of ${markCount.toLocaleString("en")} shown)`;
+  element("only").textContent = view.filtered ? hidden : story === "Only " ? "Only some lines" : story;
+  element("only").disabled = !view.filtered && story === "Only ";
+  element("only").classList.toggle("on", view.filtered);
 }
 
 const isOfStory = () => failure !== null && failure.mark >= 0 && (state.selected < 0 || state.selected === failure.mark);
