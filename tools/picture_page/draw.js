@@ -43,6 +43,7 @@ function draw() {
   const from = Math.max(0, Math.floor(view.top / view.laneHeight));
   const to = Math.min(view.lanes.length, Math.ceil((view.top + view.height) / view.laneHeight));
   names = [];
+  boxes = [];
   for (let row = from; row < to; row++) drawLane(row);
   drawUnjudged();
   if (state.arrows) drawArrows(from, to);
@@ -150,6 +151,7 @@ function writeOver(text, x, y, colour) {
   pen.strokeText(text, x, y);
   pen.fillStyle = colour;
   pen.fillText(text, x, y);
+  boxes.push({left: x, right: x + pen.measureText(text).width, y});
 }
 
 function drawLaneMarks(row) {
@@ -320,7 +322,7 @@ function drawArrow(reader, writer, colour, width, dash = [], tag = "") {
   pen.stroke();
   pen.setLineDash([]);
   arrowHead(x2, y2, c2 < y2 ? 1 : -1, 3 + width);
-  if (tag !== "") tags.push({text: tag, colour, ...pointOf([x1, x1, x2, x2], [y1, c1, c2, y2], 0.6)});
+  if (tag !== "") tags.push({text: tag, colour, pointAt: t => pointOf([x1, x1, x2, x2], [y1, c1, c2, y2], t)});
 }
 
 // A point of a cubic curve.
@@ -338,13 +340,21 @@ function arrowHead(x, y, down, size) {
   pen.fill();
 }
 
+// The boxes of the texts that were written, for the tags to keep out of.
+let boxes = [];
+const isFree = ({x, y}, width) => x - width / 2 > GUTTER && x + width / 2 < view.width && boxes.every(box =>
+  x + width / 2 < box.left || x - width / 2 > box.right || y + 9 < box.y - 11 || y - 9 > box.y + 3);
+
 function drawTags() {
   for (const tag of tags) drawTag(tag);
 }
 
-function drawTag({text, x, y, colour}) {
+// A tag is on its arrow, where it hides no text if there is such a place.
+function drawTag({text, pointAt, colour}) {
   pen.font = NAME_FONT;
   const width = pen.measureText(text).width + 10;
+  const points = [0.6, 0.5, 0.4, 0.7, 0.3, 0.8, 0.2].map(pointAt);
+  const {x, y} = points.find(point => isFree(point, width)) || points[0];
   pen.fillStyle = colours.paper;
   pen.strokeStyle = colour;
   pen.beginPath();
