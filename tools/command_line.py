@@ -206,12 +206,14 @@ def run_picture(options, program, source):
 
     import picture      # only this command needs it
     data = source.data()
-    answer = ask(program, ["certify"], data)
-    report = read_report(answer)
-    if report.verdict == "fault" and report.cause != "TooManySteps":
+    explained = why(program, data)
+    answer = explained.report.answer
+    if explained.report.verdict == "fault" and explained.report.cause != "TooManySteps":
         return Result(answer.output, answer.status)
+    run = read_run(data) if explained.case is None else explained.case.run
     page = io.StringIO()
-    picture.write_page(read_run(data), answer.text, page, title=os.path.basename(source.name))
+    title = "standard input" if source.is_standard_input else os.path.basename(source.name)
+    picture.write_page(run, explained, page, title)
     return Result(page.getvalue().encode(), 0)
 
 

@@ -2,15 +2,23 @@
 
 
 class Explanation:
-    """`lines` are sentences. `named` are the calls in them, and `attempts` the attempts that have no call in them."""
+    """`lines` are sentences, and `calls` has for each of them the calls that it names. `named` are all these calls, and
+    `attempts` the attempts that have no call among them.
+
+    `recorded_by` left what the failing call found by its recorded result, and `right_by` what it should have found. Both
+    are None if the sentences name no such call.
+    """
 
     def __init__(self):
         self.lines = []
+        self.calls = []
         self.named = []
+        self.recorded_by = self.right_by = None
         self.attempts = []
 
     def add(self, line, *calls):
         self.lines.append(line)
+        self.calls.append(calls)
         self.named.extend(calls)
 
     def involved_attempts(self):

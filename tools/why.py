@@ -22,13 +22,18 @@ SHOWN_OF_A_LINE = 160
 
 
 class Why:
-    """What `why` says of a run. `report` is the program's, `words` the rule or the fault in words."""
+    """What `why` says of a run. `report` is the program's, `words` the rule or the fault in words.
+
+    `case` and `explanation` are those of a rejection, and else None. `quick` is the report of `quick` if the run is too
+    long for `certify`, and else None.
+    """
 
     def __init__(self, report, words, lines, timeline=None):
         self.report = report
         self.words = words
         self.lines = lines
         self.timeline = timeline
+        self.case = self.explanation = self.quick = None
 
     def text(self):
         shown = [*self.report.lines[:1 if self.report.verdict == "accepted" else None], "", self.words]
@@ -80,8 +85,12 @@ def explain_long_run(program, data, report, words):
             lines += ["  " + line for line in cut_report.lines]
             case = Case(run, cut_report, steps_of(program, cut.text), cut.first_calls, is_cut=True)
             explained = explain_case(case)
-            return Why(report, words, [*lines, explained.words, *explained.lines], explained.timeline)
-    return Why(report, words, lines)
+            explained.report, explained.words, explained.quick = report, words, quick
+            explained.lines = [*lines, criterion_text(case), *explained.lines]
+            return explained
+    explained = Why(report, words, lines)
+    explained.quick = quick
+    return explained
 
 
 def line_of(data, number):
@@ -119,10 +128,16 @@ def steps_of(program, data):
 
 
 def explain_case(case):
-    report = case.report
-    words = f"REJECTED at line {report.line}, {report.rule} {report.criterion}: {criterion_words(*case.criterion)}"
     explanation = explain(case)
-    return Why(report, words, explanation.lines, timeline_of(case, explanation))
+    explained = Why(case.report, criterion_text(case), explanation.lines, timeline_of(case, explanation))
+    explained.case, explained.explanation = case, explanation
+    return explained
+
+
+def criterion_text(case):
+    """What the program says that the step breaks, in words."""
+    rule, criterion = case.criterion
+    return f"REJECTED at line {case.line}, {rule} {criterion}: {criterion_words(rule, criterion)}"
 
 
 def explain(case):

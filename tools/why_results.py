@@ -60,6 +60,7 @@ class WrongResult(Explanation):
         texts = [f"{self.found_text(recorded)} (recorded)", f"{self.value_text(self.place.value)} (right)"]
         width = max(map(len, texts))
         writer = next((call for call in self.calls_here() if writes(call) and recorded.matches(written_value(call))), None)
+        self.recorded_by, self.right_by = writer, self.place.left_by
         later = "only later " if writer is not None and writer.line > self.call.line else ""
         self.say_writer(texts[0].ljust(width), writer, recorded.matches(new_place(self.call.kind).value), later)
         self.say_writer(texts[1].ljust(width), self.place.left_by, True, "")
@@ -87,7 +88,7 @@ class WrongResult(Explanation):
             self.say(f"{recorded} (recorded) was there before {missed.text} by {by_whom(missed, self.call)}", missed)
         else:
             self.explain_difference(recorded - right)
-        last = self.place.left_by
+        last = self.right_by = self.place.left_by
         if last is None:
             self.add(f"{right} (right) is what stands there before any call")
         elif last is not missed:
@@ -114,6 +115,7 @@ class WrongResult(Explanation):
         self.explain_recorded_item(self.call.result)
         item = self.place.next_item
         if item is not None:
+            self.right_by = item[1]
             self.say(f"{result_text(item[0])} (right) was put in by {by_whom(item[1], self.call)}", item[1])
         elif self.place.last_take is not None:
             last = self.place.last_take
@@ -127,6 +129,7 @@ class WrongResult(Explanation):
             return
         kind, here = self.call.kind, self.calls_here()
         put = next((call for call in here if call.name == PUTS[kind] and call.arguments[0] == value), None)
+        self.recorded_by = put
         take = next((call for call in here if call.name == TAKES[kind] and call.result == value), None)
         if put is None:
             self.add(f"{value} (recorded) was put in by no call of this run")
