@@ -5,7 +5,7 @@ which they were published, after what stood there at the beginning. Each transac
 version of it. So it comes after who left that version, and before who left the next one.
 """
 import bisect
-import functools
+import itertools
 
 from recorded_run import COMMITTED
 from sequential import EMPTY_VALUES, found_by, writes, written_value
@@ -48,20 +48,15 @@ class History:
         self.versions = [first]
         self.lines = []             # of each version, once they are in their order
         self.own_indexes = {}       # the index of the version of each transaction, by its number
-        self.fitting_indexes = {}   # the indexes of the versions that fit what a read found, by what it found
+        self.indexes = {}           # the indexes of the versions with a value, in their order
 
     def finish(self):
         """Puts the versions in their order, when all are there."""
         self.versions[1:] = sorted(self.versions[1:], key=lambda version: version.line)
         self.lines = [version.line for version in self.versions]
         self.own_indexes = {version.writer.number: index for index, version in enumerate(self.versions) if version.writer}
-
-    def fitting(self, read):
-        """The indexes of the versions that fit a read."""
-        if read.found not in self.fitting_indexes:
-            indexes = [index for index, version in enumerate(self.versions) if read.matches(version.value)]
-            self.fitting_indexes[read.found] = indexes
-        return self.fitting_indexes[read.found]
+        for index, version in enumerate(self.versions):
+            self.indexes.setdefault(version.value, []).append(index)
 
 
 class Read:
@@ -72,28 +67,22 @@ class Read:
         self.history = history
         self.calls = []
 
-    @functools.cached_property
-    def found(self):
-        """What the calls found, as a key."""
-        return frozenset((found.value, found.is_other) for found in map(found_by, self.calls))
-
-    def matches(self, value):
-        return all(found_by(call).matches(value) for call in self.calls)
-
     def candidate(self, rank):
         """The index of the version that it may have read, or None if fewer fit. Rank 0 is the likeliest: first come those
         that were published before the read, the latest first, then the others. The reader's own version is never one."""
-        fitting = self.history.fitting(self)
-        published = bisect.bisect_right(self.history.lines, self.calls[0].line)
-        before = bisect.bisect_left(fitting, published)
-        own = self.history.own_indexes.get(self.reader.number, -1)
-        own_place = bisect.bisect_left(fitting, own)
-        if own_place < len(fitting) and fitting[own_place] == own:
-            own_rank = before - 1 - own_place if own_place < before else own_place
-            rank += rank >= own_rank
-        if rank >= len(fitting):
-            return None
-        return fitting[before - 1 - rank if rank < before else rank]
+        return next(itertools.islice(self.candidates(), rank, None), None)
+
+    def candidates(self):
+        found = [found_by(call) for call in self.calls]
+        exact = next((one for one in found if not one.is_other), None)
+        history, own = self.history, self.history.own_indexes.get(self.reader.number)
+        indexes = range(len(history.versions)) if exact is None else history.indexes.get(exact.value, [])
+        published = bisect.bisect_right(history.lines, self.calls[0].line)
+        before = bisect.bisect_left(indexes, published)
+        for place in itertools.chain(range(before - 1, -1, -1), range(before, len(indexes))):
+            index = indexes[place]
+            if index != own and all(one.matches(history.versions[index].value) for one in found):
+                yield index
 
 
 class Edge:

@@ -189,7 +189,10 @@ class Order:
             return shown
         if self.reordered is None:
             return [*shown, "", "no order was found:", *self.found.lines]
-        return [*shown, "reordered:", *shown_lines(self.reordered), "", *self.found.lines]
+        shown += ["reordered:", *shown_lines(self.reordered), "", *self.found.lines]
+        if self.reordered.verdict != "accepted":
+            shown.append("the program does not accept the run in this order")
+        return shown
 
     def fields(self):
         """What `--json` adds to the fields of the report on the run as it was recorded."""

@@ -1,13 +1,14 @@
 """Random runs of all styles and kinds, for the tests.
 
     run = random_run(random.Random(7), "boosted")      # a list of JSON objects, the header first
+    run = snapshot_run(random.Random(7))               # the same, of a memory with snapshots
 
 Few keys, values and threads, so that calls meet. Most results are those of some memory with mistakes: it may look at what
 is committed, at what is published, or at anything. A few results, names, ids and ends are wrong altogether. So most runs
 are rejected, each style by many criteria.
 """
 from recorded_run import CALLS, KEYED_KINDS, Call
-from sequential import Objects
+from sequential import Objects, writes
 
 KINDS = list(CALLS)
 MOST_RECORDS = 40
@@ -23,10 +24,11 @@ class OpenTransaction:
 
 
 class Maker:
-    """Makes one run, record by record."""
+    """Makes one run, record by record. Without `mistakes` each result fits what its call sees, and no id comes twice."""
 
-    def __init__(self, random, style):
+    def __init__(self, random, style, mistakes=True):
         self.random = random
+        self.mistakes = mistakes
         self.style = style
         self.kinds = random.sample(KINDS, random.choice((1, 1, 2)))
         self.records = []
@@ -81,17 +83,17 @@ class Maker:
         arguments = [self.random.randrange(3) for _ in range(CALLS[kind][name])]
         if kind in KEYED_KINDS:
             arguments[0] = self.random.randrange(2)
-        number, self.next_id = self.next_id, self.next_id + (self.random.random() > 0.005)
+        number, self.next_id = self.next_id, self.next_id + (self.random.random() > 0.005 * self.mistakes)
         members = {"id": number, "on": f"o{place}", "call": name, "args": arguments, "result": None}
         return Call(members, kind, None, None)
 
     def result_of(self, call, calls):
-        """The call with the result that the objects give after these calls, or rarely with another one."""
+        """The call with the result that the objects give after these calls, or rarely, as a mistake, with another one."""
         objects = Objects()
         for before in calls:
             objects.perform(before)
         call.result = objects.perform(call)
-        if self.random.random() < 0.03 and call.result is not None:
+        if self.random.random() < 0.03 * self.mistakes and call.result is not None:
             call.result = not call.result if isinstance(call.result, bool) else call.result + 1
         self.calls.setdefault(call.id, call)
         if calls is self.committed:
@@ -194,3 +196,36 @@ RECORDS = {
 
 def random_run(random, style):
     return Maker(random, style).run()
+
+
+def snapshot_run(random):
+    """A run of style optimistic of a memory in which each transaction sees a snapshot, and may not write where another
+    one wrote since. It makes no other check, so its runs are often serial in another order than that of the commits."""
+    maker = Maker(random, "optimistic", mistakes=False)
+    maker.kinds = [random.choice(KEYED_KINDS)]
+    waiting, opened = list(range(random.randrange(3, 9))), {}
+    while waiting or opened:
+        if waiting and (not opened or (len(opened) < 4 and random.random() < 0.6)):
+            transaction = OpenTransaction(f"t{waiting.pop(0)}")
+            opened[transaction] = list(maker.committed)
+            maker.records.append({"step": "begin", "tx": transaction.name, "thread": transaction.name})
+            continue
+        transaction = random.choice(list(opened))
+        if random.random() < 0.25:
+            end_in_snapshot(maker, transaction, opened.pop(transaction))
+            continue
+        call = maker.result_of(maker.new_call(), opened[transaction] + transaction.calls)
+        transaction.calls.append(call)
+        maker.records.append({"step": "op", "tx": transaction.name, **maker.call_record(call)})
+    objects = [{"name": "o0", "kind": maker.kinds[0]}]
+    return [{"run": 1, "style": "optimistic", "objects": objects}, *maker.records]
+
+
+def end_in_snapshot(maker, transaction, snapshot):
+    """A commit if no other transaction wrote since the snapshot where this one writes, and else an abort."""
+    own = {call.place for call in transaction.calls if writes(call)}
+    since = {call.place for call in maker.committed[len(snapshot):] if writes(call)}
+    step = "abort" if own & since else "commit"
+    maker.records.append({"step": step, "tx": transaction.name})
+    if step == "commit":
+        maker.committed += transaction.calls

@@ -44,7 +44,7 @@ class Asking(unittest.TestCase):
 
     def test_other_program(self):
         for text in ("exit 0", "echo accepted; exit 0", "echo accepted steps 1 committed 1; exit 1",
-                     "echo rejected step 1 line 2 APP 4; exit 0", "exit 77"):
+                     "echo rejected step 1 line 2 APP 4; exit 0", "exit 77", "echo {}; exit 0"):
             with self.subTest(text), self.assertRaisesRegex(ProgramFailed, "it is not the program"):
                 self.answer(text)
 
@@ -68,7 +68,7 @@ class Asking(unittest.TestCase):
 
 class Reports(unittest.TestCase):
     def report(self, text, status):
-        return read_report(Answer(text.encode(), status))
+        return read_report(Answer("certify", text.encode(), status))
 
     def test_rejected(self):
         report = self.report("rejected step 6 line 7 PUSH 4\nentry 1\nbefore\nafter m.read(0)=6 m.read(1)=7\n", 1)

@@ -52,6 +52,8 @@ VERDICT_LINES = (
 )
 # The status that the program ends with, by its verdict.
 STATUSES = {"accepted": (0,), "rejected": (1,), "fault": (3,), "holds": (0,), "refused": (1,), "toolarge": (7,)}
+# The statuses of the commands that print lines of JSON and no verdict.
+STATUSES_OF_LINES = {"expand": (0, 1), "swaps": (0,)}
 ENTRY = re.compile(r"entry (?P<entry>\d+)(?: gives (?P<gives>\S+))?")
 OPERATION = re.compile(rf"(?P<on>{NAME.pattern})\.(?P<call>\w+)\((?P<args>[-\d,]*)\)=(?P<result>[-\w]+)")
 NAMED_RESULTS = {"none": None, "true": True, "false": False}
@@ -70,9 +72,10 @@ class ProgramFailed(Exception):
 
 
 class Answer:
-    """What the program printed, as bytes, and its status."""
+    """What the program printed for a command, as bytes, and its status."""
 
-    def __init__(self, output, status):
+    def __init__(self, command, output, status):
+        self.command = command
         self.output = output
         self.status = status
 
@@ -153,8 +156,8 @@ def read_report(answer):
 
 
 def statuses_of_lines(report):
-    """The statuses that fit lines of JSON, which `expand` and `swaps` print in place of a verdict."""
-    return (0, 1) if report.verdict_line.startswith("{") else ()
+    """The statuses that fit lines without a verdict: `expand` and `swaps` print lines of JSON."""
+    return STATUSES_OF_LINES.get(report.answer.command, ()) if report.verdict_line.startswith("{") else ()
 
 
 def result_of(text):
@@ -200,4 +203,4 @@ def ask(program, arguments, source=None):
         raise ProgramFailed(f"the program was ended by signal {-ran.returncode}")
     if ran.returncode in FAILURES:
         raise ProgramFailed(FAILURES[ran.returncode], ran.returncode)
-    return Answer(ran.stdout, ran.returncode)
+    return Answer(arguments[0], ran.stdout, ran.returncode)
