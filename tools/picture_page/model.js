@@ -74,9 +74,10 @@ function readersOf(mark) {
 function facts(mark) {
   const rows = [{text: attemptText(marks.attempt[mark])}];
   const source = marks.source[mark];
-  if (source >= 0) rows.push({text: `found what ${wholeText(source)} of ${transactionOf(source)} left on line ${marks.line[source]}`, mark: source});
-  if (marks.gone[mark] >= 0) rows.push({text: `taken back on line ${marks.line[marks.gone[mark]]}`, mark: marks.gone[mark]});
-  if (marks.about[mark] >= 0) rows.push({text: `the call is on line ${marks.line[marks.about[mark]]}`, mark: marks.about[mark]});
+  const add = (other, text) => other >= 0 && rows.push({text: `${text} ${marks.line[other]}`, mark: other});
+  if (source >= 0) add(source, `found what ${wholeText(source)} of ${transactionOf(source)} left on line`);
+  add(marks.gone[mark], "taken back on line");
+  add(marks.about[mark], "the call is on line");
   for (const [name, text] of failureRoles()) if (failure[name] === mark && text !== "") rows.push({text, strong: true});
   return rows;
 }
@@ -102,7 +103,8 @@ function search(query) {
   if (kind === "line" || (kind === undefined && /^\d+$/.test(words))) return marksOfLine(Number(words));
   const transaction = kind === "on" ? -1 : run.transactions.indexOf(words);
   const places = new Set();
-  if (kind !== "tx") run.places.forEach((place, number) => (place === words || place.split("(")[0] === words) && places.add(number));
+  const isMeant = place => place === words || place.split("(")[0] === words;
+  if (kind !== "tx") run.places.forEach((place, number) => isMeant(place) && places.add(number));
   if (transaction >= 0 || places.size > 0 || kind !== undefined) {
     return marksWhere(mark => attempts.transaction[marks.attempt[mark]] === transaction || places.has(marks.place[mark]));
   }
