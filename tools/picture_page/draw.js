@@ -130,24 +130,39 @@ function drawBar(attempt, left, width, bar) {
   pen.fill();
   pen.stroke();
   pen.setLineDash([]);
-  if (bar.tall) names.push({attempt, left, width, bar});
+  names.push({attempt, left, width, bar});
 }
 
-// The transactions' names over the bars, and how they ended, if there is room. They are drawn after the arrows.
+// The transactions' names over the bars, or in them if the lanes are low, and how they ended, if there is room. They are
+// drawn after the arrows.
 let names = [];
 function drawName({attempt, left, width, bar}) {
   const sign = isJudged(attempt) ? {committed: " \u2713", undone: " \u2717"}[attempts.end[attempt]] || "" : "";
   const again = attempts.number[attempt] > 1 ? ` (attempt ${attempts.number[attempt]})` : "";
   const name = run.transactions[attempts.transaction[attempt]];
-  const text = [name + again + sign, name + sign, name].find(words => words.length * 6.6 < width + 6);
+  const text = [name + again + sign, name + sign, name].find(words => words.length * 6.6 < width - 4);
   if (text === undefined) return;
+  if (!bar.tall) {
+    nameInside(attempt, text, Math.max(left, GUTTER) + 4, bar);
+    return;
+  }
   pen.font = NAME_FONT;
-  writeOver(text, Math.max(left + 1, GUTTER + 4), bar.y - 5, colours.ink);
+  writeOver(text, Math.max(left + 1, GUTTER + 4), bar.y - 6, colours.ink);
+}
+
+// A name in the bar itself, if no mark of the lane is where it would be.
+function nameInside(attempt, text, x, bar) {
+  const first = attempts.first[attempt], list = view.lanes[rowOf(first)].marks;
+  const next = list[firstFrom(list, Math.max(view.slots[first] + 1, view.start))];
+  if (next !== undefined && xOf(next) < x + text.length * 6.6 + 4) return;
+  pen.font = TEXT_FONT;
+  pen.fillStyle = colours.ink;
+  pen.fillText(text, x, bar.y + bar.height / 2 + 4);
 }
 
 // A text with a rim of paper, so that it can be read over lines.
 function writeOver(text, x, y, colour) {
-  pen.lineWidth = 4;
+  pen.lineWidth = 3;
   pen.lineJoin = "round";
   pen.strokeStyle = colours.paper;
   pen.strokeText(text, x, y);

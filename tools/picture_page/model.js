@@ -23,12 +23,16 @@ function wholeText(mark) {
   return marks.about[mark] >= 0 ? `${stepOf(mark)} ${wholeText(marks.about[mark])}` : stepOf(mark);
 }
 
-// The same for the timeline, without what goes without saying: the only object, and a result that is none.
+// A call that has no other result than none.
+const WITHOUT_RESULT = /(\.(?:write|add|enq|push|insert)\(.*\))=none$/;
+
+// The same for the timeline, without what goes without saying: the only object, and a result that can only be none.
 function shortText(mark) {
   if (marks.about[mark] >= 0) return `${stepOf(mark)} ${shortText(marks.about[mark])}`;
   const text = wholeText(mark);
   if (!isCall(mark)) return text;
-  return (run.objects.length === 1 ? text.slice(run.objects[0].length + 1) : text).replace(/=none$/, "");
+  const shown = text.replace(WITHOUT_RESULT, "$1");
+  return run.objects.length === 1 ? shown.slice(run.objects[0].length + 1) : shown;
 }
 
 const knownEnd = attempt => KNOWN_ENDS.includes(attempts.end[attempt]) ? attempts.end[attempt] : "open";
