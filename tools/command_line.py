@@ -1,11 +1,13 @@
 """The command line of `pozhiqas`. docs/TOOLS.md describes it."""
 import argparse
+import io
 import json
 import os
 import sys
 
 from json_fields import fields_of
 from order import NotTaken, order
+from picture import write_page
 from recorded_run import UnreadableRun, read_run
 from verified_program import NoProgram, ProgramFailed, ask, find_program, read_report
 from why import why
@@ -201,10 +203,7 @@ def write_file(path, data):
         raise Problem(f"{path}: {reason(error)}", NO_OUTPUT) from None
 
 
-def run_picture(options, program, source):
-    import io
-
-    import picture      # only this command needs it
+def run_picture(_, program, source):
     data = source.data()
     explained = why(program, data)
     answer = explained.report.answer
@@ -213,7 +212,7 @@ def run_picture(options, program, source):
     run = read_run(data) if explained.case is None else explained.case.run
     page = io.StringIO()
     title = "standard input" if source.is_standard_input else os.path.basename(source.name)
-    picture.write_page(run, explained, page, title)
+    write_page(run, explained, page, title)
     return Result(page.getvalue().encode(), 0)
 
 
@@ -285,6 +284,6 @@ def silence_output():
 
 def print_problem(problem):
     """One line on standard error, whatever bytes a file's name has."""
-    line = f"pozhiqas: {problem}".replace("\n", " ")
-    sys.stderr.buffer.write(line.encode("utf-8", "backslashreplace") + b"\n")
+    text = "".join(letter if letter.isprintable() else ascii(letter)[1:-1] for letter in f"pozhiqas: {problem}")
+    sys.stderr.buffer.write(text.encode() + b"\n")
     sys.stderr.flush()

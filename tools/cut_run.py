@@ -38,7 +38,7 @@ def cuts(data, run, line):
     first = None if quiet is None else calls_that_leave(failing.kind, [call for call in here if call.line < quiet], run)
     if first is not None:
         kept = [call for call in here if call.line >= quiet]
-        words = f"the lines on {place_words} from line {quiet} on, after a start that makes what stood there,"
+        words = f"the lines on {place_words} from line {quiet} on, after a start that makes what was there,"
         yield Cut(words, cut_text(data, run, line, kept, start_of(run, first)), first)
 
 
@@ -50,7 +50,8 @@ def start_of(run, calls):
     is_one_place = len({call.place for call in calls}) == 1
     for call in calls:
         result = place.perform(call) if is_one_place else call.result
-        operations.append({"id": call.id, "on": call.object_name, "call": call.name, "args": call.arguments, "result": result})
+        operations.append({"id": call.id, "on": call.object_name, "call": call.name, "args": call.arguments,
+                           "result": result})
     return {"tx": run.start.name if run.start is not None else calls[-1].transaction, "ops": operations}
 
 

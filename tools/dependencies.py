@@ -1,7 +1,7 @@
 """Which committed transaction must come before which, and why.
 
 A *version* of a place is what one committed transaction left there last. The versions of a place are in the order in
-which they were published, after what stood there at the beginning. Each transaction that looks at a place read one
+which they were published, after what was there at the beginning. Each transaction that looks at a place read one
 version of it. So it comes after who left that version, and before who left the next one.
 """
 import bisect
@@ -31,7 +31,7 @@ class Committed:
 class Version:
     """What a transaction left at a place, by its last call that wrote there.
 
-    `writer` is None for what stood there at the beginning. `line` is the line by which others could see the version.
+    `writer` is None for what was there at the beginning. `line` is the line by which others could see the version.
     """
 
     def __init__(self, value, writer, call):
@@ -101,9 +101,9 @@ class Edge:
         first, second = (f"{call.text} (line {call.line})" for call in (self.first_call, self.second_call))
         before, after = self.before.name, self.after.name
         return f"{before} before {after}: " + {
-            READ_FROM: f"{after} found by {second} what {before} left by {first}",
-            OVERWROTE: f"{before} found by {first} what {after} overwrote by {second}",
-            WROTE_BEFORE: f"{before} wrote by {first}, and {after} after it by {second}",
+            READ_FROM: f"{after} saw {second}, which {before} left by {first}",
+            OVERWROTE: f"{before} saw {first}, and {after} overwrote that by {second}",
+            WROTE_BEFORE: f"{before} wrote {first}, and then {after} wrote {second}",
         }[self.kind]
 
 
@@ -127,7 +127,7 @@ class Dependencies:
         return self.histories[call.place]
 
     def add_start(self):
-        """The last call of the start that writes at a place leaves the version that stands there at the beginning."""
+        """The last call of the start that writes at a place leaves the version that is there at the beginning."""
         for call in self.run.start.attempts[0].calls if self.run.start is not None else ():
             if writes(call):
                 self.histories[call.place] = History(Version(written_value(call), None, call))

@@ -11,7 +11,9 @@ from dependencies import ORDER_KINDS, Dependencies, call_of_other_kind
 from recorded_run import read_run
 from verified_program import ask, read_report
 
+# A search ends after so many tries, and earlier if these have that many reads together.
 MOST_TRIES = 200
+MOST_READS = 1_000_000
 MOST_NAMED = 20
 STARTS_OF_CYCLES = 30
 
@@ -42,7 +44,8 @@ def search(dependencies):
         return Search(None, [], [f"no version fits what {read.reader.name} found: {found}"])
     numbers = {id(read): number for number, read in enumerate(dependencies.reads)}
     waiting, seen, first_cycle, tries = [{}], set(), None, 0
-    while waiting and tries < MOST_TRIES:
+    most_tries = min(MOST_TRIES, MOST_READS // (len(numbers) + 1) + 1)
+    while waiting and tries < most_tries:
         ranks, tries = waiting.pop(), tries + 1
         order, cycle = sorted_or_cycle(dependencies.transactions, dependencies.edges(ranks))
         if order is not None:

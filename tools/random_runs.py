@@ -88,7 +88,7 @@ class Maker:
         return Call(members, kind, None, None)
 
     def result_of(self, call, calls):
-        """The call with the result that the objects give after these calls, or rarely, as a mistake, with another one."""
+        """The call with the result that the objects return after these calls, or rarely, as a mistake, with another one."""
         objects = Objects()
         for before in calls:
             objects.perform(before)

@@ -3,8 +3,8 @@
 An object is cut into places: each key of a mem, set or map is one, and every other object is one as a whole.
 
     place = new_place("map")
-    place.perform(call)          # the result that the map gives, for a call on this key
-    place.value, place.left_by   # what stands there now, and the call that left it
+    place.perform(call)          # the result that the map returns to a call on this key
+    place.value, place.left_by   # what is there now, and the call that left it
 
 docs/FORMAT.md has the table of the kinds.
 """

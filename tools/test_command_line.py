@@ -84,7 +84,7 @@ class Outputs(Temporary):
         path, out = self.file("cycle.jsonl", run_bytes("optimistic", "m:mem", CYCLE)), self.folder / "serial.jsonl"
         output, _, status = pozhiqas("order", path, "--output", out)
         self.assertEqual(status, 71)
-        self.assertIn("t1 before t2: t1 found by m.read(0)=0 (line 4) what t2 overwrote by m.write(0,7)=none (line 7)", output)
+        self.assertIn("t1 before t2: t1 saw m.read(0)=0 (line 4), and t2 overwrote that by m.write(0,7)=none", output)
         self.assertFalse(out.exists())
 
     def test_order_of_another_kind(self):
@@ -200,8 +200,9 @@ class BadInputs(Temporary):
         self.assertEqual((ran.returncode, ran.stderr), (74, b"pozhiqas: standard output: No space left on device\n"))
 
     def test_reader_that_goes_away(self):
-        command = f"'{sys.executable}' '{TOOLS / 'pozhiqas'}' certify '{path_of('accepted.jsonl')}' | true; echo ${{PIPESTATUS[0]}}"
-        ran = subprocess.run(["bash", "-c", command], capture_output=True, env={**os.environ, "POZHIQAS": PROGRAM}, check=False)
+        script = f"'{sys.executable}' '{TOOLS / 'pozhiqas'}' certify '{path_of('accepted.jsonl')}'"
+        ran = subprocess.run(["bash", "-c", f"{script} | true; echo ${{PIPESTATUS[0]}}"], capture_output=True,
+                             env={**os.environ, "POZHIQAS": PROGRAM}, check=False)
         self.assertEqual(ran.stderr, b"")
         self.assertIn(ran.stdout, (b"0\n", b"74\n"))
 

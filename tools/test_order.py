@@ -4,7 +4,7 @@ import random
 import unittest
 
 from dependencies import Dependencies
-from for_tests import PROGRAM, example, needs_program, run_bytes
+from for_tests import PROGRAM, example, needs_program, run_bytes, start
 from order import NotTaken, order, search
 from random_runs import snapshot_run
 from recorded_run import read_run
@@ -26,7 +26,7 @@ CHOICE = ["begin t1 p1", "begin t2 p2", "begin t3 p3", "op t2 1 m.add(0)=true", 
 
 
 def is_serial(transactions):
-    """Whether the objects give every result if these transactions run one after another."""
+    """Whether the objects return every result if these transactions run one after another."""
     objects = Objects()
     return all(objects.perform(call) == call.result for transaction in transactions for call in transaction.calls)
 
@@ -49,8 +49,8 @@ class Searches(unittest.TestCase):
         self.assertIsNone(found.order)
         self.assertEqual(found.lines, [
             "a cycle of 2 transactions:",
-            "  t1 before t2: t1 found by m.read(0)=0 (line 4) what t2 overwrote by m.write(0,7)=none (line 7)",
-            "  t2 before t1: t2 found by m.read(1)=0 (line 5) what t1 overwrote by m.write(1,5)=none (line 6)"])
+            "  t1 before t2: t1 saw m.read(0)=0 (line 4), and t2 overwrote that by m.write(0,7)=none (line 7)",
+            "  t2 before t1: t2 saw m.read(1)=0 (line 5), and t1 overwrote that by m.write(1,5)=none (line 6)"])
 
     def test_lost_update(self):
         found = self.found(["begin t1 p1", "begin t2 p2", "op t1 1 m.read(0)=0", "op t2 2 m.read(0)=0",
@@ -106,8 +106,8 @@ class Certified(unittest.TestCase):
 
     def test_start_and_body_are_kept(self):
         body = {"step": "begin", "tx": "t1", "thread": "p1", "body": {"on": "m", "call": "read", "args": [0]}}
-        header = {"run": 2, "start": {"tx": "t0", "ops": [{"id": 9, "on": "m", "call": "write", "args": [0, 3], "result": None}]}}
-        found = order(PROGRAM, run_bytes("optimistic", "m:mem", [body, "op t1 1 m.read(0)=3", "commit t1"], **header))
+        records = [body, "op t1 1 m.read(0)=3", "commit t1"]
+        found = order(PROGRAM, run_bytes("optimistic", "m:mem", records, **start("t0", "9 m.write(0,3)=none")))
         self.assertIn(b'"body"', found.text)
         self.assertEqual(found.reordered.verdict_line, "accepted steps 5 committed 2")
 

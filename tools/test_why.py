@@ -74,7 +74,8 @@ CRITERION_RUNS = [
      "is not in the local log of t2, and not in the shared log"),
     ("PULL 3", [*WRITE, "begin t2 p2", "pull t2 1", "pull t2 1"], "is taken over in the local log of t2"),
     ("PULL 4", ["begin t1 p1", "app t1 1 c.add(1)=none", "app t1 2 c.get()=1", "push t1 1", "push t1 2", "begin t2 p2",
-                "pull t2 2"], "the difference of 1 is c.add(1)=none by t1 itself on line 3 (it is not in the local log of t2)"),
+                "pull t2 2"],
+     "the difference of 1 is c.add(1)=none by t1 itself on line 3 (it is not in the local log of t2)"),
     ("PULL 5", ["begin t1 p1", "app t1 1 c.add(1)=none", "push t1 1", "begin t2 p2", "app t2 2 c.get()=0", "pull t2 1"],
      "c.get() returns 1 and not 0"),
     ("UNPULL 1", ["unpull t1 1"], "no line of this run begins t1"),
@@ -108,7 +109,7 @@ KIND_RUNS = [
     ("mem", "optimistic", ["begin t1 p1", "op t1 1 o.read(0)=3", "begin t2 p2", "op t2 2 o.write(0,3)=none"],
      "3 (recorded) was written only later by t2 on line 5, which was still open, and never ends"),
     ("mem", "boosted", ["begin t1 p1", "op t1 1 o.write(0,3)=none", "op t1 2 o.cas(0,3,4)=false"],
-     "another number than 3 (recorded) is what stands there before any call"),
+     "another number than 3 (recorded) is what is there before any call"),
     ("mem", "hardware", ["begin t1 p1", "xbegin t1", "op t1 1 o.write(0,3)=none", "xabort t1", "op t1 2 o.read(0)=3"],
      "3 (recorded) was written by t1 itself on line 4, which took it back on line 5"),
     ("mem", "boosted", ["begin t1 p1", "op t1 1 o.write(0,3)=none", "retry t1", "op t1 2 o.read(0)=3"],
@@ -116,7 +117,8 @@ KIND_RUNS = [
     ("counter", "optimistic", ["begin t1 p1", "begin t2 p2", "op t1 1 o.add(5)=none", "op t2 2 o.get()=0", "commit t1",
                                "commit t2"],
      "0 (recorded) was there before o.add(5)=none by t1 on line 4, which committed on line 6"),
-    ("counter", "optimistic", ["begin t1 p1", "op t1 1 o.add(5)=none", "abort t1", "begin t2 p2", "op t2 2 o.fetch_add(1)=5"],
+    ("counter", "optimistic", ["begin t1 p1", "op t1 1 o.add(5)=none", "abort t1", "begin t2 p2",
+                               "op t2 2 o.fetch_add(1)=5"],
      "the difference of 5 is o.add(5)=none by t1 on line 3, which ABORTED on line 4"),
     ("counter", "optimistic", ["begin t1 p1", "op t1 1 o.add(5)=none", "op t1 2 o.add(7)=none", "abort t1", "begin t2 p2",
                                "op t2 3 o.get()=12"],
@@ -135,13 +137,13 @@ KIND_RUNS = [
 ]
 
 # A read of a value whose writer had aborted.
-STORY = ["begin p0 a", "op p0 1 acct.put(12,420)=none", "commit p0", "begin p1 b", "op p1 2 acct.put(12,468)=420", "abort p1",
-         "begin p2 c", "op p2 3 acct.get(12)=468", "commit p2"]
+STORY = ["begin p0 a", "op p0 1 acct.put(12,420)=none", "commit p0", "begin p1 b", "op p1 2 acct.put(12,468)=420",
+         "abort p1", "begin p2 c", "op p2 3 acct.get(12)=468", "commit p2"]
 STORY_TEXT = """\
 rejected step 15 line 9 APP 4
 entry 3 gives 420
 
-REJECTED at line 9, APP 4: a call must give its recorded result in its transaction's local log
+REJECTED at line 9, APP 4: a call must return its recorded result in its transaction's local log
   entry 3 is acct.get(12)=468 of p2, which should have returned 420
   468 (recorded) was written by p1 on line 6, which ABORTED on line 7 (it is not in the local log of p2)
   420 (right)    was written by p0 on line 3, which committed on line 4
@@ -242,7 +244,8 @@ class LongRuns(unittest.TestCase):
         """A boosted run of many transactions that has more steps than `certify` takes."""
         records = []
         for number in range(count):
-            calls = {"map": f"o.put({number % 2},{number})={number - 2 if number > 1 else 'none'}", "counter": "o.add(1)=none",
+            before = number - 2 if number > 1 else "none"
+            calls = {"map": f"o.put({number % 2},{number})={before}", "counter": "o.add(1)=none",
                      "queue": f"o.enq({number})=none"}
             records += [f"begin t{number} p", f"op t{number} {number} {calls[kind]}", f"commit t{number}"]
         return run_bytes("boosted", f"o:{kind}", [*records, "begin last p", f"op last {count} {last}"])

@@ -85,9 +85,9 @@ class Answer:
 
 
 class Evidence:
-    """What shows a criterion false: the entry's id, and perhaps what it gives, or the operations around a pair.
+    """What shows a criterion false: the entry's id, and perhaps what it returns there, or the operations around a pair.
 
-    `gives` is None if nothing is given, and else a result as the program prints it. `before` and `after` are None, or
+    `gives` is that result as the program prints it, or None. `before` and `after` are None, or
     lists of operations as the program prints them.
     """
 
@@ -190,7 +190,7 @@ def is_program(path):
 
 
 def ask(program, arguments, source=None):
-    """What the program answers. `source` is its input: bytes, an open file, or None for none.
+    """What the program prints. `source` is its input: bytes, an open file, or None for none.
 
     Raises ProgramFailed if it ends without an answer.
     """

@@ -5,6 +5,7 @@ made by this script, and nothing of it is proved.
 """
 from case import Case, first_calls
 from cut_run import cuts
+from explanation import attempt_at
 from recorded_run import read_run
 from replay import expanded_steps
 from rule_words import criterion_words, fault_words
@@ -141,9 +142,15 @@ def criterion_text(case):
 
 
 def explain(case):
+    """The explanation of a rejection, which also names the attempt that takes the step."""
     if case.criterion in RESULT_CRITERIA:
-        return wrong_result(case)
-    return Pair(case) if case.criterion in PAIR_CRITERIA else EXPLAINED[case.criterion](case)
+        explanation = wrong_result(case)
+    else:
+        explanation = Pair(case) if case.criterion in PAIR_CRITERIA else EXPLAINED[case.criterion](case)
+    own = attempt_at(case.run, case.transaction, case.line)
+    if own is not None:
+        explanation.attempts.append(own)
+    return explanation
 
 
 def timeline_of(case, explanation):

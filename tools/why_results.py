@@ -10,7 +10,7 @@ MOST_NAMED = 3
 
 
 class WrongResult(Explanation):
-    """A call whose recorded result differs from what its log gives.
+    """A call whose recorded result differs from what it returns in its log.
 
     `log` has the calls before it in that log. `place` is what they leave where the call is made.
     `removed` is the call that the step withdraws or gives up, or None.
@@ -70,7 +70,7 @@ class WrongResult(Explanation):
         if writer is not None:
             self.say(f"{value} was {verb} {later}by {by_whom(writer, self.call)}", writer)
         elif is_first:
-            self.add(f"{value} is what stands there before any call")
+            self.add(f"{value} is what is there before any call")
         else:
             self.add(f"{value} was {verb} by no call of this run")
 
@@ -90,7 +90,7 @@ class WrongResult(Explanation):
             self.explain_difference(recorded - right)
         last = self.right_by = self.place.left_by
         if last is None:
-            self.add(f"{right} (right) is what stands there before any call")
+            self.add(f"{right} (right) is what is there before any call")
         elif last is not missed:
             self.say(f"{right} (right) was left by {last.text} by {by_whom(last, self.call)}", last)
 
