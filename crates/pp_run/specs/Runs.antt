@@ -10,6 +10,7 @@ use Rattle.pp_run.specs.Commands.{CommandPromise}
 use Rattle.pp_run.specs.Outcomes.{Outcome}
 use Rattle.pp_run.specs.Promises.{HaveOneRun, IsDecidedAsRun}
 use Rattle.pp_run.specs.Streams.{Counts, StreamsPromise}
+use Rattle.pp_violations.specs.Reported.{ReportedLaw}
 
 -- `asked` is the command. `SameSource` and `SameSink` say that the source and the sink are as they were. `sent` is what the
 -- sink has sent on, if it tells that.
@@ -33,3 +34,5 @@ pub record RunLaws : Type 0 where
   -- Two different lists of committed transactions never have the same report, under `certify` and
   -- under `quick`. Two accepted inputs with the same report have the same committed transactions.
   pub readable : CertifyLaw × QuickLaw
+  -- In the four recorded styles only the criteria that `breakable` lists can be the first violated.
+  pub styles_fail_only : ReportedLaw
