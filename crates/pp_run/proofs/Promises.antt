@@ -22,6 +22,8 @@ use Rattle.pp_object.specs.Objects.{place_of}
 use Rattle.pp_prefixes.proofs.Prefixes.{certified_prefix_law, prefix_law}
 use Rattle.pp_prefixes.specs.Prefixes.{CertifiedPrefixLaw, PrefixLaw}
 use Rattle.pp_quick.proofs.Sums.{sum_law}
+use Rattle.pp_readable.proofs.Inputs.{certify_law, quick_law}
+use Rattle.pp_readable.specs.Readable.{CertifyLaw, QuickLaw}
 use Rattle.pp_run.proofs.Numbers.{drill_within}
 use Rattle.pp_run.specs.Promises.{HaveOneRun, IsDecidedAsRun, SeesKept}
 use Rattle.pp_run.specs.Words.{command_of}
@@ -72,3 +74,6 @@ drilled_lines words n is =
 
 pub prefixes_accepted : PrefixLaw × CertifiedPrefixLaw
 prefixes_accepted = (prefix_law, certified_prefix_law)
+
+pub reports_readable : CertifyLaw × QuickLaw
+reports_readable = (certify_law, quick_law)
