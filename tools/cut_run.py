@@ -24,8 +24,8 @@ class Cut:
 def cuts(data, run, line):
     """The run up to a line, cut to the place of the call there, to its object, and to the last lines on the place."""
     failing = next((call for call in run.calls if call.line == line), None)
-    if failing is None:
-        return
+    if failing is None or run.calls_with_id(failing.id)[0] is not failing:
+        return      # a cut run would not have the call that had the id before
     name, key = failing.place
     place_words = name if key is None else f"{name} at {key}"
     calls = [call for call in run.calls if call.line <= line and call.object_name == name]
