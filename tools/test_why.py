@@ -41,7 +41,7 @@ GUILTY = {
 WRITE = ("begin t1 p1", "app t1 1 m.write(0,5)=none", "push t1 1")
 CRITERION_RUNS = [
     ("BEGIN 1", ["begin t1 p1", "begin t1 p2"], "the name t1 was used on line 2"),
-    ("BEGIN 2", ["begin t1 p1", "begin t2 p1"], "t1 began on thread p1 on line 2, and has no end in this run"),
+    ("BEGIN 2", ["begin t1 p1", "begin t2 p1"], "t1 is open on thread p1 since line 2, and has no end in this run"),
     ("BEGIN 2", ["begin t1 p1", "begin t2 p1", "cmt t1"], "and ends only on line 4"),
     ("APP 1", ["app t1 1 c.add(1)=none"], "no line of this run begins t1"),
     ("APP 1", ["app t1 1 c.add(1)=none", "begin t1 p1"], "t1 begins only on line 3, after line 2"),
@@ -216,6 +216,14 @@ class Explanations(unittest.TestCase):
             with self.subTest(kind, records=records):
                 found = self.explained(run_bytes(style, f"o:{kind}", records), "")
                 self.assertIn(sentence, "\n".join(found.lines))
+
+    def test_members_that_nobody_needs(self):
+        odd = {"id": [1], "on": {}, "args": None, "more": {"id": 1}}
+        for step in ("note", "cmt", "quit"):
+            for records in ([{"step": step, "tx": "t1", **odd}],
+                            [{"step": "begin", "tx": "t1", "thread": "p1", **odd}, {"step": step, "tx": "t1", **odd},
+                             "app t1 1 m.read(0)=7", "begin t1 p2"]):
+                self.assertEqual(why(PROGRAM, run_bytes("rules", "m:mem", records)).report.verdict, "rejected")
 
     def test_accepted(self):
         found = why(PROGRAM, example("accepted.jsonl"))

@@ -2,7 +2,7 @@
 from explanation import Explanation
 from phrases import by_whom, named, with_fate
 from recorded_run import result_text
-from sequential import (PUTS, TAKES, Register, addition, found_by, new_place, writes, written_value)
+from sequential import PUTS, TAKES, Register, addition, found_by, new_place, writes, written_value
 from verified_program import result_of
 
 SET_WORDS = {True: "present", False: "absent"}
@@ -12,17 +12,17 @@ MOST_NAMED = 3
 class WrongResult(Explanation):
     """A call whose recorded result differs from what it returns in its log.
 
-    `log` has the calls before it in that log. `place` is what they leave where the call is made.
-    `removed` is the call that the step withdraws or gives up, or None.
+    `whole_log` has the calls of that log, and `removed` is the one that the step withdraws or gives up, or None.
+    `log` has those before the call at its place, and `place` is what they leave there.
     """
 
-    def __init__(self, case, log, log_words, removed=None):
+    def __init__(self, case, whole_log, log_words, removed=None):
         super().__init__()
         self.run, self.line, self.call, self.log_words = case.run, case.line, case.entry, log_words
         self.gives = result_of(case.evidence.gives)
-        self.log = [call for call in log if call.place == self.call.place]
-        self.in_log = {call.id for call in self.log}
         self.removed = removed
+        self.in_log = {call.id for call in whole_log if call is not removed}
+        self.log = [call for call in up_to(whole_log, self.call) if call.place == self.call.place and call is not removed]
         self.is_cut = case.is_cut
         self.place = new_place(self.call.kind)
         for call in self.log:
@@ -148,10 +148,6 @@ def by_attempt(calls):
     return attempts.values()
 
 
-def without(log, removed):
-    return [call for call in log if call is not removed]
-
-
 def up_to(log, entry):
     """The calls of a log before an entry, or all if it does not have it."""
     return log[:log.index(entry)] if entry in log else log
@@ -160,12 +156,9 @@ def up_to(log, entry):
 def wrong_result(case):
     """The explanation of APP 4, PUSH 5, PULL 4, UNPUSH 4, UNPULL 3 and START 2."""
     rule = case.criterion[0]
+    removed = case.call if rule in ("UNPUSH", "UNPULL") else None
     if rule == "START":
-        return WrongResult(case, up_to(case.run.start.attempts[0].calls, case.entry), "the start")
+        return WrongResult(case, case.run.start.attempts[0].calls, "the start")
     if rule in ("PUSH", "UNPUSH"):
-        log, words = case.logs.shared_calls(), "the shared log"
-    else:
-        log, words = case.logs.local_calls(case.transaction), f"the local log of {case.transaction}"
-    if rule in ("APP", "PUSH", "PULL"):
-        return WrongResult(case, log, words)
-    return WrongResult(case, up_to(without(log, case.call), case.entry), words, case.call)
+        return WrongResult(case, case.logs.shared_calls(), "the shared log", removed)
+    return WrongResult(case, case.logs.local_calls(case.transaction), f"the local log of {case.transaction}", removed)
