@@ -12,6 +12,7 @@ COLUMNS = 100
 WIDE = ("pp_core", "pp_json")
 # The rows of the tests are data, and stand as they are.
 ROWS = "tests"
+IMAGES = (".png",)
 OUTSIDE = re.compile(r"\b[TDRWP]\d{1,2}\b|/(?:work|opt|home|root|tmp)/|\bthe papers\b")
 
 
@@ -38,6 +39,10 @@ def lost_edits():
         yield from (f"docs/PROOFS.md: no edit {name}" for name in named if name not in there and not name.startswith("pp_"))
 
 
+def is_text(file):
+    return file.is_file() and file.suffix not in IMAGES
+
+
 def outside(file):
     """Lines that name a place of some machine, or what stands in no file of the repository."""
     for number, line in enumerate(file.read_text().splitlines(), 1):
@@ -52,7 +57,7 @@ def main():
     own = pathlib.Path(__file__).resolve()
     wrong = [line for file in narrow_files() for line in too_wide(file)]
     wrong += lost_edits()
-    wrong += [line for file in files if file.is_file() and file != own for line in outside(file)]
+    wrong += [line for file in files if is_text(file) and file != own for line in outside(file)]
     for line in wrong:
         print(f"words: {line}")
     return int(bool(wrong))

@@ -25,7 +25,7 @@ from why import why
 
 ACCEPTED, REJECTED = "optimistic_memory.jsonl", "rejected_optimistic_update.jsonl"
 BROWSER = next((name for name in ("chromium", "chromium-browser", "google-chrome") if shutil.which(name)), None)
-SIZE = 1120, 520
+SIZE = 1280, 560
 SECONDS = 120
 # What a browser does at its first start, and need not do here.
 QUIET = ("--no-first-run", "--disable-extensions", "--disable-background-networking", "--disable-component-update",
@@ -132,6 +132,15 @@ class PageText(unittest.TestCase):
     def test_record_of_a_transaction_that_is_not_open(self):
         data = data_in(page_of(run_bytes("boosted", "c:counter", ["begin t1 p1", "commit t2"])))
         self.assertEqual((data["attempts"]["end"], data["lanes"]), (["open", "not open"], ["(no thread)", "p1"]))
+
+    def test_run_with_too_many_steps(self):
+        records = [text for number in range(650)
+                   for text in (f"begin t{number} p1", f"op t{number} {number} c.add(1)=none", f"commit t{number}")]
+        page = page_of(run_bytes("boosted", "c:counter", records))
+        self.assertIn('<h1 id="verdict">quick accepted records 1950 committed 650</h1>', page)
+        page = page_of(run_bytes("optimistic", "c:counter", records))
+        self.assertRegex(page, r'<header class="fault">\s*<span[^>]*></span>\s*<h1 id="verdict">fault line \d+ TooManySteps</h1>')
+        self.assertIn("TooManySteps", data_in(page)["words"][0])
 
     def test_header_alone(self):
         self.assertEqual(data_in(page_of(run_bytes("boosted", "m:map", [])))["marks"]["line"], [])

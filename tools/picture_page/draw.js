@@ -5,16 +5,18 @@
 const timeline = document.getElementById("timeline");
 const pen = timeline.getContext("2d");
 const state = {selected: -1, hovered: -1, found: [], arrows: true};
-const LABEL_FONT = '11px ui-monospace, "DejaVu Sans Mono", monospace', NAME_FONT = '600 11px system-ui, "DejaVu Sans", sans-serif';
+const LABEL_FONT = '11px ui-monospace, "DejaVu Sans Mono", monospace';
+const TEXT_FONT = '11px system-ui, "DejaVu Sans", sans-serif', NAME_FONT = `600 ${TEXT_FONT}`;
 const ROW = 14, MOST_ARROWS = 400;
 // Slots narrower than these have no ticks, and no dots.
 const TICKS_FROM = 0.3, DOTS_FROM = 5;
+const COLOURS = ["paper", "panel", "lane", "rule", "ink", "faint", "committed", "committed-edge", "undone", "undone-edge",
+  "open", "open-edge", "failure", "right", "arrow", "found"];
 let colours = {}, hatch = null, letter = 6.7;
 
 function readColours() {
   const style = getComputedStyle(document.documentElement);
-  for (const name of ["paper", "panel", "rule", "ink", "faint", "committed", "committed-edge", "undone", "undone-edge", "open",
-    "open-edge", "failure", "failure-wash", "right", "arrow", "found", "lane"]) {
+  for (const name of COLOURS) {
     colours[name] = style.getPropertyValue(`--${name}`).trim();
   }
   hatch = hatching();
@@ -42,10 +44,13 @@ function draw() {
   pen.clearRect(0, 0, view.width, view.height);
   const from = Math.max(0, Math.floor(view.top / view.laneHeight));
   const to = Math.min(view.lanes.length, Math.ceil((view.top + view.height) / view.laneHeight));
+  names = [];
+  boxes = [];
   for (let row = from; row < to; row++) drawLane(row);
   drawUnjudged();
   if (state.arrows) drawArrows(from, to);
   drawStrongArrows();
+  names.forEach(drawName);
   drawFound();
   for (let row = from; row < to; row++) drawLaneMarks(row);
   drawRings();
@@ -125,19 +130,45 @@ function drawBar(attempt, left, width, bar) {
   pen.fill();
   pen.stroke();
   pen.setLineDash([]);
-  if (bar.tall) nameBar(attempt, left, width, bar);
+  names.push({attempt, left, width, bar});
 }
 
-// The transaction's name over the bar, and how it ended, if there is room.
-function nameBar(attempt, left, width, bar) {
-  const sign = {committed: " \u2713", undone: " \u2717", open: " \u2026", "not open": " ?"}[attempts.end[attempt]];
+// The transactions' names over the bars, or in them if the lanes are low, and how they ended, if there is room. They are
+// drawn after the arrows.
+let names = [];
+function drawName({attempt, left, width, bar}) {
+  const sign = isJudged(attempt) ? {committed: " \u2713", undone: " \u2717"}[attempts.end[attempt]] || "" : "";
   const again = attempts.number[attempt] > 1 ? ` (attempt ${attempts.number[attempt]})` : "";
   const name = run.transactions[attempts.transaction[attempt]];
-  const text = [name + again + sign, name + sign, name].find(words => words.length * 6.6 < width + 6);
+  const text = [name + again + sign, name + sign, name].find(words => words.length * 6.6 < width - 4);
   if (text === undefined) return;
+  if (!bar.tall) {
+    nameInside(attempt, text, Math.max(left, GUTTER) + 4, bar);
+    return;
+  }
   pen.font = NAME_FONT;
+  writeOver(text, Math.max(left + 1, GUTTER + 4), bar.y - 6, colours.ink);
+}
+
+// A name in the bar itself, if no mark of the lane is where it would be.
+function nameInside(attempt, text, x, bar) {
+  const first = attempts.first[attempt], list = view.lanes[rowOf(first)].marks;
+  const next = list[firstFrom(list, Math.max(view.slots[first] + 1, view.start))];
+  if (next !== undefined && xOf(next) < x + text.length * 6.6 + 4) return;
+  pen.font = TEXT_FONT;
   pen.fillStyle = colours.ink;
-  pen.fillText(text, Math.max(left + 1, GUTTER + 4), bar.y - 5);
+  pen.fillText(text, x, bar.y + bar.height / 2 + 4);
+}
+
+// A text with a rim of paper, so that it can be read over lines.
+function writeOver(text, x, y, colour) {
+  pen.lineWidth = 3;
+  pen.lineJoin = "round";
+  pen.strokeStyle = colours.paper;
+  pen.strokeText(text, x, y);
+  pen.fillStyle = colour;
+  pen.fillText(text, x, y);
+  boxes.push({left: x, right: x + pen.measureText(text).width, y});
 }
 
 function drawLaneMarks(row) {
@@ -246,210 +277,5 @@ function drawLeader({mark, row}, bar) {
 function drawLabel({mark, text, row, left: x}, bar) {
   const y = bar.y + bar.height + 15 + row * ROW, named = rank(mark) === 0;
   pen.font = named ? `600 ${LABEL_FONT}` : LABEL_FONT;
-  pen.lineWidth = 4;
-  pen.lineJoin = "round";
-  pen.strokeStyle = colours.paper;
-  pen.strokeText(text, x, y);
-  pen.fillStyle = named ? colours.failure : isCall(mark) ? colours.ink : colours.faint;
-  pen.fillText(text, x, y);
-}
-
-// The arrows of the calls in view. If there are too many, none but those of the chosen mark are drawn.
-function drawArrows(from, to) {
-  if (view.scale < TICKS_FROM) return;
-  const drawn = [];
-  for (let row = from; row < to; row++) {
-    const list = view.lanes[row].marks;
-    const seen = list.slice(firstFrom(list, view.start - 1), firstFrom(list, slotAt(view.width)));
-    drawn.push(...seen.filter(mark => marks.source[mark] >= 0 && !isOfFailure(mark)));
-  }
-  if (drawn.length > MOST_ARROWS) return;
-  pen.globalAlpha = drawn.length > 80 ? 0.4 : 0.75;
-  for (const mark of drawn) drawArrow(mark, marks.source[mark], colours.arrow, 1.2);
-  pen.globalAlpha = 1;
-}
-
-// Whether the arrow of a mark is drawn as one of the failure.
-const isOfFailure = mark => failure !== null && ((mark === failure.entry && marks.source[mark] === failure.recorded)
-  || (mark === againstEvidence && marks.source[mark] === failure.entry));
-
-// From where an arrow leads to the evidence, if that is another call than the one that fails: from the step's call, or
-// from its line if it has none.
-const againstEvidence = failure === null || failure.entry < 0 || failure.gives || failure.call === failure.entry ? -1
-  : failure.call >= 0 ? failure.call : failure.mark;
-
-let tags = [];
-function drawStrongArrows() {
-  tags = [];
-  for (const mark of new Set([state.selected, state.hovered])) {
-    if (mark < 0) continue;
-    const call = marks.about[mark] >= 0 ? marks.about[mark] : mark;
-    if (marks.source[call] >= 0 && !isOfFailure(call)) drawArrow(call, marks.source[call], colours.arrow, 2.4);
-    const readers = readersOf(call).filter(reader => !isOfFailure(reader)).slice(0, 60);
-    for (const reader of readers) drawArrow(reader, call, colours.arrow, 2.4);
-  }
-  if (failure === null || failure.entry < 0) return;
-  if (againstEvidence >= 0) drawArrow(againstEvidence, failure.entry, colours.failure, 2.2, [2, 3], "evidence");
-  if (failure.recorded >= 0) drawArrow(failure.entry, failure.recorded, colours.failure, 2.2, [6, 4], "recorded");
-  if (failure.right >= 0) drawArrow(failure.entry, failure.right, colours.right, 2.4, [], "right");
-}
-
-// From one who read to one who wrote. Both ends are on the bars' edges that face each other.
-function drawArrow(reader, writer, colour, width, dash = [], tag = "") {
-  if (!isShown(reader) || !isShown(writer)) return;
-  const [x1, x2] = [xOf(reader), xOf(writer)];
-  if (Math.max(x1, x2) < GUTTER || Math.min(x1, x2) > view.width) return;
-  const [from, to] = [barOf(rowOf(reader)), barOf(rowOf(writer))];
-  const level = rowOf(reader) === rowOf(writer), up = level || from.y > to.y;
-  const y1 = up ? from.y : from.y + from.height, y2 = level ? to.y : up ? to.y + to.height + 1 : to.y - 1;
-  const bend = level ? Math.min(26, 8 + Math.abs(x1 - x2) / 12) : Math.min(70, Math.abs(y1 - y2) * 0.55);
-  const [c1, c2] = level ? [y1 - bend, y2 - bend] : up ? [y1 - bend, y2 + bend] : [y1 + bend, y2 - bend];
-  pen.strokeStyle = pen.fillStyle = colour;
-  pen.lineWidth = width;
-  pen.setLineDash(dash);
-  pen.beginPath();
-  pen.moveTo(x1, y1);
-  pen.bezierCurveTo(x1, c1, x2, c2, x2, y2);
-  pen.stroke();
-  pen.setLineDash([]);
-  arrowHead(x2, y2, c2 < y2 ? 1 : -1, 3 + width);
-  if (tag !== "") tags.push({text: tag, colour, ...pointOf([x1, x1, x2, x2], [y1, c1, c2, y2], 0.6)});
-}
-
-// A point of a cubic curve.
-function pointOf(xs, ys, t) {
-  const weights = [(1 - t) ** 3, 3 * t * (1 - t) ** 2, 3 * t ** 2 * (1 - t), t ** 3];
-  const sum = list => list.reduce((total, value, place) => total + value * weights[place], 0);
-  return {x: sum(xs), y: sum(ys)};
-}
-
-function arrowHead(x, y, down, size) {
-  pen.beginPath();
-  pen.moveTo(x, y);
-  pen.lineTo(x - size * 0.75, y - down * size * 1.7);
-  pen.lineTo(x + size * 0.75, y - down * size * 1.7);
-  pen.fill();
-}
-
-function drawTags() {
-  for (const tag of tags) drawTag(tag);
-}
-
-function drawTag({text, x, y, colour}) {
-  pen.font = NAME_FONT;
-  const width = pen.measureText(text).width + 10;
-  pen.fillStyle = colours.paper;
-  pen.strokeStyle = colour;
-  pen.beginPath();
-  pen.roundRect(x - width / 2, y - 8, width, 16, 8);
-  pen.fill();
-  pen.lineWidth = 1;
-  pen.stroke();
-  pen.fillStyle = colour;
-  pen.fillText(text, x - width / 2 + 5, y + 4);
-}
-
-// What is after the failing step was not judged, and is paler.
-function drawUnjudged() {
-  if (failure === null || failure.mark < 0) return;
-  const x = Math.max(GUTTER, xOfSlot(view.slots[failure.mark] + 1));
-  if (x >= view.width) return;
-  pen.globalAlpha = 0.6;
-  pen.fillStyle = colours.paper;
-  pen.fillRect(x, AXIS, view.width - x, view.height);
-  pen.globalAlpha = 1;
-}
-
-function drawFailure() {
-  if (failure === null || failure.mark < 0 || !isShown(failure.mark)) return;
-  const x = xOf(failure.mark), bar = barOf(rowOf(failure.mark));
-  if (x < GUTTER || x > view.width) return;
-  pen.fillStyle = colours.failure;
-  pen.fillRect(x - 0.75, AXIS, 1.5, Math.min(view.height, lanesHeight() - view.top) - AXIS);
-  pen.beginPath();
-  const y = bar.y + bar.height / 2;
-  pen.moveTo(x, y - 10); pen.lineTo(x + 9, y); pen.lineTo(x, y + 10); pen.lineTo(x - 9, y);
-  pen.fill();
-  pen.fillStyle = colours.paper;
-  pen.font = '700 12px system-ui, "DejaVu Sans", sans-serif';
-  pen.fillText("!", x - 2, y + 4);
-}
-
-function drawAxis() {
-  pen.fillStyle = colours.panel;
-  pen.fillRect(0, 0, view.width, AXIS);
-  pen.fillStyle = colours.rule;
-  pen.fillRect(0, AXIS - 1, view.width, 1);
-  pen.font = '11px system-ui, "DejaVu Sans", sans-serif';
-  pen.fillStyle = colours.faint;
-  pen.fillText("line", 12, 17);
-  const flag = failure !== null && failure.mark >= 0 && isShown(failure.mark) ? flagSpan() : null;
-  for (const mark of axisMarks()) drawLineNumber(mark, flag);
-  if (flag !== null && flag.right > GUTTER && flag.left < view.width) drawFlag(flag);
-}
-
-// Marks at even distances in the axis: every one, every second, every fifth, and so on.
-function axisMarks() {
-  const factors = [2, 2.5, 2];
-  let every = 1;
-  for (let turn = 0; every * view.scale < 46; turn++) every *= factors[turn % factors.length];
-  const shown = [], phase = view.filtered || markCount === 0 ? 0 : marks.line[0];
-  for (let slot = Math.ceil((view.start + phase) / every) * every - phase; xOfSlot(slot) < view.width && slot < view.count; slot += every) {
-    if (slot >= 0) shown.push(markOfSlot(slot));
-  }
-  return shown;
-}
-
-function markOfSlot(slot) {
-  let low = 0, high = markCount - 1;
-  while (low < high) {
-    const middle = (low + high) >> 1;
-    if (view.slots[middle + 1] <= slot) low = middle + 1; else high = middle;
-  }
-  return low;
-}
-
-function drawLineNumber(mark, flag) {
-  const text = String(marks.line[mark]), x = xOf(mark), half = pen.measureText(text).width / 2;
-  if (x - half < GUTTER || x + half > view.width || (flag !== null && x + half > flag.left - 4 && x - half < flag.right + 4)) return;
-  pen.fillStyle = colours.faint;
-  pen.fillText(text, x - half, 17);
-  pen.fillStyle = colours.rule;
-  pen.fillRect(x - 0.5, AXIS - 4, 1, 4);
-}
-
-function flagSpan() {
-  pen.font = NAME_FONT;
-  const text = `line ${failure.line}${failure.criterion ? `: ${failure.criterion}` : ""}`;
-  const width = pen.measureText(text).width + 14, x = xOf(failure.mark);
-  pen.font = '11px system-ui, "DejaVu Sans", sans-serif';
-  const left = Math.min(x - width / 2, view.width - width - 2);
-  return {text, left, right: left + width};
-}
-
-function drawFlag({text, left, right}) {
-  pen.fillStyle = colours.failure;
-  pen.beginPath();
-  pen.roundRect(left, 4, right - left, AXIS - 8, 4);
-  pen.fill();
-  pen.font = NAME_FONT;
-  pen.fillStyle = colours.paper;
-  pen.fillText(text, left + 7, 17);
-}
-
-function drawLaneName(row) {
-  const top = laneTop(row), bar = barOf(row);
-  pen.save();
-  pen.beginPath();
-  pen.rect(0, AXIS, GUTTER, view.height);
-  pen.clip();
-  pen.fillStyle = colours.panel;
-  pen.fillRect(0, top, GUTTER - 1, view.laneHeight);
-  pen.fillStyle = colours.rule;
-  pen.fillRect(0, top + view.laneHeight - 1, GUTTER, 1);
-  pen.fillRect(GUTTER - 1, top, 1, view.laneHeight);
-  pen.font = NAME_FONT;
-  pen.fillStyle = colours.ink;
-  pen.fillText(view.lanes[row].name, 12, bar.y + bar.height / 2 + 4, GUTTER - 18);
-  pen.restore();
+  writeOver(text, x, y, named ? colours.failure : isCall(mark) ? colours.ink : colours.faint);
 }

@@ -23,23 +23,29 @@ function wholeText(mark) {
   return marks.about[mark] >= 0 ? `${stepOf(mark)} ${wholeText(marks.about[mark])}` : stepOf(mark);
 }
 
-// The same for the timeline, without what goes without saying: the only object, and a result that is none.
+// A call that has no other result than none.
+const WITHOUT_RESULT = /(\.(?:write|add|enq|push|insert)\(.*\))=none$/;
+
+// The same for the timeline, without what goes without saying: the only object, and a result that can only be none.
 function shortText(mark) {
   if (marks.about[mark] >= 0) return `${stepOf(mark)} ${shortText(marks.about[mark])}`;
   const text = wholeText(mark);
   if (!isCall(mark)) return text;
-  return (run.objects.length === 1 ? text.slice(run.objects[0].length + 1) : text).replace(/=none$/, "");
+  const shown = text.replace(WITHOUT_RESULT, "$1");
+  return run.objects.length === 1 ? shown.slice(run.objects[0].length + 1) : shown;
 }
 
 const knownEnd = attempt => KNOWN_ENDS.includes(attempts.end[attempt]) ? attempts.end[attempt] : "open";
+
+// Whether the attempt ended before the rejected step.
+const isJudged = attempt => failure === null || failure.mark < 0 || attempts.last[attempt] < failure.mark;
 
 function endOf(attempt) {
   const end = attempts.end[attempt], last = attempts.last[attempt], line = marks.line[last];
   if (end === "open") return "open at the end of the run";
   if (end === "not open") return "not open";
   if (failure !== null && last === failure.mark) return `whose ${stepOf(last)} this is`;
-  const isJudged = failure === null || failure.mark < 0 || last < failure.mark;
-  return isJudged ? `${end} on line ${line}` : `with its ${stepOf(last)} on line ${line}, which was not judged`;
+  return isJudged(attempt) ? `${end} on line ${line}` : `with its ${stepOf(last)} on line ${line}, which was not judged`;
 }
 
 function attemptText(attempt) {
@@ -72,9 +78,10 @@ function readersOf(mark) {
 function facts(mark) {
   const rows = [{text: attemptText(marks.attempt[mark])}];
   const source = marks.source[mark];
-  if (source >= 0) rows.push({text: `found what ${wholeText(source)} of ${transactionOf(source)} left on line ${marks.line[source]}`, mark: source});
-  if (marks.gone[mark] >= 0) rows.push({text: `taken back on line ${marks.line[marks.gone[mark]]}`, mark: marks.gone[mark]});
-  if (marks.about[mark] >= 0) rows.push({text: `the call is on line ${marks.line[marks.about[mark]]}`, mark: marks.about[mark]});
+  const add = (other, text) => other >= 0 && rows.push({text: `${text} ${marks.line[other]}`, mark: other});
+  if (source >= 0) add(source, `found what ${wholeText(source)} of ${transactionOf(source)} left on line`);
+  add(marks.gone[mark], "taken back on line");
+  add(marks.about[mark], "the call is on line");
   for (const [name, text] of failureRoles()) if (failure[name] === mark && text !== "") rows.push({text, strong: true});
   return rows;
 }
@@ -100,7 +107,8 @@ function search(query) {
   if (kind === "line" || (kind === undefined && /^\d+$/.test(words))) return marksOfLine(Number(words));
   const transaction = kind === "on" ? -1 : run.transactions.indexOf(words);
   const places = new Set();
-  if (kind !== "tx") run.places.forEach((place, number) => (place === words || place.split("(")[0] === words) && places.add(number));
+  const isMeant = place => place === words || place.split("(")[0] === words;
+  if (kind !== "tx") run.places.forEach((place, number) => isMeant(place) && places.add(number));
   if (transaction >= 0 || places.size > 0 || kind !== undefined) {
     return marksWhere(mark => attempts.transaction[marks.attempt[mark]] === transaction || places.has(marks.place[mark]));
   }

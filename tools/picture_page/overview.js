@@ -24,7 +24,7 @@ function drawOverview() {
     }
   }
   brush.fillStyle = colours.faint;
-  brush.font = '11px system-ui, "DejaVu Sans", sans-serif';
+  brush.font = TEXT_FONT;
   brush.fillText("whole run", 12, 21);
   drawOverviewMarks(brush, columns, height);
 }
@@ -39,7 +39,9 @@ function countEnds(columns) {
     const from = columnOf(view.slots[first]), to = columnOf(view.slots[attempts.last[attempt]] + 0.99) + 1;
     for (const name of [knownEnd(attempt), "total"]) { parts[name][from]++; parts[name][to]--; }
   });
-  for (const part of Object.values(parts)) for (let column = 1; column <= columns; column++) part[column] += part[column - 1];
+  for (const part of Object.values(parts)) {
+    for (let column = 1; column <= columns; column++) part[column] += part[column - 1];
+  }
   return parts;
 }
 

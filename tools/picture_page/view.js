@@ -28,7 +28,8 @@ function showOnly(keep) {
     if (isShown(attempts.first[attempt])) lanes[lane].attempts.push(attempt);
   });
   view.lanes = lanes.filter(lane => lane.marks.length > 0);
-  view.rows = lanes.map(lane => view.lanes.indexOf(lane));
+  let row = 0;
+  view.rows = lanes.map(lane => lane.marks.length > 0 ? row++ : -1);
   fitLanes();
 }
 
