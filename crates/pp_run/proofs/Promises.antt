@@ -22,6 +22,8 @@ use Rattle.pp_object.specs.Objects.{place_of}
 use Rattle.pp_prefixes.proofs.Prefixes.{certified_prefix_law, prefix_law}
 use Rattle.pp_prefixes.specs.Prefixes.{CertifiedPrefixLaw, PrefixLaw}
 use Rattle.pp_quick.proofs.Sums.{sum_law}
+use Rattle.pp_readable.proofs.Inputs.{certify_law, quick_law}
+use Rattle.pp_readable.specs.Readable.{CertifyLaw, QuickLaw}
 use Rattle.pp_run.proofs.Numbers.{drill_within}
 use Rattle.pp_run.specs.Promises.{HaveOneRun, IsDecidedAsRun, SeesKept}
 use Rattle.pp_run.specs.Words.{command_of}
@@ -50,7 +52,7 @@ decided_as_run sc header here =
     }
 
 -- views of an accepted run are those of one that is certified
-accepted_how : (sc : InputScan) (how : Status) (report text : List ℕ) → IsViewsOf sc how report statuses.Accepted text → how ≡ statuses.Accepted
+pub accepted_how : (sc : InputScan) (how : Status) (report text : List ℕ) → IsViewsOf sc how report statuses.Accepted text → how ≡ statuses.Accepted
 accepted_how sc statuses.Accepted report text told = refl
 accepted_how sc statuses.Rejected report text told = absurd (let no : statuses.Accepted ≡ statuses.Rejected = told.0 in cc)
 accepted_how sc statuses.InputFault report text told = absurd (let no : statuses.Accepted ≡ statuses.InputFault = told.0 in cc)
@@ -72,3 +74,6 @@ drilled_lines words n is =
 
 pub prefixes_accepted : PrefixLaw × CertifiedPrefixLaw
 prefixes_accepted = (prefix_law, certified_prefix_law)
+
+pub reports_readable : CertifyLaw × QuickLaw
+reports_readable = (certify_law, quick_law)
