@@ -14,15 +14,21 @@ from why import why
 
 # The transactions that `why` names for each rejected example.
 GUILTY = {
+    "rejected_blind_refresh.jsonl": ["t1", "t2"],
     "rejected_body.jsonl": ["t1"],
     "rejected_boosted_lock.jsonl": ["t1", "t2"],
     "rejected_boosted_queue.jsonl": ["t1", "t2"],
     "rejected_boosted_read.jsonl": ["t1", "t2"],
     "rejected_boosted_undo.jsonl": ["t0", "t1", "t2"],
+    "rejected_clojure_numbers.jsonl": ["p0_0", "p1_0"],
+    "rejected_clojure_skew.jsonl": ["p0_0", "p1_0", "t0"],
+    "rejected_clojure_stale.jsonl": ["p0_0", "p1_0", "t0"],
+    "rejected_commit_order.jsonl": ["t1", "t2"],
     "rejected_dependent_commit.jsonl": ["t1", "t2"],
     "rejected_dependent_drop.jsonl": ["t1", "t2"],
     "rejected_dirty_read.jsonl": ["t1", "t2"],
     "rejected_hardware_fallback.jsonl": ["t1", "t2"],
+    "rejected_haskell_split.jsonl": ["p0_0", "p1_0", "t0"],
     "rejected_lost_update.jsonl": ["t0", "t1", "t2"],
     "rejected_optimistic.jsonl": ["t1", "t2"],
     "rejected_optimistic_refresh.jsonl": ["t1", "t2"],
@@ -31,10 +37,14 @@ GUILTY = {
     "rejected_overwrite.jsonl": ["t1", "t2"],
     "rejected_priority.jsonl": ["t1", "t2"],
     "rejected_race.jsonl": ["reader", "writer"],
+    "rejected_recorded_boosted.jsonl": ["p0_1", "p1_1"],
+    "rejected_recorded_libitm.jsonl": ["p0_1", "p1_1"],
+    "rejected_recorded_tl2.jsonl": ["p0_1", "p1_1"],
     "rejected_result.jsonl": ["t1"],
     "rejected_start.jsonl": ["t0"],
     "rejected_ticket.jsonl": ["t1.0", "t2.1"],
     "rejected_undo.jsonl": ["t1"],
+    "rejected_write_skew.jsonl": ["t1", "t2"],
 }
 
 # For each criterion a run of style rules, and what `why` says of it. The objects are a mem m and a counter c.
