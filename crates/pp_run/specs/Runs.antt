@@ -8,8 +8,10 @@ use Rattle.pp_readable.specs.Readable.{CertifyLaw, QuickLaw}
 use Rattle.pp_run.specs.declared.words.Command.{Command}
 use Rattle.pp_run.specs.Commands.{CommandPromise}
 use Rattle.pp_run.specs.Outcomes.{Outcome}
+use Rattle.pp_run.specs.Outputs.{DefinedLaw}
 use Rattle.pp_run.specs.Promises.{HaveOneRun, IsDecidedAsRun}
 use Rattle.pp_run.specs.Streams.{Counts, StreamsPromise}
+use Rattle.pp_violations.specs.Reported.{ReportedLaw}
 
 -- `asked` is the command. `SameSource` and `SameSink` say that the source and the sink are as they were. `sent` is what the
 -- sink has sent on, if it tells that.
@@ -21,6 +23,9 @@ pub record RunPromise (SameSource SameSink : Type 0) (asked : Option Command) (o
   pub command : CommandPromise asked o
 
 pub record RunLaws : Type 0 where
+  -- Whatever the arguments and the input are, an output is defined. The clauses `prints` say that
+  -- there is no other.
+  pub defined : DefinedLaw
   -- Whatever records follow a header, they have one run, and steps have one verdict.
   pub one_run : (header : Header) → HaveOneRun header
   -- What `quick` decides is the verdict of all steps of the records.
@@ -33,3 +38,5 @@ pub record RunLaws : Type 0 where
   -- Two different lists of committed transactions never have the same report, under `certify` and
   -- under `quick`. Two accepted inputs with the same report have the same committed transactions.
   pub readable : CertifyLaw × QuickLaw
+  -- In the four recorded styles only the criteria that `breakable` lists can be the first violated.
+  pub styles_fail_only : ReportedLaw
