@@ -1,4 +1,4 @@
--- What records keep of the unpushed entries.
+-- What records keep of the unpushed and of the uncommitted entries.
 use Rattle.std.specs.Prelude.{◌≡◌, ◌≢◌, ◌≤◌, ◌+◌, ℕ, Bool, true, false, cond, List, []}
 use Rattle.std.specs.Prelude.{◌∷◌, ◌++◌, drop, length, slice_get, take, Option, None, Some}
 use Rattle.std.proofs.Common.{refl, sym, ap, subst, ◌∙◌, arith, length-append}
@@ -33,7 +33,9 @@ use Rattle.pp_front.proofs.Taking.{back_law}
 use Rattle.pp_violations.proofs.Logs.{marked}
 use Rattle.pp_violations.proofs.Others.{AreOf, after_cmt, after_quit, at_once_grows, begun_after}
 use Rattle.pp_violations.proofs.Others.{later_grows, of_pushall, of_taken, still_after}
+use Rattle.pp_violations.proofs.Pulling.{AllShared}
 use Rattle.pp_violations.proofs.Pushing.{NoneUnpushed}
+use Rattle.pp_violations.proofs.Sharing.{optimistic_keeps}
 use Rattle.pp_violations.proofs.Records.{only_begin}
 
 -- the section of a name
@@ -57,7 +59,7 @@ module _ {Op State : Type 0} (O : Object Op State) (place : Op → ℕ) where
   abbrev pub Kept : Style → Front → Config Op → Type 0
   Kept styles.Rules f c = Unit {0}
   Kept styles.Boosted f c = (x : Tx Op) → In x c.opened → NoneUnpushed x.local
-  Kept styles.Optimistic f c = Unit {0}
+  Kept styles.Optimistic f c = AllShared c
   Kept styles.Hardware f c = ((x : Tx Op) → In x c.opened → SectionKept f x) × ((u : Name) → (In u c.names → ⊥) → f.section u ≡ None)
   Kept styles.Dependent f c = Unit {0}
 
@@ -355,6 +357,6 @@ module _ {Op State : Type 0} (O : Object Op State) (place : Op → ℕ) where
       Kept style (front_after f c r) (after_from c (expand place style f c r))
   record_keeps styles.Rules recorded f c s kept r i run = absurd (recorded refl)
   record_keeps styles.Boosted recorded f c s kept r i run = boosted_keeps f c s kept r i run
-  record_keeps styles.Optimistic recorded f c s kept r i run = tt
+  record_keeps styles.Optimistic recorded f c s kept r i run = optimistic_keeps O place f c kept r i run
   record_keeps styles.Hardware recorded f c s kept r i run = hardware_keeps f c s kept.0 kept.1 r i run
   record_keeps styles.Dependent recorded f c s kept r i run = tt

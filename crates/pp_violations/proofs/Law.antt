@@ -1,5 +1,5 @@
 -- The law: steps of records of a recorded style break breakable criteria alone.
-use Rattle.std.specs.Prelude.{◌≡◌, ◌≢◌, ℕ, List, [], ◌∷◌, ◌++◌, Option, None, Some}
+use Rattle.std.specs.Prelude.{◌≡◌, ◌≢◌, ℕ, true, List, [], ◌∷◌, ◌++◌, Option, None, Some}
 use Rattle.std.proofs.Common.{refl, sym, ap, subst, ◌∙◌}
 use mathlib.Core.Logic.{inl, inr}
 use Rattle.pp_core.specs.declared.call.Kind.{Kind}
@@ -21,6 +21,9 @@ use Rattle.pp_front.proofs.Ends.{bare_append, bare_on_line}
 use Rattle.pp_violations.specs.Breakable.{BreakableLaw}
 use Rattle.pp_violations.proofs.Keeping.{Kept, record_keeps}
 use Rattle.pp_violations.proofs.Only.{OnlyBreaks, only_append, only_at}
+use Rattle.pp_model.proofs.Lists.{from_map}
+use Rattle.pp_model.specs.Config.{SharedEntry, as_shared}
+use Rattle.pp_violations.proofs.Pulling.{AllShared}
 use Rattle.pp_violations.proofs.Pushing.{NoneUnpushed}
 use Rattle.pp_violations.proofs.Records.{PassesAtOnce, record_committed, record_only}
 use Rattle.pp_violations.proofs.Settled.{PulledCommitted, run_pulled}
@@ -36,6 +39,9 @@ module _ {Op State : Type 0} (O : Object Op State) (place : Op → ℕ) (apart :
   kept_boosted : (style : Style) (f : Front) (c : Config Op) → Kept O place style f c → style ≡ styles.Boosted → (x : Tx Op) → In x c.opened → NoneUnpushed x.local
   kept_boosted style f c kept e = subst (λ (s : Style). Kept O place s f c) e kept
 
+  kept_calm : (style : Style) (f : Front) (c : Config Op) → Kept O place style f c → style ≡ styles.Optimistic → AllShared c
+  kept_calm style f c kept e = subst (λ (s : Style). Kept O place s f c) e kept
+
   kept_first : (style : Style) (kinds : List Kind) (h : Option (Start Op)) → Kept O place style (new_front kinds) (first h)
   kept_first styles.Rules kinds h = tt
   kept_first styles.Boosted kinds h = λ x i. absurd (none h x i)
@@ -43,7 +49,11 @@ module _ {Op State : Type 0} (O : Object Op State) (place : Op → ℕ) (apart :
       none : (h : Option (Start Op)) (x : Tx Op) → In x (first h).opened → ⊥
       none None x i = i
       none (Some z) x i = i
-  kept_first styles.Optimistic kinds h = tt
+  kept_first styles.Optimistic kinds h = all h
+    where
+      all : (h : Option (Start Op)) → AllShared (first h)
+      all None u i = absurd i
+      all (Some z) u i = let m = from_map (as_shared z.tx true) u z.items i in ap (λ (w : SharedEntry Op). w.committed) m.2
   kept_first styles.Hardware kinds h = (λ x i. absurd (none h x i), λ u n. refl)
     where
       none : (h : Option (Start Op)) (x : Tx Op) → In x (first h).opened → ⊥
@@ -68,7 +78,7 @@ module _ {Op State : Type 0} (O : Object Op State) (place : Op → ℕ) (apart :
         let rest : LinedSteps Op = joined_steps T (after_record T p r.what) rs in
         let is : bare (on_line r.line ss ++ rest) ≡ ss ++ bare rest = bare_append (on_line r.line ss) rest ∙ ap (λ (w : List (Step Op)). w ++ bare rest) (bare_on_line r.line ss) in
         subst (λ (w : List (Step Op)). OnlyBreaks O style c w) (sym is)
-        (only_append O style c ss (bare rest) (record_only O place apart style recorded f c s pulled (kept_passes style f c kept) (kept_boosted style f c kept) r.what of)
+        (only_append O style c ss (bare rest) (record_only O place apart style recorded f c s (kept_calm style f c kept) pulled (kept_passes style f c kept) (kept_boosted style f c kept) r.what of)
         (λ run. records_only rs (after_record T p r.what) (λ q i. styled q (inr i)) (run_keeps O ss c s run)
         (λ n. run_pulled O c ss s (pulled n) run (record_committed O place style recorded n f c s r.what of))
         (record_keeps O place style recorded f c s kept r.what of run)))

@@ -8,6 +8,7 @@ pub mod Ending
 pub mod Settled
 pub mod Records
 pub mod Others
+pub mod Sharing
 pub mod Keeping
 pub mod Law
 pub mod Styled

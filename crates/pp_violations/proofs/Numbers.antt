@@ -68,3 +68,15 @@ one_never p n h b = let a = after_true p [] n h b in of_none a.0 a.2
 
 pub two_never : (p q : Type 0) (n : ℕ) → p → q → FirstFalse (p ∷ q ∷ []) (suc n) → ⊥
 two_never p q n h k b = let a = after_true p (q ∷ []) n h b in one_never q a.0 k a.2
+
+pub two_first_hold : (p q r : Type 0) (n : ℕ) → p → q → FirstFalse (p ∷ q ∷ r ∷ []) (suc n) → n ≡ 2
+two_first_hold p q r n h k b =
+    let a = after_true p (q ∷ r ∷ []) n h b in
+    let d = after_true q (r ∷ []) a.0 k a.2 in
+    let e : n ≡ suc a.0 = a.1 in
+    let f : a.0 ≡ suc d.0 = d.1 in
+    let z : d.0 ≡ 0 = of_one r d.0 d.2 in
+    omega (arith, e, f, z)
+
+pub fifth : (n a k : ℕ) → n ≡ suc a → a ≡ suc k → k ≡ 2 → In (suc n) (5 ∷ [])
+fifth n a k e f z = inl (omega (arith, e, f, z))

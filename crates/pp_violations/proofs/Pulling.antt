@@ -5,13 +5,15 @@ use Rattle.std.proofs.Common.{refl, sym, ap, subst, ◌∙◌}
 use Rattle.std.proofs.lemmas.Bool.{and_parts, eq-eqb}
 use mathlib.Core.Logic.{inl, inr}
 use Rattle.pp_core.specs.declared.call.Style.{Style}
+use Rattle.pp_core.specs.declared.step.Rule.TheVariants as rules
 use Rattle.pp_model.specs.Config.{App, Config, LocalEntry, Pull, Pulled, Push, SharedEntry, Step, Tx}
 use Rattle.pp_model.specs.Config.{Unpushed, after_from, at_mark, as_applied, of_other}
 use Rattle.pp_model.specs.Config.{pull_effect, relog, then, tx}
 use Rattle.pp_model.specs.Lists.{Before, In}
 use Rattle.pp_model.specs.Names.{Name}
-use Rattle.pp_model.specs.Object.{Object, Swaps}
-use Rattle.pp_model.specs.Rules.{Breaks, Meets, RunsFrom}
+use Rattle.pp_model.specs.Object.{Allowed, Object, Swaps}
+use Rattle.pp_model.specs.Rules.{Breaks, FirstFalse, Meets, RunsFrom}
+use Rattle.pp_model.specs.Config.{shared_ops}
 use Rattle.pp_model.specs.Sound.{Sound}
 use Rattle.pp_model.proofs.Keeps.{run_keeps, step_keeps}
 use Rattle.pp_model.proofs.Lists.{before_from_filter, by_key, from_filter, from_map, in_cases, in_right}
@@ -20,8 +22,9 @@ use Rattle.pp_front.specs.Effects.{as_pulled, missing}
 use Rattle.pp_front.specs.Expansions.{op_at_once, op_later, pulls, refresh, refresh_unless, stands_in}
 use Rattle.pp_front.specs.Expansions.{touches}
 use Rattle.pp_front.proofs.Taking.{pulls_law, tx_on}
+use Rattle.pp_violations.specs.Breakable.{breakable}
 use Rattle.pp_violations.proofs.Logs.{LocalIds, SharedIds, before_it, mark_found, other_found}
-use Rattle.pp_violations.proofs.Numbers.{after_there, first_holds, four_or_five}
+use Rattle.pp_violations.proofs.Numbers.{after_there, fifth, first_holds, four_or_five, two_first_hold}
 use Rattle.pp_violations.proofs.Only.{OnlyBreaks, app_breaks, app_only, only_append}
 
 -- ---- which entries stand in a log
@@ -34,6 +37,14 @@ pub stands : {Op : Type 0} (l : List (LocalEntry Op)) (id : ℕ) (e : LocalEntry
 stands [] id e i k = absurd i
 stands {Op} (z ∷ l) id e (inl i) k = ap (λ (b : Bool). b || stands_in l id) (eq-eqb z.id id (ap (λ (w : LocalEntry Op). w.id) (sym i) ∙ k))
 stands (z ∷ l) id e (inr i) k = ap (λ (b : Bool). (z.id == id) || b) (stands l id e i k) ∙ or_true (z.id == id)
+
+-- all in the shared log is committed
+abbrev pub AllShared : {Op : Type 0} → Config Op → Type 0
+AllShared {Op} c = (u : SharedEntry Op) → In u c.shared → u.committed ≡ true
+
+-- what is uncommitted in the shared log is of this transaction
+abbrev pub OnlyOwnOpen : {Op : Type 0} → Name → Config Op → Type 0
+OnlyOwnOpen {Op} t c = (u : SharedEntry Op) → In u c.shared → u.committed ≡ false → u.owner ≡ t
 
 module _ {Op State : Type 0} (O : Object Op State) (style : Style) where
   -- an entry of the shared log that an open transaction owns stands in its log
@@ -102,22 +113,43 @@ module _ {Op State : Type 0} (O : Object Op State) (style : Style) where
 
   -- ---- a push
 
-  pub push_breaks : (c : Config Op) (t : Name) (x : Tx Op) (p q : List (LocalEntry Op)) (e : LocalEntry Op) → Sound O c → tx t c.opened ≡ Some x → x.local ≡ p ++ e ∷ q → e.mark ≡ Unpushed →
-      ((a : LocalEntry Op) → In a p → a.mark ≡ Unpushed → Swaps O e.op a.op) → (n : ℕ) → Breaks O c (Push t e.id) (suc n) → In (suc n) (4 ∷ 5 ∷ [])
-  push_breaks c t x p q e s h w mark swap n b =
+  -- the criteria of a push behind those that always hold
+  push_rest : (c : Config Op) (t : Name) (x : Tx Op) (p q : List (LocalEntry Op)) (e : LocalEntry Op) → Sound O c → tx t c.opened ≡ Some x → x.local ≡ p ++ e ∷ q → e.mark ≡ Unpushed →
+      ((a : LocalEntry Op) → In a p → a.mark ≡ Unpushed → Swaps O e.op a.op) → (n : ℕ) → Breaks O c (Push t e.id) (suc n) →
+      (j k : ℕ) × (n ≡ suc j) × (j ≡ suc k) × ((a : LocalEntry Op) → Before a e x.local → a.mark ≡ Unpushed → Swaps O e.op a.op)
+      × FirstFalse (
+      ((a : LocalEntry Op) → Before a e x.local → a.mark ≡ Unpushed → Swaps O e.op a.op)
+      ∷ ((u : SharedEntry Op) → In u c.shared → u.committed ≡ false → u.owner ≢ t → Swaps O u.op e.op)
+      ∷ Allowed O (shared_ops c.shared ++ e.op ∷ [])
+      ∷ []
+      ) (suc k)
+  push_rest c t x p q e s h w mark swap n b =
       let there : In x c.opened = (found_tx t c.opened x h).0 in
       let ids : LocalIds (p ++ e ∷ q) = subst (λ (l : List (LocalEntry Op)). LocalIds l) w (s.local_ids x there) in
       let at = ap (λ (l : List (LocalEntry Op)). at_mark e.id Unpushed l) w ∙ mark_found (p ++ e ∷ q) e Unpushed ids (in_right e p (e ∷ q) (inl refl)) mark in
       let a = after_there (tx t c.opened) _ x n h b in
       let k = after_there (at_mark e.id Unpushed x.local) _ e a.0 at a.2 in
-      let l = first_holds _ _ _ k.0 (λ d i m. swap d (before_it p q e ids d (subst (λ (l : List (LocalEntry Op)). Before d e l) w i)) m) k.2 in
-      four_or_five n a.0 k.0 l.0 a.1 k.1 l.1 l.2
+      (a.0, k.0, a.1, k.1, (λ d i m. swap d (before_it p q e ids d (subst (λ (l : List (LocalEntry Op)). Before d e l) w i)) m), k.2)
+
+  pub push_breaks : (c : Config Op) (t : Name) (x : Tx Op) (p q : List (LocalEntry Op)) (e : LocalEntry Op) → Sound O c → tx t c.opened ≡ Some x → x.local ≡ p ++ e ∷ q → e.mark ≡ Unpushed →
+      ((a : LocalEntry Op) → In a p → a.mark ≡ Unpushed → Swaps O e.op a.op) → (n : ℕ) → Breaks O c (Push t e.id) (suc n) → In (suc n) (4 ∷ 5 ∷ [])
+  push_breaks c t x p q e s h w mark swap n b =
+      let r = push_rest c t x p q e s h w mark swap n b in
+      let l = first_holds _ _ _ r.1 r.4 r.5 in
+      four_or_five n r.0 r.1 l.0 r.2 r.3 l.1 l.2
+
+  -- where the uncommitted entries of the shared log are its own, it breaks criterion 5 alone
+  pub push_breaks_last : (c : Config Op) (t : Name) (x : Tx Op) (p q : List (LocalEntry Op)) (e : LocalEntry Op) → Sound O c → tx t c.opened ≡ Some x → x.local ≡ p ++ e ∷ q → e.mark ≡ Unpushed →
+      ((a : LocalEntry Op) → In a p → a.mark ≡ Unpushed → Swaps O e.op a.op) → OnlyOwnOpen t c → (n : ℕ) → Breaks O c (Push t e.id) (suc n) → In (suc n) (5 ∷ [])
+  push_breaks_last c t x p q e s h w mark swap own n b =
+      let r = push_rest c t x p q e s h w mark swap n b in
+      fifth n r.0 r.1 r.2 r.3 (two_first_hold _ _ _ r.1 r.4 (λ u i z o. absurd (o (own u i z))) r.5)
 
   -- ---- an operation at once
 
-  pub at_once_only : (place : Op → ℕ) (c : Config Op) (t : Name) (x : Tx Op) (id : ℕ) (op : Op) → Sound O c → tx t c.opened ≡ Some x →
+  pub at_once_only : ((n : ℕ) → In n (4 ∷ 5 ∷ []) → In n (breakable rules.Push style)) → (place : Op → ℕ) (c : Config Op) (t : Name) (x : Tx Op) (id : ℕ) (op : Op) → Sound O c → tx t c.opened ≡ Some x →
       ((a : LocalEntry Op) → In a x.local → a.mark ≡ Unpushed → Swaps O op a.op) → OnlyBreaks O style c (op_at_once place c.shared x.local t id op)
-  at_once_only place c t x id op s h swap =
+  at_once_only listed place c t x id op s h swap =
       only_append O style c first (App t id op ∷ Push t id ∷ []) (pulls_only c t x wanted s h) (λ r. (app_breaks O style (after_from c first) t id op, push r))
     where
       wanted : SharedEntry Op → Bool
@@ -144,4 +176,4 @@ module _ {Op State : Type 0} (O : Object Op State) (style : Style) where
                 let f = from_map as_pulled a (missing wanted c.shared x.local) j in
                 let z : Pulled ≡ Unpushed = sym (ap (λ (w : LocalEntry Op). w.mark) f.2) ∙ k in cc)
           ] in
-          (push_breaks c2 t x2 x1.local [] e s2 h2 refl refl old, λ k. tt)
+          ((λ n b. listed (suc n) (push_breaks c2 t x2 x1.local [] e s2 h2 refl refl old n b)), λ k. tt)

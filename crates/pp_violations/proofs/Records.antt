@@ -27,7 +27,7 @@ use Rattle.pp_front.proofs.Pushing.{pushall_law}
 use Rattle.pp_violations.proofs.Ending.{abort_only, cmt_only, unpulls_only}
 use Rattle.pp_violations.proofs.Only.{OnlyBreaks, app_only, begin_only, cmt_alone, note_only, only_append}
 use Rattle.pp_violations.proofs.Only.{quit_alone}
-use Rattle.pp_violations.proofs.Pulling.{at_once_only, later_only, pulls_only}
+use Rattle.pp_violations.proofs.Pulling.{AllShared, OnlyOwnOpen, at_once_only, later_only, pulls_only}
 use Rattle.pp_violations.proofs.Pushing.{NoneUnpushed, pushall_only}
 use Rattle.pp_violations.proofs.Settled.{AllCommitted, NotPull, PulledCommitted, committed_append, no_pull}
 use Rattle.pp_violations.proofs.Settled.{no_pulls, pulls_committed, run_pulled}
@@ -35,7 +35,7 @@ use Rattle.pp_violations.proofs.Undoing.{back_only}
 
 -- ---- steps that pull nothing
 
-each_append : {A : Type 0} (P : A → Type 0) (xs ys : List A) → Each P xs → Each P ys → Each P (xs ++ ys)
+pub each_append : {A : Type 0} (P : A → Type 0) (xs ys : List A) → Each P xs → Each P ys → Each P (xs ++ ys)
 each_append P [] ys h k = k
 each_append P (x ∷ xs) ys h k = (h.0, each_append P xs ys h.1 k)
 
@@ -54,7 +54,7 @@ pushes_pull_nothing t (e ∷ es) = (tt, pushes_pull_nothing t es)
 
 module _ {Op State : Type 0} (O : Object Op State) (place : Op → ℕ) where
   -- where the transaction is open, and where it is not
-  open_all : (P : List (Step Op) → Type 0) (c : Config Op) (t : Name) (alone : Step Op) (steps : List (LocalEntry Op) → List (Step Op)) → (tx t c.opened ≡ None → P (alone ∷ [])) →
+  pub open_all : (P : List (Step Op) → Type 0) (c : Config Op) (t : Name) (alone : Step Op) (steps : List (LocalEntry Op) → List (Step Op)) → (tx t c.opened ≡ None → P (alone ∷ [])) →
       ((x : Tx Op) → tx t c.opened ≡ Some x → P (steps x.local)) → P (where_open c t alone steps)
   open_all P c t alone steps a b = elim (tx t c.opened) as (λ o. tx t c.opened ≡ o → P (steps_of_open o alone steps)) [ None ↦ λ e. a e | Some x ↦ λ e. b x e ] refl
 
@@ -65,30 +65,34 @@ module _ {Op State : Type 0} (O : Object Op State) (place : Op → ℕ) where
   abbrev MayPass : Config Op → Name → Op → Type 0
   MayPass c t op = (x : Tx Op) → tx t c.opened ≡ Some x → (a : LocalEntry Op) → In a x.local → a.mark ≡ Unpushed → Swaps O op a.op
 
+  -- where all is committed, nothing of another transaction is uncommitted
+  calm_own : (style : Style) (c : Config Op) (t : Name) → (style ≡ styles.Optimistic → AllShared c) → style ≡ styles.Optimistic → OnlyOwnOpen t c
+  calm_own style c t calm e u i k = absurd (let z : true ≡ false = sym (calm e u i) ∙ k in cc)
+
   -- ---- commits
 
-  pushed_commit : (style : Style) (c : Config Op) (t : Name) (x : Tx Op) → style ≢ styles.Rules → Sound O c → (style ≢ styles.Dependent → PulledCommitted c) → tx t c.opened ≡ Some x → OnlyBreaks O style c (pushall t x.local ++ Cmt t ∷ [])
-  pushed_commit style c t x recorded s pulled h =
-      only_append O style c (pushall t x.local) (Cmt t ∷ []) (pushall_only O style c t x s h)
+  pushed_commit : (style : Style) (c : Config Op) (t : Name) (x : Tx Op) → style ≢ styles.Rules → (style ≡ styles.Optimistic → AllShared c) → Sound O c → (style ≢ styles.Dependent → PulledCommitted c) → tx t c.opened ≡ Some x → OnlyBreaks O style c (pushall t x.local ++ Cmt t ∷ [])
+  pushed_commit style c t x recorded calm s pulled h =
+      only_append O style c (pushall t x.local) (Cmt t ∷ []) (pushall_only O style recorded c t x (calm_own style c t calm) s h)
       (λ r.
       let y = pushall_law O c t x h r in
       cmt_only O (after_from c (pushall t x.local)) t y.0 y.1 y.2 style recorded
       (λ n. run_pulled O c (pushall t x.local) s (pulled n) r (no_pulls c (pushall t x.local) (pushes_pull_nothing t (filter (λ e. is_mark e.mark Unpushed) x.local))) y.0 (found_tx t (after_from c (pushall t x.local)).opened y.0 y.1).0))
 
-  commit_only : (style : Style) (c : Config Op) (t : Name) → style ≢ styles.Rules → Sound O c → (style ≢ styles.Dependent → PulledCommitted c) → (style ≡ styles.Boosted → (x : Tx Op) → In x c.opened → NoneUnpushed x.local) →
+  commit_only : (style : Style) (c : Config Op) (t : Name) → style ≢ styles.Rules → (style ≡ styles.Optimistic → AllShared c) → Sound O c → (style ≢ styles.Dependent → PulledCommitted c) → (style ≡ styles.Boosted → (x : Tx Op) → In x c.opened → NoneUnpushed x.local) →
       OnlyBreaks O style c (where_open c t (Cmt t) (λ l. commit_steps style l t))
-  commit_only style c t recorded s pulled none =
-      open_all (λ ss. OnlyBreaks O style c ss) c t (Cmt t) (λ l. commit_steps style l t) (λ e. cmt_alone O style recorded c t e) (λ x h. by style recorded pulled none x h)
+  commit_only style c t recorded calm s pulled none =
+      open_all (λ ss. OnlyBreaks O style c ss) c t (Cmt t) (λ l. commit_steps style l t) (λ e. cmt_alone O style recorded c t e) (λ x h. by style recorded calm pulled none x h)
     where
-      by : (style : Style) → style ≢ styles.Rules → (style ≢ styles.Dependent → PulledCommitted c) → (style ≡ styles.Boosted → (x : Tx Op) → In x c.opened → NoneUnpushed x.local) → (x : Tx Op) → tx t c.opened ≡ Some x →
+      by : (style : Style) → style ≢ styles.Rules → (style ≡ styles.Optimistic → AllShared c) → (style ≢ styles.Dependent → PulledCommitted c) → (style ≡ styles.Boosted → (x : Tx Op) → In x c.opened → NoneUnpushed x.local) → (x : Tx Op) → tx t c.opened ≡ Some x →
           OnlyBreaks O style c (commit_steps style x.local t)
-      by styles.Rules recorded pulled none x h = absurd (recorded refl)
-      by styles.Boosted recorded pulled none x h =
+      by styles.Rules recorded calm pulled none x h = absurd (recorded refl)
+      by styles.Boosted recorded calm pulled none x h =
           let there = (found_tx t c.opened x h).0 in
           cmt_only O c t x h (none refl x there) styles.Boosted recorded (λ n. pulled n x there)
-      by styles.Optimistic recorded pulled none x h = pushed_commit styles.Optimistic c t x recorded s pulled h
-      by styles.Hardware recorded pulled none x h = pushed_commit styles.Hardware c t x recorded s pulled h
-      by styles.Dependent recorded pulled none x h = pushed_commit styles.Dependent c t x recorded s pulled h
+      by styles.Optimistic recorded calm pulled none x h = pushed_commit styles.Optimistic c t x recorded calm s pulled h
+      by styles.Hardware recorded calm pulled none x h = pushed_commit styles.Hardware c t x recorded calm s pulled h
+      by styles.Dependent recorded calm pulled none x h = pushed_commit styles.Dependent c t x recorded calm s pulled h
 
   -- ---- operations
 
@@ -110,16 +114,16 @@ module _ {Op State : Type 0} (O : Object Op State) (place : Op → ℕ) where
             OnlyBreaks O styles.Hardware c (hardware_op place memory section c.shared x.local t id op)
         in_section x h passes true m (Some mark) e = later_only O styles.Hardware place (drop mark x.local) c t x id op s h
         in_section x h passes true m None e =
-            at_once_only O styles.Hardware place c t x id op s h
+            at_once_only O styles.Hardware (λ n i. i) place c t x id op s h
             (λ a i k. let g = found_tx t c.opened x h in absurd ((passes x g.0 a i k).1 (ap f.section g.1 ∙ e)))
         in_section x h passes false m section e =
-            at_once_only O styles.Hardware place c t x id op s h
+            at_once_only O styles.Hardware (λ n i. i) place c t x id op s h
             (λ a i k. let g = found_tx t c.opened x h in
             apart op a.op (λ z. let bad : false ≡ true = sym m ∙ ap (λ o. is_mem f o) z ∙ (passes x g.0 a i k).0 in cc))
 
         by : (style : Style) → style ≢ styles.Rules → PassesAtOnce style f c → (x : Tx Op) → tx t c.opened ≡ Some x → OnlyBreaks O style c (op_steps place style f c.shared x.local t id op)
         by styles.Rules recorded passes x h = absurd (recorded refl)
-        by styles.Boosted recorded passes x h = at_once_only O styles.Boosted place c t x id op s h (λ a i k. absurd (passes x (found_tx t c.opened x h).0 a i k))
+        by styles.Boosted recorded passes x h = at_once_only O styles.Boosted (λ n i. i) place c t x id op s h (λ a i k. absurd (passes x (found_tx t c.opened x h).0 a i k))
         by styles.Optimistic recorded passes x h = later_only O styles.Optimistic place x.local c t x id op s h
         by styles.Hardware recorded passes x h = in_section x h passes (is_mem f (place op)) refl (f.section t) refl
         by styles.Dependent recorded passes x h =
@@ -158,23 +162,23 @@ module _ {Op State : Type 0} (O : Object Op State) (place : Op → ℕ) where
     noted : (t : Name) (steps : List (LocalEntry Op) → List (Step Op)) → ((x : Tx Op) → tx t c.opened ≡ Some x → OnlyBreaks O style c (steps x.local)) → OnlyBreaks O style c (where_open c t (Note t) (λ l. Note t ∷ steps l))
     noted t steps k = open_all (λ ss. OnlyBreaks O style c ss) c t (Note t) (λ l. Note t ∷ steps l) (λ e. note_alone style c t) (λ x h. note_only O style c t (steps x.local) (λ m. k x h))
 
-    pub record_only : (style ≢ styles.Dependent → PulledCommitted c) → PassesAtOnce style f c → (style ≡ styles.Boosted → (x : Tx Op) → In x c.opened → NoneUnpushed x.local) → (r : RunRecord Op) → IsOfStyle style r →
+    pub record_only : (style ≡ styles.Optimistic → AllShared c) → (style ≢ styles.Dependent → PulledCommitted c) → PassesAtOnce style f c → (style ≡ styles.Boosted → (x : Tx Op) → In x c.opened → NoneUnpushed x.local) → (r : RunRecord Op) → IsOfStyle style r →
         OnlyBreaks O style c (expand place style f c r)
-    record_only pulled passes none (records.Plain step) i =
+    record_only calm pulled passes none (records.Plain step) i =
         let b = only_begin style recorded step i in
         subst (λ (w : Step Op). OnlyBreaks O style c (w ∷ [])) (sym b.3) (begin_only O style c b.0 b.1 b.2)
-    record_only pulled passes none (records.Op t id op) i = op_only apart style f c t id op recorded s passes
-    record_only pulled passes none (records.Commit t) i = commit_only style c t recorded s pulled none
-    record_only pulled passes none (records.Abort t) i =
+    record_only calm pulled passes none (records.Op t id op) i = op_only apart style f c t id op recorded s passes
+    record_only calm pulled passes none (records.Commit t) i = commit_only style c t recorded calm s pulled none
+    record_only calm pulled passes none (records.Abort t) i =
         open_all (λ ss. OnlyBreaks O style c ss) c t (Quit t) (λ l. back t 0 l ++ Quit t ∷ []) (λ e. quit_alone O style c t e) (λ x h. abort_only O style c t x s h)
-    record_only pulled passes none (records.Retry t) i = noted t (λ l. back t 0 l) (λ x h. back_only O style c t 0 x s h)
-    record_only pulled passes none (records.Refresh t o) i = noted t (λ l. refresh place t o c.shared l) (λ x h. pulls_only O style c t x (λ g. g.committed && (place g.op == o)) s h)
-    record_only pulled passes none (records.XBegin t) i = note_alone style c t
-    record_only pulled passes none (records.XEnd t) i = noted t (λ l. pushall t l) (λ x h. pushall_only O style c t x s h)
-    record_only pulled passes none (records.XAbort t) i = noted t (λ l. back t (mark_of (f.section t)) l) (λ x h. back_only O style c t (mark_of (f.section t)) x s h)
-    record_only pulled passes none (records.Depend t source) i = note_alone style c t
-    record_only pulled passes none (records.Publish t) i = noted t (λ l. pushall t l) (λ x h. pushall_only O style c t x s h)
-    record_only pulled passes none (records.DropSource t source) i = drop_only t source i
+    record_only calm pulled passes none (records.Retry t) i = noted t (λ l. back t 0 l) (λ x h. back_only O style c t 0 x s h)
+    record_only calm pulled passes none (records.Refresh t o) i = noted t (λ l. refresh place t o c.shared l) (λ x h. pulls_only O style c t x (λ g. g.committed && (place g.op == o)) s h)
+    record_only calm pulled passes none (records.XBegin t) i = note_alone style c t
+    record_only calm pulled passes none (records.XEnd t) i = noted t (λ l. pushall t l) (λ x h. pushall_only O style recorded c t x (calm_own style c t calm) s h)
+    record_only calm pulled passes none (records.XAbort t) i = noted t (λ l. back t (mark_of (f.section t)) l) (λ x h. back_only O style c t (mark_of (f.section t)) x s h)
+    record_only calm pulled passes none (records.Depend t source) i = note_alone style c t
+    record_only calm pulled passes none (records.Publish t) i = noted t (λ l. pushall t l) (λ x h. pushall_only O style recorded c t x (calm_own style c t calm) s h)
+    record_only calm pulled passes none (records.DropSource t source) i = drop_only t source i
 
   -- ---- the pulls of records
 

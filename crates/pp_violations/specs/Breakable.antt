@@ -16,14 +16,18 @@ use Rattle.pp_model.specs.Object.{Object}
 use Rattle.pp_model.specs.Rules.{Breaks, RunsFrom, StartMeets}
 
 -- The numbers of the criteria of a rule that a step can violate in a run of one of the four recorded
--- styles. All other criteria of the rule always hold there. (Style rules is not asked: there each
--- criterion can be violated.)
+-- styles. All other criteria of the rule always hold there. (The rows of style rules are not used:
+-- there each criterion can be violated.)
 abbrev pub breakable : Rule → Style → List ℕ
 breakable rules.Start style = 1 ∷ 2 ∷ []
 breakable rules.Begin style = 1 ∷ 2 ∷ []
 breakable rules.App style = 1 ∷ 2 ∷ 3 ∷ 4 ∷ []
 breakable rules.Unapp style = []
-breakable rules.Push style = 4 ∷ 5 ∷ []
+breakable rules.Push styles.Rules = []
+breakable rules.Push styles.Boosted = 4 ∷ 5 ∷ []
+breakable rules.Push styles.Optimistic = 5 ∷ []
+breakable rules.Push styles.Hardware = 4 ∷ 5 ∷ []
+breakable rules.Push styles.Dependent = 4 ∷ 5 ∷ []
 breakable rules.Unpush style = []
 breakable rules.Pull style = 4 ∷ 5 ∷ []
 breakable rules.Unpull styles.Rules = []
