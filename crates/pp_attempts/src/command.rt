@@ -38,6 +38,7 @@ pub fn views<S: Source, L: Ledger>(
         HasRisen (S.faults source.old) (S.faults source.new)
         × ReadsNoFault (S.left source.old) (S.left source.new) }
     ensures count { S.faults source.old ≤ S.faults source.new }
+    ensures faultless { ¬ IsErrOf result ReadFault → S.faults source.new ≡ S.faults source.old }
     ensures most { WhereTold (S.left source.old) λ bytes.
         ViewsCostAtMost (scan bytes) ticks.old ticks.new }
 {

@@ -31,6 +31,7 @@ pub(crate) fn examine_steps<S: Source, L: Ledger>(
         HasRisen (S.faults source.old) (S.faults source.new)
         × ReadsNoFault (S.left source.old) (S.left source.new) }
     ensures count { S.faults source.old ≤ S.faults source.new }
+    ensures faultless { ¬ IsErrOf result ReadFault → S.faults source.new ≡ S.faults source.old }
     ensures most { WhereTold (S.left source.old) λ bytes.
         StepsCostAtMost (scan bytes) ticks.old ticks.new }
 {

@@ -169,7 +169,7 @@ run_report bytes status text none told = (told.0, (None, none, told.1), told.2)
 -- ---- an accepted input
 
 -- a run of which each step meets its criteria
-record AcceptedRun (o : Option (Lined Header)) (records : Records (RunRecord Op)) : Type 0 where
+pub record AcceptedRun (o : Option (Lined Header)) (records : Records (RunRecord Op)) : Type 0 where
   pub header : Lined Header
   pub run : LinedSteps Op
   pub first_line : o ≡ Some header
@@ -187,7 +187,7 @@ accepted_by (Some h) records report text (run, Rejected zero n, is, v, r) t =
 accepted_by (Some h) records report text (run, Rejected (suc i) n, is, v, r) t =
     absurd (let told = subst (λ (w : RunReport). IsTold (Some h) w statuses.Accepted text) r.2 t in let e : statuses.Accepted ≡ statuses.Rejected = told.0 in cc)
 
-faulty_by : (o : Option (Lined Header)) (line : ℕ) (cause : Cause) (text : List ℕ) → IsTold o (Faulty line cause) statuses.Accepted text → ⊥
+pub faulty_by : (o : Option (Lined Header)) (line : ℕ) (cause : Cause) (text : List ℕ) → IsTold o (Faulty line cause) statuses.Accepted text → ⊥
 faulty_by None line cause text t = let e : statuses.Accepted ≡ statuses.InputFault = t.0 in cc
 faulty_by (Some h) line cause text t = let e : statuses.Accepted ≡ statuses.InputFault = t.0 in cc
 
@@ -195,10 +195,10 @@ accepted_behind : (fault : Option (ℕ × Cause)) (sc : InputScan) (report : Run
 accepted_behind (Some f) sc report text r t = absurd (faulty_by sc.header f.0 f.1 text (subst (λ (w : RunReport). IsTold sc.header w statuses.Accepted text) r t))
 accepted_behind None sc report text r t = accepted_by sc.header sc.records report text r t
 
-accepted_run : (bytes : List ℕ) (text : List ℕ) → IsCertified bytes statuses.Accepted text → AcceptedRun (scan bytes).header (scan bytes).records
+pub accepted_run : (bytes : List ℕ) (text : List ℕ) → IsCertified bytes statuses.Accepted text → AcceptedRun (scan bytes).header (scan bytes).records
 accepted_run bytes text r = accepted_behind r.1.0 (scan bytes) r.0 text r.1.2 r.2
 
-abbrev has_run : (sc : InputScan) → AcceptedRun sc.header sc.records → HasRun sc
+abbrev pub has_run : (sc : InputScan) → AcceptedRun sc.header sc.records → HasRun sc
 has_run sc a = record { header = a.header; run = a.run; first_line = a.first_line; steps = a.steps }
 
 -- what holds of one run of a scan holds of every one, since there is one at most
@@ -209,25 +209,30 @@ only_run sc a r P p =
     let runs : a.run ≡ r.run = (one_run_law (object_of r.header.what) (translation_of r.header.what)).run (start_of r.header.what) sc.records a.run r.run steps r.steps in
     subst (P r.header) runs (subst (λ (h : Lined Header). P h a.run) heads p)
 
-pub accepted_simulated : (bytes : List ℕ) (text : List ℕ) → IsCertified bytes statuses.Accepted text → IsSimulated (scan bytes)
-accepted_simulated bytes text r =
-    let a = accepted_run bytes text r in
+-- in every run of these records the committed transactions simulate it, and run alone
+pub run_simulated : (sc : InputScan) → AcceptedRun sc.header sc.records → IsSimulated sc
+run_simulated sc a =
     let h = a.header.what in
-    let own = has_run (scan bytes) a in (
+    let own = has_run sc a in (
       own,
-      λ other. only_run (scan bytes) own other (λ head run. Simulated (object_of head.what) (start_of head.what) (bare run))
+      λ other. only_run sc own other (λ head run. Simulated (object_of head.what) (start_of head.what) (bare run))
           (simulated (object_of h) (start_of h) (bare a.run) a.begun a.hold (tells_states objects objects_lawful (kinds_of h.catalog))),
     )
 
-pub accepted_alone : (bytes : List ℕ) (text : List ℕ) → IsCertified bytes statuses.Accepted text → IsAloneAccepted (scan bytes)
-accepted_alone bytes text r =
-    let a = accepted_run bytes text r in
+pub run_alone : (sc : InputScan) → AcceptedRun sc.header sc.records → IsAloneAccepted sc
+run_alone sc a =
     let h = a.header.what in
-    let own = has_run (scan bytes) a in (
+    let own = has_run sc a in (
       own,
-      λ other. only_run (scan bytes) own other (λ head run. RunsAlone head.what run)
+      λ other. only_run sc own other (λ head run. RunsAlone head.what run)
           (alone_law (object_of h) (start_of h) (bare a.run) a.begun a.hold, alone_attempts (object_of h) (start_of h) (bare a.run) a.begun a.hold),
     )
+
+pub accepted_simulated : (bytes : List ℕ) (text : List ℕ) → IsCertified bytes statuses.Accepted text → IsSimulated (scan bytes)
+accepted_simulated bytes text r = run_simulated (scan bytes) (accepted_run bytes text r)
+
+pub accepted_alone : (bytes : List ℕ) (text : List ℕ) → IsCertified bytes statuses.Accepted text → IsAloneAccepted (scan bytes)
+accepted_alone bytes text r = run_alone (scan bytes) (accepted_run bytes text r)
 
 -- ---- an input has one report
 

@@ -16,3 +16,4 @@ pub mod Stating
 pub mod Begun
 pub mod Restated
 pub mod Refused
+pub mod Exact

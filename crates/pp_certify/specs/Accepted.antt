@@ -1,14 +1,31 @@
 -- Meaning: what an accepted run promises of its committed transactions.
-use Rattle.std.specs.Prelude.{◌≡◌, Some}
+use Rattle.std.specs.Prelude.{◌≡◌, ◌↔◌, ℕ, List, None, Some}
+use Rattle.pp_core.specs.declared.status.Status.{Status}
+use Rattle.pp_core.specs.declared.status.Status.TheVariants as statuses
+use Rattle.pp_front.specs.Inputs.{steps_of}
 use Rattle.pp_front.specs.Runs.{IsRun, Lined, LinedSteps, bare}
 use Rattle.pp_json.specs.declared.header.Header.{Header}
 use Rattle.pp_model.specs.Alone.{alone}
 use Rattle.pp_model.specs.Config.{first}
-use Rattle.pp_model.specs.Rules.{RunsFrom}
+use Rattle.pp_model.specs.Rules.{RunsFrom, StartMeets}
 use Rattle.pp_model.specs.Serial.{Simulated, attempts}
 use Rattle.pp_object.specs.declared.act.Op.{Op}
-use Rattle.pp_certify.specs.Objects.{object_of, start_of, translation_of}
+use Rattle.pp_certify.specs.Inputs.{IsFaultOf, scan}
+use Rattle.pp_certify.specs.Objects.{object_of, setting_of, start_of, translation_of}
 use Rattle.pp_certify.specs.Scans.{InputScan}
+
+-- The start meets its criteria, and so does each step that the records stand for.
+pub record EachStepMeets (sc : InputScan) : Type 0 where
+  pub header : Lined Header
+  pub first_line : sc.header ≡ Some header
+  pub start : StartMeets (object_of header.what) (start_of header.what)
+  pub steps : RunsFrom (object_of header.what) (first (start_of header.what))
+      (bare (steps_of (setting_of header) sc.records))
+
+-- The status is accepted exactly if the input has no fault and each of its steps meets its criteria.
+abbrev pub IsExact : List ℕ → Status → Type 0
+IsExact bytes status = (status ≡ statuses.Accepted)
+    ↔ (IsFaultOf (scan bytes) None × EachStepMeets (scan bytes))
 
 -- the header of a scan, and the run of its records
 pub record HasRun (sc : InputScan) : Type 0 where

@@ -55,6 +55,7 @@ pub fn examine<S: Source, L: Ledger>(
         HasRisen (S.faults source.old) (S.faults source.new)
         × ReadsNoFault (S.left source.old) (S.left source.new) }
     ensures count { S.faults source.old ≤ S.faults source.new }
+    ensures faultless { ¬ IsErrOf result ReadFault → S.faults source.new ≡ S.faults source.old }
     ensures most { WhereTold (S.left source.old) λ bytes.
         StepsCostAtMost (scan bytes) ticks.old ticks.new }
     ensures least { IfOk result (λ finding. WhereTold (S.left source.old) λ bytes.
@@ -80,6 +81,7 @@ pub fn examine_text<S: Source, L: Ledger>(
         HasRisen (S.faults source.old) (S.faults source.new)
         × ReadsNoFault (S.left source.old) (S.left source.new) }
     ensures count { S.faults source.old ≤ S.faults source.new }
+    ensures faultless { ¬ IsErrOf result ReadFault → S.faults source.new ≡ S.faults source.old }
     ensures most { WhereTold (S.left source.old) λ bytes.
         StepsCostAtMost (scan bytes) ticks.old ticks.new }
     ensures least { IfOk result (λ r. WhereTold (S.left source.old) λ bytes.

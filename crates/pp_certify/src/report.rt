@@ -110,6 +110,7 @@ pub fn certify<S: Source, L: Ledger>(
         HasRisen (S.faults source.old) (S.faults source.new)
         × ReadsNoFault (S.left source.old) (S.left source.new) }
     ensures count { S.faults source.old ≤ S.faults source.new }
+    ensures faultless { ¬ IsErrOf result ReadFault → S.faults source.new ≡ S.faults source.old }
     ensures most { WhereTold (S.left source.old) λ bytes.
         CostsAtMost (scan bytes) ticks.old ticks.new }
     ensures least { IfOk result (λ r. IsDecided r.0 → WhereTold (S.left source.old) λ bytes.

@@ -1,10 +1,10 @@
-//! The edge: streams of the system as a source and a sink. What they hold is not told.
+//! The edge: any reader and any writer of std as a source and a sink.
 ghost use Rattle.std.specs.Prelude.{◌≡◌};
 
 use pp_io::{Failed, Sink, SinkFault, Source};
 use std::io::{Read, Write};
 
-/// A stream as a source. What it has left is not told.
+/// A reader as a source. It has left what the reader has, if that is known.
 #[derive(Drop)]
 pub struct StdSource<R: Read + Drop> {
     stream: R,
@@ -12,18 +12,17 @@ pub struct StdSource<R: Read + Drop> {
 }
 
 impl<R: Read + Drop> StdSource<R> {
-    /// A source with no fault so far.
+    /// A source over this reader, with no fault so far.
     pub fn new(stream: R) -> StdSource<R>
-        ensures { result.faults ≡ 0 }
+        ensures stream { result.stream ≡ stream }
+        ensures faults { result.faults ≡ 0 }
     {
         StdSource { stream, faults: 0 }
     }
 }
 
 impl<R: Read + Drop> Source for StdSource<R> {
-    ghost use Rattle.std.specs.Prelude.{None};
-
-    ghost left = { λ s. None };
+    ghost left = { λ s. R.remaining s.stream };
 
     ghost faults = { λ s. s.faults };
 
@@ -38,7 +37,8 @@ impl<R: Read + Drop> Source for StdSource<R> {
     }
 }
 
-/// A stream as a sink. What it holds and sent on is not told, and it is never refused memory.
+/// A writer as a sink. It holds what the writer holds, if that is known. What was sent on is not
+/// known, and it is never refused memory.
 #[derive(Drop)]
 pub struct StdSink<W: Write + Drop> {
     stream: W,
@@ -47,8 +47,9 @@ pub struct StdSink<W: Write + Drop> {
 }
 
 impl<W: Write + Drop> StdSink<W> {
-    /// A sink with no flush and no fault so far.
+    /// A sink over this writer, with no flush and no fault so far.
     pub fn new(stream: W) -> StdSink<W>
+        ensures stream { result.stream ≡ stream }
         ensures flushes { result.flushes ≡ 0 }
         ensures faults { result.faults ≡ 0 }
     {
@@ -58,12 +59,19 @@ impl<W: Write + Drop> StdSink<W> {
             faults: 0,
         }
     }
+
+    /// The writer.
+    pub fn into_stream(self) -> W
+        ensures { result ≡ self.stream }
+    {
+        self.stream
+    }
 }
 
 impl<W: Write + Drop> Sink for StdSink<W> {
     ghost use Rattle.std.specs.Prelude.{None};
 
-    ghost held = { λ s. None };
+    ghost held = { λ s. W.contents s.stream };
 
     ghost sent = { λ s. None };
 

@@ -1,7 +1,11 @@
 //! Certifies that a recorded run of a transactional memory is a run of the Push/Pull machine.
 #![tactic(auto)]
 
-ghost use Rattle.std.specs.Prelude.{◌≡◌};
+ghost use Rattle.std.specs.Prelude.{◌≡◌, ℕ, None};
+ghost use Rattle.pp_run.specs.Outcomes.{outcome};
+ghost use Rattle.pp_run.specs.Runs.{RunPromise};
+ghost use Rattle.pp_run.specs.Streams.{counts};
+ghost use Rattle.pp_run.specs.Words.{command_of};
 
 mod edge;
 #[cfg(test)]
@@ -14,7 +18,7 @@ use pp_core::{OutOfMemory, Status, Ticks, Words};
 use pp_io::{Sink, Source};
 use pp_run::run;
 use std::alloc::Global;
-use std::io;
+use std::io::{self, Read, Write};
 use std::marker::Brand;
 use std::process::ExitCode;
 use std::sync::ledger::{Blank, Ledger};
@@ -22,7 +26,7 @@ use std::sync::ledger::{Blank, Ledger};
 /// The status where the system does not give the words.
 const NO_WORDS: u8 = 8;
 
-/// Does a command with a counter of ticks of its own.
+/// Does a command with a counter of operations of its own, which begins at 0.
 fn run_counted<L: Ledger, S: Source, K: Sink>(
     alloc: Global,
     words: &Words,
@@ -33,9 +37,40 @@ fn run_counted<L: Ledger, S: Source, K: Sink>(
     requires name { blank.name ≡ L.name }
     requires parts { blank.parts ≡ L.parts }
     requires one { L.parts ≡ 1 }
+    ensures promise { (operations : ℕ) × RunPromise (source.new ≡ source.old) (sink.new ≡ sink.old)
+        (command_of words.now)
+        (outcome (S.left source.old) (S.left source.new) (K.held sink.old) (K.held sink.new)
+        result 0 operations)
+        (K.sent sink.old) (K.sent sink.new)
+        (counts (S.faults source.old) (S.faults source.new) (K.faults sink.old) (K.faults sink.new)
+        (K.refusals sink.old) (K.refusals sink.new) (K.flushes sink.old) (K.flushes sink.new)) }
 {
     let mut ticks = Ticks::<L>::new(blank);
     run(alloc, words, source, sink, &mut ticks)
+}
+
+/// All that `main` does once it has its arguments, over any reader and any writer. It promises what
+/// `run` promises, of the bytes that the reader has left and that the writer holds. The code is the
+/// same for all of them, so it treats the streams of the system as those whose bytes are known.
+pub fn run_streams<L: Ledger, R: Read + Drop, W: Write + Drop>(
+    alloc: Global,
+    words: &Words,
+    source: &mut StdSource<R>,
+    sink: &mut StdSink<W>,
+    blank: Blank,
+) -> Status
+    requires name { blank.name ≡ L.name }
+    requires parts { blank.parts ≡ L.parts }
+    requires one { L.parts ≡ 1 }
+    ensures promise { (operations : ℕ) × RunPromise (source.new ≡ source.old) (sink.new ≡ sink.old)
+        (command_of words.now)
+        (outcome (R.remaining source.old.stream) (R.remaining source.new.stream)
+        (W.contents sink.old.stream) (W.contents sink.new.stream) result 0 operations)
+        None None
+        (counts source.old.faults source.new.faults sink.old.faults sink.new.faults
+        0 0 sink.old.flushes sink.new.flushes) }
+{
+    run_counted::<L, _, _>(alloc, words, source, sink, blank)
 }
 
 fn main(rt: HostRuntime) -> ExitCode {
@@ -47,6 +82,6 @@ fn main(rt: HostRuntime) -> ExitCode {
     };
     let mut source = StdSource::new(rt.reader());
     let mut sink = StdSink::new(io::writer(&rt));
-    let status = run_counted::<Brand, _, _>(alloc, &words, &mut source, &mut sink, Blank::new(1));
+    let status = run_streams::<Brand, _, _>(alloc, &words, &mut source, &mut sink, Blank::new(1));
     ExitCode::from(status.code())
 }

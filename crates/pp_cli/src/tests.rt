@@ -13,6 +13,7 @@ mod made_runs;
 mod rejected_runs;
 mod row;
 mod starts;
+mod streams;
 mod style_faults;
 mod styled_runs;
 mod walks;

@@ -54,6 +54,7 @@ pub(crate) fn read_run<S: Source, L: Ledger>(
         HasRisen (S.faults source.old) (S.faults source.new)
         × QuickReadsNoFault (S.left source.old) (S.left source.new) }
     ensures count { S.faults source.old ≤ S.faults source.new }
+    ensures faultless { ¬ IsErrOf result ReadFault → S.faults source.new ≡ S.faults source.old }
     ensures most { WhereTold (S.left source.old) λ bytes.
         RecordsCostAtMost (scan bytes) ticks.old ticks.new }
     ensures least { IfOk result (λ conclusion. WhereTold (S.left source.old) λ bytes.

@@ -29,6 +29,7 @@ use Rattle.pp_reading.specs.FaultTexts.{fault_text}
 use Rattle.pp_reading.specs.declared.cause.Cause.{Cause}
 use Rattle.pp_certificate.specs.Lines.{line_bytes}
 use Rattle.pp_certify.specs.Accepted.{HasRun}
+use Rattle.pp_certify.specs.Certified.{IsDecided}
 use Rattle.pp_certify.specs.Inputs.{IsFaultOf, scan}
 use Rattle.pp_certify.specs.Progresses.{IsRejected, IsRunning}
 use Rattle.pp_certify.specs.Reports.{IsRunTold}
@@ -123,3 +124,8 @@ accepted_swaps bytes tally machine status text r told =
       run_report bytes statuses.Accepted report (running_sound sc tally machine r) certified,
       (own, subst (λ (c : Config Op). IsTold h.catalog c status text) (config_is sc tally machine r) told),
     )
+
+-- a configuration has a verdict only if its certificate is printed, and this is accepted
+pub accepted_if_decided : (catalog : Objects) (c : Config Op) (status : Status) (text : List ℕ) → IsTold catalog c status text → IsDecided status → status ≡ statuses.Accepted
+accepted_if_decided catalog c status text (inl small) decided = small.1
+accepted_if_decided catalog c status text (inr large) decided = absurd (subst IsDecided large.1 decided)

@@ -8,7 +8,7 @@ ghost use Rattle.pp_object.specs.Objects.{kinds_of};
 ghost use Rattle.pp_reading.specs.declared.stop.Failure.TheVariants.{ReadFault};
 ghost use Rattle.pp_reading.specs.Sources.{WhereTold};
 ghost use Rattle.pp_certify.specs.Certified.{IsDecided};
-ghost use Rattle.pp_certify.specs.Costs.{StepsCostAtMost};
+ghost use Rattle.pp_certify.specs.Costs.{StepsCostAtLeast, StepsCostAtMost};
 ghost use Rattle.pp_certify.specs.Inputs.{ReadsNoFault, scan};
 ghost use Rattle.pp_certify.specs.Rejected.{IsEvident};
 ghost use Rattle.pp_exchanges.specs.Swaps.{IsSwaps, IsTold};
@@ -82,8 +82,11 @@ pub fn swaps<S: Source, L: Ledger>(
         HasRisen (S.faults source.old) (S.faults source.new)
         × ReadsNoFault (S.left source.old) (S.left source.new) }
     ensures count { S.faults source.old ≤ S.faults source.new }
+    ensures faultless { ¬ IsErrOf result ReadFault → S.faults source.new ≡ S.faults source.old }
     ensures most { WhereTold (S.left source.old) λ bytes.
         StepsCostAtMost (scan bytes) ticks.old ticks.new }
+    ensures least { IfOk result (λ r. IsDecided r.0 → WhereTold (S.left source.old) λ bytes.
+        StepsCostAtLeast r.0 (scan bytes) ticks.old ticks.new) }
 {
     match examine(alloc, source, ticks)? {
         Finding::Fault(line, cause) => {

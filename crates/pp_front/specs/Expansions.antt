@@ -187,20 +187,67 @@ front_after f c (records.Abort t) = f
 front_after f c (records.Refresh t o) = f
 front_after f c (records.Publish t) = f
 
+-- the step begins a transaction
+abbrev pub IsBegin : {Op : Type 0} → Step Op → Type 0
+IsBegin (Begin t p b) = Unit {0}
+IsBegin (App t id op) = ⊥
+IsBegin (Unapp t id) = ⊥
+IsBegin (Push t id) = ⊥
+IsBegin (Unpush t id) = ⊥
+IsBegin (Pull t id) = ⊥
+IsBegin (Unpull t id) = ⊥
+IsBegin (Cmt t) = ⊥
+IsBegin (Quit t) = ⊥
+IsBegin (Note t) = ⊥
+
+-- a step is a record of the style: any step in style rules, and a begin in every style
+abbrev pub HasStep : {Op : Type 0} → Style → Step Op → Type 0
+HasStep Rules step = Unit {0}
+HasStep Boosted step = IsBegin step
+HasStep Optimistic step = IsBegin step
+HasStep Hardware step = IsBegin step
+HasStep Dependent step = IsBegin step
+
+-- the records are whole calls, commits and what takes them back
+abbrev pub IsRecorded : Style → Type 0
+IsRecorded Rules = ⊥
+IsRecorded Boosted = Unit {0}
+IsRecorded Optimistic = Unit {0}
+IsRecorded Hardware = Unit {0}
+IsRecorded Dependent = Unit {0}
+
+abbrev pub HasRefreshes : Style → Type 0
+HasRefreshes Rules = ⊥
+HasRefreshes Boosted = ⊥
+HasRefreshes Optimistic = Unit {0}
+HasRefreshes Hardware = ⊥
+HasRefreshes Dependent = ⊥
+
+abbrev pub HasSections : Style → Type 0
+HasSections Rules = ⊥
+HasSections Boosted = ⊥
+HasSections Optimistic = ⊥
+HasSections Hardware = Unit {0}
+HasSections Dependent = ⊥
+
+abbrev pub HasSources : Style → Type 0
+HasSources Rules = ⊥
+HasSources Boosted = ⊥
+HasSources Optimistic = ⊥
+HasSources Hardware = ⊥
+HasSources Dependent = Unit {0}
+
 -- the record is one of the style
 abbrev pub IsOfStyle : {Op : Type 0} → Style → RunRecord Op → Type 0
-IsOfStyle Rules (records.Plain step) = Unit {0}
-IsOfStyle Rules _ = ⊥
-IsOfStyle _ (records.Plain (Begin t p b)) = Unit {0}
-IsOfStyle _ (records.Op t id op) = Unit {0}
-IsOfStyle _ (records.Commit t) = Unit {0}
-IsOfStyle _ (records.Abort t) = Unit {0}
-IsOfStyle _ (records.Retry t) = Unit {0}
-IsOfStyle Optimistic (records.Refresh t o) = Unit {0}
-IsOfStyle Hardware (records.XBegin t) = Unit {0}
-IsOfStyle Hardware (records.XEnd t) = Unit {0}
-IsOfStyle Hardware (records.XAbort t) = Unit {0}
-IsOfStyle Dependent (records.Depend t source) = Unit {0}
-IsOfStyle Dependent (records.Publish t) = Unit {0}
-IsOfStyle Dependent (records.DropSource t source) = Unit {0}
-IsOfStyle _ _ = ⊥
+IsOfStyle style (records.Plain step) = HasStep style step
+IsOfStyle style (records.Op t id op) = IsRecorded style
+IsOfStyle style (records.Commit t) = IsRecorded style
+IsOfStyle style (records.Abort t) = IsRecorded style
+IsOfStyle style (records.Retry t) = IsRecorded style
+IsOfStyle style (records.Refresh t o) = HasRefreshes style
+IsOfStyle style (records.XBegin t) = HasSections style
+IsOfStyle style (records.XEnd t) = HasSections style
+IsOfStyle style (records.XAbort t) = HasSections style
+IsOfStyle style (records.Depend t source) = HasSources style
+IsOfStyle style (records.Publish t) = HasSources style
+IsOfStyle style (records.DropSource t source) = HasSources style

@@ -2,7 +2,7 @@
 ghost use Rattle.std.specs.Prelude.{◌≡◌, ◌≤◌, Some, [], Ok, Err, length, take, min, IfOk, OnErr};
 ghost use Rattle.std.specs.Prelude.{IsErrOf, IsTrue, OnOk, ◌↔◌};
 ghost use Rattle.std.specs.Io.KnownBytes.{WriteAppends, Keeps};
-ghost use Rattle.pp_io.specs.Faults.{CountsNothing, HasRisen, counted};
+ghost use Rattle.pp_io.specs.Faults.{CountsNothing, HasRisen, TakesSome, counted};
 ghost use Rattle.pp_io.specs.Memory.{WriteFails, after_write, after_flush, fresh_sink};
 ghost use Rattle.pp_io.specs.Memory.{after_failed_flush, after_failed_write, after_refused_write};
 ghost use Rattle.pp_io.specs.Sent.{SendsAll};
@@ -115,6 +115,8 @@ impl Sink for MemorySink {
         ensures count { self.old.faults ≤ self.new.faults }
         ensures nothing { IfOk result (λ n.
             CountsNothing n bytes.now self.old.faults self.new.faults) }
+        ensures faultless { IfOk result (λ n.
+            TakesSome n bytes.now → self.new.faults ≡ self.old.faults) }
         ensures failed { IsErrOf result Failed → HasRisen self.old.faults self.new.faults }
         ensures refusals { self.old.refusals ≤ self.new.refusals }
         ensures refused { IsErrOf result OutOfMemory →
@@ -146,6 +148,7 @@ impl Sink for MemorySink {
     fn flush(&mut self) -> Result<(), SinkFault>
         ensures bytes { Keeps (Some self.old.held) (Some self.new.held) }
         ensures sent { OnOk result (self.new.sent ≡ self.new.held) }
+        ensures faultless { OnOk result (self.new.faults ≡ self.old.faults) }
         ensures flushed { self.new.flushes ≡ counted self.old.flushes }
         ensures count { self.old.faults ≤ self.new.faults }
         ensures failed { IsErrOf result Failed → HasRisen self.old.faults self.new.faults }

@@ -1,6 +1,6 @@
 //! Bytes in memory, in pieces, with calls that fail.
 ghost use Rattle.std.specs.Prelude.{◌≡◌, ◌≤◌, Some, Ok, IsErr, length, take, drop, slice_get};
-ghost use Rattle.std.specs.Prelude.{Contains, IfOk, OnErr, IsTrue, ◌↔◌};
+ghost use Rattle.std.specs.Prelude.{Contains, IfOk, OnErr, OnOk, IsTrue, ◌↔◌};
 ghost use Rattle.std.specs.Io.KnownBytes.{ReadConsumes};
 ghost use Rattle.pp_io.specs.Faults.{HasRisen};
 ghost use Rattle.pp_io.specs.Memory.{ReadFails, most_of, given_by, after_read, after_failed_read};
@@ -87,6 +87,7 @@ impl Source for MemorySource {
         ensures bytes { ReadConsumes (Some self.old.left) (Some self.new.left) result into.new }
         ensures count { self.old.faults ≤ self.new.faults }
         ensures failed { OnErr result (HasRisen self.old.faults self.new.faults) }
+        ensures faultless { OnOk result (self.new.faults ≡ self.old.faults) }
         ensures fails { ReadFails self.old →
             IsErr result × (self.new ≡ after_failed_read self.old) }
         ensures gives { ¬ ReadFails self.old →

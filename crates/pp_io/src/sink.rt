@@ -1,7 +1,7 @@
 //! Where bytes go to.
 ghost use Rattle.std.specs.Prelude.{◌≡◌, ◌≤◌, ℕ, List, Option, length, IfOk, OnOk, OnErr, IsErrOf};
 ghost use Rattle.std.specs.Io.KnownBytes.{WriteAppends, Keeps};
-ghost use Rattle.pp_io.specs.Faults.{CountsNothing, HasRisen, counted};
+ghost use Rattle.pp_io.specs.Faults.{CountsNothing, HasRisen, TakesSome, counted};
 ghost use Rattle.pp_io.specs.Sent.{SendsAll};
 ghost use Rattle.pp_io.specs.declared.sink.SinkFault.TheVariants.{Failed, OutOfMemory};
 
@@ -41,6 +41,8 @@ pub trait Sink {
         ensures count { faults self.old ≤ faults self.new }
         ensures nothing { IfOk result (λ n.
             CountsNothing n bytes.now (faults self.old) (faults self.new)) }
+        ensures faultless { IfOk result (λ n.
+            TakesSome n bytes.now → faults self.new ≡ faults self.old) }
         ensures failed { IsErrOf result Failed → HasRisen (faults self.old) (faults self.new) }
         ensures refusals { refusals self.old ≤ refusals self.new }
         ensures refused { IsErrOf result OutOfMemory →
@@ -52,6 +54,7 @@ pub trait Sink {
     fn flush(&mut self) -> Result<(), SinkFault>
         ensures bytes { Keeps (held self.old) (held self.new) }
         ensures sent { OnOk result (SendsAll (sent self.old) (sent self.new) (held self.new)) }
+        ensures faultless { OnOk result (faults self.new ≡ faults self.old) }
         ensures flushed { flushes self.new ≡ counted (flushes self.old) }
         ensures count { faults self.old ≤ faults self.new }
         ensures failed { IsErrOf result Failed → HasRisen (faults self.old) (faults self.new) }

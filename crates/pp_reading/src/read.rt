@@ -164,6 +164,8 @@ pub fn read_lines<S: Source, T: TakesLines, L: Ledger>(
         HasRisen (S.faults source.old) (S.faults source.new)
         × ReadsSoFar (T.reading ticks.old) (S.left source.old) (S.left source.new) }
     ensures count { S.faults source.old ≤ S.faults source.new }
+    ensures faultless { ¬ IsErrOf result (StopsByFailure ReadFault) →
+        S.faults source.new ≡ S.faults source.old }
     ensures cost { (bytes : List ℕ) → S.left source.old ≡ Some bytes →
         CountsTo (T.reading ticks.old) (scanned_lines bytes) ticks.new }
 {

@@ -3,3 +3,4 @@ pub mod Sending
 pub mod Numbers
 pub mod Performing
 pub mod Promises
+pub mod Promising

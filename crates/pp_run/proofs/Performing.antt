@@ -1,10 +1,13 @@
 -- How a command ends.
-use Rattle.std.specs.Prelude.{◌≡◌, ◌⊎◌}
+use Rattle.std.specs.Prelude.{◌≡◌, ◌⊎◌, ℕ, List, Option, None, Some}
 use Rattle.std.proofs.Common.{inl, inr, subst, sym}
 use Rattle.pp_core.specs.declared.status.Status.{Status}
 use Rattle.pp_core.specs.declared.status.Status.TheVariants as statuses
 use Rattle.pp_certify.specs.Certified.{IsDecided}
+use Rattle.pp_run.specs.Bounds.{RisesAtLeast}
 use Rattle.pp_run.specs.Outputs.{IsVerdictOrSize}
+use Rattle.pp_run.specs.declared.words.Command.{Command}
+use Rattle.pp_run.specs.declared.words.Command.TheVariants.{Certify, Drill, Expand, Quick, Recheck, Swaps, Views}
 
 -- a verdict or a fault
 pub answered : (s : Status) → IsDecided s ⊎ (s ≡ statuses.InputFault) → IsVerdictOrSize s ⊎ (s ≡ statuses.InputFault)
@@ -39,3 +42,14 @@ pub checked_fits : (s : Status) → (s ≡ statuses.Accepted) ⊎ (s ≡ statuse
 checked_fits s (inl accepted) large = let no : statuses.Accepted ≡ statuses.TooLarge = cc in cc
 checked_fits s (inr (inl rejected)) large = let no : statuses.Rejected ≡ statuses.TooLarge = cc in cc
 checked_fits s (inr (inr fault)) large = let no : statuses.InputFault ≡ statuses.TooLarge = cc in cc
+
+-- without a verdict nothing is asked of the counter
+pub no_verdict_no_least : (k : Option Command) (left : Option (List ℕ)) (s : Status) (old new : ℕ) → (IsDecided s → ⊥) → RisesAtLeast k left s old new
+no_verdict_no_least None left s old new none = tt
+no_verdict_no_least (Some Certify) left s old new none = λ decided. absurd (none decided)
+no_verdict_no_least (Some Expand) left s old new none = λ decided. absurd (none decided)
+no_verdict_no_least (Some Quick) left s old new none = λ accepted. absurd (none (subst IsDecided (sym accepted) tt))
+no_verdict_no_least (Some Swaps) left s old new none = λ decided. absurd (none decided)
+no_verdict_no_least (Some Recheck) left s old new none = tt
+no_verdict_no_least (Some Views) left s old new none = tt
+no_verdict_no_least (Some (Drill n)) left s old new none = λ accepted. absurd (none (subst IsDecided (sym accepted) tt))

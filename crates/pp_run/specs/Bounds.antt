@@ -31,10 +31,10 @@ RisesAtMost (Some Views) left old new =
     WhereTold left λ bytes. ViewsCostAtMost (scan bytes) old new
 RisesAtMost (Some (Drill n)) left old new = CostsAtMost (drill_scan n) old new
 
--- Where the command answers with this status, the counter rises at least by one for each step that
--- applies or takes back one operation and meets its criteria (under `quick`, at accepted alone, for
--- each record that is an operation), and, where the run is accepted, by the serial run, which
--- `expand` has not. Of certificates and of views nothing is said.
+-- With this status the counter rises at least by one for each step that applies or takes back one
+-- operation and meets its criteria; under `quick`, at accepted alone, for each record that is an
+-- operation. `certify`, `quick` and `drill` compute the serial run of an accepted run too. Of
+-- `recheck` and `views` nothing is said.
 abbrev pub RisesAtLeast : Option Command → Option (List ℕ) → Status → (old new : ℕ) → Type 0
 RisesAtLeast None left status old new = Unit {0}
 RisesAtLeast (Some Certify) left status old new = IsDecided status →
@@ -43,7 +43,8 @@ RisesAtLeast (Some Expand) left status old new = IsDecided status →
     WhereTold left λ bytes. StepsCostAtLeast status (scan bytes) old new
 RisesAtLeast (Some Quick) left status old new = status ≡ statuses.Accepted →
     WhereTold left λ bytes. QuickCostsAtLeast (scan bytes) old new
-RisesAtLeast (Some Swaps) left status old new = Unit {0}
+RisesAtLeast (Some Swaps) left status old new = IsDecided status →
+    WhereTold left λ bytes. StepsCostAtLeast status (scan bytes) old new
 RisesAtLeast (Some Recheck) left status old new = Unit {0}
 RisesAtLeast (Some Views) left status old new = Unit {0}
 RisesAtLeast (Some (Drill n)) left status old new = status ≡ statuses.Accepted →

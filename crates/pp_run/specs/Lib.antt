@@ -1,5 +1,9 @@
 pub mod Words
 pub mod Writing
 pub mod Outputs
+pub mod Outcomes
 pub mod Bounds
 pub mod Promises
+pub mod Streams
+pub mod Commands
+pub mod Runs

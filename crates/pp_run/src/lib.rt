@@ -1,6 +1,7 @@
 //! A whole run of the program: from its words and its input to its status and what it writes.
 #![tactic(auto)]
 
+mod answer;
 mod law;
 mod program;
 mod words;

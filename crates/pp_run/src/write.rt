@@ -26,6 +26,7 @@ pub(crate) fn send<K: Sink>(sink: &mut K, bytes: &[u8]) -> Result<(), WriteError
     ensures once { FlushesOnceAtMost (K.flushes sink.old) (K.flushes sink.new) }
     ensures err { OnErr result (AppendsPrefix (K.held sink.old) (K.held sink.new) bytes.now) }
     ensures count { K.faults sink.old ≤ K.faults sink.new }
+    ensures faultless { OnOk result (K.faults sink.new ≡ K.faults sink.old) }
     ensures write_fault { IsErrOf result WriteFault →
         HasRisen (K.faults sink.old) (K.faults sink.new) }
     ensures memory { IsErrOf result Memory →

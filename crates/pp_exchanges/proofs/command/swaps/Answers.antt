@@ -1,11 +1,12 @@
-use Rattle.std.proofs.Common.{subst}
-use Rattle.pp_certify.specs.Findings.{Finds}
+use Rattle.std.proofs.Common.{subst, sym}
+use Rattle.pp_certify.specs.Costs.{StepsCostAtLeast}
+use Rattle.pp_certify.specs.Findings.{Finds, StepsCounted}
 use Rattle.pp_certify.specs.Inputs.{scan}
 use Rattle.pp_certify.specs.Rejected.{IsEvident}
 use Rattle.pp_reading.proofs.Takers.{taken_all}
 use Rattle.pp_certify.proofs.Concluding.{rejected_evident}
 use Rattle.pp_exchanges.specs.Swaps.{IsSwaps}
-use Rattle.pp_exchanges.proofs.Telling.{accepted_swaps, fault_swaps, rejected_swaps}
+use Rattle.pp_exchanges.proofs.Telling.{accepted_if_decided, accepted_swaps, fault_swaps, rejected_swaps}
 use Rattle.pp_core.specs.declared.status.Status.TheVariants as statuses
 use Rattle.pp_exchanges.proofs.command.swaps.Goals as goal
 
@@ -39,3 +40,16 @@ returns-in_ok-report-in-Accepted-clause-output g c = λ bytes is.
     let report = c.in_ok-report-in-Accepted.report in
     subst (λ bs. IsSwaps bs report.0 report.1) (taken_all old new found.0 bytes found.1 found.2 is)
     (accepted_swaps found.0 c.in-Accepted.tally c.in-Accepted.machine report.0 report.1 found.3 c.in_ok-report-in-Accepted.ensures)
+
+-- ---- what the counter shows
+
+pub returns-in_ok-text-in-Rejected-clause-least : goal.returns-in_ok-text-in-Rejected-clause-least
+returns-in_ok-text-in-Rejected-clause-least g c = λ decided bytes is.
+    subst (λ finding. StepsCounted (scan bytes) finding c.args.ticks.now c.examine.new.ticks) c.in-Rejected.is (c.in_ok-line.ensures.least bytes is)
+
+pub returns-in_ok-report-in-Accepted-clause-least : goal.returns-in_ok-report-in-Accepted-clause-least
+returns-in_ok-report-in-Accepted-clause-least g c = λ decided bytes is.
+    let report = c.in_ok-report-in-Accepted.report in
+    let accepted = accepted_if_decided c.in-Accepted.tally.header.catalog c.in-Accepted.machine.config report.0 report.1 c.in_ok-report-in-Accepted.ensures decided in
+    subst (λ s. StepsCostAtLeast s (scan bytes) c.args.ticks.now c.examine.new.ticks) (sym accepted)
+    (subst (λ finding. StepsCounted (scan bytes) finding c.args.ticks.now c.examine.new.ticks) c.in-Accepted.is (c.in_ok-line.ensures.least bytes is))

@@ -13,7 +13,7 @@ use Rattle.pp_reading.proofs.Takers.{if_input_fault, no_read_fault, taken_all, t
 use Rattle.pp_reading.proofs.read.read_lines.Goals as goal
 
 -- a count that rises behind one that did not fall
-risen : (a b c m : ℕ) → a ≤ b → (b < m → b < c) → b ≤ c → a < m → a < c
+risen : (a b c m : ℕ) → b ≡ a → (b < m → b < c) → b ≤ c → a < m → a < c
 risen a b c m kept rises more below =
     elim (leb_tells m b) [
       | inl over ↦ omega (arith, over.1)
@@ -36,7 +36,7 @@ pieces-preserved g c =
     record {
       room = search rules;
       at = (at.0 ++ piece, c.in_ok-taker.ensures.ok c.args.ticks.now at.0 at.1, consumes_more (g.S.Source.left c.args.source.now) old new at.0 piece at.2 read);
-      count = omega (arith, c.pieces.invariant.count, c.read.ensures.count);
+      count = c.in-Ok.ensures.faultless ∙ c.pieces.invariant.count;
     }
 
 pub pieces-smaller : goal.pieces-smaller

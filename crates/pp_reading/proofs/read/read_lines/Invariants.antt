@@ -1,4 +1,4 @@
-use Rattle.std.proofs.Common.{◌≡◌, ◌≤◌, ◌-◌, ℕ, List, length}
+use Rattle.std.proofs.Common.{◌≡◌, ◌-◌, ℕ, List, length}
 use Rattle.std.specs.Io.KnownBytes.{Consumes}
 use Rattle.pp_core.specs.declared.limits.TheConstants.{MOST_BYTES}
 use Rattle.pp_reading.specs.declared.read.TheConstants.{LONGEST_PIECE}
@@ -9,7 +9,7 @@ abbrev pub invariant-pieces : goal.invariant-pieces
 invariant-pieces g l = record {
   room : length l.buffer.items ≡ LONGEST_PIECE;
   at : (bytes : List ℕ) × IsAt (g.T.TakesLines.reading l.fn.ticks) bytes l.lines (l.taker, l.ticks) × Consumes (g.S.Source.left l.fn.source) (g.S.Source.left l.source) bytes;
-  count : g.S.Source.faults l.fn.source ≤ g.S.Source.faults l.source;
+  count : g.S.Source.faults l.source ≡ g.S.Source.faults l.fn.source;
 }
 
 abbrev pub decreases-pieces : goal.decreases-pieces

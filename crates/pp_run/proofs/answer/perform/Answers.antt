@@ -6,7 +6,7 @@ use Rattle.pp_run.specs.Bounds.{RisesAtLeast, RisesAtMost}
 use Rattle.pp_run.specs.Outputs.{IsOfWhole, IsOutput, OfInput, ReadsSound}
 use Rattle.pp_run.specs.Words.{DrivesMachine, Reads, TellsSize}
 use Rattle.pp_run.specs.declared.words.Command.{Command}
-use Rattle.pp_run.proofs.program.perform.Goals as goal
+use Rattle.pp_run.proofs.answer.perform.Goals as goal
 
 -- ---- what is printed
 
@@ -271,7 +271,7 @@ returns-in-Quick-clause-least g c =
 
 pub returns-in-Swaps-clause-least : goal.returns-in-Swaps-clause-least
 returns-in-Swaps-clause-least g c =
-    if_ok_all c.swaps.result _ (λ r. subst (λ (k : Command). RisesAtLeast (Some k) (g.S.Source.left c.args.source.now) r.0 c.args.ticks.now c.swaps.new.ticks) (sym c.in-Swaps.is) tt)
+    IfOk-weaker c.swaps.result _ _ (λ r told. subst (λ (k : Command). RisesAtLeast (Some k) (g.S.Source.left c.args.source.now) r.0 c.args.ticks.now c.swaps.new.ticks) (sym c.in-Swaps.is) told) c.swaps.ensures.least
 
 pub returns-in-Recheck-clause-least : goal.returns-in-Recheck-clause-least
 returns-in-Recheck-clause-least g c =

@@ -1,0 +1,4 @@
+use Rattle.pp_cli.proofs.tests.streams.certified.Given as goal
+
+abbrev pub ghosts-run_streams : goal.ghosts-run_streams
+ghosts-run_streams a = record { name = a.blank.name; parts = a.blank.parts }

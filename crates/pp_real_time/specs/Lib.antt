@@ -1,0 +1,3 @@
+pub mod RealTime
+pub mod Lines
+pub mod Timely

@@ -1,0 +1,185 @@
+-- What each command promises, from what is said of all of them.
+use Rattle.std.proofs.Common.{◌≡◌, ℕ, List, Option, None, Some, inl, inr, refl, subst, sym}
+use Rattle.pp_core.specs.declared.status.Status.{Status}
+use Rattle.pp_core.specs.declared.status.Status.TheVariants as statuses
+use Rattle.pp_attempts.specs.Outputs.{IsViews}
+use Rattle.pp_certificate.specs.Rechecked.{IsCheckedSound}
+use Rattle.pp_certify.proofs.Exact.{certified_exact, meets_alone, meets_simulated}
+use Rattle.pp_certify.proofs.Restated.{prints_again}
+use Rattle.pp_certify.specs.Accepted.{EachStepMeets}
+use Rattle.pp_certify.specs.Certified.{IsDecided}
+use Rattle.pp_certify.specs.Inputs.{scan}
+use Rattle.pp_certify.specs.Rejected.{IsEvident}
+use Rattle.pp_certify.specs.Reports.{IsCertified}
+use Rattle.pp_certify.specs.Scans.{InputScan}
+use Rattle.pp_decide.specs.Decisions.{Decision, IsDecisionBehind, IsDecisionOf}
+use Rattle.pp_decide.specs.Decisions.{IsDecisionTold, IsQuick, quick_fault}
+use Rattle.pp_drill.specs.Prints.{PrintsLines, certified_text}
+use Rattle.pp_drill.specs.Text.{drill_text}
+use Rattle.pp_exchanges.proofs.Rechecking.{prints_certificate}
+use Rattle.pp_exchanges.specs.Swaps.{IsSwaps, IsSwapsOf}
+use Rattle.pp_front.specs.Runs.{Lined}
+use Rattle.pp_json.specs.declared.header.Header.{Header}
+use Rattle.pp_reading.specs.declared.cause.Cause.{Cause}
+use Rattle.pp_real_time.proofs.Timely.{meets_timely}
+use Rattle.pp_run.proofs.Promises.{accepted_how, sees_kept}
+use Rattle.pp_run.specs.Bounds.{RisesAtLeast, RisesAtMost}
+use Rattle.pp_run.specs.Commands.{CommandPromise, IsSerializable}
+use Rattle.pp_run.specs.Outcomes.{Outcome}
+use Rattle.pp_run.specs.Outputs.{IsPrinted, OfInput, Prints, PrintsOnly}
+use Rattle.pp_run.specs.Words.{DrivesMachine}
+use Rattle.pp_run.specs.declared.words.Command.{Command}
+use Rattle.pp_run.specs.declared.words.Command.TheVariants.{Certify, Drill, Expand, Quick}
+use Rattle.pp_run.specs.declared.words.Command.TheVariants.{Recheck, Swaps, Views}
+use Rattle.pp_reading.specs.Sources.{WhereTold}
+
+-- what is said of a call of any command
+pub record Answers (k : Option Command) (o : Outcome) : Type 0 where
+  pub output : IsPrinted o.status → OfInput k o.input (λ bytes. Prints k bytes o.status o.held o.holds)
+  pub only : IsPrinted o.status → OfInput k o.input (λ bytes. PrintsOnly k bytes o.status o.held o.holds)
+  pub shown : DrivesMachine k → o.status ≡ statuses.Rejected → WhereTold o.input (λ bytes. IsEvident (scan bytes))
+  pub checked : k ≡ Some Recheck → o.status ≡ statuses.Accepted → WhereTold o.input (λ bytes. IsCheckedSound bytes)
+  pub most : RisesAtMost k o.input o.before o.after
+  pub least : RisesAtLeast k o.input o.status o.before o.after
+  pub lines : (n : ℕ) → k ≡ Some (Drill n) → PrintsLines n
+
+-- ---- an accepted run
+
+pub serializable : (bytes : List ℕ) → EachStepMeets (scan bytes) → IsSerializable bytes
+serializable bytes m =
+    record {
+      steps = m;
+      simulated = meets_simulated (scan bytes) m;
+      timely = meets_timely bytes m;
+      alone = meets_alone (scan bytes) m;
+    }
+
+certified_meets : (bytes text : List ℕ) → IsCertified bytes statuses.Accepted text → EachStepMeets (scan bytes)
+certified_meets bytes text r = ((certified_exact bytes statuses.Accepted text r).0 refl).1
+
+-- the status with which an input is certified is accepted, if its certificate is printed
+swaps_how : (sc : InputScan) (how : Status) (report text : List ℕ) → IsSwapsOf sc how report statuses.Accepted text → how ≡ statuses.Accepted
+swaps_how sc statuses.Accepted report text told = refl
+swaps_how sc statuses.Rejected report text told = absurd (let no : statuses.Accepted ≡ statuses.Rejected = told.0 in cc)
+swaps_how sc statuses.InputFault report text told = absurd (let no : statuses.Accepted ≡ statuses.InputFault = told.0 in cc)
+swaps_how sc statuses.BadWords report text told = absurd told
+swaps_how sc statuses.ReadFault report text told = absurd told
+swaps_how sc statuses.WriteFault report text told = absurd told
+swaps_how sc statuses.OutOfMemory report text told = absurd told
+swaps_how sc statuses.TooLarge report text told = absurd told
+
+swaps_meets : (bytes text : List ℕ) → IsSwaps bytes statuses.Accepted text → EachStepMeets (scan bytes)
+swaps_meets bytes text (how, report, certified, told) =
+    certified_meets bytes report (subst (λ (s : Status). IsCertified bytes s report) (swaps_how (scan bytes) how report text told) certified)
+
+views_meets : (bytes text : List ℕ) → IsViews bytes statuses.Accepted text → EachStepMeets (scan bytes)
+views_meets bytes text (how, report, certified, told) =
+    certified_meets bytes report (subst (λ (s : Status). IsCertified bytes s report) (accepted_how (scan bytes) how report text told) certified)
+
+-- what `quick` decides as accepted
+accepted_of : (sc : InputScan) (header : Lined Header) (decision : Decision) (text : List ℕ) → sc.header ≡ Some header → IsDecisionOf header sc.records decision
+    → IsDecisionTold sc.header decision statuses.Accepted text → EachStepMeets sc
+accepted_of sc header decision text here (inl (hold, is)) told = record { header = header; first_line = here; start = hold.0; steps = hold.1 }
+accepted_of sc header decision text here (inr (line, fails, is)) told =
+    absurd (let t = subst (λ (d : Decision). IsDecisionTold sc.header d statuses.Accepted text) is told in let no : statuses.Accepted ≡ statuses.Rejected = t.0 in cc)
+
+accepted_behind : (fault : Option (ℕ × Cause)) (sc : InputScan) (decision : Decision) (text : List ℕ) → IsDecisionBehind fault sc decision
+    → IsDecisionTold sc.header decision statuses.Accepted text → EachStepMeets sc
+accepted_behind (Some fault) sc decision text is told =
+    absurd (let t = subst (λ (d : Decision). IsDecisionTold sc.header d statuses.Accepted text) is told in let no : statuses.Accepted ≡ statuses.InputFault = t.0 in cc)
+accepted_behind None sc decision text (header, here, is) told = accepted_of sc header decision text here is told
+
+quick_meets : (bytes text : List ℕ) → IsQuick bytes statuses.Accepted text → EachStepMeets (scan bytes)
+quick_meets bytes text (decision, is, told) = accepted_behind (quick_fault (scan bytes)) (scan bytes) decision text is told
+
+-- ---- the promises
+
+decided_printed : (s : Status) → IsDecided s → IsPrinted s
+decided_printed statuses.Accepted d = tt
+decided_printed statuses.Rejected d = tt
+decided_printed statuses.BadWords d = absurd d
+decided_printed statuses.InputFault d = absurd d
+decided_printed statuses.ReadFault d = absurd d
+decided_printed statuses.WriteFault d = absurd d
+decided_printed statuses.OutOfMemory d = absurd d
+decided_printed statuses.TooLarge d = absurd d
+
+printed : (o : Outcome) (s : Status) → o.status ≡ s → IsPrinted s → IsPrinted o.status
+printed o s is p = subst IsPrinted (sym is) p
+
+pub promised : (k : Option Command) (o : Outcome) → Answers k o → CommandPromise k o
+promised None o a = tt
+promised (Some Certify) o a =
+    record {
+      prints = λ p bytes is. record { output = a.output p bytes is; only = a.only p bytes is };
+      exact = λ p bytes is. let out = a.output p bytes is in certified_exact bytes o.status out.0 out.1;
+      accepted = λ e bytes is.
+          let out = a.output (printed o statuses.Accepted e tt) bytes is in
+          serializable bytes (certified_meets bytes out.0 (subst (λ (s : Status). IsCertified bytes s out.0) e out.1));
+      rejected = a.shown tt;
+      most = a.most;
+      least = a.least;
+    }
+promised (Some Expand) o a =
+    record {
+      prints = λ p bytes is. record { output = a.output p bytes is; only = a.only p bytes is };
+      exact = λ p bytes is. let out = a.output p bytes is in certified_exact bytes o.status out.1.0 out.1.1;
+      accepted = λ e bytes is.
+          let out = a.output (printed o statuses.Accepted e tt) bytes is in
+          serializable bytes (certified_meets bytes out.1.0 (subst (λ (s : Status). IsCertified bytes s out.1.0) e out.1.1));
+      rejected = a.shown tt;
+      again = λ d bytes is.
+          let out = a.output (decided_printed o.status d) bytes is in
+          prints_again bytes o.status out.0 o.held o.holds d out.1 out.2;
+      most = a.most;
+      least = a.least;
+    }
+promised (Some Quick) o a =
+    record {
+      prints = λ p bytes is. record { output = a.output p bytes is; only = a.only p bytes is };
+      accepted = λ e bytes is.
+          let out = a.output (printed o statuses.Accepted e tt) bytes is in
+          serializable bytes (quick_meets bytes out.0 (subst (λ (s : Status). IsQuick bytes s out.0) e out.1));
+      most = a.most;
+      least = a.least;
+    }
+promised (Some Swaps) o a =
+    record {
+      prints = λ p bytes is. record { output = a.output p bytes is; only = a.only p bytes is };
+      accepted = λ e bytes is.
+          let out = a.output (printed o statuses.Accepted e tt) bytes is in
+          serializable bytes (swaps_meets bytes out.0 (subst (λ (s : Status). IsSwaps bytes s out.0) e out.1));
+      rejected = a.shown tt;
+      certified = λ e bytes is.
+          let out = a.output (printed o statuses.Accepted e tt) bytes is in
+          prints_certificate bytes out.0 o.held o.holds (subst (λ (s : Status). IsSwaps bytes s out.0) e out.1) out.2;
+      most = a.most;
+      least = a.least;
+    }
+promised (Some Recheck) o a =
+    record {
+      prints = λ p bytes is. record { output = a.output p bytes is; only = a.only p bytes is };
+      checked = a.checked refl;
+      most = a.most;
+    }
+promised (Some Views) o a =
+    record {
+      prints = λ p bytes is. record { output = a.output p bytes is; only = a.only p bytes is };
+      accepted = λ e bytes is.
+          let out = a.output (printed o statuses.Accepted e tt) bytes is in
+          serializable bytes (views_meets bytes out.0 (subst (λ (s : Status). IsViews bytes s out.0) e out.1));
+      rejected = a.shown tt;
+      seen = λ e bytes is.
+          let out = a.output (printed o statuses.Accepted e tt) bytes is in
+          sees_kept bytes out.0 (subst (λ (s : Status). IsViews bytes s out.0) e out.1);
+      most = a.most;
+    }
+promised (Some (Drill n)) o a =
+    record {
+      prints = λ p. record { output = a.output p; only = a.only p };
+      accepted = λ p. (a.output p).1.4;
+      lines = a.lines n refl;
+      serializable = serializable (drill_text n) (certified_meets (drill_text n) (certified_text n) (a.lines n refl).report);
+      most = a.most;
+      least = a.least;
+    }

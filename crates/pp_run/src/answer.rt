@@ -1,0 +1,184 @@
+//! How a command is done: from its words and its input to its status and what it writes.
+ghost use Rattle.std.specs.Prelude.{◌≡◌, ◌≢◌, ◌≤◌, ◌↔◌, ◌⊎◌, ℕ, List, None, Some, IfOk, IsErrOf};
+ghost use Rattle.std.specs.Io.KnownBytes.{IsAtEnd};
+ghost use Rattle.pp_core.specs.declared.status.Status.TheVariants as statuses;
+ghost use Rattle.pp_io.specs.Faults.{HasRisen, counted};
+ghost use Rattle.pp_io.specs.Sent.{SendsAll};
+ghost use Rattle.pp_reading.specs.declared.stop.Failure.TheVariants.{ReadFault};
+ghost use Rattle.pp_reading.specs.Sources.{WhereTold};
+ghost use Rattle.pp_certificate.specs.Rechecked.{IsCheckedSound};
+ghost use Rattle.pp_certify.specs.Inputs.{scan};
+ghost use Rattle.pp_certify.specs.Rejected.{IsEvident};
+ghost use Rattle.pp_run.specs.declared.words.Command.TheVariants.{Drill, Recheck};
+ghost use Rattle.pp_run.specs.Bounds.{RisesAtLeast, RisesAtMost};
+ghost use Rattle.pp_run.specs.Outputs.{IsOfWhole, IsOutput, IsPrinted, IsUnwritten, OfInput};
+ghost use Rattle.pp_run.specs.Outputs.{IsVerdictOrSize, Prints, PrintsOnly, PrintsPrefix};
+ghost use Rattle.pp_run.specs.Outputs.{PrintsPrefixOnly, ReadsSound};
+ghost use Rattle.pp_run.specs.Words.{DrivesMachine, Reads, TellsSize, command_of};
+ghost use Rattle.pp_run.specs.Writing.{FlushesOnceAtMost};
+
+use crate::words::{Command, read_words};
+use crate::write::{WriteError, send};
+use pp_attempts::views;
+use pp_certify::{certify, expand};
+use pp_core::{Status, Text, Ticks, Words};
+use pp_decide::quick;
+use pp_drill::drill;
+use pp_exchanges::swaps;
+use pp_io::{Sink, Source};
+use pp_reading::Failure;
+use pp_verify::recheck;
+use std::alloc::Global;
+use std::sync::ledger::Ledger;
+
+/// The status and the output of a command. It reads the source where the command reads an input,
+/// and writes nothing.
+fn perform<S: Source, L: Ledger>(
+    alloc: Global,
+    command: Command,
+    source: &mut S,
+    ticks: &mut Ticks<L>,
+) -> Result<(Status, Text), Failure>
+    requires { (n : ℕ) → command ≡ Drill n → (1 ≤ n) × (n ≤ 20_000) }
+    ensures output { IfOk result (λ r. OfInput (Some command) (S.left source.old) λ bytes.
+        IsOutput (Some command) bytes r.0 r.1) }
+    ensures status { IfOk result (λ r. IsVerdictOrSize r.0 ⊎ (r.0 ≡ statuses.InputFault)) }
+    ensures size { IfOk result (λ r. r.0 ≡ statuses.TooLarge → TellsSize (Some command)) }
+    ensures end { IfOk result (λ r. IsOfWhole (Some command) r.0 → IsAtEnd (S.left source.new)) }
+    ensures shown { IfOk result (λ r. DrivesMachine (Some command) → r.0 ≡ statuses.Rejected →
+        WhereTold (S.left source.old) λ bytes. IsEvident (scan bytes)) }
+    ensures checked { IfOk result (λ r. command ≡ Recheck → r.0 ≡ statuses.Accepted →
+        WhereTold (S.left source.old) λ bytes. IsCheckedSound bytes) }
+    ensures untouched { ¬ Reads (Some command) → source.new ≡ source.old }
+    ensures reading { IsErrOf result ReadFault → Reads (Some command) }
+    ensures read_fault { IsErrOf result ReadFault →
+        HasRisen (S.faults source.old) (S.faults source.new)
+        × ReadsSound (Some command) (S.left source.old) (S.left source.new) }
+    ensures count { S.faults source.old ≤ S.faults source.new }
+    ensures faultless { ¬ IsErrOf result ReadFault → S.faults source.new ≡ S.faults source.old }
+    ensures most { RisesAtMost (Some command) (S.left source.old) ticks.old ticks.new }
+    ensures least { IfOk result (λ r.
+        RisesAtLeast (Some command) (S.left source.old) r.0 ticks.old ticks.new) }
+{
+    match command {
+        Command::Certify => certify(alloc, source, ticks),
+        Command::Expand => expand(alloc, source, ticks),
+        Command::Quick => quick(alloc, source, ticks),
+        Command::Swaps => swaps(alloc, source, ticks),
+        Command::Recheck => recheck(alloc, source, ticks),
+        Command::Views => views(alloc, source, ticks),
+        Command::Drill { n } => {
+            let report = drill(alloc, n, ticks)?;
+            Ok(report)
+        }
+    }
+}
+
+/// Does a command, as `run` says. What is said here of each command alone is what the promises of
+/// `run` are proved from.
+pub(crate) fn answer<S: Source, K: Sink, L: Ledger>(
+    alloc: Global,
+    words: &Words,
+    source: &mut S,
+    sink: &mut K,
+    ticks: &mut Ticks<L>,
+) -> Status
+    // What is printed is the output that the words and the input define, and they define no other.
+    ensures output { IsPrinted result → OfInput (command_of words.now) (S.left source.old) λ bytes.
+        Prints (command_of words.now) bytes result (K.held sink.old) (K.held sink.new) }
+    ensures only { IsPrinted result → OfInput (command_of words.now) (S.left source.old) λ bytes.
+        PrintsOnly (command_of words.now) bytes result (K.held sink.old) (K.held sink.new) }
+
+    // All of it was sent on, where the sink tells what it sent. It is flushed once, and whatever is
+    // answered, once at most.
+    ensures sent { IsPrinted result → result ≢ statuses.BadWords →
+        SendsAll (K.sent sink.old) (K.sent sink.new) (K.held sink.new) }
+    ensures flushed { IsPrinted result → result ≢ statuses.BadWords →
+        K.flushes sink.new ≡ counted (K.flushes sink.old) }
+    ensures once { FlushesOnceAtMost (K.flushes sink.old) (K.flushes sink.new) }
+
+    // Words that are no command touch nothing, and a command that reads no input leaves the source
+    // as it was.
+    ensures bad_words { (result ≡ statuses.BadWords) ↔ (command_of words.now ≡ None) }
+    ensures source_untouched { ¬ Reads (command_of words.now) → source.new ≡ source.old }
+    ensures sink_untouched { result ≡ statuses.BadWords → sink.new ≡ sink.old }
+
+    // What a command finds on the whole of its input leaves a source that tells its bytes with
+    // none.
+    ensures end { IsOfWhole (command_of words.now) result → IsAtEnd (S.left source.new) }
+
+    // Only a command that prints a certificate or views may have more to print than a limit lets.
+    ensures size { result ≡ statuses.TooLarge → TellsSize (command_of words.now) }
+
+    // A failed read is told only where one failed, the sink was not touched, and no fault in what
+    // was read is hidden.
+    ensures read_fault { result ≡ statuses.ReadFault →
+        HasRisen (S.faults source.old) (S.faults source.new)
+        × (sink.new ≡ sink.old)
+        × ReadsSound (command_of words.now) (S.left source.old) (S.left source.new) }
+    ensures reading { result ≡ statuses.ReadFault → Reads (command_of words.now) }
+
+    // A failed write is told only where one failed, and a prefix of the output was written.
+    ensures write_fault { result ≡ statuses.WriteFault →
+        HasRisen (K.faults sink.old) (K.faults sink.new) }
+    ensures written { result ≡ statuses.WriteFault →
+        OfInput (command_of words.now) (S.left source.old) λ bytes.
+        PrintsPrefix (command_of words.now) bytes (K.held sink.old) (K.held sink.new) }
+
+    // Where memory was refused, the sink was not touched, or the sink itself answered that it was,
+    // and a prefix of the output was written.
+    ensures refused { result ≡ statuses.OutOfMemory → (sink.new ≡ sink.old)
+        ⊎ (HasRisen (K.refusals sink.old) (K.refusals sink.new)
+        × OfInput (command_of words.now) (S.left source.old) λ bytes.
+        PrintsPrefix (command_of words.now) bytes (K.held sink.old) (K.held sink.new)) }
+    ensures prefix { IsUnwritten result →
+        OfInput (command_of words.now) (S.left source.old) λ bytes.
+        PrintsPrefixOnly (command_of words.now) bytes (K.held sink.old) (K.held sink.new) }
+
+    // The counts of faults never fall.
+    ensures reads { S.faults source.old ≤ S.faults source.new }
+    ensures writes { K.faults sink.old ≤ K.faults sink.new }
+    // What is printed was read and written without one failure.
+    ensures faultless { IsPrinted result → (S.faults source.new ≡ S.faults source.old)
+        × (K.faults sink.new ≡ K.faults sink.old) }
+
+    // Where nothing failed, the status is the defined one, unless memory was refused.
+    ensures complete { ¬ HasRisen (S.faults source.old) (S.faults source.new) →
+        ¬ HasRisen (K.faults sink.old) (K.faults sink.new) →
+        (result ≡ statuses.OutOfMemory) ⊎ IsPrinted result }
+
+    // A command that reads no input does not ask whether a read failed.
+    ensures no_input { ¬ Reads (command_of words.now) →
+        ¬ HasRisen (K.faults sink.old) (K.faults sink.new) →
+        (result ≡ statuses.OutOfMemory) ⊎ IsPrinted result }
+
+    // Of a run that is rejected, at its start or at a step, the fact of the criterion of its report
+    // holds of its evidence; and where it holds of any detail that tells something, the criterion
+    // is false.
+    ensures shown { DrivesMachine (command_of words.now) → result ≡ statuses.Rejected →
+        WhereTold (S.left source.old) λ bytes. IsEvident (scan bytes) }
+
+    // What a certificate shows that is accepted is allowed, and leads to the state that is printed.
+    ensures checked { command_of words.now ≡ Some Recheck → result ≡ statuses.Accepted →
+        WhereTold (S.left source.old) λ bytes. IsCheckedSound bytes }
+
+    // The counter rises at most by what the command costs at most, whatever is answered, and at
+    // least by what its verdict costs at least.
+    ensures most { RisesAtMost (command_of words.now) (S.left source.old) ticks.old ticks.new }
+    ensures least { RisesAtLeast (command_of words.now) (S.left source.old) result
+        ticks.old ticks.new }
+{
+    let Some(command) = read_words(words) else {
+        return Status::BadWords;
+    };
+    let (status, text) = match perform(alloc, command, source, ticks) {
+        Ok(report) => report,
+        Err(Failure::ReadFault) => return Status::ReadFault,
+        Err(Failure::OutOfMemory) => return Status::OutOfMemory,
+    };
+    match send(sink, text.bytes()) {
+        Ok(()) => status,
+        Err(WriteError::WriteFault) => Status::WriteFault,
+        Err(WriteError::Memory) => Status::OutOfMemory,
+    }
+}
