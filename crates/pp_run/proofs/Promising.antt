@@ -2,7 +2,7 @@
 use Rattle.std.proofs.Common.{◌≡◌, ℕ, List, Option, None, Some, inl, inr, refl, subst, sym}
 use Rattle.pp_core.specs.declared.status.Status.{Status}
 use Rattle.pp_core.specs.declared.status.Status.TheVariants as statuses
-use Rattle.pp_attempts.specs.Outputs.{IsViews, IsViewsOf}
+use Rattle.pp_attempts.specs.Outputs.{IsViews}
 use Rattle.pp_certificate.specs.Rechecked.{IsCheckedSound}
 use Rattle.pp_certify.proofs.Exact.{certified_exact, meets_alone, meets_simulated}
 use Rattle.pp_certify.proofs.Restated.{prints_again}

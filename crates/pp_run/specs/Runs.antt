@@ -8,6 +8,7 @@ use Rattle.pp_readable.specs.Readable.{CertifyLaw, QuickLaw}
 use Rattle.pp_run.specs.declared.words.Command.{Command}
 use Rattle.pp_run.specs.Commands.{CommandPromise}
 use Rattle.pp_run.specs.Outcomes.{Outcome}
+use Rattle.pp_run.specs.Outputs.{DefinedLaw}
 use Rattle.pp_run.specs.Promises.{HaveOneRun, IsDecidedAsRun}
 use Rattle.pp_run.specs.Streams.{Counts, StreamsPromise}
 use Rattle.pp_violations.specs.Reported.{ReportedLaw}
@@ -22,6 +23,9 @@ pub record RunPromise (SameSource SameSink : Type 0) (asked : Option Command) (o
   pub command : CommandPromise asked o
 
 pub record RunLaws : Type 0 where
+  -- Whatever the arguments and the input are, an output is defined. The clauses `prints` say that
+  -- there is no other.
+  pub defined : DefinedLaw
   -- Whatever records follow a header, they have one run, and steps have one verdict.
   pub one_run : (header : Header) → HaveOneRun header
   -- What `quick` decides is the verdict of all steps of the records.
