@@ -34,7 +34,7 @@ RisesAtMost (Some (Drill n)) left old new = CostsAtMost (drill_scan n) old new
 -- With this status the counter rises at least by one for each step that applies or takes back one
 -- operation and meets its criteria; under `quick`, at accepted alone, for each record that is an
 -- operation. `certify`, `quick` and `drill` compute the serial run of an accepted run too. Of
--- `recheck` and `views` nothing is said.
+-- `recheck` nothing is said.
 abbrev pub RisesAtLeast : Option Command → Option (List ℕ) → Status → (old new : ℕ) → Type 0
 RisesAtLeast None left status old new = Unit {0}
 RisesAtLeast (Some Certify) left status old new = IsDecided status →
@@ -46,6 +46,7 @@ RisesAtLeast (Some Quick) left status old new = status ≡ statuses.Accepted →
 RisesAtLeast (Some Swaps) left status old new = IsDecided status →
     WhereTold left λ bytes. StepsCostAtLeast status (scan bytes) old new
 RisesAtLeast (Some Recheck) left status old new = Unit {0}
-RisesAtLeast (Some Views) left status old new = Unit {0}
+RisesAtLeast (Some Views) left status old new = IsDecided status →
+    WhereTold left λ bytes. StepsCostAtLeast status (scan bytes) old new
 RisesAtLeast (Some (Drill n)) left status old new = status ≡ statuses.Accepted →
     CostsAtLeast statuses.Accepted (drill_scan n) old new

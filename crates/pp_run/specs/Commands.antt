@@ -97,6 +97,8 @@ pub record ViewsPromise (o : Outcome) : Type 0 where
   -- transactions committed before it leave.
   pub seen : o.status ≡ statuses.Accepted → OfItsInput o λ bytes. SeesKept (scan bytes)
   pub most : OfItsInput o λ bytes. ViewsCostAtMost (scan bytes) o.before o.after
+  pub least : IsDecided o.status → OfItsInput o λ bytes.
+      StepsCostAtLeast o.status (scan bytes) o.before o.after
 
 -- `drill` reads no input, so its output is that of its number.
 pub record DrillPromise (n : ℕ) (o : Outcome) : Type 0 where
