@@ -69,8 +69,8 @@ pub record QuickPromise (o : Outcome) : Type 0 where
   -- also of a run that has too many steps for `certify`
   pub accepted : o.status ≡ statuses.Accepted → OfItsInput o λ bytes. IsSerializable bytes
   pub most : OfItsInput o λ bytes. QuickCostsAtMost (scan bytes) o.before o.after
-  pub least : o.status ≡ statuses.Accepted → OfItsInput o λ bytes.
-      QuickCostsAtLeast (scan bytes) o.before o.after
+  pub least : IsDecided o.status → OfItsInput o λ bytes.
+      QuickCostsAtLeast o.status (scan bytes) o.before o.after
 
 pub record SwapsPromise (o : Outcome) : Type 0 where
   pub prints : PrintsJust IsSwaps o
