@@ -148,7 +148,7 @@ header_cost sc line lines old now new none other cost counts =
     let before : RecordsCostAtMost nothing old now = subst (λ (s : InputScan). RecordsCostAtMost s old now) none counts.most in
     subst (λ (s : InputScan). RecordsCostAtMost s old new) (sym (header_scan sc line (header_of line.1) none other refl)) (header_most line.0 (header_of line.1) old now new before cost)
 
--- of no record none fails
+-- no record of an empty list fails
 no_parts : {A : Type 0} (b z : List A) (x : A) → [] ≡ b ++ x ∷ z → ⊥
 no_parts [] z x e = absurd (cc)
 no_parts (y ∷ b) z x e = absurd (cc)
@@ -171,14 +171,14 @@ counts_header sc line header lines next old now new none other read rises cost c
 
 -- ---- a record
 
--- more records, more operations
+-- more records have no fewer operations
 ops_append : (xs ys : List (RunRecord Op)) → count_ops xs ≤ count_ops (xs ++ ys)
 ops_append xs ys =
     let all = ap (λ (z : List (RunRecord Op)). length z) (filter-append is_op xs ys) in
     let both = length-append (filter is_op xs) (filter is_op ys) in
     omega (arith, all, both)
 
--- what stands before one of a list with one more at its end is the beginning of the list
+-- what is before an element of `xs ++ y ∷ []` is the beginning of `xs`
 front_of : {A : Type 0} (xs b z : List A) (y x : A) → xs ++ y ∷ [] ≡ b ++ x ∷ z → (w : List A) × (xs ≡ b ++ w)
 front_of xs [] z y x e = (xs, refl)
 front_of [] (d ∷ b) z y x e = absurd (no_parts b z x (tails y d [] (b ++ x ∷ z) e))
@@ -197,12 +197,12 @@ ops_before rs before behind it r e =
 abbrev Least : ℕ → ℕ → List (RunRecord Op) → Type 0
 Least old new taken = old + count_ops taken ≤ new
 
--- one that fails, behind those that were taken
+-- a record that fails, after those that were taken
 failed_least : (header : Lined Header) (rs : Records (RunRecord Op)) (it : Lined (RunRecord Op)) (old now new : ℕ) → old + count_ops (bare rs) ≤ now → now ≤ new → OfTaken (Some header) (rs ++ it ∷ []) (Least old new)
 failed_least header rs it old now new least rises r f =
     fewer_ops old now new (count_ops (bare rs)) (count_ops (bare f.before)) least rises (ops_before rs f.before f.behind it r f.parts)
 
--- one behind one that fails
+-- a record after the one that fails
 passed_least : (header : Lined Header) (rs : Records (RunRecord Op)) (it : Lined (RunRecord Op)) (at old now : ℕ) → FailsOn header rs at → OfTaken (Some header) rs (Least old now) → OfTaken (Some header) (rs ++ it ∷ []) (Least old now)
 passed_least header rs it at old now (inl k) least r f = absurd (k.0 f.begun)
 passed_least header rs it at old now (inr k) least r f =

@@ -46,8 +46,8 @@ abbrev pub QuickCostsAtMost : InputScan → (old new : ℕ) → Type 0
 QuickCostsAtMost sc old new = OfTried sc.header sc.records λ most.
     OfRun sc.header sc.records λ start steps. new ≤ old + most + serial_length start steps
 
--- Of the records before the one that fails this holds (there is one list of them at most, and none
--- where the start fails).
+-- This holds of the records before the one that fails. There is one list of them at most, and none
+-- if the start fails.
 abbrev pub OfTaken : Option (Lined Header) → Records (RunRecord Op) →
     (List (RunRecord Op) → Type 0) → Type 0
 OfTaken None records P = Unit {0}
@@ -59,9 +59,9 @@ OfTaken (Some header) records P = (r : Lined (RunRecord Op)) →
 abbrev pub TakenCostAtLeast : InputScan → (old new : ℕ) → Type 0
 TakenCostAtLeast sc old new = OfTaken sc.header sc.records λ taken. old + count_ops taken ≤ new
 
--- The counter rises at least by one for each record that is an operation, of an accepted run by the
--- length of the serial run too, and of a rejected one by those before the record that fails.
--- Without a verdict nothing is asked.
+-- The counter rises at least by one for each record that is an operation, and for an accepted run by
+-- the length of the serial run too. For a rejected run only the records before the one that fails
+-- count. Without a verdict nothing is asked.
 abbrev pub QuickCostsAtLeast : Status → InputScan → (old new : ℕ) → Type 0
 QuickCostsAtLeast statuses.Accepted sc old new = OfRun sc.header sc.records λ start steps.
     old + count_ops (bare sc.records) + serial_length start steps ≤ new

@@ -160,6 +160,7 @@ promised (Some Recheck) o a =
       prints = λ p bytes is. record { output = a.output p bytes is; only = a.only p bytes is };
       checked = a.checked refl;
       most = a.most;
+      least = a.least;
     }
 promised (Some Views) o a =
     record {

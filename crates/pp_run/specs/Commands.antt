@@ -18,7 +18,7 @@ use Rattle.pp_drill.specs.Reports.{IsDrilled, drill_scan}
 use Rattle.pp_exchanges.specs.Prints.{PrintsCertificate}
 use Rattle.pp_exchanges.specs.Swaps.{IsSwaps}
 use Rattle.pp_real_time.specs.Timely.{IsTimely}
-use Rattle.pp_verify.specs.Costs.{CheckCostsAtMost}
+use Rattle.pp_verify.specs.Costs.{CheckCostsAtLeast, CheckCostsAtMost}
 use Rattle.pp_run.specs.declared.words.Command.{Command}
 use Rattle.pp_run.specs.declared.words.Command.TheVariants.{Certify, Drill, Expand, Quick}
 use Rattle.pp_run.specs.declared.words.Command.TheVariants.{Recheck, Swaps, Views}
@@ -88,6 +88,8 @@ pub record RecheckPromise (o : Outcome) : Type 0 where
   -- What an accepted certificate shows is allowed, and leads to the state that is printed.
   pub checked : o.status ≡ statuses.Accepted → OfItsInput o λ bytes. IsCheckedSound bytes
   pub most : OfItsInput o λ bytes. CheckCostsAtMost bytes o.before o.after
+  pub least : o.status ≡ statuses.Accepted → OfItsInput o λ bytes.
+      CheckCostsAtLeast bytes o.before o.after
 
 pub record ViewsPromise (o : Outcome) : Type 0 where
   pub prints : PrintsJust IsViews o
