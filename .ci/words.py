@@ -16,6 +16,7 @@ COLUMNS = 100
 WIDE = ("pp_core", "pp_json")
 # The rows of the tests are data, of any width.
 ROWS = "tests"
+IMAGES = (".png",)
 OUTSIDE = re.compile(r"\b[TDRWP]\d{1,2}\b|/(?:work|opt|home|root|tmp)/|\bthe papers\b")
 
 README_LINES = 150
@@ -62,6 +63,10 @@ def lost_edits():
         cells = line.split("|")
         named = re.findall(r"`(\w+_\w+)`", cells[3]) if len(cells) == 5 else []
         yield from (f"docs/PROOFS.md: no edit {name}" for name in named if name not in there and not name.startswith("pp_"))
+
+
+def is_text(file):
+    return file.is_file() and file.suffix not in IMAGES
 
 
 def outside(file):
@@ -144,7 +149,7 @@ def main():
     own = pathlib.Path(__file__).resolve()
     wrong = [line for file in narrow_files() for line in too_wide(file)]
     wrong += lost_edits()
-    wrong += [line for file in files if file.is_file() and file != own for line in outside(file)]
+    wrong += [line for file in files if is_text(file) and file != own for line in outside(file)]
     wrong += unclear_documents()
     for line in wrong:
         print(f"words: {line}")

@@ -37,7 +37,9 @@ pub fn conclude(progress: Progress) -> Finding
 {
     match progress {
         Progress::Waiting(lines) => Finding::Fault(lines + 1, Cause::NoHeader),
-        Progress::Running(tally, _front, machine) => Finding::Accepted(tally, machine),
+        Progress::Running(tally, _front, machine) => {
+            Finding::Accepted(tally, machine.into_machine())
+        }
         Progress::Rejected(tally, rejection) => Finding::Rejected(tally, rejection),
     }
 }

@@ -5,8 +5,8 @@ ghost use Rattle.pp_certify.specs.Progresses.{header_in, steps_in};
 use pp_core::Rule;
 use pp_json::Header;
 use pp_object::{Objects, Op};
-use pp_rules::{Detail, Machine};
-use pp_styles::BoxedFront;
+use pp_rules::Detail;
+use pp_styles::{BoxedFront, Tracked};
 
 /// The header of a run, and how many of its lines, and of its begin records, were taken.
 #[derive(Drop)]
@@ -33,7 +33,7 @@ pub enum Progress {
     /// Only blank lines, so many.
     Waiting(u32),
     /// A header, and records whose steps meet their criteria.
-    Running(Tally, BoxedFront, Machine<Objects>),
+    Running(Tally, BoxedFront, Tracked<Objects>),
     /// A header whose start is rejected, or of whose records one is: those behind it are only read.
     Rejected(Tally, Rejection),
 }

@@ -42,7 +42,7 @@ use pp_json::{Header, RecordFault, read_header, read_record};
 use pp_object::{Objects, Op};
 use pp_reading::{Cause, Failure, Stop, TakesLines};
 use pp_rules::{Machine, Outcome};
-use pp_styles::{BoxedFront, Halt, StepList, do_record};
+use pp_styles::{BoxedFront, Halt, StepList, Tracked, do_record};
 use std::alloc::Global;
 use std::sync::ledger::Ledger;
 
@@ -178,7 +178,10 @@ fn start_run<L: Ledger>(
     let machine = Machine::new(alloc, tally.header.catalog.kinds(alloc)?)?;
     let (machine, outcome) = with_start(machine, &tally.header, ticks)?;
     match outcome {
-        Outcome::Done => Ok(Progress::Running(tally, front, machine)),
+        Outcome::Done => {
+            let machine = Tracked::new(alloc, machine)?;
+            Ok(Progress::Running(tally, front, machine))
+        }
         Outcome::False { criterion, detail } => {
             let rejection = Rejection {
                 step: 0,
@@ -248,7 +251,7 @@ fn take_steps<L: Ledger>(
     alloc: Global,
     tally: Tally,
     mut front: BoxedFront,
-    machine: Machine<Objects>,
+    machine: Tracked<Objects>,
     recorded: &RunRecord<Op>,
     line: u32,
     with_list: bool,
@@ -298,7 +301,7 @@ fn take_record<L: Ledger>(
     alloc: Global,
     tally: Tally,
     front: BoxedFront,
-    machine: Machine<Objects>,
+    machine: Tracked<Objects>,
     line: &Line,
     with_list: bool,
     ticks: &mut Ticks<L>,

@@ -33,8 +33,8 @@ certified_text n =
     (map committed_tx (attempts None (drill_steps n))) (states_left n)
 
 -- The output for n transactions is these lines with Accepted, and there is no other. Its run has no
--- fault, it is the steps of the definition, and it is accepted. And what `certify` promises of an
--- accepted run holds of it.
+-- fault, it is the steps of the definition, and it is accepted. Its committed transactions simulate
+-- it, and run alone.
 pub record PrintsLines (n : ℕ) : Type 0 where
   pub output : IsDrilled n statuses.Accepted (drill_lines n)
   pub only : (status : Status) (text : List ℕ) → IsDrilled n status text →

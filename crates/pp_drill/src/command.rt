@@ -18,7 +18,7 @@ use pp_core::{Catalog, OutOfMemory, Status, Style, Text, Ticks};
 use pp_json::Header;
 use pp_object::Objects;
 use pp_rules::Machine;
-use pp_styles::do_steps;
+use pp_styles::{Tracked, do_steps};
 use std::alloc::Global;
 use std::sync::ledger::Ledger;
 
@@ -53,7 +53,9 @@ fn machine_behind<L: Ledger>(
     let steps = drill_steps(alloc, n)?;
     let machine = first_machine(alloc, &catalog)?;
     // Each of these steps meets its criteria, so that none halts the machine.
+    let machine = Tracked::new(alloc, machine)?;
     let (machine, _halt) = do_steps(machine, &steps, ticks)?;
+    let machine = machine.into_machine();
     let count = machine.count();
     let header = Header {
         style: Style::Rules,

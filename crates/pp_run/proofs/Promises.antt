@@ -1,5 +1,5 @@
 -- What is promised of what commands answer, from the laws of their crates.
-use Rattle.std.specs.Prelude.{◌≡◌, ℕ, List, Some}
+use Rattle.std.specs.Prelude.{◌≡◌, ℕ, List, [], Option, None, Some}
 use Rattle.pp_core.specs.declared.status.Status.{Status}
 use Rattle.pp_core.specs.declared.status.Status.TheVariants as statuses
 use Rattle.pp_attempts.proofs.Viewed.{kept_views}
@@ -12,6 +12,8 @@ use Rattle.pp_decide.proofs.Decided.{decided}
 use Rattle.pp_decide.proofs.Readers.{briefs_decide, is_briefed, keeps_boosted}
 use Rattle.pp_decide.proofs.Verdicts.{some_verdict}
 use Rattle.pp_decide.specs.Costs.{first_brief}
+use Rattle.pp_defined.proofs.Defined.{defined_laws}
+use Rattle.pp_defined.specs.Defined.{IsDefined}
 use Rattle.pp_drill.proofs.Drilling.{prints_lines}
 use Rattle.pp_drill.specs.Prints.{PrintsLines}
 use Rattle.pp_front.proofs.Whole.{one_run_law}
@@ -22,10 +24,14 @@ use Rattle.pp_object.specs.Objects.{place_of}
 use Rattle.pp_prefixes.proofs.Prefixes.{certified_prefix_law, prefix_law}
 use Rattle.pp_prefixes.specs.Prefixes.{CertifiedPrefixLaw, PrefixLaw}
 use Rattle.pp_quick.proofs.Sums.{sum_law}
+use Rattle.pp_readable.proofs.Inputs.{certify_law, quick_law}
+use Rattle.pp_readable.specs.Readable.{CertifyLaw, QuickLaw}
 use Rattle.pp_run.proofs.Numbers.{drill_within}
+use Rattle.pp_run.specs.Outputs.{DefinedLaw, IsOutput}
 use Rattle.pp_run.specs.Promises.{HaveOneRun, IsDecidedAsRun, SeesKept}
 use Rattle.pp_run.specs.Words.{command_of}
-use Rattle.pp_run.specs.declared.words.Command.TheVariants.{Drill}
+use Rattle.pp_run.specs.declared.words.Command.{Command}
+use Rattle.pp_run.specs.declared.words.Command.TheVariants.{Certify, Drill, Expand, Quick, Recheck, Swaps, Views}
 use Rattle.std.proofs.Common.{refl, subst}
 
 pub have_one_run : (header : Header) → HaveOneRun header
@@ -72,3 +78,22 @@ drilled_lines words n is =
 
 pub prefixes_accepted : PrefixLaw × CertifiedPrefixLaw
 prefixes_accepted = (prefix_law, certified_prefix_law)
+
+pub reports_readable : CertifyLaw × QuickLaw
+reports_readable = (certify_law, quick_law)
+
+output_of : (words : List (List ℕ)) (bytes : List ℕ) (command : Option Command) → command_of words ≡ command → IsDefined (IsOutput command bytes)
+output_of words bytes None is = λ none. none statuses.BadWords [] (refl, refl)
+output_of words bytes (Some Certify) is = defined_laws.certify bytes
+output_of words bytes (Some Expand) is = defined_laws.expand bytes
+output_of words bytes (Some Quick) is = defined_laws.quick bytes
+output_of words bytes (Some Swaps) is = defined_laws.swaps bytes
+output_of words bytes (Some Recheck) is = defined_laws.recheck bytes
+output_of words bytes (Some Views) is = defined_laws.views bytes
+output_of words bytes (Some (Drill n)) is =
+    let within = drill_within words n is in
+    defined_laws.drill n within.0 within.1
+
+-- every input has an output
+pub every_output : DefinedLaw
+every_output words bytes = output_of words bytes (command_of words) refl

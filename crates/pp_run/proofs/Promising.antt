@@ -2,7 +2,7 @@
 use Rattle.std.proofs.Common.{◌≡◌, ℕ, List, Option, None, Some, inl, inr, refl, subst, sym}
 use Rattle.pp_core.specs.declared.status.Status.{Status}
 use Rattle.pp_core.specs.declared.status.Status.TheVariants as statuses
-use Rattle.pp_attempts.specs.Outputs.{IsViews, IsViewsOf}
+use Rattle.pp_attempts.specs.Outputs.{IsViews}
 use Rattle.pp_certificate.specs.Rechecked.{IsCheckedSound}
 use Rattle.pp_certify.proofs.Exact.{certified_exact, meets_alone, meets_simulated}
 use Rattle.pp_certify.proofs.Restated.{prints_again}
@@ -14,7 +14,8 @@ use Rattle.pp_certify.specs.Reports.{IsCertified}
 use Rattle.pp_certify.specs.Scans.{InputScan}
 use Rattle.pp_decide.specs.Decisions.{Decision, IsDecisionBehind, IsDecisionOf}
 use Rattle.pp_decide.specs.Decisions.{IsDecisionTold, IsQuick, quick_fault}
-use Rattle.pp_drill.specs.Prints.{PrintsLines}
+use Rattle.pp_drill.specs.Prints.{PrintsLines, certified_text}
+use Rattle.pp_drill.specs.Text.{drill_text}
 use Rattle.pp_exchanges.proofs.Rechecking.{prints_certificate}
 use Rattle.pp_exchanges.specs.Swaps.{IsSwaps, IsSwapsOf}
 use Rattle.pp_front.specs.Runs.{Lined}
@@ -180,6 +181,7 @@ promised (Some (Drill n)) o a =
       prints = λ p. record { output = a.output p; only = a.only p };
       accepted = λ p. (a.output p).1.4;
       lines = a.lines n refl;
+      serializable = serializable (drill_text n) (certified_meets (drill_text n) (certified_text n) (a.lines n refl).report);
       most = a.most;
       least = a.least;
     }

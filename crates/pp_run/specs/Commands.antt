@@ -15,6 +15,7 @@ use Rattle.pp_decide.specs.Costs.{QuickCostsAtLeast, QuickCostsAtMost}
 use Rattle.pp_decide.specs.Decisions.{IsQuick}
 use Rattle.pp_drill.specs.Prints.{PrintsLines}
 use Rattle.pp_drill.specs.Reports.{IsDrilled, drill_scan}
+use Rattle.pp_drill.specs.Text.{drill_text}
 use Rattle.pp_exchanges.specs.Prints.{PrintsCertificate}
 use Rattle.pp_exchanges.specs.Swaps.{IsSwaps}
 use Rattle.pp_real_time.specs.Timely.{IsTimely}
@@ -109,6 +110,8 @@ pub record DrillPromise (n : ℕ) (o : Outcome) : Type 0 where
   pub accepted : IsPrinted o.status → o.status ≡ statuses.Accepted
   -- and what is printed of it has the numbers of that run
   pub lines : PrintsLines n
+  -- which is serializable, as every accepted run
+  pub serializable : IsSerializable (drill_text n)
   pub most : CostsAtMost (drill_scan n) o.before o.after
   pub least : o.status ≡ statuses.Accepted →
       CostsAtLeast statuses.Accepted (drill_scan n) o.before o.after

@@ -10,11 +10,13 @@ use Rattle.pp_certify.specs.Inputs.{ReadsNoFault}
 use Rattle.pp_certify.specs.Reports.{IsCertified, IsExpanded}
 use Rattle.pp_attempts.specs.Outputs.{IsViews}
 use Rattle.pp_decide.specs.Decisions.{IsQuick, QuickReadsNoFault}
+use Rattle.pp_defined.specs.Defined.{IsDefined}
 use Rattle.pp_drill.specs.Reports.{IsDrilled}
 use Rattle.pp_exchanges.specs.Swaps.{IsSwaps}
 use Rattle.pp_run.specs.declared.words.Command.{Command}
 use Rattle.pp_run.specs.declared.words.Command.TheVariants.{Certify, Drill, Expand, Quick}
 use Rattle.pp_run.specs.declared.words.Command.TheVariants.{Recheck, Swaps, Views}
+use Rattle.pp_run.specs.Words.{command_of}
 use Rattle.pp_run.specs.Writing.{AppendsPrefix}
 
 -- Of the input of a command this holds: of the bytes that the source has left, where they are told.
@@ -40,6 +42,11 @@ IsOutput (Some Swaps) bytes status text = IsSwaps bytes status text
 IsOutput (Some Recheck) bytes status text = IsRecheck bytes status text
 IsOutput (Some Views) bytes status text = IsViews bytes status text
 IsOutput (Some (Drill n)) bytes status text = IsDrilled n status text
+
+-- Whatever the arguments and the input are, a status and a text are defined for them.
+abbrev pub DefinedLaw : Type 0
+DefinedLaw = (words : List (List ℕ)) (bytes : List ℕ) →
+    IsDefined (IsOutput (command_of words) bytes)
 
 -- ---- what is read
 

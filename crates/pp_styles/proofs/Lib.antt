@@ -12,3 +12,7 @@ pub mod Asking
 pub mod Trying
 pub mod Arms
 pub mod Plain
+pub mod Knowing
+pub mod Taking
+pub mod Noted
+pub mod Tracking

@@ -1,7 +1,10 @@
 pub mod AnyFronts
 pub mod Costs
+pub mod Counting
 pub mod Driving
+pub mod Knowing
 pub mod Meanings
+pub mod Noting
 pub mod Pulling
 pub mod Sources
 pub mod States

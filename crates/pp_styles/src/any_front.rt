@@ -6,10 +6,10 @@ use crate::hardware::Hardware;
 use crate::optimistic::Optimistic;
 use crate::rules::Rules;
 use crate::step_list::StepList;
+use crate::tracked::Tracked;
 use pp_core::{Kinds, OutOfMemory, Style};
 use pp_front::RunRecord;
 use pp_parts::Parted;
-use pp_rules::Machine;
 use std::alloc::Global;
 
 /// The front of one of the styles.
@@ -52,7 +52,7 @@ impl<S: Parted> Front<S> for AnyFront {
     fn expand(
         &mut self,
         recorded: &RunRecord<S::Op>,
-        machine: &Machine<S>,
+        machine: &mut Tracked<S>,
     ) -> Result<StepList<S::Op>, OutOfMemory> {
         match self {
             AnyFront::Rules(front) => front.expand(recorded, machine),

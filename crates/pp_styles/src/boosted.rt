@@ -5,10 +5,10 @@ ghost use Rattle.pp_front.specs.Fronts.{new_front};
 use crate::front::Front;
 use crate::recorded::{abort, back_to, op_published};
 use crate::step_list::{StepList, only, only_copied};
+use crate::tracked::Tracked;
 use pp_core::{OutOfMemory, Step};
 use pp_front::RunRecord;
 use pp_parts::Parted;
-use pp_rules::Machine;
 use std::alloc::Global;
 
 /// The front of style boosted, which keeps nothing.
@@ -31,7 +31,7 @@ impl<S: Parted> Front<S> for Boosted {
     fn expand(
         &mut self,
         recorded: &RunRecord<S::Op>,
-        machine: &Machine<S>,
+        machine: &mut Tracked<S>,
     ) -> Result<StepList<S::Op>, OutOfMemory> {
         match recorded {
             RunRecord::Plain(step) => only_copied(self.alloc, step),

@@ -2,10 +2,10 @@
 use crate::any_front::AnyFront;
 use crate::front::Front;
 use crate::step_list::StepList;
+use crate::tracked::Tracked;
 use pp_core::{Kinds, OutOfMemory, Style};
 use pp_front::RunRecord;
 use pp_parts::Parted;
-use pp_rules::Machine;
 use std::alloc::Global;
 use std::marker::Model;
 
@@ -53,7 +53,7 @@ impl<S: Parted> Front<S> for BoxedFront {
     fn expand(
         &mut self,
         recorded: &RunRecord<S::Op>,
-        machine: &Machine<S>,
+        machine: &mut Tracked<S>,
     ) -> Result<StepList<S::Op>, OutOfMemory> {
         let front = &mut *self.front;
         front.expand(recorded, machine)

@@ -1,27 +1,31 @@
 //! Style dependent: a transaction may read what others published and have not committed.
-ghost use Rattle.std.specs.Prelude.{◌≡◌, ◌∷◌, [], IfOk, List, OnOk};
+ghost use Rattle.std.specs.Prelude.{◌≡◌, ◌++◌, ◌∷◌, [], IfOk, List, OnOk};
 ghost use Rattle.std.specs.Option.{option_copied};
 ghost use Rattle.pp_core.specs.Steps.{App, Note};
 ghost use Rattle.pp_core.specs.declared.call.Kind.{Kind};
 ghost use Rattle.pp_core.specs.declared.call.Style.TheVariants as styles;
-ghost use Rattle.pp_front.specs.Expansions.{changed_where_open, dependent_op, unpulls, where_open};
+ghost use Rattle.pp_front.specs.Expansions.{changed_where_open, dependent_op, follow, unpulls};
+ghost use Rattle.pp_front.specs.Expansions.{where_open};
 ghost use Rattle.pp_front.specs.Fronts.{at_name, new_front, with_source, with_sources};
 ghost use Rattle.pp_front.specs.Fronts.{without_source};
 ghost use Rattle.pp_model.specs.Names.{Name as NameOf};
 ghost use Rattle.pp_styles.specs.Meanings.{meanings};
+ghost use Rattle.pp_styles.specs.Knowing.{IsAllBut};
 ghost use Rattle.pp_styles.specs.Sources.{kept_sources, sources_in};
 
 use crate::front::Front;
-use crate::pulls::follow;
+use crate::pulls::{follow, refresh};
 use crate::recorded::{abort, back_to, commit, publish, unopened};
 use crate::source_set::{SourceSet, add_source, remove_source};
 use crate::step_list::{StepList, add, only, only_copied};
+use crate::tracked::Tracked;
 use crate::walks::unpull_all;
 use indexmap::IndexMap;
 use pp_core::{Name, OutOfMemory, Step};
 use pp_front::RunRecord;
+use pp_local::Local;
 use pp_parts::Parted;
-use pp_rules::Machine;
+use pp_shared::Shared;
 use std::alloc::Global;
 
 /// The sources of each transaction that has some.
@@ -74,7 +78,7 @@ fn forget(sources: &mut Sources, tx: &Name)
 /// The steps of a record that gives up a source.
 fn drop_steps<S: Parted>(
     alloc: Global,
-    machine: &Machine<S>,
+    machine: &Tracked<S>,
     tx: &Name,
     source: &Name,
 ) -> Result<StepList<S::Op>, OutOfMemory>
@@ -87,6 +91,34 @@ fn drop_steps<S: Parted>(
     };
     unpull_all(&mut list, tx, source, local.entries())?;
     Ok(list)
+}
+
+/// Adds PULL of what a transaction with these sources takes over of an object. Without a source it
+/// is told ids of committed entries, and looks at no others.
+fn take_over<S: Parted>(
+    alloc: Global,
+    list: &mut StepList<S::Op>,
+    tx: &Name,
+    object: u16,
+    sources: Option<&SourceSet>,
+    ids: &[u32],
+    shared: &Shared<S>,
+    local: &Local<S>,
+) -> Result<(), OutOfMemory>
+    requires { IsAllBut S.place_of object shared.now.1 local.now.1 ids.now }
+    ensures { OnOk result (meanings list.new ≡ meanings list.old
+        ++ follow S.place_of tx.now object (kept_sources (option_copied sources.entry)) shared.now.1
+        local.now.1) }
+{
+    match sources {
+        None => refresh(alloc, list, tx, object, ids, shared, local),
+        Some(kept) => {
+            if kept.is_empty() {
+                return refresh(alloc, list, tx, object, ids, shared, local);
+            }
+            follow(list, tx, object, sources, shared, local)
+        }
+    }
 }
 
 impl Dependent {
@@ -112,26 +144,30 @@ impl Dependent {
     /// The steps of an operation.
     fn op_steps<S: Parted>(
         &self,
-        machine: &Machine<S>,
+        machine: &mut Tracked<S>,
         tx: &Name,
         id: u32,
         op: &S::Op,
     ) -> Result<StepList<S::Op>, OutOfMemory>
-        ensures { IfOk result (λ list. meanings list ≡ where_open machine.now.config tx.now
+        ensures steps { IfOk result (λ list. meanings list ≡ where_open machine.old.config tx.now
             (App tx.now id op.now) (λ l. dependent_op S.place_of
-            (sources_in tx.now self.now.sources.entries) machine.now.config.shared l tx.now id
+            (sources_in tx.now self.now.sources.entries) machine.old.config.shared l tx.now id
             op.now)) }
+        ensures machine { machine.new ≡ machine.old }
     {
-        let Some(local) = machine.local(tx) else {
+        let object = S::place(op);
+        machine.look_at_taken(tx, object);
+        let Some((local, ids)) = machine.local_on(tx, object) else {
             return unopened(self.alloc, tx, id, op);
         };
         let mut list = StepList::new(self.alloc);
-        let sources = self.sources(tx);
-        follow(
+        take_over(
+            self.alloc,
             &mut list,
             tx,
-            S::place(op),
-            sources,
+            object,
+            self.sources(tx),
+            ids,
             machine.shared(),
             local,
         )?;
@@ -149,7 +185,7 @@ impl Dependent {
     /// Gives an open transaction one more source.
     fn depend<S: Parted>(
         &mut self,
-        machine: &Machine<S>,
+        machine: &Tracked<S>,
         tx: &Name,
         source: &Name,
     ) -> Result<(), OutOfMemory>
@@ -167,7 +203,7 @@ impl Dependent {
     /// Takes one source from an open transaction.
     fn give_up<S: Parted>(
         &mut self,
-        machine: &Machine<S>,
+        machine: &Tracked<S>,
         tx: &Name,
         source: &Name,
     ) -> Result<(), OutOfMemory>
@@ -183,7 +219,7 @@ impl Dependent {
     }
 
     /// Takes all sources from an open transaction.
-    fn forget<S: Parted>(&mut self, machine: &Machine<S>, tx: &Name)
+    fn forget<S: Parted>(&mut self, machine: &Tracked<S>, tx: &Name)
         ensures { (kinds : List Kind) → dependent_state kinds self.new
             ≡ changed_where_open machine.now.config tx.now (dependent_state kinds self.old)
             (λ l. with_sources (dependent_state kinds self.old) tx.now []) }
@@ -204,7 +240,7 @@ impl<S: Parted> Front<S> for Dependent {
     fn expand(
         &mut self,
         recorded: &RunRecord<S::Op>,
-        machine: &Machine<S>,
+        machine: &mut Tracked<S>,
     ) -> Result<StepList<S::Op>, OutOfMemory> {
         match recorded {
             RunRecord::Plain(step) => only_copied(self.alloc, step),

@@ -12,10 +12,11 @@ ghost use Rattle.pp_styles.specs.Meanings.{meanings};
 
 use crate::front::Front;
 use crate::step_list::StepList;
+use crate::tracked::Tracked;
 use pp_core::{MOST_STEPS, OutOfMemory, Rule, Step, Ticks, rule_of};
 use pp_front::RunRecord;
 use pp_parts::Parted;
-use pp_rules::{Detail, Machine, Outcome};
+use pp_rules::{Detail, Outcome};
 use std::alloc::Global;
 use std::sync::ledger::Ledger;
 
@@ -42,10 +43,10 @@ fn is_full(count: u32) -> bool
 /// Does a step, unless it fails or a run may have no step more. The only error is that memory was
 /// refused, and the machine is then lost.
 fn try_step<S: Parted, L: Ledger>(
-    machine: Machine<S>,
+    machine: Tracked<S>,
     step: &Step<S::Op>,
     ticks: &mut Ticks<L>,
-) -> Result<(Machine<S>, Option<Halt<S::Op>>), OutOfMemory>
+) -> Result<(Tracked<S>, Option<Halt<S::Op>>), OutOfMemory>
     requires asked { IsAsked S.object machine.shape (meaning step.now) }
     requires few { machine.count ≤ MOST_STEPS }
     ensures goes { IfOk result (λ r.
@@ -72,10 +73,10 @@ fn try_step<S: Parted, L: Ledger>(
 /// Does a record's one step, unless it fails or a run may have no step more. The only error is that
 /// memory was refused, and the machine is then lost.
 fn do_only_step<S: Parted, L: Ledger>(
-    machine: Machine<S>,
+    machine: Tracked<S>,
     step: &Step<S::Op>,
     ticks: &mut Ticks<L>,
-) -> Result<(Machine<S>, Option<Halt<S::Op>>), OutOfMemory>
+) -> Result<(Tracked<S>, Option<Halt<S::Op>>), OutOfMemory>
     requires asked { IsAsked S.object machine.shape (meaning step.now) }
     requires few { machine.count ≤ MOST_STEPS }
     ensures drives { IfOk result (λ r.
@@ -89,10 +90,10 @@ fn do_only_step<S: Parted, L: Ledger>(
 /// Does the steps up to the first that fails, and no more than a run may have. The only error is
 /// that memory was refused, and the machine is then lost.
 pub fn do_steps<S: Parted, L: Ledger>(
-    machine: Machine<S>,
+    machine: Tracked<S>,
     list: &[Step<S::Op>],
     ticks: &mut Ticks<L>,
-) -> Result<(Machine<S>, Option<Halt<S::Op>>), OutOfMemory>
+) -> Result<(Tracked<S>, Option<Halt<S::Op>>), OutOfMemory>
     requires asked { (step : StepOf S.Op) → In step (meanings list.now) →
         IsAsked S.object machine.shape step }
     requires few { machine.count ≤ MOST_STEPS }
@@ -118,11 +119,11 @@ pub fn do_steps<S: Parted, L: Ledger>(
 pub fn do_record<S: Parted, F: Front<S>, L: Ledger>(
     alloc: Global,
     front: &mut F,
-    machine: Machine<S>,
+    machine: Tracked<S>,
     recorded: &RunRecord<S::Op>,
     with_list: bool,
     ticks: &mut Ticks<L>,
-) -> Result<(Machine<S>, StepList<S::Op>, Option<Halt<S::Op>>), OutOfMemory>
+) -> Result<(Tracked<S>, StepList<S::Op>, Option<Halt<S::Op>>), OutOfMemory>
     requires style { IsOfStyle (F.style front.old) (record_meaning recorded.now) }
     requires asked { IsRecordAsked S.object machine.shape (record_meaning recorded.now) }
     requires few { machine.count ≤ MOST_STEPS }
@@ -143,7 +144,8 @@ pub fn do_record<S: Parted, F: Front<S>, L: Ledger>(
         let (after, halt) = do_only_step(machine, step, ticks)?;
         return Ok((after, StepList::new(alloc), halt));
     }
-    let list = front.expand(recorded, &machine)?;
+    let mut machine = machine;
+    let list = front.expand(recorded, &mut machine)?;
     let (machine, halt) = do_steps(machine, list.as_slice(), ticks)?;
     Ok((machine, list, halt))
 }

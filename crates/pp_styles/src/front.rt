@@ -8,10 +8,10 @@ ghost use Rattle.pp_front.specs.Records.{record_meaning};
 ghost use Rattle.pp_styles.specs.Meanings.{meanings};
 
 use crate::step_list::StepList;
+use crate::tracked::Tracked;
 use pp_core::OutOfMemory;
 use pp_front::RunRecord;
 use pp_parts::Parted;
-use pp_rules::Machine;
 
 /// A style of recording: what it keeps of the records so far, and the steps of the next one.
 pub trait Front<S: Parted> {
@@ -26,14 +26,15 @@ pub trait Front<S: Parted> {
     fn expand(
         &mut self,
         recorded: &RunRecord<S::Op>,
-        machine: &Machine<S>,
+        machine: &mut Tracked<S>,
     ) -> Result<StepList<S::Op>, OutOfMemory>
         requires { IsOfStyle (style self.old) (record_meaning recorded.now) }
         ensures steps { (kinds : List Kind) → IfOk result (λ list. meanings list
-            ≡ expand S.place_of (style self.old) (state kinds self.old) machine.now.config
+            ≡ expand S.place_of (style self.old) (state kinds self.old) machine.old.config
             (record_meaning recorded.now)) }
         ensures kept { (kinds : List Kind) → OnOk result (state kinds self.new
-            ≡ front_after (state kinds self.old) machine.now.config
+            ≡ front_after (state kinds self.old) machine.old.config
             (record_meaning recorded.now)) }
-        ensures same { style self.new ≡ style self.old };
+        ensures same { style self.new ≡ style self.old }
+        ensures machine { machine.new ≡ machine.old };
 }

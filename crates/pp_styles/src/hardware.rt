@@ -14,11 +14,11 @@ ghost use Rattle.pp_styles.specs.Meanings.{meanings};
 use crate::front::Front;
 use crate::recorded::{abort, at_once, back_to, commit, later, publish, unopened};
 use crate::step_list::{StepList, only, only_copied};
+use crate::tracked::Tracked;
 use indexmap::IndexMap;
 use pp_core::{Kind, Kinds, Name, OutOfMemory, Step};
 use pp_front::RunRecord;
 use pp_parts::Parted;
-use pp_rules::Machine;
 use std::alloc::Global;
 
 /// How long the local log of each transaction in a section was where the section began.
@@ -101,29 +101,32 @@ impl Hardware {
     /// The steps of an operation.
     fn op_steps<S: Parted>(
         &self,
-        machine: &Machine<S>,
+        machine: &mut Tracked<S>,
         tx: &Name,
         id: u32,
         op: &S::Op,
     ) -> Result<StepList<S::Op>, OutOfMemory>
-        ensures { IfOk result (λ list. meanings list ≡ where_open machine.now.config tx.now
+        ensures steps { IfOk result (λ list. meanings list ≡ where_open machine.old.config tx.now
             (App tx.now id op.now)
             (λ l. hardware_op S.place_of (is_mem (hardware_state self.now) (S.place_of op.now))
-            ((hardware_state self.now).section tx.now) machine.now.config.shared l tx.now id
+            ((hardware_state self.now).section tx.now) machine.old.config.shared l tx.now id
             op.now)) }
+        ensures machine { machine.new ≡ machine.old }
     {
-        let Some(local) = machine.local(tx) else {
+        let object = S::place(op);
+        machine.look_at_taken(tx, object);
+        let Some((local, ids)) = machine.local_on(tx, object) else {
             return unopened(self.alloc, tx, id, op);
         };
         let shared = machine.shared();
-        match self.mark_on(tx, S::place(op)) {
-            Some(mark) => later(self.alloc, mark, shared, local, tx, id, op),
-            None => at_once(self.alloc, shared, local, tx, id, op),
+        match self.mark_on(tx, object) {
+            Some(mark) => later(self.alloc, mark, ids, shared, local, tx, id, op),
+            None => at_once(self.alloc, ids, shared, local, tx, id, op),
         }
     }
 
     /// Opens a section where the transaction is open, unless one is open.
-    fn begin<S: Parted>(&mut self, machine: &Machine<S>, tx: &Name) -> Result<(), OutOfMemory>
+    fn begin<S: Parted>(&mut self, machine: &Tracked<S>, tx: &Name) -> Result<(), OutOfMemory>
         ensures { OnOk result (hardware_state self.new ≡ changed_where_open machine.now.config
             tx.now (hardware_state self.old) (λ l. with_section (hardware_state self.old) tx.now
             (opened_at (length l) ((hardware_state self.old).section tx.now)))) }
@@ -135,7 +138,7 @@ impl Hardware {
     }
 
     /// Ends the section where the transaction is open.
-    fn end<S: Parted>(&mut self, machine: &Machine<S>, tx: &Name)
+    fn end<S: Parted>(&mut self, machine: &Tracked<S>, tx: &Name)
         ensures { hardware_state self.new ≡ changed_where_open machine.now.config
             tx.now (hardware_state self.old) (λ l. with_section (hardware_state self.old) tx.now
             None) }
@@ -156,7 +159,7 @@ impl<S: Parted> Front<S> for Hardware {
     fn expand(
         &mut self,
         recorded: &RunRecord<S::Op>,
-        machine: &Machine<S>,
+        machine: &mut Tracked<S>,
     ) -> Result<StepList<S::Op>, OutOfMemory> {
         match recorded {
             RunRecord::Plain(step) => only_copied(self.alloc, step),

@@ -10,10 +10,10 @@ use crate::front::Front;
 use crate::pulls::refresh;
 use crate::recorded::{abort, back_to, commit, later, unopened};
 use crate::step_list::{StepList, only, only_copied};
+use crate::tracked::Tracked;
 use pp_core::{Name, OutOfMemory, Step};
 use pp_front::RunRecord;
 use pp_parts::Parted;
-use pp_rules::Machine;
 use std::alloc::Global;
 
 /// The front of style optimistic, which keeps nothing.
@@ -31,37 +31,43 @@ impl Optimistic {
 /// The steps of an operation.
 fn op_steps<S: Parted>(
     alloc: Global,
-    machine: &Machine<S>,
+    machine: &mut Tracked<S>,
     tx: &Name,
     id: u32,
     op: &S::Op,
 ) -> Result<StepList<S::Op>, OutOfMemory>
-    ensures { IfOk result (λ list. meanings list ≡ where_open machine.now.config tx.now
+    ensures steps { IfOk result (λ list. meanings list ≡ where_open machine.old.config tx.now
         (App tx.now id op.now)
-        (λ l. op_later S.place_of l machine.now.config.shared l tx.now id op.now)) }
+        (λ l. op_later S.place_of l machine.old.config.shared l tx.now id op.now)) }
+    ensures machine { machine.new ≡ machine.old }
 {
-    let Some(local) = machine.local(tx) else {
+    let object = S::place(op);
+    machine.look_at_taken(tx, object);
+    let Some((local, ids)) = machine.local_on(tx, object) else {
         return unopened(alloc, tx, id, op);
     };
-    later(alloc, 0, machine.shared(), local, tx, id, op)
+    later(alloc, 0, ids, machine.shared(), local, tx, id, op)
 }
 
 /// The steps of a refresh.
 fn refresh_steps<S: Parted>(
     alloc: Global,
-    machine: &Machine<S>,
+    machine: &mut Tracked<S>,
     tx: &Name,
     object: u16,
 ) -> Result<StepList<S::Op>, OutOfMemory>
-    ensures { IfOk result (λ list. meanings list ≡ where_open machine.now.config tx.now
+    ensures steps { IfOk result (λ list. meanings list ≡ where_open machine.old.config tx.now
         (Note tx.now)
-        (λ l. Note tx.now ∷ refresh S.place_of tx.now object machine.now.config.shared l)) }
+        (λ l. Note tx.now ∷ refresh S.place_of tx.now object machine.old.config.shared l)) }
+    ensures machine { machine.new ≡ machine.old }
 {
     let mut list = only(alloc, Step::Note { tx: *tx })?;
-    let Some(local) = machine.local(tx) else {
+    machine.look_at_taken(tx, object);
+    let Some((local, ids)) = machine.local_on(tx, object) else {
         return Ok(list);
     };
-    refresh(&mut list, tx, object, machine.shared(), local)?;
+    let shared = machine.shared();
+    refresh(alloc, &mut list, tx, object, ids, shared, local)?;
     Ok(list)
 }
 
@@ -73,7 +79,7 @@ impl<S: Parted> Front<S> for Optimistic {
     fn expand(
         &mut self,
         recorded: &RunRecord<S::Op>,
-        machine: &Machine<S>,
+        machine: &mut Tracked<S>,
     ) -> Result<StepList<S::Op>, OutOfMemory> {
         match recorded {
             RunRecord::Plain(step) => only_copied(self.alloc, step),

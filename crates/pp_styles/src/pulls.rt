@@ -1,11 +1,13 @@
 //! What a transaction takes over: the entries of an object that it has not.
-ghost use Rattle.std.specs.Prelude.{◌≡◌, ◌++◌, OnOk, IfSome, IfNone, drop};
+ghost use Rattle.std.specs.Prelude.{◌≡◌, ◌++◌, IfNone, IfOk, IfSome, IsSorted, OnOk, drop};
+ghost use Rattle.std.specs.Ordering.{nat_cmp};
 ghost use Rattle.std.specs.Option.{option_copied};
 ghost use Rattle.pp_front.specs.Expansions.{follow, is_followed, refresh, stands_in, touches};
 ghost use Rattle.pp_log.specs.Logs.{IsFirstFrom, IsOn, NoneFrom};
 ghost use Rattle.pp_model.specs.Config.{shared_item};
 ghost use Rattle.pp_styles.specs.Meanings.{meanings};
-ghost use Rattle.pp_styles.specs.Pulling.{pull_followed, pull_unless};
+ghost use Rattle.pp_styles.specs.Knowing.{HoldsPositions, HoldsWanted, IsAllBut};
+ghost use Rattle.pp_styles.specs.Pulling.{pull_committed, pull_followed, pull_unless};
 ghost use Rattle.pp_styles.specs.Sources.{kept_sources};
 
 use crate::source_set::{SourceSet, is_among};
@@ -14,6 +16,7 @@ use pp_core::{MOST_OBJECTS, Name, OutOfMemory, SharedEntry, Step};
 use pp_local::Local;
 use pp_parts::Parted;
 use pp_shared::Shared;
+use std::alloc::Global;
 
 /// How many entries are looked at, one after another, before the index is asked. Where the objects
 /// of a run take turns, the next entry on one of them stands no further.
@@ -138,18 +141,94 @@ pub fn follow<S: Parted>(
     Ok(())
 }
 
-/// Adds the steps by which a transaction takes over what is committed of an object: PULL of each
-/// committed entry on it that does not stand in the local log, in the order of the shared log. The
-/// only error is that memory was refused, and the list is then of no more use.
-pub fn refresh<S: Parted>(
+/// The positions in the shared log at which these ids are, in ascending order.
+fn positions<S: Parted>(
+    alloc: Global,
+    shared: &Shared<S>,
+    ids: &[u32],
+) -> Result<Vec<usize>, OutOfMemory>
+    ensures { IfOk result (λ at. IsSorted nat_cmp at.items
+        × HoldsPositions ids.now shared.now.1 at.items) }
+{
+    // It stands here for what its clauses say of each log.
+    let _distinct = shared.len();
+    let mut at = Vec::new(alloc);
+    for id in ids {
+        if let Some(position) = shared.find(*id) {
+            at.push(position)?;
+        }
+    }
+    at.sort()?;
+    Ok(at)
+}
+
+/// Adds PULL of an entry that is committed, on the object, and not in the local log. The hint is
+/// that of `stands_in`.
+fn pull_committed<S: Parted>(
     list: &mut StepList<S::Op>,
     tx: &Name,
     object: u16,
+    entry: &SharedEntry<S::Op>,
+    local: &Local<S>,
+    hint: &mut usize,
+) -> Result<(), OutOfMemory>
+    ensures { OnOk result (meanings list.new ≡ meanings list.old
+        ++ pull_committed S.place_of object local.now.1 tx.now entry.now) }
+{
+    if !entry.committed || S::place(&entry.op) != object {
+        return Ok(());
+    }
+    pull_missing(list, tx, entry.id, local, hint)
+}
+
+/// Adds PULL of the entries at these positions that are committed, on the object, and not in the
+/// local log.
+fn pull_at<S: Parted>(
+    list: &mut StepList<S::Op>,
+    tx: &Name,
+    object: u16,
+    at: &[usize],
     shared: &Shared<S>,
     local: &Local<S>,
 ) -> Result<(), OutOfMemory>
+    requires sorted { IsSorted nat_cmp at.now }
+    requires all { HoldsWanted S.place_of object shared.now.1 local.now.1 at.now }
     ensures { OnOk result (meanings list.new
         ≡ meanings list.old ++ refresh S.place_of tx.now object shared.now.1 local.now.1) }
 {
-    follow(list, tx, object, None, shared, local)
+    let entries = shared.entries();
+    let mut from = 0;
+    let mut hint = 0;
+    for position in at {
+        // No position counts twice.
+        if *position >= from && *position < entries.len() {
+            pull_committed(list, tx, object, &entries[*position], local, &mut hint)?;
+            from = *position + 1;
+        }
+    }
+    Ok(())
+}
+
+/// Adds the steps by which a transaction takes over what is committed of an object: PULL of each
+/// committed entry on it that is not in the local log, in the order of the shared log. It is told
+/// ids of committed entries, and looks at no others. The only error is that memory was refused, and
+/// the list is then of no more use.
+pub fn refresh<S: Parted>(
+    alloc: Global,
+    list: &mut StepList<S::Op>,
+    tx: &Name,
+    object: u16,
+    ids: &[u32],
+    shared: &Shared<S>,
+    local: &Local<S>,
+) -> Result<(), OutOfMemory>
+    requires { IsAllBut S.place_of object shared.now.1 local.now.1 ids.now }
+    ensures { OnOk result (meanings list.new
+        ≡ meanings list.old ++ refresh S.place_of tx.now object shared.now.1 local.now.1) }
+{
+    if ids.is_empty() {
+        return Ok(());
+    }
+    let at = positions(alloc, shared, ids)?;
+    pull_at(list, tx, object, &at, shared, local)
 }

@@ -4,10 +4,10 @@ ghost use Rattle.pp_front.specs.Fronts.{new_front};
 
 use crate::front::Front;
 use crate::step_list::{StepList, only_copied};
+use crate::tracked::Tracked;
 use pp_core::OutOfMemory;
 use pp_front::RunRecord;
 use pp_parts::Parted;
-use pp_rules::Machine;
 use std::alloc::Global;
 
 /// The front of style rules, which keeps nothing.
@@ -30,7 +30,7 @@ impl<S: Parted> Front<S> for Rules {
     fn expand(
         &mut self,
         recorded: &RunRecord<S::Op>,
-        _machine: &Machine<S>,
+        _machine: &mut Tracked<S>,
     ) -> Result<StepList<S::Op>, OutOfMemory> {
         let RunRecord::Plain(step) = recorded else {
             unreachable!()

@@ -1,9 +1,10 @@
-use Rattle.pp_run.proofs.Promises.{decided_as_run, drilled_lines, have_one_run, prefixes_accepted}
+use Rattle.pp_run.proofs.Promises.{decided_as_run, drilled_lines, every_output, have_one_run, prefixes_accepted, reports_readable}
 use Rattle.pp_run.proofs.Promising.{promised}
 use Rattle.pp_run.specs.Bounds.{RisesAtMost}
 use Rattle.pp_run.specs.Outcomes.{outcome}
 use Rattle.pp_run.specs.Words.{command_of}
 use Rattle.pp_run.specs.declared.words.Command.{Command}
+use Rattle.pp_violations.proofs.Reported.{reported_law}
 use Rattle.std.proofs.Common.{Option, subst}
 use Rattle.pp_run.proofs.program.run.Goals as goal
 
@@ -47,4 +48,4 @@ returns-clause-promise g c =
     }
 
 pub returns-clause-laws : goal.returns-clause-laws
-returns-clause-laws g c = record { one_run = have_one_run; decided = decided_as_run; prefixes = prefixes_accepted }
+returns-clause-laws g c = record { defined = every_output; one_run = have_one_run; decided = decided_as_run; prefixes = prefixes_accepted; readable = reports_readable; styles_fail_only = reported_law }

@@ -1,0 +1,145 @@
+#!/usr/bin/env python3
+"""Runs of the recorded styles with many calls on one object, or in one long transaction.
+
+    python3 bench/no_squares.py crates/pp_cli/out/pp_cli
+
+Each run is made at two sizes, one twice the other. For both, the time of `certify` is printed beside the time of only reading
+the same records, and their ratio. The last column is the time of the larger run divided by that of the smaller one. A run
+is only read if a record that fails comes first. A benchmark ends with a failure if a run does not have the verdict it
+should have.
+"""
+import itertools
+import os
+import tempfile
+
+from measure import MOST_STEPS, answered, begin, program_named, write
+
+FAILING = {"step": "commit", "tx": "none"}
+
+
+def header(style, *kinds):
+    """The header of a run over objects of these kinds, named o1, o2 and so on."""
+    objects = [{"name": f"o{place}", "kind": kind} for place, kind in enumerate(kinds, 1)]
+    return {"run": 1, "style": style, "objects": objects}
+
+
+def opened(count):
+    """The names of so many transactions, and their begin records."""
+    names = [f"t{place}" for place in range(count)]
+    return names, [begin(tx, f"p{tx}") for tx in names]
+
+
+def op(tx, number, call, args, result=None, on="o1"):
+    return {"step": "op", "tx": tx, "id": number, "on": on, "call": call, "args": args, "result": result}
+
+
+def named(step, tx, **members):
+    return {"step": step, "tx": tx, **members}
+
+
+def in_turn(transactions, call, calls):
+    """Open transactions that make these calls in turn, and the steps of the run: a call is applied and pushed."""
+    names, begins = opened(transactions)
+    turns = zip(range(calls), itertools.cycle(names))
+    return begins + [op(tx, number, *call(number)) for number, tx in turns], transactions + 2 * calls, 0
+
+
+def one_map(calls):
+    """One transaction that puts at a key of a map and gets what it put."""
+    def call(number):
+        key, turn = number // 2 % 64, number // 128
+        if number % 2:
+            return "get", [key], turn
+        return "put", [key, turn], turn - 1 if turn else None
+    records, steps, _ = in_turn(1, call, calls)
+    return records + [named("commit", "t0")], steps + 1, 1
+
+
+def two_adding(calls):
+    """Two transactions add in turn. One commits, and the other pulls its additions and adds once more."""
+    records, steps, _ = in_turn(2, lambda number: ("add", [1]), 2 * calls)
+    ends = [named("commit", "t0"), op("t1", 2 * calls, "add", [1]), named("commit", "t1")]
+    return records + ends, steps + 1 + calls + 3, 2
+
+
+def sections(count):
+    """One transaction of hardware sections. Each reads and writes two memories out of 16."""
+    names, records = opened(1)
+    tx, numbers = names[0], itertools.count()
+    values = [0] * 16
+    for place in range(count):
+        records.append(named("xbegin", tx))
+        for at in (2 * place % 16, (2 * place + 1) % 16):
+            records.append(op(tx, next(numbers), "read", [0], values[at], f"o{at + 1}"))
+            values[at] = place + 1
+            records.append(op(tx, next(numbers), "write", [0, values[at]], None, f"o{at + 1}"))
+        records.append(named("xend", tx))
+    return records + [named("commit", tx)], 1 + 10 * count + 1, 1
+
+
+def dropped(calls):
+    """A transaction publishes additions one by one. Another pulls all of them and drops them, twice over."""
+    (source, tx), records = opened(2)
+    for number in range(calls):
+        records += [op(source, number, "add", [1]), named("publish", source)]
+    for number in (calls, calls + 1):
+        records += [named("depend", tx, source=source), op(tx, number, "add", [1]), named("drop", tx, source=source)]
+    return records + [named("commit", source)], 2 + 3 * calls + 2 * (1 + calls + 1 + 1 + calls) + 1, 1
+
+
+def undone(rounds):
+    """A transaction puts at 6,000 keys of a map and takes all of it back, and so on."""
+    names, records = opened(1)
+    numbers = itertools.count()
+    for _ in range(rounds):
+        records += [op(names[0], next(numbers), "put", [key, 1]) for key in range(6_000)]
+        records.append(named("retry", names[0]))
+    return records + [named("commit", names[0])], 1 + rounds * (4 * 6_000 + 1) + 1, 1
+
+
+# Of each run its name, its header, what makes it of its size, and the larger size.
+RUNS = (
+    ("one transaction on a map", header("boosted", "map"), one_map, 99_998),
+    ("1,000 open transactions on a counter", header("boosted", "counter"),
+     lambda calls: in_turn(1_000, lambda number: ("add", [1]), calls), 99_500),
+    ("500 open transactions read an address", header("boosted", "mem"),
+     lambda calls: in_turn(500, lambda number: ("read", [0], 0), calls), 99_750),
+    ("64 open transactions on 64 keys", header("boosted", "map"),
+     lambda calls: in_turn(64, lambda number: ("put", [number % 64, number // 64], (number // 64 or None) and number // 64 - 1),
+                           calls), 99_840),
+    ("60 open transactions, each key once", header("boosted", "map"),
+     lambda calls: in_turn(60, lambda number: ("put", [number, number]), calls), 99_940),
+    ("60 open transactions, failing cas", header("boosted", "mem"),
+     lambda calls: in_turn(60, lambda number: ("cas", [0, 1, 2], False), calls), 99_940),
+    ("two transactions add, one commits", header("boosted", "counter"), two_adding, 39_990),
+    ("hardware sections on 16 memories", header("hardware", *["mem"] * 16), sections, 19_998),
+    ("additions pulled and dropped twice", header("dependent", "counter"), dropped, 20_000),
+    ("rounds of 6,000 calls, each undone", header("boosted", "map"), undone, 8),
+)
+
+
+def measure(program, path, head, made):
+    """The time of `certify` on a run, and that of only reading its records."""
+    records, steps, committed = made
+    if steps > MOST_STEPS:
+        raise SystemExit(f"bench: {steps} steps")
+    write(path, [head, FAILING, *records[:-1]])
+    read = answered(program, "certify", path, "rejected step 1 line 2 CMT 1")
+    write(path, [head, *records])
+    return answered(program, "certify", path, f"accepted steps {steps} committed {committed}"), read
+
+
+def main():
+    program = program_named()
+    with tempfile.TemporaryDirectory() as folder:
+        path = os.path.join(folder, "run.jsonl")
+        for name, head, make, size in RUNS:
+            half, half_read = measure(program, path, head, make(size // 2))
+            whole, read = measure(program, path, head, make(size))
+            print(f"{name}: {whole:.2f} s, only read {read:.2f} s, ratio {whole / read:.1f}; of half "
+                  f"{half:.2f} s, {half_read:.2f} s, {half / half_read:.1f}; twice the work {whole / half:.2f}",
+                  flush=True)
+
+
+if __name__ == "__main__":
+    main()

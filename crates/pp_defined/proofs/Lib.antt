@@ -1,0 +1,5 @@
+pub mod Scanned
+pub mod Certified
+pub mod Decided
+pub mod Accepted
+pub mod Defined

@@ -1,0 +1,64 @@
+-- What the notes on a machine say is true of it.
+use Rattle.std.proofs.Common.{◌≡◌, ◌≤◌, ◌-◌, ℕ, List, drop, take, length, take_all, length-drop, arith, Option, None, Some, refl, sym, ap, subst, ◌∙◌}
+use Rattle.std.specs.Option.{option_map}
+use Rattle.pp_core.specs.Steps.{Step}
+use Rattle.pp_front.specs.Expansions.{LocalLog, pushall}
+use Rattle.pp_model.specs.Config.{Tx, tx}
+use Rattle.pp_model.specs.Names.{Name}
+use Rattle.pp_model.specs.Sound.{Sound}
+use Rattle.pp_rules.specs.Machines.{Seen}
+use Rattle.pp_rules.specs.Stepping.{Stepped}
+use Rattle.pp_rules.specs.declared.machine.Outcome.{Outcome}
+use Rattle.pp_rules.specs.declared.machine.Outcome.TheVariants.{Done, False}
+use Rattle.pp_spec.specs.Object.{Object, rules_of}
+use Rattle.pp_styles.specs.Knowing.{ForgetsBefore, IsAllBut, IsTrueOf, Knowledge, ListsAfter}
+use Rattle.pp_styles.specs.Knowing.{PushesMore, TakesMore}
+use Rattle.pp_styles.proofs.Knowing.{all_but, known_pushed, pushes, stays, takes, waits}
+
+-- the open transaction whose local log is lent
+opened_is : {Op Shape : Type 0} (shape : Shape) (local : Shape × LocalLog Op) (o : Option (Tx Op)) → Some local ≡ option_map (λ (y : Tx Op). (shape, y.local)) o → (x : Tx Op) × (o ≡ Some x) × (local.1 ≡ x.local)
+opened_is shape local None is = absurd (let no : Some local ≡ None = is in cc)
+opened_is {Op} {Shape} shape local (Some x) is =
+    let same : local ≡ (shape, x.local) = cc in
+    (x, refl, ap (λ (p : Shape × LocalLog Op). p.1) same)
+
+module _ {Shape State Op Undo : Type 0} (o : Object Shape State Op Undo) (place : Op → ℕ) (k : Knowledge) (inside v : Seen Shape Op) (view : inside ≡ v) (true_inside : IsTrueOf place k inside.config) where
+  true_here : IsTrueOf place k v.config
+  true_here = subst (λ (w : Seen Shape Op). IsTrueOf place k w.config) view true_inside
+
+  module _ (s : Sound (rules_of o v.shape) v.config) (t : Name) (local : Shape × LocalLog Op) (is : Some local ≡ option_map (λ (y : Tx Op). (v.shape, y.local)) (tx t v.config.opened)) where
+    pub all_but_here : (object : ℕ) (ids : List ℕ) → ids ≡ drop (k.taken t object) (k.ids object) → IsAllBut place object v.config.shared local.1 ids
+    all_but_here object ids same =
+        let x = opened_is v.shape local (tx t v.config.opened) is in
+        subst (λ (w : List ℕ). IsAllBut place object v.config.shared local.1 w) (sym same)
+        (subst (λ (l : LocalLog Op). IsAllBut place object v.config.shared l (drop (k.taken t object) (k.ids object))) (sym x.2)
+        (all_but place k v.config true_here (rules_of o v.shape) s t x.0 x.1 object))
+
+    pub unpushed_here : (from : ℕ) (all : LocalLog Op) → all ≡ local.1 → from ≤ k.pushed t → Some (pushall t (take (length all - from) (drop from all))) ≡ option_map (λ (x : Tx Op). pushall t x.local) (tx t v.config.opened)
+    unpushed_here from all same low =
+        let x = opened_is v.shape local (tx t v.config.opened) is in
+        ap (λ (w : LocalLog Op). Some (pushall t w)) (rest from all)
+        ∙ ap (λ (w : LocalLog Op). Some (pushall t (drop from w))) (same ∙ x.2)
+        ∙ ap Some (known_pushed place k v.config true_here (rules_of o v.shape) s t x.0 x.1 from low)
+        ∙ sym (ap (λ (w : Option (Tx Op)). option_map (λ (y : Tx Op). pushall t y.local) w) x.1)
+      where
+        rest : (n : ℕ) (xs : LocalLog Op) → take (length xs - n) (drop n xs) ≡ drop n xs
+        rest n xs = let size = length-drop n xs in take_all (length xs - n) (drop n xs) (omega arith)
+
+    pub takes_here : (new : Knowledge) → TakesMore t local.1 k new → IsTrueOf place new v.config
+    takes_here new more =
+        let x = opened_is v.shape local (tx t v.config.opened) is in
+        takes place k v.config true_here (rules_of o v.shape) s t x.0 x.1 new (subst (λ (l : LocalLog Op). TakesMore t l k new) x.2 more)
+
+    pub pushes_here : (new : Knowledge) → PushesMore t local.1 k new → IsTrueOf place new v.config
+    pushes_here new more =
+        let x = opened_is v.shape local (tx t v.config.opened) is in
+        pushes place k v.config true_here (rules_of o v.shape) s t x.0 x.1 new (subst (λ (l : LocalLog Op). PushesMore t l k new) x.2 more)
+
+  -- what is known behind a step
+  pub true_behind : (step : Step Op) (outcome : Outcome Op) (w : Seen Shape Op) (new last : Knowledge) → Stepped o v step outcome w → ForgetsBefore step k new → ListsAfter place step w.config.done new last → IsTrueOf place last w.config
+  true_behind step Done w new last effect f m =
+      subst (λ (z : Seen Shape Op). IsTrueOf place last z.config) (sym effect.1)
+      (stays place k v.config true_here step new last f (subst (λ (z : Seen Shape Op). ListsAfter place step z.config.done new last) effect.1 m))
+  true_behind step (False n detail) w new last effect f m =
+      subst (λ (z : Seen Shape Op). IsTrueOf place last z.config) (sym effect.2) (waits place k v.config true_here step w.config.done new last f m)

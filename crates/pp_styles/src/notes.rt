@@ -1,0 +1,220 @@
+//! What is known of the open transactions of a machine, so that no entry is looked at again.
+ghost use Rattle.std.specs.Prelude.{◌≡◌, ◌≤◌, ◌<◌, ◌++◌, ◌∷◌, [], ℕ, OnOk, Some, false, length};
+ghost use Rattle.std.specs.Prelude.{slice_get, true};
+ghost use Rattle.pp_core.specs.declared.entry.LocalEntry.{LocalEntry as EntryOf};
+ghost use Rattle.pp_core.specs.declared.entry.Mark.TheVariants.{Unpushed};
+ghost use Rattle.pp_front.specs.Expansions.{stands_in};
+ghost use Rattle.pp_model.specs.Config.{is_mark};
+ghost use Rattle.pp_styles.specs.Knowing.{ids_on};
+ghost use Rattle.pp_styles.specs.Noting.{at_object, ids_in};
+
+use crate::taken::Taken;
+use crate::walks::is_mark;
+use indexmap::IndexMap;
+use pp_core::{Committed, Item, Mark, Name, OutOfMemory, Sequence};
+use pp_local::Local;
+use pp_parts::Parted;
+use std::alloc::Global;
+
+/// For each object the ids of the committed entries on it, in the order of the commits.
+type CommittedIds = IndexMap<u16, Sequence<u32>>;
+
+/// Notes on a machine. They say nothing of a transaction whose local log lost an entry, until it is
+/// looked at again.
+#[derive(Drop)]
+pub struct Notes {
+    alloc: Global,
+    committed: CommittedIds,
+    /// For an open transaction and an object: so many of the committed entries on the object, from
+    /// the first on, are in its local log.
+    taken: IndexMap<Name, Taken>,
+    /// For an open transaction: of so many entries of its local log, from the first on, none is its
+    /// own and unpushed.
+    pushed: IndexMap<Name, usize>,
+}
+
+/// Adds the id of an entry that was committed on an object.
+fn add_id(
+    alloc: Global,
+    committed: &mut CommittedIds,
+    object: u16,
+    id: u32,
+) -> Result<(), OutOfMemory>
+    ensures { OnOk result ((o : ℕ) → ids_in o committed.new.entries
+        ≡ at_object object (ids_in object committed.old.entries ++ id ∷ [])
+        (λ p. ids_in p committed.old.entries) o) }
+{
+    let mut ids = match committed.swap_remove(&object) {
+        Some(ids) => ids,
+        None => Sequence::new(alloc),
+    };
+    ids.push(id)?;
+    committed.insert(object, ids)?;
+    Ok(())
+}
+
+/// Adds the ids of operations that were committed.
+fn add_ids<S: Parted>(
+    alloc: Global,
+    committed: &mut CommittedIds,
+    items: &[Item<S::Op>],
+) -> Result<(), OutOfMemory>
+    ensures { OnOk result ((o : ℕ) → ids_in o committed.new.entries
+        ≡ ids_in o committed.old.entries ++ ids_on S.place_of o items.now) }
+{
+    for item in items {
+        add_id(alloc, committed, S::place(&item.op), item.id)?;
+    }
+    Ok(())
+}
+
+/// The first position at `from` or behind it whose id is not in the local log.
+fn first_missing<S: Parted>(local: &Local<S>, ids: &[u32], from: usize) -> usize
+    ensures within { result ≤ length ids.now }
+    ensures there { (i id : ℕ) → from ≤ i → i < result → slice_get ids.now i ≡ Some id →
+        stands_in local.now.1 id ≡ true }
+{
+    for at in from..ids.len() {
+        if local.find(ids[at]).is_none() {
+            return at;
+        }
+    }
+    ids.len()
+}
+
+/// The first position at `from` or behind it whose entry is own and unpushed.
+fn first_unpushed<S: Parted>(local: &Local<S>, from: usize) -> usize
+    ensures within { result ≤ length local.now.1 }
+    ensures none { (i : ℕ) (e : EntryOf S.Op) → from ≤ i → i < result →
+        slice_get local.now.1 i ≡ Some e → is_mark e.mark Unpushed ≡ false }
+{
+    let entries = local.entries();
+    for at in from..entries.len() {
+        if is_mark(entries[at].mark, Mark::Unpushed) {
+            return at;
+        }
+    }
+    entries.len()
+}
+
+impl Notes {
+    ghost use Rattle.std.specs.Prelude.{◌≡◌, OnOk, drop};
+    ghost use Rattle.pp_styles.specs.Knowing.{IsBlank, Forgets, Lists, ListsAll, PushesMore};
+    ghost use Rattle.pp_styles.specs.Knowing.{SetsTaken, TakesMore, ids_of, last_of};
+    ghost use Rattle.pp_styles.specs.Noting.{ids_in, known, pushed_in, taken_in};
+
+    /// Notes on a machine in which nothing is committed and no transaction is known.
+    pub fn new(alloc: Global) -> Notes
+        ensures { IsBlank (known result) }
+    {
+        Notes {
+            alloc,
+            committed: IndexMap::new(alloc),
+            taken: IndexMap::new(alloc),
+            pushed: IndexMap::new(alloc),
+        }
+    }
+
+    /// Notes what the last of the committed transactions committed.
+    pub fn note_last<S: Parted>(&mut self, committed: &Committed<S::Op>) -> Result<(), OutOfMemory>
+        ensures { OnOk result
+            (Lists (λ o. ids_of S.place_of o (last_of committed.now)) (known self.old)
+            (known self.new)) }
+    {
+        let Some(at) = committed.len().checked_sub(1) else {
+            return Ok(());
+        };
+        let Some(last) = committed.get(at) else {
+            return Ok(());
+        };
+        add_ids::<S>(self.alloc, &mut self.committed, last.entries.as_slice())
+    }
+
+    /// Notes what each of the committed transactions committed.
+    pub fn note_all<S: Parted>(&mut self, committed: &Committed<S::Op>) -> Result<(), OutOfMemory>
+        requires { IsBlank (known self.old) }
+        ensures { OnOk result (ListsAll S.place_of committed.now (known self.new)) }
+    {
+        for done in committed.as_slice() {
+            add_ids::<S>(self.alloc, &mut self.committed, done.entries.as_slice())?;
+        }
+        Ok(())
+    }
+
+    /// Forgets what is known of an open transaction.
+    pub fn forget(&mut self, tx: &Name)
+        ensures { Forgets tx.now (known self.old) (known self.new) }
+    {
+        self.taken.swap_remove(tx);
+        self.pushed.swap_remove(tx);
+    }
+
+    /// How many of the committed entries on an object are known to be in the local log.
+    fn taken(&self, tx: &Name, object: u16) -> usize
+        ensures { result ≡ taken_in tx.now self.now.taken.entries object }
+    {
+        let Some(taken) = self.taken.get(tx) else {
+            return 0;
+        };
+        taken.count(object)
+    }
+
+    /// How many entries of the local log are known not to be unpushed.
+    pub fn pushed(&self, tx: &Name) -> usize
+        ensures { result ≡ pushed_in tx.now self.now.pushed.entries }
+    {
+        self.pushed.get(tx).copied().unwrap_or(0)
+    }
+
+    /// The ids of the committed entries on an object that are not known to be in the local log.
+    pub fn unknown(&self, tx: &Name, object: u16) -> &[u32]
+        ensures { result.now ≡ drop (taken_in tx.now self.now.taken.entries object)
+            (ids_in object self.now.committed.entries) }
+    {
+        let Some(ids) = self.committed.get(&object) else {
+            return &[];
+        };
+        let ids = ids.as_slice();
+        let from = self.taken(tx, object).min(ids.len());
+        &ids[from..]
+    }
+
+    /// Notes that so many of the committed entries on an object are in the local log. Without
+    /// memory nothing is known of the transaction.
+    fn note_taken(&mut self, tx: &Name, object: u16, count: usize)
+        ensures { SetsTaken tx.now object count (known self.old) (known self.new) }
+    {
+        let mut taken = match self.taken.swap_remove(tx) {
+            Some(taken) => taken,
+            None => Taken::new(self.alloc),
+        };
+        taken.set(object, count);
+        let _ = self.taken.insert(*tx, taken);
+    }
+
+    /// Looks which of the committed entries on an object are in the local log, from those on of
+    /// which it is known.
+    pub fn look_at_taken<S: Parted>(&mut self, tx: &Name, object: u16, local: &Local<S>)
+        ensures { TakesMore tx.now local.now.1 (known self.old) (known self.new) }
+    {
+        let Some(ids) = self.committed.get(&object) else {
+            return;
+        };
+        let from = self.taken(tx, object);
+        let at = first_missing(local, ids.as_slice(), from);
+        if at > from {
+            self.note_taken(tx, object, at);
+        }
+    }
+
+    /// Looks how many entries of the local log are not unpushed, from those on of which it is known.
+    pub fn look_at_pushed<S: Parted>(&mut self, tx: &Name, local: &Local<S>)
+        ensures { PushesMore tx.now local.now.1 (known self.old) (known self.new) }
+    {
+        let from = self.pushed(tx);
+        let at = first_unpushed(local, from);
+        if at > from {
+            let _ = self.pushed.insert(*tx, at);
+        }
+    }
+}

@@ -1,0 +1,206 @@
+//! A machine with notes.
+ghost use Rattle.std.specs.Prelude.{◌≡◌, ◌≤◌, ◌<◌, ◌+◌, IfOk, IfSome, OnOk, is_some};
+ghost use Rattle.std.specs.Prelude.{option_map};
+ghost use Rattle.std.specs.Option.{option_copied};
+ghost use Rattle.pp_core.specs.Steps.{meaning};
+ghost use Rattle.pp_front.specs.Expansions.{pushall};
+ghost use Rattle.pp_model.specs.Config.{tx as open_tx};
+ghost use Rattle.pp_rules.specs.Costs.{Costs, at_most};
+ghost use Rattle.pp_rules.specs.Shown.{IsShown};
+ghost use Rattle.pp_rules.specs.Stepping.{IsAsked, Stepped};
+ghost use Rattle.pp_styles.specs.Knowing.{ForgetsBefore, IsAllBut, ListsAfter};
+ghost use Rattle.pp_styles.specs.Noting.{known};
+
+use crate::notes::Notes;
+use pp_core::{LocalEntry, Name, OutOfMemory, Step, Ticks};
+use pp_local::Local;
+use pp_parts::Parted;
+use pp_rules::{Machine, Outcome};
+use pp_shared::Shared;
+use std::alloc::Global;
+use std::marker::Model;
+use std::sync::ledger::Ledger;
+
+/// A machine, with notes on its open transactions: which committed entries they have, and which of
+/// their entries are pushed. Contracts see the machine.
+#[derive(Drop)]
+pub struct Tracked<S: Parted> {
+    machine: Machine<S>,
+    notes: Box<Notes>,
+}
+
+impl<S: Parted> Model for Tracked<S> {
+    ghost use Rattle.pp_rules.specs.Machines.{Seen};
+    ghost use Rattle.pp_core.specs.TreeCodes.{tree_code};
+    ghost use Rattle.std.specs.Coded.{codes};
+
+    ghost Value = { Seen S.Shape S.Op };
+
+    ghost coded = { Prim.hlevel (codes, tree_code, S.Shape.code, S.Op.code) };
+
+    ghost use Rattle.pp_styles.specs.Knowing.{IsTrueOf};
+    ghost use Rattle.pp_styles.specs.Noting.{known};
+
+    ghost view = { λ a. a.machine };
+
+    ghost invariant = { λ a. IsTrueOf S.place_of (known a.notes.value) a.machine.config };
+}
+
+/// Forgets what a step may make untrue: what is known of a transaction that begins, or whose local
+/// log loses an entry or a mark.
+fn forget_before<O: Copy>(notes: &mut Notes, step: &Step<O>)
+    ensures { ForgetsBefore (meaning step.now) (known notes.old) (known notes.new) }
+{
+    match step {
+        Step::Begin { tx, .. }
+        | Step::Unapp { tx, .. }
+        | Step::Unpush { tx, .. }
+        | Step::Unpull { tx, .. }
+        | Step::Cmt { tx }
+        | Step::Quit { tx } => notes.forget(tx),
+        Step::App { .. } | Step::Push { .. } | Step::Pull { .. } | Step::Note { .. } => {}
+    }
+}
+
+/// Notes what a step committed.
+fn note_after<S: Parted>(
+    notes: &mut Notes,
+    step: &Step<S::Op>,
+    machine: &Machine<S>,
+) -> Result<(), OutOfMemory>
+    ensures { OnOk result (ListsAfter S.place_of (meaning step.now) machine.now.config.done
+        (known notes.old) (known notes.new)) }
+{
+    match step {
+        Step::Cmt { .. } => notes.note_last::<S>(machine.committed()),
+        Step::Begin { .. }
+        | Step::App { .. }
+        | Step::Unapp { .. }
+        | Step::Push { .. }
+        | Step::Unpush { .. }
+        | Step::Pull { .. }
+        | Step::Unpull { .. }
+        | Step::Quit { .. }
+        | Step::Note { .. } => Ok(()),
+    }
+}
+
+impl<S: Parted> Tracked<S> {
+    /// A machine of which nothing is known yet. The only error is that memory was refused.
+    pub fn new(alloc: Global, machine: Machine<S>) -> Result<Self, OutOfMemory>
+        ensures { IfOk result (λ tracked. tracked ≡ machine) }
+    {
+        let mut notes = Notes::new(alloc);
+        notes.note_all::<S>(machine.committed())?;
+        let notes = Box::new(alloc, notes)?;
+        Ok(Tracked { machine, notes })
+    }
+
+    /// How many steps were done.
+    pub fn count(&self) -> u32
+        ensures count { result ≡ self.now.count }
+    {
+        self.machine.count()
+    }
+
+    /// Whether a transaction of this name is open.
+    pub fn is_open(&self, tx: &Name) -> bool
+        ensures { result ≡ is_some (open_tx tx.now self.now.config.opened) }
+    {
+        self.machine.is_open(tx)
+    }
+
+    /// The machine itself.
+    pub fn into_machine(self) -> Machine<S>
+        ensures { result ≡ self }
+    {
+        self.machine
+    }
+
+    /// The shared log.
+    pub fn shared(&self) -> &Shared<S>
+        ensures { result.now ≡ (self.now.shape, self.now.config.shared) }
+    {
+        self.machine.shared()
+    }
+
+    /// The local log of an open transaction.
+    pub fn local(&self, tx: &Name) -> Option<&Local<S>>
+        ensures { option_copied result ≡ option_map (λ x.
+            (self.now.shape, x.local)) (open_tx tx.now self.now.config.opened) }
+    {
+        self.machine.local(tx)
+    }
+
+    /// The local log of an open transaction, and the ids of committed entries on an object. Each
+    /// such entry is in the local log, or its id is among these.
+    pub fn local_on(&self, tx: &Name, object: u16) -> Option<(&Local<S>, &[u32])>
+        ensures local { option_map (λ r. r.0.now) result ≡ option_map (λ x.
+            (self.now.shape, x.local)) (open_tx tx.now self.now.config.opened) }
+        ensures ids { IfSome result (λ r.
+            IsAllBut S.place_of object self.now.config.shared r.0.now.1 r.1.now) }
+    {
+        // It stands here for what its clauses say of each machine.
+        let _sound = self.machine.count();
+        let local = self.machine.local(tx)?;
+        Some((local, self.notes.unknown(tx, object)))
+    }
+
+    /// Entries of the local log of an open transaction, with all those that are its own and
+    /// unpushed among them.
+    pub fn unpushed(&self, tx: &Name) -> Option<&[LocalEntry<S::Op>]>
+        ensures { option_map (λ entries. pushall tx.now entries.now) result ≡ option_map (λ x.
+            pushall tx.now x.local) (open_tx tx.now self.now.config.opened) }
+    {
+        // It stands here for what its clauses say of each machine.
+        let _sound = self.machine.count();
+        let local = self.machine.local(tx)?;
+        let entries = local.entries();
+        let from = self.notes.pushed(tx).min(entries.len());
+        Some(&entries[from..])
+    }
+
+    /// Looks which committed entries on an object an open transaction has.
+    pub fn look_at_taken(&mut self, tx: &Name, object: u16)
+        ensures { self.new ≡ self.old }
+    {
+        // It stands here for what its clauses say of each machine.
+        let _sound = self.machine.count();
+        let Some(local) = self.machine.local(tx) else {
+            return;
+        };
+        self.notes.look_at_taken(tx, object, local);
+    }
+
+    /// Looks which entries of an open transaction are pushed.
+    pub fn look_at_pushed(&mut self, tx: &Name)
+        ensures { self.new ≡ self.old }
+    {
+        // It stands here for what its clauses say of each machine.
+        let _sound = self.machine.count();
+        let Some(local) = self.machine.local(tx) else {
+            return;
+        };
+        self.notes.look_at_pushed(tx, local);
+    }
+
+    /// As `Machine::step`.
+    pub fn step<L: Ledger>(
+        self,
+        step: &Step<S::Op>,
+        ticks: &mut Ticks<L>,
+    ) -> Result<(Self, Outcome<S::Op>), OutOfMemory>
+        requires asked { IsAsked S.object self.shape (meaning step.now) }
+        requires few { self.count < 200_000 }
+        ensures effect { IfOk result (λ r. Stepped S.object self (meaning step.now) r.1 r.0) }
+        ensures shown { IfOk result (λ r. IsShown S.object self (meaning step.now) r.1) }
+        ensures cost { Costs S.place_of self (meaning step.now) result ticks.old ticks.new }
+        ensures bound { ticks.new ≤ ticks.old + at_most S.place_of self.config (meaning step.now) }
+    {
+        let Tracked { machine, mut notes } = self;
+        forget_before(&mut notes, step);
+        let (machine, outcome) = machine.step(step, ticks)?;
+        note_after(&mut notes, step, &machine)?;
+        Ok((Tracked { machine, notes }, outcome))
+    }
+}

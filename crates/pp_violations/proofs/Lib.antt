@@ -1,0 +1,16 @@
+pub mod Numbers
+pub mod Only
+pub mod Logs
+pub mod Pulling
+pub mod Pushing
+pub mod Undoing
+pub mod Ending
+pub mod Settled
+pub mod Records
+pub mod Others
+pub mod Sharing
+pub mod Keeping
+pub mod Law
+pub mod Styled
+pub mod Scanned
+pub mod Reported

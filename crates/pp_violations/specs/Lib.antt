@@ -1,0 +1,2 @@
+pub mod Breakable
+pub mod Reported

@@ -1,0 +1,289 @@
+"""The command line of `pozhiqas`. docs/TOOLS.md describes it."""
+import argparse
+import io
+import json
+import os
+import sys
+
+from json_fields import fields_of
+from order import NotTaken, order
+from picture import write_page
+from recorded_run import UnreadableRun, read_run
+from verified_program import NoProgram, ProgramFailed, ask, find_program, read_report
+from why import why
+
+# Statuses of this script. Those of the program are 0 to 8.
+USAGE, UNREADABLE, NO_FILE, NO_PROGRAM, NO_ANSWER, NO_ORDER, NOT_TAKEN, NO_OUTPUT, INTERRUPTED = \
+    64, 65, 66, 69, 70, 71, 72, 74, 130
+
+# The status of the program for wrong arguments.
+WRONG_ARGUMENTS = 2
+
+PROGRAM_COMMANDS = {
+    "certify": "decide a run: accepted with its serial run, or rejected with what shows it",
+    "quick": "decide a run of style boosted, of any number of steps",
+    "expand": "print the steps that the records of a run stand for, as a run of style rules",
+    "views": "print for each attempt of an accepted run what it saw",
+    "swaps": "print the certificate of an accepted run",
+    "recheck": "check a certificate that `swaps` wrote",
+}
+BRIEF_COMMANDS = ("certify", "quick", "views", "recheck")
+STATUS_TEXT = """\
+The status is that of the program: 0 accepted, 1 rejected, 3 a fault of the input, 7 too large to print; with several
+files it is the greatest. Statuses of this script: 64 wrong arguments, 65 a run that cannot be read, 66 a file that cannot
+be read, 69 no program, 70 the program gave no answer, 71 no order was found, 72 a run that `order` does not take, 74 the
+output cannot be written."""
+
+
+class Problem(Exception):
+    """Something that ends the work on one file: a message of one line, and the status."""
+
+    def __init__(self, message, status):
+        super().__init__(message)
+        self.status = status
+
+
+class Result:
+    """What is to be printed of one file, as bytes, and the status."""
+
+    def __init__(self, output, status):
+        self.output = output
+        self.status = status
+
+
+class Source:
+    """One file, or standard input if its name is `-`."""
+
+    def __init__(self, name):
+        self.name = name
+
+    @property
+    def is_standard_input(self):
+        return self.name == "-"
+
+    def open(self):
+        """The open file. Raises Problem."""
+        if self.is_standard_input:
+            if sys.stdin is None:
+                raise Problem("standard input is closed", NO_FILE)
+            return os.fdopen(os.dup(sys.stdin.fileno()), "rb")
+        try:
+            return open(self.name, "rb")
+        except (OSError, ValueError) as error:
+            raise Problem(f"{self.name}: {reason(error)}", NO_FILE) from None
+
+    def data(self):
+        """All bytes of it. Raises Problem."""
+        with self.open() as file:
+            try:
+                return file.read()
+            except OSError as error:
+                raise Problem(f"{self.name}: {reason(error)}", NO_FILE) from None
+
+
+def reason(error):
+    return getattr(error, "strerror", None) or str(error)
+
+
+class Parser(argparse.ArgumentParser):
+    """A parser whose status for wrong arguments is not one of the program's."""
+
+    def error(self, message):
+        print_problem(f"{message} (pozhiqas --help)")
+        sys.exit(USAGE)
+
+
+def make_parser():
+    parser = Parser(prog="pozhiqas", allow_abbrev=False, epilog=STATUS_TEXT,
+                    formatter_class=argparse.RawDescriptionHelpFormatter,
+                    description="Asks the verified program about recorded runs, and explains what it says.\n"
+                    "A verdict is always the program's own line, word for word.")
+    commands = parser.add_subparsers(dest="command", metavar="COMMAND", required=True)
+    for name, what in PROGRAM_COMMANDS.items():
+        command = add_command(commands, name, what, run_program_command)
+        if name in BRIEF_COMMANDS:
+            add_brief(command)
+    drill = commands.add_parser("drill", help="make a run of N transactions, and decide it", allow_abbrev=False)
+    drill.add_argument("number", metavar="N", help="from 1 to 20000")
+    drill.set_defaults(run=run_drill)
+    add_json(drill)
+    add_brief(drill)
+    add_command(commands, "why", "explain a rejection or a fault", run_why)
+    ordered = add_command(commands, "order", "look for another serial order, and certify it", run_order, many=False)
+    ordered.add_argument("--output", metavar="OUT", help="write the run in this order to OUT")
+    add_command(commands, "picture", "draw a run as one HTML page", run_picture, many=False, has_json=False)
+    return parser
+
+
+def add_command(commands, name, what, run, many=True, has_json=True):
+    command = commands.add_parser(name, help=what, description=what[0].upper() + what[1:] + ".", epilog=STATUS_TEXT,
+                                  formatter_class=argparse.RawDescriptionHelpFormatter, allow_abbrev=False)
+    command.add_argument("files", metavar="FILE", nargs="+" if many else 1, help="a recorded run, or - for standard input")
+    command.set_defaults(run=run, output=None)
+    if has_json:
+        add_json(command)
+    return command
+
+
+def add_json(command):
+    command.add_argument("--json", action="store_true", help="print one JSON object with the fields of each report")
+
+
+def add_brief(command):
+    command.add_argument("--brief", action="store_true", help="print the verdict and the state lines alone")
+
+
+def json_line(fields):
+    return json.dumps(fields, separators=(",", ":")).encode() + b"\n"
+
+
+def shown_report(options, report, name):
+    """What is printed of a report: its text, a part of it, or its fields."""
+    if options.json:
+        return json_line({"file": name, **fields_of(options.command, report)})
+    if getattr(options, "brief", False):
+        kept = [report.verdict_line, *report.lines_of("state")]
+        return "".join(line + "\n" for line in kept).encode()
+    return report.answer.output
+
+
+def run_program_command(options, program, source):
+    with source.open() as file:
+        report = read_report(ask(program, [options.command], file))
+    return Result(shown_report(options, report, source.name), report.answer.status)
+
+
+def run_drill(options, program, _):
+    try:
+        report = read_report(ask(program, ["drill", options.number]))
+    except ProgramFailed as error:
+        if error.status == WRONG_ARGUMENTS:
+            raise Problem("drill takes a number from 1 to 20000", error.status) from None
+        raise
+    return Result(shown_report(options, report, None), report.answer.status)
+
+
+def run_why(options, program, source):
+    explained = why(program, source.data())
+    status = explained.report.answer.status
+    if options.json:
+        fields = {"file": source.name, **fields_of("certify", explained.report), "command": "why", **explained.fields()}
+        return Result(json_line(fields), status)
+    return Result(explained.text().encode(), status)
+
+
+def run_order(options, program, source):
+    ordered = order(program, source.data())
+    if options.output is not None and ordered.text is not None:
+        write_file(options.output, ordered.text)
+    if options.json:
+        return Result(json_line(order_fields(source, ordered)), ordered_status(ordered))
+    return Result("".join(line + "\n" for line in ordered.lines()).encode(), ordered_status(ordered))
+
+
+def order_fields(source, ordered):
+    fields = {"file": source.name, "command": "order", "recorded": fields_of("certify", ordered.recorded)}
+    if ordered.reordered is not None:
+        fields["reordered"] = fields_of("certify", ordered.reordered)
+    return {**fields, **ordered.fields()}
+
+
+def ordered_status(ordered):
+    """The program's status on what it said last, or the script's own if there was nothing to ask it about."""
+    if ordered.reordered is not None:
+        return ordered.reordered.answer.status
+    return ordered.recorded.answer.status if ordered.found is None else NO_ORDER
+
+
+def write_file(path, data):
+    try:
+        with open(path, "wb") as file:
+            file.write(data)
+    except (OSError, ValueError) as error:
+        raise Problem(f"{path}: {reason(error)}", NO_OUTPUT) from None
+
+
+def run_picture(_, program, source):
+    data = source.data()
+    explained = why(program, data)
+    answer = explained.report.answer
+    if explained.report.verdict == "fault" and explained.report.cause != "TooManySteps":
+        return Result(answer.output, answer.status)
+    run = read_run(data) if explained.case is None else explained.case.run
+    page = io.StringIO()
+    title = "standard input" if source.is_standard_input else os.path.basename(source.name)
+    write_page(run, explained, page, title)
+    return Result(page.getvalue().encode(), 0)
+
+
+def main(arguments=None):
+    """Does what the arguments say, and returns the status."""
+    try:
+        return run(make_parser().parse_args(arguments))
+    except Problem as problem:
+        print_problem(problem)
+        return problem.status
+    except BrokenPipeError:
+        silence_output()
+        return NO_OUTPUT
+    except KeyboardInterrupt:
+        return INTERRUPTED
+
+
+def run(options):
+    files = getattr(options, "files", [None])
+    if files.count("-") > 1:
+        raise Problem("standard input can be read only once", USAGE)
+    try:
+        program = find_program()
+    except NoProgram as error:
+        raise Problem(error, NO_PROGRAM) from None
+    statuses = []
+    for name in files:
+        try:
+            result = result_of(options, program, Source(name))
+        except Problem as problem:
+            print_problem(problem)
+            statuses.append(problem.status)
+            continue
+        heading = f"== {name}\n".encode("utf-8", "surrogateescape") if len(files) > 1 and not options.json else b""
+        write_output(heading + result.output)
+        statuses.append(result.status)
+    return max(statuses)
+
+
+def result_of(options, program, source):
+    """The result of a command on one file. Raises Problem."""
+    try:
+        return options.run(options, program, source)
+    except UnreadableRun as error:
+        raise Problem(f"{source.name}: {error}", UNREADABLE) from None
+    except NotTaken as error:
+        raise Problem(f"{source.name}: {error}", NOT_TAKEN) from None
+    except NoProgram as error:
+        raise Problem(error, NO_PROGRAM) from None
+    except ProgramFailed as error:
+        raise Problem(error, NO_ANSWER if error.status is None else error.status) from None
+
+
+def write_output(data):
+    try:
+        sys.stdout.buffer.write(data)
+        sys.stdout.buffer.flush()
+    except BrokenPipeError:
+        raise
+    except OSError as error:
+        silence_output()
+        raise Problem(f"standard output: {reason(error)}", NO_OUTPUT) from None
+
+
+def silence_output():
+    """Gives standard output another target, so that Python does not try to write it once more at its end."""
+    os.dup2(os.open(os.devnull, os.O_WRONLY), sys.stdout.fileno())
+
+
+def print_problem(problem):
+    """One line on standard error, whatever bytes a file's name has."""
+    text = "".join(letter if letter.isprintable() else ascii(letter)[1:-1] for letter in f"pozhiqas: {problem}")
+    sys.stderr.buffer.write(text.encode() + b"\n")
+    sys.stderr.flush()
