@@ -5,9 +5,11 @@ ghost use Rattle.std.specs.Option.{option_copied};
 ghost use Rattle.pp_core.specs.Steps.{meaning};
 ghost use Rattle.pp_front.specs.Expansions.{pushall};
 ghost use Rattle.pp_model.specs.Config.{tx as open_tx};
+ghost use Rattle.pp_model.specs.Sound.{Sound};
 ghost use Rattle.pp_rules.specs.Costs.{Costs, at_most};
 ghost use Rattle.pp_rules.specs.Shown.{IsShown};
 ghost use Rattle.pp_rules.specs.Stepping.{IsAsked, Stepped};
+ghost use Rattle.pp_spec.specs.Object.{rules_of};
 ghost use Rattle.pp_styles.specs.Knowing.{ForgetsBefore, IsAllBut, ListsAfter};
 ghost use Rattle.pp_styles.specs.Noting.{known};
 
@@ -96,9 +98,10 @@ impl<S: Parted> Tracked<S> {
         Ok(Tracked { machine, notes })
     }
 
-    /// How many steps were done.
+    /// How many steps were done. The configuration is sound, as that of each machine.
     pub fn count(&self) -> u32
         ensures count { result ≡ self.now.count }
+        ensures sound { Sound (rules_of S.object self.now.shape) self.now.config }
     {
         self.machine.count()
     }
