@@ -1,7 +1,7 @@
 //! Certifies that a recorded run of a transactional memory is a run of the Push/Pull machine.
 #![tactic(auto)]
 
-ghost use Rattle.std.specs.Prelude.{◌≡◌, None};
+ghost use Rattle.std.specs.Prelude.{◌≡◌, ℕ, None};
 ghost use Rattle.pp_run.specs.Outcomes.{outcome};
 ghost use Rattle.pp_run.specs.Runs.{RunPromise};
 ghost use Rattle.pp_run.specs.Streams.{counts};
@@ -57,6 +57,13 @@ fn run_counted<L: Ledger, R: Read + Drop, W: Write + Drop>(
     requires name { blank.name ≡ L.name }
     requires parts { blank.parts ≡ L.parts }
     requires one { L.parts ≡ 1 }
+    ensures promise { (after : ℕ) × RunPromise (source.new ≡ source.old) (sink.new ≡ sink.old)
+        (command_of words.now)
+        (outcome (R.remaining source.old.stream) (R.remaining source.new.stream)
+        (W.contents sink.old.stream) (W.contents sink.new.stream) result 0 after)
+        None None
+        (counts source.old.faults source.new.faults sink.old.faults sink.new.faults
+        0 0 sink.old.flushes sink.new.flushes) }
 {
     let mut ticks = Ticks::<L>::new(blank);
     run_streams(alloc, words, source, sink, &mut ticks)
