@@ -4,7 +4,7 @@ ghost use Rattle.std.specs.Prelude.{◌≡◌};
 use pp_io::{Failed, Sink, SinkFault, Source};
 use std::io::{Read, Write};
 
-/// A reader as a source. It has left what the reader has, if that is known.
+/// A reader as a source. It has left what the reader has left, if the reader says it.
 #[derive(Drop)]
 pub struct StdSource<R: Read + Drop> {
     stream: R,
@@ -12,7 +12,7 @@ pub struct StdSource<R: Read + Drop> {
 }
 
 impl<R: Read + Drop> StdSource<R> {
-    /// A source over this reader, with no fault so far.
+    /// A source over this reader, with no failure counted.
     pub fn new(stream: R) -> StdSource<R>
         ensures stream { result.stream ≡ stream }
         ensures faults { result.faults ≡ 0 }
@@ -44,8 +44,8 @@ impl<R: Read + Drop> Source for StdSource<R> {
     }
 }
 
-/// A writer as a sink. It holds what the writer holds, if that is known. What was sent on is not
-/// known, and it is never refused memory.
+/// A writer as a sink. It holds what the writer holds, if the writer says it. It does not say what
+/// was sent on, and it never reports out of memory.
 #[derive(Drop)]
 pub struct StdSink<W: Write + Drop> {
     stream: W,
@@ -54,7 +54,7 @@ pub struct StdSink<W: Write + Drop> {
 }
 
 impl<W: Write + Drop> StdSink<W> {
-    /// A sink over this writer, with no flush and no fault so far.
+    /// A sink over this writer, with no flush and no failure counted.
     pub fn new(stream: W) -> StdSink<W>
         ensures stream { result.stream ≡ stream }
         ensures flushes { result.flushes ≡ 0 }

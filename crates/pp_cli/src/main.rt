@@ -22,12 +22,13 @@ use std::marker::Brand;
 use std::process::ExitCode;
 use std::sync::ledger::{Blank, Ledger};
 
-/// The status where the system does not give the words.
+/// The status if the system has no arguments to read.
 const NO_WORDS: u8 = 8;
 
-/// All that `main` does once it has its arguments, over any reader and any writer. It promises what
-/// `run` promises, of the bytes that the reader has left and that the writer holds. The code is the
-/// same for all of them, so it treats the streams of the system as those whose bytes are known.
+/// Runs a command over any reader and any writer. It promises what `run` promises, for the bytes
+/// that the reader has left and that the writer holds. The system's own streams do not say these
+/// bytes. But the code is the same for every reader and writer, so it cannot treat these
+/// differently.
 pub fn run_streams<L: Ledger, R: Read + Drop, W: Write + Drop>(
     alloc: Global,
     words: &Words,
@@ -46,7 +47,7 @@ pub fn run_streams<L: Ledger, R: Read + Drop, W: Write + Drop>(
     run(alloc, words, source, sink, ticks)
 }
 
-/// Does that with a counter of its own.
+/// Calls `run_streams` with a new counter of operations. `main` calls it once it has its arguments.
 fn run_counted<L: Ledger, R: Read + Drop, W: Write + Drop>(
     alloc: Global,
     words: &Words,

@@ -1,4 +1,5 @@
-//! What no clause says: that memory is found, and whole runs from their bytes to their report.
+//! What no clause says: the program does not run out of memory without need, and whole runs lead
+//! from their bytes to their reports.
 ghost use Rattle.std.specs.Prelude.{◌≡◌};
 
 mod accepted_runs;
@@ -44,7 +45,7 @@ use std::process::Abort;
 use std::sync::ledger::{Blank, Ledger};
 use std::test::Fail;
 
-/// Does a command over any source and sink, with a counter of operations of its own.
+/// Runs a command over any source and sink, with a new counter of operations.
 fn run_with_counter<L: Ledger, S: Source, K: Sink>(
     alloc: Global,
     words: &Words,
@@ -70,7 +71,7 @@ fn status_of(
     run_with_counter::<Brand, _, _>(alloc, words, source, sink, Blank::new(1))
 }
 
-/// The status of a command of one word on an input, and what the sink holds.
+/// The status of a command of one argument on an input, and what the sink holds.
 fn answered(
     alloc: Global,
     command: &[u8],
@@ -83,7 +84,7 @@ fn answered(
     Ok((status, sink.held().to_vec(alloc)?))
 }
 
-/// The same of bytes that come in pieces of one byte, or in whole pieces.
+/// The same for bytes that come in pieces of one byte, or in whole pieces.
 fn answered_bytes(
     alloc: Global,
     command: &[u8],
@@ -97,12 +98,12 @@ fn answered_bytes(
     answered(alloc, command, source, sink)
 }
 
-/// The same of `certify`.
+/// The same for `certify`.
 fn certified_bytes(alloc: Global, input: Vec<u8>, by_one: bool) -> Result<(Status, Vec<u8>), Fail> {
     answered_bytes(alloc, b"certify", input, by_one)
 }
 
-/// The same of `expand`.
+/// The same for `expand`.
 fn expanded_bytes(alloc: Global, input: Vec<u8>, by_one: bool) -> Result<(Status, Vec<u8>), Fail> {
     answered_bytes(alloc, b"expand", input, by_one)
 }
@@ -227,8 +228,8 @@ fn printed_steps_are_a_run_of_themselves(rt: HostRuntime) -> Result<(), Fail> {
     Ok(())
 }
 
-/// Asserts that the steps of a row have the verdict of its records, and where they are accepted the
-/// same report.
+/// Asserts that the steps of a row have the verdict of its records, and the same report if they are
+/// accepted.
 fn assert_same_verdict(rt: &impl Abort, alloc: Global, row: &Row) -> Result<(), Fail> {
     let answer = certified_bytes(alloc, input_of(alloc, row)?, false)?;
     let again = certified_bytes(alloc, row.report.to_vec(alloc)?, false)?;
@@ -307,7 +308,7 @@ fn the_run_of_a_number_is_an_input_with_the_same_report(rt: HostRuntime) -> Resu
     Ok(())
 }
 
-/// Words that are no command, behind the program's own name.
+/// Arguments that are no command, after the program's own name.
 const NO_COMMANDS: [&[&[u8]]; 15] = [
     &[b"pp_cli"],
     &[b"pp_cli", b"certify", b"certify"],

@@ -1,14 +1,14 @@
-//! The words of the command line, as bytes: they need not be UTF-8.
+//! The arguments of the command line, as bytes: they need not be UTF-8.
 use pp_core::{OutOfMemory, Words};
 use std::alloc::{AllocError, Global};
 use std::env::{Env, FillError};
 
-/// So many zeros.
+/// A vector of this many zeros.
 fn zeros(alloc: Global, size: usize) -> Result<Vec<u8>, AllocError> {
     vec![in alloc; 0u8; size]
 }
 
-/// The word at a place, if the system gives one there. The room is doubled until the word fits.
+/// The argument at a place, if there is one. The buffer is doubled until the argument fits.
 fn word_at<E: Env>(alloc: Global, env: &E, place: usize) -> Result<Option<Vec<u8>>, OutOfMemory> {
     let mut room = 256usize;
     for _ in 0..usize::BITS {
@@ -25,7 +25,7 @@ fn word_at<E: Env>(alloc: Global, env: &E, place: usize) -> Result<Option<Vec<u8
     Err(OutOfMemory)
 }
 
-/// The words behind the program's own name, or none where the system does not give even that.
+/// The arguments after the program's own name, or None if the system does not have even the name.
 pub fn collect_words<E: Env>(alloc: Global, env: &E) -> Result<Option<Words>, OutOfMemory> {
     let Some(_name) = word_at(alloc, env, 0)? else {
         return Ok(None);

@@ -8,8 +8,8 @@ use Rattle.pp_decide.specs.Decisions.{IsQuick}
 use Rattle.pp_drill.specs.Reports.{IsDrilled}
 use Rattle.pp_exchanges.specs.Swaps.{IsSwaps}
 
--- A status and a text are defined: it is impossible that none are. It cannot say which ones, since
--- the criteria are statements, not tests, so the first step that fails cannot be computed from them.
+-- A status and a text are defined: it is impossible that none are. This does not compute them. The
+-- criteria are statements, not tests, so the first step that fails cannot be computed from them.
 abbrev pub IsDefined : (Status → List ℕ → Type 0) → Type 0
 IsDefined Output = ((status : Status) (text : List ℕ) → Output status text → ⊥) → ⊥
 

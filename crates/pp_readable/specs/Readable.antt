@@ -43,15 +43,16 @@ abbrev pub text_with : List ℕ → Objects → List (CommittedTx Op) → List O
 text_with first catalog committed states =
     line first ++ all_tx_lines catalog committed ++ state_lines catalog states
 
--- Two texts have the same first line, the same names of objects and the same committed transactions.
+-- Two texts have the same first line, the same names of objects and the same committed
+-- transactions.
 pub record AreOneText (catalog other : Objects) (first next : List ℕ)
     (a b : List (CommittedTx Op)) : Type 0 where
   pub line : first ≡ next
   pub names : keys_of catalog ≡ keys_of other
   pub committed : a ≡ b
 
--- If two such texts are the same, they state the same committed transactions. The objects, the first
--- lines and the states may differ.
+-- If two such texts are the same, they state the same first line, the same names of objects and the
+-- same committed transactions. The law does not require that anything else is the same.
 abbrev pub TextLaw : Type 0
 TextLaw = (catalog other : Objects) (first next : List ℕ) (a b : List (CommittedTx Op))
     (s t : List ObjectState) → IsCatalog catalog → IsCatalog other → IsUnbroken first →
@@ -67,8 +68,8 @@ pub record AreOneReport (catalog other : Objects) (m n : ℕ) (a b : List (Commi
   pub committed : a ≡ b
   pub count : m < 2 ^ 64 → n < 2 ^ 64 → m ≡ n
 
--- A command prints a text for an accepted run. If the texts of two runs are the same, they state the
--- same committed transactions. The runs may have different objects, numbers and final states.
+-- A command prints a text for an accepted run. If the texts of two runs are the same, they state
+-- the same committed transactions. The law does not require that anything else is the same.
 abbrev pub IsReadable : (Objects → ℕ → List (CommittedTx Op) → List ObjectState → List ℕ) → Type 0
 IsReadable printed = (catalog other : Objects) (m n : ℕ) (a b : List (CommittedTx Op))
     (s t : List ObjectState) → IsCatalog catalog → IsCatalog other → ArePrintable catalog a →
@@ -91,8 +92,8 @@ committed_in header run = map committed_tx (attempts_in header run)
 abbrev pub final_of : Header → LinedSteps Op → List ObjectState
 final_of header run = state (object_of header) (serial (attempts_in header run))
 
--- Two runs have the same names of objects and the same committed transactions. If their objects also
--- have the same kinds, they have the same final state.
+-- Two runs have the same names of objects and the same committed transactions. If their objects
+-- also have the same kinds, they have the same final state.
 pub record HaveOneSerialRun (one other : Header) (run again : LinedSteps Op) : Type 0 where
   pub names : keys_of one.catalog ≡ keys_of other.catalog
   pub committed : committed_in one run ≡ committed_in other again

@@ -3,8 +3,8 @@
 
 ghost use Rattle.pp_readable.specs.Readable.{CertifyLaw, QuickLaw, ReportLaw, TextLaw};
 
-/// Two different lists of committed transactions never have the same report. This is a law about the
-/// definitions. The function does nothing.
+/// Two different lists of committed transactions never have the same report. This is a law of the
+/// definitions: the body is empty.
 pub fn reports_are_readable()
     ensures texts { TextLaw }
     ensures reports { ReportLaw }

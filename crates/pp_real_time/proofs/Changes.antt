@@ -1,4 +1,4 @@
--- What a step changes of the names that were begun and of the open transactions.
+-- How a step changes the names that were begun and the open transactions.
 use Rattle.std.specs.Prelude.{◌≡◌, ◌⊎◌, Bool, true, false, cond, not, List, [], ◌∷◌, Option, None}
 use Rattle.std.specs.Prelude.{Some}
 use Rattle.std.proofs.Common.{refl, sym, ap, ◌∙◌}
@@ -37,7 +37,7 @@ names_stay {Op} c (Cmt u) t i = by (tx u c.opened)
 names_stay c (Quit u) t i = i
 names_stay c (Note u) t i = i
 
--- a transaction of this name and thread is among these
+-- a transaction with the name and thread of x is among xs
 abbrev WasOpen : {Op : Type 0} → List (Tx Op) → Tx Op → Type 0
 WasOpen {Op} xs x = (y : Tx Op) × In y xs × (x.name ≡ y.name) × (x.thread ≡ y.thread)
 

@@ -1,4 +1,4 @@
--- The order of the lines is that of the steps.
+-- Steps on earlier lines come earlier in the run.
 use Rattle.std.specs.Prelude.{◌≡◌, ◌≤◌, ◌<◌, ℕ, List, [], ◌∷◌, Option}
 use Rattle.std.proofs.Common.{refl, sym, ap, subst, arith}
 use mathlib.Core.Logic.{inl, inr}
@@ -17,6 +17,7 @@ use Rattle.pp_real_time.proofs.RealTime.{respects_time}
 
 -- ---- the lines of the steps of records
 
+-- lines that rise never fall
 pub rise_never_fall : {A : Type 0} (xs : List (Lined A)) → LinesRise xs → LinesNeverFall xs
 rise_never_fall xs rise x y b = weaker x.line y.line (rise x y b)
   where
@@ -32,7 +33,7 @@ at_most : (m n k : ℕ) → m ≡ k → n ≡ k → m ≤ n
 at_most m n k a b = omega (arith, a, b)
 
 module _ {F R Op : Type 0} (T : Translation F R Op) where
-  -- a step is on the line of a record
+  -- each step is on the line of one of the records
   step_line : (p : Standing F Op) (rs : Records R) (x : Lined (Step Op)) → In x (joined_steps T p rs) → (r : Lined R) × In r rs × (x.line ≡ r.line)
   step_line p [] x i = absurd i
   step_line p (r ∷ rs) x i = elim (in_cases x (on_line r.line (steps_at T p r.what)) (joined_steps T (after_record T p r.what) rs) i) [
@@ -40,6 +41,7 @@ module _ {F R Op : Type 0} (T : Translation F R Op) where
     | inr j ↦ let k = step_line (after_record T p r.what) rs x j in (k.0, inr k.1, k.2)
   ]
 
+  -- the lines of the steps never fall if those of the records never fall
   pub joined_never_fall : (p : Standing F Op) (rs : Records R) → LinesNeverFall rs → LinesNeverFall (joined_steps T p rs)
   joined_never_fall p [] never x y b = absurd b
   joined_never_fall p (r ∷ rs) never x y b =
@@ -54,6 +56,7 @@ module _ {F R Op : Type 0} (T : Translation F R Op) where
             subst (λ (n : ℕ). x.line ≤ n) (sym m.2) (subst (λ (n : ℕ). n ≤ m.0.line) (sym first) (never r m.0 (inl (refl, m.1))))
       ]
 
+-- the same for the steps of a run
 pub run_never_falls : {F R Op State : Type 0} (O : Object Op State) (T : Translation F R Op) (h : Option (Start Op)) (rs : Records R) (run : LinedSteps Op) →
     LinesNeverFall rs → IsRun O T h rs run → LinesNeverFall run
 run_never_falls {Op = Op} O T h rs run never (inl r) x y b = absurd (subst (λ (w : LinedSteps Op). Before x y w) r.2 b)
@@ -68,6 +71,7 @@ not_both : (i j : ℕ) → i < j → j ≤ i → ⊥
 not_both i j a b = omega (arith, a, b)
 
 module _ {Op State : Type 0} (O : Object Op State) (h : Option (Start Op)) (run : LinedSteps Op) (never : LinesNeverFall run) (met : StartMeets O h) (hold : RunsFrom O (first h) (bare run)) where
+  -- of two steps, the one on the earlier line comes first
   in_step_order : (s u : Step Op) (i j : ℕ) → IsOnLine run s i → IsOnLine run u j → i < j → Before s u (bare run)
   in_step_order s u i j a b less =
       let x : Lined (Step Op) = record { line = i; what = s } in

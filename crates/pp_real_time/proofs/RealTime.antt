@@ -21,13 +21,13 @@ use Rattle.pp_real_time.specs.RealTime.{RealTimeLaw, RespectsTime, commit_order}
 use Rattle.pp_real_time.proofs.Runs.{IsClosed, begin_begun, closed_stays, committed_begun, front_runs}
 use Rattle.pp_real_time.proofs.Runs.{meets_at, open_has_begin, sound_at}
 
--- a list, cut in front of an element that has another before it
+-- a list, split before y, if x comes before y in it
 cut_at_second : {A : Type 0} (x y : A) (xs : List A) → Before x y xs → (p r : List A) × (xs ≡ p ++ y ∷ r) × In x p
 cut_at_second x y [] h = absurd h
 cut_at_second {A} x y (z ∷ xs) (inl h) = let r = split_at y xs h.1 in (z ∷ r.0, r.1, ap (λ (w : List A). z ∷ w) r.2, inl h.0)
 cut_at_second {A} x y (z ∷ xs) (inr h) = let r = cut_at_second x y xs h in (z ∷ r.0, r.1, ap (λ (w : List A). z ∷ w) r.2, inr r.3)
 
--- the names in the CMT steps
+-- the name of a CMT step is among the committed names
 in_commits : {Op : Type 0} (t : Name) (ss : List (Step Op)) → In (Cmt t) ss → In t (commits ss)
 in_commits t [] i = absurd i
 in_commits t (Cmt u ∷ ss) (inl e) = inl (let k : t ≡ u = cc in k)
@@ -50,11 +50,12 @@ commit_is_step t (Cmt u ∷ ss) (inl e) = inl (ap (λ (w : Name). Cmt w) e)
 commit_is_step t (Cmt u ∷ ss) (inr i) = inr (commit_is_step t ss i)
 commit_is_step t (s ∷ ss) i = inr (commit_is_step t ss i)
 
--- the commit order is that of the CMT steps, after the start
+-- the names of the attempts are the committed names
 same_names : {Op : Type 0} (ss : List (Step Op)) (l : List Name) → map (λ (a : Attempt Op). a.name) (map (attempt_of ss) l) ≡ l
 same_names ss [] = refl
 same_names {Op} ss (t ∷ l) = ap (λ (w : List Name). t ∷ w) (same_names ss l)
 
+-- the commit order is that of the CMT steps, after the start
 order_is : {Op : Type 0} (h : Option (Start Op)) (ss : List (Step Op)) → commit_order h ss ≡ map (λ (a : Attempt Op). a.name) (start_attempts h) ++ commits ss
 order_is {Op} h ss =
     let name = λ (a : Attempt Op). a.name in
@@ -67,7 +68,7 @@ module _ {Op State : Type 0} (O : Object Op State) (h : Option (Start Op)) (met 
   at : (past rest : List (Step Op)) → ss ≡ past ++ rest → RunsFrom O (first h) (past ++ rest)
   at past rest e = subst (λ (w : List (Step Op)). RunsFrom O (first h) w) e run
 
-  -- what begins here commits later
+  -- a transaction that begins after the past commits after it
   commits_later : (past rest : List (Step Op)) (u p : Name) (b : Option Tree) → ss ≡ past ++ Begin u p b ∷ rest → In u (commits ss) → In u (commits rest)
   commits_later past rest u p b e i =
       let r = at past (Begin u p b ∷ rest) e in
@@ -77,18 +78,20 @@ module _ {Op State : Type 0} (O : Object Op State) (h : Option (Start Op)) (met 
         | inr j ↦ j
       ]
 
-  -- so what committed before stands before it in the commit order
+  -- so a transaction that committed in the past comes before it in the commit order
   committed_first : (past rest : List (Step Op)) (t u p : Name) (b : Option Tree) → ss ≡ past ++ Begin u p b ∷ rest → In t (commits past) → In u (commits ss) → Before t u (commit_order h ss)
   committed_first past rest t u p b e i j =
       in_order_of h ss t u (subst (λ (w : List Name). Before t u w) (sym (ap (λ (w : List (Step Op)). commits w) e ∙ commits-append past (Begin u p b ∷ rest)))
       (before_across t u (commits past) (commits rest) i (commits_later past rest u p b e j)))
 
+  -- no transaction begins twice
   begins_once : (t p q : Name) (b c : Option Tree) → Before (Begin t p b) (Begin t q c) ss → ⊥
   begins_once t p q b c i =
       let k = cut_at_second (Begin t p b) (Begin t q c) ss i in
       let r = at k.0 (Begin t q c ∷ k.1) k.2 in
       (meets_at O h met k.0 k.1 (Begin t q c) r).0 (begin_begun O h met t p b k.0 (front_runs O h met k.0 (Begin t q c ∷ k.1) r) k.3)
 
+  -- all BEGIN steps of a transaction are on one thread
   one_thread : (t p q : Name) (b c : Option Tree) → In (Begin t p b) ss → In (Begin t q c) ss → p ≡ q
   one_thread t p q b c i j = elim (in_order (Begin t p b) (Begin t q c) ss i j) [
     | inl e ↦ same p q b c e
@@ -99,7 +102,7 @@ module _ {Op State : Type 0} (O : Object Op State) (h : Option (Start Op)) (met 
       same : (p q : Name) (b c : Option Tree) → ◌≡◌ {A = Step Op} (Begin t p b) (Begin t q c) → p ≡ q
       same p q b c e = cc
 
-  -- what is closed does not commit any more
+  -- a transaction that is closed does not commit later
   closed_commits_not : (t : Name) (past rest : List (Step Op)) → ss ≡ past ++ rest → IsClosed O h met t past → In t (commits rest) → ⊥
   closed_commits_not t past rest e closed i =
       let d = split_at (Cmt t) rest (commit_is_step t rest i) in
@@ -110,7 +113,7 @@ module _ {Op State : Type 0} (O : Object Op State) (h : Option (Start Op)) (met 
       let g = found_tx t (after h mid).opened x.0 x.1 in
       (closed_stays O h met t past d.0 closed (front_runs O h met mid (Cmt t ∷ d.1) q)).1 x.0 g.0 g.1
 
-  -- what began earlier on the thread of a transaction that begins here is closed
+  -- if u begins after the past, each earlier transaction of its thread is closed
   earlier_closed : (past rest : List (Step Op)) (t u p : Name) (b c : Option Tree) → ss ≡ past ++ Begin u p c ∷ rest → In (Begin t p b) past → IsClosed O h met t past
   earlier_closed past rest t u p b c e i =
       let r = at past (Begin u p c ∷ rest) e in

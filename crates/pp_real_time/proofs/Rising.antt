@@ -61,7 +61,7 @@ scanned_rise bytes = by (overrun bytes)
 
 -- ---- their records
 
--- the second has no record more, or one more, on this line
+-- the second list of records is the first, or has one more record, on this line
 abbrev AddsAtMost : InputScan → ℕ → InputScan → Type 0
 AddsAtMost sc line wider =
     (wider.records ≡ sc.records)

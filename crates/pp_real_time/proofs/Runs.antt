@@ -1,4 +1,4 @@
--- What holds after each front of an accepted run.
+-- What is true after each first part of an accepted run.
 use Rattle.std.specs.Prelude.{◌≡◌, ◌≢◌, List, [], ◌∷◌, ◌++◌, map, Option, None, Some}
 use Rattle.std.proofs.Common.{refl, sym, ap, subst, ◌∙◌, append_assoc}
 use Rattle.std.proofs.lemmas.List.{append-nil}
@@ -19,16 +19,19 @@ use Rattle.pp_front.proofs.Ends.{after_append, runs_back, runs_front}
 use Rattle.pp_real_time.proofs.Changes.{names_stay, open_before}
 
 module _ {Op State : Type 0} (O : Object Op State) (h : Option (Start Op)) (met : StartMeets O h) where
+  -- the configuration after the steps is sound
   pub sound_at : (ss : List (Step Op)) → RunsFrom O (first h) ss → Sound O (after h ss)
   sound_at ss r = run_keeps O ss (first h) (start_sound O h met) r
 
+  -- the steps of the first part meet their criteria
   pub front_runs : (p q : List (Step Op)) → RunsFrom O (first h) (p ++ q) → RunsFrom O (first h) p
   front_runs p q r = runs_front O (first h) p q r
 
+  -- the step after the first part meets its criteria
   pub meets_at : (p q : List (Step Op)) (s : Step Op) → RunsFrom O (first h) (p ++ s ∷ q) → Meets O (after h p) s
   meets_at p q s r = (runs_back O (first h) p (s ∷ q) r).0
 
-  -- what holds at a front, and is kept by each step, holds later
+  -- a property that is true after the past, and that each step keeps, is true later
   along : (P : List (Step Op) → Type 0)
       → ((past : List (Step Op)) (s : Step Op) → RunsFrom O (first h) (past ++ s ∷ []) → P past → P (past ++ s ∷ []))
       → (past ss : List (Step Op)) → P past → RunsFrom O (first h) (past ++ ss) → P (past ++ ss)
@@ -48,7 +51,7 @@ module _ {Op State : Type 0} (O : Object Op State) (h : Option (Start Op)) (met 
       let there = in_right a (start_attempts h) (map (attempt_of past) (commits past)) (in_map (attempt_of past) t (commits past) i) in
       (sound_at past r).done_known (committed_tx a) (subst (λ (w : List (CommittedTx Op)). In (committed_tx a) w) (sym (finished_are O h past met r)) (in_map committed_tx a (attempts h past) there))
 
-  -- so was one that has its BEGIN
+  -- a transaction with a BEGIN step was begun
   pub begin_begun : (t p : Name) (b : Option Tree) (past : List (Step Op)) → RunsFrom O (first h) past → In (Begin t p b) past → In t (after h past).names
   begin_begun t p b past run = along (λ w. In (Begin t p b) w → In t (after h w).names) step [] past (λ i. absurd i) run
     where
@@ -59,7 +62,7 @@ module _ {Op State : Type 0} (O : Object Op State) (h : Option (Start Op)) (met 
         | inr (inr j) ↦ absurd j
       ])
 
-  -- an open transaction has its BEGIN, on its thread
+  -- an open transaction has a BEGIN step, on its thread
   pub open_has_begin : (past : List (Step Op)) → RunsFrom O (first h) past → (x : Tx Op) → In x (after h past).opened → (b : Option Tree) × In (Begin x.name x.thread b) past
   open_has_begin past run = along (λ w. (x : Tx Op) → In x (after h w).opened → (b : Option Tree) × In (Begin x.name x.thread b) w) step [] past (λ x i. none h x i) run
     where
@@ -78,11 +81,11 @@ module _ {Op State : Type 0} (O : Object Op State) (h : Option (Start Op)) (met 
         | inr e ↦ (e.0, in_right (Begin x.name x.thread e.0) past (s ∷ []) (inl (sym e.1)))
       ]
 
-  -- it was begun, and is not open
+  -- the transaction was begun, and is not open
   abbrev pub IsClosed : Name → List (Step Op) → Type 0
   IsClosed t past = In t (after h past).names × ((x : Tx Op) → In x (after h past).opened → x.name ≢ t)
 
-  -- and stays so
+  -- a transaction that is closed stays closed
   pub closed_stays : (t : Name) (past ss : List (Step Op)) → IsClosed t past → RunsFrom O (first h) (past ++ ss) → IsClosed t (past ++ ss)
   closed_stays t past ss k run = along (λ w. IsClosed t w) step past ss k run
     where

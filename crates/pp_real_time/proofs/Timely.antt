@@ -1,4 +1,4 @@
--- An input of which each step meets its criteria is timely.
+-- An input is timely if each of its steps meets its criteria.
 use Rattle.std.specs.Prelude.{ℕ, List}
 use Rattle.std.proofs.Common.{refl}
 use mathlib.Core.Logic.{inr}
@@ -33,7 +33,7 @@ timely_law sc never meets =
           (records_law (object_of h) (translation_of h) (start_of h) sc.records run never own.steps meets.start meets.steps),
     )
 
--- the same of the scan of an input, whose lines rise
+-- the same for the scan of any input: its lines rise
 pub meets_timely : (bytes : List ℕ) → EachStepMeets (scan bytes) → IsTimely (scan bytes)
 meets_timely bytes meets = timely_law (scan bytes) (rise_never_fall (scan bytes).records (rising_law bytes)) meets
 

@@ -22,6 +22,7 @@ LinesNeverFall {A} xs = (x y : Lined A) → Before x y xs → x.line ≤ y.line
 abbrev pub IsOnLine : {Op : Type 0} → LinedSteps Op → Step Op → ℕ → Type 0
 IsOnLine run step i = In (record { line = i; what = step }) run
 
+-- The commit order respects real time by the lines of the input, and the order of each thread.
 pub record RespectsLines {Op : Type 0} (h : Option (Start Op)) (run : LinedSteps Op) : Type 0 where
   -- each transaction commits once
   pub once : (t u : Name) → Before t u (commit_order h (bare run)) → t ≢ u

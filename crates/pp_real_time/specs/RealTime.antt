@@ -12,6 +12,7 @@ use Rattle.pp_model.specs.Serial.{attempts, commits}
 abbrev pub commit_order : {Op : Type 0} → Option (Start Op) → List (Step Op) → List Name
 commit_order h ss = map (λ a. a.name) (attempts h ss)
 
+-- The commit order respects real time by the order of the steps, and the order of each thread.
 pub record RespectsTime {Op : Type 0} (h : Option (Start Op)) (ss : List (Step Op)) : Type 0 where
   -- each transaction commits once
   pub once : (t u : Name) → Before t u (commit_order h ss) → t ≢ u

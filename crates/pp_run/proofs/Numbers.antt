@@ -1,4 +1,4 @@
--- The number of transactions that a word asks for.
+-- The number of transactions that an argument states.
 use Rattle.std.specs.Prelude.{◌≡◌, ℕ, ◌≤◌, Bool, true, false, ◌&&◌, nat_le, List, [], ◌∷◌, codes}
 use Rattle.std.specs.Prelude.{if◌then◌else◌, Option, None, Some, option_map, Result, Ok, Err}
 use Rattle.std.specs.Fmt.{decimal}
@@ -33,7 +33,7 @@ by_test : (b : Bool) (v n : ℕ) → (if b then Some v else None) ≡ Some n →
 by_test true v n e = (refl, same_Some v n e)
 by_test false v n e = absurd (let no : None ≡ Some n = e in cc)
 
--- ---- the number of a word
+-- ---- the number of an argument
 
 abbrev test : List ℕ → ℕ → Bool
 test word n = bytes_eq word (decimal n) && (nat_le 1 n && nat_le n 20_000)
@@ -65,11 +65,11 @@ no_number word none = cases (drill_number word) refl
 
 -- ---- how it is read
 
--- digits are UTF-8
+-- a numeral is UTF-8
 pub number_is_text : (word : List ℕ) (n : ℕ) → IsNumberOf word n → IsUtf8 word
 number_is_text word n (is, low, high) = subst IsUtf8 (sym is) (IsUtf8-from_ascii (decimal n) (IsAscii-decimal n (omega (arith, high))))
 
--- and are read as their number
+-- what the parser of std returns for an argument, against its number
 module _ {E : Type 0} (word text : List ℕ) (same : text ≡ word) (r : Result ℕ E) (parses : ParsesUnsigned 32 10 text r) where
   parsed : (n : ℕ) → IsNumberOf word n → r ≡ Ok n
   parsed n (is, low, high) = parse-decimal 32 n text r (omega (arith, high)) (omega (arith, high)) (same ∙ is) parses
@@ -79,7 +79,8 @@ module _ {E : Type 0} (word text : List ℕ) (same : text ≡ word) (r : Result 
       let here : r ≡ Ok n = parsed n is in
       cc
 
-  -- where it is read as no number, or as another one, or is not written as that is
+  -- The argument states no number if it is not read as one, if the number is out of range, or if it
+  -- is not written as that number is.
   pub unread : (e : E) → r ≡ Err e → drill_number word ≡ None
   unread e read = no_number word (λ n is.
       let here : r ≡ Ok n = parsed n is in
@@ -95,7 +96,7 @@ module _ {E : Type 0} (word text : List ℕ) (same : text ≡ word) (r : Result 
 
 -- ---- the number of a command
 
--- the command is none that has a number
+-- the command has no number: it is not `drill`
 abbrev IsUnnumbered : Option Command → Type 0
 IsUnnumbered o = (n : ℕ) → o ≡ Some (Drill n) → ⊥
 
@@ -114,6 +115,7 @@ unnumbered word =
     (either (is (codes "views")) (Some Views) None (λ n e. let no : Some Views ≡ Some (Drill n) = e in cc)
     (λ n e. let no : None ≡ Some (Drill n) = e in cc))))))
 
+-- the number of a `drill` command is from 1 to 20,000
 pub drill_within : (words : List (List ℕ)) (n : ℕ) → command_of words ≡ Some (Drill n) → (1 ≤ n) × (n ≤ 20_000)
 drill_within [] n e = absurd (let no : None ≡ Some (Drill n) = e in cc)
 drill_within (word ∷ []) n e = absurd (unnumbered word n e)
@@ -128,7 +130,7 @@ drill_within (word ∷ number ∷ []) n e = numbered (bytes_eq word (codes "dril
         subst (λ (m : ℕ). (1 ≤ m) × (m ≤ 20_000)) same (told.1, told.2)
 drill_within (word ∷ number ∷ more ∷ words) n e = absurd (let no : None ≡ Some (Drill n) = e in cc)
 
--- ---- what a comparison of words tells
+-- ---- what a comparison of arguments means
 
 pub equal_words : (b : Bool) (xs ys : List ℕ) → b ≡ bytes_eq xs ys → b ≡ true → xs ≡ ys
 equal_words b xs ys is e = (bytes_eq-Decides xs ys).0 (sym is ∙ e)

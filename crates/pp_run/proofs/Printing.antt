@@ -15,6 +15,7 @@ use Rattle.pp_drill.proofs.Drilling.{one_drilled}
 use Rattle.pp_exchanges.proofs.Swapping.{one_swaps}
 use Rattle.pp_verify.proofs.Rechecking.{one_recheck}
 
+-- two outputs of one input are the same
 pub one_output : (command : Option Command) (bytes : List ℕ) (s s' : Status) (t t' : List ℕ) → IsOutput command bytes s t → IsOutput command bytes s' t' → (s ≡ s') × (t ≡ t')
 one_output None bytes s s' t t' a b = (a.0 ∙ sym b.0, a.1 ∙ sym b.1)
 one_output (Some Certify) bytes s s' t t' a b = one_certified bytes s s' t t' a b
@@ -25,7 +26,7 @@ one_output (Some Recheck) bytes s s' t t' a b = one_recheck bytes s s' t t' a b
 one_output (Some Views) bytes s s' t t' a b = one_views bytes s s' t t' a b
 one_output (Some (Drill n)) bytes s s' t t' a b = one_drilled n s s' t t' a b
 
--- what holds of an input, and what follows from it
+-- if P implies Q for all bytes, then P of an input implies Q of it
 of_input : (o : Option Command) (left : Option (List ℕ)) (P Q : List ℕ → Type 0) → ((bytes : List ℕ) → P bytes → Q bytes) → OfInput o left P → OfInput o left Q
 of_input None left P Q f p = f [] p
 of_input (Some Certify) left P Q f p = λ bytes is. f bytes (p bytes is)
@@ -36,7 +37,7 @@ of_input (Some Recheck) left P Q f p = λ bytes is. f bytes (p bytes is)
 of_input (Some Views) left P Q f p = λ bytes is. f bytes (p bytes is)
 of_input (Some (Drill n)) left P Q f p = f [] p
 
--- what is written of the output of a command
+-- what is written, if the output of a command is this text or a prefix of it
 module _ (o : Option Command) (command : Command) (is : o ≡ Some command) (left old new : Option (List ℕ)) (status : Status) (text : List ℕ)
     (output : OfInput (Some command) left (λ bytes. IsOutput (Some command) bytes status text)) where
   follows : (Q : Option Command → List ℕ → Type 0) → ((bytes : List ℕ) → IsOutput (Some command) bytes status text → Q (Some command) bytes) → OfInput o left (Q o)

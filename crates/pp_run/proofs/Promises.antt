@@ -1,4 +1,4 @@
--- What is promised of what commands answer, from the laws of their crates.
+-- The laws and promises of `run` that come from the laws of other crates.
 use Rattle.std.specs.Prelude.{◌≡◌, ℕ, List, [], Option, None, Some}
 use Rattle.pp_core.specs.declared.status.Status.{Status}
 use Rattle.pp_core.specs.declared.status.Status.TheVariants as statuses
@@ -34,6 +34,7 @@ use Rattle.pp_run.specs.declared.words.Command.{Command}
 use Rattle.pp_run.specs.declared.words.Command.TheVariants.{Certify, Drill, Expand, Quick, Recheck, Swaps, Views}
 use Rattle.std.proofs.Common.{refl, subst}
 
+-- the records after any header have one run, and steps have one verdict
 pub have_one_run : (header : Header) → HaveOneRun header
 have_one_run header =
     record {
@@ -42,6 +43,7 @@ have_one_run header =
       one_verdict = one_verdict (object_of header);
     }
 
+-- what `quick` decides is the verdict on all steps of the records
 pub decided_as_run : (sc : InputScan) (header : Lined Header) → sc.header ≡ Some header → IsDecidedAsRun sc header
 decided_as_run sc header here =
     record {
@@ -55,7 +57,7 @@ decided_as_run sc header here =
       decides = briefs_decide header.what;
     }
 
--- views of an accepted run are those of one that is certified
+-- if the status of `views` is accepted, the input is certified as accepted
 pub accepted_how : (sc : InputScan) (how : Status) (report text : List ℕ) → IsViewsOf sc how report statuses.Accepted text → how ≡ statuses.Accepted
 accepted_how sc statuses.Accepted report text told = refl
 accepted_how sc statuses.Rejected report text told = absurd (let no : statuses.Accepted ≡ statuses.Rejected = told.0 in cc)
@@ -66,19 +68,22 @@ accepted_how sc statuses.WriteFault report text told = absurd told
 accepted_how sc statuses.OutOfMemory report text told = absurd told
 accepted_how sc statuses.TooLarge report text told = absurd told
 
+-- the last attempts that `SeesKept` is about have a number, if the status of `views` is accepted
 pub sees_kept : (bytes text : List ℕ) → IsViews bytes statuses.Accepted text → SeesKept (scan bytes)
 sees_kept bytes text (how, report, certified, told) =
     kept_views bytes report (subst (λ (s : Status). IsCertified bytes s report) (accepted_how (scan bytes) how report text told) certified)
 
--- what is printed of the run of the number that words ask for
+-- the five lines that `drill` prints for a number that the arguments state
 pub drilled_lines : (words : List (List ℕ)) (n : ℕ) → command_of words ≡ Some (Drill n) → PrintsLines n
 drilled_lines words n is =
     let within = drill_within words n is in
     prints_lines n within.0 within.1
 
+-- prefixes of an accepted input are accepted
 pub prefixes_accepted : PrefixLaw × CertifiedPrefixLaw
 prefixes_accepted = (prefix_law, certified_prefix_law)
 
+-- two different lists of committed transactions never have the same report
 pub reports_readable : CertifyLaw × QuickLaw
 reports_readable = (certify_law, quick_law)
 

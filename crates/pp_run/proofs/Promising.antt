@@ -1,4 +1,4 @@
--- What each command promises, from what is said of all of them.
+-- The promise of each command, from the clauses of `answer`.
 use Rattle.std.proofs.Common.{◌≡◌, ℕ, List, Option, None, Some, inl, inr, refl, subst, sym}
 use Rattle.pp_core.specs.declared.status.Status.{Status}
 use Rattle.pp_core.specs.declared.status.Status.TheVariants as statuses
@@ -33,7 +33,7 @@ use Rattle.pp_run.specs.declared.words.Command.TheVariants.{Certify, Drill, Expa
 use Rattle.pp_run.specs.declared.words.Command.TheVariants.{Recheck, Swaps, Views}
 use Rattle.pp_reading.specs.Sources.{WhereTold}
 
--- what is said of a call of any command
+-- the clauses of `answer` about what is printed and about the counter, and the lines of `drill`
 pub record Answers (k : Option Command) (o : Outcome) : Type 0 where
   pub output : IsPrinted o.status → OfInput k o.input (λ bytes. Prints k bytes o.status o.held o.holds)
   pub only : IsPrinted o.status → OfInput k o.input (λ bytes. PrintsOnly k bytes o.status o.held o.holds)
@@ -45,6 +45,7 @@ pub record Answers (k : Option Command) (o : Outcome) : Type 0 where
 
 -- ---- an accepted run
 
+-- an input whose start and steps all meet their criteria is serializable
 pub serializable : (bytes : List ℕ) → EachStepMeets (scan bytes) → IsSerializable bytes
 serializable bytes m =
     record {
@@ -54,10 +55,11 @@ serializable bytes m =
       alone = meets_alone (scan bytes) m;
     }
 
+-- if `certify` accepts an input, its start and steps meet their criteria
 certified_meets : (bytes text : List ℕ) → IsCertified bytes statuses.Accepted text → EachStepMeets (scan bytes)
 certified_meets bytes text r = ((certified_exact bytes statuses.Accepted text r).0 refl).1
 
--- the status with which an input is certified is accepted, if its certificate is printed
+-- if the status of `swaps` is accepted, the input is certified as accepted
 swaps_how : (sc : InputScan) (how : Status) (report text : List ℕ) → IsSwapsOf sc how report statuses.Accepted text → how ≡ statuses.Accepted
 swaps_how sc statuses.Accepted report text told = refl
 swaps_how sc statuses.Rejected report text told = absurd (let no : statuses.Accepted ≡ statuses.Rejected = told.0 in cc)
@@ -68,32 +70,37 @@ swaps_how sc statuses.WriteFault report text told = absurd told
 swaps_how sc statuses.OutOfMemory report text told = absurd told
 swaps_how sc statuses.TooLarge report text told = absurd told
 
+-- if `swaps` accepts an input, its start and steps meet their criteria
 swaps_meets : (bytes text : List ℕ) → IsSwaps bytes statuses.Accepted text → EachStepMeets (scan bytes)
 swaps_meets bytes text (how, report, certified, told) =
     certified_meets bytes report (subst (λ (s : Status). IsCertified bytes s report) (swaps_how (scan bytes) how report text told) certified)
 
+-- the same for `views`
 views_meets : (bytes text : List ℕ) → IsViews bytes statuses.Accepted text → EachStepMeets (scan bytes)
 views_meets bytes text (how, report, certified, told) =
     certified_meets bytes report (subst (λ (s : Status). IsCertified bytes s report) (accepted_how (scan bytes) how report text told) certified)
 
--- what `quick` decides as accepted
+-- if `quick` decides that a run is accepted, its start and steps meet their criteria
 accepted_of : (sc : InputScan) (header : Lined Header) (decision : Decision) (text : List ℕ) → sc.header ≡ Some header → IsDecisionOf header sc.records decision
     → IsDecisionTold sc.header decision statuses.Accepted text → EachStepMeets sc
 accepted_of sc header decision text here (inl (hold, is)) told = record { header = header; first_line = here; start = hold.0; steps = hold.1 }
 accepted_of sc header decision text here (inr (line, fails, is)) told =
     absurd (let t = subst (λ (d : Decision). IsDecisionTold sc.header d statuses.Accepted text) is told in let no : statuses.Accepted ≡ statuses.Rejected = t.0 in cc)
 
+-- the same for an input with its fault, which is None here
 accepted_behind : (fault : Option (ℕ × Cause)) (sc : InputScan) (decision : Decision) (text : List ℕ) → IsDecisionBehind fault sc decision
     → IsDecisionTold sc.header decision statuses.Accepted text → EachStepMeets sc
 accepted_behind (Some fault) sc decision text is told =
     absurd (let t = subst (λ (d : Decision). IsDecisionTold sc.header d statuses.Accepted text) is told in let no : statuses.Accepted ≡ statuses.InputFault = t.0 in cc)
 accepted_behind None sc decision text (header, here, is) told = accepted_of sc header decision text here is told
 
+-- the same for what `quick` prints
 quick_meets : (bytes text : List ℕ) → IsQuick bytes statuses.Accepted text → EachStepMeets (scan bytes)
 quick_meets bytes text (decision, is, told) = accepted_behind (quick_fault (scan bytes)) (scan bytes) decision text is told
 
 -- ---- the promises
 
+-- a verdict is printed
 decided_printed : (s : Status) → IsDecided s → IsPrinted s
 decided_printed statuses.Accepted d = tt
 decided_printed statuses.Rejected d = tt
@@ -107,6 +114,7 @@ decided_printed statuses.TooLarge d = absurd d
 printed : (o : Outcome) (s : Status) → o.status ≡ s → IsPrinted s → IsPrinted o.status
 printed o s is p = subst IsPrinted (sym is) p
 
+-- the promise of the command that the arguments are
 pub promised : (k : Option Command) (o : Outcome) → Answers k o → CommandPromise k o
 promised None o a = tt
 promised (Some Certify) o a =

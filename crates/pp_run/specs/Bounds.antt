@@ -14,9 +14,9 @@ use Rattle.pp_run.specs.declared.words.Command.{Command}
 use Rattle.pp_run.specs.declared.words.Command.TheVariants.{Certify, Drill, Expand, Quick}
 use Rattle.pp_run.specs.declared.words.Command.TheVariants.{Recheck, Swaps, Views}
 
--- The counter rises from old to new, whatever is answered: at most by what the start, the steps and
--- the serial run of the input cost at most, or what the command does in place of these. Of a
--- certificate each line costs two at most. Words that are no command cost nothing.
+-- The greatest rise of the counter, from old to new, at every status. `certify` and `drill` rise at
+-- most by the greatest cost of the start, the steps and the serial run. The other commands have
+-- their own bounds. A line of a certificate costs two at most. Bad arguments cost nothing.
 abbrev pub RisesAtMost : Option Command → Option (List ℕ) → (old new : ℕ) → Type 0
 RisesAtMost None left old new = new ≡ old
 RisesAtMost (Some Certify) left old new = WhereTold left λ bytes. CostsAtMost (scan bytes) old new
@@ -31,11 +31,11 @@ RisesAtMost (Some Views) left old new =
     WhereTold left λ bytes. ViewsCostAtMost (scan bytes) old new
 RisesAtMost (Some (Drill n)) left old new = CostsAtMost (drill_scan n) old new
 
--- With this status the counter rises at least by one for each step that applies or takes back one
--- operation and meets its criteria; under `quick` for each record that is an operation, before the
--- one that fails if one does. `certify`, `quick` and `drill` compute the serial run of an accepted
--- run too. Under `recheck`, at accepted alone, it rises by one for each entry and for each serial
--- entry.
+-- The least rise of the counter at this status. With a verdict it is one for each step that applies
+-- or takes back one operation and meets its criteria. For `quick` it is one for each record that is
+-- an operation, before the one that fails, if one does. `certify`, `quick` and `drill` add the
+-- serial run of an accepted run. For `recheck` it is one for each entry and for each serial entry,
+-- and only at accepted.
 abbrev pub RisesAtLeast : Option Command → Option (List ℕ) → Status → (old new : ℕ) → Type 0
 RisesAtLeast None left status old new = Unit {0}
 RisesAtLeast (Some Certify) left status old new = IsDecided status →

@@ -27,27 +27,34 @@ use Rattle.pp_run.specs.Outcomes.{IsTheOutput, OfItsInput, Outcome, PrintsJust}
 use Rattle.pp_run.specs.Outputs.{IsPrinted}
 use Rattle.pp_run.specs.Promises.{SeesKept}
 
--- What holds of an input whose steps all meet their criteria, however many there are.
+-- What is true of an input if its start and each of its steps meet their criteria, however many
+-- steps there are.
 pub record IsSerializable (bytes : List ℕ) : Type 0 where
   -- the start and each step meet their criteria
   pub steps : EachStepMeets (scan bytes)
-  -- The committed transactions, one after another in commit order, give all recorded results, and
-  -- lead to the same state.
+  -- The committed transactions, one after another in commit order, return all recorded results.
+  -- They lead to the state that the committed entries of the shared log lead to.
   pub simulated : IsSimulated (scan bytes)
-  -- The commit order respects real time by the lines of the input, and the order of each thread.
+  -- Strict serializability: the commit order respects real time by the lines of the input, and the
+  -- order of each thread.
   pub timely : IsTimely (scan bytes)
-  -- The committed transactions, each alone, are an accepted run.
+  -- The committed transactions, one after another and without all others, are an accepted run.
   pub alone : IsAloneAccepted (scan bytes)
 
+-- What `certify` promises. `OfItsInput` is about the bytes that the source has left.
 pub record CertifyPromise (o : Outcome) : Type 0 where
+  -- The status and the text are the only output that is defined for the input.
   pub prints : PrintsJust IsCertified o
-  -- accepted is printed exactly if the input has no fault and each step meets its criteria
+  -- Accepted is printed exactly if the input has no fault, and its start and each step meet their
+  -- criteria.
   pub exact : IsPrinted o.status → OfItsInput o λ bytes. IsExact bytes o.status
+  -- An accepted run is serializable.
   pub accepted : o.status ≡ statuses.Accepted → OfItsInput o λ bytes. IsSerializable bytes
-  -- The evidence of a rejection shows that the criterion is false.
+  -- The evidence of a rejection is the one that is defined for its criterion. If it is not empty,
+  -- it proves that the criterion is false.
   pub rejected : o.status ≡ statuses.Rejected → OfItsInput o λ bytes. IsEvident (scan bytes)
-  -- The counter rises at most by what the steps cost at most, and at least by what they cost at
-  -- least.
+  -- The counter of operations rises at most by the greatest cost of the start, the steps and the
+  -- serial run. With a verdict it rises at least by their least cost.
   pub most : OfItsInput o λ bytes. CostsAtMost (scan bytes) o.before o.after
   pub least : IsDecided o.status → OfItsInput o λ bytes.
       CostsAtLeast o.status (scan bytes) o.before o.after
@@ -57,9 +64,9 @@ pub record ExpandPromise (o : Outcome) : Type 0 where
   pub exact : IsPrinted o.status → OfItsInput o λ bytes. IsExact bytes o.status
   pub accepted : o.status ≡ statuses.Accepted → OfItsInput o λ bytes. IsSerializable bytes
   pub rejected : o.status ≡ statuses.Rejected → OfItsInput o λ bytes. IsEvident (scan bytes)
-  -- What is printed of a run is an input again, without a fault and within all limits: its records
-  -- are the steps, its report is the same but for the lines, and of an accepted run `certify` prints
-  -- the same.
+  -- The printed run is an input again, without a fault and within all limits. Its records are the
+  -- steps. Its report is the same but for the line numbers. If the run is accepted, `certify`
+  -- prints the same text for both.
   pub again : IsDecided o.status → OfItsInput o λ bytes. PrintsAgain bytes o.held o.holds
   pub most : OfItsInput o λ bytes. StepsCostAtMost (scan bytes) o.before o.after
   pub least : IsDecided o.status → OfItsInput o λ bytes.
@@ -67,7 +74,7 @@ pub record ExpandPromise (o : Outcome) : Type 0 where
 
 pub record QuickPromise (o : Outcome) : Type 0 where
   pub prints : PrintsJust IsQuick o
-  -- also of a run that has too many steps for `certify`
+  -- An accepted run is serializable, also if it has too many steps for `certify`.
   pub accepted : o.status ≡ statuses.Accepted → OfItsInput o λ bytes. IsSerializable bytes
   pub most : OfItsInput o λ bytes. QuickCostsAtMost (scan bytes) o.before o.after
   pub least : IsDecided o.status → OfItsInput o λ bytes.
@@ -77,7 +84,7 @@ pub record SwapsPromise (o : Outcome) : Type 0 where
   pub prints : PrintsJust IsSwaps o
   pub accepted : o.status ≡ statuses.Accepted → OfItsInput o λ bytes. IsSerializable bytes
   pub rejected : o.status ≡ statuses.Rejected → OfItsInput o λ bytes. IsEvident (scan bytes)
-  -- What is printed of an accepted run is a certificate of it, and one that `recheck` accepts.
+  -- For an accepted run the printed text is its certificate, and `recheck` accepts it.
   pub certified : o.status ≡ statuses.Accepted → OfItsInput o λ bytes.
       PrintsCertificate bytes o.held o.holds
   pub most : OfItsInput o λ bytes. StepsCostAtMost (scan bytes) o.before o.after
@@ -86,7 +93,7 @@ pub record SwapsPromise (o : Outcome) : Type 0 where
 
 pub record RecheckPromise (o : Outcome) : Type 0 where
   pub prints : PrintsJust IsRecheck o
-  -- What an accepted certificate shows is allowed, and leads to the state that is printed.
+  -- The operations that an accepted certificate shows are allowed, and lead to the printed state.
   pub checked : o.status ≡ statuses.Accepted → OfItsInput o λ bytes. IsCheckedSound bytes
   pub most : OfItsInput o λ bytes. CheckCostsAtMost bytes o.before o.after
   pub least : o.status ≡ statuses.Accepted → OfItsInput o λ bytes.
@@ -96,21 +103,21 @@ pub record ViewsPromise (o : Outcome) : Type 0 where
   pub prints : PrintsJust IsViews o
   pub accepted : o.status ≡ statuses.Accepted → OfItsInput o λ bytes. IsSerializable bytes
   pub rejected : o.status ≡ statuses.Rejected → OfItsInput o λ bytes. IsEvident (scan bytes)
-  -- What a committed transaction saw that undid nothing since is what some number of the
-  -- transactions committed before it leave.
+  -- The last attempt of a committed transaction has a number if the transaction took back nothing
+  -- after it. The number is at most that of the transactions that committed before it.
   pub seen : o.status ≡ statuses.Accepted → OfItsInput o λ bytes. SeesKept (scan bytes)
   pub most : OfItsInput o λ bytes. ViewsCostAtMost (scan bytes) o.before o.after
   pub least : IsDecided o.status → OfItsInput o λ bytes.
       StepsCostAtLeast o.status (scan bytes) o.before o.after
 
--- `drill` reads no input, so its output is that of its number.
+-- `drill` reads no input, so its output depends on its number alone.
 pub record DrillPromise (n : ℕ) (o : Outcome) : Type 0 where
   pub prints : IsPrinted o.status → IsTheOutput (λ bytes. IsDrilled n) [] o
-  -- the run that is made is accepted
+  -- The run of n transactions is accepted.
   pub accepted : IsPrinted o.status → o.status ≡ statuses.Accepted
-  -- and what is printed of it has the numbers of that run
+  -- The printed lines have numbers that are functions of n.
   pub lines : PrintsLines n
-  -- which is serializable, as every accepted run
+  -- The text of the run is an input, and it is serializable.
   pub serializable : IsSerializable (drill_text n)
   pub most : CostsAtMost (drill_scan n) o.before o.after
   pub least : o.status ≡ statuses.Accepted →

@@ -7,14 +7,14 @@ use Rattle.pp_run.specs.Outputs.{IsPrinted}
 
 -- What a call of `run` was given, and what it left.
 pub record Outcome : Type 0 where
-  -- the bytes that the source had left, and those that it has left now, if it tells them
+  -- the bytes that the source had left before the call, and those after it, if it says them
   pub input : Option (List ℕ)
   pub rest : Option (List ℕ)
-  -- the bytes that the sink held, and those that it holds now, if it tells them
+  -- the bytes that the sink held before the call, and those after it, if it says them
   pub held : Option (List ℕ)
   pub holds : Option (List ℕ)
   pub status : Status
-  -- what the counter of operations showed, and what it shows now
+  -- the counter of operations before the call, and after it
   pub before : ℕ
   pub after : ℕ
 
@@ -31,18 +31,18 @@ outcome input rest held holds status before after =
       after = after;
     }
 
--- The status, and what was written, are the output of these bytes, and no other output of them is
--- defined.
+-- The status and the written text are an output that is defined for these bytes, and no other is
+-- defined for them.
 pub record IsTheOutput (IsOutputOf : List ℕ → Status → List ℕ → Type 0) (bytes : List ℕ)
     (o : Outcome) : Type 0 where
   pub output : (text : List ℕ) × IsOutputOf bytes o.status text × Appends o.held o.holds text
   pub only : (other : Status) (text : List ℕ) → IsOutputOf bytes other text →
       (other ≡ o.status) × Appends o.held o.holds text
 
--- This holds of the input, if the source tells it.
+-- The statement P is true of the input, if the source says what bytes it has left.
 abbrev pub OfItsInput : Outcome → (List ℕ → Type 0) → Type 0
 OfItsInput o P = WhereTold o.input P
 
--- What is printed is the one output of the input.
+-- A printed output is the only one that is defined for the input.
 abbrev pub PrintsJust : (List ℕ → Status → List ℕ → Type 0) → Outcome → Type 0
 PrintsJust IsOutputOf o = IsPrinted o.status → OfItsInput o λ bytes. IsTheOutput IsOutputOf bytes o

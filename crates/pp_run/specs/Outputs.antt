@@ -19,9 +19,8 @@ use Rattle.pp_run.specs.declared.words.Command.TheVariants.{Recheck, Swaps, View
 use Rattle.pp_run.specs.Words.{command_of}
 use Rattle.pp_run.specs.Writing.{AppendsPrefix}
 
--- Of the input of a command this holds: of the bytes that the source has left, where they are told.
--- A command that reads no input has none, whatever the source has, and what is said there does not
--- look at the bytes.
+-- The statement P is true of the input of a command: of the bytes that the source has left, if it
+-- says them. A command that reads no input has the empty input, whatever the source has.
 abbrev pub OfInput : Option Command → Option (List ℕ) → (List ℕ → Type 0) → Type 0
 OfInput None left P = P []
 OfInput (Some Certify) left P = WhereTold left P
@@ -32,7 +31,7 @@ OfInput (Some Recheck) left P = WhereTold left P
 OfInput (Some Views) left P = WhereTold left P
 OfInput (Some (Drill n)) left P = P []
 
--- the status and the text of a command; words that are no command print nothing
+-- the status and the text of a command; arguments that are no command print nothing
 abbrev pub IsOutput : Option Command → List ℕ → Status → List ℕ → Type 0
 IsOutput None bytes status text = (status ≡ statuses.BadWords) × (text ≡ [])
 IsOutput (Some Certify) bytes status text = IsCertified bytes status text
@@ -43,19 +42,19 @@ IsOutput (Some Recheck) bytes status text = IsRecheck bytes status text
 IsOutput (Some Views) bytes status text = IsViews bytes status text
 IsOutput (Some (Drill n)) bytes status text = IsDrilled n status text
 
--- Whatever the arguments and the input are, a status and a text are defined for them.
+-- A status and a text are defined for all arguments and every input.
 abbrev pub DefinedLaw : Type 0
 DefinedLaw = (words : List (List ℕ)) (bytes : List ℕ) →
     IsDefined (IsOutput (command_of words) bytes)
 
 -- ---- what is read
 
--- a verdict, or that what there is to print is above a limit
+-- the status is a verdict, or it says that the output is above a limit
 abbrev pub IsVerdictOrSize : Status → Type 0
 IsVerdictOrSize status = IsDecided status ⊎ (status ≡ statuses.TooLarge)
 
--- The command finds this on the whole of its input. A certificate may be refused at a line, and
--- then the lines behind it are not read.
+-- A result of the command with this status is about its whole input. `recheck` may refuse a line.
+-- Then it does not read the lines after it.
 abbrev pub IsOfWhole : Option Command → Status → Type 0
 IsOfWhole None status = ⊥
 IsOfWhole (Some Certify) status = IsDecided status
@@ -66,8 +65,8 @@ IsOfWhole (Some Recheck) status = status ≡ statuses.Accepted
 IsOfWhole (Some Views) status = IsVerdictOrSize status
 IsOfWhole (Some (Drill n)) status = ⊥
 
--- what the command read has no fault (and of a certificate no refused line) that no further byte
--- can change
+-- What the command has read has no fault that stays whatever bytes follow. For `recheck` it has no
+-- refused line either.
 abbrev pub ReadsSound : Option Command → Option (List ℕ) → Option (List ℕ) → Type 0
 ReadsSound None old new = ⊥
 ReadsSound (Some Certify) old new = ReadsNoFault old new
@@ -91,8 +90,8 @@ IsPrinted statuses.WriteFault = ⊥
 IsPrinted statuses.OutOfMemory = ⊥
 IsPrinted statuses.TooLarge = Unit {0}
 
--- a write or the flush failed, or memory was refused: of an output a prefix at most was written,
--- which may be all of it
+-- a write or the flush failed, or the call was out of memory: at most a prefix of an output was
+-- written, which may be all of it
 abbrev pub IsUnwritten : Status → Type 0
 IsUnwritten statuses.Accepted = ⊥
 IsUnwritten statuses.Rejected = ⊥
@@ -103,7 +102,7 @@ IsUnwritten statuses.WriteFault = Unit {0}
 IsUnwritten statuses.OutOfMemory = Unit {0}
 IsUnwritten statuses.TooLarge = ⊥
 
--- known bytes grow by an output that is defined, with this status
+-- the known bytes grow by an output that is defined, with this status
 abbrev pub Prints : Option Command → List ℕ → Status → Option (List ℕ) → Option (List ℕ) → Type 0
 Prints command bytes status old new =
     (text : List ℕ) × IsOutput command bytes status text × Appends old new text
@@ -114,12 +113,12 @@ abbrev pub PrintsOnly : Option Command → List ℕ → Status → Option (List 
 PrintsOnly command bytes status old new = (other : Status) (text : List ℕ) →
     IsOutput command bytes other text → (other ≡ status) × Appends old new text
 
--- known bytes grow by a prefix of an output that is defined
+-- the known bytes grow by a prefix of an output that is defined
 abbrev pub PrintsPrefix : Option Command → List ℕ → Option (List ℕ) → Option (List ℕ) → Type 0
 PrintsPrefix command bytes old new = (status : Status) × (text : List ℕ)
     × IsOutput command bytes status text × AppendsPrefix old new text
 
--- and by a prefix of each output that is defined
+-- for each output that is defined, the known bytes grow by a prefix of it
 abbrev pub PrintsPrefixOnly : Option Command → List ℕ → Option (List ℕ) → Option (List ℕ) → Type 0
 PrintsPrefixOnly command bytes old new = (status : Status) (text : List ℕ) →
     IsOutput command bytes status text → AppendsPrefix old new text

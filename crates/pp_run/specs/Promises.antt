@@ -21,9 +21,9 @@ use Rattle.pp_decide.specs.Costs.{AreTriedBehind}
 use Rattle.pp_decide.specs.Decisions.{Decision, IsDecision, IsDecisionOf, IsVerdictBehind}
 use Rattle.pp_decide.specs.Laws.{IsSameDecision, TellsVerdict}
 
--- Whatever records stand behind a header, they have one run, and steps have one verdict. (That there
--- is one is said by what can not be, since which step fails first can not be computed from the
--- criteria alone.)
+-- The records after any header have exactly one run, and any steps have exactly one verdict. That
+-- there is one is a double negation: it is impossible that there is none. The criteria are
+-- statements, not tests, so the first step that fails cannot be computed from them.
 pub record HaveOneRun (header : Header) : Type 0 where
   pub run : OneRunLaw (object_of header) (translation_of header)
   pub some_verdict : (h : Option (Start Op)) (steps : List (Step Op)) →
@@ -31,34 +31,38 @@ pub record HaveOneRun (header : Header) : Type 0 where
   pub one_verdict : (h : Option (Start Op)) (steps : List (Step Op)) (v w : Verdict) →
       IsVerdict (object_of header) h steps v → IsVerdict (object_of header) h steps w → v ≡ w
 
--- What `quick` decides of an input with this header, and what holds of boosted configurations over
--- its objects.
+-- What `quick` decides for an input with this header, and laws of boosted configurations over its
+-- objects.
 pub record IsDecidedAsRun (sc : InputScan) (header : Lined Header) : Type 0 where
-  -- It is the verdict of all steps of its records, however many they are. Neither can be missing.
+  -- It is impossible that there is no decision or no verdict.
   pub some : ((decision : Decision) (v : Verdict) → IsDecisionOf header sc.records decision →
       IsVerdictBehind header.what sc.records v → ⊥) → ⊥
+  -- The decision is the verdict on all steps of the records, however many there are.
   pub verdict : (decision : Decision) (v : Verdict) → IsDecisionOf header sc.records decision →
       IsVerdictBehind header.what sc.records v → TellsVerdict header sc.records v decision
-  -- The records whose costs are summed are one list, and it can not be missing.
+  -- The costs of exactly one list of records are summed. It is impossible that there is none.
   pub some_tried : ((tried : List (RunRecord Op)) →
       AreTriedBehind header.what sc.records tried → ⊥) → ⊥
   pub one_tried : (a b : List (RunRecord Op)) → AreTriedBehind header.what sc.records a →
       AreTriedBehind header.what sc.records b → a ≡ b
-  -- What `certify` reports of it is the same, on the same line, unless that is TooManySteps.
+  -- `certify` reports the same, on the same line, unless it reports TooManySteps.
   pub agrees : (report : RunReport) (decision : Decision) → header.what.style ≡ Boosted →
       IsReport setting_of TooManySteps sc report → IsDecision sc decision →
       IsSameDecision report decision
-  -- Of runs over its objects: where the start holds, the first configuration is boosted; in a
-  -- boosted one a record is good exactly where every step that it stands for holds, and a good one
-  -- leads to a boosted one.
+  -- The first configuration is boosted if the start meets its criteria. In a boosted configuration
+  -- a record is good exactly if each of its steps meets its criteria. A good record leads to a
+  -- boosted configuration.
   pub keeps_boosted : KeepsBoosted (object_of header.what) place_of
-  -- The brief of a boosted one tells which records are good, and the brief behind a good one.
+  -- The brief of a boosted configuration determines which records are good, and the brief after a
+  -- good one.
   pub is_briefed : IsBriefed (object_of header.what) place_of
-  -- So briefs decide a whole run, and of a rejected one the record of the first step that fails.
+  -- So briefs decide a whole run. For a rejected run they find the record of the first step that
+  -- fails.
   pub decides : BriefsDecide (object_of header.what) place_of
 
--- Of an accepted run, the last peak of a committed transaction that undid nothing behind it has a
--- number, which is at most the place of the transaction among the committed ones, from 0.
+-- In an accepted run, the last attempt of a committed transaction has a number if the transaction
+-- took back nothing after it. The number is at most the place of the transaction among the
+-- committed ones, from 0.
 abbrev pub SeesKept : InputScan → Type 0
 SeesKept sc = (r : HasRun sc) →
     SeesKeptPeaks (object_of r.header.what) (start_of r.header.what) (bare r.run)

@@ -13,8 +13,9 @@ use Rattle.pp_run.specs.Promises.{HaveOneRun, IsDecidedAsRun}
 use Rattle.pp_run.specs.Streams.{Counts, StreamsPromise}
 use Rattle.pp_violations.specs.Reported.{ReportedLaw}
 
--- `asked` is the command. `SameSource` and `SameSink` say that the source and the sink are as they were. `sent` is what the
--- sink has sent on, if it tells that.
+-- `asked` is the command, or None if the arguments are no command. `SameSource` and `SameSink` say
+-- that the source and the sink did not change. `sent_before` and `sent` are what the sink had sent
+-- on before the call and after it, if it says that.
 pub record RunPromise (SameSource SameSink : Type 0) (asked : Option Command) (o : Outcome)
     (sent_before sent : Option (List ℕ)) (n : Counts) : Type 0 where
   -- what is read and written, whatever the command is
@@ -22,18 +23,19 @@ pub record RunPromise (SameSource SameSink : Type 0) (asked : Option Command) (o
   -- what the command prints, and what that means
   pub command : CommandPromise asked o
 
+-- Laws of the definitions alone. They do not depend on the call.
 pub record RunLaws : Type 0 where
-  -- Whatever the arguments and the input are, an output is defined. The clauses `prints` say that
-  -- there is no other.
+  -- An output is defined for all arguments and every input. The fields `prints` of the commands say
+  -- that there is no other.
   pub defined : DefinedLaw
-  -- Whatever records follow a header, they have one run, and steps have one verdict.
+  -- The records after any header have one run, and any steps have one verdict.
   pub one_run : (header : Header) → HaveOneRun header
-  -- What `quick` decides is the verdict of all steps of the records.
+  -- What `quick` decides is the verdict on all steps of the records.
   pub decided : (input : InputScan) (header : Lined Header) → input.header ≡ Some header →
       IsDecidedAsRun input header
-  -- Each beginning of an input that `certify` accepts, which holds the header's line whole and ends
-  -- after a byte 10, is accepted too. Its run and its committed transactions are the first of those
-  -- of the whole.
+  -- A prefix of an input that `certify` accepts is accepted too, if it has the whole line of the
+  -- header and ends after a byte 10. Its run and its committed transactions are the first ones of
+  -- the whole input.
   pub prefixes : PrefixLaw × CertifiedPrefixLaw
   -- Two different lists of committed transactions never have the same report, under `certify` and
   -- under `quick`. Two accepted inputs with the same report have the same committed transactions.

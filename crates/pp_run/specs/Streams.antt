@@ -11,7 +11,8 @@ use Rattle.pp_run.specs.Outputs.{PrintsPrefixOnly, ReadsSound}
 use Rattle.pp_run.specs.Words.{Reads, TellsSize}
 use Rattle.pp_run.specs.Writing.{FlushesOnceAtMost}
 
--- what the source and the sink count, before a call of `run` and after it
+-- What the source and the sink have counted, before a call of `run` and after it. A refusal is a
+-- write or a flush for which the sink was out of memory.
 pub record Counts : Type 0 where
   pub failed_reads_before : ℕ
   pub failed_reads : ℕ
@@ -36,54 +37,59 @@ counts reads_before reads writes_before writes refusals_before refusals flushes_
       flushes = flushes;
     }
 
--- `SameSource` and `SameSink` say that the source and the sink are as they were.
+-- `SameSource` and `SameSink` say that the source and the sink did not change.
 pub record StreamsPromise (SameSource SameSink : Type 0) (command : Option Command) (o : Outcome)
     (sent_before sent : Option (List ℕ)) (n : Counts) : Type 0 where
-  -- What is printed was read and written without one failure.
+  -- If an output is printed, no read and no write was counted as failed in this call.
   pub faultless : IsPrinted o.status → (n.failed_reads ≡ n.failed_reads_before)
       × (n.failed_writes ≡ n.failed_writes_before)
-  -- All of it was sent on, if the sink tells what it sent. It is flushed once, and in any case once
-  -- at most.
+  -- A printed output was sent on to its end, if the sink says what it sent.
   pub sent_on : IsPrinted o.status → o.status ≢ statuses.BadWords →
       SendsAll sent_before sent o.holds
+  -- A printed output was flushed once.
   pub flushed : IsPrinted o.status → o.status ≢ statuses.BadWords →
       n.flushes ≡ counted n.flushes_before
+  -- No call flushes more than once.
   pub once : FlushesOnceAtMost n.flushes_before n.flushes
-  -- Arguments that are no command touch nothing, and a command that reads no input leaves the
-  -- source as it was.
+  -- The status is that of bad arguments exactly if the arguments are no command.
   pub bad_words : (o.status ≡ statuses.BadWords) ↔ (command ≡ None)
+  -- The source did not change if the command reads no input, or if the arguments are no command.
   pub source_untouched : ¬ Reads command → SameSource
+  -- Bad arguments leave the sink as it was.
   pub sink_untouched : o.status ≡ statuses.BadWords → SameSink
-  -- A result about the whole input leaves a source that tells its bytes with none.
+  -- After a result about the whole input the source has no byte left, if it says what it has.
   pub whole : IsOfWhole command o.status → IsAtEnd o.rest
-  -- Only a command that prints a certificate or views may have more to print than a limit allows.
+  -- Only `swaps` and `views` report that their output is above a limit.
   pub size : o.status ≡ statuses.TooLarge → TellsSize command
   -- A failed read is reported only if one failed. Then the sink is as it was, and no fault in what
   -- was read is hidden.
   pub read_fault : o.status ≡ statuses.ReadFault →
       HasRisen n.failed_reads_before n.failed_reads × SameSink × ReadsSound command o.input o.rest
+  -- Only a command that reads an input reports a failed read.
   pub reading : o.status ≡ statuses.ReadFault → Reads command
-  -- A failed write is reported only if one failed, and a prefix of the output was written.
+  -- A failed write is reported only if one failed.
   pub write_fault : o.status ≡ statuses.WriteFault →
       HasRisen n.failed_writes_before n.failed_writes
+  -- Then a prefix of a defined output was written.
   pub written : o.status ≡ statuses.WriteFault → OfInput command o.input λ bytes.
       PrintsPrefix command bytes o.held o.holds
-  -- Out of memory: the sink is as it was, or the sink itself was refused memory, and a prefix of the
-  -- output was written.
+  -- At out of memory the sink is as it was, or the sink itself was out of memory. In the second
+  -- case a prefix of a defined output was written.
   pub refused : o.status ≡ statuses.OutOfMemory → SameSink
       ⊎ (HasRisen n.refusals_before n.refusals
       × OfInput command o.input λ bytes. PrintsPrefix command bytes o.held o.holds)
+  -- What was written before a failed write or at out of memory is a prefix of each defined output.
   pub prefix : IsUnwritten o.status → OfInput command o.input λ bytes.
       PrintsPrefixOnly command bytes o.held o.holds
-  -- The counts of failures never fall.
+  -- The counts of failed reads and of failed writes never fall.
   pub reads : n.failed_reads_before ≤ n.failed_reads
   pub writes : n.failed_writes_before ≤ n.failed_writes
-  -- If nothing failed, the output is printed, unless the program was out of memory. A command that
-  -- reads no input does not ask whether a read failed.
+  -- If no read and no write failed, the output is printed, or the status is that of out of memory.
   pub complete : ¬ HasRisen n.failed_reads_before n.failed_reads →
       ¬ HasRisen n.failed_writes_before n.failed_writes →
       (o.status ≡ statuses.OutOfMemory) ⊎ IsPrinted o.status
+  -- For a command that reads no input, it is enough that no write failed.
   pub no_input : ¬ Reads command → ¬ HasRisen n.failed_writes_before n.failed_writes →
       (o.status ≡ statuses.OutOfMemory) ⊎ IsPrinted o.status
-  -- Arguments that are no command cost nothing.
+  -- Arguments that are no command leave the counter of operations as it was.
   pub free : command ≡ None → o.after ≡ o.before

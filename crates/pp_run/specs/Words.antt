@@ -8,7 +8,7 @@ use Rattle.pp_run.specs.declared.words.Command.{Command}
 use Rattle.pp_run.specs.declared.words.Command.TheVariants.{Certify, Drill, Expand, Quick}
 use Rattle.pp_run.specs.declared.words.Command.TheVariants.{Recheck, Swaps, Views}
 
--- the command of this one word
+-- the command of one argument
 abbrev pub command_named : List ℕ → Option Command
 command_named word =
     if bytes_eq word (codes "certify") then Some Certify
@@ -18,23 +18,23 @@ command_named word =
     else if bytes_eq word (codes "recheck") then Some Recheck
     else if bytes_eq word (codes "views") then Some Views else None
 
--- a number of transactions: 1 to 20,000, as it is written in decimal digits
+-- the number of transactions that an argument states: 1 to 20,000, written in decimal digits
 abbrev pub drill_number : List ℕ → Option ℕ
 drill_number word =
     let n = digits_value 10 word in
     if bytes_eq word (decimal n) && (nat_le 1 n && nat_le n 20_000) then Some n else None
 
--- A word asks for a number exactly where it is written so, and the number is 1 to 20,000.
+-- An argument states a number exactly if it is written so, and the number is from 1 to 20,000.
 abbrev pub DrillNumberLaw : Type 0
 DrillNumberLaw = (word : List ℕ) (n : ℕ) →
     (drill_number word ≡ Some n) ↔ ((word ≡ decimal n) × (1 ≤ n) × (n ≤ 20_000))
 
--- the command of these two words: `drill` and a number
+-- the command of two arguments: `drill` and a number
 abbrev pub command_with : List ℕ → List ℕ → Option Command
 command_with word number =
     if bytes_eq word (codes "drill") then option_map (λ n. Drill n) (drill_number number) else None
 
--- the command that these words are, of which there are one or two
+-- the command that the arguments are; a command has one or two
 abbrev pub command_of : List (List ℕ) → Option Command
 command_of [] = None
 command_of (word ∷ []) = command_named word
@@ -52,8 +52,8 @@ Reads (Some Recheck) = Unit {0}
 Reads (Some Views) = Unit {0}
 Reads (Some (Drill n)) = ⊥
 
--- the command drives the machine through the run of its input, so that where it says that the run
--- is rejected there is evidence of a step
+-- The command drives the machine through the run of its input. So a rejection has evidence, of the
+-- start or of a step.
 abbrev pub DrivesMachine : Option Command → Type 0
 DrivesMachine None = ⊥
 DrivesMachine (Some Certify) = Unit {0}
@@ -64,7 +64,7 @@ DrivesMachine (Some Recheck) = ⊥
 DrivesMachine (Some Views) = Unit {0}
 DrivesMachine (Some (Drill n)) = ⊥
 
--- the command prints what may be above a limit: a certificate, or views
+-- the output of the command may be above a limit: it is a certificate, or views
 abbrev pub TellsSize : Option Command → Type 0
 TellsSize None = ⊥
 TellsSize (Some Certify) = ⊥

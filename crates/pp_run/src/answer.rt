@@ -1,4 +1,4 @@
-//! How a command is done: from its words and its input to its status and what it writes.
+//! Running a command: from its arguments and its input to its status and its output.
 ghost use Rattle.std.specs.Prelude.{◌≡◌, ◌≢◌, ◌≤◌, ◌↔◌, ◌⊎◌, ℕ, List, None, Some, IfOk, IsErrOf};
 ghost use Rattle.std.specs.Io.KnownBytes.{IsAtEnd};
 ghost use Rattle.pp_core.specs.declared.status.Status.TheVariants as statuses;
@@ -31,8 +31,8 @@ use pp_verify::recheck;
 use std::alloc::Global;
 use std::sync::ledger::Ledger;
 
-/// The status and the output of a command. It reads the source where the command reads an input,
-/// and writes nothing.
+/// Computes the status and the output of a command. It reads the source if the command reads an
+/// input, and writes nothing.
 fn perform<S: Source, L: Ledger>(
     alloc: Global,
     command: Command,
@@ -74,8 +74,8 @@ fn perform<S: Source, L: Ledger>(
     }
 }
 
-/// Does a command, as `run` says. What is said here of each command alone is what the promises of
-/// `run` are proved from.
+/// Runs a command. The promises of `run` are proved from these clauses. Those about the streams are
+/// the fields of `StreamsPromise`, which are explained in `specs/Streams.antt`.
 pub(crate) fn answer<S: Source, K: Sink, L: Ledger>(
     alloc: Global,
     words: &Words,
@@ -83,50 +83,50 @@ pub(crate) fn answer<S: Source, K: Sink, L: Ledger>(
     sink: &mut K,
     ticks: &mut Ticks<L>,
 ) -> Status
-    // What is printed is the output that the words and the input define, and they define no other.
+    // A printed output is the one that is defined for the arguments and the input.
     ensures output { IsPrinted result → OfInput (command_of words.now) (S.left source.old) λ bytes.
         Prints (command_of words.now) bytes result (K.held sink.old) (K.held sink.new) }
+    // No other output is defined for them.
     ensures only { IsPrinted result → OfInput (command_of words.now) (S.left source.old) λ bytes.
         PrintsOnly (command_of words.now) bytes result (K.held sink.old) (K.held sink.new) }
 
-    // All of it was sent on, where the sink tells what it sent. It is flushed once, and whatever is
-    // answered, once at most.
+    // A printed output was sent on to its end, if the sink says what it sent, and flushed once. No
+    // call flushes more than once.
     ensures sent { IsPrinted result → result ≢ statuses.BadWords →
         SendsAll (K.sent sink.old) (K.sent sink.new) (K.held sink.new) }
     ensures flushed { IsPrinted result → result ≢ statuses.BadWords →
         K.flushes sink.new ≡ counted (K.flushes sink.old) }
     ensures once { FlushesOnceAtMost (K.flushes sink.old) (K.flushes sink.new) }
 
-    // Words that are no command touch nothing, and a command that reads no input leaves the source
-    // as it was.
+    // Arguments that are no command change neither the source nor the sink. A command that reads no
+    // input leaves the source as it was.
     ensures bad_words { (result ≡ statuses.BadWords) ↔ (command_of words.now ≡ None) }
     ensures source_untouched { ¬ Reads (command_of words.now) → source.new ≡ source.old }
     ensures sink_untouched { result ≡ statuses.BadWords → sink.new ≡ sink.old }
 
-    // What a command finds on the whole of its input leaves a source that tells its bytes with
-    // none.
+    // After a result about the whole input the source has no byte left, if it says what it has.
     ensures end { IsOfWhole (command_of words.now) result → IsAtEnd (S.left source.new) }
 
-    // Only a command that prints a certificate or views may have more to print than a limit lets.
+    // Only `swaps` and `views` report that their output is above a limit.
     ensures size { result ≡ statuses.TooLarge → TellsSize (command_of words.now) }
 
-    // A failed read is told only where one failed, the sink was not touched, and no fault in what
-    // was read is hidden.
+    // A failed read is reported only if one failed. Then the sink is as it was, and no fault in
+    // what was read is hidden.
     ensures read_fault { result ≡ statuses.ReadFault →
         HasRisen (S.faults source.old) (S.faults source.new)
         × (sink.new ≡ sink.old)
         × ReadsSound (command_of words.now) (S.left source.old) (S.left source.new) }
     ensures reading { result ≡ statuses.ReadFault → Reads (command_of words.now) }
 
-    // A failed write is told only where one failed, and a prefix of the output was written.
+    // A failed write is reported only if one failed. Then a prefix of the output was written.
     ensures write_fault { result ≡ statuses.WriteFault →
         HasRisen (K.faults sink.old) (K.faults sink.new) }
     ensures written { result ≡ statuses.WriteFault →
         OfInput (command_of words.now) (S.left source.old) λ bytes.
         PrintsPrefix (command_of words.now) bytes (K.held sink.old) (K.held sink.new) }
 
-    // Where memory was refused, the sink was not touched, or the sink itself answered that it was,
-    // and a prefix of the output was written.
+    // At out of memory the sink is as it was, or the sink itself was out of memory. In the second
+    // case a prefix of the output was written.
     ensures refused { result ≡ statuses.OutOfMemory → (sink.new ≡ sink.old)
         ⊎ (HasRisen (K.refusals sink.old) (K.refusals sink.new)
         × OfInput (command_of words.now) (S.left source.old) λ bytes.
@@ -135,35 +135,35 @@ pub(crate) fn answer<S: Source, K: Sink, L: Ledger>(
         OfInput (command_of words.now) (S.left source.old) λ bytes.
         PrintsPrefixOnly (command_of words.now) bytes (K.held sink.old) (K.held sink.new) }
 
-    // The counts of faults never fall.
+    // The counts of failed reads and of failed writes never fall.
     ensures reads { S.faults source.old ≤ S.faults source.new }
     ensures writes { K.faults sink.old ≤ K.faults sink.new }
-    // What is printed was read and written without one failure.
+    // If an output is printed, no read and no write was counted as failed in this call.
     ensures faultless { IsPrinted result → (S.faults source.new ≡ S.faults source.old)
         × (K.faults sink.new ≡ K.faults sink.old) }
 
-    // Where nothing failed, the status is the defined one, unless memory was refused.
+    // If no read and no write failed, the output is printed, or the status is that of out of
+    // memory.
     ensures complete { ¬ HasRisen (S.faults source.old) (S.faults source.new) →
         ¬ HasRisen (K.faults sink.old) (K.faults sink.new) →
         (result ≡ statuses.OutOfMemory) ⊎ IsPrinted result }
 
-    // A command that reads no input does not ask whether a read failed.
+    // For a command that reads no input, it is enough that no write failed.
     ensures no_input { ¬ Reads (command_of words.now) →
         ¬ HasRisen (K.faults sink.old) (K.faults sink.new) →
         (result ≡ statuses.OutOfMemory) ⊎ IsPrinted result }
 
-    // Of a run that is rejected, at its start or at a step, the fact of the criterion of its report
-    // holds of its evidence; and where it holds of any detail that tells something, the criterion
-    // is false.
+    // The evidence of a rejected run, of its start or of a step, is the one that is defined for the
+    // criterion. Evidence that is so, and is not empty, proves that the criterion is false.
     ensures shown { DrivesMachine (command_of words.now) → result ≡ statuses.Rejected →
         WhereTold (S.left source.old) λ bytes. IsEvident (scan bytes) }
 
-    // What a certificate shows that is accepted is allowed, and leads to the state that is printed.
+    // The operations that an accepted certificate shows are allowed, and lead to the printed state.
     ensures checked { command_of words.now ≡ Some Recheck → result ≡ statuses.Accepted →
         WhereTold (S.left source.old) λ bytes. IsCheckedSound bytes }
 
-    // The counter rises at most by what the command costs at most, whatever is answered, and at
-    // least by what its verdict costs at least.
+    // The counter rises at most by the greatest cost of the command, at every status. It rises at
+    // least by the least cost of the verdict.
     ensures most { RisesAtMost (command_of words.now) (S.left source.old) ticks.old ticks.new }
     ensures least { RisesAtLeast (command_of words.now) (S.left source.old) result
         ticks.old ticks.new }

@@ -1,7 +1,7 @@
-//! A law of the words. It is a fact of the definitions, and does nothing.
+//! A law of the arguments. It is a fact about the definitions: the body is empty.
 ghost use Rattle.pp_run.specs.Words.{DrillNumberLaw};
 
-/// The numbers that words ask for are those from 1 to 20,000, as they are written in digits.
+/// An argument states a number exactly if it is one from 1 to 20,000, written in digits.
 pub fn words_law()
     ensures { DrillNumberLaw }
 {}

@@ -1,4 +1,4 @@
-//! A whole run of the program: from its words and its input to its status and what it writes.
+//! A whole run of the program: from its arguments and its input to its status and its output.
 #![tactic(auto)]
 
 mod answer;

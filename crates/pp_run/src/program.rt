@@ -1,4 +1,4 @@
-//! The program but for its edge: from its words and its input to its status and what it writes.
+//! The program without its edge: from its arguments and its input to its status and its output.
 ghost use Rattle.std.specs.Prelude.{◌≡◌};
 ghost use Rattle.pp_run.specs.Outcomes.{outcome};
 ghost use Rattle.pp_run.specs.Runs.{RunLaws, RunPromise};
@@ -11,11 +11,11 @@ use pp_io::{Sink, Source};
 use std::alloc::Global;
 use std::sync::ledger::Ledger;
 
-/// Does a command: reads the source if the command reads an input, and writes its output to the
-/// sink.
+/// Runs the command that the arguments are. It reads the source if the command reads an input, and
+/// writes the output to the sink.
 ///
-/// The source is read in pieces of at most 65,536 bytes, and nothing is written before the output
-/// is whole.
+/// The source is read in pieces of at most 65,536 bytes. Nothing is written before the output is
+/// whole.
 pub fn run<S: Source, K: Sink, L: Ledger>(
     alloc: Global,
     words: &Words,
@@ -23,7 +23,8 @@ pub fn run<S: Source, K: Sink, L: Ledger>(
     sink: &mut K,
     ticks: &mut Ticks<L>,
 ) -> Status
-    // What is read and written, what the command prints, and what that means.
+    // `RunPromise` is in `specs/Runs.antt`. Its field `command` is the promise of the command: for
+    // `certify` the record `CertifyPromise`, in `specs/Commands.antt`.
     ensures promise { RunPromise (source.new ≡ source.old) (sink.new ≡ sink.old)
         (command_of words.now)
         (outcome (S.left source.old) (S.left source.new) (K.held sink.old) (K.held sink.new)
@@ -32,7 +33,7 @@ pub fn run<S: Source, K: Sink, L: Ledger>(
         (counts (S.faults source.old) (S.faults source.new) (K.faults sink.old) (K.faults sink.new)
         (K.refusals sink.old) (K.refusals sink.new) (K.flushes sink.old) (K.flushes sink.new)) }
 
-    // Laws of the definitions that the promise names.
+    // Laws of the definitions that the promise names. They do not depend on the call.
     ensures laws { RunLaws }
 {
     answer(alloc, words, source, sink, ticks)

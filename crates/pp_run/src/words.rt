@@ -1,4 +1,4 @@
-//! The words of a command.
+//! The arguments of a command.
 ghost use Rattle.std.specs.Prelude.{◌≡◌};
 ghost use Rattle.pp_run.specs.Words.{command_named, command_of, command_with, drill_number};
 
@@ -9,11 +9,11 @@ use std::str;
 /// What the program is asked to do.
 #[derive(Clone, Copy, Debug, PartialEq, Eq)]
 pub(crate) enum Command {
-    /// Say whether the input is a run of the machine.
+    /// Report whether the input is a run of the machine.
     Certify,
-    /// Print the run of rule steps that the input stands for.
+    /// Print the steps that the records of the input mean.
     Expand,
-    /// Say whether the input is a boosted run of the machine, without local logs.
+    /// Report whether the input is a boosted run of the machine, without local logs.
     Quick,
     /// Print the exchanges that turn the shared log of the run into its serial run.
     Swaps,
@@ -21,11 +21,11 @@ pub(crate) enum Command {
     Recheck,
     /// Print what each attempt of the run saw.
     Views,
-    /// Make the run of n transactions, and sum up what it comes to.
+    /// Make the run of n transactions, and print a summary of it.
     Drill { n: u32 },
 }
 
-/// The number of transactions that a word asks for.
+/// The number of transactions that an argument states, if it states one.
 fn drill_number(word: &[u8]) -> Option<u32>
     ensures { result ≡ drill_number word.now }
 {
@@ -46,7 +46,7 @@ fn drill_number(word: &[u8]) -> Option<u32>
     }
 }
 
-/// The command of one word.
+/// The command of one argument.
 fn command_named(word: &[u8]) -> Option<Command>
     ensures { result ≡ command_named word.now }
 {
@@ -67,7 +67,7 @@ fn command_named(word: &[u8]) -> Option<Command>
     }
 }
 
-/// The command of two words.
+/// The command of two arguments.
 fn command_with(word: &[u8], number: &[u8]) -> Option<Command>
     ensures { result ≡ command_with word.now number.now }
 {
@@ -78,8 +78,8 @@ fn command_with(word: &[u8], number: &[u8]) -> Option<Command>
     Some(Command::Drill { n })
 }
 
-/// The command that the words are, None exactly where they are no command. The program's own name
-/// is not among them.
+/// The command that the arguments are, and None exactly if they are no command. The program's own
+/// name is not among them.
 pub(crate) fn read_words(words: &Words) -> Option<Command>
     ensures { result ≡ command_of words.now }
 {

@@ -11,14 +11,14 @@ use pp_io::{Sink, SinkFault};
 /// Why an output was not written whole.
 #[derive(Clone, Copy, Debug, PartialEq, Eq)]
 pub(crate) enum WriteError {
-    /// The sink answered that memory was refused.
+    /// The sink was out of memory.
     Memory,
     /// A write or the flush failed, or a write took nothing.
     WriteFault,
 }
 
-/// Writes all of these bytes, and sends them on. What was written when a write fails is a prefix of
-/// them.
+/// Writes all of these bytes, and flushes the sink once. If a write fails, a prefix of the bytes
+/// was written.
 pub(crate) fn send<K: Sink>(sink: &mut K, bytes: &[u8]) -> Result<(), WriteError>
     ensures ok { OnOk result (Appends (K.held sink.old) (K.held sink.new) bytes.now) }
     ensures sent { OnOk result (SendsAll (K.sent sink.old) (K.sent sink.new) (K.held sink.new)) }

@@ -28,7 +28,7 @@ use Rattle.pp_violations.proofs.Only.{OnlyBreaks, only_append}
 use Rattle.pp_violations.proofs.Pushing.{NoneUnpushed}
 use Rattle.pp_violations.proofs.Undoing.{back_only}
 
--- a pulled entry of this log stands committed in the shared log
+-- each pulled entry of the log is committed in the shared log
 abbrev pub PulledStand : {Op : Type 0} → Config Op → List (LocalEntry Op) → Type 0
 PulledStand {Op} c l = (e : LocalEntry Op) → In e l → e.mark ≡ Pulled → (g : SharedEntry Op) × In g c.shared × (g.id ≡ e.id) × (g.committed ≡ true)
 

@@ -1,4 +1,4 @@
--- What records keep of the unpushed and of the uncommitted entries.
+-- What is true of unpushed and uncommitted entries between records.
 use Rattle.std.specs.Prelude.{◌≡◌, ◌≢◌, ◌≤◌, ◌+◌, ℕ, Bool, true, false, cond, List, []}
 use Rattle.std.specs.Prelude.{◌∷◌, ◌++◌, drop, length, slice_get, take, Option, None, Some}
 use Rattle.std.proofs.Common.{refl, sym, ap, subst, ◌∙◌, arith, length-append}
@@ -38,7 +38,7 @@ use Rattle.pp_violations.proofs.Pushing.{NoneUnpushed}
 use Rattle.pp_violations.proofs.Sharing.{optimistic_keeps}
 use Rattle.pp_violations.proofs.Records.{only_begin}
 
--- the section of a name
+-- the sections of other names stay as they were
 section_other : (f : Front) (t u : Name) (v : Option ℕ) → u ≢ t → (with_section f t v).section u ≡ f.section u
 section_other f t u v n = elim (names_tell u t) [
   | inl r ↦ absurd (n r.1)
@@ -66,14 +66,14 @@ module _ {Op State : Type 0} (O : Object Op State) (place : Op → ℕ) where
   -- ---- from the logs after a record
 
   module _ (P : Tx Op → Type 0) (c : Config Op) (ss : List (Step Op)) (t : Name) (s : Sound O c) (run : RunsFrom O c ss) where
-    -- a fact of the transaction, whose log is known, and of all others
+    -- a fact about t and about all other open transactions is one about all of them
     one_and_others : (x : Tx Op) → tx t (after_from c ss).opened ≡ Some x → P x → ((y : Tx Op) → In y (after_from c ss).opened → y.name ≢ t → P y) → (y : Tx Op) → In y (after_from c ss).opened → P y
     one_and_others x h p others y i = elim (name_or_not y.name t) [
       | inl e ↦ only_one O (after_from c ss) (run_keeps O ss c s run) t x h P p y i e
       | inr n ↦ others y i n
     ]
 
-  -- where the first step holds, the transaction is open
+  -- if the first step meets its criteria, the transaction is open
   opened_run : (c : Config Op) (t : Name) (alone : Step Op) (steps : List (LocalEntry Op) → List (Step Op)) (Q : Option (Tx Op) → List (Step Op) → Type 0) →
       (Meets O c alone → (x : Tx Op) × (tx t c.opened ≡ Some x)) → ((x : Tx Op) → tx t c.opened ≡ Some x → RunsFrom O c (steps x.local) → Q (Some x) (steps x.local)) →
       RunsFrom O c (where_open c t alone steps) → Q (tx t c.opened) (where_open c t alone steps)
@@ -95,7 +95,7 @@ module _ {Op State : Type 0} (O : Object Op State) (place : Op → ℕ) where
   open_note : (c : Config Op) (t : Name) → Meets O c (Note t) → (x : Tx Op) × (tx t c.opened ≡ Some x)
   open_note c t m = let x = there_holds (tx t c.opened) _ m in (x.0, x.1)
 
-  -- after an abort and after a commit the others are left
+  -- a transaction that is open after an abort or a commit of t was open before, and is not t
   after_abort : (c : Config Op) (t : Name) (l : List (LocalEntry Op)) (y : Tx Op) → In y (after_from c (back t 0 l ++ Quit t ∷ [])).opened → In y c.opened × (y.name ≢ t)
   after_abort c t l y i =
       let j = subst (λ (d : Config Op). In y d.opened) (after_append c (back t 0 l) (Quit t ∷ [])) i in
@@ -109,7 +109,7 @@ module _ {Op State : Type 0} (O : Object Op State) (place : Op → ℕ) where
       let k = after_cmt O (after_from c (pushall t l)) t y m.0 j in
       (still_after t (pushall t l) c y (of_pushall t l) k.0 k.1, k.1)
 
-  -- a log of which nothing is left
+  -- an empty log has no unpushed entry
   none_left : (l : List (LocalEntry Op)) → NoneUnpushed (take 0 l)
   none_left l a i = absurd i
 

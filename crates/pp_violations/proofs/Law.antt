@@ -1,4 +1,4 @@
--- The law: steps of records of a recorded style break breakable criteria alone.
+-- The law: the steps of records of a recorded style break only breakable criteria.
 use Rattle.std.specs.Prelude.{◌≡◌, ◌≢◌, ℕ, true, List, [], ◌∷◌, ◌++◌, Option, None, Some}
 use Rattle.std.proofs.Common.{refl, sym, ap, subst, ◌∙◌}
 use mathlib.Core.Logic.{inl, inr}

@@ -5,7 +5,7 @@ use mathlib.Core.Logic.{inl, inr}
 use Rattle.pp_model.specs.Lists.{In}
 use Rattle.pp_model.specs.Rules.{FirstFalse, there}
 
--- a fact that holds is not the first false one
+-- a true fact is not the first false one
 pub after_true : (p : Type 0) (ps : List (Type 0)) (n : ℕ) → p → FirstFalse (p ∷ ps) (suc n) → (k : ℕ) × (n ≡ suc k) × FirstFalse ps (suc k)
 after_true p ps zero h b = absurd (b h)
 after_true p ps (suc n) h b = (n, refl, b.1)
@@ -34,7 +34,7 @@ of_three p q r (suc n) b = elim (of_two q r n b.1) [
   | inr e ↦ inr (inr (omega (arith, e)))
 ]
 
--- where nothing is there, the first fact is false
+-- if the option is None, the first false fact is the first one
 pub of_nothing : {A : Type 0} (o : Option A) (F : A → List (Type 0)) (n : ℕ) → o ≡ None → FirstFalse (there o F) (suc n) → n ≡ 0
 of_nothing {A} o F n e b = of_one ⊥ n (subst (λ (w : Option A). FirstFalse (there w F) (suc n)) e b)
 
@@ -50,7 +50,7 @@ pub four_or_five : (n a b k : ℕ) → n ≡ suc a → a ≡ suc b → b ≡ suc
 four_or_five n a b k e f g (inl h) = inl (omega (arith, e, f, g, h))
 four_or_five n a b k e f g (inr h) = inr (inl (omega (arith, e, f, g, h)))
 
--- ---- lists of facts of which some hold
+-- ---- lists of facts, some of which are true
 
 pub first_holds : (p q r : Type 0) (n : ℕ) → p → FirstFalse (p ∷ q ∷ r ∷ []) (suc n) → (k : ℕ) × (n ≡ suc k) × ((k ≡ 0) ⊎ (k ≡ 1))
 first_holds p q r n h b = let a = after_true p (q ∷ r ∷ []) n h b in (a.0, a.1, of_two q r a.0 a.2)

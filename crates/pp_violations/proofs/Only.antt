@@ -1,4 +1,4 @@
--- Steps that break breakable criteria alone.
+-- Steps that break only breakable criteria.
 use Rattle.std.specs.Prelude.{◌≡◌, ◌≢◌, ◌⊎◌, ℕ, suc, List, [], ◌∷◌, ◌++◌, Option, None, Some}
 use Rattle.std.proofs.Common.{refl, arith}
 use mathlib.Core.Logic.{inl, inr}
@@ -21,7 +21,7 @@ known None = inl refl
 known (Some x) = inr (x, refl)
 
 module _ {Op State : Type 0} (O : Object Op State) (style : Style) where
-  -- each step breaks a breakable criterion or none, if those before it hold
+  -- each step breaks a breakable criterion or none, if all steps before it meet their criteria
   abbrev pub OnlyBreaks : Config Op → List (Step Op) → Type 0
   OnlyBreaks c [] = Unit {0}
   OnlyBreaks c (s ∷ ss) =
@@ -36,7 +36,7 @@ module _ {Op State : Type 0} (O : Object Op State) (style : Style) where
   only_at c [] rest s n a r b = a.0 n b
   only_at c (p ∷ past) rest s n a r b = only_at (then c p) past rest s n (a.1 r.0) r.1 b
 
-  -- ---- steps of which each criterion is breakable
+  -- ---- steps whose criteria are all breakable
 
   pub begin_only : (c : Config Op) (t p : Name) (b : Option Tree) → OnlyBreaks c (Begin t p b ∷ [])
   begin_only c t p b = ((λ n k. in_two n (of_two _ _ n k)), λ m. tt)

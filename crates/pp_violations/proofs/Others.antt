@@ -1,4 +1,4 @@
--- What the steps of one transaction leave of the others, and of its own log.
+-- How the steps of one transaction change the others, and its own log.
 use Rattle.std.specs.Prelude.{◌≡◌, ◌≢◌, ◌==◌, ◌&&◌, ℕ, Bool, true, false, cond, not, List, [], ◌∷◌, ◌++◌}
 use Rattle.std.specs.Prelude.{filter, map, Option, None, Some}
 use Rattle.std.proofs.Common.{refl, sym, ap, subst, ◌∙◌, append_assoc}
@@ -32,7 +32,7 @@ use Rattle.pp_violations.proofs.Pushing.{NoneUnpushed}
 on_other : {Op : Type 0} (t : Name) (f : List (LocalEntry Op) → List (LocalEntry Op)) (xs : List (Tx Op)) (y : Tx Op) → In y (on_log t f xs) → y.name ≢ t → In y xs
 on_other {Op} t f xs y i = on_each t f xs (λ (w : Tx Op). w.name ≢ t → In w xs) (λ x j e n. absurd (n e)) (λ x j m n. j) y i
 
--- what is open after a step of another transaction was open before it
+-- a transaction that is open after a step of another one was open before it
 pub still_open : {Op : Type 0} (c : Config Op) (s : Step Op) (y : Tx Op) → In y (then c s).opened → y.name ≢ subject s → In y c.opened
 still_open {Op} c (Begin t p b) y i n = elim (in_cases y c.opened (record { name = t; thread = p; body = b; local = [] } ∷ []) i) [
   | inl j ↦ j
@@ -121,7 +121,7 @@ of_taken {Op} t (e ∷ l) = of_append t (taken_out t l) (taken_at t e.id e.mark)
     by Pushed = (refl, (refl, tt))
     by Unpushed = (refl, tt)
 
--- what is open after the end of a transaction was open before it, and is another
+-- a transaction that is open after the end of t was open before it, and is not t
 pub after_quit : {Op : Type 0} (c : Config Op) (t : Name) (y : Tx Op) → In y (then c (Quit t)).opened → In y c.opened × (y.name ≢ t)
 after_quit {Op} c t y i = let f = from_filter (λ (w : Tx Op). not (w.name =ⁿ t)) y c.opened i in (f.0, not_names y.name t f.1)
 
@@ -162,7 +162,7 @@ module _ {Op State : Type 0} (O : Object Op State) (place : Op → ℕ) (c : Con
   pulled_led : RunsFrom O c first → tx t (after_from c first).opened ≡ Some (relog (λ l. l ++ entries) x)
   pulled_led r = (pulls_law O).log c t wanted x s h r
 
-  -- an APP behind these steps
+  -- an APP after these steps
   app_led : (steps : List (Step Op)) (more : List (LocalEntry Op)) → tx t (after_from c steps).opened ≡ Some (relog (λ l. l ++ more) x) →
       tx t (after_from c (steps ++ App t id op ∷ [])).opened ≡ Some (relog (λ l. l ++ (more ++ applied ∷ [])) x)
   app_led steps more led =

@@ -1,4 +1,4 @@
--- The steps that pull entries, and those that add one of the own.
+-- The steps that pull entries, and those that apply and publish an operation.
 use Rattle.std.specs.Prelude.{◌≡◌, ◌≢◌, ◌==◌, ◌&&◌, ◌||◌, ℕ, suc, Bool, true, false, cond, not, List}
 use Rattle.std.specs.Prelude.{[], ◌∷◌, ◌++◌, map, Some}
 use Rattle.std.proofs.Common.{refl, sym, ap, subst, ◌∙◌}
@@ -27,7 +27,7 @@ use Rattle.pp_violations.proofs.Logs.{LocalIds, SharedIds, before_it, mark_found
 use Rattle.pp_violations.proofs.Numbers.{after_there, fifth, first_holds, four_or_five, two_first_hold}
 use Rattle.pp_violations.proofs.Only.{OnlyBreaks, app_breaks, app_only, only_append}
 
--- ---- which entries stand in a log
+-- ---- which entries are in a log
 
 or_true : (a : Bool) → (a || true) ≡ true
 or_true true = refl
@@ -47,7 +47,7 @@ abbrev pub OnlyOwnOpen : {Op : Type 0} → Name → Config Op → Type 0
 OnlyOwnOpen {Op} t c = (u : SharedEntry Op) → In u c.shared → u.committed ≡ false → u.owner ≡ t
 
 module _ {Op State : Type 0} (O : Object Op State) (style : Style) where
-  -- an entry of the shared log that an open transaction owns stands in its log
+  -- an entry of the shared log that an open transaction owns is in its local log
   pub own_stands : (c : Config Op) (x : Tx Op) (g : SharedEntry Op) → Sound O c → In x c.opened → In g c.shared → g.owner ≡ x.name → stands_in x.local g.id ≡ true
   own_stands c x g s i j own = by g.committed refl
     where
@@ -113,7 +113,7 @@ module _ {Op State : Type 0} (O : Object Op State) (style : Style) where
 
   -- ---- a push
 
-  -- the criteria of a push behind those that always hold
+  -- a push breaks only criteria after those that are always true
   push_rest : (c : Config Op) (t : Name) (x : Tx Op) (p q : List (LocalEntry Op)) (e : LocalEntry Op) → Sound O c → tx t c.opened ≡ Some x → x.local ≡ p ++ e ∷ q → e.mark ≡ Unpushed →
       ((a : LocalEntry Op) → In a p → a.mark ≡ Unpushed → Swaps O e.op a.op) → (n : ℕ) → Breaks O c (Push t e.id) (suc n) →
       (j k : ℕ) × (n ≡ suc j) × (j ≡ suc k) × ((a : LocalEntry Op) → Before a e x.local → a.mark ≡ Unpushed → Swaps O e.op a.op)
@@ -138,14 +138,14 @@ module _ {Op State : Type 0} (O : Object Op State) (style : Style) where
       let l = first_holds _ _ _ r.1 r.4 r.5 in
       four_or_five n r.0 r.1 l.0 r.2 r.3 l.1 l.2
 
-  -- where the uncommitted entries of the shared log are its own, it breaks criterion 5 alone
+  -- if all uncommitted entries of the shared log are its own, a push breaks only criterion 5
   pub push_breaks_last : (c : Config Op) (t : Name) (x : Tx Op) (p q : List (LocalEntry Op)) (e : LocalEntry Op) → Sound O c → tx t c.opened ≡ Some x → x.local ≡ p ++ e ∷ q → e.mark ≡ Unpushed →
       ((a : LocalEntry Op) → In a p → a.mark ≡ Unpushed → Swaps O e.op a.op) → OnlyOwnOpen t c → (n : ℕ) → Breaks O c (Push t e.id) (suc n) → In (suc n) (5 ∷ [])
   push_breaks_last c t x p q e s h w mark swap own n b =
       let r = push_rest c t x p q e s h w mark swap n b in
       fifth n r.0 r.1 r.2 r.3 (two_first_hold _ _ _ r.1 r.4 (λ u i z o. absurd (o (own u i z))) r.5)
 
-  -- ---- an operation at once
+  -- ---- an operation that is published at once
 
   pub at_once_only : ((n : ℕ) → In n (4 ∷ 5 ∷ []) → In n (breakable rules.Push style)) → (place : Op → ℕ) (c : Config Op) (t : Name) (x : Tx Op) (id : ℕ) (op : Op) → Sound O c → tx t c.opened ≡ Some x →
       ((a : LocalEntry Op) → In a x.local → a.mark ≡ Unpushed → Swaps O op a.op) → OnlyBreaks O style c (op_at_once place c.shared x.local t id op)

@@ -35,7 +35,7 @@ one_more_pushed {Op} l e none n a i = elim (in_cases a l (e ∷ []) i) [
 ]
 
 module _ {Op State : Type 0} (O : Object Op State) (style : Style) where
-  -- in style optimistic, what is uncommitted in the shared log is of this transaction
+  -- in style optimistic, each uncommitted entry of the shared log is of this transaction
   abbrev pub OwnIfOptimistic : Name → Config Op → Type 0
   OwnIfOptimistic t c = style ≡ styles.Optimistic → OnlyOwnOpen t c
 
@@ -60,7 +60,7 @@ module _ {Op State : Type 0} (O : Object Op State) (style : Style) where
     | inr (inr j) ↦ absurd j
   ]
 
-  -- those of the second part, where the first has none that is unpushed
+  -- the pushes of the second part of a log, if the first part has no unpushed entry
   rest_only : style ≢ styles.Rules → (t : Name) (q p : List (LocalEntry Op)) (c : Config Op) (x : Tx Op) → OwnIfOptimistic t c → Sound O c → tx t c.opened ≡ Some x → x.local ≡ p ++ q → NoneUnpushed p →
       OnlyBreaks O style c (pushall t q)
   rest_only recorded t [] p c x own s h w none = tt

@@ -1,4 +1,4 @@
--- The steps of a record break breakable criteria alone.
+-- The steps of a record break only breakable criteria.
 use Rattle.std.specs.Prelude.{◌≡◌, ◌≢◌, ◌==◌, ◌&&◌, ◌++◌, ◌∷◌, [], ℕ, Bool, true, false}
 use Rattle.std.specs.Prelude.{cond, drop, filter, not, reverse, List, map, Option, None, Some}
 use Rattle.std.proofs.Common.{refl, sym, ap, subst, ◌∙◌}
@@ -53,7 +53,7 @@ pushes_pull_nothing t [] = tt
 pushes_pull_nothing t (e ∷ es) = (tt, pushes_pull_nothing t es)
 
 module _ {Op State : Type 0} (O : Object Op State) (place : Op → ℕ) where
-  -- where the transaction is open, and where it is not
+  -- both cases: the transaction is open, or it is not
   pub open_all : (P : List (Step Op) → Type 0) (c : Config Op) (t : Name) (alone : Step Op) (steps : List (LocalEntry Op) → List (Step Op)) → (tx t c.opened ≡ None → P (alone ∷ [])) →
       ((x : Tx Op) → tx t c.opened ≡ Some x → P (steps x.local)) → P (where_open c t alone steps)
   open_all P c t alone steps a b = elim (tx t c.opened) as (λ o. tx t c.opened ≡ o → P (steps_of_open o alone steps)) [ None ↦ λ e. a e | Some x ↦ λ e. b x e ] refl
@@ -61,11 +61,11 @@ module _ {Op State : Type 0} (O : Object Op State) (place : Op → ℕ) where
   note_alone : (style : Style) (c : Config Op) (t : Name) → OnlyBreaks O style c (Note t ∷ [])
   note_alone style c t = note_only O style c t [] (λ m. tt)
 
-  -- what is known of a log where an operation goes at once: it may pass what is unpushed
+  -- the operation may move before each unpushed entry of the transaction's log
   abbrev MayPass : Config Op → Name → Op → Type 0
   MayPass c t op = (x : Tx Op) → tx t c.opened ≡ Some x → (a : LocalEntry Op) → In a x.local → a.mark ≡ Unpushed → Swaps O op a.op
 
-  -- where all is committed, nothing of another transaction is uncommitted
+  -- if all of the shared log is committed, no uncommitted entry is of another transaction
   calm_own : (style : Style) (c : Config Op) (t : Name) → (style ≡ styles.Optimistic → AllShared c) → style ≡ styles.Optimistic → OnlyOwnOpen t c
   calm_own style c t calm e u i k = absurd (let z : true ≡ false = sym (calm e u i) ∙ k in cc)
 
@@ -96,7 +96,8 @@ module _ {Op State : Type 0} (O : Object Op State) (place : Op → ℕ) where
 
   -- ---- operations
 
-  -- where an operation of this style goes at once, it may pass what is unpushed
+  -- what is true between records, so that an operation that is published at once may move before
+  -- the unpushed entries
   abbrev pub PassesAtOnce : Style → Front → Config Op → Type 0
   PassesAtOnce styles.Rules f c = Unit {0}
   PassesAtOnce styles.Boosted f c = (x : Tx Op) → In x c.opened → NoneUnpushed x.local

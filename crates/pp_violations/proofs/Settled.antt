@@ -1,4 +1,4 @@
--- In three styles each pulled entry stands committed in the shared log.
+-- In three styles each pulled entry is committed in the shared log.
 use Rattle.std.specs.Prelude.{◌≡◌, ◌≢◌, ◌==◌, ℕ, Bool, true, false, cond, not, List, [], ◌∷◌, ◌++◌, map}
 use Rattle.std.specs.Prelude.{Option, None, Some}
 use Rattle.std.proofs.Common.{refl, sym, ap, subst, ◌∙◌}
@@ -37,7 +37,7 @@ NotPull (Cmt t) = Unit {0}
 NotPull (Quit t) = Unit {0}
 NotPull (Note t) = Unit {0}
 
--- the steps pull committed entries alone
+-- the step pulls only a committed entry
 abbrev pub PullsCommitted : {Op : Type 0} → Config Op → Step Op → Type 0
 PullsCommitted {Op} c s = (t : Name) (id : ℕ) (g : SharedEntry Op) → s ≡ Pull t id → of_other t id c.shared ≡ Some g → g.committed ≡ true
 
@@ -56,7 +56,7 @@ pub committed_append : {Op : Type 0} (c : Config Op) (xs ys : List (Step Op)) �
 committed_append c [] ys a b = b
 committed_append c (x ∷ xs) ys a b = (a.0, committed_append (then c x) xs ys a.1 b)
 
--- a pull leaves the shared log
+-- a pull does not change the shared log
 pull_shared : {Op : Type 0} (c : Config Op) (t : Name) (id : ℕ) → (then c (Pull t id)).shared ≡ c.shared
 pull_shared {Op} c t id = by (of_other t id c.shared)
   where
@@ -92,7 +92,7 @@ pulled_was {Op} id m l e n i k =
     by d j false z = subst (λ (w : LocalEntry Op). In w l) (sym z) j
 
 module _ {Op State : Type 0} (O : Object Op State) (c : Config Op) (s : Sound O c) (pulled : PulledCommitted c) where
-  -- where the shared log keeps what is committed, and a log is a part of an older one
+  -- G has each committed entry of the shared log
   abbrev KeepsCommitted : List (SharedEntry Op) → Type 0
   KeepsCommitted G = (g : SharedEntry Op) → In g c.shared → g.committed ≡ true → (k : SharedEntry Op) × In k G × (k.id ≡ g.id) × (k.committed ≡ true)
 

@@ -38,7 +38,7 @@ NotPush (Cmt t) = Unit {0}
 NotPush (Quit t) = Unit {0}
 NotPush (Note t) = Unit {0}
 
--- it keeps a shared log in which all is committed
+-- if all of the shared log is committed, a step that pushes nothing keeps it so
 shared_step : {Op : Type 0} (c : Config Op) (s : Step Op) → NotPush s → AllShared c → AllShared (then c s)
 shared_step c (Begin t p b) n all = all
 shared_step c (App t id op) n all = all
@@ -69,7 +69,7 @@ shared_after : {Op : Type 0} (ss : List (Step Op)) (c : Config Op) → Each NotP
 shared_after [] c n all = all
 shared_after (s ∷ ss) c n all = shared_after ss (then c s) n.1 (shared_step c s n.0 all)
 
--- ---- pushes, and the commit behind them
+-- ---- pushes, and the commit after them
 
 abbrev CommittedOrOwn : {Op : Type 0} → Name → Config Op → Type 0
 CommittedOrOwn {Op} t c = (u : SharedEntry Op) → In u c.shared → (u.committed ≡ true) ⊎ (u.owner ≡ t)

@@ -29,7 +29,7 @@ use Rattle.pp_violations.proofs.Numbers.{after_there, one_never, two_never}
 use Rattle.pp_violations.proofs.Only.{OnlyBreaks, only_append}
 
 module _ {Op State : Type 0} (O : Object Op State) where
-  -- an operation that all behind it may pass may be left out
+  -- an operation may be left out if it swaps with all later ones
   dropped : (X Y : List Op) (a : Op) → ((y : Op) → In y Y → Swaps O a y) → Allowed O (X ++ a ∷ Y) → Allowed O (X ++ Y)
   dropped X [] a swap h = subst (λ (l : List Op). Allowed O l) (sym (append-nil X)) (allowed_front O O.start X (a ∷ []) h)
   dropped X (y ∷ Y) a swap h =
@@ -67,7 +67,7 @@ module _ {Op State : Type 0} (O : Object Op State) where
         one_never (Allowed O (local_ops (without_local e.id x.local))) f.0
         (subst (λ (l : List (LocalEntry Op)). Allowed O (local_ops l)) (sym left) (allowed_front O O.start (local_ops p) (e.op ∷ []) whole)) f.2
 
-    -- the shared entry of the last entry, which is pushed, and those behind it
+    -- the shared entry of the last entry, which is pushed, and the entries after it
     module _ (k : e.mark ≡ Pushed) where
       shared_one : SharedEntry Op
       shared_one = as_shared x.name false (item e)

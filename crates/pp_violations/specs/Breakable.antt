@@ -15,9 +15,9 @@ use Rattle.pp_model.specs.Lists.{In}
 use Rattle.pp_model.specs.Object.{Object}
 use Rattle.pp_model.specs.Rules.{Breaks, RunsFrom, StartMeets}
 
--- The numbers of the criteria of a rule that a step can violate in a run of one of the four recorded
--- styles. All other criteria of the rule always hold there. (The rows of style rules are not used:
--- there each criterion can be violated.)
+-- The numbers of the criteria of a rule that a step can violate in a run of one of the four
+-- recorded styles. All other criteria of the rule are always true there. (The rows of style rules
+-- are not used. In that style each criterion can be violated.)
 abbrev pub breakable : Rule → Style → List ℕ
 breakable rules.Start style = 1 ∷ 2 ∷ []
 breakable rules.Begin style = 1 ∷ 2 ∷ []
@@ -43,8 +43,8 @@ breakable rules.Cmt styles.Dependent = 1 ∷ 2 ∷ 4 ∷ []
 breakable rules.Quit style = 1 ∷ []
 breakable rules.Note style = 1 ∷ []
 
--- Take a step of a run of a recorded style, and let all steps before it hold. If it violates a
--- criterion, then the first one that it violates is breakable.
+-- Take a step of a run of a recorded style, and let the start and all steps before it meet their
+-- criteria. If the step violates a criterion, then the first one that it violates is breakable.
 abbrev pub BreakableLaw : {Op State : Type 0} → Object Op State → (Op → ℕ) → Type 0
 BreakableLaw {Op} O place =
     (style : Style) (kinds : List Kind) (h : Option (Start Op)) (rs : Records (RunRecord Op))

@@ -22,8 +22,8 @@ NamesBreakable style (StartRejected at_line criterion) = In criterion (breakable
 NamesBreakable style (StepRejected number at_line criterion before step) =
     In criterion (breakable (rule_of step) style)
 
--- Every report of an input (there is one at most) is such a report if the style of its header is one
--- of the four recorded styles.
+-- If a report of an input names a criterion, the criterion is breakable. The style of the header
+-- must be one of the four recorded styles. (An input has one report at most.)
 abbrev pub ReportsBreakable : List ℕ → Type 0
 ReportsBreakable bytes = (header : Lined Header) (report : RunReport) →
     (scan bytes).header ≡ Some header → IsRecorded header.what.style →

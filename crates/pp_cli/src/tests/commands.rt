@@ -2,7 +2,7 @@
 use crate::tests::row::Row;
 use pp_core::Status;
 
-/// A command, and what it answers to an input.
+/// A command, and what it prints for an input.
 pub(crate) struct CommandRow {
     pub(crate) command: &'static [u8],
     pub(crate) row: Row,

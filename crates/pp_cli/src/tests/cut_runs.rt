@@ -1,9 +1,9 @@
-//! A run that is cut behind each of its bytes.
+//! A run that is cut after each of its bytes.
 use crate::tests::{added, assert_answer, certified_bytes};
 use pp_core::Status;
 use std::test::Fail;
 
-/// What is answered where so many of its lines stand whole.
+/// The report if this many of its lines are whole.
 const WHOLE: [&[u8]; 6] = [
     b"fault line 1 NoHeader\n",
     b"accepted steps 0 committed 0\nstate c 0\n",
@@ -13,7 +13,7 @@ const WHOLE: [&[u8]; 6] = [
     b"accepted steps 4 committed 1\ntx t1\nop 1 c.add(2)=none\nstate c 2\n",
 ];
 
-/// What is answered where the line behind so many is cut.
+/// The report if the line after this many whole ones is cut.
 const CUT: [&[u8]; 5] = [
     b"fault line 1 NotJson\n",
     b"fault line 2 NotJson\n",
@@ -22,8 +22,8 @@ const CUT: [&[u8]; 5] = [
     b"fault line 5 NotJson\n",
 ];
 
-/// What is answered to so many whole lines and what is begun of the next one, which is whole but
-/// for its end or is cut.
+/// The status and the report for this many whole lines and the beginning of the next one. That one
+/// is cut, or whole but for its end.
 fn answer_to(lines: usize, is_begun: bool, is_cut: bool) -> Option<(Status, &'static [u8])> {
     let report = match (is_begun, is_cut) {
         (true, true) => CUT.get(lines)?,

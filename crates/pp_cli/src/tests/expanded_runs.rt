@@ -1,4 +1,4 @@
-//! Runs, and the steps that they stand for.
+//! Runs, and the steps that their records mean.
 use crate::tests::row::Row;
 use pp_core::Status;
 

@@ -7,7 +7,7 @@ use std::marker::Brand;
 use std::sync::ledger::Blank;
 use std::test::Fail;
 
-/// What is reported of the run that adds.
+/// The report of the run that adds.
 const ADDED_REPORT: &[u8] = b"accepted steps 4 committed 1\ntx t1\nop 1 c.add(2)=none\nstate c 2\n";
 
 #[test]
@@ -35,7 +35,7 @@ fn whichever_read_fails_nothing_is_written(rt: HostRuntime) -> Result<(), Fail> 
     Ok(())
 }
 
-/// A record without a step, and a header, of which the end is still to come.
+/// A record without a step, and a header whose end is still to come.
 const BEFORE_A_FAILED_READ: [(&[u8], Status, &[u8]); 2] = [
     (b"{}\n", Status::InputFault, b"fault line 2 Missing(step)\n"),
     (b"", Status::ReadFault, b""),

@@ -1,7 +1,7 @@
-//! A system that gives these words.
+//! A system with these arguments.
 use std::env::{Env, FillError};
 
-/// The program's own name stands first.
+/// The program's own name is the first.
 #[derive(Drop)]
 pub(crate) struct GivenWords {
     pub(crate) words: &'static [&'static [u8]],

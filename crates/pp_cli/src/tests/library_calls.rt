@@ -1,5 +1,5 @@
-//! Texts and a serial run that no command asks for. With ample memory, no call answers that there is
-//! none.
+//! Texts and a serial run that no command asks for. With ample memory, no call returns out of
+//! memory.
 ghost use Rattle.std.specs.Prelude.{◌≡◌, ◌<◌, [], ◌∷◌, IfOk};
 ghost use Rattle.pp_core.specs.declared.call.Kind.TheVariants.{Memory, Counter};
 ghost use Rattle.pp_model.specs.Sound.{serial_ops};

@@ -4,13 +4,13 @@ use pp_core::Status;
 use std::alloc::Global;
 use std::test::Fail;
 
-/// A text that stands so many times. Between its parts stands its number, which counts from 1.
+/// A text that is repeated this many times. Between its parts is its number, counted from 1.
 pub(crate) struct Piece {
     parts: &'static [&'static [u8]],
     times: usize,
 }
 
-/// The pieces of an input and of what is reported.
+/// A case, with the pieces of its input and of its report.
 pub(crate) struct Long {
     pub(crate) what: &'static str,
     pub(crate) input: &'static [Piece],
@@ -375,8 +375,8 @@ pub(crate) fn turned_commits(alloc: Global) -> Result<Vec<u8>, Fail> {
     Ok(bytes)
 }
 
-/// A transaction that adds to a counter 2,000 times, and then takes back and adds 999 times more; and
-/// another that adds once. Its peaks have 2,000,001 operations.
+/// A transaction adds to a counter 2,000 times, and then takes back and adds 999 times more.
+/// Another one adds once. Their attempts have 2,000,001 operations together.
 pub(crate) const MANY_PEAKS: &[Piece] = &[
     Piece {
         parts: &[COUNTER],

@@ -1,6 +1,6 @@
 //! Runs that are made from the number of their transactions.
 
-/// A number, and what is printed of its run.
+/// A number, and what `drill` prints for it.
 pub(crate) struct MadeRun {
     pub(crate) number: &'static [u8],
     pub(crate) report: &'static [u8],

@@ -1,7 +1,7 @@
 //! A row of a table: an input, its status, and its report.
 use pp_core::Status;
 
-/// What is told of it, its lines, and what is answered.
+/// The name of the case, the lines of its input, its status and its report.
 pub(crate) struct Row {
     pub(crate) what: &'static str,
     pub(crate) header: &'static [u8],

@@ -1,5 +1,6 @@
-//! The whole program but for its arguments, over readers and writers of std. A contract of std says
-//! nothing of failures, so that the edge counts each one, and tries none again, is shown here.
+//! The whole program without its arguments, over readers and writers of std. The contracts of std
+//! say nothing about failures. These tests show that the edge counts each failure, and tries no
+//! call again.
 use crate::edge::{StdSink, StdSource};
 use crate::run_counted;
 use crate::tests::row::COUNTER;
@@ -13,8 +14,8 @@ use std::marker::Brand;
 use std::sync::ledger::Blank;
 use std::test::Fail;
 
-/// How many blank lines come before the records. With them the input is longer than one piece, which
-/// has 65,536 bytes.
+/// How many blank lines come before the records. They make the input longer than one piece of
+/// 65,536 bytes.
 const BLANK_LINES: usize = 70_000;
 
 /// The commit of a transaction that did not begin.
@@ -24,7 +25,7 @@ const STRANGE_COMMIT: &[u8] = br#"
 /// The report of the run that adds.
 const REPORT: &[u8] = b"accepted steps 4 committed 1\ntx t1\nop 1 c.add(2)=none\nstate c 2\n";
 
-/// A reader of these bytes, whose first call fails if that is asked.
+/// A reader of these bytes. Its first call fails if `fails` is set.
 #[derive(Drop)]
 struct FaultyReader {
     bytes: VecDeque<u8>,
@@ -43,7 +44,8 @@ impl Read for FaultyReader {
     }
 }
 
-/// A writer that takes three bytes a call. Its first write or its first flush fails if that is asked.
+/// A writer that takes three bytes a call. Its first write fails if `write_fails` is set, and its
+/// first flush if `flush_fails` is set.
 #[derive(Drop)]
 struct FaultyWriter {
     held: Vec<u8>,
@@ -73,7 +75,7 @@ impl Write for FaultyWriter {
     }
 }
 
-/// What a call leaves.
+/// The status of a call, what the writer holds after it, and how often it read.
 #[derive(Drop)]
 struct Left {
     status: Status,
@@ -81,7 +83,7 @@ struct Left {
     reads: u64,
 }
 
-/// Certifies what a reader gives, and writes the report to a writer.
+/// Certifies the bytes of a reader, and writes the report to a writer.
 fn certified(alloc: Global, reader: FaultyReader, writer: FaultyWriter) -> Result<Left, Fail> {
     let mut words = Words::new(alloc);
     words.push(b"certify")?;
@@ -97,7 +99,7 @@ fn certified(alloc: Global, reader: FaultyReader, writer: FaultyWriter) -> Resul
     })
 }
 
-/// A reader of these bytes, one after another.
+/// A reader of the bytes of these parts, one part after another.
 fn reader(alloc: Global, parts: &[&[u8]], fails: bool) -> Result<FaultyReader, Fail> {
     let mut bytes = VecDeque::new(alloc);
     for part in parts {

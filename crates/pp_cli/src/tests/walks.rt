@@ -1,4 +1,4 @@
-//! A step of a walk that no command takes. With ample memory, no call answers that there is none.
+//! A step of a walk that no command takes. With ample memory, no call returns out of memory.
 use pp_body::Walk;
 use pp_core::{Body, Call, Method, Pattern};
 use std::test::Fail;

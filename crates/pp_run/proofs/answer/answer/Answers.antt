@@ -12,7 +12,7 @@ use Rattle.pp_run.specs.declared.words.Command.{Command}
 use Rattle.pp_run.specs.declared.words.Command.TheVariants.{Recheck}
 use Rattle.pp_run.proofs.answer.answer.Goals as goal
 
--- the number of a drill is one of a run
+-- the number of a `drill` command is in the range of `drill`
 pub perform-requires : goal.perform-requires
 perform-requires g c = λ n is.
     let command : command_of c.args.words.now ≡ Some c.in-Some.command = search rules in
@@ -62,7 +62,7 @@ returns-clause-prefix g c = λ unwritten.
     let command : command_of c.args.words.now ≡ Some c.in-Some.command = search rules in
     prints_prefix_only (command_of c.args.words.now) c.in-Some.command command (g.S.Source.left c.args.source.now) old new c.in-Ok.report.0 c.in-Ok.report.1 c.in-Ok.ensures.output (subst (AppendsPrefix old new) c.bytes.ensures c.in-Err-Memory.ensures.err)
 
--- ---- what holds of it
+-- ---- what is true of a printed output
 
 pub returns-in-Ok-send-clause-end : goal.returns-in-Ok-send-clause-end
 returns-in-Ok-send-clause-end g c = λ whole.
@@ -84,7 +84,7 @@ returns-in-Ok-send-clause-size g c = λ large.
     let command : command_of c.args.words.now ≡ Some c.in-Some.command = search rules in
     subst TellsSize (sym command) (c.in-Ok.ensures.size large)
 
--- ---- what the counter shows
+-- ---- the rise of the counter
 
 pub returns-in-Ok-send-clause-most : goal.returns-in-Ok-send-clause-most
 returns-in-Ok-send-clause-most g c =

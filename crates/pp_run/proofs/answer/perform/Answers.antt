@@ -60,7 +60,7 @@ returns-in-Recheck-clause-status g c = IfOk-weaker c.recheck.result _ _ (λ r. c
 pub returns-in-Views-clause-status : goal.returns-in-Views-clause-status
 returns-in-Views-clause-status g c = IfOk-weaker c.views.result _ _ (λ r. sized r.0) c.views.ensures.status
 
--- ---- whether it tells a size
+-- ---- whether the output is above a limit
 
 pub returns-in-Certify-clause-size : goal.returns-in-Certify-clause-size
 returns-in-Certify-clause-size g c = IfOk-weaker c.certify.result _ _ (λ r told large. absurd (decided_fits r.0 told large)) c.certify.ensures.status
@@ -106,7 +106,7 @@ pub returns-in-Views-clause-end : goal.returns-in-Views-clause-end
 returns-in-Views-clause-end g c =
     IfOk-weaker c.views.result _ _ (λ r end whole. end (whole_sound r.0 (subst (λ (k : Command). IsOfWhole (Some k) r.0) c.in-Views.is whole))) c.views.ensures.end
 
--- ---- what is shown
+-- ---- the evidence of a rejection
 
 pub returns-in-Certify-clause-shown : goal.returns-in-Certify-clause-shown
 returns-in-Certify-clause-shown g c = IfOk-weaker c.certify.result _ _ (λ r shown drives. shown) c.certify.ensures.shown
@@ -128,7 +128,7 @@ returns-in-Recheck-clause-shown g c =
 pub returns-in-Views-clause-shown : goal.returns-in-Views-clause-shown
 returns-in-Views-clause-shown g c = IfOk-weaker c.views.result _ _ (λ r shown drives. shown) c.views.ensures.shown
 
--- ---- what is checked
+-- ---- what an accepted certificate shows
 
 pub returns-in-Certify-clause-checked : goal.returns-in-Certify-clause-checked
 returns-in-Certify-clause-checked g c =
@@ -183,7 +183,7 @@ returns-in-Recheck-clause-untouched g c = λ none. absurd (none (subst (λ (k : 
 pub returns-in-Views-clause-untouched : goal.returns-in-Views-clause-untouched
 returns-in-Views-clause-untouched g c = λ none. absurd (none (subst (λ (k : Command). Reads (Some k)) (sym c.in-Views.is) tt))
 
--- ---- and where a read failed
+-- ---- a failed read is reported only by a command that reads
 
 pub returns-in-Certify-clause-reading : goal.returns-in-Certify-clause-reading
 returns-in-Certify-clause-reading g c = λ failed. subst (λ (k : Command). Reads (Some k)) (sym c.in-Certify.is) tt
@@ -203,7 +203,7 @@ returns-in-Recheck-clause-reading g c = λ failed. subst (λ (k : Command). Read
 pub returns-in-Views-clause-reading : goal.returns-in-Views-clause-reading
 returns-in-Views-clause-reading g c = λ failed. subst (λ (k : Command). Reads (Some k)) (sym c.in-Views.is) tt
 
--- ---- what was read then
+-- ---- what was read before a failed read
 
 pub returns-in-Certify-clause-read_fault : goal.returns-in-Certify-clause-read_fault
 returns-in-Certify-clause-read_fault g c = λ failed.
@@ -235,7 +235,7 @@ returns-in-Views-clause-read_fault g c = λ failed.
     let told = c.views.ensures.read_fault failed in
     (told.0, subst (λ (k : Command). ReadsSound (Some k) (g.S.Source.left c.args.source.now) (g.S.Source.left c.views.new.source)) (sym c.in-Views.is) told.1)
 
--- ---- what the counter shows
+-- ---- the greatest rise of the counter
 
 pub returns-in-Certify-clause-most : goal.returns-in-Certify-clause-most
 returns-in-Certify-clause-most g c = subst (λ (k : Command). RisesAtMost (Some k) (g.S.Source.left c.args.source.now) c.args.ticks.now c.certify.new.ticks) (sym c.in-Certify.is) c.certify.ensures.most
@@ -255,7 +255,7 @@ returns-in-Recheck-clause-most g c = subst (λ (k : Command). RisesAtMost (Some 
 pub returns-in-Views-clause-most : goal.returns-in-Views-clause-most
 returns-in-Views-clause-most g c = subst (λ (k : Command). RisesAtMost (Some k) (g.S.Source.left c.args.source.now) c.args.ticks.now c.views.new.ticks) (sym c.in-Views.is) c.views.ensures.most
 
--- ---- and at least
+-- ---- its least rise
 
 pub returns-in-Certify-clause-least : goal.returns-in-Certify-clause-least
 returns-in-Certify-clause-least g c =

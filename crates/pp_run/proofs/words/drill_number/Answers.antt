@@ -4,7 +4,7 @@ use Rattle.pp_run.proofs.Numbers.{unlike, unread}
 use Rattle.pp_run.proofs.words.drill_number.Goals as goal
 use Rattle.pp_run.proofs.words.drill_number.Goals.{then-n-eq0-via-then-n-eq0, then-n-eq0-via-else-n-eq0+then-n-gt20000}
 
--- the word is no text
+-- the argument is not UTF-8
 pub returns-in_default : goal.returns-in_default
 returns-in_default c = sym (no_number c.args.word.now (λ n is. c.in_default.ensures.cases.0 (number_is_text c.args.word.now n is)))
 
@@ -12,13 +12,13 @@ returns-in_default c = sym (no_number c.args.word.now (λ n is. c.in_default.ens
 pub returns-in_default-parse : goal.returns-in_default-parse
 returns-in_default-parse c = sym (unread c.args.word.now c.in-Ok.text.now c.in-Ok.ensures.cases.0 c.parse.result c.parse.ensures.value.0 c.in_default-parse.field-0 c.in_default-parse.is)
 
--- it is read as one that is not among these
+-- it is read as a number out of range
 pub returns-then-n-eq0 : goal.returns-then-n-eq0
 returns-then-n-eq0 c =
     sym (outside c.args.word.now c.in-Ok.text.now c.in-Ok.ensures.cases.0 c.parse.result c.parse.ensures.value.0 c.in-Ok-parse.n c.in-Ok-parse.is (λ low high.
     elim c.then-n-eq0.branch [ then-n-eq0-via-then-n-eq0 w ↦ omega (arith, low, w.if-n-eq0.true) | then-n-eq0-via-else-n-eq0+then-n-gt20000 w ↦ omega (arith, high, w.if-n-gt20000.true) ]))
 
--- it is the number that is read, written so
+-- it is the decimal text of the number that is read
 pub returns-then-eq : goal.returns-then-eq
 returns-then-eq c =
     let written = equal_words c.eq.result c.as_bytes.result.now c.args.word.now c.eq.ensures c.if-eq.true in
