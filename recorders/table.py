@@ -16,8 +16,8 @@ from typing import NamedTuple
 ROOT = pathlib.Path(__file__).resolve().parent.parent
 SECONDS = 300
 
-STATUSES = """The checker is the program that POZHIQAS names, or crates/pp_cli/out/pp_cli. Each row is one line, with the first line that the
-checker printed. Status 0: every row is as it should be. 1: some row is not. 2: wrong arguments. 3: no checker. 4: no compiler. 5: something
+STATUSES = """The checker is the program that POZHIQAS names, or else crates/pp_cli/out/pp_cli or pp_cli in this repository. Each row is one line,
+with the first line that the checker printed. Status 0: every row is as it should be. 1: some row is not. 2: wrong arguments. 3: no checker. 4: no compiler. 5: something
 does not compile. 7: a file or a folder cannot be written. 8: a recorded program does not run to its end."""
 NO_CHECKER, NO_COMPILER, NO_BUILD, NO_FILE, NO_END = 3, 4, 5, 7, 8
 
@@ -41,10 +41,12 @@ class Missing(Exception):
 
 
 def checker():
-    path = pathlib.Path(os.environ.get("POZHIQAS") or ROOT / "crates/pp_cli/out/pp_cli").resolve()
-    if not (path.is_file() and os.access(path, os.X_OK)):
-        raise Missing(NO_CHECKER, f"no program at {path}: build it as README.md says, or name it by POZHIQAS")
-    return path
+    named = os.environ.get("POZHIQAS")
+    places = [pathlib.Path(named).resolve()] if named else [ROOT / "crates/pp_cli/out/pp_cli", ROOT / "pp_cli"]
+    for place in places:
+        if place.is_file() and os.access(place, os.X_OK):
+            return place
+    raise Missing(NO_CHECKER, f"no program at {places[0]}: build it as README.md says, or name it by POZHIQAS")
 
 
 def need(command, package):

@@ -1,4 +1,5 @@
 """A rejection, with all that `why` needs to explain it."""
+from recorded_run import ENTRY_STEPS
 from replay import logs_before
 
 
@@ -27,11 +28,11 @@ class Case:
         self.entry = None if self.evidence is None else self.find_entry(self.evidence.entry)
 
     def find_call(self):
-        if self.step is None or "id" not in self.step:
-            return None
-        if self.step["step"] == "app":
+        if self.step is not None and self.step["step"] == "app":
             return self.call_of_step()
-        return self.logs.calls.get(self.step["id"])
+        if self.step is not None and self.step["step"] in ENTRY_STEPS:
+            return self.logs.calls.get(self.step["id"])
+        return None
 
     def call_of_step(self):
         """The call with the step's id on the rejected line: no other call can have an id twice before."""

@@ -24,7 +24,7 @@ class Cut:
 def cuts(data, run, line):
     """The run up to a line, cut to the place of the call there, to its object, and to the last lines on the place."""
     failing = next((call for call in run.calls if call.line == line), None)
-    if failing is None:
+    if failing is None or depends_on_other_places(run, failing):
         return
     name, key = failing.place
     place_words = name if key is None else f"{name} at {key}"
@@ -40,6 +40,11 @@ def cuts(data, run, line):
         kept = [call for call in here if call.line >= quiet]
         words = f"the lines on {place_words} from line {quiet} on, after a start that makes what was there,"
         yield Cut(words, cut_text(data, run, line, kept, start_of(run, first)), first)
+
+
+def depends_on_other_places(run, call):
+    """Whether a call may be rejected for its transaction's body, or for an id that another call had before."""
+    return run.transactions[call.transaction].body is not None or run.calls_with_id(call.id)[0] is not call
 
 
 def start_of(run, calls):

@@ -45,6 +45,8 @@ STEPS = {
     "hardware": {**COMMON_STEPS, "xbegin": (), "xend": (), "xabort": ()},
     "dependent": {**COMMON_STEPS, "depend": ("source",), "publish": (), "drop": ("source",)},
 }
+# The steps of style rules that name an entry by its id.
+ENTRY_STEPS = ("unapp", "push", "unpush", "pull", "unpull")
 NAME = re.compile(r"[A-Za-z0-9_.-]{1,24}")
 
 

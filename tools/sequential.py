@@ -172,6 +172,15 @@ def writes(call):
     return call.name in ("cas", "add") and call.result is True
 
 
+def changes(call):
+    """Whether a call on any kind changed its place, by its recorded result."""
+    if call.kind in REGISTER_CALLS:
+        return writes(call)
+    if call.kind == "counter":
+        return addition(call) != 0
+    return call.name == PUTS[call.kind] or (call.name == TAKES[call.kind] and call.result is not None)
+
+
 def written_value(call):
     """The value that a call left which writes."""
     return {"mem": lambda: call.arguments[-1], "set": lambda: call.name == "add",

@@ -12,7 +12,6 @@ from for_tests import EXAMPLES, PROGRAM, TOOLS, example, needs_program, pozhiqas
 from test_order import CYCLE, SKEW
 
 COMMANDS = ("certify", "quick", "expand", "views", "swaps", "recheck", "why", "order", "picture")
-FILE_COMMANDS = [command for command in COMMANDS if command != "picture"]
 
 
 def path_of(name):
@@ -215,17 +214,18 @@ class WithoutProgram(Temporary):
         return path
 
     def test_none(self):
-        for command in FILE_COMMANDS:
+        for command in COMMANDS:
             output, errors, status = pozhiqas(command, path_of("accepted.jsonl"), program=self.folder / "none")
             self.assertEqual((output, status), ("", 69))
             self.assertRegex(errors, r"^pozhiqas: POZHIQAS names .*/none, which is no program that can be run\n$")
 
     def test_another_program_prints_no_verdict(self):
-        for text in ("exit 0", "echo hello", "echo accepted steps 1 committed 1; exit 1", "exit 1"):
-            for command in FILE_COMMANDS:
-                output, errors, status = pozhiqas(command, path_of("accepted.jsonl"), program=self.program(text))
-                self.assertEqual((output, errors, status),
-                                 ("", "pozhiqas: what was run printed no verdict: it is not the program\n", 70))
+        rows = [("exit 0", command) for command in COMMANDS]
+        rows += [(text, "certify") for text in ("echo hello", "echo accepted steps 1 committed 1; exit 1", "exit 1")]
+        for text, command in rows:
+            output, errors, status = pozhiqas(command, path_of("accepted.jsonl"), program=self.program(text))
+            self.assertEqual((output, errors, status),
+                             ("", "pozhiqas: what was run printed no verdict: it is not the program\n", 70))
 
     def test_statuses_of_the_program_that_are_no_answer(self):
         for status in (2, 4, 5, 6, 8):

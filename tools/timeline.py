@@ -1,6 +1,7 @@
 """A table of lines: one column for each transaction that an explanation names, only the lines on one place."""
 from explanation import first_line
 from phrases import is_of_start
+from recorded_run import ENTRY_STEPS
 
 MOST_ROWS = 40
 # Steps that are shown for what they do to a whole transaction, with the member that is shown beside them.
@@ -24,10 +25,12 @@ class Row:
 
 
 class Timeline:
-    """The rows about some attempts and one place. If `place` is None, the rows have all calls of the attempts."""
+    """The rows about some attempts: their calls on one place, and those that are named. If `place` is None, all calls."""
 
     def __init__(self, run, logs, explanation, line, place):
-        self.run, self.calls, self.line, self.place = run, logs.calls, line, place
+        self.run, self.line, self.place = run, line, place
+        self.calls_by_id = logs.calls
+        self.calls_by_line = {call.line: call for call in run.calls}
         self.spans = {}     # the first and the last line of each attempt, by the name of its transaction
         for attempt in explanation.involved_attempts():
             begin, end = first_line(attempt) or 0, attempt.end_line or float("inf")
@@ -68,10 +71,13 @@ class Timeline:
                 return None
             shown = WHOLE_STEPS[record.step]
             return record.step.upper() + (f" {members[shown]}" if shown else "")
-        call = self.calls.get(members["id"]) if "id" in members and record.step != "note" else None
-        if call is None or (self.place is not None and call.place != self.place):
-            return None
-        return call.text if record.step in CALL_STEPS else f"{record.step.upper()} {call.text}"
+        if record.step in CALL_STEPS:
+            call = self.calls_by_line[record.line]
+            is_shown = record.line in self.named_lines or self.place in (None, call.place)
+            return call.text if is_shown else None
+        call = self.calls_by_id.get(members["id"]) if record.step in ENTRY_STEPS else None
+        is_shown = call is not None and self.place in (None, call.place)
+        return f"{record.step.upper()} {call.text}" if is_shown else None
 
     def cut(self):
         """Leaves out rows that are not needed, the earliest first, if there are too many. Returns how many."""
@@ -86,12 +92,12 @@ class Timeline:
 
     def lines(self):
         """The table as text."""
-        columns = self.columns()
+        columns, width = self.columns(), max([5, *(len(str(row.line)) for row in self.rows)])
         widths = {name: max(len(name), *(len(row.text) for row in self.rows if row.transaction == name)) for name in columns}
-        table = [" line  " + "  ".join(name.ljust(widths[name]) for name in columns)]
+        table = ["line".rjust(width) + "  " + "  ".join(name.ljust(widths[name]) for name in columns)]
         for row in self.rows:
             cells = [(row.text if name == row.transaction else "").ljust(widths[name]) for name in columns]
-            table.append(f"{row.line:5}{'*' if row.is_failing else ' '} " + "  ".join(cells))
+            table.append(f"{row.line:{width}}{'*' if row.is_failing else ' '} " + "  ".join(cells))
         if self.left_out:
-            table.append(f"       {self.left_out} earlier lines on this place are left out")
+            table.append(" " * (width + 2) + f"{self.left_out} earlier lines on this place are left out")
         return [line.rstrip() for line in table]

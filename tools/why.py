@@ -79,19 +79,27 @@ def explain_long_run(program, data, report, words):
         return Why(report, words, ["cut the run where no transaction is open, and give what is there as a start"])
     quick = read_report(ask(program, ["quick"], data))
     lines = ["`quick` decides runs of style boosted of any number of steps, and prints:", "  " + quick.verdict_line]
-    for cut in cuts(data, run, quick.line) if quick.verdict == "rejected" else ():
-        cut_report = read_report(ask(program, ["certify"], cut.text))
-        if cut_report.verdict == "rejected" and cut_report.line == quick.line:
-            lines.append(f"of {cut.words} `certify` prints:")
-            lines += ["  " + line for line in cut_report.lines]
-            case = Case(run, cut_report, steps_of(program, cut.text), cut.first_calls, is_cut=True)
-            explained = explain_case(case)
-            explained.report, explained.words, explained.quick = report, words, quick
-            explained.lines = [*lines, criterion_text(case), *explained.lines]
-            return explained
-    explained = Why(report, words, lines)
-    explained.quick = quick
+    explained = explain_cut(program, data, run, quick.line) if quick.verdict == "rejected" else None
+    if explained is None:
+        if quick.verdict == "rejected":
+            lines.append(f"line {quick.line} is {shown_line(line_of(data, quick.line))}")
+        explained = Why(report, words, [])
+    explained.report, explained.words, explained.quick = report, words, quick
+    explained.lines = [*lines, *explained.lines]
     return explained
+
+
+def explain_cut(program, data, run, line):
+    """Why a line is rejected of a run that is cut to what the line depends on, or None if no cut run is rejected there."""
+    for cut in cuts(data, run, line):
+        report = read_report(ask(program, ["certify"], cut.text))
+        if report.verdict == "rejected" and report.line == line:
+            case = Case(run, report, steps_of(program, cut.text), cut.first_calls, is_cut=True)
+            explained = explain_case(case)
+            printed = [f"of {cut.words} `certify` prints:", *("  " + shown for shown in report.lines)]
+            explained.lines = [*printed, explained.words, *explained.lines]
+            return explained
+    return None
 
 
 def line_of(data, number):

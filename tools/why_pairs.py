@@ -1,6 +1,6 @@
 """Why a call may not move past another one: the two in their order, turned, and the result that then differs."""
 from explanation import Explanation
-from phrases import fate, named
+from phrases import named, with_fate
 from recorded_run import Call, result_text
 from sequential import Objects
 from verified_program import operation_members
@@ -17,19 +17,14 @@ class Pair(Explanation):
         first, second = (case.call, case.entry) if case.criterion == STEP_FIRST else (case.entry, case.call)
         kind = case.call.kind
         before, after = ([shown_call(text, kind) for text in texts] for texts in (case.evidence.before, case.evidence.after))
-        self.add(self.entry_line(case, case.call), case.call)
-        self.add(self.entry_line(case, case.entry), case.entry)
+        for call in (case.call, case.entry):
+            line = f"entry {call.id} is {named(call)}"
+            self.add(line if call.transaction == case.transaction else with_fate(line, call, case.line), call)
         start = f"after {', '.join(call.text for call in before)}: " if before else "from the empty state: "
         tail = "".join(f", then {call.text}" for call in after)
         turned, verdict = turned_order(before, [second, first, *after])
         self.add(f"{start}{first.text}, then {second.text}{tail}: each result is right")
         self.add(f"{'turned:'.ljust(len(start))}{turned}: {verdict}")
-
-    @staticmethod
-    def entry_line(case, call):
-        if call.transaction == case.transaction:
-            return f"entry {call.id} is {named(call)}"
-        return f"entry {call.id} is {named(call)}, {fate(call, case.line)}".rstrip(", ")
 
 
 def shown_call(text, kind):

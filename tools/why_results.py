@@ -2,7 +2,7 @@
 from explanation import Explanation
 from phrases import by_whom, named, with_fate
 from recorded_run import result_text
-from sequential import (PUTS, TAKES, Register, addition, found_by, new_place, writes, written_value)
+from sequential import PUTS, TAKES, Register, addition, changes, found_by, new_place, writes, written_value
 from verified_program import result_of
 
 SET_WORDS = {True: "present", False: "absent"}
@@ -12,17 +12,17 @@ MOST_NAMED = 3
 class WrongResult(Explanation):
     """A call whose recorded result differs from what it returns in its log.
 
-    `log` has the calls before it in that log. `place` is what they leave where the call is made.
-    `removed` is the call that the step withdraws or gives up, or None.
+    `whole_log` has the calls of that log, and `removed` is the one that the step withdraws or gives up, or None.
+    `log` has those before the call at its place, and `place` is what they leave there.
     """
 
-    def __init__(self, case, log, log_words, removed=None):
+    def __init__(self, case, whole_log, log_words, removed=None):
         super().__init__()
         self.run, self.line, self.call, self.log_words = case.run, case.line, case.entry, log_words
         self.gives = result_of(case.evidence.gives)
-        self.log = [call for call in log if call.place == self.call.place]
-        self.in_log = {call.id for call in self.log}
         self.removed = removed
+        self.in_log = {call.id for call in whole_log if call is not removed}
+        self.log = [call for call in up_to(whole_log, self.call) if call.place == self.call.place and call is not removed]
         self.is_cut = case.is_cut
         self.place = new_place(self.call.kind)
         for call in self.log:
@@ -36,6 +36,7 @@ class WrongResult(Explanation):
             self.explain_counter()
         else:
             self.explain_items()
+        self.explain_undone_change()
 
     def explain_call(self):
         where = "" if self.call.line == self.line else f" (line {self.call.line})"
@@ -59,15 +60,22 @@ class WrongResult(Explanation):
         recorded = found_by(self.call)
         texts = [f"{self.found_text(recorded)} (recorded)", f"{self.value_text(self.place.value)} (right)"]
         width = max(map(len, texts))
+        is_first = recorded.matches(new_place(self.call.kind).value)
         writer = next((call for call in self.calls_here() if writes(call) and recorded.matches(written_value(call))), None)
+        if is_first and writer is not None and self.is_later(writer):
+            writer = None
         self.recorded_by, self.right_by = writer, self.place.left_by
-        later = "only later " if writer is not None and writer.line > self.call.line else ""
-        self.say_writer(texts[0].ljust(width), writer, recorded.matches(new_place(self.call.kind).value), later)
-        self.say_writer(texts[1].ljust(width), self.place.left_by, True, "")
+        self.say_writer(texts[0].ljust(width), writer, is_first)
+        self.say_writer(texts[1].ljust(width), self.place.left_by, True)
 
-    def say_writer(self, value, writer, is_first, later):
+    def is_later(self, call):
+        """Whether a call was made after the failing one, so that it cannot be what that found."""
+        return call.line > self.call.line and call.id not in self.in_log
+
+    def say_writer(self, value, writer, is_first):
         verb = "left" if self.call.kind == "set" else "written"
         if writer is not None:
+            later = "only later " if self.is_later(writer) else ""
             self.say(f"{value} was {verb} {later}by {by_whom(writer, self.call)}", writer)
         elif is_first:
             self.add(f"{value} is what is there before any call")
@@ -134,10 +142,25 @@ class WrongResult(Explanation):
         if put is None:
             self.add(f"{value} (recorded) was put in by no call of this run")
         else:
-            later = "only later " if put.line > self.call.line else ""
+            later = "only later " if self.is_later(put) else ""
             self.say(f"{value} (recorded) was put in {later}by {by_whom(put, self.call)}", put)
         if take is not None and take.line <= self.line:
             self.say(f"{value} (recorded) was taken out by {by_whom(take, self.call)}", take)
+
+    def explain_undone_change(self):
+        """Names the last change here that was undone after the right value was left: perhaps not all of it was undone.
+
+        In style optimistic others do not see such a change, unless the memory has another mistake. So there it is named
+        only if nobody before left the recorded value.
+        """
+        since = 0 if self.right_by is None else self.right_by.line
+        undone = [call for call in self.calls_here() if changes(call) and since < (call.taken_back_line or 0) <= self.line]
+        last = max(undone, key=lambda call: (call.taken_back_line, call.line), default=None)
+        is_explained = self.recorded_by is not None and not self.is_later(self.recorded_by)
+        if last is None or (self.run.style == "optimistic" and is_explained):
+            return
+        if not any(call.attempt is last.attempt for call in self.named):
+            self.add(with_fate(f"undone before it: {last.text} by {by_whom(last, self.call)}", last, self.line), last)
 
 
 def by_attempt(calls):
@@ -148,10 +171,6 @@ def by_attempt(calls):
     return attempts.values()
 
 
-def without(log, removed):
-    return [call for call in log if call is not removed]
-
-
 def up_to(log, entry):
     """The calls of a log before an entry, or all if it does not have it."""
     return log[:log.index(entry)] if entry in log else log
@@ -160,12 +179,9 @@ def up_to(log, entry):
 def wrong_result(case):
     """The explanation of APP 4, PUSH 5, PULL 4, UNPUSH 4, UNPULL 3 and START 2."""
     rule = case.criterion[0]
+    removed = case.call if rule in ("UNPUSH", "UNPULL") else None
     if rule == "START":
-        return WrongResult(case, up_to(case.run.start.attempts[0].calls, case.entry), "the start")
+        return WrongResult(case, case.run.start.attempts[0].calls, "the start")
     if rule in ("PUSH", "UNPUSH"):
-        log, words = case.logs.shared_calls(), "the shared log"
-    else:
-        log, words = case.logs.local_calls(case.transaction), f"the local log of {case.transaction}"
-    if rule in ("APP", "PUSH", "PULL"):
-        return WrongResult(case, log, words)
-    return WrongResult(case, up_to(without(log, case.call), case.entry), words, case.call)
+        return WrongResult(case, case.logs.shared_calls(), "the shared log", removed)
+    return WrongResult(case, case.logs.local_calls(case.transaction), f"the local log of {case.transaction}", removed)

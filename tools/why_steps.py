@@ -2,8 +2,8 @@
 entry is not where the step needs it, or something is left undone at the end of a transaction."""
 import json
 
-from explanation import Explanation, first_line
-from phrases import ENDS, fate, is_of_start, named
+from explanation import Explanation
+from phrases import ENDS, named, with_fate
 from replay import PULLED
 
 MOST_CALLS = 12
@@ -35,10 +35,10 @@ def not_open(case):
 
 def name_used(case):
     """BEGIN 1."""
-    first = case.run.transactions[case.transaction].attempts[0]
-    where = "is that of the start's transaction" if first.end_step is None and first.thread is None \
-        else f"was used on line {first_line(first)}"
-    explanation = explained(f"the name {case.transaction} {where}")
+    first, start = case.run.transactions[case.transaction].attempts[0], case.run.start
+    is_of_start = start is not None and start.name == case.transaction
+    used = "is that of the start's transaction" if is_of_start else f"was used on line {first.begin_line}"
+    explanation = explained(f"the name {case.transaction} {used}")
     explanation.attempts.append(first)
     return explanation
 
@@ -51,7 +51,7 @@ def thread_taken(case):
             is_open = attempt.end_line is None or attempt.end_line > case.line
             if attempt.thread == thread and is_open and attempt.begin_line is not None and attempt.begin_line < case.line:
                 end = "has no end in this run" if attempt.end_line is None else f"ends only on line {attempt.end_line}"
-                line = f"{transaction.name} began on thread {thread} on line {attempt.begin_line}, and {end}"
+                line = f"{transaction.name} is open on thread {thread} since line {attempt.begin_line}, and {end}"
                 explanation = explained(line)
                 explanation.attempts.append(attempt)
                 return explanation
@@ -103,9 +103,8 @@ def not_published(case):
 
 def not_committed(case):
     """CMT 4."""
-    end = "" if is_of_start(case.entry) else f", {fate(case.entry, case.line)}"
-    line = f"entry {case.entry.id}, which {case.transaction} took over, is {named(case.entry)}{end}"
-    return explained(line, case.entry)
+    line = f"entry {case.entry.id}, which {case.transaction} took over, is {named(case.entry)}"
+    return explained(with_fate(line, case.entry, case.line), case.entry)
 
 
 def left_in_log(case):

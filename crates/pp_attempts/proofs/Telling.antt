@@ -1,6 +1,6 @@
 -- What is told of an accepted run, by its machine and its steps.
 use Rattle.std.specs.Prelude.{◌≡◌, ◌≤◌, ◌<◌, ◌+◌, ◌*◌, ℕ, IsTrue, Bool, true, false, List, [], ◌∷◌, length, map, nat_lt, cond}
-use Rattle.std.specs.Prelude.{Option, None, Some}
+use Rattle.std.specs.Prelude.{Option, None, Some, ◌⊎◌}
 use Rattle.std.proofs.Common.{refl, sym, ap, ◌∙◌, subst, arith}
 use Rattle.std.proofs.lemmas.Bool.Decides.{nat_tests}
 use Rattle.std.proofs.lemmas.List.{length-append, length-map}
@@ -29,6 +29,7 @@ use Rattle.pp_object.specs.declared.states.ObjectState.{ObjectState}
 use Rattle.pp_report.specs.Reports.{accepted_text}
 use Rattle.pp_rules.specs.Machines.{Seen}
 use Rattle.pp_spec.specs.Object.{AllRanged, state_after}
+use Rattle.pp_styles.specs.Costs.{singles}
 use Rattle.pp_views.specs.declared.peak.Peak.{Peak}
 use Rattle.pp_views.specs.Peaks.{IsOrderly, operations, peaks}
 use Rattle.pp_views.specs.declared.view.View.{View}
@@ -41,7 +42,8 @@ use Rattle.pp_certify.proofs.Counting.{is_run_so_far, run_so_far}
 use Rattle.pp_certify.proofs.Covering.{rejected_sound, running_sound}
 use Rattle.pp_certify.proofs.Keeping.{kept_of}
 use Rattle.pp_certify.specs.Accepted.{HasRun}
-use Rattle.pp_certify.specs.Costs.{StepsCostAtMost, start_behind, steps_at_most}
+use Rattle.pp_certify.specs.Certified.{IsDecided}
+use Rattle.pp_certify.specs.Costs.{OfRun, StepsCostAtLeast, StepsCostAtMost, start_behind, steps_at_most}
 use Rattle.pp_certify.specs.Inputs.{IsFaultOf, scan}
 use Rattle.pp_certify.specs.Objects.{object_of, start_of}
 use Rattle.pp_certify.specs.Progresses.{IsRejected}
@@ -188,6 +190,16 @@ steps_most sc old new most run is =
   where
     more_room : (old new a b : ℕ) → new ≤ old + a → new ≤ old + (a + b)
     more_room old new a b x = omega (arith, x)
+
+-- looking for the views takes nothing from what the counter shows
+pub viewed_least : (sc : InputScan) (status : Status) (old now new : ℕ) → (status ≡ statuses.Accepted) ⊎ (status ≡ statuses.TooLarge) → IsDecided status
+    → (OfRun sc.header sc.records λ start steps. old + singles steps ≤ now) → now ≤ new → StepsCostAtLeast status sc old new
+viewed_least sc status old now new (inl accepted) decided least rises =
+    subst (λ (s : Status). StepsCostAtLeast s sc old new) (sym accepted) (λ run is. more old now new (singles (bare run)) (least run is) rises)
+  where
+    more : (old now new a : ℕ) → old + a ≤ now → now ≤ new → old + a ≤ new
+    more old now new a x y = omega (arith, x, y)
+viewed_least sc status old now new (inr large) decided least rises = absurd (subst IsDecided large decided)
 
 -- where the peaks are not too many, this is the cost of looking for their views
 pub few_cost : (D : List (CommittedTx Op)) (steps : List (Step Op)) → operations (peaks steps) ≤ MOST_VIEWED

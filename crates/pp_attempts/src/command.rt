@@ -6,6 +6,7 @@ ghost use Rattle.pp_io.specs.Faults.{HasRisen};
 ghost use Rattle.pp_reading.specs.declared.stop.Failure.TheVariants.{ReadFault};
 ghost use Rattle.pp_reading.specs.Sources.{WhereTold};
 ghost use Rattle.pp_certify.specs.Certified.{IsDecided};
+ghost use Rattle.pp_certify.specs.Costs.{StepsCostAtLeast};
 ghost use Rattle.pp_certify.specs.Inputs.{ReadsNoFault, scan};
 ghost use Rattle.pp_certify.specs.Rejected.{IsEvident};
 ghost use Rattle.pp_attempts.specs.Costs.{ViewsCostAtMost};
@@ -41,6 +42,8 @@ pub fn views<S: Source, L: Ledger>(
     ensures faultless { ¬ IsErrOf result ReadFault → S.faults source.new ≡ S.faults source.old }
     ensures most { WhereTold (S.left source.old) λ bytes.
         ViewsCostAtMost (scan bytes) ticks.old ticks.new }
+    ensures least { IfOk result (λ r. IsDecided r.0 → WhereTold (S.left source.old) λ bytes.
+        StepsCostAtLeast r.0 (scan bytes) ticks.old ticks.new) }
 {
     let (finding, steps) = examine_steps(alloc, source, ticks)?;
     match finding {

@@ -5,6 +5,7 @@ ghost use Rattle.pp_reading.specs.declared.stop.Failure.TheVariants.{ReadFault};
 ghost use Rattle.pp_reading.specs.Sources.{WhereTold};
 ghost use Rattle.pp_styles.specs.Meanings.{meanings};
 ghost use Rattle.pp_certify.specs.Costs.{StepsCostAtMost};
+ghost use Rattle.pp_certify.specs.Findings.{StepsCounted};
 ghost use Rattle.pp_certify.specs.Inputs.{ReadsNoFault, scan};
 ghost use Rattle.pp_attempts.specs.Taken.{FindsSteps};
 
@@ -34,6 +35,8 @@ pub(crate) fn examine_steps<S: Source, L: Ledger>(
     ensures faultless { ¬ IsErrOf result ReadFault → S.faults source.new ≡ S.faults source.old }
     ensures most { WhereTold (S.left source.old) λ bytes.
         StepsCostAtMost (scan bytes) ticks.old ticks.new }
+    ensures least { IfOk result (λ r. WhereTold (S.left source.old) λ bytes.
+        StepsCounted (scan bytes) r.0 ticks.old ticks.new) }
 {
     match read_lines(alloc, source, RunSteps::new(alloc), ticks) {
         Ok(taken) => Ok((conclude(taken.progress), taken.steps)),

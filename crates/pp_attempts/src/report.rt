@@ -35,6 +35,7 @@ fn run_views<L: Ledger>(
         × HasSteps sc tally.now machine.now steps × (found.now ≡ peaks steps) }
     ensures views { IfOk result
         (AreViews (object_of tally.now.header) machine.now.config.done found.now) }
+    ensures rises { ticks.old ≤ ticks.new }
     ensures bound { ticks.new ≤ ticks.old + length (serial_ops machine.now.config.done)
         + 2 * ((length machine.now.config.done + 1) * operations found.now) }
 {
@@ -57,6 +58,7 @@ fn views_told<L: Ledger>(
     ensures told { IfOk result (λ text. (sc : InputScan) (steps : List (StepOf Op)) →
         HasSteps sc tally.now machine.now steps → found.now ≡ peaks steps →
         operations (peaks steps) ≤ MOST_VIEWED → IsRunTold sc statuses.Accepted text) }
+    ensures rises { ticks.old ≤ ticks.new }
     ensures bound { ticks.new ≤ ticks.old + length (serial_ops machine.now.config.done)
         + 2 * ((length machine.now.config.done + 1) * operations found.now) }
 {
@@ -79,6 +81,7 @@ pub(crate) fn report_views<L: Ledger>(
         HasSteps sc tally.now machine.now (meanings steps.now) → IsRunTold sc r.0 r.1) }
     ensures status { IfOk result (λ r.
         (r.0 ≡ statuses.Accepted) ⊎ (r.0 ≡ statuses.TooLarge)) }
+    ensures rises { ticks.old ≤ ticks.new }
     ensures bound { ticks.new
         ≤ ticks.old + viewing_at_most machine.now.config.done (meanings steps.now) }
 {

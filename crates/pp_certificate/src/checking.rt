@@ -1,10 +1,13 @@
 //! The lines of an input, taken as those of a certificate.
-ghost use Rattle.std.specs.Prelude.{◌≡◌, ◌+◌, ◌<◌, ◌≤◌, ℕ, List, [], true, false, IfOk};
+ghost use Rattle.std.specs.Prelude.{◌≡◌, ◌+◌, ◌<◌, ◌≤◌, ℕ, List, [], true, false, Some};
+ghost use Rattle.std.specs.Prelude.{IfOk, IfSome, OnOk};
 ghost use Rattle.pp_core.specs.declared.limits.TheConstants.{MOST_LINES};
 ghost use Rattle.pp_io.specs.Lines.{blank};
-ghost use Rattle.pp_recheck.specs.Certificates.{Fresh};
-ghost use Rattle.pp_certificate.specs.Checkings.{read_in, Closes, Covers, CoversNamed, LeadsOn};
-ghost use Rattle.pp_certificate.specs.Checkings.{TakesLine};
+ghost use Rattle.pp_object.specs.Objects.{objects};
+ghost use Rattle.pp_recheck.specs.Certificates.{Fresh, shown_at};
+ghost use Rattle.pp_recheck.specs.Checking.{cost, serial_in};
+ghost use Rattle.pp_certificate.specs.Checkings.{line_in, read_in, Closes, Covers, CoversNamed};
+ghost use Rattle.pp_certificate.specs.Checkings.{LeadsOn, TakesLine};
 ghost use Rattle.pp_certificate.specs.declared.checking.Checking.TheVariants.{Before, Within};
 
 use crate::read::{read_line, read_objects};
@@ -80,6 +83,8 @@ fn take_later<L: Ledger>(
     requires few { checker.lines < MOST_LINES }
     requires other { blank line.now ≡ false }
     ensures taken { IfOk result (λ next. TakesLine (Within catalog checker) line.now next) }
+    ensures cost { OnOk result (ticks.new ≡ ticks.old
+        + cost objects checker.stage (line_in (Within catalog checker) line.now)) }
     ensures rises { ticks.old ≤ ticks.new }
     ensures bound { ticks.new ≤ ticks.old + 1 }
 {
@@ -99,6 +104,8 @@ fn take_any<L: Ledger>(
 ) -> Result<Result<Checking, Refusal>, OutOfMemory>
     requires few { (read_in checking).lines < MOST_LINES }
     ensures taken { IfOk result (λ next. TakesLine checking line.now next) }
+    ensures cost { OnOk result (ticks.new ≡ ticks.old
+        + cost objects (read_in checking).stage (line_in checking line.now)) }
     ensures rises { ticks.old ≤ ticks.new }
     ensures bound { ticks.new ≤ ticks.old + 1 }
 {
@@ -119,6 +126,9 @@ fn close_over<L: Ledger>(
 ) -> Result<Option<(Catalog, Shown<Kinds, ObjectStates, Op>)>, OutOfMemory>
     ensures closes { IfOk result (λ found. (lines : List (List ℕ)) →
         CoversNamed lines catalog checker → Closes lines found) }
+    ensures shown { IfOk result (λ found.
+        IfSome found (λ some. Some some.1 ≡ shown_at objects checker.stage)) }
+    ensures cost { OnOk result (ticks.new ≡ ticks.old + serial_in checker.stage) }
     ensures rises { ticks.old ≤ ticks.new }
     ensures bound { ticks.new ≤ ticks.old + checker.lines }
 {
@@ -159,6 +169,8 @@ impl Checking {
         ensures taken { IfOk result (λ next. TakesLine self text.now next) }
         ensures leads { IfOk result (λ next. (lines : List (List ℕ)) →
             Covers lines self → LeadsOn lines text.now next) }
+        ensures cost { OnOk result (ticks.new ≡ ticks.old
+            + cost objects (read_in self).stage (line_in self text.now)) }
         ensures rises { ticks.old ≤ ticks.new }
         ensures bound { ticks.new ≤ ticks.old + 1 }
     {
@@ -173,6 +185,10 @@ impl Checking {
     ) -> Result<Option<(Catalog, Shown<Kinds, ObjectStates, Op>)>, OutOfMemory>
         ensures closes { IfOk result (λ found. (lines : List (List ℕ)) →
             Covers lines self → Closes lines found) }
+        ensures shown { IfOk result (λ found.
+            IfSome found (λ some. Some some.1 ≡ shown_at objects (read_in self).stage)) }
+        ensures cost { IfOk result (λ found.
+            IfSome found (λ some. ticks.new ≡ ticks.old + serial_in (read_in self).stage)) }
         ensures rises { ticks.old ≤ ticks.new }
         ensures bound { ticks.new ≤ ticks.old + (read_in self).lines }
     {

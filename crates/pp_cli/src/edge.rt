@@ -19,6 +19,13 @@ impl<R: Read + Drop> StdSource<R> {
     {
         StdSource { stream, faults: 0 }
     }
+
+    /// The reader.
+    pub fn into_stream(self) -> R
+        ensures { result ≡ self.stream }
+    {
+        self.stream
+    }
 }
 
 impl<R: Read + Drop> Source for StdSource<R> {

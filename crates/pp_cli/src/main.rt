@@ -1,7 +1,7 @@
 //! Certifies that a recorded run of a transactional memory is a run of the Push/Pull machine.
 #![tactic(auto)]
 
-ghost use Rattle.std.specs.Prelude.{◌≡◌, ℕ, None};
+ghost use Rattle.std.specs.Prelude.{◌≡◌, None};
 ghost use Rattle.pp_run.specs.Outcomes.{outcome};
 ghost use Rattle.pp_run.specs.Runs.{RunPromise};
 ghost use Rattle.pp_run.specs.Streams.{counts};
@@ -15,7 +15,6 @@ mod words;
 use crate::edge::{StdSink, StdSource};
 use crate::words::collect_words;
 use pp_core::{OutOfMemory, Status, Ticks, Words};
-use pp_io::{Sink, Source};
 use pp_run::run;
 use std::alloc::Global;
 use std::io::{self, Read, Write};
@@ -26,33 +25,29 @@ use std::sync::ledger::{Blank, Ledger};
 /// The status where the system does not give the words.
 const NO_WORDS: u8 = 8;
 
-/// Does a command with a counter of operations of its own, which begins at 0.
-fn run_counted<L: Ledger, S: Source, K: Sink>(
-    alloc: Global,
-    words: &Words,
-    source: &mut S,
-    sink: &mut K,
-    blank: Blank,
-) -> Status
-    requires name { blank.name ≡ L.name }
-    requires parts { blank.parts ≡ L.parts }
-    requires one { L.parts ≡ 1 }
-    ensures promise { (operations : ℕ) × RunPromise (source.new ≡ source.old) (sink.new ≡ sink.old)
-        (command_of words.now)
-        (outcome (S.left source.old) (S.left source.new) (K.held sink.old) (K.held sink.new)
-        result 0 operations)
-        (K.sent sink.old) (K.sent sink.new)
-        (counts (S.faults source.old) (S.faults source.new) (K.faults sink.old) (K.faults sink.new)
-        (K.refusals sink.old) (K.refusals sink.new) (K.flushes sink.old) (K.flushes sink.new)) }
-{
-    let mut ticks = Ticks::<L>::new(blank);
-    run(alloc, words, source, sink, &mut ticks)
-}
-
 /// All that `main` does once it has its arguments, over any reader and any writer. It promises what
 /// `run` promises, of the bytes that the reader has left and that the writer holds. The code is the
 /// same for all of them, so it treats the streams of the system as those whose bytes are known.
 pub fn run_streams<L: Ledger, R: Read + Drop, W: Write + Drop>(
+    alloc: Global,
+    words: &Words,
+    source: &mut StdSource<R>,
+    sink: &mut StdSink<W>,
+    ticks: &mut Ticks<L>,
+) -> Status
+    ensures promise { RunPromise (source.new ≡ source.old) (sink.new ≡ sink.old)
+        (command_of words.now)
+        (outcome (R.remaining source.old.stream) (R.remaining source.new.stream)
+        (W.contents sink.old.stream) (W.contents sink.new.stream) result ticks.old ticks.new)
+        None None
+        (counts source.old.faults source.new.faults sink.old.faults sink.new.faults
+        0 0 sink.old.flushes sink.new.flushes) }
+{
+    run(alloc, words, source, sink, ticks)
+}
+
+/// Does that with a counter of its own.
+fn run_counted<L: Ledger, R: Read + Drop, W: Write + Drop>(
     alloc: Global,
     words: &Words,
     source: &mut StdSource<R>,
@@ -62,15 +57,9 @@ pub fn run_streams<L: Ledger, R: Read + Drop, W: Write + Drop>(
     requires name { blank.name ≡ L.name }
     requires parts { blank.parts ≡ L.parts }
     requires one { L.parts ≡ 1 }
-    ensures promise { (operations : ℕ) × RunPromise (source.new ≡ source.old) (sink.new ≡ sink.old)
-        (command_of words.now)
-        (outcome (R.remaining source.old.stream) (R.remaining source.new.stream)
-        (W.contents sink.old.stream) (W.contents sink.new.stream) result 0 operations)
-        None None
-        (counts source.old.faults source.new.faults sink.old.faults sink.new.faults
-        0 0 sink.old.flushes sink.new.flushes) }
 {
-    run_counted::<L, _, _>(alloc, words, source, sink, blank)
+    let mut ticks = Ticks::<L>::new(blank);
+    run_streams(alloc, words, source, sink, &mut ticks)
 }
 
 fn main(rt: HostRuntime) -> ExitCode {
@@ -82,6 +71,6 @@ fn main(rt: HostRuntime) -> ExitCode {
     };
     let mut source = StdSource::new(rt.reader());
     let mut sink = StdSink::new(io::writer(&rt));
-    let status = run_streams::<Brand, _, _>(alloc, &words, &mut source, &mut sink, Blank::new(1));
+    let status = run_counted::<Brand, _, _>(alloc, &words, &mut source, &mut sink, Blank::new(1));
     ExitCode::from(status.code())
 }

@@ -1,4 +1,6 @@
 //! What no clause says: that memory is found, and whole runs from their bytes to their report.
+ghost use Rattle.std.specs.Prelude.{◌≡◌};
+
 mod accepted_runs;
 mod commands;
 mod cut_runs;
@@ -18,7 +20,6 @@ mod style_faults;
 mod styled_runs;
 mod walks;
 
-use crate::run_counted;
 use crate::tests::accepted_runs::ACCEPTED;
 use crate::tests::commands::COMMANDS;
 use crate::tests::expanded_runs::{EXPANDED, OLD_READ};
@@ -33,14 +34,31 @@ use crate::tests::starts::STARTS;
 use crate::tests::style_faults::STYLE_FAULTS;
 use crate::tests::styled_runs::STYLED;
 use crate::words::collect_words;
-use pp_core::{Status, Words};
+use pp_core::{Status, Ticks, Words};
 use pp_drill::drill_run;
-use pp_io::{MemorySink, MemorySource, Source};
+use pp_io::{MemorySink, MemorySource, Sink, Source};
+use pp_run::run;
 use std::alloc::Global;
 use std::marker::Brand;
 use std::process::Abort;
-use std::sync::ledger::Blank;
+use std::sync::ledger::{Blank, Ledger};
 use std::test::Fail;
+
+/// Does a command over any source and sink, with a counter of operations of its own.
+fn run_with_counter<L: Ledger, S: Source, K: Sink>(
+    alloc: Global,
+    words: &Words,
+    source: &mut S,
+    sink: &mut K,
+    blank: Blank,
+) -> Status
+    requires name { blank.name ≡ L.name }
+    requires parts { blank.parts ≡ L.parts }
+    requires one { L.parts ≡ 1 }
+{
+    let mut ticks = Ticks::<L>::new(blank);
+    run(alloc, words, source, sink, &mut ticks)
+}
 
 /// The status of a command on an input.
 fn status_of(
@@ -49,7 +67,7 @@ fn status_of(
     sink: &mut MemorySink,
     alloc: Global,
 ) -> Status {
-    run_counted::<Brand, _, _>(alloc, words, source, sink, Blank::new(1))
+    run_with_counter::<Brand, _, _>(alloc, words, source, sink, Blank::new(1))
 }
 
 /// The status of a command of one word on an input, and what the sink holds.

@@ -129,7 +129,7 @@ module _ (sc : InputScan) (tally : Tally) (quick : Held (List Kind) Op) (c : Are
   pub serial_most : (old now new : ℕ) → RecordsCostAtMost sc old now → new ≤ now + length (serial_ops quick.brief.done) → QuickCostsAtMost sc old new
   serial_most old now new most cost = most_of old now new sc.header sc.records most cost serial_count
 
-  pub serial_least : (old now new : ℕ) → old + count_ops (bare sc.records) ≤ now → new ≡ now + length (serial_ops quick.brief.done) → QuickCostsAtLeast sc old new
+  pub serial_least : (old now new : ℕ) → old + count_ops (bare sc.records) ≤ now → new ≡ now + length (serial_ops quick.brief.done) → QuickCostsAtLeast statuses.Accepted sc old new
   serial_least old now new least cost run is =
       both_least old now new (count_ops (bare sc.records)) (serial_length (start_behind sc.header) (bare run)) (length (serial_ops quick.brief.done)) least cost (serial_count run is)
 

@@ -1,12 +1,14 @@
 -- How far the counter of operations rises, line by line.
-use Rattle.std.specs.Prelude.{◌≡◌, ◌≤◌, ◌+◌, ℕ, true, false, List, [], ◌∷◌, ◌++◌, Option, None, Some, Result, Ok, Err}
-use Rattle.std.proofs.Common.{refl, sym, ap, subst, arith}
+use Rattle.std.specs.Prelude.{◌≡◌, ◌≤◌, ◌+◌, ℕ, length, true, false, List, [], ◌∷◌, ◌++◌, filter, Option, None, Some, Result, Ok, Err}
+use Rattle.std.proofs.Common.{refl, sym, ap, ◌∙◌, subst, arith, append_assoc}
+use Rattle.std.proofs.lemmas.List.{length-append}
+use Rattle.std.proofs.lemmas.List.Elements.{filter-append}
 use mathlib.Core.Logic.{inl, inr}
 use Rattle.pp_core.specs.declared.answer.OutOfMemory.{OutOfMemory}
 use Rattle.pp_core.specs.declared.call.Kind.{Kind}
 use Rattle.pp_front.specs.Records.{RunRecord}
 use Rattle.pp_front.specs.Runs.{Lined, Records, bare}
-use Rattle.pp_front.proofs.Ends.{bare_append}
+use Rattle.pp_front.proofs.Ends.{bare_append, heads, tails}
 use Rattle.pp_io.specs.Lines.{NumberedLine, blank}
 use Rattle.pp_json.specs.declared.fault.RecordFault.{RecordFault}
 use Rattle.pp_json.specs.declared.header.Header.{Header}
@@ -18,23 +20,26 @@ use Rattle.pp_object.specs.Objects.{place_of}
 use Rattle.pp_quick.specs.Brief.{Brief, brief_then}
 use Rattle.pp_quick.specs.Held.{Held, TakeCosts, take_most}
 use Rattle.pp_quick.specs.Runs.{brief_after}
-use Rattle.pp_quick.specs.Sums.{AreTried, count_ops, records_most}
+use Rattle.pp_quick.specs.Failures.{FailsIn}
+use Rattle.pp_quick.specs.Sums.{AreTried, count_ops, is_op, records_most}
+use Rattle.pp_quick.proofs.Failures.{failure_law}
 use Rattle.pp_quick.proofs.Sums.{sum_law}
 use Rattle.pp_reading.specs.declared.cause.Cause.{Cause}
 use Rattle.pp_certify.specs.Causes.{cause_of}
 use Rattle.pp_certify.specs.Costs.{start_at_most}
-use Rattle.pp_certify.specs.Objects.{object_of, start_of}
+use Rattle.pp_certify.specs.Objects.{object_of, start_of, translation_of}
 use Rattle.pp_certify.specs.Progresses.{header_at_most, is_too_many, with_record}
 use Rattle.pp_certify.specs.Scans.{InputScan, nothing, scan_line, with_fault, with_header, with_next}
 use Rattle.pp_certify.specs.declared.progress.Tally.{Tally}
 use Rattle.pp_certify.proofs.Counting.{add_le, up_more}
 use Rattle.pp_certify.proofs.Covering.{on_record, scan_next}
 use Rattle.pp_certify.proofs.Scanning.{scan_blank}
-use Rattle.pp_decide.specs.Costs.{OfTried, RecordsCostAtMost, first_brief, tried_most}
-use Rattle.pp_decide.specs.Taking.{AreGood, Counts, Covers, HasFailed, good_ops, with_blank}
+use Rattle.pp_decide.specs.Costs.{OfTaken, OfTried, RecordsCostAtMost, first_brief, tried_most}
+use Rattle.pp_decide.specs.Decisions.{FailsOn}
+use Rattle.pp_decide.specs.Taking.{AreGood, Counts, Covers, HasFailed, TakenCounted, with_blank}
 use Rattle.pp_decide.specs.declared.deciding.Deciding.{Deciding}
 use Rattle.pp_decide.specs.declared.deciding.Deciding.TheVariants.{Waiting, Running, Rejected}
-use Rattle.pp_decide.proofs.Covering.{covers_sound, header_scan}
+use Rattle.pp_decide.proofs.Covering.{covers_sound, headed, header_scan}
 use Rattle.pp_decide.proofs.Readers.{all_tried, brief_is, good_runs}
 
 -- ---- numbers
@@ -48,8 +53,14 @@ tried_next old now new s m t u n x y e z = omega (arith, x, y, e, z)
 ops_next : (old now new a b : ℕ) → old + a ≤ now → now + b ≤ new + a → old + b ≤ new
 ops_next old now new a b x y = omega (arith, x, y)
 
-no_ops : (old now new a : ℕ) → old + a ≤ now → now ≤ new → old + 0 ≤ new
-no_ops old now new a x y = omega (arith, x, y)
+fewer_ops : (old now new a b : ℕ) → old + a ≤ now → now ≤ new → b ≤ a → old + b ≤ new
+fewer_ops old now new a b x y e = omega (arith, x, y, e)
+
+no_ops : (old new : ℕ) → old ≤ new → old + 0 ≤ new
+no_ops old new x = omega (arith, x)
+
+still_up : (old now new : ℕ) → old ≤ now → now ≤ new → old ≤ new
+still_up old now new x y = omega (arith, x, y)
 
 started_by : (old now new s : ℕ) → now ≤ old + 0 → new ≤ now + s → new ≤ old + (s + 0)
 started_by old now new s x y = omega (arith, x, y)
@@ -113,7 +124,7 @@ counts_nothing old = record { most = same old; least = same_too old }
     same : (n : ℕ) → n ≤ n + 0
     same n = omega arith
 
-    same_too : (n : ℕ) → n + 0 ≤ n
+    same_too : (n : ℕ) → n ≤ n
     same_too n = omega arith
 
 -- ---- the header
@@ -137,23 +148,78 @@ header_cost sc line lines old now new none other cost counts =
     let before : RecordsCostAtMost nothing old now = subst (λ (s : InputScan). RecordsCostAtMost s old now) none counts.most in
     subst (λ (s : InputScan). RecordsCostAtMost s old new) (sym (header_scan sc line (header_of line.1) none other refl)) (header_most line.0 (header_of line.1) old now new before cost)
 
--- no record is good yet
-none_good : (line : ℕ) (header : Header) (next : Deciding) → good_ops (with_header nothing line (Ok header)) next ≡ 0
-none_good line header (Waiting lines) = refl
-none_good line header (Running tally quick) = refl
-none_good line header (Rejected tally at) = refl
+-- no record of an empty list fails
+no_parts : {A : Type 0} (b z : List A) (x : A) → [] ≡ b ++ x ∷ z → ⊥
+no_parts [] z x e = absurd (cc)
+no_parts (y ∷ b) z x e = absurd (cc)
+
+-- no record was taken yet
+none_taken : (line : ℕ) (header : Header) (next : Deciding) (old new : ℕ) → old ≤ new → TakenCounted (with_header nothing line (Ok header)) next old new
+none_taken line header (Waiting lines) old new up = up
+none_taken line header (Running tally quick) old new up = no_ops old new up
+none_taken line header (Rejected tally at) old new up = λ r f. absurd (no_parts f.before f.behind r f.parts)
 
 pub counts_header : (sc : InputScan) (line : NumberedLine) (header : Header) (lines : ℕ) (next : Deciding) (old now new : ℕ) → sc ≡ nothing → blank line.1 ≡ false → header_of line.1 ≡ Ok header
     → now ≤ new → new ≤ now + header_at_most (header_of line.1) → Counts sc (Waiting lines) old now → Counts (scan_line sc line) next old new
 counts_header sc line header lines next old now new none other read rises cost counts =
     let there : InputScan = with_header nothing line.0 (Ok header) in
-    let least : old + good_ops there next ≤ new = subst (λ (k : ℕ). old + k ≤ new) (sym (none_good line.0 header next)) (no_ops old now new 0 counts.least rises) in
+    let least : TakenCounted there next old new = none_taken line.0 header next old new (still_up old now new counts.least rises) in
     record {
       most = header_cost sc line lines old now new none other cost counts;
-      least = subst (λ (s : InputScan). old + good_ops s next ≤ new) (sym (header_scan sc line (Ok header) none other read)) least;
+      least = subst (λ (s : InputScan). TakenCounted s next old new) (sym (header_scan sc line (Ok header) none other read)) least;
     }
 
 -- ---- a record
+
+-- more records have no fewer operations
+ops_append : (xs ys : List (RunRecord Op)) → count_ops xs ≤ count_ops (xs ++ ys)
+ops_append xs ys =
+    let all = ap (λ (z : List (RunRecord Op)). length z) (filter-append is_op xs ys) in
+    let both = length-append (filter is_op xs) (filter is_op ys) in
+    omega (arith, all, both)
+
+-- what is before an element of `xs ++ y ∷ []` is the beginning of `xs`
+front_of : {A : Type 0} (xs b z : List A) (y x : A) → xs ++ y ∷ [] ≡ b ++ x ∷ z → (w : List A) × (xs ≡ b ++ w)
+front_of xs [] z y x e = (xs, refl)
+front_of [] (d ∷ b) z y x e = absurd (no_parts b z x (tails y d [] (b ++ x ∷ z) e))
+front_of {A} (g ∷ xs) (d ∷ b) z y x e =
+    let k = front_of xs b z y x (tails g d (xs ++ y ∷ []) (b ++ x ∷ z) e) in
+    (k.0, ap (λ (w : List A). g ∷ w) k.1 ∙ ap (λ (w : A). w ∷ (b ++ k.0)) (heads g d (xs ++ y ∷ []) (b ++ x ∷ z) e))
+
+ops_before : (rs before behind : Records (RunRecord Op)) (it r : Lined (RunRecord Op)) → rs ++ it ∷ [] ≡ before ++ r ∷ behind → count_ops (bare before) ≤ count_ops (bare rs)
+ops_before rs before behind it r e =
+    let k = front_of rs before behind it r e in
+    let same = ap (λ (z : Records (RunRecord Op)). count_ops (bare z)) k.1 in
+    let parted = ap (λ (z : List (RunRecord Op)). count_ops z) (bare_append before k.0) in
+    omega (arith, same, parted, ops_append (bare before) (bare k.0))
+
+-- the counter rises at least by this
+abbrev Least : ℕ → ℕ → List (RunRecord Op) → Type 0
+Least old new taken = old + count_ops taken ≤ new
+
+-- a record that fails, after those that were taken
+failed_least : (header : Lined Header) (rs : Records (RunRecord Op)) (it : Lined (RunRecord Op)) (old now new : ℕ) → old + count_ops (bare rs) ≤ now → now ≤ new → OfTaken (Some header) (rs ++ it ∷ []) (Least old new)
+failed_least header rs it old now new least rises r f =
+    fewer_ops old now new (count_ops (bare rs)) (count_ops (bare f.before)) least rises (ops_before rs f.before f.behind it r f.parts)
+
+-- a record after the one that fails
+passed_least : (header : Lined Header) (rs : Records (RunRecord Op)) (it : Lined (RunRecord Op)) (at old now : ℕ) → FailsOn header rs at → OfTaken (Some header) rs (Least old now) → OfTaken (Some header) (rs ++ it ∷ []) (Least old now)
+passed_least header rs it at old now (inl k) least r f = absurd (k.0 f.begun)
+passed_least header rs it at old now (inr k) least r f =
+    let O = object_of header.what in
+    let T = translation_of header.what in
+    let h = start_of header.what in
+    let own : FailsIn O T h rs k.0 = k.1 in
+    let wide : FailsIn O T h (rs ++ it ∷ []) k.0 = record {
+      begun = own.begun;
+      before = own.before;
+      behind = own.behind ++ it ∷ [];
+      parts = ap (λ (z : Records (RunRecord Op)). z ++ it ∷ []) own.parts ∙ append_assoc own.before (k.0 ∷ own.behind) (it ∷ []);
+      hold = own.hold;
+      fails = own.fails;
+    } in
+    let same : own.before ≡ f.before = ((failure_law O T).one h (rs ++ it ∷ []) k.0 r wide f).1 in
+    subst (λ (z : Records (RunRecord Op)). old + count_ops (bare z) ≤ now) same (least k.0 own)
 
 module _ (sc : InputScan) (tally : Tally) (quick : Held (List Kind) Op) (line : NumberedLine) (r : RunRecord Op) (old now new : ℕ) (c : AreGood sc tally quick) (other : blank line.1 ≡ false) (read : record_of tally.header line.1 ≡ Ok r)
     (few : is_too_many tally r ≡ false) (counts : Counts sc (Running tally quick) old now) where
@@ -192,11 +258,20 @@ module _ (sc : InputScan) (tally : Tally) (quick : Held (List Kind) Op) (line : 
   pub counts_bad : new ≤ now + take_most quick.brief r → now ≤ new → Counts (scan_line sc line) (Rejected (with_record tally r) line.0) old new
   counts_bad cost rises =
       subst (λ (s : InputScan). Counts s (Rejected (with_record tally r) line.0) old new) (sym (scan_next sc tally c.follows line other r read few))
-      (record { most = next_most cost; least = no_ops old now new (count_ops (bare sc.records)) counts.least rises })
+      (record {
+        most = next_most cost;
+        least = subst (λ (o : Option (Lined Header)). OfTaken o wider.records (Least old new)) (sym c.follows.header)
+            (failed_least (headed sc tally c.follows) sc.records it old now new counts.least rises);
+      })
 
 -- one behind one that fails
 pub counts_passed : (sc : InputScan) (tally : Tally) (at : ℕ) (line : NumberedLine) (r : RunRecord Op) (old now : ℕ) → HasFailed sc tally at → blank line.1 ≡ false → record_of tally.header line.1 ≡ Ok r → is_too_many tally r ≡ false
     → Counts sc (Rejected tally at) old now → Counts (scan_line sc line) (Rejected (with_record tally r) at) old now
 counts_passed sc tally at line r old now c other read few counts =
     subst (λ (s : InputScan). Counts s (Rejected (with_record tally r) at) old now) (sym (scan_next sc tally c.follows line other r read few))
-    (record { most = most_widens sc (with_next sc line.0 r) (on_record line.0 r ∷ []) old now (λ o is. is) refl counts.most; least = counts.least })
+    (record {
+      most = most_widens sc (with_next sc line.0 r) (on_record line.0 r ∷ []) old now (λ o is. is) refl counts.most;
+      least = subst (λ (o : Option (Lined Header)). OfTaken o (with_next sc line.0 r).records (Least old now)) (sym c.follows.header)
+          (passed_least (headed sc tally c.follows) sc.records (on_record line.0 r) at old now c.fails
+          (subst (λ (o : Option (Lined Header)). OfTaken o sc.records (Least old now)) c.follows.header counts.least));
+    })

@@ -166,7 +166,7 @@ records_cost first new bytes (front, back, is, taken) =
 ops_all : (first new : ℕ) (bytes : List ℕ) (p : Deciding) → Leads (scanned_lines bytes) p first new → OpsCounted (scan bytes) (conclusion_of p) first new
 ops_all first new bytes (Waiting lines) leads = tt
 ops_all first new bytes (Running tally quick) leads = leads.counts.least
-ops_all first new bytes (Rejected tally line) leads = tt
+ops_all first new bytes (Rejected tally line) leads = leads.counts.least
 
 -- where all lines were taken
 pub ops_counted : (first now : ℕ) (old new : Option (List ℕ)) (bytes : List ℕ) (p : Deciding) → IsAtEnd new → old ≡ Some bytes → ReadsAll (quick_reading first) old new (p, now) → OpsCounted (scan bytes) (conclusion_of p) first now

@@ -12,6 +12,7 @@ use Rattle.pp_certify.specs.Findings.{ReadsWhole}
 use Rattle.pp_certify.specs.Inputs.{scan}
 use Rattle.pp_certify.specs.Scans.{InputScan}
 use Rattle.pp_certify.specs.declared.progress.Tally.{Tally}
+use Rattle.pp_decide.specs.Costs.{TakenCostAtLeast}
 use Rattle.pp_decide.specs.Decisions.{IsDecisionTold, acceptance, quick_fault}
 use Rattle.pp_decide.specs.Taking.{AreGood, HasFailed}
 use Rattle.pp_decide.specs.declared.deciding.Deciding.{Deciding}
@@ -33,10 +34,11 @@ Concludes old new (Rejected line) =
     ReadsWhole old new λ sc. (tally : Tally) × HasFailed sc tally line
 Concludes old new (Accepted tally quick) = ReadsWhole old new λ sc. AreGood sc tally quick
 
--- where each record is good, the counter rose by one at least for each that is an operation
+-- the counter rose by one at least for each operation among the records that were taken, where there
+-- is a verdict
 abbrev pub OpsCounted : InputScan → Conclusion → (old new : ℕ) → Type 0
 OpsCounted sc (Faulty line cause) old new = Unit {0}
-OpsCounted sc (Rejected line) old new = Unit {0}
+OpsCounted sc (Rejected line) old new = TakenCostAtLeast sc old new
 OpsCounted sc (Accepted tally quick) old new = old + count_ops (bare sc.records) ≤ new
 
 -- the text of a run whose start and records are good

@@ -22,7 +22,7 @@ use Rattle.pp_certify.specs.Objects.{object_of, start_of}
 use Rattle.pp_certify.specs.Progresses.{IsTallied, with_line}
 use Rattle.pp_certify.specs.Scans.{InputScan, nothing, scan_lines}
 use Rattle.pp_certify.specs.declared.progress.Tally.{Tally}
-use Rattle.pp_decide.specs.Costs.{RecordsCostAtMost}
+use Rattle.pp_decide.specs.Costs.{RecordsCostAtMost, TakenCostAtLeast}
 use Rattle.pp_decide.specs.Decisions.{FailsOn, is_boosted, quick_fault}
 use Rattle.pp_decide.specs.declared.deciding.Deciding.{Deciding}
 use Rattle.pp_decide.specs.declared.deciding.Deciding.TheVariants.{Waiting, Running, Rejected}
@@ -60,16 +60,16 @@ Covers sc (Waiting lines) = sc ≡ nothing
 Covers sc (Running tally quick) = AreGood sc tally quick
 Covers sc (Rejected tally line) = HasFailed sc tally line
 
--- how many of the records are operations, where each is good
-abbrev pub good_ops : InputScan → Deciding → ℕ
-good_ops sc (Waiting lines) = 0
-good_ops sc (Running tally quick) = count_ops (bare sc.records)
-good_ops sc (Rejected tally line) = 0
+-- the counter rose by one at least for each operation among the records that were taken
+abbrev pub TakenCounted : InputScan → Deciding → (old new : ℕ) → Type 0
+TakenCounted sc (Waiting lines) old new = old ≤ new
+TakenCounted sc (Running tally quick) old new = old + count_ops (bare sc.records) ≤ new
+TakenCounted sc (Rejected tally line) old new = TakenCostAtLeast sc old new
 
 -- the records so far raised the counter, and each good one by what it costs
 pub record Counts (sc : InputScan) (at : Deciding) (old new : ℕ) : Type 0 where
   pub most : RecordsCostAtMost sc old new
-  pub least : old + good_ops sc at ≤ new
+  pub least : TakenCounted sc at old new
 
 -- these lines led to here, and raised the counter
 pub record Leads (lines : List NumberedLine) (at : Deciding) (old new : ℕ) : Type 0 where

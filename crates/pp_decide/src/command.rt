@@ -64,9 +64,8 @@ pub fn quick<S: Source, L: Ledger>(
     ensures faultless { ¬ IsErrOf result ReadFault → S.faults source.new ≡ S.faults source.old }
     ensures most { WhereTold (S.left source.old) λ bytes.
         QuickCostsAtMost (scan bytes) ticks.old ticks.new }
-    ensures least { IfOk result (λ r. r.0 ≡ statuses.Accepted →
-        WhereTold (S.left source.old) λ bytes.
-        QuickCostsAtLeast (scan bytes) ticks.old ticks.new) }
+    ensures least { IfOk result (λ r. IsDecided r.0 → WhereTold (S.left source.old) λ bytes.
+        QuickCostsAtLeast r.0 (scan bytes) ticks.old ticks.new) }
 {
     match read_run(alloc, source, ticks)? {
         Conclusion::Faulty(line, cause) => {

@@ -48,8 +48,8 @@ pub no_verdict_no_least : (k : Option Command) (left : Option (List ℕ)) (s : S
 no_verdict_no_least None left s old new none = tt
 no_verdict_no_least (Some Certify) left s old new none = λ decided. absurd (none decided)
 no_verdict_no_least (Some Expand) left s old new none = λ decided. absurd (none decided)
-no_verdict_no_least (Some Quick) left s old new none = λ accepted. absurd (none (subst IsDecided (sym accepted) tt))
+no_verdict_no_least (Some Quick) left s old new none = λ decided. absurd (none decided)
 no_verdict_no_least (Some Swaps) left s old new none = λ decided. absurd (none decided)
-no_verdict_no_least (Some Recheck) left s old new none = tt
-no_verdict_no_least (Some Views) left s old new none = tt
+no_verdict_no_least (Some Recheck) left s old new none = λ accepted. absurd (none (subst IsDecided (sym accepted) tt))
+no_verdict_no_least (Some Views) left s old new none = λ decided. absurd (none decided)
 no_verdict_no_least (Some (Drill n)) left s old new none = λ accepted. absurd (none (subst IsDecided (sym accepted) tt))

@@ -161,6 +161,7 @@ promised (Some Recheck) o a =
       prints = λ p bytes is. record { output = a.output p bytes is; only = a.only p bytes is };
       checked = a.checked refl;
       most = a.most;
+      least = a.least;
     }
 promised (Some Views) o a =
     record {
@@ -173,6 +174,7 @@ promised (Some Views) o a =
           let out = a.output (printed o statuses.Accepted e tt) bytes is in
           sees_kept bytes out.0 (subst (λ (s : Status). IsViews bytes s out.0) e out.1);
       most = a.most;
+      least = a.least;
     }
 promised (Some (Drill n)) o a =
     record {

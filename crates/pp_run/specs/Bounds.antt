@@ -9,7 +9,7 @@ use Rattle.pp_certify.specs.Inputs.{scan}
 use Rattle.pp_attempts.specs.Costs.{ViewsCostAtMost}
 use Rattle.pp_decide.specs.Costs.{QuickCostsAtLeast, QuickCostsAtMost}
 use Rattle.pp_drill.specs.Reports.{drill_scan}
-use Rattle.pp_verify.specs.Costs.{CheckCostsAtMost}
+use Rattle.pp_verify.specs.Costs.{CheckCostsAtLeast, CheckCostsAtMost}
 use Rattle.pp_run.specs.declared.words.Command.{Command}
 use Rattle.pp_run.specs.declared.words.Command.TheVariants.{Certify, Drill, Expand, Quick}
 use Rattle.pp_run.specs.declared.words.Command.TheVariants.{Recheck, Swaps, Views}
@@ -32,20 +32,23 @@ RisesAtMost (Some Views) left old new =
 RisesAtMost (Some (Drill n)) left old new = CostsAtMost (drill_scan n) old new
 
 -- With this status the counter rises at least by one for each step that applies or takes back one
--- operation and meets its criteria; under `quick`, at accepted alone, for each record that is an
--- operation. `certify`, `quick` and `drill` compute the serial run of an accepted run too. Of
--- `recheck` and `views` nothing is said.
+-- operation and meets its criteria; under `quick` for each record that is an operation, before the
+-- one that fails if one does. `certify`, `quick` and `drill` compute the serial run of an accepted
+-- run too. Under `recheck`, at accepted alone, it rises by one for each entry and for each serial
+-- entry.
 abbrev pub RisesAtLeast : Option Command → Option (List ℕ) → Status → (old new : ℕ) → Type 0
 RisesAtLeast None left status old new = Unit {0}
 RisesAtLeast (Some Certify) left status old new = IsDecided status →
     WhereTold left λ bytes. CostsAtLeast status (scan bytes) old new
 RisesAtLeast (Some Expand) left status old new = IsDecided status →
     WhereTold left λ bytes. StepsCostAtLeast status (scan bytes) old new
-RisesAtLeast (Some Quick) left status old new = status ≡ statuses.Accepted →
-    WhereTold left λ bytes. QuickCostsAtLeast (scan bytes) old new
+RisesAtLeast (Some Quick) left status old new = IsDecided status →
+    WhereTold left λ bytes. QuickCostsAtLeast status (scan bytes) old new
 RisesAtLeast (Some Swaps) left status old new = IsDecided status →
     WhereTold left λ bytes. StepsCostAtLeast status (scan bytes) old new
-RisesAtLeast (Some Recheck) left status old new = Unit {0}
-RisesAtLeast (Some Views) left status old new = Unit {0}
+RisesAtLeast (Some Recheck) left status old new = status ≡ statuses.Accepted →
+    WhereTold left λ bytes. CheckCostsAtLeast bytes old new
+RisesAtLeast (Some Views) left status old new = IsDecided status →
+    WhereTold left λ bytes. StepsCostAtLeast status (scan bytes) old new
 RisesAtLeast (Some (Drill n)) left status old new = status ≡ statuses.Accepted →
     CostsAtLeast statuses.Accepted (drill_scan n) old new

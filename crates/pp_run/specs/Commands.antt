@@ -19,7 +19,7 @@ use Rattle.pp_drill.specs.Text.{drill_text}
 use Rattle.pp_exchanges.specs.Prints.{PrintsCertificate}
 use Rattle.pp_exchanges.specs.Swaps.{IsSwaps}
 use Rattle.pp_real_time.specs.Timely.{IsTimely}
-use Rattle.pp_verify.specs.Costs.{CheckCostsAtMost}
+use Rattle.pp_verify.specs.Costs.{CheckCostsAtLeast, CheckCostsAtMost}
 use Rattle.pp_run.specs.declared.words.Command.{Command}
 use Rattle.pp_run.specs.declared.words.Command.TheVariants.{Certify, Drill, Expand, Quick}
 use Rattle.pp_run.specs.declared.words.Command.TheVariants.{Recheck, Swaps, Views}
@@ -70,8 +70,8 @@ pub record QuickPromise (o : Outcome) : Type 0 where
   -- also of a run that has too many steps for `certify`
   pub accepted : o.status ≡ statuses.Accepted → OfItsInput o λ bytes. IsSerializable bytes
   pub most : OfItsInput o λ bytes. QuickCostsAtMost (scan bytes) o.before o.after
-  pub least : o.status ≡ statuses.Accepted → OfItsInput o λ bytes.
-      QuickCostsAtLeast (scan bytes) o.before o.after
+  pub least : IsDecided o.status → OfItsInput o λ bytes.
+      QuickCostsAtLeast o.status (scan bytes) o.before o.after
 
 pub record SwapsPromise (o : Outcome) : Type 0 where
   pub prints : PrintsJust IsSwaps o
@@ -89,6 +89,8 @@ pub record RecheckPromise (o : Outcome) : Type 0 where
   -- What an accepted certificate shows is allowed, and leads to the state that is printed.
   pub checked : o.status ≡ statuses.Accepted → OfItsInput o λ bytes. IsCheckedSound bytes
   pub most : OfItsInput o λ bytes. CheckCostsAtMost bytes o.before o.after
+  pub least : o.status ≡ statuses.Accepted → OfItsInput o λ bytes.
+      CheckCostsAtLeast bytes o.before o.after
 
 pub record ViewsPromise (o : Outcome) : Type 0 where
   pub prints : PrintsJust IsViews o
@@ -98,6 +100,8 @@ pub record ViewsPromise (o : Outcome) : Type 0 where
   -- transactions committed before it leave.
   pub seen : o.status ≡ statuses.Accepted → OfItsInput o λ bytes. SeesKept (scan bytes)
   pub most : OfItsInput o λ bytes. ViewsCostAtMost (scan bytes) o.before o.after
+  pub least : IsDecided o.status → OfItsInput o λ bytes.
+      StepsCostAtLeast o.status (scan bytes) o.before o.after
 
 -- `drill` reads no input, so its output is that of its number.
 pub record DrillPromise (n : ℕ) (o : Outcome) : Type 0 where

@@ -122,7 +122,8 @@ pub fn commit<S: Parted>(
     machine: &mut Tracked<S>,
     tx: &Name,
 ) -> Result<StepList<S::Op>, OutOfMemory>
-    ensures steps { IfOk result (λ list. meanings list ≡ where_open machine.old.config tx.now (Cmt tx.now)
+    ensures steps { IfOk result (λ list. meanings list
+        ≡ where_open machine.old.config tx.now (Cmt tx.now)
         (λ l. pushall tx.now l ++ Cmt tx.now ∷ [])) }
     ensures machine { machine.new ≡ machine.old }
 {

@@ -1,6 +1,6 @@
 -- Proof machinery: the lines of an input, and what it is found to be as a certificate.
 use Rattle.std.proofs.Common.{◌≡◌, ◌≤◌, ◌+◌, ℕ, Bool, cond, List, [], ◌∷◌}
-use Rattle.std.proofs.Common.{◌++◌, length, map, Option, None, Some, refl, sym, ap, subst, ◌∙◌}
+use Rattle.std.proofs.Common.{◌++◌, length, Option, None, Some, refl, sym, ap, subst, ◌∙◌}
 use Rattle.std.proofs.Common.{◌⊎◌, Ok, Err, arith, inl, inr, append_assoc, lt-ltb, le-ltb}
 use Rattle.std.specs.Io.KnownBytes.{IsAtEnd}
 use Rattle.std.proofs.lemmas.List.{map-append, length-append, length-map}
@@ -19,10 +19,11 @@ use Rattle.pp_reading.proofs.Takers.{taken_all}
 use Rattle.pp_recheck.specs.declared.refusal.Refusal.{Refusal}
 use Rattle.pp_recheck.specs.declared.refusal.Refusal.TheVariants.{NotCertificate}
 use Rattle.pp_recheck.specs.declared.shown.Shown.{Shown}
-use Rattle.pp_recheck.specs.Certificates.{Stage, Fresh}
+use Rattle.pp_recheck.specs.Certificates.{Stage, Fresh, Entered, Exchanged, Ended}
+use Rattle.pp_recheck.specs.Checking.{cost}
 use Rattle.pp_recheck.specs.Certificates.{Verdict, Holds, Refused, IsClosing, IsVerdictOf, shown_at}
 use Rattle.pp_recheck.specs.Laws.{Leads}
-use Rattle.pp_certificate.specs.Checkings.{read_in, Covers}
+use Rattle.pp_certificate.specs.Checkings.{line_in, read_in, Covers, TakesLine}
 use Rattle.pp_certificate.specs.Checkings as checkings
 use Rattle.pp_certificate.specs.Reading.{objects_in, reader, reader_of}
 use Rattle.pp_certificate.specs.Rechecked.{texts, early_texts, Faulty, Shows, refused_at, checked}
@@ -31,7 +32,9 @@ use Rattle.pp_certificate.specs.declared.checking.Checking.{Checking}
 use Rattle.pp_certificate.specs.declared.checking.Checking.TheVariants.{Before, Within}
 use Rattle.pp_certificate.proofs.Checkings.{covered_verdict, named_here}
 use Rattle.pp_verify.specs.Costs.{CheckCostsAtMost}
-use Rattle.pp_verify.specs.Examining.{bare, HasCheckFault, check_reading, Concludes, found_at, Finds}
+use Rattle.pp_verify.specs.Examining.{bare, HasCheckFault, check_reading, Concludes, entries_at}
+use Rattle.pp_verify.specs.Examining.{entries_in, found_at, Finds}
+use Rattle.pp_verify.proofs.Counted.{entries_taken}
 use Rattle.pp_verify.specs.declared.examiner.CheckFault.{CheckFault}
 use Rattle.pp_verify.specs.declared.examiner.CheckFault.TheVariants as faults
 use Rattle.pp_verify.specs.declared.examiner.Examiner.{Examiner}
@@ -55,10 +58,21 @@ covers_count lines (Within catalog v) cov = cov.count
 
 -- ---- line by line
 
+-- before the first line no entry was read
+none_at : (first : ℕ) (s : Stage (List Kind) Op) → s ≡ Fresh → first + entries_at s ≤ first
+none_at first Fresh e = omega arith
+none_at first (Entered shape list) e = absurd (cc)
+none_at first (Exchanged shape list count) e = absurd (cc)
+none_at first (Ended shape list count n) e = absurd (cc)
+
+none_read : (first : ℕ) (now : Checking) → Covers [] now → first + entries_in now ≤ first
+none_read first (Before v) cov = none_at first v.stage cov.fresh
+none_read first (Within catalog v) cov = none_at first v.stage cov.leads
+
 -- before the first
 pub leads_nothing : (first : ℕ) (examiner : Examiner) → Covers [] examiner.checking
     → (check_reading first).Leads [] (examiner, first)
-leads_nothing first examiner cov = (cov, omega arith)
+leads_nothing first examiner cov = (cov, omega arith, none_read first examiner.checking cov)
 
 module _ (first : ℕ) (from : Examiner × ℕ) (line : NumberedLine) where
   -- so many lines were taken before this one
@@ -75,13 +89,18 @@ module _ (first : ℕ) (from : Examiner × ℕ) (line : NumberedLine) where
 -- the line is taken
 pub leads_on : (from : Examiner) (now new : ℕ) (line : NumberedLine) (to : Checking)
     → new ≤ now + 1
+    → new ≡ now + cost objects (read_in from.checking).stage (line_in from.checking line.1)
+    → TakesLine from.checking line.1 (Ok to)
     → ((lines : List (List ℕ)) → Covers lines from.checking
     → checkings.LeadsOn lines line.1 (Ok to))
     → (first : ℕ) → LeadsOn (check_reading first) (from, now) line (record { checking = to }, new)
-leads_on from now new line to cost taken first lines leads = (
+leads_on from now new line to bound counted takes taken first lines leads = (
   subst (λ (ls : List (List ℕ)). Covers ls to) (sym (bare-append lines (line ∷ [])))
       (taken (bare lines) leads.0),
-  omega (arith, cost, leads.1, length-append lines (line ∷ [])),
+  omega (arith, bound, leads.1, length-append lines (line ∷ [])),
+  let more = entries_taken (read_in from.checking).stage (read_in to).stage
+      (line_in from.checking line.1) takes.0.0 in
+      omega (arith, counted, leads.2, more),
 )
 
 -- it is the first that is not

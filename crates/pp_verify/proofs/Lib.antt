@@ -1,3 +1,4 @@
+pub mod Counted
 pub mod Examining
 pub mod Rechecking
 pub mod Telling

@@ -9,7 +9,8 @@ use Rattle.pp_recheck.specs.declared.refusal.Refusal.TheVariants as refusals
 use Rattle.pp_certificate.specs.Reading.{objects_in}
 use Rattle.pp_certificate.specs.Rechecked.{texts, Checked, Faulty, Refuses, Shows, refused_at}
 use Rattle.pp_certificate.specs.Rechecked.{IsCheckedSound, IsCheckedTold, IsRecheck}
-use Rattle.pp_verify.specs.Examining.{found_at, CanReport, Finds, IsFindingTold}
+use Rattle.pp_verify.specs.Costs.{CheckCostsAtLeast}
+use Rattle.pp_verify.specs.Examining.{found_at, CanReport, Finds, IsFindingTold, ShownCounted}
 use Rattle.pp_verify.specs.declared.examiner.CheckFault.{CheckFault}
 use Rattle.pp_verify.specs.declared.examiner.CheckFault.TheVariants as faults
 use Rattle.pp_verify.specs.declared.finding.Finding.{Finding}
@@ -77,3 +78,12 @@ module _ (old new : Option (List ℕ)) where
       absurd (not_accepted at fault s t told e)
   told_sound (findings.Shows catalog shown) s t h told e bytes is =
       let k = h.2 bytes is in (shown, k.0, shows_sound bytes shown k.0)
+
+  pub told_least : (finding : Finding) (s : Status) (t : List ℕ) → Finds old new finding
+      → IsFindingTold finding s t → (first now : ℕ) → ShownCounted finding first now
+      → s ≡ statuses.Accepted → (bytes : List ℕ) → old ≡ Some bytes
+      → CheckCostsAtLeast bytes first now
+  told_least (findings.Fault at fault) s t h told first now counted e bytes is =
+      absurd (not_accepted at fault s t told e)
+  told_least (findings.Shows catalog shown) s t h told first now counted e bytes is =
+      let k = h.2 bytes is in (shown, k.0, counted)

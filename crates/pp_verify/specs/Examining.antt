@@ -2,16 +2,21 @@
 use Rattle.std.specs.Prelude.{◌≡◌, ◌≤◌, ◌+◌, ℕ, List, length, map, Option, Some}
 use Rattle.std.specs.Io.KnownBytes.{IsAtEnd}
 use Rattle.pp_core.specs.Catalogs.{Objects}
+use Rattle.pp_core.specs.declared.call.Kind.{Kind}
 use Rattle.pp_core.specs.declared.status.Status.{Status}
 use Rattle.pp_io.specs.Lines.{NumberedLine}
 use Rattle.pp_object.specs.Objects.{objects}
+use Rattle.pp_object.specs.declared.act.Op.{Op}
 use Rattle.pp_reading.specs.Sources.{WhereTold}
 use Rattle.pp_reading.specs.Takers.{Reading}
-use Rattle.pp_recheck.specs.Certificates.{Refused, IsVerdictOf}
-use Rattle.pp_certificate.specs.Checkings.{Closes, Covers, IsShownOf}
+use Rattle.pp_recheck.specs.Certificates.{Stage, Fresh, Entered, Exchanged, Ended, Refused}
+use Rattle.pp_recheck.specs.Certificates.{IsVerdictOf}
+use Rattle.pp_certificate.specs.Checkings.{read_in, Closes, Covers, IsShownOf}
 use Rattle.pp_certificate.specs.Reading.{objects_in, reader_of}
 use Rattle.pp_certificate.specs.Rechecked.{texts, Checked, Faulty, Shows, refused_at, IsChecked}
 use Rattle.pp_certificate.specs.Rechecked.{IsCheckedTold}
+use Rattle.pp_certificate.specs.declared.checking.Checking.{Checking}
+use Rattle.pp_verify.specs.Costs.{ShownCostsAtLeast}
 use Rattle.pp_verify.specs.declared.examiner.CheckFault.{CheckFault}
 use Rattle.pp_verify.specs.declared.examiner.CheckFault.TheVariants as faults
 use Rattle.pp_verify.specs.declared.examiner.Examiner.{Examiner}
@@ -28,11 +33,22 @@ HasCheckFault lines at (faults.Cause cause) = ⊥
 HasCheckFault lines at (faults.Refusal why) =
     (at ≤ length lines) × IsVerdictOf objects (reader_of lines) lines (Refused at why)
 
+-- how many entries were read
+abbrev pub entries_at : Stage (List Kind) Op → ℕ
+entries_at Fresh = 0
+entries_at (Entered shape list) = length list
+entries_at (Exchanged shape list count) = length list
+entries_at (Ended shape list count n) = length list
+
+abbrev pub entries_in : Checking → ℕ
+entries_in checking = entries_at (read_in checking).stage
+
 -- where lines lead to, with what the counter then shows, which of them is not taken, and what they
 -- cost, by what the counter shows before the first
 abbrev pub check_reading : ℕ → Reading (Examiner × ℕ) CheckFault
 check_reading first = record {
-  Leads = λ lines at. Covers (bare lines) at.0.checking × (at.1 ≤ first + length lines);
+  Leads = λ lines at. Covers (bare lines) at.0.checking × (at.1 ≤ first + length lines)
+      × (first + entries_in at.0.checking ≤ at.1);
   HasFault = λ lines at fault. HasCheckFault (bare lines) at fault;
   Stops = λ lines new. new ≤ first + length lines;
   at_limit = λ cause. faults.Cause cause;
@@ -56,6 +72,11 @@ Finds old new (findings.Fault at fault) = WhereTold old λ bytes. IsChecked byte
 Finds old new (findings.Shows catalog h) =
     IsAtEnd new × IsShownOf catalog h
     × (WhereTold old λ bytes. IsChecked bytes (Shows h) × (objects_in (texts bytes) ≡ catalog))
+
+-- what is shown costs at least this, by what the counter showed before the first line
+abbrev pub ShownCounted : Finding → (old new : ℕ) → Type 0
+ShownCounted (findings.Fault at fault) old new = Unit {0}
+ShownCounted (findings.Shows catalog h) old new = ShownCostsAtLeast h old new
 
 -- the operations and the states that are to be told are of these objects
 abbrev pub CanReport : Finding → Type 0

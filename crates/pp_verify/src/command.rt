@@ -6,7 +6,7 @@ ghost use Rattle.pp_certificate.specs.Rechecked.{IsCheckedSound, IsRecheck, Rech
 ghost use Rattle.pp_io.specs.Faults.{HasRisen};
 ghost use Rattle.pp_reading.specs.Sources.{WhereTold};
 ghost use Rattle.pp_reading.specs.declared.stop.Failure.TheVariants.{ReadFault};
-ghost use Rattle.pp_verify.specs.Costs.{CheckCostsAtMost};
+ghost use Rattle.pp_verify.specs.Costs.{CheckCostsAtLeast, CheckCostsAtMost};
 
 use crate::finding::examine;
 use crate::report::report;
@@ -37,6 +37,8 @@ pub fn recheck<S: Source, L: Ledger>(
     ensures faultless { ¬ IsErrOf result ReadFault → S.faults source.new ≡ S.faults source.old }
     ensures most { WhereTold (S.left source.old) λ bytes.
         CheckCostsAtMost bytes ticks.old ticks.new }
+    ensures least { IfOk result (λ r. r.0 ≡ statuses.Accepted →
+        WhereTold (S.left source.old) λ bytes. CheckCostsAtLeast bytes ticks.old ticks.new) }
 {
     let finding = examine(alloc, source, ticks)?;
     let answer = report(alloc, &finding)?;

@@ -6,7 +6,7 @@ ghost use Rattle.pp_io.specs.Faults.{HasRisen};
 ghost use Rattle.pp_reading.specs.Sources.{WhereTold};
 ghost use Rattle.pp_reading.specs.declared.stop.Failure.TheVariants.{ReadFault};
 ghost use Rattle.pp_verify.specs.Costs.{CheckCostsAtMost};
-ghost use Rattle.pp_verify.specs.Examining.{Concludes, Finds};
+ghost use Rattle.pp_verify.specs.Examining.{Concludes, Finds, ShownCounted, entries_in};
 
 use crate::examiner::{CheckFault, Examiner};
 use pp_core::{Catalog, Kinds, OutOfMemory, Ticks};
@@ -31,6 +31,8 @@ fn conclude<L: Ledger>(examiner: Examiner, ticks: &mut Ticks<L>) -> Result<Findi
     ensures found { IfOk result (λ finding. (lines : List (List ℕ)) →
         Covers lines examiner.checking → Concludes lines finding) }
     ensures bound { ticks.new ≤ ticks.old + (read_in examiner.checking).lines }
+    ensures least { IfOk result (λ finding. (first : ℕ) →
+        first + entries_in examiner.checking ≤ ticks.old → ShownCounted finding first ticks.new) }
 {
     let lines = examiner.checking.lines();
     let found = examiner.checking.close(ticks)?;
@@ -54,6 +56,7 @@ pub(crate) fn examine<S: Source, L: Ledger>(
     ensures faultless { ¬ IsErrOf result ReadFault → S.faults source.new ≡ S.faults source.old }
     ensures most { WhereTold (S.left source.old) λ bytes.
         CheckCostsAtMost bytes ticks.old ticks.new }
+    ensures least { IfOk result (λ finding. ShownCounted finding ticks.old ticks.new) }
 {
     match read_lines(alloc, source, Examiner::new(alloc), ticks) {
         Ok(examiner) => {

@@ -1,7 +1,6 @@
 //! Sources and sinks that fail at each of their calls, and those that never fail.
-use crate::run_counted;
 use crate::tests::row::COUNTER;
-use crate::tests::{added, answered, assert_answer, status_of};
+use crate::tests::{added, answered, assert_answer, run_with_counter, status_of};
 use pp_core::{Status, Words};
 use pp_io::{MemorySink, MemorySource, SteadySink, SteadySource};
 use std::marker::Brand;
@@ -104,7 +103,13 @@ fn devices_that_never_fail_carry_the_whole_report(rt: HostRuntime) -> Result<(),
     words.push(b"certify")?;
     let mut source = SteadySource::new(added(alloc)?);
     let mut sink = SteadySink::new(alloc);
-    let status = run_counted::<Brand, _, _>(alloc, &words, &mut source, &mut sink, Blank::new(1));
+    let status = run_with_counter::<Brand, _, _>(
+        alloc,
+        &words,
+        &mut source,
+        &mut sink,
+        Blank::new(1),
+    );
     let answer = (status, sink.held().to_vec(alloc)?);
     assert_answer(
         &rt,

@@ -1,11 +1,14 @@
-//! The whole program but for its arguments, over a reader and a writer of std.
+//! The whole program but for its arguments, over readers and writers of std. A contract of std says
+//! nothing of failures, so that the edge counts each one, and tries none again, is shown here.
 use crate::edge::{StdSink, StdSource};
-use crate::run_streams;
+use crate::run_counted;
 use crate::tests::row::COUNTER;
-use crate::tests::{ADDED, assert_answer};
+use crate::tests::{ADDED, added};
 use pp_core::{Status, Words};
 use std::alloc::Global;
 use std::collections::VecDeque;
+use std::io;
+use std::io::{Read, Write};
 use std::marker::Brand;
 use std::sync::ledger::Blank;
 use std::test::Fail;
@@ -14,36 +17,177 @@ use std::test::Fail;
 /// has 65,536 bytes.
 const BLANK_LINES: usize = 70_000;
 
-/// A run that adds, with blank lines before its records.
-fn long_input(alloc: Global) -> Result<VecDeque<u8>, Fail> {
-    let mut input = VecDeque::new(alloc);
-    for byte in COUNTER {
-        input.push_back(*byte)?;
-    }
-    for _ in 0..BLANK_LINES {
-        input.push_back(b'\n')?;
-    }
-    for byte in ADDED {
-        input.push_back(*byte)?;
-    }
-    Ok(input)
+/// The commit of a transaction that did not begin.
+const STRANGE_COMMIT: &[u8] = br#"
+{"step":"cmt","tx":"t2"}"#;
+
+/// The report of the run that adds.
+const REPORT: &[u8] = b"accepted steps 4 committed 1\ntx t1\nop 1 c.add(2)=none\nstate c 2\n";
+
+/// A reader of these bytes, whose first call fails if that is asked.
+#[derive(Drop)]
+struct FaultyReader {
+    bytes: VecDeque<u8>,
+    fails: bool,
+    calls: u64,
 }
 
-/// What `certify` writes to a writer in memory, and its status.
-fn certified(alloc: Global, input: VecDeque<u8>) -> Result<(Status, Vec<u8>), Fail> {
+impl Read for FaultyReader {
+    fn read(&mut self, buf: &mut [u8]) -> io::Result<usize> {
+        self.calls = self.calls.saturating_add(1);
+        if self.fails {
+            self.fails = false;
+            return Err(io::Error::other("a failed read"));
+        }
+        self.bytes.read(buf)
+    }
+}
+
+/// A writer that takes three bytes a call. Its first write or its first flush fails if that is asked.
+#[derive(Drop)]
+struct FaultyWriter {
+    held: Vec<u8>,
+    write_fails: bool,
+    flush_fails: bool,
+}
+
+impl Write for FaultyWriter {
+    fn write(&mut self, buf: &[u8]) -> io::Result<usize> {
+        if self.write_fails {
+            self.write_fails = false;
+            return Err(io::Error::other("a failed write"));
+        }
+        let n = buf.len().min(3);
+        match self.held.extend_from_slice(&buf[..n]) {
+            Ok(()) => Ok(n),
+            Err(_) => Err(io::Error::other("no memory")),
+        }
+    }
+
+    fn flush(&mut self) -> io::Result<()> {
+        if self.flush_fails {
+            self.flush_fails = false;
+            return Err(io::Error::other("a failed flush"));
+        }
+        Ok(())
+    }
+}
+
+/// What a call leaves.
+#[derive(Drop)]
+struct Left {
+    status: Status,
+    held: Vec<u8>,
+    reads: u64,
+}
+
+/// Certifies what a reader gives, and writes the report to a writer.
+fn certified(alloc: Global, reader: FaultyReader, writer: FaultyWriter) -> Result<Left, Fail> {
     let mut words = Words::new(alloc);
     words.push(b"certify")?;
-    let mut source = StdSource::new(input);
-    let mut sink = StdSink::new(Vec::new(alloc));
-    let status = run_streams::<Brand, _, _>(alloc, &words, &mut source, &mut sink, Blank::new(1));
-    Ok((status, sink.into_stream()))
+    let mut source = StdSource::new(reader);
+    let mut sink = StdSink::new(writer);
+    let status = run_counted::<Brand, _, _>(alloc, &words, &mut source, &mut sink, Blank::new(1));
+    let reader = source.into_stream();
+    let writer = sink.into_stream();
+    Ok(Left {
+        status,
+        held: writer.held,
+        reads: reader.calls,
+    })
+}
+
+/// A reader of these bytes, one after another.
+fn reader(alloc: Global, parts: &[&[u8]], fails: bool) -> Result<FaultyReader, Fail> {
+    let mut bytes = VecDeque::new(alloc);
+    for part in parts {
+        for byte in *part {
+            bytes.push_back(*byte)?;
+        }
+    }
+    Ok(FaultyReader {
+        bytes,
+        fails,
+        calls: 0,
+    })
+}
+
+/// A writer that holds nothing.
+fn writer(alloc: Global, write_fails: bool, flush_fails: bool) -> FaultyWriter {
+    FaultyWriter {
+        held: Vec::new(alloc),
+        write_fails,
+        flush_fails,
+    }
 }
 
 #[test]
-fn a_deque_is_certified_into_a_vector(rt: HostRuntime) -> Result<(), Fail> {
+fn no_byte_of_a_long_input_is_lost(rt: HostRuntime) -> Result<(), Fail> {
     let alloc = rt.alloc();
-    let answer = certified(alloc, long_input(alloc)?)?;
-    let report = b"accepted steps 4 committed 1\ntx t1\nop 1 c.add(2)=none\nstate c 2\n";
-    assert_answer(&rt, "a deque", &answer, Status::Accepted, report);
+    let blank = vec![in alloc; b'\n'; BLANK_LINES]?;
+    let input = reader(alloc, &[COUNTER, &blank, ADDED, STRANGE_COMMIT], false)?;
+    let left = certified(alloc, input, writer(alloc, false, false))?;
+    assert_eq!(rt; left.status, Status::Rejected);
+    assert_eq!(rt;
+        left.held.as_slice(),
+        b"rejected step 5 line 70006 CMT 1\n".as_slice()
+    );
+    Ok(())
+}
+
+#[test]
+fn a_report_is_written_whole_to_a_slow_writer(rt: HostRuntime) -> Result<(), Fail> {
+    let alloc = rt.alloc();
+    let input = added(alloc)?;
+    let left = certified(
+        alloc,
+        reader(alloc, &[&input], false)?,
+        writer(alloc, false, false),
+    )?;
+    assert_eq!(rt; left.status, Status::Accepted);
+    assert_eq!(rt; left.held.as_slice(), REPORT);
+    Ok(())
+}
+
+#[test]
+fn a_failed_read_is_not_tried_again(rt: HostRuntime) -> Result<(), Fail> {
+    let alloc = rt.alloc();
+    let input = added(alloc)?;
+    let left = certified(
+        alloc,
+        reader(alloc, &[&input], true)?,
+        writer(alloc, false, false),
+    )?;
+    assert_eq!(rt; left.status, Status::ReadFault);
+    assert_eq!(rt; left.held.len(), 0);
+    assert_eq!(rt; left.reads, 1);
+    Ok(())
+}
+
+#[test]
+fn a_failed_write_is_not_tried_again(rt: HostRuntime) -> Result<(), Fail> {
+    let alloc = rt.alloc();
+    let input = added(alloc)?;
+    let left = certified(
+        alloc,
+        reader(alloc, &[&input], false)?,
+        writer(alloc, true, false),
+    )?;
+    assert_eq!(rt; left.status, Status::WriteFault);
+    assert_eq!(rt; left.held.len(), 0);
+    Ok(())
+}
+
+#[test]
+fn a_failed_flush_is_not_tried_again(rt: HostRuntime) -> Result<(), Fail> {
+    let alloc = rt.alloc();
+    let input = added(alloc)?;
+    let left = certified(
+        alloc,
+        reader(alloc, &[&input], false)?,
+        writer(alloc, false, true),
+    )?;
+    assert_eq!(rt; left.status, Status::WriteFault);
+    assert_eq!(rt; left.held.as_slice(), REPORT);
     Ok(())
 }

@@ -3,9 +3,10 @@ use Rattle.pp_core.specs.declared.status.Status.TheVariants as statuses
 use Rattle.pp_reading.proofs.Takers.{taken_all}
 use Rattle.pp_styles.specs.Meanings.{meanings}
 use Rattle.pp_certify.proofs.Concluding.{rejected_evident}
+use Rattle.pp_certify.specs.Findings.{StepsCounted}
 use Rattle.pp_certify.specs.Inputs.{scan}
 use Rattle.pp_certify.specs.Rejected.{IsEvident}
-use Rattle.pp_attempts.proofs.Telling.{accepted_views, fault_views, rejected_views, steps_most, viewed_most}
+use Rattle.pp_attempts.proofs.Telling.{accepted_views, fault_views, rejected_views, steps_most, viewed_least, viewed_most}
 use Rattle.pp_attempts.specs.Outputs.{IsViews}
 use Rattle.pp_attempts.specs.Taken.{FindsSteps, HasSteps}
 use Rattle.pp_attempts.proofs.command.views.Goals as goal
@@ -98,3 +99,13 @@ returns-in_err-told-in-Accepted-clause-most g c = λ bytes is.
     let found = subst (λ f. FindsSteps old new f steps) c.in-Accepted.is c.in_ok-finding.ensures.found in
     let h = subst (λ bs. HasSteps (scan bs) tally machine steps) (taken_all old new found.0 bytes found.1 found.2 is) found.3 in
     viewed_most (scan bytes) tally machine steps h c.args.ticks.now c.examine_steps.new.ticks c.report_views.new.ticks (c.examine_steps.ensures.most bytes is) c.report_views.ensures.bound
+
+pub returns-in-Rejected-clause-least : goal.returns-in-Rejected-clause-least
+returns-in-Rejected-clause-least g c = λ decided bytes is.
+    subst (λ finding. StepsCounted (scan bytes) finding c.args.ticks.now c.examine_steps.new.ticks) c.in-Rejected.is (c.in_ok-finding.ensures.least bytes is)
+
+pub returns-clause-least : goal.returns-clause-least
+returns-clause-least g c = λ decided bytes is.
+    viewed_least (scan bytes) c.in_ok-told-in-Accepted.told.0 c.args.ticks.now c.examine_steps.new.ticks c.report_views.new.ticks c.in_ok-told-in-Accepted.ensures.status decided
+    (subst (λ finding. StepsCounted (scan bytes) finding c.args.ticks.now c.examine_steps.new.ticks) c.in-Accepted.is (c.in_ok-finding.ensures.least bytes is))
+    c.report_views.ensures.rises

@@ -3,9 +3,11 @@ use Rattle.pp_reading.specs.Takers.{HasInputFault, IfInputFault}
 use Rattle.pp_reading.specs.declared.stop.Failure.TheVariants.{ReadFault}
 use Rattle.pp_reading.specs.declared.stop.Stop.TheVariants as stops
 use Rattle.pp_styles.specs.Meanings.{meanings}
-use Rattle.pp_certify.proofs.Examining.{input_fault, reads_no_fault, steps_cost}
+use Rattle.pp_certify.proofs.Examining.{finding_counted, input_fault, reads_no_fault, steps_cost}
+use Rattle.pp_certify.specs.Findings.{StepsCounted}
+use Rattle.pp_certify.specs.Inputs.{scan}
 use Rattle.pp_attempts.specs.Taken.{FindsSteps, steps_reading}
-use Rattle.pp_attempts.proofs.Keeping.{counts_of, fault_of, finds_steps, keeps_nothing, so_far_of}
+use Rattle.pp_attempts.proofs.Keeping.{all_of, counts_of, fault_of, finds_steps, keeps_nothing, so_far_of}
 use Rattle.pp_attempts.proofs.finding.examine_steps.Goals as goal
 
 pub read_lines-requires : goal.read_lines-requires
@@ -48,3 +50,13 @@ returns-in-Err-Fault-clause-most g c = λ bytes is. steps_cost c.args.ticks.now 
 
 pub returns-in-Err-Failure-clause-most : goal.returns-in-Err-Failure-clause-most
 returns-in-Err-Failure-clause-most g c = λ bytes is. steps_cost c.args.ticks.now c.read_lines.new.ticks bytes (counts_of c.args.ticks.now _ c.read_lines.new.ticks (c.read_lines.ensures.cost bytes is))
+
+pub returns-in-Ok-clause-least : goal.returns-in-Ok-clause-least
+returns-in-Ok-clause-least g c = λ bytes is.
+    let old = g.S.Source.left c.args.source.now in
+    let new = g.S.Source.left c.read_lines.new.source in
+    subst (λ finding. StepsCounted (scan bytes) finding c.args.ticks.now c.read_lines.new.ticks) (sym c.conclude.ensures)
+    (finding_counted c.args.ticks.now c.read_lines.new.ticks old new bytes c.in-Ok.taken.progress c.in-Ok.ensures.end is (all_of c.args.ticks.now old new c.in-Ok.taken c.read_lines.new.ticks c.in-Ok.ensures.ok))
+
+pub returns-in-Err-Fault-clause-least : goal.returns-in-Err-Fault-clause-least
+returns-in-Err-Fault-clause-least g c = λ bytes is. tt

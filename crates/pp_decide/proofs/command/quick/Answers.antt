@@ -68,8 +68,12 @@ returns-in_err-text-in-Accepted-clause-most g c = λ bytes is.
     let good = subst (λ (bs : List ℕ). AreGood (scan bs) tally quick) (taken_all old new found.0 bytes found.1 found.2 is) found.3 in
     serial_most (scan bytes) tally quick good c.args.ticks.now c.read_run.new.ticks c.report_accepted.new.ticks (c.read_run.ensures.most bytes is) c.report_accepted.ensures.bound
 
+pub returns-in_ok-text-in-Rejected-clause-least : goal.returns-in_ok-text-in-Rejected-clause-least
+returns-in_ok-text-in-Rejected-clause-least g c = λ decided bytes is.
+    subst (λ conclusion. OpsCounted (scan bytes) conclusion c.args.ticks.now c.read_run.new.ticks) c.in-Rejected.is (c.in_ok-line.ensures.least bytes is)
+
 pub returns-in_ok-text-in-Accepted-clause-least : goal.returns-in_ok-text-in-Accepted-clause-least
-returns-in_ok-text-in-Accepted-clause-least g c = λ accepted bytes is.
+returns-in_ok-text-in-Accepted-clause-least g c = λ decided bytes is.
     let old = g.S.Source.left c.args.source.now in
     let new = g.S.Source.left c.read_run.new.source in
     let tally = c.in-Accepted.tally in

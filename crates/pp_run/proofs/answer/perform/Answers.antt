@@ -275,8 +275,8 @@ returns-in-Swaps-clause-least g c =
 
 pub returns-in-Recheck-clause-least : goal.returns-in-Recheck-clause-least
 returns-in-Recheck-clause-least g c =
-    if_ok_all c.recheck.result _ (λ r. subst (λ (k : Command). RisesAtLeast (Some k) (g.S.Source.left c.args.source.now) r.0 c.args.ticks.now c.recheck.new.ticks) (sym c.in-Recheck.is) tt)
+    IfOk-weaker c.recheck.result _ _ (λ r told. subst (λ (k : Command). RisesAtLeast (Some k) (g.S.Source.left c.args.source.now) r.0 c.args.ticks.now c.recheck.new.ticks) (sym c.in-Recheck.is) told) c.recheck.ensures.least
 
 pub returns-in-Views-clause-least : goal.returns-in-Views-clause-least
 returns-in-Views-clause-least g c =
-    if_ok_all c.views.result _ (λ r. subst (λ (k : Command). RisesAtLeast (Some k) (g.S.Source.left c.args.source.now) r.0 c.args.ticks.now c.views.new.ticks) (sym c.in-Views.is) tt)
+    IfOk-weaker c.views.result _ _ (λ r told. subst (λ (k : Command). RisesAtLeast (Some k) (g.S.Source.left c.args.source.now) r.0 c.args.ticks.now c.views.new.ticks) (sym c.in-Views.is) told) c.views.ensures.least

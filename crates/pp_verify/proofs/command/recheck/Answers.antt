@@ -1,4 +1,4 @@
-use Rattle.pp_verify.proofs.Telling.{can_report, told_end, told_output, told_sound, told_status}
+use Rattle.pp_verify.proofs.Telling.{can_report, told_end, told_least, told_output, told_sound, told_status}
 use Rattle.pp_verify.proofs.command.recheck.Goals as goal
 
 pub report-requires : goal.report-requires
@@ -28,3 +28,10 @@ returns-clause-checked g c =
     told_sound (g.S.Source.left c.args.source.now) (g.S.Source.left c.examine.new.source)
     c.in_ok-finding.finding c.in_ok-answer.answer.0 c.in_ok-answer.answer.1
     c.in_ok-finding.ensures.found c.in_ok-answer.ensures
+
+pub returns-clause-least : goal.returns-clause-least
+returns-clause-least g c =
+    told_least (g.S.Source.left c.args.source.now) (g.S.Source.left c.examine.new.source)
+    c.in_ok-finding.finding c.in_ok-answer.answer.0 c.in_ok-answer.answer.1
+    c.in_ok-finding.ensures.found c.in_ok-answer.ensures c.args.ticks.now c.examine.new.ticks
+    c.in_ok-finding.ensures.least

@@ -3,6 +3,8 @@ use Rattle.pp_object.specs.Objects.{objects}
 use Rattle.pp_recheck.specs.Certificates.{Refused, IsVerdictOf}
 use Rattle.pp_recheck.specs.declared.refusal.Refusal.TheVariants.{NotCertificate}
 use Rattle.pp_certificate.specs.Reading.{reader_of}
+use Rattle.pp_certificate.specs.Checkings.{read_in}
+use Rattle.pp_verify.proofs.Counted.{shown_counted}
 use Rattle.pp_verify.proofs.Examining.{covers_count}
 use Rattle.pp_verify.proofs.finding.conclude.Goals as goal
 
@@ -15,3 +17,9 @@ returns-in-None-clause-found g c = λ ls cov.
 
 pub returns-in-Some-clause-found : goal.returns-in-Some-clause-found
 returns-in-Some-clause-found g c = rw c.in-Some.is at c.in_ok-found.ensures.closes
+
+pub returns-in-Some-clause-least : goal.returns-in-Some-clause-least
+returns-in-Some-clause-least g c = λ first least.
+    let is = rw c.in-Some.is at c.in_ok-found.ensures.shown in
+    let cost = rw c.in-Some.is at c.in_ok-found.ensures.cost in
+    shown_counted (read_in c.args.examiner.checking).stage c.in-Some.shown first c.args.ticks.now c.close.new.ticks is cost least

@@ -52,3 +52,7 @@ returns-in-Err-Fault-clause-most g c = λ bytes is.
 pub returns-in-Err-Failure-clause-most : goal.returns-in-Err-Failure-clause-most
 returns-in-Err-Failure-clause-most g c = λ bytes is.
     counted c.args.ticks.now c.read_lines.new.ticks bytes (c.read_lines.ensures.cost bytes is)
+
+pub returns-in_ok-finding-in-Ok-clause-least : goal.returns-in_ok-finding-in-Ok-clause-least
+returns-in_ok-finding-in-Ok-clause-least g c =
+    c.in_ok-finding-in-Ok.ensures.least c.args.ticks.now c.in-Ok.ensures.ok.3.2

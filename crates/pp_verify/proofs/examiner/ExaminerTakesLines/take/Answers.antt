@@ -1,4 +1,3 @@
-use Rattle.std.proofs.Common.{Ok, Err}
 use Rattle.pp_io.specs.Lines.{NumberedLine}
 use Rattle.pp_verify.proofs.Examining.{faulty_here, leads_on, next_number}
 use Rattle.pp_verify.proofs.examiner.ExaminerTakesLines.take.Goals as goal
@@ -7,8 +6,10 @@ pub returns-in-Ok-clause-ok : goal.returns-in-Ok-clause-ok
 returns-in-Ok-clause-ok g c =
     let line : NumberedLine = (c.args.line.now.number, c.args.line.now.text) in
     let taken = rw (c.in-Ok.is, c.bytes.ensures) at c.in_ok-checking.ensures.leads in
+    let takes = rw (c.in-Ok.is, c.bytes.ensures) at c.in_ok-checking.ensures.taken in
+    let counted = rw c.bytes.ensures at c.in_ok-checking.ensures.cost in
     leads_on c.args.self c.args.ticks.now c.take_text.new.ticks line c.in-Ok.checking
-    c.take_text.ensures.bound taken
+    c.take_text.ensures.bound counted takes taken
 
 pub returns-in-Err-clause-stop : goal.returns-in-Err-clause-stop
 returns-in-Err-clause-stop g c =
