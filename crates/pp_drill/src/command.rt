@@ -23,7 +23,7 @@ use std::alloc::Global;
 use std::sync::ledger::Ledger;
 
 /// The machine over the objects of the run, before its first step.
-fn first_machine(alloc: Global, catalog: &Catalog) -> Result<Machine<Objects>, OutOfMemory>
+fn first_machine(alloc: Global, catalog: &Catalog) -> Result<Tracked<Objects>, OutOfMemory>
     requires { catalog.now ≡ drill_catalog }
     ensures { IfOk result (λ machine. machine ≡ record {
       shape = drill_kinds;
@@ -32,7 +32,8 @@ fn first_machine(alloc: Global, catalog: &Catalog) -> Result<Machine<Objects>, O
     }) }
 {
     let kinds = catalog.kinds(alloc)?;
-    Machine::new(alloc, kinds)
+    let machine = Machine::new(alloc, kinds)?;
+    Tracked::new(alloc, machine)
 }
 
 /// The machine behind the steps of the run, and what reading its lines would count. The lines are
@@ -53,9 +54,7 @@ fn machine_behind<L: Ledger>(
     let steps = drill_steps(alloc, n)?;
     let machine = first_machine(alloc, &catalog)?;
     // Each of these steps meets its criteria, so that none halts the machine.
-    let machine = Tracked::new(alloc, machine)?;
     let (machine, _halt) = do_steps(machine, &steps, ticks)?;
-    let machine = machine.into_machine();
     let count = machine.count();
     let header = Header {
         style: Style::Rules,
@@ -67,7 +66,7 @@ fn machine_behind<L: Ledger>(
         lines: count + 1,
         begins: n,
     };
-    Ok((tally, machine))
+    Ok((tally, machine.into_machine()))
 }
 
 /// The text of the command, by the machine behind the run.
