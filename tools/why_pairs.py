@@ -10,7 +10,7 @@ STEP_FIRST = ("PUSH", 3)
 
 
 class Pair(Explanation):
-    """Two calls, the first of which may not move past the second, with operations around them that show it."""
+    """Two calls, the second of which may not move past the first, with operations around them that show it."""
 
     def __init__(self, case):
         super().__init__()
