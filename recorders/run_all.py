@@ -328,7 +328,7 @@ def main():
         print(f"run_all: {missing}", file=sys.stderr)
         return missing.status
     except OSError as error:
-        print(f"run_all: {error.filename}: {error.strerror}", file=sys.stderr)
+        print(f"run_all: {error.filename or 'the output'}: {error.strerror}", file=sys.stderr)
         return NO_FOLDER
 
 

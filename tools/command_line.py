@@ -13,8 +13,8 @@ from verified_program import NoProgram, ProgramFailed, ask, find_program, read_r
 from why import why
 
 # Statuses of this script. Those of the program are 0 to 8.
-USAGE, UNREADABLE, NO_FILE, NO_PROGRAM, NO_ANSWER, NO_ORDER, NOT_TAKEN, NO_OUTPUT, INTERRUPTED = \
-    64, 65, 66, 69, 70, 71, 72, 74, 130
+USAGE, UNREADABLE, NO_FILE, NO_PROGRAM, NO_ANSWER, NO_ORDER, NOT_TAKEN, FAILED, NO_OUTPUT, INTERRUPTED = \
+    64, 65, 66, 69, 70, 71, 72, 73, 74, 130
 
 # The status of the program for wrong arguments.
 WRONG_ARGUMENTS = 2
@@ -30,9 +30,9 @@ PROGRAM_COMMANDS = {
 BRIEF_COMMANDS = ("certify", "quick", "views", "recheck")
 STATUS_TEXT = """\
 The status is that of the program: 0 accepted, 1 rejected, 3 a fault of the input, 7 too large to print; with several
-files it is the greatest. Statuses of this script: 64 wrong arguments, 65 a run that cannot be read, 66 a file that cannot
-be read, 69 no program, 70 the program gave no answer, 71 no order was found, 72 a run that `order` does not take, 74 the
-output cannot be written."""
+files it is the greatest. `picture` ends with 0 if it printed a page. Statuses of this script: 64 wrong arguments, 65 a run
+that cannot be read, 66 a file that cannot be read, 69 no program, 70 the program gave no answer, 71 no order was found, 72
+a run that `order` does not take, 73 the script failed, 74 the output cannot be written."""
 
 
 class Problem(Exception):
@@ -228,6 +228,9 @@ def main(arguments=None):
         return NO_OUTPUT
     except KeyboardInterrupt:
         return INTERRUPTED
+    except Exception as error:      # Python would end with 1, which is the status of a rejected run
+        print_problem(f"the script failed: {type(error).__name__}: {error}")
+        return FAILED
 
 
 def run(options):
@@ -246,7 +249,7 @@ def run(options):
             print_problem(problem)
             statuses.append(problem.status)
             continue
-        heading = f"== {name}\n".encode("utf-8", "surrogateescape") if len(files) > 1 and not options.json else b""
+        heading = f"== {printable(name)}\n".encode() if len(files) > 1 and not options.json else b""
         write_output(heading + result.output)
         statuses.append(result.status)
     return max(statuses)
@@ -267,6 +270,8 @@ def result_of(options, program, source):
 
 
 def write_output(data):
+    if sys.stdout is None:
+        raise Problem("standard output is closed", NO_OUTPUT)
     try:
         sys.stdout.buffer.write(data)
         sys.stdout.buffer.flush()
@@ -282,8 +287,13 @@ def silence_output():
     os.dup2(os.open(os.devnull, os.O_WRONLY), sys.stdout.fileno())
 
 
+def printable(text):
+    """A text on one line, whatever bytes a file's name has: a name must not look like a verdict line."""
+    return "".join(letter if letter.isprintable() else ascii(letter)[1:-1] for letter in text)
+
+
 def print_problem(problem):
-    """One line on standard error, whatever bytes a file's name has."""
-    text = "".join(letter if letter.isprintable() else ascii(letter)[1:-1] for letter in f"pozhiqas: {problem}")
-    sys.stderr.buffer.write(text.encode() + b"\n")
-    sys.stderr.flush()
+    """One line on standard error, if it is open."""
+    if sys.stderr is not None:
+        sys.stderr.buffer.write(printable(f"pozhiqas: {problem}").encode() + b"\n")
+        sys.stderr.flush()

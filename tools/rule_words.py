@@ -1,7 +1,8 @@
 """The criteria and the faults in words, in two tables. docs/RULES.md and docs/FORMAT.md define them."""
 import re
 
-# "May move past": a call may move past the next one if the two, turned, return the same results in every context.
+# "May move past": a call may move past the call right before it if the two can change places in any list of calls, as in
+# docs/RECORDING.md: if all results of the list are right, they stay right.
 CRITERIA = {
     ("START", 1): "each call of the start needs an id of its own",
     ("START", 2): "each call of the start must return its recorded result after those before it",
@@ -15,18 +16,18 @@ CRITERIA = {
     ("UNAPP", 2): "a call can be taken back only if it is the transaction's own, not published, and last in its local log",
     ("PUSH", 1): "only an open transaction can publish a call",
     ("PUSH", 2): "only an own call of the local log that is not published can be published",
-    ("PUSH", 3): "a call can be published before an earlier own call only if it may move past it",
-    ("PUSH", 4): "a call can be published only if each uncommitted call of another transaction may move past it",
+    ("PUSH", 3): "a call can be published before an earlier own call only if the earlier one may move past it",
+    ("PUSH", 4): "a call can be published only if it may move past each uncommitted call of another transaction",
     ("PUSH", 5): "a call must return its recorded result at the end of the shared log, where it is published",
     ("UNPUSH", 1): "only an open transaction can withdraw a call",
     ("UNPUSH", 2): "only an own published call of the local log can be withdrawn",
-    ("UNPUSH", 3): "a call can be withdrawn only if each own published call after it may move past it",
+    ("UNPUSH", 3): "a call can be withdrawn only if it may move past each own published call that comes after it locally",
     ("UNPUSH", 4): "without a call that is withdrawn, the shared log must still return each recorded result",
     ("PULL", 1): "only an open transaction can take over a call",
     ("PULL", 2): "only a published call of another transaction can be taken over",
     ("PULL", 3): "a call can be taken over only once",
     ("PULL", 4): "a call that is taken over must return its recorded result in the local log",
-    ("PULL", 5): "a call can be taken over only if each own call of the local log may move past it",
+    ("PULL", 5): "a call can be taken over only if it may move past each own call of the local log",
     ("UNPULL", 1): "only an open transaction can give up a call that it took over",
     ("UNPULL", 2): "only a call that was taken over can be given up",
     ("UNPULL", 3): "without a call that is given up, the local log must still return each recorded result",

@@ -64,6 +64,12 @@ class Outputs(Temporary):
                          f"== {path_of('rejected_race.jsonl')}\nrejected step 6 line 7 PUSH 4\n")
         self.assertEqual((errors, status), (f"pozhiqas: {self.folder / 'none'}: No such file or directory\n", 66))
 
+    def test_name_that_looks_like_a_verdict(self):
+        path = self.file("x\naccepted steps 1 committed 1", example("rejected_race.jsonl"))
+        output, errors, status = pozhiqas("certify", "--brief", path, path)
+        self.assertEqual(output, f"== {self.folder}/x\\naccepted steps 1 committed 1\nrejected step 6 line 7 PUSH 4\n" * 2)
+        self.assertEqual((errors, status), ("", 1))
+
     def test_why(self):
         output, _, status = pozhiqas("why", path_of("rejected_optimistic.jsonl"))
         self.assertTrue(output.startswith("rejected step 7 line 7 PUSH 5\nentry 1 gives 1\n\nREJECTED at line 7, PUSH 5: "))
@@ -198,6 +204,13 @@ class BadInputs(Temporary):
                                  stderr=subprocess.PIPE, env={**os.environ, "POZHIQAS": PROGRAM}, check=False)
         self.assertEqual((ran.returncode, ran.stderr), (74, b"pozhiqas: standard output: No space left on device\n"))
 
+    def test_closed_outputs(self):
+        script = f"'{sys.executable}' '{TOOLS / 'pozhiqas'}' certify '{path_of('accepted.jsonl')}'"
+        for redirected, errors, status in ((">&-", b"pozhiqas: standard output is closed\n", 74), ("/none 2>&-", b"", 66)):
+            ran = subprocess.run(["bash", "-c", f"{script} {redirected}"], stdout=subprocess.DEVNULL, stderr=subprocess.PIPE,
+                                 env={**os.environ, "POZHIQAS": PROGRAM}, check=False)
+            self.assertEqual((ran.stderr, ran.returncode), (errors, status))
+
     def test_reader_that_goes_away(self):
         script = f"'{sys.executable}' '{TOOLS / 'pozhiqas'}' certify '{path_of('accepted.jsonl')}'"
         ran = subprocess.run(["bash", "-c", f"{script} | true; echo ${{PIPESTATUS[0]}}"], capture_output=True,
@@ -227,6 +240,13 @@ class WithoutProgram(Temporary):
             self.assertEqual((output, errors, status),
                              ("", "pozhiqas: what was run printed no verdict: it is not the program\n", 70))
 
+    def test_failure_of_the_script_has_not_the_status_of_a_rejection(self):
+        other = self.program("echo rejected step 1 line 2 NONE 9; exit 1")
+        for command in ("why", "picture"):
+            output, errors, status = pozhiqas(command, path_of("rejected_race.jsonl"), program=other)
+            self.assertEqual((output, status, errors.count("\n")), ("", 73, 1))
+            self.assertTrue(errors.startswith("pozhiqas: the script failed: KeyError"))
+
     def test_statuses_of_the_program_that_are_no_answer(self):
         for status in (2, 4, 5, 6, 8):
             output, errors, found = pozhiqas("certify", path_of("accepted.jsonl"), program=self.program(f"exit {status}"))
@@ -240,7 +260,8 @@ class WithoutProgram(Temporary):
 class Statuses(unittest.TestCase):
     def test_no_status_is_one_of_the_program(self):
         statuses = [command_line.USAGE, command_line.UNREADABLE, command_line.NO_FILE, command_line.NO_PROGRAM,
-                    command_line.NO_ANSWER, command_line.NO_ORDER, command_line.NOT_TAKEN, command_line.NO_OUTPUT]
+                    command_line.NO_ANSWER, command_line.NO_ORDER, command_line.NOT_TAKEN, command_line.FAILED,
+                    command_line.NO_OUTPUT]
         self.assertEqual(len(set(statuses)), len(statuses))
         self.assertTrue(all(status >= 64 for status in statuses))
         for status in statuses:

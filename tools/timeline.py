@@ -47,7 +47,7 @@ class Timeline:
             return []
         shown = {id(call) for call in named if is_of_start(call)}
         calls = [call for call in self.run.start.attempts[0].calls if id(call) in shown]
-        return [Row(call.line, call.transaction, call.text, is_needed=True) for call in calls]
+        return [Row(call.line, call.transaction, call.text, call.line == self.line, is_needed=True) for call in calls]
 
     def add_row(self, record):
         is_failing = record.line == self.line

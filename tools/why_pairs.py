@@ -10,7 +10,7 @@ STEP_FIRST = ("PUSH", 3)
 
 
 class Pair(Explanation):
-    """Two calls, the first of which may not move past the second, with operations around them that show it."""
+    """Two calls, the second of which may not move past the first, with operations around them that show it."""
 
     def __init__(self, case):
         super().__init__()
@@ -37,11 +37,9 @@ def turned_order(before, calls):
     objects = Objects()
     for call in before:
         objects.perform(call)
-    texts = []
+    shown = ", then ".join(call.text for call in calls)
     for call in calls:
-        texts.append(call.text)
         result = objects.perform(call)
         if result != call.result:
-            returned = f"{call.text.rpartition('=')[0]} returns {result_text(result)} and not {result_text(call.result)}"
-            return ", then ".join(texts), returned
-    return ", then ".join(texts), "a result differs"
+            return shown, f"{call.text.rpartition('=')[0]} returns {result_text(result)} and not {result_text(call.result)}"
+    return shown, "a result differs"
