@@ -3,10 +3,9 @@
 
     python3 bench/long_transactions.py crates/pp_cli/out/pp_cli
 
-At each operation the transaction takes over what is committed of its object, so that each entry on the object is
-visited, also its own: one object has them side by side, many objects have them far apart. Twice the operations are
-twice the visits of twice as many. The last run is that of a transaction that first takes over what another one
-committed.
+At each operation the transaction takes over what others have committed on its object. One object has the
+transaction's own entries side by side, many objects have them far apart. Each run is made at two sizes, one twice
+the other. In the last run the transaction first takes over what another one committed.
 """
 import os
 import tempfile
