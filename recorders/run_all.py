@@ -10,8 +10,8 @@ and boosted under the thread sanitizer.
 The checker is the program that POZHIQAS names, or else crates/pp_cli/out/pp_cli or pp_cli in this repository. The compiler is CXX, or g++.
 Each row is one line, which has the first line that the checker printed.
 
-Status 0: every row is as it should be. 1: some row is not. 2: wrong arguments. 3: no checker. 4: no compiler. 5: something does not compile.
-6: the compiler has no libitm. 7: a file or a folder cannot be written.
+Status 0: every row is as it should be. 1: some row is not. 2: wrong arguments. 3: no checker, or one that fails. 4: no compiler. 5: something does
+not compile. 6: the compiler has no libitm. 7: a file or a folder cannot be written. 8: a program of haskell or clojure does not run to its end.
 """
 import argparse
 import os
@@ -32,6 +32,8 @@ SECONDS = 120
 # A bug may need more seeds than the correct form has. Its row ends with the first seed that shows it.
 MOST_SEEDS = 20
 NO_CHECKER, NO_COMPILER, NO_BUILD, NO_LIBITM, NO_FOLDER = 3, 4, 5, 6, 7
+# The statuses of a checker that printed a report: accepted, rejected, a fault, too large to print.
+REPORTED = (0, 1, 3, 7)
 
 
 @dataclass(frozen=True)
@@ -169,7 +171,9 @@ class Table:
             ran = subprocess.run([self.checker, command], input=run, capture_output=True, timeout=SECONDS, check=False)
         except OSError as error:
             raise Missing(NO_CHECKER, f"{self.checker} does not run: {error.strerror}") from error
-        return ran.stdout.decode().splitlines() or ["nothing printed"]
+        if ran.returncode not in REPORTED:
+            raise Missing(NO_CHECKER, f"{self.checker} ended with {ran.returncode}, which is the status of no report")
+        return ran.stdout.decode(errors="replace").splitlines() or ["nothing printed"]
 
     def record(self, row, seed):
         """The run that a memory writes, and what it says of itself: its commits and what it holds."""

@@ -17,9 +17,11 @@ ROOT = pathlib.Path(__file__).resolve().parent.parent
 SECONDS = 300
 
 STATUSES = """The checker is the program that POZHIQAS names, or else crates/pp_cli/out/pp_cli or pp_cli in this repository. Each row is one line,
-with the first line that the checker printed. Status 0: every row is as it should be. 1: some row is not. 2: wrong arguments. 3: no checker. 4: no compiler. 5: something
+with the first line that the checker printed. Status 0: every row is as it should be. 1: some row is not. 2: wrong arguments. 3: no checker, or one that fails. 4: no compiler. 5: something
 does not compile. 7: a file or a folder cannot be written. 8: a recorded program does not run to its end."""
 NO_CHECKER, NO_COMPILER, NO_BUILD, NO_FILE, NO_END = 3, 4, 5, 7, 8
+# The statuses of a checker that printed a report: accepted, rejected, a fault, too large to print.
+REPORTED = (0, 1, 3, 7)
 
 
 class Row(NamedTuple):
@@ -74,7 +76,9 @@ def record(rows, command, folder, runs):
 
 def ask(program, command, run):
     with run.open("rb") as lines:
-        asked = subprocess.run([program, command], stdin=lines, capture_output=True, text=True, timeout=SECONDS, check=False)
+        asked = subprocess.run([program, command], stdin=lines, capture_output=True, errors="replace", timeout=SECONDS, check=False)
+    if asked.returncode not in REPORTED:
+        raise Missing(NO_CHECKER, f"{program} ended with {asked.returncode}, which is the status of no report")
     return asked.stdout.splitlines() or ["nothing printed"]
 
 

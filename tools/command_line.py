@@ -118,7 +118,8 @@ def make_parser():
 def add_command(commands, name, what, run, many=True, has_json=True):
     command = commands.add_parser(name, help=what, description=what[0].upper() + what[1:] + ".", epilog=STATUS_TEXT,
                                   formatter_class=argparse.RawDescriptionHelpFormatter, allow_abbrev=False)
-    command.add_argument("files", metavar="FILE", nargs="+" if many else 1, help="a recorded run, or - for standard input")
+    is_of = "a certificate" if name == "recheck" else "a recorded run"
+    command.add_argument("files", metavar="FILE", nargs="+" if many else 1, help=f"{is_of}, or - for standard input")
     command.set_defaults(run=run, output=None)
     if has_json:
         add_json(command)

@@ -134,7 +134,7 @@ KIND_RUNS = [
      "3 (recorded) was written by t1 itself on line 3, which RETRIED on line 4"),
     ("counter", "optimistic", ["begin t1 p1", "begin t2 p2", "op t1 1 o.add(5)=none", "op t2 2 o.get()=0", "commit t1",
                                "commit t2"],
-     "0 (recorded) was there before o.add(5)=none by t1 on line 4, which committed on line 6"),
+     "0 (recorded) was there before, and 5 (right) after o.add(5)=none by t1 on line 4, which committed on line 6"),
     ("counter", "optimistic", ["begin t1 p1", "op t1 1 o.add(5)=none", "abort t1", "begin t2 p2",
                                "op t2 2 o.fetch_add(1)=5"],
      "the difference of 5 is o.add(5)=none by t1 on line 3, which ABORTED on line 4"),

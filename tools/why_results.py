@@ -92,11 +92,12 @@ class WrongResult(Explanation):
     def explain_counter(self):
         recorded, right = self.call.result, self.gives
         missed = next((call for before, call in reversed(self.place.changes) if before == recorded), None)
+        last = self.right_by = self.place.left_by
         if missed is not None:
-            self.say(f"{recorded} (recorded) was there before {missed.text} by {by_whom(missed, self.call)}", missed)
+            after = f", and {right} (right) after" if last is missed else ""
+            self.say(f"{recorded} (recorded) was there before{after} {missed.text} by {by_whom(missed, self.call)}", missed)
         else:
             self.explain_difference(recorded - right)
-        last = self.right_by = self.place.left_by
         if last is None:
             self.add(f"{right} (right) is what is there before any call")
         elif last is not missed:
