@@ -32,7 +32,8 @@ STATUS_TEXT = """\
 The status is that of the program: 0 accepted, 1 rejected, 3 a fault of the input, 7 too large to print; with several
 files it is the greatest. `picture` ends with 0 if it printed a page. Statuses of this script: 64 wrong arguments, 65 a run
 that cannot be read, 66 a file that cannot be read, 69 no program, 70 the program gave no answer, 71 no order was found, 72
-a run that `order` does not take, 73 the script failed, 74 the output cannot be written."""
+a run that `order` does not take, 73 the script failed, 74 the output cannot be written,
+130 interrupted."""
 
 
 class Problem(Exception):
@@ -103,7 +104,9 @@ def make_parser():
         command = add_command(commands, name, what, run_program_command)
         if name in BRIEF_COMMANDS:
             add_brief(command)
-    drill = commands.add_parser("drill", help="make a run of N transactions, and decide it", allow_abbrev=False)
+    drill = commands.add_parser("drill", help="make a run of N transactions, and decide it",
+                                description="Make a run of N transactions, and decide it.", epilog=STATUS_TEXT,
+                                formatter_class=argparse.RawDescriptionHelpFormatter, allow_abbrev=False)
     drill.add_argument("number", metavar="N", help="from 1 to 20000")
     drill.set_defaults(run=run_drill)
     add_json(drill)
