@@ -17,10 +17,10 @@ ENTRY = ROOT / "crates/pp_run/src/program.rt"
 HEADING = "## What the clauses of `run` reach"
 MEANING = "-- Meaning:"
 # The files of memories, sets and maps import it, and no clause speaks of it: their laws are proved from it.
-SHARED_BY_PROOFS = {"pp_keyed/specs/Keys.antt"}
+SHARED_BY_PROOFS = {"pp_kind_keyed/specs/Keys.antt"}
 # What the machine asks and answers. No clause speaks of it: of the files of costs and of evidence, which import these, the clauses name what
 # speaks of steps, starts and configurations alone.
-OF_THE_MACHINE = {"pp_rules/specs/Machines.antt", "pp_rules/specs/Stepping.antt", "pp_rules/src/machine.rt"}
+OF_THE_MACHINE = {"pp_machine/specs/Machines.antt", "pp_machine/specs/Stepping.antt", "pp_machine/src/machine.rt"}
 IMPORT = re.compile(r"^(\s*)(?:pub |ghost )*use Rattle\.(pp_\w+)\.specs\.([\w.]+)", re.MULTILINE)
 
 

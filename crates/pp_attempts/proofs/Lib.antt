@@ -1,4 +1,10 @@
-pub mod Appends
-pub mod Keeping
-pub mod Telling
-pub mod Viewed
+pub mod Fronts
+pub mod Orders
+pub mod Collecting
+pub mod Trails
+pub mod Viewing
+pub mod LiningUp
+pub mod Leaving
+pub mod Rounds
+pub mod Runs
+pub mod KeptPeaks

@@ -1,5 +1,6 @@
-pub mod Texts
-pub mod Outputs
-pub mod Costs
+pub mod Peaks
+pub mod Views
 pub mod Laws
-pub mod Taken
+pub mod Tops
+pub mod Lists
+pub mod Trying

@@ -1,10 +1,27 @@
-//! A law of the definitions, which does nothing.
-ghost use Rattle.pp_attempts.specs.Laws.{KeptViewLaw, OneOutputLaw};
+//! Laws of peaks and views. Each is a fact of the definitions, and does nothing.
+ghost use Rattle.pp_kind.specs.Object.{rules_of};
+ghost use Rattle.pp_attempts.specs.Laws.{AppliedLaw, KeptPeakLaw, OneViewLaw, OrderlyLaw};
 
-/// An input has one status and one text at most. Where a committed transaction of an accepted run
-/// undid nothing behind its last peak, this has a number, which is at most the place of the
-/// transaction among the committed ones, from 0.
-pub fn views_law()
-    ensures one { OneOutputLaw }
-    ensures kept { KeptViewLaw }
+use pp_kind::Spec;
+
+/// What each peak has was applied by its transaction.
+pub fn applied_law<S: Spec>()
+    ensures { AppliedLaw S.Op }
+{}
+
+/// The steps of an accepted run are orderly, as `peaks_of` asks; that they are at most 200,000 is
+/// the limit of a run.
+pub fn orderly_law<S: Spec>()
+    ensures { (shape : S.Shape) → OrderlyLaw (rules_of S.object shape) }
+{}
+
+/// Where a committed transaction undid nothing behind its last peak, this has a number, which is at
+/// most the place of the transaction in commit order, from 0.
+pub fn kept_peak_law<S: Spec>()
+    ensures { (shape : S.Shape) → KeptPeakLaw (rules_of S.object shape) }
+{}
+
+/// A peak has one view at most.
+pub fn one_view_law<S: Spec>()
+    ensures { (shape : S.Shape) → OneViewLaw (rules_of S.object shape) }
 {}

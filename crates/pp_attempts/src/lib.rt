@@ -1,13 +1,17 @@
-//! The command `views`: the attempts of a run, undone ones included, each with the number of
-//! committed transactions after which its results are what the objects give.
+//! What each attempt of a run had applied, and after how many committed transactions its results
+//! are what the object gives.
 #![tactic(auto)]
 
-mod command;
-mod finding;
+mod candidates;
+mod collect;
 mod law;
-mod report;
-mod run_steps;
-mod text;
+mod order;
+mod own;
+mod peak;
+mod top;
+mod trial;
+mod view;
 
-pub use command::views;
-pub use law::views_law;
+pub use law::{applied_law, kept_peak_law, one_view_law, orderly_law};
+pub use peak::{Peak, PeakFault, Peaks, peaks_of};
+pub use view::{View, Views, explain};

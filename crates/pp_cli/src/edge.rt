@@ -1,7 +1,7 @@
 //! The edge: any reader and any writer of std as a source and a sink.
 ghost use Rattle.std.specs.Prelude.{◌≡◌};
 
-use pp_io::{Failed, Sink, SinkFault, Source};
+use pp_input::{Failed, Sink, SinkFault, Source};
 use std::io::{Read, Write};
 
 /// A reader as a source. It has left what the reader has left, if the reader says it.

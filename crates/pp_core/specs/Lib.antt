@@ -7,3 +7,4 @@ pub mod TreeCodes
 pub mod Steps
 pub mod Words
 pub mod formers
+pub mod Values

@@ -1,7 +1,7 @@
 use Rattle.std.proofs.Common.{◌≡◌, ℕ, IsTrue, List, [], ◌∷◌, refl, sym, ◌∙◌, ap, subst, inl, inr}
 use Rattle.pp_core.specs.declared.entry.Item.{Item}
-use Rattle.pp_spec.specs.Object.{Object, IsLegal, AllowedFrom, IsLawful, IsPlaced, state_from}
-use Rattle.pp_spec.proofs.Places.{shape_stays}
+use Rattle.pp_kind.specs.Object.{Object, IsLegal, AllowedFrom, IsLawful, IsPlaced, state_from}
+use Rattle.pp_kind.proofs.Places.{shape_stays}
 use Rattle.pp_model.specs.Object.{ops}
 use Rattle.pp_log.specs.Parts.{there}
 use Rattle.pp_log.specs.Runs.{kept_along}

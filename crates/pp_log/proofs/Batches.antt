@@ -11,7 +11,7 @@ use Rattle.pp_model.specs.Lists.{In}
 use Rattle.pp_model.specs.Object.{ops}
 use Rattle.pp_model.specs.Serial.{has_id}
 use Rattle.pp_model.proofs.Lists.{in_left, in_right}
-use Rattle.pp_spec.specs.Object.{IsLawful, Object, Swaps}
+use Rattle.pp_kind.specs.Object.{IsLawful, Object, Swaps}
 use Rattle.pp_log.specs.Batches.{CarriesAllOver, HasBatch, IsAlong}
 use Rattle.pp_log.specs.Carries.{CarriesOver}
 use Rattle.pp_log.specs.Leaves.{HasIdAt}

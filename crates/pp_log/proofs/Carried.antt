@@ -5,7 +5,7 @@ use Rattle.std.specs.List.{remove, swap}
 use Rattle.std.proofs.lemmas.List.{nil_from_length}
 use Rattle.pp_core.specs.declared.entry.Item.{Item}
 use Rattle.pp_model.specs.Object.{ops}
-use Rattle.pp_spec.specs.Object.{Object, IsLawful, MayKeep, KeptAs, LetsPass, Swaps, state_from}
+use Rattle.pp_kind.specs.Object.{Object, IsLawful, MayKeep, KeptAs, LetsPass, Swaps, state_from}
 use Rattle.pp_log.specs.Carries.{CarriesOut, CarriesOver, IsOnWay}
 use Rattle.pp_log.specs.Parts.{AllAt, there}
 use Rattle.pp_log.proofs.Parted.{is_at, there_at, there_off}

@@ -7,8 +7,8 @@ use Rattle.std.specs.Prelude.{Some}
 use Rattle.pp_core.specs.declared.entry.Item.{Item}
 use Rattle.pp_core.specs.declared.answer.Answer.{Answer}
 use Rattle.pp_model.specs.Lists.{In}
-use Rattle.pp_spec.specs.Object.{Object, AllowedFrom, AllRanged, state_from}
-use Rattle.pp_spec.proofs.Lists.{allowed-second}
+use Rattle.pp_kind.specs.Object.{Object, AllowedFrom, AllRanged, state_from}
+use Rattle.pp_kind.proofs.Lists.{allowed-second}
 use Rattle.pp_model.specs.Object.{ops}
 use Rattle.pp_log.specs.Runs.{kept_along, AllFit, IsRun, Stops}
 use Rattle.std.proofs.lemmas.Option.{slice_get_within, get_or_from_slice_get}

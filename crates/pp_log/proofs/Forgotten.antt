@@ -9,7 +9,7 @@ use Rattle.pp_model.specs.Lists.{In}
 use Rattle.pp_model.specs.Object.{HasDistinctIds}
 use Rattle.pp_model.proofs.Lists.{by_key, in_map}
 use Rattle.pp_model.proofs.Finding.{stands_in}
-use Rattle.pp_spec.specs.Object.{Object}
+use Rattle.pp_kind.specs.Object.{Object}
 use Rattle.pp_log.specs.declared.index.Index.{Index}
 use Rattle.pp_log.specs.Batches.{CanForget, Forgets}
 use Rattle.pp_log.specs.Index.{IsIndexOf, index_len}

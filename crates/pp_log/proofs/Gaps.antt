@@ -6,10 +6,10 @@ use Rattle.std.proofs.Math.Seq.{get_or_at, take-length}
 use Rattle.pp_core.specs.declared.entry.Item.{Item}
 use Rattle.pp_model.specs.Object.{ops}
 use Rattle.pp_model.proofs.Lengths.{length-ops}
-use Rattle.pp_spec.specs.Gaps.{ClosesTo, Crosses, MayClose}
-use Rattle.pp_spec.specs.Object.{AllowedFrom, AllRanged, IsLawful, IsLog, IsReached, Object, state_from}
-use Rattle.pp_spec.specs.declared.gapped.Crossed.TheVariants as crossed
-use Rattle.pp_spec.proofs.Lists.{allowed-append, allowed-first, allowed-second, allowed_is_state, state-append}
+use Rattle.pp_kind.specs.Gaps.{ClosesTo, Crosses, MayClose}
+use Rattle.pp_kind.specs.Object.{AllowedFrom, AllRanged, IsLawful, IsLog, IsReached, Object, state_from}
+use Rattle.pp_kind.specs.declared.gapped.Crossed.TheVariants as crossed
+use Rattle.pp_kind.proofs.Lists.{allowed-append, allowed-first, allowed-second, allowed_is_state, state-append}
 use Rattle.pp_log.specs.declared.gap.Crossing.TheVariants as crossing
 use Rattle.pp_log.specs.declared.place.Place.{Place}
 use Rattle.pp_log.specs.Gaps.{AllMeet, AllStayApart, CrossesAll, LeavesGap}

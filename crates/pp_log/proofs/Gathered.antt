@@ -15,8 +15,8 @@ use Rattle.pp_model.specs.Serial.{has_id}
 use Rattle.pp_model.proofs.Lists.{before_filter, before_from_filter, before_in_first, before_in_second, by_key, from_filter, in_cases, in_filter}
 use Rattle.pp_model.proofs.Finding.{stands_in}
 use Rattle.pp_model.proofs.Lengths.{length-ops}
-use Rattle.pp_spec.proofs.Lists.{allowed-first}
-use Rattle.pp_spec.specs.Object.{AllRanged, AllowedFrom, IsAllowed, IsLawful, IsPlaced, Object, state_after, state_from}
+use Rattle.pp_kind.proofs.Lists.{allowed-first}
+use Rattle.pp_kind.specs.Object.{AllRanged, AllowedFrom, IsAllowed, IsLawful, IsPlaced, Object, state_after, state_from}
 use Rattle.pp_log.specs.Batches.{AreOnOnePlace, CanGather, Gathers, HasBatch, IsAlong}
 use Rattle.pp_log.specs.declared.place.Place.{Place}
 use Rattle.pp_log.specs.Keeps.{KeptIn, Keeps}

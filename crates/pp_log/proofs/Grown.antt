@@ -5,9 +5,9 @@ use Rattle.std.specs.List.{slice_get, slice_set, remove}
 use Rattle.std.proofs.lemmas.Bool.Decides.{eqb_tells}
 use Rattle.std.proofs.lemmas.List.{length_push}
 use Rattle.pp_core.specs.declared.entry.Item.{Item}
-use Rattle.pp_spec.specs.Object.{Object, IsLegal, IsAllowed, IsReached, IsLawful, IsPlaced}
-use Rattle.pp_spec.specs.Object.{AllRanged, state_after, state_from}
-use Rattle.pp_spec.proofs.Lists.{one_more, state_one_more, ranged-append}
+use Rattle.pp_kind.specs.Object.{Object, IsLegal, IsAllowed, IsReached, IsLawful, IsPlaced}
+use Rattle.pp_kind.specs.Object.{AllRanged, state_after, state_from}
+use Rattle.pp_kind.proofs.Lists.{one_more, state_one_more, ranged-append}
 use Rattle.pp_log.specs.declared.place.Place.{Place}
 use Rattle.pp_model.specs.Object.{ops}
 use Rattle.pp_model.proofs.Lengths.{length-ops}

@@ -12,7 +12,7 @@ use Rattle.pp_model.specs.Lists.{In}
 use Rattle.pp_model.specs.Object.{HasDistinctIds, ops}
 use Rattle.pp_model.proofs.Lists.{by_key}
 use Rattle.pp_model.proofs.Finding.{stands_in}
-use Rattle.pp_spec.specs.Object.{Object, IsLawful, IsPlaced, state_after}
+use Rattle.pp_kind.specs.Object.{Object, IsLawful, IsPlaced, state_after}
 use Rattle.pp_log.specs.declared.index.Index.{Index}
 use Rattle.pp_log.specs.declared.place.Place.{Place}
 use Rattle.pp_log.specs.declared.index.Index.TheVariants.{Few, Many}

@@ -11,7 +11,7 @@ use Rattle.pp_model.specs.Object.{HasDistinctIds, ops}
 use Rattle.pp_model.specs.Serial.{has_id}
 use Rattle.pp_model.proofs.Lists.{before_across, before_from_filter, before_in_second, before_right, by_key}
 use Rattle.pp_model.proofs.Lists.{from_filter, in_cases, in_filter, in_right, not_both}
-use Rattle.pp_spec.specs.Object.{Object, LetsPass, Swaps}
+use Rattle.pp_kind.specs.Object.{Object, LetsPass, Swaps}
 use Rattle.pp_log.specs.Leaving.{MayLeave, without_items}
 use Rattle.pp_log.specs.Parts.{there}
 use Rattle.pp_log.specs.Room.{ids_of}

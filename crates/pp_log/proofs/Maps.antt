@@ -6,8 +6,8 @@ use Rattle.std.proofs.lemmas.List.{length-map}
 use Rattle.std.proofs.lemmas.Bool.Decides.{eqb_tells}
 use Rattle.pp_core.specs.declared.answer.Answer.{Answer}
 use Rattle.pp_core.specs.declared.entry.Item.{Item}
-use Rattle.pp_spec.specs.Object.{Object, IsAllowed, IsLegal, state_after}
-use Rattle.pp_spec.proofs.Lists.{last_is_legal}
+use Rattle.pp_kind.specs.Object.{Object, IsAllowed, IsLegal, state_after}
+use Rattle.pp_kind.proofs.Lists.{last_is_legal}
 use Rattle.pp_log.specs.declared.place.Removed.{Removed}
 use Rattle.pp_log.specs.declared.place.Removed.TheVariants.{Done, Differs}
 use Rattle.pp_model.specs.Object.{ops}

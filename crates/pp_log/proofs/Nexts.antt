@@ -10,7 +10,7 @@ use Rattle.std.proofs.lemmas.Option.{slice_get_read}
 use Rattle.std.proofs.lemmas.List.Quantifiers.{position-Some}
 use Rattle.pp_core.specs.declared.entry.Item.{Item}
 use Rattle.pp_model.specs.Object.{HasDistinctIds}
-use Rattle.pp_spec.specs.Object.{Object}
+use Rattle.pp_kind.specs.Object.{Object}
 use Rattle.pp_log.specs.declared.place.Place.{Place}
 use Rattle.pp_log.specs.Logs.{IsFirstFrom, IsOn, NoneFrom}
 use Rattle.pp_log.specs.Keeps.{KeptIn, Keeps}

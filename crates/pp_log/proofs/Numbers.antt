@@ -12,7 +12,7 @@ use borrow.Author.Tests.{lt-ltb}
 use Rattle.std.proofs.lemmas.Option.{slice_get_within}
 use Rattle.std.specs.Prelude.{Result, Ok, Err, MatchResult}
 use Rattle.std.specs.Result.{result_ok}
-use Rattle.pp_ids.specs.Values.{Updates, value_of}
+use Rattle.pp_core.specs.Values.{Updates, value_of}
 use Rattle.pp_log.specs.declared.id_table.IdTable.{IdTable}
 use Rattle.pp_log.specs.Index.{IsNewId, IsRising, IsSameTable, IsTableOf, StandOnce, number_of}
 

@@ -10,13 +10,13 @@ use Rattle.std.proofs.lemmas.List.Edits.{length-remove}
 use Rattle.pp_core.specs.declared.entry.Item.{Item}
 use Rattle.pp_model.specs.Object.{ops}
 use Rattle.pp_model.proofs.Lengths.{length-ops}
-use Rattle.pp_spec.specs.Calls.{WasApplied}
-use Rattle.pp_spec.specs.Object.{Object, AllowedFrom, AllRanged, IsAllowed, IsLawful, IsLegal, IsLog}
-use Rattle.pp_spec.specs.Object.{IsReached}
-use Rattle.pp_spec.specs.Object.{MayKeep, KeptAs, KeptAsAt, LetsPass, Swaps, state_after, state_from}
-use Rattle.pp_spec.proofs.Lists.{allowed-append, allowed-first, allowed-second, state-append}
-use Rattle.pp_spec.proofs.Passing.{IsPair, left_by, pair, passed_last, turned}
-use Rattle.pp_spec.proofs.Places.{reached_is_state}
+use Rattle.pp_kind.specs.Calls.{WasApplied}
+use Rattle.pp_kind.specs.Object.{Object, AllowedFrom, AllRanged, IsAllowed, IsLawful, IsLegal, IsLog}
+use Rattle.pp_kind.specs.Object.{IsReached}
+use Rattle.pp_kind.specs.Object.{MayKeep, KeptAs, KeptAsAt, LetsPass, Swaps, state_after, state_from}
+use Rattle.pp_kind.proofs.Lists.{allowed-append, allowed-first, allowed-second, state-append}
+use Rattle.pp_kind.proofs.Passing.{IsPair, left_by, pair, passed_last, turned}
+use Rattle.pp_kind.proofs.Places.{reached_is_state}
 use Rattle.pp_log.specs.Carries.{CarriesOut, IsCarried, IsOnWay}
 use Rattle.pp_log.specs.Parts.{AllAt}
 use Rattle.pp_log.specs.Runs.{IsRun, kept_along}

@@ -6,8 +6,8 @@ use Rattle.std.proofs.lemmas.List.{map-append, take-append-drop, take-append-le}
 use Rattle.pp_core.specs.declared.entry.Item.{Item}
 use Rattle.pp_model.specs.Object.{ops}
 use Rattle.pp_model.proofs.Lengths.{length-ops}
-use Rattle.pp_spec.specs.Object.{AllRanged, AllowedFrom, Object, state_from}
-use Rattle.pp_spec.proofs.Lists.{ranged-first}
+use Rattle.pp_kind.specs.Object.{AllRanged, AllowedFrom, Object, state_from}
+use Rattle.pp_kind.proofs.Lists.{ranged-first}
 use Rattle.pp_log.specs.Parts.{items_on, there, with_first}
 use Rattle.pp_log.specs.Runs.{AllFit, IsRun, kept_along}
 use Rattle.pp_log.proofs.Lists.{all_behind, remove_mid}

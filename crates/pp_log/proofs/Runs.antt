@@ -2,11 +2,11 @@ use Rattle.std.proofs.Common.{◌≡◌, ℕ, ◌<◌, ◌+◌, zero, suc, IsTru
 use Rattle.std.proofs.Common.{take, get_or, refl, sym, ◌∙◌, ap, subst, arith, length-append}
 use Rattle.std.proofs.lemmas.List.{take_more, length_push, length-take-le}
 use Rattle.pp_core.specs.declared.entry.Item.{Item}
-use Rattle.pp_spec.specs.Object.{Object, IsLegal, AllowedFrom, IsAllowed, AllRanged, IsLog}
-use Rattle.pp_spec.specs.Object.{IsReached, IsLawful, state_from, state_after}
-use Rattle.pp_spec.proofs.Lists.{state-append, allowed-first, allowed-second, allowed-append}
-use Rattle.pp_spec.proofs.Lists.{ranged-append, allowed_is_state}
-use Rattle.pp_spec.proofs.Places.{shape_stays, reached_is_state}
+use Rattle.pp_kind.specs.Object.{Object, IsLegal, AllowedFrom, IsAllowed, AllRanged, IsLog}
+use Rattle.pp_kind.specs.Object.{IsReached, IsLawful, state_from, state_after}
+use Rattle.pp_kind.proofs.Lists.{state-append, allowed-first, allowed-second, allowed-append}
+use Rattle.pp_kind.proofs.Lists.{ranged-append, allowed_is_state}
+use Rattle.pp_kind.proofs.Places.{shape_stays, reached_is_state}
 use Rattle.pp_model.specs.Object.{ops}
 use Rattle.pp_model.proofs.Lengths.{length-ops}
 use Rattle.pp_log.proofs.Lists.{push-injective}

@@ -9,7 +9,7 @@ use Rattle.pp_core.specs.declared.entry.Item.{Item}
 use Rattle.pp_core.specs.declared.answer.Answer.{Answer}
 use Rattle.pp_model.specs.Lists.{In}
 use Rattle.pp_model.proofs.Lists.{in_right, not_empty}
-use Rattle.pp_spec.specs.Object.{Object, IsAllowed, IsLawful, IsPlaced, state_after}
+use Rattle.pp_kind.specs.Object.{Object, IsAllowed, IsLawful, IsPlaced, state_after}
 use Rattle.pp_log.specs.declared.place.Place.{Place}
 use Rattle.pp_log.specs.declared.place.Removed.{Removed}
 use Rattle.pp_log.specs.declared.place.Removed.TheVariants.{Done, Differs}

@@ -10,7 +10,7 @@ use Rattle.pp_model.specs.Object.{HasDistinctIds}
 use Rattle.pp_model.specs.Serial.{has_id}
 use Rattle.pp_model.proofs.Lists.{before_across, before_filter, before_from_filter, before_in_first, before_in_second, before_left, before_right}
 use Rattle.pp_model.proofs.Lists.{by_key, from_filter, in_cases, in_filter, in_left, in_right, not_both}
-use Rattle.pp_spec.specs.Object.{Object}
+use Rattle.pp_kind.specs.Object.{Object}
 use Rattle.pp_log.specs.declared.index.Index.{Index}
 use Rattle.pp_log.specs.declared.place.Place.{Place}
 use Rattle.pp_log.specs.Keeps.{KeepsAll}

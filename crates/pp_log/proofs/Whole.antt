@@ -5,10 +5,10 @@ use Rattle.std.proofs.Math.Seq.{take-length}
 use Rattle.std.specs.List.{slice_get}
 use Rattle.pp_core.specs.declared.entry.Item.{Item}
 use Rattle.pp_core.specs.declared.answer.Answer.{Answer}
-use Rattle.pp_spec.specs.Object.{Object, AllowedFrom, IsAllowed, AllRanged, IsLawful, IsPlaced}
-use Rattle.pp_spec.specs.Object.{state_from, state_after}
-use Rattle.pp_spec.proofs.Lists.{state-append, allowed-first}
-use Rattle.pp_spec.proofs.Places.{reached_shape}
+use Rattle.pp_kind.specs.Object.{Object, AllowedFrom, IsAllowed, AllRanged, IsLawful, IsPlaced}
+use Rattle.pp_kind.specs.Object.{state_from, state_after}
+use Rattle.pp_kind.proofs.Lists.{state-append, allowed-first}
+use Rattle.pp_kind.proofs.Places.{reached_shape}
 use Rattle.pp_log.specs.declared.place.Place.{Place}
 use Rattle.pp_model.specs.Object.{HasDistinctIds, ops}
 use Rattle.pp_log.specs.Parts.{there, elsewhere}

@@ -3,7 +3,7 @@ use Rattle.std.specs.Prelude.{◌≡◌, ◌+◌, ℕ, List, [], ◌∷◌, ◌+
 use Rattle.pp_core.specs.declared.entry.Item.{Item}
 use Rattle.pp_model.specs.Lists.{In}
 use Rattle.pp_model.specs.Object.{HasDistinctIds, ops}
-use Rattle.pp_spec.specs.Object.{AllowedFrom, IsLog, Object, Swaps, state_from}
+use Rattle.pp_kind.specs.Object.{AllowedFrom, IsLog, Object, Swaps, state_from}
 use Rattle.pp_log.specs.declared.index.Index.{Index}
 use Rattle.pp_log.specs.Index.{IsIndexOf}
 use Rattle.pp_log.specs.Leaves.{StandFrom}

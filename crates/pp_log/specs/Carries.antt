@@ -1,6 +1,6 @@
 -- Proof machinery: an operation, and what takes it back, carried behind others.
 use Rattle.std.specs.Prelude.{◌≡◌, ℕ, List, [], ◌∷◌, ◌++◌, length}
-use Rattle.pp_spec.specs.Object.{Object, AllowedFrom, IsLog, LetsPass, Swaps, state_from}
+use Rattle.pp_kind.specs.Object.{Object, AllowedFrom, IsLog, LetsPass, Swaps, state_from}
 use Rattle.pp_log.specs.Parts.{AllAt}
 use Rattle.pp_log.specs.Runs.{kept_along}
 

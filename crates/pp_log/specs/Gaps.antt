@@ -1,7 +1,7 @@
 -- Proof machinery: how a state differs behind some operations from the one that would be there
 -- without an operation before them.
 use Rattle.std.specs.Prelude.{◌≡◌, ◌<◌, ℕ, List, ◌∷◌, length, slice_set}
-use Rattle.pp_spec.specs.Object.{AllowedFrom, Object, state_from}
+use Rattle.pp_kind.specs.Object.{AllowedFrom, Object, state_from}
 use Rattle.pp_log.specs.declared.gap.Crossing.{Crossing}
 use Rattle.pp_log.specs.declared.gap.Crossing.TheVariants as crossing
 use Rattle.pp_log.specs.Runs.{kept_along}

@@ -3,7 +3,7 @@
 use Rattle.std.specs.Prelude.{◌≡◌, ◌+◌, ◌<◌, ◌^◌, ℕ, nat_eq, cond, List, [], ◌∷◌, ◌++◌, length}
 use Rattle.std.specs.Prelude.{AllPairs, Option, Some, None, vec_len}
 use Rattle.std.specs.Vec.{vec_capacity}
-use Rattle.pp_ids.specs.Values.{HasRoomFor, HasSameValues, value_of}
+use Rattle.pp_core.specs.Values.{HasRoomFor, HasSameValues, value_of}
 use Rattle.arrayvec.specs.ArrayVec.{array_vec_len}
 use Rattle.pp_log.specs.declared.id_table.IdTable.{IdTable}
 use Rattle.pp_log.specs.declared.index.Index.{Index}

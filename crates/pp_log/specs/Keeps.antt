@@ -2,7 +2,7 @@
 use Rattle.std.specs.Prelude.{◌≡◌, ◌≤◌, ℕ, List, [], length, slice_get, Option, Some, None}
 use Rattle.pp_core.specs.declared.entry.Item.{Item}
 use Rattle.pp_model.specs.Object.{HasDistinctIds, ops}
-use Rattle.pp_spec.specs.Object.{Object, AllRanged, IsAllowed, state_after}
+use Rattle.pp_kind.specs.Object.{Object, AllRanged, IsAllowed, state_after}
 use Rattle.pp_log.specs.declared.index.Index.{Index}
 use Rattle.pp_log.specs.declared.place.Place.{Place}
 use Rattle.pp_log.specs.Index.{IsIndexOf}

@@ -3,7 +3,7 @@ use Rattle.std.specs.Prelude.{◌≡◌, ◌+◌, ℕ, List, drop, remove, slice
 use Rattle.pp_core.specs.declared.entry.Item.{Item}
 use Rattle.pp_model.specs.Lists.{Before, In}
 use Rattle.pp_model.specs.Object.{HasDistinctIds, ops}
-use Rattle.pp_spec.specs.Object.{LetsPass, Object}
+use Rattle.pp_kind.specs.Object.{LetsPass, Object}
 use Rattle.pp_log.specs.declared.index.Index.{Index}
 use Rattle.pp_log.specs.declared.place.Place.{Place}
 use Rattle.pp_log.specs.Index.{IsIndexOf}

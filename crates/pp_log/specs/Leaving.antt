@@ -3,7 +3,7 @@ use Rattle.std.specs.Prelude.{◌≡◌, false, not, List, filter}
 use Rattle.pp_core.specs.declared.entry.Item.{Item}
 use Rattle.pp_model.specs.Lists.{Before, In}
 use Rattle.pp_model.specs.Serial.{has_id}
-use Rattle.pp_spec.specs.Object.{Object, Swaps}
+use Rattle.pp_kind.specs.Object.{Object, Swaps}
 use Rattle.pp_log.specs.Room.{ids_of}
 
 -- The items stand in the log in their order, and each lets those of others behind it pass.

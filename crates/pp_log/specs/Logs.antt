@@ -4,7 +4,7 @@ use Rattle.std.specs.Prelude.{◌≡◌, ◌≢◌, ◌==◌, ◌<◌, ◌≤◌
 use Rattle.std.specs.Prelude.{◌∷◌, ◌++◌, map, filter, length, remove, slice_get, Some, Result, IfOk}
 use Rattle.pp_core.specs.declared.answer.Answer.{Answer}
 use Rattle.pp_core.specs.declared.entry.Item.{Item}
-use Rattle.pp_spec.specs.Object.{Object, IsAllowed, AllowedFrom, state_after, state_from}
+use Rattle.pp_kind.specs.Object.{Object, IsAllowed, AllowedFrom, state_after, state_from}
 use Rattle.pp_log.specs.declared.place.Removed.{Removed}
 use Rattle.pp_log.specs.declared.place.Removed.TheVariants.{Done, Differs}
 

@@ -4,7 +4,7 @@ use Rattle.std.specs.Prelude.{Option, Some, None, option_map, slice_get, take}
 use Rattle.pp_core.specs.declared.answer.Answer.{Answer}
 use Rattle.pp_core.specs.declared.entry.Item.{Item}
 use Rattle.pp_model.specs.Object.{ops}
-use Rattle.pp_spec.specs.Object.{Object, AllowedFrom, AllRanged, IsLog, state_from}
+use Rattle.pp_kind.specs.Object.{Object, AllowedFrom, AllRanged, IsLog, state_from}
 use Rattle.pp_log.specs.declared.run.Stop.{Stop}
 use Rattle.pp_log.specs.Parts.{items_on}
 

@@ -3,8 +3,7 @@ ghost use Rattle.std.specs.Prelude.{◌≡◌, ◌<◌, ℕ, nat_eq, List, [], �
 ghost use Rattle.std.specs.Prelude.{length, position, remove, slice_get};
 ghost use Rattle.pp_log.specs.Index.{HasTableRoom, IsNewId, IsSameTable, IsTableOf, StandOnce};
 
-use pp_core::OutOfMemory;
-use pp_ids::IdMap;
+use pp_core::{IdMap, OutOfMemory};
 use std::alloc::Global;
 
 /// The ids of the entries of a log, each with a serial number. The numbers rise along the log, so

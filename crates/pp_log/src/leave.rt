@@ -11,12 +11,12 @@ use crate::place::Place;
 use crate::sides::Side;
 use crate::take_out::{pass_out, position_in_place};
 use pp_core::{Item, OutOfMemory, Ticks};
-use pp_spec::Placed;
+use pp_kind::Removable;
 use std::sync::ledger::Ledger;
 
 /// Takes an item that stands at a position of the log back, which lets those of its place behind it
 /// pass. What is kept of it goes.
-fn take_one_back<S: Placed, L: Ledger>(
+fn take_one_back<S: Removable, L: Ledger>(
     item: &Item<S::Op>,
     i: usize,
     ids: &mut Index,
@@ -41,7 +41,7 @@ fn take_one_back<S: Placed, L: Ledger>(
 
 /// Takes items back from the last to the first, each of which lets the others behind it pass. What
 /// is kept is then of the others.
-pub fn take_each_back<S: Placed, L: Ledger>(
+pub fn take_each_back<S: Removable, L: Ledger>(
     own: &[Item<S::Op>],
     ids: &mut Index,
     places: &mut Vec<Place<S::Undo>>,

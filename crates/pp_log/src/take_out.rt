@@ -14,7 +14,7 @@ use crate::place::{Place, Removed};
 use crate::run::{rewind, unwind};
 use crate::sides::Side;
 use pp_core::{OutOfMemory, Ticks};
-use pp_spec::Placed;
+use pp_kind::Removable;
 use std::sync::ledger::Ledger;
 
 /// Where this id stands last.
@@ -64,7 +64,7 @@ pub fn position_in_place(ids: &[u32], index: &Index, i: usize, id: u32) -> Optio
 
 /// Takes the entry with this operation that stands at `from` out of its place, as if it were the
 /// last one there, where it lets those behind it pass.
-pub fn pass_out<S: Placed, L: Ledger>(
+pub fn pass_out<S: Removable, L: Ledger>(
     place: &mut Place<S::Undo>,
     from: usize,
     op: &S::Op,
@@ -85,7 +85,7 @@ pub fn pass_out<S: Placed, L: Ledger>(
 /// Takes the first of these entries, which stands at `from` in its place with others behind it,
 /// out of that place, where the gap that it leaves is known behind these, and borne. Else all
 /// stays, and it answers false. Only closing a gap ticks.
-fn leave_by_gap<S: Placed, T: Side<S::Op>, L: Ledger>(
+fn leave_by_gap<S: Removable, T: Side<S::Op>, L: Ledger>(
     place: &mut Place<S::Undo>,
     from: usize,
     entries: &[T::Entry],
@@ -130,7 +130,7 @@ fn leave_by_gap<S: Placed, T: Side<S::Op>, L: Ledger>(
 /// it is the last one there, it alone is taken back. Else the gap that it leaves is closed; where
 /// that is not known or not borne, those behind it are taken back too, and applied again without it;
 /// where one of them differs, the place is as it was.
-pub fn take_out<S: Placed, T: Side<S::Op>, L: Ledger>(
+pub fn take_out<S: Removable, T: Side<S::Op>, L: Ledger>(
     place: &mut Place<S::Undo>,
     from: usize,
     entries: &[T::Entry],
@@ -163,7 +163,7 @@ pub fn take_out<S: Placed, T: Side<S::Op>, L: Ledger>(
 /// Takes the operation of the first of these entries, which stands at `from` in its place, out of
 /// it, and those behind it there back, which are then applied again. Where one differs, the place is
 /// as it was.
-fn replay<S: Placed, T: Side<S::Op>, L: Ledger>(
+fn replay<S: Removable, T: Side<S::Op>, L: Ledger>(
     place: &mut Place<S::Undo>,
     from: usize,
     entries: &[T::Entry],

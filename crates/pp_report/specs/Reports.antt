@@ -7,12 +7,12 @@ use Rattle.pp_core.specs.Words.{rule_word}
 use Rattle.pp_core.specs.declared.entry.CommittedTx.{CommittedTx}
 use Rattle.pp_core.specs.declared.step.Rule.{Rule}
 use Rattle.pp_model.specs.Lists.{Each}
-use Rattle.pp_object.specs.declared.act.Op.{Op}
-use Rattle.pp_object.specs.declared.states.ObjectState.{ObjectState}
-use Rattle.pp_object.specs.Objects.{kinds_of, objects}
-use Rattle.pp_rules.specs.Evidence.{Fits}
-use Rattle.pp_rules.specs.declared.detail.Detail.{Detail}
-use Rattle.pp_rules.specs.declared.detail.Detail.TheVariants.{Nothing, Entry, Gives, Swap}
+use Rattle.pp_objects.specs.declared.act.Op.{Op}
+use Rattle.pp_objects.specs.declared.states.ObjectState.{ObjectState}
+use Rattle.pp_objects.specs.Objects.{kinds_of, objects}
+use Rattle.pp_machine.specs.Evidence.{Fits}
+use Rattle.pp_machine.specs.declared.detail.Detail.{Detail}
+use Rattle.pp_machine.specs.declared.detail.Detail.TheVariants.{Nothing, Entry, Gives, Swap}
 use Rattle.pp_text.specs.Lines.{line, op_line, state_lines}
 use Rattle.pp_text.specs.Texts.{answer_bytes, op_bytes, EachNamed}
 

@@ -7,8 +7,8 @@ ghost use Rattle.pp_report.specs.Reports.{IsDetailNamed, detail_text, entry_byte
 ghost use Rattle.pp_report.specs.Reports.{ops_line, spaced_bytes};
 
 use pp_core::{Catalog, OutOfMemory, Text};
-use pp_object::Op;
-use pp_rules::Detail;
+use pp_machine::Detail;
+use pp_objects::Op;
 use pp_text::{write_answer, write_number, write_op};
 
 /// Adds an operation behind a space.

@@ -5,7 +5,7 @@ ghost use Rattle.pp_report.specs.Reports.{accepted_line, accepted_text, tx_lines
 ghost use Rattle.pp_report.specs.Reports.{all_tx_lines, AreNamed};
 
 use pp_core::{Catalog, Committed, CommittedTx, OutOfMemory, Text};
-use pp_object::{ObjectStates, Op};
+use pp_objects::{ObjectStates, Op};
 use pp_text::{write_number, write_op_lines, write_state_lines};
 use std::alloc::Global;
 

@@ -5,8 +5,8 @@ ghost use Rattle.pp_report.specs.Reports.{rejected_text};
 
 use crate::evidence::write_detail;
 use pp_core::{Catalog, OutOfMemory, Rule, Text};
-use pp_object::Op;
-use pp_rules::Detail;
+use pp_machine::Detail;
+use pp_objects::Op;
 use pp_text::write_number;
 use std::alloc::Global;
 

@@ -3,7 +3,7 @@ use Rattle.std.specs.Prelude.{◌≡◌, ◌⊎◌, ℕ, List, Option, None, Som
 use Rattle.std.proofs.Common.{inl, inr, subst, sym}
 use Rattle.pp_core.specs.declared.status.Status.{Status}
 use Rattle.pp_core.specs.declared.status.Status.TheVariants as statuses
-use Rattle.pp_certify.specs.Certified.{IsDecided}
+use Rattle.pp_judge.specs.Certified.{IsDecided}
 use Rattle.pp_run.specs.Bounds.{RisesAtLeast}
 use Rattle.pp_run.specs.Outputs.{IsVerdictOrSize}
 use Rattle.pp_run.specs.declared.words.Command.{Command}

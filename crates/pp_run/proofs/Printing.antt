@@ -7,13 +7,13 @@ use Rattle.pp_run.specs.declared.words.Command.{Command}
 use Rattle.pp_run.specs.declared.words.Command.TheVariants.{Certify, Drill, Expand, Quick, Recheck, Swaps, Views}
 use Rattle.pp_run.specs.Outputs.{IsOutput, OfInput, Prints, PrintsOnly, PrintsPrefix, PrintsPrefixOnly}
 use Rattle.pp_run.specs.Writing.{AppendsPrefix}
-use Rattle.pp_certify.proofs.Concluding.{one_certified}
-use Rattle.pp_certify.proofs.Expanding.{one_expanded}
-use Rattle.pp_attempts.proofs.Viewed.{one_views}
-use Rattle.pp_decide.proofs.Decided.{one_quick}
-use Rattle.pp_drill.proofs.Drilling.{one_drilled}
-use Rattle.pp_exchanges.proofs.Swapping.{one_swaps}
-use Rattle.pp_verify.proofs.Rechecking.{one_recheck}
+use Rattle.pp_judge.proofs.Concluding.{one_certified}
+use Rattle.pp_judge.proofs.Expanding.{one_expanded}
+use Rattle.pp_cmd_views.proofs.Viewed.{one_views}
+use Rattle.pp_cmd_quick.proofs.Decided.{one_quick}
+use Rattle.pp_cmd_drill.proofs.Drilling.{one_drilled}
+use Rattle.pp_cmd_swaps.proofs.Swapping.{one_swaps}
+use Rattle.pp_cmd_recheck.proofs.Rechecking.{one_recheck}
 
 -- two outputs of one input are the same
 pub one_output : (command : Option Command) (bytes : List ℕ) (s s' : Status) (t t' : List ℕ) → IsOutput command bytes s t → IsOutput command bytes s' t' → (s ≡ s') × (t ≡ t')

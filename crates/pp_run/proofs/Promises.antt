@@ -2,30 +2,30 @@
 use Rattle.std.specs.Prelude.{◌≡◌, ℕ, List, [], Option, None, Some}
 use Rattle.pp_core.specs.declared.status.Status.{Status}
 use Rattle.pp_core.specs.declared.status.Status.TheVariants as statuses
-use Rattle.pp_attempts.proofs.Viewed.{kept_views}
-use Rattle.pp_attempts.specs.Outputs.{IsViews, IsViewsOf}
-use Rattle.pp_certify.specs.Inputs.{scan}
-use Rattle.pp_certify.specs.Objects.{object_of, translation_of}
-use Rattle.pp_certify.specs.Reports.{IsCertified}
-use Rattle.pp_certify.specs.Scans.{InputScan}
-use Rattle.pp_decide.proofs.Decided.{decided}
-use Rattle.pp_decide.proofs.Readers.{briefs_decide, is_briefed, keeps_boosted}
-use Rattle.pp_decide.proofs.Verdicts.{some_verdict}
-use Rattle.pp_decide.specs.Costs.{first_brief}
-use Rattle.pp_defined.proofs.Defined.{defined_laws}
-use Rattle.pp_defined.specs.Defined.{IsDefined}
-use Rattle.pp_drill.proofs.Drilling.{prints_lines}
-use Rattle.pp_drill.specs.Prints.{PrintsLines}
-use Rattle.pp_front.proofs.Whole.{one_run_law}
-use Rattle.pp_front.specs.Runs.{Lined, bare}
-use Rattle.pp_json.specs.declared.header.Header.{Header}
+use Rattle.pp_cmd_views.proofs.Viewed.{kept_views}
+use Rattle.pp_cmd_views.specs.Outputs.{IsViews, IsViewsOf}
+use Rattle.pp_judge.specs.Inputs.{scan}
+use Rattle.pp_judge.specs.Objects.{object_of, translation_of}
+use Rattle.pp_judge.specs.Reports.{IsCertified}
+use Rattle.pp_judge.specs.Scans.{InputScan}
+use Rattle.pp_cmd_quick.proofs.Decided.{decided}
+use Rattle.pp_cmd_quick.proofs.Readers.{briefs_decide, is_briefed, keeps_boosted}
+use Rattle.pp_cmd_quick.proofs.Verdicts.{some_verdict}
+use Rattle.pp_cmd_quick.specs.Costs.{first_brief}
+use Rattle.pp_laws_reports.proofs.Defined.{defined_laws}
+use Rattle.pp_laws_reports.specs.Defined.{IsDefined}
+use Rattle.pp_cmd_drill.proofs.Drilling.{prints_lines}
+use Rattle.pp_cmd_drill.specs.Prints.{PrintsLines}
+use Rattle.pp_records.proofs.Whole.{one_run_law}
+use Rattle.pp_records.specs.Runs.{Lined, bare}
+use Rattle.pp_format_read.specs.declared.header.Header.{Header}
 use Rattle.pp_model.proofs.Verdict.{one_verdict}
-use Rattle.pp_object.specs.Objects.{place_of}
-use Rattle.pp_prefixes.proofs.Prefixes.{certified_prefix_law, prefix_law}
-use Rattle.pp_prefixes.specs.Prefixes.{CertifiedPrefixLaw, PrefixLaw}
-use Rattle.pp_quick.proofs.Sums.{sum_law}
-use Rattle.pp_readable.proofs.Inputs.{certify_law, quick_law}
-use Rattle.pp_readable.specs.Readable.{CertifyLaw, QuickLaw}
+use Rattle.pp_objects.specs.Objects.{place_of}
+use Rattle.pp_laws_runs.proofs.Prefixes.{certified_prefix_law, prefix_law}
+use Rattle.pp_laws_runs.specs.Prefixes.{CertifiedPrefixLaw, PrefixLaw}
+use Rattle.pp_summary.proofs.Sums.{sum_law}
+use Rattle.pp_laws_reports.proofs.Inputs.{certify_law, quick_law}
+use Rattle.pp_laws_reports.specs.Readable.{CertifyLaw, QuickLaw}
 use Rattle.pp_run.proofs.Numbers.{drill_within}
 use Rattle.pp_run.specs.Outputs.{DefinedLaw, IsOutput}
 use Rattle.pp_run.specs.Promises.{HaveOneRun, IsDecidedAsRun, SeesKept}

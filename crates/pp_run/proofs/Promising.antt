@@ -2,26 +2,26 @@
 use Rattle.std.proofs.Common.{◌≡◌, ℕ, List, Option, None, Some, inl, inr, refl, subst, sym}
 use Rattle.pp_core.specs.declared.status.Status.{Status}
 use Rattle.pp_core.specs.declared.status.Status.TheVariants as statuses
-use Rattle.pp_attempts.specs.Outputs.{IsViews}
-use Rattle.pp_certificate.specs.Rechecked.{IsCheckedSound}
-use Rattle.pp_certify.proofs.Exact.{certified_exact, meets_alone, meets_simulated}
-use Rattle.pp_certify.proofs.Restated.{prints_again}
-use Rattle.pp_certify.specs.Accepted.{EachStepMeets}
-use Rattle.pp_certify.specs.Certified.{IsDecided}
-use Rattle.pp_certify.specs.Inputs.{scan}
-use Rattle.pp_certify.specs.Rejected.{IsEvident}
-use Rattle.pp_certify.specs.Reports.{IsCertified}
-use Rattle.pp_certify.specs.Scans.{InputScan}
-use Rattle.pp_decide.specs.Decisions.{Decision, IsDecisionBehind, IsDecisionOf}
-use Rattle.pp_decide.specs.Decisions.{IsDecisionTold, IsQuick, quick_fault}
-use Rattle.pp_drill.specs.Prints.{PrintsLines, certified_text}
-use Rattle.pp_drill.specs.Text.{drill_text}
-use Rattle.pp_exchanges.proofs.Rechecking.{prints_certificate}
-use Rattle.pp_exchanges.specs.Swaps.{IsSwaps, IsSwapsOf}
-use Rattle.pp_front.specs.Runs.{Lined}
-use Rattle.pp_json.specs.declared.header.Header.{Header}
-use Rattle.pp_reading.specs.declared.cause.Cause.{Cause}
-use Rattle.pp_real_time.proofs.Timely.{meets_timely}
+use Rattle.pp_cmd_views.specs.Outputs.{IsViews}
+use Rattle.pp_certificate_lines.specs.Rechecked.{IsCheckedSound}
+use Rattle.pp_judge.proofs.Exact.{certified_exact, meets_alone, meets_simulated}
+use Rattle.pp_judge.proofs.Restated.{prints_again}
+use Rattle.pp_judge.specs.Accepted.{EachStepMeets}
+use Rattle.pp_judge.specs.Certified.{IsDecided}
+use Rattle.pp_judge.specs.Inputs.{scan}
+use Rattle.pp_judge.specs.Rejected.{IsEvident}
+use Rattle.pp_judge.specs.Reports.{IsCertified}
+use Rattle.pp_judge.specs.Scans.{InputScan}
+use Rattle.pp_cmd_quick.specs.Decisions.{Decision, IsDecisionBehind, IsDecisionOf}
+use Rattle.pp_cmd_quick.specs.Decisions.{IsDecisionTold, IsQuick, quick_fault}
+use Rattle.pp_cmd_drill.specs.Prints.{PrintsLines, certified_text}
+use Rattle.pp_cmd_drill.specs.Text.{drill_text}
+use Rattle.pp_cmd_swaps.proofs.Rechecking.{prints_certificate}
+use Rattle.pp_cmd_swaps.specs.Swaps.{IsSwaps, IsSwapsOf}
+use Rattle.pp_records.specs.Runs.{Lined}
+use Rattle.pp_format_read.specs.declared.header.Header.{Header}
+use Rattle.pp_input_reader.specs.declared.cause.Cause.{Cause}
+use Rattle.pp_laws_runs.proofs.Timely.{meets_timely}
 use Rattle.pp_run.proofs.Promises.{accepted_how, sees_kept}
 use Rattle.pp_run.specs.Bounds.{RisesAtLeast, RisesAtMost}
 use Rattle.pp_run.specs.Commands.{CommandPromise, IsSerializable}
@@ -31,7 +31,7 @@ use Rattle.pp_run.specs.Words.{DrivesMachine}
 use Rattle.pp_run.specs.declared.words.Command.{Command}
 use Rattle.pp_run.specs.declared.words.Command.TheVariants.{Certify, Drill, Expand, Quick}
 use Rattle.pp_run.specs.declared.words.Command.TheVariants.{Recheck, Swaps, Views}
-use Rattle.pp_reading.specs.Sources.{WhereTold}
+use Rattle.pp_input_reader.specs.Sources.{WhereTold}
 
 -- the clauses of `answer` about what is printed and about the counter, and the lines of `drill`
 pub record Answers (k : Option Command) (o : Outcome) : Type 0 where

@@ -2,14 +2,14 @@
 use Rattle.std.specs.Prelude.{◌≡◌, ℕ, List, Option, None, Some}
 use Rattle.pp_core.specs.declared.status.Status.{Status}
 use Rattle.pp_core.specs.declared.status.Status.TheVariants as statuses
-use Rattle.pp_reading.specs.Sources.{WhereTold}
-use Rattle.pp_certify.specs.Certified.{IsDecided}
-use Rattle.pp_certify.specs.Costs.{CostsAtLeast, CostsAtMost, StepsCostAtLeast, StepsCostAtMost}
-use Rattle.pp_certify.specs.Inputs.{scan}
-use Rattle.pp_attempts.specs.Costs.{ViewsCostAtMost}
-use Rattle.pp_decide.specs.Costs.{QuickCostsAtLeast, QuickCostsAtMost}
-use Rattle.pp_drill.specs.Reports.{drill_scan}
-use Rattle.pp_verify.specs.Costs.{CheckCostsAtLeast, CheckCostsAtMost}
+use Rattle.pp_input_reader.specs.Sources.{WhereTold}
+use Rattle.pp_judge.specs.Certified.{IsDecided}
+use Rattle.pp_judge.specs.Costs.{CostsAtLeast, CostsAtMost, StepsCostAtLeast, StepsCostAtMost}
+use Rattle.pp_judge.specs.Inputs.{scan}
+use Rattle.pp_cmd_views.specs.Costs.{ViewsCostAtMost}
+use Rattle.pp_cmd_quick.specs.Costs.{QuickCostsAtLeast, QuickCostsAtMost}
+use Rattle.pp_cmd_drill.specs.Reports.{drill_scan}
+use Rattle.pp_cmd_recheck.specs.Costs.{CheckCostsAtLeast, CheckCostsAtMost}
 use Rattle.pp_run.specs.declared.words.Command.{Command}
 use Rattle.pp_run.specs.declared.words.Command.TheVariants.{Certify, Drill, Expand, Quick}
 use Rattle.pp_run.specs.declared.words.Command.TheVariants.{Recheck, Swaps, Views}

@@ -1,25 +1,25 @@
 -- Meaning: what each command promises. Each field is one promise.
 use Rattle.std.specs.Prelude.{◌≡◌, ℕ, List, [], Option, None, Some}
 use Rattle.pp_core.specs.declared.status.Status.TheVariants as statuses
-use Rattle.pp_certificate.specs.Rechecked.{IsCheckedSound, IsRecheck}
-use Rattle.pp_certify.specs.Accepted.{EachStepMeets, IsAloneAccepted, IsExact, IsSimulated}
-use Rattle.pp_certify.specs.Certified.{IsDecided}
-use Rattle.pp_certify.specs.Costs.{CostsAtLeast, CostsAtMost, StepsCostAtLeast, StepsCostAtMost}
-use Rattle.pp_certify.specs.Inputs.{scan}
-use Rattle.pp_certify.specs.Rejected.{IsEvident}
-use Rattle.pp_certify.specs.Reports.{IsCertified, IsExpanded}
-use Rattle.pp_certify.specs.Restated.{PrintsAgain}
-use Rattle.pp_attempts.specs.Costs.{ViewsCostAtMost}
-use Rattle.pp_attempts.specs.Outputs.{IsViews}
-use Rattle.pp_decide.specs.Costs.{QuickCostsAtLeast, QuickCostsAtMost}
-use Rattle.pp_decide.specs.Decisions.{IsQuick}
-use Rattle.pp_drill.specs.Prints.{PrintsLines}
-use Rattle.pp_drill.specs.Reports.{IsDrilled, drill_scan}
-use Rattle.pp_drill.specs.Text.{drill_text}
-use Rattle.pp_exchanges.specs.Prints.{PrintsCertificate}
-use Rattle.pp_exchanges.specs.Swaps.{IsSwaps}
-use Rattle.pp_real_time.specs.Timely.{IsTimely}
-use Rattle.pp_verify.specs.Costs.{CheckCostsAtLeast, CheckCostsAtMost}
+use Rattle.pp_certificate_lines.specs.Rechecked.{IsCheckedSound, IsRecheck}
+use Rattle.pp_judge.specs.Accepted.{EachStepMeets, IsAloneAccepted, IsExact, IsSimulated}
+use Rattle.pp_judge.specs.Certified.{IsDecided}
+use Rattle.pp_judge.specs.Costs.{CostsAtLeast, CostsAtMost, StepsCostAtLeast, StepsCostAtMost}
+use Rattle.pp_judge.specs.Inputs.{scan}
+use Rattle.pp_judge.specs.Rejected.{IsEvident}
+use Rattle.pp_judge.specs.Reports.{IsCertified, IsExpanded}
+use Rattle.pp_judge.specs.Restated.{PrintsAgain}
+use Rattle.pp_cmd_views.specs.Costs.{ViewsCostAtMost}
+use Rattle.pp_cmd_views.specs.Outputs.{IsViews}
+use Rattle.pp_cmd_quick.specs.Costs.{QuickCostsAtLeast, QuickCostsAtMost}
+use Rattle.pp_cmd_quick.specs.Decisions.{IsQuick}
+use Rattle.pp_cmd_drill.specs.Prints.{PrintsLines}
+use Rattle.pp_cmd_drill.specs.Reports.{IsDrilled, drill_scan}
+use Rattle.pp_cmd_drill.specs.Text.{drill_text}
+use Rattle.pp_cmd_swaps.specs.Prints.{PrintsCertificate}
+use Rattle.pp_cmd_swaps.specs.Swaps.{IsSwaps}
+use Rattle.pp_laws_runs.specs.Timely.{IsTimely}
+use Rattle.pp_cmd_recheck.specs.Costs.{CheckCostsAtLeast, CheckCostsAtMost}
 use Rattle.pp_run.specs.declared.words.Command.{Command}
 use Rattle.pp_run.specs.declared.words.Command.TheVariants.{Certify, Drill, Expand, Quick}
 use Rattle.pp_run.specs.declared.words.Command.TheVariants.{Recheck, Swaps, Views}

@@ -2,7 +2,7 @@
 use Rattle.std.specs.Prelude.{◌≡◌, ℕ, List, Option}
 use Rattle.std.specs.Io.KnownBytes.{Appends}
 use Rattle.pp_core.specs.declared.status.Status.{Status}
-use Rattle.pp_reading.specs.Sources.{WhereTold}
+use Rattle.pp_input_reader.specs.Sources.{WhereTold}
 use Rattle.pp_run.specs.Outputs.{IsPrinted}
 
 -- What a call of `run` was given, and what it left.

@@ -3,16 +3,16 @@ use Rattle.std.specs.Prelude.{◌≡◌, ◌⊎◌, ℕ, List, [], Option, None,
 use Rattle.std.specs.Io.KnownBytes.{Appends}
 use Rattle.pp_core.specs.declared.status.Status.{Status}
 use Rattle.pp_core.specs.declared.status.Status.TheVariants as statuses
-use Rattle.pp_reading.specs.Sources.{WhereTold}
-use Rattle.pp_certificate.specs.Rechecked.{IsRecheck, RecheckReadsNoFault}
-use Rattle.pp_certify.specs.Certified.{IsDecided}
-use Rattle.pp_certify.specs.Inputs.{ReadsNoFault}
-use Rattle.pp_certify.specs.Reports.{IsCertified, IsExpanded}
-use Rattle.pp_attempts.specs.Outputs.{IsViews}
-use Rattle.pp_decide.specs.Decisions.{IsQuick, QuickReadsNoFault}
-use Rattle.pp_defined.specs.Defined.{IsDefined}
-use Rattle.pp_drill.specs.Reports.{IsDrilled}
-use Rattle.pp_exchanges.specs.Swaps.{IsSwaps}
+use Rattle.pp_input_reader.specs.Sources.{WhereTold}
+use Rattle.pp_certificate_lines.specs.Rechecked.{IsRecheck, RecheckReadsNoFault}
+use Rattle.pp_judge.specs.Certified.{IsDecided}
+use Rattle.pp_judge.specs.Inputs.{ReadsNoFault}
+use Rattle.pp_judge.specs.Reports.{IsCertified, IsExpanded}
+use Rattle.pp_cmd_views.specs.Outputs.{IsViews}
+use Rattle.pp_cmd_quick.specs.Decisions.{IsQuick, QuickReadsNoFault}
+use Rattle.pp_laws_reports.specs.Defined.{IsDefined}
+use Rattle.pp_cmd_drill.specs.Reports.{IsDrilled}
+use Rattle.pp_cmd_swaps.specs.Swaps.{IsSwaps}
 use Rattle.pp_run.specs.declared.words.Command.{Command}
 use Rattle.pp_run.specs.declared.words.Command.TheVariants.{Certify, Drill, Expand, Quick}
 use Rattle.pp_run.specs.declared.words.Command.TheVariants.{Recheck, Swaps, Views}

@@ -1,25 +1,25 @@
 -- Meaning: what is promised of what commands answer, beside their outputs.
 use Rattle.std.specs.Prelude.{◌≡◌, List, Option}
 use Rattle.pp_core.specs.declared.call.Style.TheVariants.{Boosted}
-use Rattle.pp_front.specs.Inputs.{IsReport}
-use Rattle.pp_front.specs.Laws.{OneRunLaw}
-use Rattle.pp_front.specs.Records.{RunRecord}
-use Rattle.pp_front.specs.Runs.{Lined, bare}
-use Rattle.pp_json.specs.declared.header.Header.{Header}
+use Rattle.pp_records.specs.Inputs.{IsReport}
+use Rattle.pp_records.specs.Laws.{OneRunLaw}
+use Rattle.pp_records.specs.Records.{RunRecord}
+use Rattle.pp_records.specs.Runs.{Lined, bare}
+use Rattle.pp_format_read.specs.declared.header.Header.{Header}
 use Rattle.pp_model.specs.Config.{Start, Step}
 use Rattle.pp_model.specs.Rules.{IsVerdict, Verdict}
-use Rattle.pp_reading.specs.declared.cause.Cause.TheVariants.{TooManySteps}
-use Rattle.pp_object.specs.Objects.{place_of}
-use Rattle.pp_object.specs.declared.act.Op.{Op}
-use Rattle.pp_quick.specs.Laws.{BriefsDecide, IsBriefed, KeepsBoosted}
-use Rattle.pp_views.specs.Laws.{SeesKeptPeaks}
-use Rattle.pp_certify.specs.Accepted.{HasRun}
-use Rattle.pp_certify.specs.Objects.{object_of, setting_of, start_of, translation_of}
-use Rattle.pp_certify.specs.Reports.{RunReport}
-use Rattle.pp_certify.specs.Scans.{InputScan}
-use Rattle.pp_decide.specs.Costs.{AreTriedBehind}
-use Rattle.pp_decide.specs.Decisions.{Decision, IsDecision, IsDecisionOf, IsVerdictBehind}
-use Rattle.pp_decide.specs.Laws.{IsSameDecision, TellsVerdict}
+use Rattle.pp_input_reader.specs.declared.cause.Cause.TheVariants.{TooManySteps}
+use Rattle.pp_objects.specs.Objects.{place_of}
+use Rattle.pp_objects.specs.declared.act.Op.{Op}
+use Rattle.pp_summary.specs.Laws.{BriefsDecide, IsBriefed, KeepsBoosted}
+use Rattle.pp_attempts.specs.Laws.{SeesKeptPeaks}
+use Rattle.pp_judge.specs.Accepted.{HasRun}
+use Rattle.pp_judge.specs.Objects.{object_of, setting_of, start_of, translation_of}
+use Rattle.pp_judge.specs.Reports.{RunReport}
+use Rattle.pp_judge.specs.Scans.{InputScan}
+use Rattle.pp_cmd_quick.specs.Costs.{AreTriedBehind}
+use Rattle.pp_cmd_quick.specs.Decisions.{Decision, IsDecision, IsDecisionOf, IsVerdictBehind}
+use Rattle.pp_cmd_quick.specs.Laws.{IsSameDecision, TellsVerdict}
 
 -- The records after any header have exactly one run, and any steps have exactly one verdict. That
 -- there is one is a double negation: it is impossible that there is none. The criteria are

@@ -1,17 +1,17 @@
 -- Meaning: what a call of `run` promises, and the laws of the definitions that this rests on.
 use Rattle.std.specs.Prelude.{◌≡◌, List, ℕ, Option, Some}
-use Rattle.pp_certify.specs.Scans.{InputScan}
-use Rattle.pp_front.specs.Runs.{Lined}
-use Rattle.pp_json.specs.declared.header.Header.{Header}
-use Rattle.pp_prefixes.specs.Prefixes.{CertifiedPrefixLaw, PrefixLaw}
-use Rattle.pp_readable.specs.Readable.{CertifyLaw, QuickLaw}
+use Rattle.pp_judge.specs.Scans.{InputScan}
+use Rattle.pp_records.specs.Runs.{Lined}
+use Rattle.pp_format_read.specs.declared.header.Header.{Header}
+use Rattle.pp_laws_runs.specs.Prefixes.{CertifiedPrefixLaw, PrefixLaw}
+use Rattle.pp_laws_reports.specs.Readable.{CertifyLaw, QuickLaw}
 use Rattle.pp_run.specs.declared.words.Command.{Command}
 use Rattle.pp_run.specs.Commands.{CommandPromise}
 use Rattle.pp_run.specs.Outcomes.{Outcome}
 use Rattle.pp_run.specs.Outputs.{DefinedLaw}
 use Rattle.pp_run.specs.Promises.{HaveOneRun, IsDecidedAsRun}
 use Rattle.pp_run.specs.Streams.{Counts, StreamsPromise}
-use Rattle.pp_violations.specs.Reported.{ReportedLaw}
+use Rattle.pp_laws_runs.specs.Reported.{ReportedLaw}
 
 -- `asked` is the command, or None if the arguments are no command. `SameSource` and `SameSink` say
 -- that the source and the sink did not change. `sent_before` and `sent` are what the sink had sent

@@ -2,8 +2,8 @@
 use Rattle.std.specs.Prelude.{◌≡◌, ◌≢◌, ◌≤◌, ◌↔◌, ◌⊎◌, ℕ, List, Option, None}
 use Rattle.std.specs.Io.KnownBytes.{IsAtEnd}
 use Rattle.pp_core.specs.declared.status.Status.TheVariants as statuses
-use Rattle.pp_io.specs.Faults.{HasRisen, counted}
-use Rattle.pp_io.specs.Sent.{SendsAll}
+use Rattle.pp_input.specs.Faults.{HasRisen, counted}
+use Rattle.pp_input.specs.Sent.{SendsAll}
 use Rattle.pp_run.specs.declared.words.Command.{Command}
 use Rattle.pp_run.specs.Outcomes.{Outcome}
 use Rattle.pp_run.specs.Outputs.{IsOfWhole, IsPrinted, IsUnwritten, OfInput, PrintsPrefix}

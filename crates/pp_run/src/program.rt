@@ -7,7 +7,7 @@ ghost use Rattle.pp_run.specs.Words.{command_of};
 
 use crate::answer::answer;
 use pp_core::{Status, Ticks, Words};
-use pp_io::{Sink, Source};
+use pp_input::{Sink, Source};
 use std::alloc::Global;
 use std::sync::ledger::Ledger;
 

@@ -1,12 +1,12 @@
 //! Writing all of an output.
 ghost use Rattle.std.specs.Prelude.{◌≡◌, ◌≤◌, OnOk, OnErr, IsErrOf};
 ghost use Rattle.std.specs.Io.KnownBytes.{Appends};
-ghost use Rattle.pp_io.specs.Faults.{HasRisen, counted};
-ghost use Rattle.pp_io.specs.Sent.{SendsAll};
+ghost use Rattle.pp_input.specs.Faults.{HasRisen, counted};
+ghost use Rattle.pp_input.specs.Sent.{SendsAll};
 ghost use Rattle.pp_run.specs.Writing.{AppendsPrefix, FlushesOnceAtMost};
 ghost use Rattle.pp_run.specs.declared.write.WriteError.TheVariants.{Memory, WriteFault};
 
-use pp_io::{Sink, SinkFault};
+use pp_input::{Sink, SinkFault};
 
 /// Why an output was not written whole.
 #[derive(Clone, Copy, Debug, PartialEq, Eq)]

@@ -3,9 +3,9 @@ use Rattle.std.proofs.Common.{◌≡◌, ℕ, List, Result, IfOk, OnOk, sym, sub
 use Rattle.pp_core.specs.declared.call.Kind.{Kind}
 use Rattle.pp_core.specs.declared.step.Step.{Step as StepOf}
 use Rattle.pp_model.specs.Config.{Config}
-use Rattle.pp_front.specs.Expansions.{expand, front_after}
-use Rattle.pp_front.specs.Fronts.{Front}
-use Rattle.pp_front.specs.Records.{RunRecord}
+use Rattle.pp_records.specs.Expansions.{expand, front_after}
+use Rattle.pp_records.specs.Fronts.{Front}
+use Rattle.pp_records.specs.Records.{RunRecord}
 use Rattle.pp_styles.specs.AnyFronts.{any_state, any_style}
 use Rattle.pp_styles.specs.declared.any_front.AnyFront.{AnyFront}
 use Rattle.pp_styles.specs.Meanings.{meanings}

@@ -9,15 +9,15 @@ use Rattle.pp_model.specs.Config.{Config}
 use Rattle.pp_model.specs.Lists.{In}
 use Rattle.pp_model.specs.Names.{Name}
 use Rattle.pp_model.proofs.Lists.{each_from}
-use Rattle.pp_front.proofs.Carrying.{each_in, expand_carry}
-use Rattle.pp_front.specs.Carried.{Carries, LogsCarry, RecordCarries}
-use Rattle.pp_front.specs.Expansions.{expand}
-use Rattle.pp_front.specs.Fronts.{Front}
-use Rattle.pp_front.specs.Records.{RunRecord}
-use Rattle.pp_front.specs.Records as records
-use Rattle.pp_rules.specs.Machines.{Seen}
-use Rattle.pp_rules.specs.Stepping.{IsAsked}
-use Rattle.pp_spec.specs.Object.{Object}
+use Rattle.pp_records.proofs.Carrying.{each_in, expand_carry}
+use Rattle.pp_records.specs.Carried.{Carries, LogsCarry, RecordCarries}
+use Rattle.pp_records.specs.Expansions.{expand}
+use Rattle.pp_records.specs.Fronts.{Front}
+use Rattle.pp_records.specs.Records.{RunRecord}
+use Rattle.pp_records.specs.Records as records
+use Rattle.pp_machine.specs.Machines.{Seen}
+use Rattle.pp_machine.specs.Stepping.{IsAsked}
+use Rattle.pp_kind.specs.Object.{Object}
 use Rattle.pp_styles.specs.Driving.{CostAtMost, IsRecordAsked}
 
 module _ {Shape State Op Undo : Type 0} (o : Object Shape State Op Undo) where

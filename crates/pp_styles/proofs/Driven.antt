@@ -13,10 +13,10 @@ use Rattle.pp_core.specs.declared.step.Step.{Step as StepOf}
 use Rattle.pp_model.specs.Config.{Config, after_from, then}
 use Rattle.pp_model.specs.Lists.{In}
 use Rattle.pp_model.specs.Rules.{Meets}
-use Rattle.pp_front.proofs.Ends.{after_append, runs_append}
-use Rattle.pp_rules.specs.Costs.{CostsDone, CostsInVain, at_most}
-use Rattle.pp_rules.specs.Machines.{Seen, stepped}
-use Rattle.pp_spec.specs.Object.{Object, rules_of}
+use Rattle.pp_records.proofs.Ends.{after_append, runs_append}
+use Rattle.pp_machine.specs.Costs.{CostsDone, CostsInVain, at_most}
+use Rattle.pp_machine.specs.Machines.{Seen, stepped}
+use Rattle.pp_kind.specs.Object.{Object, rules_of}
 use Rattle.pp_styles.specs.declared.drive.Halt.{Halt}
 use Rattle.pp_styles.specs.Costs.{is_single, most_ticks, singles}
 use Rattle.pp_styles.specs.Driving.{CostAtMost, CostsOne, Drives, Goes, Halts, HasDone, after_steps}

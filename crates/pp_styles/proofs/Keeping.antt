@@ -4,10 +4,10 @@ use Rattle.std.proofs.Common.{Result, Ok, Err, OnOk, refl, sym, ap, ◌∙◌}
 use Rattle.pp_core.specs.declared.call.Kind.{Kind}
 use Rattle.pp_model.specs.Config.{Config, Tx}
 use Rattle.pp_model.specs.Names.{Name, ◌=ⁿ◌}
-use Rattle.pp_front.specs.Expansions.{front_after, front_of_open}
-use Rattle.pp_front.specs.Fronts.{Front, with_section, with_sources}
-use Rattle.pp_front.specs.Records.{record_meaning}
-use Rattle.pp_front.specs.declared.run_record.RunRecord.{RunRecord as RecordOf}
+use Rattle.pp_records.specs.Expansions.{front_after, front_of_open}
+use Rattle.pp_records.specs.Fronts.{Front, with_section, with_sources}
+use Rattle.pp_records.specs.Records.{record_meaning}
+use Rattle.pp_records.specs.declared.run_record.RunRecord.{RunRecord as RecordOf}
 use Rattle.pp_styles.specs.declared.dependent.Dependent.{Dependent}
 use Rattle.pp_styles.specs.Sources.{sources_in}
 use Rattle.pp_styles.specs.States.{dependent_state}

@@ -11,7 +11,7 @@ use Rattle.pp_core.specs.declared.entry.CommittedTx.{CommittedTx}
 use Rattle.pp_core.specs.declared.entry.LocalEntry.{LocalEntry}
 use Rattle.pp_core.specs.declared.entry.Mark.{Mark}
 use Rattle.pp_core.specs.declared.entry.SharedEntry.{SharedEntry}
-use Rattle.pp_front.specs.Expansions.{stands_in, pushall}
+use Rattle.pp_records.specs.Expansions.{stands_in, pushall}
 use Rattle.pp_model.specs.Config.{Config, Tx, Unpushed, Pushed, is_mark, on_log, relog, set_mark, then}
 use Rattle.pp_model.specs.Config.{push_effect, pull_effect, commit_effect, of_other, entry_of}
 use Rattle.pp_model.specs.Config.{as_pulled, tx, without_tx}

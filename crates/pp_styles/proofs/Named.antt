@@ -6,7 +6,7 @@ use Rattle.std.specs.Str.{bytes_eq}
 use Rattle.std.proofs.lemmas.Cmp.{nat_list_eq_equiv}
 use Rattle.indexmap.specs.IndexSet.{insert_key, remove_key}
 use Rattle.pp_model.specs.Names.{Name}
-use Rattle.pp_front.specs.Fronts.{has_name, with_source, without_source}
+use Rattle.pp_records.specs.Fronts.{has_name, with_source, without_source}
 
 -- a name that is looked up is one of them
 pub looked_up : (u : Name) (us : List Name) → list_any (bytes_eq u) us ≡ has_name u us

@@ -5,7 +5,7 @@ use Rattle.std.specs.List.{slice_get}
 use Rattle.std.proofs.lemmas.Bool.{cases_lt}
 use Rattle.std.proofs.lemmas.Option.{same_Some}
 use Rattle.pp_log.specs.Logs.{IsFirstFrom, NoneFrom}
-use Rattle.pp_shared.proofs.Nexts.{NoneBetween}
+use Rattle.pp_log_shared.proofs.Nexts.{NoneBetween}
 
 module _ {E : Type 0} (Holds : E → Type 0) (log : List E) (from : ℕ) where
   -- it does not hold of the entry at k

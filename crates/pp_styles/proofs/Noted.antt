@@ -7,7 +7,7 @@ use Rattle.std.proofs.lemmas.Bool.{cases_lt}
 use Rattle.std.proofs.lemmas.Option.{get_or_from_slice_get, same_Some}
 use Rattle.pp_core.specs.declared.entry.LocalEntry.{LocalEntry}
 use Rattle.pp_core.specs.declared.entry.SharedEntry.{SharedEntry}
-use Rattle.pp_front.specs.Expansions.{stands_in}
+use Rattle.pp_records.specs.Expansions.{stands_in}
 use Rattle.pp_model.specs.Config.{Unpushed, is_mark, shared_item}
 use Rattle.pp_model.specs.Object.{HasDistinctIds}
 use Rattle.pp_styles.specs.Knowing.{HoldsPositions}

@@ -5,7 +5,7 @@ use Rattle.pp_core.specs.Steps.{Push, Unpull}
 use Rattle.pp_core.specs.declared.entry.LocalEntry.{LocalEntry}
 use Rattle.pp_model.specs.Config.{Unpushed, is_mark}
 use Rattle.pp_model.specs.Names.{Name}
-use Rattle.pp_front.specs.Expansions.{is_pulled_from, pushall, taken_at, taken_out, unpulls}
+use Rattle.pp_records.specs.Expansions.{is_pulled_from, pushall, taken_at, taken_out, unpulls}
 use Rattle.pp_styles.specs.Walking.{push_of, unpull_of}
 use Rattle.pp_styles.proofs.Growing.{chosen-next, drop_there, turned-cons}
 

@@ -3,11 +3,11 @@ use Rattle.std.proofs.Common.{◌≡◌, ℕ, [], ◌∷◌, sym, ap, subst}
 use Rattle.pp_core.specs.Steps.{Step}
 use Rattle.pp_core.specs.declared.call.Style.{Style}
 use Rattle.pp_model.specs.Config.{Config}
-use Rattle.pp_front.specs.Expansions.{expand, front_after}
-use Rattle.pp_front.specs.Fronts.{Front}
-use Rattle.pp_front.specs.Records.{RunRecord, Plain}
-use Rattle.pp_rules.specs.Stepping.{IsAsked}
-use Rattle.pp_spec.specs.Object.{Object}
+use Rattle.pp_records.specs.Expansions.{expand, front_after}
+use Rattle.pp_records.specs.Fronts.{Front}
+use Rattle.pp_records.specs.Records.{RunRecord, Plain}
+use Rattle.pp_machine.specs.Stepping.{IsAsked}
+use Rattle.pp_kind.specs.Object.{Object}
 use Rattle.pp_styles.specs.Driving.{IsRecordAsked}
 
 module _ {Op : Type 0} (r : RunRecord Op) (s : Step Op) (is : r ≡ Plain s) (f : Front) (c : Config Op) where

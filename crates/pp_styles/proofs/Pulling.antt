@@ -14,7 +14,7 @@ use Rattle.pp_core.specs.declared.entry.SharedEntry.{SharedEntry}
 use Rattle.pp_log.specs.Logs.{IsFirstFrom, IsOn, NoneFrom}
 use Rattle.pp_model.specs.Config.{shared_item}
 use Rattle.pp_model.specs.Names.{Name}
-use Rattle.pp_front.specs.Expansions.{follow, is_followed, refresh, stands_in}
+use Rattle.pp_records.specs.Expansions.{follow, is_followed, refresh, stands_in}
 use Rattle.pp_styles.specs.Pulling.{pull_followed}
 use Rattle.pp_styles.proofs.Growing.{chosen-found, chosen-rest}
 

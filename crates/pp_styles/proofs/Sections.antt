@@ -6,8 +6,8 @@ use Rattle.std.specs.Option.{option_map}
 use Rattle.std.specs.Str.{bytes_eq}
 use Rattle.pp_model.specs.Config.{Config, Tx, tx}
 use Rattle.pp_model.specs.Names.{Name}
-use Rattle.pp_front.specs.Expansions.{LocalLog, changed_where_open, front_of_open}
-use Rattle.pp_front.specs.Fronts.{Front, at_name, opened_at, with_section}
+use Rattle.pp_records.specs.Expansions.{LocalLog, changed_where_open, front_of_open}
+use Rattle.pp_records.specs.Fronts.{Front, at_name, opened_at, with_section}
 use Rattle.pp_styles.specs.declared.hardware.Hardware.{Hardware}
 use Rattle.pp_styles.specs.States.{hardware_state}
 

@@ -7,7 +7,7 @@ use Rattle.std.proofs.lemmas.Bool.{eq-eqb}
 use Rattle.std.proofs.lemmas.Option.{same_Some}
 use Rattle.pp_model.specs.Config.{LocalEntry}
 use Rattle.pp_model.proofs.Finding.{place_found, place_none, place_there}
-use Rattle.pp_front.specs.Expansions.{stands_in}
+use Rattle.pp_records.specs.Expansions.{stands_in}
 
 module _ {Op : Type 0} (i : ℕ) where
   told : (l : List (LocalEntry Op)) → is_some (find (λ e. e.id == i) l) ≡ stands_in l i

@@ -12,7 +12,7 @@ use Rattle.std.proofs.lemmas.Option.{same_Some}
 use Rattle.pp_core.specs.Steps.{Step, Pull}
 use Rattle.pp_core.specs.declared.entry.LocalEntry.{LocalEntry}
 use Rattle.pp_core.specs.declared.entry.SharedEntry.{SharedEntry}
-use Rattle.pp_front.specs.Expansions.{refresh, stands_in}
+use Rattle.pp_records.specs.Expansions.{refresh, stands_in}
 use Rattle.pp_model.specs.Config.{shared_item}
 use Rattle.pp_model.specs.Names.{Name}
 use Rattle.pp_model.specs.Object.{HasDistinctIds}

@@ -6,7 +6,7 @@ use Rattle.std.specs.List.{slice_get}
 use Rattle.std.proofs.lemmas.Bool.{eq-eqb}
 use Rattle.std.proofs.lemmas.Bool.Decides.{eqb_tells}
 use Rattle.std.proofs.lemmas.Option.{same_Some}
-use Rattle.pp_front.specs.Expansions.{touches}
+use Rattle.pp_records.specs.Expansions.{touches}
 use Rattle.pp_log.specs.Logs.{IsFirstFrom, IsOn, NoneFrom}
 use Rattle.pp_model.specs.Config.{LocalEntry, item}
 

@@ -2,15 +2,15 @@
 use Rattle.std.proofs.Common.{◌≡◌, ◌≤◌, ◌-◌, ℕ, List, drop, take, length, take_all, length-drop, arith, Option, None, Some, refl, sym, ap, subst, ◌∙◌}
 use Rattle.std.specs.Option.{option_map}
 use Rattle.pp_core.specs.Steps.{Step}
-use Rattle.pp_front.specs.Expansions.{LocalLog, pushall}
+use Rattle.pp_records.specs.Expansions.{LocalLog, pushall}
 use Rattle.pp_model.specs.Config.{Tx, tx}
 use Rattle.pp_model.specs.Names.{Name}
 use Rattle.pp_model.specs.Sound.{Sound}
-use Rattle.pp_rules.specs.Machines.{Seen}
-use Rattle.pp_rules.specs.Stepping.{Stepped}
-use Rattle.pp_rules.specs.declared.machine.Outcome.{Outcome}
-use Rattle.pp_rules.specs.declared.machine.Outcome.TheVariants.{Done, False}
-use Rattle.pp_spec.specs.Object.{Object, rules_of}
+use Rattle.pp_machine.specs.Machines.{Seen}
+use Rattle.pp_machine.specs.Stepping.{Stepped}
+use Rattle.pp_machine.specs.declared.machine.Outcome.{Outcome}
+use Rattle.pp_machine.specs.declared.machine.Outcome.TheVariants.{Done, False}
+use Rattle.pp_kind.specs.Object.{Object, rules_of}
 use Rattle.pp_styles.specs.Knowing.{ForgetsBefore, IsAllBut, IsTrueOf, Knowledge, ListsAfter}
 use Rattle.pp_styles.specs.Knowing.{PushesMore, TakesMore}
 use Rattle.pp_styles.proofs.Knowing.{all_but, known_pushed, pushes, stays, takes, waits}

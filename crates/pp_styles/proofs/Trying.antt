@@ -5,14 +5,14 @@ use Rattle.std.specs.Prelude.{IsTrue}
 use Rattle.pp_core.specs.Steps.{Step, rule_of}
 use Rattle.pp_core.specs.declared.limits.TheConstants.{MOST_STEPS}
 use Rattle.pp_core.specs.declared.step.Rule.{Rule}
-use Rattle.pp_rules.specs.Costs.{CostsBy}
-use Rattle.pp_rules.specs.Machines.{Seen}
-use Rattle.pp_rules.specs.Shown.{IsShown}
-use Rattle.pp_rules.specs.Stepping.{Stepped}
-use Rattle.pp_rules.specs.declared.detail.Detail.{Detail}
-use Rattle.pp_rules.specs.declared.machine.Outcome.{Outcome}
-use Rattle.pp_rules.specs.declared.machine.Outcome.TheVariants.{Done, False}
-use Rattle.pp_spec.specs.Object.{Object}
+use Rattle.pp_machine.specs.Costs.{CostsBy}
+use Rattle.pp_machine.specs.Machines.{Seen}
+use Rattle.pp_machine.specs.Shown.{IsShown}
+use Rattle.pp_machine.specs.Stepping.{Stepped}
+use Rattle.pp_machine.specs.declared.detail.Detail.{Detail}
+use Rattle.pp_machine.specs.declared.machine.Outcome.{Outcome}
+use Rattle.pp_machine.specs.declared.machine.Outcome.TheVariants.{Done, False}
+use Rattle.pp_kind.specs.Object.{Object}
 use Rattle.pp_styles.specs.declared.drive.Halt.TheVariants.{Failed, TooMany}
 use Rattle.pp_styles.specs.Driving.{CostsOne, Goes}
 use Rattle.pp_styles.proofs.Driven.{done_least, vain_least}

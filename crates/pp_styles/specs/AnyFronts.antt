@@ -3,7 +3,7 @@ use Rattle.std.specs.Prelude.{List}
 use Rattle.pp_core.specs.declared.call.Kind.{Kind}
 use Rattle.pp_core.specs.declared.call.Style.{Style}
 use Rattle.pp_core.specs.declared.call.Style.TheVariants as styles
-use Rattle.pp_front.specs.Fronts.{Front, new_front}
+use Rattle.pp_records.specs.Fronts.{Front, new_front}
 use Rattle.pp_styles.specs.declared.any_front.AnyFront.{AnyFront}
 use Rattle.pp_styles.specs.declared.any_front.AnyFront.TheVariants.{Rules, Boosted, Optimistic}
 use Rattle.pp_styles.specs.declared.any_front.AnyFront.TheVariants.{Hardware, Dependent}

@@ -3,7 +3,7 @@ use Rattle.std.specs.Prelude.{◌+◌, ℕ, Bool, true, false, List, [], ◌∷�
 use Rattle.pp_core.specs.Steps.{Step, Begin, App, Unapp, Push, Unpush, Pull, Unpull, Cmt, Quit}
 use Rattle.pp_core.specs.Steps.{Note}
 use Rattle.pp_model.specs.Config.{Config, then}
-use Rattle.pp_rules.specs.Costs.{at_most}
+use Rattle.pp_machine.specs.Costs.{at_most}
 
 -- what the steps cost at most
 abbrev pub most_ticks : {Op : Type 0} → (Op → ℕ) → Config Op → List (Step Op) → ℕ

@@ -6,14 +6,14 @@ use Rattle.pp_core.specs.Steps.{Step, rule_of}
 use Rattle.pp_core.specs.declared.limits.TheConstants.{MOST_STEPS}
 use Rattle.pp_model.specs.Config.{after_from}
 use Rattle.pp_model.specs.Rules.{Meets, RunsFrom}
-use Rattle.pp_front.specs.Records.{RunRecord}
-use Rattle.pp_front.specs.Records as records
-use Rattle.pp_rules.specs.Costs.{at_most}
-use Rattle.pp_rules.specs.Machines.{Seen, stepped}
-use Rattle.pp_rules.specs.Shown.{IsShown}
-use Rattle.pp_rules.specs.Stepping.{IsAsked, Stepped}
-use Rattle.pp_rules.specs.declared.machine.Outcome.TheVariants.{False}
-use Rattle.pp_spec.specs.Object.{Object, rules_of}
+use Rattle.pp_records.specs.Records.{RunRecord}
+use Rattle.pp_records.specs.Records as records
+use Rattle.pp_machine.specs.Costs.{at_most}
+use Rattle.pp_machine.specs.Machines.{Seen, stepped}
+use Rattle.pp_machine.specs.Shown.{IsShown}
+use Rattle.pp_machine.specs.Stepping.{IsAsked, Stepped}
+use Rattle.pp_machine.specs.declared.machine.Outcome.TheVariants.{False}
+use Rattle.pp_kind.specs.Object.{Object, rules_of}
 use Rattle.pp_styles.specs.Costs.{most_ticks, singles}
 use Rattle.pp_styles.specs.declared.drive.Halt.{Halt}
 use Rattle.pp_styles.specs.declared.drive.Halt.TheVariants.{Failed, TooMany}

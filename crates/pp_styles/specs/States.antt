@@ -3,7 +3,7 @@ use Rattle.std.specs.Prelude.{List, [], None}
 use Rattle.std.specs.Map.{lookup}
 use Rattle.std.specs.Str.{bytes_eq}
 use Rattle.pp_core.specs.declared.call.Kind.{Kind}
-use Rattle.pp_front.specs.Fronts.{Front}
+use Rattle.pp_records.specs.Fronts.{Front}
 use Rattle.pp_styles.specs.declared.dependent.Dependent.{Dependent}
 use Rattle.pp_styles.specs.declared.hardware.Hardware.{Hardware}
 use Rattle.pp_styles.specs.Sources.{sources_in}

@@ -5,7 +5,7 @@ use Rattle.pp_core.specs.Steps.{Step, Push, Unpull}
 use Rattle.pp_core.specs.declared.entry.LocalEntry.{LocalEntry}
 use Rattle.pp_model.specs.Config.{Unpushed, is_mark}
 use Rattle.pp_model.specs.Names.{Name}
-use Rattle.pp_front.specs.Expansions.{is_pulled_from}
+use Rattle.pp_records.specs.Expansions.{is_pulled_from}
 
 -- PUSH of an own unpushed entry
 abbrev pub push_of : {Op : Type 0} → Name → LocalEntry Op → List (Step Op)

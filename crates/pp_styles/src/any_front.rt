@@ -8,8 +8,8 @@ use crate::rules::Rules;
 use crate::step_list::StepList;
 use crate::tracked::Tracked;
 use pp_core::{Kinds, OutOfMemory, Style};
-use pp_front::RunRecord;
-use pp_parts::Parted;
+use pp_kind::Parted;
+use pp_records::RunRecord;
 use std::alloc::Global;
 
 /// The front of one of the styles.
@@ -24,7 +24,7 @@ pub enum AnyFront {
 
 impl AnyFront {
     ghost use Rattle.std.specs.Prelude.{◌≡◌};
-    ghost use Rattle.pp_front.specs.Fronts.{new_front};
+    ghost use Rattle.pp_records.specs.Fronts.{new_front};
     ghost use Rattle.pp_styles.specs.AnyFronts.{any_state, any_style};
 
     /// The front of a style, over objects of these kinds. It keeps nothing yet.

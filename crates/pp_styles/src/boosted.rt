@@ -1,14 +1,14 @@
 //! Style boosted: each operation is published at once.
 ghost use Rattle.pp_core.specs.declared.call.Style.TheVariants as styles;
-ghost use Rattle.pp_front.specs.Fronts.{new_front};
+ghost use Rattle.pp_records.specs.Fronts.{new_front};
 
 use crate::front::Front;
 use crate::recorded::{abort, back_to, op_published};
 use crate::step_list::{StepList, only, only_copied};
 use crate::tracked::Tracked;
 use pp_core::{OutOfMemory, Step};
-use pp_front::RunRecord;
-use pp_parts::Parted;
+use pp_kind::Parted;
+use pp_records::RunRecord;
 use std::alloc::Global;
 
 /// The front of style boosted, which keeps nothing.

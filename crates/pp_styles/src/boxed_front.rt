@@ -4,8 +4,8 @@ use crate::front::Front;
 use crate::step_list::StepList;
 use crate::tracked::Tracked;
 use pp_core::{Kinds, OutOfMemory, Style};
-use pp_front::RunRecord;
-use pp_parts::Parted;
+use pp_kind::Parted;
+use pp_records::RunRecord;
 use std::alloc::Global;
 use std::marker::Model;
 
@@ -29,7 +29,7 @@ impl Model for BoxedFront {
 
 impl BoxedFront {
     ghost use Rattle.std.specs.Prelude.{◌≡◌, IfOk};
-    ghost use Rattle.pp_front.specs.Fronts.{new_front};
+    ghost use Rattle.pp_records.specs.Fronts.{new_front};
     ghost use Rattle.pp_styles.specs.AnyFronts.{any_state, any_style};
 
     /// The front of a style, over objects of these kinds. It keeps nothing yet. The only error is

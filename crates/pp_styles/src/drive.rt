@@ -3,10 +3,10 @@ ghost use Rattle.std.specs.Prelude.{◌≡◌, ◌≤◌, ◌↔◌, ◌∷◌, 
 ghost use Rattle.pp_core.specs.Steps.{Step as StepOf, meaning};
 ghost use Rattle.pp_core.specs.declared.call.Kind.{Kind};
 ghost use Rattle.pp_core.specs.declared.limits.TheConstants.{MOST_STEPS};
-ghost use Rattle.pp_front.specs.Expansions.{IsOfStyle, expand, front_after};
-ghost use Rattle.pp_front.specs.Records.{record_meaning};
+ghost use Rattle.pp_records.specs.Expansions.{IsOfStyle, expand, front_after};
+ghost use Rattle.pp_records.specs.Records.{record_meaning};
 ghost use Rattle.pp_model.specs.Lists.{In};
-ghost use Rattle.pp_rules.specs.Stepping.{IsAsked};
+ghost use Rattle.pp_machine.specs.Stepping.{IsAsked};
 ghost use Rattle.pp_styles.specs.Driving.{CostAtMost, CostsOne, Drives, Goes, IsRecordAsked};
 ghost use Rattle.pp_styles.specs.Meanings.{meanings};
 
@@ -14,9 +14,9 @@ use crate::front::Front;
 use crate::step_list::StepList;
 use crate::tracked::Tracked;
 use pp_core::{MOST_STEPS, OutOfMemory, Rule, Step, Ticks, rule_of};
-use pp_front::RunRecord;
-use pp_parts::Parted;
-use pp_rules::{Detail, Outcome};
+use pp_kind::Parted;
+use pp_machine::{Detail, Outcome};
+use pp_records::RunRecord;
 use std::alloc::Global;
 use std::sync::ledger::Ledger;
 

@@ -2,16 +2,16 @@
 ghost use Rattle.std.specs.Prelude.{◌≡◌, IfOk, List, OnOk};
 ghost use Rattle.pp_core.specs.declared.call.Kind.{Kind};
 ghost use Rattle.pp_core.specs.declared.call.Style.{Style};
-ghost use Rattle.pp_front.specs.Expansions.{IsOfStyle, expand, front_after};
-ghost use Rattle.pp_front.specs.Fronts.{Front as FrontState};
-ghost use Rattle.pp_front.specs.Records.{record_meaning};
+ghost use Rattle.pp_records.specs.Expansions.{IsOfStyle, expand, front_after};
+ghost use Rattle.pp_records.specs.Fronts.{Front as FrontState};
+ghost use Rattle.pp_records.specs.Records.{record_meaning};
 ghost use Rattle.pp_styles.specs.Meanings.{meanings};
 
 use crate::step_list::StepList;
 use crate::tracked::Tracked;
 use pp_core::OutOfMemory;
-use pp_front::RunRecord;
-use pp_parts::Parted;
+use pp_kind::Parted;
+use pp_records::RunRecord;
 
 /// A style of recording: what it keeps of the records so far, and the steps of the next one.
 pub trait Front<S: Parted> {

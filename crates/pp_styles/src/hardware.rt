@@ -5,9 +5,9 @@ ghost use Rattle.std.specs.Map.{lookup};
 ghost use Rattle.std.specs.Str.{bytes_eq};
 ghost use Rattle.pp_core.specs.Steps.{App, Note};
 ghost use Rattle.pp_core.specs.declared.call.Style.TheVariants as styles;
-ghost use Rattle.pp_front.specs.Expansions.{changed_where_open, hardware_op, where_open};
-ghost use Rattle.pp_front.specs.Fronts.{at_name, is_mem, is_memory, mark_of, new_front, opened_at};
-ghost use Rattle.pp_front.specs.Fronts.{with_section};
+ghost use Rattle.pp_records.specs.Expansions.{changed_where_open, hardware_op, where_open};
+ghost use Rattle.pp_records.specs.Fronts.{at_name, is_mem, is_memory, mark_of, new_front, opened_at};
+ghost use Rattle.pp_records.specs.Fronts.{with_section};
 ghost use Rattle.pp_model.specs.Names.{Name as NameOf};
 ghost use Rattle.pp_styles.specs.Meanings.{meanings};
 
@@ -17,8 +17,8 @@ use crate::step_list::{StepList, only, only_copied};
 use crate::tracked::Tracked;
 use indexmap::IndexMap;
 use pp_core::{Kind, Kinds, Name, OutOfMemory, Step};
-use pp_front::RunRecord;
-use pp_parts::Parted;
+use pp_kind::Parted;
+use pp_records::RunRecord;
 use std::alloc::Global;
 
 /// How long the local log of each transaction in a section was where the section began.

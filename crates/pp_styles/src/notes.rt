@@ -3,7 +3,7 @@ ghost use Rattle.std.specs.Prelude.{◌≡◌, ◌≤◌, ◌<◌, ◌++◌, ◌
 ghost use Rattle.std.specs.Prelude.{slice_get, true};
 ghost use Rattle.pp_core.specs.declared.entry.LocalEntry.{LocalEntry as EntryOf};
 ghost use Rattle.pp_core.specs.declared.entry.Mark.TheVariants.{Unpushed};
-ghost use Rattle.pp_front.specs.Expansions.{stands_in};
+ghost use Rattle.pp_records.specs.Expansions.{stands_in};
 ghost use Rattle.pp_model.specs.Config.{is_mark};
 ghost use Rattle.pp_styles.specs.Knowing.{ids_on};
 ghost use Rattle.pp_styles.specs.Noting.{at_object, ids_in};
@@ -12,8 +12,8 @@ use crate::taken::Taken;
 use crate::walks::is_mark;
 use indexmap::IndexMap;
 use pp_core::{Committed, Item, Mark, Name, OutOfMemory, Sequence};
-use pp_local::Local;
-use pp_parts::Parted;
+use pp_kind::Parted;
+use pp_log_local::Local;
 use std::alloc::Global;
 
 /// For each object the ids of the committed entries on it, in the order of the commits.

@@ -2,8 +2,8 @@
 ghost use Rattle.std.specs.Prelude.{◌≡◌, ◌∷◌, IfOk};
 ghost use Rattle.pp_core.specs.Steps.{App, Note};
 ghost use Rattle.pp_core.specs.declared.call.Style.TheVariants as styles;
-ghost use Rattle.pp_front.specs.Expansions.{op_later, refresh, where_open};
-ghost use Rattle.pp_front.specs.Fronts.{new_front};
+ghost use Rattle.pp_records.specs.Expansions.{op_later, refresh, where_open};
+ghost use Rattle.pp_records.specs.Fronts.{new_front};
 ghost use Rattle.pp_styles.specs.Meanings.{meanings};
 
 use crate::front::Front;
@@ -12,8 +12,8 @@ use crate::recorded::{abort, back_to, commit, later, unopened};
 use crate::step_list::{StepList, only, only_copied};
 use crate::tracked::Tracked;
 use pp_core::{Name, OutOfMemory, Step};
-use pp_front::RunRecord;
-use pp_parts::Parted;
+use pp_kind::Parted;
+use pp_records::RunRecord;
 use std::alloc::Global;
 
 /// The front of style optimistic, which keeps nothing.

@@ -2,7 +2,7 @@
 ghost use Rattle.std.specs.Prelude.{◌≡◌, ◌++◌, IfNone, IfOk, IfSome, IsSorted, OnOk, drop};
 ghost use Rattle.std.specs.Ordering.{nat_cmp};
 ghost use Rattle.std.specs.Option.{option_copied};
-ghost use Rattle.pp_front.specs.Expansions.{follow, is_followed, refresh, stands_in, touches};
+ghost use Rattle.pp_records.specs.Expansions.{follow, is_followed, refresh, stands_in, touches};
 ghost use Rattle.pp_log.specs.Logs.{IsFirstFrom, IsOn, NoneFrom};
 ghost use Rattle.pp_model.specs.Config.{shared_item};
 ghost use Rattle.pp_styles.specs.Meanings.{meanings};
@@ -13,9 +13,9 @@ ghost use Rattle.pp_styles.specs.Sources.{kept_sources};
 use crate::source_set::{SourceSet, is_among};
 use crate::step_list::{StepList, add};
 use pp_core::{MOST_OBJECTS, Name, OutOfMemory, SharedEntry, Step};
-use pp_local::Local;
-use pp_parts::Parted;
-use pp_shared::Shared;
+use pp_kind::Parted;
+use pp_log_local::Local;
+use pp_log_shared::Shared;
 use std::alloc::Global;
 
 /// How many entries are looked at, one after another, before the index is asked. Where the objects

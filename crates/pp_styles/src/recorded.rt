@@ -1,7 +1,7 @@
 //! The records that the recorded styles share.
 ghost use Rattle.std.specs.Prelude.{◌≡◌, ◌++◌, ◌∷◌, [], IfOk, drop};
 ghost use Rattle.pp_core.specs.Steps.{App, Cmt, Note, Quit};
-ghost use Rattle.pp_front.specs.Expansions.{back, op_at_once, op_later, pushall, where_open};
+ghost use Rattle.pp_records.specs.Expansions.{back, op_at_once, op_later, pushall, where_open};
 ghost use Rattle.pp_styles.specs.Meanings.{meanings};
 ghost use Rattle.pp_styles.specs.Knowing.{IsAllBut};
 
@@ -10,9 +10,9 @@ use crate::step_list::{StepList, add, only};
 use crate::tracked::Tracked;
 use crate::walks::{back, pushall};
 use pp_core::{Name, OutOfMemory, Step};
-use pp_local::Local;
-use pp_parts::Parted;
-use pp_shared::Shared;
+use pp_kind::Parted;
+use pp_log_local::Local;
+use pp_log_shared::Shared;
 use std::alloc::Global;
 
 /// The steps of an operation that is published at once. It is told the ids of the committed entries

@@ -1,13 +1,13 @@
 //! Style rules: each record is its step.
 ghost use Rattle.pp_core.specs.declared.call.Style.TheVariants as styles;
-ghost use Rattle.pp_front.specs.Fronts.{new_front};
+ghost use Rattle.pp_records.specs.Fronts.{new_front};
 
 use crate::front::Front;
 use crate::step_list::{StepList, only_copied};
 use crate::tracked::Tracked;
 use pp_core::OutOfMemory;
-use pp_front::RunRecord;
-use pp_parts::Parted;
+use pp_kind::Parted;
+use pp_records::RunRecord;
 use std::alloc::Global;
 
 /// The front of style rules, which keeps nothing.

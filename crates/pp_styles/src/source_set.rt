@@ -1,7 +1,7 @@
 //! The sources of a transaction, each of them once.
 ghost use Rattle.std.specs.Prelude.{◌≡◌, OnOk};
 ghost use Rattle.std.specs.Option.{option_copied};
-ghost use Rattle.pp_front.specs.Fronts.{has_name, with_source, without_source};
+ghost use Rattle.pp_records.specs.Fronts.{has_name, with_source, without_source};
 ghost use Rattle.pp_styles.specs.Sources.{kept_sources};
 
 use indexmap::IndexSet;

@@ -3,22 +3,22 @@ ghost use Rattle.std.specs.Prelude.{◌≡◌, ◌≤◌, ◌<◌, ◌+◌, IfOk
 ghost use Rattle.std.specs.Prelude.{option_map};
 ghost use Rattle.std.specs.Option.{option_copied};
 ghost use Rattle.pp_core.specs.Steps.{meaning};
-ghost use Rattle.pp_front.specs.Expansions.{pushall};
+ghost use Rattle.pp_records.specs.Expansions.{pushall};
 ghost use Rattle.pp_model.specs.Config.{tx as open_tx};
 ghost use Rattle.pp_model.specs.Sound.{Sound};
-ghost use Rattle.pp_rules.specs.Costs.{Costs, at_most};
-ghost use Rattle.pp_rules.specs.Shown.{IsShown};
-ghost use Rattle.pp_rules.specs.Stepping.{IsAsked, Stepped};
-ghost use Rattle.pp_spec.specs.Object.{rules_of};
+ghost use Rattle.pp_machine.specs.Costs.{Costs, at_most};
+ghost use Rattle.pp_machine.specs.Shown.{IsShown};
+ghost use Rattle.pp_machine.specs.Stepping.{IsAsked, Stepped};
+ghost use Rattle.pp_kind.specs.Object.{rules_of};
 ghost use Rattle.pp_styles.specs.Knowing.{ForgetsBefore, IsAllBut, ListsAfter};
 ghost use Rattle.pp_styles.specs.Noting.{known};
 
 use crate::notes::Notes;
 use pp_core::{LocalEntry, Name, OutOfMemory, Step, Ticks};
-use pp_local::Local;
-use pp_parts::Parted;
-use pp_rules::{Machine, Outcome};
-use pp_shared::Shared;
+use pp_kind::Parted;
+use pp_log_local::Local;
+use pp_log_shared::Shared;
+use pp_machine::{Machine, Outcome};
 use std::alloc::Global;
 use std::marker::Model;
 use std::sync::ledger::Ledger;
@@ -32,7 +32,7 @@ pub struct Tracked<S: Parted> {
 }
 
 impl<S: Parted> Model for Tracked<S> {
-    ghost use Rattle.pp_rules.specs.Machines.{Seen};
+    ghost use Rattle.pp_machine.specs.Machines.{Seen};
     ghost use Rattle.pp_core.specs.TreeCodes.{tree_code};
     ghost use Rattle.std.specs.Coded.{codes};
 

@@ -2,7 +2,7 @@
 ghost use Rattle.std.specs.Prelude.{◌≡◌, ◌++◌, OnOk};
 ghost use Rattle.pp_core.specs.declared.entry.Mark.TheVariants.{Unpushed};
 ghost use Rattle.pp_model.specs.Config.{is_mark};
-ghost use Rattle.pp_front.specs.Expansions.{back, is_pulled_from, pushall, taken_at, unpulls};
+ghost use Rattle.pp_records.specs.Expansions.{back, is_pulled_from, pushall, taken_at, unpulls};
 ghost use Rattle.pp_styles.specs.Meanings.{meanings};
 ghost use Rattle.pp_styles.specs.Walking.{push_of, unpull_of};
 

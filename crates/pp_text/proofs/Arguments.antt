@@ -4,7 +4,7 @@ use Rattle.pp_core.specs.declared.call.Kind.{Kind}
 use Rattle.pp_core.specs.declared.call.Kind.TheVariants as kinds
 use Rattle.pp_core.specs.declared.call.Method.{Method}
 use Rattle.pp_core.specs.declared.call.Method.TheVariants as methods
-use Rattle.pp_object.specs.Calls.{arity_of}
+use Rattle.pp_objects.specs.Calls.{arity_of}
 
 -- no call has more than three
 pub few : (kind : Kind) (method : Method) → arity_of kind method ≤ 3

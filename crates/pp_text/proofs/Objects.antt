@@ -3,8 +3,8 @@ use Rattle.std.proofs.Common.{◌≡◌, ◌<◌, ℕ, zero, suc, List, [], ◌�
 use Rattle.std.proofs.Common.{◌∙◌, ap, arith}
 use Rattle.pp_core.specs.Catalogs.{Objects}
 use Rattle.pp_core.specs.declared.call.Kind.{Kind}
-use Rattle.pp_object.specs.declared.states.ObjectState.{ObjectState}
-use Rattle.pp_object.specs.Objects.{kinds_of}
+use Rattle.pp_objects.specs.declared.states.ObjectState.{ObjectState}
+use Rattle.pp_objects.specs.Objects.{kinds_of}
 use Rattle.pp_text.specs.Texts.{AreStatesOf, IsObjectOf}
 
 -- each object of a catalog has a kind

@@ -2,7 +2,7 @@
 use Rattle.std.proofs.Common.{◌≡◌, ◌<◌, ℕ, zero, suc, List, [], ◌∷◌, length, map, slice_get, Some}
 use Rattle.std.proofs.Common.{arith}
 use Rattle.pp_core.specs.Catalogs.{Objects}
-use Rattle.pp_object.specs.declared.states.ObjectState.{ObjectState}
+use Rattle.pp_objects.specs.declared.states.ObjectState.{ObjectState}
 use Rattle.pp_text.specs.Texts.{IsObjectOf}
 
 -- an item of a list of images is the image of an item

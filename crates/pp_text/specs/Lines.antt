@@ -4,8 +4,8 @@ use Rattle.std.specs.Fmt.{decimal}
 use Rattle.std.specs.List.{flat_map, range_with_len}
 use Rattle.pp_core.specs.Catalogs.{Objects}
 use Rattle.pp_core.specs.declared.entry.Item.{Item}
-use Rattle.pp_object.specs.declared.act.Op.{Op}
-use Rattle.pp_object.specs.declared.states.ObjectState.{ObjectState}
+use Rattle.pp_objects.specs.declared.act.Op.{Op}
+use Rattle.pp_objects.specs.declared.states.ObjectState.{ObjectState}
 use Rattle.pp_text.specs.Texts.{op_bytes, state_bytes}
 
 -- a text with its line end

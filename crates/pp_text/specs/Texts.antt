@@ -11,14 +11,14 @@ use Rattle.pp_core.specs.declared.answer.Answer.TheVariants.{None as NoAnswer, N
 use Rattle.pp_core.specs.declared.call.Kind.{Kind}
 use Rattle.pp_core.specs.declared.entry.Item.{Item}
 use Rattle.pp_model.specs.Lists.{Each}
-use Rattle.pp_object.specs.declared.act.Act.{Act}
-use Rattle.pp_object.specs.declared.act.Op.{Op}
-use Rattle.pp_object.specs.declared.pieces.Piece.{Piece}
-use Rattle.pp_object.specs.declared.states.ObjectState.{ObjectState}
-use Rattle.pp_object.specs.Calls.{arity_of}
-use Rattle.pp_object.specs.Objects.{objects, kinds_of}
-use Rattle.pp_object.specs.One.{kind_for, call_of, recorded_by}
-use Rattle.pp_object.specs.Pieces.{pieces_at}
+use Rattle.pp_objects.specs.declared.act.Act.{Act}
+use Rattle.pp_objects.specs.declared.act.Op.{Op}
+use Rattle.pp_objects.specs.declared.pieces.Piece.{Piece}
+use Rattle.pp_objects.specs.declared.states.ObjectState.{ObjectState}
+use Rattle.pp_objects.specs.Calls.{arity_of}
+use Rattle.pp_objects.specs.Objects.{objects, kinds_of}
+use Rattle.pp_objects.specs.One.{kind_for, call_of, recorded_by}
+use Rattle.pp_objects.specs.Pieces.{pieces_at}
 
 -- the object that an operation names is in the catalog, with the kind of its act
 abbrev pub IsNamed : Objects → Op → Type 0

@@ -8,7 +8,7 @@ use crate::number::write_number;
 use crate::op::write_op;
 use crate::state::write_state;
 use pp_core::{Catalog, Item, OutOfMemory, Text};
-use pp_object::{ObjectStates, Op};
+use pp_objects::{ObjectStates, Op};
 use std::alloc::Global;
 
 /// Adds the line of an operation.

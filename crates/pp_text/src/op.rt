@@ -7,7 +7,7 @@ ghost use Rattle.pp_text.specs.Texts.{op_bytes};
 use crate::answer::write_answer;
 use crate::number::write_signed_number;
 use pp_core::{Catalog, Name, OutOfMemory, Text};
-use pp_object::{Act, Op};
+use pp_objects::{Act, Op};
 use std::alloc::Global;
 
 /// The name of an object of the catalog.

@@ -6,7 +6,7 @@ ghost use Rattle.pp_text.specs.Texts.{IsObjectOf, key_bytes, piece_bytes, state_
 use crate::number::{write_integer, write_signed_number};
 use crate::op::name_at;
 use pp_core::{Catalog, OutOfMemory, Text};
-use pp_object::{ObjectStates, Piece, show};
+use pp_objects::{ObjectStates, Piece, show};
 use std::alloc::Global;
 
 /// Adds the key of a number that an object shows, where it has one.

@@ -2,7 +2,7 @@
 use crate::tests::row::COUNTER;
 use crate::tests::{added, answered, assert_answer, run_with_counter, status_of};
 use pp_core::{Status, Words};
-use pp_io::{MemorySink, MemorySource, SteadySink, SteadySource};
+use pp_input::{MemorySink, MemorySource, SteadySink, SteadySource};
 use std::marker::Brand;
 use std::sync::ledger::Blank;
 use std::test::Fail;

@@ -3,13 +3,13 @@
 ghost use Rattle.std.specs.Prelude.{◌≡◌, ◌<◌, [], ◌∷◌, IfOk};
 ghost use Rattle.pp_core.specs.declared.call.Kind.TheVariants.{Memory, Counter};
 ghost use Rattle.pp_model.specs.Sound.{serial_ops};
-ghost use Rattle.pp_object.specs.Objects.{kinds_of};
+ghost use Rattle.pp_objects.specs.Objects.{kinds_of};
 
 use pp_core::{Answer, Catalog, Committed, CommittedTx, Item, Items, Kind, Name, Text, Ticks};
-use pp_counter::CounterOp;
-use pp_mem::MemOp;
-use pp_object::{Act, Objects, Op};
-use pp_serial::serial;
+use pp_kind::serial;
+use pp_kind_counter::CounterOp;
+use pp_kind_memory::MemOp;
+use pp_objects::{Act, Objects, Op};
 use pp_text::{answer_text, op_text, state_line};
 use std::alloc::Global;
 use std::marker::Brand;

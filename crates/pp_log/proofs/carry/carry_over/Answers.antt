@@ -1,5 +1,5 @@
 use Rattle.std.proofs.Common.{[], ◌∷◌, ◌++◌, sym, subst}
-use Rattle.pp_spec.specs.Object.{KeptAs}
+use Rattle.pp_kind.specs.Object.{KeptAs}
 use Rattle.pp_log.specs.Carries.{IsOnWay}
 use Rattle.pp_log.proofs.Carried.{is_kept, over_alone, over_in_turn}
 use Rattle.pp_log.proofs.carry.carry_over.Goals as goal

@@ -1,7 +1,7 @@
 use Rattle.std.proofs.Common.{◌≡◌, ◌+◌, length, take, refl, sym, ◌∙◌, ap, subst, arith}
 use Rattle.pp_model.specs.Object.{ops}
-use Rattle.pp_spec.specs.Gaps.{Crosses}
-use Rattle.pp_spec.specs.declared.gapped.Crossed.TheVariants as crossed
+use Rattle.pp_kind.specs.Gaps.{Crosses}
+use Rattle.pp_kind.specs.declared.gapped.Crossed.TheVariants as crossed
 use Rattle.pp_log.specs.Gaps.{CrossesAll}
 use Rattle.pp_log.specs.Parts.{items_on}
 use Rattle.pp_log.specs.declared.gap.Crossing.TheVariants as crossing

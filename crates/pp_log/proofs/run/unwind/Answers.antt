@@ -1,5 +1,5 @@
 use Rattle.std.proofs.Common.{IsTrue, ◌≡◌, ◌<◌, ◌+◌, ◌-◌, ◌++◌, ℕ, length, sym, ◌∙◌, ap, subst, take, arith}
-use Rattle.pp_spec.specs.Object.{IsLegal, IsReached}
+use Rattle.pp_kind.specs.Object.{IsLegal, IsReached}
 use Rattle.pp_log.specs.Parts.{items_on}
 use Rattle.pp_log.specs.Runs.{IsRun}
 use Rattle.pp_log.proofs.Parted.{none_more_there, one_more, some_first, stands_behind}

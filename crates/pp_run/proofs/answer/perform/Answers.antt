@@ -1,6 +1,6 @@
 use Rattle.std.proofs.Common.{Some, subst, sym}
 use Rattle.std.proofs.lemmas.Result.{IfOk-weaker}
-use Rattle.pp_reading.proofs.Takers.{if_ok_all}
+use Rattle.pp_input_reader.proofs.Takers.{if_ok_all}
 use Rattle.pp_run.proofs.Performing.{answered, checked, checked_fits, decided_fits, sized, whole_sound}
 use Rattle.pp_run.specs.Bounds.{RisesAtLeast, RisesAtMost}
 use Rattle.pp_run.specs.Outputs.{IsOfWhole, IsOutput, OfInput, ReadsSound}

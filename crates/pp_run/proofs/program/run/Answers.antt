@@ -4,7 +4,7 @@ use Rattle.pp_run.specs.Bounds.{RisesAtMost}
 use Rattle.pp_run.specs.Outcomes.{outcome}
 use Rattle.pp_run.specs.Words.{command_of}
 use Rattle.pp_run.specs.declared.words.Command.{Command}
-use Rattle.pp_violations.proofs.Reported.{reported_law}
+use Rattle.pp_laws_runs.proofs.Reported.{reported_law}
 use Rattle.std.proofs.Common.{Option, subst}
 use Rattle.pp_run.proofs.program.run.Goals as goal
 

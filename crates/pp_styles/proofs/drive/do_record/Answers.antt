@@ -1,8 +1,8 @@
 use Rattle.std.proofs.Common.{◌≡◌, [], false, ap, sym, subst, ◌∙◌, rules, true≢false}
 use Rattle.pp_core.specs.Steps.{Step}
-use Rattle.pp_front.specs.Records.{record_meaning}
+use Rattle.pp_records.specs.Records.{record_meaning}
 use Rattle.pp_model.specs.Lists.{In}
-use Rattle.pp_rules.specs.Stepping.{IsAsked}
+use Rattle.pp_machine.specs.Stepping.{IsAsked}
 use Rattle.pp_styles.specs.Driving.{CostAtMost, Drives}
 use Rattle.pp_styles.specs.Meanings.{meanings}
 use Rattle.pp_styles.proofs.Asking.{record_asked, untried}

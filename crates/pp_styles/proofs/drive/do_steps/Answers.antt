@@ -1,7 +1,7 @@
 use Rattle.std.proofs.Common.{◌≡◌, ◌+◌, suc, length, drop, refl, sym, subst, arith}
 use Rattle.std.proofs.lemmas.Option.{slice_get_read}
 use Rattle.pp_core.specs.Steps.{meaning}
-use Rattle.pp_rules.specs.Stepping.{IsAsked}
+use Rattle.pp_machine.specs.Stepping.{IsAsked}
 use Rattle.pp_styles.specs.Meanings.{meanings}
 use Rattle.pp_styles.proofs.Driven.{all_tried, at_first, at_rest, element, from_there, halted, none_left}
 use Rattle.pp_styles.proofs.Driven.{tried, went_on}

@@ -1,6 +1,6 @@
 use Rattle.std.proofs.Common.{◌≡◌, ◌≤◌, ◌<◌, ℕ, true, Some}
 use Rattle.std.specs.List.{slice_get}
-use Rattle.pp_front.specs.Expansions.{stands_in}
+use Rattle.pp_records.specs.Expansions.{stands_in}
 use Rattle.pp_styles.proofs.notes.first_missing.Given as goal
 
 abbrev pub invariant-loop-at : goal.invariant-loop-at

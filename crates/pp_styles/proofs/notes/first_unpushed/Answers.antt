@@ -1,6 +1,6 @@
 use Rattle.std.proofs.Common.{◌<◌, length, subst, arith, ap, sym, ◌∙◌}
 use Rattle.pp_model.specs.Config.{Unpushed, is_mark}
-use Rattle.pp_shared.proofs.Nexts.{read}
+use Rattle.pp_log_shared.proofs.Nexts.{read}
 use Rattle.pp_styles.proofs.Noted.{pushed_next}
 use Rattle.pp_styles.proofs.notes.first_unpushed.Goals as goal
 

@@ -3,7 +3,7 @@ use Rattle.std.specs.List.{slice_get}
 use Rattle.std.specs.Option.{option_copied}
 use Rattle.std.proofs.lemmas.List.{take_all}
 use Rattle.std.proofs.lemmas.Option.{slice_get_read, slice_get_within}
-use Rattle.pp_front.specs.Expansions.{follow}
+use Rattle.pp_records.specs.Expansions.{follow}
 use Rattle.pp_styles.specs.Meanings.{meanings}
 use Rattle.pp_styles.specs.Sources.{kept_sources}
 use Rattle.pp_styles.proofs.Growing.{grown}

@@ -1,6 +1,6 @@
 use Rattle.std.proofs.Common.{◌≡◌, ◌≤◌, ◌-◌, ◌++◌, length, take}
 use Rattle.std.specs.Option.{option_copied}
-use Rattle.pp_front.specs.Expansions.{follow}
+use Rattle.pp_records.specs.Expansions.{follow}
 use Rattle.pp_styles.specs.Meanings.{meanings}
 use Rattle.pp_styles.specs.Sources.{kept_sources}
 use Rattle.pp_styles.proofs.pulls.follow.Given as goal

@@ -1,7 +1,7 @@
 use Rattle.std.proofs.Common.{◌<◌, length, ap, sym, subst, ◌∙◌, arith}
 use Rattle.pp_log.specs.Logs.{IsOn}
 use Rattle.pp_model.specs.Config.{shared_item}
-use Rattle.pp_shared.proofs.Nexts.{read}
+use Rattle.pp_log_shared.proofs.Nexts.{read}
 use Rattle.pp_styles.proofs.Nearing.{first_behind, first_there, none_behind, none_there}
 use Rattle.pp_styles.proofs.pulls.next_near.Goals as goal
 

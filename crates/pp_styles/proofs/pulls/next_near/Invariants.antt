@@ -1,7 +1,7 @@
 use Rattle.std.proofs.Common.{◌≤◌, ◌-◌}
 use Rattle.pp_log.specs.Logs.{IsOn}
 use Rattle.pp_model.specs.Config.{shared_item}
-use Rattle.pp_shared.proofs.Nexts.{NoneBetween}
+use Rattle.pp_log_shared.proofs.Nexts.{NoneBetween}
 use Rattle.pp_styles.proofs.pulls.next_near.Given as goal
 
 abbrev pub decreases-look : goal.decreases-look

@@ -2,8 +2,8 @@ use Rattle.std.proofs.Common.{◌≡◌, ◌≢◌, ◌≤◌, ◌<◌, ◌+◌,
 use Rattle.std.specs.List.{slice_get}
 use Rattle.std.proofs.lemmas.List.{get_or_default}
 use Rattle.std.proofs.lemmas.Option.{slice_get_within}
-use Rattle.pp_front.specs.Expansions.{refresh}
-use Rattle.pp_shared.proofs.Nexts.{read}
+use Rattle.pp_records.specs.Expansions.{refresh}
+use Rattle.pp_log_shared.proofs.Nexts.{read}
 use Rattle.pp_styles.specs.Meanings.{meanings}
 use Rattle.pp_styles.proofs.Growing.{grown}
 use Rattle.pp_styles.proofs.Taking.{Left, all_left, all_taken, passed, pulls_here, taken_here}

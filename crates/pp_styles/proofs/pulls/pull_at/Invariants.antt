@@ -1,5 +1,5 @@
 use Rattle.std.proofs.Common.{◌≡◌, ◌++◌, take}
-use Rattle.pp_front.specs.Expansions.{refresh}
+use Rattle.pp_records.specs.Expansions.{refresh}
 use Rattle.pp_styles.specs.Meanings.{meanings}
 use Rattle.pp_styles.proofs.Taking.{Left}
 use Rattle.pp_styles.proofs.pulls.pull_at.Given as goal

@@ -1,5 +1,5 @@
 use Rattle.std.proofs.Common.{◌<◌, length, sym, subst, ◌∙◌, ap, is_some}
-use Rattle.pp_shared.proofs.Nexts.{read}
+use Rattle.pp_log_shared.proofs.Nexts.{read}
 use Rattle.pp_styles.proofs.Standing.{standing, stands_there}
 use Rattle.pp_styles.proofs.pulls.stands_in.Goals as goal
 

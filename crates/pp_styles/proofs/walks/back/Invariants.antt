@@ -1,5 +1,5 @@
 use Rattle.std.proofs.Common.{◌≡◌, ◌≤◌, ◌++◌, length, drop}
-use Rattle.pp_front.specs.Expansions.{taken_out}
+use Rattle.pp_records.specs.Expansions.{taken_out}
 use Rattle.pp_styles.specs.Meanings.{meanings}
 use Rattle.pp_styles.proofs.walks.back.Given as goal
 

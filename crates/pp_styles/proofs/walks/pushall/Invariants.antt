@@ -1,5 +1,5 @@
 use Rattle.std.proofs.Common.{◌≡◌, ◌++◌, take}
-use Rattle.pp_front.specs.Expansions.{pushall}
+use Rattle.pp_records.specs.Expansions.{pushall}
 use Rattle.pp_styles.specs.Meanings.{meanings}
 use Rattle.pp_styles.proofs.walks.pushall.Given as goal
 

@@ -1,8 +1,8 @@
 use Rattle.std.proofs.Common.{◌∙◌, [], ◌∷◌, ap, slice_get}
 use Rattle.pp_core.specs.declared.call.Kind.TheVariants.{Memory, Counter}
 use Rattle.pp_model.specs.Sound.{serial_ops}
-use Rattle.pp_object.specs.Objects.{objects}
-use Rattle.pp_spec.specs.Object.{state_after}
+use Rattle.pp_objects.specs.Objects.{objects}
+use Rattle.pp_kind.specs.Object.{state_after}
 use Rattle.pp_cli.proofs.tests.library_calls.try_serial.Goals as goal
 
 pub state_line-requires : goal.state_line-requires

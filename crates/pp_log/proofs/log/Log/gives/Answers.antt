@@ -1,5 +1,5 @@
 use Rattle.std.proofs.Common.{◌≡◌, ap, ◌∙◌}
-use Rattle.pp_spec.specs.Object.{state_after}
+use Rattle.pp_kind.specs.Object.{state_after}
 use Rattle.pp_log.proofs.Maps.{seen, through}
 use Rattle.pp_log.proofs.log.Log.gives.Goals as goal
 

@@ -1,7 +1,7 @@
 use Rattle.std.proofs.Common.{◌↔◌, IsTrue, [], ◌∷◌, ◌++◌, map, subst, sym}
 use Rattle.pp_model.specs.Object.{ops}
-use Rattle.pp_spec.specs.Object.{IsAllowed}
-use Rattle.pp_spec.proofs.Lists.{last_is_legal, one_more}
+use Rattle.pp_kind.specs.Object.{IsAllowed}
+use Rattle.pp_kind.proofs.Lists.{last_is_legal, one_more}
 use Rattle.pp_log.proofs.Maps.{seen, through}
 use Rattle.pp_log.proofs.log.Log.legal.Goals as goal
 

@@ -1,6 +1,6 @@
 use Rattle.std.proofs.Common.{map, subst}
 use Rattle.pp_model.specs.Object.{HasDistinctIds}
-use Rattle.pp_spec.specs.Object.{IsAllowed, AllRanged}
+use Rattle.pp_kind.specs.Object.{IsAllowed, AllRanged}
 use Rattle.pp_log.proofs.Maps.{seen, through}
 use Rattle.pp_log.proofs.log.Log.len.Goals as goal
 

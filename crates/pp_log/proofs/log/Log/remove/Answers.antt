@@ -3,7 +3,7 @@ use Rattle.std.proofs.lemmas.List.{length-drop, length-map}
 use Rattle.std.specs.List.{slice_get, slice_set}
 use Rattle.pp_model.specs.Lists.{In}
 use Rattle.pp_model.specs.Object.{ops}
-use Rattle.pp_spec.specs.Object.{state_after}
+use Rattle.pp_kind.specs.Object.{state_after}
 use Rattle.pp_log.specs.Index.{IsIndexOf}
 use Rattle.pp_log.specs.Keeps.{KeepsAll}
 use Rattle.pp_log.specs.Logs.{RemovesEntry, entry_ops, from_place, removal_ticks}

@@ -1,4 +1,4 @@
-use Rattle.pp_front.specs.Records.{record_meaning}
+use Rattle.pp_records.specs.Records.{record_meaning}
 use Rattle.pp_styles.specs.States.{hardware_state}
 use Rattle.pp_styles.proofs.Arms.{arm_kept, arm_steps}
 use Rattle.pp_styles.proofs.any_front.AnyFrontFront.expand.Goals as goal

@@ -1,5 +1,5 @@
 use Rattle.std.proofs.Common.{sym, ◌∙◌}
-use Rattle.pp_front.specs.Records.{record_meaning}
+use Rattle.pp_records.specs.Records.{record_meaning}
 use Rattle.pp_styles.proofs.Arms.{arm_steps}
 use Rattle.pp_styles.proofs.boxed_front.BoxedFrontFront.expand.Goals as goal
 

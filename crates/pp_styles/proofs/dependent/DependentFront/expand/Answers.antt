@@ -1,6 +1,6 @@
 use Rattle.std.proofs.Common.{◌∙◌}
 use Rattle.pp_model.specs.Config.{tx}
-use Rattle.pp_front.specs.declared.run_record.RunRecord.TheVariants as written
+use Rattle.pp_records.specs.declared.run_record.RunRecord.TheVariants as written
 use Rattle.pp_styles.specs.States.{dependent_state}
 use Rattle.pp_styles.proofs.Keeping.{at_record, forgotten, whenever}
 use Rattle.pp_styles.proofs.dependent.DependentFront.expand.Goals as goal

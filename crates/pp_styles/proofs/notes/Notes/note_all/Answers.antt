@@ -1,5 +1,5 @@
 use Rattle.std.proofs.Common.{◌<◌, ◌≤◌, ◌++◌, ◌∙◌, ap, arith, length, subst, sym, take_all}
-use Rattle.pp_shared.proofs.Nexts.{read}
+use Rattle.pp_log_shared.proofs.Nexts.{read}
 use Rattle.pp_model.specs.Lists.{In}
 use Rattle.pp_styles.specs.Knowing.{Knowledge, ids_on}
 use Rattle.pp_styles.specs.Noting.{ids_in, known}

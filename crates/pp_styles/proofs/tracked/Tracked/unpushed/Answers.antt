@@ -1,6 +1,6 @@
 use Rattle.std.proofs.Common.{◌≡◌, ◌≤◌, ◌-◌, ◌∙◌, Some, ap, arith, drop, length, refl, subst, take}
 use Rattle.std.specs.Option.{option_map}
-use Rattle.pp_front.specs.Expansions.{pushall}
+use Rattle.pp_records.specs.Expansions.{pushall}
 use Rattle.pp_model.specs.Config.{tx}
 use Rattle.pp_styles.specs.Noting.{known}
 use Rattle.pp_styles.proofs.Tracking.{unpushed_here}

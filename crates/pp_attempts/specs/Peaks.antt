@@ -1,0 +1,62 @@
+-- Meaning: the peaks of a run: what a transaction had applied each time when it went no further.
+use Rattle.std.specs.Prelude.{◌≡◌, ◌<◌, ℕ, Bool, true, false, cond, List, [], ◌∷◌, ◌++◌, map, sum}
+use Rattle.std.specs.Prelude.{length, Some}
+use Rattle.pp_core.specs.declared.step.Step.{Step as StepOf}
+use Rattle.pp_core.specs.Steps.{Step, App, Unapp, meaning}
+use Rattle.pp_model.specs.Config.{last}
+use Rattle.pp_model.specs.Lists.{Before, In}
+use Rattle.pp_model.specs.Names.{Name, ◌=ⁿ◌}
+use Rattle.pp_model.specs.Object.{Item}
+use Rattle.pp_model.specs.Serial.{own_of}
+pub use Rattle.pp_attempts.specs.declared.peak.Peak.{Peak}
+use Rattle.pp_attempts.specs.declared.peak.PeakFault.{PeakFault}
+use Rattle.pp_attempts.specs.declared.peak.PeakFault.TheVariants.{TooMany, OutOfMemory}
+
+-- the steps that written ones stand for
+abbrev pub meanings : {Op : Type 0} → List (StepOf Op) → List (Step Op)
+meanings list = map meaning list
+
+-- Of t's APP and UNAPP steps among these the first is an APP.
+abbrev pub goes_on : {Op : Type 0} → Name → List (Step Op) → Bool
+goes_on t [] = false
+goes_on t (App u id op ∷ ss) = cond (u =ⁿ t) true (goes_on t ss)
+goes_on t (Unapp u id ∷ ss) = cond (u =ⁿ t) false (goes_on t ss)
+goes_on t (_ ∷ ss) = goes_on t ss
+
+-- The peaks right behind the APP steps of `ss`, which follow the steps `past`: there is one right
+-- behind each, unless its transaction goes on, and it has the transaction's own list there.
+abbrev pub peaks_behind : {Op : Type 0} → List (Step Op) → List (Step Op) → List (Peak Op)
+peaks_behind past [] = []
+peaks_behind past (App t id op ∷ ss) =
+    cond (goes_on t ss) (peaks_behind (past ++ App t id op ∷ []) ss)
+    (record { tx = t; ops = own_of t (past ++ App t id op ∷ []) }
+    ∷ peaks_behind (past ++ App t id op ∷ []) ss)
+peaks_behind past (s ∷ ss) = peaks_behind (past ++ s ∷ []) ss
+
+-- the peaks of these steps, in the order of the APP steps
+abbrev pub peaks : {Op : Type 0} → List (Step Op) → List (Peak Op)
+peaks ss = peaks_behind [] ss
+
+-- how many operations all of them have
+abbrev pub operations : {Op : Type 0} → List (Peak Op) → ℕ
+operations ps = sum (map (λ p. length p.ops) ps)
+
+-- Too many are told only where all together have more than asked for, and how many; since the peaks
+-- are told only where they have not, exactly there.
+abbrev pub IsFaultOf : ℕ → ℕ → PeakFault → Type 0
+IsFaultOf n most (TooMany count) = (count ≡ n) × (most < n)
+IsFaultOf n most OutOfMemory = Unit {0}
+
+-- Entries of these peaks that have one id are one.
+abbrev pub IdsTell : {Op : Type 0} → List (Peak Op) → Type 0
+IdsTell {Op} ps =
+    (p q : Peak Op) (i j : Item Op) → In p ps → In q ps → In i p.ops → In j q.ops → i.id ≡ j.id
+    → i ≡ j
+
+-- What the steps of an accepted run have.
+pub record IsOrderly {Op : Type 0} (ss : List (Step Op)) : Type 0 where
+  -- no id stands in two APP steps
+  pub once : (t u : Name) (id : ℕ) (a b : Op) → Before (App t id a) (App u id b) ss → ⊥
+  -- each UNAPP step has the id of the last entry of its transaction's own list before it
+  pub last_first : (past rest : List (Step Op)) (t : Name) (id : ℕ) → ss ≡ past ++ Unapp t id ∷ rest
+      → (p : Item Op) × (last (own_of t past) ≡ Some p) × (p.id ≡ id)

@@ -1,0 +1,21 @@
+-- Proof machinery: at which steps a peak stands.
+use Rattle.std.specs.Prelude.{◌≡◌, Bool, false, not, List, [], ◌∷◌}
+use Rattle.pp_core.specs.Steps.{Step, App}
+use Rattle.indexmap.specs.IndexSet.{IndexSet, contains}
+use Rattle.std.specs.Str.{bytes_eq}
+use Rattle.pp_model.specs.Names.{Name}
+use Rattle.pp_attempts.specs.Peaks.{goes_on}
+
+-- a peak stands right behind this step, which these follow
+abbrev pub is_top : {Op : Type 0} → Step Op → List (Step Op) → Bool
+is_top (App t id op) ss = not (goes_on t ss)
+is_top _ ss = false
+
+-- whether one does, for each step
+abbrev pub tops : {Op : Type 0} → List (Step Op) → List Bool
+tops [] = []
+tops (s ∷ ss) = is_top s ss ∷ tops ss
+
+-- The set has the names that go on in these steps.
+abbrev pub KeepsGoing : {Op H : Type 0} → IndexSet Name H → List (Step Op) → Type 0
+KeepsGoing names ss = (t : Name) → contains bytes_eq names t ≡ goes_on t ss

@@ -1,6 +1,0 @@
-use Rattle.pp_certificate.proofs.Checkings.{text_leads}
-use Rattle.pp_certificate.proofs.checking.Checking.take_text.Goals as goal
-
-pub returns-clause-leads : goal.returns-clause-leads
-returns-clause-leads g c =
-    text_leads c.args.self c.args.text.now c.take_any.result c.take_any.ensures.taken

@@ -1,5 +1,0 @@
-use Rattle.pp_certificate.proofs.Accepted.{accepted}
-use Rattle.pp_certificate.proofs.law.accepted_law.Goals as goal
-
-pub returns : goal.returns
-returns c = λ catalog config cat sound few each. accepted catalog config cat sound few each

@@ -1,0 +1,86 @@
+-- What a Quick over the objects of a header says of its records.
+use Rattle.std.specs.Prelude.{◌≡◌, false, List, ◌∷◌, ◌++◌, [], map, Option}
+use Rattle.std.proofs.Common.{sym, subst}
+use Rattle.pp_core.specs.declared.call.Kind.{Kind}
+use Rattle.pp_core.specs.declared.call.Style.{Style}
+use Rattle.pp_records.specs.Records.{RunRecord}
+use Rattle.pp_records.specs.Runs.{Lined, Records, bare}
+use Rattle.pp_records.specs.Styles.{translation}
+use Rattle.pp_format_read.specs.declared.header.Header.{Header}
+use Rattle.pp_model.specs.Config.{Start, first}
+use Rattle.pp_model.specs.Rules.{RunsFrom, StartMeets}
+use Rattle.pp_model.specs.Serial.{attempts, committed_tx}
+use Rattle.pp_objects.specs.Objects.{SameAt, kinds_of, objects, place_of}
+use Rattle.pp_objects.specs.laws.Objects.{objects_placed}
+use Rattle.pp_objects.specs.declared.act.Op.{Op}
+use Rattle.pp_summary.specs.Brief.{brief}
+use Rattle.pp_summary.specs.Failures.{FailsIn, all_steps}
+use Rattle.pp_summary.specs.Held.{Held, Takes}
+use Rattle.pp_summary.specs.Laws.{BriefsDecide, IsBriefed, KeepsBoosted}
+use Rattle.pp_summary.specs.Reading.{IsReader}
+use Rattle.pp_summary.specs.Runs.{BriefRuns, boosting, brief_after}
+use Rattle.pp_summary.specs.Sums.{AreTried}
+use Rattle.pp_summary.proofs.Briefs.{briefed}
+use Rattle.pp_summary.proofs.Deciding.{quick as boosted_law}
+use Rattle.pp_summary.proofs.Reading.{reader}
+use Rattle.pp_summary.proofs.HeldOf.{apart_of}
+use Rattle.pp_summary.proofs.Whole.{decided}
+use Rattle.pp_kind.specs.Object.{rules_of}
+use Rattle.pp_judge.specs.Objects.{object_of, start_of, translation_of}
+use Rattle.pp_judge.specs.Scans.{InputScan}
+use Rattle.pp_judge.specs.declared.progress.Tally.{Tally}
+use Rattle.pp_cmd_quick.specs.Costs.{first_brief}
+use Rattle.pp_cmd_quick.specs.Decisions.{AllHold, steps_behind}
+use Rattle.pp_cmd_quick.specs.Taking.{AreGood}
+
+pub reads : (ks : List Kind) (h : Option (Start Op)) → IsReader objects place_of ks h
+reads ks h = reader objects place_of (apart_of objects place_of SameAt objects_placed) ks h
+
+-- what holds of boosted configurations over the objects of a header, and of their briefs
+pub keeps_boosted : (header : Header) → KeepsBoosted (object_of header) place_of
+keeps_boosted header = boosted_law (object_of header) place_of (apart_of objects place_of SameAt objects_placed (kinds_of header.catalog))
+
+pub is_briefed : (header : Header) → IsBriefed (object_of header) place_of
+is_briefed header = briefed (object_of header) place_of (apart_of objects place_of SameAt objects_placed (kinds_of header.catalog))
+
+pub briefs_decide : (header : Header) → BriefsDecide (object_of header) place_of
+briefs_decide header = decided (object_of header) place_of (apart_of objects place_of SameAt objects_placed (kinds_of header.catalog))
+
+module _ (sc : InputScan) (tally : Tally) (quick : Held (List Kind) Op) (c : AreGood sc tally quick) where
+  abbrev h : Header
+  h = tally.header
+
+  abbrev ks : List Kind
+  ks = kinds_of h.catalog
+
+  abbrev rs : Records (RunRecord Op)
+  rs = sc.records
+
+  -- the start and each step hold
+  pub all_hold : AllHold h rs
+  all_hold = (
+    subst (λ (k : List Kind). StartMeets (rules_of objects k) (start_of h)) c.shape c.read.begun,
+    subst (λ (s : Style). RunsFrom (object_of h) (first (start_of h)) (bare (all_steps (translation place_of s ks) (start_of h) rs))) (sym c.style)
+        (subst (λ (k : List Kind). RunsFrom (rules_of objects k) (first (start_of h)) (bare (all_steps (boosting place_of ks) (start_of h) rs))) c.shape c.read.hold),
+  )
+
+  -- what was committed
+  pub committed_are : quick.brief.done ≡ map committed_tx (attempts (start_of h) (bare (steps_behind h rs)))
+  committed_are =
+      subst (λ (s : Style). quick.brief.done ≡ map committed_tx (attempts (start_of h) (bare (all_steps (translation place_of s ks) (start_of h) rs)))) (sym c.style)
+      ((reads ks (start_of h)).committed rs quick c.read)
+
+  pub good_runs : BriefRuns (object_of h) place_of (first_brief h) (bare rs)
+  good_runs = subst (λ (k : List Kind). BriefRuns (rules_of objects k) place_of (first_brief h) (bare rs)) c.shape ((reads ks (start_of h)).good rs quick c.read)
+
+  pub brief_is : quick.brief ≡ brief_after place_of (first_brief h) (bare rs)
+  brief_is = (reads ks (start_of h)).leads rs quick c.read
+
+  pub all_tried : AreTried (object_of h) place_of (first_brief h) (bare rs) (bare rs)
+  all_tried = subst (λ (k : List Kind). AreTried (rules_of objects k) place_of (first_brief h) (bare rs) (bare rs)) c.shape ((reads ks (start_of h)).all_tried rs quick c.read)
+
+  -- a record that is not good is the first of which a step fails
+  pub fails_next : (r : Lined (RunRecord Op)) (next : Held (List Kind) Op) → Takes objects place_of quick r.what false next → FailsIn (object_of h) (translation_of h) (start_of h) (rs ++ r ∷ []) r
+  fails_next r next takes =
+      subst (λ (s : Style). FailsIn (object_of h) (translation place_of s ks) (start_of h) (rs ++ r ∷ []) r) (sym c.style)
+      (subst (λ (k : List Kind). FailsIn (rules_of objects k) (boosting place_of ks) (start_of h) (rs ++ r ∷ []) r) c.shape ((reads ks (start_of h)).fails rs [] r quick next c.read takes))

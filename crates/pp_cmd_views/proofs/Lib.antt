@@ -1,0 +1,4 @@
+pub mod Appends
+pub mod Keeping
+pub mod Telling
+pub mod Viewed

@@ -1,0 +1,63 @@
+//! The command: the status and the text of an input.
+ghost use Rattle.std.specs.Prelude.{◌≡◌, ◌≢◌, ◌≤◌, ◌⊎◌, IfOk, IsErrOf};
+ghost use Rattle.std.specs.Io.KnownBytes.{IsAtEnd};
+ghost use Rattle.pp_core.specs.declared.status.Status.TheVariants as statuses;
+ghost use Rattle.pp_input.specs.Faults.{HasRisen};
+ghost use Rattle.pp_input_reader.specs.declared.stop.Failure.TheVariants.{ReadFault};
+ghost use Rattle.pp_input_reader.specs.Sources.{WhereTold};
+ghost use Rattle.pp_judge.specs.Certified.{IsDecided};
+ghost use Rattle.pp_judge.specs.Costs.{StepsCostAtLeast};
+ghost use Rattle.pp_judge.specs.Inputs.{ReadsNoFault, scan};
+ghost use Rattle.pp_judge.specs.Rejected.{IsEvident};
+ghost use Rattle.pp_cmd_views.specs.Costs.{ViewsCostAtMost};
+ghost use Rattle.pp_cmd_views.specs.Outputs.{IsViews};
+
+use crate::finding::examine_steps;
+use crate::report::report_views;
+use pp_core::{Status, Text, Ticks};
+use pp_input::Source;
+use pp_input_reader::{Failure, fault};
+use pp_judge::{Finding, report_rejected};
+use std::alloc::Global;
+use std::sync::ledger::Ledger;
+
+/// The status and the text of `views` for the input of a source: of an accepted run, what each
+/// attempt saw. The input is read to its end, unless it has a fault.
+pub fn views<S: Source, L: Ledger>(
+    alloc: Global,
+    source: &mut S,
+    ticks: &mut Ticks<L>,
+) -> Result<(Status, Text), Failure>
+    ensures output { IfOk result (λ r. WhereTold (S.left source.old) λ bytes.
+        IsViews bytes r.0 r.1) }
+    ensures status { IfOk result (λ r. IsDecided r.0
+        ⊎ (r.0 ≡ statuses.InputFault) ⊎ (r.0 ≡ statuses.TooLarge)) }
+    ensures end { IfOk result (λ r. r.0 ≢ statuses.InputFault → IsAtEnd (S.left source.new)) }
+    ensures shown { IfOk result (λ r. r.0 ≡ statuses.Rejected →
+        WhereTold (S.left source.old) λ bytes. IsEvident (scan bytes)) }
+    ensures read_fault { IsErrOf result ReadFault →
+        HasRisen (S.faults source.old) (S.faults source.new)
+        × ReadsNoFault (S.left source.old) (S.left source.new) }
+    ensures count { S.faults source.old ≤ S.faults source.new }
+    ensures faultless { ¬ IsErrOf result ReadFault → S.faults source.new ≡ S.faults source.old }
+    ensures most { WhereTold (S.left source.old) λ bytes.
+        ViewsCostAtMost (scan bytes) ticks.old ticks.new }
+    ensures least { IfOk result (λ r. IsDecided r.0 → WhereTold (S.left source.old) λ bytes.
+        StepsCostAtLeast r.0 (scan bytes) ticks.old ticks.new) }
+{
+    let (finding, steps) = examine_steps(alloc, source, ticks)?;
+    match finding {
+        Finding::Fault(line, cause) => {
+            let text = fault(alloc, line, &cause)?;
+            Ok((Status::InputFault, text))
+        }
+        Finding::Rejected(tally, rejection) => {
+            let text = report_rejected(alloc, &tally, &rejection)?;
+            Ok((Status::Rejected, text))
+        }
+        Finding::Accepted(tally, machine) => {
+            let told = report_views(alloc, &tally, &machine, &steps, ticks)?;
+            Ok(told)
+        }
+    }
+}

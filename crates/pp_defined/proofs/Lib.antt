@@ -1,5 +1,0 @@
-pub mod Scanned
-pub mod Certified
-pub mod Decided
-pub mod Accepted
-pub mod Defined

@@ -1,5 +1,0 @@
-use Rattle.pp_defined.proofs.Defined.{defined_laws}
-use Rattle.pp_defined.proofs.every_input_has_an_output.Goals as goal
-
-pub returns : goal.returns
-returns c = defined_laws

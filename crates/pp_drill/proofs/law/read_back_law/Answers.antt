@@ -1,5 +1,0 @@
-use Rattle.pp_drill.proofs.Stating.{drill_reads}
-use Rattle.pp_drill.proofs.law.read_back_law.Goals as goal
-
-pub returns : goal.returns
-returns c = drill_reads

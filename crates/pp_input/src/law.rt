@@ -1,0 +1,18 @@
+//! What lines that are joined are as an input. It is a fact of the definitions, and does nothing.
+ghost use Rattle.std.specs.Prelude.{◌≡◌, ℕ, List, None};
+ghost use Rattle.pp_input.specs.Joined.{joined_lines, AreLines, AreAllowed};
+ghost use Rattle.pp_input.specs.Lines.{numbered_lines, numbered_from};
+ghost use Rattle.pp_input.specs.Overruns.{overrun, scanned_lines};
+
+/// Lines without a byte 10, and without a byte 13 at their end, each with a byte 10 behind it and
+/// joined, are split into these lines again, numbered from 1. Where they keep to the limits they
+/// pass none, so these are the lines that are examined.
+#[tactic(auto, using(crate::proofs::Joined::split, crate::proofs::Joined::allowed, crate::proofs::Joined::scanned))]
+pub fn joined_law()
+    ensures split { (lines : List (List ℕ)) → AreLines lines
+        → numbered_lines (joined_lines lines) ≡ numbered_from 1 lines }
+    ensures limits { (lines : List (List ℕ)) → AreLines lines → AreAllowed lines
+        → overrun (joined_lines lines) ≡ None }
+    ensures scanned { (lines : List (List ℕ)) → AreLines lines → AreAllowed lines
+        → scanned_lines (joined_lines lines) ≡ numbered_from 1 lines }
+{}

@@ -1,6 +1,0 @@
-use Rattle.pp_core.specs.declared.call.Style.TheVariants as styles
-use Rattle.pp_json.proofs.Styled.{of_style}
-use Rattle.pp_json.proofs.optimistic.optimistic_in.Goals as goal
-
-pub returns-in_default-clause-styled : goal.returns-in_default-clause-styled
-returns-in_default-clause-styled c = of_style styles.Optimistic (λ x h. h.optimistic) c.boosted_in.result c.boosted_in.ensures.styled

@@ -1,0 +1,11 @@
+pub mod Lists
+pub mod Fitting
+pub mod Numbers
+pub mod Places
+pub mod Tests
+pub mod Results
+pub mod Passing
+pub mod Standing
+pub mod Replays
+pub mod Rests
+pub mod Gates

@@ -1,0 +1,9 @@
+pub mod Numbers
+pub mod Found
+pub mod Object
+pub mod Calls
+pub mod Gaps
+pub mod Parts
+pub mod Words
+pub mod Table
+pub mod Gates

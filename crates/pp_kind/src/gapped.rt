@@ -1,0 +1,73 @@
+//! How a state differs from the one that would be there without one of its operations.
+ghost use Rattle.std.specs.Prelude.{◌≡◌, ◌+◌, false, IsTrue, OnOk, OnErr};
+ghost use Rattle.pp_kind.specs.Gaps.{ClosesTo, Crosses, Leaves, MayClose};
+ghost use Rattle.pp_kind.specs.Object.{KeptAs, Swaps};
+
+use crate::spec::Spec;
+use pp_core::{OutOfMemory, Ticks};
+use std::sync::ledger::Ledger;
+
+/// How the state right behind an operation differs from the one before it.
+#[derive(Drop)]
+pub enum Left<G> {
+    /// Not at all: the operation changes nothing.
+    Same,
+    /// By this gap.
+    Apart(G),
+}
+
+/// How two states that differ by a gap differ behind a further operation, legal in the first.
+#[derive(Drop)]
+pub enum Crossed<G, U> {
+    /// Not at all. It is legal in the second too, and keeps this there.
+    Same(U),
+    /// By this gap. Where the first state bears it, the operation is legal in the second too, and
+    /// keeps the same there.
+    Apart(G),
+    /// That is not known: it may not be legal in the second.
+    Unknown,
+}
+
+/// A kind that can tell a state from the one that would be there without one of its operations, by
+/// a gap between the two that each later operation crosses.
+pub trait Gapped: Spec {
+    /// How the two differ.
+    type Gap: Copy;
+
+    /// The state has what was asked of the other one by the operations that were crossed, as far as
+    /// the gap does not tell it.
+    ghost Bears: { Self.Gap → Self.State → Type 0 };
+
+    /// The second state differs from the first as the gap says.
+    ghost Differ: { Self.Gap → Self.State → Self.State → Type 0 };
+
+    /// The gap that an operation leaves which kept this.
+    fn gap_of(op: &Self::Op, undo: &Self::Undo) -> Left<Self::Gap>
+        ensures { Leaves Self.object Bears Differ op.now undo.now result };
+
+    /// The gap behind a further operation. A kind may always answer that it is not known, which is
+    /// slow and as right: then all later operations are taken back, and applied again.
+    fn cross(gap: &Self::Gap, op: &Self::Op) -> Crossed<Self::Gap, Self::Undo>
+        ensures { Crosses Self.object Bears Differ gap.now op.now result };
+
+    /// Whether the state has what was asked of the other one. False says nothing.
+    fn bears(gap: &Self::Gap, state: &Self::State) -> bool
+        ensures { IsTrue result → Bears gap.now state.now };
+
+    /// Makes the first state the second. The only error is that memory was refused.
+    fn close<L: Ledger>(
+        state: &mut Self::State,
+        gap: &Self::Gap,
+        ticks: &mut Ticks<L>,
+    ) -> Result<(), OutOfMemory>
+        requires { MayClose Self.object Differ gap.now state.old }
+        ensures ok { OnOk result (ClosesTo Self.object Differ gap.now state.old state.new) }
+        ensures err { OnErr result (state.new ≡ state.old) }
+        ensures cost { ticks.new ≡ ticks.old + 1 };
+
+    /// Whether the operation and each one that may move left over it keep the same undo values in
+    /// both orders. False says nothing.
+    fn keeps_alone(a: &Self::Op) -> bool
+        ensures { IsTrue result →
+            (b : Self.Op) → Swaps Self.object a.now b → KeptAs Self.object false a.now b };
+}

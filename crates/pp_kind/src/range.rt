@@ -1,0 +1,13 @@
+//! The range of the numbers of records.
+ghost use Rattle.std.specs.Prelude.{◌≡◌};
+ghost use Rattle.pp_kind.specs.Numbers.{in_range};
+
+/// The greatest number of a record. The least one is its negative.
+pub const GREATEST_NUMBER: i64 = 1_000_000_000_000_000_000;
+
+/// Whether a number may stand in a record.
+pub fn in_range(number: i64) -> bool
+    ensures { result ≡ in_range number }
+{
+    -GREATEST_NUMBER <= number && number <= GREATEST_NUMBER
+}

@@ -1,0 +1,31 @@
+//! The operations that show of a pair that it does not swap.
+ghost use Rattle.std.specs.Prelude.{◌≡◌, ◌++◌, IfOk, OnOk};
+ghost use Rattle.pp_kind_priority.specs.Contexts.{insertion_of, before_pair};
+
+use crate::op::PrioOp;
+use pp_core::{Ops, OutOfMemory};
+use std::alloc::Global;
+
+/// Inserts what was found, if anything was, behind other operations. The only error is that memory
+/// was refused.
+fn push_insertion(ops: &mut Ops<PrioOp>, found: Option<i64>) -> Result<(), OutOfMemory>
+    ensures { OnOk result (ops.new ≡ ops.old ++ insertion_of found) }
+{
+    if let Some(value) = found {
+        ops.push(PrioOp::Insert { value })?;
+    }
+    Ok(())
+}
+
+/// What stands before a pair that does not swap; nothing stands after it. The only error is that
+/// memory was refused.
+pub fn before_pair(alloc: Global, a: &PrioOp, b: &PrioOp) -> Result<Ops<PrioOp>, OutOfMemory>
+    ensures { IfOk result (λ ops. ops ≡ before_pair a.now b.now) }
+{
+    let mut ops = Ops::new(alloc);
+    push_insertion(&mut ops, a.found())?;
+    if let PrioOp::Take { value: Some(_) } = *a {
+        push_insertion(&mut ops, b.found())?;
+    }
+    Ok(ops)
+}

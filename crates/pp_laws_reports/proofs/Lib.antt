@@ -1,0 +1,13 @@
+pub mod Splits
+pub mod Numbers
+pub mod Acts
+pub mod Operations
+pub mod States
+pub mod Texts
+pub mod Committed
+pub mod Inputs
+pub mod Scanned
+pub mod Certified
+pub mod Decided
+pub mod Accepted
+pub mod Defined

@@ -1,0 +1,41 @@
+-- An input is timely if each of its steps meets its criteria.
+use Rattle.std.specs.Prelude.{ℕ, List}
+use Rattle.std.proofs.Common.{refl}
+use mathlib.Core.Logic.{inr}
+use Rattle.pp_core.specs.declared.status.Status.TheVariants as statuses
+use Rattle.pp_records.specs.Inputs.{steps_of}
+use Rattle.pp_records.specs.Runs.{LinedSteps}
+use Rattle.pp_records.proofs.Ends.{ends_whole}
+use Rattle.pp_model.specs.Config.{first}
+use Rattle.pp_objects.specs.declared.act.Op.{Op}
+use Rattle.pp_judge.specs.Accepted.{EachStepMeets, HasRun}
+use Rattle.pp_judge.specs.Inputs.{scan}
+use Rattle.pp_judge.specs.Objects.{object_of, setting_of, start_of, translation_of}
+use Rattle.pp_judge.proofs.Concluding.{only_run}
+use Rattle.pp_judge.proofs.Exact.{certified_exact}
+use Rattle.pp_laws_runs.specs.Lines.{RespectsLines}
+use Rattle.pp_laws_runs.specs.Timely.{CertifiedTimelyLaw, IsTimely, TimelyLaw}
+use Rattle.pp_laws_runs.proofs.Lines.{records_law, rise_never_fall}
+use Rattle.pp_laws_runs.proofs.Rising.{rising_law}
+
+pub timely_law : TimelyLaw
+timely_law sc never meets =
+    let h = meets.header.what in
+    let run : LinedSteps Op = steps_of (setting_of meets.header) sc.records in
+    let own : HasRun sc = record {
+      header = meets.header;
+      run = run;
+      first_line = meets.first_line;
+      steps = inr (meets.start, ends_whole (object_of h) (first (start_of h)) run meets.steps);
+    } in (
+      own,
+      λ other. only_run sc own other (λ head steps. RespectsLines (start_of head.what) steps)
+          (records_law (object_of h) (translation_of h) (start_of h) sc.records run never own.steps meets.start meets.steps),
+    )
+
+-- the same for the scan of any input: its lines rise
+pub meets_timely : (bytes : List ℕ) → EachStepMeets (scan bytes) → IsTimely (scan bytes)
+meets_timely bytes meets = timely_law (scan bytes) (rise_never_fall (scan bytes).records (rising_law bytes)) meets
+
+pub certified_timely_law : CertifiedTimelyLaw
+certified_timely_law bytes text certified = meets_timely bytes ((certified_exact bytes statuses.Accepted text certified).0 refl).1

@@ -1,5 +1,0 @@
-use Rattle.pp_lines.proofs.StepsRead.{is_statable}
-use Rattle.pp_lines.proofs.law.read_record_law.Goals as goal
-
-pub returns : goal.returns
-returns c = is_statable

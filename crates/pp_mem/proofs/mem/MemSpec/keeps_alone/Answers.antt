@@ -1,5 +1,0 @@
-use Rattle.pp_mem.proofs.Kept.{kept_unwritten}
-use Rattle.pp_mem.proofs.mem.MemSpec.keeps_alone.Goals as goal
-
-pub returns : goal.returns
-returns c = λ t b. kept_unwritten c.args.a.now b c.is_write.result c.is_write.ensures t

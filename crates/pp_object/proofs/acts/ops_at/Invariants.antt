@@ -1,6 +1,0 @@
-use Rattle.std.proofs.Common.{◌≡◌, map, take}
-use Rattle.pp_object.specs.Objects.{act_at}
-use Rattle.pp_object.proofs.acts.ops_at.Given as goal
-
-abbrev pub invariant-loop-act : goal.invariant-loop-act
-invariant-loop-act l = l.ops ≡ map (act_at l.object) (take l.act-index l.acts)

@@ -1,5 +1,0 @@
-use Rattle.pp_object.proofs.Kept.{all_kept_alone}
-use Rattle.pp_object.proofs.objects.ObjectsSpec.keeps_alone.Goals as goal
-
-pub returns : goal.returns
-returns c = λ t b. all_kept_alone c.args.a.now b (c.keeps_alone.ensures t b.act)

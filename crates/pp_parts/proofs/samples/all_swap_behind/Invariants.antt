@@ -1,6 +1,0 @@
-use Rattle.std.proofs.Common.{All, take}
-use Rattle.pp_spec.specs.Object.{Swaps}
-use Rattle.pp_parts.proofs.samples.all_swap_behind.Given as goal
-
-abbrev pub invariant-loop-sample : goal.invariant-loop-sample
-invariant-loop-sample g l = All (λ s. Swaps g.S.Spec.object l.op s) (take l.sample-index l.samples)

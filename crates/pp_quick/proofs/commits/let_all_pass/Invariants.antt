@@ -1,8 +1,0 @@
-use Rattle.std.proofs.Common.{◌≡◌, ◌<◌, ◌≤◌, ◌∷◌, [], ℕ, Some, slice_get}
-use Rattle.pp_quick.specs.Passing.{LetAllPass}
-use Rattle.pp_quick.proofs.commits.let_all_pass.Given as goal
-
--- those before the k-th pass
-abbrev pub invariant-loop-k : goal.invariant-loop-k
-invariant-loop-k g l =
-    (j id : ℕ) → l.from ≤ j → j < l.k → slice_get l.done j ≡ Some id → LetAllPass g.S.Spec.object g.S.Placed.place_of l.own l.shared.1 (id ∷ [])

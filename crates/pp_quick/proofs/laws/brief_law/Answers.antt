@@ -1,6 +1,0 @@
-use Rattle.pp_spec.specs.Object.{rules_of}
-use Rattle.pp_quick.proofs.Briefs.{briefed}
-use Rattle.pp_quick.proofs.laws.brief_law.Goals as goal
-
-pub returns : goal.returns
-returns g v = λ shape place apart. briefed (rules_of g.S.Spec.object shape) place apart

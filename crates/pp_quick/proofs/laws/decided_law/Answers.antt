@@ -1,6 +1,0 @@
-use Rattle.pp_spec.specs.Object.{rules_of}
-use Rattle.pp_quick.proofs.Whole.{decided}
-use Rattle.pp_quick.proofs.laws.decided_law.Goals as goal
-
-pub returns : goal.returns
-returns g v = λ shape place apart. decided (rules_of g.S.Spec.object shape) place apart

@@ -1,7 +1,0 @@
-use Rattle.std.proofs.Common.{take}
-use Rattle.pp_quick.specs.Known.{KnowsAll}
-use Rattle.pp_quick.proofs.own.know_all.Given as goal
-
--- those so far are known
-abbrev pub invariant-loop-item : goal.invariant-loop-item
-invariant-loop-item g l = KnowsAll g.S.Spec.object g.S.Parted.part_of l.samples.entries (take l.item-index l.items)

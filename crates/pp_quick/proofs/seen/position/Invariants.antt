@@ -1,7 +1,0 @@
-use Rattle.std.proofs.Common.{◌≡◌, None, nat_eq, take}
-use Rattle.std.specs.Map.{lookup}
-use Rattle.pp_quick.proofs.seen.position.Given as goal
-
--- none of those before the k-th has the place
-abbrev pub invariant-loop-k : goal.invariant-loop-k
-invariant-loop-k l = lookup (nat_eq l.place) (take l.k l.entries) ≡ None

@@ -1,3 +1,0 @@
-pub mod RealTime
-pub mod Lines
-pub mod Timely

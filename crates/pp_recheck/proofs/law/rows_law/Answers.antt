@@ -1,5 +1,0 @@
-use Rattle.pp_recheck.proofs.Rows.{rows_cut}
-use Rattle.pp_recheck.proofs.law.rows_law.Goals as goal
-
-pub returns : goal.returns
-returns c = λ is h. rows_cut is h

@@ -1,5 +1,0 @@
-use Rattle.pp_rules.proofs.Starting.{start_evidence_law}
-use Rattle.pp_rules.proofs.laws.start_evidence_law.Goals as goal
-
-pub returns : goal.returns
-returns g v = λ shape. start_evidence_law g.S.Spec.object g.met.S.Spec.lawful shape

@@ -1,5 +1,0 @@
-use Rattle.pp_spec.proofs.Places.{tells_states}
-use Rattle.pp_spec.proofs.spec.futures_tell_states.Goals as goal
-
-pub returns : goal.returns
-returns g c = tells_states g.S.Spec.object g.met.S.Spec.lawful

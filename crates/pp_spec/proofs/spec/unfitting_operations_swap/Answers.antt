@@ -1,5 +1,0 @@
-use Rattle.pp_spec.proofs.Places.{unfitting_swap}
-use Rattle.pp_spec.proofs.spec.unfitting_operations_swap.Goals as goal
-
-pub returns : goal.returns
-returns g c = unfitting_swap g.S.Spec.object g.met.S.Spec.lawful

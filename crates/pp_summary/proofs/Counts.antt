@@ -1,0 +1,74 @@
+-- What places with counts say of each place, also with one more, or with another count of one.
+use Rattle.std.specs.Prelude.{◌≡◌, ◌<◌, ◌+◌, ℕ, zero, suc, Bool, true, false, cond, nat_eq, List, [], ◌∷◌, ◌++◌, take, length, slice_get, None, Some, IsSome}
+use Rattle.std.specs.List.{insert}
+use Rattle.std.specs.Map.{lookup, set_value}
+use Rattle.std.proofs.Common.{refl, sym, ap, subst, ◌∙◌, get_or, set}
+use Rattle.std.proofs.lemmas.Bool.{eqb-true, eq-eqb, ne_eqb}
+use Rattle.std.proofs.lemmas.Cmp.{nat_eq_equiv}
+use Rattle.std.proofs.lemmas.Map.{lookup-insert, lookup-set_value, none_passes_from_lookup}
+use Rattle.std.proofs.lemmas.Option.{get_or_from_slice_get, same_Some, slice_get-get_or}
+use Rattle.pp_summary.specs.Seen.{IsFirst}
+use Rattle.pp_summary.proofs.Items.{take_next}
+
+-- where no entry of the front is found, the rest decides
+pub lookup_behind : (test : ℕ → Bool) (front rest : List (ℕ × ℕ)) → lookup test front ≡ None → lookup test (front ++ rest) ≡ lookup test rest
+lookup_behind test [] rest none = refl
+lookup_behind test (e ∷ front) rest none = by (test e.0) none (λ h. lookup_behind test front rest h)
+  where
+    by : (b : Bool) → cond b (Some e.1) (lookup test front) ≡ None → (lookup test front ≡ None → lookup test (front ++ rest) ≡ lookup test rest) →
+        cond b (Some e.1) (lookup test (front ++ rest)) ≡ lookup test rest
+    by true h _ = absurd (cc)
+    by false h then = then h
+
+-- one more entry that is of another place
+pub lookup_next : (place : ℕ) (entries : List (ℕ × ℕ)) (k : ℕ) → k < length entries → ((get_or entries k (0, 0)).0 ≡ place → ⊥) →
+    lookup (nat_eq place) (take k entries) ≡ None → lookup (nat_eq place) (take (k + 1) entries) ≡ None
+lookup_next place entries k within other none =
+    let e = get_or entries k (0, 0) in
+    ap (λ (l : List (ℕ × ℕ)). lookup (nat_eq place) l) (take_next entries k e within (sym (get_or_from_slice_get entries k e e (slice_get-get_or entries k (0, 0) within))))
+    ∙ lookup_behind (nat_eq place) (take k entries) (e ∷ []) none
+    ∙ ap (λ (b : Bool). cond b (Some e.1) None) (ne_eqb place e.0 (λ same. other (sym same)))
+
+insert_last : (entries : List (ℕ × ℕ)) (e : ℕ × ℕ) → insert entries (length entries) e ≡ entries ++ e ∷ []
+insert_last [] e = refl
+insert_last (x ∷ entries) e = ap (λ (l : List (ℕ × ℕ)). x ∷ l) (insert_last entries e)
+
+-- a place more
+pub lookup_more : (place count : ℕ) (entries : List (ℕ × ℕ)) → lookup (nat_eq place) entries ≡ None → (q : ℕ) → lookup (nat_eq q) (entries ++ (place, count) ∷ []) ≡ cond (nat_eq place q) (Some count) (lookup (nat_eq q) entries)
+lookup_more place count entries none q =
+    ap (λ (l : List (ℕ × ℕ)). lookup (nat_eq q) l) (sym (insert_last entries (place, count)))
+    ∙ lookup-insert nat_eq_equiv place count q entries (length entries) (none_passes_from_lookup (nat_eq place) entries none)
+
+-- the first entry of a place is the one that is found, and that gets another count
+first_is : (place n : ℕ) (entries : List (ℕ × ℕ)) (k count : ℕ) → slice_get entries k ≡ Some (place, count) → lookup (nat_eq place) (take k entries) ≡ None →
+    (lookup (nat_eq place) entries ≡ Some count) × (set entries k (place, n) ≡ set_value (nat_eq place) entries n)
+first_is place n [] k count here before = absurd (cc)
+first_is place n (e ∷ entries) zero count here before =
+    let same = same_Some e (place, count) here in
+    let at : e.0 ≡ place = ap (λ (p : ℕ × ℕ). p.0) same in
+    let found : nat_eq place e.0 ≡ true = eq-eqb place e.0 (sym at) in (
+      ap (λ (b : Bool). cond b (Some e.1) (lookup (nat_eq place) entries)) found ∙ ap (λ (p : ℕ × ℕ). Some p.1) same,
+      ap (λ (m : ℕ). (m, n) ∷ entries) (sym at) ∙ ap (λ (b : Bool). cond b ((e.0, n) ∷ entries) (e ∷ set_value (nat_eq place) entries n)) (sym found),
+    )
+first_is place n (e ∷ entries) (suc k) count here before = by (nat_eq place e.0) before (λ h. first_is place n entries k count here h)
+  where
+    by : (b : Bool) → cond b (Some e.1) (lookup (nat_eq place) (take k entries)) ≡ None →
+        (lookup (nat_eq place) (take k entries) ≡ None → (lookup (nat_eq place) entries ≡ Some count) × (set entries k (place, n) ≡ set_value (nat_eq place) entries n)) →
+        (cond b (Some e.1) (lookup (nat_eq place) entries) ≡ Some count) × (e ∷ set entries k (place, n) ≡ cond b ((e.0, n) ∷ entries) (e ∷ set_value (nat_eq place) entries n))
+    by true h _ = absurd (cc)
+    by false h then =
+        let rest = then h in
+        (rest.0, ap (λ (l : List (ℕ × ℕ)). e ∷ l) rest.1)
+
+-- the count that is read where a place stands first is that of the place
+pub lookup_read : (place : ℕ) (entries : List (ℕ × ℕ)) (k : ℕ) (e : ℕ × ℕ) → IsFirst place entries k → e ≡ get_or entries k e → Some e.1 ≡ lookup (nat_eq place) entries
+lookup_read place entries k e first is =
+    ap (λ (p : ℕ × ℕ). Some p.1) (is ∙ get_or_from_slice_get entries k (place, first.count) e first.here)
+    ∙ sym (first_is place 0 entries k first.count first.here first.before).0
+
+-- another count of a place
+pub lookup_other_count : (place count : ℕ) (entries : List (ℕ × ℕ)) (k : ℕ) → IsFirst place entries k → (q : ℕ) → lookup (nat_eq q) (set entries k (place, count)) ≡ cond (nat_eq place q) (Some count) (lookup (nat_eq q) entries)
+lookup_other_count place count entries k first q =
+    let is = first_is place count entries k first.count first.here first.before in
+    ap (λ (l : List (ℕ × ℕ)). lookup (nat_eq q) l) is.1
+    ∙ lookup-set_value nat_eq_equiv (nat_eq place) (λ x y h. ap (λ (z : ℕ). nat_eq z y) (eqb-true place x h)) q count entries (subst (λ s. IsSome s) (sym is.0) refl)

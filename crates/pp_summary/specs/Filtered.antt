@@ -1,0 +1,20 @@
+-- Proof machinery: which parts a filter may have.
+use Rattle.std.specs.Prelude.{◌≡◌, ℕ, ◌%◌, true, false, List, slice_index_or}
+use Rattle.std.specs.Int.{w64, cast_unsigned}
+use Rattle.pp_core.specs.declared.entry.Item.{Item}
+use Rattle.pp_model.specs.Lists.{In}
+use Rattle.pp_kind.specs.declared.part.Part.{Part}
+use Rattle.pp_summary.specs.declared.part_filter.PartFilter.{PartFilter}
+use Rattle.pp_summary.specs.declared.part_filter.TheConstants.{REMAINDERS}
+
+-- What the key of a part leaves, as an unsigned word.
+abbrev pub remainder : Part → ℕ
+remainder part = cast_unsigned w64 part.key % REMAINDERS
+
+-- A part with this remainder was added.
+abbrev pub MayHave : PartFilter → Part → Type 0
+MayHave filter part = slice_index_or filter.remainders (remainder part) false ≡ true
+
+-- So were parts with the remainders of all items.
+abbrev pub MayHaveAll : {Op : Type 0} → (Op → Part) → PartFilter → List (Item Op) → Type 0
+MayHaveAll {Op} part_of filter items = (p : Item Op) → In p items → MayHave filter (part_of p.op)

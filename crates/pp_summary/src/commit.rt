@@ -1,0 +1,51 @@
+//! A commit record.
+ghost use Rattle.std.specs.Prelude.{◌<◌, IfOk};
+ghost use Rattle.pp_records.specs.Records.{Commit};
+ghost use Rattle.pp_summary.specs.Moving.{Answers};
+ghost use Rattle.pp_summary.specs.Shown.{KeepsQuick};
+
+use crate::commits::add_commits;
+use crate::own::Own;
+use crate::parts::{OpenTx, Parts};
+use pp_core::{CommittedTx, Name, OutOfMemory};
+use pp_kind::Parted;
+use pp_log_shared::Shared;
+
+/// Takes a commit record where it is good: the open transaction has come to an end of its body, and
+/// its operations stand committed. The only error is that memory was refused.
+pub fn commit<S: Parted>(
+    parts: &mut Parts<S::Shape, S::Op, Shared<S>, Own<S>>,
+    tx: &Name,
+) -> Result<bool, OutOfMemory>
+    requires keeps { KeepsQuick S.object S.place_of parts.old }
+    requires few { parts.old.count < 200_000 }
+    ensures { IfOk result (λ good. Answers S.object S.place_of parts.old (Commit tx.now) good
+        parts.new) }
+{
+    let Some(slot) = parts.slots.get_mut(tx) else {
+        return Ok(false);
+    };
+    let Some(it) = slot.take() else {
+        return Ok(false);
+    };
+    if !it.walk.complete() {
+        *slot = Some(it);
+        return Ok(false);
+    }
+    let OpenTx {
+        thread,
+        walk: _,
+        own,
+        seen: _,
+    } = it;
+    parts.threads.swap_remove(&thread);
+    let own = own.into_items();
+    parts.shared.commit(tx, &own);
+    add_commits::<S>(parts.alloc, &mut parts.commits, own.as_slice())?;
+    parts.committed.push(CommittedTx {
+        name: *tx,
+        entries: own,
+    })?;
+    parts.count += 1;
+    Ok(true)
+}

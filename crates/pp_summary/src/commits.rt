@@ -1,0 +1,123 @@
+//! What was committed at each place, and what an open transaction has seen of it.
+ghost use Rattle.std.specs.Prelude.{◌≡◌, ◌<◌, ◌∷◌, ◌++◌, [], ℕ, false, IsTrue, OnOk, drop, length};
+ghost use Rattle.pp_summary.specs.Passing.{HaveEntries, HaveOwnIds, LetAllPass, StopsOne};
+ghost use Rattle.pp_summary.specs.Passing.{ids_at, with_commit};
+ghost use Rattle.pp_summary.specs.Shown.{at, unseen_at};
+
+use crate::own::Own;
+use crate::parts::{Commits, OpenTx};
+use pp_core::{Item, OutOfMemory, Sequence};
+use pp_kind::{Parted, Placed};
+use pp_log_shared::Shared;
+use std::alloc::Global;
+
+/// How many commits there were at a place.
+pub fn count_at(commits: &Commits, place: u16) -> usize
+    ensures { result ≡ length (at place commits.now.items) }
+{
+    match commits.get(usize::from(place)) {
+        None => 0,
+        Some(done) => done.len(),
+    }
+}
+
+/// Makes an empty list for each place up to this one that has none. The only error is that memory
+/// was refused.
+fn make_lists(alloc: Global, commits: &mut Commits, place: usize) -> Result<(), OutOfMemory>
+    ensures same { (q : ℕ) → at q commits.new.items ≡ at q commits.old.items }
+    ensures there { OnOk result (place < length commits.new.items) }
+{
+    'grow: while commits.len() <= place {
+        commits.push(Sequence::new(alloc))?;
+    }
+    Ok(())
+}
+
+/// One more commit. The only error is that memory was refused.
+fn add_commit<S: Placed>(
+    alloc: Global,
+    commits: &mut Commits,
+    item: &Item<S::Op>,
+) -> Result<(), OutOfMemory>
+    ensures { OnOk result ((q : ℕ) → at q commits.new.items
+        ≡ with_commit S.place_of item.now q (at q commits.old.items)) }
+{
+    let place = usize::from(S::place(&item.op));
+    make_lists(alloc, commits, place)?;
+    commits[place].push(item.id)
+}
+
+/// Commits of all these items. The only error is that memory was refused.
+pub fn add_commits<S: Placed>(
+    alloc: Global,
+    commits: &mut Commits,
+    items: &[Item<S::Op>],
+) -> Result<(), OutOfMemory>
+    ensures { OnOk result ((q : ℕ) → at q commits.new.items
+        ≡ at q commits.old.items ++ ids_at S.place_of q items.now) }
+{
+    for item in items {
+        add_commit::<S>(alloc, commits, item)?;
+    }
+    Ok(())
+}
+
+/// Whether the own operations let the operation of the entry with this id pass.
+fn lets_pass<S: Parted>(own: &Own<S>, shared: &Shared<S>, id: u32) -> bool
+    requires ids { HaveOwnIds shared.now.1 }
+    requires entries { HaveEntries shared.now.1 (id ∷ []) }
+    ensures yes { IsTrue result →
+        LetAllPass S.object S.place_of own.now shared.now.1 (id ∷ []) }
+    ensures no { result ≡ false →
+        StopsOne S.object S.place_of own.now shared.now.1 (id ∷ []) }
+{
+    let Some(position) = shared.find(id) else {
+        unreachable!()
+    };
+    let Some(entry) = shared.entry(position) else {
+        unreachable!()
+    };
+    own.let_pass(&entry.op)
+}
+
+/// Whether the own operations let the operations of these ids pass, from a position on.
+fn let_all_pass<S: Parted>(own: &Own<S>, shared: &Shared<S>, done: &[u32], from: usize) -> bool
+    requires ids { HaveOwnIds shared.now.1 }
+    requires entries { HaveEntries shared.now.1 done.now }
+    ensures yes { IsTrue result →
+        LetAllPass S.object S.place_of own.now shared.now.1 (drop from done.now) }
+    ensures no { result ≡ false →
+        StopsOne S.object S.place_of own.now shared.now.1 (drop from done.now) }
+{
+    for k in from..done.len() {
+        if !lets_pass::<S>(own, shared, done[k]) {
+            return false;
+        }
+    }
+    true
+}
+
+/// Whether the own operations at the place of an operation let each commit pass there that the
+/// transaction has not seen. It asks the movers of no others.
+pub fn passes_unseen<S: Parted>(
+    it: &OpenTx<Own<S>>,
+    shared: &Shared<S>,
+    commits: &Commits,
+    op: &S::Op,
+) -> bool
+    requires ids { HaveOwnIds shared.now.1 }
+    requires entries { (q : ℕ) → HaveEntries shared.now.1 (at q commits.now.items) }
+    ensures yes { IsTrue result → LetAllPass S.object S.place_of it.now.own shared.now.1
+        (unseen_at (S.place_of op.now) commits.now.items it.now.seen.entries) }
+    ensures no { result ≡ false → StopsOne S.object S.place_of it.now.own shared.now.1
+        (unseen_at (S.place_of op.now) commits.now.items it.now.seen.entries) }
+{
+    let place = S::place(op);
+    let Some(seen) = it.seen.get(place) else {
+        return true;
+    };
+    let Some(done) = commits.get(usize::from(place)) else {
+        return true;
+    };
+    let_all_pass::<S>(&it.own, shared, done.as_slice(), seen)
+}

@@ -1,0 +1,25 @@
+//! Boosted runs are decided from the shared log alone, without their local logs.
+#![tactic(auto)]
+
+mod begin;
+mod commit;
+mod commits;
+mod laws;
+mod op;
+mod open_tx;
+mod own;
+mod part_filter;
+mod parts;
+mod quick;
+mod seen;
+mod slots;
+mod start;
+mod take;
+mod undo;
+
+pub use laws::{
+    boosted_law, brief_law, decided_law, failure_law, front_law, leave_law, placed_law, reader_law,
+    sum_law,
+};
+pub use pp_records::RunRecord;
+pub use quick::Quick;

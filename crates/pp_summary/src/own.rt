@@ -1,0 +1,188 @@
+//! The own operations of an open transaction, and what is known of them.
+ghost use Rattle.std.specs.Prelude.{◌≡◌, [], ◌∷◌, ◌++◌, false, IsTrue, List, OnOk};
+ghost use Rattle.pp_core.specs.declared.entry.Item.{Item as ItemOf};
+ghost use Rattle.pp_summary.specs.Known.{Knows, KnowsAll, KnowsMany};
+ghost use Rattle.pp_summary.specs.Filtered.{MayHaveAll};
+ghost use Rattle.pp_summary.specs.Passing.{LetPass, Stops};
+ghost use Rattle.pp_kind.specs.Object.{Swaps, SwapsNowhere};
+
+use crate::part_filter::PartFilter;
+use indexmap::IndexMap;
+use pp_core::{Item, Items, OutOfMemory};
+use pp_kind::{Part, Parted, Samples};
+use std::alloc::Global;
+use std::marker::Model;
+
+/// Up to so many own operations are walked over one by one; samples are kept only of more.
+const FEW_OPERATIONS: usize = 16;
+
+/// Whether the own operation has the part and the place of the other, and does not let it pass.
+/// The parts are held against one another first, since operations of different parts swap.
+fn stops<S: Parted>(item: &Item<S::Op>, op: &S::Op, part: Part) -> bool
+    requires { part ≡ S.part_of op.now }
+    ensures yes { IsTrue result → (S.place_of item.now.op ≡ S.place_of op.now)
+        × SwapsNowhere S.object item.now.op op.now }
+    ensures no { result ≡ false → S.place_of item.now.op ≡ S.place_of op.now →
+        Swaps S.object item.now.op op.now }
+{
+    S::part(&item.op) == part && S::place(&item.op) == S::place(op) && !S::swaps(&item.op, op)
+}
+
+/// Whether each of these operations at the place of another lets it pass.
+fn each_lets_pass<S: Parted>(own: &[Item<S::Op>], op: &S::Op) -> bool
+    ensures yes { IsTrue result → LetPass S.object S.place_of own.now op.now }
+    ensures no { result ≡ false → Stops S.object S.place_of own.now op.now }
+{
+    let part = S::part(op);
+    for item in own {
+        if stops::<S>(item, op, part) {
+            return false;
+        }
+    }
+    true
+}
+
+/// One more operation is known. The only error is that memory was refused, and what was known is
+/// still known.
+fn know<S: Parted>(
+    alloc: Global,
+    samples: &mut IndexMap<Part, Samples<S>>,
+    op: &S::Op,
+) -> Result<(), OutOfMemory>
+    ensures keeps { (b : S.Op) → Knows S.object S.part_of samples.old.entries b →
+        Knows S.object S.part_of samples.new.entries b }
+    ensures knows { OnOk result (Knows S.object S.part_of samples.new.entries op.now) }
+{
+    let part = S::part(op);
+    if let Some(known) = samples.get_mut(&part) {
+        known.add(op);
+        return Ok(());
+    }
+    let mut first = Samples::<S>::new(alloc);
+    first.add(op);
+    samples.insert(part, first)?;
+    Ok(())
+}
+
+/// All these operations are known. The only error is that memory was refused.
+fn know_all<S: Parted>(
+    alloc: Global,
+    samples: &mut IndexMap<Part, Samples<S>>,
+    items: &[Item<S::Op>],
+) -> Result<(), OutOfMemory>
+    ensures { OnOk result (KnowsAll S.object S.part_of samples.new.entries items.now) }
+{
+    for item in items {
+        know::<S>(alloc, samples, &item.op)?;
+    }
+    Ok(())
+}
+
+/// Where the operations are more than few with this one behind them, all are known. The only error
+/// is that memory was refused, and what was known is still known.
+fn know_next<S: Parted>(
+    alloc: Global,
+    samples: &mut IndexMap<Part, Samples<S>>,
+    items: &[Item<S::Op>],
+    item: &Item<S::Op>,
+) -> Result<(), OutOfMemory>
+    requires { KnowsMany S.object S.part_of samples.old.entries items.now }
+    ensures keeps { KnowsMany S.object S.part_of samples.new.entries items.now }
+    ensures knows { OnOk result
+        (KnowsMany S.object S.part_of samples.new.entries (items.now ++ item.now ∷ [])) }
+{
+    if items.len() < FEW_OPERATIONS {
+        return Ok(());
+    }
+    if items.len() == FEW_OPERATIONS {
+        know_all::<S>(alloc, samples, items)?;
+    }
+    know::<S>(alloc, samples, &item.op)
+}
+
+/// The own operations of an open transaction, in order, with a filter of their parts, and, where
+/// they are more than few, for each part of them operations that stand for those there. Contracts
+/// see the operations.
+#[derive(Drop)]
+pub struct Own<S: Parted> {
+    alloc: Global,
+    items: Items<S::Op>,
+    filter: PartFilter,
+    samples: IndexMap<Part, Samples<S>>,
+}
+
+impl<S: Parted> Model for Own<S> {
+    ghost Value = { List (ItemOf S.Op) };
+
+    ghost view = { λ a. a.items };
+
+    ghost invariant = { λ a. MayHaveAll S.part_of a.filter a.items
+        × KnowsMany S.object S.part_of a.samples.entries a.items };
+}
+
+impl<S: Parted> Own<S> {
+    /// No operation. It takes no memory.
+    pub fn new(alloc: Global) -> Self
+        ensures { result ≡ [] }
+    {
+        Own {
+            alloc,
+            items: Items::new(alloc),
+            filter: PartFilter::new(),
+            samples: IndexMap::new(alloc),
+        }
+    }
+
+    /// Adds an operation. The only error is that memory was refused.
+    pub fn add(&mut self, item: Item<S::Op>) -> Result<(), OutOfMemory>
+        ensures { OnOk result (self.new ≡ self.old ++ item ∷ []) }
+    {
+        know_next::<S>(self.alloc, &mut self.samples, self.items.as_slice(), &item)?;
+        self.filter.add(&S::part(&item.op));
+        self.items.push(item)
+    }
+
+    /// The operations, in order.
+    pub fn as_slice(&self) -> &[Item<S::Op>]
+        ensures { result.now ≡ self.now }
+    {
+        self.items.as_slice()
+    }
+
+    /// The operations alone.
+    pub fn into_items(self) -> Items<S::Op>
+        ensures { result ≡ self }
+    {
+        self.items
+    }
+
+    /// Whether each operation at the place of another is known to let it pass, as where none is of
+    /// its part. False says nothing, and of few operations no more is known.
+    fn is_known_to_let(&self, op: &S::Op) -> bool
+        ensures { IsTrue result → LetPass S.object S.place_of self.now op.now }
+    {
+        let part = S::part(op);
+        if !self.filter.may_have(&part) {
+            return true;
+        }
+        if self.items.len() <= FEW_OPERATIONS {
+            return false;
+        }
+        match self.samples.get(&part) {
+            None => true,
+            Some(known) => known.all_before(op),
+        }
+    }
+
+    /// Whether each operation at the place of another lets it pass. It walks over them only where
+    /// they are few, or what is known of those of its part leaves the answer open.
+    pub fn let_pass(&self, op: &S::Op) -> bool
+        ensures yes { IsTrue result → LetPass S.object S.place_of self.now op.now }
+        ensures no { result ≡ false → Stops S.object S.place_of self.now op.now }
+    {
+        if self.is_known_to_let(op) {
+            return true;
+        }
+        each_lets_pass::<S>(self.items.as_slice(), op)
+    }
+}

@@ -1,0 +1,50 @@
+//! A filter that tells which parts there may be among operations.
+ghost use Rattle.std.specs.Prelude.{◌≡◌, ◌<◌, ◌↔◌, IsTrue};
+ghost use Rattle.pp_kind.specs.declared.part.Part.{Part as PartOf};
+ghost use Rattle.pp_summary.specs.Filtered.{MayHave, remainder};
+
+use pp_kind::Part;
+
+/// How many remainders of keys are told apart.
+const REMAINDERS: usize = 64;
+
+/// Which remainders the keys of parts leave, as unsigned words, when they are divided by
+/// `REMAINDERS`. A part whose key leaves another one was not added.
+#[derive(Drop)]
+pub struct PartFilter {
+    remainders: [bool; REMAINDERS],
+}
+
+/// The remainder that the key of a part leaves.
+fn remainder(part: &Part) -> usize
+    ensures remainder { result ≡ remainder part.now }
+    ensures within { result < REMAINDERS }
+{
+    (part.key.cast_unsigned() % REMAINDERS as u64) as usize
+}
+
+impl PartFilter {
+    /// The filter to which no part was added.
+    pub fn new() -> Self
+        ensures { (part : PartOf) → MayHave result part → ⊥ }
+    {
+        PartFilter {
+            remainders: [false; REMAINDERS],
+        }
+    }
+
+    /// Whether a part with this remainder was added.
+    pub fn may_have(&self, part: &Part) -> bool
+        ensures { IsTrue result ↔ MayHave self.now part.now }
+    {
+        self.remainders[remainder(part)]
+    }
+
+    /// Adds a part.
+    pub fn add(&mut self, part: &Part)
+        ensures keeps { (other : PartOf) → MayHave self.old other → MayHave self.new other }
+        ensures adds { MayHave self.new part.now }
+    {
+        self.remainders[remainder(part)] = true;
+    }
+}

@@ -1,0 +1,92 @@
+//! An abort record, and a retry record.
+ghost use Rattle.std.specs.Prelude.{◌≡◌, ◌+◌, ◌<◌, ◌≤◌, IfOk};
+ghost use Rattle.pp_summary.specs.Held.{TakeCosts, own_count};
+ghost use Rattle.pp_summary.specs.Moving.{Answers};
+ghost use Rattle.pp_summary.specs.Shown.{KeepsQuick, shown};
+ghost use Rattle.pp_summary.specs.Undoing.{undo_record};
+
+use crate::open_tx::anew;
+use crate::own::Own;
+use crate::parts::Parts;
+use crate::slots::{put_back, take_out};
+use pp_core::{Name, OutOfMemory, Ticks};
+use pp_kind::Parted;
+use pp_log_shared::Shared;
+use std::sync::ledger::Ledger;
+
+/// What becomes of an open transaction that takes back what it did.
+#[derive(Drop)]
+pub enum Undoing {
+    /// It gives up.
+    Abort,
+    /// It begins anew.
+    Retry,
+}
+
+/// Takes an abort or a retry record where the transaction is open. The only error is that memory
+/// was refused.
+fn undo_parts<S: Parted, L: Ledger>(
+    parts: Parts<S::Shape, S::Op, Shared<S>, Own<S>>,
+    how: Undoing,
+    tx: &Name,
+    ticks: &mut Ticks<L>,
+) -> Result<(Parts<S::Shape, S::Op, Shared<S>, Own<S>>, bool), OutOfMemory>
+    requires keeps { KeepsQuick S.object S.place_of parts }
+    requires few { parts.count < 200_000 }
+    ensures answers { IfOk result (λ r.
+        Answers S.object S.place_of parts (undo_record how tx.now) r.1 r.0) }
+    ensures cost { IfOk result (λ r. TakeCosts (shown S.place_of parts)
+        (undo_record how tx.now) r.1 ticks.old ticks.new) }
+    ensures rises { ticks.old ≤ ticks.new }
+    ensures bound { ticks.new ≤ ticks.old + own_count tx.now (shown S.place_of parts) }
+{
+    let mut parts = parts;
+    let Some(it) = take_out(&mut parts.slots, tx) else {
+        return Ok((parts, false));
+    };
+    let shared = parts.shared.take_back(it.own.as_slice(), ticks)?;
+    parts.shared = shared;
+    match how {
+        Undoing::Abort => {
+            parts.threads.swap_remove(&it.thread);
+        }
+        Undoing::Retry => {
+            put_back(&mut parts.slots, tx, anew::<S>(parts.alloc, it));
+        }
+    }
+    parts.count += 1;
+    Ok((parts, true))
+}
+
+/// Puts what was taken out of its box into one again. The only error is that memory was refused.
+fn in_box<S: Parted>(
+    parts: Parts<S::Shape, S::Op, Shared<S>, Own<S>>,
+) -> Result<Box<Parts<S::Shape, S::Op, Shared<S>, Own<S>>>, OutOfMemory>
+    ensures { IfOk result (λ b. b.value ≡ parts) }
+{
+    let alloc = parts.alloc;
+    Ok(Box::new(alloc, parts)?)
+}
+
+/// Takes an abort or a retry record where it is good: the entries of the open transaction leave the
+/// shared log, and it gives up or begins anew. `take_back` consumes the shared log, so the parts
+/// leave their box meanwhile, in a function of its own, so that `take` has no room for them on its
+/// stack. The only error is that memory was refused.
+pub fn undo<S: Parted, L: Ledger>(
+    parts: Box<Parts<S::Shape, S::Op, Shared<S>, Own<S>>>,
+    how: Undoing,
+    tx: &Name,
+    ticks: &mut Ticks<L>,
+) -> Result<(Box<Parts<S::Shape, S::Op, Shared<S>, Own<S>>>, bool), OutOfMemory>
+    requires keeps { KeepsQuick S.object S.place_of parts.value }
+    requires few { parts.value.count < 200_000 }
+    ensures answers { IfOk result (λ r.
+        Answers S.object S.place_of parts.value (undo_record how tx.now) r.1 r.0.value) }
+    ensures cost { IfOk result (λ r. TakeCosts (shown S.place_of parts.value)
+        (undo_record how tx.now) r.1 ticks.old ticks.new) }
+    ensures rises { ticks.old ≤ ticks.new }
+    ensures bound { ticks.new ≤ ticks.old + own_count tx.now (shown S.place_of parts.value) }
+{
+    let (parts, good) = undo_parts(Box::into_inner(parts), how, tx, ticks)?;
+    Ok((in_box::<S>(parts)?, good))
+}

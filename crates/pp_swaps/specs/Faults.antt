@@ -1,9 +1,0 @@
--- Meaning: when there is no route.
-use Rattle.std.specs.Prelude.{◌≡◌, ◌<◌, ℕ}
-use Rattle.pp_swaps.specs.declared.exchange.SwapFault.{SwapFault}
-use Rattle.pp_swaps.specs.declared.exchange.SwapFault.TheVariants.{TooMany, OutOfMemory}
-
--- Too many are told exactly where there are more inverted pairs than asked for, and how many.
-abbrev pub IsSwapFault : ℕ → ℕ → SwapFault → Type 0
-IsSwapFault n most (TooMany count) = (count ≡ n) × (most < n)
-IsSwapFault n most OutOfMemory = Unit {0}

@@ -1,9 +1,0 @@
-use Rattle.std.proofs.Common.{◌≤◌, length, map}
-use Rattle.pp_views.specs.Trying.{ArePositions}
-use Rattle.pp_views.proofs.order.by_first_id.Given as goal
-
-abbrev pub invariant-loop-position : goal.invariant-loop-position
-invariant-loop-position g l = record {
-  within : l.position ≤ length l.peaks;
-  positions : ArePositions l.peaks l.position (map (λ o. o.1) l.order.items);
-}

@@ -1,7 +1,0 @@
-use Rattle.std.proofs.Common.{take}
-use Rattle.pp_views.specs.Trying.{IsUntried}
-use Rattle.pp_views.specs.Views.{Pairwise}
-use Rattle.pp_views.proofs.view.untried.Given as goal
-
-abbrev pub invariant-loop-peak : goal.invariant-loop-peak
-invariant-loop-peak g l = Pairwise IsUntried (take l.peak-index l.peaks) l.views.items

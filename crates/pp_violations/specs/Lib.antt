@@ -1,2 +1,0 @@
-pub mod Breakable
-pub mod Reported
