@@ -13,7 +13,7 @@ import sys
 ROOT = pathlib.Path(__file__).resolve().parent.parent
 COLUMNS = 100
 # Crates with lines that are still wider. The list shrinks as they are laid out anew.
-WIDE = ("pp_core", "pp_format_read")
+WIDE = ("pp_core",)
 # The rows of the tests are data, of any width.
 ROWS = "tests"
 IMAGES = (".png",)
