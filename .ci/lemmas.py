@@ -7,7 +7,7 @@ import re
 import sys
 
 CRATES = pathlib.Path(__file__).resolve().parent.parent / "crates"
-BLOCK = re.compile(r"^( *)(module \S+ ([\s\S]*?)\bwhere$|\S.*(?:\n(?:\1 .*)?$)*)", re.MULTILINE)
+BLOCK = re.compile(r"^( *)((?:module \S+ ([\s\S]*?)\bwhere|(?:abbrev )?mutual)$|\S.*(?:\n(?:\1 .*)?$)*)", re.MULTILINE)
 DECLARED = re.compile(r"((?:(?:pub|abbrev|unfoldable|record) )*)([^\s(){}=]+)( [({].*?[)}])? :\s(?!goal\.)(.*)", re.DOTALL)
 WORD = re.compile(r"[(){}\[\],;]|[^\s(){}\[\],;]+?(?=\.?(?:[\s(){}\[\],;]|$))|\.")
 
@@ -45,8 +45,8 @@ def statements(file):
     found, modules = list(BLOCK.finditer(text)), []
     for at, block in enumerate(found):
         modules = [(depth, given) for depth, given in modules if depth < len(block[1])]
-        if block[2].startswith("module "):
-            modules.append((len(block[1]), block[3]))
+        if re.match(r"module |(?:abbrev )?mutual$", block[2]):
+            modules.append((len(block[1]), block[3] or ""))
         elif match := DECLARED.match(block[2]):
             (kind, name, own, of), env = match.groups(""), {}
             given, parts = (premises(parse(part), env) for part in (" ".join(given for _, given in modules), f"{own} → {of}"))
