@@ -21,14 +21,14 @@ module _ (S Shape State Op Undo Gap : RattleType)
   abbrev txs_row : RattleType
   txs_row =
       txs.the_row S Shape State Op Undo Gap (record { part_of = part_of; label_of = label_of })
-      (record { place_of = place_of; SameAt = SameAt }) (record { object = object })
-      (record { Bears = Bears; Differ = Differ }) clone
+      (record { place_of = place_of; SameAt = SameAt }) (record { object = object }) clone
+      (record { Bears = Bears; Differ = Differ })
 
   abbrev course_row : RattleType
   course_row =
       course.the_row S Shape State Op Undo Gap (record { part_of = part_of; label_of = label_of })
-      (record { place_of = place_of; SameAt = SameAt }) (record { object = object })
-      (record { Bears = Bears; Differ = Differ }) clone
+      (record { place_of = place_of; SameAt = SameAt }) (record { object = object }) clone
+      (record { Bears = Bears; Differ = Differ })
 
   -- The open transaction t ends with the last course written through r, and all else stays.
   abbrev pub LendsCourse : MutBor (Txs Shape.Denot Op.Denot) → Name →
