@@ -6,15 +6,19 @@
 Each run is made at two sizes, one twice the other. For both, the time of `certify` is printed beside the time of only reading
 the same records, and their ratio. The last column is the time of the larger run divided by that of the smaller one. A run
 is only read if a record that fails comes first. A benchmark ends with a failure if a run does not have the verdict it
-should have.
+should have. It ends with status 1 if a run takes more than 6 times as long as only reading it, or if twice the work takes
+more than 2.2 times as long.
 """
 import itertools
 import os
+import sys
 import tempfile
 
 from measure import MOST_STEPS, answered, begin, program_named, write
 
 FAILING = {"step": "commit", "tx": "none"}
+MOST_RATIO = 6
+MOST_GROWTH = 2.2
 
 
 def header(style, *kinds):
@@ -87,6 +91,15 @@ def dropped(calls):
     return records + [named("commit", source)], 2 + 3 * calls + 2 * (1 + calls + 1 + 1 + calls) + 1, 1
 
 
+def followed(calls):
+    """A transaction publishes additions one by one. Another, whose source it is, adds after each of them."""
+    (source, tx), records = opened(2)
+    records.append(named("depend", tx, source=source))
+    for number in range(0, 2 * calls, 2):
+        records += [op(source, number, "add", [1]), named("publish", source), op(tx, number + 1, "add", [1])]
+    return records + [named("commit", source), named("commit", tx)], 2 + 1 + 5 * calls + 1 + calls + 1, 2
+
+
 def undone(rounds):
     """A transaction puts at 6,000 keys of a map and takes all of it back, and so on."""
     names, records = opened(1)
@@ -114,6 +127,7 @@ RUNS = (
     ("two transactions add, one commits", header("boosted", "counter"), two_adding, 39_990),
     ("hardware sections on 16 memories", header("hardware", *["mem"] * 16), sections, 19_998),
     ("additions pulled and dropped twice", header("dependent", "counter"), dropped, 20_000),
+    ("additions of a source, a reader after each", header("dependent", "counter"), followed, 20_000),
     ("rounds of 6,000 calls, each undone", header("boosted", "map"), undone, 8),
 )
 
@@ -129,8 +143,18 @@ def measure(program, path, head, made):
     return answered(program, "certify", path, f"accepted steps {steps} committed {committed}"), read
 
 
+def is_too_slow(name, half, whole, read):
+    """Prints what is above its limit: the ratio to only reading, or the time of twice the work."""
+    limits = ((whole / read, MOST_RATIO, "times only reading"), (whole / half, MOST_GROWTH, "times half of the work"))
+    above = [f"{value:.2f} {words}, and {most} is the limit" for value, most, words in limits if value > most]
+    for words in above:
+        print(f"bench: {name}: {words}", file=sys.stderr, flush=True)
+    return bool(above)
+
+
 def main():
     program = program_named()
+    slow = []
     with tempfile.TemporaryDirectory() as folder:
         path = os.path.join(folder, "run.jsonl")
         for name, head, make, size in RUNS:
@@ -139,7 +163,9 @@ def main():
             print(f"{name}: {whole:.2f} s, only read {read:.2f} s, ratio {whole / read:.1f}; of half "
                   f"{half:.2f} s, {half_read:.2f} s, {half / half_read:.1f}; twice the work {whole / half:.2f}",
                   flush=True)
+            slow.append(is_too_slow(name, half, whole, read))
+    return 1 if any(slow) else 0
 
 
 if __name__ == "__main__":
-    main()
+    sys.exit(main())

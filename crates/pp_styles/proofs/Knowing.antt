@@ -34,7 +34,7 @@ slice_front [] ys i x below h = absurd (omega arith)
 slice_front (y ∷ xs) ys zero x below h = h
 slice_front (y ∷ xs) ys (suc i) x below h = slice_front xs ys i x (omega arith) h
 
-last_there : {A : Type 0} (xs : List A) (x : A) → last_of (xs ++ x ∷ []) ≡ Some x
+pub last_there : {A : Type 0} (xs : List A) (x : A) → last_of (xs ++ x ∷ []) ≡ Some x
 last_there {A} xs x = ap (λ (n : ℕ). slice_get (xs ++ x ∷ []) n) size ∙ at_end xs
   where
     at_end : (ys : List A) → slice_get (ys ++ x ∷ []) (length ys) ≡ Some x
@@ -57,7 +57,7 @@ or_more : (b c d : Bool) → (c ≡ true → d ≡ true) → (b || c) ≡ true �
 or_more true c d more h = refl
 or_more false c d more h = more h
 
-stands_longer : {Op : Type 0} (l r : List (LocalEntry Op)) (i : ℕ) → stands_in l i ≡ true → stands_in (l ++ r) i ≡ true
+pub stands_longer : {Op : Type 0} (l r : List (LocalEntry Op)) (i : ℕ) → stands_in l i ≡ true → stands_in (l ++ r) i ≡ true
 stands_longer [] r i h = absurd (cc)
 stands_longer (e ∷ l) r i h = or_more (e.id == i) (stands_in l i) (stands_in (l ++ r) i) (stands_longer l r i) h
 
@@ -65,7 +65,7 @@ same_id : {Op : Type 0} (m : Mark) (e : LocalEntry Op) (b : Bool) → (cond b (r
 same_id m e true = refl
 same_id m e false = refl
 
-stands_marked : {Op : Type 0} (id : ℕ) (m : Mark) (l : List (LocalEntry Op)) (i : ℕ) → stands_in (set_mark id m l) i ≡ stands_in l i
+pub stands_marked : {Op : Type 0} (id : ℕ) (m : Mark) (l : List (LocalEntry Op)) (i : ℕ) → stands_in (set_mark id m l) i ≡ stands_in l i
 stands_marked id m [] i = refl
 stands_marked {Op} id m (e ∷ l) i =
     ap (λ (n : ℕ). (n == i) || stands_in (set_mark id m l) i) (same_id m e (e.id == id))

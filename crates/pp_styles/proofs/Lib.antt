@@ -15,4 +15,6 @@ pub mod Plain
 pub mod Knowing
 pub mod Taking
 pub mod Noted
+pub mod Publishing
+pub mod Looking
 pub mod Tracking

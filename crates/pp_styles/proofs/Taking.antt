@@ -4,6 +4,7 @@ use Rattle.std.proofs.Common.{List, [], ◌∷◌, ◌++◌, length, map, take, 
 use Rattle.std.proofs.Common.{subst, ◌∙◌, arith, inl, inr, if◌then◌else◌, get_or, position}
 use Rattle.std.proofs.Common.{IsSorted, nat_cmp}
 use Rattle.std.specs.List.{Contains, slice_get}
+use Rattle.std.proofs.Math.Bool.{or-false}
 use Rattle.std.proofs.lemmas.Bool.{cases_lt, eq-eqb, eqb-true}
 use Rattle.std.proofs.lemmas.List.{get_or_default}
 use Rattle.std.proofs.lemmas.List.Elements.{Contains-append_left, Contains-push}
@@ -12,14 +13,14 @@ use Rattle.std.proofs.lemmas.Option.{same_Some}
 use Rattle.pp_core.specs.Steps.{Step, Pull}
 use Rattle.pp_core.specs.declared.entry.LocalEntry.{LocalEntry}
 use Rattle.pp_core.specs.declared.entry.SharedEntry.{SharedEntry}
-use Rattle.pp_records.specs.Expansions.{refresh, stands_in}
+use Rattle.pp_records.specs.Expansions.{follow, is_followed, stands_in}
 use Rattle.pp_model.specs.Config.{shared_item}
 use Rattle.pp_model.specs.Names.{Name}
 use Rattle.pp_model.specs.Object.{HasDistinctIds}
 use Rattle.pp_model.proofs.Finding.{find_nowhere, place_none, placed, stands_in as is_in}
 use Rattle.pp_model.proofs.Lists.{in_cases, in_map}
-use Rattle.pp_styles.specs.Knowing.{HoldsPositions, HoldsWanted, IsAllBut}
-use Rattle.pp_styles.specs.Pulling.{pull_committed}
+use Rattle.pp_styles.specs.Knowing.{HoldsPositions, HoldsWanted, IsAllBut, IsFollowedBut}
+use Rattle.pp_styles.specs.Pulling.{pull_on}
 use Rattle.pp_styles.proofs.Growing.{chosen-found, chosen-rest}
 
 -- ---- positions
@@ -76,15 +77,17 @@ parts true true true h = absurd (cc)
 parts true false r h = absurd (let no : false ≡ true = h in cc)
 parts false c r h = absurd (let no : false ≡ true = h in cc)
 
-split : {A : Type 0} (b r : Bool) (xs : List A) → (if (b && not r) then xs else []) ≡ (if b then (if r then [] else xs) else [])
-split true true xs = refl
-split true false xs = refl
-split false r xs = refl
+split : {A : Type 0} (b c r : Bool) (xs : List A) → (if ((b && c) && not r) then xs else []) ≡ (if c then (if b then (if r then [] else xs) else []) else [])
+split true true true xs = refl
+split true true false xs = refl
+split true false r xs = refl
+split false true r xs = refl
+split false false r xs = refl
 
-module _ {Op : Type 0} (place : Op → ℕ) (t : Name) (o : ℕ) (G : List (SharedEntry Op)) (l : List (LocalEntry Op)) where
+module _ {Op : Type 0} (place : Op → ℕ) (t : Name) (o : ℕ) (sources : List Name) (G : List (SharedEntry Op)) (l : List (LocalEntry Op)) where
   -- what is wanted of the shared log
   abbrev pub wanted : SharedEntry Op → Bool
-  wanted g = (g.committed && (place g.op == o)) && not (stands_in l g.id)
+  wanted g = (is_followed sources g && (place g.op == o)) && not (stands_in l g.id)
 
   -- Of the shared log the entries before a position are done, and the other wanted ones are at one
   -- of these positions from a place on.
@@ -93,12 +96,12 @@ module _ {Op : Type 0} (place : Op → ℕ) (t : Name) (o : ℕ) (G : List (Shar
     pub left : (k : ℕ) (g : SharedEntry Op) → from ≤ k → slice_get G k ≡ Some g → wanted g ≡ true →
         (j : ℕ) × (i ≤ j) × (j < length at) × (get_or at j k ≡ k)
 
-  pub all_left : (at : List ℕ) → HoldsWanted place o G l at → Left at 0 0
+  pub all_left : (at : List ℕ) → HoldsWanted place o sources G l at → Left at 0 0
   all_left at h =
       record {
         within = omega arith;
         left = λ k g above here want.
-            let p = parts g.committed (place g.op == o) (stands_in l g.id) want in
+            let p = parts (is_followed sources g) (place g.op == o) (stands_in l g.id) want in
             let r = h k g here p.0 (eqb-true (place g.op) o p.1) p.2 in
             (r.0, omega arith, r.1, r.2);
       }
@@ -143,17 +146,17 @@ module _ {Op : Type 0} (place : Op → ℕ) (t : Name) (o : ℕ) (G : List (Shar
         }
 
     pub pulls_here : IsSorted nat_cmp at → from ≤ p → (g : SharedEntry Op) → slice_get G p ≡ Some g →
-        refresh place t o (take (p + 1) G) l ≡ refresh place t o (take from G) l ++ pull_committed place o l t g
+        follow place t o sources (take (p + 1) G) l ≡ follow place t o sources (take from G) l ++ pull_on place o sources l t g
     pulls_here up above g here =
-        ap (λ (n : ℕ). refresh place t o (take n G) l) one_more
+        ap (λ (n : ℕ). follow place t o sources (take n G) l) one_more
         ∙ chosen-found (λ (e : SharedEntry Op). Pull t e.id) wanted G from p g above here (λ k e from_on less there. none_before up k e from_on less there)
-        ∙ ap (λ (w : List (Step Op)). refresh place t o (take from G) l ++ w) (split (g.committed && (place g.op == o)) (stands_in l g.id) (Pull t g.id ∷ []))
+        ∙ ap (λ (w : List (Step Op)). follow place t o sources (take from G) l ++ w) (split (is_followed sources g) (place g.op == o) (stands_in l g.id) (Pull t g.id ∷ []))
       where
         one_more : p + 1 ≡ suc p
         one_more = omega arith
 
   -- all positions are passed
-  pub all_taken : (at : List ℕ) (i from : ℕ) → length at ≤ i → Left at i from → refresh place t o (take from G) l ≡ refresh place t o G l
+  pub all_taken : (at : List ℕ) (i from : ℕ) → length at ≤ i → Left at i from → follow place t o sources (take from G) l ≡ follow place t o sources G l
   all_taken at i from past h =
       chosen-rest (λ (e : SharedEntry Op). Pull t e.id) wanted G from h.within (λ k g above here. not_true (wanted g) (λ want.
       let r = h.left k g above here want in
@@ -162,16 +165,20 @@ module _ {Op : Type 0} (place : Op → ℕ) (t : Name) (o : ℕ) (G : List (Shar
       omega arith))
 
   -- what is told to be wanted is at the positions of its ids
-  pub wanted_at : (ids at : List ℕ) → IsAllBut place o G l ids → HoldsPositions ids G at → HoldsWanted place o G l at
-  wanted_at ids at all h k g here committed on missing = h k g here (all g (is_in G k g here) committed on missing)
+  pub wanted_at : (ids at : List ℕ) → IsFollowedBut place o sources G l ids → HoldsPositions ids G at → HoldsWanted place o sources G l at
+  wanted_at ids at all h k g here followed on missing = h k g here (all g (is_in G k g here) followed on missing)
 
   -- no id, no pull
-  pub none_wanted : IsAllBut place o G l [] → [] ≡ refresh place t o G l
+  pub none_wanted : IsFollowedBut place o sources G l [] → [] ≡ follow place t o sources G l
   none_wanted all =
-      all_taken [] 0 0 (omega arith) (all_left [] (λ k g here committed on missing. absurd (all g (is_in G k g here) committed on missing)))
+      all_taken [] 0 0 (omega arith) (all_left [] (λ k g here followed on missing. absurd (all g (is_in G k g here) followed on missing)))
 
-  pub none_told : (ids : List ℕ) → true ≡ (length ids == 0) → IsAllBut place o G l ids → [] ≡ refresh place t o G l
+  pub none_told : (ids : List ℕ) → true ≡ (length ids == 0) → IsFollowedBut place o sources G l ids → [] ≡ follow place t o sources G l
   none_told [] empty all = none_wanted all
   none_told (id ∷ ids) empty all =
       let none : length (id ∷ ids) ≡ 0 = eqb-true (length (id ∷ ids)) 0 (sym empty) in
       absurd (omega arith)
+
+-- without a source, only committed entries are followed
+pub committed_alone : {Op : Type 0} (place : Op → ℕ) (o : ℕ) (G : List (SharedEntry Op)) (l : List (LocalEntry Op)) (ids : List ℕ) → IsAllBut place o G l ids → IsFollowedBut place o [] G l ids
+committed_alone place o G l ids all g i followed on missing = all g i (sym (or-false g.committed) ∙ followed) on missing

@@ -1,18 +1,25 @@
 -- What the notes on a machine say is true of it.
-use Rattle.std.proofs.Common.{◌≡◌, ◌≤◌, ◌-◌, ℕ, List, drop, take, length, take_all, length-drop, arith, Option, None, Some, refl, sym, ap, subst, ◌∙◌}
+use Rattle.std.proofs.Common.{◌≡◌, ◌≤◌, ◌-◌, ◌++◌, ℕ, true, List, [], drop, take, length, take_all, length-drop, arith, Option, None, Some, refl, sym, ap, subst, ◌∙◌}
 use Rattle.std.specs.Option.{option_map}
 use Rattle.pp_core.specs.Steps.{Step}
-use Rattle.pp_records.specs.Expansions.{LocalLog, pushall}
+use Rattle.pp_records.specs.Expansions.{LocalLog, SharedLog, pushall}
 use Rattle.pp_model.specs.Config.{Tx, tx}
+use Rattle.pp_model.specs.Lists.{In}
 use Rattle.pp_model.specs.Names.{Name}
 use Rattle.pp_model.specs.Sound.{Sound}
+use Rattle.pp_model.proofs.Lists.{in_right}
+use Rattle.std.proofs.lemmas.Option.{same_Some}
 use Rattle.pp_machine.specs.Machines.{Seen}
 use Rattle.pp_machine.specs.Stepping.{Stepped}
 use Rattle.pp_machine.specs.declared.machine.Outcome.{Outcome}
 use Rattle.pp_machine.specs.declared.machine.Outcome.TheVariants.{Done, False}
 use Rattle.pp_kind.specs.Object.{Object, rules_of}
-use Rattle.pp_styles.specs.Knowing.{ForgetsBefore, IsAllBut, IsTrueOf, Knowledge, ListsAfter}
+use Rattle.pp_styles.specs.Knowing.{ForgetsBefore, IsAllBut, IsFollowedBut, IsTrueOf, Knowledge, ListsAfter}
 use Rattle.pp_styles.specs.Knowing.{PushesMore, TakesMore}
+use Rattle.pp_styles.specs.Publishing.{Adds, Keeps, ListsPushed, LooksFurther, Publications, TellsTrue, UnpassesBefore}
+use Rattle.pp_styles.proofs.Publishing.{keeps, stays as stays_listed, waits as waits_listed}
+use Rattle.pp_styles.proofs.Looking.{followed_but, looks}
+use Rattle.pp_styles.proofs.Taking.{committed_alone}
 use Rattle.pp_styles.proofs.Knowing.{all_but, known_pushed, pushes, stays, takes, waits}
 
 -- the open transaction whose local log is lent
@@ -62,3 +69,49 @@ module _ {Shape State Op Undo : Type 0} (o : Object Shape State Op Undo) (place 
       (stays place k v.config true_here step new last f (subst (λ (z : Seen Shape Op). ListsAfter place step z.config.done new last) effect.1 m))
   true_behind step (False n detail) w new last effect f m =
       subst (λ (z : Seen Shape Op). IsTrueOf place last z.config) (sym effect.2) (waits place k v.config true_here step w.config.done new last f m)
+
+-- and so does what is known of published entries
+pub lists_behind : {Shape State Op Undo : Type 0} (o : Object Shape State Op Undo) (place : Op → ℕ) (p : Publications) (v : Seen Shape Op) → TellsTrue place p v.config → (step : Step Op) (outcome : Outcome Op) (w : Seen Shape Op) (q r : Publications) →
+    Stepped o v step outcome w → UnpassesBefore step p q → ListsPushed place step w.config.shared q r → TellsTrue place r w.config
+lists_behind {Shape} {State} {Op} o place p v h step Done w q r effect f m =
+    subst (λ (z : Seen Shape Op). TellsTrue place r z.config) (sym effect.1)
+    (stays_listed place p v.config h step q r f (subst (λ (z : Seen Shape Op). ListsPushed place step z.config.shared q r) effect.1 m))
+lists_behind {Shape} {State} {Op} o place p v h step (False n detail) w q r effect f m =
+    subst (λ (z : Seen Shape Op). TellsTrue place r z.config) (sym effect.2)
+    (waits_listed place p v.config h step q r f (subst (λ (z : Seen Shape Op). ListsPushed place step z.config.shared q r) effect.2 m))
+
+module _ {Shape State Op Undo : Type 0} (o : Object Shape State Op Undo) (place : Op → ℕ) (k : Knowledge) (p : Publications) (v : Seen Shape Op) (noted : IsTrueOf place k v.config) (listed : TellsTrue place p v.config) where
+  -- lists begin to be kept
+  pub keeps_here : (G : Shape × SharedLog Op) → G ≡ (v.shape, v.config.shared) → (q : Publications) → Keeps place G.1 p q → TellsTrue place q v.config
+  keeps_here G is q f = keeps place p v.config listed q (subst (λ (w : Shape × SharedLog Op). Keeps place w.1 p q) is f)
+
+  module _ (s : Sound (rules_of o v.shape) v.config) (t : Name) (local : Shape × LocalLog Op) (is : Some local ≡ option_map (λ (y : Tx Op). (v.shape, y.local)) (tx t v.config.opened)) where
+    same_local : (x : Tx Op) → tx t v.config.opened ≡ Some x → local.1 ≡ x.local
+    same_local x open_is =
+        ap (λ (w : Shape × LocalLog Op). w.1) (same_Some local (v.shape, x.local) (is ∙ ap (λ (w : Option (Tx Op)). option_map (λ (y : Tx Op). (v.shape, y.local)) w) open_is))
+
+    module _ (object : ℕ) (told none first : List ℕ) (told_is : told ≡ drop (k.taken t object) (k.ids object)) (first_is : first ≡ none ++ told) where
+      all_told : (x : Tx Op) → tx t v.config.opened ≡ Some x → IsAllBut place object v.config.shared x.local first
+      all_told x open_is g i committed on off =
+          subst (λ (w : List ℕ). In g.id w) (sym first_is)
+          (in_right g.id none told (subst (λ (w : List ℕ). In g.id w) (sym told_is) (all_but place k v.config noted (rules_of o v.shape) s t x open_is object g i committed on off)))
+
+      -- without a source
+      pub alone_here : (x : Tx Op) → tx t v.config.opened ≡ Some x → IsFollowedBut place object [] v.config.shared x.local first
+      alone_here x open_is = committed_alone place object v.config.shared x.local first (all_told x open_is)
+
+      module _ (G : Shape × SharedLog Op) (shared_is : G ≡ (v.shape, v.config.shared)) where
+        -- with sources
+        pub followed_here : p.kept ≡ true → (sources : List Name) (ids : List ℕ) → ((i : ℕ) → In i first → In i ids) → ((u : Name) → In u sources → Adds local.1 G.1 (p.ids u object) (p.passed t u object) ids) →
+            (x : Tx Op) → tx t v.config.opened ≡ Some x → IsFollowedBut place object sources v.config.shared x.local ids
+        followed_here kept sources ids more added x open_is =
+            followed_but place p v.config listed (rules_of o v.shape) s t x open_is object sources first ids kept (all_told x open_is) more
+            (λ u among. subst (λ (l : LocalLog Op). Adds l v.config.shared (p.ids u object) (p.passed t u object) ids) (same_local x open_is)
+            (subst (λ (w : Shape × SharedLog Op). Adds local.1 w.1 (p.ids u object) (p.passed t u object) ids) shared_is (added u among)))
+
+    -- what is looked at
+    pub looks_here : (object : ℕ) (G : Shape × SharedLog Op) → G ≡ (v.shape, v.config.shared) → (q : Publications) → LooksFurther t object local.1 G.1 p q → TellsTrue place q v.config
+    looks_here object G shared_is q more =
+        let x = opened_is v.shape local (tx t v.config.opened) is in
+        looks place p v.config listed (rules_of o v.shape) s t x.0 x.1 object q
+        (subst (λ (l : LocalLog Op). LooksFurther t object l v.config.shared p q) x.2 (subst (λ (w : Shape × SharedLog Op). LooksFurther t object local.1 w.1 p q) shared_is more))

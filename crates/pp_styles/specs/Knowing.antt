@@ -7,7 +7,7 @@ use Rattle.pp_core.specs.Steps.{Step, Begin, App, Unapp, Push, Unpush, Pull, Unp
 use Rattle.pp_core.specs.declared.entry.CommittedTx.{CommittedTx}
 use Rattle.pp_core.specs.declared.entry.LocalEntry.{LocalEntry}
 use Rattle.pp_core.specs.declared.entry.SharedEntry.{SharedEntry}
-use Rattle.pp_records.specs.Expansions.{stands_in}
+use Rattle.pp_records.specs.Expansions.{is_followed, stands_in}
 use Rattle.pp_model.specs.Config.{Config, Tx, Unpushed, is_mark}
 use Rattle.pp_model.specs.Lists.{In}
 use Rattle.pp_model.specs.Names.{Name, ◌=ⁿ◌}
@@ -140,13 +140,21 @@ abbrev pub IsAllBut : {Op : Type 0} → (Op → ℕ) → ℕ → List (SharedEnt
 IsAllBut {Op} place o G l ids = (g : SharedEntry Op) → In g G → g.committed ≡ true →
     place g.op ≡ o → stands_in l g.id ≡ false → In g.id ids
 
+-- The same of an entry that is committed or owned by a source.
+abbrev pub IsFollowedBut : {Op : Type 0} → (Op → ℕ) → ℕ → List Name → List (SharedEntry Op) →
+    List (LocalEntry Op) → List ℕ → Type 0
+IsFollowedBut {Op} place o sources G l ids = (g : SharedEntry Op) → In g G →
+    is_followed sources g ≡ true → place g.op ≡ o → stands_in l g.id ≡ false → In g.id ids
+
 -- Each entry of G with one of these ids is at one of these positions.
 abbrev pub HoldsPositions : {Op : Type 0} → List ℕ → List (SharedEntry Op) → List ℕ → Type 0
 HoldsPositions {Op} ids G at = (k : ℕ) (g : SharedEntry Op) → slice_get G k ≡ Some g →
     In g.id ids → Contains at k
 
--- Each committed entry of G on the object that is not in a local log is at one of these positions.
-abbrev pub HoldsWanted : {Op : Type 0} → (Op → ℕ) → ℕ → List (SharedEntry Op) →
+-- Each entry of G on the object that is followed and is not in a local log is at one of these
+-- positions.
+abbrev pub HoldsWanted : {Op : Type 0} → (Op → ℕ) → ℕ → List Name → List (SharedEntry Op) →
     List (LocalEntry Op) → List ℕ → Type 0
-HoldsWanted {Op} place o G l at = (k : ℕ) (g : SharedEntry Op) → slice_get G k ≡ Some g →
-    g.committed ≡ true → place g.op ≡ o → stands_in l g.id ≡ false → Contains at k
+HoldsWanted {Op} place o sources G l at = (k : ℕ) (g : SharedEntry Op) →
+    slice_get G k ≡ Some g → is_followed sources g ≡ true → place g.op ≡ o →
+    stands_in l g.id ≡ false → Contains at k

@@ -5,6 +5,7 @@ pub mod Driving
 pub mod Knowing
 pub mod Meanings
 pub mod Noting
+pub mod Publishing
 pub mod Pulling
 pub mod Sources
 pub mod States

@@ -1,5 +1,5 @@
 -- Proof machinery: the pull of one entry.
-use Rattle.std.specs.Prelude.{ℕ, ◌==◌, ◌&&◌, Bool, List, [], ◌∷◌}
+use Rattle.std.specs.Prelude.{ℕ, ◌==◌, Bool, List, [], ◌∷◌}
 use Rattle.std.specs.Prelude.{if◌then◌else◌}
 use Rattle.pp_core.specs.Steps.{Step, Pull}
 use Rattle.pp_core.specs.declared.entry.LocalEntry.{LocalEntry}
@@ -17,8 +17,8 @@ abbrev pub pull_followed : {Op : Type 0} → List Name → List (LocalEntry Op) 
 pull_followed sources l t g =
     if is_followed sources g then pull_unless (stands_in l g.id) t g.id else []
 
--- the same of an entry that is committed and on the object
-abbrev pub pull_committed : {Op : Type 0} → (Op → ℕ) → ℕ → List (LocalEntry Op) → Name →
+-- the same of an entry that is on the object
+abbrev pub pull_on : {Op : Type 0} → (Op → ℕ) → ℕ → List Name → List (LocalEntry Op) → Name →
     SharedEntry Op → List (Step Op)
-pull_committed place o l t g =
-    if g.committed && (place g.op == o) then pull_unless (stands_in l g.id) t g.id else []
+pull_on place o sources l t g =
+    if place g.op == o then pull_followed sources l t g else []

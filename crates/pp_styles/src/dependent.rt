@@ -1,5 +1,5 @@
 //! Style dependent: a transaction may read what others published and have not committed.
-ghost use Rattle.std.specs.Prelude.{◌≡◌, ◌++◌, ◌∷◌, [], IfOk, List, OnOk};
+ghost use Rattle.std.specs.Prelude.{◌≡◌, ◌++◌, ◌∷◌, [], IfOk, IfSome, List, OnOk};
 ghost use Rattle.std.specs.Option.{option_copied};
 ghost use Rattle.pp_core.specs.Steps.{App, Note};
 ghost use Rattle.pp_core.specs.declared.call.Kind.{Kind};
@@ -10,11 +10,11 @@ ghost use Rattle.pp_records.specs.Fronts.{at_name, new_front, with_source, with_
 ghost use Rattle.pp_records.specs.Fronts.{without_source};
 ghost use Rattle.pp_model.specs.Names.{Name as NameOf};
 ghost use Rattle.pp_styles.specs.Meanings.{meanings};
-ghost use Rattle.pp_styles.specs.Knowing.{IsAllBut};
+ghost use Rattle.pp_styles.specs.Knowing.{IsFollowedBut};
 ghost use Rattle.pp_styles.specs.Sources.{kept_sources, sources_in};
 
 use crate::front::Front;
-use crate::pulls::{follow, refresh};
+use crate::pulls::{follow, follow_ids};
 use crate::recorded::{abort, back_to, commit, publish, unopened};
 use crate::source_set::{SourceSet, add_source, remove_source};
 use crate::step_list::{StepList, add, only, only_copied};
@@ -93,31 +93,27 @@ fn drop_steps<S: Parted>(
     Ok(list)
 }
 
-/// Adds PULL of what a transaction with these sources takes over of an object. Without a source it
-/// is told ids of committed entries, and looks at no others.
+/// Adds PULL of what a transaction with these sources takes over of an object. If it is told ids of
+/// entries, it looks at no others.
 fn take_over<S: Parted>(
     alloc: Global,
     list: &mut StepList<S::Op>,
     tx: &Name,
     object: u16,
     sources: Option<&SourceSet>,
-    ids: &[u32],
+    ids: Option<&Vec<u32>>,
     shared: &Shared<S>,
     local: &Local<S>,
 ) -> Result<(), OutOfMemory>
-    requires { IsAllBut S.place_of object shared.now.1 local.now.1 ids.now }
+    requires { IfSome (option_copied ids) (λ ids. IsFollowedBut S.place_of object
+        (kept_sources (option_copied sources)) shared.now.1 local.now.1 ids.items) }
     ensures { OnOk result (meanings list.new ≡ meanings list.old
         ++ follow S.place_of tx.now object (kept_sources (option_copied sources.entry)) shared.now.1
         local.now.1) }
 {
-    match sources {
-        None => refresh(alloc, list, tx, object, ids, shared, local),
-        Some(kept) => {
-            if kept.is_empty() {
-                return refresh(alloc, list, tx, object, ids, shared, local);
-            }
-            follow(list, tx, object, sources, shared, local)
-        }
+    match ids {
+        Some(ids) => follow_ids(alloc, list, tx, object, sources, ids, shared, local),
+        None => follow(list, tx, object, sources, shared, local),
     }
 }
 
@@ -157,7 +153,9 @@ impl Dependent {
     {
         let object = S::place(op);
         machine.look_at_taken(tx, object);
-        let Some((local, ids)) = machine.local_on(tx, object) else {
+        let sources = self.sources(tx);
+        let ids = machine.wanted(self.alloc, tx, object, sources)?;
+        let Some(local) = machine.local(tx) else {
             return unopened(self.alloc, tx, id, op);
         };
         let mut list = StepList::new(self.alloc);
@@ -166,8 +164,8 @@ impl Dependent {
             &mut list,
             tx,
             object,
-            self.sources(tx),
-            ids,
+            sources,
+            ids.as_ref(),
             machine.shared(),
             local,
         )?;

@@ -11,12 +11,14 @@ mod front;
 mod hardware;
 mod notes;
 mod optimistic;
+mod published;
 mod pulls;
 mod recorded;
 mod rules;
 mod source_set;
 mod step_list;
 mod taken;
+mod taken_from;
 mod tracked;
 mod walks;
 

@@ -6,8 +6,8 @@ ghost use Rattle.pp_records.specs.Expansions.{follow, is_followed, refresh, stan
 ghost use Rattle.pp_log.specs.Logs.{IsFirstFrom, IsOn, NoneFrom};
 ghost use Rattle.pp_model.specs.Config.{shared_item};
 ghost use Rattle.pp_styles.specs.Meanings.{meanings};
-ghost use Rattle.pp_styles.specs.Knowing.{HoldsPositions, HoldsWanted, IsAllBut};
-ghost use Rattle.pp_styles.specs.Pulling.{pull_committed, pull_followed, pull_unless};
+ghost use Rattle.pp_styles.specs.Knowing.{HoldsPositions, HoldsWanted, IsAllBut, IsFollowedBut};
+ghost use Rattle.pp_styles.specs.Pulling.{pull_followed, pull_on, pull_unless};
 ghost use Rattle.pp_styles.specs.Sources.{kept_sources};
 
 use crate::source_set::{SourceSet, is_among};
@@ -162,39 +162,44 @@ fn positions<S: Parted>(
     Ok(at)
 }
 
-/// Adds PULL of an entry that is committed, on the object, and not in the local log. The hint is
-/// that of `stands_in`.
-fn pull_committed<S: Parted>(
+/// Adds PULL of an entry that is followed, on the object, and not in the local log. The hint is that
+/// of `stands_in`.
+fn pull_on<S: Parted>(
     list: &mut StepList<S::Op>,
     tx: &Name,
     object: u16,
+    sources: Option<&SourceSet>,
     entry: &SharedEntry<S::Op>,
     local: &Local<S>,
     hint: &mut usize,
 ) -> Result<(), OutOfMemory>
     ensures { OnOk result (meanings list.new ≡ meanings list.old
-        ++ pull_committed S.place_of object local.now.1 tx.now entry.now) }
+        ++ pull_on S.place_of object (kept_sources (option_copied sources.entry)) local.now.1 tx.now
+        entry.now) }
 {
-    if !entry.committed || S::place(&entry.op) != object {
+    if S::place(&entry.op) != object {
         return Ok(());
     }
-    pull_missing(list, tx, entry.id, local, hint)
+    pull_followed(list, tx, sources, entry, local, hint)
 }
 
-/// Adds PULL of the entries at these positions that are committed, on the object, and not in the
+/// Adds PULL of the entries at these positions that are followed, on the object, and not in the
 /// local log.
 fn pull_at<S: Parted>(
     list: &mut StepList<S::Op>,
     tx: &Name,
     object: u16,
+    sources: Option<&SourceSet>,
     at: &[usize],
     shared: &Shared<S>,
     local: &Local<S>,
 ) -> Result<(), OutOfMemory>
     requires sorted { IsSorted nat_cmp at.now }
-    requires all { HoldsWanted S.place_of object shared.now.1 local.now.1 at.now }
-    ensures { OnOk result (meanings list.new
-        ≡ meanings list.old ++ refresh S.place_of tx.now object shared.now.1 local.now.1) }
+    requires all { HoldsWanted S.place_of object (kept_sources (option_copied sources))
+        shared.now.1 local.now.1 at.now }
+    ensures { OnOk result (meanings list.new ≡ meanings list.old
+        ++ follow S.place_of tx.now object (kept_sources (option_copied sources.entry)) shared.now.1
+        local.now.1) }
 {
     let entries = shared.entries();
     let mut from = 0;
@@ -202,11 +207,43 @@ fn pull_at<S: Parted>(
     for position in at {
         // No position counts twice.
         if *position >= from && *position < entries.len() {
-            pull_committed(list, tx, object, &entries[*position], local, &mut hint)?;
+            pull_on(
+                list,
+                tx,
+                object,
+                sources,
+                &entries[*position],
+                local,
+                &mut hint,
+            )?;
             from = *position + 1;
         }
     }
     Ok(())
+}
+
+/// As `follow`. It is told ids of entries that are followed, and looks at no others.
+pub fn follow_ids<S: Parted>(
+    alloc: Global,
+    list: &mut StepList<S::Op>,
+    tx: &Name,
+    object: u16,
+    sources: Option<&SourceSet>,
+    ids: &[u32],
+    shared: &Shared<S>,
+    local: &Local<S>,
+) -> Result<(), OutOfMemory>
+    requires { IsFollowedBut S.place_of object (kept_sources (option_copied sources))
+        shared.now.1 local.now.1 ids.now }
+    ensures { OnOk result (meanings list.new ≡ meanings list.old
+        ++ follow S.place_of tx.now object (kept_sources (option_copied sources.entry)) shared.now.1
+        local.now.1) }
+{
+    if ids.is_empty() {
+        return Ok(());
+    }
+    let at = positions(alloc, shared, ids)?;
+    pull_at(list, tx, object, sources, &at, shared, local)
 }
 
 /// Adds the steps by which a transaction takes over what is committed of an object: PULL of each
@@ -226,9 +263,5 @@ pub fn refresh<S: Parted>(
     ensures { OnOk result (meanings list.new
         ≡ meanings list.old ++ refresh S.place_of tx.now object shared.now.1 local.now.1) }
 {
-    if ids.is_empty() {
-        return Ok(());
-    }
-    let at = positions(alloc, shared, ids)?;
-    pull_at(list, tx, object, &at, shared, local)
+    follow_ids(alloc, list, tx, object, None, ids, shared, local)
 }

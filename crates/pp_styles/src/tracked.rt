@@ -1,19 +1,24 @@
 //! A machine with notes.
-ghost use Rattle.std.specs.Prelude.{◌≡◌, ◌≤◌, ◌<◌, ◌+◌, IfOk, IfSome, OnOk, is_some};
+ghost use Rattle.std.specs.Prelude.{◌≡◌, ◌≤◌, ◌<◌, ◌+◌, IfOk, IfSome, OnOk, Some, is_some};
 ghost use Rattle.std.specs.Prelude.{option_map};
 ghost use Rattle.std.specs.Option.{option_copied};
 ghost use Rattle.pp_core.specs.Steps.{meaning};
 ghost use Rattle.pp_records.specs.Expansions.{pushall};
-ghost use Rattle.pp_model.specs.Config.{tx as open_tx};
+ghost use Rattle.pp_model.specs.Config.{Tx, tx as open_tx};
 ghost use Rattle.pp_model.specs.Sound.{Sound};
 ghost use Rattle.pp_machine.specs.Costs.{Costs, at_most};
 ghost use Rattle.pp_machine.specs.Shown.{IsShown};
 ghost use Rattle.pp_machine.specs.Stepping.{IsAsked, Stepped};
 ghost use Rattle.pp_kind.specs.Object.{rules_of};
-ghost use Rattle.pp_styles.specs.Knowing.{ForgetsBefore, IsAllBut, ListsAfter};
+ghost use Rattle.pp_styles.specs.Knowing.{ForgetsBefore, IsAllBut, IsFollowedBut, IsTrueOf};
+ghost use Rattle.pp_styles.specs.Knowing.{ListsAfter};
 ghost use Rattle.pp_styles.specs.Noting.{known};
+ghost use Rattle.pp_styles.specs.Publishing.{ListsPushed, TellsTrue, UnpassesBefore, publications};
+ghost use Rattle.pp_styles.specs.Sources.{kept_sources};
 
 use crate::notes::Notes;
+use crate::published::Published;
+use crate::source_set::SourceSet;
 use pp_core::{LocalEntry, Name, OutOfMemory, Step, Ticks};
 use pp_kind::Parted;
 use pp_log_local::Local;
@@ -29,7 +34,11 @@ use std::sync::ledger::Ledger;
 pub struct Tracked<S: Parted> {
     machine: Machine<S>,
     notes: Box<Notes>,
+    published: Box<Published>,
 }
+
+/// So many sources are always looked at.
+const FEW_SOURCES: usize = 64;
 
 impl<S: Parted> Model for Tracked<S> {
     ghost use Rattle.pp_machine.specs.Machines.{Seen};
@@ -45,13 +54,18 @@ impl<S: Parted> Model for Tracked<S> {
 
     ghost view = { λ a. a.machine };
 
-    ghost invariant = { λ a. IsTrueOf S.place_of (known a.notes.value) a.machine.config };
+    ghost use Rattle.pp_styles.specs.Publishing.{TellsTrue, publications};
+
+    ghost invariant = { λ a. IsTrueOf S.place_of (known a.notes.value) a.machine.config
+        × TellsTrue S.place_of (publications a.published.value) a.machine.config };
 }
 
 /// Forgets what a step may make untrue: what is known of a transaction that begins, or whose local
 /// log loses an entry or a mark.
-fn forget_before<O: Copy>(notes: &mut Notes, step: &Step<O>)
-    ensures { ForgetsBefore (meaning step.now) (known notes.old) (known notes.new) }
+fn forget_before<O: Copy>(notes: &mut Notes, published: &mut Published, step: &Step<O>)
+    ensures notes { ForgetsBefore (meaning step.now) (known notes.old) (known notes.new) }
+    ensures published { UnpassesBefore (meaning step.now) (publications published.old)
+        (publications published.new) }
 {
     match step {
         Step::Begin { tx, .. }
@@ -59,7 +73,10 @@ fn forget_before<O: Copy>(notes: &mut Notes, step: &Step<O>)
         | Step::Unpush { tx, .. }
         | Step::Unpull { tx, .. }
         | Step::Cmt { tx }
-        | Step::Quit { tx } => notes.forget(tx),
+        | Step::Quit { tx } => {
+            notes.forget(tx);
+            published.forget(tx);
+        }
         Step::App { .. } | Step::Push { .. } | Step::Pull { .. } | Step::Note { .. } => {}
     }
 }
@@ -87,6 +104,78 @@ fn note_after<S: Parted>(
     }
 }
 
+/// Lists what a step published.
+fn list_after<S: Parted>(
+    published: &mut Published,
+    step: &Step<S::Op>,
+    machine: &Machine<S>,
+) -> Result<(), OutOfMemory>
+    ensures { OnOk result (ListsPushed S.place_of (meaning step.now) machine.now.config.shared
+        (publications published.old) (publications published.new)) }
+{
+    match step {
+        Step::Push { .. } => published.note_last(machine.shared()),
+        Step::Begin { .. }
+        | Step::App { .. }
+        | Step::Unapp { .. }
+        | Step::Unpush { .. }
+        | Step::Pull { .. }
+        | Step::Unpull { .. }
+        | Step::Cmt { .. }
+        | Step::Quit { .. }
+        | Step::Note { .. } => Ok(()),
+    }
+}
+
+/// Whether a walk over the shared log is shorter than a look at each source. A look costs as much as
+/// some four entries of a walk.
+fn is_walk_shorter<S: Parted>(
+    published: &Published,
+    object: u16,
+    sources: &SourceSet,
+    shared: &Shared<S>,
+) -> bool {
+    let looks = published.owners_on(object).min(sources.len());
+    looks > FEW_SOURCES && looks.saturating_mul(4) > shared.len()
+}
+
+/// As `Tracked::wanted`.
+fn wanted_of<S: Parted>(
+    alloc: Global,
+    notes: &Notes,
+    published: &mut Published,
+    machine: &Machine<S>,
+    tx: &Name,
+    object: u16,
+    sources: Option<&SourceSet>,
+) -> Result<Option<Vec<u32>>, OutOfMemory>
+    requires noted { IsTrueOf S.place_of (known notes.now) machine.now.config }
+    requires listed { TellsTrue S.place_of (publications published.old) machine.now.config }
+    ensures listed { TellsTrue S.place_of (publications published.new) machine.now.config }
+    ensures ids { IfOk result (λ r. IfSome r (λ ids. (x : Tx S.Op) →
+        open_tx tx.now machine.now.config.opened ≡ Some x → IsFollowedBut S.place_of object
+        (kept_sources (option_copied sources.entry)) machine.now.config.shared x.local
+        ids.items)) }
+{
+    // It stands here for what its clauses say of each machine.
+    let _sound = machine.count();
+    let Some(local) = machine.local(tx) else {
+        return Ok(None);
+    };
+    let mut ids = Vec::new(alloc);
+    ids.extend_from_slice(notes.unknown(tx, object))?;
+    let Some(sources) = sources else {
+        return Ok(Some(ids));
+    };
+    let shared = machine.shared();
+    published.keep(shared)?;
+    if is_walk_shorter(published, object, sources, shared) {
+        return Ok(None);
+    }
+    published.add_missing(&mut ids, tx, object, sources, shared, local)?;
+    Ok(Some(ids))
+}
+
 impl<S: Parted> Tracked<S> {
     /// A machine of which nothing is known yet. The only error is that memory was refused.
     pub fn new(alloc: Global, machine: Machine<S>) -> Result<Self, OutOfMemory>
@@ -95,7 +184,12 @@ impl<S: Parted> Tracked<S> {
         let mut notes = Notes::new(alloc);
         notes.note_all::<S>(machine.committed())?;
         let notes = Box::new(alloc, notes)?;
-        Ok(Tracked { machine, notes })
+        let published = Box::new(alloc, Published::new(alloc))?;
+        Ok(Tracked {
+            machine,
+            notes,
+            published,
+        })
     }
 
     /// How many steps were done. The configuration is sound, as that of each machine.
@@ -175,6 +269,33 @@ impl<S: Parted> Tracked<S> {
         self.notes.look_at_taken(tx, object, local);
     }
 
+    /// Ids of entries on an object: each entry that is committed or owned by one of these sources is
+    /// in the local log of the open transaction, or its id is among these. It returns none if a walk
+    /// over the shared log is shorter.
+    pub fn wanted(
+        &mut self,
+        alloc: Global,
+        tx: &Name,
+        object: u16,
+        sources: Option<&SourceSet>,
+    ) -> Result<Option<Vec<u32>>, OutOfMemory>
+        ensures same { self.new ≡ self.old }
+        ensures ids { IfOk result (λ r. IfSome r (λ ids. (x : Tx S.Op) →
+            open_tx tx.now self.old.config.opened ≡ Some x → IsFollowedBut S.place_of object
+            (kept_sources (option_copied sources.entry)) self.old.config.shared x.local
+            ids.items)) }
+    {
+        wanted_of(
+            alloc,
+            &self.notes,
+            &mut self.published,
+            &self.machine,
+            tx,
+            object,
+            sources,
+        )
+    }
+
     /// Looks which entries of an open transaction are pushed.
     pub fn look_at_pushed(&mut self, tx: &Name)
         ensures { self.new ≡ self.old }
@@ -200,10 +321,22 @@ impl<S: Parted> Tracked<S> {
         ensures cost { Costs S.place_of self (meaning step.now) result ticks.old ticks.new }
         ensures bound { ticks.new ≤ ticks.old + at_most S.place_of self.config (meaning step.now) }
     {
-        let Tracked { machine, mut notes } = self;
-        forget_before(&mut notes, step);
+        let Tracked {
+            machine,
+            mut notes,
+            mut published,
+        } = self;
+        forget_before(&mut notes, &mut published, step);
         let (machine, outcome) = machine.step(step, ticks)?;
         note_after(&mut notes, step, &machine)?;
-        Ok((Tracked { machine, notes }, outcome))
+        list_after(&mut published, step, &machine)?;
+        Ok((
+            Tracked {
+                machine,
+                notes,
+                published,
+            },
+            outcome,
+        ))
     }
 }

@@ -1,16 +1,6 @@
-use Rattle.std.proofs.Common.{◌++◌, ◌∙◌, ap, append-nil, subst, sym}
-use Rattle.pp_styles.specs.Knowing.{HoldsWanted}
-use Rattle.pp_styles.specs.Meanings.{meanings}
-use Rattle.pp_styles.proofs.Taking.{none_told, wanted_at}
+use Rattle.pp_styles.proofs.Taking.{committed_alone}
 use Rattle.pp_styles.proofs.pulls.refresh.Goals as goal
 
-pub returns-then-is_empty : goal.returns-then-is_empty
-returns-then-is_empty g c =
-    sym (append-nil (meanings c.args.list.now))
-    ∙ ap (λ w. meanings c.args.list.now ++ w)
-    (none_told g.S.Placed.place_of c.args.tx.now c.args.object c.args.shared.now.1 c.args.local.now.1 c.args.ids.now c.if-is_empty.ensures c.requires)
-
-pub pull_at-requires-clause-all : goal.pull_at-requires-clause-all
-pull_at-requires-clause-all g c =
-    subst (λ at. HoldsWanted g.S.Placed.place_of c.args.object c.args.shared.now.1 c.args.local.now.1 at) (sym c.deref.ensures.value)
-    (wanted_at g.S.Placed.place_of c.args.tx.now c.args.object c.args.shared.now.1 c.args.local.now.1 c.args.ids.now c.in_ok-at.at.items c.requires c.in_ok-at.ensures.1)
+pub follow_ids-requires : goal.follow_ids-requires
+follow_ids-requires g c =
+    committed_alone g.S.Placed.place_of c.args.object c.args.shared.now.1 c.args.local.now.1 c.args.ids.now c.requires

@@ -9,6 +9,6 @@ returns-clause-ids g c =
     let t = c.args.tx.now in
     let o = c.args.object in
     subst (λ v. IsAllBut g.S.Placed.place_of o v.config.shared c.in_ok-local.local.now.1 c.unknown.result.now) c.self.view_is
-    (all_but_here g.S.Spec.object g.S.Placed.place_of (known c.self.inside.notes.value) c.self.inside.machine c.self.inside.machine refl c.self.invariant
+    (all_but_here g.S.Spec.object g.S.Placed.place_of (known c.self.inside.notes.value) c.self.inside.machine c.self.inside.machine refl c.self.invariant.0
     c.count-sound.ensures.sound t c.in_ok-local.local.now c.in_ok-local.ensures o c.unknown.result.now
     (c.unknown.ensures ∙ ap (λ n. drop ((known n).taken t o) ((known n).ids o)) c.deref.ensures))

@@ -5,7 +5,9 @@ use Rattle.pp_styles.proofs.Tracking.{takes_here}
 use Rattle.pp_styles.proofs.tracked.Tracked.look_at_taken.Goals as goal
 
 pub invariant_of-self : goal.invariant_of-self
-invariant_of-self g c =
-    takes_here g.S.Spec.object g.S.Placed.place_of (known c.self.inside.notes.value) c.self.inside.machine c.self.inside.machine refl c.self.invariant
-    c.count-sound.ensures.sound c.args.tx.now c.in-Some.local.now c.in-Some.ensures (known c.look_at_taken.new.self)
-    (subst (λ n. TakesMore c.args.tx.now c.in-Some.local.now.1 (known n) (known c.look_at_taken.new.self)) c.deref_mut.ensures.value c.look_at_taken.ensures)
+invariant_of-self g c = (
+  takes_here g.S.Spec.object g.S.Placed.place_of (known c.self.inside.notes.value) c.self.inside.machine c.self.inside.machine refl c.self.invariant.0
+      c.count-sound.ensures.sound c.args.tx.now c.in-Some.local.now c.in-Some.ensures (known c.look_at_taken.new.self)
+      (subst (λ n. TakesMore c.args.tx.now c.in-Some.local.now.1 (known n) (known c.look_at_taken.new.self)) c.deref_mut.ensures.value c.look_at_taken.ensures),
+  c.self.invariant.1,
+)

@@ -16,5 +16,5 @@ returns g c =
     let counted : c.pushed.result ≡ n.pushed t = c.pushed.ensures ∙ ap (λ w. (known w).pushed t) c.deref.ensures in
     let low : from ≤ n.pushed t = omega arith in
     subst (λ v. Some (pushall t (take (length all - from) (drop from all))) ≡ option_map (λ x. pushall t x.local) (tx t v.config.opened)) c.self.view_is
-    (unpushed_here g.S.Spec.object g.S.Placed.place_of n c.self.inside.machine c.self.inside.machine refl c.self.invariant
+    (unpushed_here g.S.Spec.object g.S.Placed.place_of n c.self.inside.machine c.self.inside.machine refl c.self.invariant.0
     c.count-sound.ensures.sound t c.in_ok-local.local.now c.in_ok-local.ensures from all c.entries-entries.ensures low)

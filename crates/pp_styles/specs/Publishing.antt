@@ -1,0 +1,157 @@
+-- Meaning: what is known of the entries that transactions published, and when it is true.
+use Rattle.std.specs.Prelude.{◌≡◌, ◌⊎◌, ◌≤◌, ◌==◌, ◌++◌, ◌∷◌, ℕ, Bool, true, false, List, []}
+use Rattle.std.specs.Prelude.{length, drop, Option, None, Some, if◌then◌else◌, nat_eq}
+use Rattle.std.specs.Map.{lookup}
+use Rattle.std.specs.Str.{bytes_eq}
+use Rattle.indexmap.specs.IndexMap.{IndexMap}
+use Rattle.pp_core.specs.Steps.{Step, Begin, App, Unapp, Push, Unpush, Pull, Unpull, Cmt, Quit, Note}
+use Rattle.pp_core.specs.declared.entry.LocalEntry.{LocalEntry}
+use Rattle.pp_core.specs.declared.entry.SharedEntry.{SharedEntry}
+use Rattle.pp_records.specs.Expansions.{stands_in}
+use Rattle.pp_model.specs.Config.{Config, Tx}
+use Rattle.pp_model.specs.Lists.{In}
+use Rattle.pp_model.specs.Names.{Name, ◌=ⁿ◌}
+use Rattle.pp_styles.specs.Knowing.{last_of}
+use Rattle.pp_styles.specs.Noting.{kept_ids, taken_in}
+use Rattle.pp_styles.specs.declared.published.Published.{Published}
+
+-- What is known: whether lists are kept; of each owner and object, the ids that it pushed, in
+-- order; and of each transaction, owner and object, how many of these ids, from the first on, the
+-- transaction has passed.
+pub record Publications : Type 0 where
+  pub kept : Bool
+  pub ids : Name → ℕ → List ℕ
+  pub passed : Name → Name → ℕ → ℕ
+
+-- A transaction has passed so many ids of each list, and an entry that is not in its local log has
+-- its id among the others.
+pub record HasPassed {Op : Type 0} (place : Op → ℕ) (p : Publications) (G : List (SharedEntry Op))
+    (t : Name) (l : List (LocalEntry Op)) : Type 0 where
+  pub within : (v : Name) (o : ℕ) → p.passed t v o ≤ length (p.ids v o)
+  pub rest : (g : SharedEntry Op) → In g G → stands_in l g.id ≡ false →
+      In g.id (drop (p.passed t g.owner (place g.op)) (p.ids g.owner (place g.op)))
+
+-- The id of each entry is in the list of its owner and its object.
+abbrev pub AllListed : {Op : Type 0} → (Op → ℕ) → Publications → List (SharedEntry Op) → Type 0
+AllListed {Op} place p G =
+    (g : SharedEntry Op) → In g G → In g.id (p.ids g.owner (place g.op))
+
+-- It is true of a configuration.
+pub record TellsTrue {Op : Type 0} (place : Op → ℕ) (p : Publications) (c : Config Op) :
+    Type 0 where
+  pub listed : p.kept ≡ true → AllListed place p c.shared
+  pub passed : p.kept ≡ true → (x : Tx Op) → In x c.opened →
+      HasPassed place p c.shared x.name x.local
+
+-- a transaction has passed nothing any more
+pub record Unpasses (t : Name) (old new : Publications) : Type 0 where
+  pub kept : new.kept ≡ old.kept
+  pub ids : (v : Name) (o : ℕ) → new.ids v o ≡ old.ids v o
+  pub passed : (u v : Name) (o : ℕ) →
+      new.passed u v o ≡ (if u =ⁿ t then 0 else old.passed u v o)
+
+-- What is forgotten before a step: what a transaction has passed that begins or ends, or whose
+-- local log loses an entry or a mark.
+abbrev pub UnpassesBefore : {Op : Type 0} → Step Op → Publications → Publications → Type 0
+UnpassesBefore (Begin t p b) old new = Unpasses t old new
+UnpassesBefore (App t id op) old new = new ≡ old
+UnpassesBefore (Unapp t id) old new = Unpasses t old new
+UnpassesBefore (Push t id) old new = new ≡ old
+UnpassesBefore (Unpush t id) old new = Unpasses t old new
+UnpassesBefore (Pull t id) old new = new ≡ old
+UnpassesBefore (Unpull t id) old new = Unpasses t old new
+UnpassesBefore (Cmt t) old new = Unpasses t old new
+UnpassesBefore (Quit t) old new = Unpasses t old new
+UnpassesBefore (Note t) old new = new ≡ old
+
+-- the list with an id more, if the entry is of this owner and object
+abbrev pub listed_more : {Op : Type 0} → (Op → ℕ) → Option (SharedEntry Op) →
+    (Name → ℕ → List ℕ) → Name → ℕ → List ℕ
+listed_more place None old v o = old v o
+listed_more place (Some g) old v o =
+    if o == place g.op
+    then (if v =ⁿ g.owner then old g.owner (place g.op) ++ g.id ∷ [] else old v (place g.op))
+    else old v o
+
+-- the last entry of G is listed, if lists are kept
+pub record ListsLast {Op : Type 0} (place : Op → ℕ) (G : List (SharedEntry Op))
+    (old new : Publications) : Type 0 where
+  pub kept : new.kept ≡ old.kept
+  pub ids : old.kept ≡ true → (v : Name) (o : ℕ) →
+      new.ids v o ≡ listed_more place (last_of G) old.ids v o
+  pub passed : (u v : Name) (o : ℕ) → new.passed u v o ≡ old.passed u v o
+
+-- What is listed after a step, by the shared log that is there then.
+abbrev pub ListsPushed : {Op : Type 0} → (Op → ℕ) → Step Op → List (SharedEntry Op) →
+    Publications → Publications → Type 0
+ListsPushed place (Begin t p b) G old new = new ≡ old
+ListsPushed place (App t id op) G old new = new ≡ old
+ListsPushed place (Unapp t id) G old new = new ≡ old
+ListsPushed place (Push t id) G old new = ListsLast place G old new
+ListsPushed place (Unpush t id) G old new = new ≡ old
+ListsPushed place (Pull t id) G old new = new ≡ old
+ListsPushed place (Unpull t id) G old new = new ≡ old
+ListsPushed place (Cmt t) G old new = new ≡ old
+ListsPushed place (Quit t) G old new = new ≡ old
+ListsPushed place (Note t) G old new = new ≡ old
+
+-- Lists are kept as before, or none are kept, or all of G is listed and nothing is passed.
+abbrev pub Keeps : {Op : Type 0} → (Op → ℕ) → List (SharedEntry Op) → Publications →
+    Publications → Type 0
+Keeps place G old new =
+    (new ≡ old) ⊎ (new.kept ≡ false)
+    ⊎ (AllListed place new G × ((u v : Name) (o : ℕ) → new.passed u v o ≡ 0))
+
+-- Of the entries of G that are not in a local log: if the id of one is among the ids from the n-th
+-- on, it is among the others.
+abbrev pub Adds : {Op : Type 0} → List (LocalEntry Op) → List (SharedEntry Op) → List ℕ → ℕ →
+    List ℕ → Type 0
+Adds {Op} l G ids n more =
+    (g : SharedEntry Op) → In g G → stands_in l g.id ≡ false → In g.id (drop n ids) → In g.id more
+
+-- Each number is as it was, or none, or it is at this object, and what it passes more needs no
+-- further look.
+abbrev pub PassesAt : {Op : Type 0} → List (LocalEntry Op) → List (SharedEntry Op) → ℕ →
+    (Name → List ℕ) → (Name → ℕ → ℕ) → (Name → ℕ → ℕ) → Type 0
+PassesAt l G o ids old new =
+    (v : Name) (p : ℕ) → (new v p ≡ old v p) ⊎ (new v p ≡ 0)
+    ⊎ ((p ≡ o) × (new v p ≤ length (ids v)) × Adds l G (ids v) (old v p) (drop (new v p) (ids v)))
+
+-- The same, of a transaction with this local log.
+pub record LooksFurther {Op : Type 0} (t : Name) (o : ℕ) (l : List (LocalEntry Op))
+    (G : List (SharedEntry Op)) (old new : Publications) : Type 0 where
+  pub kept : new.kept ≡ old.kept
+  pub ids : (v : Name) (p : ℕ) → new.ids v p ≡ old.ids v p
+  pub passed : (u v : Name) (p : ℕ) → (new.passed u v p ≡ old.passed u v p)
+      ⊎ (new.passed u v p ≡ 0)
+      ⊎ (((u =ⁿ t) ≡ true) × (p ≡ o) × (new.passed u v p ≤ length (old.ids v p))
+      × Adds l G (old.ids v p) (old.passed t v p) (drop (new.passed u v p) (old.ids v p)))
+
+-- what is kept, and nothing if none is
+abbrev pub kept_entries : {K V H : Type 0} → Option (IndexMap K V H) → List (K × V)
+kept_entries None = []
+kept_entries (Some m) = m.entries
+
+-- the ids that an owner pushed on an object, by the lists at that object and by all lists
+abbrev pub ids_of : Name → List (Name × List ℕ) → List ℕ
+ids_of v owners = kept_ids (lookup (bytes_eq v) owners)
+
+abbrev pub ids_by : {H : Type 0} → Name → ℕ → List (ℕ × IndexMap Name (List ℕ) H) → List ℕ
+ids_by v o lists = ids_of v (kept_entries (lookup (nat_eq o) lists))
+
+-- how many of them a transaction has passed
+abbrev pub kept_passed : Option (List (Name × List (ℕ × ℕ))) → List (Name × List (ℕ × ℕ))
+kept_passed None = []
+kept_passed (Some passed) = passed
+
+abbrev pub passed_by : Name → Name → ℕ → List (Name × List (Name × List (ℕ × ℕ))) → ℕ
+passed_by u v o passed = taken_in v (kept_passed (lookup (bytes_eq u) passed)) o
+
+-- what the lists say
+abbrev pub publications : Published → Publications
+publications n =
+    record {
+      kept = n.kept;
+      ids = λ v o. ids_by v o n.lists.entries;
+      passed = λ u v o. passed_by u v o n.passed.entries;
+    }

@@ -1,0 +1,406 @@
+//! What transactions published, and how much of it others are known to have.
+ghost use Rattle.std.specs.Prelude.{◌≡◌, ◌⊎◌, ◌≤◌, ◌<◌, ◌==◌, ◌++◌, ◌∷◌, [], ℕ, IfOk, OnOk, Some, None};
+ghost use Rattle.std.specs.Prelude.{drop, false, true, length, position, slice_get};
+ghost use Rattle.std.specs.Prelude.{if◌then◌else◌};
+ghost use Rattle.pp_core.specs.declared.entry.SharedEntry.{SharedEntry as EntryOf};
+ghost use Rattle.pp_records.specs.Expansions.{stands_in};
+ghost use Rattle.pp_records.specs.Fronts.{at_name, has_name};
+ghost use Rattle.pp_model.specs.Lists.{In};
+ghost use Rattle.pp_model.specs.Names.{Name as NameOf};
+ghost use Rattle.pp_styles.specs.Noting.{taken_in};
+ghost use Rattle.pp_styles.specs.Publishing.{Adds, PassesAt, ids_by, ids_of, passed_by};
+
+use crate::source_set::{SourceSet, is_among};
+use crate::taken_from::TakenFrom;
+use indexmap::IndexMap;
+use pp_core::{Name, OutOfMemory, Sequence};
+use pp_kind::Parted;
+use pp_log_local::Local;
+use pp_log_shared::Shared;
+use std::alloc::Global;
+
+/// For each transaction the ids that it pushed on an object, in order.
+type Owners = IndexMap<Name, Sequence<u32>>;
+
+/// The same for each object.
+type Lists = IndexMap<u16, Owners>;
+
+/// Lists of what each transaction pushed, and for each open transaction how much of them it is
+/// known to have. No list is kept until one is wanted.
+#[derive(Drop)]
+pub struct Published {
+    alloc: Global,
+    /// Whether the lists are kept. If not, nothing here says anything.
+    kept: bool,
+    /// An id that left the shared log stays in its list, and is added again if it is pushed again.
+    lists: Lists,
+    /// For an open transaction, an owner and an object: so many ids of their list, from the first
+    /// on, are passed. The other ids are those of all entries that are not in the local log.
+    passed: IndexMap<Name, TakenFrom>,
+}
+
+/// Whether an entry of this id is in the shared log, and not in the local log.
+fn is_missing<S: Parted>(shared: &Shared<S>, local: &Local<S>, id: u32) -> bool
+    ensures { result ≡ false → (stands_in local.now.1 id ≡ true)
+        ⊎ (position (λ e. e.id == id) shared.now.1 ≡ None) }
+{
+    if local.find(id).is_some() {
+        return false;
+    }
+    shared.find(id).is_some()
+}
+
+/// The first position at `from` or after it whose entry is in the shared log, and not in the local
+/// log.
+fn first_missing<S: Parted>(shared: &Shared<S>, local: &Local<S>, ids: &[u32], from: usize) -> usize
+    ensures within { result ≤ length ids.now }
+    ensures there { (i id : ℕ) → from ≤ i → i < result → slice_get ids.now i ≡ Some id →
+        (stands_in local.now.1 id ≡ true) ⊎ (position (λ e. e.id == id) shared.now.1 ≡ None) }
+{
+    for at in from..ids.len() {
+        if is_missing(shared, local, ids[at]) {
+            return at;
+        }
+    }
+    ids.len()
+}
+
+/// Adds an id to the list of its owner.
+fn add_to(alloc: Global, owners: &mut Owners, owner: &Name, id: u32) -> Result<(), OutOfMemory>
+    ensures { OnOk result ((v : NameOf) → ids_of v owners.new.entries
+        ≡ at_name owner.now (ids_of owner.now owners.old.entries ++ id ∷ [])
+        (λ u. ids_of u owners.old.entries) v) }
+{
+    let mut ids = match owners.swap_remove(owner) {
+        Some(ids) => ids,
+        None => Sequence::new(alloc),
+    };
+    ids.push(id)?;
+    owners.insert(*owner, ids)?;
+    Ok(())
+}
+
+/// Adds an id to the list of its owner and its object.
+fn add_on(
+    alloc: Global,
+    lists: &mut Lists,
+    owner: &Name,
+    object: u16,
+    id: u32,
+) -> Result<(), OutOfMemory>
+    ensures { OnOk result ((v : NameOf) (o : ℕ) → ids_by v o lists.new.entries ≡ (if o == object
+        then at_name owner.now (ids_by owner.now object lists.old.entries ++ id ∷ [])
+        (λ u. ids_by u object lists.old.entries) v else ids_by v o lists.old.entries)) }
+{
+    let mut owners = match lists.swap_remove(&object) {
+        Some(owners) => owners,
+        None => IndexMap::new(alloc),
+    };
+    add_to(alloc, &mut owners, owner, id)?;
+    lists.insert(object, owners)?;
+    Ok(())
+}
+
+/// The ids that an owner pushed, by the lists at an object.
+fn listed<'a>(owners: &'a Owners, owner: &Name) -> &'a [u32]
+    ensures { result.now ≡ ids_of owner.now owners.now.entries }
+{
+    match owners.get(owner) {
+        Some(ids) => ids.as_slice(),
+        None => &[],
+    }
+}
+
+/// The ids from a position on.
+fn last_ids(ids: &[u32], from: usize) -> &[u32]
+    requires { from ≤ length ids.now }
+    ensures { result.now ≡ drop from ids.now }
+{
+    &ids[from..]
+}
+
+/// Adds the id of each entry of the shared log to the list of its owner and its object.
+fn list_all<S: Parted>(
+    alloc: Global,
+    lists: &mut Lists,
+    shared: &Shared<S>,
+) -> Result<(), OutOfMemory>
+    ensures { OnOk result ((e : EntryOf S.Op) → In e shared.now.1 →
+        In e.id (ids_by e.owner (S.place_of e.op) lists.new.entries)) }
+{
+    for entry in shared.entries() {
+        add_on(alloc, lists, &entry.owner, S::place(&entry.op), entry.id)?;
+    }
+    Ok(())
+}
+
+/// Nothing is passed.
+fn none_passed(alloc: Global) -> IndexMap<Name, TakenFrom>
+    ensures { (u v : NameOf) (o : ℕ) → passed_by u v o result.entries ≡ 0 }
+{
+    IndexMap::new(alloc)
+}
+
+/// Adds the ids of an owner and an object that are not passed. It first passes those that need no
+/// further look.
+fn add_rest<S: Parted>(
+    alloc: Global,
+    ids: &mut Vec<u32>,
+    passed: &mut TakenFrom,
+    owner: &Name,
+    object: u16,
+    owners: &Owners,
+    shared: &Shared<S>,
+    local: &Local<S>,
+) -> Result<(), OutOfMemory>
+    ensures passed { PassesAt local.now.1 shared.now.1 object (λ v. ids_of v owners.now.entries)
+        (λ v p. taken_in v passed.old p) (λ v p. taken_in v passed.new p) }
+    ensures kept { OnOk result ((i : ℕ) → In i ids.old.items → In i ids.new.items) }
+    ensures added { OnOk result (Adds local.now.1 shared.now.1 (ids_of owner.now owners.now.entries)
+        (taken_in owner.now passed.old object) ids.new.items) }
+{
+    let listed = listed(owners, owner);
+    let from = passed.count(owner, object);
+    let at = first_missing(shared, local, listed, from);
+    if at > from {
+        passed.set(alloc, owner, object, at);
+    }
+    ids.extend_from_slice(last_ids(listed, at))?;
+    Ok(())
+}
+
+/// The same of each of these owners.
+fn add_rests<S: Parted>(
+    alloc: Global,
+    ids: &mut Vec<u32>,
+    passed: &mut TakenFrom,
+    sources: &[Name],
+    object: u16,
+    owners: &Owners,
+    shared: &Shared<S>,
+    local: &Local<S>,
+) -> Result<(), OutOfMemory>
+    ensures passed { PassesAt local.now.1 shared.now.1 object (λ v. ids_of v owners.now.entries)
+        (λ v p. taken_in v passed.old p) (λ v p. taken_in v passed.new p) }
+    ensures kept { OnOk result ((i : ℕ) → In i ids.old.items → In i ids.new.items) }
+    ensures added { OnOk result ((v : NameOf) → In v sources.now →
+        Adds local.now.1 shared.now.1 (ids_of v owners.now.entries) (taken_in v passed.old object)
+        ids.new.items) }
+{
+    for source in sources {
+        add_rest(alloc, ids, passed, source, object, owners, shared, local)?;
+    }
+    Ok(())
+}
+
+/// Adds the name of an owner, if it is a source.
+fn add_name(names: &mut Vec<Name>, sources: &SourceSet, owner: &Name) -> Result<(), OutOfMemory>
+    ensures kept { OnOk result ((v : NameOf) → In v names.old.items → In v names.new.items) }
+    ensures added { OnOk result (has_name owner.now sources.now.keys ≡ true →
+        In owner.now names.new.items) }
+{
+    if is_among(Some(sources), owner) {
+        names.push(*owner)?;
+        return Ok(());
+    }
+    Ok(())
+}
+
+/// The sources that have a list.
+fn listed_sources(
+    alloc: Global,
+    sources: &SourceSet,
+    owners: &Owners,
+) -> Result<Vec<Name>, OutOfMemory>
+    ensures { IfOk result (λ names. (v : NameOf) → In v sources.now.keys →
+        In v names.items ⊎ (ids_of v owners.now.entries ≡ [])) }
+{
+    let mut names = Vec::new(alloc);
+    for owner in owners.keys().as_slice() {
+        add_name(&mut names, sources, owner)?;
+    }
+    Ok(names)
+}
+
+/// The same of each source. It goes over the sources, or over the owners if they are fewer.
+fn add_fewer<S: Parted>(
+    alloc: Global,
+    ids: &mut Vec<u32>,
+    passed: &mut TakenFrom,
+    sources: &SourceSet,
+    object: u16,
+    owners: &Owners,
+    shared: &Shared<S>,
+    local: &Local<S>,
+) -> Result<(), OutOfMemory>
+    ensures passed { PassesAt local.now.1 shared.now.1 object (λ v. ids_of v owners.now.entries)
+        (λ v p. taken_in v passed.old p) (λ v p. taken_in v passed.new p) }
+    ensures kept { OnOk result ((i : ℕ) → In i ids.old.items → In i ids.new.items) }
+    ensures added { OnOk result ((v : NameOf) → In v sources.now.keys →
+        Adds local.now.1 shared.now.1 (ids_of v owners.now.entries) (taken_in v passed.old object)
+        ids.new.items) }
+{
+    if sources.len() <= owners.len() {
+        let names = sources.as_slice();
+        return add_rests(alloc, ids, passed, names, object, owners, shared, local);
+    }
+    let names = listed_sources(alloc, sources, owners)?;
+    add_rests(alloc, ids, passed, &names, object, owners, shared, local)
+}
+
+/// The same of each source, by all lists.
+fn add_on_object<S: Parted>(
+    alloc: Global,
+    ids: &mut Vec<u32>,
+    passed: &mut TakenFrom,
+    sources: &SourceSet,
+    object: u16,
+    lists: &Lists,
+    shared: &Shared<S>,
+    local: &Local<S>,
+) -> Result<(), OutOfMemory>
+    ensures passed { PassesAt local.now.1 shared.now.1 object
+        (λ v. ids_by v object lists.now.entries) (λ v p. taken_in v passed.old p)
+        (λ v p. taken_in v passed.new p) }
+    ensures kept { OnOk result ((i : ℕ) → In i ids.old.items → In i ids.new.items) }
+    ensures added { OnOk result ((v : NameOf) → In v sources.now.keys →
+        Adds local.now.1 shared.now.1 (ids_by v object lists.now.entries)
+        (taken_in v passed.old object) ids.new.items) }
+{
+    let Some(owners) = lists.get(&object) else {
+        return Ok(());
+    };
+    add_fewer(alloc, ids, passed, sources, object, owners, shared, local)
+}
+
+impl Published {
+    ghost use Rattle.std.specs.Prelude.{◌≡◌, ℕ, OnOk, false, if◌then◌else◌, true};
+    ghost use Rattle.pp_model.specs.Lists.{In};
+    ghost use Rattle.pp_model.specs.Names.{Name as NameOf, ◌=ⁿ◌};
+    ghost use Rattle.pp_styles.specs.Noting.{taken_in};
+    ghost use Rattle.pp_styles.specs.Publishing.{Adds, Keeps, ListsLast, LooksFurther, Unpasses};
+    ghost use Rattle.pp_styles.specs.Publishing.{publications};
+
+    /// No list is kept.
+    pub fn new(alloc: Global) -> Published
+        ensures { (publications result).kept ≡ false }
+    {
+        Published {
+            alloc,
+            kept: false,
+            lists: IndexMap::new(alloc),
+            passed: IndexMap::new(alloc),
+        }
+    }
+
+    /// How many transactions pushed on an object.
+    pub fn owners_on(&self, object: u16) -> usize {
+        match self.lists.get(&object) {
+            Some(owners) => owners.len(),
+            None => 0,
+        }
+    }
+
+    /// Adds the last entry of the shared log to the lists, if they are kept.
+    pub fn note_last<S: Parted>(&mut self, shared: &Shared<S>) -> Result<(), OutOfMemory>
+        ensures { OnOk result
+            (ListsLast S.place_of shared.now.1 (publications self.old) (publications self.new)) }
+    {
+        if !self.kept {
+            return Ok(());
+        }
+        let Some(at) = shared.len().checked_sub(1) else {
+            return Ok(());
+        };
+        let Some(last) = shared.entry(at) else {
+            return Ok(());
+        };
+        add_on(
+            self.alloc,
+            &mut self.lists,
+            &last.owner,
+            S::place(&last.op),
+            last.id,
+        )
+    }
+
+    /// Begins to keep lists, unless they are kept: of all entries of the shared log.
+    pub fn keep<S: Parted>(&mut self, shared: &Shared<S>) -> Result<(), OutOfMemory>
+        ensures kept { OnOk result ((publications self.new).kept ≡ true) }
+        ensures lists { Keeps S.place_of shared.now.1 (publications self.old)
+            (publications self.new) }
+    {
+        if self.kept {
+            return Ok(());
+        }
+        list_all(self.alloc, &mut self.lists, shared)?;
+        self.passed = none_passed(self.alloc);
+        self.kept = true;
+        Ok(())
+    }
+
+    /// Forgets what is known of an open transaction.
+    pub fn forget(&mut self, tx: &Name)
+        ensures { Unpasses tx.now (publications self.old) (publications self.new) }
+    {
+        self.passed.swap_remove(tx);
+    }
+
+    /// Takes out what is known of an open transaction.
+    fn take(&mut self, tx: &Name) -> TakenFrom
+        ensures taken { (v : NameOf) (o : ℕ) → taken_in v result o
+            ≡ (publications self.old).passed tx.now v o }
+        ensures rest { Unpasses tx.now (publications self.old) (publications self.new) }
+    {
+        match self.passed.swap_remove(tx) {
+            Some(passed) => passed,
+            None => TakenFrom::new(self.alloc),
+        }
+    }
+
+    /// Puts back what is known of an open transaction. If memory runs out, nothing is known of it.
+    fn put(&mut self, tx: &Name, passed: TakenFrom)
+        ensures kept { (publications self.new).kept ≡ (publications self.old).kept }
+        ensures ids { (v : NameOf) (o : ℕ) → (publications self.new).ids v o
+            ≡ (publications self.old).ids v o }
+        ensures passed { (u v : NameOf) (o : ℕ) →
+            ((publications self.new).passed u v o ≡ (publications self.old).passed u v o)
+            ⊎ (((u =ⁿ tx.now) ≡ true)
+            × ((publications self.new).passed u v o ≡ taken_in v passed o)) }
+    {
+        let _ = self.passed.insert(*tx, passed);
+    }
+
+    /// Adds ids of what these sources published on an object: each such entry of the shared log is
+    /// in the local log, or its id is among these.
+    pub fn add_missing<S: Parted>(
+        &mut self,
+        ids: &mut Vec<u32>,
+        tx: &Name,
+        object: u16,
+        sources: &SourceSet,
+        shared: &Shared<S>,
+        local: &Local<S>,
+    ) -> Result<(), OutOfMemory>
+        ensures passed { LooksFurther tx.now object local.now.1 shared.now.1
+            (publications self.old) (publications self.new) }
+        ensures kept { OnOk result ((i : ℕ) → In i ids.old.items → In i ids.new.items) }
+        ensures added { OnOk result ((v : NameOf) → In v sources.now.keys →
+            Adds local.now.1 shared.now.1 ((publications self.old).ids v object)
+            ((publications self.old).passed tx.now v object) ids.new.items) }
+    {
+        let mut passed = self.take(tx);
+        let added = add_on_object(
+            self.alloc,
+            ids,
+            &mut passed,
+            sources,
+            object,
+            &self.lists,
+            shared,
+            local,
+        );
+        self.put(tx, passed);
+        added
+    }
+}
