@@ -28,10 +28,10 @@ use Rattle.pp_machine.specs.Machines.{Seen}
 use Rattle.pp_kind.specs.Object.{state_after}
 use Rattle.pp_text.specs.Lines.{line, state_lines}
 use Rattle.pp_judge.proofs.Concluding.{accepted_alone, accepted_reported, accepted_simulated}
-use Rattle.pp_judge.proofs.Covering.{running_sound}
+use Rattle.pp_judge.proofs.Running.{running_sound}
 use Rattle.pp_judge.specs.Inputs.{IsFaultOf}
 use Rattle.pp_judge.specs.Objects.{setting_of}
-use Rattle.pp_judge.specs.Progresses.{IsRunning}
+use Rattle.pp_judge.specs.Running.{IsRunning}
 use Rattle.pp_judge.specs.Reports.{IsCertified, IsTold, RunReport}
 use Rattle.pp_judge.specs.Scans.{InputScan}
 use Rattle.pp_judge.specs.declared.progress.Tally.{Tally}

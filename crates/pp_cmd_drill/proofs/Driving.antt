@@ -30,10 +30,10 @@ use Rattle.pp_styles.specs.Costs.{most_ticks, singles}
 use Rattle.pp_styles.specs.Driving.{CostAtMost, Drives, Halts, HasDone, after_steps}
 use Rattle.pp_styles.specs.declared.drive.Halt.{Halt}
 use Rattle.pp_styles.specs.declared.drive.Halt.TheVariants.{Failed, TooMany}
-use Rattle.pp_judge.proofs.Counting.{few_steps}
+use Rattle.pp_judge.specs.laws.Driven.{few_steps}
 use Rattle.pp_judge.specs.Costs.{OfRun, StepsCostAtMost, steps_at_most}
 use Rattle.pp_judge.specs.Objects.{translation_of}
-use Rattle.pp_judge.specs.Progresses.{IsRunning, standing_of}
+use Rattle.pp_judge.specs.Running.{IsRunning, standing_of}
 use Rattle.pp_judge.specs.Scans.{InputScan}
 use Rattle.pp_judge.specs.declared.progress.Tally.{Tally}
 use Rattle.pp_cmd_drill.proofs.Accepted.{drill_accepted}

@@ -3,10 +3,9 @@ ghost use Rattle.std.specs.Prelude.{◌≡◌, ◌≤◌, ◌+◌, length, None,
 ghost use Rattle.pp_core.specs.declared.status.Status.TheVariants as statuses;
 ghost use Rattle.pp_model.specs.Config.{first};
 ghost use Rattle.pp_model.specs.Sound.{serial_ops};
-ghost use Rattle.pp_judge.specs.Costs.{CostsAtLeast, CostsAtMost, StepsCostAtMost};
-ghost use Rattle.pp_judge.specs.Findings.{StepsCounted};
-ghost use Rattle.pp_judge.specs.Progresses.{IsRunning};
-ghost use Rattle.pp_judge.specs.declared.finding.Finding.TheVariants.{Accepted};
+ghost use Rattle.pp_judge.specs.Costs.{CostsAtLeast, CostsAtMost, StepsCostAtLeast};
+ghost use Rattle.pp_judge.specs.Costs.{StepsCostAtMost};
+ghost use Rattle.pp_judge.specs.Running.{IsRunning};
 ghost use Rattle.pp_cmd_drill.specs.Drill.{drill_catalog, drill_kinds};
 ghost use Rattle.pp_cmd_drill.specs.Reports.{IsDrilled, drill_scan};
 
@@ -47,8 +46,8 @@ fn machine_behind<L: Ledger>(
     requires few { n ≤ 20_000 }
     ensures running { IfOk result (λ r. IsRunning (drill_scan n) r.0 r.1) }
     ensures most { StepsCostAtMost (drill_scan n) ticks.old ticks.new }
-    ensures least { IfOk result (λ r.
-        StepsCounted (drill_scan n) (Accepted r.0 r.1) ticks.old ticks.new) }
+    ensures least { IfOk result (λ _.
+        StepsCostAtLeast statuses.Accepted (drill_scan n) ticks.old ticks.new) }
 {
     let catalog = drill_catalog(alloc)?;
     let steps = drill_steps(alloc, n)?;

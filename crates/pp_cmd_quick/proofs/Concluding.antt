@@ -24,21 +24,32 @@ use Rattle.pp_input_reader.specs.declared.cause.Cause.{Cause}
 use Rattle.pp_input_reader.specs.FaultTexts.{fault_text}
 use Rattle.pp_kind.specs.Object.{state_after}
 use Rattle.pp_judge.specs.Costs.{OfRun, serial_length, start_behind}
+use Rattle.pp_judge.specs.Findings as findings
 use Rattle.pp_judge.specs.Inputs.{scan}
 use Rattle.pp_judge.specs.Objects.{object_of, start_of, translation_of}
 use Rattle.pp_judge.specs.Scans.{InputScan}
+use Rattle.pp_judge.specs.Tallies.{headed}
 use Rattle.pp_judge.specs.declared.progress.Tally.{Tally}
 use Rattle.pp_judge.proofs.Concluding.{serial_is}
 use Rattle.pp_cmd_quick.specs.Costs.{OfTried, QuickCostsAtLeast, QuickCostsAtMost, RecordsCostAtMost, tried_most}
 use Rattle.pp_cmd_quick.specs.Decisions.{Decision, Faulty, IsDecision, IsDecisionBehind, IsDecisionOf, IsDecisionTold, IsQuick, Rejects, acceptance, quick_fault, steps_behind}
 use Rattle.pp_cmd_quick.specs.Reports.{quick_accepted_text, quick_rejected_text}
-use Rattle.pp_cmd_quick.specs.Taking.{AreGood, HasFailed}
-use Rattle.pp_cmd_quick.specs.declared.deciding.Deciding.TheVariants.{Running, Rejected}
-use Rattle.pp_cmd_quick.proofs.Covering.{covers_fault, headed}
+use Rattle.pp_cmd_quick.specs.Taking.{AreGood, HasFailed, quick_judging}
+use Rattle.pp_cmd_quick.specs.declared.decider.Decider.{Decider}
+use Rattle.pp_cmd_quick.specs.declared.decider.FailedOn.{FailedOn}
+use Rattle.pp_cmd_quick.specs.DeciderLaws.{boosted_fault}
 use Rattle.pp_cmd_quick.proofs.Readers.{all_hold, committed_are}
 
 pub few_serial : (a b k : ℕ) → a ≡ b → b ≤ k + 256 → k ≤ 200_000 → a < 1_000_000
 few_serial a b k x y z = omega (arith, x, y, z)
+
+-- ---- what the summary as a judge says
+
+pub good_of : (sc : InputScan) (tally : Tally) (judge : Decider) → findings.AreGood quick_judging sc tally judge → AreGood sc tally judge.quick
+good_of sc tally judge g = record { follows = g.follows; good = g.good }
+
+pub failed_of : (sc : InputScan) (tally : Tally) (failed : FailedOn) → findings.AreBad quick_judging sc tally failed → HasFailed sc tally failed.line
+failed_of sc tally failed b = record { follows = b.follows; style = b.bad.0; fails = b.bad.1 }
 
 -- ---- what is told
 
@@ -56,16 +67,16 @@ behind_none sc header decision none there is = subst (λ (o : Option (ℕ × Cau
 pub rejected_told : (bytes : List ℕ) (tally : Tally) (line : ℕ) (text : List ℕ) → HasFailed (scan bytes) tally line → text ≡ quick_rejected_text line → IsQuick bytes statuses.Rejected text
 rejected_told bytes tally line text c text_is =
     let sc : InputScan = scan bytes in
-    let none : quick_fault sc ≡ None = covers_fault sc sc (Rejected tally line) c refl ∙ c.follows.sound in
-    (Rejects line, behind_none sc (headed sc tally c.follows) (Rejects line) none c.follows.header (inr (line, c.fails, refl)), (refl, text_is))
+    let none : quick_fault sc ≡ None = boosted_fault sc (headed c.follows.at tally.header) c.follows.header c.style ∙ c.follows.sound in
+    (Rejects line, behind_none sc (headed c.follows.at tally.header) (Rejects line) none c.follows.header (inr (line, c.fails, refl)), (refl, text_is))
 
 pub accepted_told : (bytes : List ℕ) (tally : Tally) (quick : Held (List Kind) Op) (text : List ℕ) → AreGood (scan bytes) tally quick
     → IsDecisionTold (scan bytes).header (acceptance tally.header (scan bytes).records) statuses.Accepted text → IsQuick bytes statuses.Accepted text
 accepted_told bytes tally quick text c told =
     let sc : InputScan = scan bytes in
-    let none : quick_fault sc ≡ None = covers_fault sc sc (Running tally quick) c refl ∙ c.follows.sound in
+    let none : quick_fault sc ≡ None = boosted_fault sc (headed c.follows.at tally.header) c.follows.header c.good.style ∙ c.follows.sound in
     let decision : Decision = acceptance tally.header sc.records in
-    (decision, behind_none sc (headed sc tally c.follows) decision none c.follows.header (inl (all_hold sc tally quick c, refl)), told)
+    (decision, behind_none sc (headed c.follows.at tally.header) decision none c.follows.header (inl (all_hold tally.header sc.records quick c.good, refl)), told)
 
 both_most : (old now new a b n : ℕ) → now ≤ old + a → new ≤ now + n → n ≡ b → new ≤ old + a + b
 both_most old now new a b n x y z = omega (arith, x, y, z)
@@ -85,15 +96,15 @@ module _ (sc : InputScan) (tally : Tally) (quick : Held (List Kind) Op) (c : Are
       → states ≡ state_after objects (kinds_of h.catalog) (serial_ops D) → text ≡ quick_accepted_text h.catalog count D states → IsDecisionTold sc.header (acceptance h sc.records) statuses.Accepted text
   acceptance_told count D states text count_is D_is state_is text_is =
       let kinds : List Kind = kinds_of h.catalog in
-      let committed : D ≡ map committed_tx as' = D_is ∙ committed_are sc tally quick c in
+      let committed : D ≡ map committed_tx as' = D_is ∙ committed_are tally.header sc.records quick c.good in
       let final : List ObjectState = state (object_of h) (serial as') in
       let same : states ≡ final =
       state_is ∙ ap (λ (E : List (CommittedTx Op)). state_after objects kinds (serial_ops E)) committed ∙ ap (λ (l : List Op). state_after objects kinds l) (serial_is as') in (
         refl,
         (
-          headed sc tally c.follows,
+          headed c.follows.at tally.header,
           c.follows.header,
-          text_is ∙ ap (λ (n : ℕ). quick_accepted_text h.catalog n D states) (count_is ∙ c.read.count)
+          text_is ∙ ap (λ (n : ℕ). quick_accepted_text h.catalog n D states) (count_is ∙ c.good.read.count)
               ∙ ap (λ (E : List (CommittedTx Op)). quick_accepted_text h.catalog (length sc.records) E states) committed
               ∙ ap (λ (s : List ObjectState). quick_accepted_text h.catalog (length sc.records) (map committed_tx as') s) same,
         ),
@@ -104,7 +115,7 @@ module _ (sc : InputScan) (tally : Tally) (quick : Held (List Kind) Op) (c : Are
   run_is : IsRun (object_of h) (translation_of h) (start_of h) sc.records (steps_behind h sc.records)
   run_is =
       (one_run_law (object_of h) (translation_of h)).told (start_of h) sc.records Accepted
-      ((accepted_iff (object_of h) (start_of h) (bare (steps_behind h sc.records))).1 (all_hold sc tally quick c))
+      ((accepted_iff (object_of h) (start_of h) (bare (steps_behind h sc.records))).1 (all_hold tally.header sc.records quick c.good))
 
   abbrev Serial : Option (Start Op) → List (Step Op) → Type 0
   Serial start steps = length (serial_ops quick.brief.done) ≡ serial_length start steps
@@ -113,7 +124,7 @@ module _ (sc : InputScan) (tally : Tally) (quick : Held (List Kind) Op) (c : Are
   serial_count =
       let all : LinedSteps Op = steps_behind h sc.records in
       let here : Serial (start_of h) (bare all) =
-      ap (λ (D : List (CommittedTx Op)). length (serial_ops D)) (committed_are sc tally quick c) ∙ ap (λ (l : List Op). length l) (serial_is as') in
+      ap (λ (D : List (CommittedTx Op)). length (serial_ops D)) (committed_are tally.header sc.records quick c.good) ∙ ap (λ (l : List Op). length l) (serial_is as') in
       subst (λ (o : Option (Lined Header)). OfRun o sc.records (λ start steps. Serial start steps)) (sym c.follows.header) (λ run is.
       let same : all ≡ run = (one_run_law (object_of h) (translation_of h)).run (start_of h) sc.records all run run_is is in
       subst (λ (w : LinedSteps Op). Serial (start_of h) (bare w)) same here)

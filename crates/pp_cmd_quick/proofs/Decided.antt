@@ -26,7 +26,7 @@ use Rattle.pp_judge.specs.Scans.{InputScan}
 use Rattle.pp_cmd_quick.specs.Decisions.{Accepts, AllHold, Decision, FailsOn, Faulty, IsDecision, IsDecisionBehind, IsDecisionOf, IsDecisionTold, IsQuick, IsVerdictBehind, Rejects, acceptance, quick_fault, steps_behind}
 use Rattle.pp_cmd_quick.specs.Reports.{quick_accepted_text}
 use Rattle.pp_cmd_quick.specs.Laws.{DecisionLaw, IsSameDecision, TellsVerdict}
-use Rattle.pp_cmd_quick.proofs.Faults.{boosted_fault}
+use Rattle.pp_cmd_quick.specs.DeciderLaws.{boosted_fault}
 use Rattle.pp_cmd_quick.proofs.Verdicts.{some_verdict}
 
 module _ (header : Lined Header) (rs : Records (RunRecord Op)) where

@@ -1,9 +1,6 @@
-pub mod Faults
 pub mod Readers
 pub mod Starting
-pub mod Covering
-pub mod Counting
-pub mod Lines
+pub mod Judging
 pub mod Concluding
 pub mod Verdicts
 pub mod Decided

@@ -27,11 +27,9 @@ use Rattle.pp_summary.proofs.HeldOf.{apart_of}
 use Rattle.pp_summary.proofs.Whole.{decided}
 use Rattle.pp_kind.specs.Object.{rules_of}
 use Rattle.pp_judge.specs.Objects.{object_of, start_of, translation_of}
-use Rattle.pp_judge.specs.Scans.{InputScan}
-use Rattle.pp_judge.specs.declared.progress.Tally.{Tally}
 use Rattle.pp_cmd_quick.specs.Costs.{first_brief}
 use Rattle.pp_cmd_quick.specs.Decisions.{AllHold, steps_behind}
-use Rattle.pp_cmd_quick.specs.Taking.{AreGood}
+use Rattle.pp_cmd_quick.specs.Taking.{AreGoodBehind}
 
 pub reads : (ks : List Kind) (h : Option (Start Op)) → IsReader objects place_of ks h
 reads ks h = reader objects place_of (apart_of objects place_of SameAt objects_placed) ks h
@@ -46,15 +44,9 @@ is_briefed header = briefed (object_of header) place_of (apart_of objects place_
 pub briefs_decide : (header : Header) → BriefsDecide (object_of header) place_of
 briefs_decide header = decided (object_of header) place_of (apart_of objects place_of SameAt objects_placed (kinds_of header.catalog))
 
-module _ (sc : InputScan) (tally : Tally) (quick : Held (List Kind) Op) (c : AreGood sc tally quick) where
-  abbrev h : Header
-  h = tally.header
-
+module _ (h : Header) (rs : Records (RunRecord Op)) (quick : Held (List Kind) Op) (c : AreGoodBehind h rs quick) where
   abbrev ks : List Kind
   ks = kinds_of h.catalog
-
-  abbrev rs : Records (RunRecord Op)
-  rs = sc.records
 
   -- the start and each step hold
   pub all_hold : AllHold h rs

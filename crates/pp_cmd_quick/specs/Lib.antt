@@ -4,3 +4,4 @@ pub mod Costs
 pub mod Taking
 pub mod Conclusions
 pub mod Laws
+pub mod DeciderLaws

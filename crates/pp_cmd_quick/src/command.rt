@@ -14,12 +14,12 @@ ghost use Rattle.pp_cmd_quick.specs.Costs.{QuickCostsAtLeast, QuickCostsAtMost};
 ghost use Rattle.pp_cmd_quick.specs.Decisions.{IsQuick, QuickReadsNoFault};
 ghost use Rattle.pp_cmd_quick.specs.Taking.{AreGood};
 
-use crate::conclusion::{Conclusion, read_run};
+use crate::decider::Decider;
 use crate::report::{quick_accepted, quick_rejected};
 use pp_core::{OutOfMemory, Status, Text, Ticks};
 use pp_input::Source;
 use pp_input_reader::{Failure, fault};
-use pp_judge::Tally;
+use pp_judge::{Finding, Tally, examine};
 use pp_kind::serial_state;
 use pp_objects::Objects;
 use pp_summary::Quick;
@@ -67,17 +67,17 @@ pub fn quick<S: Source, L: Ledger>(
     ensures least { IfOk result (λ r. IsDecided r.0 → WhereTold (S.left source.old) λ bytes.
         QuickCostsAtLeast r.0 (scan bytes) ticks.old ticks.new) }
 {
-    match read_run(alloc, source, ticks)? {
-        Conclusion::Faulty(line, cause) => {
+    match examine::<S, Decider, L>(alloc, source, ticks)? {
+        Finding::Fault(line, cause) => {
             let text = fault(alloc, line, &cause)?;
             Ok((Status::InputFault, text))
         }
-        Conclusion::Rejected(line) => {
-            let text = quick_rejected(alloc, line)?;
+        Finding::Rejected(_tally, failed) => {
+            let text = quick_rejected(alloc, failed.line)?;
             Ok((Status::Rejected, text))
         }
-        Conclusion::Accepted(tally, quick) => {
-            let text = report_accepted(alloc, &tally, &quick, ticks)?;
+        Finding::Accepted(tally, judge) => {
+            let text = report_accepted(alloc, &tally, &judge.quick, ticks)?;
             Ok((Status::Accepted, text))
         }
     }

@@ -2,11 +2,9 @@
 #![tactic(auto)]
 
 mod command;
-mod conclusion;
-mod deciding;
+mod decider;
 mod law;
 mod report;
-mod take;
 
 pub use command::quick;
 pub use law::decision_law;

@@ -31,14 +31,14 @@ use Rattle.pp_certificate_lines.specs.Lines.{line_bytes}
 use Rattle.pp_judge.specs.Accepted.{HasRun}
 use Rattle.pp_judge.specs.Certified.{IsDecided}
 use Rattle.pp_judge.specs.Inputs.{IsFaultOf, scan}
-use Rattle.pp_judge.specs.Progresses.{IsRejected, IsRunning}
+use Rattle.pp_judge.specs.Running.{IsRejected, IsRunning}
 use Rattle.pp_judge.specs.Reports.{IsRunTold}
 use Rattle.pp_judge.specs.Scans.{InputScan}
-use Rattle.pp_judge.specs.declared.progress.Rejection.{Rejection}
+use Rattle.pp_judge.specs.declared.driven.Rejection.{Rejection}
 use Rattle.pp_judge.specs.declared.progress.Tally.{Tally}
 use Rattle.pp_judge.proofs.Concluding.{accepted_told, fault_report, run_report}
-use Rattle.pp_judge.proofs.Counting.{is_run_so_far, run_so_far}
-use Rattle.pp_judge.proofs.Covering.{config_is, rejected_sound, running_sound}
+use Rattle.pp_judge.proofs.Running.{is_run_so_far, run_so_far}
+use Rattle.pp_judge.proofs.Running.{config_is, rejected_sound, running_sound}
 use Rattle.pp_cmd_swaps.proofs.Targeting.{fit}
 use Rattle.pp_cmd_swaps.specs.Swaps.{IsSwaps, IsTold, too_large_text}
 

@@ -19,7 +19,7 @@ use pp_certificate_exchanges::{SwapFault, exchanges};
 use pp_core::{Catalog, MOST_SWAPS, OutOfMemory, Status, Text, Ticks};
 use pp_input::Source;
 use pp_input_reader::{Failure, fault};
-use pp_judge::{Finding, examine, report_rejected};
+use pp_judge::{Blind, Driven, Finding, examine, report_rejected};
 use pp_machine::Machine;
 use pp_objects::Objects;
 use std::alloc::Global;
@@ -88,16 +88,17 @@ pub fn swaps<S: Source, L: Ledger>(
     ensures least { IfOk result (λ r. IsDecided r.0 → WhereTold (S.left source.old) λ bytes.
         StepsCostAtLeast r.0 (scan bytes) ticks.old ticks.new) }
 {
-    match examine(alloc, source, ticks)? {
+    match examine::<S, Driven<Blind>, L>(alloc, source, ticks)? {
         Finding::Fault(line, cause) => {
             let text = fault(alloc, line, &cause)?;
             Ok((Status::InputFault, text))
         }
-        Finding::Rejected(tally, rejection) => {
-            let text = report_rejected(alloc, &tally, &rejection)?;
+        Finding::Rejected(tally, refused) => {
+            let text = report_rejected(alloc, &tally, &refused.rejection)?;
             Ok((Status::Rejected, text))
         }
-        Finding::Accepted(tally, machine) => {
+        Finding::Accepted(tally, judge) => {
+            let machine = judge.machine.into_machine();
             let report = told(alloc, &tally.header.catalog, &machine)?;
             Ok(report)
         }

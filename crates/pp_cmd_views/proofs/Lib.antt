@@ -1,4 +1,3 @@
 pub mod Appends
-pub mod Keeping
 pub mod Telling
 pub mod Viewed

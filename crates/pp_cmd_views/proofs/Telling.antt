@@ -14,7 +14,7 @@ use Rattle.pp_core.specs.declared.status.Status.{Status}
 use Rattle.pp_core.specs.declared.status.Status.TheVariants as statuses
 use Rattle.pp_core.specs.Steps.{Step, App, Cmt}
 use Rattle.pp_records.proofs.Ends.{length_bare}
-use Rattle.pp_records.specs.Runs.{LinedSteps, bare}
+use Rattle.pp_records.specs.Runs.{Lined, LinedSteps, bare}
 use Rattle.pp_format_read.specs.declared.header.Header.{Header}
 use Rattle.pp_format_write.specs.Statable.{IsOpOn, IsWritable}
 use Rattle.pp_model.specs.Config.{Start, first}
@@ -30,6 +30,7 @@ use Rattle.pp_report.specs.Reports.{accepted_text}
 use Rattle.pp_machine.specs.Machines.{Seen}
 use Rattle.pp_kind.specs.Object.{AllRanged, state_after}
 use Rattle.pp_styles.specs.Costs.{singles}
+use Rattle.pp_styles.specs.Meanings.{meanings}
 use Rattle.pp_attempts.specs.declared.peak.Peak.{Peak}
 use Rattle.pp_attempts.specs.Peaks.{IsOrderly, operations, peaks}
 use Rattle.pp_attempts.specs.declared.view.View.{View}
@@ -38,24 +39,26 @@ use Rattle.pp_attempts.proofs.KeptPeaks.{applied, peak_short}
 use Rattle.pp_records.proofs.Carrying.{each_in}
 use Rattle.pp_attempts.proofs.Runs.{orderly}
 use Rattle.pp_judge.proofs.Concluding.{accepted_told, committed_are, fault_report, run_report}
-use Rattle.pp_judge.proofs.Counting.{is_run_so_far, run_so_far}
-use Rattle.pp_judge.proofs.Covering.{rejected_sound, running_sound}
-use Rattle.pp_judge.proofs.Keeping.{kept_of}
+use Rattle.pp_judge.proofs.Running.{is_run_so_far, rejected_sound, run_so_far, running_of, running_sound}
 use Rattle.pp_judge.specs.Accepted.{HasRun}
 use Rattle.pp_judge.specs.Certified.{IsDecided}
 use Rattle.pp_judge.specs.Costs.{OfRun, StepsCostAtLeast, StepsCostAtMost, start_behind, steps_at_most}
+use Rattle.pp_judge.specs.Driven.{driven_judging}
+use Rattle.pp_judge.specs.Findings.{AreGood}
 use Rattle.pp_judge.specs.Inputs.{IsFaultOf, scan}
 use Rattle.pp_judge.specs.Objects.{object_of, start_of}
-use Rattle.pp_judge.specs.Progresses.{IsRejected}
+use Rattle.pp_judge.specs.Running.{IsRejected}
 use Rattle.pp_judge.specs.Reports.{IsRunTold as IsReportTold}
 use Rattle.pp_judge.specs.Scans.{InputScan}
-use Rattle.pp_judge.specs.declared.progress.Rejection.{Rejection}
+use Rattle.pp_judge.specs.declared.driven.Driven.{Driven}
+use Rattle.pp_judge.specs.declared.driven.Rejection.{Rejection}
 use Rattle.pp_judge.specs.declared.progress.Tally.{Tally}
 use Rattle.pp_input_reader.specs.FaultTexts.{fault_text}
 use Rattle.pp_input_reader.specs.declared.cause.Cause.{Cause}
 use Rattle.pp_cmd_views.specs.Costs.{ViewsCostAtMost, viewing_at_most}
 use Rattle.pp_cmd_views.specs.Outputs.{IsRunTold, IsStepsTold, IsViews}
-use Rattle.pp_cmd_views.specs.Taken.{HasSteps}
+use Rattle.pp_cmd_views.specs.Taken.{HasSeenSteps, HasSteps}
+use Rattle.pp_cmd_views.specs.declared.run_steps.RunSteps.{RunSteps}
 use Rattle.pp_cmd_views.specs.Texts.{too_large_text, views_text}
 
 -- ---- numbers
@@ -90,6 +93,21 @@ on_objects catalog (x ∷ items) all =
 
 -- ---- an accepted run
 
+abbrev Are : List (Step Op) → Option (Start Op) → List (Step Op) → Type 0
+Are steps start run = steps ≡ run
+
+-- a machine that was driven through the run has them
+pub has_steps : (sc : InputScan) (tally : Tally) (judge : Driven RunSteps) → AreGood (driven_judging HasSeenSteps) sc tally judge → HasSteps sc tally judge.machine (meanings judge.observer.steps)
+has_steps sc tally judge g =
+    let running = running_of HasSeenSteps sc tally judge g in
+    let steps = meanings judge.observer.steps in
+    let seen = g.good.1 (run_so_far sc tally judge.machine running) (is_run_so_far sc tally judge.machine running) in
+    record {
+      running = running;
+      are = subst (λ (o : Option (Lined Header)). OfRun o sc.records (Are steps)) (sym g.follows.header) (λ run is. (g.good.1 run is).0);
+      each = subst (λ (w : List (Step Op)). Each (IsWritable tally.header.catalog) w) (sym seen.0) seen.1;
+    }
+
 module _ (sc : InputScan) (tally : Tally) (machine : Seen (List Kind) Op) (steps : List (Step Op)) (h : HasSteps sc tally machine steps) where
   abbrev header : Header
   header = tally.header
@@ -109,7 +127,7 @@ module _ (sc : InputScan) (tally : Tally) (machine : Seen (List Kind) Op) (steps
   }
 
   steps_are : steps ≡ bare run
-  steps_are = kept_of sc (record { line = h.running.follows.at; what = tally.header }) steps run h.running.follows.header h.are (is_run_so_far sc tally machine h.running)
+  steps_are = subst (λ (o : Option (Lined Header)). OfRun o sc.records (Are steps)) h.running.follows.header h.are run (is_run_so_far sc tally machine h.running)
 
   met : StartMeets (object_of header) (start_of header)
   met = h.running.stands.begun
@@ -135,7 +153,7 @@ module _ (sc : InputScan) (tally : Tally) (machine : Seen (List Kind) Op) (steps
   -- the operations of a peak may be tried behind so many
   pub may_be_tried : (p : Peak Op) (n : ℕ) → In p (peaks steps) → n ≤ 200_256 → MayBeTried objects kinds n p.ops
   may_be_tried p n there few =
-      let on = on_objects header.catalog p.ops (λ i m. each_in (IsWritable header.catalog) steps h.are.each (App p.tx i.id i.op) (applied steps p i there m)) in
+      let on = on_objects header.catalog p.ops (λ i m. each_in (IsWritable header.catalog) steps h.each (App p.tx i.id i.op) (applied steps p i there m)) in
       record {
         fit = on.0;
         ranged = on.1;
@@ -172,7 +190,7 @@ module _ (sc : InputScan) (tally : Tally) (machine : Seen (List Kind) Op) (steps
   pub viewed_most : (old now new : ℕ) → StepsCostAtMost sc old now → new ≤ now + viewing_at_most machine.config.done steps → ViewsCostAtMost sc old new
   viewed_most old now new most cost other is =
       let most_here = most other is in
-      let steps_is : steps ≡ bare other = h.are.run other is in
+      let steps_is : steps ≡ bare other = h.are other is in
       let start_is : start_of header ≡ start_behind sc.header = ap start_behind (sym h.running.follows.header) in
       let same : viewing_at_most machine.config.done steps ≡ viewing_at_most (map committed_tx (attempts (start_behind sc.header) (bare other))) (bare other) =
       ap (λ (D : List (CommittedTx Op)). viewing_at_most D steps) committed

@@ -12,12 +12,12 @@ ghost use Rattle.pp_judge.specs.Rejected.{IsEvident};
 ghost use Rattle.pp_cmd_views.specs.Costs.{ViewsCostAtMost};
 ghost use Rattle.pp_cmd_views.specs.Outputs.{IsViews};
 
-use crate::finding::examine_steps;
 use crate::report::report_views;
+use crate::run_steps::RunSteps;
 use pp_core::{Status, Text, Ticks};
 use pp_input::Source;
 use pp_input_reader::{Failure, fault};
-use pp_judge::{Finding, report_rejected};
+use pp_judge::{Driven, Finding, examine, report_rejected};
 use std::alloc::Global;
 use std::sync::ledger::Ledger;
 
@@ -45,18 +45,18 @@ pub fn views<S: Source, L: Ledger>(
     ensures least { IfOk result (λ r. IsDecided r.0 → WhereTold (S.left source.old) λ bytes.
         StepsCostAtLeast r.0 (scan bytes) ticks.old ticks.new) }
 {
-    let (finding, steps) = examine_steps(alloc, source, ticks)?;
-    match finding {
+    match examine::<S, Driven<RunSteps>, L>(alloc, source, ticks)? {
         Finding::Fault(line, cause) => {
             let text = fault(alloc, line, &cause)?;
             Ok((Status::InputFault, text))
         }
-        Finding::Rejected(tally, rejection) => {
-            let text = report_rejected(alloc, &tally, &rejection)?;
+        Finding::Rejected(tally, refused) => {
+            let text = report_rejected(alloc, &tally, &refused.rejection)?;
             Ok((Status::Rejected, text))
         }
-        Finding::Accepted(tally, machine) => {
-            let told = report_views(alloc, &tally, &machine, &steps, ticks)?;
+        Finding::Accepted(tally, judge) => {
+            let machine = judge.machine.into_machine();
+            let told = report_views(alloc, &tally, &machine, &judge.observer.steps, ticks)?;
             Ok(told)
         }
     }

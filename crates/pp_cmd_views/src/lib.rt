@@ -3,7 +3,6 @@
 #![tactic(auto)]
 
 mod command;
-mod finding;
 mod law;
 mod report;
 mod run_steps;

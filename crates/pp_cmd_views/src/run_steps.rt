@@ -1,35 +1,18 @@
-//! Taking the lines of a run whose steps are kept.
-ghost use Rattle.std.specs.Prelude.{◌≡◌, ◌++◌, [], OnOk};
+//! The steps of a run, kept.
+ghost use Rattle.std.specs.Prelude.{◌≡◌, ◌++◌, OnOk};
 ghost use Rattle.pp_styles.specs.Meanings.{meanings};
-ghost use Rattle.pp_judge.specs.declared.progress.Progress.TheVariants.{Waiting};
 
-use pp_core::{OutOfMemory, Step, Ticks};
-use pp_input::Line;
-use pp_input_reader::{Cause, Stop, TakesLines};
-use pp_judge::{Progress, take_line};
+use pp_core::{OutOfMemory, Step};
+use pp_format_read::Header;
+use pp_judge::Observer;
 use pp_objects::Op;
 use pp_styles::StepList;
 use std::alloc::Global;
-use std::sync::ledger::Ledger;
 
-/// What the lines so far lead to, and the steps of their run, the one that fails included.
+/// The steps that were seen.
 #[derive(Drop)]
 pub(crate) struct RunSteps {
-    pub(crate) progress: Progress,
     pub(crate) steps: StepList<Op>,
-}
-
-impl RunSteps {
-    /// No line, and no step.
-    pub(crate) fn new(alloc: Global) -> RunSteps
-        ensures progress { result.progress ≡ Waiting 0 }
-        ensures steps { result.steps ≡ [] }
-    {
-        RunSteps {
-            progress: Progress::Waiting(0),
-            steps: StepList::new(alloc),
-        }
-    }
 }
 
 /// Adds copies of these steps.
@@ -42,33 +25,34 @@ fn add_copies(alloc: Global, list: &mut StepList<Op>, steps: &[Step<Op>]) -> Res
     Ok(())
 }
 
-impl TakesLines for RunSteps {
-    ghost use Rattle.pp_cmd_views.specs.Taken.{steps_reading};
+impl Observer for RunSteps {
+    ghost use Rattle.std.specs.Prelude.{true};
+    ghost use Rattle.pp_cmd_views.specs.Taken.{HasSeenSteps};
 
-    type Fault = Cause;
+    ghost HasSeen = { HasSeenSteps };
 
-    ghost reading = { steps_reading };
+    ghost looks = { true };
 
-    fn at_limit(cause: Cause) -> Cause {
-        cause
+    fn begin(alloc: Global, _header: &Header) -> Result<RunSteps, OutOfMemory> {
+        Ok(RunSteps {
+            steps: StepList::new(alloc),
+        })
     }
 
-    fn take<L: Ledger>(
+    fn looks() -> bool {
+        true
+    }
+
+    fn see(
         self,
         alloc: Global,
-        line: &Line,
-        ticks: &mut Ticks<L>,
-    ) -> Result<RunSteps, Stop<Cause>> {
-        let RunSteps {
-            progress,
-            mut steps,
-        } = self;
-        let before = progress.steps();
-        let (progress, list) = take_line(alloc, progress, line, ticks)?;
-        let after = progress.steps();
-        let told = after - before;
-        let more = &list.as_slice()[..told as usize];
+        _header: &Header,
+        more: &[Step<Op>],
+    ) -> Result<RunSteps, OutOfMemory> {
+        let RunSteps { mut steps } = self;
         add_copies(alloc, &mut steps, more)?;
-        Ok(RunSteps { progress, steps })
+        Ok(RunSteps { steps })
     }
+
+    ghost blind = { λ no _ _ _. cc };
 }

@@ -29,7 +29,7 @@ use Rattle.pp_objects.specs.declared.act.Op.{Op}
 use Rattle.pp_format_read.specs.declared.header.Header.{Header}
 use Rattle.pp_judge.specs.Objects.{object_of, start_of, translation_of}
 use Rattle.pp_judge.specs.Scans.{begins, is_begin_record}
-use Rattle.pp_judge.proofs.Covering.{test_begin}
+use Rattle.pp_judge.proofs.Tallying.{test_begin}
 
 -- ---- how many of some steps are begins
 

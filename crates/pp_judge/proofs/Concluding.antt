@@ -43,14 +43,14 @@ use Rattle.pp_input_reader.specs.declared.cause.Cause.TheVariants.{TooManySteps}
 use Rattle.pp_judge.specs.Objects.{object_of, setting_of, start_of, translation_of}
 use Rattle.pp_judge.specs.Accepted.{HasRun, IsAloneAccepted, IsSimulated, RunsAlone}
 use Rattle.pp_judge.specs.Inputs.{IsFaultOf, scan}
-use Rattle.pp_judge.specs.declared.progress.Rejection.{Rejection}
-use Rattle.pp_judge.specs.Progresses.{EndsAt, IsRejected, IsRejectionOf, IsRunning, standing_of}
+use Rattle.pp_judge.specs.declared.driven.Rejection.{Rejection}
+use Rattle.pp_judge.specs.Running.{EndsAt, IsRejected, IsRejectionOf, IsRunning, standing_of}
 use Rattle.pp_judge.specs.Rejected.{IsEvident, IsStartEvident, IsStepEvident, StartFactRefutes}
 use Rattle.pp_judge.specs.Rejected.{StepFactRefutes, TellsEvident}
 use Rattle.pp_judge.specs.Reports.{IsCertified, IsRunTold, IsTold, RunReport}
 use Rattle.pp_judge.specs.Scans.{InputScan}
 use Rattle.pp_judge.specs.declared.progress.Tally.{Tally}
-use Rattle.pp_judge.proofs.Covering.{config_is, rejected_sound}
+use Rattle.pp_judge.proofs.Running.{config_is, rejected_sound}
 
 entries_of : (as' : List (Attempt Op)) → map (λ d. d.entries) (map committed_tx as') ≡ map (λ a. a.items) as'
 entries_of [] = refl

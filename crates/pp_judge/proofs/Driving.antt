@@ -1,6 +1,6 @@
 -- What the steps of a record ask, and what halts them.
-use Rattle.std.specs.Prelude.{◌≡◌, ◌≤◌, ◌+◌, ℕ, List, Option, Some}
-use Rattle.std.proofs.Common.{sym, ap, ◌∙◌, subst}
+use Rattle.std.specs.Prelude.{◌≡◌, ◌≤◌, ◌+◌, ℕ, List, length, Option, Some}
+use Rattle.std.proofs.Common.{sym, ap, ◌∙◌, subst, arith}
 use Rattle.pp_core.specs.Catalogs.{Objects}
 use Rattle.pp_core.specs.Steps.{Step, Begin, App, Unapp, Push, Unpush, Pull, Unpull, Cmt, Quit}
 use Rattle.pp_core.specs.Steps.{Note}
@@ -22,8 +22,8 @@ use Rattle.pp_kind.specs.Object.{rules_of}
 use Rattle.pp_styles.specs.Driving.{Drives, IsRecordAsked}
 use Rattle.pp_styles.specs.declared.drive.Halt.{Halt}
 use Rattle.pp_styles.specs.declared.drive.Halt.TheVariants.{Failed, TooMany}
-use Rattle.pp_judge.specs.Progresses.{FailsWithin, Overruns, rejection_of}
-use Rattle.pp_judge.specs.declared.progress.Rejection.{Rejection}
+use Rattle.pp_judge.specs.Running.{FailsWithin, Overruns, rejection_of}
+use Rattle.pp_judge.specs.declared.driven.Rejection.{Rejection}
 
 -- ---- what was read may be asked
 
@@ -93,3 +93,10 @@ module _ (machine new : Seen (List Kind) Op) (steps : List (Step Op)) (from to :
   few_there h is =
       let d = subst (λ (w : Option (Halt Op)). Drives objects machine steps from w new to) is drives in
       d.2.few
+
+  -- no step is taken back
+  pub no_fewer_there : (h : Halt Op) → halt ≡ Some h → machine.count ≤ new.count
+  no_fewer_there h is =
+      let d = subst (λ (w : Option (Halt Op)). Drives objects machine steps from w new to) is drives in
+      let same : new.count ≡ machine.count + length d.2.before = ap (λ (v : Seen (List Kind) Op). v.count) d.2.is in
+      omega (arith, same)

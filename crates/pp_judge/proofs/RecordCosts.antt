@@ -1,20 +1,19 @@
 -- How far one record more raises the counter of operations.
-use Rattle.std.specs.Prelude.{◌≡◌, ◌⊎◌, ◌≤◌, ◌<◌, ◌+◌, ℕ, zero, suc, false, List, [], ◌∷◌, ◌++◌}
-use Rattle.std.specs.Prelude.{length, take, Option, Ok}
+use Rattle.std.specs.Prelude.{◌≡◌, ◌⊎◌, ◌≤◌, ◌<◌, ◌+◌, ℕ, zero, suc, List, [], ◌∷◌, ◌++◌}
+use Rattle.std.specs.Prelude.{length, take}
 use Rattle.std.proofs.Common.{refl, sym, ap, ◌∙◌, subst, arith, length-append, append_assoc}
 use Rattle.std.proofs.lemmas.List.{append-nil}
 use mathlib.Core.Logic.{inl, inr}
 use Rattle.pp_core.specs.declared.call.Kind.{Kind}
 use Rattle.pp_core.specs.Steps.{Step}
+use Rattle.pp_core.specs.declared.status.Status.TheVariants as statuses
 use Rattle.pp_records.specs.Records.{RunRecord}
-use Rattle.pp_records.specs.Runs.{EndsAtFailure, IsRun, IsRunFrom, Lined, LinedSteps, Standing, bare}
+use Rattle.pp_records.specs.Runs.{EndsAtFailure, IsRun, IsRunFrom, LinedSteps, Records, Standing, bare}
 use Rattle.pp_records.specs.Runs.{on_line, outset}
 use Rattle.pp_records.specs.Fronts.{Front}
 use Rattle.pp_records.proofs.Ends.{bare_append, bare_on_line, ends_split, length_bare, never}
 use Rattle.pp_records.proofs.Whole.{extends_law, unbegun}
-use Rattle.pp_input.specs.Lines.{NumberedLine, blank}
 use Rattle.pp_format_read.specs.declared.header.Header.{Header}
-use Rattle.pp_format_read.specs.Records.{record_of}
 use Rattle.pp_model.specs.Config.{Config, after_from, but_last, first}
 use Rattle.pp_model.specs.Object.{Object}
 use Rattle.pp_model.specs.Rules.{Breaks, RunsFrom}
@@ -26,19 +25,18 @@ use Rattle.pp_styles.specs.Costs.{most_ticks, singles}
 use Rattle.pp_styles.specs.Driving.{CostAtMost, HasDone}
 use Rattle.pp_styles.specs.declared.any_front.AnyFront.{AnyFront}
 use Rattle.pp_styles.proofs.Driven.{most_append, singles_append}
-use Rattle.pp_judge.specs.Costs.{OfRun, StepsCostAtMost, start_at_most, steps_at_most}
+use Rattle.pp_judge.specs.Costs.{StepsCostAtLeast, StepsCostAtMost, start_at_most, steps_at_most}
 use Rattle.pp_judge.specs.Objects.{object_of, start_of, translation_of}
-use Rattle.pp_judge.specs.Progresses.{Counts, FailsWithin, GoesOn, RecordTaken, is_too_many}
-use Rattle.pp_judge.specs.Progresses.{steps_here, with_record}
-use Rattle.pp_judge.specs.Scans.{InputScan, scan_line, with_next}
-use Rattle.pp_judge.specs.declared.progress.Progress.{Progress}
-use Rattle.pp_judge.specs.declared.progress.Progress.TheVariants.{Waiting, Running, Rejected}
-use Rattle.pp_judge.specs.declared.progress.Rejection.{Rejection}
-use Rattle.pp_judge.specs.declared.progress.Tally.{Tally}
-use Rattle.pp_judge.proofs.Counting.{Least, Most, add_le, few_steps, is_run_so_far, most_front}
-use Rattle.pp_judge.proofs.Counting.{plus_more, run_so_far, up_more}
-use Rattle.pp_judge.proofs.Covering.{config_is, on_record, scan_next}
+use Rattle.pp_judge.specs.Running.{FailsWithin, GoesOn, steps_here}
+use Rattle.pp_judge.specs.Tallies.{headed, one_more, scan_of}
+use Rattle.pp_judge.specs.declared.driven.Rejection.{Rejection}
+use Rattle.pp_judge.specs.laws.Driven.{add_le, few_steps, most_front, up_more}
 use Rattle.pp_judge.proofs.Recorded.{breaks_there, hold_there, on_line_append, same_steps}
+use Rattle.pp_judge.proofs.Running.{all_so_far, config_there, run_there}
+use Rattle.pp_judge.proofs.Tallying.{on_record}
+
+plus_more : (a b d : ℕ) → a + (b + d) ≡ (a + b) + d
+plus_more a b d = omega arith
 
 -- ---- numbers
 
@@ -116,43 +114,42 @@ module _ {State : Type 0} (O : Object Op State) (line : ℕ) where
 
 -- ---- the record
 
-module _ (sc : InputScan) (tally : Tally) (front : AnyFront) (machine : Seen (List Kind) Op) (c : GoesOn sc tally front machine) (line : ℕ) (r : RunRecord Op) where
+module _ (h : Header) (rs : Records (RunRecord Op)) (front : AnyFront) (machine : Seen (List Kind) Op) (c : GoesOn h rs front machine) (line : ℕ) (r : RunRecord Op) where
   abbrev pub so_far : LinedSteps Op
-  so_far = run_so_far sc tally machine c.run
+  so_far = all_so_far h rs
 
   -- the run with this record is the run so far, and that of the steps of the record
-  record_run : (run : LinedSteps Op) → IsRun (object_of tally.header) (translation_of tally.header) (start_of tally.header) (sc.records ++ on_record line r ∷ []) run
-      → (rest : LinedSteps Op) × EndsAtFailure (object_of tally.header) machine.config (on_line line (steps_here tally front machine r) ++ []) rest × (bare run ≡ bare so_far ++ bare rest)
-  record_run run (inl e) = absurd (unbegun (object_of tally.header) (start_of tally.header) e.0 c.run.stands.begun e.1)
+  record_run : (run : LinedSteps Op) → IsRun (object_of h) (translation_of h) (start_of h) (rs ++ on_record line r ∷ []) run
+      → (rest : LinedSteps Op) × EndsAtFailure (object_of h) machine.config (on_line line (steps_here h front machine r) ++ []) rest × (bare run ≡ bare so_far ++ bare rest)
+  record_run run (inl e) = absurd (unbegun (object_of h) (start_of h) e.0 c.stands.begun e.1)
   record_run run (inr e) =
-      let O = object_of tally.header in
-      let T = translation_of tally.header in
-      let k = ((extends_law O T).run (outset T (start_of tally.header)) sc.records (on_record line r ∷ []) run c.run.stands.hold).0 e.1 in
-      let there = subst (λ (p : Standing Front Op). IsRunFrom O T p (on_record line r ∷ []) k.0) (sym c.run.stands.place) k.1 in (
+      let O = object_of h in
+      let T = translation_of h in
+      let k = ((extends_law O T).run (outset T (start_of h)) rs (on_record line r ∷ []) run c.stands.hold).0 e.1 in
+      let there = subst (λ (p : Standing Front Op). IsRunFrom O T p (on_record line r ∷ []) k.0) (sym c.stands.place) k.1 in (
         k.0,
-        subst (λ (w : List (Step Op)). EndsAtFailure O machine.config (on_line line w ++ []) k.0) (sym (same_steps sc tally front machine c r)) there,
+        subst (λ (w : List (Step Op)). EndsAtFailure O machine.config (on_line line w ++ []) k.0) (sym (same_steps h rs front machine c r)) there,
         ap (λ (w : LinedSteps Op). bare w) k.2 ∙ bare_append so_far k.0,
       )
 
   pub size : length (bare so_far) ≡ machine.count
-  size = length_bare so_far ∙ sym c.run.stands.number
+  size = length_bare so_far ∙ sym c.stands.number
 
-  pub most_record : (old now new : ℕ) → StepsCostAtMost sc old now → CostAtMost objects place_of machine (steps_here tally front machine r) now new → StepsCostAtMost (with_next sc line r) old new
-  most_record old now new most b =
-      subst (λ (w : Option (Lined Header)). OfRun w (with_next sc line r).records (Most old new)) (sym c.run.follows.header) (λ run is.
-      let s = start_of tally.header in
-      let O = object_of tally.header in
+  pub most_record : (at old now new : ℕ) → StepsCostAtMost (scan_of (headed at h) rs) old now → CostAtMost objects place_of machine (steps_here h front machine r) now new → StepsCostAtMost (scan_of (headed at h) (one_more rs line r)) old new
+  most_record at old now new most b = λ run is.
+      let s = start_of h in
+      let O = object_of h in
       let z : Config Op = first s in
       let xs : List (Step Op) = bare so_far in
       let ys : List (Step Op) = xs ++ b.tried in
       let k = record_run run is in
-      let t = tried_first O line machine.config b.before b.tried b.behind k.0 (hold_there sc tally front machine c r b.before b.hold) b.last
+      let t = tried_first O line machine.config b.before b.tried b.behind k.0 (hold_there h rs front machine c r b.before b.hold) b.last
       (subst (λ (w : List (Step Op)). EndsAtFailure O machine.config (on_line line w ++ []) k.0) b.parts k.1) in
       let whole : bare run ≡ ys ++ t.0 = k.2 ∙ ap (λ (w : List (Step Op)). xs ++ w) t.1 ∙ sym (append_assoc xs b.tried t.0) in
-      let here : now ≤ old + steps_at_most s xs = subst (λ (w : Option (Lined Header)). OfRun w sc.records (Most old now)) c.run.follows.header most so_far (is_run_so_far sc tally machine c.run) in
+      let here : now ≤ old + steps_at_most s xs = most so_far (run_there h rs front machine c) in
       let front_few : length xs ≤ 200_000 = few_first (length xs) machine.count (length b.tried) 200_000 size b.few in
       let all_few : length ys ≤ 200_000 = subst (λ (n : ℕ). n ≤ 200_000) (sym (length-append xs b.tried)) (still_few (length xs) machine.count (length b.tried) 200_000 size b.few) in
-      let there : after_from z xs ≡ machine.config = sym (config_is sc tally machine c.run) in
+      let there : after_from z xs ≡ machine.config = sym (config_there h rs front machine c) in
       let parts : most_ticks place_of z ys ≡ most_ticks place_of z xs + most_ticks place_of machine.config b.tried =
       most_append place_of z xs b.tried ∙ ap (λ (w : Config Op). most_ticks place_of z xs + most_ticks place_of w b.tried) there in
       let sum : start_at_most s + most_ticks place_of z ys ≡ (start_at_most s + most_ticks place_of z xs) + most_ticks place_of machine.config b.tried =
@@ -162,26 +159,25 @@ module _ (sc : InputScan) (tally : Tally) (front : AnyFront) (machine : Seen (Li
       b.most here (few_steps s xs front_few) (few_steps s ys all_few) sum in
       let wide : steps_at_most s ys ≤ steps_at_most s (ys ++ t.0) =
       add_le (start_at_most s) (most_ticks place_of z (take 200_000 ys)) (most_ticks place_of z (take 200_000 (ys ++ t.0))) (most_front 200_000 z ys t.0) in
-      subst (λ (w : List (Step Op)). new ≤ old + steps_at_most s w) (sym whole) (up_more old new (steps_at_most s ys) (steps_at_most s (ys ++ t.0)) bound wide))
+      subst (λ (w : List (Step Op)). new ≤ old + steps_at_most s w) (sym whole) (up_more old new (steps_at_most s ys) (steps_at_most s (ys ++ t.0)) bound wide)
 
   -- the steps that were done, behind those so far
-  least_more : (old now new : ℕ) (before : List (Step Op)) → OfRun sc.header sc.records (Least (Running tally front machine) old now) → now + singles before ≤ new → old + singles (bare so_far ++ before) ≤ new
-  least_more old now new before least cost =
+  least_more : (old now new : ℕ) (before : List (Step Op)) → old + singles (bare so_far) ≤ now → now + singles before ≤ new → old + singles (bare so_far ++ before) ≤ new
+  least_more old now new before here cost =
       let xs : List (Step Op) = bare so_far in
-      let here : old + singles xs ≤ now = subst (λ (w : Option (Lined Header)). OfRun w sc.records (Least (Running tally front machine) old now)) c.run.follows.header least so_far (is_run_so_far sc tally machine c.run) in
       more_least old now new (singles xs) (singles before) (singles (xs ++ before)) here cost (singles_append xs before)
 
   -- the run with this record: where each of its steps is done
-  pub done_run : (now new : ℕ) (v : Seen (List Kind) Op) (done : HasDone objects machine (steps_here tally front machine r) [] v now new) (run : LinedSteps Op)
-      → IsRun (object_of tally.header) (translation_of tally.header) (start_of tally.header) (sc.records ++ on_record line r ∷ []) run → bare run ≡ bare so_far ++ done.before
+  pub done_run : (now new : ℕ) (v : Seen (List Kind) Op) (done : HasDone objects machine (steps_here h front machine r) [] v now new) (run : LinedSteps Op)
+      → IsRun (object_of h) (translation_of h) (start_of h) (rs ++ on_record line r ∷ []) run → bare run ≡ bare so_far ++ done.before
   done_run now new v done run is =
       let k = record_run run is in
-      let there : bare k.0 ≡ done.before = whole_run (object_of tally.header) line machine.config (steps_here tally front machine r) done.before k.0 (hold_there sc tally front machine c r done.before done.hold) done.parts k.1 in
+      let there : bare k.0 ≡ done.before = whole_run (object_of h) line machine.config (steps_here h front machine r) done.before k.0 (hold_there h rs front machine c r done.before done.hold) done.parts k.1 in
       k.2 ∙ ap (λ (w : List (Step Op)). bare so_far ++ w) there
 
   -- and where one fails
-  pub run_to_failed : (now new : ℕ) (rejection : Rejection) (e : FailsWithin machine (steps_here tally front machine r) line now new rejection) (run : LinedSteps Op)
-      → IsRun (object_of tally.header) (translation_of tally.header) (start_of tally.header) (sc.records ++ on_record line r ∷ []) run → bare run ≡ (bare so_far ++ e.done.before) ++ e.step ∷ []
+  pub run_to_failed : (now new : ℕ) (rejection : Rejection) (e : FailsWithin machine (steps_here h front machine r) line now new rejection) (run : LinedSteps Op)
+      → IsRun (object_of h) (translation_of h) (start_of h) (rs ++ on_record line r ∷ []) run → bare run ≡ (bare so_far ++ e.done.before) ++ e.step ∷ []
   run_to_failed now new rejection e run is = go e.criterion e.some e.breaks
     where
       go : (n : ℕ) → 0 < n → Breaks (rules_of objects e.at.shape) e.at.config e.step n → bare run ≡ (bare so_far ++ e.done.before) ++ e.step ∷ []
@@ -189,41 +185,21 @@ module _ (sc : InputScan) (tally : Tally) (front : AnyFront) (machine : Seen (Li
       go (suc n) some breaks =
           let before : List (Step Op) = e.done.before in
           let k = record_run run is in
-          let there : bare k.0 ≡ before ++ e.step ∷ [] = failed_run (object_of tally.header) line machine.config (steps_here tally front machine r) before e.behind e.step n k.0 (hold_there sc tally front machine c r before e.done.hold) e.done.parts
-          (breaks_there sc tally front machine c r before e.at e.step (suc n) e.done.is breaks) k.1 in
+          let there : bare k.0 ≡ before ++ e.step ∷ [] = failed_run (object_of h) line machine.config (steps_here h front machine r) before e.behind e.step n k.0 (hold_there h rs front machine c r before e.done.hold) e.done.parts
+          (breaks_there h rs front machine c r before e.at e.step (suc n) e.done.is breaks) k.1 in
           k.2 ∙ ap (λ (w : List (Step Op)). bare so_far ++ w) there ∙ sym (append_assoc (bare so_far) before (e.step ∷ []))
 
-  least_failed : (old now new : ℕ) (rejection : Rejection) → OfRun sc.header sc.records (Least (Running tally front machine) old now) → FailsWithin machine (steps_here tally front machine r) line now new rejection
-      → (run : LinedSteps Op) → IsRun (object_of tally.header) (translation_of tally.header) (start_of tally.header) (sc.records ++ on_record line r ∷ []) run → old + singles (but_last (bare run)) ≤ new
-  least_failed old now new rejection least e run is =
-      let done : List (Step Op) = bare so_far ++ e.done.before in
-      let front_is : but_last (bare run) ≡ done = ap (λ (w : List (Step Op)). but_last w) (run_to_failed now new rejection e run is) ∙ but_last_end done e.step in
-      subst (λ (w : List (Step Op)). old + singles w ≤ new) (sym front_is) (least_more old now new e.done.before least e.done.least)
+  -- the counter rises by one for each step that was done
+  module _ (at old now new : ℕ) (least : StepsCostAtLeast statuses.Accepted (scan_of (headed at h) rs) old now) where
+    here_least : old + singles (bare so_far) ≤ now
+    here_least = least so_far (run_there h rs front machine c)
 
-  pub least_record : (old now new : ℕ) (next : Progress) → OfRun sc.header sc.records (Least (Running tally front machine) old now) → RecordTaken (with_record tally r) front machine r line now next new
-      → OfRun (with_next sc line r).header (with_next sc line r).records (Least next old new)
-  least_record old now new (Waiting lines) least t = absurd t
-  least_record old now new (Running after other v) least t =
-      subst (λ (w : Option (Lined Header)). OfRun w (with_next sc line r).records (Least (Running after other v) old new)) (sym c.run.follows.header) (λ run is.
-      let done : HasDone objects machine (steps_here tally front machine r) [] v now new = t.3 in
-      subst (λ (w : List (Step Op)). old + singles w ≤ new) (sym (done_run now new v done run is)) (least_more old now new done.before least done.least))
-  least_record old now new (Rejected after rejection) least t =
-      subst (λ (w : Option (Lined Header)). OfRun w (with_next sc line r).records (Least (Rejected after rejection) old new)) (sym c.run.follows.header)
-      (λ run is. least_failed old now new rejection least t.1 run is)
+    pub least_done : (v : Seen (List Kind) Op) → HasDone objects machine (steps_here h front machine r) [] v now new → StepsCostAtLeast statuses.Accepted (scan_of (headed at h) (one_more rs line r)) old new
+    least_done v done run is =
+        subst (λ (w : List (Step Op)). old + singles w ≤ new) (sym (done_run now new v done run is)) (least_more old now new done.before here_least done.least)
 
--- ---- its line
-
-module _ (sc : InputScan) (tally : Tally) (front : AnyFront) (machine : Seen (List Kind) Op) (line : NumberedLine) (r : RunRecord Op) (old now new : ℕ) (c : GoesOn sc tally front machine)
-    (other : blank line.1 ≡ false) (read : record_of tally.header line.1 ≡ Ok r) (begun : is_too_many tally r ≡ false) (cost : CostAtMost objects place_of machine (steps_here tally front machine r) now new) where
-  -- it is taken, or memory is refused at it, or it has too many steps
-  pub most_taken : StepsCostAtMost sc old now → StepsCostAtMost (scan_line sc line) old new
-  most_taken most =
-      subst (λ (s : InputScan). StepsCostAtMost s old new) (sym (scan_next sc tally c.run.follows line other r read begun)) (most_record sc tally front machine c line.0 r old now new most cost)
-
-  pub counts_taken : (next : Progress) → Counts sc (Running tally front machine) old now → RecordTaken (with_record tally r) front machine r line.0 now next new → Counts (scan_line sc line) next old new
-  counts_taken next counts taken =
-      let more : Counts (with_next sc line.0 r) next old new = record {
-        most = most_record sc tally front machine c line.0 r old now new counts.most cost;
-        least = least_record sc tally front machine c line.0 r old now new next counts.least taken;
-      } in
-      subst (λ (s : InputScan). Counts s next old new) (sym (scan_next sc tally c.run.follows line other r read begun)) more
+    pub least_failed : (rejection : Rejection) → FailsWithin machine (steps_here h front machine r) line now new rejection → StepsCostAtLeast statuses.Rejected (scan_of (headed at h) (one_more rs line r)) old new
+    least_failed rejection e run is =
+        let done : List (Step Op) = bare so_far ++ e.done.before in
+        let front_is : but_last (bare run) ≡ done = ap (λ (w : List (Step Op)). but_last w) (run_to_failed now new rejection e run is) ∙ but_last_end done e.step in
+        subst (λ (w : List (Step Op)). old + singles w ≤ new) (sym front_is) (least_more old now new e.done.before here_least e.done.least)

@@ -1,6 +1,6 @@
 -- One record more, whose steps a machine is driven through.
-use Rattle.std.specs.Prelude.{◌≡◌, ◌≤◌, ◌<◌, ℕ, zero, suc, ◌+◌, false, List, [], ◌∷◌, ◌++◌, length}
-use Rattle.std.specs.Prelude.{slice_get, take, Option, Some, Ok}
+use Rattle.std.specs.Prelude.{◌≡◌, ◌≤◌, ◌<◌, ℕ, zero, suc, ◌+◌, List, [], ◌∷◌, ◌++◌, length}
+use Rattle.std.specs.Prelude.{slice_get, take, Some}
 use Rattle.std.proofs.Common.{refl, sym, ap, ◌∙◌, subst, arith, length-append, append_assoc}
 use Rattle.std.proofs.lemmas.List.{append-nil, map-append}
 use Rattle.std.proofs.lemmas.Option.{slice_get-get_or}
@@ -20,8 +20,6 @@ use Rattle.pp_records.proofs.Ends.{after_append, bare_append, bare_on_line, leng
 use Rattle.pp_records.proofs.Reading.{reading_law}
 use Rattle.pp_objects.specs.declared.act.Op.{Op}
 use Rattle.pp_objects.specs.Objects.{kinds_of, objects, place_of}
-use Rattle.pp_input.specs.Lines.{NumberedLine, blank}
-use Rattle.pp_format_read.specs.Records.{record_of}
 use Rattle.pp_format_read.specs.declared.header.Header.{Header}
 use Rattle.pp_model.specs.Config.{Config, after, after_from, first}
 use Rattle.pp_model.specs.Rules.{Breaks, RunsFrom}
@@ -32,20 +30,16 @@ use Rattle.pp_kind.specs.Object.{rules_of}
 use Rattle.pp_styles.specs.AnyFronts.{any_state, any_style}
 use Rattle.pp_styles.specs.Driving.{HasDone, after_steps}
 use Rattle.pp_styles.specs.declared.any_front.AnyFront.{AnyFront}
-use Rattle.pp_input_reader.specs.declared.cause.Cause.{Cause}
 use Rattle.pp_input_reader.specs.declared.cause.Cause.TheVariants.{TooManySteps}
 use Rattle.pp_judge.specs.Inputs.{IsFaultOf}
 use Rattle.pp_judge.specs.Objects.{object_of, setting_of, start_of, translation_of}
-use Rattle.pp_judge.specs.Scans.{InputScan, scan_line, with_next}
-use Rattle.pp_judge.specs.Progresses.{Covers, EndsAt, FailsWithin, GoesOn, IsRejected, Overruns}
-use Rattle.pp_judge.specs.Progresses.{RecordTaken, is_too_many, lines_of, rejection_of, standing_of}
-use Rattle.pp_judge.specs.Progresses.{steps_here, with_record}
+use Rattle.pp_judge.specs.Running.{EndsAt, FailsWithin, GoesOn, Overruns, rejection_of, standing_of}
+use Rattle.pp_judge.specs.Running.{steps_here}
+use Rattle.pp_judge.specs.Tallies.{headed, one_more, scan_of}
 use Rattle.pp_judge.specs.Rejected.{IsStepEvident}
-use Rattle.pp_judge.specs.declared.progress.Progress.{Progress}
-use Rattle.pp_judge.specs.declared.progress.Progress.TheVariants.{Waiting, Running, Rejected}
-use Rattle.pp_judge.specs.declared.progress.Rejection.{Rejection}
-use Rattle.pp_judge.specs.declared.progress.Tally.{Tally}
-use Rattle.pp_judge.proofs.Covering.{config_is, follows_next, on_record, scan_next}
+use Rattle.pp_judge.specs.declared.driven.Rejection.{Rejection}
+use Rattle.pp_judge.proofs.Running.{config_there}
+use Rattle.pp_judge.proofs.Tallying.{on_record}
 
 get_last : {A : Type 0} (xs : List A) (x : A) (n : ℕ) → n ≡ length xs → slice_get (xs ++ x ∷ []) n ≡ Some x
 get_last {A} xs x n is =
@@ -55,57 +49,54 @@ get_last {A} xs x n is =
 pub on_line_append : {A : Type 0} (line : ℕ) (xs ys : List A) → on_line line (xs ++ ys) ≡ on_line line xs ++ on_line line ys
 on_line_append {A} line xs ys = map-append (λ (s : A). let z : Lined A = record { line = line; what = s } in z) xs ys
 
-module _ (sc : InputScan) (tally : Tally) (front : AnyFront) (machine : Seen (List Kind) Op) (c : GoesOn sc tally front machine) (r : RunRecord Op) where
+module _ (h : Header) (rs : Records (RunRecord Op)) (front : AnyFront) (machine : Seen (List Kind) Op) (c : GoesOn h rs front machine) (r : RunRecord Op) where
   -- the steps of the record are those of its translation
   abbrev pub steps_there : List (Step Op)
-  steps_there = steps_at (translation_of tally.header) (standing_of c.run.state machine) r
+  steps_there = steps_at (translation_of h) (standing_of c.state machine) r
 
-  pub same_steps : steps_here tally front machine r ≡ steps_there
+  pub same_steps : steps_here h front machine r ≡ steps_there
   same_steps =
-      ap (λ (s : Style). expand place_of s (any_state (kinds_of tally.header.catalog) front) machine.config r) c.style
-      ∙ ap (λ (f : Front). expand place_of tally.header.style f machine.config r) c.kept
+      ap (λ (s : Style). expand place_of s (any_state (kinds_of h.catalog) front) machine.config r) c.style
+      ∙ ap (λ (f : Front). expand place_of h.style f machine.config r) c.kept
 
   -- they hold over the objects of the header where they hold over those of the machine
-  pub hold_there : (before : List (Step Op)) → RunsFrom (rules_of objects machine.shape) machine.config before → RunsFrom (object_of tally.header) machine.config before
-  hold_there before hold = subst (λ (k : List Kind). RunsFrom (rules_of objects k) machine.config before) c.run.shape hold
+  pub hold_there : (before : List (Step Op)) → RunsFrom (rules_of objects machine.shape) machine.config before → RunsFrom (object_of h) machine.config before
+  hold_there before hold = subst (λ (k : List Kind). RunsFrom (rules_of objects k) machine.config before) c.shape hold
 
   -- the same of a step that fails behind some of them
   pub breaks_there : (before : List (Step Op)) (v : Seen (List Kind) Op) (step : Step Op) (n : ℕ) → v ≡ after_steps machine before → Breaks (rules_of objects v.shape) v.config step n
-      → Breaks (object_of tally.header) (after_from machine.config before) step n
+      → Breaks (object_of h) (after_from machine.config before) step n
   breaks_there before v step n is breaks =
-      subst (λ (k : List Kind). Breaks (rules_of objects k) (after_from machine.config before) step n) c.run.shape
+      subst (λ (k : List Kind). Breaks (rules_of objects k) (after_from machine.config before) step n) c.shape
       (subst (λ (w : Seen (List Kind) Op). Breaks (rules_of objects w.shape) w.config step n) is breaks)
 
   -- ---- each of them is done
 
-  pub goes_on : (line : ℕ) (next : AnyFront) (new : Seen (List Kind) Op) (from to : ℕ) → any_style next ≡ any_style front → any_state (kinds_of tally.header.catalog) next ≡ front_after (any_state (kinds_of tally.header.catalog) front) machine.config r
-      → HasDone objects machine (steps_here tally front machine r) [] new from to → GoesOn (with_next sc line r) (with_record tally r) next new
+  pub goes_on : (line : ℕ) (next : AnyFront) (new : Seen (List Kind) Op) (from to : ℕ) → any_style next ≡ any_style front → any_state (kinds_of h.catalog) next ≡ front_after (any_state (kinds_of h.catalog) front) machine.config r
+      → HasDone objects machine (steps_here h front machine r) [] new from to → GoesOn h (one_more rs line r) next new
   goes_on line next new from to style kept done =
       let all : done.before ≡ steps_there = sym (sym same_steps ∙ done.parts ∙ append-nil done.before) in
       let is : new ≡ after_steps machine steps_there = done.is ∙ ap (λ (w : List (Step Op)). after_steps machine w) all in
-      let hold = subst (λ (w : List (Step Op)). RunsFrom (object_of tally.header) machine.config w) all (hold_there done.before done.hold) in
+      let hold = subst (λ (w : List (Step Op)). RunsFrom (object_of h) machine.config w) all (hold_there done.before done.hold) in
       let few : machine.count + length steps_there ≤ 200_000 = subst (λ (v : Seen (List Kind) Op). v.count ≤ 200_000) is done.few in
-      let there : GoesOn (with_next sc line r) (with_record tally r) next (after_steps machine steps_there) = record {
-        run = record {
-          follows = follows_next sc tally c.run.follows line r;
-          shape = c.run.shape;
-          state = front_after c.run.state machine.config r;
-          stands = (reading_law (object_of tally.header) (translation_of tally.header)).more (start_of tally.header) sc.records (standing_of c.run.state machine) machine.count (on_record line r) c.run.stands hold few;
-        };
+      let there : GoesOn h (one_more rs line r) next (after_steps machine steps_there) = record {
+        shape = c.shape;
+        state = front_after c.state machine.config r;
+        stands = (reading_law (object_of h) (translation_of h)).more (start_of h) rs (standing_of c.state machine) machine.count (on_record line r) c.stands hold few;
         style = style ∙ c.style;
         kept = kept ∙ ap (λ (f : Front). front_after f machine.config r) c.kept;
       } in
-      subst (λ (v : Seen (List Kind) Op). GoesOn (with_next sc line r) (with_record tally r) next v) (sym is) there
+      subst (λ (v : Seen (List Kind) Op). GoesOn h (one_more rs line r) next v) (sym is) there
 
   -- ---- one of them is not
 
-  module _ (line : ℕ) (before behind : List (Step Op)) (step : Step Op) (parts : steps_here tally front machine r ≡ before ++ step ∷ behind) (hold : RunsFrom (rules_of objects machine.shape) machine.config before) where
+  module _ (line : ℕ) (before behind : List (Step Op)) (step : Step Op) (parts : steps_here h front machine r ≡ before ++ step ∷ behind) (hold : RunsFrom (rules_of objects machine.shape) machine.config before) where
     -- the machine before it
     abbrev here : Seen (List Kind) Op
     here = after_steps machine before
 
     abbrev run_before : LinedSteps Op
-    run_before = joined_steps (translation_of tally.header) (outset (translation_of tally.header) (start_of tally.header)) sc.records ++ on_line line before
+    run_before = joined_steps (translation_of h) (outset (translation_of h) (start_of h)) rs ++ on_line line before
 
     abbrev one : Lined (Step Op)
     one = record { line = line; what = step }
@@ -118,35 +109,35 @@ module _ (sc : InputScan) (tally : Tally) (front : AnyFront) (machine : Seen (Li
 
     number_is : here.count ≡ length run_before
     number_is =
-        let ss : LinedSteps Op = joined_steps (translation_of tally.header) (outset (translation_of tally.header) (start_of tally.header)) sc.records in
-        ap (λ (k : ℕ). k + length before) c.run.stands.number ∙ sym (length-append ss (on_line line before) ∙ ap (λ (k : ℕ). length ss + k) (length_on_line line before))
+        let ss : LinedSteps Op = joined_steps (translation_of h) (outset (translation_of h) (start_of h)) rs in
+        ap (λ (k : ℕ). k + length before) c.stands.number ∙ sym (length-append ss (on_line line before) ∙ ap (λ (k : ℕ). length ss + k) (length_on_line line before))
 
-    config_before : here.config ≡ after (start_of tally.header) (bare run_before)
+    config_before : here.config ≡ after (start_of h) (bare run_before)
     config_before =
-        let ss : LinedSteps Op = joined_steps (translation_of tally.header) (outset (translation_of tally.header) (start_of tally.header)) sc.records in
-        let z : Config Op = first (start_of tally.header) in
+        let ss : LinedSteps Op = joined_steps (translation_of h) (outset (translation_of h) (start_of h)) rs in
+        let z : Config Op = first (start_of h) in
         let both : bare run_before ≡ bare ss ++ before = bare_append ss (on_line line before) ∙ ap (λ (w : List (Step Op)). bare ss ++ w) (bare_on_line line before) in
-        ap (λ (w : Config Op). after_from w before) (config_is sc tally machine c.run) ∙ sym (after_append z (bare ss) before) ∙ ap (λ (w : List (Step Op)). after_from z w) (sym both)
+        ap (λ (w : Config Op). after_from w before) (config_there h rs front machine c) ∙ sym (after_append z (bare ss) before) ∙ ap (λ (w : List (Step Op)). after_from z w) (sym both)
 
-    config_at : here.config ≡ after (start_of tally.header) (bare (take here.count run_to))
+    config_at : here.config ≡ after (start_of h) (bare (take here.count run_to))
     config_at =
         config_before
-        ∙ ap (λ (w : LinedSteps Op). after (start_of tally.header) (bare w)) (sym (take-append_seam run_before (one ∷ [])))
-        ∙ ap (λ (k : ℕ). after (start_of tally.header) (bare (take k run_to))) (sym number_is)
+        ∙ ap (λ (w : LinedSteps Op). after (start_of h) (bare w)) (sym (take-append_seam run_before (one ∷ [])))
+        ∙ ap (λ (k : ℕ). after (start_of h) (bare (take k run_to))) (sym number_is)
 
-    run_is : joined_steps (translation_of tally.header) (outset (translation_of tally.header) (start_of tally.header)) sc.records ++ on_line line (before ++ step ∷ []) ≡ run_to
+    run_is : joined_steps (translation_of h) (outset (translation_of h) (start_of h)) rs ++ on_line line (before ++ step ∷ []) ≡ run_to
     run_is =
-        let ss : LinedSteps Op = joined_steps (translation_of tally.header) (outset (translation_of tally.header) (start_of tally.header)) sc.records in
+        let ss : LinedSteps Op = joined_steps (translation_of h) (outset (translation_of h) (start_of h)) rs in
         ap (λ (w : LinedSteps Op). ss ++ w) (on_line_append line before (step ∷ [])) ∙ sym (append_assoc ss (on_line line before) (one ∷ []))
 
     -- it is the first that fails
-    fails_here : (n : ℕ) → here.count < 200_000 → Breaks (rules_of objects here.shape) here.config step (suc n) → Fits objects here.shape (evidence objects here.shape here.config step (suc n)) → IsStepEvident here.shape here.config step (suc n)
-        → EndsAt tally.header c.run.follows.at (with_next sc line r).records (rejection_of here step line (suc n))
-    fails_here n few breaks fits evident =
-        let kinds : List Kind = kinds_of tally.header.catalog in
+    fails_here : (at n : ℕ) → here.count < 200_000 → Breaks (rules_of objects here.shape) here.config step (suc n) → Fits objects here.shape (evidence objects here.shape here.config step (suc n)) → IsStepEvident here.shape here.config step (suc n)
+        → EndsAt h at (one_more rs line r) (rejection_of here step line (suc n))
+    fails_here at n few breaks fits evident =
+        let kinds : List Kind = kinds_of h.catalog in
         let number : here.count + 1 ≡ suc here.count = omega arith in
-        let told : evidence objects machine.shape here.config step (suc n) ≡ evidence objects kinds (after (start_of tally.header) (bare (take here.count run_to))) step (suc n) =
-        ap (λ (k : List Kind). evidence objects k here.config step (suc n)) c.run.shape ∙ ap (λ (w : Config Op). evidence objects kinds w step (suc n)) config_at in
+        let told : evidence objects machine.shape here.config step (suc n) ≡ evidence objects kinds (after (start_of h) (bare (take here.count run_to))) step (suc n) =
+        ap (λ (k : List Kind). evidence objects k here.config step (suc n)) c.shape ∙ ap (λ (w : Config Op). evidence objects kinds w step (suc n)) config_at in
         record {
           run = run_to;
           number = suc here.count;
@@ -157,70 +148,40 @@ module _ (sc : InputScan) (tally : Tally) (front : AnyFront) (machine : Seen (Li
             ap (λ (k : ℕ). let w : Rejection = record { step = k; line = line; rule = rule_of step; criterion = suc n; detail = evidence objects machine.shape here.config step (suc n) } in w) number
                 ∙ ap (λ (d : Detail Op). let w : Rejection = record { step = suc here.count; line = line; rule = rule_of step; criterion = suc n; detail = d } in w) told,
             subst (λ (w : Config Op). IsStepEvident kinds w step (suc n)) config_at
-                (subst (λ (k : List Kind). IsStepEvident k here.config step (suc n)) c.run.shape evident),
+                (subst (λ (k : List Kind). IsStepEvident k here.config step (suc n)) c.shape evident),
           );
-          named = subst (λ (k : List Kind). Fits objects k (evidence objects machine.shape here.config step (suc n))) c.run.shape fits;
+          named = subst (λ (k : List Kind). Fits objects k (evidence objects machine.shape here.config step (suc n))) c.shape fits;
           stays = λ more.
-              let law = (reading_law (object_of tally.header) (translation_of tally.header)).fails (start_of tally.header) sc.records more (standing_of c.run.state machine) machine.count (on_record line r) before behind step n c.run.stands parts_there (hold_there before hold) few
+              let law = (reading_law (object_of h) (translation_of h)).fails (start_of h) rs more (standing_of c.state machine) machine.count (on_record line r) before behind step n c.stands parts_there (hold_there before hold) few
               (breaks_there before here step (suc n) refl breaks) in
-              subst (λ (w : Records (RunRecord Op)). IsRejectedAt (object_of tally.header) (translation_of tally.header) (start_of tally.header) w run_to (suc here.count) n) (sym (append_assoc sc.records (on_record line r ∷ []) more))
-              (subst (λ (k : ℕ). IsRejectedAt (object_of tally.header) (translation_of tally.header) (start_of tally.header) (sc.records ++ on_record line r ∷ more) run_to k n) number
-              (subst (λ (w : LinedSteps Op). IsRejectedAt (object_of tally.header) (translation_of tally.header) (start_of tally.header) (sc.records ++ on_record line r ∷ more) w (here.count + 1) n) run_is law));
+              subst (λ (w : Records (RunRecord Op)). IsRejectedAt (object_of h) (translation_of h) (start_of h) w run_to (suc here.count) n) (sym (append_assoc rs (on_record line r ∷ []) more))
+              (subst (λ (k : ℕ). IsRejectedAt (object_of h) (translation_of h) (start_of h) (rs ++ on_record line r ∷ more) run_to k n) number
+              (subst (λ (w : LinedSteps Op). IsRejectedAt (object_of h) (translation_of h) (start_of h) (rs ++ on_record line r ∷ more) w (here.count + 1) n) run_is law));
         }
 
     -- there is none that a run may have
-    too_many_here : here.count ≡ 200_000 → OverrunsAt setting_of (with_next sc line r).header (with_next sc line r).records line
-    too_many_here full =
-        subst (λ (w : Option (Lined Header)). OverrunsAt setting_of w (with_next sc line r).records line) (sym c.run.follows.header)
-        ((reading_law (object_of tally.header) (translation_of tally.header)).too_many (start_of tally.header) sc.records [] (standing_of c.run.state machine) machine.count (on_record line r) before behind step c.run.stands parts_there (hold_there before hold) full)
+    too_many_here : (at : ℕ) → here.count ≡ 200_000 → OverrunsAt setting_of (Some (headed at h)) (one_more rs line r) line
+    too_many_here at full =
+        (reading_law (object_of h) (translation_of h)).too_many (start_of h) rs [] (standing_of c.state machine) machine.count (on_record line r) before behind step c.stands parts_there (hold_there before hold) full
 
-  pub ends_there : (line from to : ℕ) (rejection : Rejection) → FailsWithin machine (steps_here tally front machine r) line from to rejection → EndsAt tally.header c.run.follows.at (with_next sc line r).records rejection
-  ends_there line from to rejection e = go e.at e.criterion e.done.is e.few e.some e.breaks e.is e.fits e.evident
+  pub ends_there : (at line from to : ℕ) (rejection : Rejection) → FailsWithin machine (steps_here h front machine r) line from to rejection → EndsAt h at (one_more rs line r) rejection
+  ends_there at line from to rejection e = go e.at e.criterion e.done.is e.few e.some e.breaks e.is e.fits e.evident
     where
       shown : (v : Seen (List Kind) Op) (n : ℕ) → v ≡ after_steps machine e.done.before → v.count < 200_000 → Breaks (rules_of objects v.shape) v.config e.step (suc n) → Fits objects v.shape (evidence objects v.shape v.config e.step (suc n)) → IsStepEvident v.shape v.config e.step (suc n)
-          → EndsAt tally.header c.run.follows.at (with_next sc line r).records (rejection_of v e.step line (suc n))
+          → EndsAt h at (one_more rs line r) (rejection_of v e.step line (suc n))
       shown v n is =
           subst (λ (w : Seen (List Kind) Op). w.count < 200_000 → Breaks (rules_of objects w.shape) w.config e.step (suc n) → Fits objects w.shape (evidence objects w.shape w.config e.step (suc n)) → IsStepEvident w.shape w.config e.step (suc n)
-          → EndsAt tally.header c.run.follows.at (with_next sc line r).records (rejection_of w e.step line (suc n)))
+          → EndsAt h at (one_more rs line r) (rejection_of w e.step line (suc n)))
           (sym is)
-          (fails_here line e.done.before e.behind e.step e.done.parts e.done.hold n)
+          (fails_here line e.done.before e.behind e.step e.done.parts e.done.hold at n)
 
       go : (v : Seen (List Kind) Op) (n : ℕ) → v ≡ after_steps machine e.done.before → v.count < 200_000 → 0 < n → Breaks (rules_of objects v.shape) v.config e.step n → rejection ≡ rejection_of v e.step line n
-          → Fits objects v.shape (evidence objects v.shape v.config e.step n) → IsStepEvident v.shape v.config e.step n → EndsAt tally.header c.run.follows.at (with_next sc line r).records rejection
+          → Fits objects v.shape (evidence objects v.shape v.config e.step n) → IsStepEvident v.shape v.config e.step n → EndsAt h at (one_more rs line r) rejection
       go v zero is few some breaks told fits evident = absurd (omega arith)
       go v (suc n) is few some breaks told fits evident =
-          subst (λ (w : Rejection). EndsAt tally.header c.run.follows.at (with_next sc line r).records w) (sym told) (shown v n is few breaks fits evident)
+          subst (λ (w : Rejection). EndsAt h at (one_more rs line r) w) (sym told) (shown v n is few breaks fits evident)
 
-  pub overruns_there : (line from to : ℕ) → Overruns machine (steps_here tally front machine r) from to → IsFaultOf (with_next sc line r) (Some (line, TooManySteps))
-  overruns_there line from to e =
+  pub overruns_there : (at line from to : ℕ) → Overruns machine (steps_here h front machine r) from to → IsFaultOf (scan_of (headed at h) (one_more rs line r)) (Some (line, TooManySteps))
+  overruns_there at line from to e =
       let full : machine.count + length e.done.before ≡ 200_000 = subst (λ (v : Seen (List Kind) Op). v.count ≡ 200_000) e.done.is e.full in
-      inl (line, too_many_here line e.done.before e.behind e.step e.done.parts e.done.hold full, refl)
-
--- ---- the line of a record
-
-module _ (sc : InputScan) (tally : Tally) (front : AnyFront) (machine : Seen (List Kind) Op) (line : NumberedLine) (r : RunRecord Op) (c : GoesOn sc tally front machine)
-    (other : blank line.1 ≡ false) (read : record_of tally.header line.1 ≡ Ok r) (begun : is_too_many tally r ≡ false) where
-  pub cover_taken : (from : ℕ) (next : Progress) (to : ℕ) → RecordTaken (with_record tally r) front machine r line.0 from next to → Covers (scan_line sc line) next
-  unfolding follows_next
-  cover_taken from (Waiting lines) to t = absurd t
-  cover_taken from (Running after next new) to t =
-      subst (λ (s : InputScan). GoesOn s after next new) (sym (scan_next sc tally c.run.follows line other r read begun))
-      (subst (λ (w : Tally). GoesOn (with_next sc line.0 r) w next new) (sym t.0) (goes_on sc tally front machine c r line.0 next new from to t.1 t.2 t.3))
-  cover_taken from (Rejected after rejection) to t =
-      let rejected : IsRejected (with_next sc line.0 r) (with_record tally r) rejection = record {
-        follows = follows_next sc tally c.run.follows line.0 r;
-        ends = ends_there sc tally front machine c r line.0 from to rejection t.1;
-      } in
-      subst (λ (s : InputScan). IsRejected s after rejection) (sym (scan_next sc tally c.run.follows line other r read begun))
-      (subst (λ (w : Tally). IsRejected (with_next sc line.0 r) w rejection) (sym t.0) rejected)
-
-  pub cover_too_long : (from to : ℕ) (cause : Cause) → (cause ≡ TooManySteps) × Overruns machine (steps_here tally front machine r) from to → IsFaultOf (scan_line sc line) (Some (line.0, cause))
-  cover_too_long from to cause e =
-      subst (λ (s : InputScan). IsFaultOf s (Some (line.0, cause))) (sym (scan_next sc tally c.run.follows line other r read begun))
-      (subst (λ (w : Cause). IsFaultOf (with_next sc line.0 r) (Some (line.0, w))) (sym e.0) (overruns_there sc tally front machine c r line.0 from to e.1))
-
--- how many lines were taken
-pub taken_lines : (tally : Tally) (front : AnyFront) (machine : Seen (List Kind) Op) (r : RunRecord Op) (line from : ℕ) (next : Progress) (to : ℕ) → RecordTaken tally front machine r line from next to → lines_of next ≡ tally.lines
-taken_lines tally front machine r line from (Waiting lines) to t = absurd t
-taken_lines tally front machine r line from (Running after next new) to t = ap (λ (w : Tally). w.lines) t.0
-taken_lines tally front machine r line from (Rejected after rejection) to t = ap (λ (w : Tally). w.lines) t.0
+      inl (line, too_many_here line e.done.before e.behind e.step e.done.parts e.done.hold at full, refl)

@@ -4,12 +4,10 @@ use Rattle.std.specs.Prelude.{option_map, Result, Ok, Err, IfOk}
 use Rattle.std.proofs.Common.{refl, sym, ap, subst, arith}
 use Rattle.std.specs.List.{All}
 use Rattle.std.proofs.lemmas.List.Elements.{All-weaker}
-use mathlib.Core.Logic.{inl, inr}
 use Rattle.pp_core.specs.Catalogs.{Objects}
 use Rattle.pp_core.specs.declared.answer.OutOfMemory.{OutOfMemory}
 use Rattle.pp_core.specs.declared.call.Kind.{Kind}
 use Rattle.pp_core.specs.declared.entry.Item.{Item}
-use Rattle.pp_core.specs.declared.step.Rule.TheVariants as rules
 use Rattle.pp_format_read.specs.declared.header.Header.{Header}
 use Rattle.pp_format_read.specs.declared.start.Start.{Start as HeaderStart}
 use Rattle.pp_format_read.specs.Items.{IsReadableItem}
@@ -25,15 +23,11 @@ use Rattle.pp_machine.specs.declared.detail.Detail.{Detail}
 use Rattle.pp_machine.specs.declared.machine.Outcome.{Outcome}
 use Rattle.pp_machine.specs.declared.machine.Outcome.TheVariants.{Done, False}
 use Rattle.pp_kind.specs.Object.{rules_of}
-use Rattle.pp_styles.specs.declared.any_front.AnyFront.{AnyFront}
 use Rattle.pp_judge.specs.Costs.{start_at_most}
 use Rattle.pp_judge.specs.Objects.{start_of}
-use Rattle.pp_judge.specs.Progresses.{HasStarted, IsFirstFront, StartTaken}
 use Rattle.pp_judge.specs.Rejected.{IsStartEvident}
 use Rattle.pp_judge.specs.Reports.{detail_of_start}
-use Rattle.pp_judge.specs.declared.progress.Progress.TheVariants.{Running, Rejected}
-use Rattle.pp_judge.specs.declared.progress.Rejection.{Rejection}
-use Rattle.pp_judge.specs.declared.progress.Tally.{Tally}
+use Rattle.pp_judge.specs.Running.{HasStarted}
 
 -- what was read may be asked of the machine
 pub asked : (catalog : Objects) (items : List (Item Op)) → All (IsReadableItem catalog) items → All (IsAskedItem objects (kinds_of catalog)) items
@@ -97,19 +91,3 @@ module _ (header : Header) (machine : Seen (List Kind) Op) (new : machine ≡ ma
   -- and of what it costs
   pub start_bound : (z : HeaderStart) → header.start ≡ Some z → (old new : ℕ) → new ≤ old + length z.ops → new ≤ old + start_at_most (start_of header)
   start_bound z is old new bound = subst (λ (h : Option (Start Op)). new ≤ old + start_at_most h) (sym (one z is)) (twice_as_many old new (length z.ops) bound)
-
--- the progress behind the line of a header
-pub started : (tally : Tally) (line : ℕ) (front : AnyFront) (machine : Seen (List Kind) Op) → IsFirstFront tally.header front → HasStarted tally.header Done machine → StartTaken tally line (Running tally front machine)
-started tally line front machine first_one h = inl (h.0, (front, first_one, ap (λ (m : Seen (List Kind) Op). Running tally front m) h.1))
-
-pub refused : (tally : Tally) (line n : ℕ) (detail : Detail Op) (machine : Seen (List Kind) Op) → HasStarted tally.header (False n detail) machine
-    → StartTaken tally line (Rejected tally (record { step = 0; line = line; rule = rules.Start; criterion = n; detail = detail }))
-refused tally line n detail machine h =
-    inr (
-      n,
-      h.1,
-      h.0,
-      ap (λ (d : Detail Op). let r : Rejection = record { step = 0; line = line; rule = rules.Start; criterion = n; detail = d } in Rejected tally r) h.2,
-      subst (λ (d : Detail Op). Fits objects (kinds_of tally.header.catalog) d) h.2 h.3,
-      h.4,
-    )

@@ -36,7 +36,7 @@ use Rattle.pp_judge.specs.Inputs.{scan}
 use Rattle.pp_judge.specs.Objects.{object_of, start_of, translation_of}
 use Rattle.pp_judge.specs.Scans.{InputScan, begins, is_begin_record, nothing, read_line, scan_line}
 use Rattle.pp_judge.specs.Scans.{with_fault, with_header, with_next, with_record}
-use Rattle.pp_judge.proofs.Covering.{test_begin}
+use Rattle.pp_judge.proofs.Tallying.{test_begin}
 
 pub each_append : {A : Type 0} (P : A → Type 0) (xs ys : List A) → Each P xs → Each P ys → Each P (xs ++ ys)
 each_append P [] ys h k = k

@@ -13,16 +13,14 @@ use Rattle.pp_model.specs.Sound.{serial_ops}
 use Rattle.pp_objects.specs.declared.act.Op.{Op}
 use Rattle.pp_machine.specs.Machines.{Seen}
 use Rattle.pp_styles.specs.Costs.{singles}
-use Rattle.pp_judge.specs.Costs.{CostsAtLeast, CostsAtMost, OfRun, StepsCostAtMost, serial_length}
+use Rattle.pp_judge.specs.Costs.{CostsAtLeast, CostsAtMost, OfRun, StepsCostAtLeast, StepsCostAtMost, serial_length}
 use Rattle.pp_judge.specs.Costs.{start_behind, steps_at_most}
-use Rattle.pp_judge.specs.Findings.{StepsCounted}
 use Rattle.pp_judge.specs.Objects.{object_of, start_of, translation_of}
-use Rattle.pp_judge.specs.Progresses.{IsRunning}
+use Rattle.pp_judge.specs.Running.{IsRunning}
 use Rattle.pp_judge.specs.Scans.{InputScan}
-use Rattle.pp_judge.specs.declared.finding.Finding.TheVariants as findings
 use Rattle.pp_judge.specs.declared.progress.Tally.{Tally}
 use Rattle.pp_judge.proofs.Concluding.{committed_are, serial_is}
-use Rattle.pp_judge.proofs.Counting.{is_run_so_far, run_so_far}
+use Rattle.pp_judge.proofs.Running.{is_run_so_far, run_so_far}
 
 more_room : (old new a b : ℕ) → new ≤ old + a → new ≤ old + (a + b)
 more_room old new a b x = omega (arith, x)
@@ -56,6 +54,6 @@ module _ (sc : InputScan) (tally : Tally) (machine : Seen (List Kind) Op) (r : I
   serial_most most cost run is =
       both_most old now new (steps_at_most (start_behind sc.header) (bare run)) (serial_length (start_behind sc.header) (bare run)) (length (serial_ops machine.config.done)) (most run is) cost (serial_count sc tally machine r run is)
 
-  pub serial_least : StepsCounted sc (findings.Accepted tally machine) old now → new ≡ now + length (serial_ops machine.config.done) → CostsAtLeast statuses.Accepted sc old new
+  pub serial_least : StepsCostAtLeast statuses.Accepted sc old now → new ≡ now + length (serial_ops machine.config.done) → CostsAtLeast statuses.Accepted sc old new
   serial_least least cost run is =
       both_least old now new (singles (bare run)) (serial_length (start_behind sc.header) (bare run)) (length (serial_ops machine.config.done)) (least run is) cost (serial_count sc tally machine r run is)

@@ -72,6 +72,12 @@ extends_line sc line = by (is_some sc.fault || blank line.1)
     by true = extends_same sc sc refl refl
     by false = extends_read sc sc.header line refl
 
+-- one line more
+pub widens_line : (sc : InputScan) (line : NumberedLine) → Widens sc (scan_line sc line)
+widens_line sc line =
+    let e = extends_line sc line in
+    record { header = e.header; records = e.records; fault = λ f faulty. skips sc line f faulty }
+
 extends_twice : (a b c : InputScan) → Extends a b → Extends b c → Extends a c
 extends_twice a b c x y =
     record {

@@ -4,10 +4,14 @@ pub mod Scans
 pub mod Inputs
 pub mod Reports
 pub mod Costs
+pub mod Tallies
+pub mod Judging
 pub mod Progresses
-pub mod Expansions
 pub mod Findings
+pub mod Running
+pub mod Driven
 pub mod Certified
 pub mod Accepted
 pub mod Rejected
 pub mod Restated
+pub mod laws

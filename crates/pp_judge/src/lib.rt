@@ -1,18 +1,21 @@
-//! An input certified and expanded: what it is, its run, its report, and the text of its run.
+//! What judges the records of an input, one after another: the trait of a judge, the examination of
+//! an input by any judge, and the machine as a judge with an observer of its steps.
 #![tactic(auto)]
 
 mod cause;
-mod expansion;
+mod driven;
 mod finding;
+mod judge;
 mod law;
+mod observer;
 mod progress;
 mod report;
-mod run_text;
 mod take;
 
-pub use finding::{Finding, conclude, examine, examine_text};
+pub use driven::{Driven, Refused, Rejection};
+pub use finding::{Finding, examine};
+pub use judge::{Judge, Judged};
 pub use law::{limits_law, records_are_steps, records_extend};
-pub use progress::{Progress, Rejection, Tally};
-pub use report::{certify, report_rejected, summary};
-pub use run_text::expand;
-pub use take::{read_next, stop_at, take_line, with_line, with_record};
+pub use observer::{Blind, Observer};
+pub use progress::{Progress, Tally};
+pub use report::{report_rejected, summary};

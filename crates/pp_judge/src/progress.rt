@@ -1,12 +1,18 @@
-//! Where the examination of a run stands after some of its lines.
-ghost use Rattle.std.specs.Prelude.{◌≡◌, option_copied};
-ghost use Rattle.pp_judge.specs.Progresses.{header_in, steps_in};
+//! Where the judging of a run stands after some of its lines.
+ghost use Rattle.std.specs.Prelude.{◌≡◌, ◌<◌};
+ghost use Rattle.pp_core.specs.declared.limits.TheConstants.{MOST_LINES};
+ghost use Rattle.pp_records.specs.Records.{record_meaning};
+ghost use Rattle.pp_core.specs.Steps.{meaning};
+ghost use Rattle.pp_format_write.specs.Statable.{is_begin};
+ghost use Rattle.pp_judge.specs.Progresses.{lines_of, progress_of, with_blank};
+ghost use Rattle.pp_judge.specs.Scans.{is_begin_record};
+ghost use Rattle.pp_judge.specs.Tallies.{with_line, with_record};
 
-use pp_core::Rule;
+use crate::judge::Judged;
+use pp_core::Step;
 use pp_format_read::Header;
-use pp_machine::Detail;
-use pp_objects::{Objects, Op};
-use pp_styles::{BoxedFront, Tracked};
+use pp_objects::Op;
+use pp_records::RunRecord;
 
 /// The header of a run, and how many of its lines, and of its begin records, were taken.
 #[derive(Drop)]
@@ -16,48 +22,95 @@ pub struct Tally {
     pub begins: u32,
 }
 
-/// The first step that does not meet its criteria, the line of its record, its rule, its first
-/// false criterion, and the evidence of it. The start is step 0, on the line of the header.
+/// What the lines so far lead to, for a judge `J` that rejects a run by an `R`.
 #[derive(Drop)]
-pub struct Rejection {
-    pub step: u32,
-    pub line: u32,
-    pub rule: Rule,
-    pub criterion: u8,
-    pub detail: Detail<Op>,
-}
-
-/// What the lines so far lead to.
-#[derive(Drop)]
-pub enum Progress {
+pub enum Progress<J, R> {
     /// Only blank lines, so many.
     Waiting(u32),
-    /// A header, and records whose steps meet their criteria.
-    Running(Tally, BoxedFront, Tracked<Objects>),
-    /// A header whose start is rejected, or of whose records one is: those behind it are only read.
-    Rejected(Tally, Rejection),
+    /// A header and records that the judge took.
+    Running(Tally, J),
+    /// A header and records of which the start or one is rejected: later records are only read.
+    Rejected(Tally, R),
 }
 
-impl Progress {
-    /// The header of the run, once it was read.
-    pub fn header(&self) -> Option<&Header>
-        ensures { option_copied result ≡ header_in self.now }
-    {
-        match self {
-            Progress::Waiting(_) => None,
-            Progress::Running(tally, _front, _machine) => Some(&tally.header),
-            Progress::Rejected(tally, _rejection) => Some(&tally.header),
-        }
+/// Whether a step begins a transaction.
+fn is_begin(step: &Step<Op>) -> bool
+    ensures { result ≡ is_begin (meaning step.now) }
+{
+    match step {
+        Step::Begin { .. } => true,
+        Step::App { .. }
+        | Step::Unapp { .. }
+        | Step::Push { .. }
+        | Step::Unpush { .. }
+        | Step::Pull { .. }
+        | Step::Unpull { .. }
+        | Step::Cmt { .. }
+        | Step::Quit { .. }
+        | Step::Note { .. } => false,
     }
+}
 
-    /// How many steps the run has so far: those that meet their criteria, and the one that does not.
-    pub fn steps(&self) -> u32
-        ensures { result ≡ steps_in self.now }
-    {
-        match self {
-            Progress::Waiting(_) => 0,
-            Progress::Running(_tally, _front, machine) => machine.count(),
-            Progress::Rejected(_tally, rejection) => rejection.step,
-        }
+/// Whether a record begins a transaction.
+pub(crate) fn is_begin_record(recorded: &RunRecord<Op>) -> bool
+    ensures { result ≡ is_begin_record (record_meaning recorded.now) }
+{
+    match recorded {
+        RunRecord::Plain(step) => is_begin(step),
+        RunRecord::Op { .. }
+        | RunRecord::Commit { .. }
+        | RunRecord::Abort { .. }
+        | RunRecord::Retry { .. }
+        | RunRecord::Refresh { .. }
+        | RunRecord::XBegin { .. }
+        | RunRecord::XEnd { .. }
+        | RunRecord::XAbort { .. }
+        | RunRecord::Depend { .. }
+        | RunRecord::Publish { .. }
+        | RunRecord::DropSource { .. } => false,
+    }
+}
+
+/// One line more.
+fn with_line(mut tally: Tally) -> Tally
+    requires { tally.lines < MOST_LINES }
+    ensures { result ≡ with_line tally }
+{
+    tally.lines += 1;
+    tally
+}
+
+/// One record more.
+pub(crate) fn with_record(mut tally: Tally, recorded: &RunRecord<Op>) -> Tally
+    requires lines { tally.lines < MOST_LINES }
+    requires begins { tally.begins < tally.lines }
+    ensures { result ≡ with_record tally (record_meaning recorded.now) }
+{
+    tally.lines += 1;
+    if is_begin_record(recorded) {
+        tally.begins += 1;
+    }
+    tally
+}
+
+/// One blank line more.
+pub(crate) fn with_blank<J, R>(progress: Progress<J, R>) -> Progress<J, R>
+    requires { lines_of progress < MOST_LINES }
+    ensures { result ≡ with_blank progress }
+{
+    match progress {
+        Progress::Waiting(lines) => Progress::Waiting(lines + 1),
+        Progress::Running(tally, judge) => Progress::Running(with_line(tally), judge),
+        Progress::Rejected(tally, rejection) => Progress::Rejected(with_line(tally), rejection),
+    }
+}
+
+/// A run that is judged so.
+pub(crate) fn progress_of<J, R>(tally: Tally, judged: Judged<J, R>) -> Progress<J, R>
+    ensures { result ≡ progress_of tally judged }
+{
+    match judged {
+        Judged::Good(judge) => Progress::Running(tally, judge),
+        Judged::Bad(rejection) => Progress::Rejected(tally, rejection),
     }
 }

@@ -8,7 +8,7 @@ use Rattle.pp_run.specs.declared.words.Command.TheVariants.{Certify, Drill, Expa
 use Rattle.pp_run.specs.Outputs.{IsOutput, OfInput, Prints, PrintsOnly, PrintsPrefix, PrintsPrefixOnly}
 use Rattle.pp_run.specs.Writing.{AppendsPrefix}
 use Rattle.pp_judge.proofs.Concluding.{one_certified}
-use Rattle.pp_judge.proofs.Expanding.{one_expanded}
+use Rattle.pp_cmd_expand.proofs.Expanding.{one_expanded}
 use Rattle.pp_cmd_views.proofs.Viewed.{one_views}
 use Rattle.pp_cmd_quick.proofs.Decided.{one_quick}
 use Rattle.pp_cmd_drill.proofs.Drilling.{one_drilled}

@@ -19,7 +19,9 @@ ghost use Rattle.pp_run.specs.Writing.{FlushesOnceAtMost};
 
 use crate::words::{Command, read_words};
 use crate::write::{WriteError, send};
+use pp_cmd_certify::certify;
 use pp_cmd_drill::drill;
+use pp_cmd_expand::expand;
 use pp_cmd_quick::quick;
 use pp_cmd_recheck::recheck;
 use pp_cmd_swaps::swaps;
@@ -27,7 +29,6 @@ use pp_cmd_views::views;
 use pp_core::{Status, Text, Ticks, Words};
 use pp_input::{Sink, Source};
 use pp_input_reader::Failure;
-use pp_judge::{certify, expand};
 use std::alloc::Global;
 use std::sync::ledger::Ledger;
 

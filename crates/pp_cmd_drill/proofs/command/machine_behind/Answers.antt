@@ -1,7 +1,7 @@
 use Rattle.std.proofs.Common.{ℕ, ◌+◌, List, None, ap, subst, sym, ◌∙◌}
 use Rattle.pp_core.specs.declared.step.Step.{Step as StepOf}
 use Rattle.pp_objects.specs.declared.act.Op.{Op}
-use Rattle.pp_judge.specs.Progresses.{IsRunning}
+use Rattle.pp_judge.specs.Running.{IsRunning}
 use Rattle.pp_format_write.specs.Headers.{rules_header}
 use Rattle.pp_styles.specs.Meanings.{meanings}
 use Rattle.pp_cmd_drill.specs.Reports.{drill_scan}

@@ -14,20 +14,20 @@ pub serial_state-requires-clause-allowed : goal.serial_state-requires-clause-all
 serial_state-requires-clause-allowed g c =
     let quick = c.args.quick.now in
     allowed_over c.in_ok-kinds.kinds quick.shape c.committed-committed.result.now quick.brief.done
-    (c.requires.1.shape ∙ sym c.in_ok-kinds.ensures) c.committed-committed.ensures.done c.committed-committed.ensures.allowed
+    (c.requires.1.good.shape ∙ sym c.in_ok-kinds.ensures) c.committed-committed.ensures.done c.committed-committed.ensures.allowed
 
 pub serial_state-requires-clause-few : goal.serial_state-requires-clause-few
 serial_state-requires-clause-few g c =
     let quick = c.args.quick.now in
     let same : length (serial_ops c.committed-committed.result.now) ≡ length (serial_ops quick.brief.done) = ap (λ (D : List (CommittedTx Op)). length (serial_ops D)) c.committed-committed.ensures.done in
-    few_serial (length (serial_ops c.committed-committed.result.now)) (length (serial_ops quick.brief.done)) quick.count same c.committed-committed.ensures.few c.requires.1.few
+    few_serial (length (serial_ops c.committed-committed.result.now)) (length (serial_ops quick.brief.done)) quick.count same c.committed-committed.ensures.few c.requires.1.good.few
 
 pub quick_accepted-requires-clause-named : goal.quick_accepted-requires-clause-named
 quick_accepted-requires-clause-named g c =
     let quick = c.args.quick.now in
     let catalog = c.args.tally.now.header.catalog in
     committed_named catalog c.committed-committed.result.now
-    (allowed_over (kinds_of catalog) quick.shape c.committed-committed.result.now quick.brief.done c.requires.1.shape c.committed-committed.ensures.done c.committed-committed.ensures.allowed)
+    (allowed_over (kinds_of catalog) quick.shape c.committed-committed.result.now quick.brief.done c.requires.1.good.shape c.committed-committed.ensures.done c.committed-committed.ensures.allowed)
 
 pub quick_accepted-requires-clause-states : goal.quick_accepted-requires-clause-states
 quick_accepted-requires-clause-states g c =
@@ -35,7 +35,7 @@ quick_accepted-requires-clause-states g c =
     let catalog = c.args.tally.now.header.catalog in
     let committed = c.committed-committed.result.now in
     states_named catalog committed c.in_ok-states.states
-    (allowed_over (kinds_of catalog) quick.shape committed quick.brief.done c.requires.1.shape c.committed-committed.ensures.done c.committed-committed.ensures.allowed)
+    (allowed_over (kinds_of catalog) quick.shape committed quick.brief.done c.requires.1.good.shape c.committed-committed.ensures.done c.committed-committed.ensures.allowed)
     (c.in_ok-states.ensures.state ∙ ap (λ k. state_after objects k (serial_ops committed)) c.in_ok-kinds.ensures)
 
 pub returns-clause-report : goal.returns-clause-report

@@ -1,0 +1,103 @@
+//! The summary of a boosted run, as its judge.
+ghost use Rattle.std.specs.Prelude.{◌≡◌, ◌≤◌, ◌+◌, IfOk};
+ghost use Rattle.pp_format_read.specs.Starts.{IsReadableStart};
+ghost use Rattle.pp_judge.specs.Costs.{start_at_most};
+ghost use Rattle.pp_judge.specs.Objects.{start_of};
+ghost use Rattle.pp_cmd_quick.specs.Decisions.{is_boosted};
+ghost use Rattle.pp_cmd_quick.specs.Taking.{StartsQuick};
+
+use pp_core::{OutOfMemory, Style, Ticks};
+use pp_format_read::Header;
+use pp_input_reader::{Cause, Stop};
+use pp_judge::{Judge, Judged};
+use pp_objects::{Objects, Op};
+use pp_records::RunRecord;
+use pp_summary::Quick;
+use std::alloc::Global;
+use std::sync::ledger::Ledger;
+
+/// A summary that takes the records of a boosted run, without their steps.
+#[derive(Drop)]
+pub(crate) struct Decider {
+    pub(crate) quick: Quick<Objects>,
+}
+
+/// The line of the start, or of the first record, that is not good.
+#[derive(Drop)]
+pub(crate) struct FailedOn {
+    pub(crate) line: u32,
+}
+
+/// Whether a style is that of boosted runs.
+fn is_boosted(style: Style) -> bool
+    ensures { result ≡ is_boosted style }
+{
+    match style {
+        Style::Boosted => true,
+        Style::Rules | Style::Optimistic | Style::Hardware | Style::Dependent => false,
+    }
+}
+
+/// A summary with the start of a header, if it has one; with false the start fails.
+fn start_quick<L: Ledger>(
+    alloc: Global,
+    header: &Header,
+    ticks: &mut Ticks<L>,
+) -> Result<(Quick<Objects>, bool), OutOfMemory>
+    requires { IsReadableStart header.now.catalog header.now.start }
+    ensures starts { IfOk result (λ r. StartsQuick header.now r.1 r.0) }
+    ensures rises { ticks.old ≤ ticks.new }
+    ensures bound { ticks.new ≤ ticks.old + start_at_most (start_of header.now) }
+{
+    let kinds = header.catalog.kinds(alloc)?;
+    let quick: Quick<Objects> = Quick::new(alloc, kinds)?;
+    match &header.start {
+        None => Ok((quick, true)),
+        Some(start) => quick.start(start.tx, &start.ops, ticks),
+    }
+}
+
+impl Judge for Decider {
+    ghost use Rattle.pp_cmd_quick.specs.Taking.{quick_judging};
+    ghost use Rattle.pp_cmd_quick.specs.DeciderLaws.{quick_laws};
+
+    type Rejection = FailedOn;
+
+    ghost judging = { quick_judging };
+
+    fn begin<L: Ledger>(
+        alloc: Global,
+        header: &Header,
+        line: u32,
+        ticks: &mut Ticks<L>,
+    ) -> Result<Judged<Decider, FailedOn>, Stop<Cause>> {
+        if !is_boosted(header.style) {
+            return Err(Stop::Fault(line, Cause::NotBoosted));
+        }
+        let (quick, good) = start_quick(alloc, header, ticks)?;
+        if good {
+            Ok(Judged::Good(Decider { quick }))
+        } else {
+            Ok(Judged::Bad(FailedOn { line }))
+        }
+    }
+
+    fn judge<L: Ledger>(
+        self,
+        _alloc: Global,
+        _header: &Header,
+        recorded: &RunRecord<Op>,
+        line: u32,
+        ticks: &mut Ticks<L>,
+    ) -> Result<Judged<Decider, FailedOn>, Stop<Cause>> {
+        let Decider { quick } = self;
+        let (quick, good) = quick.take(recorded, ticks)?;
+        if good {
+            Ok(Judged::Good(Decider { quick }))
+        } else {
+            Ok(Judged::Bad(FailedOn { line }))
+        }
+    }
+
+    ghost laws = { quick_laws };
+}

@@ -1,0 +1,197 @@
+-- What the machine as a judge says of a start, and of a record more.
+use Rattle.std.specs.Prelude.{◌≡◌, ◌≤◌, ◌+◌, ℕ, zero, suc, Bool, true, false, List, [], ◌∷◌}
+use Rattle.std.specs.Prelude.{◌++◌, length, take, None, Some}
+use Rattle.std.proofs.Common.{refl, sym, ap, ◌∙◌, subst, arith, append_assoc}
+use Rattle.std.proofs.lemmas.List.{append-nil, take_all}
+use Rattle.pp_core.specs.Steps.{Step, meaning}
+use Rattle.pp_core.specs.declared.call.Kind.{Kind}
+use Rattle.pp_core.specs.declared.status.Status.TheVariants as statuses
+use Rattle.pp_core.specs.declared.step.Rule.TheVariants as rules
+use Rattle.pp_core.specs.declared.step.Step.{Step as StepOf}
+use Rattle.pp_records.specs.Expansions.{front_after}
+use Rattle.pp_records.specs.Fronts.{new_front}
+use Rattle.pp_records.specs.Records.{RunRecord}
+use Rattle.pp_records.specs.Runs.{LinedSteps, bare}
+use Rattle.pp_records.proofs.Reading.{reading_law}
+use Rattle.pp_format_read.specs.declared.header.Header.{Header}
+use Rattle.pp_model.specs.Config.{but_last, first}
+use Rattle.pp_model.specs.Lists.{Each}
+use Rattle.pp_objects.specs.Objects.{kinds_of, objects, place_of}
+use Rattle.pp_objects.specs.declared.act.Op.{Op}
+use Rattle.pp_machine.specs.Machines.{Seen}
+use Rattle.pp_machine.specs.declared.detail.Detail.{Detail}
+use Rattle.pp_machine.specs.declared.machine.Outcome.TheVariants.{Done, False}
+use Rattle.pp_styles.specs.AnyFronts.{any_state, any_style}
+use Rattle.pp_styles.specs.Costs.{singles}
+use Rattle.pp_styles.specs.Driving.{CostAtMost, HasDone}
+use Rattle.pp_styles.specs.Meanings.{meanings}
+use Rattle.pp_styles.specs.declared.any_front.AnyFront.{AnyFront}
+use Rattle.pp_input_reader.specs.declared.cause.Cause.TheVariants.{TooManySteps}
+use Rattle.pp_judge.specs.Costs.{StepsCostAtLeast, StepsCostAtMost, start_at_most, steps_at_most}
+use Rattle.pp_judge.specs.Driven.{HasSeenRun, driven_judging}
+use Rattle.pp_judge.specs.Judging.{CostsAtMostThere, HasFaultThere, Judges}
+use Rattle.pp_judge.specs.Objects.{object_of, start_of, translation_of}
+use Rattle.pp_judge.specs.Running.{EndsAt, FailsWithin, GoesOn, HasCount, HasStarted, IsFirstFront, Overruns}
+use Rattle.pp_judge.specs.Running.{RecordTaken, steps_here}
+use Rattle.pp_judge.specs.Tallies.{headed, scan_of}
+use Rattle.pp_judge.specs.declared.driven.Driven.{Driven}
+use Rattle.pp_judge.specs.declared.driven.Rejection.{Rejection}
+use Rattle.pp_judge.specs.declared.judge.Judged.TheVariants.{Good, Bad}
+use Rattle.pp_judge.specs.laws.Driven.{empty_run, no_steps}
+use Rattle.pp_judge.proofs.RecordCosts.{done_run, least_done, least_failed, most_record, run_to_failed}
+use Rattle.pp_judge.proofs.Recorded.{ends_there, goes_on, overruns_there}
+use Rattle.pp_judge.proofs.Running.{all_so_far, run_there}
+
+-- ---- lists
+
+-- those up to and with one
+take_to : {A : Type 0} (n : ℕ) (xs : List A) (x : A) (ys : List A) → n ≡ suc (length xs) → take n (xs ++ x ∷ ys) ≡ xs ++ x ∷ []
+take_to {A} n xs x ys is = ap (λ (k : ℕ). take k (xs ++ x ∷ ys)) is ∙ go xs
+  where
+    go : (ws : List A) → take (suc (length ws)) (ws ++ x ∷ ys) ≡ ws ++ x ∷ []
+    go [] = refl
+    go (w ∷ ws) = ap (λ (l : List A). w ∷ l) (go ws)
+
+each_take : {A : Type 0} (P : A → Type 0) (n : ℕ) (xs : List A) → Each P xs → Each P (take n xs)
+each_take P zero xs h = tt
+each_take P (suc n) [] h = tt
+each_take P (suc n) (x ∷ xs) h = (h.0, each_take P n xs h.1)
+
+first_meanings : (n : ℕ) (steps : List (StepOf Op)) → meanings (take n steps) ≡ take n (meanings steps)
+first_meanings zero steps = refl
+first_meanings (suc n) [] = refl
+first_meanings (suc n) (step ∷ steps) = ap (λ (w : List (Step Op)). meaning step ∷ w) (first_meanings n steps)
+
+-- the first steps of a list, as the code takes them
+pub told_meant : (n : ℕ) (first list : List (StepOf Op)) → first ≡ take n list → meanings first ≡ take n (meanings list)
+told_meant n first list is = ap (λ (l : List (StepOf Op)). meanings l) is ∙ first_meanings n list
+
+pub each_told : (P : Step Op → Type 0) (n : ℕ) (first list : List (StepOf Op)) → first ≡ take n list → Each P (meanings list) → Each P (meanings first)
+each_told P n first list is h = subst (Each P) (sym (told_meant n first list is)) (each_take P n (meanings list) h)
+
+-- ---- the start
+
+plus_none : (old new : ℕ) → old ≤ new → old + 0 ≤ new
+plus_none old new h = omega (arith, h)
+
+module _ (line : ℕ) (h : Header) (old new : ℕ) where
+  pub begun_most : new ≤ old + start_at_most (start_of h) → StepsCostAtMost (scan_of (headed line h) []) old new
+  begun_most cost run is =
+      subst (λ (w : LinedSteps Op). new ≤ old + steps_at_most (start_of h) (bare w)) (sym (empty_run h run is)) (subst (λ (k : ℕ). new ≤ old + k) (sym (no_steps (start_of h))) cost)
+
+  pub begun_still : StepsCostAtMost (scan_of (headed line h) []) old old
+  begun_still run is = still old (steps_at_most (start_of h) (bare run))
+    where
+      still : (n k : ℕ) → n ≤ n + k
+      still n k = omega arith
+
+  pub begun_good_least : old ≤ new → StepsCostAtLeast statuses.Accepted (scan_of (headed line h) []) old new
+  begun_good_least rises run is = subst (λ (w : LinedSteps Op). old + singles (bare w) ≤ new) (sym (empty_run h run is)) (plus_none old new rises)
+
+  pub begun_bad_least : old ≤ new → StepsCostAtLeast statuses.Rejected (scan_of (headed line h) []) old new
+  begun_bad_least rises run is = subst (λ (w : LinedSteps Op). old + singles (but_last (bare w)) ≤ new) (sym (empty_run h run is)) (plus_none old new rises)
+
+module _ {W : Type 0} (HasSeen : Header → List (Step Op) → W → Type 0) where
+  seen_nothing : (h : Header) (w : W) → HasSeen h [] w → HasSeenRun HasSeen h [] w
+  seen_nothing h w seen run is = subst (λ (ss : LinedSteps Op). HasSeen h (bare ss) w) (sym (empty_run h run is)) seen
+
+  pub begun_good : (line : ℕ) (h : Header) (front : AnyFront) (machine : Seen (List Kind) Op) (w : W) → IsFirstFront h front → HasStarted h Done machine → HasSeen h [] w
+      → (driven_judging HasSeen).IsGood (headed line h) [] (record { front = front; machine = machine; observer = w })
+  begun_good line h front machine w first_one started seen =
+      let there : GoesOn h [] front (record { shape = kinds_of h.catalog; config = first (start_of h); count = 0 }) = record {
+        shape = refl;
+        state = new_front (kinds_of h.catalog);
+        stands = (reading_law (object_of h) (translation_of h)).nothing (start_of h) started.0;
+        style = first_one.0;
+        kept = first_one.1;
+      } in
+      (subst (λ (m : Seen (List Kind) Op). GoesOn h [] front m) (sym started.1) there, seen_nothing h w seen)
+
+  begun_ends : (line n : ℕ) (h : Header) (detail : Detail Op) (machine : Seen (List Kind) Op) → HasStarted h (False n detail) machine → EndsAt h line [] (record { step = 0; line = line; rule = rules.Start; criterion = n; detail = detail })
+  begun_ends line zero h detail machine s = absurd (omega (arith, s.1))
+  begun_ends line (suc n) h detail machine s = record {
+    run = [];
+    number = 0;
+    criterion = n;
+    is = (ap (λ (d : Detail Op). let x : Rejection = record { step = 0; line = line; rule = rules.Start; criterion = suc n; detail = d } in x) s.2, s.4);
+    named = s.3;
+    stays = λ more. (reading_law (object_of h) (translation_of h)).unbegun (start_of h) more n s.0;
+  }
+
+  pub begun_bad : (line n : ℕ) (h : Header) (detail : Detail Op) (machine : Seen (List Kind) Op) (w : W) → HasStarted h (False n detail) machine → HasSeen h [] w
+      → (driven_judging HasSeen).IsBad (headed line h) [] (record { rejection = record { step = 0; line = line; rule = rules.Start; criterion = n; detail = detail }; observer = w })
+  begun_bad line n h detail machine w started seen = (begun_ends line n h detail machine started, seen_nothing h w seen)
+
+  -- ---- a record
+
+  -- an observer that was shown the steps behind those so far
+  seen_next : (looks : Bool) → (looks ≡ false → (h : Header) (steps : List (Step Op)) (v : W) → HasSeen h steps v) → (h : Header) (before steps : List (Step Op)) (w next : W)
+      → (looks ≡ true → (so_far : List (Step Op)) → HasSeen h so_far w → HasSeen h (so_far ++ steps) next) → HasSeen h before w → (steps' : List (Step Op)) → (looks ≡ true → steps ≡ steps') → HasSeen h (before ++ steps') next
+  seen_next true blind h before steps w next sees seen steps' is = subst (λ (ss : List (Step Op)). HasSeen h (before ++ ss) next) (is refl) (sees refl before seen)
+  seen_next false blind h before steps w next sees seen steps' is = blind refl h (before ++ steps') next
+
+  module _ (looks : Bool) (blind : looks ≡ false → (h : Header) (steps : List (Step Op)) (v : W) → HasSeen h steps v) (h : Header) (judge : Driven W) (r : RunRecord Op) (line now new : ℕ)
+      (list : List (Step Op)) (listed : looks ≡ true → list ≡ steps_here h judge.front judge.machine r) where
+    abbrev here : List (Step Op)
+    here = steps_here h judge.front judge.machine r
+
+    pub judges_good : (front : AnyFront) (machine : Seen (List Kind) Op) (next : W) → any_style front ≡ any_style judge.front
+        → any_state (kinds_of h.catalog) front ≡ front_after (any_state (kinds_of h.catalog) judge.front) judge.machine.config r → HasDone objects judge.machine here [] machine now new
+        → (looks ≡ true → (so_far : List (Step Op)) → HasSeen h so_far judge.observer → HasSeen h (so_far ++ list) next)
+        → Judges (driven_judging HasSeen) h judge r line (Good (record { front = front; machine = machine; observer = next })) now new
+    judges_good front machine next style kept done sees = record {
+      is = λ at before good.
+          let c = good.0 in
+          let all : here ≡ done.before = done.parts ∙ append-nil done.before in (
+            goes_on h before judge.front judge.machine c r line front machine now new style kept done,
+            λ run is. subst (λ (ss : List (Step Op)). HasSeen h ss next) (sym (done_run h before judge.front judge.machine c line r now new machine done run is))
+                (seen_next looks blind h (bare (all_so_far h before)) list judge.observer next sees (good.1 (all_so_far h before) (run_there h before judge.front judge.machine c)) done.before
+                (λ yes. listed yes ∙ all)),
+          );
+      least = λ at before good old least. least_done h before judge.front judge.machine good.0 line r at old now new least machine done;
+    }
+
+    pub judges_bad : (n : ℕ) (told : List (Step Op)) (rejection : Rejection) (next : W) (e : FailsWithin judge.machine here line now new rejection) → told ≡ take n list → (looks ≡ true → n ≡ suc (length e.done.before))
+        → (looks ≡ true → (so_far : List (Step Op)) → HasSeen h so_far judge.observer → HasSeen h (so_far ++ told) next)
+        → Judges (driven_judging HasSeen) h judge r line (Bad (record { rejection = rejection; observer = next })) now new
+    judges_bad n told rejection next e first count sees = record {
+      is = λ at before good.
+          let c = good.0 in
+          let done : List (Step Op) = e.done.before in
+          let xs : List (Step Op) = bare (all_so_far h before) in (
+            ends_there h before judge.front judge.machine c r at line now new rejection e,
+            λ run is. subst (λ (ss : List (Step Op)). HasSeen h ss next) (sym (run_to_failed h before judge.front judge.machine c line r now new rejection e run is ∙ append_assoc xs done (e.step ∷ [])))
+                (seen_next looks blind h xs told judge.observer next sees (good.1 (all_so_far h before) (run_there h before judge.front judge.machine c)) (done ++ e.step ∷ [])
+                (λ yes. first ∙ ap (λ (l : List (Step Op)). take n l) (listed yes ∙ e.done.parts) ∙ take_to n done e.step e.behind (count yes))),
+          );
+      least = λ at before good old least. least_failed h before judge.front judge.machine good.0 line r at old now new least rejection e;
+    }
+
+  module _ (looks : Bool) (blind : looks ≡ false → (h : Header) (steps : List (Step Op)) (v : W) → HasSeen h steps v) (h : Header) (judge : Driven W) (r : RunRecord Op) (line now new : ℕ)
+      (list front_list : List (StepOf Op)) (count : ℕ) (is : front_list ≡ take count list) (listed : looks ≡ true → meanings list ≡ steps_here h judge.front judge.machine r)
+      (front : AnyFront) (machine : Seen (List Kind) Op) (next : W) (sees : looks ≡ true → (so_far : List (Step Op)) → HasSeen h so_far judge.observer → HasSeen h (so_far ++ meanings front_list) next) where
+    -- all steps are done
+    pub taken_good : (looks ≡ true → HasCount judge.machine list count None) → RecordTaken h judge.front judge.machine r line now front machine None new
+        → Judges (driven_judging HasSeen) h judge r line (Good (record { front = front; machine = machine; observer = next })) now new
+    taken_good counted t =
+        judges_good looks blind h judge r line now new (meanings front_list)
+        (λ yes. ap (λ (l : List (StepOf Op)). meanings l) (is ∙ take_all count list (no_more (length list) count (counted yes))) ∙ listed yes) front machine next t.0 t.1 t.2 sees
+      where
+        no_more : (n k : ℕ) → k ≡ n → n ≤ k
+        no_more n k same = omega (arith, same)
+
+    -- one is not
+    pub taken_bad : (rejection : Rejection) → (looks ≡ true → HasCount judge.machine list count (Some rejection)) → RecordTaken h judge.front judge.machine r line now front machine (Some rejection) new
+        → Judges (driven_judging HasSeen) h judge r line (Bad (record { rejection = rejection; observer = next })) now new
+    taken_bad rejection counted t =
+        let at_is : t.at.count ≡ judge.machine.count + length t.done.before = ap (λ (v : Seen (List Kind) Op). v.count) t.done.is in
+        let step_is : rejection.step ≡ t.at.count + 1 = ap (λ (w : Rejection). w.step) t.is in
+        judges_bad looks blind h judge r line now new (meanings list) listed count (meanings front_list) rejection next t (told_meant count front_list list is)
+        (λ yes. let counts = counted yes in omega (arith, at_is, step_is, counts)) sees
+
+  module _ (h : Header) (judge : Driven W) (r : RunRecord Op) (line now new : ℕ) where
+    pub judges_most : CostAtMost objects place_of judge.machine (steps_here h judge.front judge.machine r) now new → CostsAtMostThere (driven_judging HasSeen) h judge r line now new
+    judges_most cost at before good old most = most_record h before judge.front judge.machine good.0 line r at old now new most cost
+
+    pub judges_overrun : Overruns judge.machine (steps_here h judge.front judge.machine r) now new → HasFaultThere (driven_judging HasSeen) h judge r line TooManySteps
+    judges_overrun over at before good = overruns_there h before judge.front judge.machine good.0 r at line now new over

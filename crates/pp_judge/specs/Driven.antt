@@ -1,0 +1,36 @@
+-- Proof machinery: what the machine says of runs as a judge.
+use Rattle.std.specs.Prelude.{List}
+use Rattle.pp_core.specs.Steps.{Step}
+use Rattle.pp_core.specs.declared.status.Status.TheVariants as statuses
+use Rattle.pp_records.specs.Records.{RunRecord}
+use Rattle.pp_records.specs.Runs.{IsRun, LinedSteps, Records, bare}
+use Rattle.pp_objects.specs.declared.act.Op.{Op}
+use Rattle.pp_format_read.specs.declared.header.Header.{Header}
+use Rattle.pp_judge.specs.Costs.{StepsCostAtLeast, StepsCostAtMost}
+use Rattle.pp_judge.specs.Inputs.{IsFaultOf}
+use Rattle.pp_judge.specs.Judging.{Judging}
+use Rattle.pp_judge.specs.Objects.{object_of, start_of, translation_of}
+use Rattle.pp_judge.specs.Running.{EndsAt, GoesOn}
+use Rattle.pp_judge.specs.declared.driven.Driven.{Driven}
+use Rattle.pp_judge.specs.declared.driven.Refused.{Refused}
+
+-- an observer has seen the steps of every run of these records (there is one at most)
+abbrev pub HasSeenRun : {W : Type 0} → (Header → List (Step Op) → W → Type 0) → Header →
+    Records (RunRecord Op) → W → Type 0
+HasSeenRun HasSeen header records observer = (run : LinedSteps Op) →
+    IsRun (object_of header) (translation_of header) (start_of header) records run →
+    HasSeen header (bare run) observer
+
+-- Records are good if their steps meet their criteria, and bad if one does not, whatever follows.
+abbrev pub driven_judging : {W : Type 0} → (Header → List (Step Op) → W → Type 0) →
+    Judging (Driven W) (Refused W)
+driven_judging HasSeen = record {
+  IsGood = λ header records judge. GoesOn header.what records judge.front judge.machine
+      × HasSeenRun HasSeen header.what records judge.observer;
+  IsBad = λ header records refused. EndsAt header.what header.line records refused.rejection
+      × HasSeenRun HasSeen header.what records refused.observer;
+  IsFault = IsFaultOf;
+  AtMost = StepsCostAtMost;
+  GoodAtLeast = StepsCostAtLeast statuses.Accepted;
+  BadAtLeast = StepsCostAtLeast statuses.Rejected;
+}

@@ -1,0 +1,183 @@
+-- Proof machinery: where a machine stands that takes the steps of the records.
+use Rattle.std.specs.Prelude.{◌≡◌, ℕ, zero, suc, ◌+◌, ◌<◌, List, [], ◌∷◌, ◌++◌, length, slice_get, take, Option}
+use Rattle.std.specs.Prelude.{None, Some}
+use Rattle.pp_core.specs.declared.call.Kind.{Kind}
+use Rattle.pp_core.specs.declared.limits.TheConstants.{MOST_STEPS}
+use Rattle.pp_core.specs.declared.step.Rule.TheVariants as rules
+use Rattle.pp_core.specs.declared.step.Step.{Step as StepOf}
+use Rattle.pp_core.specs.Steps.{Step, rule_of}
+use Rattle.pp_records.specs.Expansions.{expand, front_after}
+use Rattle.pp_records.specs.Fronts.{Front, new_front}
+use Rattle.pp_records.specs.Laws.{IsRejectedAt, StandsAt}
+use Rattle.pp_records.specs.Records.{RunRecord}
+use Rattle.pp_records.specs.Runs.{LinedSteps, Records, Standing, bare}
+use Rattle.pp_objects.specs.declared.act.Op.{Op}
+use Rattle.pp_objects.specs.Objects.{kinds_of, objects, place_of}
+use Rattle.pp_format_read.specs.declared.header.Header.{Header}
+use Rattle.pp_model.specs.Config.{after, first}
+use Rattle.pp_model.specs.Rules.{Breaks, StartBreaks, StartMeets}
+use Rattle.pp_report.specs.Reports.{IsDetailNamed}
+use Rattle.pp_machine.specs.Machines.{Seen}
+use Rattle.pp_machine.specs.Evidence.{Fits, evidence}
+use Rattle.pp_machine.specs.declared.machine.Outcome.{Outcome}
+use Rattle.pp_machine.specs.declared.machine.Outcome.TheVariants.{Done, False}
+use Rattle.pp_kind.specs.Object.{rules_of}
+use Rattle.pp_styles.specs.AnyFronts.{any_state, any_style}
+use Rattle.pp_styles.specs.Driving.{HasDone}
+use Rattle.pp_styles.specs.declared.any_front.AnyFront.{AnyFront}
+use Rattle.pp_judge.specs.declared.driven.Rejection.{Rejection}
+use Rattle.pp_judge.specs.declared.progress.Tally.{Tally}
+use Rattle.pp_judge.specs.Objects.{object_of, start_of, translation_of}
+use Rattle.pp_judge.specs.Rejected.{IsStartEvident, IsStepEvident}
+use Rattle.pp_judge.specs.Reports.{detail_of_start}
+use Rattle.pp_judge.specs.Scans.{InputScan}
+use Rattle.pp_judge.specs.Tallies.{IsTallied}
+
+-- where the run stands: a state of its front, and the configuration of the machine
+abbrev pub standing_of : Front → Seen (List Kind) Op → Standing Front Op
+standing_of state machine = record { front = state; config = machine.config }
+
+-- each step so far meets its criteria, and the machine is where they lead
+pub record IsRunning (sc : InputScan) (tally : Tally) (machine : Seen (List Kind) Op) : Type 0 where
+  pub follows : IsTallied sc tally
+  pub shape : machine.shape ≡ kinds_of tally.header.catalog
+  -- what the records leave of the front
+  pub state : Front
+  pub stands : StandsAt (object_of tally.header) (translation_of tally.header)
+      (start_of tally.header) sc.records (standing_of state machine) machine.count
+
+-- Each step that the records after a header stand for meets its criteria, the machine is where
+-- they lead, and the front is of the style, and keeps what the records leave.
+pub record GoesOn (header : Header) (records : Records (RunRecord Op)) (front : AnyFront)
+    (machine : Seen (List Kind) Op) : Type 0 where
+  pub shape : machine.shape ≡ kinds_of header.catalog
+  -- what the records leave of the front
+  pub state : Front
+  pub stands : StandsAt (object_of header) (translation_of header) (start_of header) records
+      (standing_of state machine) machine.count
+  pub style : any_style front ≡ header.style
+  pub kept : any_state (kinds_of header.catalog) front ≡ state
+
+-- the rejection of a start, of which this is the first false criterion
+abbrev pub start_rejection : Header → ℕ → ℕ → Rejection
+start_rejection header line n = record {
+  step = 0;
+  line = line;
+  rule = rules.Start;
+  criterion = n;
+  detail = detail_of_start (kinds_of header.catalog) (start_of header) n;
+}
+
+-- the rejection of the step of this number, of which this is the first false criterion; 0 is the
+-- start of the header, which stands on this line
+abbrev pub IsRejectionOf : Header → ℕ → LinedSteps Op → ℕ → ℕ → Rejection → Type 0
+IsRejectionOf header at run zero n rejection =
+    (rejection ≡ start_rejection header at n)
+    × IsStartEvident (kinds_of header.catalog) (start_of header) n
+IsRejectionOf header at run (suc i) n rejection = (last : Step Op)
+    × (slice_get run i ≡ Some (record { line = rejection.line; what = last }))
+    × (rejection ≡ record {
+      step = suc i;
+      line = rejection.line;
+      rule = rule_of last;
+      criterion = n;
+      detail = evidence objects (kinds_of header.catalog)
+          (after (start_of header) (bare (take i run))) last n;
+    })
+    × IsStepEvident (kinds_of header.catalog) (after (start_of header) (bare (take i run))) last n
+
+-- the run of these records and of any behind them, which this step of it ends
+pub record EndsAt (header : Header) (at : ℕ) (records : Records (RunRecord Op))
+    (rejection : Rejection) : Type 0 where
+  pub run : LinedSteps Op
+  -- its number in the run, where 0 is the start, and that of its first false criterion, from 0
+  pub number : ℕ
+  pub criterion : ℕ
+  pub is : IsRejectionOf header at run number (suc criterion) rejection
+  -- the objects that its evidence names are those of the header
+  pub named : IsDetailNamed header.catalog rejection.detail
+  pub stays : (more : Records (RunRecord Op)) → IsRejectedAt (object_of header)
+      (translation_of header) (start_of header) (records ++ more) run number criterion
+
+-- the run is rejected at this step, whatever follows
+pub record IsRejected (sc : InputScan) (tally : Tally) (rejection : Rejection) : Type 0 where
+  pub follows : IsTallied sc tally
+  pub ends : EndsAt tally.header follows.at sc.records rejection
+
+-- the rejection of a step, of which this is the first false criterion
+abbrev pub rejection_of : Seen (List Kind) Op → Step Op → ℕ → ℕ → Rejection
+rejection_of machine step line n = record {
+  step = machine.count + 1;
+  line = line;
+  rule = rule_of step;
+  criterion = n;
+  detail = evidence objects machine.shape machine.config step n;
+}
+
+-- what the start of a header, if it has one, leaves of a machine that is as `new` made it
+abbrev pub HasStarted : Header → Outcome Op → Seen (List Kind) Op → Type 0
+HasStarted header Done machine =
+    StartMeets (object_of header) (start_of header)
+    × (machine ≡ record {
+      shape = kinds_of header.catalog;
+      config = first (start_of header);
+      count = 0;
+    })
+HasStarted header (False n detail) machine =
+    StartBreaks (object_of header) (start_of header) n × (0 < n)
+    × (detail ≡ detail_of_start (kinds_of header.catalog) (start_of header) n)
+    × Fits objects (kinds_of header.catalog) detail
+    × IsStartEvident (kinds_of header.catalog) (start_of header) n
+
+-- a front of the style of a header, which keeps nothing yet
+abbrev pub IsFirstFront : Header → AnyFront → Type 0
+IsFirstFront header front =
+    let kinds = kinds_of header.catalog in
+    (any_style front ≡ header.style) × (any_state kinds front ≡ new_front kinds)
+
+-- the steps of a record, where the front and the machine stand
+abbrev pub steps_here : Header → AnyFront → Seen (List Kind) Op → RunRecord Op → List (Step Op)
+steps_here header front machine r =
+    expand place_of (any_style front) (any_state (kinds_of header.catalog) front) machine.config r
+
+-- Of these steps those before one are done, and that one is the first that does not meet its
+-- criteria.
+pub record FailsWithin (machine : Seen (List Kind) Op) (steps : List (Step Op)) (line from to : ℕ)
+    (rejection : Rejection) : Type 0 where
+  pub step : Step Op
+  pub behind : List (Step Op)
+  pub at : Seen (List Kind) Op
+  pub done : HasDone objects machine steps (step ∷ behind) at from to
+  pub few : at.count < MOST_STEPS
+  pub criterion : ℕ
+  pub some : 0 < criterion
+  pub breaks : Breaks (rules_of objects at.shape) at.config step criterion
+  pub is : rejection ≡ rejection_of at step line criterion
+  pub fits : Fits objects at.shape (evidence objects at.shape at.config step criterion)
+  pub evident : IsStepEvident at.shape at.config step criterion
+
+-- Of these steps those before one are done, and a run may have no step more.
+pub record Overruns (machine : Seen (List Kind) Op) (steps : List (Step Op)) (from to : ℕ) :
+    Type 0 where
+  pub step : Step Op
+  pub behind : List (Step Op)
+  pub at : Seen (List Kind) Op
+  pub done : HasDone objects machine steps (step ∷ behind) at from to
+  pub full : at.count ≡ MOST_STEPS
+
+-- A record is taken: each of its steps meets its criteria, and the front keeps what it leaves; or
+-- one of them is the first that does not. The counter goes from one number to another.
+abbrev pub RecordTaken : Header → AnyFront → Seen (List Kind) Op → RunRecord Op → (line from : ℕ) →
+    AnyFront → Seen (List Kind) Op → Option Rejection → ℕ → Type 0
+RecordTaken header front machine r line from next new None to =
+    let kinds = kinds_of header.catalog in
+    (any_style next ≡ any_style front)
+    × (any_state kinds next ≡ front_after (any_state kinds front) machine.config r)
+    × HasDone objects machine (steps_here header front machine r) [] new from to
+RecordTaken header front machine r line from next new (Some rejection) to =
+    FailsWithin machine (steps_here header front machine r) line from to rejection
+
+-- how many steps of a list a run has with a record: all, or those up to the one that is rejected
+abbrev pub HasCount : Seen (List Kind) Op → List (StepOf Op) → ℕ → Option Rejection → Type 0
+HasCount old list count None = count ≡ length list
+HasCount old list count (Some rejection) = old.count + count ≡ rejection.step
