@@ -3,7 +3,7 @@
 
 ghost use Rattle.std.specs.Prelude.{◌≡◌, ℕ, None};
 ghost use Rattle.pp_run.specs.Outcomes.{outcome};
-ghost use Rattle.pp_run.specs.Runs.{RunPromise};
+ghost use Rattle.pp_run.specs.Runs.{RunLaws, RunPromise};
 ghost use Rattle.pp_run.specs.Streams.{counts};
 ghost use Rattle.pp_run.specs.Words.{command_of};
 
@@ -43,12 +43,16 @@ pub fn run_streams<L: Ledger, R: Read + Drop, W: Write + Drop>(
         None None
         (counts source.old.faults source.new.faults sink.old.faults sink.new.faults
         0 0 sink.old.flushes sink.new.flushes) }
+    ensures laws { RunLaws }
 {
     run(alloc, words, source, sink, ticks)
 }
 
 /// Calls `run_streams` with a new counter of operations. `main` calls it once it has its arguments.
-fn run_counted<L: Ledger, R: Read + Drop, W: Write + Drop>(
+/// It cannot return the counter: `main` picks the ledger, and a type of this ledger cannot be in the
+/// signature. So the promise says only that some number is within the bounds. `run_streams` says it
+/// of its own counter.
+pub fn run_counted<L: Ledger, R: Read + Drop, W: Write + Drop>(
     alloc: Global,
     words: &Words,
     source: &mut StdSource<R>,
@@ -65,6 +69,7 @@ fn run_counted<L: Ledger, R: Read + Drop, W: Write + Drop>(
         None None
         (counts source.old.faults source.new.faults sink.old.faults sink.new.faults
         0 0 sink.old.flushes sink.new.flushes) }
+    ensures laws { RunLaws }
 {
     let mut ticks = Ticks::<L>::new(blank);
     run_streams(alloc, words, source, sink, &mut ticks)

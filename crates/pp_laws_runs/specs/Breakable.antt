@@ -1,4 +1,4 @@
--- Meaning: which criteria a step of a run of the four recorded styles can break.
+-- Meaning: which criteria a run of one of the four recorded styles can break first.
 use Rattle.std.specs.Prelude.{◌≡◌, ℕ, suc, List, [], ◌∷◌, ◌++◌, Option}
 use Rattle.pp_core.specs.declared.call.Kind.{Kind}
 use Rattle.pp_core.specs.declared.call.Style.{Style}
@@ -15,9 +15,8 @@ use Rattle.pp_model.specs.Lists.{In}
 use Rattle.pp_model.specs.Object.{Object}
 use Rattle.pp_model.specs.Rules.{Breaks, RunsFrom, StartMeets}
 
--- The numbers of the criteria of a rule that a step can violate in a run of one of the four
--- recorded styles. All other criteria of the rule are always true there. (The rows of style rules
--- are not used. In that style each criterion can be violated.)
+-- The numbers of the criteria of a rule that can be the first that a step violates, in a run of one
+-- of the four recorded styles. (No law uses the rows of style rules.)
 abbrev pub breakable : Rule → Style → List ℕ
 breakable rules.Start style = 1 ∷ 2 ∷ []
 breakable rules.Begin style = 1 ∷ 2 ∷ []

@@ -37,8 +37,9 @@ pub record RunLaws : Type 0 where
   -- header and ends after a byte 10. Its run and its committed transactions are the first ones of
   -- the whole input.
   pub prefixes : PrefixLaw × CertifiedPrefixLaw
-  -- Two different lists of committed transactions never have the same report, under `certify` and
-  -- under `quick`. Two accepted inputs with the same report have the same committed transactions.
+  -- Two lists of committed transactions that differ in a name, an id or an operation never have the
+  -- same report, under `certify` and under `quick`. Two accepted inputs with the same report have
+  -- the same committed transactions. A report has no bodies and no threads.
   pub readable : CertifyLaw × QuickLaw
   -- In the four recorded styles only the criteria that `breakable` lists can be the first violated.
   pub styles_fail_only : ReportedLaw

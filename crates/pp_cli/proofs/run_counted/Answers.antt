@@ -21,4 +21,5 @@ returns g c =
             None None (counts old.faults new.faults held.faults holds.faults 0 0 held.flushes holds.flushes))
             c.new-ticks.ensures c.run_streams.ensures.promise,
       );
+      laws = c.run_streams.ensures.laws;
     }

@@ -1,6 +1,6 @@
 //! The whole program without its arguments, over readers and writers of std. The contracts of std
 //! say nothing about failures. These tests show that the edge counts each failure, and tries no
-//! call again.
+//! call again. In one test the reader and the writer say their bytes.
 use crate::edge::{StdSink, StdSource};
 use crate::run_counted;
 use crate::tests::row::COUNTER;
@@ -75,40 +75,47 @@ impl Write for FaultyWriter {
     }
 }
 
-/// The status of a call, what the writer holds after it, and how often it read.
+/// The status of a call, and its reader and its writer after it.
 #[derive(Drop)]
-struct Left {
+struct Ended<R: Read + Drop, W: Write + Drop> {
     status: Status,
-    held: Vec<u8>,
-    reads: u64,
+    reader: R,
+    writer: W,
 }
 
 /// Certifies the bytes of a reader, and writes the report to a writer.
-fn certified(alloc: Global, reader: FaultyReader, writer: FaultyWriter) -> Result<Left, Fail> {
+fn certified<R: Read + Drop, W: Write + Drop>(
+    alloc: Global,
+    reader: R,
+    writer: W,
+) -> Result<Ended<R, W>, Fail> {
     let mut words = Words::new(alloc);
     words.push(b"certify")?;
     let mut source = StdSource::new(reader);
     let mut sink = StdSink::new(writer);
     let status = run_counted::<Brand, _, _>(alloc, &words, &mut source, &mut sink, Blank::new(1));
-    let reader = source.into_stream();
-    let writer = sink.into_stream();
-    Ok(Left {
+    Ok(Ended {
         status,
-        held: writer.held,
-        reads: reader.calls,
+        reader: source.into_stream(),
+        writer: sink.into_stream(),
     })
 }
 
-/// A reader of the bytes of these parts, one part after another.
-fn reader(alloc: Global, parts: &[&[u8]], fails: bool) -> Result<FaultyReader, Fail> {
+/// The bytes of these parts, one part after another.
+fn queue_of(alloc: Global, parts: &[&[u8]]) -> Result<VecDeque<u8>, Fail> {
     let mut bytes = VecDeque::new(alloc);
     for part in parts {
         for byte in *part {
             bytes.push_back(*byte)?;
         }
     }
+    Ok(bytes)
+}
+
+/// A reader of the bytes of these parts, one part after another.
+fn reader(alloc: Global, parts: &[&[u8]], fails: bool) -> Result<FaultyReader, Fail> {
     Ok(FaultyReader {
-        bytes,
+        bytes: queue_of(alloc, parts)?,
         fails,
         calls: 0,
     })
@@ -128,12 +135,24 @@ fn no_byte_of_a_long_input_is_lost(rt: HostRuntime) -> Result<(), Fail> {
     let alloc = rt.alloc();
     let blank = vec![in alloc; b'\n'; BLANK_LINES]?;
     let input = reader(alloc, &[COUNTER, &blank, ADDED, STRANGE_COMMIT], false)?;
-    let left = certified(alloc, input, writer(alloc, false, false))?;
-    assert_eq!(rt; left.status, Status::Rejected);
+    let ended = certified(alloc, input, writer(alloc, false, false))?;
+    assert_eq!(rt; ended.status, Status::Rejected);
     assert_eq!(rt;
-        left.held.as_slice(),
+        ended.writer.held.as_slice(),
         b"rejected step 5 line 70006 CMT 1\n".as_slice()
     );
+    Ok(())
+}
+
+#[test]
+fn streams_that_say_their_bytes_carry_a_long_input(rt: HostRuntime) -> Result<(), Fail> {
+    let alloc = rt.alloc();
+    let blank = vec![in alloc; b'\n'; BLANK_LINES]?;
+    let input = queue_of(alloc, &[COUNTER, &blank, ADDED])?;
+    let ended = certified(alloc, input, Vec::new(alloc))?;
+    assert_eq!(rt; ended.status, Status::Accepted);
+    assert_eq!(rt; ended.writer.as_slice(), REPORT);
+    assert_eq!(rt; ended.reader.len(), 0);
     Ok(())
 }
 
@@ -141,13 +160,13 @@ fn no_byte_of_a_long_input_is_lost(rt: HostRuntime) -> Result<(), Fail> {
 fn a_report_is_written_whole_to_a_slow_writer(rt: HostRuntime) -> Result<(), Fail> {
     let alloc = rt.alloc();
     let input = added(alloc)?;
-    let left = certified(
+    let ended = certified(
         alloc,
         reader(alloc, &[&input], false)?,
         writer(alloc, false, false),
     )?;
-    assert_eq!(rt; left.status, Status::Accepted);
-    assert_eq!(rt; left.held.as_slice(), REPORT);
+    assert_eq!(rt; ended.status, Status::Accepted);
+    assert_eq!(rt; ended.writer.held.as_slice(), REPORT);
     Ok(())
 }
 
@@ -155,14 +174,14 @@ fn a_report_is_written_whole_to_a_slow_writer(rt: HostRuntime) -> Result<(), Fai
 fn a_failed_read_is_not_tried_again(rt: HostRuntime) -> Result<(), Fail> {
     let alloc = rt.alloc();
     let input = added(alloc)?;
-    let left = certified(
+    let ended = certified(
         alloc,
         reader(alloc, &[&input], true)?,
         writer(alloc, false, false),
     )?;
-    assert_eq!(rt; left.status, Status::ReadFault);
-    assert_eq!(rt; left.held.len(), 0);
-    assert_eq!(rt; left.reads, 1);
+    assert_eq!(rt; ended.status, Status::ReadFault);
+    assert_eq!(rt; ended.writer.held.len(), 0);
+    assert_eq!(rt; ended.reader.calls, 1);
     Ok(())
 }
 
@@ -170,13 +189,13 @@ fn a_failed_read_is_not_tried_again(rt: HostRuntime) -> Result<(), Fail> {
 fn a_failed_write_is_not_tried_again(rt: HostRuntime) -> Result<(), Fail> {
     let alloc = rt.alloc();
     let input = added(alloc)?;
-    let left = certified(
+    let ended = certified(
         alloc,
         reader(alloc, &[&input], false)?,
         writer(alloc, true, false),
     )?;
-    assert_eq!(rt; left.status, Status::WriteFault);
-    assert_eq!(rt; left.held.len(), 0);
+    assert_eq!(rt; ended.status, Status::WriteFault);
+    assert_eq!(rt; ended.writer.held.len(), 0);
     Ok(())
 }
 
@@ -184,12 +203,12 @@ fn a_failed_write_is_not_tried_again(rt: HostRuntime) -> Result<(), Fail> {
 fn a_failed_flush_is_not_tried_again(rt: HostRuntime) -> Result<(), Fail> {
     let alloc = rt.alloc();
     let input = added(alloc)?;
-    let left = certified(
+    let ended = certified(
         alloc,
         reader(alloc, &[&input], false)?,
         writer(alloc, false, true),
     )?;
-    assert_eq!(rt; left.status, Status::WriteFault);
-    assert_eq!(rt; left.held.as_slice(), REPORT);
+    assert_eq!(rt; ended.status, Status::WriteFault);
+    assert_eq!(rt; ended.writer.held.as_slice(), REPORT);
     Ok(())
 }
