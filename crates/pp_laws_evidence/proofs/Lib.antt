@@ -1,0 +1,4 @@
+pub mod Gives
+pub mod Shows
+pub mod Details
+pub mod Runs

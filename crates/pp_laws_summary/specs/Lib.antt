@@ -1,0 +1,13 @@
+pub mod Places
+pub mod Views
+pub mod LocalLogs
+pub mod Summary
+pub mod DecidedRuns
+pub mod Laws
+pub mod Premises
+pub mod States
+pub mod Dependent
+pub mod Counts
+pub mod Failures
+pub mod Untouched
+pub mod Replays
