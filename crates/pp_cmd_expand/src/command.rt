@@ -28,10 +28,10 @@ pub(crate) struct RunText {
 }
 
 impl Observer for RunText {
-    ghost use Rattle.std.specs.Prelude.{◌≡◌, true};
-    ghost use Rattle.pp_format_write.specs.RunTexts.{run_text};
+    ghost use Rattle.std.specs.Prelude.{true};
+    ghost use Rattle.pp_cmd_expand.specs.Written.{HasWritten};
 
-    ghost HasSeen = { λ header steps w. w.text ≡ run_text header.catalog header.start steps };
+    ghost HasSeen = { HasWritten };
 
     ghost looks = { true };
 

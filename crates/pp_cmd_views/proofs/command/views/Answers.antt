@@ -4,6 +4,7 @@ use Rattle.pp_input_reader.proofs.Takers.{taken_all}
 use Rattle.pp_styles.specs.Meanings.{meanings}
 use Rattle.pp_judge.proofs.Concluding.{rejected_evident}
 use Rattle.pp_judge.proofs.Running.{rejected_of}
+use Rattle.pp_judge.specs.Driven.{driven_judging}
 use Rattle.pp_judge.specs.Findings.{Finds, RisesAtLeast}
 use Rattle.pp_judge.specs.Inputs.{scan}
 use Rattle.pp_judge.specs.Rejected.{IsEvident}
@@ -18,21 +19,21 @@ pub returns-in_ok-text-in-Fault-clause-output : goal.returns-in_ok-text-in-Fault
 returns-in_ok-text-in-Fault-clause-output g c = λ bytes is.
     let old = g.S.Source.left c.args.source.now in
     let new = g.S.Source.left c.examine.new.source in
-    let found = subst (Finds _ old new) c.in-Fault.is c.in_ok-line.ensures.found in
+    let found = subst (Finds (driven_judging HasSeenSteps) old new) c.in-Fault.is c.in_ok-line.ensures.found in
     fault_views bytes c.in-Fault.line c.in-Fault.cause c.in_ok-text-in-Fault.text (found bytes is) c.in_ok-text-in-Fault.ensures
 
 pub report_rejected-requires : goal.report_rejected-requires
 report_rejected-requires g c =
     let old = g.S.Source.left c.args.source.now in
     let new = g.S.Source.left c.examine.new.source in
-    let found = subst (Finds _ old new) c.in-Rejected.is c.in_ok-line.ensures.found in
+    let found = subst (Finds (driven_judging HasSeenSteps) old new) c.in-Rejected.is c.in_ok-line.ensures.found in
     (scan found.0, rejected_of HasSeenSteps (scan found.0) c.in-Rejected.tally c.in-Rejected.refused found.3)
 
 pub returns-in_ok-text-in-Rejected-clause-output : goal.returns-in_ok-text-in-Rejected-clause-output
 returns-in_ok-text-in-Rejected-clause-output g c = λ bytes is.
     let old = g.S.Source.left c.args.source.now in
     let new = g.S.Source.left c.examine.new.source in
-    let found = subst (Finds _ old new) c.in-Rejected.is c.in_ok-line.ensures.found in
+    let found = subst (Finds (driven_judging HasSeenSteps) old new) c.in-Rejected.is c.in_ok-line.ensures.found in
     let text = c.in_ok-text-in-Rejected.text in
     let rejected = rejected_of HasSeenSteps (scan found.0) c.in-Rejected.tally c.in-Rejected.refused found.3 in
     subst (λ bs. IsViews bs statuses.Rejected text) (taken_all old new found.0 bytes found.1 found.2 is)
@@ -42,7 +43,7 @@ pub returns-in_ok-text-in-Rejected-clause-shown : goal.returns-in_ok-text-in-Rej
 returns-in_ok-text-in-Rejected-clause-shown g c = λ rejected bytes is.
     let old = g.S.Source.left c.args.source.now in
     let new = g.S.Source.left c.examine.new.source in
-    let found = subst (Finds _ old new) c.in-Rejected.is c.in_ok-line.ensures.found in
+    let found = subst (Finds (driven_judging HasSeenSteps) old new) c.in-Rejected.is c.in_ok-line.ensures.found in
     subst (λ bs. IsEvident (scan bs)) (taken_all old new found.0 bytes found.1 found.2 is)
     (rejected_evident (scan found.0) c.in-Rejected.tally c.in-Rejected.refused.rejection (rejected_of HasSeenSteps (scan found.0) c.in-Rejected.tally c.in-Rejected.refused found.3))
 
@@ -50,22 +51,22 @@ pub report_views-requires : goal.report_views-requires
 report_views-requires g c =
     let old = g.S.Source.left c.args.source.now in
     let new = g.S.Source.left c.examine.new.source in
-    let found = subst (Finds _ old new) c.in-Accepted.is c.in_ok-line.ensures.found in
+    let found = subst (Finds (driven_judging HasSeenSteps) old new) c.in-Accepted.is c.in_ok-line.ensures.found in
     let tally = c.in-Accepted.tally in
-    let machine = c.into_machine.result in
+    let machine = c.into_machine-machine.result in
     let steps = meanings c.in-Accepted.judge.observer.steps in
-    let has = subst (λ m. HasSteps (scan found.0) tally m steps) (sym c.into_machine.ensures) (has_steps (scan found.0) tally c.in-Accepted.judge found.3) in
+    let has = subst (λ m. HasSteps (scan found.0) tally m steps) (sym c.into_machine-machine.ensures) (has_steps (scan found.0) tally c.in-Accepted.judge found.3) in
     (scan found.0, has)
 
 pub returns-in_ok-told-in-Accepted-clause-output : goal.returns-in_ok-told-in-Accepted-clause-output
 returns-in_ok-told-in-Accepted-clause-output g c = λ bytes is.
     let old = g.S.Source.left c.args.source.now in
     let new = g.S.Source.left c.examine.new.source in
-    let found = subst (Finds _ old new) c.in-Accepted.is c.in_ok-line.ensures.found in
+    let found = subst (Finds (driven_judging HasSeenSteps) old new) c.in-Accepted.is c.in_ok-line.ensures.found in
     let tally = c.in-Accepted.tally in
-    let machine = c.into_machine.result in
+    let machine = c.into_machine-machine.result in
     let steps = meanings c.in-Accepted.judge.observer.steps in
-    let has = subst (λ m. HasSteps (scan found.0) tally m steps) (sym c.into_machine.ensures) (has_steps (scan found.0) tally c.in-Accepted.judge found.3) in
+    let has = subst (λ m. HasSteps (scan found.0) tally m steps) (sym c.into_machine-machine.ensures) (has_steps (scan found.0) tally c.in-Accepted.judge found.3) in
     let told = c.in_ok-told-in-Accepted.told in
     subst (λ bs. IsViews bs told.0 told.1) (taken_all old new found.0 bytes found.1 found.2 is)
     (accepted_views found.0 tally machine steps told.0 told.1 has (c.in_ok-told-in-Accepted.ensures.told (scan found.0) has))
@@ -91,11 +92,11 @@ pub returns-in_ok-told-in-Accepted-clause-most : goal.returns-in_ok-told-in-Acce
 returns-in_ok-told-in-Accepted-clause-most g c = λ bytes is.
     let old = g.S.Source.left c.args.source.now in
     let new = g.S.Source.left c.examine.new.source in
-    let found = subst (Finds _ old new) c.in-Accepted.is c.in_ok-line.ensures.found in
+    let found = subst (Finds (driven_judging HasSeenSteps) old new) c.in-Accepted.is c.in_ok-line.ensures.found in
     let tally = c.in-Accepted.tally in
-    let machine = c.into_machine.result in
+    let machine = c.into_machine-machine.result in
     let steps = meanings c.in-Accepted.judge.observer.steps in
-    let has = subst (λ m. HasSteps (scan found.0) tally m steps) (sym c.into_machine.ensures) (has_steps (scan found.0) tally c.in-Accepted.judge found.3) in
+    let has = subst (λ m. HasSteps (scan found.0) tally m steps) (sym c.into_machine-machine.ensures) (has_steps (scan found.0) tally c.in-Accepted.judge found.3) in
     let h = subst (λ bs. HasSteps (scan bs) tally machine steps) (taken_all old new found.0 bytes found.1 found.2 is) has in
     viewed_most (scan bytes) tally machine steps h c.args.ticks.now c.examine.new.ticks c.report_views.new.ticks (c.examine.ensures.most bytes is) c.report_views.ensures.bound
 
@@ -103,20 +104,20 @@ pub returns-in_err-told-in-Accepted-clause-most : goal.returns-in_err-told-in-Ac
 returns-in_err-told-in-Accepted-clause-most g c = λ bytes is.
     let old = g.S.Source.left c.args.source.now in
     let new = g.S.Source.left c.examine.new.source in
-    let found = subst (Finds _ old new) c.in-Accepted.is c.in_ok-line.ensures.found in
+    let found = subst (Finds (driven_judging HasSeenSteps) old new) c.in-Accepted.is c.in_ok-line.ensures.found in
     let tally = c.in-Accepted.tally in
-    let machine = c.into_machine.result in
+    let machine = c.into_machine-machine.result in
     let steps = meanings c.in-Accepted.judge.observer.steps in
-    let has = subst (λ m. HasSteps (scan found.0) tally m steps) (sym c.into_machine.ensures) (has_steps (scan found.0) tally c.in-Accepted.judge found.3) in
+    let has = subst (λ m. HasSteps (scan found.0) tally m steps) (sym c.into_machine-machine.ensures) (has_steps (scan found.0) tally c.in-Accepted.judge found.3) in
     let h = subst (λ bs. HasSteps (scan bs) tally machine steps) (taken_all old new found.0 bytes found.1 found.2 is) has in
     viewed_most (scan bytes) tally machine steps h c.args.ticks.now c.examine.new.ticks c.report_views.new.ticks (c.examine.ensures.most bytes is) c.report_views.ensures.bound
 
 pub returns-in_ok-text-in-Rejected-clause-least : goal.returns-in_ok-text-in-Rejected-clause-least
 returns-in_ok-text-in-Rejected-clause-least g c = λ decided bytes is.
-    subst (λ finding. RisesAtLeast _ (scan bytes) finding c.args.ticks.now c.examine.new.ticks) c.in-Rejected.is (c.in_ok-line.ensures.least bytes is)
+    subst (λ finding. RisesAtLeast (driven_judging HasSeenSteps) (scan bytes) finding c.args.ticks.now c.examine.new.ticks) c.in-Rejected.is (c.in_ok-line.ensures.least bytes is)
 
 pub returns-in_ok-told-in-Accepted-clause-least : goal.returns-in_ok-told-in-Accepted-clause-least
 returns-in_ok-told-in-Accepted-clause-least g c = λ decided bytes is.
     viewed_least (scan bytes) c.in_ok-told-in-Accepted.told.0 c.args.ticks.now c.examine.new.ticks c.report_views.new.ticks c.in_ok-told-in-Accepted.ensures.status decided
-    (subst (λ finding. RisesAtLeast _ (scan bytes) finding c.args.ticks.now c.examine.new.ticks) c.in-Accepted.is (c.in_ok-line.ensures.least bytes is))
+    (subst (λ finding. RisesAtLeast (driven_judging HasSeenSteps) (scan bytes) finding c.args.ticks.now c.examine.new.ticks) c.in-Accepted.is (c.in_ok-line.ensures.least bytes is))
     c.report_views.ensures.rises

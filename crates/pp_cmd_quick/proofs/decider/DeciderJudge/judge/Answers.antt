@@ -8,19 +8,19 @@ use Rattle.pp_cmd_quick.proofs.decider.DeciderJudge.judge.Goals as goal
 
 pub returns-in_err-quick-clause-most : goal.returns-in_err-quick-clause-most
 returns-in_err-quick-clause-most g c =
-    judges_most c.args.header.now c.args.self (record_meaning c.args.recorded.now) c.args.line c.args.ticks.now c.take.new.ticks c.take.ensures.bound
+    judges_most c.args._header.now c.args.self (record_meaning c.args.recorded.now) c.args.line c.args.ticks.now c.take.new.ticks c.take.ensures.bound
 
 pub returns-then-good-clause-most : goal.returns-then-good-clause-most
 returns-then-good-clause-most g c =
-    judges_most c.args.header.now c.args.self (record_meaning c.args.recorded.now) c.args.line c.args.ticks.now c.take.new.ticks c.take.ensures.bound
+    judges_most c.args._header.now c.args.self (record_meaning c.args.recorded.now) c.args.line c.args.ticks.now c.take.new.ticks c.take.ensures.bound
 
 pub returns-else-good-clause-most : goal.returns-else-good-clause-most
 returns-else-good-clause-most g c =
-    judges_most c.args.header.now c.args.self (record_meaning c.args.recorded.now) c.args.line c.args.ticks.now c.take.new.ticks c.take.ensures.bound
+    judges_most c.args._header.now c.args.self (record_meaning c.args.recorded.now) c.args.line c.args.ticks.now c.take.new.ticks c.take.ensures.bound
 
 pub returns-then-good-clause-judged : goal.returns-then-good-clause-judged
 returns-then-good-clause-judged g c =
-    let header = c.args.header.now in
+    let header = c.args._header.now in
     let judge = c.args.self in
     let r = record_meaning c.args.recorded.now in
     let next = c.in_ok-quick.quick in
@@ -37,4 +37,4 @@ returns-else-good-clause-judged g c =
     let r = record_meaning c.args.recorded.now in
     let next = c.in_ok-quick.quick in
     let takes = subst (λ b. Takes objects place_of judge.quick r b next) c.if-good.false c.in_ok-quick.ensures.takes in
-    judges_bad c.args.header.now judge r c.args.line c.args.ticks.now c.take.new.ticks next takes c.take.ensures.rises
+    judges_bad c.args._header.now judge r c.args.line c.args.ticks.now c.take.new.ticks next takes c.take.ensures.rises

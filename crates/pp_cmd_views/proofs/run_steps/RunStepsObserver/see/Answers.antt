@@ -9,5 +9,5 @@ use Rattle.pp_cmd_views.proofs.run_steps.RunStepsObserver.see.Goals as goal
 pub returns : goal.returns
 returns c = λ before seen. (
   c.in_ok-add_copies.ensures ∙ ap (λ ss. ss ++ meanings c.args.more.now) seen.0,
-  each_append (IsWritable c.args.header.now.catalog) before (meanings c.args.more.now) seen.1 c.requires,
+  each_append (IsWritable c.args._header.now.catalog) before (meanings c.args.more.now) seen.1 c.requires,
 )
