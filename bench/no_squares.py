@@ -7,7 +7,7 @@ Each run is made at two sizes, one twice the other. For both, the time of `certi
 the same records, and their ratio. The last column is the time of the larger run divided by that of the smaller one. A run
 is only read if a record that fails comes first. A benchmark ends with a failure if a run does not have the verdict it
 should have. It ends with status 1 if a run takes more than 6 times as long as only reading it, or if twice the work takes
-more than 2.2 times as long.
+more than 2.2 times as long, three times in a row.
 """
 import itertools
 import os
@@ -19,6 +19,7 @@ from measure import MOST_STEPS, answered, begin, program_named, write
 FAILING = {"step": "commit", "tx": "none"}
 MOST_RATIO = 6
 MOST_GROWTH = 2.2
+MOST_MEASUREMENTS = 3
 
 
 def header(style, *kinds):
@@ -143,27 +144,37 @@ def measure(program, path, head, made):
     return answered(program, "certify", path, f"accepted steps {steps} committed {committed}"), read
 
 
-def is_too_slow(name, half, whole, read):
-    """Prints what is above its limit: the ratio to only reading, or the time of twice the work."""
-    limits = ((whole / read, MOST_RATIO, "times only reading"), (whole / half, MOST_GROWTH, "times half of the work"))
-    above = [f"{value:.2f} {words}, and {most} is the limit" for value, most, words in limits if value > most]
+def above_limits(half, whole, read):
+    """What is above its limit: the ratio to only reading, or the time of twice the work."""
+    values = ((whole / read, MOST_RATIO, "times only reading"), (whole / half, MOST_GROWTH, "times half of the work"))
+    return [f"{value:.2f} {words}, and {most} is the limit" for value, most, words in values if value > most]
+
+
+def measure_both(program, path, name, head, make, size):
+    """Prints the times of a run and of its half. Returns what is above its limit."""
+    half, half_read = measure(program, path, head, make(size // 2))
+    whole, read = measure(program, path, head, make(size))
+    print(f"{name}: {whole:.2f} s, only read {read:.2f} s, ratio {whole / read:.1f}; of half "
+          f"{half:.2f} s, {half_read:.2f} s, {half / half_read:.1f}; twice the work {whole / half:.2f}", flush=True)
+    return above_limits(half, whole, read)
+
+
+def is_slow(program, path, run):
+    """Whether a run is above a limit, each time that it is measured. Other programs may have slowed one measurement."""
+    for _ in range(MOST_MEASUREMENTS):
+        above = measure_both(program, path, *run)
+        if not above:
+            return False
     for words in above:
-        print(f"bench: {name}: {words}", file=sys.stderr, flush=True)
-    return bool(above)
+        print(f"bench: {run[0]}: {words}", file=sys.stderr, flush=True)
+    return True
 
 
 def main():
     program = program_named()
-    slow = []
     with tempfile.TemporaryDirectory() as folder:
         path = os.path.join(folder, "run.jsonl")
-        for name, head, make, size in RUNS:
-            half, half_read = measure(program, path, head, make(size // 2))
-            whole, read = measure(program, path, head, make(size))
-            print(f"{name}: {whole:.2f} s, only read {read:.2f} s, ratio {whole / read:.1f}; of half "
-                  f"{half:.2f} s, {half_read:.2f} s, {half / half_read:.1f}; twice the work {whole / half:.2f}",
-                  flush=True)
-            slow.append(is_too_slow(name, half, whole, read))
+        slow = [is_slow(program, path, run) for run in RUNS]
     return 1 if any(slow) else 0
 
 

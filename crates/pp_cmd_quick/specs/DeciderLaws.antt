@@ -60,7 +60,7 @@ fault_stays sc wider x w is = by sc.header refl is
     by None none k = ap (λ (s : InputScan). quick_fault s) (w.fault x k) ∙ is
     by (Some h) there k =
         ap (λ (o : Option (Lined Header)). style_fault o wider.fault) (w.header h there) ∙
-            styled (is_boosted h.what.style) h k
+        styled (is_boosted h.what.style) h k
 
 from_none : (old new a : ℕ) → new ≤ old + 0 → new ≤ old + a
 from_none old new a x = omega (arith, x)
@@ -71,17 +71,17 @@ module _ {A State : Type 0} (O : Object A State) (place : A → ℕ) where
   tried_front : (rs : List (RunRecord A)) (B : Brief A) (more tried : List (RunRecord A)) →
       AreTried O place B (rs ++ more) tried
       → (front : List (RunRecord A)) × AreTried O place B rs front ×
-          (records_most place B front ≤ records_most place B tried)
+      (records_most place B front ≤ records_most place B tried)
   tried_front [] B more tried k = ([], refl, omega arith)
   tried_front (r ∷ rs) B more tried (inl k) =
       let e : records_most place B tried ≡ take_most B r + 0 =
-          ap (λ (z : List (RunRecord A)). records_most place B z) k.1 in
+      ap (λ (z : List (RunRecord A)). records_most place B z) k.1 in
       (r ∷ [], inl (k.0, refl), omega (arith, e))
   tried_front (r ∷ rs) B more tried (inr k) =
       let f = tried_front rs (brief_then place B r) more k.1.0 k.1.1 in
       let e : records_most place B tried ≡ take_most B r + records_most place
-          (brief_then place B r) k.1.0 = ap (λ (z : List (RunRecord A)). records_most place B z)
-          k.1.2 in
+      (brief_then place B r) k.1.0 = ap (λ (z : List (RunRecord A)). records_most place B z)
+      k.1.2 in
       (r ∷ f.0, inr (k.0, (f.0, f.1, refl)), omega (arith, e, f.2))
 
 -- the counter rises at most by this
@@ -98,11 +98,11 @@ wider_most : (header : Lined Header) (rs more : Records (RunRecord Op)) (old new
 wider_most header rs more old new most tried k =
     let B = first_brief header.what in
     let f = tried_front (object_of header.what) place_of (bare rs) B (bare more) tried
-        (subst (λ (l : List (RunRecord Op)). AreTried (object_of header.what) place_of B l tried)
-        (bare_append rs more) k) in
+    (subst (λ (l : List (RunRecord Op)). AreTried (object_of header.what) place_of B l tried)
+    (bare_append rs more) k) in
     up_more old new (tried_most header.what f.0) (tried_most header.what tried) (most f.0 f.1)
     (add_le (start_at_most (start_of header.what)) (records_most place_of B f.0)
-        (records_most place_of B tried) f.2)
+    (records_most place_of B tried) f.2)
 
 pub most_widens : (sc wider : InputScan) (old new : ℕ) → Widens sc wider → RecordsCostAtMost sc old
     new → RecordsCostAtMost wider old new
@@ -113,9 +113,9 @@ most_widens sc wider old new w most = by sc.header refl most
     by None none m = any_tried wider.header wider.records old new m
     by (Some h) there m =
         subst (λ (o : Option (Lined Header)). OfTried o wider.records (Most old new))
-            (sym (w.header h there))
+        (sym (w.header h there))
         (subst (λ (z : Records (RunRecord Op)). OfTried (Some h) z (Most old new))
-            (sym w.records.1) (wider_most h sc.records w.records.0 old new m))
+        (sym w.records.1) (wider_most h sc.records w.records.0 old new m))
 
 same_count : (n : ℕ) → n ≤ n + 0
 same_count n = omega arith
@@ -152,8 +152,12 @@ pub fails_stay : (header : Lined Header) (rs more : Records (RunRecord Op)) (lin
     FailsOn header rs line → FailsOn header (rs ++ more) line
 fails_stay header rs more line (inl k) = inl k
 fails_stay header rs more line (inr k) =
-    inr (k.0, (failure_law (object_of header.what) (translation_of header.what)).stays
-    (start_of header.what) rs more k.0 k.1, k.2)
+    inr (
+      k.0,
+      (failure_law (object_of header.what) (translation_of header.what)).stays
+          (start_of header.what) rs more k.0 k.1,
+      k.2,
+    )
 
 -- ---- the laws
 

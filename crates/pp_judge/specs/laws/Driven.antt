@@ -63,7 +63,7 @@ most_front zero c xs ys = nothing_less (most_ticks place_of c (take zero (xs ++ 
 most_front (suc k) c [] ys = nothing_less (most_ticks place_of c (take (suc k) ys))
 most_front (suc k) c (x ∷ xs) ys =
     add_le (at_most place_of c x) (most_ticks place_of (then c x) (take k xs))
-        (most_ticks place_of (then c x) (take k (xs ++ ys))) (most_front k (then c x) xs ys)
+    (most_ticks place_of (then c x) (take k (xs ++ ys))) (most_front k (then c x) xs ys)
 
 -- of a run without a step the start is all that costs
 pub no_steps : (start : Option (Start Op)) → steps_at_most start [] ≡ start_at_most start
@@ -75,7 +75,7 @@ no_steps start = few_steps start [] (nothing_less 200_000) ∙ sym (plus_zero (s
 ends_front : {A State : Type 0} (O : Object A State) (c : Config A) (xs ys run : LinedSteps A) →
     EndsAtFailure O c (xs ++ ys) run
     → (front : LinedSteps A) × (rest : LinedSteps A) × EndsAtFailure O c xs front ×
-        (run ≡ front ++ rest)
+    (run ≡ front ++ rest)
 ends_front O c [] ys run e = ([], run, refl, refl)
 ends_front O c (x ∷ xs) ys run (inl e) = (x ∷ [], [], inl (e.0, e.1, refl), e.2)
 ends_front {A} O c (x ∷ xs) ys run (inr e) =
@@ -85,15 +85,15 @@ ends_front {A} O c (x ∷ xs) ys run (inr e) =
 run_front : (h : Header) (records more : Records (RunRecord Op)) (run : LinedSteps Op) →
     IsRun (object_of h) (translation_of h) (start_of h) (records ++ more) run
     → (front : LinedSteps Op) × (rest : LinedSteps Op) × IsRun (object_of h) (translation_of h)
-        (start_of h) records front × (run ≡ front ++ rest)
+    (start_of h) records front × (run ≡ front ++ rest)
 run_front h records more run (inl e) = ([], [], inl (e.0, e.1, refl), e.2)
 run_front h records more run (inr e) =
     let T = translation_of h in
     let p = outset T (start_of h) in
     let k = ends_front (object_of h) (first (start_of h)) (joined_steps T p records)
-        (joined_steps T (after_records T p records) more) run
+    (joined_steps T (after_records T p records) more) run
     (subst (λ (w : LinedSteps Op). EndsAtFailure (object_of h) (first (start_of h)) w run)
-        (joined_more (object_of h) T p records more) e.1) in
+    (joined_more (object_of h) T p records more) e.1) in
     (k.0, k.1, inr (e.0, k.2), k.3)
 
 pub empty_run : (h : Header) (run : LinedSteps Op) → IsRun (object_of h) (translation_of h)
@@ -109,35 +109,35 @@ Most old new start steps = new ≤ old + steps_at_most start steps
 most_wider : (sc wider : InputScan) (more : Records (RunRecord Op)) (old new : ℕ) →
     (o : Option (Lined Header)) → sc.header ≡ o
     → ((h : Lined Header) → sc.header ≡ Some h → wider.header ≡ Some h) →
-        wider.records ≡ sc.records ++ more → StepsCostAtMost sc old new → StepsCostAtMost wider old
-        new
+    wider.records ≡ sc.records ++ more → StepsCostAtMost sc old new → StepsCostAtMost wider old
+    new
 most_wider sc wider more old new None is headers records most = λ run r.
     let here = subst (λ (w : Option (Lined Header)). OfRun w sc.records (Most old new)) is most in
     let least : new ≤ old + steps_at_most None [] = here [] refl in
     let none : steps_at_most None [] ≤ steps_at_most (start_behind wider.header) (bare run) =
-        subst (λ (k : ℕ). k ≤ steps_at_most (start_behind wider.header) (bare run))
-        (sym (no_steps None)) (nothing_less (steps_at_most (start_behind wider.header) (bare run)))
-        in
+    subst (λ (k : ℕ). k ≤ steps_at_most (start_behind wider.header) (bare run))
+    (sym (no_steps None)) (nothing_less (steps_at_most (start_behind wider.header) (bare run)))
+    in
     up_more old new (steps_at_most None []) (steps_at_most (start_behind wider.header) (bare run))
-        least none
+    least none
 most_wider sc wider more old new (Some h) is headers records most =
     subst (λ (w : Option (Lined Header)). OfRun w wider.records (Most old new))
-        (sym (headers h is)) (λ run r.
+    (sym (headers h is)) (λ run r.
     let s = start_of h.what in
     let f = run_front h.what sc.records more run
-        (subst (λ (w : Records (RunRecord Op)). IsRun (object_of h.what) (translation_of h.what) s
-        w run) records r) in
+    (subst (λ (w : Records (RunRecord Op)). IsRun (object_of h.what) (translation_of h.what) s
+    w run) records r) in
     let here : new ≤ old + steps_at_most s (bare f.0) =
-        subst (λ (w : Option (Lined Header)). OfRun w sc.records (Most old new)) is most f.0 f.2 in
+    subst (λ (w : Option (Lined Header)). OfRun w sc.records (Most old new)) is most f.0 f.2 in
     let wide : steps_at_most s (bare f.0) ≤ steps_at_most s (bare f.0 ++ bare f.1) =
     add_le (start_at_most s) (most_ticks place_of (first s) (take 200_000 (bare f.0)))
-        (most_ticks place_of (first s) (take 200_000 (bare f.0 ++ bare f.1)))
-        (most_front 200_000 (first s) (bare f.0) (bare f.1)) in
+    (most_ticks place_of (first s) (take 200_000 (bare f.0 ++ bare f.1)))
+    (most_front 200_000 (first s) (bare f.0) (bare f.1)) in
     let all : bare run ≡ bare f.0 ++ bare f.1 = ap (λ (w : LinedSteps Op). bare w) f.3 ∙
-        bare_append f.0 f.1 in
+    bare_append f.0 f.1 in
     up_more old new (steps_at_most s (bare f.0)) (steps_at_most s (bare run)) here
-        (subst (λ (w : List (Step Op)). steps_at_most s (bare f.0) ≤ steps_at_most s w) (sym all)
-        wide))
+    (subst (λ (w : List (Step Op)). steps_at_most s (bare f.0) ≤ steps_at_most s w) (sym all)
+    wide))
 
 pub most_widens : (sc wider : InputScan) (old new : ℕ) → Widens sc wider →
     StepsCostAtMost sc old new → StepsCostAtMost wider old new
@@ -158,7 +158,7 @@ pub good_few : (h : Header) (rs : Records (RunRecord Op)) (front : AnyFront)
     → OverrunsAt setting_of (Some (record { line = at; what = h })) rs line → ⊥
 good_few h rs front machine c at line over =
     ((reading_law (object_of h) (translation_of h)).end (start_of h) rs
-        (standing_of c.state machine) machine.count c.stands).2 line over
+    (standing_of c.state machine) machine.count c.stands).2 line over
 
 -- ---- a rejection
 
@@ -188,7 +188,7 @@ module _ (h : Header) (at : ℕ) (rs : Records (RunRecord Op)) (rejection : Reje
     named = e.named;
     stays = λ others.
         subst (λ (w : Records (RunRecord Op)). IsRejectedAt (object_of h) (translation_of h)
-            (start_of h) w e.run e.number e.criterion)
+        (start_of h) w e.run e.number e.criterion)
         (sym (append_assoc rs more others)) (e.stays (more ++ others));
   }
 
@@ -197,7 +197,7 @@ module _ (h : Header) (at : ℕ) (rs : Records (RunRecord Op)) (rejection : Reje
       ((run : LinedSteps Op) → IsRun (object_of h) (translation_of h) (start_of h) rs run →
       P (bare run))
       → (run : LinedSteps Op) → IsRun (object_of h) (translation_of h) (start_of h) (rs ++ more)
-          run → P (bare run)
+      run → P (bare run)
   holds_behind P more here run is = subst (λ (w : LinedSteps Op). P (bare w))
       (same_run more run is) (here e.run rejected_here.run_is)
 
@@ -222,5 +222,5 @@ driven_laws HasSeen = record {
   most_widens = most_widens;
   bad_least_stays = λ h rs more refused old new bad least.
       holds_behind h.what h.line rs refused.rejection bad.0
-          (λ steps. old + singles (but_last steps) ≤ new) more least;
+      (λ steps. old + singles (but_last steps) ≤ new) more least;
 }
