@@ -2,7 +2,8 @@
 use Rattle.std.specs.Prelude.{◌≡◌, ◌<◌, ℕ, Bool, true, false, cond, List, [], ◌∷◌, ◌++◌, map, sum}
 use Rattle.std.specs.Prelude.{length, Some}
 use Rattle.pp_core.specs.declared.step.Step.{Step as StepOf}
-use Rattle.pp_core.specs.Steps.{Step, App, Unapp, meaning}
+use Rattle.pp_core.specs.Steps.{Step, Begin, App, Unapp, Push, Unpush, Pull, Unpull, Cmt, Quit}
+use Rattle.pp_core.specs.Steps.{Note, meaning}
 use Rattle.pp_model.specs.Config.{last}
 use Rattle.pp_model.specs.Lists.{Before, In}
 use Rattle.pp_model.specs.Names.{Name, ◌=ⁿ◌}
@@ -21,7 +22,14 @@ abbrev pub goes_on : {Op : Type 0} → Name → List (Step Op) → Bool
 goes_on t [] = false
 goes_on t (App u id op ∷ ss) = cond (u =ⁿ t) true (goes_on t ss)
 goes_on t (Unapp u id ∷ ss) = cond (u =ⁿ t) false (goes_on t ss)
-goes_on t (_ ∷ ss) = goes_on t ss
+goes_on t (Begin u p b ∷ ss) = goes_on t ss
+goes_on t (Push u id ∷ ss) = goes_on t ss
+goes_on t (Unpush u id ∷ ss) = goes_on t ss
+goes_on t (Pull u id ∷ ss) = goes_on t ss
+goes_on t (Unpull u id ∷ ss) = goes_on t ss
+goes_on t (Cmt u ∷ ss) = goes_on t ss
+goes_on t (Quit u ∷ ss) = goes_on t ss
+goes_on t (Note u ∷ ss) = goes_on t ss
 
 -- The peaks right behind the APP steps of `ss`, which follow the steps `past`: there is one right
 -- behind each, unless its transaction goes on, and it has the transaction's own list there.
@@ -31,7 +39,15 @@ peaks_behind past (App t id op ∷ ss) =
     cond (goes_on t ss) (peaks_behind (past ++ App t id op ∷ []) ss)
     (record { tx = t; ops = own_of t (past ++ App t id op ∷ []) }
     ∷ peaks_behind (past ++ App t id op ∷ []) ss)
-peaks_behind past (s ∷ ss) = peaks_behind (past ++ s ∷ []) ss
+peaks_behind past (Begin u p b ∷ ss) = peaks_behind (past ++ Begin u p b ∷ []) ss
+peaks_behind past (Unapp u id ∷ ss) = peaks_behind (past ++ Unapp u id ∷ []) ss
+peaks_behind past (Push u id ∷ ss) = peaks_behind (past ++ Push u id ∷ []) ss
+peaks_behind past (Unpush u id ∷ ss) = peaks_behind (past ++ Unpush u id ∷ []) ss
+peaks_behind past (Pull u id ∷ ss) = peaks_behind (past ++ Pull u id ∷ []) ss
+peaks_behind past (Unpull u id ∷ ss) = peaks_behind (past ++ Unpull u id ∷ []) ss
+peaks_behind past (Cmt u ∷ ss) = peaks_behind (past ++ Cmt u ∷ []) ss
+peaks_behind past (Quit u ∷ ss) = peaks_behind (past ++ Quit u ∷ []) ss
+peaks_behind past (Note u ∷ ss) = peaks_behind (past ++ Note u ∷ []) ss
 
 -- the peaks of these steps, in the order of the APP steps
 abbrev pub peaks : {Op : Type 0} → List (Step Op) → List (Peak Op)

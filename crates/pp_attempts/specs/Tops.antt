@@ -1,6 +1,7 @@
 -- Proof machinery: at which steps a peak stands.
 use Rattle.std.specs.Prelude.{◌≡◌, Bool, false, not, List, [], ◌∷◌}
-use Rattle.pp_core.specs.Steps.{Step, App}
+use Rattle.pp_core.specs.Steps.{Step, Begin, App, Unapp, Push, Unpush, Pull, Unpull, Cmt, Quit}
+use Rattle.pp_core.specs.Steps.{Note}
 use Rattle.indexmap.specs.IndexSet.{IndexSet, contains}
 use Rattle.std.specs.Str.{bytes_eq}
 use Rattle.pp_model.specs.Names.{Name}
@@ -9,7 +10,15 @@ use Rattle.pp_attempts.specs.Peaks.{goes_on}
 -- a peak stands right behind this step, which these follow
 abbrev pub is_top : {Op : Type 0} → Step Op → List (Step Op) → Bool
 is_top (App t id op) ss = not (goes_on t ss)
-is_top _ ss = false
+is_top (Begin u p b) ss = false
+is_top (Unapp u id) ss = false
+is_top (Push u id) ss = false
+is_top (Unpush u id) ss = false
+is_top (Pull u id) ss = false
+is_top (Unpull u id) ss = false
+is_top (Cmt u) ss = false
+is_top (Quit u) ss = false
+is_top (Note u) ss = false
 
 -- whether one does, for each step
 abbrev pub tops : {Op : Type 0} → List (Step Op) → List Bool

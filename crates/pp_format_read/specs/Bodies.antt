@@ -26,7 +26,8 @@ forms value =
 -- what the member `skip` gives: only true is a body
 abbrev pub skip_in : Option Bool → Result Tree RecordFault
 skip_in (Some true) = Ok Skip
-skip_in _ = Err BodyBad
+skip_in (Some false) = Err BodyBad
+skip_in None = Err BodyBad
 
 -- a skip where that member is there, else a pattern
 abbrev pub leaf_in : Objects → Data → Option Data → Result Tree RecordFault

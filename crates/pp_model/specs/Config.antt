@@ -124,9 +124,14 @@ last (x ∷ y ∷ l) = last (y ∷ l)
 -- two marks are one
 abbrev pub is_mark : Mark → Mark → Bool
 is_mark Unpushed Unpushed = true
+is_mark Unpushed Pushed = false
+is_mark Unpushed Pulled = false
+is_mark Pushed Unpushed = false
 is_mark Pushed Pushed = true
+is_mark Pushed Pulled = false
+is_mark Pulled Unpushed = false
+is_mark Pulled Pushed = false
 is_mark Pulled Pulled = true
-is_mark _ _ = false
 
 -- the entry of this id and mark, and the entry of this id in G that another transaction owns
 abbrev pub at_mark : {Op : Type 0} → ℕ → Mark → List (LocalEntry Op) → Option (LocalEntry Op)

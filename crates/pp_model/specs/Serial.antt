@@ -4,7 +4,8 @@ use Rattle.std.specs.Prelude.{filter, Option, None, Some}
 use Rattle.pp_model.specs.Lists.{joined}
 use Rattle.pp_model.specs.Body.{Tree, IsWord}
 use Rattle.pp_model.specs.Object.{Object, Allowed, AllowedFrom, Item, ops, state, state_from}
-use Rattle.pp_model.specs.Config.{CommittedTx, Start, Step, Begin, App, Unapp, Cmt, shared_ops}
+use Rattle.pp_model.specs.Config.{CommittedTx, Start, Step, Begin, App, Unapp, Push, Unpush, Pull}
+use Rattle.pp_model.specs.Config.{Unpull, Cmt, Quit, Note, shared_ops}
 use Rattle.pp_model.specs.Config.{uncommitted, only_committed, first, after}
 use Rattle.pp_model.specs.Rules.{calls, StartMeets, RunsFrom}
 use Rattle.pp_model.specs.Names.{Name, ◌=ⁿ◌}
@@ -18,13 +19,29 @@ abbrev pub applied_items : {Op : Type 0} → Name → List (Step Op) → List (I
 applied_items t [] = []
 applied_items t (App u id op ∷ ss) =
     cond (u =ⁿ t) (record { id = id; op = op } ∷ applied_items t ss) (applied_items t ss)
-applied_items t (_ ∷ ss) = applied_items t ss
+applied_items t (Begin u p b ∷ ss) = applied_items t ss
+applied_items t (Unapp u id ∷ ss) = applied_items t ss
+applied_items t (Push u id ∷ ss) = applied_items t ss
+applied_items t (Unpush u id ∷ ss) = applied_items t ss
+applied_items t (Pull u id ∷ ss) = applied_items t ss
+applied_items t (Unpull u id ∷ ss) = applied_items t ss
+applied_items t (Cmt u ∷ ss) = applied_items t ss
+applied_items t (Quit u ∷ ss) = applied_items t ss
+applied_items t (Note u ∷ ss) = applied_items t ss
 
 -- the ids in t's UNAPP steps
 abbrev pub unapplied_ids : {Op : Type 0} → Name → List (Step Op) → List ℕ
 unapplied_ids t [] = []
 unapplied_ids t (Unapp u id ∷ ss) = cond (u =ⁿ t) (id ∷ unapplied_ids t ss) (unapplied_ids t ss)
-unapplied_ids t (_ ∷ ss) = unapplied_ids t ss
+unapplied_ids t (Begin u p b ∷ ss) = unapplied_ids t ss
+unapplied_ids t (App u id op ∷ ss) = unapplied_ids t ss
+unapplied_ids t (Push u id ∷ ss) = unapplied_ids t ss
+unapplied_ids t (Unpush u id ∷ ss) = unapplied_ids t ss
+unapplied_ids t (Pull u id ∷ ss) = unapplied_ids t ss
+unapplied_ids t (Unpull u id ∷ ss) = unapplied_ids t ss
+unapplied_ids t (Cmt u ∷ ss) = unapplied_ids t ss
+unapplied_ids t (Quit u ∷ ss) = unapplied_ids t ss
+unapplied_ids t (Note u ∷ ss) = unapplied_ids t ss
 
 -- t's own list
 abbrev pub own_of : {Op : Type 0} → Name → List (Step Op) → List (Item Op)
@@ -34,7 +51,15 @@ own_of t ss = filter (λ p. not (has_id p.id (unapplied_ids t ss))) (applied_ite
 abbrev pub bodies_of : {Op : Type 0} → Name → List (Step Op) → List (Option Tree)
 bodies_of t [] = []
 bodies_of t (Begin u p b ∷ ss) = cond (u =ⁿ t) (b ∷ bodies_of t ss) (bodies_of t ss)
-bodies_of t (_ ∷ ss) = bodies_of t ss
+bodies_of t (App u id op ∷ ss) = bodies_of t ss
+bodies_of t (Unapp u id ∷ ss) = bodies_of t ss
+bodies_of t (Push u id ∷ ss) = bodies_of t ss
+bodies_of t (Unpush u id ∷ ss) = bodies_of t ss
+bodies_of t (Pull u id ∷ ss) = bodies_of t ss
+bodies_of t (Unpull u id ∷ ss) = bodies_of t ss
+bodies_of t (Cmt u ∷ ss) = bodies_of t ss
+bodies_of t (Quit u ∷ ss) = bodies_of t ss
+bodies_of t (Note u ∷ ss) = bodies_of t ss
 
 abbrev pub first_body : List (Option Tree) → Option Tree
 first_body [] = None
@@ -44,7 +69,15 @@ first_body (b ∷ bs) = b
 abbrev pub commits : {Op : Type 0} → List (Step Op) → List Name
 commits [] = []
 commits (Cmt t ∷ ss) = t ∷ commits ss
-commits (_ ∷ ss) = commits ss
+commits (Begin u p b ∷ ss) = commits ss
+commits (App u id op ∷ ss) = commits ss
+commits (Unapp u id ∷ ss) = commits ss
+commits (Push u id ∷ ss) = commits ss
+commits (Unpush u id ∷ ss) = commits ss
+commits (Pull u id ∷ ss) = commits ss
+commits (Unpull u id ∷ ss) = commits ss
+commits (Quit u ∷ ss) = commits ss
+commits (Note u ∷ ss) = commits ss
 
 pub record Attempt (Op : Type 0) : Type 0 where
   pub name : Name
