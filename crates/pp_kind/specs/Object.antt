@@ -227,14 +227,12 @@ module _ {Shape State Op Undo : Type 0} (o : Object Shape State Op Undo) (place_
     pub everywhere : (s t : State) → o.shape s ≡ o.shape t → ((p : ℕ) → SameAt p s t) → s ≡ t
     -- operations of different places swap
     pub apart : (a b : Op) → (place_of a ≡ place_of b → ⊥) → Swaps o a b
-    -- the result, the effect and the undo value depend on the place alone
+    -- the result, the effect and the undo value depend only on the object at the place
     pub gives_there : (s t : State) (a : Op) → SameAt (place_of a) s t → o.gives s a ≡ o.gives t a
     pub kept_there : (s t : State) (a : Op) → SameAt (place_of a) s t
         → o.upkeep.kept s a ≡ o.upkeep.kept t a
     pub next_there : (s t : State) (a : Op) → SameAt (place_of a) s t
         → SameAt (place_of a) (o.next s a) (o.next t a)
-    pub back_there : (s t : State) (a : Op) (u : Undo) → SameAt (place_of a) s t
-        → SameAt (place_of a) (o.upkeep.back s a u) (o.upkeep.back t a u)
     -- every other place stays
     pub next_elsewhere : (s : State) (a : Op) (p : ℕ) → (p ≡ place_of a → ⊥)
         → SameAt p s (o.next s a)

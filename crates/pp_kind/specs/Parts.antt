@@ -8,11 +8,13 @@ use Rattle.pp_kind.specs.Gates.{IsGateBefore}
 use Rattle.pp_kind.specs.declared.label.Label.{Label}
 use Rattle.pp_kind.specs.declared.part.Part.{Part}
 
--- Operations that stand for all that were added; cut says that there were too many of them, so that
--- of some it is not known what stands for them; all_in_clique says that all of them are in the clique.
+-- What is known of the operations that were added.
 pub record SampleList (Op : Type 0) : Type 0 where
+  -- some of them, which stand for the others
   pub ops : List Op
+  -- there were too many, so that some have none that stands for them
   pub cut : Bool
+  -- all of them are in the clique
   pub all_in_clique : Bool
 
 -- The first, if there is one, and others behind it.
@@ -42,11 +44,11 @@ module _ {Shape State Op Undo : Type 0} (o : Object Shape State Op Undo) where
   abbrev pub IsStoodForBy : List Op → Op → Type 0
   IsStoodForBy ops op = (s : Op) × In s ops × StandsFor s op
 
-  -- It is in the clique where all that were added are.
+  -- The operation is in the clique if all that were added are.
   abbrev pub KeepsClique : SampleList Op → Op → Type 0
   KeepsClique samples op = IsTrue samples.all_in_clique → IsTrue (o.upkeep.in_clique op)
 
-  -- Unless they were cut, one of the samples stands for the operation; and it is in the clique
-  -- where all are.
+  -- One of the samples stands for the operation, unless they were cut. The operation is in the
+  -- clique if all are.
   abbrev pub Covers : SampleList Op → Op → Type 0
   Covers samples op = (samples.cut ≡ false → IsStoodForBy samples.ops op) × KeepsClique samples op

@@ -58,7 +58,6 @@ counter_placed = record {
   gives_there = λ n m a same. ap (λ (k : ℤ). given_by k a) (same refl);
   kept_there = λ n m a same. refl;
   next_there = λ n m a same e. ap (λ (k : ℤ). k +ℤ shift_of a) (same refl);
-  back_there = λ n m a u same e. ap (λ (k : ℤ). k -ℤ shift_of a) (same refl);
   next_elsewhere = λ n a p other e. absurd (other e);
   back_elsewhere = λ n a u p other e. absurd (other e);
 }

@@ -197,9 +197,6 @@ module _ (o : Object Kind ObjectState Act Undo) (laws : IsLawful o)
     next_there = λ ss ts a h. get_put (λ s. o.next s a.act) ss a.object
         ∙ ap (λ (t : Option ObjectState). option_map (λ s. o.next s a.act) t) h
         ∙ sym (get_put (λ s. o.next s a.act) ts a.object);
-    back_there = λ ss ts a u h. get_put (λ s. o.upkeep.back s a.act u) ss a.object
-        ∙ ap (λ (t : Option ObjectState). option_map (λ s. o.upkeep.back s a.act u) t) h
-        ∙ sym (get_put (λ s. o.upkeep.back s a.act u) ts a.object);
     next_elsewhere = λ ss a p other.
         put_other ss a.object p (option_map (λ s. o.next s a.act) (slice_get ss a.object)) other;
     back_elsewhere = λ ss a u p other.
