@@ -1,7 +1,6 @@
 //! How a state differs from the one that would be there without one of its operations.
-ghost use Rattle.std.specs.Prelude.{◌≡◌, ◌+◌, false, IsTrue, OnOk, OnErr};
+ghost use Rattle.std.specs.Prelude.{◌≡◌, ◌+◌, IsTrue, OnOk, OnErr};
 ghost use Rattle.pp_kind.specs.Gaps.{ClosesTo, Crosses, Leaves, MayClose};
-ghost use Rattle.pp_kind.specs.Object.{KeptAs, Swaps};
 
 use crate::spec::Spec;
 use pp_core::{OutOfMemory, Ticks};
@@ -64,10 +63,4 @@ pub trait Gapped: Spec {
         ensures ok { OnOk result (ClosesTo Self.object Differ gap.now state.old state.new) }
         ensures err { OnErr result (state.new ≡ state.old) }
         ensures cost { ticks.new ≡ ticks.old + 1 };
-
-    /// Whether the operation and each one that may move left over it keep the same undo values in
-    /// both orders. False says nothing.
-    fn keeps_alone(a: &Self::Op) -> bool
-        ensures { IsTrue result →
-            (b : Self.Op) → Swaps Self.object a.now b → KeptAs Self.object false a.now b };
 }

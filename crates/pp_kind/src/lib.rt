@@ -12,11 +12,11 @@ mod part;
 mod parted;
 mod permutation;
 mod range;
-mod removable;
 mod samples;
 mod serial_run;
 mod spec;
 mod table;
+mod takes_back;
 
 pub use found::{answer_of, is_ranged_found};
 pub use gapped::{Crossed, Gapped, Left};
@@ -26,7 +26,6 @@ pub use part::Part;
 pub use parted::{Parted, other_parts_swap};
 pub use permutation::permutation_law;
 pub use range::{GREATEST_NUMBER, in_range};
-pub use removable::Removable;
 pub use samples::{MOST_SAMPLES, Samples};
 pub use serial_run::{SerialList, serial, serial_state, state_after};
 pub use spec::{
@@ -34,3 +33,4 @@ pub use spec::{
     other_places_swap, undone_behind_others, unfitting_operations_swap,
 };
 pub use table::{Condition, Figures, MoverTable};
+pub use takes_back::TakesBack;

@@ -3,13 +3,14 @@ ghost use Rattle.std.specs.Prelude.{◌≡◌, ◌≢◌, IsTrue};
 ghost use Rattle.pp_kind.specs.Object.{CliqueSwaps, Swaps};
 ghost use Rattle.pp_kind.specs.Parts.{PartsSwap, StandsFor};
 
+use crate::gapped::Gapped;
 use crate::gate::Gate;
 use crate::label::Label;
 use crate::part::Part;
-use crate::removable::Removable;
+use crate::spec::Placed;
 
 /// A kind of several objects, of which each operation has one, and there one part.
-pub trait Parted: Removable {
+pub trait Parted: Placed + Gapped {
     ghost use Rattle.std.specs.Prelude.{◌≡◌, IsTrue};
     ghost use Rattle.pp_kind.specs.declared.label.Label.{Label as LabelOf};
     ghost use Rattle.pp_kind.specs.declared.part.Part.{Part as PartOf};

@@ -54,9 +54,4 @@ impl Gapped for Count {
         *state -= i128::from(gap.by);
         Ok(())
     }
-
-    #[inline(always)]
-    fn keeps_alone(_a: &CounterOp) -> bool {
-        true
-    }
 }

@@ -74,9 +74,4 @@ impl Gapped for KeyMap {
         ticks.tick();
         set_value(state, gap.key, gap.value)
     }
-
-    #[inline(always)]
-    fn keeps_alone(_a: &MapOp) -> bool {
-        true
-    }
 }

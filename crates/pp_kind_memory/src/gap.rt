@@ -119,9 +119,4 @@ impl Gapped for Mem {
         state.write(gap.at, gap.number)?;
         Ok(())
     }
-
-    #[inline(always)]
-    fn keeps_alone(a: &MemOp) -> bool {
-        !a.is_write()
-    }
 }

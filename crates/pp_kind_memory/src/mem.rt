@@ -1,4 +1,5 @@
 //! The calls of a memory.
+ghost use Rattle.std.specs.Prelude.{false, IsTrue};
 ghost use Rattle.pp_kind.specs.Object.{KeptAs, MayKeep, Swaps};
 ghost use Rattle.pp_kind_memory.specs.Memories.{memory};
 ghost use Rattle.pp_kind_memory.specs.laws.Lawful.{memory_lawful};
@@ -30,6 +31,15 @@ impl Mem {
             Undo::Covered { at, number: _ } => a.writes_at(at),
             Undo::Nothing => false,
         }
+    }
+
+    /// Whether the operation keeps in turn with none: so does each that does not write.
+    #[inline(always)]
+    pub fn keeps_alone(a: &MemOp) -> bool
+        ensures { IsTrue result →
+            (b : MemOp) → Swaps memory a.now b → KeptAs memory false a.now b }
+    {
+        !a.is_write()
     }
 }
 

@@ -121,9 +121,4 @@ impl Gapped for Prio {
             PrioGap::Take { value } => state.add(value),
         }
     }
-
-    #[inline(always)]
-    fn keeps_alone(_a: &PrioOp) -> bool {
-        true
-    }
 }

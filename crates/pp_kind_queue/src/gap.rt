@@ -154,9 +154,4 @@ impl Gapped for Fifo {
             QueueGap::Deq { value } => state.add_front(value),
         }
     }
-
-    #[inline(always)]
-    fn keeps_alone(_a: &QueueOp) -> bool {
-        true
-    }
 }

@@ -79,9 +79,4 @@ impl Gapped for KeySet {
         }
         Ok(())
     }
-
-    #[inline(always)]
-    fn keeps_alone(_a: &SetOp) -> bool {
-        true
-    }
 }

@@ -106,9 +106,4 @@ impl Gapped for Stack {
             }
         }
     }
-
-    #[inline(always)]
-    fn keeps_alone(_a: &StackOp) -> bool {
-        true
-    }
 }

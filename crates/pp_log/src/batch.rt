@@ -12,12 +12,12 @@ use crate::run::unwind;
 use crate::sides::ItemSide;
 use crate::take_out::position_in_place;
 use pp_core::{Item, OutOfMemory, Ticks};
-use pp_kind::Removable;
+use pp_kind::{Placed, Spec, TakesBack};
 use std::sync::ledger::Ledger;
 
 /// A position from which on all items have one place. That the one before has another place is not
 /// promised.
-fn start_of_batch<S: Removable>(own: &[Item<S::Op>]) -> usize
+fn start_of_batch<S: Placed>(own: &[Item<S::Op>]) -> usize
     requires { 0 < length own.now }
     ensures within { result < length own.now }
     ensures one_place { AreOnOnePlace S.place_of (drop result own.now) }
@@ -31,7 +31,7 @@ fn start_of_batch<S: Removable>(own: &[Item<S::Op>]) -> usize
 }
 
 /// Forgets the ids of items, from the last to the first, in the index and among those of a place.
-fn forget_all<S: Removable>(batch: &[Item<S::Op>], ids: &mut Index, ids_there: &mut Vec<u32>)
+fn forget_all<S: Spec>(batch: &[Item<S::Op>], ids: &mut Index, ids_there: &mut Vec<u32>)
     requires { (log items : List (ItemOf S.Op))
         × CanForget S.object batch.now ids.old ids_there.old.items log items }
     ensures { Forgets S.object batch.now ids.old ids_there.old.items ids.new ids_there.new.items }
@@ -54,7 +54,7 @@ fn forget_all<S: Removable>(batch: &[Item<S::Op>], ids: &mut Index, ids_there: &
 /// Takes items of one place back, each of which lets the others behind it pass. They are carried
 /// behind these in one walk, unless none of them keeps anything in turn with others: then what takes
 /// each back is taken out where it stands. What is kept is then of the others.
-fn take_batch_back<S: Removable, L: Ledger>(
+fn take_batch_back<S: TakesBack, L: Ledger>(
     batch: &[Item<S::Op>],
     ids: &mut Index,
     places: &mut Vec<Place<S::Undo>>,
@@ -93,7 +93,7 @@ fn take_batch_back<S: Removable, L: Ledger>(
 
 /// Takes items back, the last ones that have one place together, and then those before them. Each
 /// lets the others behind it pass. What is kept is then of the others.
-pub fn take_all_back<S: Removable, L: Ledger>(
+pub fn take_all_back<S: TakesBack, L: Ledger>(
     own: &[Item<S::Op>],
     ids: &mut Index,
     places: &mut Vec<Place<S::Undo>>,

@@ -5,12 +5,12 @@ ghost use Rattle.pp_log.specs.Carries.{CarriesOut, CarriesOver};
 ghost use Rattle.pp_log.specs.Leaves.{HasIdAt};
 
 use pp_core::Item;
-use pp_kind::Removable;
+use pp_kind::TakesBack;
 
 /// Carries an operation behind the next one of its place. What takes it back stands at a position,
 /// and what takes the other one back stands behind that. Where the two keep in turn, both values
 /// stay, and else they are exchanged.
-fn carry_over<S: Removable>(op: &S::Op, undos: &mut Vec<S::Undo>, at: usize)
+fn carry_over<S: TakesBack>(op: &S::Op, undos: &mut Vec<S::Undo>, at: usize)
     requires { at + 1 < length undos.old.items }
     ensures size { length undos.new.items ≡ length undos.old.items }
     ensures carries { CarriesOver S.object S.place_of op.now at
@@ -23,7 +23,7 @@ fn carry_over<S: Removable>(op: &S::Op, undos: &mut Vec<S::Undo>, at: usize)
 
 /// Carries the operation whose undo value stands at `from` behind all of its place that stand behind
 /// it, and takes its undo value out there.
-pub fn carry_out<S: Removable>(op: &S::Op, undos: &mut Vec<S::Undo>, from: usize) -> S::Undo
+pub fn carry_out<S: TakesBack>(op: &S::Op, undos: &mut Vec<S::Undo>, from: usize) -> S::Undo
     requires { from < length undos.old.items }
     ensures { CarriesOut S.object S.place_of op.now from undos.old.items undos.new.items result }
 {
@@ -41,7 +41,7 @@ pub fn carry_out<S: Removable>(op: &S::Op, undos: &mut Vec<S::Undo>, from: usize
 
 /// Carries a batch of operations, whose undo values stand together right before a position, behind
 /// the one that stands there.
-fn carry_all_over<S: Removable>(batch: &[Item<S::Op>], undos: &mut Vec<S::Undo>, at: usize)
+fn carry_all_over<S: TakesBack>(batch: &[Item<S::Op>], undos: &mut Vec<S::Undo>, at: usize)
     requires before { length batch.now ≤ at }
     requires within { at < length undos.old.items }
     ensures size { length undos.new.items ≡ length undos.old.items }
@@ -66,7 +66,7 @@ pub fn has_id_at<O: Copy>(items: &[Item<O>], at: usize, id: u32) -> bool
 
 /// Carries a batch of operations of a place behind all others there, in one walk over these. The
 /// undo value of the first of them stands at `from`.
-pub fn gather<S: Removable>(
+pub fn gather<S: TakesBack>(
     batch: &[Item<S::Op>],
     ids: &[u32],
     undos: &mut Vec<S::Undo>,

@@ -4,7 +4,7 @@ ghost use Rattle.pp_log.specs.Parts.{items_on};
 ghost use Rattle.pp_model.specs.Object.{ops};
 
 use crate::sides::Side;
-use pp_kind::{Crossed, Left, Removable};
+use pp_kind::{Crossed, Gapped, Left, Placed};
 
 /// How the state behind some operations differs from the one that would be there without an
 /// operation before them.
@@ -23,7 +23,7 @@ pub enum Crossing<G, U> {
 }
 
 /// Carries a gap over the operations of a place among these entries.
-fn cross_all<S: Removable, T: Side<S::Op>>(
+fn cross_all<S: Placed + Gapped, T: Side<S::Op>>(
     first: S::Gap,
     place: u16,
     entries: &[T::Entry],
@@ -49,7 +49,7 @@ fn cross_all<S: Removable, T: Side<S::Op>>(
 
 /// The gap that an operation which kept this leaves behind the operations of its place among these
 /// entries, which stand behind it.
-pub fn gap_behind<S: Removable, T: Side<S::Op>>(
+pub fn gap_behind<S: Placed + Gapped, T: Side<S::Op>>(
     op: &S::Op,
     undo: &S::Undo,
     entries: &[T::Entry],

@@ -3,20 +3,41 @@ ghost use Rattle.std.specs.Prelude.{◌≡◌, ◌+◌, ◌≤◌, IsTrue, OnOk,
 ghost use Rattle.pp_log.specs.Leaves.{AllLeave, CanAllLeave, CanLeave, CanLeaveOut, HasIdAt};
 ghost use Rattle.pp_log.specs.Leaves.{Leaves, StandFrom};
 ghost use Rattle.pp_log.specs.Leaving.{without_items};
+ghost use Rattle.pp_log.specs.TakesOut.{CanPassOut, PassesOutOf};
 
-use crate::carry::has_id_at;
+use crate::carry::{carry_out, has_id_at};
 use crate::entries::Entries;
 use crate::index::Index;
 use crate::place::Place;
 use crate::sides::Side;
-use crate::take_out::{pass_out, position_in_place};
+use crate::take_out::position_in_place;
 use pp_core::{Item, OutOfMemory, Ticks};
-use pp_kind::Removable;
+use pp_kind::TakesBack;
 use std::sync::ledger::Ledger;
+
+/// Takes the entry with this operation that stands at `from` out of its place, as if it were the
+/// last one there, where it lets those behind it pass.
+fn pass_out<S: TakesBack, L: Ledger>(
+    place: &mut Place<S::Undo>,
+    from: usize,
+    op: &S::Op,
+    state: &mut S::State,
+    ticks: &mut Ticks<L>,
+) -> Result<(), OutOfMemory>
+    requires { CanPassOut S.object S.place_of place.old state.old from op.now }
+    ensures takes { OnOk result (PassesOutOf S.object S.place_of from op.now
+        place.old state.old place.new state.new) }
+    ensures cost { ticks.new ≡ ticks.old + 1 }
+{
+    let _ = place.ids.remove(from);
+    let undo = carry_out::<S>(op, &mut place.undos, from);
+    S::undo(state, op, undo, ticks)?;
+    Ok(())
+}
 
 /// Takes an item that stands at a position of the log back, which lets those of its place behind it
 /// pass. What is kept of it goes.
-fn take_one_back<S: Removable, L: Ledger>(
+fn take_one_back<S: TakesBack, L: Ledger>(
     item: &Item<S::Op>,
     i: usize,
     ids: &mut Index,
@@ -41,7 +62,7 @@ fn take_one_back<S: Removable, L: Ledger>(
 
 /// Takes items back from the last to the first, each of which lets the others behind it pass. What
 /// is kept is then of the others.
-pub fn take_each_back<S: Removable, L: Ledger>(
+pub fn take_each_back<S: TakesBack, L: Ledger>(
     own: &[Item<S::Op>],
     ids: &mut Index,
     places: &mut Vec<Place<S::Undo>>,

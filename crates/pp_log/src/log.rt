@@ -20,7 +20,7 @@ use crate::room::make_room;
 use crate::sides::Side;
 use crate::take_out::{position_in_place, take_out};
 use pp_core::{Answer, Item, OutOfMemory, Ticks};
-use pp_kind::{Applied, Removable};
+use pp_kind::{Applied, Gapped, Placed, TakesBack};
 use std::alloc::Global;
 use std::marker::Model;
 use std::sync::ledger::Ledger;
@@ -29,7 +29,7 @@ use std::sync::ledger::Ledger;
 /// to. An index has the ids of the entries, and each place has those of its own entries in order,
 /// with what takes them back.
 #[derive(Drop)]
-pub struct Log<S: Removable, T: Side<S::Op>> {
+pub struct Log<S: Placed + Gapped, T: Side<S::Op>> {
     entries: Entries<T::Entry>,
     ids: Index,
     places: Vec<Place<S::Undo>>,
@@ -37,7 +37,7 @@ pub struct Log<S: Removable, T: Side<S::Op>> {
     alloc: Global,
 }
 
-impl<S: Removable, T: Side<S::Op>> Model for Log<S, T> {
+impl<S: Placed + Gapped, T: Side<S::Op>> Model for Log<S, T> {
     ghost Value = { S.Shape × List T.Entry };
 
     ghost view = { λ a. (S.object.shape a.state, a.entries.items) };
@@ -46,7 +46,7 @@ impl<S: Removable, T: Side<S::Op>> Model for Log<S, T> {
         a.places.items a.ids };
 }
 
-impl<S: Removable, T: Side<S::Op>> Log<S, T> {
+impl<S: Placed + Gapped, T: Side<S::Op>> Log<S, T> {
     /// The empty log. The only error is that memory was refused.
     pub fn new(alloc: Global, shape: &S::Shape) -> Result<Self, OutOfMemory>
         ensures { IfOk result (λ log. log ≡ (shape.now, [])) }
@@ -226,7 +226,9 @@ impl<S: Removable, T: Side<S::Op>> Log<S, T> {
         };
         Ok((log, removed))
     }
+}
 
+impl<S: TakesBack + Gapped, T: Side<S::Op>> Log<S, T> {
     /// Takes entries out, from the last to the first, each of which lets those of others behind it
     /// pass: each of them alone is taken back. The only error is that memory was refused, and the
     /// log is then lost.

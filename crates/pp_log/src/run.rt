@@ -5,7 +5,7 @@ ghost use Rattle.pp_log.specs.Runs.{Costs, GoesOn, HasRun, IsStop, StopsFrom, an
 
 use crate::sides::Side;
 use pp_core::{Answer, OutOfMemory, Ticks};
-use pp_kind::{Applied, Removable};
+use pp_kind::{Applied, Placed};
 use std::sync::ledger::Ledger;
 
 /// Where operations cannot be applied again.
@@ -19,7 +19,7 @@ pub struct Stop {
 
 /// Takes the operations of a place among these entries back, which were all applied, the last one
 /// first. What takes the first of them back stands at `from` there.
-pub fn unwind<S: Removable, T: Side<S::Op>, L: Ledger>(
+pub fn unwind<S: Placed, T: Side<S::Op>, L: Ledger>(
     entries: &[T::Entry],
     place: u16,
     undos: &mut Vec<S::Undo>,
@@ -55,7 +55,7 @@ pub fn unwind<S: Removable, T: Side<S::Op>, L: Ledger>(
 
 /// Applies the operations of a place among these entries, of which none is applied, until one
 /// differs.
-pub fn rewind<S: Removable, T: Side<S::Op>, L: Ledger>(
+pub fn rewind<S: Placed, T: Side<S::Op>, L: Ledger>(
     entries: &[T::Entry],
     place: u16,
     undos: &mut Vec<S::Undo>,

@@ -7,14 +7,13 @@ ghost use Rattle.pp_log.specs.Logs.{removal_ticks};
 ghost use Rattle.pp_log.specs.Parts.{with_first};
 ghost use Rattle.pp_log.specs.TakesOut.{CanPassOut, HasWhole, PassesOutOf, TakesOutOf};
 
-use crate::carry::carry_out;
 use crate::gap::{Crossing, gap_behind};
 use crate::index::Index;
 use crate::place::{Place, Removed};
 use crate::run::{rewind, unwind};
 use crate::sides::Side;
 use pp_core::{OutOfMemory, Ticks};
-use pp_kind::Removable;
+use pp_kind::{Gapped, Placed};
 use std::sync::ledger::Ledger;
 
 /// Where this id stands last.
@@ -62,22 +61,24 @@ pub fn position_in_place(ids: &[u32], index: &Index, i: usize, id: u32) -> Optio
     last_with(ids, id)
 }
 
-/// Takes the entry with this operation that stands at `from` out of its place, as if it were the
-/// last one there, where it lets those behind it pass.
-pub fn pass_out<S: Removable, L: Ledger>(
+/// Takes the last entry of a place back, which has this operation and is at `from` there.
+fn take_last<S: Placed, L: Ledger>(
     place: &mut Place<S::Undo>,
     from: usize,
     op: &S::Op,
     state: &mut S::State,
     ticks: &mut Ticks<L>,
 ) -> Result<(), OutOfMemory>
-    requires { CanPassOut S.object S.place_of place.old state.old from op.now }
+    requires last { from + 1 ≡ length place.old.undos.items }
+    requires there { CanPassOut S.object S.place_of place.old state.old from op.now }
     ensures takes { OnOk result (PassesOutOf S.object S.place_of from op.now
         place.old state.old place.new state.new) }
     ensures cost { ticks.new ≡ ticks.old + 1 }
 {
     let _ = place.ids.remove(from);
-    let undo = carry_out::<S>(op, &mut place.undos, from);
+    let Some(undo) = place.undos.pop() else {
+        unreachable!()
+    };
     S::undo(state, op, undo, ticks)?;
     Ok(())
 }
@@ -85,7 +86,7 @@ pub fn pass_out<S: Removable, L: Ledger>(
 /// Takes the first of these entries, which stands at `from` in its place with others behind it,
 /// out of that place, where the gap that it leaves is known behind these, and borne. Else all
 /// stays, and it answers false. Only closing a gap ticks.
-fn leave_by_gap<S: Removable, T: Side<S::Op>, L: Ledger>(
+fn leave_by_gap<S: Placed + Gapped, T: Side<S::Op>, L: Ledger>(
     place: &mut Place<S::Undo>,
     from: usize,
     entries: &[T::Entry],
@@ -130,7 +131,7 @@ fn leave_by_gap<S: Removable, T: Side<S::Op>, L: Ledger>(
 /// it is the last one there, it alone is taken back. Else the gap that it leaves is closed; where
 /// that is not known or not borne, those behind it are taken back too, and applied again without it;
 /// where one of them differs, the place is as it was.
-pub fn take_out<S: Removable, T: Side<S::Op>, L: Ledger>(
+pub fn take_out<S: Placed + Gapped, T: Side<S::Op>, L: Ledger>(
     place: &mut Place<S::Undo>,
     from: usize,
     entries: &[T::Entry],
@@ -151,7 +152,7 @@ pub fn take_out<S: Removable, T: Side<S::Op>, L: Ledger>(
     let op = T::op(&entries[0]);
     let is_last = from + 1 == place.undos.len();
     if is_last {
-        pass_out::<S, L>(place, from, op, state, ticks)?;
+        take_last::<S, L>(place, from, op, state, ticks)?;
         return Ok(Removed::Done);
     }
     if leave_by_gap::<S, T, L>(place, from, entries, state, ticks)? {
@@ -163,7 +164,7 @@ pub fn take_out<S: Removable, T: Side<S::Op>, L: Ledger>(
 /// Takes the operation of the first of these entries, which stands at `from` in its place, out of
 /// it, and those behind it there back, which are then applied again. Where one differs, the place is
 /// as it was.
-fn replay<S: Removable, T: Side<S::Op>, L: Ledger>(
+fn replay<S: Placed, T: Side<S::Op>, L: Ledger>(
     place: &mut Place<S::Undo>,
     from: usize,
     entries: &[T::Entry],

@@ -18,7 +18,7 @@ ghost use Rattle.pp_log_shared.specs.Uncommitted.{CommitsOne, KeepsOpen, KeepsSh
 
 use crate::open_parts::OpenParts;
 use pp_core::{Answer, Item, Items, Name, OutOfMemory, SharedEntry, Ticks};
-use pp_kind::{Parted, Spec};
+use pp_kind::{Parted, Spec, TakesBack};
 use pp_log::{Log, Removed, SharedSide};
 use std::alloc::Global;
 use std::marker::Model;
@@ -336,7 +336,9 @@ impl<S: Parted> Shared<S> {
         let settled = settled.min(i);
         Ok((Shared { log, open, settled }, removed))
     }
+}
 
+impl<S: Parted + TakesBack> Shared<S> {
     /// Takes entries out, each of which lets those of others behind it pass: each of them alone is
     /// taken back. The only error is that memory was refused, and the log is then lost.
     pub fn take_back<L: Ledger>(

@@ -89,19 +89,6 @@ impl Gapped for OneObject {
             }
         }
     }
-
-    #[inline]
-    fn keeps_alone(a: &Act) -> bool {
-        match a {
-            Act::Memory(a) => Mem::keeps_alone(a),
-            Act::KeySet(a) => KeySet::keeps_alone(a),
-            Act::KeyMap(a) => KeyMap::keeps_alone(a),
-            Act::Counter(a) => Count::keeps_alone(a),
-            Act::Queue(a) => Fifo::keeps_alone(a),
-            Act::Stack(a) => Stack::keeps_alone(a),
-            Act::PriorityQueue(a) => Prio::keeps_alone(a),
-        }
-    }
 }
 
 impl Gapped for Objects {
@@ -146,10 +133,5 @@ impl Gapped for Objects {
         ticks: &mut Ticks<L>,
     ) -> Result<(), OutOfMemory> {
         OneObject::close(&mut state.states[usize::from(gap.object)], &gap.act, ticks)
-    }
-
-    #[inline(always)]
-    fn keeps_alone(a: &Op) -> bool {
-        OneObject::keeps_alone(&a.act)
     }
 }

@@ -10,7 +10,7 @@ use crate::acts::context_at;
 use crate::one::OneObject;
 use crate::states::{ObjectState, ObjectStates};
 use pp_core::{Answer, Call, Kinds, OutOfMemory, Ticks};
-use pp_kind::{Applied, Context, Placed, Removable, Spec};
+use pp_kind::{Applied, Context, Placed, Spec, TakesBack};
 use pp_kind_memory::Undo;
 use std::alloc::Global;
 use std::sync::ledger::Ledger;
@@ -142,9 +142,14 @@ impl Placed for Objects {
     ghost placed = { objects_placed };
 }
 
-impl Removable for Objects {
+impl TakesBack for Objects {
     #[inline(always)]
     fn keep_in_turn(a: &Op, kept: &Undo) -> bool {
         OneObject::keep_in_turn(&a.act, kept)
+    }
+
+    #[inline(always)]
+    fn keeps_alone(a: &Op) -> bool {
+        OneObject::keeps_alone(&a.act)
     }
 }

@@ -1,5 +1,5 @@
 //! One object of any kind, by a match on its kind.
-ghost use Rattle.std.specs.Prelude.{◌≡◌, ◌↔◌, IsTrue};
+ghost use Rattle.std.specs.Prelude.{◌≡◌, ◌↔◌, IsTrue, false};
 ghost use Rattle.pp_kind.specs.Object.{MayKeep, KeptAs, Swaps};
 ghost use Rattle.pp_objects.specs.One.{one, keeping_nothing};
 ghost use Rattle.pp_objects.specs.laws.One.{one_lawful};
@@ -62,6 +62,17 @@ impl OneObject {
         match a {
             Act::Memory(a) => Mem::keep_in_turn(a, kept),
             _ => false,
+        }
+    }
+
+    /// Whether an act keeps in turn with none, as each act does that is not on a memory.
+    #[inline(always)]
+    pub fn keeps_alone(a: &Act) -> bool
+        ensures { IsTrue result → (b : Act) → Swaps one a.now b → KeptAs one false a.now b }
+    {
+        match a {
+            Act::Memory(a) => Mem::keeps_alone(a),
+            _ => true,
         }
     }
 }

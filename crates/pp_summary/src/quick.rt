@@ -15,7 +15,7 @@ use crate::parts::Parts;
 use crate::{start, take};
 use indexmap::{IndexMap, IndexSet};
 use pp_core::{Committed, IdSet, Items, Name, OutOfMemory, Ticks};
-use pp_kind::Parted;
+use pp_kind::{Parted, TakesBack};
 use pp_log_shared::Shared;
 use pp_records::RunRecord;
 use std::alloc::Global;
@@ -94,6 +94,27 @@ impl<S: Parted> Quick<S> {
         Ok((Quick { parts }, good))
     }
 
+    /// How many records were taken. A Quick is always the brief of some boosted configuration.
+    pub fn count(&self) -> u32
+        ensures count { result ≡ self.now.count }
+        ensures boosted { (c : Config S.Op) × IsHeldOf S.object S.place_of self.now c }
+    {
+        self.parts.count
+    }
+
+    /// The committed transactions, in commit order. Their operations, joined, are allowed, in the
+    /// range of records, and at most 256 more than records were taken.
+    pub fn committed(&self) -> &Committed<S::Op>
+        ensures done { result.now ≡ self.now.brief.done }
+        ensures allowed { IsAllowed S.object self.now.shape (serial_ops self.now.brief.done) }
+        ensures ranged { AllRanged S.object (serial_ops self.now.brief.done) }
+        ensures few { length (serial_ops self.now.brief.done) ≤ self.now.count + 256 }
+    {
+        &self.parts.committed
+    }
+}
+
+impl<S: Parted + TakesBack> Quick<S> {
     /// Takes a record where it is good, and else gives the Quick back as it was, with false. The
     /// only error is that memory was refused, and the Quick is then lost.
     pub fn take<L: Ledger>(
@@ -116,24 +137,5 @@ impl<S: Parted> Quick<S> {
         let Quick { parts } = self;
         let (parts, good) = take::take(parts, recorded, ticks)?;
         Ok((Quick { parts }, good))
-    }
-
-    /// How many records were taken. A Quick is always the brief of some boosted configuration.
-    pub fn count(&self) -> u32
-        ensures count { result ≡ self.now.count }
-        ensures boosted { (c : Config S.Op) × IsHeldOf S.object S.place_of self.now c }
-    {
-        self.parts.count
-    }
-
-    /// The committed transactions, in commit order. Their operations, joined, are allowed, in the
-    /// range of records, and at most 256 more than records were taken.
-    pub fn committed(&self) -> &Committed<S::Op>
-        ensures done { result.now ≡ self.now.brief.done }
-        ensures allowed { IsAllowed S.object self.now.shape (serial_ops self.now.brief.done) }
-        ensures ranged { AllRanged S.object (serial_ops self.now.brief.done) }
-        ensures few { length (serial_ops self.now.brief.done) ≤ self.now.count + 256 }
-    {
-        &self.parts.committed
     }
 }

@@ -14,7 +14,7 @@ use crate::own::Own;
 use crate::parts::Parts;
 use crate::undo::{Undoing, undo};
 use pp_core::{OutOfMemory, Step, Ticks};
-use pp_kind::Parted;
+use pp_kind::{Parted, TakesBack};
 use pp_log_shared::Shared;
 use pp_records::RunRecord;
 use std::sync::ledger::Ledger;
@@ -47,7 +47,7 @@ fn take_step<S: Parted>(
 
 /// Takes a record where it is good, and else says false, and nothing has changed. Records of other
 /// styles are not good. The only error is that memory was refused.
-pub fn take<S: Parted, L: Ledger>(
+pub fn take<S: Parted + TakesBack, L: Ledger>(
     parts: Box<Parts<S::Shape, S::Op, Shared<S>, Own<S>>>,
     recorded: &RunRecord<S::Op>,
     ticks: &mut Ticks<L>,

@@ -10,7 +10,7 @@ use crate::own::Own;
 use crate::parts::Parts;
 use crate::slots::{put_back, take_out};
 use pp_core::{Name, OutOfMemory, Ticks};
-use pp_kind::Parted;
+use pp_kind::{Parted, TakesBack};
 use pp_log_shared::Shared;
 use std::sync::ledger::Ledger;
 
@@ -25,7 +25,7 @@ pub enum Undoing {
 
 /// Takes an abort or a retry record where the transaction is open. The only error is that memory
 /// was refused.
-fn undo_parts<S: Parted, L: Ledger>(
+fn undo_parts<S: Parted + TakesBack, L: Ledger>(
     parts: Parts<S::Shape, S::Op, Shared<S>, Own<S>>,
     how: Undoing,
     tx: &Name,
@@ -72,7 +72,7 @@ fn in_box<S: Parted>(
 /// shared log, and it gives up or begins anew. `take_back` consumes the shared log, so the parts
 /// leave their box meanwhile, in a function of its own, so that `take` has no room for them on its
 /// stack. The only error is that memory was refused.
-pub fn undo<S: Parted, L: Ledger>(
+pub fn undo<S: Parted + TakesBack, L: Ledger>(
     parts: Box<Parts<S::Shape, S::Op, Shared<S>, Own<S>>>,
     how: Undoing,
     tx: &Name,

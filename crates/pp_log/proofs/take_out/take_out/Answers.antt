@@ -3,8 +3,8 @@ use Rattle.pp_log.specs.Parts.{with_first}
 use Rattle.pp_log.proofs.Gaps.{first_there, last_passes}
 use Rattle.pp_log.proofs.take_out.take_out.Goals as goal
 
-pub pass_out-requires : goal.pass_out-requires
-pass_out-requires g c =
+pub take_last-requires-clause-there : goal.take_last-requires-clause-there
+take_last-requires-clause-there g c =
     let place = g.S.Placed.place_of in
     let f = g.T.Side.item_of in
     let y = c.args.entries.now in
@@ -28,7 +28,7 @@ returns-then-is_last-clause-takes g c = λ b before size whole.
     let passes = last_passes g.S.Spec.object place f y c.index-entries-0.result b c.args.state.now
     before c.args.from c.args.place.now c.op-op.result.now c.requires.some c.index-entries-0.is size
     whole (omega arith) c.op-op.ensures in
-    c.in_ok-pass_out.ensures.takes b (before ++ with_first place f y) [] passes tt whole
+    c.in_ok-take_last.ensures.takes b (before ++ with_first place f y) [] passes tt whole
 
 pub returns-then-is_last-clause-cost : goal.returns-then-is_last-clause-cost
 returns-then-is_last-clause-cost g c =

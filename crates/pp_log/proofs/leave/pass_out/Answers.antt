@@ -3,7 +3,7 @@ use Rattle.std.specs.List.{remove}
 use Rattle.pp_log.specs.Runs.{IsRun}
 use Rattle.pp_log.proofs.Grown.{ids-remove}
 use Rattle.pp_log.proofs.Passed.{all_out, applied_out, run_out, way_last}
-use Rattle.pp_log.proofs.take_out.pass_out.Goals as goal
+use Rattle.pp_log.proofs.leave.pass_out.Goals as goal
 
 pub undo-requires : goal.undo-requires
 undo-requires g c =

@@ -1,5 +1,5 @@
 use Rattle.pp_objects.proofs.Kept.{keeps_there, same_place_kept}
-use Rattle.pp_objects.proofs.objects.ObjectsRemovable.keep_in_turn.Goals as goal
+use Rattle.pp_objects.proofs.objects.ObjectsTakesBack.keep_in_turn.Goals as goal
 
 pub returns : goal.returns
 returns c = λ b same keeps. same_place_kept c.keep_in_turn.result c.args.a.now b same
