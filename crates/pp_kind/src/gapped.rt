@@ -27,8 +27,9 @@ pub enum Crossed<G, U> {
     Unknown,
 }
 
-/// A kind that can tell a state from the one that would be there without one of its operations, by
-/// a gap between the two that each later operation crosses.
+/// A kind that can describe how a state differs from the one that would be there without one of its
+/// operations: by a gap between the two, which each later operation crosses. A log asks for it to
+/// remove one entry from its midst without applying all later ones again.
 pub trait Gapped: Spec {
     /// How the two differ.
     type Gap: Copy;

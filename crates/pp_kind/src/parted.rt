@@ -1,4 +1,4 @@
-//! The trait of kinds that tell apart what their operations are about.
+//! The trait of kinds whose operations are about parts of objects.
 ghost use Rattle.std.specs.Prelude.{◌≡◌, ◌≢◌, IsTrue};
 ghost use Rattle.pp_kind.specs.Object.{CliqueSwaps, Swaps};
 ghost use Rattle.pp_kind.specs.Parts.{PartsSwap, StandsFor};
@@ -9,7 +9,9 @@ use crate::label::Label;
 use crate::part::Part;
 use crate::spec::Placed;
 
-/// A kind of several objects, of which each operation has one, and there one part.
+/// A kind of several objects, of which each operation has one, and there one part. Operations of
+/// different parts swap. The two logs and the machine ask for it: whether an operation swaps with all
+/// entries is then mostly decided by a few entries of its own part.
 pub trait Parted: Placed + Gapped {
     ghost use Rattle.std.specs.Prelude.{◌≡◌, IsTrue};
     ghost use Rattle.pp_kind.specs.declared.label.Label.{Label as LabelOf};

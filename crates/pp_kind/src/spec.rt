@@ -26,7 +26,8 @@ pub struct Context<O> {
     pub after: Ops<O>,
 }
 
-/// A kind of objects. Each operation carries the result that was recorded for it.
+/// A kind of objects. Each operation carries the result that was recorded for it. The attempts of a
+/// run and the certificates ask for this alone.
 pub trait Spec: Drop {
     /// Which objects there are.
     type Shape: Drop;
@@ -115,7 +116,9 @@ pub trait Spec: Drop {
     ghost lawful: { IsLawful object };
 }
 
-/// A kind of several objects, of which each operation has one.
+/// A kind of several objects, of which each operation has one. An operation looks at its own object
+/// only, and changes no other. Laws about places ask for this alone. A log asks for it to find the
+/// operations of one object.
 pub trait Placed: Spec {
     /// The place of an operation's object.
     ghost place_of: { Self.Op → ℕ };

@@ -4,9 +4,9 @@ ghost use Rattle.pp_kind.specs.Object.{KeptAs, MayKeep, Swaps};
 
 use crate::spec::Placed;
 
-/// A kind of several objects, any of whose operations can be taken back alone if all later ones may
-/// move left over it. `quick` asks for it, which takes the own entries of an abort or a retry out of
-/// the shared log. Its two methods say what becomes of the undo values when two operations change
+/// A kind of several objects, of which an operation can be taken back alone if all later ones may
+/// move left over it. Only `quick` asks for it: it takes the own entries of an abort or a retry out
+/// of the shared log. The two methods say what becomes of undo values when two operations change
 /// places.
 pub trait TakesBack: Placed {
     /// How an operation and a later one on its object keep their undo values, if the later one may

@@ -1,5 +1,8 @@
 //! The gaps of an object of any kind, by a match on its kind, and of the objects of a run.
+ghost use Rattle.std.specs.Prelude.{◌≡◌, ◌+◌, IsTrue, OnOk, OnErr};
+ghost use Rattle.pp_kind.specs.Gaps.{ClosesTo, Crosses, Leaves, MayClose};
 ghost use Rattle.pp_objects.specs.Gaps.{Bears, Differ, OneBears, OneDiffer};
+ghost use Rattle.pp_objects.specs.One.{one};
 
 use crate::act::{Act, Op};
 use crate::gap::{ActGap, Gap, crossed_as, left_as, memory_crossed};
@@ -17,15 +20,12 @@ use pp_kind_set::KeySet;
 use pp_kind_stack::Stack;
 use std::sync::ledger::Ledger;
 
-impl Gapped for OneObject {
-    type Gap = ActGap;
-
-    ghost Bears = { OneBears };
-
-    ghost Differ = { OneDiffer };
-
+impl OneObject {
+    /// The gap that an act leaves which kept this.
     #[inline(always)]
-    fn gap_of(op: &Act, undo: &Undo) -> Left<ActGap> {
+    pub fn gap_of(op: &Act, undo: &Undo) -> Left<ActGap>
+        ensures { Leaves one OneBears OneDiffer op.now undo.now result }
+    {
         match op {
             Act::Memory(op) => left_as(Mem::gap_of(op, undo)),
             Act::KeySet(op) => left_as(KeySet::gap_of(op, &())),
@@ -37,8 +37,11 @@ impl Gapped for OneObject {
         }
     }
 
+    /// The gap behind a further act.
     #[inline(always)]
-    fn cross(gap: &ActGap, op: &Act) -> Crossed<ActGap, Undo> {
+    pub fn cross(gap: &ActGap, op: &Act) -> Crossed<ActGap, Undo>
+        ensures { Crosses one OneBears OneDiffer gap.now op.now result }
+    {
         match (gap, op) {
             (ActGap::Memory(gap), Act::Memory(op)) => memory_crossed(Mem::cross(gap, op)),
             (ActGap::KeySet(gap), Act::KeySet(op)) => crossed_as(KeySet::cross(gap, op)),
@@ -53,7 +56,10 @@ impl Gapped for OneObject {
         }
     }
 
-    fn bears(gap: &ActGap, state: &ObjectState) -> bool {
+    /// Whether the state has what was asked of the other one. False says nothing.
+    pub fn bears(gap: &ActGap, state: &ObjectState) -> bool
+        ensures { IsTrue result → OneBears gap.now state.now }
+    {
         match (gap, state) {
             (ActGap::Memory(gap), ObjectState::Memory(state)) => Mem::bears(gap, state),
             (ActGap::KeySet(gap), ObjectState::KeySet(state)) => KeySet::bears(gap, state),
@@ -68,11 +74,17 @@ impl Gapped for OneObject {
         }
     }
 
-    fn close<L: Ledger>(
+    /// Makes the first state the second. The only error is that memory was refused.
+    pub fn close<L: Ledger>(
         state: &mut ObjectState,
         gap: &ActGap,
         ticks: &mut Ticks<L>,
-    ) -> Result<(), OutOfMemory> {
+    ) -> Result<(), OutOfMemory>
+        requires { MayClose one OneDiffer gap.now state.old }
+        ensures ok { OnOk result (ClosesTo one OneDiffer gap.now state.old state.new) }
+        ensures err { OnErr result (state.new ≡ state.old) }
+        ensures cost { ticks.new ≡ ticks.old + 1 }
+    {
         match (state, gap) {
             (ObjectState::Memory(state), ActGap::Memory(gap)) => Mem::close(state, gap, ticks),
             (ObjectState::KeySet(state), ActGap::KeySet(gap)) => KeySet::close(state, gap, ticks),

@@ -19,6 +19,5 @@ pub use calls::{arity, make_op, method_of};
 pub use form::{Form, answer_form};
 pub use gap::{ActGap, Gap};
 pub use objects::Objects;
-pub use one::OneObject;
 pub use pieces::{Piece, Pieces, show};
 pub use states::{ObjectState, ObjectStates};

@@ -5,13 +5,19 @@ ghost use Rattle.pp_objects.specs.One.{one};
 ghost use Rattle.pp_objects.specs.Objects.{objects, place_of, SameAt};
 ghost use Rattle.pp_objects.specs.laws.Objects.{objects_lawful, objects_placed};
 
-use crate::act::Op;
+use crate::act::{Act, Op};
 use crate::acts::context_at;
 use crate::one::OneObject;
 use crate::states::{ObjectState, ObjectStates};
 use pp_core::{Answer, Call, Kinds, OutOfMemory, Ticks};
 use pp_kind::{Applied, Context, Placed, Spec, TakesBack};
-use pp_kind_memory::Undo;
+use pp_kind_counter::Count;
+use pp_kind_map::KeyMap;
+use pp_kind_memory::{Mem, Undo};
+use pp_kind_priority::Prio;
+use pp_kind_queue::Fifo;
+use pp_kind_set::KeySet;
+use pp_kind_stack::Stack;
 use std::alloc::Global;
 use std::sync::ledger::Ledger;
 
@@ -70,16 +76,34 @@ impl Spec for Objects {
     }
 
     fn gives(state: &ObjectStates, op: &Op) -> Answer {
-        match state.get(op.object) {
-            Some(object) => OneObject::gives(object, &op.act),
-            None => Answer::None,
+        let Some(object) = state.get(op.object) else {
+            return Answer::None;
+        };
+        match (object, &op.act) {
+            (ObjectState::Memory(state), Act::Memory(op)) => Mem::gives(state, op),
+            (ObjectState::KeySet(state), Act::KeySet(op)) => KeySet::gives(state, op),
+            (ObjectState::KeyMap(state), Act::KeyMap(op)) => KeyMap::gives(state, op),
+            (ObjectState::Counter(state), Act::Counter(op)) => Count::gives(state, op),
+            (ObjectState::Queue(state), Act::Queue(op)) => Fifo::gives(state, op),
+            (ObjectState::Stack(state), Act::Stack(op)) => Stack::gives(state, op),
+            (ObjectState::PriorityQueue(state), Act::PriorityQueue(op)) => Prio::gives(state, op),
+            _ => Answer::None,
         }
     }
 
     fn legal(state: &ObjectStates, op: &Op) -> bool {
-        match state.get(op.object) {
-            Some(object) => OneObject::legal(object, &op.act),
-            None => false,
+        let Some(object) = state.get(op.object) else {
+            return false;
+        };
+        match (object, &op.act) {
+            (ObjectState::Memory(state), Act::Memory(op)) => Mem::legal(state, op),
+            (ObjectState::KeySet(state), Act::KeySet(op)) => KeySet::legal(state, op),
+            (ObjectState::KeyMap(state), Act::KeyMap(op)) => KeyMap::legal(state, op),
+            (ObjectState::Counter(state), Act::Counter(op)) => Count::legal(state, op),
+            (ObjectState::Queue(state), Act::Queue(op)) => Fifo::legal(state, op),
+            (ObjectState::Stack(state), Act::Stack(op)) => Stack::legal(state, op),
+            (ObjectState::PriorityQueue(state), Act::PriorityQueue(op)) => Prio::legal(state, op),
+            _ => false,
         }
     }
 

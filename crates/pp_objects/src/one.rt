@@ -1,13 +1,13 @@
 //! One object of any kind, by a match on its kind.
-ghost use Rattle.std.specs.Prelude.{◌≡◌, ◌↔◌, IsTrue, false};
-ghost use Rattle.pp_kind.specs.Object.{MayKeep, KeptAs, Swaps};
+ghost use Rattle.std.specs.Prelude.{◌≡◌, ◌+◌, ◌↔◌, IsTrue, false, IfOk, OnOk, OnErr};
+ghost use Rattle.pp_kind.specs.Calls.{Applies, WasApplied, lists_of};
+ghost use Rattle.pp_kind.specs.Object.{IsReached, KeptAs, MayKeep, Swaps};
 ghost use Rattle.pp_objects.specs.One.{one, keeping_nothing};
-ghost use Rattle.pp_objects.specs.laws.One.{one_lawful};
 
 use crate::act::Act;
 use crate::acts::context_of;
 use crate::states::ObjectState;
-use pp_core::{Answer, Kind, OutOfMemory, Ticks};
+use pp_core::{Kind, OutOfMemory, Ticks};
 use pp_kind::{Applied, Context, Spec};
 use pp_kind_counter::Count;
 use pp_kind_map::KeyMap;
@@ -19,7 +19,7 @@ use pp_kind_stack::Stack;
 use std::alloc::Global;
 use std::sync::ledger::Ledger;
 
-/// One object of any kind.
+/// One object of any kind: what `Objects` does with the object of an operation.
 #[derive(Drop)]
 pub struct OneObject;
 
@@ -34,62 +34,12 @@ fn keeping_nothing(applied: Result<Applied<()>, OutOfMemory>) -> Result<Applied<
     }
 }
 
-/// Whether two acts swap. Those that no object has together always do.
-#[inline(always)]
-fn may_swap(a: &Act, b: &Act) -> bool
-    ensures { IsTrue result ↔ Swaps one a.now b.now }
-{
-    match (a, b) {
-        (Act::Memory(a), Act::Memory(b)) => Mem::swaps(a, b),
-        (Act::KeySet(a), Act::KeySet(b)) => KeySet::swaps(a, b),
-        (Act::KeyMap(a), Act::KeyMap(b)) => KeyMap::swaps(a, b),
-        (Act::Counter(a), Act::Counter(b)) => Count::swaps(a, b),
-        (Act::Queue(a), Act::Queue(b)) => Fifo::swaps(a, b),
-        (Act::Stack(a), Act::Stack(b)) => Stack::swaps(a, b),
-        (Act::PriorityQueue(a), Act::PriorityQueue(b)) => Prio::swaps(a, b),
-        _ => true,
-    }
-}
-
 impl OneObject {
-    /// Whether an act and one that it lets pass keep in turn what takes them back, as what the other
-    /// one keeps tells. Only acts on a memory keep anything.
-    #[inline(always)]
-    pub fn keep_in_turn(a: &Act, kept: &Undo) -> bool
-        ensures { (b : Act) → MayKeep one b kept.now → Swaps one a.now b
-            → KeptAs one result a.now b }
+    /// The object of a kind before any act. The only error is that memory was refused.
+    pub fn empty(alloc: Global, kind: &Kind) -> Result<ObjectState, OutOfMemory>
+        ensures { IfOk result (λ s. s ≡ one.start kind.now) }
     {
-        match a {
-            Act::Memory(a) => Mem::keep_in_turn(a, kept),
-            _ => false,
-        }
-    }
-
-    /// Whether an act keeps in turn with none, as each act does that is not on a memory.
-    #[inline(always)]
-    pub fn keeps_alone(a: &Act) -> bool
-        ensures { IsTrue result → (b : Act) → Swaps one a.now b → KeptAs one false a.now b }
-    {
-        match a {
-            Act::Memory(a) => Mem::keeps_alone(a),
-            _ => true,
-        }
-    }
-}
-
-impl Spec for OneObject {
-    type Shape = Kind;
-
-    type State = ObjectState;
-
-    type Op = Act;
-
-    type Undo = Undo;
-
-    ghost object = { one };
-
-    fn empty(alloc: Global, shape: &Kind) -> Result<ObjectState, OutOfMemory> {
-        match shape {
+        match kind {
             Kind::Memory => Ok(ObjectState::Memory(Mem::empty(alloc, &())?)),
             Kind::KeySet => Ok(ObjectState::KeySet(KeySet::empty(alloc, &())?)),
             Kind::KeyMap => Ok(ObjectState::KeyMap(KeyMap::empty(alloc, &())?)),
@@ -100,8 +50,11 @@ impl Spec for OneObject {
         }
     }
 
-    fn fits(shape: &Kind, op: &Act) -> bool {
-        match (shape, op) {
+    /// Whether it is an act on objects of this kind.
+    pub fn fits(kind: &Kind, op: &Act) -> bool
+        ensures { result ≡ one.fits kind.now op.now }
+    {
+        match (kind, op) {
             (Kind::Memory, Act::Memory(_)) => true,
             (Kind::KeySet, Act::KeySet(_)) => true,
             (Kind::KeyMap, Act::KeyMap(_)) => true,
@@ -113,46 +66,19 @@ impl Spec for OneObject {
         }
     }
 
-    fn ranged(op: &Act) -> bool {
-        op.ranged()
-    }
-
-    fn recorded(op: &Act) -> Answer {
-        op.recorded()
-    }
-
-    fn gives(state: &ObjectState, op: &Act) -> Answer {
-        match (state, op) {
-            (ObjectState::Memory(state), Act::Memory(op)) => Mem::gives(state, op),
-            (ObjectState::KeySet(state), Act::KeySet(op)) => KeySet::gives(state, op),
-            (ObjectState::KeyMap(state), Act::KeyMap(op)) => KeyMap::gives(state, op),
-            (ObjectState::Counter(state), Act::Counter(op)) => Count::gives(state, op),
-            (ObjectState::Queue(state), Act::Queue(op)) => Fifo::gives(state, op),
-            (ObjectState::Stack(state), Act::Stack(op)) => Stack::gives(state, op),
-            (ObjectState::PriorityQueue(state), Act::PriorityQueue(op)) => Prio::gives(state, op),
-            _ => Answer::None,
-        }
-    }
-
-    fn legal(state: &ObjectState, op: &Act) -> bool {
-        match (state, op) {
-            (ObjectState::Memory(state), Act::Memory(op)) => Mem::legal(state, op),
-            (ObjectState::KeySet(state), Act::KeySet(op)) => KeySet::legal(state, op),
-            (ObjectState::KeyMap(state), Act::KeyMap(op)) => KeyMap::legal(state, op),
-            (ObjectState::Counter(state), Act::Counter(op)) => Count::legal(state, op),
-            (ObjectState::Queue(state), Act::Queue(op)) => Fifo::legal(state, op),
-            (ObjectState::Stack(state), Act::Stack(op)) => Stack::legal(state, op),
-            (ObjectState::PriorityQueue(state), Act::PriorityQueue(op)) => Prio::legal(state, op),
-            _ => false,
-        }
-    }
-
+    /// Lets an act take effect where it is legal. The only error is that memory was refused.
     #[inline(always)]
-    fn apply<L: Ledger>(
+    pub fn apply<L: Ledger>(
         state: &mut ObjectState,
         op: &Act,
         ticks: &mut Ticks<L>,
-    ) -> Result<Applied<Undo>, OutOfMemory> {
+    ) -> Result<Applied<Undo>, OutOfMemory>
+        requires fits { IsTrue (one.fits (one.shape state.old) op.now) }
+        requires ranged { IsTrue (one.ranged op.now) }
+        requires reached { IsReached one state.old }
+        ensures applied { Applies one state.old op.now result state.new }
+        ensures cost { ticks.new ≡ ticks.old + 1 }
+    {
         match (state, op) {
             (ObjectState::Memory(state), Act::Memory(op)) => Mem::apply(state, op, ticks),
             (ObjectState::KeySet(state), Act::KeySet(op)) => {
@@ -180,13 +106,19 @@ impl Spec for OneObject {
         }
     }
 
+    /// Takes the act back that left this state. The only error is that memory was refused.
     #[inline(always)]
-    fn undo<L: Ledger>(
+    pub fn undo<L: Ledger>(
         state: &mut ObjectState,
         op: &Act,
         undo: Undo,
         ticks: &mut Ticks<L>,
-    ) -> Result<(), OutOfMemory> {
+    ) -> Result<(), OutOfMemory>
+        requires { WasApplied one op.now undo state.old }
+        ensures ok { OnOk result (state.new ≡ one.upkeep.back state.old op.now undo) }
+        ensures err { OnErr result (state.new ≡ state.old) }
+        ensures cost { ticks.new ≡ ticks.old + 1 }
+    {
         match (state, op) {
             (ObjectState::Memory(state), Act::Memory(op)) => Mem::undo(state, op, undo, ticks),
             (ObjectState::KeySet(state), Act::KeySet(op)) => KeySet::undo(state, op, (), ticks),
@@ -207,12 +139,54 @@ impl Spec for OneObject {
         }
     }
 
+    /// Whether two acts swap. Those that no object has together always do.
     #[inline(always)]
-    fn swaps(a: &Act, b: &Act) -> bool {
-        may_swap(a, b)
+    pub fn swaps(a: &Act, b: &Act) -> bool
+        ensures { IsTrue result ↔ Swaps one a.now b.now }
+    {
+        match (a, b) {
+            (Act::Memory(a), Act::Memory(b)) => Mem::swaps(a, b),
+            (Act::KeySet(a), Act::KeySet(b)) => KeySet::swaps(a, b),
+            (Act::KeyMap(a), Act::KeyMap(b)) => KeyMap::swaps(a, b),
+            (Act::Counter(a), Act::Counter(b)) => Count::swaps(a, b),
+            (Act::Queue(a), Act::Queue(b)) => Fifo::swaps(a, b),
+            (Act::Stack(a), Act::Stack(b)) => Stack::swaps(a, b),
+            (Act::PriorityQueue(a), Act::PriorityQueue(b)) => Prio::swaps(a, b),
+            _ => true,
+        }
     }
 
-    fn context(alloc: Global, a: &Act, b: &Act) -> Result<Option<Context<Act>>, OutOfMemory> {
+    /// Whether an act and one that it lets pass keep in turn what takes them back, as what the other
+    /// one keeps tells. Only acts on a memory keep anything.
+    #[inline(always)]
+    pub fn keep_in_turn(a: &Act, kept: &Undo) -> bool
+        ensures { (b : Act) → MayKeep one b kept.now → Swaps one a.now b
+            → KeptAs one result a.now b }
+    {
+        match a {
+            Act::Memory(a) => Mem::keep_in_turn(a, kept),
+            _ => false,
+        }
+    }
+
+    /// Whether an act keeps in turn with none, as each act does that is not on a memory.
+    #[inline(always)]
+    pub fn keeps_alone(a: &Act) -> bool
+        ensures { IsTrue result → (b : Act) → Swaps one a.now b → KeptAs one false a.now b }
+    {
+        match a {
+            Act::Memory(a) => Mem::keeps_alone(a),
+            _ => true,
+        }
+    }
+
+    /// Acts that show that the pair does not swap, or `None` where it does. The only error is that
+    /// memory was refused.
+    pub fn context(alloc: Global, a: &Act, b: &Act) -> Result<Option<Context<Act>>, OutOfMemory>
+        requires first { IsTrue (one.ranged a.now) }
+        requires second { IsTrue (one.ranged b.now) }
+        ensures lists { IfOk result (λ found. lists_of found ≡ one.refuting a.now b.now) }
+    {
         match (a, b) {
             (Act::Memory(a), Act::Memory(b)) => context_of(alloc, Mem::context(alloc, a, b)?),
             (Act::KeySet(a), Act::KeySet(b)) => context_of(alloc, KeySet::context(alloc, a, b)?),
@@ -227,6 +201,4 @@ impl Spec for OneObject {
             _ => Ok(None),
         }
     }
-
-    ghost lawful = { one_lawful };
 }

@@ -16,4 +16,4 @@ returns-then-a-b c =
 pub returns-else-a-b : goal.returns-else-a-b
 returns-else-a-b c = let f = c.if-a-b.false in
     same_place_swaps c.args.a.now c.args.b.now c.swaps.result
-    (grind (arith, nat_tests)) c.swaps.ensures.swaps c.swaps.ensures.only
+    (grind (arith, nat_tests)) c.swaps.ensures.0 c.swaps.ensures.1

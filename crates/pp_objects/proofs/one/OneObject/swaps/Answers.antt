@@ -1,6 +1,6 @@
 use Rattle.pp_objects.proofs.Alone.{pair_swaps, strangers_swap}
 use Rattle.pp_core.specs.declared.call.Kind.TheVariants as kinds
-use Rattle.pp_objects.proofs.one.may_swap.Goals as goal
+use Rattle.pp_objects.proofs.one.OneObject.swaps.Goals as goal
 
 pub returns-in-Memory-Memory : goal.returns-in-Memory-Memory
 returns-in-Memory-Memory c = pair_swaps kinds.Memory c.args.a.now c.args.b.now c.in-Memory-Memory.a

@@ -1,6 +1,6 @@
 use Rattle.pp_objects.proofs.Alone.{was_applied_here}
 use Rattle.pp_core.specs.declared.call.Kind.TheVariants as kinds
-use Rattle.pp_objects.proofs.one.OneObjectSpec.undo.Goals as goal
+use Rattle.pp_objects.proofs.one.OneObject.undo.Goals as goal
 
 pub undo-requires : goal.undo-requires
 undo-requires g c =

@@ -1,7 +1,7 @@
 use Rattle.pp_core.specs.declared.call.Kind.TheVariants as kinds
 use Rattle.pp_objects.proofs.Gaps.{leaves_here}
 use Rattle.pp_objects.proofs.Gaps.{memory_gaps, set_gaps, map_gaps, counter_gaps, queue_gaps, stack_gaps, prio_gaps}
-use Rattle.pp_objects.proofs.gapped.OneObjectGapped.gap_of.Goals as goal
+use Rattle.pp_objects.proofs.one.OneObject.gap_of.Goals as goal
 
 pub returns-in-Memory : goal.returns-in-Memory
 returns-in-Memory c = leaves_here kinds.Memory memory_gaps c.args.op.now c.in-Memory.op c.args.undo.now

@@ -1,7 +1,7 @@
 use Rattle.pp_core.specs.declared.call.Kind.TheVariants as kinds
 use Rattle.pp_objects.proofs.Gaps.{crosses_here}
 use Rattle.pp_objects.proofs.Gaps.{memory_gaps, set_gaps, map_gaps, counter_gaps, queue_gaps, stack_gaps, prio_gaps}
-use Rattle.pp_objects.proofs.gapped.OneObjectGapped.cross.Goals as goal
+use Rattle.pp_objects.proofs.one.OneObject.cross.Goals as goal
 
 pub returns-in-Memory-Memory : goal.returns-in-Memory-Memory
 returns-in-Memory-Memory c = crosses_here kinds.Memory memory_gaps c.args.gap.now c.in-Memory-Memory.gap

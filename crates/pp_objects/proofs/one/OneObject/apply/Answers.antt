@@ -1,6 +1,6 @@
 use Rattle.pp_objects.proofs.Alone.{reached_here}
 use Rattle.pp_core.specs.declared.call.Kind.TheVariants as kinds
-use Rattle.pp_objects.proofs.one.OneObjectSpec.apply.Goals as goal
+use Rattle.pp_objects.proofs.one.OneObject.apply.Goals as goal
 
 pub apply-requires-clause-reached : goal.apply-requires-clause-reached
 apply-requires-clause-reached g c =

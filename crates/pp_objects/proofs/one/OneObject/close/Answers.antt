@@ -1,10 +1,10 @@
 use Rattle.pp_core.specs.declared.call.Kind.TheVariants as kinds
 use Rattle.pp_objects.proofs.Gaps.{closes_here, may_close_here, never_other}
 use Rattle.pp_objects.proofs.Gaps.{memory_gaps, set_gaps, map_gaps, counter_gaps, queue_gaps, stack_gaps, prio_gaps}
-use Rattle.pp_objects.proofs.gapped.OneObjectGapped.close.Goals as goal
-use Rattle.pp_objects.proofs.gapped.OneObjectGapped.close.Goals.{in_default-via-in-Memory+in_default, in_default-via-in-KeySet+in_default, in_default-via-in-KeyMap+in_default, in_default-via-in-Counter+in_default, in_default-via-in-Queue+in_default, in_default-via-in-Stack+in_default, in_default-via-in-PriorityQueue+in_default}
-use Rattle.pp_objects.proofs.gapped.OneObjectGapped.close.Goals.{in-Memory-Memory, in-KeySet-KeySet, in-KeyMap-KeyMap}
-use Rattle.pp_objects.proofs.gapped.OneObjectGapped.close.Goals.{in-Counter-Counter, in-Queue-Queue, in-Stack-Stack, in-PriorityQueue-PriorityQueue, in_default}
+use Rattle.pp_objects.proofs.one.OneObject.close.Goals as goal
+use Rattle.pp_objects.proofs.one.OneObject.close.Goals.{in_default-via-in-Memory+in_default, in_default-via-in-KeySet+in_default, in_default-via-in-KeyMap+in_default, in_default-via-in-Counter+in_default, in_default-via-in-Queue+in_default, in_default-via-in-Stack+in_default, in_default-via-in-PriorityQueue+in_default}
+use Rattle.pp_objects.proofs.one.OneObject.close.Goals.{in-Memory-Memory, in-KeySet-KeySet, in-KeyMap-KeyMap}
+use Rattle.pp_objects.proofs.one.OneObject.close.Goals.{in-Counter-Counter, in-Queue-Queue, in-Stack-Stack, in-PriorityQueue-PriorityQueue, in_default}
 
 pub close-requires : goal.close-requires
 close-requires g c = may_close_here kinds.Memory memory_gaps c.args.gap.now c.in-Memory-Memory.gap
