@@ -1,15 +1,15 @@
 //! The one log, whoever's it is.
-ghost use Rattle.std.specs.Prelude.{◌≡◌, ◌==◌, ◌<◌, ◌≤◌, ◌+◌, ◌↔◌, IfOk, OnOk, OnErr, IsTrue};
+ghost use Rattle.std.specs.Prelude.{◌≡◌, ◌==◌, ◌<◌, ◌≤◌, ◌+◌, IfOk, OnOk, OnErr, IsTrue};
 ghost use Rattle.std.specs.Prelude.{None, List, [], ◌∷◌, ◌++◌, length, map, position};
 ghost use Rattle.std.specs.Prelude.{slice_get, slice_set, IfSome, IfNone};
 ghost use Rattle.std.specs.Option.{option_copied};
 ghost use Rattle.pp_model.specs.Object.{HasDistinctIds};
-ghost use Rattle.pp_kind.specs.Object.{IsAllowed, AllRanged};
+ghost use Rattle.pp_kind.specs.Object.{IsAllowed, AllRanged, IsLog};
 ghost use Rattle.pp_log.specs.Keeps.{KeepsAll};
 ghost use Rattle.pp_log.specs.Leaving.{MayLeave, without_items};
 ghost use Rattle.pp_log.specs.Logs.{GoesBehind, HasItemAt, IsFirstFrom, IsOn, NoneFrom};
 ghost use Rattle.pp_log.specs.Logs.{RemovalBound, RemovalCosts, RemovesEntry};
-ghost use Rattle.pp_log.specs.Logs.{answer_behind, entry_ops};
+ghost use Rattle.pp_log.specs.Logs.{entry_ops};
 
 use crate::batch::take_all_back;
 use crate::entries::Entries;
@@ -19,7 +19,7 @@ use crate::place::{Place, Removed};
 use crate::room::make_room;
 use crate::sides::Side;
 use crate::take_out::{position_in_place, take_out};
-use pp_core::{Answer, Item, OutOfMemory, Ticks};
+use pp_core::{Item, OutOfMemory, Ticks};
 use pp_kind::{Applied, Gapped, Placed, TakesBack};
 use std::alloc::Global;
 use std::marker::Model;
@@ -119,22 +119,12 @@ impl<S: Placed + Gapped, T: Side<S::Op>> Log<S, T> {
         self.find(*next)
     }
 
-    /// Whether the log stays allowed with the operation behind it.
-    pub fn legal(&self, op: &S::Op) -> bool
-        requires { IsTrue (S.object.fits self.now.0 op.now) }
-        ensures { IsTrue result ↔
-            GoesBehind S.object self.now.0 (entry_ops T.item_of self.now.1) op.now }
+    /// The objects behind all entries.
+    pub fn state(&self) -> &S::State
+        ensures shape { S.object.shape result.now ≡ self.now.0 }
+        ensures log { IsLog S.object result.now (entry_ops T.item_of self.now.1) }
     {
-        S::legal(&self.state, op)
-    }
-
-    /// The object's result for the operation's call at the end.
-    pub fn gives(&self, op: &S::Op) -> Answer
-        requires { IsTrue (S.object.fits self.now.0 op.now) }
-        ensures { result ≡
-            answer_behind S.object self.now.0 (entry_ops T.item_of self.now.1) op.now }
-    {
-        S::gives(&self.state, op)
+        &self.state
     }
 
     /// Adds an entry at the end, which keeps the log allowed. The only error is that memory was

@@ -106,7 +106,7 @@ impl<S: Parted> Local<S> {
         requires { IsTrue (S.object.fits self.now.0 op.now) }
         ensures { IsTrue result ↔ GoesBehind S.object self.now.0 (local_ops self.now.1) op.now }
     {
-        self.log.legal(op)
+        S::legal(self.log.state(), op)
     }
 
     /// The object's result for the operation's call at the end of the log.
@@ -114,7 +114,7 @@ impl<S: Parted> Local<S> {
         requires { IsTrue (S.object.fits self.now.0 op.now) }
         ensures { result ≡ answer_behind S.object self.now.0 (local_ops self.now.1) op.now }
     {
-        self.log.gives(op)
+        S::gives(self.log.state(), op)
     }
 
     /// Adds an entry at the end. The only error is that memory was refused, and the log is then as

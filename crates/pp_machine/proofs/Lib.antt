@@ -1,4 +1,5 @@
 pub mod Acting
+pub mod Applying
 pub mod Courses
 pub mod Dispatch
 pub mod Cuts

@@ -1,50 +1,17 @@
 //! APP: its criteria and its effect.
-ghost use Rattle.std.specs.Prelude.{◌≡◌, ◌==◌, ◌<◌, ◌≤◌, ◌+◌, IsTrue, List};
-ghost use Rattle.std.specs.List.{list_any};
-ghost use Rattle.pp_core.specs.declared.entry.SharedEntry.{SharedEntry};
+ghost use Rattle.std.specs.Prelude.{◌<◌, ◌≤◌, ◌+◌, IsTrue};
 ghost use Rattle.pp_core.specs.Steps.{App};
-ghost use Rattle.pp_model.specs.Names.{Name as NameOf};
 ghost use Rattle.pp_machine.specs.Costs.{Costs};
-ghost use Rattle.pp_machine.specs.Sites.{HoldsCourse, Rest, seen_with};
-ghost use Rattle.pp_machine.specs.Judges.{Judges};
 ghost use Rattle.pp_machine.specs.Stepping.{Does};
 
-use crate::course::Course;
-use crate::detail::{Detail, Refusal, bare, told};
+use crate::detail::{Detail, bare, told};
 use crate::machine::{Machine, Outcome, refused};
 use pp_core::{LocalEntry, Mark, Name, OutOfMemory, Ticks};
 use pp_kind::Parted;
 use std::sync::ledger::Ledger;
 
-/// Whether APP may be done, or the refusal by its first false criterion behind the first one, that
-/// the transaction is open. It is told whether the id was used.
-fn judge_app<S: Parted>(
-    course: &Course<S>,
-    used: bool,
-    id: u32,
-    op: &S::Op,
-) -> Result<(), Refusal<S::Op>>
-    requires { IsTrue (S.object.fits course.now.local.0 op.now) }
-    ensures { (m : Rest S.Shape S.Op) (shared : S.Shape × List (SharedEntry S.Op)) (t : NameOf) →
-        HoldsCourse S.object m shared t course.now → used ≡ list_any (λ i. id == i) m.ids →
-        Judges S.object (seen_with m shared) (App t id op.now) (λ _. Unit {0}) result }
-{
-    if used {
-        return Err(bare(2));
-    }
-    if !course.can(op) {
-        return Err(bare(3));
-    }
-    let local = course.local();
-    if !local.legal(op) {
-        let answer = local.gives(op);
-        return Err(told(4, Detail::Gives { id, answer }));
-    }
-    Ok(())
-}
-
 impl<S: Parted> Machine<S> {
-    /// Does APP where its criteria hold.
+    /// Does APP where its criteria hold, and else refuses it by the first false one.
     pub(super) fn app<L: Ledger>(
         mut self,
         tx: &Name,
@@ -65,8 +32,16 @@ impl<S: Parted> Machine<S> {
         let Some(course) = parts.transactions.course_mut(tx) else {
             return Ok((self, refused(bare(1))));
         };
-        if let Err(refusal) = judge_app(course, used, id, op) {
-            return Ok((self, refused(refusal)));
+        if used {
+            return Ok((self, refused(bare(2))));
+        }
+        if !course.can(op) {
+            return Ok((self, refused(bare(3))));
+        }
+        let local = course.local();
+        if !local.legal(op) {
+            let answer = local.gives(op);
+            return Ok((self, refused(told(4, Detail::Gives { id, answer }))));
         }
         let entry = LocalEntry {
             id,

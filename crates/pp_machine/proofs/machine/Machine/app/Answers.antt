@@ -1,16 +1,12 @@
-use Rattle.std.proofs.Common.{◌∙◌, ◌∷◌, ◌++◌, [], IsTrue, ap, refl, subst, sym}
-use Rattle.pp_model.specs.Config.{App, Unpushed}
-use Rattle.pp_model.specs.Rules.{Meets}
-use Rattle.pp_kind.specs.Object.{rules_of}
-use Rattle.pp_machine.specs.Courses.{FollowsIfOwn}
-use Rattle.pp_machine.specs.Judges.{Refuses}
-use Rattle.pp_machine.specs.Transactions.{Takes}
+use Rattle.std.proofs.Common.{◌∙◌, refl, sym}
+use Rattle.pp_model.specs.Config.{App}
+use Rattle.pp_model.proofs.Finding.{decided, decided_not}
+use Rattle.pp_machine.proofs.Applying.{fits_course, holds_back, holds_more, illegal_refused, meets_app}
+use Rattle.pp_machine.proofs.Applying.{new_id, seen_back, seen_more, stray_refused, takes_entry, used_refused}
 use Rattle.pp_machine.proofs.Judged.{refused_cost, refused_step}
 use Rattle.pp_machine.proofs.Judging.{app_1}
-use Rattle.pp_machine.proofs.Keeping.{course_same, holds_app, holds_same, id_unused, of_course}
-use Rattle.pp_machine.proofs.Keeping.{relogged_is, seen_app, seen_same, takes_app}
 use Rattle.pp_machine.proofs.Lent.{lent_holds, lent_view}
-use Rattle.pp_machine.proofs.Opened.{coursed, holds_course, rest, uncoursed}
+use Rattle.pp_machine.proofs.Opened.{uncoursed}
 use Rattle.pp_machine.proofs.machine.Machine.app.Goals as goal
 
 pub returns-in_default-clause-effect : goal.returns-in_default-clause-effect
@@ -21,44 +17,71 @@ pub returns-in_default-clause-cost : goal.returns-in_default-clause-cost
 returns-in_default-clause-cost g c =
     refused_cost g.S.Placed.place_of c.args.self (App c.args.tx.now c.args.id c.args.op.now) c.bare.result c.refused.result c.refused.ensures _ _ refl
 
-pub judge_app-requires : goal.judge_app-requires
-judge_app-requires g c =
-    let k = (coursed g.S.Spec.object c.deref_mut-parts.result.now.shape c.deref_mut-parts.result.now.transactions c.deref_mut-parts.result.now.ids c.deref_mut-parts.result.now.shared c.deref_mut-parts.result.now.committed c.deref_mut-parts.result.now.count (lent_holds g.S.Spec.object c.deref_mut-parts.ensures.value c.self.invariant) c.args.tx.now c.in-Some.course.now c.in-Some.ensures.course) in
-    subst (λ sh. IsTrue (g.S.Spec.object.fits sh c.args.op.now)) (sym (((k.log).fine).same_shape ∙ ap (λ v. v.shape) (lent_view c.deref_mut-parts.ensures.value c.self.view_is))) c.requires.fits
+pub invariant_of-self-then-used : goal.invariant_of-self-then-used
+invariant_of-self-then-used g c =
+    holds_back g.S.Spec.object c.deref_mut-parts.result.now c.args.self (lent_view c.deref_mut-parts.ensures.value c.self.view_is) (lent_holds g.S.Spec.object c.deref_mut-parts.ensures.value c.self.invariant) c.args.tx.now c.in-Some.course.now c.in-Some.ensures.course
 
-pub invariant_of-self-in-Err : goal.invariant_of-self-in-Err
-invariant_of-self-in-Err g c =
-    holds_same g.S.Spec.object c.deref_mut-parts.result.now.shape c.deref_mut-parts.result.now.transactions c.deref_mut-parts.result.now.ids c.deref_mut-parts.result.now.shared c.deref_mut-parts.result.now.committed c.deref_mut-parts.result.now.count _ (lent_view c.deref_mut-parts.ensures.value c.self.view_is) (lent_holds g.S.Spec.object c.deref_mut-parts.ensures.value c.self.invariant) _ _ (course_same g.S.Spec.object c.deref_mut-parts.result.now.shape c.deref_mut-parts.result.now.transactions c.deref_mut-parts.result.now.ids c.deref_mut-parts.result.now.shared c.deref_mut-parts.result.now.committed c.deref_mut-parts.result.now.count _ (lent_view c.deref_mut-parts.ensures.value c.self.view_is) (lent_holds g.S.Spec.object c.deref_mut-parts.ensures.value c.self.invariant) c.args.tx.now c.in-Some.course.now c.in-Some.course.now (coursed g.S.Spec.object c.deref_mut-parts.result.now.shape c.deref_mut-parts.result.now.transactions c.deref_mut-parts.result.now.ids c.deref_mut-parts.result.now.shared c.deref_mut-parts.result.now.committed c.deref_mut-parts.result.now.count (lent_holds g.S.Spec.object c.deref_mut-parts.ensures.value c.self.invariant) c.args.tx.now c.in-Some.course.now c.in-Some.ensures.course) refl) refl
+pub returns-then-used-clause-effect : goal.returns-then-used-clause-effect
+returns-then-used-clause-effect g c =
+    refused_step g.S.Spec.object c.args.self _ (App c.args.tx.now c.args.id c.args.op.now) c.bare-then-used.result c.refused-then-used.result c.refused-then-used.ensures
+    (used_refused g.S.Spec.object c.deref_mut-parts.result.now c.args.self (lent_view c.deref_mut-parts.ensures.value c.self.view_is) (lent_holds g.S.Spec.object c.deref_mut-parts.ensures.value c.self.invariant) c.args.tx.now c.in-Some.course.now c.in-Some.ensures.course c.args.id c.args.op.now (sym c.if-used.true ∙ c.contains-used.ensures) c.bare-then-used.result c.bare-then-used.ensures)
+    (seen_back g.S.Spec.object c.deref_mut-parts.result.now c.args.self (lent_view c.deref_mut-parts.ensures.value c.self.view_is) (lent_holds g.S.Spec.object c.deref_mut-parts.ensures.value c.self.invariant) c.args.tx.now c.in-Some.course.now c.in-Some.ensures.course)
 
-pub returns-in-Err-clause-effect : goal.returns-in-Err-clause-effect
-returns-in-Err-clause-effect g c =
-    refused_step g.S.Spec.object c.args.self _ (App c.args.tx.now c.args.id c.args.op.now) c.in-Err.refusal c.refused-in-Err.result c.refused-in-Err.ensures (subst (λ z. Refuses g.S.Spec.object z (App c.args.tx.now c.args.id c.args.op.now) c.in-Err.refusal) (lent_view c.deref_mut-parts.ensures.value c.self.view_is) (c.in-Err.ensures (rest g.S.Spec.object c.deref_mut-parts.result.now.shape c.deref_mut-parts.result.now.transactions c.deref_mut-parts.result.now.ids c.deref_mut-parts.result.now.shared c.deref_mut-parts.result.now.committed c.deref_mut-parts.result.now.count (lent_holds g.S.Spec.object c.deref_mut-parts.ensures.value c.self.invariant)) c.deref_mut-parts.result.now.shared c.args.tx.now (holds_course g.S.Spec.object c.deref_mut-parts.result.now.shape c.deref_mut-parts.result.now.transactions c.deref_mut-parts.result.now.ids c.deref_mut-parts.result.now.shared c.deref_mut-parts.result.now.committed c.deref_mut-parts.result.now.count (lent_holds g.S.Spec.object c.deref_mut-parts.ensures.value c.self.invariant) c.args.tx.now c.in-Some.course.now c.in-Some.ensures.course) c.contains-used.ensures)) (seen_same g.S.Spec.object c.deref_mut-parts.result.now.shape c.deref_mut-parts.result.now.transactions c.deref_mut-parts.result.now.ids c.deref_mut-parts.result.now.shared c.deref_mut-parts.result.now.committed c.deref_mut-parts.result.now.count _ (lent_view c.deref_mut-parts.ensures.value c.self.view_is) (lent_holds g.S.Spec.object c.deref_mut-parts.ensures.value c.self.invariant) _ _ (course_same g.S.Spec.object c.deref_mut-parts.result.now.shape c.deref_mut-parts.result.now.transactions c.deref_mut-parts.result.now.ids c.deref_mut-parts.result.now.shared c.deref_mut-parts.result.now.committed c.deref_mut-parts.result.now.count _ (lent_view c.deref_mut-parts.ensures.value c.self.view_is) (lent_holds g.S.Spec.object c.deref_mut-parts.ensures.value c.self.invariant) c.args.tx.now c.in-Some.course.now c.in-Some.course.now (coursed g.S.Spec.object c.deref_mut-parts.result.now.shape c.deref_mut-parts.result.now.transactions c.deref_mut-parts.result.now.ids c.deref_mut-parts.result.now.shared c.deref_mut-parts.result.now.committed c.deref_mut-parts.result.now.count (lent_holds g.S.Spec.object c.deref_mut-parts.ensures.value c.self.invariant) c.args.tx.now c.in-Some.course.now c.in-Some.ensures.course) refl) refl)
+pub returns-then-used-clause-cost : goal.returns-then-used-clause-cost
+returns-then-used-clause-cost g c =
+    refused_cost g.S.Placed.place_of c.args.self (App c.args.tx.now c.args.id c.args.op.now) c.bare-then-used.result c.refused-then-used.result c.refused-then-used.ensures _ _ refl
 
-pub returns-in-Err-clause-cost : goal.returns-in-Err-clause-cost
-returns-in-Err-clause-cost g c =
-    refused_cost g.S.Placed.place_of c.args.self (App c.args.tx.now c.args.id c.args.op.now) c.in-Err.refusal c.refused-in-Err.result c.refused-in-Err.ensures _ _ refl
+pub invariant_of-self-then-not-can : goal.invariant_of-self-then-not-can
+invariant_of-self-then-not-can g c =
+    holds_back g.S.Spec.object c.deref_mut-parts.result.now c.args.self (lent_view c.deref_mut-parts.ensures.value c.self.view_is) (lent_holds g.S.Spec.object c.deref_mut-parts.ensures.value c.self.invariant) c.args.tx.now c.in-Some.course.now c.in-Some.ensures.course
+
+pub returns-then-not-can-clause-effect : goal.returns-then-not-can-clause-effect
+returns-then-not-can-clause-effect g c =
+    refused_step g.S.Spec.object c.args.self _ (App c.args.tx.now c.args.id c.args.op.now) c.bare-then-not-can.result c.refused-then-not-can.result c.refused-then-not-can.ensures
+    (stray_refused g.S.Spec.object c.deref_mut-parts.result.now c.args.self (lent_view c.deref_mut-parts.ensures.value c.self.view_is) (lent_holds g.S.Spec.object c.deref_mut-parts.ensures.value c.self.invariant) c.args.tx.now c.in-Some.course.now c.in-Some.ensures.course c.args.id c.args.op.now (sym c.if-used.false ∙ c.contains-used.ensures) (decided_not c.can.result _ c.can.ensures c.if-not-can.true) c.bare-then-not-can.result c.bare-then-not-can.ensures)
+    (seen_back g.S.Spec.object c.deref_mut-parts.result.now c.args.self (lent_view c.deref_mut-parts.ensures.value c.self.view_is) (lent_holds g.S.Spec.object c.deref_mut-parts.ensures.value c.self.invariant) c.args.tx.now c.in-Some.course.now c.in-Some.ensures.course)
+
+pub returns-then-not-can-clause-cost : goal.returns-then-not-can-clause-cost
+returns-then-not-can-clause-cost g c =
+    refused_cost g.S.Placed.place_of c.args.self (App c.args.tx.now c.args.id c.args.op.now) c.bare-then-not-can.result c.refused-then-not-can.result c.refused-then-not-can.ensures _ _ refl
+
+pub legal-requires : goal.legal-requires
+legal-requires g c = fits_course g.S.Spec.object c.deref_mut-parts.result.now c.args.self (lent_view c.deref_mut-parts.ensures.value c.self.view_is) (lent_holds g.S.Spec.object c.deref_mut-parts.ensures.value c.self.invariant) c.args.tx.now c.in-Some.course.now c.in-Some.ensures.course c.args.id c.args.op.now c.local-local.result.now c.local-local.ensures c.requires.fits
+
+pub gives-answer-requires : goal.gives-answer-requires
+gives-answer-requires g c = fits_course g.S.Spec.object c.deref_mut-parts.result.now c.args.self (lent_view c.deref_mut-parts.ensures.value c.self.view_is) (lent_holds g.S.Spec.object c.deref_mut-parts.ensures.value c.self.invariant) c.args.tx.now c.in-Some.course.now c.in-Some.ensures.course c.args.id c.args.op.now c.local-local.result.now c.local-local.ensures c.requires.fits
+
+pub invariant_of-self-then-not-legal : goal.invariant_of-self-then-not-legal
+invariant_of-self-then-not-legal g c =
+    holds_back g.S.Spec.object c.deref_mut-parts.result.now c.args.self (lent_view c.deref_mut-parts.ensures.value c.self.view_is) (lent_holds g.S.Spec.object c.deref_mut-parts.ensures.value c.self.invariant) c.args.tx.now c.in-Some.course.now c.in-Some.ensures.course
+
+pub returns-then-not-legal-clause-effect : goal.returns-then-not-legal-clause-effect
+returns-then-not-legal-clause-effect g c =
+    refused_step g.S.Spec.object c.args.self _ (App c.args.tx.now c.args.id c.args.op.now) c.told.result c.refused-then-not-legal.result c.refused-then-not-legal.ensures
+    (illegal_refused g.S.Spec.object c.deref_mut-parts.result.now c.args.self (lent_view c.deref_mut-parts.ensures.value c.self.view_is) (lent_holds g.S.Spec.object c.deref_mut-parts.ensures.value c.self.invariant) c.args.tx.now c.in-Some.course.now c.in-Some.ensures.course c.args.id c.args.op.now (sym c.if-used.false ∙ c.contains-used.ensures) (decided c.can.result _ c.can.ensures c.if-not-can.false) c.local-local.result.now c.local-local.ensures (decided_not c.legal.result _ c.legal.ensures c.if-not-legal.true) c.gives-answer.result c.gives-answer.ensures c.told.result c.told.ensures)
+    (seen_back g.S.Spec.object c.deref_mut-parts.result.now c.args.self (lent_view c.deref_mut-parts.ensures.value c.self.view_is) (lent_holds g.S.Spec.object c.deref_mut-parts.ensures.value c.self.invariant) c.args.tx.now c.in-Some.course.now c.in-Some.ensures.course)
+
+pub returns-then-not-legal-clause-cost : goal.returns-then-not-legal-clause-cost
+returns-then-not-legal-clause-cost g c =
+    refused_cost g.S.Placed.place_of c.args.self (App c.args.tx.now c.args.id c.args.op.now) c.told.result c.refused-then-not-legal.result c.refused-then-not-legal.ensures _ _ refl
 
 pub append-requires : goal.append-requires
 append-requires g c =
-    let m = (subst (λ z. Meets (rules_of g.S.Spec.object z.shape) z.config (App c.args.tx.now c.args.id c.args.op.now)) (lent_view c.deref_mut-parts.ensures.value c.self.view_is) (c.in_default-judge_app.ensures (rest g.S.Spec.object c.deref_mut-parts.result.now.shape c.deref_mut-parts.result.now.transactions c.deref_mut-parts.result.now.ids c.deref_mut-parts.result.now.shared c.deref_mut-parts.result.now.committed c.deref_mut-parts.result.now.count (lent_holds g.S.Spec.object c.deref_mut-parts.ensures.value c.self.invariant)) c.deref_mut-parts.result.now.shared c.args.tx.now (holds_course g.S.Spec.object c.deref_mut-parts.result.now.shape c.deref_mut-parts.result.now.transactions c.deref_mut-parts.result.now.ids c.deref_mut-parts.result.now.shared c.deref_mut-parts.result.now.committed c.deref_mut-parts.result.now.count (lent_holds g.S.Spec.object c.deref_mut-parts.ensures.value c.self.invariant) c.args.tx.now c.in-Some.course.now c.in-Some.ensures.course) c.contains-used.ensures).0) in
-    let q = takes_app g.S.Spec.object c.deref_mut-parts.result.now.shape c.deref_mut-parts.result.now.transactions c.deref_mut-parts.result.now.ids c.deref_mut-parts.result.now.shared c.deref_mut-parts.result.now.committed c.deref_mut-parts.result.now.count _ (lent_view c.deref_mut-parts.ensures.value c.self.view_is) (lent_holds g.S.Spec.object c.deref_mut-parts.ensures.value c.self.invariant) c.args.tx.now c.args.id c.args.op.now m c.requires.ranged c.requires.few in
-    let is = of_course g.S.Spec.object c.deref_mut-parts.result.now.shape c.deref_mut-parts.result.now.transactions c.deref_mut-parts.result.now.ids c.deref_mut-parts.result.now.shared c.deref_mut-parts.result.now.committed c.deref_mut-parts.result.now.count _ (lent_view c.deref_mut-parts.ensures.value c.self.view_is) (lent_holds g.S.Spec.object c.deref_mut-parts.ensures.value c.self.invariant) c.args.tx.now c.in-Some.course.now (coursed g.S.Spec.object c.deref_mut-parts.result.now.shape c.deref_mut-parts.result.now.transactions c.deref_mut-parts.result.now.ids c.deref_mut-parts.result.now.shared c.deref_mut-parts.result.now.committed c.deref_mut-parts.result.now.count (lent_holds g.S.Spec.object c.deref_mut-parts.ensures.value c.self.invariant) c.args.tx.now c.in-Some.course.now c.in-Some.ensures.course) q.0 q.1 in
-    record {
-      takes = subst (λ z. Takes g.S.Spec.object z.local (record { id = c.args.id; owner = c.args.tx.now; mark = Unpushed; op = c.args.op.now })) is q.2;
-      follows = subst (λ z. FollowsIfOwn g.S.Spec.object z.body z.local.1 (record { id = c.args.id; owner = c.args.tx.now; mark = Unpushed; op = c.args.op.now })) is q.3;
-    }
+    let m = meets_app g.S.Spec.object c.deref_mut-parts.result.now c.args.self (lent_view c.deref_mut-parts.ensures.value c.self.view_is) (lent_holds g.S.Spec.object c.deref_mut-parts.ensures.value c.self.invariant) c.args.tx.now c.in-Some.course.now c.in-Some.ensures.course c.args.id c.args.op.now (sym c.if-used.false ∙ c.contains-used.ensures) (decided c.can.result _ c.can.ensures c.if-not-can.false) c.local-local.result.now c.local-local.ensures (decided c.legal.result _ c.legal.ensures c.if-not-legal.false) in
+    let q = takes_entry g.S.Spec.object c.deref_mut-parts.result.now c.args.self (lent_view c.deref_mut-parts.ensures.value c.self.view_is) (lent_holds g.S.Spec.object c.deref_mut-parts.ensures.value c.self.invariant) c.args.tx.now c.in-Some.course.now c.in-Some.ensures.course c.args.id c.args.op.now m c.requires.ranged c.requires.few in
+    record { takes = q.0; follows = q.1 }
 
 pub insert-requires : goal.insert-requires
 insert-requires g c =
-    let m = (subst (λ z. Meets (rules_of g.S.Spec.object z.shape) z.config (App c.args.tx.now c.args.id c.args.op.now)) (lent_view c.deref_mut-parts.ensures.value c.self.view_is) (c.in_default-judge_app.ensures (rest g.S.Spec.object c.deref_mut-parts.result.now.shape c.deref_mut-parts.result.now.transactions c.deref_mut-parts.result.now.ids c.deref_mut-parts.result.now.shared c.deref_mut-parts.result.now.committed c.deref_mut-parts.result.now.count (lent_holds g.S.Spec.object c.deref_mut-parts.ensures.value c.self.invariant)) c.deref_mut-parts.result.now.shared c.args.tx.now (holds_course g.S.Spec.object c.deref_mut-parts.result.now.shape c.deref_mut-parts.result.now.transactions c.deref_mut-parts.result.now.ids c.deref_mut-parts.result.now.shared c.deref_mut-parts.result.now.committed c.deref_mut-parts.result.now.count (lent_holds g.S.Spec.object c.deref_mut-parts.ensures.value c.self.invariant) c.args.tx.now c.in-Some.course.now c.in-Some.ensures.course) c.contains-used.ensures).0) in
-    id_unused g.S.Spec.object c.deref_mut-parts.result.now.shape c.deref_mut-parts.result.now.transactions c.deref_mut-parts.result.now.ids c.deref_mut-parts.result.now.shared c.deref_mut-parts.result.now.committed c.deref_mut-parts.result.now.count _ (lent_view c.deref_mut-parts.ensures.value c.self.view_is) (lent_holds g.S.Spec.object c.deref_mut-parts.ensures.value c.self.invariant) c.args.tx.now c.args.id c.args.op.now m
+    let m = meets_app g.S.Spec.object c.deref_mut-parts.result.now c.args.self (lent_view c.deref_mut-parts.ensures.value c.self.view_is) (lent_holds g.S.Spec.object c.deref_mut-parts.ensures.value c.self.invariant) c.args.tx.now c.in-Some.course.now c.in-Some.ensures.course c.args.id c.args.op.now (sym c.if-used.false ∙ c.contains-used.ensures) (decided c.can.result _ c.can.ensures c.if-not-can.false) c.local-local.result.now c.local-local.ensures (decided c.legal.result _ c.legal.ensures c.if-not-legal.false) in
+    new_id g.S.Spec.object c.deref_mut-parts.result.now c.args.self (lent_view c.deref_mut-parts.ensures.value c.self.view_is) (lent_holds g.S.Spec.object c.deref_mut-parts.ensures.value c.self.invariant) c.args.tx.now c.in-Some.course.now c.in-Some.ensures.course c.args.id c.args.op.now m
 
 pub invariant_of-self-2 : goal.invariant_of-self-2
 invariant_of-self-2 g c =
-    let m = (subst (λ z. Meets (rules_of g.S.Spec.object z.shape) z.config (App c.args.tx.now c.args.id c.args.op.now)) (lent_view c.deref_mut-parts.ensures.value c.self.view_is) (c.in_default-judge_app.ensures (rest g.S.Spec.object c.deref_mut-parts.result.now.shape c.deref_mut-parts.result.now.transactions c.deref_mut-parts.result.now.ids c.deref_mut-parts.result.now.shared c.deref_mut-parts.result.now.committed c.deref_mut-parts.result.now.count (lent_holds g.S.Spec.object c.deref_mut-parts.ensures.value c.self.invariant)) c.deref_mut-parts.result.now.shared c.args.tx.now (holds_course g.S.Spec.object c.deref_mut-parts.result.now.shape c.deref_mut-parts.result.now.transactions c.deref_mut-parts.result.now.ids c.deref_mut-parts.result.now.shared c.deref_mut-parts.result.now.committed c.deref_mut-parts.result.now.count (lent_holds g.S.Spec.object c.deref_mut-parts.ensures.value c.self.invariant) c.args.tx.now c.in-Some.course.now c.in-Some.ensures.course) c.contains-used.ensures).0) in
-    holds_app g.S.Spec.object c.deref_mut-parts.result.now.shape c.deref_mut-parts.result.now.transactions c.deref_mut-parts.result.now.ids c.deref_mut-parts.result.now.shared c.deref_mut-parts.result.now.committed c.deref_mut-parts.result.now.count _ (lent_view c.deref_mut-parts.ensures.value c.self.view_is) (lent_holds g.S.Spec.object c.deref_mut-parts.ensures.value c.self.invariant) c.args.tx.now c.args.id c.args.op.now _ c.insert.new.self m c.requires.ranged (relogged_is g.S.Spec.object c.deref_mut-parts.result.now.shape c.deref_mut-parts.result.now.transactions c.deref_mut-parts.result.now.ids c.deref_mut-parts.result.now.shared c.deref_mut-parts.result.now.committed c.deref_mut-parts.result.now.count _ (lent_view c.deref_mut-parts.ensures.value c.self.view_is) (lent_holds g.S.Spec.object c.deref_mut-parts.ensures.value c.self.invariant) c.args.tx.now c.in-Some.course.now c.append.new.self (coursed g.S.Spec.object c.deref_mut-parts.result.now.shape c.deref_mut-parts.result.now.transactions c.deref_mut-parts.result.now.ids c.deref_mut-parts.result.now.shared c.deref_mut-parts.result.now.committed c.deref_mut-parts.result.now.count (lent_holds g.S.Spec.object c.deref_mut-parts.ensures.value c.self.invariant) c.args.tx.now c.in-Some.course.now c.in-Some.ensures.course) (λ l. l ++ (record { id = c.args.id; owner = c.args.tx.now; mark = Unpushed; op = c.args.op.now }) ∷ []) c.in_ok-append.ensures.ok) c.in_ok-insert.ensures.ok
+    let m = meets_app g.S.Spec.object c.deref_mut-parts.result.now c.args.self (lent_view c.deref_mut-parts.ensures.value c.self.view_is) (lent_holds g.S.Spec.object c.deref_mut-parts.ensures.value c.self.invariant) c.args.tx.now c.in-Some.course.now c.in-Some.ensures.course c.args.id c.args.op.now (sym c.if-used.false ∙ c.contains-used.ensures) (decided c.can.result _ c.can.ensures c.if-not-can.false) c.local-local.result.now c.local-local.ensures (decided c.legal.result _ c.legal.ensures c.if-not-legal.false) in
+    holds_more g.S.Spec.object c.deref_mut-parts.result.now c.args.self (lent_view c.deref_mut-parts.ensures.value c.self.view_is) (lent_holds g.S.Spec.object c.deref_mut-parts.ensures.value c.self.invariant) c.args.tx.now c.in-Some.course.now c.in-Some.ensures.course c.args.id c.args.op.now m c.append.new.self c.in_ok-append.ensures.ok c.insert.new.self c.in_ok-insert.ensures.ok c.requires.ranged
 
 pub returns-clause-effect : goal.returns-clause-effect
 returns-clause-effect g c =
-    let m = (subst (λ z. Meets (rules_of g.S.Spec.object z.shape) z.config (App c.args.tx.now c.args.id c.args.op.now)) (lent_view c.deref_mut-parts.ensures.value c.self.view_is) (c.in_default-judge_app.ensures (rest g.S.Spec.object c.deref_mut-parts.result.now.shape c.deref_mut-parts.result.now.transactions c.deref_mut-parts.result.now.ids c.deref_mut-parts.result.now.shared c.deref_mut-parts.result.now.committed c.deref_mut-parts.result.now.count (lent_holds g.S.Spec.object c.deref_mut-parts.ensures.value c.self.invariant)) c.deref_mut-parts.result.now.shared c.args.tx.now (holds_course g.S.Spec.object c.deref_mut-parts.result.now.shape c.deref_mut-parts.result.now.transactions c.deref_mut-parts.result.now.ids c.deref_mut-parts.result.now.shared c.deref_mut-parts.result.now.committed c.deref_mut-parts.result.now.count (lent_holds g.S.Spec.object c.deref_mut-parts.ensures.value c.self.invariant) c.args.tx.now c.in-Some.course.now c.in-Some.ensures.course) c.contains-used.ensures).0) in
-    (m, seen_app g.S.Spec.object c.deref_mut-parts.result.now.shape c.deref_mut-parts.result.now.transactions c.deref_mut-parts.result.now.ids c.deref_mut-parts.result.now.shared c.deref_mut-parts.result.now.committed c.deref_mut-parts.result.now.count _ (lent_view c.deref_mut-parts.ensures.value c.self.view_is) (lent_holds g.S.Spec.object c.deref_mut-parts.ensures.value c.self.invariant) c.args.tx.now c.args.id c.args.op.now _ c.insert.new.self (relogged_is g.S.Spec.object c.deref_mut-parts.result.now.shape c.deref_mut-parts.result.now.transactions c.deref_mut-parts.result.now.ids c.deref_mut-parts.result.now.shared c.deref_mut-parts.result.now.committed c.deref_mut-parts.result.now.count _ (lent_view c.deref_mut-parts.ensures.value c.self.view_is) (lent_holds g.S.Spec.object c.deref_mut-parts.ensures.value c.self.invariant) c.args.tx.now c.in-Some.course.now c.append.new.self (coursed g.S.Spec.object c.deref_mut-parts.result.now.shape c.deref_mut-parts.result.now.transactions c.deref_mut-parts.result.now.ids c.deref_mut-parts.result.now.shared c.deref_mut-parts.result.now.committed c.deref_mut-parts.result.now.count (lent_holds g.S.Spec.object c.deref_mut-parts.ensures.value c.self.invariant) c.args.tx.now c.in-Some.course.now c.in-Some.ensures.course) (λ l. l ++ (record { id = c.args.id; owner = c.args.tx.now; mark = Unpushed; op = c.args.op.now }) ∷ []) c.in_ok-append.ensures.ok) c.in_ok-insert.ensures.ok)
+    let m = meets_app g.S.Spec.object c.deref_mut-parts.result.now c.args.self (lent_view c.deref_mut-parts.ensures.value c.self.view_is) (lent_holds g.S.Spec.object c.deref_mut-parts.ensures.value c.self.invariant) c.args.tx.now c.in-Some.course.now c.in-Some.ensures.course c.args.id c.args.op.now (sym c.if-used.false ∙ c.contains-used.ensures) (decided c.can.result _ c.can.ensures c.if-not-can.false) c.local-local.result.now c.local-local.ensures (decided c.legal.result _ c.legal.ensures c.if-not-legal.false) in
+    (m, seen_more g.S.Spec.object c.deref_mut-parts.result.now c.args.self (lent_view c.deref_mut-parts.ensures.value c.self.view_is) (lent_holds g.S.Spec.object c.deref_mut-parts.ensures.value c.self.invariant) c.args.tx.now c.in-Some.course.now c.in-Some.ensures.course c.args.id c.args.op.now m c.append.new.self c.in_ok-append.ensures.ok c.insert.new.self c.in_ok-insert.ensures.ok)
