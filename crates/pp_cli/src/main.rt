@@ -25,34 +25,15 @@ use std::sync::ledger::{Blank, Ledger};
 /// The status if the system has no arguments to read.
 const NO_WORDS: u8 = 8;
 
-/// Runs a command over any reader and any writer. It promises what `run` promises, for the bytes
-/// that the reader has left and that the writer holds. The system's own streams do not say these
-/// bytes. But the code is the same for every reader and writer, so it cannot treat these
-/// differently.
+/// Runs a command over any reader and any writer, with a counter of operations that begins at 0.
+/// `main` calls it once it has its arguments. It promises what `run` promises, for the bytes that
+/// the reader has left and that the writer holds. The system's own streams do not say these bytes.
+/// But the code is the same for every reader and writer, so it cannot treat these differently.
+///
+/// The promise says of the counter only that some number is within the bounds. `main` picks the
+/// ledger, so no type in the signature can depend on it, and the counter cannot be handed in or
+/// out. The clauses of `run` bound this counter itself.
 pub fn run_streams<L: Ledger, R: Read + Drop, W: Write + Drop>(
-    alloc: Global,
-    words: &Words,
-    source: &mut StdSource<R>,
-    sink: &mut StdSink<W>,
-    ticks: &mut Ticks<L>,
-) -> Status
-    ensures promise { RunPromise (source.new ≡ source.old) (sink.new ≡ sink.old)
-        (command_of words.now)
-        (outcome (R.remaining source.old.stream) (R.remaining source.new.stream)
-        (W.contents sink.old.stream) (W.contents sink.new.stream) result ticks.old ticks.new)
-        None None
-        (counts source.old.faults source.new.faults sink.old.faults sink.new.faults
-        0 0 sink.old.flushes sink.new.flushes) }
-    ensures laws { RunLaws }
-{
-    run(alloc, words, source, sink, ticks)
-}
-
-/// Calls `run_streams` with a new counter of operations. `main` calls it once it has its arguments.
-/// It cannot return the counter: `main` picks the ledger, and a type of this ledger cannot be in the
-/// signature. So the promise says only that some number is within the bounds. `run_streams` says it
-/// of its own counter.
-pub fn run_counted<L: Ledger, R: Read + Drop, W: Write + Drop>(
     alloc: Global,
     words: &Words,
     source: &mut StdSource<R>,
@@ -72,7 +53,7 @@ pub fn run_counted<L: Ledger, R: Read + Drop, W: Write + Drop>(
     ensures laws { RunLaws }
 {
     let mut ticks = Ticks::<L>::new(blank);
-    run_streams(alloc, words, source, sink, &mut ticks)
+    run(alloc, words, source, sink, &mut ticks)
 }
 
 fn main(rt: HostRuntime) -> ExitCode {
@@ -84,6 +65,6 @@ fn main(rt: HostRuntime) -> ExitCode {
     };
     let mut source = StdSource::new(rt.reader());
     let mut sink = StdSink::new(io::writer(&rt));
-    let status = run_counted::<Brand, _, _>(alloc, &words, &mut source, &mut sink, Blank::new(1));
+    let status = run_streams::<Brand, _, _>(alloc, &words, &mut source, &mut sink, Blank::new(1));
     ExitCode::from(status.code())
 }

@@ -1,18 +1,18 @@
 -- Lines that come in pieces, taken one after another.
-use Rattle.std.specs.Prelude.{◌≡◌, ◌≤◌, ℕ, ◌+◌, List, [], ◌∷◌, ◌++◌, length, Option, None, Some}
+use Rattle.std.specs.Prelude.{◌≡◌, ◌≤◌, ℕ, ◌+◌, List, [], ◌∷◌, ◌++◌, length, map, Option, None, Some}
 use Rattle.std.specs.Prelude.{Result, Ok, Err, IfOk, IsErrOf, OnErr, OnOk}
 use Rattle.std.specs.Io.KnownBytes.{Consumes, IsAtEnd}
-use Rattle.std.proofs.Common.{refl, sym, ap, ◌∙◌, subst, arith, append_assoc}
-use Rattle.std.proofs.lemmas.List.{append-nil}
+use Rattle.std.proofs.Common.{refl, sym, ap, ◌∙◌, subst, arith, append_assoc, lit≤}
+use Rattle.std.proofs.lemmas.List.{append-nil, length-append}
 use mathlib.Core.Logic.{inl, inr}
 use Rattle.pp_core.specs.declared.limits.TheConstants.{MOST_BYTES, MOST_LINES}
 use Rattle.pp_input.specs.declared.fault.LineFault.{LineFault}
 use Rattle.pp_input.specs.declared.reach.Reach.{Reach}
 use Rattle.pp_input.specs.Held.{Held, after_first, after_next, fed, finished, first_of, next_line}
-use Rattle.pp_input.specs.Lines.{NumberedLine}
+use Rattle.pp_input.specs.Lines.{NumberedLine, numbered_from, unended, without_return}
 use Rattle.pp_input.specs.Overruns.{early_lines, overrun, scanned_lines}
 use Rattle.pp_input.specs.Reaches.{overrun_from}
-use Rattle.pp_input.specs.Taken.{Hands}
+use Rattle.pp_input.specs.Taken.{Hands, Took}
 use Rattle.pp_input.proofs.Limits.{within_all}
 use Rattle.pp_input.proofs.Reading.{hands_all, hands_finished, hands_front, hands_next, overrun_kept}
 use Rattle.pp_input.proofs.Reading.{scanned_front, scanned_kept, took_bytes, took_fed, took_overrun}
@@ -49,10 +49,10 @@ module _ {T F : Type 0} (R : Reading T F) (all : List NumberedLine) (held : Held
       subst (λ (ls : List NumberedLine). R.HasFault ls at fault) (sym (is ∙ apart)) (faulty f.0 f.2 (front.0 ++ more))
 
   -- there is none
-  pub follows_all : held.whole ≡ [] → f.0 ≡ all
-  follows_all none = hands_all all f.0 held f.1 (ap (first_of held.handed) none)
+  pub follows_all : next_line held ≡ None → f.0 ≡ all
+  follows_all none = hands_all all f.0 held f.1 none
 
-  pub follows_done : held.whole ≡ [] → R.Leads all taker
+  pub follows_done : next_line held ≡ None → R.Leads all taker
   follows_done none = subst (λ ls. R.Leads ls taker) (follows_all none) f.2
 
 -- ---- what the counter shows
@@ -116,10 +116,10 @@ module _ {T F : Type 0} (R : Reading T F) where
 
     -- and each line that it ends was taken
     pub piece_taken : (new : Held) (next : T) → overrun_from held.reach piece ≡ None → Follows R (early_lines (bytes ++ piece)) new next
-        → new.whole ≡ [] → new.rest ≡ (fed held piece).rest → new.reach ≡ (fed held piece).reach → new.fault ≡ (fed held piece).fault → new.closed ≡ (fed held piece).closed → IsAt R (bytes ++ piece) new next
-    piece_taken new next none follows whole rest reach fault closed =
+        → next_line new ≡ None → new.rest ≡ (fed held piece).rest → new.reach ≡ (fed held piece).reach → new.fault ≡ (fed held piece).fault → new.closed ≡ (fed held piece).closed → IsAt R (bytes ++ piece) new next
+    piece_taken new next none follows left rest reach fault closed =
         let took = took_fed bytes piece (early_lines bytes) held at.took at.sound in
-        let all = follows_all R (early_lines (bytes ++ piece)) new next follows whole in
+        let all = follows_all R (early_lines (bytes ++ piece)) new next follows left in
         record {
           took = record {
             hands = subst (λ ls. Hands (early_lines (bytes ++ piece)) ls new) all follows.1;
@@ -129,7 +129,7 @@ module _ {T F : Type 0} (R : Reading T F) where
             unclosed = closed ∙ took.unclosed;
           };
           sound = fault ∙ none;
-          leads = follows_done R (early_lines (bytes ++ piece)) new next follows whole;
+          leads = follows_done R (early_lines (bytes ++ piece)) new next follows left;
         }
 
     -- the piece passes a limit, and the lines before have no fault
@@ -197,6 +197,33 @@ none_by held (line ∷ lines) h = absurd (cc)
 
 pub none_left : (held : Held) → next_line held ≡ None → after_next held ≡ held
 none_left held h = none_by held held.whole h
+
+-- ---- the last line
+
+-- no line is held once all of them were handed out
+none_held : (lines : List NumberedLine) (number : ℕ) (whole : List (List ℕ)) → lines ++ numbered_from number whole ≡ lines → whole ≡ []
+none_held lines number [] e = refl
+none_held lines number (x ∷ xs) e =
+    let more = numbered_from (number + 1) xs in
+    let count : length (lines ++ (number, x) ∷ more) ≡ length lines = ap (λ (ls : List NumberedLine). length ls) e in
+    absurd (omega (arith, count, length-append lines ((number, x) ∷ more)))
+
+-- of one held line none is left behind it
+none_behind : (held : Held) (whole : List (List ℕ)) → length whole ≤ 1 → held.whole ≡ whole → next_line (after_first held whole) ≡ None
+none_behind held [] few e = ap (first_of held.handed) e
+none_behind held (x ∷ []) few e = refl
+none_behind held (x ∷ y ∷ xs) few e = absurd (omega (arith, few))
+
+few_unended : (rest : List ℕ) → length (map without_return (unended rest)) ≤ 1
+few_unended [] = lit≤ tt
+few_unended (byte ∷ rest) = lit≤ tt
+
+-- what follows the last line end is one line at most
+pub one_rest_line : (bytes : List ℕ) (held : Held) → Took bytes (early_lines bytes) held → next_line (after_next (finished held)) ≡ None
+one_rest_line bytes held took =
+    let none : held.whole ≡ [] = none_held (early_lines bytes) (held.handed + 1) held.whole took.hands.order in
+    let is : (finished held).whole ≡ map without_return (unended held.rest) = ap (λ (ls : List (List ℕ)). ls ++ map without_return (unended held.rest)) none in
+    none_behind (finished held) (finished held).whole (subst (λ (ls : List (List ℕ)). length ls ≤ 1) (sym is) (few_unended held.rest)) refl
 
 -- ---- stops
 

@@ -5,14 +5,13 @@ ghost use Rattle.std.specs.Io.KnownBytes.{IsAtEnd};
 ghost use Rattle.pp_input.specs.Faults.{HasRisen};
 ghost use Rattle.pp_input.specs.declared.fault.LineFault.TheVariants as limits;
 ghost use Rattle.pp_input.specs.Held.{fed};
-ghost use Rattle.pp_input.specs.Lines.{NumberedLine};
 ghost use Rattle.pp_input.specs.Overruns.{scanned_lines};
 ghost use Rattle.pp_input.specs.Reaches.{overrun_from};
 ghost use Rattle.pp_input_reader.specs.declared.stop.Failure.TheVariants as failures;
 ghost use Rattle.pp_input_reader.specs.declared.stop.Failure.TheVariants.{ReadFault};
 ghost use Rattle.pp_input_reader.specs.declared.stop.Stop.TheVariants.{Failure as StopsByFailure};
-ghost use Rattle.pp_input_reader.specs.Takers.{CountsEarly, CountsTo, Follows, HasEarlyFault};
-ghost use Rattle.pp_input_reader.specs.Takers.{HasFaultBehind, HasInputFault, IfFault, IfInputFault};
+ghost use Rattle.pp_input_reader.specs.Takers.{CountsEarly, CountsTo, HasEarlyFault};
+ghost use Rattle.pp_input_reader.specs.Takers.{HasInputFault, IfFault, IfInputFault};
 ghost use Rattle.pp_input_reader.specs.Takers.{IsAt, IsLimitFault, ReadsAll, ReadsSoFar};
 
 use crate::cause::Cause;
@@ -38,38 +37,6 @@ fn stop_at_limit<T: TakesLines>(limit: LineFault) -> Stop<T::Fault>
         LineFault::LineTooLong { line } => Stop::Fault(line, T::at_limit(Cause::LineTooLong)),
         LineFault::OutOfMemory => Stop::Failure(Failure::OutOfMemory),
     }
-}
-
-/// Takes each line that is whole.
-fn drain<T: TakesLines, L: Ledger>(
-    alloc: Global,
-    lines: &mut Lines,
-    taker: T,
-    ticks: &mut Ticks<L>,
-) -> Result<T, Stop<T::Fault>>
-    requires { (first : ℕ) × (all : List NumberedLine)
-        × Follows (T.reading first) all lines.old (taker, ticks.old) }
-    ensures ok { IfOk result (λ next. (first : ℕ) (all : List NumberedLine) →
-        Follows (T.reading first) all lines.old (taker, ticks.old) →
-        Follows (T.reading first) all lines.new (next, ticks.new)) }
-    ensures whole { OnOk result (lines.new.whole ≡ []) }
-    ensures rest { lines.new.rest ≡ lines.old.rest }
-    ensures reach { lines.new.reach ≡ lines.old.reach }
-    ensures fault { lines.new.fault ≡ lines.old.fault }
-    ensures closed { lines.new.closed ≡ lines.old.closed }
-    ensures stop { IfErr result (λ stop. (first : ℕ) →
-        IfFault stop (λ at cause. (all : List NumberedLine) →
-        Follows (T.reading first) all lines.old (taker, ticks.old) →
-        HasFaultBehind (T.reading first) all at cause)) }
-    ensures cost { OnErr result ((first : ℕ) (all : List NumberedLine) →
-        Follows (T.reading first) all lines.old (taker, ticks.old) →
-        CountsTo (T.reading first) all ticks.new) }
-{
-    let mut taker = taker;
-    'lines: while let Some(line) = lines.next() {
-        taker = taker.take(alloc, &line, ticks)?;
-    }
-    Ok(taker)
 }
 
 /// Feeds a piece of the input, and answers the limit that it passes.
@@ -108,14 +75,17 @@ fn take_piece<T: TakesLines, L: Ledger>(
         CountsEarly (T.reading first) (bytes ++ piece.now) ticks.new) }
 {
     let limit = feed(lines, piece)?;
-    let taker = drain(alloc, lines, taker, ticks)?;
+    let mut taker = taker;
+    'lines: while let Some(line) = lines.next() {
+        taker = taker.take(alloc, &line, ticks)?;
+    }
     match limit {
         None => Ok(taker),
         Some(limit) => Err(stop_at_limit::<T>(limit)),
     }
 }
 
-/// Takes what is left at the end of the input.
+/// Takes what is left at the end of the input: one line at most.
 fn take_rest<T: TakesLines, L: Ledger>(
     alloc: Global,
     lines: &mut Lines,
@@ -136,7 +106,10 @@ fn take_rest<T: TakesLines, L: Ledger>(
         CountsTo (T.reading first) (scanned_lines bytes) ticks.new) }
 {
     lines.finish();
-    drain(alloc, lines, taker, ticks)
+    match lines.next() {
+        Some(line) => taker.take(alloc, &line, ticks),
+        None => Ok(taker),
+    }
 }
 
 /// Room for a piece of the input.

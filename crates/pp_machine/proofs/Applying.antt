@@ -1,4 +1,4 @@
--- What the tests of APP say of a machine whose box lends its parts, and they the course of a transaction.
+-- What the tests of APP say of a machine, while its box lends its parts, and these lend the course of a transaction.
 use Rattle.std.proofs.Common.{◌≡◌, ◌==◌, ◌<◌, ◌+◌, ℕ, IsTrue, false, true, List, [], ◌∷◌, ◌++◌, Option, Some, option_map}
 use Rattle.std.proofs.Common.{ap, refl, subst, sym, ◌∙◌}
 use Rattle.std.specs.List.{list_any}
@@ -13,7 +13,7 @@ use Rattle.pp_log.specs.Logs.{answer_behind}
 use Rattle.pp_machine.specs.Courses.{FollowsIfOwn, Guided, MayFollow}
 use Rattle.pp_machine.specs.Judges.{Refuses}
 use Rattle.pp_machine.specs.Machines.{Holds, Seen, config_of, stepped}
-use Rattle.pp_machine.specs.Transactions.{Takes, Txs, course_of, open_at, with_course}
+use Rattle.pp_machine.specs.Transactions.{Takes, course_of, open_at, with_course}
 use Rattle.pp_machine.specs.declared.detail.Detail.TheVariants.{Gives, Nothing}
 use Rattle.pp_machine.specs.declared.detail.Refusal.{Refusal}
 use Rattle.pp_machine.specs.declared.machine.Parts.{Parts}

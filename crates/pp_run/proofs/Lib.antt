@@ -4,3 +4,4 @@ pub mod Numbers
 pub mod Performing
 pub mod Promises
 pub mod Promising
+pub mod Endings

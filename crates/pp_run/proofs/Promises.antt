@@ -22,6 +22,7 @@ use Rattle.pp_format_read.specs.declared.header.Header.{Header}
 use Rattle.pp_model.proofs.Verdict.{one_verdict}
 use Rattle.pp_objects.specs.Objects.{place_of}
 use Rattle.pp_laws_runs.proofs.Prefixes.{certified_prefix_law, prefix_law}
+use Rattle.pp_laws_runs.proofs.Reported.{reported_law}
 use Rattle.pp_laws_runs.specs.Prefixes.{CertifiedPrefixLaw, PrefixLaw}
 use Rattle.pp_summary.proofs.Sums.{sum_law}
 use Rattle.pp_laws_reports.proofs.Inputs.{certify_law, quick_law}
@@ -29,6 +30,7 @@ use Rattle.pp_laws_reports.specs.Readable.{CertifyLaw, QuickLaw}
 use Rattle.pp_run.proofs.Numbers.{drill_within}
 use Rattle.pp_run.specs.Outputs.{DefinedLaw, IsOutput}
 use Rattle.pp_run.specs.Promises.{HaveOneRun, IsDecidedAsRun, SeesKept}
+use Rattle.pp_run.specs.Runs.{RunLaws}
 use Rattle.pp_run.specs.Words.{command_of}
 use Rattle.pp_run.specs.declared.words.Command.{Command}
 use Rattle.pp_run.specs.declared.words.Command.TheVariants.{Certify, Drill, Expand, Quick, Recheck, Swaps, Views}
@@ -102,3 +104,15 @@ output_of words bytes (Some (Drill n)) is =
 -- every input has an output
 pub every_output : DefinedLaw
 every_output words bytes = output_of words bytes (command_of words) refl
+
+-- the laws of the definitions
+pub run_laws : RunLaws
+run_laws =
+    record {
+      defined = every_output;
+      one_run = have_one_run;
+      decided = decided_as_run;
+      prefixes = prefixes_accepted;
+      readable = reports_readable;
+      styles_fail_only = reported_law;
+    }

@@ -1,4 +1,4 @@
--- The promise of each command, from the clauses of `answer`.
+-- The promise of each command, from what is printed, and how far the counter rises.
 use Rattle.std.proofs.Common.{◌≡◌, ℕ, List, Option, None, Some, inl, inr, refl, subst, sym}
 use Rattle.pp_core.specs.declared.status.Status.{Status}
 use Rattle.pp_core.specs.declared.status.Status.TheVariants as statuses
@@ -33,7 +33,7 @@ use Rattle.pp_run.specs.declared.words.Command.TheVariants.{Certify, Drill, Expa
 use Rattle.pp_run.specs.declared.words.Command.TheVariants.{Recheck, Swaps, Views}
 use Rattle.pp_input_reader.specs.Sources.{WhereTold}
 
--- the clauses of `answer` about what is printed and about the counter, and the lines of `drill`
+-- what is printed, how far the counter rises, and the lines of `drill`
 pub record Answers (k : Option Command) (o : Outcome) : Type 0 where
   pub output : IsPrinted o.status → OfInput k o.input (λ bytes. Prints k bytes o.status o.held o.holds)
   pub only : IsPrinted o.status → OfInput k o.input (λ bytes. PrintsOnly k bytes o.status o.held o.holds)
@@ -101,7 +101,7 @@ quick_meets bytes text (decision, is, told) = accepted_behind (quick_fault (scan
 -- ---- the promises
 
 -- a verdict is printed
-decided_printed : (s : Status) → IsDecided s → IsPrinted s
+pub decided_printed : (s : Status) → IsDecided s → IsPrinted s
 decided_printed statuses.Accepted d = tt
 decided_printed statuses.Rejected d = tt
 decided_printed statuses.BadWords d = absurd d

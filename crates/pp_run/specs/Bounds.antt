@@ -1,5 +1,5 @@
 -- How far each command raises the counter of operations, in one definition for all commands. No
--- clause of `run` names it: the contract of `answer` does, and the fields `most` and `least` in
+-- clause of `run` names it: the contract of `perform` does, and the fields `most` and `least` in
 -- `Commands.antt` are proved from it.
 use Rattle.std.specs.Prelude.{◌≡◌, ℕ, List, Option, None, Some}
 use Rattle.pp_core.specs.declared.status.Status.{Status}

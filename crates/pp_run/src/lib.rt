@@ -1,8 +1,8 @@
 //! A whole run of the program: from its arguments and its input to its status and its output.
 #![tactic(auto)]
 
-mod answer;
 mod law;
+mod perform;
 mod program;
 mod words;
 mod write;

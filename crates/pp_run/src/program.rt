@@ -5,9 +5,12 @@ ghost use Rattle.pp_run.specs.Runs.{RunLaws, RunPromise};
 ghost use Rattle.pp_run.specs.Streams.{counts};
 ghost use Rattle.pp_run.specs.Words.{command_of};
 
-use crate::answer::answer;
+use crate::perform::perform;
+use crate::words::read_words;
+use crate::write::{WriteError, send};
 use pp_core::{Status, Ticks, Words};
 use pp_input::{Sink, Source};
+use pp_input_reader::Failure;
 use std::alloc::Global;
 use std::sync::ledger::Ledger;
 
@@ -16,6 +19,7 @@ use std::sync::ledger::Ledger;
 ///
 /// The source is read in pieces of at most 65,536 bytes. Nothing is written before the output is
 /// whole.
+#[tactic(auto, using(crate::proofs::Promises::run_laws))]
 pub fn run<S: Source, K: Sink, L: Ledger>(
     alloc: Global,
     words: &Words,
@@ -36,5 +40,17 @@ pub fn run<S: Source, K: Sink, L: Ledger>(
     // Laws of the definitions that the promise names. They do not depend on the call.
     ensures laws { RunLaws }
 {
-    answer(alloc, words, source, sink, ticks)
+    let Some(command) = read_words(words) else {
+        return Status::BadWords;
+    };
+    let (status, text) = match perform(alloc, command, source, ticks) {
+        Ok(report) => report,
+        Err(Failure::ReadFault) => return Status::ReadFault,
+        Err(Failure::OutOfMemory) => return Status::OutOfMemory,
+    };
+    match send(sink, text.bytes()) {
+        Ok(()) => status,
+        Err(WriteError::WriteFault) => Status::WriteFault,
+        Err(WriteError::Memory) => Status::OutOfMemory,
+    }
 }

@@ -2,7 +2,7 @@
 //! say nothing about failures. These tests show that the edge counts each failure, and tries no
 //! call again. In one test the reader and the writer say their bytes.
 use crate::edge::{StdSink, StdSource};
-use crate::run_counted;
+use crate::run_streams;
 use crate::tests::row::COUNTER;
 use crate::tests::{ADDED, added};
 use pp_core::{Status, Words};
@@ -93,7 +93,7 @@ fn certified<R: Read + Drop, W: Write + Drop>(
     words.push(b"certify")?;
     let mut source = StdSource::new(reader);
     let mut sink = StdSink::new(writer);
-    let status = run_counted::<Brand, _, _>(alloc, &words, &mut source, &mut sink, Blank::new(1));
+    let status = run_streams::<Brand, _, _>(alloc, &words, &mut source, &mut sink, Blank::new(1));
     Ok(Ended {
         status,
         reader: source.into_stream(),

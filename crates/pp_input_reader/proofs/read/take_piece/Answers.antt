@@ -1,19 +1,56 @@
-use Rattle.std.proofs.Common.{◌++◌, sym, ap, ◌∙◌, subst}
+use Rattle.std.proofs.Common.{◌≡◌, ◌++◌, None, option_map, sym, ap, ◌∙◌, subst, rules}
 use Rattle.std.proofs.lemmas.Result.{err_from_is_err_and}
 use mathlib.Core.Logic.{inl}
+use Rattle.pp_input.specs.declared.lines.Line.{Line}
+use Rattle.pp_input.specs.Held.{next_line}
+use Rattle.pp_input.specs.Lines.{NumberedLine}
 use Rattle.pp_input.specs.Overruns.{early_lines}
-use Rattle.pp_input_reader.specs.Takers.{Follows}
-use Rattle.pp_input_reader.proofs.Takers.{counts_all, counts_before, counts_early, follows_done, if_fault}
-use Rattle.pp_input_reader.proofs.Takers.{on_err, piece_follows, piece_passes, piece_taken}
+use Rattle.pp_input_reader.specs.Takers.{Follows, IsAt}
+use Rattle.pp_input_reader.proofs.Takers.{counts_all, counts_before, counts_early, follows_done, follows_fault}
+use Rattle.pp_input_reader.proofs.Takers.{follows_is_next, follows_next, follows_stop, if_fault, next_keeps}
+use Rattle.pp_input_reader.proofs.Takers.{none_left, on_err, piece_follows, piece_passes, piece_taken}
 use Rattle.pp_input_reader.proofs.read.take_piece.Goals as goal
 
-pub drain-requires : goal.drain-requires
-drain-requires g c =
-    let first = c.requires.0 in
-    let bytes = c.requires.1 in
-    let R = g.T.TakesLines.reading first in
-    let lines = early_lines (bytes ++ c.args.piece.now) in
-    (first, lines, subst (λ h. Follows R lines h (c.args.taker, c.args.ticks.now)) (sym c.in_ok-limit.ensures.fed.0) (piece_follows R bytes c.args.piece.now c.args.lines.now (c.args.taker, c.args.ticks.now) c.requires.2))
+pub lines-init : goal.lines-init
+lines-init g c =
+    let piece = c.args.piece.now in
+    let held = c.args.lines.now in
+    let fed = c.in_ok-limit.ensures.fed.0 in
+    record {
+      follows = λ first bytes is.
+          let R = g.T.TakesLines.reading first in
+          subst (λ h. Follows R (early_lines (bytes ++ piece)) h (c.args.taker, c.args.ticks.now)) (sym fed) (piece_follows R bytes piece held (c.args.taker, c.args.ticks.now) is);
+      rest = ap (λ h. h.rest) fed;
+      reach = ap (λ h. h.reach) fed;
+      fault = ap (λ h. h.fault) fed;
+      closed = ap (λ h. h.closed) fed;
+    }
+
+pub take-requires : goal.take-requires
+take-requires g c =
+    let (first, bytes, is) = c.requires in
+    let line : NumberedLine = (c.in-Some.line.number, c.in-Some.line.text) in
+    let follows = c.lines.invariant.follows first bytes is in
+    (first, follows_is_next (g.T.TakesLines.reading first) (early_lines (bytes ++ c.args.piece.now)) c.lines.lines (c.lines.taker, c.lines.ticks) follows line (sym c.in-Some.ensures.line) c.in-Some.ensures.number.2)
+
+pub lines-preserved : goal.lines-preserved
+lines-preserved g c =
+    let held = c.lines.lines in
+    let line : NumberedLine = (c.in-Some.line.number, c.in-Some.line.text) in
+    let is = sym c.in-Some.ensures.line in
+    let after = c.in-Some.ensures.after in
+    let kept = next_keeps held in
+    let inv = c.lines.invariant in
+    record {
+      follows = λ first bytes at.
+          let R = g.T.TakesLines.reading first in
+          let all = early_lines (bytes ++ c.args.piece.now) in
+          subst (λ h. Follows R all h (c.in_ok-taker.taker, c.take.new.ticks)) (sym after) (follows_next R all held (c.lines.taker, c.lines.ticks) (inv.follows first bytes at) line (c.in_ok-taker.taker, c.take.new.ticks) is (c.in_ok-taker.ensures.ok first));
+      rest = ap (λ h. h.rest) after ∙ kept.0 ∙ inv.rest;
+      reach = ap (λ h. h.reach) after ∙ kept.1 ∙ inv.reach;
+      fault = ap (λ h. h.fault) after ∙ kept.2 ∙ inv.fault;
+      closed = ap (λ h. h.closed) after ∙ kept.3 ∙ inv.closed;
+    }
 
 -- nothing was taken
 pub returns-in_err-limit-clause-cost : goal.returns-in_err-limit-clause-cost
@@ -23,55 +60,59 @@ returns-in_err-limit-clause-cost g c =
     on_err c.from_residual.result _ (λ first bytes is.
     counts_before (R first) bytes c.args.piece.now now (counts_early (R first) bytes now (counts_all (R first) (early_lines bytes) c.args.taker now is.leads)))
 
+-- a line of the piece has a fault
 pub returns-in_err-taker-clause-stop : goal.returns-in_err-taker-clause-stop
 returns-in_err-taker-clause-stop g c =
     let R = g.T.TakesLines.reading in
-    let piece = c.args.piece.now in
     let p = err_from_is_err_and c.from_residual-in_err-taker.result c.from_residual-in_err-taker.ensures.1 in
+    let line : NumberedLine = (c.in-Some.line.number, c.in-Some.line.text) in
     rw (p.1, p.2) (λ first. if_fault c.in_err-taker.field-0.0 _ _
     (λ at fault faulty bytes is.
-    let lines = early_lines (bytes ++ piece) in
-    inl (faulty lines (subst (λ h. Follows (R first) lines h (c.args.taker, c.args.ticks.now)) (sym c.in_ok-limit.ensures.fed.0) (piece_follows (R first) bytes piece c.args.lines.now (c.args.taker, c.args.ticks.now) is))))
+    inl (follows_fault (R first) (early_lines (bytes ++ c.args.piece.now)) c.lines.lines (c.lines.taker, c.lines.ticks) (c.lines.invariant.follows first bytes is) line at fault (sym c.in-Some.ensures.line) faulty))
     (c.in_err-taker.ensures.stop first))
 
 pub returns-in_err-taker-clause-cost : goal.returns-in_err-taker-clause-cost
 returns-in_err-taker-clause-cost g c =
     let R = g.T.TakesLines.reading in
-    let piece = c.args.piece.now in
+    let line : NumberedLine = (c.in-Some.line.number, c.in-Some.line.text) in
+    let new = c.take.new.ticks in
     on_err c.from_residual-in_err-taker.result _ (λ first bytes is.
-    let lines = early_lines (bytes ++ piece) in
-    counts_early (R first) (bytes ++ piece) c.drain.new.ticks (c.in_err-taker.ensures.cost first lines (subst (λ h. Follows (R first) lines h (c.args.taker, c.args.ticks.now)) (sym c.in_ok-limit.ensures.fed.0) (piece_follows (R first) bytes piece c.args.lines.now (c.args.taker, c.args.ticks.now) is))))
+    let bytes' = bytes ++ c.args.piece.now in
+    let follows = c.lines.invariant.follows first bytes is in
+    counts_early (R first) bytes' new (follows_stop (R first) (early_lines bytes') c.lines.lines (c.lines.taker, c.lines.ticks) line new follows (sym c.in-Some.ensures.line) (c.in_err-taker.ensures.cost first)))
 
+-- each line of the piece was taken
 pub returns-in-None-clause-ok : goal.returns-in-None-clause-ok
 returns-in-None-clause-ok g c = λ first bytes is.
     let R = g.T.TakesLines.reading first in
     let piece = c.args.piece.now in
-    let held = c.args.lines.now in
-    let fed = c.in_ok-limit.ensures.fed in
-    let lines = early_lines (bytes ++ piece) in
-    let follows = subst (λ h. Follows R lines h (c.args.taker, c.args.ticks.now)) (sym fed.0) (piece_follows R bytes piece held (c.args.taker, c.args.ticks.now) is) in
-    let d = c.drain.ensures in
-    piece_taken R bytes piece held (c.args.taker, c.args.ticks.now) is c.drain.new.lines (c.in_ok-taker.taker, c.drain.new.ticks) (fed.1 ∙ c.in-None.is) (c.in_ok-taker.ensures.ok first lines follows) c.in_ok-taker.ensures.whole
-    (d.rest ∙ ap (λ h. h.rest) fed.0) (d.reach ∙ ap (λ h. h.reach) fed.0) (d.fault ∙ ap (λ h. h.fault) fed.0) (d.closed ∙ ap (λ h. h.closed) fed.0)
+    let inv = c.lines.invariant in
+    let numbered : Line → NumberedLine = λ line. (line.number, line.text) in
+    let none : c.next.result ≡ None = search rules in
+    let left : next_line c.lines.lines ≡ None = sym c.next.ensures.line ∙ ap (option_map numbered) none in
+    let passed = c.in_ok-limit.ensures.fed.1 ∙ c.in-None.is in
+    subst (λ h. IsAt R (bytes ++ piece) h (c.lines.taker, c.lines.ticks)) (sym (c.next.ensures.after ∙ none_left c.lines.lines left))
+    (piece_taken R bytes piece c.args.lines.now (c.args.taker, c.args.ticks.now) is c.lines.lines (c.lines.taker, c.lines.ticks) passed (inv.follows first bytes is) left inv.rest inv.reach inv.fault inv.closed)
 
-pub returns-in-Some-clause-stop : goal.returns-in-Some-clause-stop
-returns-in-Some-clause-stop g c = λ first.
+-- and behind them the piece passes a limit
+pub returns-in-Some-limit-clause-stop : goal.returns-in-Some-limit-clause-stop
+returns-in-Some-limit-clause-stop g c = λ first.
     let R = g.T.TakesLines.reading first in
     let piece = c.args.piece.now in
-    let held = c.args.lines.now in
-    let fed = c.in_ok-limit.ensures.fed in
+    let numbered : Line → NumberedLine = λ line. (line.number, line.text) in
+    let none : c.next.result ≡ None = search rules in
+    let left : next_line c.lines.lines ≡ None = sym c.next.ensures.line ∙ ap (option_map numbered) none in
     if_fault c.stop_at_limit.result _ _ (λ at fault said bytes is.
-    let lines = early_lines (bytes ++ piece) in
-    let follows = subst (λ h. Follows R lines h (c.args.taker, c.args.ticks.now)) (sym fed.0) (piece_follows R bytes piece held (c.args.taker, c.args.ticks.now) is) in
-    let leads = follows_done R lines c.drain.new.lines (c.in_ok-taker.taker, c.drain.new.ticks) (c.in_ok-taker.ensures.ok first lines follows) c.in_ok-taker.ensures.whole in
-    piece_passes R bytes piece held (c.args.taker, c.args.ticks.now) is (c.in_ok-taker.taker, c.drain.new.ticks) c.in-Some.limit at fault (fed.1 ∙ c.in-Some.is) (said first) leads)
+    let leads = follows_done R (early_lines (bytes ++ piece)) c.lines.lines (c.lines.taker, c.lines.ticks) (c.lines.invariant.follows first bytes is) left in
+    piece_passes R bytes piece c.args.lines.now (c.args.taker, c.args.ticks.now) is (c.lines.taker, c.lines.ticks) c.in-Some-limit.limit at fault (c.in_ok-limit.ensures.fed.1 ∙ c.in-Some-limit.is) (said first) leads)
     c.stop_at_limit.ensures.fault
 
-pub returns-in-Some-clause-cost : goal.returns-in-Some-clause-cost
-returns-in-Some-clause-cost g c = λ first bytes is.
+pub returns-in-Some-limit-clause-cost : goal.returns-in-Some-limit-clause-cost
+returns-in-Some-limit-clause-cost g c = λ first bytes is.
     let R = g.T.TakesLines.reading first in
-    let piece = c.args.piece.now in
-    let lines = early_lines (bytes ++ piece) in
-    let follows = subst (λ h. Follows R lines h (c.args.taker, c.args.ticks.now)) (sym c.in_ok-limit.ensures.fed.0) (piece_follows R bytes piece c.args.lines.now (c.args.taker, c.args.ticks.now) is) in
-    let leads = follows_done R lines c.drain.new.lines (c.in_ok-taker.taker, c.drain.new.ticks) (c.in_ok-taker.ensures.ok first lines follows) c.in_ok-taker.ensures.whole in
-    counts_early R (bytes ++ piece) c.drain.new.ticks (counts_all R lines c.in_ok-taker.taker c.drain.new.ticks leads)
+    let lines = early_lines (bytes ++ c.args.piece.now) in
+    let numbered : Line → NumberedLine = λ line. (line.number, line.text) in
+    let none : c.next.result ≡ None = search rules in
+    let left : next_line c.lines.lines ≡ None = sym c.next.ensures.line ∙ ap (option_map numbered) none in
+    let leads = follows_done R lines c.lines.lines (c.lines.taker, c.lines.ticks) (c.lines.invariant.follows first bytes is) left in
+    counts_early R (bytes ++ c.args.piece.now) c.lines.ticks (counts_all R lines c.lines.taker c.lines.ticks leads)

@@ -6,7 +6,7 @@ use Rattle.pp_run.specs.Bounds.{RisesAtLeast, RisesAtMost}
 use Rattle.pp_run.specs.Outputs.{IsOfWhole, IsOutput, OfInput, ReadsSound}
 use Rattle.pp_run.specs.Words.{DrivesMachine, Reads, TellsSize}
 use Rattle.pp_run.specs.declared.words.Command.{Command}
-use Rattle.pp_run.proofs.answer.perform.Goals as goal
+use Rattle.pp_run.proofs.perform.perform.Goals as goal
 
 -- ---- what is printed
 
