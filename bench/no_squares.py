@@ -111,6 +111,16 @@ def undone(rounds):
     return records + [named("commit", names[0])], 1 + rounds * (4 * 6_000 + 1) + 1, 1
 
 
+def aborted(count):
+    """A transaction commits reads. Another reads too, and then again in sections, each of which is aborted."""
+    (first, tx), records = opened(2)
+    records += [op(first, number, "read", [0], 0) for number in range(2 * count)]
+    records += [named("commit", first), op(tx, 2 * count, "read", [0], 0)]
+    for number in range(2 * count + 1, 3 * count + 1):
+        records += [named("xbegin", tx), op(tx, number, "read", [0], 0), named("xabort", tx)]
+    return records + [named("commit", tx)], 2 + 4 * count + 1 + 2 * count + 2 + 4 * count + 1, 2
+
+
 # Of each run its name, its header, what makes it of its size, and the larger size.
 RUNS = (
     ("one transaction on a map", header("boosted", "map"), one_map, 99_998),
@@ -130,6 +140,7 @@ RUNS = (
     ("additions pulled and dropped twice", header("dependent", "counter"), dropped, 20_000),
     ("additions of a source, a reader after each", header("dependent", "counter"), followed, 20_000),
     ("rounds of 6,000 calls, each undone", header("boosted", "map"), undone, 8),
+    ("hardware sections that read and abort", header("hardware", "mem"), aborted, 10_000),
 )
 
 

@@ -12,9 +12,12 @@ pub mod Asking
 pub mod Trying
 pub mod Arms
 pub mod Plain
+pub mod Ids
+pub mod Counts
 pub mod Knowing
 pub mod Taking
 pub mod Noted
 pub mod Publishing
 pub mod Looking
+pub mod Leaving
 pub mod Tracking

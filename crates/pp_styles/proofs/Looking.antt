@@ -25,7 +25,8 @@ use Rattle.pp_styles.specs.Noting.{kept_ids}
 use Rattle.std.specs.Map.{keys_of, lookup}
 use Rattle.std.specs.Str.{bytes_eq}
 use Rattle.std.proofs.Math.Bool.{or-true}
-use Rattle.pp_styles.proofs.Publishing.{grown, grown_in, in_from_drop, listed_here}
+use Rattle.pp_styles.proofs.Ids.{in_from_drop, later_in}
+use Rattle.pp_styles.proofs.Publishing.{grown, grown_in, listed_here}
 
 no : true ≡ false → ⊥
 no e = cc
@@ -33,15 +34,6 @@ no e = cc
 pub on_ok : {A E : Type 0} {P Q : Type 0} (r : Result A E) → OnOk r P → (P → Q) → OnOk r Q
 on_ok (Ok x) p f = f p
 on_ok (Err e) p f = tt
-
--- an id among those from one number on, and at none of the places up to another, is among those from there on
-later_in : (ids : List ℕ) (from at id : ℕ) → In id (drop from ids) → ((i : ℕ) → from ≤ i → i < at → slice_get ids i ≡ Some id → ⊥) → In id (drop at ids)
-later_in ids from zero id there none = in_from_drop from ids id there
-later_in [] zero (suc at) id there none = absurd there
-later_in [] (suc from) (suc at) id there none = absurd there
-later_in (j ∷ ids) zero (suc at) id (inl here) none = absurd (none 0 (omega arith) (omega arith) (ap Some (sym here)))
-later_in (j ∷ ids) zero (suc at) id (inr later) none = later_in ids zero at id later (λ i above below there. none (suc i) (omega arith) (omega arith) there)
-later_in (j ∷ ids) (suc from) (suc at) id there none = later_in ids from at id there (λ i above below here. none (suc i) (omega arith) (omega arith) here)
 
 module _ {Op : Type 0} (l : List (LocalEntry Op)) (G : List (SharedEntry Op)) where
   -- an id needs no further look

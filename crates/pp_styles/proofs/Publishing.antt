@@ -9,48 +9,24 @@ use Rattle.pp_core.specs.Steps.{Step, Begin, App, Unapp, Push, Unpush, Pull, Unp
 use Rattle.pp_core.specs.declared.entry.LocalEntry.{LocalEntry}
 use Rattle.pp_core.specs.declared.entry.SharedEntry.{SharedEntry}
 use Rattle.pp_records.specs.Expansions.{stands_in}
-use Rattle.pp_model.specs.Config.{Config, Tx, Unpushed, Pushed, as_pulled, as_shared, commit_all, commit_effect}
-use Rattle.pp_model.specs.Config.{entry_of, item, of_other, on_log, pull_effect, push_effect, set_mark, then}
-use Rattle.pp_model.specs.Config.{tx, without_shared, without_tx}
+use Rattle.pp_model.specs.Config.{Config, Tx, Unpushed, Pushed, as_pulled, as_shared, but_last, commit_all, commit_effect}
+use Rattle.pp_model.specs.Config.{entry_of, is_own, item, last, of_other, on_log, pull_effect, push_effect, set_mark, then}
+use Rattle.pp_model.specs.Config.{tx, without_local, without_shared, without_tx}
 use Rattle.pp_model.specs.Lists.{In}
 use Rattle.pp_model.specs.Names.{Name, ◌=ⁿ◌}
-use Rattle.pp_model.proofs.Lists.{from_filter, from_map, in_cases, in_left, in_right}
-use Rattle.pp_model.proofs.Logs.{on_each}
+use Rattle.pp_model.specs.Object.{Object}
+use Rattle.pp_model.specs.Rules.{IsLast, Meets}
+use Rattle.pp_model.specs.Sound.{Sound}
+use Rattle.pp_model.proofs.Lists.{from_filter, from_map, in_cases, in_right}
+use Rattle.pp_model.proofs.Logs.{found_tx, on_each}
 use Rattle.pp_model.proofs.Names.{eq-names, names_tell}
+use Rattle.pp_model.proofs.Push.{stands_pushed}
+use Rattle.pp_model.proofs.Steps.{only_one, there_holds}
 use Rattle.pp_styles.specs.Knowing.{last_of}
-use Rattle.pp_styles.specs.Publishing.{AllListed, HasPassed, Keeps, ListsLast, ListsPushed, Publications, TellsTrue}
-use Rattle.pp_styles.specs.Publishing.{Unpasses, UnpassesBefore, listed_more}
-use Rattle.pp_styles.proofs.Knowing.{last_there, stands_longer, stands_marked}
-
--- ---- ids
-
--- an id among the last ones of a list is in it
-pub in_from_drop : (n : ℕ) (ids : List ℕ) (id : ℕ) → In id (drop n ids) → In id ids
-in_from_drop zero ids id h = h
-in_from_drop (suc n) [] id h = h
-in_from_drop (suc n) (j ∷ ids) id h = inr (in_from_drop n ids id h)
-
--- a longer list has it among as many last ones
-in_drop_left : (n : ℕ) (ids more : List ℕ) (id : ℕ) → In id (drop n ids) → In id (drop n (ids ++ more))
-in_drop_left zero ids more id h = in_left id ids more h
-in_drop_left (suc n) [] more id h = absurd h
-in_drop_left (suc n) (j ∷ ids) more id h = in_drop_left n ids more id h
-
-in_drop_right : (n : ℕ) (ids more : List ℕ) (id : ℕ) → n ≤ length ids → In id more → In id (drop n (ids ++ more))
-in_drop_right zero ids more id low h = in_right id ids more h
-in_drop_right (suc n) [] more id low h = absurd (omega arith)
-in_drop_right (suc n) (j ∷ ids) more id low h = in_drop_right n ids more id (omega arith) h
-
--- an id that is not in a longer local log is not in the shorter one
-not_shorter : {Op : Type 0} (l r : List (LocalEntry Op)) (i : ℕ) → stands_in (l ++ r) i ≡ false → stands_in l i ≡ false
-not_shorter l r i off = by (stands_in l i) refl
-  where
-    no : true ≡ false → ⊥
-    no e = cc
-
-    by : (b : Bool) → stands_in l i ≡ b → stands_in l i ≡ false
-    by true is = absurd (no (sym (stands_longer l r i is) ∙ off))
-    by false is = is
+use Rattle.pp_styles.specs.Publishing.{AllListed, HasPassed, Keeps, ListsLast, ListsPushed, PassesBack, Publications}
+use Rattle.pp_styles.specs.Publishing.{TellsTrue, Unpasses, UnpassesBefore, listed_more}
+use Rattle.pp_styles.proofs.Ids.{in_drop_left, in_drop_right, last_there, lower_in, not_shorter, not_with}
+use Rattle.pp_styles.proofs.Ids.{stands_marked, stands_without, unapplied_entry}
 
 -- ---- lists that grow
 
@@ -255,15 +231,15 @@ module _ {Op : Type 0} (place : Op → ℕ) where
     pulled t id (Some g) = record { listed = h.listed; passed = longer t (as_pulled g ∷ []) }
 
     -- the last entry is listed once more
-    again : (q : Publications) → ListsLast place c.shared p q → TellsTrue place q c
-    again q f =
+    again_listed : (q : Publications) → ListsLast place c.shared p q → TellsTrue place q c
+    again_listed q f =
         record {
           listed = λ kept. let before = sym f.kept ∙ kept in listed_still p q before (last_of c.shared) (f.ids before) f.passed c.shared (h.listed before);
           passed = λ kept x i. let before = sym f.kept ∙ kept in passed_still p q before (last_of c.shared) (f.ids before) f.passed c.shared x.name x.local (h.passed before x i);
         }
 
     published : (t : Name) (id : ℕ) (o : Option (LocalEntry Op)) (q : Publications) → ListsLast place (push_effect c t id o).shared p q → TellsTrue place q (push_effect c t id o)
-    published t id None q f = again q f
+    published t id None q f = again_listed q f
     published t id (Some e) q f =
         let g : SharedEntry Op = as_shared t false (item e) in
         let with_g : p.kept ≡ true → (v : Name) (o : ℕ) → q.ids v o ≡ listed_more place (Some g) p.ids v o =
@@ -286,14 +262,6 @@ module _ {Op : Type 0} (place : Op → ℕ) where
             listed = λ kept. let before = sym f.kept ∙ kept in unlisted t p q f c.shared (h.listed before);
             passed = λ kept x i. let before = sym f.kept ∙ kept in still t p q f c.shared x.name x.local (h.listed before) (h.passed before x i);
           }
-
-      -- any local log of a transaction that is forgotten, and a shared log with fewer entries
-      changed : (G : List (SharedEntry Op)) → Comes G c.shared → (g : List (LocalEntry Op) → List (LocalEntry Op)) → q.kept ≡ true → AllPassed q G (on_log t g c.opened)
-      changed G comes g kept =
-          let before = sym f.kept ∙ kept in
-          on_each t g c.opened (λ (x : Tx Op). HasPassed place q G x.name x.local)
-          (λ x i is. forgotten t p q f G x.name (g x.local) is (listed_onward p c.shared G comes (h.listed before)))
-          (λ x i off. onward q c.shared G x.name x.local x.local comes (λ j missing. missing) (still t p q f c.shared x.name x.local (h.listed before) (h.passed before x i)))
 
       listed_on : (G : List (SharedEntry Op)) → Comes G c.shared → q.kept ≡ true → AllListed place q G
       listed_on G comes kept = listed_onward q c.shared G comes (unlisted t p q f c.shared (h.listed (sym f.kept ∙ kept)))
@@ -321,37 +289,102 @@ module _ {Op : Type 0} (place : Op → ℕ) where
             passed = fewer (commit_all t c.shared) (comes_committed t c.shared);
           }
 
-    -- what is known stays true where the step has its effect
-    pub stays : (s : Step Op) (q r : Publications) → UnpassesBefore s p q → ListsPushed place s ((then) c s).shared q r → TellsTrue place r ((then) c s)
-    stays (Begin t n b) q r f m =
-        same_last q r m ((then) c (Begin t n b)) (record { listed = listed_on t q f c.shared (comes_all c.shared); passed = begun t q f _ refl })
-    stays (App t id op) q r f m = same q r f m ((then) c (App t id op)) (record { listed = h.listed; passed = longer t _ })
-    stays (Unapp t id) q r f m =
-        same_last q r m ((then) c (Unapp t id)) (record { listed = listed_on t q f c.shared (comes_all c.shared); passed = changed t q f c.shared (comes_all c.shared) _ })
-    stays (Push t id) q r f m =
-        published t id (entry_of id Unpushed (tx t c.opened)) r (subst (λ (w : Publications). ListsLast place ((then) c (Push t id)).shared w r) f m)
-    stays (Unpush t id) q r f m =
-        same_last q r m ((then) c (Unpush t id)) (record {
-          listed = listed_on t q f (without_shared id c.shared) (comes_without id c.shared);
-          passed = changed t q f (without_shared id c.shared) (comes_without id c.shared) _;
-        })
-    stays (Pull t id) q r f m = same q r f m ((then) c (Pull t id)) (pulled t id (of_other t id c.shared))
-    stays (Unpull t id) q r f m =
-        same_last q r m ((then) c (Unpull t id)) (record { listed = listed_on t q f c.shared (comes_all c.shared); passed = changed t q f c.shared (comes_all c.shared) _ })
-    stays (Cmt t) q r f m = same_last q r m ((then) c (Cmt t)) (committed t q f (tx t c.opened))
-    stays (Quit t) q r f m =
-        same_last q r m ((then) c (Quit t)) (record { listed = listed_on t q f c.shared (comes_all c.shared); passed = fewer t q f c.shared (comes_all c.shared) })
-    stays (Note t) q r f m = same q r f m c h
+    -- an own entry of a transaction leaves the shared log, or changes its mark
+    unpublished : (t : Name) (id : ℕ) → p.kept ≡ true → AllPassed p (without_shared id c.shared) (on_log t (set_mark id Unpushed) c.opened)
+    unpublished t id kept =
+        on_each t (set_mark id Unpushed) c.opened (λ (x : Tx Op). HasPassed place p (without_shared id c.shared) x.name x.local)
+        (λ x i is. onward p c.shared (without_shared id c.shared) x.name x.local (set_mark id Unpushed x.local) (comes_without id c.shared) (λ j off. sym (stands_marked id Unpushed x.local j) ∙ off) (h.passed kept x i))
+        (λ x i off. onward p c.shared (without_shared id c.shared) x.name x.local x.local (comes_without id c.shared) (λ j missing. missing) (h.passed kept x i))
+
+    -- a pulled entry leaves a local log
+    module _ (t : Name) (id : ℕ) (q : Publications) (f : PassesBack place c.shared t id p q) where
+      low_listed : q.kept ≡ true → AllListed place q c.shared
+      low_listed kept g i = subst (λ (ids : List ℕ). In g.id ids) (sym (f.ids g.owner (place g.op))) (h.listed (sym f.kept ∙ kept) g i)
+
+      low_passed : q.kept ≡ true → (x : Tx Op) → In x c.opened → HasPassed place q c.shared x.name x.local
+      low_passed kept x i =
+          let old = h.passed (sym f.kept ∙ kept) x i in
+          record {
+            within = λ v o. subst (λ (ids : List ℕ). q.passed x.name v o ≤ length ids) (sym (f.ids v o)) (let low = f.passed x.name v o in let within = old.within v o in omega arith);
+            rest = λ g j off. subst (λ (ids : List ℕ). In g.id (drop (q.passed x.name g.owner (place g.op)) ids)) (sym (f.ids g.owner (place g.op)))
+                (lower_in (p.ids g.owner (place g.op)) (p.passed x.name g.owner (place g.op)) (q.passed x.name g.owner (place g.op)) g.id (f.passed x.name g.owner (place g.op)) (old.rest g j off));
+          }
+
+      lowered : TellsTrue place q c
+      lowered = record { listed = low_listed; passed = low_passed }
+
+      again : q.kept ≡ true → (g : SharedEntry Op) → In g c.shared → g.id ≡ id → In g.id (drop (q.passed t g.owner (place g.op)) (q.ids g.owner (place g.op)))
+      again kept g i is = elim (f.away (sym f.kept ∙ kept) g i is) [
+        | inl none ↦ subst (λ (n : ℕ). In g.id (drop n (q.ids g.owner (place g.op)))) (sym none) (low_listed kept g i)
+        | inr there ↦ subst (λ (ids : List ℕ). In g.id (drop (q.passed t g.owner (place g.op)) ids)) (sym (f.ids g.owner (place g.op)))
+            (subst (λ (n : ℕ). In n (drop (q.passed t g.owner (place g.op)) (p.ids g.owner (place g.op)))) (sym is) there)
+      ]
+
+      unpulled : q.kept ≡ true → AllPassed q c.shared (on_log t (without_local id) c.opened)
+      unpulled kept =
+          on_each t (without_local id) c.opened (λ (x : Tx Op). HasPassed place q c.shared x.name x.local)
+          (λ x i named. let low = low_passed kept x i in record {
+            within = low.within;
+            rest = λ g j off. elim (eqb_tells g.id id) [
+              | inl same ↦ subst (λ (u : Name). In g.id (drop (q.passed u g.owner (place g.op)) (q.ids g.owner (place g.op)))) (sym named) (again kept g j same.1)
+              | inr other ↦ low.rest g j (sym (stands_without id x.local g.id other.1) ∙ off)
+            ];
+          })
+          (λ x i off. low_passed kept x i)
+
+    -- ---- steps
+
+    module _ {State : Type 0} (O : Object Op State) (s : Sound O c) where
+      shorter : p.kept ≡ true → (x : Tx Op) → In x c.opened → (id : ℕ) → IsLast id (last x.local) → HasPassed place p c.shared x.name (but_last x.local)
+      shorter kept x i id is =
+          let r = unapplied_entry x.local id is in
+          let old = h.passed kept x i in
+          record {
+            within = old.within;
+            rest = λ g j off. old.rest g j (subst (λ (w : List (LocalEntry Op)). stands_in w g.id ≡ false) (sym r.1)
+                (not_with (but_last x.local) r.0 g.id (λ same. not_pushed (sym r.3 ∙ stands_pushed O c s x i r.0 r.2 (ap is_own r.3) (g, j, sym same))) off));
+          }
+        where
+          not_pushed : Unpushed ≡ Pushed → ⊥
+          not_pushed e = cc
+
+      unapplied : (t : Name) (id : ℕ) → Meets O c (Unapp t id) → p.kept ≡ true → AllPassed p c.shared (on_log t but_last c.opened)
+      unapplied t id meets kept =
+          let r = there_holds (tx t c.opened) _ meets in
+          on_each t but_last c.opened (λ (x : Tx Op). HasPassed place p c.shared x.name x.local)
+          (only_one O c s t r.0 r.1 (λ (w : Tx Op). HasPassed place p c.shared w.name (but_last w.local)) (shorter kept r.0 (found_tx t c.opened r.0 r.1).0 id r.2.0))
+          (λ x i off. h.passed kept x i)
+
+      -- what is known stays true where the step has its effect
+      pub stays : (a : Step Op) → Meets O c a → (q r : Publications) → UnpassesBefore place a c.shared p q → ListsPushed place a ((then) c a).shared q r → TellsTrue place r ((then) c a)
+      stays (Begin t n b) meets q r f m =
+          same_last q r m ((then) c (Begin t n b)) (record { listed = listed_on t q f c.shared (comes_all c.shared); passed = begun t q f _ refl })
+      stays (App t id op) meets q r f m = same q r f m ((then) c (App t id op)) (record { listed = h.listed; passed = longer t _ })
+      stays (Unapp t id) meets q r f m = same q r f m ((then) c (Unapp t id)) (record { listed = h.listed; passed = unapplied t id meets })
+      stays (Push t id) meets q r f m =
+          published t id (entry_of id Unpushed (tx t c.opened)) r (subst (λ (w : Publications). ListsLast place ((then) c (Push t id)).shared w r) f m)
+      stays (Unpush t id) meets q r f m =
+          same q r f m ((then) c (Unpush t id)) (record {
+            listed = λ kept. listed_onward p c.shared (without_shared id c.shared) (comes_without id c.shared) (h.listed kept);
+            passed = unpublished t id;
+          })
+      stays (Pull t id) meets q r f m = same q r f m ((then) c (Pull t id)) (pulled t id (of_other t id c.shared))
+      stays (Unpull t id) meets q r f m =
+          same_last q r m ((then) c (Unpull t id)) (record { listed = low_listed t id q f; passed = unpulled t id q f })
+      stays (Cmt t) meets q r f m = same_last q r m ((then) c (Cmt t)) (committed t q f (tx t c.opened))
+      stays (Quit t) meets q r f m =
+          same_last q r m ((then) c (Quit t)) (record { listed = listed_on t q f c.shared (comes_all c.shared); passed = fewer t q f c.shared (comes_all c.shared) })
+      stays (Note t) meets q r f m = same q r f m c h
 
     -- and where it has none
-    pub waits : (s : Step Op) (q r : Publications) → UnpassesBefore s p q → ListsPushed place s c.shared q r → TellsTrue place r c
+    pub waits : (a : Step Op) (q r : Publications) → UnpassesBefore place a c.shared p q → ListsPushed place a c.shared q r → TellsTrue place r c
     waits (Begin t n b) q r f m = same_last q r m c (forgets t q f)
     waits (App t id op) q r f m = same q r f m c h
-    waits (Unapp t id) q r f m = same_last q r m c (forgets t q f)
-    waits (Push t id) q r f m = again r (subst (λ (w : Publications). ListsLast place c.shared w r) f m)
-    waits (Unpush t id) q r f m = same_last q r m c (forgets t q f)
+    waits (Unapp t id) q r f m = same q r f m c h
+    waits (Push t id) q r f m = again_listed r (subst (λ (w : Publications). ListsLast place c.shared w r) f m)
+    waits (Unpush t id) q r f m = same q r f m c h
     waits (Pull t id) q r f m = same q r f m c h
-    waits (Unpull t id) q r f m = same_last q r m c (forgets t q f)
+    waits (Unpull t id) q r f m = same_last q r m c (lowered t id q f)
     waits (Cmt t) q r f m = same_last q r m c (forgets t q f)
     waits (Quit t) q r f m = same_last q r m c (forgets t q f)
     waits (Note t) q r f m = same q r f m c h

@@ -63,20 +63,21 @@ module _ {Shape State Op Undo : Type 0} (o : Object Shape State Op Undo) (place 
         pushes place k v.config true_here (rules_of o v.shape) s t x.0 x.1 new (subst (λ (l : LocalLog Op). PushesMore t l k new) x.2 more)
 
   -- what is known behind a step
-  pub true_behind : (step : Step Op) (outcome : Outcome Op) (w : Seen Shape Op) (new last : Knowledge) → Stepped o v step outcome w → ForgetsBefore step k new → ListsAfter place step w.config.done new last → IsTrueOf place last w.config
-  true_behind step Done w new last effect f m =
+  pub true_behind : Sound (rules_of o v.shape) v.config → (step : Step Op) (outcome : Outcome Op) (w : Seen Shape Op) (new last : Knowledge) →
+      Stepped o v step outcome w → ForgetsBefore place step v.config k new → ListsAfter place step w.config.done new last → IsTrueOf place last w.config
+  true_behind s step Done w new last effect f m =
       subst (λ (z : Seen Shape Op). IsTrueOf place last z.config) (sym effect.1)
-      (stays place k v.config true_here step new last f (subst (λ (z : Seen Shape Op). ListsAfter place step z.config.done new last) effect.1 m))
-  true_behind step (False n detail) w new last effect f m =
+      (stays place k v.config true_here (rules_of o v.shape) s step effect.0 new last f (subst (λ (z : Seen Shape Op). ListsAfter place step z.config.done new last) effect.1 m))
+  true_behind s step (False n detail) w new last effect f m =
       subst (λ (z : Seen Shape Op). IsTrueOf place last z.config) (sym effect.2) (waits place k v.config true_here step w.config.done new last f m)
 
 -- and so does what is known of published entries
-pub lists_behind : {Shape State Op Undo : Type 0} (o : Object Shape State Op Undo) (place : Op → ℕ) (p : Publications) (v : Seen Shape Op) → TellsTrue place p v.config → (step : Step Op) (outcome : Outcome Op) (w : Seen Shape Op) (q r : Publications) →
-    Stepped o v step outcome w → UnpassesBefore step p q → ListsPushed place step w.config.shared q r → TellsTrue place r w.config
-lists_behind {Shape} {State} {Op} o place p v h step Done w q r effect f m =
+pub lists_behind : {Shape State Op Undo : Type 0} (o : Object Shape State Op Undo) (place : Op → ℕ) (p : Publications) (v : Seen Shape Op) → TellsTrue place p v.config → Sound (rules_of o v.shape) v.config →
+    (step : Step Op) (outcome : Outcome Op) (w : Seen Shape Op) (q r : Publications) → Stepped o v step outcome w → UnpassesBefore place step v.config.shared p q → ListsPushed place step w.config.shared q r → TellsTrue place r w.config
+lists_behind {Shape} {State} {Op} o place p v h s step Done w q r effect f m =
     subst (λ (z : Seen Shape Op). TellsTrue place r z.config) (sym effect.1)
-    (stays_listed place p v.config h step q r f (subst (λ (z : Seen Shape Op). ListsPushed place step z.config.shared q r) effect.1 m))
-lists_behind {Shape} {State} {Op} o place p v h step (False n detail) w q r effect f m =
+    (stays_listed place p v.config h (rules_of o v.shape) s step effect.0 q r f (subst (λ (z : Seen Shape Op). ListsPushed place step z.config.shared q r) effect.1 m))
+lists_behind {Shape} {State} {Op} o place p v h s step (False n detail) w q r effect f m =
     subst (λ (z : Seen Shape Op). TellsTrue place r z.config) (sym effect.2)
     (waits_listed place p v.config h step q r f (subst (λ (z : Seen Shape Op). ListsPushed place step z.config.shared q r) effect.2 m))
 

@@ -1,6 +1,6 @@
 -- Meaning: what is known of the open transactions of a machine, and when it is true.
 use Rattle.std.specs.Prelude.{◌≡◌, ◌⊎◌, ◌≤◌, ◌<◌, ◌==◌, ◌-◌, ℕ, true, false, List, []}
-use Rattle.std.specs.Prelude.{◌++◌, length, map, filter, slice_get, Option, None, Some}
+use Rattle.std.specs.Prelude.{◌++◌, drop, length, map, filter, slice_get, Option, None, Some}
 use Rattle.std.specs.Prelude.{if◌then◌else◌}
 use Rattle.std.specs.List.{Contains}
 use Rattle.pp_core.specs.Steps.{Step, Begin, App, Unapp, Push, Unpush, Pull, Unpull, Cmt, Quit, Note}
@@ -8,24 +8,26 @@ use Rattle.pp_core.specs.declared.entry.CommittedTx.{CommittedTx}
 use Rattle.pp_core.specs.declared.entry.LocalEntry.{LocalEntry}
 use Rattle.pp_core.specs.declared.entry.SharedEntry.{SharedEntry}
 use Rattle.pp_records.specs.Expansions.{is_followed, stands_in}
-use Rattle.pp_model.specs.Config.{Config, Tx, Unpushed, is_mark}
+use Rattle.pp_model.specs.Config.{Config, Tx, Unpushed, is_mark, tx}
 use Rattle.pp_model.specs.Lists.{In}
 use Rattle.pp_model.specs.Names.{Name, ◌=ⁿ◌}
 use Rattle.pp_model.specs.Object.{Item}
 
 -- What is known: the ids of the committed entries of each object, in the order of the commits; of
--- each transaction and object, how many of these ids, from the first on, are in its local log; and
--- of each transaction, how many entries of its local log, from the first on, are not unpushed.
+-- each transaction and object, how many of these ids, from the first on, it need not look at again;
+-- and of each transaction, how many entries of its local log, from the first on, are not unpushed.
 pub record Knowledge : Type 0 where
   pub ids : ℕ → List ℕ
   pub taken : Name → ℕ → ℕ
   pub pushed : Name → ℕ
 
--- the first so many of these ids are in a local log
-pub record HasTaken {Op : Type 0} (ids : List ℕ) (count : ℕ) (l : List (LocalEntry Op)) :
-    Type 0 where
+-- Of these ids those after the first so many are all that a local log lacks of what is committed on
+-- an object.
+pub record HasTaken {Op : Type 0} (place : Op → ℕ) (o : ℕ) (done : List (CommittedTx Op))
+    (ids : List ℕ) (count : ℕ) (l : List (LocalEntry Op)) : Type 0 where
   pub within : count ≤ length ids
-  pub there : (i id : ℕ) → i < count → slice_get ids i ≡ Some id → stands_in l id ≡ true
+  pub rest : (d : CommittedTx Op) → In d done → (p : Item Op) → In p d.entries →
+      place p.op ≡ o → stands_in l p.id ≡ false → In p.id (drop count ids)
 
 -- none of the first so many entries of a local log is unpushed
 pub record HasPushed {Op : Type 0} (count : ℕ) (l : List (LocalEntry Op)) : Type 0 where
@@ -38,7 +40,7 @@ pub record IsTrueOf {Op : Type 0} (place : Op → ℕ) (k : Knowledge) (c : Conf
   pub listed : (d : CommittedTx Op) → In d c.done → (p : Item Op) → In p d.entries →
       In p.id (k.ids (place p.op))
   pub taken : (x : Tx Op) → In x c.opened → (o : ℕ) →
-      HasTaken (k.ids o) (k.taken x.name o) x.local
+      HasTaken place o c.done (k.ids o) (k.taken x.name o) x.local
   pub pushed : (x : Tx Op) → In x c.opened → HasPushed (k.pushed x.name) x.local
 
 -- Nothing is known of any transaction.
@@ -52,19 +54,38 @@ pub record Forgets (t : Name) (old new : Knowledge) : Type 0 where
   pub taken : (u : Name) (o : ℕ) → new.taken u o ≡ (if u =ⁿ t then 0 else old.taken u o)
   pub pushed : (u : Name) → new.pushed u ≡ (if u =ⁿ t then 0 else old.pushed u)
 
--- What is forgotten before a step: what is known of a transaction that begins or ends, or whose
--- local log loses an entry, or has one more that is unpushed in the midst of others.
-abbrev pub ForgetsBefore : {Op : Type 0} → Step Op → Knowledge → Knowledge → Type 0
-ForgetsBefore (Begin t p b) old new = Forgets t old new
-ForgetsBefore (App t id op) old new = new ≡ old
-ForgetsBefore (Unapp t id) old new = Forgets t old new
-ForgetsBefore (Push t id) old new = new ≡ old
-ForgetsBefore (Unpush t id) old new = Forgets t old new
-ForgetsBefore (Pull t id) old new = new ≡ old
-ForgetsBefore (Unpull t id) old new = Forgets t old new
-ForgetsBefore (Cmt t) old new = Forgets t old new
-ForgetsBefore (Quit t) old new = Forgets t old new
-ForgetsBefore (Note t) old new = new ≡ old
+-- no number is higher than before
+pub record Lowers (old new : Knowledge) : Type 0 where
+  pub ids : (o : ℕ) → new.ids o ≡ old.ids o
+  pub taken : (u : Name) (o : ℕ) → new.taken u o ≤ old.taken u o
+  pub pushed : (u : Name) → new.pushed u ≤ old.pushed u
+
+-- none of the entries of a transaction that are known not to be unpushed has this id
+abbrev pub IsAfterPushed : {Op : Type 0} → Config Op → Name → ℕ → Knowledge → Type 0
+IsAfterPushed {Op} c t id k = (x : Tx Op) → tx t c.opened ≡ Some x → (i : ℕ) (e : LocalEntry Op) →
+    i < k.pushed t → slice_get x.local i ≡ Some e → (e.id == id) ≡ false
+
+-- If an entry of this id is committed, a transaction is to look at its id again.
+abbrev pub IsUntaken : {Op : Type 0} → (Op → ℕ) → List (SharedEntry Op) → Name → ℕ → Knowledge →
+    Type 0
+IsUntaken {Op} place G t id k = (g : SharedEntry Op) → In g G → g.id ≡ id → g.committed ≡ true →
+    (k.taken t (place g.op) ≡ 0) ⊎ In id (drop (k.taken t (place g.op)) (k.ids (place g.op)))
+
+-- What is forgotten before a step: what is known of a transaction that begins or ends; before an
+-- UNPUSH, that its entry is not unpushed; and before an UNPULL, that its entry is there.
+abbrev pub ForgetsBefore : {Op : Type 0} → (Op → ℕ) → Step Op → Config Op → Knowledge →
+    Knowledge → Type 0
+ForgetsBefore place (Begin t p b) c old new = Forgets t old new
+ForgetsBefore place (App t id op) c old new = new ≡ old
+ForgetsBefore place (Unapp t id) c old new = new ≡ old
+ForgetsBefore place (Push t id) c old new = new ≡ old
+ForgetsBefore place (Unpush t id) c old new = Lowers old new × IsAfterPushed c t id new
+ForgetsBefore place (Pull t id) c old new = new ≡ old
+ForgetsBefore place (Unpull t id) c old new =
+    Lowers old new × (new.pushed t ≤ old.pushed t - 1) × IsUntaken place c.shared t id new
+ForgetsBefore place (Cmt t) c old new = Forgets t old new
+ForgetsBefore place (Quit t) c old new = Forgets t old new
+ForgetsBefore place (Note t) c old new = new ≡ old
 
 -- the ids of those operations that are on an object
 abbrev pub ids_on : {Op : Type 0} → (Op → ℕ) → ℕ → List (Item Op) → List ℕ

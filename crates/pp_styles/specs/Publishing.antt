@@ -50,19 +50,31 @@ pub record Unpasses (t : Name) (old new : Publications) : Type 0 where
   pub passed : (u v : Name) (o : ℕ) →
       new.passed u v o ≡ (if u =ⁿ t then 0 else old.passed u v o)
 
--- What is forgotten before a step: what a transaction has passed that begins or ends, or whose
--- local log loses an entry or a mark.
-abbrev pub UnpassesBefore : {Op : Type 0} → Step Op → Publications → Publications → Type 0
-UnpassesBefore (Begin t p b) old new = Unpasses t old new
-UnpassesBefore (App t id op) old new = new ≡ old
-UnpassesBefore (Unapp t id) old new = Unpasses t old new
-UnpassesBefore (Push t id) old new = new ≡ old
-UnpassesBefore (Unpush t id) old new = Unpasses t old new
-UnpassesBefore (Pull t id) old new = new ≡ old
-UnpassesBefore (Unpull t id) old new = Unpasses t old new
-UnpassesBefore (Cmt t) old new = Unpasses t old new
-UnpassesBefore (Quit t) old new = Unpasses t old new
-UnpassesBefore (Note t) old new = new ≡ old
+-- No number is higher than before. If lists are kept, a transaction has not passed this id of an
+-- entry of G.
+pub record PassesBack {Op : Type 0} (place : Op → ℕ) (G : List (SharedEntry Op)) (t : Name) (id : ℕ)
+    (old new : Publications) : Type 0 where
+  pub kept : new.kept ≡ old.kept
+  pub ids : (v : Name) (o : ℕ) → new.ids v o ≡ old.ids v o
+  pub passed : (u v : Name) (o : ℕ) → new.passed u v o ≤ old.passed u v o
+  pub away : old.kept ≡ true → (g : SharedEntry Op) → In g G → g.id ≡ id →
+      (new.passed t g.owner (place g.op) ≡ 0)
+      ⊎ In id (drop (new.passed t g.owner (place g.op)) (old.ids g.owner (place g.op)))
+
+-- What is forgotten before a step: what a transaction has passed that begins or ends; and before an
+-- UNPULL, that its entry is passed.
+abbrev pub UnpassesBefore : {Op : Type 0} → (Op → ℕ) → Step Op → List (SharedEntry Op) →
+    Publications → Publications → Type 0
+UnpassesBefore place (Begin t p b) G old new = Unpasses t old new
+UnpassesBefore place (App t id op) G old new = new ≡ old
+UnpassesBefore place (Unapp t id) G old new = new ≡ old
+UnpassesBefore place (Push t id) G old new = new ≡ old
+UnpassesBefore place (Unpush t id) G old new = new ≡ old
+UnpassesBefore place (Pull t id) G old new = new ≡ old
+UnpassesBefore place (Unpull t id) G old new = PassesBack place G t id old new
+UnpassesBefore place (Cmt t) G old new = Unpasses t old new
+UnpassesBefore place (Quit t) G old new = Unpasses t old new
+UnpassesBefore place (Note t) G old new = new ≡ old
 
 -- the list with an id more, if the entry is of this owner and object
 abbrev pub listed_more : {Op : Type 0} → (Op → ℕ) → Option (SharedEntry Op) →

@@ -11,6 +11,7 @@ mod front;
 mod hardware;
 mod notes;
 mod optimistic;
+mod places;
 mod published;
 mod pulls;
 mod recorded;

@@ -8,6 +8,7 @@ ghost use Rattle.pp_model.specs.Config.{is_mark};
 ghost use Rattle.pp_styles.specs.Knowing.{ids_on};
 ghost use Rattle.pp_styles.specs.Noting.{at_object, ids_in};
 
+use crate::places::{Places, place_in};
 use crate::taken::Taken;
 use crate::walks::is_mark;
 use indexmap::IndexMap;
@@ -19,14 +20,14 @@ use std::alloc::Global;
 /// For each object the ids of the committed entries on it, in the order of the commits.
 type CommittedIds = IndexMap<u16, Sequence<u32>>;
 
-/// Notes on a machine. They say nothing of a transaction whose local log lost an entry, until it is
-/// looked at again.
+/// Notes on a machine.
 #[derive(Drop)]
 pub struct Notes {
     alloc: Global,
     committed: CommittedIds,
+    places: Places,
     /// For an open transaction and an object: so many of the committed entries on the object, from
-    /// the first on, are in its local log.
+    /// the first on, are in its local log, or are listed again after these.
     taken: IndexMap<Name, Taken>,
     /// For an open transaction: of so many entries of its local log, from the first on, none is its
     /// own and unpushed.
@@ -37,6 +38,7 @@ pub struct Notes {
 fn add_id(
     alloc: Global,
     committed: &mut CommittedIds,
+    places: &mut Places,
     object: u16,
     id: u32,
 ) -> Result<(), OutOfMemory>
@@ -48,6 +50,7 @@ fn add_id(
         Some(ids) => ids,
         None => Sequence::new(alloc),
     };
+    places.insert(id, ids.len())?;
     ids.push(id)?;
     committed.insert(object, ids)?;
     Ok(())
@@ -57,13 +60,14 @@ fn add_id(
 fn add_ids<S: Parted>(
     alloc: Global,
     committed: &mut CommittedIds,
+    places: &mut Places,
     items: &[Item<S::Op>],
 ) -> Result<(), OutOfMemory>
     ensures { OnOk result ((o : ℕ) → ids_in o committed.new.entries
         ≡ ids_in o committed.old.entries ++ ids_on S.place_of o items.now) }
 {
     for item in items {
-        add_id(alloc, committed, S::place(&item.op), item.id)?;
+        add_id(alloc, committed, places, S::place(&item.op), item.id)?;
     }
     Ok(())
 }
@@ -98,8 +102,10 @@ fn first_unpushed<S: Parted>(local: &Local<S>, from: usize) -> usize
 }
 
 impl Notes {
-    ghost use Rattle.std.specs.Prelude.{◌≡◌, OnOk, drop};
-    ghost use Rattle.pp_styles.specs.Knowing.{IsBlank, Forgets, Lists, ListsAll, PushesMore};
+    ghost use Rattle.std.specs.Prelude.{◌≡◌, ◌⊎◌, ◌≤◌, ℕ, OnOk, Some, drop, slice_get};
+    ghost use Rattle.pp_model.specs.Lists.{In};
+    ghost use Rattle.pp_model.specs.Names.{Name as NameOf};
+    ghost use Rattle.pp_styles.specs.Knowing.{IsBlank, Forgets, Lists, ListsAll, Lowers, PushesMore};
     ghost use Rattle.pp_styles.specs.Knowing.{SetsTaken, TakesMore, ids_of, last_of};
     ghost use Rattle.pp_styles.specs.Noting.{ids_in, known, pushed_in, taken_in};
 
@@ -110,6 +116,7 @@ impl Notes {
         Notes {
             alloc,
             committed: IndexMap::new(alloc),
+            places: Places::new(alloc),
             taken: IndexMap::new(alloc),
             pushed: IndexMap::new(alloc),
         }
@@ -127,7 +134,12 @@ impl Notes {
         let Some(last) = committed.get(at) else {
             return Ok(());
         };
-        add_ids::<S>(self.alloc, &mut self.committed, last.entries.as_slice())
+        add_ids::<S>(
+            self.alloc,
+            &mut self.committed,
+            &mut self.places,
+            last.entries.as_slice(),
+        )
     }
 
     /// Notes what each of the committed transactions committed.
@@ -136,7 +148,12 @@ impl Notes {
         ensures { OnOk result (ListsAll S.place_of committed.now (known self.new)) }
     {
         for done in committed.as_slice() {
-            add_ids::<S>(self.alloc, &mut self.committed, done.entries.as_slice())?;
+            add_ids::<S>(
+                self.alloc,
+                &mut self.committed,
+                &mut self.places,
+                done.entries.as_slice(),
+            )?;
         }
         Ok(())
     }
@@ -190,6 +207,60 @@ impl Notes {
         };
         taken.set(object, count);
         let _ = self.taken.insert(*tx, taken);
+    }
+
+    /// The position of an id among the committed ids of an object, if it is known, and else 0.
+    fn place_of(&self, object: u16, id: u32) -> usize
+        ensures { (result ≡ 0)
+            ⊎ (slice_get (ids_in object self.now.committed.entries) result ≡ Some id) }
+    {
+        let Some(ids) = self.committed.get(&object) else {
+            return 0;
+        };
+        place_in(&self.places, ids.as_slice(), id)
+    }
+
+    /// Notes another number of committed entries on an object, if any is noted of the transaction.
+    /// Without memory nothing is known of it.
+    fn replace_taken(&mut self, tx: &Name, object: u16, count: usize)
+        ensures each { SetsTaken tx.now object count (known self.old) (known self.new) }
+        ensures here { ((known self.new).taken tx.now object ≡ 0)
+            ⊎ ((known self.new).taken tx.now object ≡ count) }
+    {
+        let Some(mut taken) = self.taken.swap_remove(tx) else {
+            return;
+        };
+        taken.forget(object);
+        taken.set(object, count);
+        let _ = self.taken.insert(*tx, taken);
+    }
+
+    /// Takes back that a committed entry on an object is in the local log of a transaction.
+    pub fn give_back(&mut self, tx: &Name, object: u16, id: u32)
+        ensures lowers { Lowers (known self.old) (known self.new) }
+        ensures pushed { (known self.new).pushed tx.now ≡ (known self.old).pushed tx.now }
+        ensures again { ((known self.new).taken tx.now object ≡ 0)
+            ⊎ In id (drop ((known self.new).taken tx.now object) ((known self.new).ids object)) }
+    {
+        let at = self.place_of(object, id);
+        if at >= self.taken(tx, object) {
+            return;
+        }
+        self.replace_taken(tx, object, at);
+    }
+
+    /// Takes back that entries of a local log from a position on are not unpushed.
+    pub fn lower_pushed(&mut self, tx: &Name, most: usize)
+        ensures lowers { Lowers (known self.old) (known self.new) }
+        ensures taken { (u : NameOf) (o : ℕ) → (known self.new).taken u o
+            ≡ (known self.old).taken u o }
+        ensures most { (known self.new).pushed tx.now ≤ most }
+    {
+        if self.pushed(tx) <= most {
+            return;
+        }
+        self.pushed.swap_remove(tx);
+        let _ = self.pushed.insert(*tx, most);
     }
 
     /// Looks which of the committed entries on an object are in the local log, from those on of

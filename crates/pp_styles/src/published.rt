@@ -10,6 +10,7 @@ ghost use Rattle.pp_model.specs.Names.{Name as NameOf};
 ghost use Rattle.pp_styles.specs.Noting.{taken_in};
 ghost use Rattle.pp_styles.specs.Publishing.{Adds, PassesAt, ids_by, ids_of, passed_by};
 
+use crate::places::{Places, place_in};
 use crate::source_set::{SourceSet, is_among};
 use crate::taken_from::TakenFrom;
 use indexmap::IndexMap;
@@ -34,6 +35,7 @@ pub struct Published {
     kept: bool,
     /// An id that left the shared log stays in its list, and is added again if it is pushed again.
     lists: Lists,
+    places: Places,
     /// For an open transaction, an owner and an object: so many ids of their list, from the first
     /// on, are passed. The other ids are those of all entries that are not in the local log.
     passed: IndexMap<Name, TakenFrom>,
@@ -66,7 +68,13 @@ fn first_missing<S: Parted>(shared: &Shared<S>, local: &Local<S>, ids: &[u32], f
 }
 
 /// Adds an id to the list of its owner.
-fn add_to(alloc: Global, owners: &mut Owners, owner: &Name, id: u32) -> Result<(), OutOfMemory>
+fn add_to(
+    alloc: Global,
+    owners: &mut Owners,
+    places: &mut Places,
+    owner: &Name,
+    id: u32,
+) -> Result<(), OutOfMemory>
     ensures { OnOk result ((v : NameOf) → ids_of v owners.new.entries
         ≡ at_name owner.now (ids_of owner.now owners.old.entries ++ id ∷ [])
         (λ u. ids_of u owners.old.entries) v) }
@@ -75,6 +83,7 @@ fn add_to(alloc: Global, owners: &mut Owners, owner: &Name, id: u32) -> Result<(
         Some(ids) => ids,
         None => Sequence::new(alloc),
     };
+    places.insert(id, ids.len())?;
     ids.push(id)?;
     owners.insert(*owner, ids)?;
     Ok(())
@@ -84,6 +93,7 @@ fn add_to(alloc: Global, owners: &mut Owners, owner: &Name, id: u32) -> Result<(
 fn add_on(
     alloc: Global,
     lists: &mut Lists,
+    places: &mut Places,
     owner: &Name,
     object: u16,
     id: u32,
@@ -96,7 +106,7 @@ fn add_on(
         Some(owners) => owners,
         None => IndexMap::new(alloc),
     };
-    add_to(alloc, &mut owners, owner, id)?;
+    add_to(alloc, &mut owners, places, owner, id)?;
     lists.insert(object, owners)?;
     Ok(())
 }
@@ -123,13 +133,21 @@ fn last_ids(ids: &[u32], from: usize) -> &[u32]
 fn list_all<S: Parted>(
     alloc: Global,
     lists: &mut Lists,
+    places: &mut Places,
     shared: &Shared<S>,
 ) -> Result<(), OutOfMemory>
     ensures { OnOk result ((e : EntryOf S.Op) → In e shared.now.1 →
         In e.id (ids_by e.owner (S.place_of e.op) lists.new.entries)) }
 {
     for entry in shared.entries() {
-        add_on(alloc, lists, &entry.owner, S::place(&entry.op), entry.id)?;
+        add_on(
+            alloc,
+            lists,
+            places,
+            &entry.owner,
+            S::place(&entry.op),
+            entry.id,
+        )?;
     }
     Ok(())
 }
@@ -139,6 +157,17 @@ fn none_passed(alloc: Global) -> IndexMap<Name, TakenFrom>
     ensures { (u v : NameOf) (o : ℕ) → passed_by u v o result.entries ≡ 0 }
 {
     IndexMap::new(alloc)
+}
+
+/// Lowers the number of ids of an owner and an object that are passed.
+fn pass_back(passed: &mut TakenFrom, owner: &Name, object: u16, most: usize)
+    ensures each { (v : NameOf) (o : ℕ) → taken_in v passed.new o ≤ taken_in v passed.old o }
+    ensures here { taken_in owner.now passed.new object ≤ most }
+{
+    if passed.count(owner, object) <= most {
+        return;
+    }
+    passed.replace(owner, object, most);
 }
 
 /// Adds the ids of an owner and an object that are not passed. It first passes those that need no
@@ -274,7 +303,8 @@ fn add_on_object<S: Parted>(
 }
 
 impl Published {
-    ghost use Rattle.std.specs.Prelude.{◌≡◌, ℕ, OnOk, false, if◌then◌else◌, true};
+    ghost use Rattle.std.specs.Prelude.{◌≡◌, ◌⊎◌, ◌≤◌, ℕ, OnOk, Some, drop, false, slice_get};
+    ghost use Rattle.std.specs.Prelude.{if◌then◌else◌, true};
     ghost use Rattle.pp_model.specs.Lists.{In};
     ghost use Rattle.pp_model.specs.Names.{Name as NameOf, ◌=ⁿ◌};
     ghost use Rattle.pp_styles.specs.Noting.{taken_in};
@@ -289,6 +319,7 @@ impl Published {
             alloc,
             kept: false,
             lists: IndexMap::new(alloc),
+            places: Places::new(alloc),
             passed: IndexMap::new(alloc),
         }
     }
@@ -318,6 +349,7 @@ impl Published {
         add_on(
             self.alloc,
             &mut self.lists,
+            &mut self.places,
             &last.owner,
             S::place(&last.op),
             last.id,
@@ -333,7 +365,7 @@ impl Published {
         if self.kept {
             return Ok(());
         }
-        list_all(self.alloc, &mut self.lists, shared)?;
+        list_all(self.alloc, &mut self.lists, &mut self.places, shared)?;
         self.passed = none_passed(self.alloc);
         self.kept = true;
         Ok(())
@@ -369,6 +401,38 @@ impl Published {
             × ((publications self.new).passed u v o ≡ taken_in v passed o)) }
     {
         let _ = self.passed.insert(*tx, passed);
+    }
+
+    /// The position of an id in the list of an owner and an object, if it is known, and else 0.
+    fn place_of(&self, owner: &Name, object: u16, id: u32) -> usize
+        ensures { (result ≡ 0)
+            ⊎ (slice_get ((publications self.now).ids owner.now object) result ≡ Some id) }
+    {
+        let Some(owners) = self.lists.get(&object) else {
+            return 0;
+        };
+        place_in(&self.places, listed(owners, owner), id)
+    }
+
+    /// Takes back that an open transaction has passed an id of an owner and an object.
+    pub fn give_back(&mut self, tx: &Name, owner: &Name, object: u16, id: u32)
+        ensures kept { (publications self.new).kept ≡ (publications self.old).kept }
+        ensures ids { (v : NameOf) (o : ℕ) → (publications self.new).ids v o
+            ≡ (publications self.old).ids v o }
+        ensures passed { (u v : NameOf) (o : ℕ) →
+            (publications self.new).passed u v o ≤ (publications self.old).passed u v o }
+        ensures again { (publications self.old).kept ≡ true →
+            ((publications self.new).passed tx.now owner.now object ≡ 0)
+            ⊎ In id (drop ((publications self.new).passed tx.now owner.now object)
+            ((publications self.old).ids owner.now object)) }
+    {
+        if !self.kept {
+            return;
+        }
+        let at = self.place_of(owner, object, id);
+        let mut passed = self.take(tx);
+        pass_back(&mut passed, owner, object, at);
+        self.put(tx, passed);
     }
 
     /// Adds ids of what these sources published on an object: each such entry of the shared log is

@@ -38,6 +38,14 @@ impl Taken {
         self.counts.get(&object).copied().unwrap_or(0)
     }
 
+    /// Keeps none at an object.
+    pub fn forget(&mut self, object: u16)
+        ensures { (o : ℕ) → count_of self.new o
+            ≡ (if o == object then 0 else count_of self.old o) }
+    {
+        self.counts.swap_remove(&object);
+    }
+
     /// Keeps a number at an object. Without memory all is as it was.
     pub fn set(&mut self, object: u16, count: usize)
         ensures { (o : ℕ) → (count_of self.new o ≡ count_of self.old o)

@@ -1,10 +1,12 @@
 //! A machine with notes.
-ghost use Rattle.std.specs.Prelude.{◌≡◌, ◌≤◌, ◌<◌, ◌+◌, IfOk, IfSome, OnOk, Some, is_some};
+ghost use Rattle.std.specs.Prelude.{◌≡◌, ◌≤◌, ◌<◌, ◌+◌, IfNone, IfOk, IfSome, OnOk, Some, is_some};
 ghost use Rattle.std.specs.Prelude.{option_map};
 ghost use Rattle.std.specs.Option.{option_copied};
-ghost use Rattle.pp_core.specs.Steps.{meaning};
+ghost use Rattle.pp_core.specs.Steps.{Unpull, Unpush, meaning};
+ghost use Rattle.pp_core.specs.declared.entry.SharedEntry.{SharedEntry as EntryOf};
 ghost use Rattle.pp_records.specs.Expansions.{pushall};
 ghost use Rattle.pp_model.specs.Config.{Tx, tx as open_tx};
+ghost use Rattle.pp_model.specs.Lists.{In};
 ghost use Rattle.pp_model.specs.Sound.{Sound};
 ghost use Rattle.pp_machine.specs.Costs.{Costs, at_most};
 ghost use Rattle.pp_machine.specs.Shown.{IsShown};
@@ -13,13 +15,14 @@ ghost use Rattle.pp_kind.specs.Object.{rules_of};
 ghost use Rattle.pp_styles.specs.Knowing.{ForgetsBefore, IsAllBut, IsFollowedBut, IsTrueOf};
 ghost use Rattle.pp_styles.specs.Knowing.{ListsAfter};
 ghost use Rattle.pp_styles.specs.Noting.{known};
-ghost use Rattle.pp_styles.specs.Publishing.{ListsPushed, TellsTrue, UnpassesBefore, publications};
+ghost use Rattle.pp_styles.specs.Publishing.{ListsPushed, PassesBack, TellsTrue, UnpassesBefore};
+ghost use Rattle.pp_styles.specs.Publishing.{publications};
 ghost use Rattle.pp_styles.specs.Sources.{kept_sources};
 
 use crate::notes::Notes;
 use crate::published::Published;
 use crate::source_set::SourceSet;
-use pp_core::{LocalEntry, Name, OutOfMemory, Step, Ticks};
+use pp_core::{LocalEntry, Name, OutOfMemory, SharedEntry, Step, Ticks};
 use pp_kind::Parted;
 use pp_log_local::Local;
 use pp_log_shared::Shared;
@@ -60,24 +63,88 @@ impl<S: Parted> Model for Tracked<S> {
         × TellsTrue S.place_of (publications a.published.value) a.machine.config };
 }
 
-/// Forgets what a step may make untrue: what is known of a transaction that begins, or whose local
-/// log loses an entry or a mark.
-fn forget_before<O: Copy>(notes: &mut Notes, published: &mut Published, step: &Step<O>)
-    ensures notes { ForgetsBefore (meaning step.now) (known notes.old) (known notes.new) }
-    ensures published { UnpassesBefore (meaning step.now) (publications published.old)
+/// The entry of this id in the shared log.
+fn entry_of<S: Parted>(shared: &Shared<S>, id: u32) -> Option<&SharedEntry<S::Op>>
+    ensures some { IfSome result (λ e. (g : EntryOf S.Op) → In g shared.now.1 → g.id ≡ id →
+        g ≡ e.now) }
+    ensures none { IfNone result ((g : EntryOf S.Op) → In g shared.now.1 → g.id ≡ id → ⊥) }
+{
+    // It stands here for what its clauses say of each log.
+    let _distinct = shared.len();
+    let at = shared.find(id)?;
+    let entry = shared.entry(at)?;
+    Some(entry)
+}
+
+/// Takes back that an entry of a transaction that an UNPUSH marks is not unpushed.
+fn mark_unpushed<S: Parted>(notes: &mut Notes, tx: &Name, id: u32, machine: &Machine<S>)
+    ensures { ForgetsBefore S.place_of (Unpush tx.now id) machine.now.config (known notes.old)
+        (known notes.new) }
+{
+    let Some(local) = machine.local(tx) else {
+        return;
+    };
+    let Some(at) = local.find(id) else {
+        return;
+    };
+    notes.lower_pushed(tx, at);
+}
+
+/// Takes back that an entry that an UNPULL takes out is in the local log of a transaction.
+fn note_unpulled<S: Parted>(notes: &mut Notes, tx: &Name, id: u32, machine: &Machine<S>)
+    ensures { ForgetsBefore S.place_of (Unpull tx.now id) machine.now.config (known notes.old)
+        (known notes.new) }
+{
+    let most = notes.pushed(tx).saturating_sub(1);
+    notes.lower_pushed(tx, most);
+    let Some(entry) = entry_of(machine.shared(), id) else {
+        return;
+    };
+    if !entry.committed {
+        return;
+    }
+    notes.give_back(tx, S::place(&entry.op), id);
+}
+
+/// Takes back that a transaction has passed an entry that an UNPULL takes out.
+fn list_unpulled<S: Parted>(published: &mut Published, tx: &Name, id: u32, shared: &Shared<S>)
+    ensures { PassesBack S.place_of shared.now.1 tx.now id (publications published.old)
         (publications published.new) }
 {
+    let Some(entry) = entry_of(shared, id) else {
+        return;
+    };
+    published.give_back(tx, &entry.owner, S::place(&entry.op), id);
+}
+
+/// Forgets what a step may make untrue: what is known of a transaction that begins or ends, and of
+/// an entry that an UNPUSH marks or an UNPULL takes out. No note counts what an UNAPP takes out.
+fn forget_before<S: Parted>(
+    notes: &mut Notes,
+    published: &mut Published,
+    step: &Step<S::Op>,
+    machine: &Machine<S>,
+)
+    ensures notes { ForgetsBefore S.place_of (meaning step.now) machine.now.config
+        (known notes.old) (known notes.new) }
+    ensures published { UnpassesBefore S.place_of (meaning step.now) machine.now.config.shared
+        (publications published.old) (publications published.new) }
+{
     match step {
-        Step::Begin { tx, .. }
-        | Step::Unapp { tx, .. }
-        | Step::Unpush { tx, .. }
-        | Step::Unpull { tx, .. }
-        | Step::Cmt { tx }
-        | Step::Quit { tx } => {
+        Step::Begin { tx, .. } | Step::Cmt { tx } | Step::Quit { tx } => {
             notes.forget(tx);
             published.forget(tx);
         }
-        Step::App { .. } | Step::Push { .. } | Step::Pull { .. } | Step::Note { .. } => {}
+        Step::Unpush { tx, id } => mark_unpushed(notes, tx, *id, machine),
+        Step::Unpull { tx, id } => {
+            note_unpulled(notes, tx, *id, machine);
+            list_unpulled(published, tx, *id, machine.shared());
+        }
+        Step::App { .. }
+        | Step::Unapp { .. }
+        | Step::Push { .. }
+        | Step::Pull { .. }
+        | Step::Note { .. } => {}
     }
 }
 
@@ -326,7 +393,9 @@ impl<S: Parted> Tracked<S> {
             mut notes,
             mut published,
         } = self;
-        forget_before(&mut notes, &mut published, step);
+        // It stands here for what its clauses say of each machine.
+        let _sound = machine.count();
+        forget_before(&mut notes, &mut published, step, &machine);
         let (machine, outcome) = machine.step(step, ticks)?;
         note_after(&mut notes, step, &machine)?;
         list_after(&mut published, step, &machine)?;

@@ -8,6 +8,7 @@ use Rattle.pp_styles.proofs.tracked.Tracked.step.Goals as goal
 
 pub invariant_of-result : goal.invariant_of-result
 invariant_of-result g c =
+    let P = g.S.Placed.place_of in
     let step = meaning c.args.step.now in
     let machine = c.in_ok-machine.machine in
     let new = c.forget_before.new.notes in
@@ -15,10 +16,10 @@ invariant_of-result g c =
     let unpassed = c.forget_before.new.published in
     let listed = c.list_after.new.published in (
       true_behind g.S.Spec.object g.S.Placed.place_of (known c.self.inside.notes.value) c.self.inside.machine c.self.inside.machine refl c.self.invariant.0
-          step c.in_ok-machine.outcome machine (known new) (known last) c.in_ok-machine.ensures.effect
-          (subst (λ n. ForgetsBefore step (known n) (known new)) c.deref_mut.ensures.value c.forget_before.ensures.notes)
+          c.count-sound.ensures.sound step c.in_ok-machine.outcome machine (known new) (known last) c.in_ok-machine.ensures.effect
+          (subst (λ n. ForgetsBefore P step c.self.inside.machine.config (known n) (known new)) c.deref_mut.ensures.value c.forget_before.ensures.notes)
           (subst (λ n. ListsAfter g.S.Placed.place_of step machine.config.done (known n) (known last)) c.deref_mut-3.ensures.value c.in_ok-note_after.ensures),
-      lists_behind g.S.Spec.object g.S.Placed.place_of (publications c.self.inside.published.value) c.self.inside.machine c.self.invariant.1 step c.in_ok-machine.outcome machine (publications unpassed) (publications listed) c.in_ok-machine.ensures.effect
-          (subst (λ n. UnpassesBefore step (publications n) (publications unpassed)) c.deref_mut-2.ensures.value c.forget_before.ensures.published)
+      lists_behind g.S.Spec.object g.S.Placed.place_of (publications c.self.inside.published.value) c.self.inside.machine c.self.invariant.1 c.count-sound.ensures.sound step c.in_ok-machine.outcome machine (publications unpassed) (publications listed) c.in_ok-machine.ensures.effect
+          (subst (λ n. UnpassesBefore P step c.self.inside.machine.config.shared (publications n) (publications unpassed)) c.deref_mut-2.ensures.value c.forget_before.ensures.published)
           (subst (λ n. ListsPushed g.S.Placed.place_of step machine.config.shared (publications n) (publications listed)) c.deref_mut-4.ensures.value c.in_ok-list_after.ensures),
     )
