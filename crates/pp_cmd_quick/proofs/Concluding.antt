@@ -37,8 +37,8 @@ use Rattle.pp_cmd_quick.specs.Reports.{quick_accepted_text, quick_rejected_text}
 use Rattle.pp_cmd_quick.specs.Taking.{AreGood, HasFailed, quick_judging}
 use Rattle.pp_cmd_quick.specs.declared.decider.Decider.{Decider}
 use Rattle.pp_cmd_quick.specs.declared.decider.FailedOn.{FailedOn}
-use Rattle.pp_cmd_quick.specs.DeciderLaws.{boosted_fault}
-use Rattle.pp_cmd_quick.proofs.Readers.{all_hold, committed_are}
+use Rattle.pp_cmd_quick.specs.DeciderLaws.{all_hold, boosted_fault}
+use Rattle.pp_cmd_quick.proofs.Readers.{committed_are}
 
 pub few_serial : (a b k : ℕ) → a ≡ b → b ≤ k + 256 → k ≤ 200_000 → a < 1_000_000
 few_serial a b k x y z = omega (arith, x, y, z)

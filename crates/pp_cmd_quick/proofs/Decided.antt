@@ -23,10 +23,10 @@ use Rattle.pp_judge.specs.Inputs.{scan}
 use Rattle.pp_judge.specs.Objects.{object_of, setting_of, start_of, translation_of}
 use Rattle.pp_judge.specs.Reports.{RunReport}
 use Rattle.pp_judge.specs.Scans.{InputScan}
-use Rattle.pp_cmd_quick.specs.Decisions.{Accepts, AllHold, Decision, FailsOn, Faulty, IsDecision, IsDecisionBehind, IsDecisionOf, IsDecisionTold, IsQuick, IsVerdictBehind, Rejects, acceptance, quick_fault, steps_behind}
+use Rattle.pp_cmd_quick.specs.Decisions.{Accepts, Decision, FailsOn, Faulty, IsDecision, IsDecisionBehind, IsDecisionOf, IsDecisionTold, IsQuick, IsVerdictBehind, Rejects, acceptance, quick_fault, steps_behind}
 use Rattle.pp_cmd_quick.specs.Reports.{quick_accepted_text}
 use Rattle.pp_cmd_quick.specs.Laws.{DecisionLaw, IsSameDecision, TellsVerdict}
-use Rattle.pp_cmd_quick.specs.DeciderLaws.{boosted_fault}
+use Rattle.pp_cmd_quick.specs.DeciderLaws.{boosted_fault, none_fails}
 use Rattle.pp_cmd_quick.proofs.Verdicts.{some_verdict}
 
 module _ (header : Lined Header) (rs : Records (RunRecord Op)) where
@@ -34,10 +34,6 @@ module _ (header : Lined Header) (rs : Records (RunRecord Op)) where
   O_law = failure_law (object_of header.what) (translation_of header.what)
 
   -- ---- one decision at most
-
-  not_both : (line : ℕ) → AllHold header.what rs → FailsOn header rs line → ⊥
-  not_both line a (inl k) = k.0 a.0
-  not_both line a (inr k) = O_law.none (start_of header.what) rs k.0 k.1 a.1
 
   one_line : (m n : ℕ) → FailsOn header rs m → FailsOn header rs n → m ≡ n
   one_line m n (inl a) (inl b) = a.1 ∙ sym b.1
@@ -48,8 +44,8 @@ module _ (header : Lined Header) (rs : Records (RunRecord Op)) where
 
   one_of : (d e : Decision) → IsDecisionOf header rs d → IsDecisionOf header rs e → d ≡ e
   one_of d e (inl a) (inl b) = a.1 ∙ sym b.1
-  one_of d e (inl a) (inr b) = absurd (not_both b.0 a.0 b.1)
-  one_of d e (inr a) (inl b) = absurd (not_both a.0 b.0 a.1)
+  one_of d e (inl a) (inr b) = absurd (none_fails header rs b.0 a.0 b.1)
+  one_of d e (inr a) (inl b) = absurd (none_fails header rs a.0 b.0 a.1)
   one_of d e (inr a) (inr b) = a.2 ∙ ap (λ (n : ℕ). Rejects n) (one_line a.0 b.0 a.1 b.1) ∙ sym b.2
 
   -- ---- some

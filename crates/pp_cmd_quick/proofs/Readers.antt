@@ -7,8 +7,7 @@ use Rattle.pp_records.specs.Records.{RunRecord}
 use Rattle.pp_records.specs.Runs.{Lined, Records, bare}
 use Rattle.pp_records.specs.Styles.{translation}
 use Rattle.pp_format_read.specs.declared.header.Header.{Header}
-use Rattle.pp_model.specs.Config.{Start, first}
-use Rattle.pp_model.specs.Rules.{RunsFrom, StartMeets}
+use Rattle.pp_model.specs.Config.{Start}
 use Rattle.pp_model.specs.Serial.{attempts, committed_tx}
 use Rattle.pp_objects.specs.Objects.{SameAt, kinds_of, objects, place_of}
 use Rattle.pp_objects.specs.laws.Objects.{objects_placed}
@@ -28,7 +27,7 @@ use Rattle.pp_summary.proofs.Whole.{decided}
 use Rattle.pp_kind.specs.Object.{rules_of}
 use Rattle.pp_judge.specs.Objects.{object_of, start_of, translation_of}
 use Rattle.pp_cmd_quick.specs.Costs.{first_brief}
-use Rattle.pp_cmd_quick.specs.Decisions.{AllHold, steps_behind}
+use Rattle.pp_cmd_quick.specs.Decisions.{steps_behind}
 use Rattle.pp_cmd_quick.specs.Taking.{AreGoodBehind}
 
 pub reads : (ks : List Kind) (h : Option (Start Op)) → IsReader objects place_of ks h
@@ -47,14 +46,6 @@ briefs_decide header = decided (object_of header) place_of (apart_of objects pla
 module _ (h : Header) (rs : Records (RunRecord Op)) (quick : Held (List Kind) Op) (c : AreGoodBehind h rs quick) where
   abbrev ks : List Kind
   ks = kinds_of h.catalog
-
-  -- the start and each step hold
-  pub all_hold : AllHold h rs
-  all_hold = (
-    subst (λ (k : List Kind). StartMeets (rules_of objects k) (start_of h)) c.shape c.read.begun,
-    subst (λ (s : Style). RunsFrom (object_of h) (first (start_of h)) (bare (all_steps (translation place_of s ks) (start_of h) rs))) (sym c.style)
-        (subst (λ (k : List Kind). RunsFrom (rules_of objects k) (first (start_of h)) (bare (all_steps (boosting place_of ks) (start_of h) rs))) c.shape c.read.hold),
-  )
 
   -- what was committed
   pub committed_are : quick.brief.done ≡ map committed_tx (attempts (start_of h) (bare (steps_behind h rs)))

@@ -2,21 +2,27 @@
 use Rattle.std.specs.Prelude.{◌≡◌, ◌≤◌, ◌+◌, ℕ, Bool, true, false, cond, List, [], ◌∷◌, ◌++◌, Option, None, Some}
 use Rattle.std.proofs.Common.{refl, sym, ap, ◌∙◌, subst, arith, append_assoc}
 use mathlib.Core.Logic.{inl, inr}
+use Rattle.pp_core.specs.declared.call.Kind.{Kind}
 use Rattle.pp_core.specs.declared.call.Style.{Style}
 use Rattle.pp_core.specs.declared.call.Style.TheVariants as styles
 use Rattle.pp_records.specs.Inputs.{Widens}
 use Rattle.pp_records.specs.Records.{RunRecord}
 use Rattle.pp_records.specs.Runs.{Lined, Records, bare}
+use Rattle.pp_records.specs.Styles.{translation}
 use Rattle.pp_records.proofs.Ends.{bare_append}
 use Rattle.pp_format_read.specs.declared.header.Header.{Header}
+use Rattle.pp_model.specs.Config.{first}
 use Rattle.pp_model.specs.Object.{Object}
+use Rattle.pp_model.specs.Rules.{RunsFrom, StartMeets}
 use Rattle.pp_objects.specs.declared.act.Op.{Op}
-use Rattle.pp_objects.specs.Objects.{place_of}
+use Rattle.pp_objects.specs.Objects.{kinds_of, objects, place_of}
 use Rattle.pp_summary.specs.Brief.{Brief, brief_then}
-use Rattle.pp_summary.specs.Held.{take_most}
-use Rattle.pp_summary.specs.Failures.{FailsIn}
+use Rattle.pp_summary.specs.Held.{Held, take_most}
+use Rattle.pp_summary.specs.Failures.{FailsIn, all_steps}
+use Rattle.pp_summary.specs.Runs.{boosting}
 use Rattle.pp_summary.specs.Sums.{AreTried, count_ops, records_most}
 use Rattle.pp_summary.proofs.Failures.{failure_law}
+use Rattle.pp_kind.specs.Object.{rules_of}
 use Rattle.pp_input_reader.specs.declared.cause.Cause.{Cause}
 use Rattle.pp_input_reader.specs.declared.cause.Cause.TheVariants.{NotBoosted}
 use Rattle.pp_judge.specs.Costs.{start_at_most}
@@ -26,8 +32,8 @@ use Rattle.pp_judge.specs.Scans.{InputScan, nothing}
 use Rattle.pp_judge.specs.Tallies.{scan_of}
 use Rattle.pp_judge.specs.laws.Driven.{add_le, up_more}
 use Rattle.pp_cmd_quick.specs.Costs.{OfTaken, OfTried, RecordsCostAtMost, first_brief, tried_most}
-use Rattle.pp_cmd_quick.specs.Decisions.{FailsOn, is_boosted, quick_fault, style_fault}
-use Rattle.pp_cmd_quick.specs.Taking.{quick_judging}
+use Rattle.pp_cmd_quick.specs.Decisions.{AllHold, FailsOn, is_boosted, quick_fault, style_fault}
+use Rattle.pp_cmd_quick.specs.Taking.{AreGoodBehind, quick_judging}
 
 -- ---- the fault
 
@@ -159,10 +165,36 @@ fails_stay header rs more line (inr k) =
       k.2,
     )
 
+-- ---- records that are good
+
+-- the start and each of their steps hold
+pub all_hold : (h : Header) (rs : Records (RunRecord Op)) (quick : Held (List Kind) Op) →
+    AreGoodBehind h rs quick → AllHold h rs
+all_hold h rs quick c = (
+  subst (λ (k : List Kind). StartMeets (rules_of objects k) (start_of h)) c.shape c.read.begun,
+  subst (λ (s : Style). RunsFrom (object_of h) (first (start_of h))
+      (bare (all_steps (translation place_of s (kinds_of h.catalog)) (start_of h) rs)))
+      (sym c.style)
+      (subst (λ (k : List Kind). RunsFrom (rules_of objects k) (first (start_of h))
+      (bare (all_steps (boosting place_of (kinds_of h.catalog)) (start_of h) rs))) c.shape
+      c.read.hold),
+)
+
+-- then no record fails
+pub none_fails : (header : Lined Header) (rs : Records (RunRecord Op)) (line : ℕ) →
+    AllHold header.what rs → FailsOn header rs line → ⊥
+none_fails header rs line all (inl k) = k.0 all.0
+none_fails header rs line all (inr k) =
+    (failure_law (object_of header.what) (translation_of header.what)).none (start_of header.what)
+    rs k.0 k.1 all.1
+
 -- ---- the laws
 
 pub quick_laws : JudgingLaws quick_judging
 quick_laws = record {
+  not_both = λ h rs judge failed good bad. none_fails h rs failed.line
+      (all_hold h.what rs judge.quick good) bad.1;
+  one_fault = λ sc f g is same. sym is ∙ same;
   first_fault = λ fault. refl;
   good_fault = λ h rs judge fault good. boosted_fault (record (scan_of h rs) { fault = fault }) h
       refl good.style;

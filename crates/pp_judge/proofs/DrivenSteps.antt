@@ -1,11 +1,12 @@
 -- What the machine as a judge says of a start, and of a record more.
 use Rattle.std.specs.Prelude.{◌≡◌, ◌≤◌, ◌+◌, ℕ, zero, suc, Bool, true, false, List, [], ◌∷◌}
-use Rattle.std.specs.Prelude.{◌++◌, length, take, None, Some}
+use Rattle.std.specs.Prelude.{◌++◌, length, take, Option, None, Some, Result, Ok, Err}
 use Rattle.std.proofs.Common.{refl, sym, ap, ◌∙◌, subst, arith, append_assoc}
 use Rattle.std.proofs.lemmas.List.{append-nil, take_all}
 use Rattle.pp_core.specs.Steps.{Step, meaning}
 use Rattle.pp_core.specs.declared.call.Kind.{Kind}
 use Rattle.pp_core.specs.declared.status.Status.TheVariants as statuses
+use Rattle.pp_core.specs.declared.step.Rule.{Rule}
 use Rattle.pp_core.specs.declared.step.Rule.TheVariants as rules
 use Rattle.pp_core.specs.declared.step.Step.{Step as StepOf}
 use Rattle.pp_records.specs.Expansions.{front_after}
@@ -16,31 +17,49 @@ use Rattle.pp_records.proofs.Reading.{reading_law}
 use Rattle.pp_format_read.specs.declared.header.Header.{Header}
 use Rattle.pp_model.specs.Config.{but_last, first}
 use Rattle.pp_model.specs.Lists.{Each}
+use Rattle.pp_model.specs.Sound.{Sound}
 use Rattle.pp_objects.specs.Objects.{kinds_of, objects, place_of}
 use Rattle.pp_objects.specs.declared.act.Op.{Op}
 use Rattle.pp_machine.specs.Machines.{Seen}
 use Rattle.pp_machine.specs.declared.detail.Detail.{Detail}
 use Rattle.pp_machine.specs.declared.machine.Outcome.TheVariants.{Done, False}
+use Rattle.pp_kind.specs.Object.{rules_of}
 use Rattle.pp_styles.specs.AnyFronts.{any_state, any_style}
 use Rattle.pp_styles.specs.Costs.{singles}
-use Rattle.pp_styles.specs.Driving.{CostAtMost, HasDone}
+use Rattle.pp_styles.specs.Driving.{CostAtMost, Drives, HasDone}
 use Rattle.pp_styles.specs.Meanings.{meanings}
 use Rattle.pp_styles.specs.declared.any_front.AnyFront.{AnyFront}
+use Rattle.pp_styles.specs.declared.drive.Halt.{Halt}
+use Rattle.pp_styles.specs.declared.drive.Halt.TheVariants.{Failed, TooMany}
+use Rattle.pp_input_reader.specs.Takers.{IfFault}
+use Rattle.pp_input_reader.specs.declared.cause.Cause.{Cause}
 use Rattle.pp_input_reader.specs.declared.cause.Cause.TheVariants.{TooManySteps}
+use Rattle.pp_input_reader.specs.declared.stop.Stop.{Stop}
+use Rattle.pp_input_reader.specs.declared.stop.Stop.TheVariants as stops
 use Rattle.pp_judge.specs.Costs.{StepsCostAtLeast, StepsCostAtMost, start_at_most, steps_at_most}
-use Rattle.pp_judge.specs.Driven.{HasSeenRun, driven_judging}
+use Rattle.pp_judge.specs.Driven.{HasSeenRun, driven_judging, judged_of}
 use Rattle.pp_judge.specs.Judging.{CostsAtMostThere, HasFaultThere, Judges}
 use Rattle.pp_judge.specs.Objects.{object_of, start_of, translation_of}
-use Rattle.pp_judge.specs.Running.{EndsAt, FailsWithin, GoesOn, HasCount, HasStarted, IsFirstFront, Overruns}
-use Rattle.pp_judge.specs.Running.{RecordTaken, steps_here}
+use Rattle.pp_judge.specs.Running.{EndsAt, GoesOn, HasStarted, IsFirstFront, rejection_on}
 use Rattle.pp_judge.specs.Tallies.{headed, scan_of}
 use Rattle.pp_judge.specs.declared.driven.Driven.{Driven}
+use Rattle.pp_judge.specs.declared.driven.Refused.{Refused}
 use Rattle.pp_judge.specs.declared.driven.Rejection.{Rejection}
+use Rattle.pp_judge.specs.declared.judge.Judged.{Judged}
 use Rattle.pp_judge.specs.declared.judge.Judged.TheVariants.{Good, Bad}
 use Rattle.pp_judge.specs.laws.Driven.{empty_run, no_steps}
+use Rattle.pp_judge.proofs.Driving.{FailsWithin, Overruns, fails, steps_here, too_many}
 use Rattle.pp_judge.proofs.RecordCosts.{done_run, least_done, least_failed, most_record, run_to_failed}
 use Rattle.pp_judge.proofs.Recorded.{ends_there, goes_on, overruns_there}
 use Rattle.pp_judge.proofs.Running.{all_so_far, run_there}
+
+-- ---- results
+
+same_Ok : {A E : Type 0} (a b : A) → (let o : Result A E = Ok a in o) ≡ Ok b → a ≡ b
+same_Ok a b is = cc
+
+same_Err : {A E : Type 0} (a b : E) → (let o : Result A E = Err a in o) ≡ Err b → a ≡ b
+same_Err a b is = cc
 
 -- ---- lists
 
@@ -126,72 +145,92 @@ module _ {W : Type 0} (HasSeen : Header → List (Step Op) → W → Type 0) whe
 
   -- an observer that was shown the steps behind those so far
   seen_next : (looks : Bool) → (looks ≡ false → (h : Header) (steps : List (Step Op)) (v : W) → HasSeen h steps v) → (h : Header) (before steps : List (Step Op)) (w next : W)
-      → (looks ≡ true → (so_far : List (Step Op)) → HasSeen h so_far w → HasSeen h (so_far ++ steps) next) → HasSeen h before w → (steps' : List (Step Op)) → (looks ≡ true → steps ≡ steps') → HasSeen h (before ++ steps') next
-  seen_next true blind h before steps w next sees seen steps' is = subst (λ (ss : List (Step Op)). HasSeen h (before ++ ss) next) (is refl) (sees refl before seen)
-  seen_next false blind h before steps w next sees seen steps' is = blind refl h (before ++ steps') next
+      → (looks ≡ true → (so_far : List (Step Op)) → HasSeen h so_far w → HasSeen h (so_far ++ steps) next) → HasSeen h before w → (others : List (Step Op)) → steps ≡ others → HasSeen h (before ++ others) next
+  seen_next true blind h before steps w next sees seen others is = subst (λ (ss : List (Step Op)). HasSeen h (before ++ ss) next) is (sees refl before seen)
+  seen_next false blind h before steps w next sees seen others is = blind refl h (before ++ others) next
 
   module _ (looks : Bool) (blind : looks ≡ false → (h : Header) (steps : List (Step Op)) (v : W) → HasSeen h steps v) (h : Header) (judge : Driven W) (r : RunRecord Op) (line now new : ℕ)
-      (list : List (Step Op)) (listed : looks ≡ true → list ≡ steps_here h judge.front judge.machine r) where
+      (told : List (Step Op)) (next : W) (sees : looks ≡ true → (so_far : List (Step Op)) → HasSeen h so_far judge.observer → HasSeen h (so_far ++ told) next) where
     abbrev here : List (Step Op)
     here = steps_here h judge.front judge.machine r
 
-    pub judges_good : (front : AnyFront) (machine : Seen (List Kind) Op) (next : W) → any_style front ≡ any_style judge.front
-        → any_state (kinds_of h.catalog) front ≡ front_after (any_state (kinds_of h.catalog) judge.front) judge.machine.config r → HasDone objects judge.machine here [] machine now new
-        → (looks ≡ true → (so_far : List (Step Op)) → HasSeen h so_far judge.observer → HasSeen h (so_far ++ list) next)
-        → Judges (driven_judging HasSeen) h judge r line (Good (record { front = front; machine = machine; observer = next })) now new
-    judges_good front machine next style kept done sees = record {
+    abbrev TakenSo : Judged (Driven W) (Refused W) → Type 0
+    TakenSo judged = Judges (driven_judging HasSeen) h judge r line judged now new
+
+    taken_good : (front : AnyFront) (machine : Seen (List Kind) Op) → any_style front ≡ any_style judge.front
+        → any_state (kinds_of h.catalog) front ≡ front_after (any_state (kinds_of h.catalog) judge.front) judge.machine.config r → (done : HasDone objects judge.machine here [] machine now new)
+        → told ≡ done.before → TakenSo (Good (record { front = front; machine = machine; observer = next }))
+    taken_good front machine style kept done first = record {
       is = λ at before good.
-          let c = good.0 in
-          let all : here ≡ done.before = done.parts ∙ append-nil done.before in (
+          let c = good.0 in (
             goes_on h before judge.front judge.machine c r line front machine now new style kept done,
             λ run is. subst (λ (ss : List (Step Op)). HasSeen h ss next) (sym (done_run h before judge.front judge.machine c line r now new machine done run is))
-                (seen_next looks blind h (bare (all_so_far h before)) list judge.observer next sees (good.1 (all_so_far h before) (run_there h before judge.front judge.machine c)) done.before
-                (λ yes. listed yes ∙ all)),
+                (seen_next looks blind h (bare (all_so_far h before)) told judge.observer next sees (good.1 (all_so_far h before) (run_there h before judge.front judge.machine c)) done.before first),
           );
       least = λ at before good old least. least_done h before judge.front judge.machine good.0 line r at old now new least machine done;
     }
 
-    pub judges_bad : (n : ℕ) (told : List (Step Op)) (rejection : Rejection) (next : W) (e : FailsWithin judge.machine here line now new rejection) → told ≡ take n list → (looks ≡ true → n ≡ suc (length e.done.before))
-        → (looks ≡ true → (so_far : List (Step Op)) → HasSeen h so_far judge.observer → HasSeen h (so_far ++ told) next)
-        → Judges (driven_judging HasSeen) h judge r line (Bad (record { rejection = rejection; observer = next })) now new
-    judges_bad n told rejection next e first count sees = record {
+    taken_bad : (rejection : Rejection) (e : FailsWithin judge.machine here line now new rejection) → told ≡ e.done.before ++ e.step ∷ []
+        → TakenSo (Bad (record { rejection = rejection; observer = next }))
+    taken_bad rejection e first = record {
       is = λ at before good.
           let c = good.0 in
           let done : List (Step Op) = e.done.before in
           let xs : List (Step Op) = bare (all_so_far h before) in (
             ends_there h before judge.front judge.machine c r at line now new rejection e,
             λ run is. subst (λ (ss : List (Step Op)). HasSeen h ss next) (sym (run_to_failed h before judge.front judge.machine c line r now new rejection e run is ∙ append_assoc xs done (e.step ∷ [])))
-                (seen_next looks blind h xs told judge.observer next sees (good.1 (all_so_far h before) (run_there h before judge.front judge.machine c)) (done ++ e.step ∷ [])
-                (λ yes. first ∙ ap (λ (l : List (Step Op)). take n l) (listed yes ∙ e.done.parts) ∙ take_to n done e.step e.behind (count yes))),
+                (seen_next looks blind h xs told judge.observer next sees (good.1 (all_so_far h before) (run_there h before judge.front judge.machine c)) (done ++ e.step ∷ []) first),
           );
       least = λ at before good old least. least_failed h before judge.front judge.machine good.0 line r at old now new least rejection e;
     }
 
-  module _ (looks : Bool) (blind : looks ≡ false → (h : Header) (steps : List (Step Op)) (v : W) → HasSeen h steps v) (h : Header) (judge : Driven W) (r : RunRecord Op) (line now new : ℕ)
-      (list front_list : List (StepOf Op)) (count : ℕ) (is : front_list ≡ take count list) (listed : looks ≡ true → meanings list ≡ steps_here h judge.front judge.machine r)
-      (front : AnyFront) (machine : Seen (List Kind) Op) (next : W) (sees : looks ≡ true → (so_far : List (Step Op)) → HasSeen h so_far judge.observer → HasSeen h (so_far ++ meanings front_list) next) where
-    -- all steps are done
-    pub taken_good : (looks ≡ true → HasCount judge.machine list count None) → RecordTaken h judge.front judge.machine r line now front machine None new
-        → Judges (driven_judging HasSeen) h judge r line (Good (record { front = front; machine = machine; observer = next })) now new
-    taken_good counted t =
-        judges_good looks blind h judge r line now new (meanings front_list)
-        (λ yes. ap (λ (l : List (StepOf Op)). meanings l) (is ∙ take_all count list (no_more (length list) count (counted yes))) ∙ listed yes) front machine next t.0 t.1 t.2 sees
-      where
-        no_more : (n k : ℕ) → k ≡ n → n ≤ k
-        no_more n k same = omega (arith, same)
+    module _ (front : AnyFront) (machine : Seen (List Kind) Op) (style : any_style front ≡ any_style judge.front)
+        (kept : any_state (kinds_of h.catalog) front ≡ front_after (any_state (kinds_of h.catalog) judge.front) judge.machine.config r) (sound : Sound (rules_of objects machine.shape) machine.config)
+        (done : ℕ) (first : told ≡ take (done + 1) here) (count : done + judge.machine.count ≡ machine.count) where
+      -- so many steps are done
+      as_many : (rest : List (Step Op)) (d : HasDone objects judge.machine here rest machine now new) → done ≡ length d.before
+      as_many rest d =
+          let same : machine.count ≡ judge.machine.count + length d.before = ap (λ (v : Seen (List Kind) Op). v.count) d.is in
+          omega (arith, same, count)
 
-    -- one is not
-    pub taken_bad : (rejection : Rejection) → (looks ≡ true → HasCount judge.machine list count (Some rejection)) → RecordTaken h judge.front judge.machine r line now front machine (Some rejection) new
-        → Judges (driven_judging HasSeen) h judge r line (Bad (record { rejection = rejection; observer = next })) now new
-    taken_bad rejection counted t =
-        let at_is : t.at.count ≡ judge.machine.count + length t.done.before = ap (λ (v : Seen (List Kind) Op). v.count) t.done.is in
-        let step_is : rejection.step ≡ t.at.count + 1 = ap (λ (w : Rejection). w.step) t.is in
-        judges_bad looks blind h judge r line now new (meanings list) listed count (meanings front_list) rejection next t (told_meant count front_list list is)
-        (λ yes. let counts = counted yes in omega (arith, at_is, step_is, counts)) sees
+      judges_done : HasDone objects judge.machine here [] machine now new → TakenSo (Good (record { front = front; machine = machine; observer = next }))
+      judges_done d =
+          let all : here ≡ d.before = d.parts ∙ append-nil d.before in
+          let same : length here ≡ length d.before = ap (λ (l : List (Step Op)). length l) all in
+          let many : done ≡ length d.before = as_many [] d in
+          taken_good front machine style kept d (first ∙ take_all (done + 1) here (omega (arith, same, many)) ∙ all)
+
+      judges_failed : (rule : Rule) (n : ℕ) (detail : Detail Op) → Drives objects judge.machine here now (Some (Failed rule n detail)) machine new
+          → TakenSo (Bad (record { rejection = record { step = machine.count + 1; line = line; rule = rule; criterion = n; detail = detail }; observer = next }))
+      unfolding fails
+      judges_failed rule n detail d =
+          let e = fails judge.machine machine here now new line rule n detail sound d in
+          let many : done ≡ length e.done.before = as_many (d.0 ∷ d.1) d.2 in
+          taken_bad (record { step = machine.count + 1; line = line; rule = rule; criterion = n; detail = detail }) e
+          (first ∙ ap (λ (l : List (Step Op)). take (done + 1) l) e.done.parts ∙ take_to (done + 1) e.done.before e.step e.behind (omega (arith, many)))
+
+      pub judges : (halt : Option (Halt Op)) (rejection : Option Rejection) → Drives objects judge.machine here now halt machine new → rejection_on line machine.count halt ≡ Ok rejection
+          → TakenSo (judged_of front machine next rejection)
+      judges None rejection d is =
+          let same : None ≡ rejection = same_Ok None rejection is in
+          subst (λ (o : Option Rejection). TakenSo (judged_of front machine next o)) same (judges_done d)
+      judges (Some TooMany) rejection d is = absurd (cc)
+      judges (Some (Failed rule n detail)) rejection d is =
+          let same = same_Ok (Some (record { step = machine.count + 1; line = line; rule = rule; criterion = n; detail = detail })) rejection is in
+          subst (λ (o : Option Rejection). TakenSo (judged_of front machine next o)) same (judges_failed rule n detail d)
 
   module _ (h : Header) (judge : Driven W) (r : RunRecord Op) (line now new : ℕ) where
     pub judges_most : CostAtMost objects place_of judge.machine (steps_here h judge.front judge.machine r) now new → CostsAtMostThere (driven_judging HasSeen) h judge r line now new
     judges_most cost at before good old most = most_record h before judge.front judge.machine good.0 line r at old now new most cost
 
-    pub judges_overrun : Overruns judge.machine (steps_here h judge.front judge.machine r) now new → HasFaultThere (driven_judging HasSeen) h judge r line TooManySteps
+    judges_overrun : Overruns judge.machine (steps_here h judge.front judge.machine r) now new → HasFaultThere (driven_judging HasSeen) h judge r line TooManySteps
     judges_overrun over at before good = overruns_there h before judge.front judge.machine good.0 r at line now new over
+
+    -- a halt that is no rejection
+    pub stops_there : (machine : Seen (List Kind) Op) (halt : Option (Halt Op)) (stop : Stop Cause) → Drives objects judge.machine (steps_here h judge.front judge.machine r) now halt machine new
+        → rejection_on line machine.count halt ≡ Err stop → IfFault stop (λ at cause. (at ≡ line) × HasFaultThere (driven_judging HasSeen) h judge r line cause)
+    stops_there machine None stop d is = absurd (cc)
+    stops_there machine (Some TooMany) stop d is =
+        subst (λ (w : Stop Cause). IfFault w (λ at cause. (at ≡ line) × HasFaultThere (driven_judging HasSeen) h judge r line cause)) (same_Err (stops.Fault line TooManySteps) stop is)
+        (refl, judges_overrun (too_many judge.machine machine (steps_here h judge.front judge.machine r) now new d))
+    stops_there machine (Some (Failed rule n detail)) stop d is = absurd (cc)

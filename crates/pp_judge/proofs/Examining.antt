@@ -1,5 +1,6 @@
 -- The lines of a run, and what an input is found to be, whatever the judge.
 use Rattle.std.specs.Prelude.{◌≡◌, ℕ, ◌+◌, List, [], ◌∷◌, ◌++◌, length, Option, None, Some}
+use Rattle.std.specs.Prelude.{Result, Ok, Err, IfOk, IfErr, OnErr}
 use Rattle.std.specs.Option.{option_or}
 use Rattle.std.specs.Io.KnownBytes.{IsAtEnd}
 use Rattle.std.proofs.Common.{refl, lit≤, sym, ap, ◌∙◌, subst, arith, length-append}
@@ -54,8 +55,18 @@ module _ {J R : Type 0} (M : Judging J R) where
   stops_with from line now new costs first lines leads =
       subst (λ (s : InputScan). M.AtMost s first new) (sym (scan_more lines line)) (costs (scan_lines lines) first leads.covers)
 
+  -- what `take` answers, where this is where it leads
+  pub takes_on : (from : Progress J R) (line : NumberedLine) (now new : ℕ) (to : Result (Progress J R) (Stop Cause)) → IsNextLine M from line now → IfOk to (λ p. LeadsTo M from line now p new)
+      → IfOk to (λ p. (first : ℕ) → LeadsOn (judged_reading M first) (from, now) line (p, new))
+  takes_on from line now new (Ok p) next leads = λ first. leads_on from line now p new next leads first
+  takes_on from line now new (Err stop) next leads = tt
+
+  pub costs_on : (from : Progress J R) (line : NumberedLine) (now new : ℕ) (to : Result (Progress J R) (Stop Cause)) → CostsOn M from line now new → OnErr to ((first : ℕ) → StopsWith (judged_reading M first) (from, now) line new)
+  costs_on from line now new (Ok p) costs = tt
+  costs_on from line now new (Err stop) costs = λ first. stops_with from line now new costs first
+
   module _ (laws : JudgingLaws M) where
-    pub stops_at : (from : Progress J R) (line : NumberedLine) (now : ℕ) (stop : Stop Cause) → IfFault stop (λ at cause. (at ≡ line.0) × HasFaultOn M from line now cause) → (first : ℕ) → StopsAt (judged_reading M first) (from, now) line stop
+    stops_at : (from : Progress J R) (line : NumberedLine) (now : ℕ) (stop : Stop Cause) → IfFault stop (λ at cause. (at ≡ line.0) × HasFaultOn M from line now cause) → (first : ℕ) → StopsAt (judged_reading M first) (from, now) line stop
     stops_at from line now stop stops first =
         if_fault stop (λ at cause. (at ≡ line.0) × HasFaultOn M from line now cause) (λ at cause. (lines : List NumberedLine) → Leads M lines from first now → HasFaultBehind (judged_reading M first) (lines ++ line ∷ []) at cause)
         (λ at cause said lines leads more.
@@ -64,6 +75,12 @@ module _ {J R : Type 0} (M : Judging J R) where
         subst (λ (n : ℕ). M.IsFault (scan_lines ((lines ++ line ∷ []) ++ more)) (Some (n, cause))) (sym said.0)
         (laws.fault_stays (scan_lines (lines ++ line ∷ [])) (scan_lines ((lines ++ line ∷ []) ++ more)) (line.0, cause) (widens_lines (lines ++ line ∷ []) more) here))
         stops
+
+    -- and where this is its fault
+    pub stops_on : (from : Progress J R) (line : NumberedLine) (now : ℕ) (to : Result (Progress J R) (Stop Cause)) → IfErr to (λ stop. IfFault stop (λ at cause. (at ≡ line.0) × HasFaultOn M from line now cause))
+        → IfErr to (λ stop. (first : ℕ) → StopsAt (judged_reading M first) (from, now) line stop)
+    stops_on from line now (Ok p) stops = tt
+    stops_on from line now (Err stop) stops = λ first. stops_at from line now stop stops first
 
     -- ---- the fault of an input
 

@@ -6,6 +6,7 @@ pub mod Examining
 pub mod Running
 pub mod Recorded
 pub mod Driving
+pub mod Asking
 pub mod RecordCosts
 pub mod Starting
 pub mod Writable

@@ -27,10 +27,11 @@ use Rattle.pp_styles.specs.declared.any_front.AnyFront.{AnyFront}
 use Rattle.pp_styles.proofs.Driven.{most_append, singles_append}
 use Rattle.pp_judge.specs.Costs.{StepsCostAtLeast, StepsCostAtMost, start_at_most, steps_at_most}
 use Rattle.pp_judge.specs.Objects.{object_of, start_of, translation_of}
-use Rattle.pp_judge.specs.Running.{FailsWithin, GoesOn, steps_here}
+use Rattle.pp_judge.specs.Running.{GoesOn}
 use Rattle.pp_judge.specs.Tallies.{headed, one_more, scan_of}
 use Rattle.pp_judge.specs.declared.driven.Rejection.{Rejection}
 use Rattle.pp_judge.specs.laws.Driven.{add_le, few_steps, most_front, up_more}
+use Rattle.pp_judge.proofs.Driving.{FailsWithin, steps_here}
 use Rattle.pp_judge.proofs.Recorded.{breaks_there, hold_there, on_line_append, same_steps}
 use Rattle.pp_judge.proofs.Running.{all_so_far, config_there, run_there}
 use Rattle.pp_judge.proofs.Tallying.{on_record}

@@ -33,11 +33,11 @@ use Rattle.pp_styles.specs.declared.any_front.AnyFront.{AnyFront}
 use Rattle.pp_input_reader.specs.declared.cause.Cause.TheVariants.{TooManySteps}
 use Rattle.pp_judge.specs.Inputs.{IsFaultOf}
 use Rattle.pp_judge.specs.Objects.{object_of, setting_of, start_of, translation_of}
-use Rattle.pp_judge.specs.Running.{EndsAt, FailsWithin, GoesOn, Overruns, rejection_of, standing_of}
-use Rattle.pp_judge.specs.Running.{steps_here}
+use Rattle.pp_judge.specs.Running.{EndsAt, GoesOn, standing_of}
 use Rattle.pp_judge.specs.Tallies.{headed, one_more, scan_of}
 use Rattle.pp_judge.specs.Rejected.{IsStepEvident}
 use Rattle.pp_judge.specs.declared.driven.Rejection.{Rejection}
+use Rattle.pp_judge.proofs.Driving.{FailsWithin, Overruns, rejection_of, steps_here}
 use Rattle.pp_judge.proofs.Running.{config_there}
 use Rattle.pp_judge.proofs.Tallying.{on_record}
 

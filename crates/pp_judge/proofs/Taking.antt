@@ -72,6 +72,16 @@ module _ {J R : Type 0} (M : Judging J R) where
     header_covers other read judged is least =
         subst (λ (s : InputScan). Covers M s (progress_of (first_tally line.0 header) judged) now new) (sym (scan_header nothing line (Ok header) refl refl other read)) (begun judged is least)
 
+  -- what holds of the header's line holds of it after blank lines
+  pub header_on : (P : InputScan → ℕ → Type 0) (lines : ℕ) (line : NumberedLine) (now : ℕ) → P (scan_line nothing line) now → (sc : InputScan) (old : ℕ) → Covers M sc (Waiting lines) old now → P (scan_line sc line) old
+  header_on P lines line now is sc old c = subst (λ (s : InputScan). P (scan_line s line) old) (sym c.0) (subst (λ (n : ℕ). P (scan_line nothing line) n) c.1 is)
+
+  pub header_leads : (lines : ℕ) (line : NumberedLine) (now : ℕ) (to : Progress J R) (new : ℕ) → IsNextLine M (Waiting lines) line now → Covers M (scan_line nothing line) to now new → lines_of to ≡ line.0 → LeadsTo M (Waiting lines) line now to new
+  header_leads lines line now to new next covers count = record {
+    covers = header_on (λ (s : InputScan) (n : ℕ). Covers M s to n new) lines line now covers;
+    lines = count ∙ next.number;
+  }
+
   -- what a judge says of the header's line holds of its scan
   pub header_there : (P : InputScan → Type 0) (line : NumberedLine) (header : Header) → blank line.1 ≡ false → header_of line.1 ≡ Ok header → P (scan_of (headed line.0 header) []) → P (scan_line nothing line)
   header_there P line header other read is = subst P (sym (scan_header nothing line (Ok header) refl refl other read)) is

@@ -1,12 +1,12 @@
 -- What was read can be written.
-use Rattle.std.specs.Prelude.{ℕ, List, [], ◌∷◌, Option, None, Some}
+use Rattle.std.specs.Prelude.{List, [], ◌∷◌, Option, None, Some}
 use Rattle.pp_core.specs.Catalogs.{Objects}
 use Rattle.pp_core.specs.Steps.{Step, Begin, App, Unapp, Push, Unpush, Pull, Unpull, Cmt, Quit}
 use Rattle.pp_core.specs.Steps.{Note}
 use Rattle.pp_core.specs.Trees.{Tree}
 use Rattle.pp_core.specs.declared.call.Kind.{Kind}
 use Rattle.pp_core.specs.declared.entry.Item.{Item}
-use Rattle.pp_records.specs.Carried.{Carries, LogsCarry, RecordCarries}
+use Rattle.pp_records.specs.Carried.{Carries, RecordCarries}
 use Rattle.pp_records.proofs.Carrying.{expand_carry}
 use Rattle.pp_records.specs.Records.{RunRecord, Plain}
 use Rattle.pp_records.specs.Records as records
@@ -16,16 +16,14 @@ use Rattle.pp_format_write.specs.Statable.{AreWritable, CanStart, EachCall, IfGi
 use Rattle.pp_format_write.specs.Statable.{IsStatable, IsStatableBody, IsStatableRecord, IsWritable}
 use Rattle.pp_format_write.specs.Statable.{IsWritableStart}
 use Rattle.pp_format_write.proofs.Bodies.{each_known}
-use Rattle.pp_model.specs.Config.{Config}
 use Rattle.pp_model.specs.Lists.{Each}
-use Rattle.pp_model.specs.Names.{Name}
-use Rattle.pp_model.proofs.Lists.{each_from}
 use Rattle.pp_objects.specs.Objects.{kinds_of, place_of}
 use Rattle.pp_objects.specs.declared.act.Op.{Op}
 use Rattle.pp_machine.specs.Machines.{Seen}
 use Rattle.pp_styles.specs.AnyFronts.{any_state, any_style}
 use Rattle.pp_styles.specs.declared.any_front.AnyFront.{AnyFront}
-use Rattle.pp_judge.specs.Running.{steps_here}
+use Rattle.pp_judge.proofs.Asking.{AnyId, AnyName, logs_carry}
+use Rattle.pp_judge.proofs.Driving.{steps_here}
 
 -- ---- the steps of a record that was read can be written
 
@@ -46,12 +44,6 @@ stated_written catalog (Quit t) h = tt
 stated_written catalog (Note t) h = tt
 
 -- what a step is to carry to be written: any name, any id, and the operations and bodies of the objects
-abbrev AnyName : Name → Type 0
-AnyName t = Unit {0}
-
-abbrev AnyId : ℕ → Type 0
-AnyId id = Unit {0}
-
 abbrev AnyKnown : Objects → Option Tree → Type 0
 AnyKnown catalog = IfGiven (EachCall (IsKnown catalog))
 
@@ -95,9 +87,6 @@ record_carries catalog (records.XAbort t) h = tt
 record_carries catalog (records.Depend t source) h = (tt, tt)
 record_carries catalog (records.Publish t) h = tt
 record_carries catalog (records.DropSource t source) h = (tt, tt)
-
-logs_carry : (c : Config Op) → LogsCarry AnyId c
-logs_carry c = (each_from _ c.shared (λ g i. tt), each_from _ c.opened (λ x i. each_from _ x.local (λ e j. tt)))
 
 all_written : (catalog : Objects) (steps : List (Step Op)) → Each (StepCarries catalog) steps → Each (IsWritable catalog) steps
 all_written catalog [] h = tt

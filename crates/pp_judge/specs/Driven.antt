@@ -1,11 +1,14 @@
 -- Proof machinery: what the machine says of runs as a judge.
-use Rattle.std.specs.Prelude.{List}
+use Rattle.std.specs.Prelude.{List, Option, None, Some}
 use Rattle.pp_core.specs.Steps.{Step}
+use Rattle.pp_core.specs.declared.call.Kind.{Kind}
 use Rattle.pp_core.specs.declared.status.Status.TheVariants as statuses
 use Rattle.pp_records.specs.Records.{RunRecord}
 use Rattle.pp_records.specs.Runs.{IsRun, LinedSteps, Records, bare}
 use Rattle.pp_objects.specs.declared.act.Op.{Op}
 use Rattle.pp_format_read.specs.declared.header.Header.{Header}
+use Rattle.pp_machine.specs.Machines.{Seen}
+use Rattle.pp_styles.specs.declared.any_front.AnyFront.{AnyFront}
 use Rattle.pp_judge.specs.Costs.{StepsCostAtLeast, StepsCostAtMost}
 use Rattle.pp_judge.specs.Inputs.{IsFaultOf}
 use Rattle.pp_judge.specs.Judging.{Judging}
@@ -13,6 +16,9 @@ use Rattle.pp_judge.specs.Objects.{object_of, start_of, translation_of}
 use Rattle.pp_judge.specs.Running.{EndsAt, GoesOn}
 use Rattle.pp_judge.specs.declared.driven.Driven.{Driven}
 use Rattle.pp_judge.specs.declared.driven.Refused.{Refused}
+use Rattle.pp_judge.specs.declared.driven.Rejection.{Rejection}
+use Rattle.pp_judge.specs.declared.judge.Judged.{Judged}
+use Rattle.pp_judge.specs.declared.judge.Judged.TheVariants.{Good, Bad}
 
 -- an observer has seen the steps of every run of these records (there is one at most)
 abbrev pub HasSeenRun : {W : Type 0} → (Header → List (Step Op) → W → Type 0) → Header →
@@ -34,3 +40,11 @@ driven_judging HasSeen = record {
   GoodAtLeast = StepsCostAtLeast statuses.Accepted;
   BadAtLeast = StepsCostAtLeast statuses.Rejected;
 }
+
+-- the judge that took a record, or the rejection of a step of it
+abbrev pub judged_of : {W : Type 0} → AnyFront → Seen (List Kind) Op → W → Option Rejection →
+    Judged (Driven W) (Refused W)
+judged_of front machine observer None =
+    Good (record { front = front; machine = machine; observer = observer })
+judged_of front machine observer (Some rejection) =
+    Bad (record { rejection = rejection; observer = observer })

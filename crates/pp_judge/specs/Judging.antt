@@ -1,5 +1,5 @@
 -- Proof machinery: what a judge says of a header and the records after it.
-use Rattle.std.specs.Prelude.{ℕ, ◌+◌, ◌<◌, ◌++◌, length, Option, Some}
+use Rattle.std.specs.Prelude.{◌≡◌, ℕ, ◌+◌, ◌<◌, ◌++◌, length, Option, Some}
 use Rattle.pp_core.specs.declared.limits.TheConstants.{MOST_LINES}
 use Rattle.pp_records.specs.Inputs.{Widens}
 use Rattle.pp_records.specs.Records.{RunRecord}
@@ -29,6 +29,12 @@ pub record Judging (J R : Type 0) : Type 1 where
 
 -- What holds of every judge.
 pub record JudgingLaws {J R : Type 0} (M : Judging J R) : Type 0 where
+  -- no records are both good and rejected
+  pub not_both : (header : Lined Header) (records : Records (RunRecord Op)) (judge : J)
+      (rejection : R) → M.IsGood header records judge → M.IsBad header records rejection → ⊥
+  -- an input has one fault at most
+  pub one_fault : (sc : InputScan) (f g : Option (ℕ × Cause)) → M.IsFault sc f → M.IsFault sc g →
+      f ≡ g
   -- a fault before the header, or after records that are good or bad, is that of the input
   pub first_fault : (fault : Option (ℕ × Cause)) → M.IsFault (record nothing { fault = fault })
       fault

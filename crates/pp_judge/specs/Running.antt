@@ -1,30 +1,31 @@
 -- Proof machinery: where a machine stands that takes the steps of the records.
-use Rattle.std.specs.Prelude.{◌≡◌, ℕ, zero, suc, ◌+◌, ◌<◌, List, [], ◌∷◌, ◌++◌, length, slice_get, take, Option}
-use Rattle.std.specs.Prelude.{None, Some}
+use Rattle.std.specs.Prelude.{◌≡◌, ℕ, zero, suc, ◌+◌, ◌<◌, List, ◌++◌, slice_get, take, Option}
+use Rattle.std.specs.Prelude.{None, Some, Result, Ok, Err}
 use Rattle.pp_core.specs.declared.call.Kind.{Kind}
-use Rattle.pp_core.specs.declared.limits.TheConstants.{MOST_STEPS}
 use Rattle.pp_core.specs.declared.step.Rule.TheVariants as rules
-use Rattle.pp_core.specs.declared.step.Step.{Step as StepOf}
 use Rattle.pp_core.specs.Steps.{Step, rule_of}
-use Rattle.pp_records.specs.Expansions.{expand, front_after}
 use Rattle.pp_records.specs.Fronts.{Front, new_front}
 use Rattle.pp_records.specs.Laws.{IsRejectedAt, StandsAt}
 use Rattle.pp_records.specs.Records.{RunRecord}
 use Rattle.pp_records.specs.Runs.{LinedSteps, Records, Standing, bare}
 use Rattle.pp_objects.specs.declared.act.Op.{Op}
-use Rattle.pp_objects.specs.Objects.{kinds_of, objects, place_of}
+use Rattle.pp_objects.specs.Objects.{kinds_of, objects}
 use Rattle.pp_format_read.specs.declared.header.Header.{Header}
 use Rattle.pp_model.specs.Config.{after, first}
-use Rattle.pp_model.specs.Rules.{Breaks, StartBreaks, StartMeets}
+use Rattle.pp_model.specs.Rules.{StartBreaks, StartMeets}
 use Rattle.pp_report.specs.Reports.{IsDetailNamed}
 use Rattle.pp_machine.specs.Machines.{Seen}
 use Rattle.pp_machine.specs.Evidence.{Fits, evidence}
 use Rattle.pp_machine.specs.declared.machine.Outcome.{Outcome}
 use Rattle.pp_machine.specs.declared.machine.Outcome.TheVariants.{Done, False}
-use Rattle.pp_kind.specs.Object.{rules_of}
 use Rattle.pp_styles.specs.AnyFronts.{any_state, any_style}
-use Rattle.pp_styles.specs.Driving.{HasDone}
 use Rattle.pp_styles.specs.declared.any_front.AnyFront.{AnyFront}
+use Rattle.pp_styles.specs.declared.drive.Halt.{Halt}
+use Rattle.pp_styles.specs.declared.drive.Halt.TheVariants.{Failed, TooMany}
+use Rattle.pp_input_reader.specs.declared.cause.Cause.{Cause}
+use Rattle.pp_input_reader.specs.declared.cause.Cause.TheVariants.{TooManySteps}
+use Rattle.pp_input_reader.specs.declared.stop.Stop.{Stop}
+use Rattle.pp_input_reader.specs.declared.stop.Stop.TheVariants as stops
 use Rattle.pp_judge.specs.declared.driven.Rejection.{Rejection}
 use Rattle.pp_judge.specs.declared.progress.Tally.{Tally}
 use Rattle.pp_judge.specs.Objects.{object_of, start_of, translation_of}
@@ -104,16 +105,6 @@ pub record IsRejected (sc : InputScan) (tally : Tally) (rejection : Rejection) :
   pub follows : IsTallied sc tally
   pub ends : EndsAt tally.header follows.at sc.records rejection
 
--- the rejection of a step, of which this is the first false criterion
-abbrev pub rejection_of : Seen (List Kind) Op → Step Op → ℕ → ℕ → Rejection
-rejection_of machine step line n = record {
-  step = machine.count + 1;
-  line = line;
-  rule = rule_of step;
-  criterion = n;
-  detail = evidence objects machine.shape machine.config step n;
-}
-
 -- what the start of a header, if it has one, leaves of a machine that is as `new` made it
 abbrev pub HasStarted : Header → Outcome Op → Seen (List Kind) Op → Type 0
 HasStarted header Done machine =
@@ -135,49 +126,16 @@ IsFirstFront header front =
     let kinds = kinds_of header.catalog in
     (any_style front ≡ header.style) × (any_state kinds front ≡ new_front kinds)
 
--- the steps of a record, where the front and the machine stand
-abbrev pub steps_here : Header → AnyFront → Seen (List Kind) Op → RunRecord Op → List (Step Op)
-steps_here header front machine r =
-    expand place_of (any_style front) (any_state (kinds_of header.catalog) front) machine.config r
-
--- Of these steps those before one are done, and that one is the first that does not meet its
--- criteria.
-pub record FailsWithin (machine : Seen (List Kind) Op) (steps : List (Step Op)) (line from to : ℕ)
-    (rejection : Rejection) : Type 0 where
-  pub step : Step Op
-  pub behind : List (Step Op)
-  pub at : Seen (List Kind) Op
-  pub done : HasDone objects machine steps (step ∷ behind) at from to
-  pub few : at.count < MOST_STEPS
-  pub criterion : ℕ
-  pub some : 0 < criterion
-  pub breaks : Breaks (rules_of objects at.shape) at.config step criterion
-  pub is : rejection ≡ rejection_of at step line criterion
-  pub fits : Fits objects at.shape (evidence objects at.shape at.config step criterion)
-  pub evident : IsStepEvident at.shape at.config step criterion
-
--- Of these steps those before one are done, and a run may have no step more.
-pub record Overruns (machine : Seen (List Kind) Op) (steps : List (Step Op)) (from to : ℕ) :
-    Type 0 where
-  pub step : Step Op
-  pub behind : List (Step Op)
-  pub at : Seen (List Kind) Op
-  pub done : HasDone objects machine steps (step ∷ behind) at from to
-  pub full : at.count ≡ MOST_STEPS
-
--- A record is taken: each of its steps meets its criteria, and the front keeps what it leaves; or
--- one of them is the first that does not. The counter goes from one number to another.
-abbrev pub RecordTaken : Header → AnyFront → Seen (List Kind) Op → RunRecord Op → (line from : ℕ) →
-    AnyFront → Seen (List Kind) Op → Option Rejection → ℕ → Type 0
-RecordTaken header front machine r line from next new None to =
-    let kinds = kinds_of header.catalog in
-    (any_style next ≡ any_style front)
-    × (any_state kinds next ≡ front_after (any_state kinds front) machine.config r)
-    × HasDone objects machine (steps_here header front machine r) [] new from to
-RecordTaken header front machine r line from next new (Some rejection) to =
-    FailsWithin machine (steps_here header front machine r) line from to rejection
-
--- how many steps of a list a run has with a record: all, or those up to the one that is rejected
-abbrev pub HasCount : Seen (List Kind) Op → List (StepOf Op) → ℕ → Option Rejection → Type 0
-HasCount old list count None = count ≡ length list
-HasCount old list count (Some rejection) = old.count + count ≡ rejection.step
+-- What a halt after so many steps of a run is, if the record on this line halts it: the rejection of
+-- the next step, or the fault that there are too many.
+abbrev pub rejection_on : (line count : ℕ) → Option (Halt Op) →
+    Result (Option Rejection) (Stop Cause)
+rejection_on line count None = Ok None
+rejection_on line count (Some TooMany) = Err (stops.Fault line TooManySteps)
+rejection_on line count (Some (Failed rule n detail)) = Ok (Some (record {
+  step = count + 1;
+  line = line;
+  rule = rule;
+  criterion = n;
+  detail = detail;
+}))

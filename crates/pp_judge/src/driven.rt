@@ -1,26 +1,19 @@
 //! The machine as a judge: it is driven through the steps of each record, and an observer is shown
 //! them.
-ghost use Rattle.std.specs.Prelude.{◌≡◌, ◌≤◌, ◌+◌, true, List, ◌++◌, take, None, IfOk, IfErr, IsTrue};
+ghost use Rattle.std.specs.Prelude.{◌≡◌, ◌≤◌, ◌+◌, true, List, ◌++◌, take, None, IfOk};
 ghost use Rattle.pp_core.specs.Steps.{Step as StepOf};
 ghost use Rattle.pp_core.specs.declared.limits.TheConstants.{MOST_STEPS};
-ghost use Rattle.pp_records.specs.Expansions.{IsOfStyle};
-ghost use Rattle.pp_records.specs.Records.{record_meaning};
-ghost use Rattle.pp_format_read.specs.Records.{IsReadable};
 ghost use Rattle.pp_format_read.specs.Starts.{IsReadableStart};
 ghost use Rattle.pp_format_write.specs.Statable.{IsWritable};
 ghost use Rattle.pp_model.specs.Config.{first};
 ghost use Rattle.pp_model.specs.Lists.{Each};
-ghost use Rattle.pp_objects.specs.Objects.{kinds_of, objects, place_of};
+ghost use Rattle.pp_objects.specs.Objects.{kinds_of};
 ghost use Rattle.pp_objects.specs.declared.act.Op.{Op as OpOf};
-ghost use Rattle.pp_styles.specs.AnyFronts.{any_style};
-ghost use Rattle.pp_styles.specs.Driving.{CostAtMost};
 ghost use Rattle.pp_styles.specs.Meanings.{meanings};
-ghost use Rattle.pp_input_reader.specs.Takers.{IfFault};
-ghost use Rattle.pp_input_reader.specs.declared.cause.Cause.TheVariants.{TooManySteps};
 ghost use Rattle.pp_judge.specs.Costs.{start_at_most};
+ghost use Rattle.pp_judge.specs.Driven.{judged_of};
 ghost use Rattle.pp_judge.specs.Objects.{start_of};
-ghost use Rattle.pp_judge.specs.Running.{HasCount, HasStarted, IsFirstFront, Overruns, RecordTaken};
-ghost use Rattle.pp_judge.specs.Running.{steps_here};
+ghost use Rattle.pp_judge.specs.Running.{HasStarted, IsFirstFront, rejection_on};
 
 use crate::judge::{Judge, Judged};
 use crate::observer::Observer;
@@ -30,7 +23,7 @@ use pp_input_reader::{Cause, Stop};
 use pp_machine::{Detail, Machine, Outcome};
 use pp_objects::{Objects, Op};
 use pp_records::RunRecord;
-use pp_styles::{BoxedFront, Halt, StepList, Tracked, do_record};
+use pp_styles::{BoxedFront, Front, Halt, StepList, Tracked, do_steps};
 use std::alloc::Global;
 use std::sync::ledger::Ledger;
 
@@ -105,90 +98,42 @@ fn first_front(alloc: Global, header: &Header) -> Result<BoxedFront, OutOfMemory
     BoxedFront::new(alloc, header.style, kinds)
 }
 
-/// What the steps of a record come to.
-#[derive(Drop)]
-struct Taken {
-    front: BoxedFront,
-    machine: Tracked<Objects>,
-    /// All steps of the record, if they were asked for.
-    list: StepList<Op>,
-    /// How many of them the run has, with the one that is rejected.
-    count: usize,
-    rejection: Option<Rejection>,
-}
-
-/// Does the steps of a record of this line. With a list it answers all of them too.
-fn take_steps<L: Ledger>(
-    alloc: Global,
-    header: &Header,
-    mut front: BoxedFront,
-    machine: Tracked<Objects>,
-    recorded: &RunRecord<Op>,
+/// What a halt after so many steps of a run is, if the record on this line halts it: the rejection
+/// of the next step, or the fault that there are too many.
+fn rejection_on(
     line: u32,
-    with_list: bool,
-    ticks: &mut Ticks<L>,
-) -> Result<Taken, Stop<Cause>>
-    requires shape { machine.shape ≡ kinds_of header.now.catalog }
-    requires readable { IsReadable header.now.catalog (record_meaning recorded.now) }
-    requires styled { IsOfStyle (any_style front) (record_meaning recorded.now) }
-    requires few { machine.count ≤ MOST_STEPS }
-    ensures ok { IfOk result (λ r. RecordTaken header.now front machine
-        (record_meaning recorded.now) line ticks.old r.front r.machine r.rejection ticks.new) }
-    ensures list { IsTrue with_list → IfOk result (λ r. meanings r.list
-        ≡ steps_here header.now front machine (record_meaning recorded.now)) }
-    ensures count { IsTrue with_list → IfOk result (λ r.
-        HasCount machine r.list r.count r.rejection) }
-    ensures err { IfErr result (λ stop. IfFault stop (λ at cause. (at ≡ line)
-        × ((cause ≡ TooManySteps) × Overruns machine
-        (steps_here header.now front machine (record_meaning recorded.now))
-        ticks.old ticks.new))) }
-    ensures most { CostAtMost objects place_of machine
-        (steps_here header.now front machine (record_meaning recorded.now)) ticks.old ticks.new }
+    count: u32,
+    halt: Option<Halt<Op>>,
+) -> Result<Option<Rejection>, Stop<Cause>>
+    requires { count ≤ MOST_STEPS }
+    ensures { result ≡ rejection_on line count halt }
 {
-    let before = machine.count();
-    let (machine, list, halt) = do_record(alloc, &mut front, machine, recorded, with_list, ticks)?;
-    let Some(halt) = halt else {
-        let count = list.len();
-        return Ok(Taken {
-            front,
-            machine,
-            list,
-            count,
-            rejection: None,
-        });
-    };
     match halt {
-        Halt::Failed {
-            rule,
-            criterion,
-            detail,
-        } => {
-            let step = machine.count() + 1;
-            let count = (step - before) as usize;
-            let rejection = Rejection {
-                step,
-                line,
+        None => Ok(None),
+        Some(Halt::TooMany) => Err(Stop::Fault(line, Cause::TooManySteps)),
+        Some(
+            Halt::Failed {
                 rule,
                 criterion,
                 detail,
-            };
-            Ok(Taken {
-                front,
-                machine,
-                list,
-                count,
-                rejection: Some(rejection),
-            })
-        }
-        Halt::TooMany => Err(Stop::Fault(line, Cause::TooManySteps)),
+            },
+        ) => Ok(Some(Rejection {
+            step: count + 1,
+            line,
+            rule,
+            criterion,
+            detail,
+        })),
     }
 }
 
-/// The first steps of a list, or all of them if it has fewer.
-fn first_steps(list: &StepList<Op>, count: usize) -> &[Step<Op>]
-    ensures { result.now ≡ take count list.now }
+/// The steps of a record that were tried: those that were done, and the next one, if there is one.
+fn tried(list: &StepList<Op>, done: u32) -> &[Step<Op>]
+    requires { done ≤ MOST_STEPS }
+    ensures { result.now ≡ take (done + 1) list.now }
 {
     let steps = list.as_slice();
+    let count = done as usize + 1;
     if count <= steps.len() {
         &steps[..count]
     } else {
@@ -212,6 +157,28 @@ fn show<W: Observer>(
         observer.see(alloc, header, steps)
     } else {
         Ok(observer)
+    }
+}
+
+/// The judge that took a record, or the rejection of a step of it.
+fn judged_of<W: Observer>(
+    front: BoxedFront,
+    machine: Tracked<Objects>,
+    observer: W,
+    rejection: Option<Rejection>,
+) -> Judged<Driven<W>, Refused<W>>
+    ensures { result ≡ judged_of front machine observer rejection }
+{
+    match rejection {
+        None => Judged::Good(Driven {
+            front,
+            machine,
+            observer,
+        }),
+        Some(rejection) => Judged::Bad(Refused {
+            rejection,
+            observer,
+        }),
     }
 }
 
@@ -265,35 +232,19 @@ impl<W: Observer> Judge for Driven<W> {
         line: u32,
         ticks: &mut Ticks<L>,
     ) -> Result<Judged<Driven<W>, Refused<W>>, Stop<Cause>> {
-        let looks = W::looks();
-        let Taken {
-            front,
-            machine,
-            list,
-            count,
-            rejection,
-        } = take_steps(
-            alloc,
-            header,
-            self.front,
-            self.machine,
-            recorded,
-            line,
-            looks,
-            ticks,
-        )?;
-        let observer = show(alloc, self.observer, header, first_steps(&list, count))?;
-        match rejection {
-            None => Ok(Judged::Good(Driven {
-                front,
-                machine,
-                observer,
-            })),
-            Some(rejection) => Ok(Judged::Bad(Refused {
-                rejection,
-                observer,
-            })),
-        }
+        let Driven {
+            mut front,
+            mut machine,
+            observer,
+        } = self;
+        let before = machine.count();
+        let list = front.expand(recorded, &mut machine)?;
+        let (machine, halt) = do_steps(machine, list.as_slice(), ticks)?;
+        let count = machine.count();
+        let rejection = rejection_on(line, count, halt)?;
+        let steps = tried(&list, count - before);
+        let observer = show(alloc, observer, header, steps)?;
+        Ok(judged_of(front, machine, observer, rejection))
     }
 
     ghost laws = { driven_laws W.HasSeen };

@@ -135,31 +135,6 @@ fn pass_record<J: Judge>(
     Ok(Progress::Rejected(with_record(tally, &recorded), rejection))
 }
 
-/// Takes the next line of a run.
-fn take_line<J: Judge, L: Ledger>(
-    alloc: Global,
-    progress: Progress<J, J::Rejection>,
-    line: &Line,
-    ticks: &mut Ticks<L>,
-) -> Result<Progress<J, J::Rejection>, Stop<Cause>>
-    requires { IsNextLine J.judging progress (line.now.number, line.now.text) ticks.old }
-    ensures ok { IfOk result (λ next. LeadsTo J.judging progress
-        (line.now.number, line.now.text) ticks.old next ticks.new) }
-    ensures stop { IfErr result (λ stop. IfFault stop (λ at cause. (at ≡ line.now.number)
-        × HasFaultOn J.judging progress (line.now.number, line.now.text) ticks.old cause)) }
-    ensures most { CostsOn J.judging progress (line.now.number, line.now.text)
-        ticks.old ticks.new }
-{
-    if is_blank(line.text.bytes()) {
-        return Ok(with_blank(progress));
-    }
-    match progress {
-        Progress::Waiting(_) => take_header::<J, L>(alloc, line, ticks),
-        Progress::Running(tally, judge) => take_record(alloc, tally, judge, line, ticks),
-        Progress::Rejected(tally, rejection) => pass_record::<J>(alloc, tally, rejection, line),
-    }
-}
-
 impl<J: Judge> TakesLines for Progress<J, J::Rejection> {
     ghost use Rattle.pp_judge.specs.Progresses.{judged_reading};
 
@@ -177,6 +152,13 @@ impl<J: Judge> TakesLines for Progress<J, J::Rejection> {
         line: &Line,
         ticks: &mut Ticks<L>,
     ) -> Result<Progress<J, J::Rejection>, Stop<Cause>> {
-        take_line::<J, L>(alloc, self, line, ticks)
+        if is_blank(line.text.bytes()) {
+            return Ok(with_blank(self));
+        }
+        match self {
+            Progress::Waiting(_lines) => take_header::<J, L>(alloc, line, ticks),
+            Progress::Running(tally, judge) => take_record(alloc, tally, judge, line, ticks),
+            Progress::Rejected(tally, rejection) => pass_record::<J>(alloc, tally, rejection, line),
+        }
     }
 }

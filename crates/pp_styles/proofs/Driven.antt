@@ -1,25 +1,32 @@
 -- How far a machine was driven, from step to step.
-use Rattle.std.proofs.Common.{◌≡◌, ◌<◌, ◌≤◌, ◌+◌, ℕ, zero, suc, List, [], ◌∷◌, ◌++◌, length, map, drop}
-use Rattle.std.proofs.Common.{filter, Option, None, Some, refl, sym, ap, subst, ◌∙◌, arith, inl, inr}
-use Rattle.std.proofs.Common.{append_assoc, length-append}
+use Rattle.std.proofs.Common.{◌≡◌, ◌≢◌, ◌<◌, ◌≤◌, ◌+◌, ℕ, zero, suc, Bool, false, List, [], ◌∷◌, ◌++◌}
+use Rattle.std.proofs.Common.{length, map, drop, filter, Option, None, Some, refl, sym, ap, subst, ◌∙◌}
+use Rattle.std.proofs.Common.{arith, inl, inr, append_assoc, length-append, true≢false}
+use Rattle.std.specs.Prelude.{IsTrue}
 use Rattle.std.specs.List.{slice_get}
 use Rattle.std.proofs.lemmas.List.{drop_all}
 use Rattle.std.proofs.lemmas.List.Elements.{filter-append}
 use Rattle.std.proofs.lemmas.Option.{same_Some}
 use Rattle.pp_core.specs.Steps.{Step, Begin, App, Unapp, Push, Unpush, Pull, Unpull, Cmt, Quit, Note}
-use Rattle.pp_core.specs.Steps.{meaning}
+use Rattle.pp_core.specs.Steps.{meaning, rule_of}
 use Rattle.pp_core.specs.declared.limits.TheConstants.{MOST_STEPS}
 use Rattle.pp_core.specs.declared.step.Step.{Step as StepOf}
 use Rattle.pp_model.specs.Config.{Config, after_from, then}
 use Rattle.pp_model.specs.Lists.{In}
 use Rattle.pp_model.specs.Rules.{Meets}
 use Rattle.pp_records.proofs.Ends.{after_append, runs_append}
-use Rattle.pp_machine.specs.Costs.{CostsDone, CostsInVain, at_most}
+use Rattle.pp_machine.specs.Costs.{CostsBy, CostsDone, CostsInVain, at_most}
 use Rattle.pp_machine.specs.Machines.{Seen, stepped}
+use Rattle.pp_machine.specs.Shown.{IsShown}
+use Rattle.pp_machine.specs.Stepping.{Stepped}
+use Rattle.pp_machine.specs.declared.detail.Detail.{Detail}
+use Rattle.pp_machine.specs.declared.machine.Outcome.{Outcome}
+use Rattle.pp_machine.specs.declared.machine.Outcome.TheVariants.{Done, False}
 use Rattle.pp_kind.specs.Object.{Object, rules_of}
 use Rattle.pp_styles.specs.declared.drive.Halt.{Halt}
+use Rattle.pp_styles.specs.declared.drive.Halt.TheVariants.{Failed, TooMany}
 use Rattle.pp_styles.specs.Costs.{is_single, most_ticks, singles}
-use Rattle.pp_styles.specs.Driving.{CostAtMost, CostsOne, Drives, Goes, Halts, HasDone, after_steps}
+use Rattle.pp_styles.specs.Driving.{CostAtMost, Drives, Halts, HasDone, after_steps, halt_of}
 use Rattle.pp_styles.specs.Meanings.{meanings}
 use Rattle.pp_styles.proofs.Growing.{drop_there}
 
@@ -77,8 +84,12 @@ still_least from now to a x y = omega (arith, x, y)
 adds_most : (from now to a w k : ℕ) → now ≤ from + a → to ≤ now + w → k ≡ a + (w + 0) → to ≤ from + k
 adds_most from now to a w k x y z = omega (arith, x, y, z)
 
-same_most : (from now to a : ℕ) → now ≤ from + a → to ≡ now → to ≤ from + a
-same_most from now to a x y = omega (arith, x, y)
+-- a run may have one step more
+pub below : (m r most : ℕ) (full : Bool) → m ≤ most → r ≡ m → (r ≡ most → IsTrue full) → full ≡ false → m < most
+below m r most full le same told may = less (λ (e : r ≡ most). true≢false (sym (told e) ∙ may))
+  where
+    less : r ≢ most → m < most
+    less other = omega (arith, le, same, other)
 
 -- ---- costs
 
@@ -121,14 +132,6 @@ module _ {Op : Type 0} where
     vain_least c (Cmt t) old new e = stays old new e
     vain_least c (Quit t) old new e = stays old new e
     vain_least c (Note t) old new e = stays old new e
-
--- where a step was done, a run may have it
-pub done_cost : {Shape State Op Undo : Type 0} (o : Object Shape State Op Undo) (place : Op → ℕ) (v new : Seen Shape Op) (s : Step Op) (from to : ℕ) → Goes o v s from None new to → CostsOne place v s from to → to ≤ from + at_most place v.config s
-done_cost o place v new s from to g (inl full) = absurd (not_full v.count MOST_STEPS g.0 full.0)
-  where
-    not_full : (n most : ℕ) → n < most → n ≡ most → ⊥
-    not_full n most l e = omega (arith, l, e)
-done_cost o place v new s from to g (inr one) = one.1
 
 -- ---- a walk over the steps
 
@@ -179,92 +182,77 @@ module _ {Shape State Op Undo : Type 0} (o : Object Shape State Op Undo) (place 
           count = (counted old.count (length so.done.before) (length (so.done.before ++ s ∷ [])) longer) i;
         }
 
-    goes_on : Goes o mid s now None new to → to ≤ now + at_most place mid.config s → SoFar rest new to
-    goes_on g most =
-        record {
-          done = record {
-            before = so.done.before ++ s ∷ [];
+    -- a run may have no step more
+    pub full_there : mid.count ≡ MOST_STEPS → Drives o old steps from (Some TooMany) mid now
+    full_there full = (s, rest, so.done, full)
+
+    module _ (few : mid.count < MOST_STEPS) where
+      goes_on : Meets (rules_of o mid.shape) mid.config s → new ≡ stepped mid s → CostsDone place mid.config s now to → to ≤ now + at_most place mid.config s → SoFar rest new to
+      goes_on meets is least most =
+          record {
+            done = record {
+              before = so.done.before ++ s ∷ [];
+              parts = whole;
+              hold = runs_append (rules_of o old.shape) old.config so.done.before (s ∷ []) so.done.hold
+                  (subst (λ (v : Seen Shape Op). Meets (rules_of o v.shape) v.config s) so.done.is meets, tt);
+              is = is ∙ ap (λ (v : Seen Shape Op). stepped v s) so.done.is ∙ led;
+              few = one_more new.count mid.count MOST_STEPS (ap (λ (v : Seen Shape Op). v.count) is) few;
+              least = adds_least from now to (singles so.done.before) (singles (s ∷ [])) (singles (so.done.before ++ s ∷ [])) so.done.least (done_least place mid.config s now to least)
+                  (singles_append so.done.before (s ∷ []));
+            };
+            most = adds_most from now to (most_ticks place old.config so.done.before) (at_most place mid.config s) (most_ticks place old.config (so.done.before ++ s ∷ [])) so.most most cost;
+          }
+
+      fails : (n : ℕ) (detail : Detail Op) → Stepped o mid s (False n detail) new → CostsInVain place mid.config s now to → IsShown o mid s (False n detail) → Drives o old steps from (Some (Failed (rule_of s) n detail)) new to
+      fails n detail effect least shown =
+          let is : new ≡ mid = effect.2 in (
+            s,
+            rest,
+            record {
+              before = so.done.before;
+              parts = so.done.parts;
+              hold = so.done.hold;
+              is = is ∙ so.done.is;
+              few = subst (λ (v : Seen Shape Op). v.count ≤ MOST_STEPS) (sym is) so.done.few;
+              least = still_least from now to (singles so.done.before) so.done.least (vain_least place mid.config s now to least);
+            },
+            subst (λ (v : Seen Shape Op). Halts o v s (Failed (rule_of s) n detail)) (sym is) (few, refl, (effect.0, effect.1, refl, effect.3), shown),
+          )
+
+      -- the step is done
+      pub went_on : (outcome : Outcome Op) → halt_of s outcome ≡ None → Stepped o mid s outcome new → CostsBy place mid.config s outcome now to → to ≤ now + at_most place mid.config s → SoFar rest new to
+      went_on Done is effect cost most = goes_on effect.0 effect.1 cost most
+      went_on (False n detail) is effect cost most = absurd (cc)
+
+      -- it fails
+      pub halted : (outcome : Outcome Op) (halt : Halt Op) → halt_of s outcome ≡ Some halt → Stepped o mid s outcome new → CostsBy place mid.config s outcome now to → IsShown o mid s outcome → Drives o old steps from (Some halt) new to
+      halted Done halt is effect cost shown = absurd (cc)
+      halted (False n detail) halt is effect cost shown = subst (λ (w : Option (Halt Op)). Drives o old steps from w new to) is (fails n detail effect cost shown)
+
+      -- it is tried
+      pub tried : to ≤ now + at_most place mid.config s → CostAtMost o place old steps from to
+      tried most =
+          record {
+            before = so.done.before;
+            tried = so.done.before ++ s ∷ [];
+            behind = rest;
             parts = whole;
-            hold = runs_append (rules_of o old.shape) old.config so.done.before (s ∷ []) so.done.hold
-                (subst (λ (v : Seen Shape Op). Meets (rules_of o v.shape) v.config s) so.done.is g.1, tt);
-            is = g.2 ∙ ap (λ (v : Seen Shape Op). stepped v s) so.done.is ∙ led;
-            few = one_more new.count mid.count MOST_STEPS (ap (λ (v : Seen Shape Op). v.count) g.2) g.0;
-            least = adds_least from now to (singles so.done.before) (singles (s ∷ [])) (singles (so.done.before ++ s ∷ [])) so.done.least g.3 (singles_append so.done.before (s ∷ []));
-          };
-          most = adds_most from now to (most_ticks place old.config so.done.before) (at_most place mid.config s) (most_ticks place old.config (so.done.before ++ s ∷ [])) so.most most cost;
-        }
+            hold = so.done.hold;
+            last = inr (s, refl);
+            few = with_one old.count (length so.done.before) (length (so.done.before ++ s ∷ [])) mid.count MOST_STEPS number few longer;
+            most = adds_most from now to (most_ticks place old.config so.done.before) (at_most place mid.config s) (most_ticks place old.config (so.done.before ++ s ∷ [])) so.most most cost;
+          }
 
-    halts : (halt : Halt Op) → Goes o mid s now (Some halt) new to → Drives o old steps from (Some halt) new to
-    halts halt g = (
-      s,
-      rest,
-      record {
-        before = so.done.before;
-        parts = so.done.parts;
-        hold = so.done.hold;
-        is = g.1 ∙ so.done.is;
-        few = subst (λ (v : Seen Shape Op). v.count ≤ MOST_STEPS) (sym g.1) so.done.few;
-        least = still_least from now to (singles so.done.before) so.done.least g.2;
-      },
-      subst (λ (v : Seen Shape Op). Halts o v s halt) (sym g.1) g.0,
-    )
-
-    pub went_on : (r : Option (Halt Op)) → r ≡ None → Goes o mid s now r new to → CostsOne place mid s now to → SoFar rest new to
-    went_on r is g cost =
-        let done : Goes o mid s now None new to = subst (λ (w : Option (Halt Op)). Goes o mid s now w new to) is g in
-        goes_on done (done_cost o place mid new s now to done cost)
-
-    pub halted : (r : Option (Halt Op)) (halt : Halt Op) → r ≡ Some halt → Goes o mid s now r new to → Drives o old steps from (Some halt) new to
-    halted r halt is g = halts halt (subst (λ (w : Option (Halt Op)). Goes o mid s now w new to) is g)
-
-    pub tried : CostsOne place mid s now to → CostAtMost o place old steps from to
-    tried (inl full) =
-        record {
-          before = so.done.before;
-          tried = so.done.before;
-          behind = s ∷ rest;
-          parts = so.done.parts;
-          hold = so.done.hold;
-          last = inl refl;
-          few = not_more old.count (length so.done.before) mid.count MOST_STEPS number so.done.few;
-          most = same_most from now to (most_ticks place old.config so.done.before) so.most full.1;
-        }
-    tried (inr one) =
-        record {
-          before = so.done.before;
-          tried = so.done.before ++ s ∷ [];
-          behind = rest;
-          parts = whole;
-          hold = so.done.hold;
-          last = inr (s, refl);
-          few = with_one old.count (length so.done.before) (length (so.done.before ++ s ∷ [])) mid.count MOST_STEPS number one.0 longer;
-          most = adds_most from now to (most_ticks place old.config so.done.before) (at_most place mid.config s) (most_ticks place old.config (so.done.before ++ s ∷ [])) so.most one.1 cost;
-        }
-
-  pub all_tried : (mid : Seen Shape Op) (now : ℕ) → SoFar [] mid now → CostAtMost o place old steps from now
-  all_tried mid now so =
+  -- no other is tried
+  pub only_these : (rest : List (Step Op)) (mid : Seen Shape Op) (now : ℕ) → SoFar rest mid now → CostAtMost o place old steps from now
+  only_these rest mid now so =
       record {
         before = so.done.before;
         tried = so.done.before;
-        behind = [];
+        behind = rest;
         parts = so.done.parts;
         hold = so.done.hold;
         last = inl refl;
         few = not_more old.count (length so.done.before) mid.count MOST_STEPS (ap (λ (v : Seen Shape Op). v.count) so.done.is) so.done.few;
         most = so.most;
       }
-
--- ---- one step alone
-
-module _ {Shape State Op Undo : Type 0} (o : Object Shape State Op Undo) (place : Op → ℕ) (old new : Seen Shape Op) (s : Step Op) (from to : ℕ) (few : old.count ≤ MOST_STEPS) where
-  before_it : SoFar o place old (s ∷ []) from (s ∷ []) old from
-  before_it = at_first o place old (s ∷ []) from few
-
-  pub only_drives : (r : Option (Halt Op)) → Goes o old s from r new to → CostsOne place old s from to → Drives o old (s ∷ []) from r new to
-  only_drives None g one =
-      let so = went_on o place old (s ∷ []) from s [] old new from to before_it None refl g one in
-      so.done
-  only_drives (Some halt) g one = halted o place old (s ∷ []) from s [] old new from to before_it (Some halt) halt refl g
-
-  pub only_costs : CostsOne place old s from to → CostAtMost o place old (s ∷ []) from to
-  only_costs one = tried o place old (s ∷ []) from s [] old new from to before_it one

@@ -8,10 +8,7 @@ pub mod Named
 pub mod Keeping
 pub mod Touching
 pub mod Driven
-pub mod Asking
-pub mod Trying
 pub mod Arms
-pub mod Plain
 pub mod Ids
 pub mod Counts
 pub mod Knowing

@@ -1,18 +1,16 @@
 -- Meaning: how far a machine goes through the steps of a record, and what that costs. The counter
 -- of operations goes from one number to another.
 use Rattle.std.specs.Prelude.{◌≡◌, ◌⊎◌, ◌≤◌, ◌<◌, ◌+◌, ℕ, List, [], ◌∷◌, ◌++◌, length, Option, None}
-use Rattle.std.specs.Prelude.{Some, IsTrue}
+use Rattle.std.specs.Prelude.{Some}
 use Rattle.pp_core.specs.Steps.{Step, rule_of}
 use Rattle.pp_core.specs.declared.limits.TheConstants.{MOST_STEPS}
 use Rattle.pp_model.specs.Config.{after_from}
-use Rattle.pp_model.specs.Rules.{Meets, RunsFrom}
-use Rattle.pp_records.specs.Records.{RunRecord}
-use Rattle.pp_records.specs.Records as records
-use Rattle.pp_machine.specs.Costs.{at_most}
-use Rattle.pp_machine.specs.Machines.{Seen, stepped}
+use Rattle.pp_model.specs.Rules.{RunsFrom}
+use Rattle.pp_machine.specs.Machines.{Seen}
 use Rattle.pp_machine.specs.Shown.{IsShown}
-use Rattle.pp_machine.specs.Stepping.{IsAsked, Stepped}
-use Rattle.pp_machine.specs.declared.machine.Outcome.TheVariants.{False}
+use Rattle.pp_machine.specs.Stepping.{Stepped}
+use Rattle.pp_machine.specs.declared.machine.Outcome.{Outcome}
+use Rattle.pp_machine.specs.declared.machine.Outcome.TheVariants.{Done, False}
 use Rattle.pp_kind.specs.Object.{Object, rules_of}
 use Rattle.pp_styles.specs.Costs.{most_ticks, singles}
 use Rattle.pp_styles.specs.declared.drive.Halt.{Halt}
@@ -38,6 +36,11 @@ pub record HasDone {Shape State Op Undo : Type 0} (o : Object Shape State Op Und
   pub is : new ≡ after_steps old before
   pub few : new.count ≤ MOST_STEPS
   pub least : from + singles before ≤ to
+
+-- Why a machine halts at a step with this outcome, if it does.
+abbrev pub halt_of : {Op : Type 0} → Step Op → Outcome Op → Option (Halt Op)
+halt_of step Done = None
+halt_of step (False n detail) = Some (Failed (rule_of step) n detail)
 
 -- Why a machine halts before a step: this is its first false criterion, with what shows that; or a
 -- run may have no step more.
@@ -68,34 +71,3 @@ pub record CostAtMost {Shape State Op Undo : Type 0} (o : Object Shape State Op 
   pub last : (tried ≡ before) ⊎ ((step : Step Op) × (tried ≡ before ++ step ∷ []))
   pub few : old.count + length tried ≤ MOST_STEPS
   pub most : to ≤ from + most_ticks place old.config tried
-
--- One step: it is done, or the machine halts before it and is as it was.
-abbrev pub Goes : {Shape State Op Undo : Type 0} → Object Shape State Op Undo → Seen Shape Op →
-    Step Op → ℕ → Option (Halt Op) → Seen Shape Op → ℕ → Type 0
-Goes o v step from None new to =
-    (v.count < MOST_STEPS) × Meets (rules_of o v.shape) v.config step × (new ≡ stepped v step)
-    × (from + singles (step ∷ []) ≤ to)
-Goes o v step from (Some halt) new to = Halts o v step halt × (new ≡ v) × (from ≤ to)
-
--- What trying one step costs at most: nothing, where a run may have no step more.
-abbrev pub CostsOne : {Shape Op : Type 0} → (Op → ℕ) → Seen Shape Op → Step Op → ℕ → ℕ → Type 0
-CostsOne place v step from to =
-    ((v.count ≡ MOST_STEPS) × (to ≡ from))
-    ⊎ ((v.count < MOST_STEPS) × (to ≤ from + at_most place v.config step))
-
--- What a record asks of the machine: that its operation is of the shape and in the range of
--- records, and a body of its step within the limits.
-abbrev pub IsRecordAsked : {Shape State Op Undo : Type 0} → Object Shape State Op Undo → Shape →
-    RunRecord Op → Type 0
-IsRecordAsked o shape (records.Plain step) = IsAsked o shape step
-IsRecordAsked o shape (records.Op t id op) = IsTrue (o.fits shape op) × IsTrue (o.ranged op)
-IsRecordAsked o shape (records.Commit t) = Unit {0}
-IsRecordAsked o shape (records.Abort t) = Unit {0}
-IsRecordAsked o shape (records.Retry t) = Unit {0}
-IsRecordAsked o shape (records.Refresh t object) = Unit {0}
-IsRecordAsked o shape (records.XBegin t) = Unit {0}
-IsRecordAsked o shape (records.XEnd t) = Unit {0}
-IsRecordAsked o shape (records.XAbort t) = Unit {0}
-IsRecordAsked o shape (records.Depend t source) = Unit {0}
-IsRecordAsked o shape (records.Publish t) = Unit {0}
-IsRecordAsked o shape (records.DropSource t source) = Unit {0}

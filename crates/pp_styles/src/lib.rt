@@ -27,7 +27,7 @@ pub use any_front::AnyFront;
 pub use boosted::Boosted;
 pub use boxed_front::BoxedFront;
 pub use dependent::Dependent;
-pub use drive::{Halt, do_record, do_steps};
+pub use drive::{Halt, do_steps};
 pub use front::Front;
 pub use hardware::Hardware;
 pub use optimistic::Optimistic;

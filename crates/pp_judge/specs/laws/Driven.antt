@@ -16,6 +16,8 @@ use Rattle.pp_records.proofs.Reporting.{input_law}
 use Rattle.pp_records.proofs.Whole.{joined_more, one_run_law}
 use Rattle.pp_format_read.specs.declared.header.Header.{Header}
 use Rattle.pp_model.specs.Config.{Config, Start, but_last, first, then}
+use Rattle.pp_model.specs.Rules.{Accepted, IsVerdict, Rejected}
+use Rattle.pp_model.proofs.Verdict.{one_verdict}
 use Rattle.pp_model.specs.Object.{Object}
 use Rattle.pp_objects.specs.Objects.{place_of}
 use Rattle.pp_objects.specs.declared.act.Op.{Op}
@@ -201,11 +203,32 @@ module _ (h : Header) (at : ℕ) (rs : Records (RunRecord Op)) (rejection : Reje
   holds_behind P more here run is = subst (λ (w : LinedSteps Op). P (bare w))
       (same_run more run is) (here e.run rejected_here.run_is)
 
+-- the run of records that are good is not rejected
+pub good_alone : (h : Header) (at : ℕ) (rs : Records (RunRecord Op)) (front : AnyFront)
+    (machine : Seen (List Kind) Op) (rejection : Rejection) → GoesOn h rs front machine →
+    EndsAt h at rs rejection → ⊥
+good_alone h at rs front machine rejection c e =
+    let O = object_of h in
+    let end = (reading_law O (translation_of h)).end (start_of h) rs (standing_of c.state machine)
+    machine.count c.stands in
+    let bad = rejected_here h at rs rejection e in
+    let same = (one_run_law O (translation_of h)).run (start_of h) rs
+    (joined_steps (translation_of h) (outset (translation_of h) (start_of h)) rs) e.run end.0
+    bad.run_is in
+    let is : Accepted ≡ Rejected e.number (suc e.criterion) = one_verdict O (start_of h)
+    (bare e.run) Accepted (Rejected e.number (suc e.criterion))
+    (subst (λ (w : LinedSteps Op). IsVerdict O (start_of h) (bare w) Accepted) same end.1)
+    bad.verdict in
+    cc
+
 -- ---- the laws
 
 pub driven_laws : {W : Type 0} (HasSeen : Header → List (Step Op) → W → Type 0) →
     JudgingLaws (driven_judging HasSeen)
 driven_laws HasSeen = record {
+  not_both = λ h rs judge refused good bad.
+      good_alone h.what h.line rs judge.front judge.machine refused.rejection good.0 bad.0;
+  one_fault = (input_law setting_of TooManySteps).one_fault;
   first_fault = λ fault. inr (λ line over. over, refl);
   good_fault = λ h rs judge fault good.
       inr (good_few h.what rs judge.front judge.machine good.0 h.line, refl);

@@ -1,87 +1,199 @@
-use Rattle.std.proofs.Common.{◌≡◌, true, None, Some, ◌∙◌, rules, subst, sym}
+use Rattle.std.proofs.Common.{◌≡◌, ◌≤◌, ◌+◌, ◌-◌, true, ◌∙◌, ap, arith, subst, sym}
+use Rattle.std.specs.Prelude.{Ok, Err, take}
 use Rattle.std.proofs.lemmas.Result.{err_from_is_err_and}
+use Rattle.pp_core.specs.declared.limits.TheConstants.{MOST_STEPS}
+use Rattle.pp_core.specs.Steps.{Step}
+use Rattle.pp_records.specs.Expansions.{IsOfStyle}
 use Rattle.pp_records.specs.Records.{record_meaning}
 use Rattle.pp_format_write.specs.Statable.{IsWritable}
-use Rattle.pp_model.specs.Lists.{Each}
-use Rattle.pp_input_reader.proofs.Takers.{if_fault}
+use Rattle.pp_model.specs.Lists.{Each, In}
+use Rattle.pp_objects.specs.Objects.{kinds_of, objects, place_of}
+use Rattle.pp_objects.specs.declared.act.Op.{Op}
+use Rattle.pp_machine.specs.Stepping.{IsAsked}
+use Rattle.pp_styles.specs.Driving.{CostAtMost, Drives}
+use Rattle.pp_styles.specs.Meanings.{meanings}
 use Rattle.pp_judge.specs.Driven.{driven_judging}
-use Rattle.pp_judge.specs.Judging.{HasFaultThere}
-use Rattle.pp_judge.specs.Running.{HasCount, RecordTaken}
-use Rattle.pp_judge.proofs.DrivenSteps.{each_told, judges_most, judges_overrun, taken_bad, taken_good}
+use Rattle.pp_judge.specs.Judging.{Judges}
+use Rattle.pp_judge.specs.Running.{rejection_on}
+use Rattle.pp_judge.proofs.Asking.{steps_asked}
+use Rattle.pp_judge.proofs.Driving.{few_there, no_fewer_there, steps_here, untried}
+use Rattle.pp_judge.proofs.DrivenSteps.{each_told, judges, judges_most, stops_there, told_meant}
 use Rattle.pp_judge.proofs.Writable.{record_written}
 use Rattle.pp_judge.proofs.driven.DrivenJudge.judge.Goals as goal
 
-pub returns-in_err-front-clause-stop : goal.returns-in_err-front-clause-stop
-returns-in_err-front-clause-stop g c =
+-- ---- the steps of the record
+
+pub expand-requires : goal.expand-requires
+expand-requires g c = subst (λ s. IsOfStyle s (record_meaning c.args.recorded.now)) (sym c.requires.good.2.0.style) c.requires.styled
+
+pub do_steps-requires-clause-asked : goal.do_steps-requires-clause-asked
+do_steps-requires-clause-asked g c =
     let header = c.args.header.now in
-    let r = record_meaning c.args.recorded.now in
-    let M = driven_judging g.W.Observer.HasSeen in
-    let p = err_from_is_err_and c.from_residual.result c.from_residual.ensures.1 in
-    rw (p.1, p.2) (if_fault c.in_err-front.field-0.0 _ _
-    (λ at cause said. (
-      said.0,
-      subst (λ w. HasFaultThere M header c.args.self r c.args.line w) (sym said.1.0)
-          (judges_overrun g.W.Observer.HasSeen header c.args.self r c.args.line c.args.ticks.now c.take_steps.new.ticks said.1.1),
-    ))
-    c.in_err-front.ensures.err)
+    let self = c.args.self in
+    let list = meanings c.as_slice.result.now in
+    subst (λ m. (step : Step Op) → In step list → IsAsked objects m.shape step) (sym c.in_ok-list.ensures.machine)
+    (steps_asked header self.front self.machine (record_meaning c.args.recorded.now) list c.requires.good.2.0.shape c.requires.readable (ap meanings c.as_slice.ensures ∙ c.in_ok-list.ensures.steps (kinds_of header.catalog)))
+
+pub do_steps-requires-clause-few : goal.do_steps-requires-clause-few
+do_steps-requires-clause-few g c = subst (λ m. m.count ≤ MOST_STEPS) (sym c.in_ok-list.ensures.machine) c.requires.good.2.0.stands.few
+
+-- ---- what halted them
+
+pub rejection_on-requires : goal.rejection_on-requires
+rejection_on-requires g c =
+    let header = c.args.header.now in
+    let self = c.args.self in
+    let here = steps_here header self.front self.machine (record_meaning c.args.recorded.now) in
+    let now = c.args.ticks.now in
+    let new = c.do_steps.new.ticks in
+    let halt = c.in_ok-machine.halt in
+    let machine = c.in_ok-machine.machine in
+    let same = ap meanings c.as_slice.ensures ∙ c.in_ok-list.ensures.steps (kinds_of header.catalog) in
+    let drives = subst (λ m. Drives objects m here now halt machine new) c.in_ok-list.ensures.machine (subst (λ w. Drives objects c.expand.new.machine w now halt machine new) same c.in_ok-machine.ensures.drives) in
+    subst (λ n. n ≤ MOST_STEPS) (sym c.count-count.ensures.count) (few_there self.machine machine here now new halt drives)
+
+pub overflow_sub-count : goal.overflow_sub-count
+overflow_sub-count g c =
+    let header = c.args.header.now in
+    let self = c.args.self in
+    let here = steps_here header self.front self.machine (record_meaning c.args.recorded.now) in
+    let now = c.args.ticks.now in
+    let new = c.do_steps.new.ticks in
+    let halt = c.in_ok-machine.halt in
+    let machine = c.in_ok-machine.machine in
+    let same = ap meanings c.as_slice.ensures ∙ c.in_ok-list.ensures.steps (kinds_of header.catalog) in
+    let drives = subst (λ m. Drives objects m here now halt machine new) c.in_ok-list.ensures.machine (subst (λ w. Drives objects c.expand.new.machine w now halt machine new) same c.in_ok-machine.ensures.drives) in
+    omega (arith, c.count-before.ensures.count, c.count-count.ensures.count, no_fewer_there self.machine machine here now new halt drives)
+
+pub tried-steps-requires : goal.tried-steps-requires
+tried-steps-requires g c =
+    let header = c.args.header.now in
+    let self = c.args.self in
+    let here = steps_here header self.front self.machine (record_meaning c.args.recorded.now) in
+    let now = c.args.ticks.now in
+    let new = c.do_steps.new.ticks in
+    let halt = c.in_ok-machine.halt in
+    let machine = c.in_ok-machine.machine in
+    let same = ap meanings c.as_slice.ensures ∙ c.in_ok-list.ensures.steps (kinds_of header.catalog) in
+    let drives = subst (λ m. Drives objects m here now halt machine new) c.in_ok-list.ensures.machine (subst (λ w. Drives objects c.expand.new.machine w now halt machine new) same c.in_ok-machine.ensures.drives) in
+    omega (arith, c.count-count.ensures.count, few_there self.machine machine here now new halt drives)
 
 pub show-requires : goal.show-requires
 show-requires g c = λ yes.
     let header = c.args.header.now in
     let self = c.args.self in
     let r = record_meaning c.args.recorded.now in
-    let now = c.args.ticks.now in
-    let new = c.take_steps.new.ticks in
-    let taken = c.in_ok-front.field-0 in
-    let list = taken.list in
-    let listed = λ (yes : g.W.Observer.looks ≡ true). c.in_ok-front.ensures.list (c.looks-looks.ensures ∙ yes) in
-    each_told (IsWritable header.catalog) taken.count c.first_steps.result.now list c.first_steps.ensures
-    (subst (Each (IsWritable header.catalog)) (sym (listed yes)) (record_written header self.front self.machine r c.requires.statable))
+    each_told (IsWritable header.catalog) _ c.tried-steps.result.now c.in_ok-list.list c.tried-steps.ensures
+    (subst (Each (IsWritable header.catalog)) (sym (c.in_ok-list.ensures.steps (kinds_of header.catalog))) (record_written header self.front self.machine r c.requires.statable))
 
-pub returns-in-None-clause-judged : goal.returns-in-None-clause-judged
-returns-in-None-clause-judged g c =
+-- ---- how the run is judged
+
+pub returns-clause-judged : goal.returns-clause-judged
+returns-clause-judged g c =
+    let W = g.W.Observer.HasSeen in
+    let header = c.args.header.now in
+    let self = c.args.self in
+    let r = record_meaning c.args.recorded.now in
+    let kinds = kinds_of header.catalog in
+    let here = steps_here header self.front self.machine r in
+    let now = c.args.ticks.now in
+    let new = c.do_steps.new.ticks in
+    let halt = c.in_ok-machine.halt in
+    let machine = c.in_ok-machine.machine in
+    let front = c.expand.new.self in
+    let next = c.in_ok-observer.observer in
+    let same = ap meanings c.as_slice.ensures ∙ c.in_ok-list.ensures.steps kinds in
+    let drives = subst (λ m. Drives objects m here now halt machine new) c.in_ok-list.ensures.machine (subst (λ w. Drives objects c.expand.new.machine w now halt machine new) same c.in_ok-machine.ensures.drives) in
+    let counted = c.count-count.ensures.count in
+    let fewer = no_fewer_there self.machine machine here now new halt drives in
+    let first = told_meant ((c.count-count.result - c.count-before.result) + 1) c.tried-steps.result.now c.in_ok-list.list c.tried-steps.ensures ∙ ap (λ l. take ((c.count-count.result - c.count-before.result) + 1) l) (c.in_ok-list.ensures.steps kinds) in
+    subst (λ judged. Judges (driven_judging W) header self r c.args.line judged now new) (sym c.judged_of.ensures)
+    (judges W g.W.Observer.looks g.met.W.Observer.blind header self r c.args.line now new (meanings c.tried-steps.result.now) next c.in_ok-observer.ensures front machine c.expand.ensures.same (c.in_ok-list.ensures.kept kinds)
+    c.count-count.ensures.sound (c.count-count.result - c.count-before.result) first (omega (arith, c.count-before.ensures.count, counted, fewer)) halt c.in_ok-rejection.rejection drives
+    (subst (λ n. rejection_on c.args.line n halt ≡ Ok c.in_ok-rejection.rejection) counted (sym c.in_ok-rejection.ensures)))
+
+-- ---- one step too many
+
+pub returns-in_err-rejection-clause-stop : goal.returns-in_err-rejection-clause-stop
+returns-in_err-rejection-clause-stop g c =
+    let W = g.W.Observer.HasSeen in
+    let header = c.args.header.now in
+    let self = c.args.self in
+    let r = record_meaning c.args.recorded.now in
+    let kinds = kinds_of header.catalog in
+    let here = steps_here header self.front self.machine r in
+    let now = c.args.ticks.now in
+    let new = c.do_steps.new.ticks in
+    let same = ap meanings c.as_slice.ensures ∙ c.in_ok-list.ensures.steps kinds in
+    let halt = c.in_ok-machine.halt in
+    let machine = c.in_ok-machine.machine in
+    let drives = subst (λ m. Drives objects m here now halt machine new) c.in_ok-list.ensures.machine (subst (λ w. Drives objects c.expand.new.machine w now halt machine new) same c.in_ok-machine.ensures.drives) in
+    let p = err_from_is_err_and c.from_residual-in_err-rejection.result c.from_residual-in_err-rejection.ensures.1 in
+    rw (p.1, p.2) (stops_there W header self r c.args.line now new machine halt c.in_err-rejection.field-0.0 drives
+    (subst (λ n. rejection_on c.args.line n halt ≡ Err c.in_err-rejection.field-0.0) c.count-count.ensures.count (sym c.in_err-rejection.ensures)))
+
+-- ---- what they cost
+
+pub returns-in_err-list-clause-most : goal.returns-in_err-list-clause-most
+returns-in_err-list-clause-most g c =
     let header = c.args.header.now in
     let self = c.args.self in
     let r = record_meaning c.args.recorded.now in
     let now = c.args.ticks.now in
-    let new = c.take_steps.new.ticks in
-    let taken = c.in_ok-front.field-0 in
-    let list = taken.list in
-    let listed = λ (yes : g.W.Observer.looks ≡ true). c.in_ok-front.ensures.list (c.looks-looks.ensures ∙ yes) in
-    let front = taken.front in
-    let machine = taken.machine in
-    let count = taken.count in
-    let rejection_is : taken.rejection ≡ None = search rules in
-    let t = subst (λ x. RecordTaken header self.front self.machine r c.args.line now front machine x new) rejection_is c.in_ok-front.ensures.ok in
-    let counted = λ (yes : g.W.Observer.looks ≡ true). subst (λ x. HasCount self.machine list count x) rejection_is (c.in_ok-front.ensures.count (c.looks-looks.ensures ∙ yes)) in
-    taken_good g.W.Observer.HasSeen g.W.Observer.looks g.met.W.Observer.blind header self r c.args.line now new list c.first_steps.result.now count c.first_steps.ensures listed front machine c.in_ok-observer.observer c.in_ok-observer.ensures counted t
+    judges_most g.W.Observer.HasSeen header self r c.args.line now now (untried self.machine (steps_here header self.front self.machine r) now c.requires.good.2.0.stands.few)
 
-pub returns-in-Some-clause-judged : goal.returns-in-Some-clause-judged
-returns-in-Some-clause-judged g c =
+pub returns-in_err-machine-clause-most : goal.returns-in_err-machine-clause-most
+returns-in_err-machine-clause-most g c =
+    let W = g.W.Observer.HasSeen in
     let header = c.args.header.now in
     let self = c.args.self in
     let r = record_meaning c.args.recorded.now in
+    let kinds = kinds_of header.catalog in
+    let here = steps_here header self.front self.machine r in
     let now = c.args.ticks.now in
-    let new = c.take_steps.new.ticks in
-    let taken = c.in_ok-front.field-0 in
-    let list = taken.list in
-    let listed = λ (yes : g.W.Observer.looks ≡ true). c.in_ok-front.ensures.list (c.looks-looks.ensures ∙ yes) in
-    let front = taken.front in
-    let machine = taken.machine in
-    let count = taken.count in
-    let rejection_is : taken.rejection ≡ Some c.in-Some.rejection = search rules in
-    let t = subst (λ x. RecordTaken header self.front self.machine r c.args.line now front machine x new) rejection_is c.in_ok-front.ensures.ok in
-    let counted = λ (yes : g.W.Observer.looks ≡ true). subst (λ x. HasCount self.machine list count x) rejection_is (c.in_ok-front.ensures.count (c.looks-looks.ensures ∙ yes)) in
-    taken_bad g.W.Observer.HasSeen g.W.Observer.looks g.met.W.Observer.blind header self r c.args.line now new list c.first_steps.result.now count c.first_steps.ensures listed front machine c.in_ok-observer.observer c.in_ok-observer.ensures c.in-Some.rejection counted t
+    let new = c.do_steps.new.ticks in
+    let same = ap meanings c.as_slice.ensures ∙ c.in_ok-list.ensures.steps kinds in
+    let cost = subst (λ m. CostAtMost objects place_of m here now new) c.in_ok-list.ensures.machine (subst (λ w. CostAtMost objects place_of c.expand.new.machine w now new) same c.do_steps.ensures.most) in
+    judges_most W header self r c.args.line now new cost
 
-pub returns-in_err-front-clause-most : goal.returns-in_err-front-clause-most
-returns-in_err-front-clause-most g c = judges_most g.W.Observer.HasSeen c.args.header.now c.args.self (record_meaning c.args.recorded.now) c.args.line c.args.ticks.now c.take_steps.new.ticks c.take_steps.ensures.most
+pub returns-in_err-rejection-clause-most : goal.returns-in_err-rejection-clause-most
+returns-in_err-rejection-clause-most g c =
+    let W = g.W.Observer.HasSeen in
+    let header = c.args.header.now in
+    let self = c.args.self in
+    let r = record_meaning c.args.recorded.now in
+    let kinds = kinds_of header.catalog in
+    let here = steps_here header self.front self.machine r in
+    let now = c.args.ticks.now in
+    let new = c.do_steps.new.ticks in
+    let same = ap meanings c.as_slice.ensures ∙ c.in_ok-list.ensures.steps kinds in
+    let cost = subst (λ m. CostAtMost objects place_of m here now new) c.in_ok-list.ensures.machine (subst (λ w. CostAtMost objects place_of c.expand.new.machine w now new) same c.do_steps.ensures.most) in
+    judges_most W header self r c.args.line now new cost
 
 pub returns-in_err-observer-clause-most : goal.returns-in_err-observer-clause-most
-returns-in_err-observer-clause-most g c = judges_most g.W.Observer.HasSeen c.args.header.now c.args.self (record_meaning c.args.recorded.now) c.args.line c.args.ticks.now c.take_steps.new.ticks c.take_steps.ensures.most
+returns-in_err-observer-clause-most g c =
+    let W = g.W.Observer.HasSeen in
+    let header = c.args.header.now in
+    let self = c.args.self in
+    let r = record_meaning c.args.recorded.now in
+    let kinds = kinds_of header.catalog in
+    let here = steps_here header self.front self.machine r in
+    let now = c.args.ticks.now in
+    let new = c.do_steps.new.ticks in
+    let same = ap meanings c.as_slice.ensures ∙ c.in_ok-list.ensures.steps kinds in
+    let cost = subst (λ m. CostAtMost objects place_of m here now new) c.in_ok-list.ensures.machine (subst (λ w. CostAtMost objects place_of c.expand.new.machine w now new) same c.do_steps.ensures.most) in
+    judges_most W header self r c.args.line now new cost
 
-pub returns-in-None-clause-most : goal.returns-in-None-clause-most
-returns-in-None-clause-most g c = judges_most g.W.Observer.HasSeen c.args.header.now c.args.self (record_meaning c.args.recorded.now) c.args.line c.args.ticks.now c.take_steps.new.ticks c.take_steps.ensures.most
-
-pub returns-in-Some-clause-most : goal.returns-in-Some-clause-most
-returns-in-Some-clause-most g c = judges_most g.W.Observer.HasSeen c.args.header.now c.args.self (record_meaning c.args.recorded.now) c.args.line c.args.ticks.now c.take_steps.new.ticks c.take_steps.ensures.most
+pub returns-clause-most : goal.returns-clause-most
+returns-clause-most g c =
+    let W = g.W.Observer.HasSeen in
+    let header = c.args.header.now in
+    let self = c.args.self in
+    let r = record_meaning c.args.recorded.now in
+    let kinds = kinds_of header.catalog in
+    let here = steps_here header self.front self.machine r in
+    let now = c.args.ticks.now in
+    let new = c.do_steps.new.ticks in
+    let same = ap meanings c.as_slice.ensures ∙ c.in_ok-list.ensures.steps kinds in
+    let cost = subst (λ m. CostAtMost objects place_of m here now new) c.in_ok-list.ensures.machine (subst (λ w. CostAtMost objects place_of c.expand.new.machine w now new) same c.do_steps.ensures.most) in
+    judges_most W header self r c.args.line now new cost
