@@ -1,0 +1,12 @@
+pub mod Runs
+pub mod Prefixes
+pub mod Apps
+pub mod Inserting
+pub mod Unfinished
+pub mod Orders
+pub mod Questions
+pub mod Zombies
+pub mod AtOnce
+pub mod Sufficient
+pub mod Boosted
+pub mod Examples

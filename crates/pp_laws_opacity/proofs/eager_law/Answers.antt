@@ -1,0 +1,6 @@
+use Rattle.pp_kind.specs.Object.{rules_of}
+use Rattle.pp_laws_opacity.proofs.Sufficient.{eager_opaque}
+use Rattle.pp_laws_opacity.proofs.eager_law.Goals as goal
+
+pub returns : goal.returns
+returns g c = λ shape. λ h ss met run e. eager_opaque (rules_of g.S.Spec.object shape) h met ss run e

@@ -1,0 +1,9 @@
+pub mod Opacity
+pub mod Orders
+pub mod Laws
+pub mod Questions
+pub mod Zombies
+pub mod Sufficient
+pub mod Boosted
+pub mod Cells
+pub mod Examples
