@@ -59,8 +59,13 @@ arity_of kind methods.Add = 1
 arity_of kind methods.Remove = 1
 arity_of kind methods.Contains = 1
 arity_of kind methods.Put = 2
+arity_of kinds.Memory methods.Get = 1
+arity_of kinds.KeySet methods.Get = 1
+arity_of kinds.KeyMap methods.Get = 1
 arity_of kinds.Counter methods.Get = 0
-arity_of kind methods.Get = 1
+arity_of kinds.Queue methods.Get = 1
+arity_of kinds.Stack methods.Get = 1
+arity_of kinds.PriorityQueue methods.Get = 1
 arity_of kind methods.FetchAdd = 1
 arity_of kind methods.Enq = 1
 arity_of kind methods.Deq = 0
@@ -75,14 +80,29 @@ abbrev pub form_of : Kind → Method → Form
 form_of kind methods.Read = forms.Number
 form_of kind methods.Write = forms.Nothing
 form_of kind methods.Cas = forms.Truth
+form_of kinds.Memory methods.Add = forms.Truth
+form_of kinds.KeySet methods.Add = forms.Truth
+form_of kinds.KeyMap methods.Add = forms.Truth
 form_of kinds.Counter methods.Add = forms.Nothing
-form_of kind methods.Add = forms.Truth
+form_of kinds.Queue methods.Add = forms.Truth
+form_of kinds.Stack methods.Add = forms.Truth
+form_of kinds.PriorityQueue methods.Add = forms.Truth
+form_of kinds.Memory methods.Remove = forms.Truth
+form_of kinds.KeySet methods.Remove = forms.Truth
 form_of kinds.KeyMap methods.Remove = forms.Found
-form_of kind methods.Remove = forms.Truth
+form_of kinds.Counter methods.Remove = forms.Truth
+form_of kinds.Queue methods.Remove = forms.Truth
+form_of kinds.Stack methods.Remove = forms.Truth
+form_of kinds.PriorityQueue methods.Remove = forms.Truth
 form_of kind methods.Contains = forms.Truth
 form_of kind methods.Put = forms.Found
+form_of kinds.Memory methods.Get = forms.Found
+form_of kinds.KeySet methods.Get = forms.Found
+form_of kinds.KeyMap methods.Get = forms.Found
 form_of kinds.Counter methods.Get = forms.Number
-form_of kind methods.Get = forms.Found
+form_of kinds.Queue methods.Get = forms.Found
+form_of kinds.Stack methods.Get = forms.Found
+form_of kinds.PriorityQueue methods.Get = forms.Found
 form_of kind methods.FetchAdd = forms.Number
 form_of kind methods.Enq = forms.Nothing
 form_of kind methods.Deq = forms.Found
@@ -95,11 +115,17 @@ form_of kind methods.Least = forms.Found
 -- the result is of the form
 abbrev pub has_form : Form → Answer → Bool
 has_form forms.Nothing answers.None = true
+has_form forms.Nothing (answers.Number n) = false
+has_form forms.Nothing (answers.Truth t) = false
+has_form forms.Number answers.None = false
 has_form forms.Number (answers.Number n) = true
+has_form forms.Number (answers.Truth t) = false
+has_form forms.Truth answers.None = false
+has_form forms.Truth (answers.Number n) = false
 has_form forms.Truth (answers.Truth t) = true
 has_form forms.Found answers.None = true
 has_form forms.Found (answers.Number n) = true
-has_form form answer = false
+has_form forms.Found (answers.Truth t) = false
 
 -- an argument where it is used, and else 0
 abbrev pub if_used : Bool → ℤ → ℤ

@@ -57,13 +57,19 @@ kind_of (states.PriorityQueue s) = kinds.PriorityQueue
 -- it is an act on objects of this kind
 abbrev pub fits : Kind → Act → Bool
 fits kinds.Memory (Memory a) = true
+fits kinds.Memory act = false
 fits kinds.KeySet (KeySet a) = true
+fits kinds.KeySet act = false
 fits kinds.KeyMap (KeyMap a) = true
+fits kinds.KeyMap act = false
 fits kinds.Counter (Counter a) = true
+fits kinds.Counter act = false
 fits kinds.Queue (Queue a) = true
+fits kinds.Queue act = false
 fits kinds.Stack (Stack a) = true
+fits kinds.Stack act = false
 fits kinds.PriorityQueue (PriorityQueue a) = true
-fits kind act = false
+fits kinds.PriorityQueue act = false
 
 -- the kind of the objects that it is an act on
 abbrev pub kind_for : Act → Kind
@@ -108,41 +114,65 @@ recorded_by (PriorityQueue a) = prio.recorded a
 -- the result that an object gives for an act of its kind
 abbrev pub given_by : ObjectState → Act → Answer
 given_by (states.Memory s) (Memory a) = memory.gives s a
+given_by (states.Memory s) act = NoAnswer
 given_by (states.KeySet s) (KeySet a) = key_set.gives s a
+given_by (states.KeySet s) act = NoAnswer
 given_by (states.KeyMap s) (KeyMap a) = key_map.gives s a
+given_by (states.KeyMap s) act = NoAnswer
 given_by (states.Counter s) (Counter a) = counter.gives s a
+given_by (states.Counter s) act = NoAnswer
 given_by (states.Queue s) (Queue a) = fifo.gives s a
+given_by (states.Queue s) act = NoAnswer
 given_by (states.Stack s) (Stack a) = stack.gives s a
+given_by (states.Stack s) act = NoAnswer
 given_by (states.PriorityQueue s) (PriorityQueue a) = prio.gives s a
-given_by s a = NoAnswer
+given_by (states.PriorityQueue s) act = NoAnswer
 
 -- the state afterwards
 abbrev pub state_after : ObjectState → Act → ObjectState
 state_after (states.Memory s) (Memory a) = states.Memory (memory.next s a)
+state_after (states.Memory s) act = states.Memory s
 state_after (states.KeySet s) (KeySet a) = states.KeySet (key_set.next s a)
+state_after (states.KeySet s) act = states.KeySet s
 state_after (states.KeyMap s) (KeyMap a) = states.KeyMap (key_map.next s a)
+state_after (states.KeyMap s) act = states.KeyMap s
 state_after (states.Counter s) (Counter a) = states.Counter (counter.next s a)
+state_after (states.Counter s) act = states.Counter s
 state_after (states.Queue s) (Queue a) = states.Queue (fifo.next s a)
+state_after (states.Queue s) act = states.Queue s
 state_after (states.Stack s) (Stack a) = states.Stack (stack.next s a)
+state_after (states.Stack s) act = states.Stack s
 state_after (states.PriorityQueue s) (PriorityQueue a) = states.PriorityQueue (prio.next s a)
-state_after s a = s
+state_after (states.PriorityQueue s) act = states.PriorityQueue s
 
 -- what is kept to take it back: what a memory keeps, and else nothing
 abbrev pub kept_by : ObjectState → Act → Undo
 kept_by (states.Memory s) (Memory a) = memory.upkeep.kept s a
-kept_by s a = Nothing
+kept_by (states.Memory s) act = Nothing
+kept_by (states.KeySet s) act = Nothing
+kept_by (states.KeyMap s) act = Nothing
+kept_by (states.Counter s) act = Nothing
+kept_by (states.Queue s) act = Nothing
+kept_by (states.Stack s) act = Nothing
+kept_by (states.PriorityQueue s) act = Nothing
 
 -- the state that this brings back
 abbrev pub state_before : ObjectState → Act → Undo → ObjectState
 state_before (states.Memory s) (Memory a) undo = states.Memory (memory.upkeep.back s a undo)
+state_before (states.Memory s) act undo = states.Memory s
 state_before (states.KeySet s) (KeySet a) undo = states.KeySet (key_set.upkeep.back s a tt)
+state_before (states.KeySet s) act undo = states.KeySet s
 state_before (states.KeyMap s) (KeyMap a) undo = states.KeyMap (key_map.upkeep.back s a tt)
+state_before (states.KeyMap s) act undo = states.KeyMap s
 state_before (states.Counter s) (Counter a) undo = states.Counter (counter.upkeep.back s a tt)
+state_before (states.Counter s) act undo = states.Counter s
 state_before (states.Queue s) (Queue a) undo = states.Queue (fifo.upkeep.back s a tt)
+state_before (states.Queue s) act undo = states.Queue s
 state_before (states.Stack s) (Stack a) undo = states.Stack (stack.upkeep.back s a tt)
+state_before (states.Stack s) act undo = states.Stack s
 state_before (states.PriorityQueue s) (PriorityQueue a) undo =
     states.PriorityQueue (prio.upkeep.back s a tt)
-state_before s a undo = s
+state_before (states.PriorityQueue s) act undo = states.PriorityQueue s
 
 -- lists of a kind's operations, as lists of acts
 abbrev pub both_as : {A B : Type 0} → (A → B) → Option (List A × List A) → Option (List B × List B)
@@ -152,13 +182,19 @@ both_as f (Some lists) = Some (map f lists.0, map f lists.1)
 -- acts before and after a pair that does not swap
 abbrev pub refuting_lists : Act → Act → Option (List Act × List Act)
 refuting_lists (Memory a) (Memory b) = both_as Memory (memory.refuting a b)
+refuting_lists (Memory a) act = None
 refuting_lists (KeySet a) (KeySet b) = both_as KeySet (key_set.refuting a b)
+refuting_lists (KeySet a) act = None
 refuting_lists (KeyMap a) (KeyMap b) = both_as KeyMap (key_map.refuting a b)
+refuting_lists (KeyMap a) act = None
 refuting_lists (Counter a) (Counter b) = both_as Counter (counter.refuting a b)
+refuting_lists (Counter a) act = None
 refuting_lists (Queue a) (Queue b) = both_as Queue (fifo.refuting a b)
+refuting_lists (Queue a) act = None
 refuting_lists (Stack a) (Stack b) = both_as Stack (stack.refuting a b)
+refuting_lists (Stack a) act = None
 refuting_lists (PriorityQueue a) (PriorityQueue b) = both_as PriorityQueue (prio.refuting a b)
-refuting_lists a b = None
+refuting_lists (PriorityQueue a) act = None
 
 -- what `apply` did, with nothing kept
 abbrev pub keeping_nothing : Result (Applied (Unit {0})) OutOfMemory

@@ -24,7 +24,10 @@ abbrev pub key_of : Act → ℤ
 key_of (Memory a) = memories.address_of a
 key_of (KeySet a) = sets.key_of a
 key_of (KeyMap a) = maps.key_of a
-key_of a = pos 0
+key_of (Counter a) = pos 0
+key_of (Queue a) = pos 0
+key_of (Stack a) = pos 0
+key_of (PriorityQueue a) = pos 0
 
 -- the object of an operation, and the key there
 abbrev pub part_of : Op → Part

@@ -30,15 +30,30 @@ pub fn answer_form(kind: Kind, method: Method) -> Form
         Method::Take | Method::Least => Form::Found,
         Method::Add => match kind {
             Kind::Counter => Form::Nothing,
-            _ => Form::Truth,
+            Kind::Memory
+            | Kind::KeySet
+            | Kind::KeyMap
+            | Kind::Queue
+            | Kind::Stack
+            | Kind::PriorityQueue => Form::Truth,
         },
         Method::Remove => match kind {
             Kind::KeyMap => Form::Found,
-            _ => Form::Truth,
+            Kind::Memory
+            | Kind::KeySet
+            | Kind::Counter
+            | Kind::Queue
+            | Kind::Stack
+            | Kind::PriorityQueue => Form::Truth,
         },
         Method::Get => match kind {
             Kind::Counter => Form::Number,
-            _ => Form::Found,
+            Kind::Memory
+            | Kind::KeySet
+            | Kind::KeyMap
+            | Kind::Queue
+            | Kind::Stack
+            | Kind::PriorityQueue => Form::Found,
         },
     }
 }

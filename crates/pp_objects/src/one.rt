@@ -54,15 +54,14 @@ impl OneObject {
     pub fn fits(kind: &Kind, op: &Act) -> bool
         ensures { result ≡ one.fits kind.now op.now }
     {
-        match (kind, op) {
-            (Kind::Memory, Act::Memory(_)) => true,
-            (Kind::KeySet, Act::KeySet(_)) => true,
-            (Kind::KeyMap, Act::KeyMap(_)) => true,
-            (Kind::Counter, Act::Counter(_)) => true,
-            (Kind::Queue, Act::Queue(_)) => true,
-            (Kind::Stack, Act::Stack(_)) => true,
-            (Kind::PriorityQueue, Act::PriorityQueue(_)) => true,
-            _ => false,
+        match kind {
+            Kind::Memory => matches!(op, Act::Memory(_)),
+            Kind::KeySet => matches!(op, Act::KeySet(_)),
+            Kind::KeyMap => matches!(op, Act::KeyMap(_)),
+            Kind::Counter => matches!(op, Act::Counter(_)),
+            Kind::Queue => matches!(op, Act::Queue(_)),
+            Kind::Stack => matches!(op, Act::Stack(_)),
+            Kind::PriorityQueue => matches!(op, Act::PriorityQueue(_)),
         }
     }
 
