@@ -1,0 +1,137 @@
+#!/usr/bin/env python3
+"""Tests on each file of a folder that a run is right exactly if it is right on each object, by `definition.py` alone.
+
+    python3 bench/locality.py FOLDER
+
+A run is restricted to each of its objects: the header keeps this object, and of the start the operations on it. A begin
+loses its body, and a record of another object becomes an empty line. So each line keeps its number. It is tested that
+
+- an accepted run has accepted restrictions only;
+- no restriction is rejected on an earlier line than the run;
+- a run that is rejected by a criterion about an operation has a restriction that is rejected on the same line, by the same
+  criterion, with the same evidence.
+
+The first run that breaks this is shown, and then the status is 1. A table has the number of runs with each verdict.
+"""
+import argparse
+import collections
+import concurrent.futures
+import json
+import pathlib
+import sys
+from typing import NamedTuple
+
+from compare import print_table, verdict_named
+from definition import verdict
+from definition_input import NO_LIMITS
+
+# The criteria that speak of no object.
+BOOKKEEPING = {"START 1", "BEGIN 1", "BEGIN 2", "APP 1", "APP 2", "APP 3", "UNAPP 1", "PUSH 1", "UNPUSH 1", "PULL 1", "UNPULL 1", "CMT 1", "CMT 2",
+               "QUIT 1", "NOTE 1"}
+# The records that say on which object they are, and those that name an operation by its id.
+OF_OBJECT = ("op", "refresh", "app")
+OF_ID = ("unapp", "push", "unpush", "pull", "unpull")
+REJECTED = 1
+FAULT = 3
+
+
+class Rejection(NamedTuple):
+    line: int
+    criterion: str
+    evidence: str
+
+
+def restricted_header(header, name, places):
+    """The header with this object alone. `places` learns the object of each id of the start."""
+    start = header.get("start", {"ops": []}) if header["run"] == 2 else {"ops": []}
+    for item in start["ops"]:
+        places.setdefault(item["id"], item["on"])
+    start["ops"] = [item for item in start["ops"] if item["on"] == name]
+    header["objects"] = [item for item in header["objects"] if item["name"] == name]
+    return json.dumps(header)
+
+
+def restricted_record(line, name, places):
+    """A record's line in the restriction. `places` learns the object of the id of an operation."""
+    record = json.loads(line)
+    if record["step"] == "begin":
+        record.pop("body", None)
+        return json.dumps(record)
+    if record["step"] in OF_OBJECT:
+        places.setdefault(record.get("id"), record["on"])
+        return line if record["on"] == name else ""
+    if record["step"] in OF_ID:
+        return line if places.get(record["id"], name) == name else ""
+    return line
+
+
+def restricted(text, name):
+    """The restriction of a run without a fault to the object of this name."""
+    places, lines, header = {}, [], None
+    for line in text.split("\n"):
+        if line.strip() and header is None:
+            header = line = restricted_header(json.loads(line), name, places)
+        elif line.strip():
+            line = restricted_record(line, name, places)
+        lines.append(line)
+    return "\n".join(lines)
+
+
+def names_of(text):
+    """The names of the objects of a run."""
+    return [item["name"] for item in json.loads(next(line for line in text.split("\n") if line.strip()))["objects"]]
+
+
+def rejection(report):
+    """What a report says of a rejected run, without the number of the step."""
+    first, _, evidence = report.partition("\n")
+    words = first.split()
+    return Rejection(int(words[4]), " ".join(words[5:]), evidence)
+
+
+def exception(report, parts):
+    """Why the restrictions of a run, as reports with their statuses, do not make the whole; None if they do."""
+    rejections = {name: rejection(part) for name, (part, status) in parts.items() if status == REJECTED}
+    if not report.startswith("rejected"):
+        return f"accepted, but not on {min(rejections)}" if rejections else None
+    whole = rejection(report)
+    early = [name for name, part in rejections.items() if part.line < whole.line]
+    if early:
+        return f"rejected on line {whole.line}, but earlier on {early[0]}"
+    if whole.criterion not in BOOKKEEPING and whole not in rejections.values():
+        return f"rejected by {whole.criterion} on line {whole.line}, but on no object"
+    return None
+
+
+def examined(file):
+    """The verdict of a file's run, and why its restrictions do not make it."""
+    data = file.read_bytes()
+    report, status = verdict(data, NO_LIMITS)
+    if status == FAULT:
+        return "fault", None
+    text = data.decode()
+    parts = {name: verdict(restricted(text, name).encode(), NO_LIMITS) for name in names_of(text)}
+    faults = [name for name, (_, status) in parts.items() if status == FAULT]
+    return verdict_named(report), f"the restriction to {faults[0]} has a fault" if faults else exception(report, parts)
+
+
+def main():
+    parser = argparse.ArgumentParser(description="Tests that a run is right exactly if it is right on each object.")
+    parser.add_argument("folder", metavar="FOLDER", type=pathlib.Path)
+    parser.add_argument("--jobs", type=int, default=2, help="how many files at a time")
+    given = parser.parse_args()
+    counts = collections.Counter()
+    files = sorted(file for file in given.folder.iterdir() if file.is_file())
+    with concurrent.futures.ProcessPoolExecutor(given.jobs) as pool:
+        for file, (name, why) in zip(files, pool.map(examined, files, chunksize=16)):
+            if why is not None:
+                print(f"{file}: {why}")
+                return 1
+            counts[name] += 1
+    print_table(counts)
+    print(f"{len(files)} files: each is right exactly if its restrictions are")
+    return 0
+
+
+if __name__ == "__main__":
+    sys.exit(main())

@@ -1,0 +1,10 @@
+pub mod Filtered
+pub mod Parts
+pub mod PartLogs
+pub mod PartTransactions
+pub mod PartSteps
+pub mod PartRecords
+pub mod Quiet
+pub mod Runs
+pub mod PartFailures
+pub mod RunFailures

@@ -1,0 +1,4 @@
+pub mod Restricted
+pub mod Bookkeeping
+pub mod Rejected
+pub mod Locality
