@@ -1,8 +1,9 @@
 -- A new Quick, and the committed transactions of any.
 use Rattle.std.specs.Prelude.{◌≡◌, ◌≢◌, ◌≤◌, ◌+◌, ℕ, true, List, [], ◌++◌, length, reverse, Option, None, Some, IsTrue}
 use Rattle.std.specs.Map.{keys_of}
-use Rattle.std.proofs.Common.{refl, sym, ap, subst, arith}
+use Rattle.std.proofs.Common.{refl, sym, ap, subst, ◌∙◌, arith}
 use Rattle.std.proofs.lemmas.List.{append-nil}
+use Rattle.pp_core.specs.declared.entry.CommittedTx.{CommittedTx}
 use Rattle.pp_core.specs.declared.entry.Item.{Item}
 use Rattle.pp_model.specs.Config.{Config, SharedEntry, as_shared, first, shared_ops, uncommitted}
 use Rattle.pp_model.specs.Lists.{Before, In}
@@ -15,7 +16,7 @@ use Rattle.pp_kind.specs.Object.{Object, AllRanged, IsAllowed, rules_of}
 use Rattle.pp_kind.proofs.Fitting.{in_ranged}
 use Rattle.pp_summary.specs.Boosted.{PlacesSwap}
 use Rattle.pp_summary.specs.Brief.{Brief, BriefTx, brief}
-use Rattle.pp_summary.specs.Shown.{AreThreads, KeepsQuick, IsFine, Kept, WasCommitted, at, filled, as_held, shown, shown_tx, threads_of}
+use Rattle.pp_summary.specs.Shown.{AreThreads, KeepsQuick, IsFine, Kept, at, filled, as_held, ids_at, shown, shown_tx, threads_of}
 use Rattle.pp_summary.specs.declared.parts.OpenTx.{OpenTx}
 use Rattle.pp_summary.proofs.Moving.{same_brief}
 use Rattle.pp_summary.proofs.Deciding.{quick}
@@ -44,7 +45,7 @@ module _ {Shape State Op Undo : Type 0} (o : Object Shape State Op Undo) (place 
               subst (λ (z : List (BriefTx Op)). AreThreads v.threads.keys (threads_of z)) (sym opened_none)
               (subst (λ (z : List Name). AreThreads z []) (sym threads) (record { apart = λ p q b. absurd b; are = λ p. refl }));
           fine = subst (λ (z : List (Name × Option (OpenTx (List (Item Op))))). (n : Name) (x : OpenTx (List (Item Op))) → In (n, Some x) z → IsFine o place v.commits.items x) (sym slots) (λ n x i. absurd i);
-          commits = subst (λ (z : List (List ℕ)). (q id : ℕ) → In id (at q z) → WasCommitted place v.committed q id) (sym commits) (λ q id i. absurd i);
+          commits = λ q. ap (λ (z : List (List ℕ)). at q z) commits ∙ ap (λ (z : List (CommittedTx Op)). ids_at place q (serial_items z)) (sym committed);
           same_shape = ap (λ (z : Shape × List (SharedEntry Op)). z.0) shared;
           ranged = λ g i. absurd (subst (λ (z : Shape × List (SharedEntry Op)). In g z.1) shared i);
           few = let e : length v.shared.1 ≡ 0 = ap (λ (z : Shape × List (SharedEntry Op)). length z.1) shared in omega arith;

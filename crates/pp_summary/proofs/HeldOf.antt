@@ -156,7 +156,7 @@ module _ {Shape State Op Undo : Type 0} (o : Object Shape State Op Undo) (place 
       λ e. k.1.boosted.sound.open_names m.0 m.1 m.2 (ap (λ (w : BriefTx Op). w.name) (sym m.3) ∙ e ∙ ap (λ (w : BriefTx Op). w.name) m.4))
 
   module _ (t : Name) (y : BriefTx Op) (found : brief_of t v.brief.opened ≡ Some y) where
-    there : (x : Tx Op) × (tx t k.0.opened ≡ Some x) × (brief_tx place k.0.shared x ≡ y)
+    pub there : (x : Tx Op) × (tx t k.0.opened ≡ Some x) × (brief_tx place k.0.shared x ≡ y)
     there = found_of place k.0 t y (tx t k.0.opened) refl
         (sym (brief_of_is place k.0.shared t k.0.opened) ∙ ap (λ (w : Brief Op). brief_of t w.opened) k.1.is ∙ found)
 

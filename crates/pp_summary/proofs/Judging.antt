@@ -30,7 +30,7 @@ use Rattle.pp_summary.specs.declared.parts.OpenTx.{OpenTx}
 use Rattle.pp_summary.proofs.Briefs.{has_in, in_has}
 use Rattle.pp_summary.proofs.Filled.{begun_is}
 use Rattle.pp_summary.proofs.Items.{in_drop}
-use Rattle.pp_summary.proofs.Moving.{fine_of, open_is, open_there}
+use Rattle.pp_summary.proofs.Moving.{committed_there, fine_of, open_is, open_there}
 use Rattle.pp_summary.proofs.HeldOf.{distinct, done_stands, fits, new_id, own_stands}
 use Rattle.pp_summary.proofs.Unseen.{has_unseen}
 
@@ -80,7 +80,7 @@ module _ {Shape State Op Undo : Type 0} (o : Object Shape State Op Undo) (place 
   -- what was committed at a place stands in the shared log
   pub have_entries : (q : ℕ) → HaveEntries G (at q commits)
   have_entries q id i =
-      let k = h.commits q id i in
+      let k = committed_there o place apart v h q id i in
       let s = done_stands o place apart (as_held place v) h.is_held k.0 k.1 in
       (as_shared s.0 true k.0, s.1, k.2)
 
@@ -140,7 +140,7 @@ module _ {Shape State Op Undo : Type 0} (o : Object Shape State Op Undo) (place 
       -- an entry whose id is that of a commit that was not seen has the place of the commit, and is missed
       missed : (p : SharedEntry Op) → In p G → In p.id (unseen_at (place op) commits x.seen.entries) → (place p.op ≡ place op) × In p.id show.missed
       missed p i u =
-          let k = h.commits (place op) p.id (in_behind (lookup (nat_eq (place op)) x.seen.entries) (at (place op) commits) p.id u) in
+          let k = committed_there o place apart v h (place op) p.id (in_behind (lookup (nat_eq (place op)) x.seen.entries) (at (place op) commits) p.id u) in
           let s = done_stands o place apart (as_held place v) h.is_held k.0 k.1 in
           let same : as_shared s.0 true k.0 ≡ p = by_key (λ (w : SharedEntry Op). w.id) G own_ids (as_shared s.0 true k.0) p s.1 i k.2 in
           let there : place p.op ≡ place op = ap (λ (w : SharedEntry Op). place w.op) (sym same) ∙ k.3 in

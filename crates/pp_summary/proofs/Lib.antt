@@ -1,4 +1,5 @@
 pub mod Items
+pub mod Committed
 pub mod Passing
 pub mod Known
 pub mod Filtered
@@ -19,6 +20,8 @@ pub mod Entries
 pub mod Front
 pub mod Lookups
 pub mod Relog
+pub mod Places
+pub mod StepCounts
 pub mod Pull
 pub mod Refresh
 pub mod Append

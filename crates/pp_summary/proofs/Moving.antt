@@ -28,10 +28,11 @@ use Rattle.pp_records.specs.Records as records
 use Rattle.pp_summary.specs.Boosted.{PlacesSwap}
 use Rattle.pp_summary.specs.Brief.{Brief, BriefTx, at_brief, brief_of, brief_then, emptied, grown, missing_more, own_list, any_at, without_brief, without_owner}
 use Rattle.pp_summary.specs.Moving.{IsGood, Moves}
-use Rattle.pp_summary.specs.Passing.{IsGrown, ids_at, items_at}
+use Rattle.pp_summary.specs.Passing.{IsGrown}
 use Rattle.pp_summary.specs.Runs.{IsBoosted}
-use Rattle.pp_summary.specs.Shown.{AreThreads, KeepsQuick, IsFine, Kept, WasCommitted, at, calls_of, filled, as_held, in_slot, open_in, shown, shown_tx, threads_of, unseen}
+use Rattle.pp_summary.specs.Shown.{AreThreads, KeepsQuick, IsFine, Kept, at, calls_of, filled, as_held, ids_at, in_slot, open_in, shown, shown_tx, threads_of, unseen}
 use Rattle.pp_summary.specs.declared.parts.OpenTx.{OpenTx}
+use Rattle.pp_summary.proofs.Committed.{ids_append, item_of_id, serial_more}
 use Rattle.pp_summary.proofs.Filled.{Apart, among, filled_more, filled_out, filled_set, found_is, in_set, keys_stay}
 use Rattle.pp_summary.proofs.OnCommit.{commit_rest}
 use Rattle.pp_summary.proofs.Relog.{map_id, map_map}
@@ -66,11 +67,6 @@ set_twice {X} t (e ∷ es) a b = by (t =ⁿ e.0) refl (set_twice t es a b)
         set_value (λ n. t =ⁿ n) (cond z ((e.0, a) ∷ es) (e ∷ set_value (λ n. t =ⁿ n) es a)) b ≡ cond z ((e.0, b) ∷ es) (e ∷ set_value (λ n. t =ⁿ n) es b)
     by true q k = ap (λ (z : Bool). cond z ((e.0, b) ∷ es) ((e.0, a) ∷ set_value (λ n. t =ⁿ n) es b)) q
     by false q k = ap (λ (z : Bool). cond z ((e.0, b) ∷ set_value (λ n. t =ⁿ n) es a) (e ∷ set_value (λ n. t =ⁿ n) (set_value (λ n. t =ⁿ n) es a) b)) q ∙ ap (λ (z : List (Name × X)). e ∷ z) k
-
--- one transaction more is committed
-serial_more : {Op : Type 0} (D : List (CommittedTx Op)) (d : CommittedTx Op) → serial_items (D ++ d ∷ []) ≡ serial_items D ++ d.entries
-serial_more [] d = append-nil d.entries
-serial_more {Op} (c ∷ D) d = ap (λ (z : List (Item Op)). c.entries ++ z) (serial_more D d) ∙ sym (append_assoc c.entries (serial_items D) d.entries)
 
 filter_short : {X : Type 0} (test : X → Bool) (l : List X) → length (filter test l) ≤ length l
 filter_short test [] = omega arith
@@ -129,7 +125,7 @@ module _ {Shape State Op Undo : Type 0} (o : Object Shape State Op Undo) (place 
 
   moves : (r : RunRecord Op) (w : Kept Shape Op) → IsBoosted r → IsGood o place v r → w.shape ≡ v.shape → w.count ≡ v.count + 1 → shown place w ≡ brief_then place B r → Apart w.slots.entries →
       AreThreads w.threads.keys (threads_of (brief_then place B r).opened) → ((n : Name) (x : OpenTx (List (Item Op))) → In (n, Some x) w.slots.entries → IsFine o place w.commits.items x) →
-      ((q id : ℕ) → In id (at q w.commits.items) → WasCommitted place w.committed q id) → w.shared.0 ≡ v.shape → ((a : SharedEntry Op) → In a w.shared.1 → IsTrue (o.ranged a.op)) →
+      ((q : ℕ) → at q w.commits.items ≡ ids_at place q (serial_items w.committed)) → w.shared.0 ≡ v.shape → ((a : SharedEntry Op) → In a w.shared.1 → IsTrue (o.ranged a.op)) →
       length w.shared.1 ≤ v.count + 1 + 256 → Moves o place v r w
   moves r w s g shape count is names threads fine done same ranged few =
       record {
@@ -150,8 +146,13 @@ module _ {Shape State Op Undo : Type 0} (o : Object Shape State Op Undo) (place 
       }
 
   -- commits that are as they were
-  commits_stay : (w : Kept Shape Op) → w.commits.items ≡ commits → w.committed ≡ v.committed → (q id : ℕ) → In id (at q w.commits.items) → WasCommitted place w.committed q id
-  commits_stay w same done q id i = subst (λ (z : List (CommittedTx Op)). WasCommitted place z q id) (sym done) (h.commits q id (subst (λ (z : List (List ℕ)). In id (at q z)) same i))
+  commits_stay : (w : Kept Shape Op) → w.commits.items ≡ commits → w.committed ≡ v.committed → (q : ℕ) → at q w.commits.items ≡ ids_at place q (serial_items w.committed)
+  commits_stay w same done q =
+      ap (λ (z : List (List ℕ)). at q z) same ∙ h.commits q ∙ ap (λ (z : List (CommittedTx Op)). ids_at place q (serial_items z)) (sym done)
+
+  -- An id at a place is that of a committed item there.
+  pub committed_there : (q id : ℕ) → In id (at q commits) → (p : Item Op) × In p (serial_items v.committed) × (p.id ≡ id) × (place p.op ≡ q)
+  committed_there q id i = item_of_id place (serial_items v.committed) q id (subst (λ (l : List ℕ). In id l) (h.commits q) i)
 
   -- threads
   threads_on : (t : Name) (g : BriefTx Op → BriefTx Op) (l : List (BriefTx Op)) → ((y : BriefTx Op) → (g y).thread ≡ y.thread) → threads_of (at_brief t g l) ≡ threads_of l
@@ -338,7 +339,7 @@ module _ {Shape State Op Undo : Type 0} (o : Object Shape State Op Undo) (place 
         same_tx n z.thread z.thread z.walk.body z.walk.body z.own z.own (unseen place (commit_all t G) w.commits.items z.seen.entries) _ refl refl refl
         (unseen_committed place G commits w.commits.items z.seen.entries t z.own x.own (distinct o place apart (as_held place v) h.is_held)
         (is_owned o place apart (as_held place v) h.is_held t (show t x) here) (own_stands o place apart (as_held place v) h.is_held t (show t x) here) f.sees f.within grow
-        (λ q id j. let k = h.commits q id j in let s = done_stands o place apart (as_held place v) h.is_held k.0 k.1 in (as_shared s.0 true k.0, s.1, refl, k.2)))
+        (λ q id j. let k = committed_there q id j in let s = done_stands o place apart (as_held place v) h.is_held k.0 k.1 in (as_shared s.0 true k.0, s.1, refl, k.2)))
 
     committed_shown : shown place w ≡ brief_then place B (records.Commit t)
     committed_shown = same_brief _ _ _ _ _ _ _ _ _ _
@@ -366,13 +367,7 @@ module _ {Shape State Op Undo : Type 0} (o : Object Shape State Op Undo) (place 
               omega arith;
         })
         (λ z e. absurd (cc)))
-        (λ q id i. elim (in_cases id (at q commits) (ids_at place q x.own) (subst (λ (l : List ℕ). In id l) (grow q) i)) [
-          | inl j ↦ let k = h.commits q id j in (k.0, subst (λ (l : List (Item Op)). In k.0 l) (sym serial_is) (in_left k.0 (serial_items v.committed) x.own k.1), k.2, k.3)
-          | inr j ↦
-              let m = from_map (λ (b : Item Op). b.id) id (items_at place q x.own) j in
-              let k = from_filter (λ (b : Item Op). place b.op == q) m.0 x.own m.1 in
-              (m.0, subst (λ (l : List (Item Op)). In m.0 l) (sym serial_is) (in_right m.0 (serial_items v.committed) x.own k.0), sym m.2, eqb-true (place (m.0).op) q k.1)
-        ])
+        (λ q. grow q ∙ ap (λ (l : List ℕ). l ++ ids_at place q x.own) (h.commits q) ∙ sym (ids_append place q (serial_items v.committed) x.own) ∙ ap (λ (l : List (Item Op)). ids_at place q l) (sym serial_is))
         (ap (λ (z : Shape × List (SharedEntry Op)). z.0) shared ∙ h.same_shape)
         (λ a i.
         let m = from_map (commit t) a G (subst (λ (z : List (SharedEntry Op)). In a z) all_is i) in

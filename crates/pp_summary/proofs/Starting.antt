@@ -4,7 +4,7 @@ use Rattle.std.specs.List.{All, list_any}
 use Rattle.std.specs.Map.{keys_of, lookup}
 use Rattle.std.proofs.Common.{refl, sym, ap, subst, ◌∙◌, append_assoc, arith, get_or}
 use Rattle.std.proofs.lemmas.Bool.{eqb-true, false_from_ne_true}
-use Rattle.std.proofs.lemmas.List.{drop_more, length-map, map-append, take_more}
+use Rattle.std.proofs.lemmas.List.{append-nil, drop_more, length-map, map-append, take_more}
 use Rattle.std.proofs.lemmas.List.Elements.{All-get_or, All-head, All-tail}
 use mathlib.Core.Logic.{inl, inr}
 use Rattle.pp_core.specs.declared.entry.CommittedTx.{CommittedTx}
@@ -27,7 +27,7 @@ use Rattle.pp_kind.specs.Object.{Object, IsAllowed, rules_of}
 use Rattle.pp_summary.specs.Boosted.{PlacesSwap}
 use Rattle.pp_summary.specs.Brief.{Brief, BriefTx, brief}
 use Rattle.pp_summary.specs.Held.{IsItemAsked}
-use Rattle.pp_summary.specs.Shown.{AreThreads, KeepsQuick, IsFine, Kept, at, filled, shown, shown_tx, threads_of}
+use Rattle.pp_summary.specs.Shown.{AreThreads, KeepsQuick, IsFine, Kept, at, filled, ids_at, shown, shown_tx, threads_of}
 use Rattle.pp_summary.specs.Starting.{PutsStart, IsNew, start_entries}
 use Rattle.pp_summary.specs.declared.parts.OpenTx.{OpenTx}
 use Rattle.pp_summary.proofs.Deciding.{quick}
@@ -170,7 +170,7 @@ module _ {Shape State Op Undo : Type 0} (o : Object Shape State Op Undo) (place 
   none_done = ap (λ (b : Brief Op). b.done) n.shown
 
   no_commits : (q : ℕ) → at q v.commits.items ≡ []
-  no_commits q = nothing (at q v.commits.items) (λ id i. let k = h.commits q id i in subst (λ (d : List (CommittedTx Op)). In k.0 (serial_items d)) none_done k.1)
+  no_commits q = h.commits q ∙ ap (λ (d : List (CommittedTx Op)). ids_at place q (serial_items d)) none_done
 
   pub not_begun : (t : Name) → lookup (λ m. t =ⁿ m) v.slots.entries ≡ None
   not_begun t = ap (λ z. lookup (λ m. t =ⁿ m) z) no_slots
@@ -178,7 +178,7 @@ module _ {Shape State Op Undo : Type 0} (o : Object Shape State Op Undo) (place 
   -- what a start makes of it
   module _ (t : Name) (items : List (Item Op)) (w : Kept Shape Op) (shape : w.shape ≡ v.shape) (count : w.count ≡ v.count)
       (slots : w.slots.entries ≡ v.slots.entries ++ (t, None) ∷ []) (threads : w.threads.keys ≡ v.threads.keys) (ids : reverse w.ids ≡ map (λ p. p.id) items)
-      (shared : w.shared ≡ (v.shape, commit_all t (start_entries t items))) (committed : w.committed ≡ v.committed ++ record { name = t; entries = items } ∷ []) (commits : w.commits.items ≡ v.commits.items) where
+      (shared : w.shared ≡ (v.shape, commit_all t (start_entries t items))) (committed : w.committed ≡ v.committed ++ record { name = t; entries = items } ∷ []) (commits : (q : ℕ) → at q w.commits.items ≡ at q v.commits.items ++ ids_at place q items) where
     abbrev z : Start Op
     z = start_with t items
 
@@ -197,8 +197,11 @@ module _ {Shape State Op Undo : Type 0} (o : Object Shape State Op Undo) (place 
     started_shown : shown place w ≡ brief place (first (Some z))
     started_shown = same_brief _ _ _ _ _ _ _ _ _ _ (ap (λ (l : List (Name × Option (OpenTx (List (Item Op))))). reverse (keys_of l)) slots_are) ids opened_are shared_are done_are
 
-    commits_are : (q : ℕ) → at q w.commits.items ≡ []
-    commits_are q = ap (λ (l : List (List ℕ)). at q l) commits ∙ no_commits q
+    commits_are : (q : ℕ) → at q w.commits.items ≡ ids_at place q (serial_items w.committed)
+    commits_are q =
+        commits q ∙ ap (λ (l : List ℕ). l ++ ids_at place q items) (no_commits q)
+        ∙ ap (λ (l : List (Item Op)). ids_at place q l) (sym (append-nil items))
+        ∙ ap (λ (d : List (CommittedTx Op)). ids_at place q (serial_items d)) (sym done_are)
 
     pub started : length items ≤ 256 → All (IsItemAsked o v.shape) items → StartMeets (rules_of o v.shape) (Some z) → PutsStart o place v z w
     started few asked meets =
@@ -220,7 +223,7 @@ module _ {Shape State Op Undo : Type 0} (o : Object Shape State Op Undo) (place 
                     subst (λ (l : List (BriefTx Op)). AreThreads w.threads.keys (threads_of l)) (sym opened_are)
                     (subst (λ (l : List Name). AreThreads l []) (sym threads) (subst (λ (l : List (BriefTx Op)). AreThreads v.threads.keys (threads_of l)) none_open h.threads));
                 fine = subst (λ (l : List (Name × Option (OpenTx (List (Item Op))))). (m : Name) (x : OpenTx (List (Item Op))) → In (m, Some x) l → IsFine o place w.commits.items x) (sym slots_are) none_fine;
-                commits = λ q id i. absurd (subst (λ (l : List ℕ). In id l) (commits_are q) i);
+                commits = commits_are;
                 same_shape = ap (λ (l : Shape × List (SharedEntry Op)). l.0) shared ∙ sym shape;
                 ranged = λ a i.
                     let m = from_map (as_shared t true) a items (subst (λ (l : List (SharedEntry Op)). In a l) shared_are i) in

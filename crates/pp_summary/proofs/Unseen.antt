@@ -17,8 +17,7 @@ use Rattle.pp_model.proofs.Names.{names_tell, names_not}
 use Rattle.pp_model.proofs.Trace.{map_same}
 use Rattle.pp_model.proofs.Finding.{stands_in}
 use Rattle.pp_summary.specs.Brief.{is_met, shared_ids, any_at, without_owner}
-use Rattle.pp_summary.specs.Passing.{ids_at, items_at}
-use Rattle.pp_summary.specs.Shown.{at, is_unseen, ids_behind, unseen, unseen_at}
+use Rattle.pp_summary.specs.Shown.{at, ids_at, ids_behind, is_unseen, items_at, unseen, unseen_at}
 use Rattle.pp_summary.proofs.Briefs.{differ, has_in, in_has}
 use Rattle.pp_summary.proofs.Items.{in_drop}
 use Rattle.pp_summary.proofs.OnCommit.{commit_rest}

@@ -94,6 +94,13 @@ module _ {Shape State Op Undo : Type 0} (o : Object Shape State Op Undo) (place 
       StartMeets (rules_of o v.shape) (Some z) × (w ≡ held_first v.shape (Some z))
   Starts v z false w = (StartMeets (rules_of o v.shape) (Some z) → ⊥) × (w ≡ v)
 
+-- The record stands for so many steps, in each boosted configuration of which this is the brief.
+abbrev pub HasSteps : {Shape State Op Undo : Type 0} → Object Shape State Op Undo → (Op → ℕ) →
+    Held Shape Op → RunRecord Op → ℕ → Type 0
+HasSteps {Op = Op} o place v r n =
+    (f : Front) (c : Config Op) → IsHeldOf o place v c →
+    n ≡ length (expand place styles.Boosted f c r)
+
 -- How many own operations an open transaction has.
 abbrev pub own_count : {Op : Type 0} → Name → Brief Op → ℕ
 own_count t B = length (own_list (brief_of t B.opened))

@@ -1,5 +1,5 @@
 -- Proof machinery: which own operations let commits pass, and what a transaction sees of commits.
-use Rattle.std.specs.Prelude.{◌≡◌, ◌==◌, ℕ, cond, nat_eq, List, [], ◌∷◌, ◌++◌, filter, length}
+use Rattle.std.specs.Prelude.{◌≡◌, ℕ, cond, nat_eq, List, [], ◌∷◌, ◌++◌, length}
 use Rattle.std.specs.Prelude.{Some}
 use Rattle.std.specs.Map.{lookup}
 use Rattle.pp_body.specs.Walks.{HasTakenOneMore}
@@ -8,14 +8,7 @@ use Rattle.pp_core.specs.declared.entry.SharedEntry.{SharedEntry}
 use Rattle.pp_model.specs.Lists.{Before, In}
 use Rattle.pp_kind.specs.Object.{Object, Swaps, SwapsNowhere}
 use Rattle.pp_summary.specs.declared.parts.OpenTx.{OpenTx}
-use Rattle.pp_summary.specs.Shown.{at, item_ids}
-
--- the items at a place, and their ids
-abbrev pub items_at : {Op : Type 0} → (Op → ℕ) → ℕ → List (Item Op) → List (Item Op)
-items_at place q items = filter (λ p. place p.op == q) items
-
-abbrev pub ids_at : {Op : Type 0} → (Op → ℕ) → ℕ → List (Item Op) → List ℕ
-ids_at place q items = item_ids (items_at place q items)
+use Rattle.pp_summary.specs.Shown.{at}
 
 -- the ids of the commits at a place, with one more
 abbrev pub with_commit : {Op : Type 0} → (Op → ℕ) → Item Op → ℕ → List ℕ → List ℕ

@@ -1,11 +1,10 @@
 -- Proof machinery: what a Quick keeps, and the brief that it shows.
-use Rattle.std.specs.Prelude.{◌≡◌, ◌≢◌, ◌+◌, ◌≤◌, ℕ, Bool, ◌&&◌, nat_eq, List, [], ◌∷◌}
+use Rattle.std.specs.Prelude.{◌≡◌, ◌≢◌, ◌==◌, ◌+◌, ◌≤◌, ℕ, Bool, ◌&&◌, nat_eq, List, [], ◌∷◌}
 use Rattle.std.specs.Prelude.{filter, map, reverse, drop, length, is_some, slice_get}
 use Rattle.std.specs.Prelude.{Option, None, Some, IsTrue}
 use Rattle.std.specs.List.{list_any}
 use Rattle.std.specs.Map.{keys_of, lookup}
 use Rattle.pp_body.specs.Walks.{HasTaken}
-use Rattle.pp_core.specs.declared.entry.CommittedTx.{CommittedTx}
 use Rattle.pp_core.specs.declared.entry.Item.{Item}
 use Rattle.pp_core.specs.declared.entry.SharedEntry.{SharedEntry}
 use Rattle.pp_model.specs.Body.{Call}
@@ -46,10 +45,22 @@ at place commits = ids_or_none (slice_get commits place)
 abbrev pub item_ids : {Op : Type 0} → List (Item Op) → List ℕ
 item_ids items = map (λ p. p.id) items
 
+-- the items at a place, and their ids
+abbrev pub items_at : {Op : Type 0} → (Op → ℕ) → ℕ → List (Item Op) → List (Item Op)
+items_at place q items = filter (λ p. place p.op == q) items
+
+abbrev pub ids_at : {Op : Type 0} → (Op → ℕ) → ℕ → List (Item Op) → List ℕ
+ids_at place q items = item_ids (items_at place q items)
+
 -- what is behind the first k
 abbrev pub ids_behind : {A : Type 0} → Option ℕ → List A → List A
 ids_behind None items = []
 ids_behind (Some k) items = drop k items
+
+-- how many that is
+abbrev pub count_behind : {A : Type 0} → Option ℕ → List A → ℕ
+count_behind None items = length items
+count_behind (Some k) items = length (drop k items)
 
 -- the ids of the commits at a place that were not seen
 abbrev pub unseen_at : ℕ → List (List ℕ) → List (ℕ × ℕ) → List ℕ
@@ -98,11 +109,6 @@ as_held place v = record { shape = v.shape; brief = shown place v; count = v.cou
 abbrev pub threads_of : {Op : Type 0} → List (BriefTx Op) → List Name
 threads_of opened = map (λ x. x.thread) opened
 
--- The id is that of an item at the place that was committed.
-abbrev pub WasCommitted : {Op : Type 0} → (Op → ℕ) → List (CommittedTx Op) → ℕ → ℕ → Type 0
-WasCommitted {Op} place done q id =
-    (p : Item Op) × In p (serial_items done) × (p.id ≡ id) × (place p.op ≡ q)
-
 -- the calls of the items
 abbrev pub calls_of : {Shape State Op Undo : Type 0} → Object Shape State Op Undo →
     List (Item Op) → List Call
@@ -129,7 +135,8 @@ module _ {Shape State Op Undo : Type 0} (o : Object Shape State Op Undo) (place 
     pub threads : AreThreads v.threads.keys (threads_of (shown place v).opened)
     pub fine : (n : Name) (x : OpenTx (List (Item Op))) → In (n, Some x) v.slots.entries →
         IsFine v.commits.items x
-    pub commits : (q id : ℕ) → In id (at q v.commits.items) → WasCommitted place v.committed q id
+    -- the ids of what was committed at each place, in commit order
+    pub commits : (q : ℕ) → at q v.commits.items ≡ ids_at place q (serial_items v.committed)
     pub same_shape : v.shared.0 ≡ v.shape
     pub ranged : (g : SharedEntry Op) → In g v.shared.1 → IsTrue (o.ranged g.op)
     pub few : length v.shared.1 ≤ v.count + 256

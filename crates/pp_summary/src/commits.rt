@@ -1,8 +1,8 @@
 //! What was committed at each place, and what an open transaction has seen of it.
 ghost use Rattle.std.specs.Prelude.{◌≡◌, ◌<◌, ◌∷◌, ◌++◌, [], ℕ, false, IsTrue, OnOk, drop, length};
 ghost use Rattle.pp_summary.specs.Passing.{HaveEntries, HaveOwnIds, LetAllPass, StopsOne};
-ghost use Rattle.pp_summary.specs.Passing.{ids_at, with_commit};
-ghost use Rattle.pp_summary.specs.Shown.{at, unseen_at};
+ghost use Rattle.pp_summary.specs.Passing.{with_commit};
+ghost use Rattle.pp_summary.specs.Shown.{at, ids_at, unseen_at};
 
 use crate::own::Own;
 use crate::parts::{Commits, OpenTx};

@@ -14,6 +14,7 @@ mod quick;
 mod seen;
 mod slots;
 mod start;
+mod steps;
 mod take;
 mod undo;
 
@@ -21,5 +22,9 @@ pub use laws::{
     boosted_law, brief_law, decided_law, failure_law, front_law, leave_law, placed_law, reader_law,
     sum_law,
 };
+pub use own::Own;
+pub use parts::{Commits, OpenTx, Parts};
 pub use pp_records::RunRecord;
 pub use quick::Quick;
+pub use seen::Seen;
+pub use slots::{Slots, find_open};

@@ -16,8 +16,8 @@ pub struct OpenTx<W> {
     pub seen: Seen,
 }
 
-/// The ids of what was committed behind the start: at the position of each place, those there in
-/// commit order. The operations themselves stand in the shared log, which finds each by its id.
+/// The ids of what was committed: at the position of each place, those there in commit order. The
+/// operations themselves stand in the shared log, which finds each by its id.
 pub type Commits = Vec<Sequence<u32>>;
 
 /// All that a `Quick` keeps. The shared log is of the type `T`, own operations are of the type `W`.

@@ -1,18 +1,19 @@
 //! A boosted run, decided without its local logs.
-ghost use Rattle.std.specs.Prelude.{◌≡◌, ◌+◌, ◌≤◌, ◌<◌, IfOk, IsTrue, None, length};
+ghost use Rattle.std.specs.Prelude.{◌≡◌, ◌+◌, ◌*◌, ◌≤◌, ◌<◌, IfOk, IsTrue, None, length};
 ghost use Rattle.std.specs.List.{All};
 ghost use Rattle.pp_records.specs.Records.{record_meaning};
 ghost use Rattle.pp_model.specs.Config.{Config, start_with};
 ghost use Rattle.pp_model.specs.Object.{HasDistinctIds};
 ghost use Rattle.pp_model.specs.Sound.{serial_ops};
-ghost use Rattle.pp_summary.specs.Held.{IsItemAsked, IsRecordAsked, Starts, TakeCosts, Takes};
-ghost use Rattle.pp_summary.specs.Held.{IsHeldOf, held_first, take_most};
+ghost use Rattle.pp_summary.specs.Held.{HasSteps, IsItemAsked, IsRecordAsked, Starts, TakeCosts};
+ghost use Rattle.pp_summary.specs.Held.{IsHeldOf, Takes, held_first, take_most};
 ghost use Rattle.pp_summary.specs.Runs.{IsBoosted};
+ghost use Rattle.pp_summary.specs.Shown.{KeepsQuick, as_held};
 ghost use Rattle.pp_kind.specs.Object.{AllRanged, IsAllowed};
 
 use crate::own::Own;
 use crate::parts::Parts;
-use crate::{start, take};
+use crate::{start, steps, take};
 use indexmap::{IndexMap, IndexSet};
 use pp_core::{Committed, IdSet, Items, Name, OutOfMemory, Ticks};
 use pp_kind::{Parted, TakesBack};
@@ -92,6 +93,24 @@ impl<S: Parted> Quick<S> {
         let Quick { mut parts } = self;
         let good = start::start(&mut *parts, &tx, items, ticks)?;
         Ok((Quick { parts }, good))
+    }
+
+    /// What it keeps.
+    pub fn parts(&self) -> &Parts<S::Shape, S::Op, Shared<S>, Own<S>>
+        ensures held { self.now ≡ as_held S.place_of result.now }
+        ensures keeps { KeepsQuick S.object S.place_of result.now }
+    {
+        &*self.parts
+    }
+
+    /// How many steps the record stands for, good or not.
+    pub fn steps(&self, recorded: &RunRecord<S::Op>) -> u64
+        requires style { IsBoosted (record_meaning recorded.now) }
+        requires few { self.now.count < 200_000 }
+        ensures count { HasSteps S.object S.place_of self.now (record_meaning recorded.now) result }
+        ensures bound { result ≤ 3 * (self.now.count + 256) + 1 }
+    {
+        steps::steps::<S>(&*self.parts, recorded)
     }
 
     /// How many records were taken. A Quick is always the brief of some boosted configuration.

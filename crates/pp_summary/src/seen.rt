@@ -1,7 +1,7 @@
 //! How many of the commits at each place a transaction has seen.
-ghost use Rattle.std.specs.Prelude.{◌≡◌, ℕ, [], cond, nat_eq, IfNone, IfSome, None, OnOk, Some};
+ghost use Rattle.std.specs.Prelude.{◌≡◌, ◌≤◌, ℕ, [], cond, nat_eq, IfNone, IfSome, None, OnOk, Some};
 ghost use Rattle.std.specs.Map.{lookup};
-ghost use Rattle.pp_summary.specs.Seen.{IsFirst};
+ghost use Rattle.pp_summary.specs.Seen.{HaveOwnPlaces, IsFirst, seen_total};
 
 use pp_core::OutOfMemory;
 use std::alloc::Global;
@@ -15,11 +15,25 @@ pub struct Seen {
 }
 
 impl Model for Seen {
-    ghost use Rattle.pp_summary.specs.Seen.{SeenCounts};
+    ghost use Rattle.pp_summary.specs.Seen.{HaveOwnPlaces, SeenCounts};
 
     ghost Value = { SeenCounts };
 
     ghost view = { λ a. record { entries = a.entries.items } };
+
+    ghost invariant = { λ a. HaveOwnPlaces a.entries.items };
+}
+
+/// All counts together.
+fn total(entries: &[(u16, usize)]) -> usize
+    requires few { seen_total entries.now ≤ 10_000_000_000 }
+    ensures { result ≡ seen_total entries.now }
+{
+    let mut total = 0;
+    for k in 0..entries.len() {
+        total += entries[k].1;
+    }
+    total
 }
 
 /// Which of the entries is the first that has the place, if one has it.
@@ -43,6 +57,21 @@ impl Seen {
         Seen {
             entries: Vec::new(alloc),
         }
+    }
+
+    /// No place has two counts.
+    pub fn own_places(&self)
+        ensures { HaveOwnPlaces self.now.entries }
+    {
+        let _entries = &self.entries;
+    }
+
+    /// How many of the commits were seen, at all places together.
+    pub fn total(&self) -> usize
+        requires few { seen_total self.now.entries ≤ 10_000_000_000 }
+        ensures { result ≡ seen_total self.now.entries }
+    {
+        total(&self.entries)
     }
 
     /// How many of the commits at the place were seen, if the place is there.

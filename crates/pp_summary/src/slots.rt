@@ -1,5 +1,6 @@
 //! The slots of the transactions.
 ghost use Rattle.std.specs.Prelude.{◌≡◌, ◌++◌, ◌∷◌, [], IfNone, IfSome, IsSome, None, Some, OnOk};
+ghost use Rattle.std.specs.Prelude.{option_copied};
 ghost use Rattle.std.specs.Map.{lookup, set_value};
 ghost use Rattle.std.specs.Str.{bytes_eq};
 ghost use Rattle.pp_summary.specs.Shown.{open_in};
@@ -9,6 +10,14 @@ use pp_core::{Name, OutOfMemory};
 
 /// Each name that was begun, and what it has while it is open.
 pub type Slots<T> = IndexMap<Name, Option<T>>;
+
+/// What an open name has.
+pub fn find_open<'a, T>(slots: &'a Slots<T>, tx: &Name) -> Option<&'a T>
+    ensures { option_copied result ≡ open_in tx.now slots.now.entries }
+{
+    let slot = slots.get(tx)?;
+    slot.as_ref()
+}
 
 /// Empties the slot of an open name, and gives what it had. Of another name it changes nothing.
 pub fn take_out<T>(slots: &mut Slots<T>, tx: &Name) -> Option<T>

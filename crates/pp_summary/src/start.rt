@@ -11,6 +11,7 @@ ghost use Rattle.pp_summary.specs.Starting.{IsNew, MakesLog, PutsStart, StartAns
 ghost use Rattle.pp_summary.specs.Starting.{start_entries};
 ghost use Rattle.pp_kind.specs.Object.{rules_of};
 
+use crate::commits::add_commits;
 use crate::own::Own;
 use crate::parts::Parts;
 use crate::slots::put_new;
@@ -101,6 +102,7 @@ fn put_start<S: Parted>(
     parts.shared = shared;
     parts.ids = ids;
     put_new(&mut parts.slots, tx, None)?;
+    add_commits::<S>(parts.alloc, &mut parts.commits, items.as_slice())?;
     let entries = Items::copy_of(items.as_slice(), parts.alloc)?;
     parts.committed.push(CommittedTx { name: *tx, entries })?;
     Ok(())

@@ -5,8 +5,7 @@ use Rattle.pp_model.specs.Body.{IsWord}
 use Rattle.pp_model.specs.Rules.{calls}
 use Rattle.pp_model.proofs.Finding.{decided, decided_not}
 use Rattle.pp_log_shared.specs.Committing.{HoldsIdsOf}
-use Rattle.pp_summary.specs.Passing.{ids_at}
-use Rattle.pp_summary.specs.Shown.{Kept, as_held, at, in_slot, shown_tx}
+use Rattle.pp_summary.specs.Shown.{Kept, as_held, at, ids_at, in_slot, shown_tx}
 use Rattle.pp_kind.specs.Object.{rules_of}
 use Rattle.pp_summary.proofs.HeldOf.{apart_of, holds_ids}
 use Rattle.pp_summary.proofs.Judging.{it_is, not_open, of_it, word_is}

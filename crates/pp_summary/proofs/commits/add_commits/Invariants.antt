@@ -1,5 +1,5 @@
 use Rattle.std.proofs.Common.{◌≡◌, ◌++◌, ℕ, take}
-use Rattle.pp_summary.specs.Passing.{ids_at}
+use Rattle.pp_summary.specs.Shown.{ids_at}
 use Rattle.pp_summary.specs.Shown.{at}
 use Rattle.pp_summary.proofs.commits.add_commits.Given as goal
 
