@@ -4,3 +4,5 @@ pub mod Accepted
 pub mod Parsed
 pub mod Naming
 pub mod Checkings
+pub mod Entries
+pub mod Takers

@@ -4,3 +4,4 @@ pub mod Found
 pub mod Laws
 pub mod Checkings
 pub mod Rechecked
+pub mod Takers

@@ -1,4 +1,4 @@
 pub mod Counted
-pub mod Examining
+pub mod CheckedInputs
 pub mod Rechecking
 pub mod Telling

@@ -1,4 +1,4 @@
--- Proof machinery: what is told of a finding.
+-- Proof machinery: what is reported of a checked input.
 use Rattle.std.proofs.Common.{◌≡◌, ◌⊎◌, ℕ, List, [], Option, Some, sym, subst, inl, inr, ◌∙◌}
 use Rattle.std.specs.Io.KnownBytes.{IsAtEnd}
 use Rattle.pp_core.specs.Catalogs.{Objects}
@@ -9,12 +9,12 @@ use Rattle.pp_certificate_checker.specs.declared.refusal.Refusal.TheVariants as 
 use Rattle.pp_certificate_lines.specs.Reading.{objects_in}
 use Rattle.pp_certificate_lines.specs.Rechecked.{texts, Checked, Faulty, Refuses, Shows, refused_at}
 use Rattle.pp_certificate_lines.specs.Rechecked.{IsCheckedSound, IsCheckedTold, IsRecheck}
+use Rattle.pp_certificate_lines.specs.declared.taker.CheckFault.{CheckFault}
+use Rattle.pp_certificate_lines.specs.declared.taker.CheckFault.TheVariants as faults
 use Rattle.pp_cmd_recheck.specs.Costs.{CheckCostsAtLeast}
-use Rattle.pp_cmd_recheck.specs.Examining.{found_at, CanReport, Finds, IsFindingTold, ShownCounted}
-use Rattle.pp_cmd_recheck.specs.declared.examiner.CheckFault.{CheckFault}
-use Rattle.pp_cmd_recheck.specs.declared.examiner.CheckFault.TheVariants as faults
-use Rattle.pp_cmd_recheck.specs.declared.finding.Finding.{Finding}
-use Rattle.pp_cmd_recheck.specs.declared.finding.Finding.TheVariants as findings
+use Rattle.pp_cmd_recheck.specs.CheckedInputs.{faulty_at, CanReport, ChecksInput, IsCheckedInputTold, ShownCounted}
+use Rattle.pp_cmd_recheck.specs.declared.check_input.CheckedInput.{CheckedInput}
+use Rattle.pp_cmd_recheck.specs.declared.check_input.CheckedInput.TheVariants as inputs
 use Rattle.pp_cmd_recheck.proofs.Rechecking.{shows_sound}
 
 -- the three statuses
@@ -27,10 +27,10 @@ checked_status catalog (Faulty n cause) s t h = inr (inr h.0)
 checked_status catalog (Refuses n why) s t h = inr (inl h.0)
 checked_status catalog (Shows shown) s t h = inl h.0
 
-pub told_status : (finding : Finding) (s : Status) (t : List ℕ) → IsFindingTold finding s t
+pub told_status : (input : CheckedInput) (s : Status) (t : List ℕ) → IsCheckedInputTold input s t
     → IsAnswer s
-told_status (findings.Fault at fault) s t h = checked_status [] (found_at at fault) s t (h [])
-told_status (findings.Shows catalog shown) s t h = checked_status catalog (Shows shown) s t h
+told_status (inputs.Fault at fault) s t h = checked_status [] (faulty_at at fault) s t (h [])
+told_status (inputs.Shows catalog shown) s t h = checked_status catalog (Shows shown) s t h
 
 not_faulty : (s : Status) → s ≡ statuses.InputFault → s ≡ statuses.Accepted → ⊥
 not_faulty s a b = let e : statuses.InputFault ≡ statuses.Accepted = sym a ∙ b in cc
@@ -46,44 +46,44 @@ refusal_not_accepted at refusals.Position s t h e = not_rejected s h.0 e
 refusal_not_accepted at (refusals.Pair first second) s t h e = not_rejected s h.0 e
 
 not_accepted : (at : ℕ) (fault : CheckFault) (s : Status) (t : List ℕ)
-    → IsFindingTold (findings.Fault at fault) s t → s ≡ statuses.Accepted → ⊥
+    → IsCheckedInputTold (inputs.Fault at fault) s t → s ≡ statuses.Accepted → ⊥
 not_accepted at (faults.Cause cause) s t h e = not_faulty s (h []).0 e
 not_accepted at (faults.Refusal why) s t h e = refusal_not_accepted at why s t (h []) e
 
 module _ (old new : Option (List ℕ)) where
-  pub can_report : (finding : Finding) → Finds old new finding → CanReport finding
-  can_report (findings.Fault at fault) h = tt
-  can_report (findings.Shows catalog shown) h = h.1
+  pub can_report : (input : CheckedInput) → ChecksInput old new input → CanReport input
+  can_report (inputs.Fault at fault) h = tt
+  can_report (inputs.Shows catalog shown) h = h.1
 
-  pub told_output : (finding : Finding) (s : Status) (t : List ℕ) → Finds old new finding
-      → IsFindingTold finding s t → (bytes : List ℕ) → old ≡ Some bytes → IsRecheck bytes s t
-  told_output (findings.Fault at fault) s t h told bytes is =
-      (found_at at fault, h bytes is, told (objects_in (texts bytes)))
-  told_output (findings.Shows catalog shown) s t h told bytes is =
+  pub told_output : (input : CheckedInput) (s : Status) (t : List ℕ) → ChecksInput old new input
+      → IsCheckedInputTold input s t → (bytes : List ℕ) → old ≡ Some bytes → IsRecheck bytes s t
+  told_output (inputs.Fault at fault) s t h told bytes is =
+      (faulty_at at fault, h bytes is, told (objects_in (texts bytes)))
+  told_output (inputs.Shows catalog shown) s t h told bytes is =
       let k = h.2 bytes is in (
         Shows shown,
         k.0,
         subst (λ (os : Objects). IsCheckedTold os (Shows shown) s t) (sym k.1) told,
       )
 
-  pub told_end : (finding : Finding) (s : Status) (t : List ℕ) → Finds old new finding
-      → IsFindingTold finding s t → s ≡ statuses.Accepted → IsAtEnd new
-  told_end (findings.Fault at fault) s t h told e = absurd (not_accepted at fault s t told e)
-  told_end (findings.Shows catalog shown) s t h told e = h.0
+  pub told_end : (input : CheckedInput) (s : Status) (t : List ℕ) → ChecksInput old new input
+      → IsCheckedInputTold input s t → s ≡ statuses.Accepted → IsAtEnd new
+  told_end (inputs.Fault at fault) s t h told e = absurd (not_accepted at fault s t told e)
+  told_end (inputs.Shows catalog shown) s t h told e = h.0
 
-  pub told_sound : (finding : Finding) (s : Status) (t : List ℕ) → Finds old new finding
-      → IsFindingTold finding s t → s ≡ statuses.Accepted → (bytes : List ℕ)
+  pub told_sound : (input : CheckedInput) (s : Status) (t : List ℕ) → ChecksInput old new input
+      → IsCheckedInputTold input s t → s ≡ statuses.Accepted → (bytes : List ℕ)
       → old ≡ Some bytes → IsCheckedSound bytes
-  told_sound (findings.Fault at fault) s t h told e bytes is =
+  told_sound (inputs.Fault at fault) s t h told e bytes is =
       absurd (not_accepted at fault s t told e)
-  told_sound (findings.Shows catalog shown) s t h told e bytes is =
+  told_sound (inputs.Shows catalog shown) s t h told e bytes is =
       let k = h.2 bytes is in (shown, k.0, shows_sound bytes shown k.0)
 
-  pub told_least : (finding : Finding) (s : Status) (t : List ℕ) → Finds old new finding
-      → IsFindingTold finding s t → (first now : ℕ) → ShownCounted finding first now
+  pub told_least : (input : CheckedInput) (s : Status) (t : List ℕ) → ChecksInput old new input
+      → IsCheckedInputTold input s t → (first now : ℕ) → ShownCounted input first now
       → s ≡ statuses.Accepted → (bytes : List ℕ) → old ≡ Some bytes
       → CheckCostsAtLeast bytes first now
-  told_least (findings.Fault at fault) s t h told first now counted e bytes is =
+  told_least (inputs.Fault at fault) s t h told first now counted e bytes is =
       absurd (not_accepted at fault s t told e)
-  told_least (findings.Shows catalog shown) s t h told first now counted e bytes is =
+  told_least (inputs.Shows catalog shown) s t h told first now counted e bytes is =
       let k = h.2 bytes is in (shown, k.0, counted)

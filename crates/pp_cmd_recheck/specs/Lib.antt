@@ -1,3 +1,3 @@
 pub mod Costs
-pub mod Examining
+pub mod CheckedInputs
 pub mod Laws

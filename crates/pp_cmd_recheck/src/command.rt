@@ -8,7 +8,7 @@ ghost use Rattle.pp_input_reader.specs.Sources.{WhereTold};
 ghost use Rattle.pp_input_reader.specs.declared.stop.Failure.TheVariants.{ReadFault};
 ghost use Rattle.pp_cmd_recheck.specs.Costs.{CheckCostsAtLeast, CheckCostsAtMost};
 
-use crate::finding::examine;
+use crate::check_input::check_input;
 use crate::report::report;
 use pp_core::{Status, Text, Ticks};
 use pp_input::Source;
@@ -40,7 +40,7 @@ pub fn recheck<S: Source, L: Ledger>(
     ensures least { IfOk result (λ r. r.0 ≡ statuses.Accepted →
         WhereTold (S.left source.old) λ bytes. CheckCostsAtLeast bytes ticks.old ticks.new) }
 {
-    let finding = examine(alloc, source, ticks)?;
-    let answer = report(alloc, &finding)?;
+    let input = check_input(alloc, source, ticks)?;
+    let answer = report(alloc, &input)?;
     Ok(answer)
 }

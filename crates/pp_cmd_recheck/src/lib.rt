@@ -1,9 +1,8 @@
 //! Checking a certificate of exchanges: the command `recheck`, which trusts nothing of a machine.
 #![tactic(auto)]
 
+mod check_input;
 mod command;
-mod examiner;
-mod finding;
 mod holds;
 mod law;
 mod refused;

@@ -1,31 +1,31 @@
 //! The status and the report of what an input is found to be.
 ghost use Rattle.std.specs.Prelude.{IfOk};
-ghost use Rattle.pp_cmd_recheck.specs.Examining.{CanReport, IsFindingTold};
+ghost use Rattle.pp_cmd_recheck.specs.CheckedInputs.{CanReport, IsCheckedInputTold};
 
-use crate::examiner::CheckFault;
-use crate::finding::Finding;
+use crate::check_input::CheckedInput;
 use crate::holds::holds;
 use crate::refused::refused;
+use pp_certificate_lines::CheckFault;
 use pp_core::{OutOfMemory, Status, Text};
 use pp_input_reader::fault;
 use std::alloc::Global;
 
 /// The status and the report of what an input is found to be. The only error is that memory was
 /// refused.
-pub(crate) fn report(alloc: Global, finding: &Finding) -> Result<(Status, Text), OutOfMemory>
-    requires { CanReport finding.now }
-    ensures { IfOk result (λ r. IsFindingTold finding.now r.0 r.1) }
+pub(crate) fn report(alloc: Global, input: &CheckedInput) -> Result<(Status, Text), OutOfMemory>
+    requires { CanReport input.now }
+    ensures { IfOk result (λ r. IsCheckedInputTold input.now r.0 r.1) }
 {
-    match finding {
-        Finding::Fault(line, CheckFault::Cause(cause)) => {
+    match input {
+        CheckedInput::Fault(line, CheckFault::Cause(cause)) => {
             let text = fault(alloc, *line, cause)?;
             Ok((Status::InputFault, text))
         }
-        Finding::Fault(line, CheckFault::Refusal(why)) => {
+        CheckedInput::Fault(line, CheckFault::Refusal(why)) => {
             let answer = refused(alloc, *line, why)?;
             Ok(answer)
         }
-        Finding::Shows(catalog, shown) => {
+        CheckedInput::Shows(catalog, shown) => {
             let text = holds(alloc, catalog, shown)?;
             Ok((Status::Accepted, text))
         }

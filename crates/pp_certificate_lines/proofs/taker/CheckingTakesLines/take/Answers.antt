@@ -1,6 +1,6 @@
 use Rattle.pp_input.specs.Lines.{NumberedLine}
-use Rattle.pp_cmd_recheck.proofs.Examining.{faulty_here, leads_on, next_number}
-use Rattle.pp_cmd_recheck.proofs.examiner.ExaminerTakesLines.take.Goals as goal
+use Rattle.pp_certificate_lines.proofs.Takers.{faulty_here, leads_on, next_number}
+use Rattle.pp_certificate_lines.proofs.taker.CheckingTakesLines.take.Goals as goal
 
 pub returns-in-Ok-clause-ok : goal.returns-in-Ok-clause-ok
 returns-in-Ok-clause-ok g c =

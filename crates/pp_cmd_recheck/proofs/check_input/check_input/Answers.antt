@@ -2,20 +2,21 @@ use Rattle.std.proofs.Common.{◌≡◌, ℕ, List, Some, Err, ap, ◌∙◌, su
 use Rattle.pp_input_reader.specs.Takers.{HasInputFault, IfInputFault}
 use Rattle.pp_input_reader.specs.declared.stop.Failure.TheVariants.{ReadFault}
 use Rattle.pp_input_reader.specs.declared.stop.Stop.TheVariants as stops
-use Rattle.pp_cmd_recheck.specs.Examining.{check_reading}
-use Rattle.pp_cmd_recheck.proofs.Examining.{all_cost, all_found, counted, fault_found, leads_nothing}
-use Rattle.pp_cmd_recheck.proofs.Examining.{reads_no_fault}
-use Rattle.pp_cmd_recheck.proofs.finding.examine.Goals as goal
+use Rattle.pp_certificate_lines.specs.Takers.{check_reading}
+use Rattle.pp_certificate_lines.proofs.Takers.{leads_nothing}
+use Rattle.pp_cmd_recheck.proofs.CheckedInputs.{all_cost, all_found, counted, fault_found}
+use Rattle.pp_cmd_recheck.proofs.CheckedInputs.{reads_no_fault}
+use Rattle.pp_cmd_recheck.proofs.check_input.check_input.Goals as goal
 
 pub read_lines-requires : goal.read_lines-requires
-read_lines-requires g c = leads_nothing c.args.ticks.now c.new.result c.new.ensures
+read_lines-requires g c = leads_nothing c.args.ticks.now c.new.result c.new.ensures.covers
 
 -- all lines were taken
-pub returns-in_ok-finding-in-Ok-clause-found : goal.returns-in_ok-finding-in-Ok-clause-found
-returns-in_ok-finding-in-Ok-clause-found g c =
+pub returns-in_ok-input-in-Ok-clause-found : goal.returns-in_ok-input-in-Ok-clause-found
+returns-in_ok-input-in-Ok-clause-found g c =
     all_found c.args.ticks.now c.read_lines.new.ticks (g.S.Source.left c.args.source.now)
-    (g.S.Source.left c.read_lines.new.source) c.in-Ok.examiner c.in-Ok.ensures.ok
-    c.in-Ok.ensures.end c.in_ok-finding-in-Ok.finding c.in_ok-finding-in-Ok.ensures.found
+    (g.S.Source.left c.read_lines.new.source) c.in-Ok.checking c.in-Ok.ensures.ok
+    c.in-Ok.ensures.end c.in_ok-input-in-Ok.input c.in_ok-input-in-Ok.ensures.found
 
 -- a line is not taken, or a limit is passed
 pub returns-in-Err-Fault-clause-found : goal.returns-in-Err-Fault-clause-found
@@ -33,17 +34,17 @@ returns-in-Err-Failure-clause-read_fault g c = λ failed.
 
 -- ---- what the counter shows
 
-pub returns-in_ok-finding-in-Ok-clause-most : goal.returns-in_ok-finding-in-Ok-clause-most
-returns-in_ok-finding-in-Ok-clause-most g c = λ bytes is.
+pub returns-in_ok-input-in-Ok-clause-most : goal.returns-in_ok-input-in-Ok-clause-most
+returns-in_ok-input-in-Ok-clause-most g c = λ bytes is.
     all_cost c.args.ticks.now c.read_lines.new.ticks (g.S.Source.left c.args.source.now)
-    (g.S.Source.left c.read_lines.new.source) c.in-Ok.examiner c.in-Ok.ensures.ok
-    c.in-Ok.ensures.end c.conclude.new.ticks c.conclude.ensures.bound bytes is
+    (g.S.Source.left c.read_lines.new.source) c.in-Ok.checking c.in-Ok.ensures.ok
+    c.in-Ok.ensures.end c.close_checking.new.ticks c.close_checking.ensures.bound bytes is
 
-pub returns-in_err-finding-in-Ok-clause-most : goal.returns-in_err-finding-in-Ok-clause-most
-returns-in_err-finding-in-Ok-clause-most g c = λ bytes is.
+pub returns-in_err-input-in-Ok-clause-most : goal.returns-in_err-input-in-Ok-clause-most
+returns-in_err-input-in-Ok-clause-most g c = λ bytes is.
     all_cost c.args.ticks.now c.read_lines.new.ticks (g.S.Source.left c.args.source.now)
-    (g.S.Source.left c.read_lines.new.source) c.in-Ok.examiner c.in-Ok.ensures.ok
-    c.in-Ok.ensures.end c.conclude.new.ticks c.conclude.ensures.bound bytes is
+    (g.S.Source.left c.read_lines.new.source) c.in-Ok.checking c.in-Ok.ensures.ok
+    c.in-Ok.ensures.end c.close_checking.new.ticks c.close_checking.ensures.bound bytes is
 
 pub returns-in-Err-Fault-clause-most : goal.returns-in-Err-Fault-clause-most
 returns-in-Err-Fault-clause-most g c = λ bytes is.
@@ -53,6 +54,6 @@ pub returns-in-Err-Failure-clause-most : goal.returns-in-Err-Failure-clause-most
 returns-in-Err-Failure-clause-most g c = λ bytes is.
     counted c.args.ticks.now c.read_lines.new.ticks bytes (c.read_lines.ensures.cost bytes is)
 
-pub returns-in_ok-finding-in-Ok-clause-least : goal.returns-in_ok-finding-in-Ok-clause-least
-returns-in_ok-finding-in-Ok-clause-least g c =
-    c.in_ok-finding-in-Ok.ensures.least c.args.ticks.now c.in-Ok.ensures.ok.3.2
+pub returns-in_ok-input-in-Ok-clause-least : goal.returns-in_ok-input-in-Ok-clause-least
+returns-in_ok-input-in-Ok-clause-least g c =
+    c.in_ok-input-in-Ok.ensures.least c.args.ticks.now c.in-Ok.ensures.ok.3.2
