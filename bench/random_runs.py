@@ -19,7 +19,7 @@ import sys
 from itertools import islice
 
 from definition_input import RECORDS, STYLES
-from definition_machine import EFFECTS, PULLED, PUSHED, UNPUSHED, Configuration, Entry, Log, first_false, start, start_false
+from definition_machine import COMMITTED, EFFECTS, PULLED, PUSHED, UNPUSHED, Configuration, Entry, Log, first_false, start, start_false
 from definition_objects import CALLS, KEYED, Operation, perform
 from definition_styles import Front
 from random_lines import members, text_of, written
@@ -142,7 +142,7 @@ class Run:
         log, items = Log(), []
         for _ in range(self.chance.pick((0, 1, 3, 6))):
             operation = self.new_call()
-            items.append(Entry(self.new_id(), START_NAME, self.with_result(operation, log.state(operation)), None))
+            items.append(Entry(self.new_id(), START_NAME, self.with_result(operation, log.state(operation)), COMMITTED))
             log.append(items[-1])
         if items and self.makes_mistake(3):
             items.insert(self.chance.number(len(items)), self.chance.pick(items))

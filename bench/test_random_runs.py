@@ -35,6 +35,15 @@ class RandomRuns(unittest.TestCase):
                 self.assertTrue(.35 < statuses.count(0) / RUNS < .7, statuses.count(0))
                 self.assertTrue(0 < statuses.count(3) / RUNS < .15, statuses.count(3))
 
+    def test_careful_runs_are_accepted(self):
+        for style in STYLES:
+            runs = [Run(style, f"{style} careful {number}", 40) for number in range(RUNS)]
+            careful = [run for run in runs if run.wanted is None and not run.mistakes and not run.hasty]
+            self.assertTrue(any("start" in run.lines[0] for run in careful))
+            for run in careful:
+                with self.subTest(style, lines=run.lines):
+                    self.assertEqual(verdict(text_of(run.lines, run.chance, 0))[1], 0)
+
     def test_seeds(self):
         with tempfile.TemporaryDirectory() as folder:
             for hashes in ("1", "2"):
