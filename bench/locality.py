@@ -1,15 +1,17 @@
 #!/usr/bin/env python3
-"""Tests on each file of a folder that a run is right exactly if it is right on each object, by `definition.py` alone.
+"""Tests locality on each file of a folder, by `definition.py` alone. Apart from its bookkeeping, a run is right exactly if it is
+right on each object.
 
     python3 bench/locality.py FOLDER
 
 A run is restricted to each of its objects: the header keeps this object, and of the start the operations on it. A begin
-loses its body, and a record of another object becomes an empty line. So each line keeps its number. It is tested that
+loses its body, and a record of another object becomes an empty line. So each line keeps its number. The law keeps all
+objects in the header; here the header is restricted too. It is tested that
 
 - an accepted run has accepted restrictions only;
 - no restriction is rejected on an earlier line than the run;
 - a run that is rejected by a criterion about an operation has a restriction that is rejected on the same line, by the same
-  criterion, with the same evidence.
+  criterion, with the same evidence. It is not checked which object this is.
 
 The first run that breaks this is shown, and then the status is 1. A table has the number of runs with each verdict.
 """
@@ -116,7 +118,7 @@ def examined(file):
 
 
 def main():
-    parser = argparse.ArgumentParser(description="Tests that a run is right exactly if it is right on each object.")
+    parser = argparse.ArgumentParser(description="Tests that a run is right exactly if its bookkeeping is right and it is right on each object.")
     parser.add_argument("folder", metavar="FOLDER", type=pathlib.Path)
     parser.add_argument("--jobs", type=int, default=2, help="how many files at a time")
     given = parser.parse_args()
@@ -129,7 +131,7 @@ def main():
                 return 1
             counts[name] += 1
     print_table(counts)
-    print(f"{len(files)} files: each is right exactly if its restrictions are")
+    print(f"{len(files)} files: apart from its bookkeeping, each is right exactly if its restrictions are")
     return 0
 
 

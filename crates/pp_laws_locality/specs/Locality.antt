@@ -1,4 +1,4 @@
--- Locality: a run is right exactly if it is right on each object.
+-- Locality: a run is right exactly if its bookkeeping is right and it is right on each object.
 use Rattle.std.specs.Prelude.{◌≡◌, ◌↔◌, ◌⊎◌, ℕ, suc, List, ◌∷◌, ◌++◌, Option}
 use Rattle.pp_core.specs.declared.call.Kind.{Kind}
 use Rattle.pp_core.specs.declared.call.Style.{Style}
@@ -48,8 +48,8 @@ RunFails style O place ks h rs line s n =
     (joined_steps (translation place style ks) (outset (translation place style ks) h) rs)
     line s n
 
--- The records up to a record on this line are accepted, as a run and as a restriction to each
--- object.
+-- The records before `next`, a record on this line, are accepted, as a run and as a restriction to
+-- each object.
 pub record AcceptedUpTo {Op State : Type 0} (style : Style) (O : Object Op State) (place : Op → ℕ)
     (ks : List Kind) (h : Option (Start Op)) (rs : Records (RunRecord Op)) (line : ℕ) : Type 0 where
   pub before : Records (RunRecord Op)
@@ -80,8 +80,8 @@ pub record IsLocal {Op State : Type 0} (style : Style) (O : Object Op State) (pl
       ((o : ℕ) → In o objects →
       IsAccepted style O place ks (restricted_start place o h) (restricted_records place o rs)) →
       IsAccepted style O place ks h rs
-  -- A rejection is one of the bookkeeping, or the restriction to an object is rejected on the same
-  -- line, at the same step, by the same criterion.
+  -- A rejection is one of the bookkeeping, or the restriction to some object o is rejected on the
+  -- same line, at the same step, by the same criterion. Nothing else is said of o.
   pub rejected :
       (ks : List Kind) (h : Option (Start Op)) (rs : Records (RunRecord Op)) (line : ℕ)
       (s : Step Op) (n : ℕ) → Each (IsOfStyle style) (bare rs) → StartMeets O h →
@@ -90,7 +90,7 @@ pub record IsLocal {Op State : Type 0} (style : Style) (O : Object Op State) (pl
       ⊎ ((o : ℕ)
       × RunFails style O place ks (restricted_start place o h) (restricted_records place o rs)
       line s n)
-  -- No restriction is rejected at an earlier record.
+  -- No restriction is rejected at a record before `next`. This is a record on the line of the step.
   pub earlier :
       (ks : List Kind) (h : Option (Start Op)) (rs : Records (RunRecord Op)) (line : ℕ)
       (s : Step Op) (n : ℕ) → Each (IsOfStyle style) (bare rs) → StartMeets O h →

@@ -1,6 +1,6 @@
-//! Laws of locality: a boosted, an optimistic or a hardware run is right exactly if it is right on
-//! each object (Herlihy and Wing). Each law is the contract of an empty function, over every kind
-//! of objects.
+//! Laws of locality: a boosted, an optimistic or a hardware run is right exactly if its bookkeeping
+//! is right and it is right on each object. The bookkeeping is names, threads, ids and bodies. Each
+//! law is the contract of an empty function, over every kind of objects.
 #![tactic(auto)]
 
 ghost use Rattle.pp_core.specs.declared.call.Style.{Style};
@@ -13,7 +13,7 @@ use pp_kind::{Placed, Spec};
 /// A run is accepted exactly if its bookkeeping is right and its restriction to each object is
 /// accepted. It is enough to ask the objects that the run is on. A start meets its criteria exactly
 /// if its ids are distinct and its restriction to each object does. If a step is rejected by a
-/// criterion that is not of the bookkeeping, the restriction to an object is rejected on the same
+/// criterion that is not of the bookkeeping, the restriction to some object is rejected on the same
 /// line, at the same step, by the same criterion. No restriction is rejected at an earlier record.
 pub fn runs_are_local<S: Spec>()
     ensures { (shape : S.Shape) → LocalityLaw (rules_of S.object shape) }

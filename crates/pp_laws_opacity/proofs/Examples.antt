@@ -381,6 +381,7 @@ optimistic_law = record {
   style = zombie_is;
   accepted = zombie_runs;
   aborted = refl;
+  uncommitted = λ i. elim i [ inl k ↦ differ 2 0 (omega arith) k | inr k ↦ k ];
   not_opaque = λ o.
       let s = o zombie_seen c (Unapp c 3 ∷ Unpull c 2 ∷ Unapp c 0 ∷ Quit c ∷ [], refl) (_, inl refl, refl) (λ e. cc) in
       zombie_sees s.n s.sees;

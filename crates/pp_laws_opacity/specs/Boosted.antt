@@ -1,4 +1,4 @@
--- Meaning: the runs of style boosted are opaque.
+-- The runs of style boosted are opaque.
 use Rattle.std.specs.Prelude.{ℕ, List, Option}
 use Rattle.pp_core.specs.declared.call.Kind.{Kind}
 use Rattle.pp_core.specs.declared.call.Style.TheVariants.{Boosted}

@@ -1,4 +1,4 @@
--- Meaning: two cells, and accepted runs over them that show what opacity is not.
+-- Two cells, and accepted runs over them that show what opacity is not.
 use Rattle.std.specs.Prelude.{◌≡◌, ℕ, Bool, true, false, pos, List, [], ◌∷◌, Option, None}
 use Rattle.pp_core.specs.declared.call.Method.{Method}
 use Rattle.pp_core.specs.declared.call.Method.TheVariants.{Read as ReadCall, Write as WriteCall}

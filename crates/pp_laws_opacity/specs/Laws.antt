@@ -1,4 +1,4 @@
--- Meaning: what is true of opacity in every accepted run.
+-- What is true of opacity in every accepted run.
 use Rattle.std.specs.Prelude.{◌≡◌, ◌↔◌, ◌≤◌, ◌+◌, ◌++◌, ℕ, List, Option, length, take}
 use Rattle.pp_model.specs.Config.{Start, Step, first}
 use Rattle.pp_model.specs.Names.{Name}
@@ -9,7 +9,7 @@ use Rattle.pp_laws_opacity.specs.Opacity.{Began, IsOpaque, IsOpaqueAtApps, IsOpe
 use Rattle.pp_laws_opacity.specs.Orders.{HasOpaqueOrders}
 
 module _ {Op State : Type 0} (O : Object Op State) where
-  -- An open transaction is in one attempt.
+  -- An open transaction is in exactly one attempt.
   pub record BeganLaw : Type 0 where
     pub some : (h : Option (Start Op)) (ss : List (Step Op)) (t : Name) → StartMeets O h →
         RunsFrom O (first h) ss → IsOpen h ss t → (early : List (Step Op)) × Began t early ss

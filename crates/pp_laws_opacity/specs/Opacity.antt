@@ -1,6 +1,7 @@
--- Meaning: what the attempts of a run see, and which runs are opaque.
+-- What the attempts of a run see, and which runs are opaque.
 use Rattle.std.specs.Prelude.{◌≡◌, ◌≢◌, ◌≤◌, ℕ, List, [], ◌∷◌, ◌++◌, length, take, Option, Some}
-use Rattle.pp_model.specs.Config.{Start, Step, Tx, Begin, App, Unapp, after, last}
+use Rattle.pp_model.specs.Config.{Start, Step, Tx, Begin, App, Unapp, Push, Unpush, Pull, Unpull}
+use Rattle.pp_model.specs.Config.{Cmt, Quit, Note, after, last}
 use Rattle.pp_model.specs.Lists.{In}
 use Rattle.pp_model.specs.Names.{Name}
 use Rattle.pp_model.specs.Object.{Allowed, Object, ops}
@@ -18,10 +19,17 @@ IsOpen {Op} h past t = (x : Tx Op) × In x (after h past).opened × (x.name ≡ 
 abbrev pub MayStart : {Op : Type 0} → Name → Step Op → Type 0
 MayStart t (Begin u p b) = u ≡ t
 MayStart t (Unapp u id) = u ≡ t
-MayStart t _ = ⊥
+MayStart t (App u id op) = ⊥
+MayStart t (Push u id) = ⊥
+MayStart t (Unpush u id) = ⊥
+MayStart t (Pull u id) = ⊥
+MayStart t (Unpull u id) = ⊥
+MayStart t (Cmt u) = ⊥
+MayStart t (Quit u) = ⊥
+MayStart t (Note u) = ⊥
 
 -- With the last of these steps t begins an attempt: it is t's BEGIN, or an UNAPP that leaves t's own
--- list empty.
+-- list empty. Entries that t pulled may stay. A retry without an UNAPP begins no attempt.
 abbrev pub Starts : {Op : Type 0} → Name → List (Step Op) → Type 0
 Starts {Op} t past =
     (s : Step Op) × (last past ≡ Some s) × MayStart t s × (own_of t past ≡ [])

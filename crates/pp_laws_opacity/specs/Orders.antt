@@ -1,4 +1,4 @@
--- Meaning: one sequence of all transactions and attempts, those that did not commit included.
+-- One sequence of all transactions and attempts, those that did not commit included.
 use Rattle.std.specs.Prelude.{◌≡◌, ◌≢◌, ◌⊎◌, ◌↔◌, ℕ, List, [], ◌∷◌, ◌++◌, Option}
 use Rattle.pp_model.specs.Config.{Start, Step, Unapp, Cmt}
 use Rattle.pp_model.specs.Lists.{Before, In}
@@ -7,8 +7,8 @@ use Rattle.pp_model.specs.Object.{Allowed, Item, Object, ops}
 use Rattle.pp_model.specs.Serial.{Attempt, attempts, own_of, serial}
 use Rattle.pp_laws_opacity.specs.Opacity.{Began, IsOpen, IsPrefix}
 
--- An execution is a transaction that committed, or an attempt of t that did not commit, with the
--- own list that t has after the steps `seen`.
+-- An execution is a transaction that committed, or an uncommitted own list: the one that t has after
+-- the steps `seen`.
 pub data Execution (Op : Type 0) : Type 0 where
   Committed : (a : Attempt Op) → Execution Op
   Uncommitted : (t : Name) → (seen : List (Step Op)) → Execution Op

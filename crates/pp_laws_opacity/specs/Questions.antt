@@ -1,7 +1,8 @@
--- Meaning: opacity as a list of questions about the committed transactions, one for each APP.
+-- Opacity as a list of questions about the committed transactions, one for each APP.
 use Rattle.std.specs.Prelude.{◌↔◌, ◌≤◌, ℕ, Bool, true, false, ◌&&◌, cond, List, [], ◌∷◌}
 use Rattle.std.specs.Prelude.{◌++◌, length, take, Option}
-use Rattle.pp_model.specs.Config.{Start, Step, Begin, App, Unapp, first}
+use Rattle.pp_model.specs.Config.{Start, Step, Begin, App, Unapp, Push, Unpush, Pull, Unpull, Cmt}
+use Rattle.pp_model.specs.Config.{Quit, Note, first}
 use Rattle.pp_model.specs.Lists.{In}
 use Rattle.pp_model.specs.Names.{Name, ◌=ⁿ◌}
 use Rattle.pp_model.specs.Object.{Allowed, Item, Object, ops}
@@ -18,7 +19,14 @@ is_empty (x ∷ l) = false
 abbrev pub may_start : {Op : Type 0} → Name → Step Op → Bool
 may_start t (Begin u p b) = u =ⁿ t
 may_start t (Unapp u id) = u =ⁿ t
-may_start t _ = false
+may_start t (App u id op) = false
+may_start t (Push u id) = false
+may_start t (Unpush u id) = false
+may_start t (Pull u id) = false
+may_start t (Unpull u id) = false
+may_start t (Cmt u) = false
+may_start t (Quit u) = false
+may_start t (Note u) = false
 
 -- with the step s, the last of `past`, t begins an attempt
 abbrev pub starts : {Op : Type 0} → Name → List (Step Op) → Step Op → Bool
@@ -59,7 +67,15 @@ abbrev pub questions_after : {Op : Type 0} → Option (Start Op) → List (Step 
 questions_after h past [] = []
 questions_after h past (App t id op ∷ ss) =
     question h t (past ++ App t id op ∷ []) ∷ questions_after h (past ++ App t id op ∷ []) ss
-questions_after h past (s ∷ ss) = questions_after h (past ++ s ∷ []) ss
+questions_after h past (Begin t p b ∷ ss) = questions_after h (past ++ Begin t p b ∷ []) ss
+questions_after h past (Unapp t id ∷ ss) = questions_after h (past ++ Unapp t id ∷ []) ss
+questions_after h past (Push t id ∷ ss) = questions_after h (past ++ Push t id ∷ []) ss
+questions_after h past (Unpush t id ∷ ss) = questions_after h (past ++ Unpush t id ∷ []) ss
+questions_after h past (Pull t id ∷ ss) = questions_after h (past ++ Pull t id ∷ []) ss
+questions_after h past (Unpull t id ∷ ss) = questions_after h (past ++ Unpull t id ∷ []) ss
+questions_after h past (Cmt t ∷ ss) = questions_after h (past ++ Cmt t ∷ []) ss
+questions_after h past (Quit t ∷ ss) = questions_after h (past ++ Quit t ∷ []) ss
+questions_after h past (Note t ∷ ss) = questions_after h (past ++ Note t ∷ []) ss
 
 -- the questions of a run, in the order of its APP steps
 abbrev pub questions : {Op : Type 0} → Option (Start Op) → List (Step Op) → List (Question Op)

@@ -1,4 +1,4 @@
--- Meaning: conditions under which an accepted run is opaque.
+-- Conditions under which an accepted run is opaque.
 use Rattle.std.specs.Prelude.{◌≡◌, ◌≤◌, ℕ, true, not, List, [], ◌∷◌, ◌++◌, filter, length, map}
 use Rattle.std.specs.Prelude.{Option, take}
 use Rattle.pp_model.specs.Config.{App, LocalEntry, Push, Pushed, Start, Step, Tx, Unapp}
@@ -35,13 +35,14 @@ module _ {Op State : Type 0} (O : Object Op State) where
       RunsFrom O (first h) ss → (x : Tx Op) → In x (after h ss).opened → x.name ≡ t →
       HasPushed h ss t → Sees O h ss t (length (attempts h ss))
 
-  -- So an accepted run that pushes at once is opaque, whatever its transactions pull.
+  -- So an accepted run is opaque if a PUSH follows each APP at once, and an UNAPP each UNPUSH. What
+  -- its transactions pull does not matter.
   abbrev pub EagerLaw : Type 0
   EagerLaw =
       (h : Option (Start Op)) (ss : List (Step Op)) → StartMeets O h → RunsFrom O (first h) ss →
       PushesAtOnce ss → IsOpaque O h ss
 
-  -- The entries that t has pulled are those of the first n committed transactions, up to the order
+  -- All entries that t has pulled are those of the first n committed transactions, up to the order
   -- of operations that swap. At least n transactions have committed, and at most n had committed
   -- when t's attempt began.
   pub record HasSnapshot (h : Option (Start Op)) (past : List (Step Op)) (t : Name) : Type 0 where

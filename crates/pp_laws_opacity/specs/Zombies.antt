@@ -1,4 +1,4 @@
--- Meaning: the first own list of a run that is explained by no number of commits in its window.
+-- The first own list of a run that is explained by no number of commits in its window.
 use Rattle.std.specs.Prelude.{◌≡◌, ◌≢◌, ◌≤◌, ℕ, List, [], ◌∷◌, ◌++◌, length, Option}
 use Rattle.pp_model.specs.Config.{App, Start, Step, first}
 use Rattle.pp_model.specs.Names.{Name}
@@ -33,8 +33,8 @@ module _ {Op State : Type 0} (O : Object Op State) where
     pub first : (before : List (Step Op)) → IsPrefix before past → before ≢ past →
         IsOpaque O h before
 
-  -- An accepted run that has a zombie is not opaque, and it has one first zombie. This is right after
-  -- an APP of its transaction.
+  -- A run that has a first zombie is not opaque. An accepted run has at most one first zombie, and
+  -- it is there right after an APP of its transaction.
   pub record ZombieLaw : Type 0 where
     pub excludes : (h : Option (Start Op)) (ss : List (Step Op)) (z : Zombie Op) →
         IsZombie h ss z → IsOpaque O h ss → ⊥

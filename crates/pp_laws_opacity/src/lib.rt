@@ -59,7 +59,7 @@ pub fn pushed_law<S: Spec>()
     ensures { (shape : S.Shape) → PushedLaw (rules_of S.object shape) }
 {}
 
-/// An accepted run that pushes each operation at once is opaque.
+/// An accepted run is opaque if a PUSH follows each APP at once, and an UNAPP each UNPUSH.
 pub fn eager_law<S: Spec>()
     ensures { (shape : S.Shape) → EagerLaw (rules_of S.object shape) }
 {}
@@ -69,7 +69,8 @@ pub fn boosted_law<S: Spec>()
     ensures { (shape : S.Shape) → BoostedLaw (rules_of S.object shape) }
 {}
 
-/// An accepted run is opaque if, at each APP, its transaction has pulled a snapshot.
+/// An accepted run is opaque if, at each APP, what its transaction has pulled is a snapshot of all
+/// objects.
 pub fn snapshot_law<S: Spec>()
     ensures { (shape : S.Shape) → SnapshotLaw (rules_of S.object shape) }
 {}
@@ -79,25 +80,25 @@ pub fn torn_law()
     ensures { TornLaw }
 {}
 
-/// An accepted run need not be opaque if some number of commits explains each attempt: the number
-/// may be too small.
+/// An accepted run need not be opaque if some number of commits explains c's own list: the number
+/// may be too small. Here and below, c is a transaction of the example.
 pub fn stale_law()
     ensures { StaleLaw }
 {}
 
-/// An accepted run need not be opaque if such a number is no smaller than when the transaction
-/// began: its attempt may have begun later.
+/// An accepted run need not be opaque if such a number is no smaller than when c began: its attempt
+/// may have begun later.
 pub fn retried_law()
     ensures { RetriedLaw }
 {}
 
-/// An accepted run need not be opaque if what is seen is explained in the end.
+/// An accepted run need not be opaque if a number in the window explains c's own list in the end.
 pub fn early_law()
     ensures { EarlyLaw }
 {}
 
-/// An accepted run of style optimistic need not be opaque, even if no attempt that saw an
-/// inconsistent state commits.
+/// An accepted run of style optimistic need not be opaque, even if the transaction that saw an
+/// inconsistent state aborts and never commits.
 pub fn optimistic_law()
     ensures { OptimisticLaw }
 {}
