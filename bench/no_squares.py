@@ -92,6 +92,27 @@ def dropped(calls):
     return records + [named("commit", source)], 2 + 3 * calls + 2 * (1 + calls + 1 + 1 + calls) + 1, 1
 
 
+def retaken(count):
+    """A transaction takes the additions of a large source, and then those of a small one, which it drops after each call."""
+    (large, small, tx), records = opened(3)
+    numbers = itertools.count()
+    for source in [large] * 4 * count + [small]:
+        records += [op(source, next(numbers), "add", [1]), named("publish", source)]
+    records.append(named("depend", tx, source=large))
+    for _ in range(count):
+        records += [named("depend", tx, source=small), op(tx, next(numbers), "add", [1]), named("drop", tx, source=small)]
+    return records + [named("commit", large)], 3 + 3 * (4 * count + 1) + 1 + 4 * count + 5 * count + 1, 1
+
+
+def dropped_alone(count):
+    """A transaction that read much drops sources one by one, of which it has nothing."""
+    (tx, *sources), records = opened(1 + count)
+    records += [named("depend", tx, source=source) for source in sources]
+    records += [op(tx, number, "read", [0], 0) for number in range(7 * count)]
+    records += [named("drop", tx, source=source) for source in reversed(sources)]
+    return records + [named("commit", tx)], 1 + count + count + 7 * count + count + 7 * count + 1, 1
+
+
 def followed(calls):
     """A transaction publishes additions one by one. Another, whose source it is, adds after each of them."""
     (source, tx), records = opened(2)
@@ -138,6 +159,8 @@ RUNS = (
     ("two transactions add, one commits", header("boosted", "counter"), two_adding, 39_990),
     ("hardware sections on 16 memories", header("hardware", *["mem"] * 16), sections, 19_998),
     ("additions pulled and dropped twice", header("dependent", "counter"), dropped, 20_000),
+    ("a small source dropped beside a large one", header("dependent", "counter"), retaken, 5_000),
+    ("sources dropped by a long transaction", header("dependent", "mem"), dropped_alone, 11_000),
     ("additions of a source, a reader after each", header("dependent", "counter"), followed, 20_000),
     ("rounds of 6,000 calls, each undone", header("boosted", "map"), undone, 8),
     ("hardware sections that read and abort", header("hardware", "mem"), aborted, 10_000),

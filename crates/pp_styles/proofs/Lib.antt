@@ -17,4 +17,5 @@ pub mod Noted
 pub mod Publishing
 pub mod Looking
 pub mod Leaving
+pub mod Dropping
 pub mod Tracking

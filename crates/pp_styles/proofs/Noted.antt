@@ -38,7 +38,7 @@ pushed_next {Op} l from at f there off before i e above below here = elim (cases
       subst (λ (g : LocalEntry Op). is_mark g.mark Unpushed ≡ false) read off
 ]
 
-take_next : (xs : List ℕ) (i d : ℕ) → i < length xs → take (i + 1) xs ≡ take i xs ++ get_or xs i d ∷ []
+pub take_next : (xs : List ℕ) (i d : ℕ) → i < length xs → take (i + 1) xs ≡ take i xs ++ get_or xs i d ∷ []
 take_next xs i d below = ap (λ (n : ℕ). take n xs) one_more ∙ take-suc xs i d below
   where
     one_more : i + 1 ≡ suc i

@@ -67,7 +67,7 @@ module _ {Op : Type 0} (G : List (SharedEntry Op)) (d : HasDistinctIds (map shar
 
 -- ---- pulls
 
-not_true : (b : Bool) → (b ≡ true → ⊥) → b ≡ false
+pub not_true : (b : Bool) → (b ≡ true → ⊥) → b ≡ false
 not_true true off = absurd (off refl)
 not_true false off = refl
 

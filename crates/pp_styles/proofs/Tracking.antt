@@ -1,5 +1,5 @@
 -- What the notes on a machine say is true of it.
-use Rattle.std.proofs.Common.{◌≡◌, ◌≤◌, ◌-◌, ◌++◌, ℕ, true, List, [], drop, take, length, take_all, length-drop, arith, Option, None, Some, refl, sym, ap, subst, ◌∙◌}
+use Rattle.std.proofs.Common.{◌≡◌, ◌≤◌, ◌-◌, ◌++◌, ℕ, true, List, [], drop, take, length, take_all, length-drop, arith, IfSome, Option, None, Some, refl, sym, ap, subst, ◌∙◌}
 use Rattle.std.specs.Option.{option_map}
 use Rattle.pp_core.specs.Steps.{Step}
 use Rattle.pp_records.specs.Expansions.{LocalLog, SharedLog, pushall}
@@ -14,9 +14,11 @@ use Rattle.pp_machine.specs.Stepping.{Stepped}
 use Rattle.pp_machine.specs.declared.machine.Outcome.{Outcome}
 use Rattle.pp_machine.specs.declared.machine.Outcome.TheVariants.{Done, False}
 use Rattle.pp_kind.specs.Object.{Object, rules_of}
+use Rattle.pp_styles.specs.Dropping.{IsPulledBut, KnowsPulled, ListsPull, Looks, Pullings}
 use Rattle.pp_styles.specs.Knowing.{ForgetsBefore, IsAllBut, IsFollowedBut, IsTrueOf, Knowledge, ListsAfter}
 use Rattle.pp_styles.specs.Knowing.{PushesMore, TakesMore}
 use Rattle.pp_styles.specs.Publishing.{Adds, Keeps, ListsPushed, LooksFurther, Publications, TellsTrue, UnpassesBefore}
+use Rattle.pp_styles.proofs.Dropping.{known_pulled, looks_pulled, stays_pulled, waits_pulled}
 use Rattle.pp_styles.proofs.Publishing.{keeps, stays as stays_listed, waits as waits_listed}
 use Rattle.pp_styles.proofs.Looking.{followed_but, looks}
 use Rattle.pp_styles.proofs.Taking.{committed_alone}
@@ -28,6 +30,14 @@ opened_is shape local None is = absurd (let no : Some local ≡ None = is in cc)
 opened_is {Op} {Shape} shape local (Some x) is =
     let same : local ≡ (shape, x.local) = cc in
     (x, refl, ap (λ (p : Shape × LocalLog Op). p.1) same)
+
+-- ids that tell of it tell of this local log
+pub pulled_local : {Shape Op A : Type 0} (shape : Shape) (local : Shape × LocalLog Op) (o : Option (Tx Op)) (source : Name) (now : A → List ℕ) (r : Option A) → Some local ≡ option_map (λ (y : Tx Op). (shape, y.local)) o →
+    IfSome r (λ ids. (x : Tx Op) → o ≡ Some x → IsPulledBut source x.local (now ids)) → IfSome r (λ ids. IsPulledBut source local.1 (now ids))
+pulled_local shape local o source now None is known = tt
+pulled_local {Shape} {Op} shape local o source now (Some ids) is known =
+    let x = opened_is shape local o is in
+    subst (λ (l : LocalLog Op). IsPulledBut source l (now ids)) (sym x.2) (known x.0 x.1)
 
 module _ {Shape State Op Undo : Type 0} (o : Object Shape State Op Undo) (place : Op → ℕ) (k : Knowledge) (inside v : Seen Shape Op) (view : inside ≡ v) (true_inside : IsTrueOf place k inside.config) where
   true_here : IsTrueOf place k v.config
@@ -116,3 +126,25 @@ module _ {Shape State Op Undo : Type 0} (o : Object Shape State Op Undo) (place 
         let x = opened_is v.shape local (tx t v.config.opened) is in
         looks place p v.config listed (rules_of o v.shape) s t x.0 x.1 object q
         (subst (λ (l : LocalLog Op). LooksFurther t object l v.config.shared p q) x.2 (subst (λ (w : Shape × SharedLog Op). LooksFurther t object local.1 w.1 p q) shared_is more))
+
+-- and what is known of pulled entries
+pub pulled_behind : {Shape State Op Undo : Type 0} (o : Object Shape State Op Undo) (p : Pullings) (v : Seen Shape Op) → KnowsPulled p v.config → (step : Step Op) (outcome : Outcome Op) (w : Seen Shape Op)
+    (G : Shape × SharedLog Op) → G ≡ (v.shape, v.config.shared) → (q : Pullings) → Stepped o v step outcome w → ListsPull step G.1 p q → KnowsPulled q w.config
+pulled_behind {Shape} {State} {Op} o p v h step Done w G is q effect f =
+    subst (λ (z : Seen Shape Op). KnowsPulled q z.config) (sym effect.1) (stays_pulled p v.config h step q (subst (λ (z : Shape × SharedLog Op). ListsPull step z.1 p q) is f))
+pulled_behind {Shape} {State} {Op} o p v h step (False n detail) w G is q effect f =
+    subst (λ (z : Seen Shape Op). KnowsPulled q z.config) (sym effect.2) (waits_pulled p v.config h step q (subst (λ (z : Shape × SharedLog Op). ListsPull step z.1 p q) is f))
+
+pub pulled_looks : {Shape State Op Undo : Type 0} (o : Object Shape State Op Undo) (p : Pullings) (v : Seen Shape Op) → KnowsPulled p v.config → Sound (rules_of o v.shape) v.config → (t : Name) (local : Shape × LocalLog Op) →
+    Some local ≡ option_map (λ (y : Tx Op). (v.shape, y.local)) (tx t v.config.opened) → (l : LocalLog Op) → l ≡ local.1 → (q : Pullings) → Looks t l p q → KnowsPulled q v.config
+pulled_looks {Shape} {State} {Op} o p v h s t local is l l_is q f =
+    let x = opened_is v.shape local (tx t v.config.opened) is in
+    looks_pulled p v.config h (rules_of o v.shape) s t x.0 x.1 q (subst (λ (w : LocalLog Op). Looks t w p q) (l_is ∙ x.2) f)
+
+-- what is listed of an open transaction
+pub pulled_here : {Shape Op A : Type 0} (p : Pullings) (inside v : Seen Shape Op) → inside ≡ v → KnowsPulled p inside.config → (t source : Name) (now : A → List ℕ) (r : Option A) →
+    IfSome r (λ ids. (p.kept t ≡ true) × (now ids ≡ p.ids t source)) → IfSome r (λ ids. (x : Tx Op) → tx t v.config.opened ≡ Some x → IsPulledBut source x.local (now ids))
+pulled_here p inside v view h t source now None none = tt
+pulled_here {Shape} {Op} p inside v view h t source now (Some ids) is = λ x open_is.
+    subst (λ (w : List ℕ). IsPulledBut source x.local w) (sym is.1)
+    (known_pulled p v.config (subst (λ (w : Seen Shape Op). KnowsPulled p w.config) view h) t is.0 source x open_is)

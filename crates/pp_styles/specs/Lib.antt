@@ -2,6 +2,7 @@ pub mod AnyFronts
 pub mod Costs
 pub mod Counting
 pub mod Driving
+pub mod Dropping
 pub mod Knowing
 pub mod Meanings
 pub mod Noting

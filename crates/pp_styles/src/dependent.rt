@@ -10,9 +10,11 @@ ghost use Rattle.pp_records.specs.Fronts.{at_name, new_front, with_source, with_
 ghost use Rattle.pp_records.specs.Fronts.{without_source};
 ghost use Rattle.pp_model.specs.Names.{Name as NameOf};
 ghost use Rattle.pp_styles.specs.Meanings.{meanings};
+ghost use Rattle.pp_styles.specs.Dropping.{IsPulledBut};
 ghost use Rattle.pp_styles.specs.Knowing.{IsFollowedBut};
 ghost use Rattle.pp_styles.specs.Sources.{kept_sources, sources_in};
 
+use crate::drops::unpull_ids;
 use crate::front::Front;
 use crate::pulls::{follow, follow_ids};
 use crate::recorded::{abort, back_to, commit, publish, unopened};
@@ -75,21 +77,50 @@ fn forget(sources: &mut Sources, tx: &Name)
     sources.swap_remove(tx);
 }
 
+/// Adds UNPULL of what was pulled from a source, from the end. If it is told ids of entries, it looks
+/// at no others.
+fn unpull_from<S: Parted>(
+    alloc: Global,
+    list: &mut StepList<S::Op>,
+    tx: &Name,
+    source: &Name,
+    ids: Option<&[u32]>,
+    local: &Local<S>,
+) -> Result<(), OutOfMemory>
+    requires { IfSome ids (λ ids. IsPulledBut source.now local.now.1 ids.now) }
+    ensures { OnOk result (meanings list.new
+        ≡ meanings list.old ++ unpulls tx.now source.now local.now.1) }
+{
+    match ids {
+        Some(ids) => unpull_ids(alloc, list, tx, source, ids, local),
+        None => unpull_all(list, tx, source, local.entries()),
+    }
+}
+
 /// The steps of a record that gives up a source.
 fn drop_steps<S: Parted>(
     alloc: Global,
-    machine: &Tracked<S>,
+    machine: &mut Tracked<S>,
     tx: &Name,
     source: &Name,
 ) -> Result<StepList<S::Op>, OutOfMemory>
-    ensures { IfOk result (λ list. meanings list ≡ where_open machine.now.config tx.now
+    ensures steps { IfOk result (λ list. meanings list ≡ where_open machine.old.config tx.now
         (Note tx.now) (λ l. Note tx.now ∷ unpulls tx.now source.now l)) }
+    ensures machine { machine.new ≡ machine.old }
 {
     let mut list = only(alloc, Step::Note { tx: *tx })?;
+    machine.look_at_pulled(tx);
     let Some(local) = machine.local(tx) else {
         return Ok(list);
     };
-    unpull_all(&mut list, tx, source, local.entries())?;
+    unpull_from(
+        alloc,
+        &mut list,
+        tx,
+        source,
+        machine.pulled_from(tx, source),
+        local,
+    )?;
     Ok(list)
 }
 
@@ -256,9 +287,8 @@ impl<S: Parted> Front<S> for Dependent {
             }
             RunRecord::Publish { tx } => publish(self.alloc, machine, tx),
             RunRecord::DropSource { tx, source } => {
-                let list = drop_steps(self.alloc, machine, tx, source)?;
                 self.give_up(machine, tx, source)?;
-                Ok(list)
+                drop_steps(self.alloc, machine, tx, source)
             }
             RunRecord::Refresh { .. }
             | RunRecord::XBegin { .. }

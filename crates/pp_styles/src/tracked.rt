@@ -2,7 +2,7 @@
 ghost use Rattle.std.specs.Prelude.{◌≡◌, ◌≤◌, ◌<◌, ◌+◌, IfNone, IfOk, IfSome, OnOk, Some, is_some};
 ghost use Rattle.std.specs.Prelude.{option_map};
 ghost use Rattle.std.specs.Option.{option_copied};
-ghost use Rattle.pp_core.specs.Steps.{Unpull, Unpush, meaning};
+ghost use Rattle.pp_core.specs.Steps.{Pull, Unpull, Unpush, meaning};
 ghost use Rattle.pp_core.specs.declared.entry.SharedEntry.{SharedEntry as EntryOf};
 ghost use Rattle.pp_records.specs.Expansions.{pushall};
 ghost use Rattle.pp_model.specs.Config.{Tx, tx as open_tx};
@@ -12,6 +12,7 @@ ghost use Rattle.pp_machine.specs.Costs.{Costs, at_most};
 ghost use Rattle.pp_machine.specs.Shown.{IsShown};
 ghost use Rattle.pp_machine.specs.Stepping.{IsAsked, Stepped};
 ghost use Rattle.pp_kind.specs.Object.{rules_of};
+ghost use Rattle.pp_styles.specs.Dropping.{IsPulledBut, ListsPull, pullings};
 ghost use Rattle.pp_styles.specs.Knowing.{ForgetsBefore, IsAllBut, IsFollowedBut, IsTrueOf};
 ghost use Rattle.pp_styles.specs.Knowing.{ListsAfter};
 ghost use Rattle.pp_styles.specs.Noting.{known};
@@ -21,6 +22,7 @@ ghost use Rattle.pp_styles.specs.Sources.{kept_sources};
 
 use crate::notes::Notes;
 use crate::published::Published;
+use crate::pulled::Pulled;
 use crate::source_set::SourceSet;
 use pp_core::{LocalEntry, Name, OutOfMemory, SharedEntry, Step, Ticks};
 use pp_kind::Parted;
@@ -38,6 +40,7 @@ pub struct Tracked<S: Parted> {
     machine: Machine<S>,
     notes: Box<Notes>,
     published: Box<Published>,
+    pulled: Box<Pulled>,
 }
 
 /// So many sources are always looked at.
@@ -58,9 +61,11 @@ impl<S: Parted> Model for Tracked<S> {
     ghost view = { λ a. a.machine };
 
     ghost use Rattle.pp_styles.specs.Publishing.{TellsTrue, publications};
+    ghost use Rattle.pp_styles.specs.Dropping.{KnowsPulled, pullings};
 
     ghost invariant = { λ a. IsTrueOf S.place_of (known a.notes.value) a.machine.config
-        × TellsTrue S.place_of (publications a.published.value) a.machine.config };
+        × TellsTrue S.place_of (publications a.published.value) a.machine.config
+        × KnowsPulled (pullings a.pulled.value) a.machine.config };
 }
 
 /// The entry of this id in the shared log.
@@ -115,6 +120,33 @@ fn list_unpulled<S: Parted>(published: &mut Published, tx: &Name, id: u32, share
         return;
     };
     published.give_back(tx, &entry.owner, S::place(&entry.op), id);
+}
+
+/// Lists an entry that a PULL takes over.
+fn list_pulled<S: Parted>(pulled: &mut Pulled, tx: &Name, id: u32, shared: &Shared<S>)
+    ensures { ListsPull (Pull tx.now id) shared.now.1 (pullings pulled.old) (pullings pulled.new) }
+{
+    let Some(entry) = entry_of(shared, id) else {
+        return;
+    };
+    pulled.add(tx, &entry.owner, id);
+}
+
+/// Lists what a step takes over, and keeps no lists of a transaction that begins or ends.
+fn list_before<S: Parted>(pulled: &mut Pulled, step: &Step<S::Op>, shared: &Shared<S>)
+    ensures { ListsPull (meaning step.now) shared.now.1 (pullings pulled.old)
+        (pullings pulled.new) }
+{
+    match step {
+        Step::Begin { tx, .. } | Step::Cmt { tx } | Step::Quit { tx } => pulled.forget(tx),
+        Step::Pull { tx, id } => list_pulled(pulled, tx, *id, shared),
+        Step::App { .. }
+        | Step::Unapp { .. }
+        | Step::Push { .. }
+        | Step::Unpush { .. }
+        | Step::Unpull { .. }
+        | Step::Note { .. } => {}
+    }
 }
 
 /// Forgets what a step may make untrue: what is known of a transaction that begins or ends, and of
@@ -252,10 +284,12 @@ impl<S: Parted> Tracked<S> {
         notes.note_all::<S>(machine.committed())?;
         let notes = Box::new(alloc, notes)?;
         let published = Box::new(alloc, Published::new(alloc))?;
+        let pulled = Box::new(alloc, Pulled::new(alloc))?;
         Ok(Tracked {
             machine,
             notes,
             published,
+            pulled,
         })
     }
 
@@ -375,6 +409,28 @@ impl<S: Parted> Tracked<S> {
         self.notes.look_at_pushed(tx, local);
     }
 
+    /// Begins to list what an open transaction pulled, unless it is listed.
+    pub fn look_at_pulled(&mut self, tx: &Name)
+        ensures { self.new ≡ self.old }
+    {
+        // It stands here for what its clauses say of each machine.
+        let _sound = self.machine.count();
+        let Some(local) = self.machine.local(tx) else {
+            return;
+        };
+        self.pulled.look(tx, local.entries());
+    }
+
+    /// Ids of entries that an open transaction pulled from a source: each such entry of its local log
+    /// has its id among these. It returns none if they are not listed.
+    pub fn pulled_from(&self, tx: &Name, source: &Name) -> Option<&[u32]>
+        ensures { IfSome result (λ ids. (x : Tx S.Op) →
+            open_tx tx.now self.now.config.opened ≡ Some x →
+            IsPulledBut source.now x.local ids.now) }
+    {
+        self.pulled.ids(tx, source)
+    }
+
     /// As `Machine::step`.
     pub fn step<L: Ledger>(
         self,
@@ -392,10 +448,12 @@ impl<S: Parted> Tracked<S> {
             machine,
             mut notes,
             mut published,
+            mut pulled,
         } = self;
         // It stands here for what its clauses say of each machine.
         let _sound = machine.count();
         forget_before(&mut notes, &mut published, step, &machine);
+        list_before(&mut pulled, step, machine.shared());
         let (machine, outcome) = machine.step(step, ticks)?;
         note_after(&mut notes, step, &machine)?;
         list_after(&mut published, step, &machine)?;
@@ -404,6 +462,7 @@ impl<S: Parted> Tracked<S> {
                 machine,
                 notes,
                 published,
+                pulled,
             },
             outcome,
         ))

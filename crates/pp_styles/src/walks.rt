@@ -101,7 +101,7 @@ fn is_pulled_from<O: Copy>(source: &Name, entry: &LocalEntry<O>) -> bool
 }
 
 /// Adds UNPULL of an entry that was pulled from this source.
-fn unpull_one<O: Copy>(
+pub fn unpull_one<O: Copy>(
     list: &mut StepList<O>,
     tx: &Name,
     source: &Name,

@@ -20,5 +20,6 @@ returns-in_ok-depend-in-Depend-clause-kept g c kinds =
 pub returns-in_ok-give_up-in-DropSource-clause-kept :
     goal.returns-in_ok-give_up-in-DropSource-clause-kept
 returns-in_ok-give_up-in-DropSource-clause-kept g c kinds =
-    at_record (dependent_state kinds c.args.self.now) c.args.machine.now.config _ c.args.recorded.now (written.DropSource c.in-DropSource.tx c.in-DropSource.source) c.in-DropSource.is
-    (c.in_ok-give_up-in-DropSource.ensures kinds)
+    whenever c.drop_steps.result
+    (at_record (dependent_state kinds c.args.self.now) c.args.machine.now.config _ c.args.recorded.now (written.DropSource c.in-DropSource.tx c.in-DropSource.source) c.in-DropSource.is
+    (c.in_ok-give_up-in-DropSource.ensures kinds))

@@ -10,4 +10,5 @@ invariant_of-self g c = (
       c.count-sound.ensures.sound c.args.tx.now c.in-Some.local.now c.in-Some.ensures (known c.look_at_taken.new.self)
       (subst (λ n. TakesMore c.args.tx.now c.in-Some.local.now.1 (known n) (known c.look_at_taken.new.self)) c.deref_mut.ensures.value c.look_at_taken.ensures),
   c.self.invariant.1,
+  c.self.invariant.2,
 )
