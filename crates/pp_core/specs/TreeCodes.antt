@@ -27,12 +27,13 @@ abbrev mutual
 -- the row on top of the stack made one part of the row below it
 abbrev pub closed : (Trees → Tree) → List Trees → List Trees
 closed f (bs ∷ (row ∷ st)) = Part (f bs) row ∷ st
-closed f _ = []
+closed f (bs ∷ []) = []
+closed f [] = []
 
 -- one more part of the row on top
 abbrev pub with_part : Tree → List Trees → List Trees
 with_part b (row ∷ st) = Part b row ∷ st
-with_part b _ = []
+with_part b [] = []
 
 abbrev pub first_part : Trees → Tree
 first_part NoPart = Skip

@@ -23,8 +23,12 @@ reach x = reach_by (int_eq x (pos 0)) (in_range x) (int_lt (pos 0) x) x
 
 -- the number at which a pair that does not swap is legal
 abbrev pub pair_begins : CounterOp → CounterOp → ℤ
-pair_begins (Get value) b = value
-pair_begins (FetchAdd by was) b = was
+pair_begins (Get value) (Add more) = value
+pair_begins (Get value) (Get also) = value
+pair_begins (Get value) (FetchAdd more also) = value
+pair_begins (FetchAdd by was) (Add more) = was
+pair_begins (FetchAdd by was) (Get also) = was
+pair_begins (FetchAdd by was) (FetchAdd more also) = was
 pair_begins (Add by) (Add more) = pos 0
 pair_begins (Add by) (Get value) = value -ℤ by
 pair_begins (Add by) (FetchAdd more was) = was -ℤ by

@@ -13,21 +13,34 @@ other_than v = if int_eq v (pos 0) then pos 1 else pos 0
 
 -- the number that is written before a pair on one address that does not swap
 abbrev pub number_before : MemOp → MemOp → Option ℤ
-number_before (Read a v) b = Some v
+number_before (Read a v) (Read b w) = Some v
+number_before (Read a v) (Write b w) = Some v
+number_before (Read a v) (Cas b e n done) = Some v
 number_before (Write a v) (Read b w) = Some (other_than v)
 number_before (Write a v) (Write b w) = None
 number_before (Write a v) (Cas b e n true) = Some (other_than v)
 number_before (Write a v) (Cas b e n false) = Some e
-number_before (Cas a e n true) b = Some e
+number_before (Cas a e n true) (Read b w) = Some e
+number_before (Cas a e n true) (Write b w) = Some e
+number_before (Cas a e n true) (Cas b g h done) = Some e
 number_before (Cas a g h false) (Read b w) = Some (other_than g)
 number_before (Cas a g h false) (Write b w) = Some (other_than g)
 number_before (Cas a g h false) (Cas b e n done) = Some e
 
 -- and the number that is read after it
 abbrev pub number_after : MemOp → MemOp → Option ℤ
+number_after (Read a v) (Read b w) = None
+number_after (Read a v) (Write b w) = None
+number_after (Read a v) (Cas b e n done) = None
+number_after (Write a v) (Read b w) = None
 number_after (Write a v) (Write b w) = Some w
+number_after (Write a v) (Cas b e n done) = None
+number_after (Cas a e n true) (Read b w) = None
 number_after (Cas a e n true) (Write b w) = Some w
-number_after a b = None
+number_after (Cas a e n true) (Cas b g h done) = None
+number_after (Cas a e n false) (Read b w) = None
+number_after (Cas a e n false) (Write b w) = None
+number_after (Cas a e n false) (Cas b g h done) = None
 
 -- a write of a number, and a read of one
 abbrev pub write_of : ℤ → Option ℤ → List MemOp

@@ -29,8 +29,10 @@ figures_of (Cas a e n false) = record { from = e; to = e; shift = pos 0 }
 -- the number that its gates read: the one that it leads to, and of a compare-and-swap that was done
 -- the one that it expected
 abbrev pub number_of : MemOp → ℤ
+number_of (Read a v) = v
+number_of (Write a v) = v
 number_of (Cas a e n true) = e
-number_of op = (figures_of op).to
+number_of (Cas a e n false) = e
 
 -- the form that its gates know: its row, and another where it leaves the number that it finds
 abbrev pub gate_form_of : MemOp → ℕ

@@ -6,8 +6,10 @@ use Rattle.pp_kind_queue.specs.Movers.{may_swap}
 
 -- before a dequeue that took an item, what it took, and what the second took
 abbrev pub before_pair : QueueOp → QueueOp → List QueueOp
-before_pair (Enq value) b = []
-before_pair (Deq None) b = []
+before_pair (Enq value) (Enq other) = []
+before_pair (Enq value) (Deq found) = []
+before_pair (Deq None) (Enq value) = []
+before_pair (Deq None) (Deq found) = []
 before_pair (Deq (Some x)) (Enq value) = Enq x ∷ []
 before_pair (Deq (Some x)) (Deq (Some y)) = Enq x ∷ Enq y ∷ []
 before_pair (Deq (Some x)) (Deq None) = Enq x ∷ []
@@ -16,7 +18,8 @@ before_pair (Deq (Some x)) (Deq None) = Enq x ∷ []
 abbrev pub after_pair : QueueOp → QueueOp → List QueueOp
 after_pair (Enq x) (Enq y) = Deq (Some x) ∷ []
 after_pair (Enq x) (Deq value) = []
-after_pair (Deq value) b = []
+after_pair (Deq found) (Enq value) = []
+after_pair (Deq found) (Deq other) = []
 
 -- what stands before and after such a pair
 abbrev pub lists_round : QueueOp → QueueOp → List QueueOp × List QueueOp

@@ -6,8 +6,10 @@ use Rattle.pp_kind_stack.specs.Movers.{may_swap}
 
 -- before a pop that took an item, what it took, and below that what the second took
 abbrev pub before_pair : StackOp → StackOp → List StackOp
-before_pair (Push value) b = []
-before_pair (Pop None) b = []
+before_pair (Push value) (Push other) = []
+before_pair (Push value) (Pop found) = []
+before_pair (Pop None) (Push value) = []
+before_pair (Pop None) (Pop found) = []
 before_pair (Pop (Some x)) (Push value) = Push x ∷ []
 before_pair (Pop (Some x)) (Pop (Some y)) = Push y ∷ Push x ∷ []
 before_pair (Pop (Some x)) (Pop None) = Push x ∷ []
@@ -16,7 +18,8 @@ before_pair (Pop (Some x)) (Pop None) = Push x ∷ []
 abbrev pub after_pair : StackOp → StackOp → List StackOp
 after_pair (Push x) (Push y) = Pop (Some y) ∷ []
 after_pair (Push x) (Pop value) = []
-after_pair (Pop value) b = []
+after_pair (Pop found) (Push value) = []
+after_pair (Pop found) (Pop other) = []
 
 -- what stands before and after such a pair
 abbrev pub lists_round : StackOp → StackOp → List StackOp × List StackOp

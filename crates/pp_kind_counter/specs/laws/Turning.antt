@@ -34,8 +34,12 @@ first_is_second (FetchAdd d v) (FetchAdd e w) n t h k = grind (arith, ints)
 -- A pair that it does not let swap is legal where it begins, and not the other way round.
 pub begins_first : (a b : CounterOp) → may_swap a b ≡ false → Tells a (pair_begins a b)
 begins_first (Add d) b t = tt
-begins_first (Get v) b t = refl
-begins_first (FetchAdd d v) b t = refl
+begins_first (Get v) (Add e) t = refl
+begins_first (Get v) (Get w) t = refl
+begins_first (Get v) (FetchAdd e w) t = refl
+begins_first (FetchAdd d v) (Add e) t = refl
+begins_first (FetchAdd d v) (Get w) t = refl
+begins_first (FetchAdd d v) (FetchAdd e w) t = refl
 
 pub begins_second : (a b : CounterOp) → may_swap a b ≡ false
     → Tells b (pair_begins a b +ℤ shift_of a)

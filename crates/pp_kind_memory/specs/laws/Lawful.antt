@@ -209,20 +209,33 @@ other_ranged false = refl
 
 before_ranged : (a b : MemOp) → IsTrue (is_ranged a) → IsTrue (is_ranged b)
     → IsRangedNumber (number_before a b)
-before_ranged (Read a v) b h k = value_ranged a v h
+before_ranged (Read a v) (Read b w) h k = value_ranged a v h
+before_ranged (Read a v) (Write b w) h k = value_ranged a v h
+before_ranged (Read a v) (Cas b e n done) h k = value_ranged a v h
 before_ranged (Write a v) (Read b w) h k = other_ranged (int_eq v (pos 0))
 before_ranged (Write a v) (Write b w) h k = tt
 before_ranged (Write a v) (Cas b e n true) h k = other_ranged (int_eq v (pos 0))
 before_ranged (Write a v) (Cas b e n false) h k = expected_ranged b e n k
-before_ranged (Cas a e n true) b h k = expected_ranged a e n h
+before_ranged (Cas a e n true) (Read b w) h k = expected_ranged a e n h
+before_ranged (Cas a e n true) (Write b w) h k = expected_ranged a e n h
+before_ranged (Cas a e n true) (Cas b g j done) h k = expected_ranged a e n h
 before_ranged (Cas a g j false) (Read b w) h k = other_ranged (int_eq g (pos 0))
 before_ranged (Cas a g j false) (Write b w) h k = other_ranged (int_eq g (pos 0))
 before_ranged (Cas a g j false) (Cas b e n done) h k = expected_ranged b e n k
 
 after_ranged : (a b : MemOp) → IsTrue (is_ranged b) → IsRangedNumber (number_after a b)
+after_ranged (Read a v) (Read b w) k = tt
+after_ranged (Read a v) (Write b w) k = tt
+after_ranged (Read a v) (Cas b e n done) k = tt
+after_ranged (Write a v) (Read b w) k = tt
 after_ranged (Write a v) (Write b w) k = value_ranged b w k
+after_ranged (Write a v) (Cas b e n done) k = tt
+after_ranged (Cas a e n true) (Read b w) k = tt
 after_ranged (Cas a e n true) (Write b w) k = value_ranged b w k
-after_ranged a b k = tt
+after_ranged (Cas a e n true) (Cas b g j done) k = tt
+after_ranged (Cas a e n false) (Read b w) k = tt
+after_ranged (Cas a e n false) (Write b w) k = tt
+after_ranged (Cas a e n false) (Cas b g j done) k = tt
 
 memory_shown : IsShown memory addresses may_swap_there lists_round
 memory_shown = record {

@@ -54,8 +54,10 @@ turned_refuted (Deq None) (Deq None) t h = cc
 
 before_ranged : (a b : QueueOp) → IsTrue (is_ranged a) → IsTrue (is_ranged b)
     → AllRanged fifo (before_pair a b)
-before_ranged (Enq x) b h k = tt
-before_ranged (Deq None) b h k = tt
+before_ranged (Enq x) (Enq y) h k = tt
+before_ranged (Enq x) (Deq q) h k = tt
+before_ranged (Deq None) (Enq y) h k = tt
+before_ranged (Deq None) (Deq q) h k = tt
 before_ranged (Deq (Some x)) (Enq y) h k = (h, tt)
 before_ranged (Deq (Some x)) (Deq (Some y)) h k = (h, (k, tt))
 before_ranged (Deq (Some x)) (Deq None) h k = (h, tt)
@@ -64,7 +66,8 @@ after_ranged : (a b : QueueOp) → IsTrue (is_ranged a) → IsTrue (is_ranged b)
     → AllRanged fifo (after_pair a b)
 after_ranged (Enq x) (Enq y) h k = (h, tt)
 after_ranged (Enq x) (Deq q) h k = tt
-after_ranged (Deq r) b h k = tt
+after_ranged (Deq r) (Enq y) h k = tt
+after_ranged (Deq r) (Deq q) h k = tt
 
 -- The pair swaps exactly where the table lets it, and else nowhere.
 pub table_tells : IsTold fifo may_swap lists_round

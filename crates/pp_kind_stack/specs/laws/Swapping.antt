@@ -55,8 +55,10 @@ turned_refuted (Pop None) (Pop None) t h = cc
 
 before_ranged : (a b : StackOp) → IsTrue (is_ranged a) → IsTrue (is_ranged b)
     → AllRanged stack (before_pair a b)
-before_ranged (Push x) b h k = tt
-before_ranged (Pop None) b h k = tt
+before_ranged (Push x) (Push y) h k = tt
+before_ranged (Push x) (Pop q) h k = tt
+before_ranged (Pop None) (Push y) h k = tt
+before_ranged (Pop None) (Pop q) h k = tt
 before_ranged (Pop (Some x)) (Push y) h k = (h, tt)
 before_ranged (Pop (Some x)) (Pop (Some y)) h k = (k, (h, tt))
 before_ranged (Pop (Some x)) (Pop None) h k = (h, tt)
@@ -65,7 +67,8 @@ after_ranged : (a b : StackOp) → IsTrue (is_ranged a) → IsTrue (is_ranged b)
     → AllRanged stack (after_pair a b)
 after_ranged (Push x) (Push y) h k = (k, tt)
 after_ranged (Push x) (Pop q) h k = tt
-after_ranged (Pop r) b h k = tt
+after_ranged (Pop r) (Push y) h k = tt
+after_ranged (Pop r) (Pop q) h k = tt
 
 -- The pair swaps exactly where the table lets it, and else nowhere.
 pub table_tells : IsTold stack may_swap lists_round
