@@ -50,7 +50,7 @@ HasMethodNamed kind word method = HasMethod kind method × (method_word method �
 abbrev pub method_named : Kind → List ℕ → Option Method
 method_named kind word = named method_word (methods_of kind) word
 
--- how many arguments a call has
+-- how many arguments a call has; the variable `kind` is where it does not depend on the kind
 abbrev pub arity_of : Kind → Method → ℕ
 arity_of kind methods.Read = 1
 arity_of kind methods.Write = 2
@@ -75,7 +75,7 @@ arity_of kind methods.Insert = 1
 arity_of kind methods.Take = 0
 arity_of kind methods.Least = 0
 
--- the form of the results of a method
+-- the form of the results of a method; the variable `kind` is where it does not depend on the kind
 abbrev pub form_of : Kind → Method → Form
 form_of kind methods.Read = forms.Number
 form_of kind methods.Write = forms.Nothing
@@ -155,19 +155,56 @@ pub record IsOpOf (kind : Kind) (c : Call) (answer : Answer) (op : Op) : Type 0 
   pub recorded : objects.recorded op ≡ answer
   pub ranged : IsTrue (objects.ranged op)
 
--- the act of a call by its method, if the result is of the form that the method gives
+-- the act of a call on a memory, if a memory has the method and the result is of the form that the
+-- method gives; and so for each kind
 abbrev pub memory_act : Method → Call → Answer → Option Act
 memory_act methods.Read c (answers.Number value) = Some (Memory (mem.Read c.first value))
+memory_act methods.Read c answers.None = None
+memory_act methods.Read c (answers.Truth t) = None
 memory_act methods.Write c answers.None = Some (Memory (mem.Write c.first c.second))
+memory_act methods.Write c (answers.Number n) = None
+memory_act methods.Write c (answers.Truth t) = None
 memory_act methods.Cas c (answers.Truth done) =
     Some (Memory (mem.Cas c.first c.second c.third done))
-memory_act method c answer = None
+memory_act methods.Cas c answers.None = None
+memory_act methods.Cas c (answers.Number n) = None
+memory_act methods.Add c answer = None
+memory_act methods.Remove c answer = None
+memory_act methods.Contains c answer = None
+memory_act methods.Put c answer = None
+memory_act methods.Get c answer = None
+memory_act methods.FetchAdd c answer = None
+memory_act methods.Enq c answer = None
+memory_act methods.Deq c answer = None
+memory_act methods.StackPush c answer = None
+memory_act methods.StackPop c answer = None
+memory_act methods.Insert c answer = None
+memory_act methods.Take c answer = None
+memory_act methods.Least c answer = None
 
 abbrev pub set_act : Method → Call → Answer → Option Act
 set_act methods.Add c (answers.Truth t) = Some (KeySet (set.Add c.first t))
+set_act methods.Add c answers.None = None
+set_act methods.Add c (answers.Number n) = None
 set_act methods.Remove c (answers.Truth t) = Some (KeySet (set.Remove c.first t))
+set_act methods.Remove c answers.None = None
+set_act methods.Remove c (answers.Number n) = None
 set_act methods.Contains c (answers.Truth t) = Some (KeySet (set.Contains c.first t))
-set_act method c answer = None
+set_act methods.Contains c answers.None = None
+set_act methods.Contains c (answers.Number n) = None
+set_act methods.Read c answer = None
+set_act methods.Write c answer = None
+set_act methods.Cas c answer = None
+set_act methods.Put c answer = None
+set_act methods.Get c answer = None
+set_act methods.FetchAdd c answer = None
+set_act methods.Enq c answer = None
+set_act methods.Deq c answer = None
+set_act methods.StackPush c answer = None
+set_act methods.StackPop c answer = None
+set_act methods.Insert c answer = None
+set_act methods.Take c answer = None
+set_act methods.Least c answer = None
 
 -- the value that a call found, if its result is of that form
 abbrev pub value_of : Answer → Option (Option ℤ)
@@ -179,37 +216,115 @@ abbrev pub map_act_of : Method → Call → Option ℤ → Option Act
 map_act_of methods.Put c found = Some (KeyMap (map.Put c.first c.second found))
 map_act_of methods.Get c found = Some (KeyMap (map.Get c.first found))
 map_act_of methods.Remove c found = Some (KeyMap (map.Remove c.first found))
-map_act_of method c found = None
+map_act_of methods.Read c found = None
+map_act_of methods.Write c found = None
+map_act_of methods.Cas c found = None
+map_act_of methods.Add c found = None
+map_act_of methods.Contains c found = None
+map_act_of methods.FetchAdd c found = None
+map_act_of methods.Enq c found = None
+map_act_of methods.Deq c found = None
+map_act_of methods.StackPush c found = None
+map_act_of methods.StackPop c found = None
+map_act_of methods.Insert c found = None
+map_act_of methods.Take c found = None
+map_act_of methods.Least c found = None
 
 abbrev pub map_act : Method → Call → Answer → Option Act
 map_act method c answer = option_and_then (map_act_of method c) (value_of answer)
 
 abbrev pub counter_act : Method → Call → Answer → Option Act
 counter_act methods.Add c answers.None = Some (Counter (counts.Add c.first))
+counter_act methods.Add c (answers.Number n) = None
+counter_act methods.Add c (answers.Truth t) = None
 counter_act methods.Get c (answers.Number value) = Some (Counter (counts.Get value))
+counter_act methods.Get c answers.None = None
+counter_act methods.Get c (answers.Truth t) = None
 counter_act methods.FetchAdd c (answers.Number value) =
     Some (Counter (counts.FetchAdd c.first value))
-counter_act method c answer = None
+counter_act methods.FetchAdd c answers.None = None
+counter_act methods.FetchAdd c (answers.Truth t) = None
+counter_act methods.Read c answer = None
+counter_act methods.Write c answer = None
+counter_act methods.Cas c answer = None
+counter_act methods.Remove c answer = None
+counter_act methods.Contains c answer = None
+counter_act methods.Put c answer = None
+counter_act methods.Enq c answer = None
+counter_act methods.Deq c answer = None
+counter_act methods.StackPush c answer = None
+counter_act methods.StackPop c answer = None
+counter_act methods.Insert c answer = None
+counter_act methods.Take c answer = None
+counter_act methods.Least c answer = None
 
 abbrev pub queue_act : Method → Call → Answer → Option Act
 queue_act methods.Enq c answers.None = Some (Queue (queues.Enq c.first))
+queue_act methods.Enq c (answers.Number n) = None
+queue_act methods.Enq c (answers.Truth t) = None
 queue_act methods.Deq c answers.None = Some (Queue (queues.Deq None))
 queue_act methods.Deq c (answers.Number value) = Some (Queue (queues.Deq (Some value)))
-queue_act method c answer = None
+queue_act methods.Deq c (answers.Truth t) = None
+queue_act methods.Read c answer = None
+queue_act methods.Write c answer = None
+queue_act methods.Cas c answer = None
+queue_act methods.Add c answer = None
+queue_act methods.Remove c answer = None
+queue_act methods.Contains c answer = None
+queue_act methods.Put c answer = None
+queue_act methods.Get c answer = None
+queue_act methods.FetchAdd c answer = None
+queue_act methods.StackPush c answer = None
+queue_act methods.StackPop c answer = None
+queue_act methods.Insert c answer = None
+queue_act methods.Take c answer = None
+queue_act methods.Least c answer = None
 
 abbrev pub stack_act : Method → Call → Answer → Option Act
 stack_act methods.StackPush c answers.None = Some (Stack (stacks.Push c.first))
+stack_act methods.StackPush c (answers.Number n) = None
+stack_act methods.StackPush c (answers.Truth t) = None
 stack_act methods.StackPop c answers.None = Some (Stack (stacks.Pop None))
 stack_act methods.StackPop c (answers.Number value) = Some (Stack (stacks.Pop (Some value)))
-stack_act method c answer = None
+stack_act methods.StackPop c (answers.Truth t) = None
+stack_act methods.Read c answer = None
+stack_act methods.Write c answer = None
+stack_act methods.Cas c answer = None
+stack_act methods.Add c answer = None
+stack_act methods.Remove c answer = None
+stack_act methods.Contains c answer = None
+stack_act methods.Put c answer = None
+stack_act methods.Get c answer = None
+stack_act methods.FetchAdd c answer = None
+stack_act methods.Enq c answer = None
+stack_act methods.Deq c answer = None
+stack_act methods.Insert c answer = None
+stack_act methods.Take c answer = None
+stack_act methods.Least c answer = None
 
 abbrev pub prio_act : Method → Call → Answer → Option Act
 prio_act methods.Insert c answers.None = Some (PriorityQueue (prios.Insert c.first))
+prio_act methods.Insert c (answers.Number n) = None
+prio_act methods.Insert c (answers.Truth t) = None
 prio_act methods.Take c answers.None = Some (PriorityQueue (prios.Take None))
 prio_act methods.Take c (answers.Number value) = Some (PriorityQueue (prios.Take (Some value)))
+prio_act methods.Take c (answers.Truth t) = None
 prio_act methods.Least c answers.None = Some (PriorityQueue (prios.Least None))
 prio_act methods.Least c (answers.Number value) = Some (PriorityQueue (prios.Least (Some value)))
-prio_act method c answer = None
+prio_act methods.Least c (answers.Truth t) = None
+prio_act methods.Read c answer = None
+prio_act methods.Write c answer = None
+prio_act methods.Cas c answer = None
+prio_act methods.Add c answer = None
+prio_act methods.Remove c answer = None
+prio_act methods.Contains c answer = None
+prio_act methods.Put c answer = None
+prio_act methods.Get c answer = None
+prio_act methods.FetchAdd c answer = None
+prio_act methods.Enq c answer = None
+prio_act methods.Deq c answer = None
+prio_act methods.StackPush c answer = None
+prio_act methods.StackPop c answer = None
 
 abbrev pub act_made : Kind → Call → Answer → Option Act
 act_made kinds.Memory c answer = memory_act c.method c answer

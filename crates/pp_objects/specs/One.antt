@@ -54,7 +54,8 @@ kind_of (states.Queue s) = kinds.Queue
 kind_of (states.Stack s) = kinds.Stack
 kind_of (states.PriorityQueue s) = kinds.PriorityQueue
 
--- it is an act on objects of this kind
+-- It is an act on objects of this kind. Here and below, the variable `act` is every act of another
+-- kind. A new kind falls into none of these arms, since each names its kind by the first argument.
 abbrev pub fits : Kind → Act → Bool
 fits kinds.Memory (Memory a) = true
 fits kinds.Memory act = false

@@ -46,7 +46,8 @@ act_label (PriorityQueue a) = record { form = prios.form_of a; number = prios.nu
 abbrev pub label_of : Op → Label
 label_of op = act_label op.act
 
--- both add to a counter, and the first adds another number than 0
+-- Both add to a counter, and the first adds another number than 0. Every other pair may fall into
+-- the second arm, since its false claims nothing.
 abbrev pub both_add : Act → Act → Bool
 both_add (Counter (Add by)) (Counter (Add more)) = not (int_eq by (pos 0))
 both_add a b = false
