@@ -236,5 +236,3 @@ module _ {Shape State Op Undo : Type 0} (o : Object Shape State Op Undo) (place_
     -- every other place stays
     pub next_elsewhere : (s : State) (a : Op) (p : ℕ) → (p ≡ place_of a → ⊥)
         → SameAt p s (o.next s a)
-    pub back_elsewhere : (s : State) (a : Op) (u : Undo) (p : ℕ) → (p ≡ place_of a → ⊥)
-        → SameAt p s (o.upkeep.back s a u)

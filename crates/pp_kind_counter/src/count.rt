@@ -7,7 +7,7 @@ use crate::contexts::{pair_begins, reach};
 use crate::movers::may_swap;
 use crate::op::CounterOp;
 use pp_core::{Answer, Call, Ops, OutOfMemory, Ticks};
-use pp_kind::{Applied, Context, Placed, Spec, TakesBack};
+use pp_kind::{Applied, Context, Placed, Spec};
 use std::alloc::Global;
 use std::sync::ledger::Ledger;
 
@@ -118,16 +118,4 @@ impl Placed for Count {
     }
 
     ghost placed = { counter_placed };
-}
-
-impl TakesBack for Count {
-    #[inline(always)]
-    fn keep_in_turn(_a: &CounterOp, _kept: &()) -> bool {
-        false
-    }
-
-    #[inline(always)]
-    fn keeps_alone(_a: &CounterOp) -> bool {
-        true
-    }
 }

@@ -59,5 +59,4 @@ counter_placed = record {
   kept_there = λ n m a same. refl;
   next_there = λ n m a same e. ap (λ (k : ℤ). k +ℤ shift_of a) (same refl);
   next_elsewhere = λ n a p other e. absurd (other e);
-  back_elsewhere = λ n a u p other e. absurd (other e);
 }

@@ -199,9 +199,6 @@ module _ (o : Object Kind ObjectState Act Undo) (laws : IsLawful o)
         ∙ sym (get_put (λ s. o.next s a.act) ts a.object);
     next_elsewhere = λ ss a p other.
         put_other ss a.object p (option_map (λ s. o.next s a.act) (slice_get ss a.object)) other;
-    back_elsewhere = λ ss a u p other.
-        put_other ss a.object p (option_map (λ s. o.upkeep.back s a.act u) (slice_get ss a.object))
-        other;
   }
 
 -- The objects of a run obey the laws of a kind, and the laws of places.
