@@ -10,6 +10,7 @@ pub mod Lines
 pub mod Rising
 pub mod Timely
 pub mod Numbers
+pub mod Rows
 pub mod Only
 pub mod Logs
 pub mod Pulling

@@ -13,6 +13,7 @@ use Rattle.pp_model.specs.Names.{Name}
 use Rattle.pp_model.specs.Object.{Object}
 use Rattle.pp_model.specs.Rules.{Breaks, Meets, RunsFrom}
 use Rattle.pp_laws_runs.specs.Breakable.{breakable}
+use Rattle.pp_laws_runs.proofs.Rows.{in_app_row, in_begin_row, in_note_row, in_quit_row}
 use Rattle.pp_laws_runs.proofs.Numbers.{after_there, in_one, in_two, of_none, of_nothing, of_three, of_two}
 
 -- an option, by what it is
@@ -39,13 +40,13 @@ module _ {Op State : Type 0} (O : Object Op State) (style : Style) where
   -- ---- steps whose criteria are all breakable
 
   pub begin_only : (c : Config Op) (t p : Name) (b : Option Tree) → OnlyBreaks c (Begin t p b ∷ [])
-  begin_only c t p b = ((λ n k. in_two n (of_two _ _ n k)), λ m. tt)
+  begin_only c t p b = ((λ n k. in_begin_row style (suc n) (in_two n (of_two _ _ n k))), λ m. tt)
 
-  pub app_breaks : (c : Config Op) (t : Name) (id : ℕ) (op : Op) (n : ℕ) → Breaks O c (App t id op) (suc n) → In (suc n) (1 ∷ 2 ∷ 3 ∷ 4 ∷ [])
-  app_breaks c t id op n b = elim (known (tx t c.opened)) [
+  pub app_breaks : (c : Config Op) (t : Name) (id : ℕ) (op : Op) (n : ℕ) → Breaks O c (App t id op) (suc n) → In (suc n) (breakable rules.App style)
+  app_breaks c t id op n b = in_app_row style (suc n) (elim (known (tx t c.opened)) [
     | inl e ↦ inl (let k : n ≡ 0 = of_nothing (tx t c.opened) _ n e b in omega (arith, k))
     | inr x ↦ let r = after_there (tx t c.opened) _ x.0 n x.1 b in by r.0 r.1 (of_three _ _ _ r.0 r.2)
-  ]
+  ])
     where
       by : (k : ℕ) → n ≡ suc k → (k ≡ 0) ⊎ (k ≡ 1) ⊎ (k ≡ 2) → In (suc n) (1 ∷ 2 ∷ 3 ∷ 4 ∷ [])
       by k e (inl h) = inr (inl (omega (arith, e, h)))
@@ -55,9 +56,9 @@ module _ {Op State : Type 0} (O : Object Op State) (style : Style) where
   pub app_only : (c : Config Op) (t : Name) (id : ℕ) (op : Op) → OnlyBreaks c (App t id op ∷ [])
   app_only c t id op = (app_breaks c t id op, λ m. tt)
 
-  note_breaks : (c : Config Op) (t : Name) (n : ℕ) → Breaks O c (Note t) (suc n) → In (suc n) (1 ∷ [])
+  note_breaks : (c : Config Op) (t : Name) (n : ℕ) → Breaks O c (Note t) (suc n) → In (suc n) (breakable rules.Note style)
   note_breaks c t n b = elim (known (tx t c.opened)) [
-    | inl e ↦ in_one n (of_nothing (tx t c.opened) _ n e b)
+    | inl e ↦ in_note_row style (suc n) (in_one n (of_nothing (tx t c.opened) _ n e b))
     | inr x ↦ absurd (let r = after_there (tx t c.opened) _ x.0 n x.1 b in of_none r.0 r.2)
   ]
 
@@ -67,7 +68,7 @@ module _ {Op State : Type 0} (O : Object Op State) (style : Style) where
   -- ---- a transaction that is not open
 
   pub quit_alone : (c : Config Op) (t : Name) → tx t c.opened ≡ None → OnlyBreaks c (Quit t ∷ [])
-  quit_alone c t e = ((λ n b. in_one n (of_nothing (tx t c.opened) _ n e b)), λ m. tt)
+  quit_alone c t e = ((λ n b. in_quit_row style (suc n) (in_one n (of_nothing (tx t c.opened) _ n e b))), λ m. tt)
 
   pub cmt_alone : style ≢ styles.Rules → (c : Config Op) (t : Name) → tx t c.opened ≡ None → OnlyBreaks c (Cmt t ∷ [])
   cmt_alone recorded c t e = ((λ n b. first_of style recorded n (of_nothing (tx t c.opened) _ n e b)), λ m. tt)

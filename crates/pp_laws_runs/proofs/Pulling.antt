@@ -26,6 +26,7 @@ use Rattle.pp_laws_runs.specs.Breakable.{breakable}
 use Rattle.pp_laws_runs.proofs.Logs.{LocalIds, SharedIds, before_it, mark_found, other_found}
 use Rattle.pp_laws_runs.proofs.Numbers.{after_there, fifth, first_holds, four_or_five, two_first_hold}
 use Rattle.pp_laws_runs.proofs.Only.{OnlyBreaks, app_breaks, app_only, only_append}
+use Rattle.pp_laws_runs.proofs.Rows.{in_pull_row}
 
 -- ---- which entries are in a log
 
@@ -63,12 +64,12 @@ module _ {Op State : Type 0} (O : Object Op State) (style : Style) where
   -- ---- pulls
 
   pull_breaks : (c : Config Op) (t : Name) (id : ℕ) (x : Tx Op) (g : SharedEntry Op) → tx t c.opened ≡ Some x → of_other t id c.shared ≡ Some g → ((e : LocalEntry Op) → In e x.local → e.id ≢ id) → (n : ℕ) →
-      Breaks O c (Pull t id) (suc n) → In (suc n) (4 ∷ 5 ∷ [])
+      Breaks O c (Pull t id) (suc n) → In (suc n) (breakable rules.Pull style)
   pull_breaks c t id x g e f apart n b =
       let a = after_there (tx t c.opened) _ x n e b in
       let k = after_there (of_other t id c.shared) _ g a.0 f a.2 in
       let l = first_holds _ _ _ k.0 apart k.2 in
-      four_or_five n a.0 k.0 l.0 a.1 k.1 l.1 l.2
+      in_pull_row style (suc n) (four_or_five n a.0 k.0 l.0 a.1 k.1 l.1 l.2)
 
   each_pull_only : (t : Name) (gs : List (SharedEntry Op)) (c : Config Op) (x : Tx Op) → SharedIds gs → ((g : SharedEntry Op) → In g gs → of_other t g.id c.shared ≡ Some g) → tx t c.opened ≡ Some x →
       ((g : SharedEntry Op) → In g gs → (e : LocalEntry Op) → In e x.local → e.id ≢ g.id) → OnlyBreaks O style c (map (λ g. Pull t g.id) gs)
