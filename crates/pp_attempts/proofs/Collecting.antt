@@ -18,13 +18,16 @@ use Rattle.pp_attempts.proofs.Orders.{own_short}
 -- the meanings of the steps at the one that a loop is at
 module _ {Op : Type 0} (steps : List (StepOf Op)) (i : ℕ) (step : StepOf Op) (there : i < length steps)
     (is : step ≡ get_or steps i step) where
+  -- The meanings of the steps from a position on are that of the step there, then the others.
   pub meanings_drop : meanings (drop i steps) ≡ meaning step ∷ meanings (drop (i + 1) steps)
   meanings_drop = ap (λ (w : List (StepOf Op)). meanings w) (drop_there steps i step there is)
 
+  -- The meanings of the steps up to a position are those before it, and that of the step there.
   pub meanings_take : meanings (take (i + 1) steps) ≡ meanings (take i steps) ++ meaning step ∷ []
   meanings_take = ap (λ (w : List (StepOf Op)). meanings w) (take_there steps i step there is)
       ∙ map-append meaning (take i steps) (step ∷ [])
 
+  -- The meanings of all steps are those before a position, that of the step there, and the others.
   pub meanings_cut : meanings steps ≡ meanings (take i steps) ++ meaning step ∷ meanings (drop (i + 1) steps)
   meanings_cut = ap (λ (w : List (StepOf Op)). meanings w) (cut_there steps i step there is)
       ∙ map-append meaning (take i steps) (step ∷ drop (i + 1) steps)
@@ -51,6 +54,7 @@ peaks_step past (Cmt u) ss = refl
 peaks_step past (Quit u) ss = refl
 peaks_step past (Note u) ss = refl
 
+-- A run has one mark for each step, which says whether an attempt ends there.
 pub length-tops : {Op : Type 0} (ss : List (Step Op)) → length (tops ss) ≡ length ss
 length-tops [] = refl
 length-tops (s ∷ ss) = ap suc (length-tops ss)
@@ -62,15 +66,19 @@ tops_at [] rest s (suc i) d h = absurd (cc)
 tops_at {Op} (a ∷ ss) rest s zero d h = ap (λ (w : List (Step Op)). get_or (tops w) 0 d) h
 tops_at (a ∷ ss) rest s (suc i) d h = tops_at ss rest s i d h
 
+-- To drop the first meanings of steps is to take the meanings without the first steps.
 pub map_drop : {Op : Type 0} (steps : List (StepOf Op)) (i : ℕ) → drop i (meanings steps) ≡ meanings (drop i steps)
 map_drop steps i = drop-map meaning i steps
 
+-- Written steps have as many marks as there are steps.
 pub length-marks : {Op : Type 0} (steps : List (StepOf Op)) → length (tops (meanings steps)) ≡ length steps
 length-marks steps = length-tops (meanings steps) ∙ length-map steps meaning
 
+-- The own list of a transaction is no longer than the steps so far.
 pub own_within : {Op : Type 0} (t : Name) (steps : List (StepOf Op)) (i : ℕ) → length (own_of t (meanings (take i steps))) ≤ i
 own_within t steps i = omega (arith, own_short t (meanings (take i steps)), length-map (take i steps) meaning, length-take i steps)
 
+-- The attempt at a step depends only on the own lists.
 pub peak_same : {Op : Type 0} (top : Bool) (s : Step Op) (own own2 : Name → List (Item Op)) → ((t : Name) → own t ≡ own2 t) → peak_at top s own ≡ peak_at top s own2
 peak_same {Op} top (App t id op) own own2 h = ap (λ (w : List (Item Op)). cond top (record { tx = t; ops = w } ∷ []) []) (h t)
 peak_same top (Unapp u id) own own2 h = refl

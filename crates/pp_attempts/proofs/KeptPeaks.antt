@@ -113,9 +113,11 @@ applied_within {Op} past (s ∷ ss) p i n m =
       | inr behind ↦ applied_within (past ++ s ∷ []) ss p i behind m
     ])
 
+-- Each operation of an attempt was applied by its transaction.
 pub applied : {Op : Type 0} (ss : List (Step Op)) (p : Peak Op) (i : Item Op) → In p (peaks ss) → In i p.ops → In (App p.tx i.id i.op) ss
 applied ss p i n m = applied_within [] ss p i n m
 
+-- If the steps are orderly, entries of attempts with one id are equal.
 pub ids_tell : {Op : Type 0} (ss : List (Step Op)) → IsOrderly ss → IdsTell (peaks ss)
 ids_tell {Op} ss orderly p q i j of_p of_q in_p in_q same =
     let first = applied ss p i of_p in_p in
@@ -145,6 +147,7 @@ short_within {Op} past (s ∷ ss) p n =
       | inr behind ↦ let rest = short_within (past ++ s ∷ []) ss p behind in omega (arith, rest, grown)
     ]
 
+-- An attempt has at most as many operations as the run has steps.
 pub peak_short : {Op : Type 0} (ss : List (Step Op)) (p : Peak Op) → In p (peaks ss) → length p.ops ≤ length ss
 peak_short ss p n = let short = short_within [] ss p n in omega (arith, short)
 
@@ -188,6 +191,7 @@ at_most m P (Some n) k h below p = elim (apart n k) [ inl le ↦ (n, refl, le) |
     apart (suc n) zero = inr (omega arith)
     apart (suc n) (suc k) = elim (apart n k) [ inl le ↦ inl (omega arith) | inr lt ↦ inr (omega arith) ]
 
+-- There is only one least number below a bound with a property.
 pub one_least : (m : ℕ) (P : ℕ → Type 0) (v w : Option ℕ) → IsLeastBelow m P v → IsLeastBelow m P w → v ≡ w
 one_least m P None None h k = refl
 one_least m P None (Some n) h k = absurd (h n k.0 k.1)
@@ -240,6 +244,7 @@ module _ {Op State : Type 0} (O : Object Op State) (h : Option (Start Op)) (met 
       subst (λ (w : List (CommittedTx Op)). Allowed O (serial_ops w ++ ops items)) (sym front)
       (subst (λ (w : List (Item Op)). Allowed O (serial_ops early ++ ops w)) own allowed)
 
+  -- An attempt after which a committed transaction undid nothing is its last, and has a view.
   pub kept_peak : SeesKeptPeaks O h ss
   kept_peak past rest t id op earlier later a kept place n = (
     (let r = stands t id op [] past rest kept.top in

@@ -24,13 +24,16 @@ use Rattle.pp_attempts.proofs.Viewing.{below_next, explains_there, pairwise_as, 
 
 -- ---- what stands at a position
 
+-- An element that is written at a position is there.
 pub stand_written : {A : Type 0} (xs : List A) (i : ℕ) (x : A) → i < length xs → StandsAt (set xs i x) i x
 stand_written xs i x there = (omega (arith, there, length-set xs i x), sym (get_or-set_same xs i x x there))
 
+-- An element at a position other than the one that was written was there before.
 pub stand_before : {A : Type 0} (xs : List A) (i j : ℕ) (x y : A) → j ≢ i → StandsAt (set xs i x) j y → StandsAt xs j y
 stand_before xs i j x y other s = (let l = s.0 in omega (arith, l, length-set xs i x), s.1 ∙ get_or-set_other xs i j x y other)
 
 module _ {A B : Type 0} (R : A → B → Type 0) where
+  -- Elements at one position of lists that go together go together.
   pub pairwise_at : (xs : List A) (ys : List B) (i : ℕ) (x : A) (y : B) → Pairwise R xs ys → StandsAt xs i x → StandsAt ys i y → R x y
   pairwise_at [] ys i x y h s t = absurd (let l = s.0 in omega (arith, l))
   pairwise_at (a ∷ xs) [] i x y h s t = absurd h
@@ -40,6 +43,7 @@ module _ {A B : Type 0} (R : A → B → Type 0) where
       let k = t.0 in
       pairwise_at xs ys i x y h.1 (omega (arith, l), s.1) (omega (arith, k), t.1)
 
+  -- Lists of one length go together if the elements at each position do.
   pub pairwise_from : (xs : List A) (ys : List B) → length ys ≡ length xs → ((i : ℕ) (x : A) (y : B) → StandsAt xs i x → StandsAt ys i y → R x y) → Pairwise R xs ys
   pairwise_from [] [] e h = tt
   pairwise_from [] (b ∷ ys) e h = absurd (omega (arith, e))
@@ -118,6 +122,7 @@ module _ {Shape State Op Undo : Type 0} (o : Object Shape State Op Undo) (ps : L
           least n (omega (arith, is)) ((explains_there o shape D n s before p.ops).1 ((explains_there o shape D m s behind p.ops).0 e)))
       by p (Some k) least = let below = least.0 in (omega (arith, below), least.1, least.2)
 
+  -- A transaction without operations leaves the state the same.
   pub no_effect : (s : State) (l : List (Item Op)) → length l ≡ 0 → state_from o s (ops l) ≡ s
   no_effect s [] e = refl
   no_effect s (x ∷ l) e = absurd (omega (arith, e))
@@ -135,6 +140,7 @@ module _ {Shape State Op Undo : Type 0} (o : Object Shape State Op Undo) (ps : L
       pub done : (shape : Shape) (D : List (CommittedTx Op)) → IsStateAt o shape D number state → Pairwise (IsViewBelow number (rules_of o shape) D) ps old
           → (i : ℕ) (p : Peak Op) (v : View) → StandsAt ps i p → StandsAt views i v → (In i rest → ⊥) → IsViewBelow (number + 1) (rules_of o shape) D p v
 
+    -- Before a candidate is tried, the views are as they were.
     pub none_tried : (candidates : Candidates Op) → AreCandidates ps old candidates → AreViewsSoFar old (positions_of candidates.list.items)
     none_tried candidates h = record {
       long = refl;
@@ -146,6 +152,7 @@ module _ {Shape State Op Undo : Type 0} (o : Object Shape State Op Undo) (ps : L
           record { tx = now.tx; ops = now.ops; after = still_least number (Explains (rules_of o shape) D p.ops) v.after (λ none. out (h.all i v t none)) now.after };
     }
 
+    -- After all candidates are tried, the views are right for one more committed transaction.
     pub round_done : (views : List View) → length old ≡ length ps → AreViewsSoFar views [] → (shape : Shape) (D : List (CommittedTx Op)) → IsStateAt o shape D number state
         → Pairwise (IsViewBelow number (rules_of o shape) D) ps old → Pairwise (IsViewBelow (number + 1) (rules_of o shape) D) ps views
     round_done views count h shape D at before =
@@ -228,27 +235,33 @@ module _ {Op : Type 0} (ps : List (Peak Op)) (views : List View) (candidates : C
   among_them : In (get_or xs k nobody) candidates.list.items
   among_them = subst (λ (w : List Candidate). In (get_or xs k nobody) w) same (in_default xs k nobody there)
 
+  -- The position of a candidate is below the number of attempts.
   pub peak_within : (get_or xs k nobody).position < length ps
   peak_within = h.within (get_or xs k nobody).position (in_map (λ (c : Candidate). c.position) (get_or xs k nobody) candidates.list.items among_them)
 
+  -- The operations that a candidate does not share are at its range among the others.
   pub rest_there : (p : Peak Op) → StandsAt ps (get_or xs k nobody).position p → HasRest candidates.ops.items (get_or xs k nobody) p.ops
   rest_there p s = h.rests (get_or xs k nobody) p among_them s
 
+  -- The range of a candidate is within the operations of all candidates.
   pub others_within : ((get_or xs k nobody).from ≤ (get_or xs k nobody).to) × ((get_or xs k nobody).to ≤ length candidates.ops.items)
   others_within =
       let p = some_stands ps (get_or xs k nobody).position peak_within in
       let r = rest_there p.0 p.1 in
       (r.before, r.within)
 
+  -- The candidates from a position on are the one there and those after it.
   pub cut_at : drop k candidates.list.items ≡ get_or xs k nobody ∷ drop (k + 1) candidates.list.items
   cut_at = drop_more candidates.list.items k nobody there_too ∙ ap (λ (w : List Candidate). get_or w k nobody ∷ drop (k + 1) candidates.list.items) (sym same)
 
 -- ---- the candidates without those that have a number
 
+-- An option for which `is_some` is true is not none.
 pub some_is_not_none : (a : Option ℕ) → is_some a ≡ true → a ≡ None → ⊥
 some_is_not_none None some none = cc
 some_is_not_none (Some n) some none = cc
 
+-- An option for which `is_some` is false is none.
 pub not_some : (a : Option ℕ) → is_some a ≡ false → a ≡ None
 not_some None none = refl
 not_some (Some n) none = absurd cc
@@ -325,6 +338,7 @@ pub record IsSpent {Op : Type 0} (ps : List (Peak Op)) (rest : List ℕ) (applie
   pub rises : old ≤ new
   pub most : new + applied + 2 * sum_by (length_at ps) rest ≤ old + 2 * operations ps
 
+-- At the start of a round nothing is spent.
 pub nothing_spent : {Op : Type 0} (ps : List (Peak Op)) (rest : List ℕ) (applied old : ℕ) → applied ≡ 0 → sum_by (length_at ps) rest ≤ operations ps → IsSpent ps rest applied old old
 nothing_spent ps rest applied old none few = record { rises = omega arith; most = omega (arith, none, few) }
 
@@ -334,12 +348,14 @@ module _ {Op : Type 0} (ps : List (Peak Op)) (j : ℕ) (rest : List ℕ) (old no
   next : sum_by (length_at ps) (j ∷ rest) ≡ length p.ops + sum_by (length_at ps) rest
   next = sum_by-cons (length_at ps) j rest ∙ ap (λ (n : ℕ). n + sum_by (length_at ps) rest) (length_there ps j p here)
 
+  -- One tried candidate spends at most twice its operations, if no more than these are applied.
   pub one_spent : (applied : ℕ) → applied ≤ length p.ops → IsSpent ps rest applied old new
   one_spent applied some = record {
     rises = let low = spent.rises in omega (arith, low, back, rises);
     most = let most = spent.most in omega (arith, most, next, cost, bound, some);
   }
 
+  -- The ticks of a round are at most twice the operations of all attempts.
   pub spent_within : new ≤ old + 2 * operations ps
   spent_within = let most = spent.most in omega (arith, most, next, cost, bound)
 

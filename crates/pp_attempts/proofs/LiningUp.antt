@@ -19,6 +19,7 @@ use Rattle.pp_attempts.specs.Trying.{AreAlikeTo, AreApart, ArePositions, Candida
 use Rattle.pp_attempts.proofs.Fronts.{in_default}
 use Rattle.pp_attempts.proofs.Viewing.{below_next, operations_next}
 
+-- A position of a list has one element.
 pub stand_same : {A : Type 0} (xs : List A) (i : ℕ) (x y : A) → StandsAt xs i x → StandsAt xs i y → x ≡ y
 stand_same [] i x y a b = absurd (let l = a.0 in omega (arith, l))
 stand_same (z ∷ xs) zero x y a b = a.1 ∙ sym b.1
@@ -27,6 +28,7 @@ stand_same (z ∷ xs) (suc i) x y a b =
     let k = b.0 in
     stand_same xs i x y (omega (arith, l), a.1) (omega (arith, k), b.1)
 
+-- A position below the length of a list has an element.
 pub some_stands : {A : Type 0} (xs : List A) (i : ℕ) → i < length xs → (x : A) × StandsAt xs i x
 some_stands [] i there = absurd (omega (arith, there))
 some_stands (x ∷ xs) zero there = (x, (there, refl))
@@ -36,12 +38,15 @@ some_stands (x ∷ xs) (suc i) there =
 
 -- ---- a list with one element more
 
+-- An element of a list with one added at the end is in the list, or is the added one.
 pub in_last : {A : Type 0} (x y : A) (xs : List A) → In x (xs ++ y ∷ []) → In x xs ⊎ (x ≡ y)
 in_last x y xs n = elim (in_cases x xs (y ∷ []) n) [ inl a ↦ inl a | inr b ↦ elim b [ inl e ↦ inr e | inr never ↦ absurd never ] ]
 
+-- An element that is added at the end is in the list.
 pub in_end : {A : Type 0} (x : A) (xs : List A) → In x (xs ++ x ∷ [])
 in_end x xs = in_right x xs (x ∷ []) (inl refl)
 
+-- Distinct positions stay distinct with one more that is not among them.
 pub apart_more : (is : List ℕ) (j : ℕ) → AreApart is → (In j is → ⊥) → AreApart (is ++ j ∷ [])
 apart_more [] j h out = ((λ n. n), tt)
 apart_more (i ∷ is) j h out = (
@@ -51,11 +56,13 @@ apart_more (i ∷ is) j h out = (
 
 -- ---- the positions of peaks
 
+-- The length that is looked up at the position of an attempt is that of its operations.
 pub length_there : {Op : Type 0} (ps : List (Peak Op)) (i : ℕ) (p : Peak Op) → StandsAt ps i p → length_at ps i ≡ length p.ops
 length_there [] i p s = absurd (let l = s.0 in omega (arith, l))
 length_there {Op} (q ∷ ps) zero p s = ap (λ (w : Peak Op). length w.ops) (sym s.1)
 length_there (q ∷ ps) (suc i) p s = let l = s.0 in length_there ps i p (omega (arith, l), s.1)
 
+-- The positions of the first n attempts, with n itself, are those of the first n + 1.
 pub one_position_more : {Op : Type 0} (ps : List (Peak Op)) (n : ℕ) (is js : List ℕ) (p : Peak Op) → StandsAt ps n p → js ≡ is ++ n ∷ [] → ArePositions ps n is → ArePositions ps (n + 1) js
 one_position_more {Op} ps n is js p s e h = subst (λ (w : List ℕ). ArePositions ps (n + 1) w) (sym e) (record {
   apart = apart_more is n h.apart (λ m. let l = h.within n m in absurd (omega (arith, l)));
@@ -76,6 +83,7 @@ contains_in x [] c = absurd (let l = c.1 in omega (arith, l))
 contains_in x (y ∷ xs) (zero, l, e) = inl (sym e)
 contains_in x (y ∷ xs) (suc k, l, e) = inr (contains_in x xs (k, omega (arith, l), e))
 
+-- An element of a list is in each permutation of it.
 pub in_permuted : {A : Type 0} (xs ys : List A) (x : A) → IsPermutation xs ys → In x xs → In x ys
 in_permuted xs ys x p n = contains_in x ys (Contains-permutation xs ys x p (in_contains x xs n))
 
@@ -104,9 +112,11 @@ distinct_apart (i ∷ is) h = (same is h.0, distinct_apart is h.1)
     same (j ∷ js) a (inl e) = let two = sym (eq-eqb i j e) ∙ a.0 in cc
     same (j ∷ js) a (inr n) = same js a.1 n
 
+-- Distinct positions are distinct in each order.
 pub apart_permuted : (is js : List ℕ) → IsPermutation is js → AreApart is → AreApart js
 apart_permuted is js p h = distinct_apart js (IsDistinct-IsPermutation eqb eqb_flips is js p (apart_distinct is h))
 
+-- The positions of the first n attempts are so in each order.
 pub positions_permuted : {Op : Type 0} (ps : List (Peak Op)) (n : ℕ) (is js : List ℕ) → IsPermutation is js → ArePositions ps n is → ArePositions ps n js
 positions_permuted ps n is js p h = record {
   apart = apart_permuted is js p h.apart;
@@ -140,12 +150,14 @@ positions_more os cs ds k c there is pushed so =
     ∙ ap (λ (i : ℕ). map (λ (o : ℕ × ℕ). o.1) (take k os) ++ i ∷ []) is ∙ sym (map-append (λ (o : ℕ × ℕ). o.1) (take k os) (get_or os k (0, 0) ∷ []))
     ∙ ap (λ (w : List (ℕ × ℕ)). map (λ (o : ℕ × ℕ). o.1) w) (sym (take_more os k (0, 0) there))
 
+-- Each position in an order of all positions is below the number of attempts.
 pub position_within : {Op : Type 0} (ps : List (Peak Op)) (os rs : List (ℕ × ℕ)) (k : ℕ) → k < length os → os ≡ rs → ArePositions ps (length ps) (map (λ o. o.1) rs) → (get_or os k (0, 0)).1 < length ps
 position_within {Op} ps os rs k there same all = (subst (λ (w : List (ℕ × ℕ)). ArePositions ps (length ps) (map (λ o. o.1) w)) (sym same) all).within (get_or os k (0, 0)).1
     (in_map (λ (o : ℕ × ℕ). o.1) (get_or os k (0, 0)) os (in_default os k (0, 0) there))
 
 -- ---- the operations that are not shared
 
+-- The range of a candidate has the same operations if more operations are added at the end.
 pub rest_grows : {Op : Type 0} (l m : List Op) (c : Candidate) (items : List (Item Op)) → HasRest l c items → HasRest (l ++ m) c items
 rest_grows {Op} l m c items h =
     let before = h.before in

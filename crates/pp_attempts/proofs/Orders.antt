@@ -34,6 +34,7 @@ unapplied_there {Op} t i (Unapp u id ∷ ss) h = elim (names_tell u t) [
 ]
 unapplied_there t i (s ∷ ss) h = one_more t i s ss (unapplied_there t i ss h)
 
+-- Each item that a transaction applied is in one of its APP steps.
 pub applied_there : {Op : Type 0} (t : Name) (p : Item Op) (ss : List (Step Op)) → In p (applied_items t ss) → In (App t p.id p.op) ss
 applied_there t p [] h = absurd h
 applied_there {Op} t p (App u id op ∷ ss) h = elim (names_tell u t) [
@@ -131,6 +132,7 @@ module _ {Op : Type 0} (past rest : List (Step Op)) (s : Step Op) (orderly : IsO
   own_grows_by t (Quit u) is = own_quiet t past (Quit u) refl refl
   own_grows_by t (Note u) is = own_quiet t past (Note u) refl refl
 
+  -- One more orderly step changes an own list as the step says: it adds, removes or leaves.
   pub own_grows : (t : Name) → own_of t (past ++ s ∷ []) ≡ own_after t s (own_of t past)
   own_grows t = own_grows_by t s refl
 

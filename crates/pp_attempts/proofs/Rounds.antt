@@ -29,6 +29,7 @@ module _ {Shape State Op Undo : Type 0} (o : Object Shape State Op Undo) (ps : L
     pub round : AreViewsSoFar o ps number s old views (positions_of (drop k candidates.list.items))
     pub spent : IsSpent ps (positions_of (drop k candidates.list.items)) (length done) first now
 
+  -- A round begins with no candidate tried and nothing applied.
   pub round_begins : (done : List (AppliedOp Op Undo)) (first : ℕ) → done ≡ [] → MayBeNumbered o s ps old candidates → InRound 0 old done s first first
   round_begins done first none may = record {
     before = [];
@@ -40,6 +41,7 @@ module _ {Shape State Op Undo : Type 0} (o : Object Shape State Op Undo) (ps : L
   }
 
   module _ (k : ℕ) (views : List View) (done : List (AppliedOp Op Undo)) (t : State) (first now : ℕ) (h : InRound k views done t first now) where
+    -- The operations that are applied in a round may follow its state.
     pub may_stand : MayFollow o s (applied done)
     may_stand = may-first o s (applied done) (drop (length done) (ops h.before)) (subst (λ (w : List Op). MayFollow o s w)
         (sym (take-append-drop (length done) (ops h.before)) ∙ ap (λ (w : List Op). w ++ drop (length done) (ops h.before)) (sym h.furthest.front)) h.may)
@@ -52,9 +54,11 @@ module _ {Shape State Op Undo : Type 0} (o : Object Shape State Op Undo) (ps : L
       abbrev pub behind : List Candidate
       behind = drop (k + 1) candidates.list.items
 
+      -- The position of the candidate to try is below the number of attempts.
       pub position_within : at.position < length ps
       position_within = peak_within ps old candidates xs k same there may.are
 
+      -- The position of the candidate to try is below the number of views.
       pub view_within : at.position < length views
       view_within =
           let a = position_within in
@@ -83,6 +87,7 @@ module _ {Shape State Op Undo : Type 0} (o : Object Shape State Op Undo) (ps : L
       may_peak : MayFollow o s (ops p.ops)
       may_peak = may.may p (in_there ps at.position p here.0 here.1)
 
+      -- The operations of the candidate to try that are not shared are at its range.
       pub rest : HasRest candidates.ops.items at p.ops
       rest = rest_there ps old candidates xs k same there may.are p here
 
@@ -111,6 +116,7 @@ module _ {Shape State Op Undo : Type 0} (o : Object Shape State Op Undo) (ps : L
       -- the other operations are tried behind what is shared
       module _ (less : List (AppliedOp Op Undo)) (others : List Op) (enough : at.shared ≤ length done) (taken : less ≡ take at.shared done)
           (are : others ≡ take (at.to - at.from) (drop at.from candidates.ops.items)) where
+        -- The shared operations and the others are together those of the candidate's attempt.
         pub whole : applied less ++ others ≡ ops p.ops
         whole =
             let f = λ (w : Item Op). w.op in
@@ -120,6 +126,7 @@ module _ {Shape State Op Undo : Type 0} (o : Object Shape State Op Undo) (ps : L
             ∙ sym (map-append f (take at.shared p.ops) (drop at.shared p.ops))
             ∙ ap (λ (w : List (Item Op)). ops w) (take-append-drop at.shared p.ops)
 
+        -- The shared operations and the others may be tried from the state of the round.
         pub may_try : MayFollow o s (applied less ++ others)
         may_try = subst (λ (w : List Op). MayFollow o s w) (sym whole) may_peak
 
@@ -128,6 +135,7 @@ module _ {Shape State Op Undo : Type 0} (o : Object Shape State Op Undo) (ps : L
             let all = ap (λ (w : List Op). length w) whole in
             omega (arith, all, length-append (applied less) others, length-applied o less, length-ops p.ops)
 
+        -- To try one candidate keeps the ticks within twice the operations of all attempts.
         pub within_bound : (mid new : ℕ) → now ≤ mid → mid + length less ≡ now + length done → mid ≤ new → new ≤ mid + length others → new ≤ first + 2 * operations ps
         within_bound mid new back cost rises bound = spent_within ps at.position (positions_of behind) first now mid new (length done) (length less) p here spent_here back cost rises
             (let all = count in omega (arith, bound, all))
@@ -166,9 +174,11 @@ module _ {Shape State Op Undo : Type 0} (o : Object Shape State Op Undo) (ps : L
 
     -- ---- the round is over
 
+    -- A round is over if all candidates were tried.
     pub round_over : length candidates.list.items ≤ k → AreViewsSoFar o ps number s old views []
     round_over end = subst (λ (w : List Candidate). AreViewsSoFar o ps number s old views (positions_of w)) (drop_all k candidates.list.items end) h.round
 
+    -- After a round the views are right for one more committed transaction.
     pub views_after_round : length candidates.list.items ≤ k → MayBeNumbered o s ps old candidates → (shape : Shape) (D : List (CommittedTx Op)) → IsStateAt o shape D number s
         → Pairwise (IsViewBelow number (rules_of o shape) D) ps old → Pairwise (IsViewBelow (number + 1) (rules_of o shape) D) ps views
     views_after_round end may shape D at below = round_done o ps number s old views may.long (round_over end) shape D at below

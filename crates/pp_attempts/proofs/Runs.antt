@@ -101,9 +101,11 @@ module _ {Op State : Type 0} (O : Object Op State) where
       (run_traced h ss (past ++ a ∷ []) (then c a) (step_keeps O c a s r.0) (follow O h past c a s t r.0) r.1)
 
   module _ (h : Option (Start Op)) (met : StartMeets O h) where
+    -- The configuration after an accepted run is sound.
     pub sound_there : (ss : List (Step Op)) → RunsFrom O (first h) ss → Sound O (after h ss)
     sound_there ss r = run_keeps O ss (first h) (start_sound O h met) r
 
+    -- The configuration after an accepted run is what the steps say of it (`Traced`).
     pub traced_there : (ss : List (Step Op)) → RunsFrom O (first h) ss → Traced O h ss (after h ss)
     traced_there ss r = run_traced h ss [] (first h) (start_sound O h met) (start_traced h) r
 
@@ -112,9 +114,11 @@ module _ {Op State : Type 0} (O : Object Op State) where
       whole : RunsFrom O (first h) (past ++ s ∷ rest)
       whole = subst (λ (w : List (Step Op)). RunsFrom O (first h) w) there run
 
+      -- The steps before a step of an accepted run are accepted.
       pub front_runs : RunsFrom O (first h) past
       front_runs = run_front (first h) past (s ∷ rest) whole
 
+      -- Each step of an accepted run meets its criteria after the steps before it.
       pub met_there : Meets O (after h past) s
       met_there = run_at (first h) past rest s whole
 
@@ -145,5 +149,6 @@ module _ {Op State : Type 0} (O : Object Op State) where
         own_one : (e : LocalEntry Op) → e.mark ≡ Unpushed → own_items (e ∷ []) ≡ item e ∷ []
         own_one e m = ap (λ (b : Bool). map item (cond b (e ∷ []) [])) (ap is_own m)
 
+    -- The steps of an accepted run are orderly.
     pub orderly : (ss : List (Step Op)) → RunsFrom O (first h) ss → IsOrderly ss
     orderly ss r = record { once = applied_once ss r; last_first = undone_last ss r }

@@ -22,9 +22,11 @@ share_less {A} n m xs ys less alike = first xs ∙ ap (λ (w : List A). take m w
     first : (zs : List A) → take m zs ≡ take m (take n zs)
     first zs = sym (take-take m n zs less)
 
+-- If a list shares its first n elements with a list of at least n, it has at least n too.
 pub share_long : {A : Type 0} (n : ℕ) (xs ys : List A) → n ≤ length ys → Share n xs ys → n ≤ length xs
 share_long n xs ys within alike = let same = ap (λ w. length w) alike in omega (arith, within, same, length-take n xs, length-take n ys)
 
+-- Lists of items that share their first n items share their first n operations.
 pub share_ops : {Op : Type 0} (n : ℕ) (xs ys : List (Item Op)) → Share n xs ys → Share n (ops xs) (ops ys)
 share_ops {Op} n xs ys alike = take-map (λ (w : Item Op). w.op) n xs ∙ ap (λ (w : List (Item Op)). ops w) alike ∙ sym (take-map (λ (w : Item Op). w.op) n ys)
 
@@ -34,6 +36,7 @@ next_there {Op} x y l i a so_far there is = ap (λ (w : List Op). x ++ w) (cut_t
     ∙ ap (λ (w : List Op). w ++ a ∷ drop (i + 1) l) (sym so_far)
 
 module _ {Shape State Op Undo : Type 0} (o : Object Shape State Op Undo) where
+  -- One more operation adds one undo value: what it keeps in the state before it.
   pub kept-append : (s : State) (x : List Op) (a : Op)
       → kept_from o s (x ++ a ∷ []) ≡ kept_from o s x ++ o.upkeep.kept (state_from o s x) a ∷ []
   kept-append s [] a = refl
@@ -64,6 +67,7 @@ module _ {Shape State Op Undo : Type 0} (o : Object Shape State Op Undo) where
     few = let few = may.few in omega (arith, few, length-append x y);
   }
 
+  -- If nothing was applied, the state is the one at the start.
   pub nothing_stands : (s t : State) (done : List (AppliedOp Op Undo)) → done ≡ [] → t ≡ s → Stands o s done t
   nothing_stands s t done none e = subst (λ (w : List (AppliedOp Op Undo)). Stands o s w t) (sym none) (record { allowed = tt; kept = refl; leads = e })
 
@@ -101,6 +105,7 @@ module _ {Shape State Op Undo : Type 0} (o : Object Shape State Op Undo) where
       log_there = subst (λ (w : State). IsLog o w (may.before ++ x)) (sym trail.leads)
           (log_further s may.before x may.log trail.allowed (ranged-first o x y may.ranged))
 
+      -- The state that the first of some permitted operations led to is reached.
       pub reached_there : IsReached o t
       reached_there = record {
         ops = may.before ++ x;
@@ -113,10 +118,12 @@ module _ {Shape State Op Undo : Type 0} (o : Object Shape State Op Undo) where
 
     -- the next one
     module _ (s t : State) (x y : List Op) (a : Op) (us : List Undo) (may : MayFollow o s (x ++ a ∷ y)) (trail : IsTrail o s x us t) where
+      -- The next of some permitted operations fits the state that those before it led to.
       pub next_fits : IsTrue (o.fits (o.shape t) a)
       next_fits = subst (λ (w : Shape). IsTrue (o.fits w a)) (sym (ap o.shape trail.leads ∙ keeps_shape o laws.next_shape s x trail.allowed))
           (each-second (λ b. IsTrue (o.fits (o.shape s) b)) x (a ∷ y) may.fit).0
 
+      -- The next of some permitted operations is ranged.
       pub next_ranged : IsTrue (o.ranged a)
       next_ranged = (ranged-second o x (a ∷ y) may.ranged).0
 
@@ -157,9 +164,11 @@ module _ {Shape State Op Undo : Type 0} (o : Object Shape State Op Undo) where
 
   -- ---- how far a list is allowed
 
+  -- As many operations were applied as entries say that they were.
   pub length-applied : (done : List (AppliedOp Op Undo)) → length (applied done) ≡ length done
   length-applied done = length-map done (λ (w : AppliedOp Op Undo). w.op)
 
+  -- A list is applied as far as it is allowed if its next operation is not legal.
   pub furthest_stopped : (s t : State) (l y : List Op) (a : Op) (done : List (AppliedOp Op Undo)) → Stands o s done t → l ≡ applied done ++ a ∷ y
       → (IsLegal o t a → ⊥) → IsFurthest o s l done t
   furthest_stopped s t l y a done h whole differs =
@@ -175,6 +184,7 @@ module _ {Shape State Op Undo : Type 0} (o : Object Shape State Op Undo) where
             differs (subst (λ (w : State). IsLegal o w a) (sym h.leads) (allowed-second o s x (a ∷ []) (subst (λ (w : List Op). AllowedFrom o s w) one allowed)).0);
       }
 
+  -- A list that was applied as a whole is applied as far as it is allowed.
   pub furthest_whole : (s t : State) (l : List Op) (done : List (AppliedOp Op Undo)) → Stands o s done t → l ≡ applied done → IsFurthest o s l done t
   furthest_whole s t l done h whole =
       let n = length-applied done in
@@ -187,9 +197,11 @@ module _ {Shape State Op Undo : Type 0} (o : Object Shape State Op Undo) where
       }
 
   module _ (s t : State) (l : List Op) (done : List (AppliedOp Op Undo)) (h : IsFurthest o s l done t) where
+    -- A list that is allowed as far as its length is allowed as a whole.
     pub all_allowed : length done ≡ length l → AllowedFrom o s l
     all_allowed all = subst (λ (w : List Op). AllowedFrom o s w) (h.front ∙ ap (λ (k : ℕ). take k l) all ∙ take-length l) (h.stands).allowed
 
+    -- A list that is allowed less far than its length is not allowed as a whole.
     pub not_allowed : length done < length l → AllowedFrom o s l → ⊥
     not_allowed less allowed = h.stops less (allowed-first o s (take (length done + 1) l) (drop (length done + 1) l)
         (subst (λ (w : List Op). AllowedFrom o s w) (sym (take-append-drop (length done + 1) l)) allowed))
@@ -209,5 +221,6 @@ module _ {Shape State Op Undo : Type 0} (o : Object Shape State Op Undo) where
     first_alike m n less alike within taken = ap (λ (w : List (AppliedOp Op Undo)). applied w) taken ∙ sym (take-map (λ (w : AppliedOp Op Undo). w.op) n done)
         ∙ ap (λ (w : List Op). take n w) h.front ∙ take-take n (length done) l within ∙ alike
 
+  -- If nothing is applied any more, the state is the one at the start.
   pub back_again : (s t : State) (done : List (AppliedOp Op Undo)) → done ≡ [] → Stands o s done t → t ≡ s
   back_again s t done none h = h.leads ∙ ap (λ (w : List (AppliedOp Op Undo)). state_from o s (applied w)) none

@@ -60,6 +60,7 @@ turn_cut b bs at set m c v (d ∷ u) x e g wx ih ihs =
     inl (u, x, left, along b at s (bit_or s t) u (λ i a l h. in_first s t i h) (ih u (subst (λ (y : Call). Goes b at set m (y ∷ u)) (sym same) g)), wx)
 
 mutual
+  -- Calls that may follow a call in a body may follow the set after it.
   pub before : (b : Tree) (at set : ℕ) (m : Bool) (c : Call) (v : List Call) → Goes b at set m (c ∷ v) → Rest b at (shift b at set m c) v
   before Skip at set m c v (inl g) = absurd (cc (g.1))
   before Skip at set m c v (inr r) = elim r [ ]
@@ -73,6 +74,7 @@ mutual
   before (Star b) at set m c v (inr r) =
       star_cut b at set m c v r.0 r.1 r.2 r.3 r.4 (λ w g. before b at set (m || reaches false b at set false) c w g)
 
+  -- Calls that may follow a call in parts in turn may follow the set after it.
   pub before_turn : (bs : Trees) (at set : ℕ) (m : Bool) (c : Call) (v : List Call) → GoesInTurn bs at set m (c ∷ v) → RestInTurn bs at (shift_in_turn bs at set m c) v
   before_turn NoPart at set m c v (inl g) = absurd (cc (g.1))
   before_turn NoPart at set m c v (inr r) = elim r [ ]
@@ -87,6 +89,7 @@ mutual
       let t = shift_in_turn bs (at + nodes b) set (reaches false b at set m) c in
       inr (along_turn bs (at + nodes b) t (bit_or s t) v (λ i a l h. in_second s t i h) (before_turn bs (at + nodes b) set (reaches false b at set m) c v (inr r)))
 
+  -- Calls that may follow a call in one of some parts may follow the set after it.
   pub before_some : (bs : Trees) (at set : ℕ) (m : Bool) (c : Call) (v : List Call) → GoesOfSome bs at set m (c ∷ v) → RestOfSome bs at (shift_some bs at set m c) v
   before_some NoPart at set m c v (inl g) = elim (g.1) [ ]
   before_some NoPart at set m c v (inr r) = elim r [ ]

@@ -21,6 +21,7 @@ pub place_goes_on : (parts : List Body) (i : ℕ) (b : Body) (at next total : �
     → at + nodes_of_all (trees_of (drop i parts)) ≡ total → next + nodes_of_all (trees_of (drop (i + 1) parts)) ≡ total
 place_goes_on parts i b at next total lt is e so_far = let here = rw (part_at parts i b lt is) at so_far in omega (arith, e, here)
 
+-- After the last part of a body, the place is the one after all parts.
 pub place_ends : (parts : List Body) (i at total : ℕ) → length parts ≤ i → at + nodes_of_all (trees_of (drop i parts)) ≡ total → at ≡ total
 place_ends parts i at total le so_far = let here = rw (none_left parts i le) at so_far in omega (arith, here)
 
@@ -33,6 +34,7 @@ turn_goes_on parts i b so more total here at set c lt is e m so_far =
     ap (λ (x : Moves). first_then x (moves_in_turn rest here.1 set c)) m ∙ ap (λ (h : Moves × ℕ). first_then (first_then so h.0) (moves_in_turn rest h.1 set c)) e
     ∙ then_then so (moves (tree b) at set c) (moves_in_turn rest (at + nodes (tree b)) set c) ∙ rw (part_at parts i b lt is) at so_far
 
+-- After the last part in turn, the moves so far are all moves.
 pub turn_ends : (parts : List Body) (i : ℕ) (so total : Moves) (at set : ℕ) (c : Call) → length parts ≤ i
     → first_then so (moves_in_turn (trees_of (drop i parts)) at set c) ≡ total → so ≡ total
 turn_ends parts i so total at set c le so_far = sym (then_passing so) ∙ rw (none_left parts i le) at so_far
@@ -46,9 +48,11 @@ some_goes_on parts i b so more total here at set c lt is e m so_far =
     ap (λ (x : Moves). either x (moves_of_some rest here.1 set c)) m ∙ ap (λ (h : Moves × ℕ). either (either so h.0) (moves_of_some rest h.1 set c)) e
     ∙ either_either so (moves (tree b) at set c) (moves_of_some rest (at + nodes (tree b)) set c) ∙ rw (part_at parts i b lt is) at so_far
 
+-- After the last of some parts, the moves so far are all moves.
 pub some_ends : (parts : List Body) (i : ℕ) (so total : Moves) (at set : ℕ) (c : Call) → length parts ≤ i
     → either so (moves_of_some (trees_of (drop i parts)) at set c) ≡ total → so ≡ total
 some_ends parts i so total at set c le so_far = sym (either_nowhere so) ∙ rw (none_left parts i le) at so_far
 
+-- Pairs of equal moves and equal places are equal.
 pub pair_is : (a b : Moves) (m n : ℕ) → a ≡ b → m ≡ n → ◌≡◌ {A = Moves × ℕ} (a, m) (b, n)
 pair_is a b m n e f = ap (λ (x : Moves). (x, m)) e ∙ ap (λ (y : ℕ). (b, y)) f

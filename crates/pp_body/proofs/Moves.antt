@@ -143,6 +143,7 @@ mutual
       ∙ some_end m a.ended a.skips r.ended r.skips
 
 mutual
+  -- The set after a call is what one pass over the body finds (`moves`).
   pub shift_is : (b : Tree) (at set : ℕ) (m : Bool) (c : Call) → shift b at set m c ≡ after m (moves b at set c)
   shift_is Skip at set m c = nothing_after m
   shift_is (One p) at set m c = one_after m (matches p c) _
@@ -196,12 +197,14 @@ same_moves a b m f e s =
     ap (λ (x : ℕ). record { moved = x; fresh = a.fresh; ended = a.ended; skips = a.skips }) m ∙ ap (λ (x : ℕ). record { moved = b.moved; fresh = x; ended = a.ended; skips = a.skips }) f
     ∙ ap (λ (x : Bool). record { moved = b.moved; fresh = b.fresh; ended = x; skips = a.skips }) e ∙ ap (λ (x : Bool). record { moved = b.moved; fresh = b.fresh; ended = b.ended; skips = x }) s
 
+-- To join moves in turn is associative.
 pub then_then : (t a r : Moves) → first_then (first_then t a) r ≡ first_then t (first_then a r)
 then_then t a r =
     same_moves _ _
     (or_assoc t.moved (after t.ended a) (after (ends t.ended a) r) ∙ ap (λ (s : ℕ). bit_or t.moved s) (turn_set t.ended a.ended a.skips a.moved a.fresh r.moved r.fresh))
     (fresh_again t.skips a.skips t.fresh a.fresh r.fresh) (turn_end t.ended a.ended a.skips r.ended r.skips) (and_assoc t.skips a.skips r.skips)
 
+-- To join moves of alternatives is associative.
 pub either_either : (t a r : Moves) → either (either t a) r ≡ either t (either a r)
 either_either t a r =
     same_moves _ _ (or_assoc t.moved a.moved r.moved) (or_assoc t.fresh a.fresh r.fresh) (or_or t.ended a.ended r.ended) (or_or t.skips a.skips r.skips)
@@ -210,12 +213,15 @@ no_fresh : (e : Bool) (s : ℕ) → bit_or s (when e 0) ≡ s
 no_fresh true s = or_zero_r s
 no_fresh false s = or_zero_r s
 
+-- A part with only the empty word changes nothing after other moves.
 pub then_passing : (t : Moves) → first_then t passing ≡ t
 then_passing t =
     same_moves _ _ (ap (λ (s : ℕ). bit_or t.moved s) (sym (nothing_after t.ended)) ∙ or_zero_r t.moved) (no_fresh t.skips t.fresh) (and_all t.ended) (and_all t.skips)
 
+-- An alternative with no word changes nothing.
 pub either_nowhere : (t : Moves) → either t nowhere ≡ t
 either_nowhere t = same_moves _ _ (or_zero_r t.moved) (or_zero_r t.fresh) (or_nothing t.ended) (or_nothing t.skips)
 
+-- A part with only the empty word changes nothing before other moves.
 pub passing_then : (t : Moves) → first_then passing t ≡ t
 passing_then t = same_moves _ _ (or_zero_l _ ∙ or_zero_r t.moved) (or_zero_l t.fresh) (or_nothing t.ended) refl

@@ -22,14 +22,17 @@ GoesOfSome bs at set m v = ((m ≡ true) × WordOfSome bs v) ⊎ RestOfSome bs a
 abbrev pub Allowed : Bool → List Call → Type 0
 Allowed more v = (more ≡ true) ⊎ (v ≡ [])
 
+-- If two joined lists are empty, so is the first.
 pub left_is_empty : {A : Type 0} (u x : List A) → u ++ x ≡ [] → u ≡ []
 left_is_empty [] x e = refl
 left_is_empty (c ∷ u) x e = absurd (cc)
 
+-- If two joined lists are empty, so is the second.
 pub right_is_empty : {A : Type 0} (u x : List A) → u ++ x ≡ [] → x ≡ []
 right_is_empty [] x e = e
 right_is_empty (c ∷ u) x e = absurd (cc)
 
+-- A list with nothing more at its end is the list.
 pub nothing_more : {A : Type 0} (v : List A) → v ≡ v ++ []
 nothing_more [] = refl
 nothing_more (c ∷ v) = ap (λ w. c ∷ w) (nothing_more v)
@@ -64,6 +67,7 @@ one_reached more p at set m h =
     let some = some_call p in (some.0 ∷ [], inl (and_left more m h), inl (and_right more m h, (some.0, refl, some.1)))
 
 mutual
+  -- If `reaches` is true of a body, some calls that are permitted lead to its end.
   pub reached : (more : Bool) (b : Tree) (at set : ℕ) (m : Bool) → reaches more b at set m ≡ true → Reached more (λ v. Goes b at set m v)
   reached more Skip at set m h = ([], inr refl, inl (h, refl))
   reached more (One p) at set m h =
@@ -76,6 +80,7 @@ mutual
         | inr e ↦ star_reached more b at set m (reached more b at set false e)
       ]
 
+  -- If `reaches_in_turn` is true of parts, some calls that are permitted lead to their end.
   pub reached_in_turn : (more : Bool) (bs : Trees) (at set : ℕ) (m : Bool) → reaches_in_turn more bs at set m ≡ true → Reached more (λ v. GoesInTurn bs at set m v)
   reached_in_turn more NoPart at set m h = ([], inr refl, inl (h, refl))
   reached_in_turn more (Part b bs) at set m h =
@@ -85,6 +90,7 @@ mutual
         | inr r ↦ (rest.0, rest.1, inr (inr r))
       ]
 
+  -- If `reaches_some` is true of parts, some calls that are permitted lead to the end of one.
   pub reached_by_some : (more : Bool) (bs : Trees) (at set : ℕ) (m : Bool) → reaches_some more bs at set m ≡ true → Reached more (λ v. GoesOfSome bs at set m v)
   reached_by_some more NoPart at set m h = absurd (cc)
   reached_by_some more (Part b bs) at set m h =
@@ -94,6 +100,7 @@ mutual
       ]
 
 mutual
+  -- If permitted calls lead to the end of a body, `reaches` is true.
   pub reaching : (more : Bool) (b : Tree) (at set : ℕ) (m : Bool) (v : List Call) → Allowed more v → Goes b at set m v → reaches more b at set m ≡ true
   reaching more Skip at set m v a (inl h) = h.0
   reaching more Skip at set m v a (inr r) = elim r [ ]
@@ -104,6 +111,7 @@ mutual
   reaching more (Star b) at set m v a (inl h) = or_left m (reaches more b at set false) h.0
   reaching more (Star b) at set m v a (inr r) = or_right m (reaches more b at set false) (reaching more b at set false r.0 (allowed_left more v r.0 r.1 r.2 a) (inr r.3))
 
+  -- If permitted calls lead to the end of parts in turn, `reaches_in_turn` is true.
   pub reaching_in_turn : (more : Bool) (bs : Trees) (at set : ℕ) (m : Bool) (v : List Call) → Allowed more v → GoesInTurn bs at set m v → reaches_in_turn more bs at set m ≡ true
   reaching_in_turn more NoPart at set m v a (inl h) = h.0
   reaching_in_turn more NoPart at set m v a (inr r) = elim r [ ]
@@ -116,6 +124,7 @@ mutual
       (inl (reaching more b at set m w.0 (allowed_left more v w.0 w.1 w.2 a) (inr w.3), w.4))
   reaching_in_turn more (Part b bs) at set m v a (inr (inr r)) = reaching_in_turn more bs (at + nodes b) set (reaches more b at set m) v a (inr r)
 
+  -- If permitted calls lead to the end of one of some parts, `reaches_some` is true.
   pub reaching_by_some : (more : Bool) (bs : Trees) (at set : ℕ) (m : Bool) (v : List Call) → Allowed more v → GoesOfSome bs at set m v → reaches_some more bs at set m ≡ true
   reaching_by_some more NoPart at set m v a (inl h) = elim (h.1) [ ]
   reaching_by_some more NoPart at set m v a (inr r) = elim r [ ]

@@ -25,16 +25,19 @@ one_of s t i h =
       | inr n ↦ inr ((Decides-eqb (bit_at t i) 1).1 (omega (arith, m, n.1, bit_at-lt s i, bit_at-lt t i)))
     ]
 
+-- A place of the first set is in the union.
 pub in_first : (s t i : ℕ) → has s i ≡ true → has (bit_or s t) i ≡ true
 in_first s t i h =
     let e = (Decides-eqb (bit_at s i) 1).0 h in
     (Decides-eqb (bit_at (bit_or s t) i) 1).1 (bit_at_or s t i ∙ omega (arith, e, bit_at-lt t i))
 
+-- A place of the second set is in the union.
 pub in_second : (s t i : ℕ) → has t i ≡ true → has (bit_or s t) i ≡ true
 in_second s t i h =
     let e = (Decides-eqb (bit_at t i) 1).0 h in
     (Decides-eqb (bit_at (bit_or s t) i) 1).1 (bit_at_or s t i ∙ omega (arith, e, bit_at-lt s i))
 
+-- No place is in the empty set.
 pub none_has : (i : ℕ) → has 0 i ≡ true → ⊥
 none_has i h = let e = (Decides-eqb (bit_at 0 i) 1).0 h in let z = bit_at-zero i in omega arith
 
@@ -43,6 +46,7 @@ single k i h =
     let e = (Decides-eqb (bit_at (2 ^ k) i) 1).0 h in
     elim (eqb_tells i k) [ inl y ↦ y.1 | inr n ↦ absurd (omega (arith, e, bit_at-pow_other k i n.1)) ]
 
+-- The place k is in the set of k alone.
 pub single_has : (k : ℕ) → has (2 ^ k) k ≡ true
 single_has k = (Decides-eqb (bit_at (2 ^ k) k) 1).1 (bit_at-pow_same k)
 
@@ -51,6 +55,7 @@ abbrev pub Along : ℕ → ℕ → ℕ → ℕ → Type 0
 Along from until s t = (i : ℕ) → from ≤ i → i < until → has s i ≡ true → has t i ≡ true
 
 mutual
+  -- Words that follow from a set follow from each set with the same places in the body.
   pub along : (b : Tree) (at s t : ℕ) (v : List Call) → Along at (at + nodes b) s t → Rest b at s v → Rest b at t v
   along Skip at s t v f r = r
   along (One p) at s t v f r = (f at (omega arith) (omega arith) r.0, r.1)
@@ -58,11 +63,13 @@ mutual
   along (Alt bs) at s t v f r = along_some bs at s t v (λ i a l. f i a (omega arith)) r
   along (Star b) at s t v f r = (r.0, r.1, r.2, along b at s t r.0 (λ i a l. f i a (omega arith)) r.3, r.4)
 
+  -- Words that follow in turn from a set follow from each set with the same places in the parts.
   pub along_turn : (bs : Trees) (at s t : ℕ) (v : List Call) → Along at (at + nodes_of_all bs) s t → RestInTurn bs at s v → RestInTurn bs at t v
   along_turn NoPart at s t v f r = r
   along_turn (Part b bs) at s t v f (inl r) = inl (r.0, r.1, r.2, along b at s t r.0 (λ i a l. f i a (omega arith)) r.3, r.4)
   along_turn (Part b bs) at s t v f (inr r) = inr (along_turn bs (at + nodes b) s t v (λ i a l. f i (omega arith) (omega arith)) r)
 
+  -- Words that follow in one of some parts do so from each set with the same places in them.
   pub along_some : (bs : Trees) (at s t : ℕ) (v : List Call) → Along at (at + nodes_of_all bs) s t → RestOfSome bs at s v → RestOfSome bs at t v
   along_some NoPart at s t v f r = r
   along_some (Part b bs) at s t v f (inl r) = inl (along b at s t v (λ i a l. f i a (omega arith)) r)
@@ -119,6 +126,7 @@ ends_here b at set m h =
     let r = reached false b at set m h in
     elim r.1 [ inl e ↦ absurd (cc) | inr e ↦ subst (λ (v : List Call). Goes b at set m v) e r.2 ]
 
+-- If the empty word may follow, `reaches` is true of the body with no more calls.
 pub ended : (b : Tree) (at set : ℕ) (m : Bool) (u : List Call) → u ≡ [] → Goes b at set m u → reaches false b at set m ≡ true
 ended b at set m u e g = reaching false b at set m u (inr e) g
 
@@ -148,6 +156,7 @@ turn_after_second b bs at set m c v (inr r) = inr (inr r)
 
 -- what may follow the new set, with the call before it
 mutual
+  -- Calls that may follow the set after a call may follow with the call before them.
   pub after : (b : Tree) (at set : ℕ) (m : Bool) (c : Call) (v : List Call) → Rest b at (shift b at set m c) v → Goes b at set m (c ∷ v)
   after Skip at set m c v r = elim r [ ]
   after (One p) at set m c v r = inl (one_after p at m c v (m && matches p c) refl r.0 r.1)
@@ -156,6 +165,7 @@ mutual
   after (Star b) at set m c v r =
       subst (λ (w : List Call). Goes (Star b) at set m (c ∷ w)) (sym r.2) (star_after b at set m c r.0 r.1 r.4 (after b at set (m || reaches false b at set false) c r.0 r.3))
 
+  -- In parts in turn, calls that may follow the set after a call may follow with it before them.
   pub after_turn : (bs : Trees) (at set : ℕ) (m : Bool) (c : Call) (v : List Call) → RestInTurn bs at (shift_in_turn bs at set m c) v → GoesInTurn bs at set m (c ∷ v)
   after_turn NoPart at set m c v r = elim r [ ]
   after_turn (Part b bs) at set m c v (inl r) =
@@ -170,6 +180,7 @@ mutual
       let alone = second_alone at (nodes b) s t (at + nodes b + nodes_of_all bs) (lies b at set m c) in
       turn_after_second b bs at set m c v (after_turn bs (at + nodes b) set (reaches false b at set m) c v (along_turn bs (at + nodes b) (bit_or s t) t v alone r))
 
+  -- In one of some parts, calls that may follow the set after a call may do so with it before them.
   pub after_some : (bs : Trees) (at set : ℕ) (m : Bool) (c : Call) (v : List Call) → RestOfSome bs at (shift_some bs at set m c) v → GoesOfSome bs at set m (c ∷ v)
   after_some NoPart at set m c v r = elim r [ ]
   after_some (Part b bs) at set m c v (inl r) =

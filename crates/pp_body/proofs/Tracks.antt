@@ -92,6 +92,7 @@ sets_after_more : (b : Tree) (set : ℕ) (m : Bool) (w : List Call) (c : Call)
 sets_after_more b set m [] c = refl
 sets_after_more b set m (d ∷ w) c = ap (λ (x : List ℕ). shift b 0 set m d ∷ x) (sets_after_more b (shift b 0 set m d) false w c)
 
+-- The last state of a walk that took calls is its last set, and the body is not entered anew.
 pub last_is : (set : ℕ) (m : Bool) (ts : List ℕ) (d : ℕ) → 0 < length ts → last_state set m ts ≡ (get_or ts (length ts - 1) d, false)
 last_is set m [] d lt = absurd (omega arith)
 last_is set m (t ∷ []) d lt = refl
@@ -109,6 +110,7 @@ can_iff o b reached given c r taken some same is tracked =
     subst (λ (x : Option Tree). IsTrue r ↔ Begins x (taken ++ c ∷ [])) (sym some)
     (λ h. can_begins b taken c (sym value ∙ h), λ h. value ∙ begins_can b taken c h)
 
+-- The test of `complete` is true exactly if the calls that were taken are a word of the body.
 pub complete_iff : (o : Option Tree) (b : Tree) (reached given : List ℕ) (r : Bool) (taken : List Call) → o ≡ Some b → given ≡ reached
     → r ≡ reaches false b 0 (last_state 0 true given).0 (last_state 0 true given).1
     → IsTracked o taken reached → IsTrue r ↔ IsWord o taken
@@ -118,6 +120,7 @@ complete_iff o b reached given r taken some same is tracked =
     subst (λ (x : Option Tree). IsTrue r ↔ IsWord x taken) (sym some)
     (λ h. complete_is_word b taken (sym value ∙ h), λ h. value ∙ word_is_complete b taken h)
 
+-- With the set after one more call, a walk has taken this call.
 pub took : (o : Option Tree) (b : Tree) (reached pushed more given : List ℕ) (last : ℕ × Bool) (s : ℕ) (c : Call) (taken : List Call) → o ≡ Some b
     → more ≡ pushed → pushed ≡ reached ++ s ∷ [] → given ≡ reached → last ≡ last_state 0 true given → s ≡ shift b 0 last.0 last.1 c
     → IsTracked o taken reached → IsTracked o (taken ++ c ∷ []) more
@@ -137,6 +140,7 @@ back_from b taken c reached less (Some s) e none known =
     let all = sym e ∙ known ∙ sets_after_more b 0 true taken c in
     (same_from_push less (sets_after b 0 true taken) s (shift b 0 (state b 0 true taken).0 (state b 0 true taken).1 c) all).0
 
+-- Without its last set, a walk has not taken the last call.
 pub went_back : (o : Option Tree) (taken : List Call) (c : Call) (reached less : List ℕ) (s : Option ℕ) → reached ≡ less ++ option_to_list s → (IsNone s → length reached ≡ 0)
     → IsTracked o (taken ++ c ∷ []) reached → IsTracked o taken less
 went_back None taken c reached less s e none known = tt
@@ -146,5 +150,6 @@ zero_from : (m : ℕ) → (0 < m → ⊥) → m ≡ 0
 zero_from zero h = refl
 zero_from (suc m) h = absurd (h (omega arith))
 
+-- If a list is empty exactly if an option is none, and the option is none, its length is 0.
 pub none_empty : {X : Type 0} (r : Option X) (n m : ℕ) → IsSome r ↔ (0 < n) → n ≡ m → IsNone r → m ≡ 0
 none_empty r n m h e k = zero_from m (λ lt. cc (h.1 (subst (λ (x : ℕ). 0 < x) (sym e) lt), k))

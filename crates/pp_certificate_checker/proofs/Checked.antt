@@ -21,9 +21,11 @@ use Rattle.pp_certificate_checker.specs.Laws.{IsAllowedSoFar, ShowsAllowed}
 use Rattle.pp_certificate_checker.proofs.Pairs.{at_pair_map, at_pair_both}
 
 module _ {Shape Op : Type 0} where
+  -- Stages that are taken are equal if the results with them are.
   pub ok_is : (a b : Stage Shape Op) → ◌≡◌ {A = Step Shape Op} (Ok a) (Ok b) → a ≡ b
   ok_is a b e = cc
 
+  -- A stage that is taken is no refusal.
   pub not_ok : (a : Stage Shape Op) (b : Refusal) → ◌≡◌ {A = Step Shape Op} (Ok a) (Err b) → ⊥
   not_ok a b e = cc
 
@@ -52,6 +54,7 @@ module _ {Shape State Op Undo : Type 0} (o : Object Shape State Op Undo) where
       → IsAllowedSoFar o t
   is_sound t u r h = subst (λ (w : Stage Shape Op). IsAllowedSoFar o w) (sym (ok_is t u r)) h
 
+  -- Exchanges that are taken lead from an allowed list to a stage that is allowed so far.
   pub exchanged_sound : (shape : Shape) (is : List ℕ) (l : List (Item Op)) (count : ℕ)
       (t : Stage Shape Op) → IsAllowed o shape (ops l) → AreExchanged o shape l count is (Ok t)
       → IsAllowedSoFar o t
@@ -116,6 +119,7 @@ module _ {Shape State Op Undo : Type 0} (o : Object Shape State Op Undo) where
   serial_sound (Exchanged shape l count) n t h r = ended_sound shape l count n t h r
   serial_sound (Ended shape l count m) n t h r = absurd (not_ok t NotCertificate r)
 
+  -- A line that is taken keeps a stage allowed so far.
   pub taken_sound : IsLawful o → (s : Stage Shape Op) (line : Line Shape Op) (t : Stage Shape Op)
       → IsAllowedSoFar o s → IsTaken o s line (Ok t) → IsAllowedSoFar o t
   taken_sound laws s Blank t h r = is_sound t s r h
@@ -125,12 +129,15 @@ module _ {Shape State Op Undo : Type 0} (o : Object Shape State Op Undo) where
   taken_sound laws s (Serial n) t h r = serial_sound s n t h r
   taken_sound laws s Other t h r = absurd (not_ok t NotCertificate r)
 
+  -- Two verdicts that hold and are equal show the same.
   pub holds_is : (a b : Shown Shape State Op) → Holds a ≡ Holds b → a ≡ b
   holds_is a b e = cc
 
+  -- A verdict that holds is not a refusal.
   pub not_holds : (a : Shown Shape State Op) (n : ℕ) (f : Refusal) → Holds a ≡ Refused n f → ⊥
   not_holds a n f e = cc
 
+  -- The first entries of an allowed list show an allowed list and the state after it.
   pub shown_sound : (shape : Shape) (l : List (Item Op)) (count n : ℕ) → IsAllowed o shape (ops l)
       → ShowsAllowed o (shown o shape l count n)
   shown_sound shape l count n h =
@@ -150,6 +157,7 @@ module _ {Shape State Op Undo : Type 0} (o : Object Shape State Op Undo) where
       subst (λ (w : Shown Shape State Op). ShowsAllowed o w)
       (sym (holds_is h (shown o shape l count k) r)) (shown_sound shape l count k a)
 
+  -- An accepted certificate shows an allowed list and the state after it.
   pub read_sound : IsLawful o → {L : Type 0} (read : Reader L Shape Op) (n : ℕ)
       (s : Stage Shape Op) (lines : List L) (h : Shown Shape State Op) → IsAllowedSoFar o s
       → IsRead o read n s lines (Holds h) → ShowsAllowed o h

@@ -17,6 +17,7 @@ entry_small o (Entered shape list) p = one_or_none (o.fits shape p.op)
 entry_small o (Exchanged shape list count) p = omega arith
 entry_small o (Ended shape list count n) p = omega arith
 
+-- A line costs at most one operation.
 pub cost_small : {Shape State Op Undo : Type 0} (o : Object Shape State Op Undo)
     (s : Stage Shape Op) (line : Line Shape Op) → cost o s line ≤ 1
 cost_small o s Blank = omega arith

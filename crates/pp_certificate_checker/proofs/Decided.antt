@@ -140,6 +140,7 @@ module _ {Shape State Op Undo : Type 0} (o : Object Shape State Op Undo) where
   same_refusals : (f h : Refusal) → ◌≡◌ {A = Step Shape Op} (Err f) (Err h) → f ≡ h
   same_refusals f h e = cc
 
+  -- Lines have at most one verdict.
   pub read_once : {L : Type 0} (read : Reader L Shape Op) (n : ℕ) (s : Stage Shape Op)
       (lines : List L) (v w : Verdict Shape State Op) → IsRead o read n s lines v
       → IsRead o read n s lines w → v ≡ w
@@ -235,6 +236,7 @@ module _ {Shape State Op Undo : Type 0} (o : Object Shape State Op Undo) where
     taken_some s (Serial n) = serial_some s n
     taken_some s Other = (Err NotCertificate, refl)
 
+    -- Lines have a verdict.
     pub read_some : {L : Type 0} (read : Reader L Shape Op) (n : ℕ) (s : Stage Shape Op)
         (lines : List L) → (v : Verdict Shape State Op) × IsRead o read n s lines v
     read_some read n s [] = closing_some n (shown_at o s)

@@ -11,11 +11,13 @@ module _ {Shape State Op Undo : Type 0} (o : Object Shape State Op Undo) where
   cut n l = ap (λ (w : List (Item Op)). ops w) (sym (take-append-drop n l))
       ∙ map-append (λ (w : Item Op). w.op) (take n l) (drop n l)
 
+  -- The first entries of an allowed list are allowed.
   pub front_allowed : (shape : Shape) (n : ℕ) (l : List (Item Op)) → IsAllowed o shape (ops l) →
       IsAllowed o shape (ops (take n l))
   front_allowed shape n l h = allowed-first o (o.start shape) (ops (take n l)) (ops (drop n l))
       (subst (λ (w : List Op). IsAllowed o shape w) (cut n l) h)
 
+  -- The first entries of a ranged list are ranged.
   pub front_ranged : (n : ℕ) (l : List (Item Op)) → AllRanged o (ops l) →
       AllRanged o (ops (take n l))
   front_ranged n l h = ranged-first o (ops (take n l)) (ops (drop n l))

@@ -14,6 +14,7 @@ module _ {Shape State Op Undo : Type 0} (o : Object Shape State Op Undo) where
   abbrev at : Shape → List (Item Op) → ℕ → Stage Shape Op
   at shape l n = Exchanged shape l n
 
+  -- Exchanges that are taken are of pairs that swap, and lead to the exchanged list.
   pub turned : (shape : Shape) (is : List ℕ) (l : List (Item Op)) (count : ℕ) (t : Stage Shape Op)
       → AreExchanged o shape l count is (Ok t)
       → (t ≡ Exchanged shape (after_exchanges l is) (count + length is)) × ExchangesSwap o l is
@@ -36,6 +37,7 @@ module _ {Shape State Op Undo : Type 0} (o : Object Shape State Op Undo) where
   one_ranged (a ∷ b ∷ l) zero h = (h.1.0, (h.0, h.1.1))
   one_ranged (a ∷ b ∷ l) (suc i) h = (h.0, one_ranged (b ∷ l) i h.1)
 
+  -- The entries of a ranged list are ranged after exchanges.
   pub all_ranged : (is : List ℕ) (l : List (Item Op)) → AllRanged o (ops l)
       → AllRanged o (ops (after_exchanges l is))
   all_ranged [] l h = h

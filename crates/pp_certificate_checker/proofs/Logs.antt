@@ -5,11 +5,13 @@ use Rattle.pp_model.specs.Object.{Item, ops}
 use Rattle.pp_kind.specs.Object.{Object, IsLegal, IsLog, IsLawful}
 use Rattle.pp_kind.proofs.Lists.{log_grows}
 
+-- A fact that is true anyway is true if a result is `Ok`.
 pub on_ok : {A B : Type 0} (P : Type 0) (r : Result A B) → P → OnOk r P
 on_ok P (Ok a) p = p
 on_ok P (Err e) p = tt
 
 module _ {Shape State Op Undo : Type 0} (o : Object Shape State Op Undo) (laws : IsLawful o) where
+  -- A log goes on with an entry whose result is the object's.
   pub entry_logged : (s t : State) (l m : List (Item Op)) (p : Item Op) → IsLog o s (ops l) →
       IsTrue (o.fits (o.shape s) p.op) → IsTrue (o.ranged p.op) →
       o.gives s p.op ≡ o.recorded p.op → t ≡ o.next s p.op → m ≡ l ++ p ∷ [] → IsLog o t (ops m)
@@ -23,6 +25,7 @@ module _ {Shape State Op Undo : Type 0} (o : Object Shape State Op Undo) (laws :
       subst (λ (w : List (Item Op)). IsLog o t (ops w)) (sym k)
       (subst (λ (w : State). IsLog o w (ops (l ++ p ∷ []))) (sym e) there)
 
+-- A log is one of the same entries in the same state.
 pub unchanged_logged : {Shape State Op Undo : Type 0} (o : Object Shape State Op Undo) (s t : State)
     (l m : List (Item Op)) → IsLog o s (ops l) → t ≡ s → m ≡ l → IsLog o t (ops m)
 unchanged_logged {Shape} {State} {Op} {Undo} o s t l m h e k =

@@ -18,6 +18,7 @@ module _ {Shape State Op Undo : Type 0} (o : Object Shape State Op Undo) (shape 
       → IsOver shape t
   is_over t u r h = subst (λ (w : Stage Shape Op). IsOver shape w) (sym (ok_is t u r)) h
 
+  -- A head that is taken as the first line leads to a stage over its objects.
   pub head_over : (t : Stage Shape Op) → IsHeadTaken Fresh shape (Ok t) → IsOver shape t
   head_over t r = is_over t (Entered shape []) r refl
 
@@ -68,6 +69,7 @@ module _ {Shape State Op Undo : Type 0} (o : Object Shape State Op Undo) (shape 
   serial_over (Exchanged over l count) n t h r = ended_over over l count n t h r
   serial_over (Ended over l count m) n t h r = absurd (not_ok t NotCertificate r)
 
+  -- A line that is taken keeps the objects of the stage.
   pub taken_over : (s : Stage Shape Op) (line : Line Shape Op) (t : Stage Shape Op)
       → IsOver shape s → IsTaken o s line (Ok t) → IsOver shape t
   taken_over s Blank t h r = is_over t s r h

@@ -20,6 +20,7 @@ use Rattle.pp_certificate_checker.proofs.Kept.{turned}
 use Rattle.pp_certificate_checker.proofs.Rows.{length-after}
 
 module _ {Shape Op : Type 0} where
+  -- The entries of joined lines are those of the first, then those of the second.
   pub entries-append : (xs ys : List (Line Shape Op))
       → entries_of (xs ++ ys) ≡ entries_of xs ++ entries_of ys
   entries-append [] ys = refl
@@ -30,6 +31,7 @@ module _ {Shape Op : Type 0} where
   entries-append (Serial n ∷ xs) ys = entries-append xs ys
   entries-append (Other ∷ xs) ys = entries-append xs ys
 
+  -- The positions of joined lines are those of the first, then those of the second.
   pub positions-append : (xs ys : List (Line Shape Op))
       → positions_of (xs ++ ys) ≡ positions_of xs ++ positions_of ys
   positions-append [] ys = refl
@@ -42,6 +44,7 @@ module _ {Shape Op : Type 0} where
   positions-append (Serial n ∷ xs) ys = positions-append xs ys
   positions-append (Other ∷ xs) ys = positions-append xs ys
 
+  -- The serial numbers of joined lines are those of the first, then those of the second.
   pub serials-append : (xs ys : List (Line Shape Op))
       → serials_of (xs ++ ys) ≡ serials_of xs ++ serials_of ys
   serials-append [] ys = refl
@@ -298,6 +301,7 @@ module _ {Shape State Op Undo : Type 0} (o : Object Shape State Op Undo) (laws :
               ∙ ap (λ (w : Shape). shown o w (after_exchanges es ps) (length ps) n) (sym over);
         }
 
+  -- An accepted certificate shows just what its own lines say.
   pub shows_own : {L : Type 0} (read : Reader L Shape Op) (lines : List L)
       (h : Shown Shape State Op) → IsRead o read 1 Fresh lines (Holds h)
       → ShowsOwn o read lines h

@@ -4,6 +4,7 @@ use Rattle.std.proofs.Common.{[], ◌∷◌, length, refl, ap, arith, inl, inr}
 use Rattle.pp_certificate_exchanges.specs.Exchanges.{AtPair, exchanged}
 
 module _ {A : Type 0} where
+  -- A relation that follows from another holds at each position at which that one holds.
   pub at_pair_map : (P Q : A → A → Type 0) → ((a b : A) → P a b → Q a b) → (l : List A) (i : ℕ) →
       AtPair P l i → AtPair Q l i
   at_pair_map P Q f [] i h = elim h [ ]
@@ -19,6 +20,7 @@ module _ {A : Type 0} where
   at_pair_both P Q C f (a ∷ b ∷ l) zero h k = f a b h k
   at_pair_both P Q C f (a ∷ b ∷ l) (suc i) h k = at_pair_both P Q C f (b ∷ l) i h k
 
+  -- If a relation holds at a position, the next position is below the length of the list.
   pub at_pair_within : (P : A → A → Type 0) (l : List A) (i : ℕ) → AtPair P l i → i + 1 < length l
   at_pair_within P [] i h = elim h [ ]
   at_pair_within P (a ∷ []) i h = elim h [ ]
@@ -37,6 +39,7 @@ module _ {A : Type 0} where
     | inr (inr n) ↦ inr (inr (omega (arith, n)))
   ]
 
+  -- A value that is computed from a pair is that of the pair at the position.
   pub at_pair_named : {B : Type 0} (g : A → A → B) (Q : A → A → Type 0) (l : List A) (i : ℕ) →
       AtPair Q l i → (r : B) × AtPair (λ a b. Q a b × (r ≡ g a b)) l i
   at_pair_named g Q [] i h = elim h [ ]
@@ -44,6 +47,7 @@ module _ {A : Type 0} where
   at_pair_named g Q (a ∷ b ∷ l) zero h = (g a b, (h, refl))
   at_pair_named g Q (a ∷ b ∷ l) (suc i) h = at_pair_named g Q (b ∷ l) i h
 
+  -- An exchange keeps the length of a list.
   pub length-exchanged : (l : List A) (i : ℕ) → length (exchanged l i) ≡ length l
   length-exchanged [] i = refl
   length-exchanged (a ∷ []) i = refl
@@ -66,6 +70,7 @@ module _ {A : Type 0} where
   set_both (x ∷ y ∷ l) zero d h = refl
   set_both (x ∷ y ∷ l) (suc i) d h = ap (λ (w : List A). x ∷ w) (set_both (y ∷ l) i d (omega arith))
 
+  -- To swap neighbours is to exchange them.
   pub swap_is_exchange : (l : List A) (i : ℕ) → suc i < length l → swap l i (suc i) ≡ exchanged l i
   swap_is_exchange [] i h = absurd (omega arith)
   swap_is_exchange (x ∷ l) i h = set_both (x ∷ l) i x h

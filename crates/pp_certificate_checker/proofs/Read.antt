@@ -7,6 +7,7 @@ use Rattle.pp_certificate_checker.specs.Laws.{Leads}
 
 module _ {Shape State Op Undo L : Type 0} (o : Object Shape State Op Undo)
     (read : Reader L Shape Op) (more : List L) (v : Verdict Shape State Op) where
+  -- After lines that are taken, the verdict of all lines is that of the others.
   pub read_on : (lines : List L) (n : ℕ) (s t : Stage Shape Op) → Leads o read s lines t
       → IsRead o read (n + length lines) t more v → IsRead o read n s (lines ++ more) v
   read_on [] n s t h r =
@@ -22,6 +23,7 @@ module _ {Shape State Op Undo L : Type 0} (o : Object Shape State Op Undo)
 -- lines that are taken, and one more
 module _ {Shape State Op Undo L : Type 0} (o : Object Shape State Op Undo)
     (read : Reader L Shape Op) (line : L) where
+  -- Lines that are taken, and one more, lead to the stage after the last one.
   pub leads_on : (lines : List L) (s u t : Stage Shape Op) → Leads o read s lines u
       → IsTaken o u (read u line) (Ok t) → Leads o read s (lines ++ line ∷ []) t
   leads_on [] s u t h r =

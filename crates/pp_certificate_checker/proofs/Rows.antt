@@ -32,6 +32,7 @@ rows_split (i ∷ is) (suc room) row h =
     rows_split is room (row ++ i ∷ []) l
     ∙ ap (λ (w : List ℕ). w ∷ rows (drop room is)) (append_assoc row (i ∷ []) (take room is))
 
+-- The rows of some positions are the first thousand of them, then the rows of the others.
 pub rows_cut : (is : List ℕ) → 0 < length is → rows is ≡ take 1000 is ∷ rows (drop 1000 is)
 rows_cut [] h = absurd (omega arith)
 rows_cut (i ∷ is) h = rows_split is 999 (i ∷ []) (omega arith)
@@ -40,6 +41,7 @@ rows_cut (i ∷ is) h = rows_split is 999 (i ∷ []) (omega arith)
 abbrev pub Fits : List ℕ → Type 0
 Fits row = (0 < length row) × (length row ≤ 1000)
 
+-- Each row has 1 to a thousand positions.
 pub rows_fit : (is : List ℕ) (room : ℕ) (row : List ℕ) → length row + room ≡ 1000
     → 0 < length row ⊎ (room ≡ 1000) → Each Fits (rows_from room row is)
 rows_fit [] room [] e h = tt
@@ -50,6 +52,7 @@ rows_fit (i ∷ is) (suc room) row e h =
     let k : length (row ++ i ∷ []) ≡ length row + 1 = length-append row (i ∷ []) in
     rows_fit is room (row ++ i ∷ []) (omega arith) (inl (omega arith))
 
+-- If each element of joined lists has a property, so has each element of each list.
 pub each_joined : {A : Type 0} (P : A → Type 0) (xss : List (List A)) → Each P (joined xss)
     → Each (λ (xs : List A). Each P xs) xss
 each_joined P [] h = tt
@@ -74,11 +77,13 @@ positions_within R l (i ∷ is) h r =
           r.1,
     )
 
+-- Exchanges keep the length of a list.
 pub length-after : {A : Type 0} (l : List A) (is : List ℕ) →
     length (after_exchanges l is) ≡ length l
 length-after l [] = refl
 length-after l (i ∷ is) = length-after (exchanged l i) is ∙ length-exchanged l i
 
+-- If joined exchanges are of related pairs, so are the first, and the second after them.
 pub each_front : {A : Type 0} (R : A → A → Type 0) (l : List A) (is js : List ℕ)
     → EachExchange R l (is ++ js) → EachExchange R l is × EachExchange R (after_exchanges l is) js
 each_front R l [] js h = (tt, h)

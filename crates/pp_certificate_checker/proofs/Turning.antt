@@ -13,6 +13,7 @@ module _ {Shape State Op Undo : Type 0} (o : Object Shape State Op Undo) (shape 
   abbrev at : List (Item Op) → ℕ → Step Shape Op
   at l n = Ok (Exchanged shape l n)
 
+  -- After the last position, all exchanges are taken.
   pub all_taken : (l : List (Item Op)) → k ≡ length ps
       → AreExchanged o shape l (count + k) (drop k ps) (Ok (Exchanged shape l (count + length ps)))
   all_taken l e =
@@ -32,6 +33,7 @@ module _ {Shape State Op Undo : Type 0} (o : Object Shape State Op Undo) (shape 
     begins l r h =
         subst (λ (w : List ℕ). AreExchanged o shape l (count + k) w r) (sym left_is) h
 
+    -- A position without a next entry is refused.
     pub no_position : (l : List (Item Op)) → length l ≤ get_or ps k 0 + 1
         → AreExchanged o shape l (count + k) (drop k ps) (Err Position)
     no_position l h = begins l (Err Position) (inr (inr (h, refl)))
@@ -41,6 +43,7 @@ module _ {Shape State Op Undo : Type 0} (o : Object Shape State Op Undo) (shape 
       next : b ≡ get_or l (suc (get_or ps k 0)) b
       next = second ∙ ap (λ n. get_or l n b) (add-one (get_or ps k 0))
 
+      -- A position whose pair does not swap is refused, with the ids of the pair.
       pub no_swap : ¬ Swaps o a.op b.op
           → AreExchanged o shape l (count + k) (drop k ps) (Err (Pair a.id b.id))
       no_swap n =
@@ -48,6 +51,7 @@ module _ {Shape State Op Undo : Type 0} (o : Object Shape State Op Undo) (shape 
           begins l r (inr (inl (at_pair_at (λ x y. ¬ Swaps o x.op y.op × (r ≡ Err (Pair x.id y.id)))
           l (get_or ps k 0) a b there first next (n, refl))))
 
+      -- A position whose pair swaps is taken, and the next positions decide.
       pub one_swap : Swaps o a.op b.op → (m : List (Item Op))
           → m ≡ swap l (get_or ps k 0) (get_or ps k 0 + 1) → (r : Step Shape Op)
           → AreExchanged o shape m (count + (k + 1)) (drop (k + 1) ps) r

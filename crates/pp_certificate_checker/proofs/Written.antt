@@ -156,6 +156,7 @@ module _ {Shape State Op Undo : Type 0} (o : Object Shape State Op Undo) where
           e,
         )
 
+    -- The certificate of a sound configuration is accepted, and shows its serial run.
     pub written : IsLawful o → (c : Config Op) → Sound (rules_of o shape) c
         → length (log_of c) < 1_000_000 → Each (λ p. IsTrue (plain p)) (log_of c)
         → IsRead o read 1 Fresh (certificate_of write shape c) (Holds (shown_of o shape c))

@@ -12,6 +12,7 @@ down_to_last j (suc n) =
     let k : j + suc n ≡ suc j + n = omega arith in
     ap (λ i. i ∷ down_to j (suc n)) k ∙ ap (λ (w : List ℕ). (suc j + n) ∷ w) (down_to_last j n)
 
+-- There are n positions from j + n - 1 down to j.
 pub length_down_to : (j n : ℕ) → length (down_to j n) ≡ n
 length_down_to j zero = refl
 length_down_to j (suc n) = ap suc (length_down_to j n)
@@ -21,6 +22,7 @@ module _ {A : Type 0} where
   exchanged_cons a [] i = refl
   exchanged_cons a (b ∷ x) i = refl
 
+  -- An exchange at the position of a front's length turns the two elements after the front.
   pub exchanged_behind : (d : List A) (a b : A) (x : List A) →
       exchanged (d ++ a ∷ b ∷ x) (length d) ≡ d ++ b ∷ a ∷ x
   exchanged_behind [] a b x = refl
@@ -32,17 +34,20 @@ module _ {A : Type 0} where
   at_pair_cons R a [] i h = elim h [ ]
   at_pair_cons R a (b ∷ x) i h = h
 
+  -- A relation between the two elements after a front holds at the position of its length.
   pub at_pair_behind : (R : A → A → Type 0) (d : List A) (a b : A) (x : List A) → R a b →
       AtPair R (d ++ a ∷ b ∷ x) (length d)
   at_pair_behind R [] a b x h = h
   at_pair_behind R (c ∷ d) a b x h = at_pair_cons R c (d ++ a ∷ b ∷ x) (length d)
       (at_pair_behind R d a b x h)
 
+  -- The list after joined exchanges is the one after the second, from that after the first.
   pub after_join : (x : List A) (is js : List ℕ) →
       after_exchanges x (is ++ js) ≡ after_exchanges (after_exchanges x is) js
   after_join x [] js = refl
   after_join x (i ∷ is) js = after_join (exchanged x i) is js
 
+  -- Joined exchanges are each of related pairs if the first are, and the second are after them.
   pub each_join : (R : A → A → Type 0) (x : List A) (is js : List ℕ) → EachExchange R x is →
       EachExchange R (after_exchanges x is) js → EachExchange R x (is ++ js)
   each_join R x [] js h k = k
@@ -54,6 +59,7 @@ module _ {A : Type 0} where
   longer : (d : List A) (q : A) → length (d ++ q ∷ []) ≡ suc (length d)
   longer d q = length-append d (q ∷ []) ∙ omega arith
 
+  -- The exchanges of a draw bring an entry before all that it is drawn over.
   pub draw_ends : (j : ℕ) (d p : List A) (e : A) (s : List A) → length d ≡ j →
       after_exchanges (d ++ (p ++ e ∷ s)) (down_to j (length p)) ≡ d ++ e ∷ (p ++ s)
   draw_ends j d [] e s h = refl
@@ -68,6 +74,7 @@ module _ {A : Type 0} where
       ∙ ap (λ (w : List A). exchanged w j) there
       ∙ ap (λ i. exchanged (d ++ q ∷ e ∷ (p ++ s)) i) (sym h) ∙ exchanged_behind d q e (p ++ s)
 
+  -- Each exchange of a draw is of a related pair if all entries drawn over are related to it.
   pub draw_turns : (R : A → A → Type 0) (j : ℕ) (d p : List A) (e : A) (s : List A) → length d ≡ j →
       ((q : A) → In q p → R q e) → EachExchange R (d ++ (p ++ e ∷ s)) (down_to j (length p))
   draw_turns R j d [] e s h r = tt

@@ -16,6 +16,7 @@ module _ {Op State : Type 0} (O : Object Op State) where
       let h2 = one_exchange (before ++ a.op ∷ []) (b ∷ x) i k r h1 in
       rw append_assoc at h2
 
+  -- A list that is allowed stays so after exchanges of neighbours that swap.
   pub exchanges_allowed : (x : List (Item Op)) (is : List ℕ) (k : List Op) →
       EachExchange (ItemsSwap O) x is →
       Allowed O (ops x ++ k) → Allowed O (ops (after_exchanges x is) ++ k)

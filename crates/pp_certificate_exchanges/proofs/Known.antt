@@ -22,6 +22,7 @@ module _ {Op : Type 0} (log : List (Item Op)) (d : HasDistinctIds log) (i : ℕ)
   absent q j u = d q e (subst (λ (w : List (Item Op)). Before q e w) (sym split)
       (before_across q e (take i log) (e ∷ drop (i + 1) log) j (inl refl))) u
 
+  -- The position of an entry by its id is the one that it has in the log.
   pub position_is : position e.id log ≡ i
   position_is = ap (λ (w : List (Item Op)). position e.id w) split
       ∙ position_between e (take i log) (drop (i + 1) log) absent
@@ -54,5 +55,6 @@ apart k q Less h m = refl
 apart k q Equal h m = absurd (h m)
 apart k q Greater h m = refl
 
+-- Two different keys are not compared as equal.
 pub other_key : (k q : ℕ) → (k ≡ q → ⊥) → is_eq (nat_cmp k q) ≡ false
 other_key k q h = apart k q (nat_cmp k q) h (ranked k q (nat_cmp k q) refl)

@@ -38,6 +38,7 @@ all_bits : (n : ℕ) → Bits (replicate n 1)
 all_bits zero = tt
 all_bits (suc n) = (omega arith, all_bits n)
 
+-- A sum of marks that are 0 or 1 is at most their number.
 pub sum-bits : (ms : List ℕ) → Bits ms → sum ms ≤ length ms
 sum-bits [] b = omega arith
 sum-bits (m ∷ ms) b = omega (arith, sum-cons m ms, sum-bits ms b.1, b.0)
@@ -52,6 +53,7 @@ module _ {Op : Type 0} where
     pub after : kept (set ms n 0) x ≡ without e.id (kept ms x)
     pub bits : Bits (set ms n 0)
 
+  -- An entry that is left has a mark 1 at its position, and as many left ones before it.
   pub marked : (ms : List ℕ) (x : List (Item Op)) (e : Item Op) → Bits ms → HasDistinctIds x →
       In e (kept ms x) → (n : ℕ) × Marked ms x e n
   marked [] x e b d i = elim i [ ]
@@ -116,6 +118,7 @@ module _ {Op : Type 0} where
     pub counted : counts ++ passes (kept ms log) (drop i target) ≡ passes log target
 
 module _ {Op : Type 0} (log target : List (Item Op)) (h : Permutes log target) where
+  -- At first no entry of the target is drawn, and all are marked as left.
   pub draws_none : (counts : List ℕ) → counts ≡ [] →
       Draws log target (replicate (length log) 1) counts 0
   draws_none counts e = record {
@@ -137,15 +140,19 @@ module _ {Op : Type 0} (log target : List (Item Op)) (h : Permutes log target) w
     at : (n : ℕ) × Marked ms log e n
     at = marked ms log e d.bits h.distinct_x (permutes.back e (inl refl))
 
+    -- The next entry of the target is in the log.
     pub draw_in : In e log
     draw_in = in_kept ms log e (permutes.back e (inl refl))
 
+    -- The position of the next entry of the target is below the number of marks.
     pub draw_there : position e.id log < length ms
     draw_there = subst (λ n. n < length ms) (sym at.1.is) at.1.there
 
+    -- The next entry of the target is marked as left.
     pub draw_some : 0 < get_or ms (position e.id log) 0
     draw_some = subst (λ n. 0 < get_or ms n 0) (sym at.1.is) (omega (arith, at.1.one))
 
+    -- To draw the next entry adds its count and unmarks it.
     pub draws_more : (next : List ℕ) (r : ℕ) → r ≡ sum (take (position e.id log) ms) →
         next ≡ set ms (position e.id log) (get_or ms (position e.id log) 0 - 1) →
         Draws log target next (counts ++ r ∷ []) (i + 1)
@@ -203,6 +210,7 @@ passes_within {Op} x (e ∷ y) h k lt =
     by_place (suc k) lt n m a b c f = let l : k < length (passes (without e.id x) y) =
         omega arith in omega (arith, f k l)
 
+-- No more entries are drawn than the list has.
 pub few_passes : {Op : Type 0} (x y : List (Item Op)) → Permutes x y →
     length (passes x y) ≤ length x
 few_passes {Op} x y h = by_length (passes x y) (λ k l. passes_within x y h k l)
@@ -212,11 +220,13 @@ few_passes {Op} x y h = by_length (passes x y) (λ k l. passes_within x y h k l)
     by_length [] f = omega arith
     by_length (n ∷ ns) f = omega (arith, f (length ns) (omega arith))
 
+-- In an empty list no entry is drawn.
 pub empty_passes : {Op : Type 0} (x y : List (Item Op)) → length x ≡ 0 → Permutes x y →
     passes x y ≡ []
 empty_passes [] [] l h = refl
 empty_passes [] (e ∷ y) l h = absurd (h.back e (inl refl))
 empty_passes (z ∷ x) y l h = absurd (omega arith)
 
+-- Two values are equal if the options with them are.
 pub some_is : {A : Type 0} (a b : A) → Some a ≡ Some b → a ≡ b
 some_is a b e = cc

@@ -13,13 +13,16 @@ abbrev pub Absent : {Op : Type 0} → ℕ → List (Item Op) → Type 0
 Absent {Op} i x = (q : Item Op) → In q x → q.id ≡ i → ⊥
 
 module _ {Op : Type 0} where
+  -- The first entry of a list is at position 0.
   pub position_here : (e : Item Op) (x : List (Item Op)) → position e.id (e ∷ x) ≡ 0
   position_here e x = ap (λ (b : Bool). cond b 0 (suc (position e.id x))) (eq-eqb e.id e.id refl)
 
+  -- An entry of another id before a list makes each position in it one more.
   pub position_later : (i : ℕ) (e : Item Op) (x : List (Item Op)) → (e.id ≡ i → ⊥) →
       position i (e ∷ x) ≡ suc (position i x)
   position_later i e x h = ap (λ (b : Bool). cond b 0 (suc (position i x))) (ne_eqb e.id i h)
 
+  -- Entries of other ids before a list make each position in it as many more as they are.
   pub position_behind : (i : ℕ) (p x : List (Item Op)) → Absent i p →
       position i (p ++ x) ≡ length p + position i x
   position_behind i [] x a = sym (zero-add (position i x))
@@ -28,6 +31,7 @@ module _ {Op : Type 0} where
       ∙ ap suc (position_behind i p x (λ r j. a r (inr j)))
       ∙ sym (suc-add (length p) (position i x))
 
+  -- An entry between two lists, of an id that the first lacks, is at the length of the first.
   pub position_between : (e : Item Op) (p s : List (Item Op)) → Absent e.id p →
       position e.id (p ++ e ∷ s) ≡ length p
   position_between e p s a = position_behind e.id p (e ∷ s) a
@@ -56,6 +60,7 @@ module _ {Op : Type 0} where
   is_ahead_of_first e y q = ap (λ n. nat_lt (position q.id (e ∷ y)) n) (position_here e y)
       ∙ leb-suc-zero (position q.id (e ∷ y))
 
+  -- No entry is before the first one.
   pub ahead_of_first : (e : Item Op) (y x : List (Item Op)) → ahead e.id (e ∷ y) x ≡ 0
   ahead_of_first e y [] = refl
   ahead_of_first e y (q ∷ x) =

@@ -15,6 +15,7 @@ use Rattle.pp_certificate_exchanges.proofs.Positions.{Absent, position_behind, p
 use Rattle.pp_certificate_exchanges.proofs.Draws.{after_join, each_join, draw_ends, draw_turns, length_down_to}
 
 module _ {Op : Type 0} where
+  -- To leave out the entry between two lists joins them, if the first lacks its id.
   pub without_between : (e : Item Op) (p s : List (Item Op)) → Absent e.id p →
       without e.id (p ++ e ∷ s) ≡ p ++ s
   without_between e [] s a = ap (λ (b : Bool). cond b s (e ∷ without e.id s))
@@ -40,6 +41,7 @@ module _ {Op : Type 0} where
         in_right a p (e ∷ s) (inr j)
   ]
 
+  -- A pair in order in joined lists is in order with one more entry between them.
   pub before_wider : (a b e : Item Op) (p s : List (Item Op)) → Before a b (p ++ s) →
       Before a b (p ++ e ∷ s)
   before_wider a b e p s i = elim (before_cases a b p s i) [
@@ -68,6 +70,7 @@ module _ {Op : Type 0} where
       apart : (a : Item Op) → In a (p ++ s) → a.id ≡ e.id → ⊥
       apart a i u = elim (in_cases a p s i) [ inl j ↦ k a j u | inr j ↦ l a j u ]
 
+  -- A list is cut at the entry that is first in its permutation, and the rest permutes the rest.
   pub rounded : (x : List (Item Op)) (e : Item Op) (y : List (Item Op)) → Permutes x (e ∷ y) →
       Round x e y
   rounded x e y h =
@@ -88,6 +91,7 @@ module _ {Op : Type 0} where
             narrowed e c.0 c.1 y g before behind;
       }
 
+  -- A list that permutes to the empty one is empty.
   pub none_left : (x : List (Item Op)) → Permutes x [] → x ≡ []
   none_left [] h = refl
   none_left (e ∷ x) h = absurd (h.into e (inl refl))
@@ -114,6 +118,7 @@ module _ {Op : Type 0} where
       ap (λ (w : List ℕ). w ++ route_from (suc j) (after_exchanges now w) y) same
       ∙ ap (λ (w : List (Item Op)). down_to j (length p) ++ route_from (suc j) w y) end
 
+  -- After entries that are in place, the route leads to the target by exchanges of related pairs.
   pub leads : (R : Item Op → Item Op → Type 0) (y : List (Item Op)) (j : ℕ) (d x : List (Item Op)) →
       length d ≡ j → Permutes x y → HasDistinctIds (d ++ y) →
       ((p q : Item Op) → Before p q x → Before q p y → R p q) → Leads R j d x y
@@ -178,6 +183,7 @@ module _ {Op : Type 0} where
             | inr v ↦ v
           ]
 
+  -- The route from a list to a permutation of it leads there by exchanges of related pairs.
   pub route_leads : (R : Item Op → Item Op → Type 0) (x y : List (Item Op)) → Permutes x y →
       ((p q : Item Op) → Before p q x → Before q p y → R p q) → Leads R 0 [] x y
   route_leads R x y h r = leads R y 0 [] x refl h h.distinct_y r
@@ -193,22 +199,28 @@ module _ {Op : Type 0} (x y : List (Item Op)) (h : Permutes x y) where
   all : Leads (Inverted x y) 0 [] x y
   all = route_leads (Inverted x y) x y h (λ p q i j. (i, j))
 
+  -- The route from a list to a permutation of it ends in the permutation.
   pub route_ends : after_exchanges x (route x y) ≡ y
   route_ends = all.ends
 
+  -- Each exchange of a route is of an inverted pair.
   pub route_turns : EachExchange (Inverted x y) x (route x y)
   route_turns = all.turns
 
+  -- The route is determined by the counts of entries that each one is drawn over.
   pub route_counted : route x y ≡ route_passing 0 (passes x y)
   route_counted = all.counted
 
+  -- The entries that each one is drawn over are together as many as the inverted pairs.
   pub passes_counted : sum (passes x y) ≡ inverted x y
   passes_counted = all.number
 
+  -- A route has as many exchanges as there are inverted pairs.
   pub length_route : length (route x y) ≡ inverted x y
   length_route = ap (λ (w : List ℕ). length w) route_counted ∙ length_passing 0 (passes x y)
       ∙ passes_counted
 
+  -- Each exchange of a route is of a related pair if all inverted pairs are related.
   pub route_each : (R : Item Op → Item Op → Type 0) → ((p q : Item Op) → Inverted x y p q → R p q) →
       EachExchange R x (route x y)
   route_each R r = (route_leads R x y h (λ p q i j. r p q (i, j))).turns

@@ -12,6 +12,7 @@ use Rattle.pp_kind.specs.Object.{Object, IsLawful, IsRefutedBy, AllowedFrom, Swa
 use Rattle.pp_kind.specs.Object.{rules_of}
 use Rattle.pp_certificate_exchanges.specs.Laws.{log_of, target_of, TargetLaw}
 
+-- The shared log of a sound configuration may be reordered to its target.
 pub in_order : {Op State : Type 0} (O : model.Object Op State) (c : Config Op) → Sound O c →
     Reorders O (log_of c) (target_of c)
 in_order O c s = reorders O c.shared c.done (ordered O c s)
@@ -39,6 +40,7 @@ module _ {Shape State Op Undo : Type 0} (o : Object Shape State Op Undo) (laws :
   allowed_fits s shape (b ∷ l) a e h (inr i) =
       allowed_fits (o.next s b) shape l a (laws.next_shape s b h.0 ∙ e) h.1 i
 
+  -- Each entry of the shared log of a sound configuration fits the shape.
   pub log_fits : (shape : Shape) (c : Config Op) → Sound (rules_of o shape) c → (p : Item Op) →
       In p (log_of c) → IsTrue (o.fits shape p.op)
   log_fits shape c s p i =
@@ -52,6 +54,7 @@ module _ {Shape State Op Undo : Type 0} (o : Object Shape State Op Undo) (laws :
       stands g (z ∷ G) (inl e) = inl (ap (λ (w : SharedEntry Op). w.op) e)
       stands g (z ∷ G) (inr h) = inr (stands g G h)
 
+  -- The target of a sound configuration permutes its log, and inverted pairs of it swap.
   pub targets : TargetLaw o
   targets = record {
     permutes = λ shape c s.

@@ -18,6 +18,7 @@ use Rattle.pp_certificate_lines.specs.Lines.{line_bytes}
 use Rattle.pp_certificate_lines.specs.Reading.{reader, reader_of}
 use Rattle.pp_certificate_lines.proofs.Back.{named, spells}
 
+-- The lines of the certificate of a sound configuration are accepted.
 pub accepted : (catalog : Objects) (c : Config Op) → IsCatalog catalog
     → Sound (rules_of objects (kinds_of catalog)) c → length (log_of c) < 1_000_000
     → Each (λ p. IsTrue (can_state p)) (log_of c)

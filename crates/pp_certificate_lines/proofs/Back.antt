@@ -158,6 +158,7 @@ module _ (catalog : Objects) where
       let parts = and_parts (nat_le p.id 999_999_999) (objects.ranged p.op) h in
       grind (arith, nat_tests)
 
+  -- Each line of a certificate is read back as what it was written from.
   pub spells : IsCatalog catalog
       → Spells objects (kinds_of catalog) can_state (reader catalog) (line_bytes catalog)
   spells cat = record {

@@ -58,6 +58,7 @@ module _ (lines : List (List ℕ)) (line : List ℕ) where
         subst (λ (l : Line (List Kind) Op). IsTaken objects v.stage l (Ok t))
         (sym (as_first catalog)) h
 
+    -- After blank lines, one more blank line that is taken leaves only blank lines.
     pub blank_more : (w : So) → blank line ≡ true
         → Takes objects v (line_in (Before v) line) (Ok w) → CoversBlank (lines ++ line ∷ []) w
     blank_more w e h =
@@ -74,6 +75,7 @@ module _ (lines : List (List ℕ)) (line : List ℕ) where
           count = one_more v w cov.count h.1;
         }
 
+    -- The first line that is not blank, if it is taken, names the objects of the certificate.
     pub named_first : (catalog : Objects) (w : So) → blank line ≡ false
         → objects_on line ≡ Some catalog → Takes objects v (line_in (Before v) line) (Ok w)
         → CoversNamed (lines ++ line ∷ []) catalog w
@@ -96,6 +98,7 @@ module _ (lines : List (List ℕ)) (line : List ℕ) where
           count = one_more v w cov.count h.1;
         }
 
+    -- If the first line that is not blank is refused, so is each input that begins so.
     pub first_refused : (why : Refusal)
         → IsTaken objects v.stage (line_in (Before v) line) (Err why)
         → (more : List (List ℕ)) → IsVerdictOf objects (reader_of (lines ++ line ∷ more))
@@ -118,6 +121,7 @@ module _ (lines : List (List ℕ)) (line : List ℕ) where
     as_later (Exchanged kinds list count) h = refl
     as_later (Ended kinds list count n) h = refl
 
+    -- After the first line, one more line that is taken is of the same objects.
     pub later_more : (w : So) → Takes objects v (line_in (Within catalog v) line) (Ok w)
         → CoversNamed (lines ++ line ∷ []) catalog w
     later_more w h =
@@ -132,6 +136,7 @@ module _ (lines : List (List ℕ)) (line : List ℕ) where
           count = one_more v w cov.count h.1;
         }
 
+    -- If a later line is refused, so is each input that begins with these lines.
     pub later_refused : (why : Refusal)
         → IsTaken objects v.stage (line_in (Within catalog v) line) (Err why)
         → (more : List (List ℕ)) → IsVerdictOf objects (reader_of (lines ++ line ∷ more))
@@ -162,6 +167,7 @@ leads_next (Before v) line (Err why) h lines cov = first_refused lines line v co
 leads_next (Within catalog v) line (Err why) h lines cov =
     later_refused lines line catalog v cov why h
 
+-- A line that is taken leads on from all lines before it, and a refused one refuses the input.
 pub text_leads : (v : Checking) (line : List ℕ)
     (r : Result (Result Checking Refusal) OutOfMemory) → IfOk r (λ next. TakesLine v line next)
     → IfOk r (λ next. (lines : List (List ℕ)) → Covers lines v → LeadsOn lines line next)
@@ -198,6 +204,7 @@ module _ (lines : List (List ℕ)) where
   covered_verdict (Within catalog v) cov V closing =
       ends_with catalog v.stage V (named_here catalog v cov) cov.leads closing
 
+  -- An input of blank lines alone is refused at its end, as no certificate.
   pub blank_closes : (v : So) → CoversBlank lines v → Closes lines None
   blank_closes v cov =
       let none : shown_at objects v.stage ≡ None =
@@ -219,6 +226,7 @@ module _ (lines : List (List ℕ)) where
       let is : h ≡ shown objects over list count n = cc in
       ap (λ (x : Shown (List Kind) (List ObjectState) Op). x.shape) is ∙ o
 
+  -- An input that named its objects ends with what its stage shows, if that is something.
   pub named_closes : (catalog : Objects) (v : So)
       (found : Option (Shown (List Kind) (List ObjectState) Op))
       → found ≡ shown_at objects v.stage

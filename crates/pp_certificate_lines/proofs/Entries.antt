@@ -79,6 +79,7 @@ serial_entries (Entered over l) n t r = ended_entries over l 0 n t r
 serial_entries (Exchanged over l count) n t r = ended_entries over l count n t r
 serial_entries (Ended over l count m) n t r = absurd (not_ok t NotCertificate r)
 
+-- A line that is taken adds at most as many entries as it costs operations.
 pub entries_taken : (s t : At) (line : Line (List Kind) Op) → IsTaken objects s line (Ok t)
     → entries_at t ≤ entries_at s + cost objects s line
 entries_taken s t Blank r = entries_is t s (entries_at s + 0) r (omega arith)

@@ -27,6 +27,7 @@ all_fit states (p ∷ l) allowed = (
       (all_fit (objects.next states p.op) l allowed.1),
 )
 
+-- If a certificate shows an allowed list over its objects, all that it shows is of them.
 pub shown_named : (catalog : Objects) (h : Shown (List Kind) (List ObjectState) Op)
     → h.shape ≡ kinds_of catalog → ShowsAllowed objects h → IsShownOf catalog h
 shown_named catalog h is allowed =

@@ -33,6 +33,7 @@ same_of : {X : Type 0} (r : Result (Option X) OutOfMemory) (given : Option X)
 same_of (Ok o) given h = sym (same o) ∙ h
 same_of (Err refused) given h = tt
 
+-- A result that was found without a fault is the one that was read.
 pub same_found : {X : Type 0} (read given : Result X RecordFault) (r : Result (Option X) OutOfMemory)
     → Gives (λ x. x) read given → Finds read r → IfOk r (λ o. o ≡ found given)
 same_found read given r h k = same_of r (found given) (found_is (λ x. x) read given r h k)
@@ -47,10 +48,12 @@ behind_one : (list : List ℕ) (n : ℕ) (o : Option (List ℕ))
 behind_one list n None = refl
 behind_one list n (Some more) = ap (λ (l : List ℕ). Some l) (sym (append_assoc list (n ∷ []) more))
 
+-- The walk over the numbers of an array begins with none read.
 pub begins : (o : Option (List ℕ)) → behind [] o ≡ o
 begins None = refl
 begins (Some more) = refl
 
+-- The walk over the numbers of an array goes on after a value that is a number.
 pub goes_on : (list longer : List ℕ) (values : List Value) (i n : ℕ) (v : Value)
     (total : Option (List ℕ)) → i < length values → v ≡ get_or values i v
     → number_of (view v) ≡ Some n → longer ≡ list ++ n ∷ []
@@ -64,6 +67,7 @@ goes_on list longer values i n v total lt is h e so_far =
     rw (item_at values i v lt is, h) refl in
     ap (λ (l : List ℕ). behind l rest) e ∙ sym (behind_one list n rest) ∙ sym one ∙ so_far
 
+-- The walk over the numbers of an array stops at a value that is no number: the row is none.
 pub stops : (list : List ℕ) (values : List Value) (i : ℕ) (v : Value) (total : Option (List ℕ))
     → i < length values → v ≡ get_or values i v → number_of (view v) ≡ None
     → behind list (numbers_of (items_view (drop i values))) ≡ total → total ≡ None
@@ -73,6 +77,7 @@ stops list values i v total lt is h so_far =
     rw (item_at values i v lt is, h) refl in
     sym so_far ∙ one
 
+-- The walk over the numbers of an array ends with all numbers read.
 pub ends : (list : List ℕ) (values : List Value) (i : ℕ) (total : Option (List ℕ))
     → length values ≤ i → behind list (numbers_of (items_view (drop i values))) ≡ total
     → total ≡ Some list

@@ -25,6 +25,7 @@ length-bare lines = length-map lines (λ (l : NumberedLine). l.1)
 bare-append : (xs ys : List NumberedLine) → bare (xs ++ ys) ≡ bare xs ++ bare ys
 bare-append xs ys = map-append (λ (l : NumberedLine). l.1) xs ys
 
+-- The number of lines that were taken is the number of the lines so far.
 pub covers_count : (lines : List (List ℕ)) (now : Checking) → Covers lines now
     → (read_in now).lines ≡ length lines
 covers_count lines (Before v) cov = cov.count

@@ -37,6 +37,7 @@ one_place es distinct name i j at_i at_j =
     let second = name_at_place es j name distinct at_j in
     cc
 
+-- If `is_some` is false, the option is none.
 pub is_none_of : {A : Type 0} (o : Option A) → is_some o ≡ false → o ≡ None
 is_none_of None h = refl
 is_none_of (Some x) h = absurd (true≢false h)

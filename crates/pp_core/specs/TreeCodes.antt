@@ -56,6 +56,7 @@ only [] = Skip
 only (row ∷ st) = first_part row
 
 mutual
+  -- To read a written tree adds the tree to the row on top of the stack.
   pub read_back : (b : Tree) (k : List Token) (row : Trees) (st : List Trees)
       → read (written b k) (row ∷ st) ≡ read k (Part b row ∷ st)
   read_back Skip k row st = refl
@@ -64,6 +65,7 @@ mutual
   read_back (Alt bs) k row st = all_read_back bs (inl 3 ∷ k) (row ∷ st)
   read_back (Star b) k row st = read_back b (inl 4 ∷ k) NoPart (row ∷ st)
 
+  -- To read written trees onto an empty row makes this row the trees.
   pub all_read_back : (bs : Trees) (k : List Token) (st : List Trees)
       → read (all_written bs k) (NoPart ∷ st) ≡ read k (bs ∷ st)
   all_read_back NoPart k st = refl

@@ -48,6 +48,7 @@ by_members objects d =
     form_of objects d (option_map (λ e. as_seq (bodies_of objects e)) (get (codes "seq") d)) (option_map (λ e. as_alt (bodies_of objects e)) (get (codes "alt") d))
     (option_map (λ e. as_star (body_of objects e)) (get (codes "star") d))
 
+-- A body is read by the members of its object.
 pub body_is : (objects : Objects) (d : Data) → body_of objects d ≡ by_members objects d
 unfolding body_of forms
 body_is objects (object ms) = rw (seq_is objects ms, alt_is objects ms, star_is objects ms) refl
@@ -68,6 +69,7 @@ member_depth : (key : List ℕ) (ms : Members) (e : Data) → get_member key ms 
 member_depth key no_members e is = absurd (cc)
 member_depth key (member k d ms) e is = found_depth (slice_cmp nat_cmp key k) d ms e (get_member key ms) (λ h. member_depth key ms e h) is
 
+-- A member of an object is less deep than the object.
 pub get_falls : (key : List ℕ) (d e : Data) → get key d ≡ Some e → depth e < depth d
 get_falls key (object ms) e is = let le = member_depth key ms e is in omega arith
 get_falls key null e is = absurd (cc)
@@ -81,6 +83,7 @@ item_depth [] i v lt is = absurd (omega arith)
 item_depth (w ∷ vs) zero v lt is = let same : depth (view v) ≡ depth (view w) = ap (λ (x : Value). depth (view x)) is in omega arith
 item_depth (w ∷ vs) (suc i) v lt is = let le = item_depth vs i v (omega arith) is in omega arith
 
+-- A value of an array is less deep than the array.
 pub item_falls : (d : Data) (vs : List Value) (i : ℕ) (v : Value) → as_array d ≡ Some (items_view vs) → i < length vs → v ≡ get_or vs i v → depth (view v) < depth d
 item_falls (array ds) vs i v a lt is =
     let le = item_depth vs i v lt is in
@@ -96,6 +99,7 @@ item_falls (object ms) vs i v a lt is = absurd (cc)
 abbrev pub behind : List Tree → Result (List Tree) RecordFault → Result (List Tree) RecordFault
 behind before read = read >>= λ bs. Ok (before ++ bs)
 
+-- A value that is no array has no parts of a body.
 pub not_array : (objects : Objects) (d : Data) → as_array d ≡ None → bodies_of objects d ≡ Err BodyBad
 unfolding bodies_of
 not_array objects (array ds) e = absurd (cc)
@@ -109,6 +113,7 @@ nothing_before : (r : Result (List Tree) RecordFault) → behind [] r ≡ r
 nothing_before (Ok bs) = refl
 nothing_before (Err e) = refl
 
+-- The walk over the parts of a body begins with none read.
 pub begins : (objects : Objects) (d : Data) (vs : List Value) → as_array d ≡ Some (items_view vs) → behind [] (bodies_in objects (items_view (drop 0 vs))) ≡ bodies_of objects d
 unfolding bodies_of
 begins objects (array ds) vs a = let same : items_view vs ≡ ds = cc in nothing_before (bodies_in objects (items_view vs)) ∙ ap (λ (x : Items). bodies_in objects x) same
@@ -122,6 +127,7 @@ one_behind : (before : List Tree) (b : Tree) (r : Result (List Tree) RecordFault
 one_behind before b (Ok bs) = ap (λ (x : List Tree). Ok x) (append_assoc before (b ∷ []) bs)
 one_behind before b (Err e) = refl
 
+-- The walk over the parts of a body goes on after a part that is a body.
 pub goes_on : (objects : Objects) (before : List Tree) (values : List Value) (i : ℕ) (v : Value) (b : Tree) (total : Result (List Tree) RecordFault)
     → i < length values → v ≡ get_or values i v → body_of objects (view v) ≡ Ok b
     → behind before (bodies_in objects (items_view (drop i values))) ≡ total → behind (before ++ b ∷ []) (bodies_in objects (items_view (drop (i + 1) values))) ≡ total
@@ -130,6 +136,7 @@ goes_on objects before values i v b total lt is h so_far =
     let one : behind before (bodies_in objects (items_view (drop i values))) ≡ behind before (bodies_in objects (items_view (drop (i + 1) values)) >>= λ bs. Ok (b ∷ bs)) = rw (item_at values i v lt is, h) refl in
     one_behind before b (bodies_in objects (items_view (drop (i + 1) values))) ∙ sym one ∙ so_far
 
+-- The walk over the parts of a body stops at the first part with a fault.
 pub stops : (objects : Objects) (before : List Tree) (values : List Value) (i : ℕ) (v : Value) (e : RecordFault) (total : Result (List Tree) RecordFault)
     → i < length values → v ≡ get_or values i v → body_of objects (view v) ≡ Err e
     → behind before (bodies_in objects (items_view (drop i values))) ≡ total → total ≡ Err e
@@ -138,6 +145,7 @@ stops objects before values i v e total lt is h so_far =
     let one : behind before (bodies_in objects (items_view (drop i values))) ≡ Err e = rw (item_at values i v lt is, h) refl in
     sym so_far ∙ one
 
+-- The walk over the parts of a body ends with all parts read.
 pub ends : (objects : Objects) (before : List Tree) (values : List Value) (i : ℕ) (total : Result (List Tree) RecordFault)
     → length values ≤ i → behind before (bodies_in objects (items_view (drop i values))) ≡ total → total ≡ Ok before
 unfolding bodies_in

@@ -49,6 +49,7 @@ pub behind_any : {A B : Type 0} (r : Result A RecordFault) (f : A → Result B R
 behind_any (Ok a) f Q h = h a
 behind_any (Err e) f Q h = tt
 
+-- If what an option has has a property, so has what is read of it without a fault.
 pub found : {A : Type 0} (o : Option A) (fault : RecordFault) (P : A → Type 0) → IfSome o P → IfOk (ok_or o fault) P
 found (Some a) fault P p = p
 found None fault P p = tt
@@ -63,6 +64,7 @@ small_number (pos n) = by (nat_le n 999_999_999) refl
     by true e = let small : n ≤ 999_999_999 = grind (arith, common_steps) in small
     by false e = tt
 
+-- An id that is read is at most 999,999,999.
 pub small_id : (value : Data) → IfOk (id_of value) (λ id. id ≤ 999_999_999)
 unfolding id_of
 small_id value =
@@ -85,6 +87,7 @@ under_name catalog text one h =
     option_and_then_some (λ name. option_and_then (object_at catalog) (place_of name catalog)) (name_from text) one h
     (λ name is found. option_and_then_some (object_at catalog) (place_of name catalog) one found (λ place at there. at_place catalog place one there))
 
+-- An object that is found by its name is in the catalog.
 pub named_there : (catalog : Objects) (text : List ℕ) → IfSome (object_named catalog text) (IsThere catalog)
 named_there catalog text = by (object_named catalog text) refl
   where
@@ -107,6 +110,7 @@ call_there place kind value =
 abbrev pub IsReadableOp : Objects → Op → Type 0
 IsReadableOp catalog op = IsTrue (objects.fits (kinds_of catalog) op) × IsTrue (objects.ranged op)
 
+-- An operation that is read fits the catalog and is ranged.
 pub readable_op : (catalog : Objects) (value : Data) → IfOk (op_of catalog value) (IsReadableOp catalog)
 unfolding op_of
 readable_op catalog value =
@@ -118,6 +122,7 @@ readable_op catalog value =
     let stands : slice_get (kinds_of catalog) c.object ≡ Some one.1 = subst (λ (k : ℕ). slice_get (kinds_of catalog) k ≡ Some one.1) (sym place) there in
     (fits_there (kinds_of catalog) one.1 c answer op stands made, made.ranged)))))))
 
+-- An item that is read has an id in range and an operation of the catalog.
 pub readable_item : (catalog : Objects) (value : Data) → IfOk (item_of catalog value) (IsReadableItem catalog)
 unfolding item_of
 readable_item catalog value =
@@ -147,6 +152,7 @@ all_more catalog before (item value values) all =
     (λ items more. (omega (arith, h.0, more.0), more.1))
     (all_more catalog longer values h.1))
 
+-- A number for which the limit is no fault is within the limit.
 pub within : (most n : ℕ) (fault : RecordFault) → IfOk (fault_if (nat_lt most n) fault) (λ _. n ≤ most)
 within most n fault = by (nat_lt most n) refl
   where
@@ -154,6 +160,7 @@ within most n fault = by (nat_lt most n) refl
     by true e = tt
     by false e = let few : n ≤ most = grind (arith, common_steps) in few
 
+-- The items of a start that are read are in range and within the limit.
 pub readable_ops : (catalog : Objects) (value : Data) → IfOk (ops_of catalog value) (AreReadable catalog)
 unfolding ops_of
 readable_ops catalog value =
@@ -188,11 +195,13 @@ pub in_either_version : (P : Option Start → Type 0) (version : Version) (catal
 in_either_version P First catalog value none some = none
 in_either_version P Second catalog value none some = some
 
+-- A start that is read in either version keeps to the ranges and the limit.
 pub versioned_readable : (version : Version) (catalog : Objects) (value : Data) → IfOk (versioned_start version catalog value) (IsReadableStart catalog)
 unfolding optional_start
 versioned_readable version catalog value =
     in_either_version (IsReadableStart catalog) version catalog value tt (given_readable catalog (get (member_word members.Start) value))
 
+-- The start of a header that is read keeps to the ranges and the limit.
 pub header_readable : (line : List ℕ) → IfOk (header_of line) (λ h. IsReadableStart h.catalog h.start)
 unfolding header_of
 header_readable line =
@@ -203,5 +212,6 @@ header_readable line =
     behind_any (catalog_of value) _ _ (λ catalog.
     behind (versioned_start version catalog value) _ (IsReadableStart catalog) _ (versioned_readable version catalog value) (λ start h. h))))))
 
+-- A header that is read from a line has a start within the ranges and the limit.
 pub start_law : (line : List ℕ) (h : Header) → header_of line ≡ Ok h → IsReadableStart h.catalog h.start
 start_law line h read = IfOk-at_ok (λ h. IsReadableStart h.catalog h.start) read (header_readable line)

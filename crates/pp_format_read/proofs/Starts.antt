@@ -11,6 +11,7 @@ use Rattle.pp_format_read.specs.declared.fault.RecordFault.{RecordFault}
 use Rattle.pp_format_read.specs.Starts.{with_element, elements_in}
 use Rattle.pp_format_read.proofs.Objects.{item_at}
 
+-- The walk over the items of a start goes on after a value that is an item.
 pub goes_on : (catalog : Objects) (before longer : List (Item Op)) (values : List Value) (i : ℕ) (v : Value) (total : Result (List (Item Op)) RecordFault)
     → i < length values → v ≡ get_or values i v → with_element catalog before (view v) ≡ Ok longer
     → elements_in catalog before (items_view (drop i values)) ≡ total → elements_in catalog longer (items_view (drop (i + 1) values)) ≡ total
@@ -19,6 +20,7 @@ goes_on catalog before longer values i v total lt is h so_far =
     let one : elements_in catalog before (items_view (drop i values)) ≡ elements_in catalog longer (items_view (drop (i + 1) values)) = rw (item_at values i v lt is, h) refl in
     sym one ∙ so_far
 
+-- The walk over the items of a start stops at the first value with a fault.
 pub stops : (catalog : Objects) (before : List (Item Op)) (values : List Value) (i : ℕ) (v : Value) (e : RecordFault) (total : Result (List (Item Op)) RecordFault)
     → i < length values → v ≡ get_or values i v → with_element catalog before (view v) ≡ Err e
     → elements_in catalog before (items_view (drop i values)) ≡ total → total ≡ Err e
@@ -27,6 +29,7 @@ stops catalog before values i v e total lt is h so_far =
     let one : elements_in catalog before (items_view (drop i values)) ≡ Err e = rw (item_at values i v lt is, h) refl in
     sym so_far ∙ one
 
+-- The walk over the items of a start ends with all items read.
 pub ends : (catalog : Objects) (before : List (Item Op)) (values : List Value) (i : ℕ) (total : Result (List (Item Op)) RecordFault)
     → length values ≤ i → elements_in catalog before (items_view (drop i values)) ≡ total → total ≡ Ok before
 unfolding elements_in

@@ -15,6 +15,7 @@ is_name_test text h =
     let bytes = h.bytes in
     grind (arith, common_steps)
 
+-- A text for which `is_name` is true is a name.
 pub is_name_fact : (text : List ℕ) → is_name text ≡ true → IsName text
 is_name_fact text e =
     let some : 1 ≤ length text = grind (arith, common_steps) in

@@ -5,33 +5,40 @@ use Rattle.pp_kind.specs.Object.{Object, IsLegal, AllowedFrom, state_from, IsAll
 use Rattle.pp_kind.specs.Object.{AllRanged, Swaps, SwapsNowhere, IsRefutedBy, Commutes, IsLog}
 
 module _ {Shape State Op Undo : Type 0} (o : Object Shape State Op Undo) where
+  -- The state after joined lists is that after the second, from the state after the first.
   pub state-append : (s : State) (x y : List Op)
       → state_from o s (x ++ y) ≡ state_from o (state_from o s x) y
   state-append s [] y = refl
   state-append s (a ∷ x) y = state-append (o.next s a) x y
 
+  -- If joined lists are allowed, so is the first.
   pub allowed-first : (s : State) (x y : List Op) → AllowedFrom o s (x ++ y) → AllowedFrom o s x
   allowed-first s [] y h = tt
   allowed-first s (a ∷ x) y h = (h.0, allowed-first (o.next s a) x y h.1)
 
+  -- If joined lists are allowed, so is the second from the state after the first.
   pub allowed-second : (s : State) (x y : List Op) → AllowedFrom o s (x ++ y)
       → AllowedFrom o (state_from o s x) y
   allowed-second s [] y h = h
   allowed-second s (a ∷ x) y h = allowed-second (o.next s a) x y h.1
 
+  -- Joined lists are allowed if the first is, and the second is from the state after it.
   pub allowed-append : (s : State) (x y : List Op) → AllowedFrom o s x
       → AllowedFrom o (state_from o s x) y → AllowedFrom o s (x ++ y)
   allowed-append s [] y h k = k
   allowed-append s (a ∷ x) y h k = (h.0, allowed-append (o.next s a) x y h.1 k)
 
+  -- If joined lists are ranged, so is the first.
   pub ranged-first : (x y : List Op) → AllRanged o (x ++ y) → AllRanged o x
   ranged-first [] y h = tt
   ranged-first (a ∷ x) y h = (h.0, ranged-first x y h.1)
 
+  -- If joined lists are ranged, so is the second.
   pub ranged-second : (x y : List Op) → AllRanged o (x ++ y) → AllRanged o y
   ranged-second [] y h = h
   ranged-second (a ∷ x) y h = ranged-second x y h.1
 
+  -- Two ranged lists joined are ranged.
   pub ranged-append : (x y : List Op) → AllRanged o x → AllRanged o y → AllRanged o (x ++ y)
   ranged-append [] y h k = k
   ranged-append (a ∷ x) y h k = (h.0, ranged-append x y h.1 k)
@@ -77,6 +84,7 @@ module _ {Shape State Op Undo : Type 0} (o : Object Shape State Op Undo) where
         (λ k. (last_is_legal (o.shape s) s x a h.is k).1),
       ))
 
+  -- If a log is allowed with an operation at its end, this operation is legal in its state.
   pub legal_of_allowed : (s : State) (x : List Op) (a : Op) (seen : Shape × List Op)
       → (o.shape s, x) ≡ seen → IsLog o s x → IsAllowed o seen.0 (seen.1 ++ a ∷ []) → IsLegal o s a
   legal_of_allowed s x a seen e h =
@@ -134,6 +142,7 @@ module _ {Shape State Op Undo : Type 0} (o : Object Shape State Op Undo) where
       allowed-second (o.start sh) before (b ∷ a ∷ l)
       ((swaps sh).always before l (allowed-append (o.start sh) before (a ∷ b ∷ l) h k))
 
+  -- A pair swaps if it may be turned in each state that an allowed list reaches.
   pub swaps_where_turned : (a b : Op)
       → ((sh : Shape) (before : List Op) → IsAllowed o sh before
       → MayTurn (state_after o sh before) a b)

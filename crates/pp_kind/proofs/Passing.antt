@@ -20,6 +20,7 @@ module _ {Shape State Op Undo : Type 0} (o : Object Shape State Op Undo) (laws :
       subst (IsAllowed o sh) (append_assoc x (b ∷ []) (y ++ (a ∷ k)))
       (passed sh (x ++ b ∷ []) y k a p.1 (turned sh x (y ++ k) a b p.0 h))
 
+  -- An operation moves to the end of an allowed list if it swaps with all those after it.
   pub passed_last : (sh : Shape) (x y : List Op) (a : Op) → LetsPass o a y
       → IsAllowed o sh (x ++ a ∷ y) → IsAllowed o sh ((x ++ y) ++ a ∷ [])
   passed_last sh x y a p h =
@@ -48,6 +49,7 @@ module _ {Shape State Op Undo : Type 0} (o : Object Shape State Op Undo) (laws :
     pub other : IsLegal o s b
     pub one_state : o.next (o.next s a) b ≡ o.next (o.next s b) a
 
+  -- Neighbours of an allowed list that swap are a pair (`IsPair`) in the state before them.
   pub pair : (sh : Shape) (x y : List Op) (a b : Op) → Swaps o a b → IsAllowed o sh (x ++ a ∷ b ∷ y)
       → IsPair (state_after o sh x) a b
   pair sh x y a b swaps h =

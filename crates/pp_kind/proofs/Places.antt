@@ -14,10 +14,12 @@ module _ {Shape State Op Undo : Type 0} (o : Object Shape State Op Undo) (laws :
       → o.shape (state_from o s x) ≡ o.shape s
   shape_stays = keeps_shape o laws.next_shape
 
+  -- The state after an allowed list has the shape that the list began in.
   pub reached_shape : (sh : Shape) (x : List Op) → IsAllowed o sh x
       → o.shape (state_after o sh x) ≡ sh
   reached_shape sh x h = shape_stays (o.start sh) x h ∙ laws.start_shape sh
 
+  -- The state after an allowed list is one that the laws speak of (`IsState`).
   pub reached_is_state : (sh : Shape) (x : List Op) → IsAllowed o sh x
       → o.upkeep.IsState (state_after o sh x)
   reached_is_state sh x h = allowed_is_state o (o.start sh) x laws.next_is_state
@@ -42,6 +44,7 @@ module _ {Shape State Op Undo : Type 0} (o : Object Shape State Op Undo) (laws :
   nowhere_by a b None e r h = absurd (h ((laws.unrefuted a b).0 e))
   nowhere_by a b (Some lists) e r h = refuted_nowhere o a b lists r
 
+  -- A pair that does not swap in every shape swaps in no shape that both fit.
   pub swaps_nowhere : (a b : Op) → (Swaps o a b → ⊥) → SwapsNowhere o a b
   swaps_nowhere a b h = nowhere_by a b (o.refuting a b) refl (laws.refuted a b) h
 

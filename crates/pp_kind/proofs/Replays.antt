@@ -17,15 +17,18 @@ pub record IsReplaying {Shape State Op Undo : Type 0} (o : Object Shape State Op
   pub few : length before + length rest < 1_000_000
 
 module _ {Shape State Op Undo : Type 0} (o : Object Shape State Op Undo) where
+  -- The first part of an allowed list is allowed.
   pub allowed_front : (s : State) (x y l : List Op) → l ≡ x ++ y → AllowedFrom o s l
       → AllowedFrom o s x
   allowed_front s x y l e h = allowed-first o s x y
       (subst (λ (w : List Op). AllowedFrom o s w) e h)
 
+  -- The first part of a ranged list is ranged.
   pub ranged_front : (x y l : List Op) → l ≡ x ++ y → AllRanged o l → AllRanged o x
   ranged_front x y l e h = ranged-first o x y (subst (λ (w : List Op). AllRanged o w) e h)
 
 module _ {Shape State Op Undo : Type 0} (o : Object Shape State Op Undo) (laws : IsLawful o) where
+  -- The replay of an allowed list begins at the empty state, with the whole list left.
   pub begins : (sh : Shape) (l : List Op) (s : State) → s ≡ o.start sh → IsAllowed o sh l
       → AllRanged o l → length l < 1_000_000 → IsReplaying o (state_after o sh l) s l
   begins sh l s e h r few = record {
@@ -41,6 +44,7 @@ module _ {Shape State Op Undo : Type 0} (o : Object Shape State Op Undo) (laws :
     few = omega (arith, few);
   }
 
+  -- A replay goes on: after the next operation, the rest is left in the state after it.
   pub goes_on : (t s u : State) (x : Op) (rest : List Op) → IsReplaying o t s (x ∷ rest)
       → u ≡ o.next s x → IsReplaying o t u rest
   goes_on t s u x rest k q =

@@ -10,6 +10,7 @@ same_found None (Some y) e = cc
 same_found (Some x) None e = cc
 same_found (Some x) (Some y) e = cc
 
+-- A number that a call finds, if any, is in range exactly if the result that says so is.
 pub found_numbers : (c : Option ℤ) → is_ranged_found c ≡ is_ranged_answer (answer_of c)
 found_numbers None = refl
 found_numbers (Some x) = refl

@@ -42,6 +42,7 @@ module _ {Shape State Op Undo : Type 0} (o : Object Shape State Op Undo) where
       subst (λ (l : List Op). IsStoodForBy o l b) (sym e)
       (s.0, in_left s.0 ops (op ∷ []) s.1, s.2)
 
+  -- The last operation of a list of samples has a sample in it: itself.
   pub stands_last : (ops more : List Op) (op : Op) → more ≡ ops ++ op ∷ [] → IsStoodForBy o more op
   stands_last ops more op e =
       subst (λ (l : List Op). IsStoodForBy o l op) (sym e)
@@ -60,6 +61,7 @@ module _ {Shape State Op Undo : Type 0} (o : Object Shape State Op Undo) where
       let s = covered.0 whole in
       s.2.0 op (of_each (λ c. Swaps o c op) samples.ops s.0 each s.1)
 
+  -- If no sample was left out, what swaps with all samples swaps with all that they cover.
   pub all_behind : (samples : SampleList Op) (op b : Op) → samples.cut ≡ false
       → All (λ s. Swaps o op s) samples.ops → Covers o samples b → Swaps o op b
   all_behind samples op b whole each covered =

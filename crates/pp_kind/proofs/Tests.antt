@@ -64,5 +64,6 @@ module _ {State Op Undo : Type 0} (o : Object (Unit {0}) State Op Undo) (test : 
   refuted_by a b true e = tt
   refuted_by a b false e = refutes a b e
 
+  -- The lists of a pair, if there are any, refute its swap.
   pub refuted : (a b : Op) → IsRefutedBy o a b (o.refuting a b)
   refuted a b = subst (IsRefutedBy o a b) (sym (told.refuting a b)) (refuted_by a b (test a b) refl)

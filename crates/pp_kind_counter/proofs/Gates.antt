@@ -11,6 +11,7 @@ low : (b : Bool) (row n : ℕ) → (if b then row + 3 else row) ≡ n → n < 3 
 low true row n is h = absurd (omega arith)
 low false row n is h = is
 
+-- Below 3, the form of an operation that gates see is its row.
 pub row_of : (a : CounterOp) (n : ℕ) → gate_form_of a ≡ n → n < 3 → form_of a ≡ n
 row_of (Add by) n is h = low (int_eq by (pos 0)) 0 n is h
 row_of (Get value) n is h = absurd (omega arith)
@@ -21,6 +22,7 @@ high : (b : Bool) (row n : ℕ) → row < 3 → (if b then row + 3 else row) ≡
 high true row n small is h = (refl, is)
 high false row n small is h = absurd (omega arith)
 
+-- From 3 on, the form that gates see is the row and 3, and the operation shifts nothing.
 pub still_of : (a : CounterOp) (n : ℕ) → gate_form_of a ≡ n → 3 ≤ n
     → (form_of a + 3 ≡ n) × ((figures_of a).from ≡ number_of a) × ((figures_of a).shift ≡ pos 0)
 still_of (Add by) n is h =

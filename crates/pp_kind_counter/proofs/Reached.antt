@@ -27,6 +27,7 @@ pub reached_high : (n : ℤ) → IsReached counter n → n ≤ℤ pos 1_000_000_
 reached_high n h = let k = above (pos 0) h.ops h.log.ranged in let f = h.few in let e = h.log.is in
     grind (arith, ints)
 
+-- A counter that is reached is not below the least number that a run can lead to.
 pub reached_low : (n : ℤ) → IsReached counter n → negsuc 1_000_000_000_000_000_000_000_000 ≤ℤ n
 reached_low n h = let k = below (pos 0) h.ops h.log.ranged in let f = h.few in let e = h.log.is in
     grind (arith, ints)
@@ -38,6 +39,7 @@ shift_high (Add by) r = grind (arith, ints)
 shift_high (Get value) r = omega (arith, ints)
 shift_high (FetchAdd by was) r = grind (arith, ints)
 
+-- A ranged operation moves a counter down by at most the limit.
 pub shift_low : (op : CounterOp) → IsTrue (is_ranged op)
     → negsuc 999_999_999_999_999_999 ≤ℤ shift_of op
 shift_low (Add by) r = grind (arith, ints)

@@ -16,6 +16,7 @@ module _ {State Op Undo Cell : Type 0} (o : Object (Unit {0}) State Op Undo)
   left_here s a q e h = acts.next_cell s a q h
       ∙ ap (λ (b : Bool). cond b (k.left a (k.cell s q)) (k.cell s q)) (key_is q (k.key a) e)
 
+  -- A legal operation leaves what is at other keys.
   pub left_elsewhere : (s : State) (a : Op) (q : ℤ) → int_eq q (k.key a) ≡ false → IsLegal o s a
       → k.cell (o.next s a) q ≡ k.cell s q
   left_elsewhere s a q e h = acts.next_cell s a q h
@@ -89,6 +90,7 @@ module _ {State Op Undo Cell : Type 0} (o : Object (Unit {0}) State Op Undo)
       together s a b is (same_key (k.key a) (k.key b) e) (turns a b r) h g
   turned_by lets turns false s a b e r is h g = apart s a b is e h g
 
+  -- Operations that swap by the test commute, if each cell turns for each pair that swaps by it.
   pub may_swap_commutes : (lets : Op → Op → Bool)
       → ((a b : Op) → lets a b ≡ true → (c : Cell) → TurnsAt k a b c) → (a b : Op)
       → may_swap k lets a b ≡ true → Commutes o a b
@@ -116,6 +118,7 @@ module _ {State Op Undo Cell : Type 0} (o : Object (Unit {0}) State Op Undo)
         ),
       )
 
+  -- The lists that show that a pair does not swap are not allowed with the pair turned.
   pub shown_stops : (a b : Op) (before after : List Op) → k.key a ≡ k.key b
       → Shows o k a b before after → IsAllowed o tt (before ++ (b ∷ a ∷ after)) → ⊥
   shown_stops a b before after e w h =
@@ -132,6 +135,7 @@ module _ {State Op Undo Cell : Type 0} (o : Object (Unit {0}) State Op Undo)
 -- Where each operation tells what it found, the rule says which cells turn.
 module _ {State Op Undo Cell : Type 0} (o : Object (Unit {0}) State Op Undo)
     (k : ToldKeys State Op Cell) (alike_is : (c d : Cell) → (k.alike c d ≡ true) ↔ (c ≡ d)) where
+  -- Two operations that swap by the rule turn each cell at their key.
   pub rule_turns : (a b : Op) → rule_lets k a b ≡ true → (c : Cell) → TurnsAt (told_keys k) a b c
   rule_turns a b r c h g =
       let one = lets_turned k.alike alike_is (k.found a) (k.left a) (k.found b) (k.left b) r g in

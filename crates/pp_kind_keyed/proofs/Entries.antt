@@ -58,6 +58,7 @@ pub got_seen : {X : Type 0} (es : List (ℤ × X)) (seen : FinMap int_cmp X) (k 
 got_seen {X} es seen k j r e f h =
     h ∙ sym (got es j) ∙ ap (λ (m : FinMap int_cmp X). get m j) e ∙ ap (get seen) f
 
+-- Entries with another value at a key make the map with that value inserted.
 pub inserted_seen : {X : Type 0} (es fs : List (ℤ × X)) (seen : FinMap int_cmp X) (k j : ℤ)
     (v w : X) → from_entries es ≡ seen → j ≡ k → w ≡ v
     → ((q : ℤ) → lookup (is_at (int_cmp q)) fs
@@ -67,6 +68,7 @@ inserted_seen {X} es fs seen k j v w e f g h =
     inserted es fs j w h ∙ ap (λ (m : FinMap int_cmp X). insert m j w) e
     ∙ ap (λ (q : ℤ). insert seen q w) f ∙ ap (insert seen k) g
 
+-- Entries without a key make the map from which the key is removed.
 pub removed_seen : {X : Type 0} (es fs : List (ℤ × X)) (seen : FinMap int_cmp X) (k j : ℤ)
     → from_entries es ≡ seen → j ≡ k
     → ((q : ℤ) → lookup (is_at (int_cmp q)) fs
@@ -92,6 +94,7 @@ is_other (Some m) n e h = differs (int_eq m n) e (key_is m n cc)
     differs true e f = cc
     differs false e f = cc
 
+-- If a test finds no difference, the number that was found is the one that was asked for.
 pub is_asked : (was : Option ℤ) (n : ℤ) → false ≡ not (option_eq int_eq was (Some n))
     → was ≡ Some n
 is_asked None n e = cc
@@ -115,6 +118,7 @@ sorted [] h = tt
 sorted (e ∷ es) h = both (below_all int_cmp e.0 es) (is_sorted int_cmp es) (below e.0 es h.0)
     (sorted es h.1)
 
+-- Entries whose keys ascend are the entries of the map that they make.
 pub entries_seen : {X : Type 0} (es : List (ℤ × X)) (seen : FinMap int_cmp X)
     → from_entries es ≡ seen → IsStrictlySortedBy int_cmp (keys_of es) → es ≡ entries seen
 entries_seen {X} es seen e h =

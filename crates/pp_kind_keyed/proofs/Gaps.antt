@@ -91,6 +91,7 @@ module _ {State Op Undo Cell : Type 0} (o : Object (Unit {0}) State Op Undo)
       left_elsewhere o k acts t b p y g ∙ elsewhere s t q p c d x
       ∙ sym (left_elsewhere o k acts s b p y h))
 
+  -- States that differ at a key stay apart by what an operation on the key leaves there.
   pub stays_there : (q : ℤ) (c : Cell) (b : Op) (s t : State) → k.key b ≡ q → k.Finds b c
       → o.upkeep.kept t b ≡ o.upkeep.kept s b → IsLegal o s b → DiffersAt k q c s t
       → StaysApart o (DiffersAt k q (k.left b c)) b s t

@@ -56,6 +56,7 @@ module _ {State Op Undo Cell : Type 0} (o : Object (Unit {0}) State Op Undo)
   taken_back s a is h = acts.one_state (undone o s a) s (acts.back_is_state s a is h) is
       (λ q. acts.back_cell s a q h)
 
+  -- An object that acts by its keys is lawful.
   pub keyed_lawful : IsLawful o
   keyed_lawful = record {
     start_shape = λ shape. refl;

@@ -23,9 +23,11 @@ all_three false q r e f g h = cc
 pub same_key : (x y : ℤ) → int_eq x y ≡ true → x ≡ y
 same_key x y e = grind (arith, ints)
 
+-- The comparison of equal keys is true.
 pub key_is : (x y : ℤ) → x ≡ y → int_eq x y ≡ true
 key_is x y e = grind (arith, ints)
 
+-- If the comparison of two keys is false, so is that in the other order.
 pub other_key : (x y : ℤ) → int_eq x y ≡ false → int_eq y x ≡ false
 other_key x y e = grind (arith, ints)
 
@@ -44,6 +46,7 @@ pub stands_at : {Cell : Type 0} (cell : ℤ → Cell) (k q : ℤ) (c : Cell) (he
 stands_at cell k q c true e h = sym h ∙ ap cell (sym (same_key q k e))
 stands_at cell k q c false e h = refl
 
+-- A cell that is put over another one at a key covers it.
 pub covered : {Cell : Type 0} (here : Bool) (x y z : Cell)
     → cond here x (cond here y z) ≡ cond here x z
 covered true x y z = refl

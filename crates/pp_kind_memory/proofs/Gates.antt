@@ -20,6 +20,7 @@ not_done : (b : Bool) (n : ℕ) → (if b then 6 else 2) ≡ n → n ≢ 2 → n
 not_done true n is other low = omega arith
 not_done false n is other low = other (sym is)
 
+-- Below 4, but for 2, the form that gates see is the row, and the number is the one led to.
 pub led_of : (a : MemOp) (n : ℕ) → gate_form_of a ≡ n → n ≢ 2 → n < 4
     → (form_of a ≡ n) × ((figures_of a).to ≡ number_of a)
 led_of (Read at v) n is other low = absurd (omega arith)
@@ -32,6 +33,7 @@ done : (b : Bool) (n : ℕ) → (if b then 6 else 2) ≡ n → 4 ≤ n → (b �
 done true n is high = (refl, is)
 done false n is high = absurd (omega arith)
 
+-- From 4 on, the form that gates see is the row and 4, and the operation changes no number.
 pub still_of : (a : MemOp) (n : ℕ) → gate_form_of a ≡ n → 4 ≤ n
     → (form_of a + 4 ≡ n) × ((figures_of a).from ≡ number_of a)
     × ((figures_of a).to ≡ number_of a) × ((figures_of a).shift ≡ pos 0)

@@ -157,6 +157,7 @@ kept_told a b at n false e k h =
     kept_alone a b (λ f. false_and (is_write a) (is_write b)
     (writes_elsewhere a at (sym e) (f ∙ second.1))) h
 
+-- If two operations swap and nothing is kept of the second, each keeps the same in both orders.
 pub kept_nothing : (a b : MemOp) → MayKeep memory b Nothing → Swaps memory a b
     → KeptAs memory false a b
 kept_nothing a b k = kept_alone a b (λ f. and_false (is_write a) (is_write b) (wrote_nothing b k))

@@ -88,6 +88,7 @@ room_by e es rest true n h k = let f : e.1 ≡ n = cc in
 room_by e es rest false n h k = let g = k h in
     let l = copies_length e.0 e.1 (spread es) in omega arith
 
+-- A value has fewer further copies than there are values.
 pub room : (v : ℤ) (es : List (ℤ × ℕ)) (n : ℕ) → lookup (is_at (int_cmp v)) es ≡ Some n
     → n < length (spread es)
 room v [] n h = cc
@@ -207,12 +208,14 @@ added_seen es fs seen v j f n e i s h m g =
     ap spread (g ∙ ap (insert_entry int_cmp es j) m) ∙ added j es f s h
     ∙ ap (λ (x : ℤ). with_one x (spread es)) i ∙ ap (with_one v) e
 
+-- To take out a value that has no entry changes nothing.
 pub gone_seen : (es : List (ℤ × ℕ)) (seen : List ℤ) (v j : ℤ) → spread es ≡ seen → j ≡ v
     → lookup (is_at (int_cmp j)) es ≡ None → seen ≡ without_one v seen
 gone_seen es seen v j e i h =
     sym e ∙ sym (gone j es h) ∙ ap (λ (x : ℤ). without_one x (spread es)) i
     ∙ ap (without_one v) e
 
+-- Without the entry of a value with no further copy, there is one less of this value.
 pub last_seen : (es fs : List (ℤ × ℕ)) (seen : List ℤ) (v j : ℤ) → spread es ≡ seen → j ≡ v
     → lookup (is_at (int_cmp j)) es ≡ Some 0 → fs ≡ remove_entry (is_at (int_cmp j)) es
     → spread fs ≡ without_one v seen
@@ -220,6 +223,7 @@ last_seen es fs seen v j e i h g =
     ap spread g ∙ last_removed j es h ∙ ap (λ (x : ℤ). without_one x (spread es)) i
     ∙ ap (without_one v) e
 
+-- If an entry has one further copy less, there is one less of its value.
 pub fewer_seen : (es fs : List (ℤ × ℕ)) (seen : List ℤ) (v j : ℤ) (n : ℕ)
     → spread es ≡ seen → j ≡ v → IsStrictlySortedBy int_cmp (keys_of es)
     → lookup (is_at (int_cmp j)) es ≡ Some (suc n) → fs ≡ insert_entry int_cmp es j n
@@ -275,6 +279,7 @@ unfolding IsStrictlySortedBy
 counted v [] s = refl
 counted v (e ∷ es) s = counted_by v e es (int_cmp v e.0) refl s (counted v es s.1)
 
+-- A value is there as often as its entry says: its further copies, and the first.
 pub counted_seen : (es : List (ℤ × ℕ)) (seen : List ℤ) (v j : ℤ) (f : Option ℕ)
     → spread es ≡ seen → j ≡ v → IsStrictlySortedBy int_cmp (keys_of es)
     → lookup (is_at (int_cmp j)) es ≡ f → copies_of v seen ≡ one_more f
@@ -287,6 +292,7 @@ one_copy_more : (x : ℤ) (n : ℕ) → copies x n [] ++ x ∷ [] ≡ copies x (
 one_copy_more x zero = refl
 one_copy_more x (suc n) = ap (λ (l : List ℤ). x ∷ l) (one_copy_more x n)
 
+-- One more copy added at the end makes one more copy of the value.
 pub copy_pushed : (x : ℤ) (n : ℕ) (front old new : List ℤ) → old ≡ front ++ copies x n []
     → new ≡ old ++ x ∷ [] → new ≡ front ++ copies x (n + 1) []
 copy_pushed x n front old new e h =
@@ -305,6 +311,7 @@ entry_there x n front es =
     ∙ append_assoc front (x ∷ []) (copies x n [] ++ spread es)
     ∙ ap (λ (l : List ℤ). front ++ x ∷ l) (copies_before x n (spread es))
 
+-- Once the first entry and its copies are added, the other entries are left to add.
 pub entry_pushed : (x j : ℤ) (n : ℕ) (front one new whole : List ℤ) (es fs : List (ℤ × ℕ))
     → j ≡ x → one ≡ front ++ j ∷ [] → new ≡ one ++ copies j n [] → es ≡ (x, n) ∷ fs
     → front ++ spread es ≡ whole → new ++ spread fs ≡ whole

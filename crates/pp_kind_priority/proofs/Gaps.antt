@@ -143,6 +143,7 @@ put_again v n m more = λ s is h bears. (
   },
 )
 
+-- The gap of a value that was put in crosses a take of it, if another copy is left.
 pub taken_again : (v : ℤ) (n m : ℕ) → n ≤ m + 1 → 1 ≤ m
     → LeadsTo (gap.Insert v n) (Take (Some v)) (gap.Insert v m)
 taken_again v n m less some = λ s is h bears.
@@ -160,6 +161,7 @@ taken_again v n m less some = λ s is h bears.
           },
     )
 
+-- The gap of a value that was put in crosses a look that finds it, if there are two of it.
 pub seen_again : (v : ℤ) (n m : ℕ) → n ≤ m → 2 ≤ m
     → LeadsTo (gap.Insert v n) (Least (Some v)) (gap.Insert v m)
 seen_again v n m less some = λ s is h bears.
@@ -187,6 +189,7 @@ put_other v w n other = λ s is h bears. (
   },
 )
 
+-- The gap of a value that was put in crosses a take of another value.
 pub taken_other : (v w : ℤ) (n : ℕ) → v ≢ w
     → LeadsTo (gap.Insert v n) (Take (Some w)) (gap.Insert v n)
 taken_other v w n other = λ s is h bears. (
@@ -200,6 +203,7 @@ taken_other v w n other = λ s is h bears. (
       },
 )
 
+-- The gap of a value that was put in crosses a look that finds another value.
 pub seen_other : (v w : ℤ) (n : ℕ) → v ≢ w
     → LeadsTo (gap.Insert v n) (Least (Some w)) (gap.Insert v n)
 seen_other v w n other = λ s is h bears. (
@@ -236,6 +240,7 @@ stays_first v w (z ∷ s) t low is e d =
       rest = ap without_least d ∙ stays.rest;
     }
 
+-- The gap of a value that was taken crosses a take of one that is not greater.
 pub taken_below : (v w : ℤ) → w ≤ℤ v → LeadsTo (gap.Take v) (Take (Some w)) (gap.Take v)
 taken_below v w low = λ s is h bears. (
   tt,
@@ -248,6 +253,7 @@ taken_below v w low = λ s is h bears. (
       },
 )
 
+-- The gap of a value that was taken crosses a look that finds one that is not greater.
 pub seen_below : (v w : ℤ) → w ≤ℤ v → LeadsTo (gap.Take v) (Least (Some w)) (gap.Take v)
 seen_below v w low = λ s is h bears. (
   tt,
@@ -270,6 +276,7 @@ pub stored_alike : (v w : ℤ) → FitsSigned w64 v → FitsSigned w64 w → of_
 stored_alike v w fits also e =
     sym (to_z-of_z w64 w also) ∙ ap (to_z w64) e ∙ to_z-of_z w64 v fits
 
+-- If two numbers in range are in order as they are stored, they are in order.
 pub stored_below : (v w : ℤ) → FitsSigned w64 v → FitsSigned w64 w
     → IsTrue (int_le (to_z w64 (of_z w64 w)) (to_z w64 (of_z w64 v))) → w ≤ℤ v
 stored_below v w fits also h =
@@ -294,6 +301,7 @@ closed_without v j n g old new (Ok u) i e h = λ t ist d.
     ∙ ap (without_one v) (subst (λ (k : PrioGap). Differ k old t) e d) ∙ put_taken v t
 closed_without v j n g old new (Err refused) i e h = tt
 
+-- To put the taken value back closes the gap of a take.
 pub closed_with : (v j : ℤ) (g : PrioGap) (old new : List ℤ)
     (r : Result (Unit {0}) OutOfMemory) → j ≡ v → g ≡ gap.Take v
     → OnOk r (new ≡ with_one j old) → OnOk r (ClosesTo prio Differ g old new)

@@ -14,6 +14,7 @@ grown_by : (v x : ℤ) (values : List ℤ) (t : Bool)
 grown_by v x values true h = refl
 grown_by v x values false h = ap suc h
 
+-- With one more value there is one value more.
 pub grown : (v : ℤ) (values : List ℤ) → length (with_one v values) ≡ suc (length values)
 grown v [] = refl
 grown v (x ∷ values) = grown_by v x values (int_le v x) (grown v values)

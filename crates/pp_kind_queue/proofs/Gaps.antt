@@ -32,6 +32,7 @@ front_left v w m s t (x ∷ front) back h k e f = record {
   kept = refl;
 }
 
+-- The gap of an item that was put in crosses a removal of an item before it.
 pub crosses_deq : (v w : ℤ) (r n m : ℕ) → n ≤ m + 1 → r + 1 ≤ m
     → Crosses fifo Bears Differ (gap.Enq v r n) (Deq (Some w)) (crossed.Apart (gap.Enq v r m))
 crosses_deq v w r n m h k = λ s is legal bears. (
@@ -57,6 +58,7 @@ taken_out : (v : ℤ) (front back : List ℤ)
 taken_out v [] back = refl
 taken_out v (x ∷ front) back = ap (λ (l : List ℤ). x ∷ l) (taken_out v front back)
 
+-- To remove the item that the other queue lacks makes it the other queue.
 pub closes : (v : ℤ) (r n at : ℕ) (g : QueueGap) (s t : List ℤ) → g ≡ gap.Enq v r n
     → at ≡ length s - 1 - r → Differ g s t → remove s at ≡ t
 closes v r n at g s t is e d =

@@ -57,12 +57,14 @@ seen_at g s t q b f h d =
     subst (λ (p : ℤ). DiffersAt (told_keys bits) p b s t) (sym f)
     (subst (λ (c : Bool). DiffersAt (told_keys bits) g.key c s t) h d)
 
+-- To insert the key of a gap closes it, if the gap says that the key is to be present.
 pub closes_in : (g : SetGap) (s new : FinSet int_cmp) (q : ℤ) → q ≡ g.key → g.present ≡ true
     → new ≡ insert s q → ClosesTo key_set Differ g s new
 closes_in g s new q f h e t it d = e
     ∙ one_apart key_set (told_keys bits) set_keyed s (insert s q) t q true tt it (inserted_at s q)
     (seen_at g s t q true f h d)
 
+-- To remove the key of a gap closes it, if the gap says that the key is to be absent.
 pub closes_out : (g : SetGap) (s new : FinSet int_cmp) (q : ℤ) → q ≡ g.key → g.present ≡ false
     → new ≡ remove s q → ClosesTo key_set Differ g s new
 closes_out g s new q f h e t it d = e

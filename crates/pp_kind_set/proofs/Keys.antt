@@ -51,12 +51,14 @@ contained_seen ks seen k j r e f h =
     ∙ ap is_some (entries.got_seen (marked ks) seen k j (mark (list_any (is_at (int_cmp j)) ks)) e f
     (sym (looked_up (is_at (int_cmp j)) ks)))
 
+-- Keys with one more key make the set with that key inserted.
 pub inserted_seen : (ks ls : List ℤ) (seen : FinSet int_cmp) (k j : ℤ) → set_of ks ≡ seen → j ≡ k
     → ((q : ℤ) → list_any (is_at (int_cmp q)) ls
     ≡ cond (is_at (int_cmp j) q) true (list_any (is_at (int_cmp q)) ks)) → set_of ls ≡ insert seen k
 inserted_seen ks ls seen k j e f h =
     entries.inserted_seen (marked ks) (marked ls) seen k j tt tt e f refl (marked_at ks ls j true h)
 
+-- Keys without a key make the set from which the key is removed.
 pub removed_seen : (ks ls : List ℤ) (seen : FinSet int_cmp) (k j : ℤ) → set_of ks ≡ seen → j ≡ k
     → ((q : ℤ) → list_any (is_at (int_cmp q)) ls
     ≡ cond (is_at (int_cmp j) q) false (list_any (is_at (int_cmp q)) ks))
@@ -69,6 +71,7 @@ keys_marked : (ks : List ℤ) → keys_of (marked ks) ≡ ks
 keys_marked [] = refl
 keys_marked (k ∷ ks) = ap (λ (l : List ℤ). k ∷ l) (keys_marked ks)
 
+-- Keys that ascend are the members of the set that they make.
 pub members_seen : (ks : List ℤ) (seen : FinSet int_cmp) → set_of ks ≡ seen
     → IsStrictlySortedBy int_cmp ks → ks ≡ members seen
 members_seen ks seen e h =

@@ -100,6 +100,7 @@ pop_leaves v op u e =
     subst (λ (x : StackOp). Leaves stack Bears Differ x u (left.Apart (gap.Pop v 0))) e
     (λ s is legal kept bears. top_lacks v s (told (Pop (Some v)) s legal))
 
+-- A pop that finds nothing leaves no gap.
 pub none_leaves : (op : StackOp) (u : Unit {0}) → Pop None ≡ op
     → Leaves stack Bears Differ op u left.Same
 none_leaves op u e = subst (λ (x : StackOp). Leaves stack Bears Differ x u left.Same) e
@@ -190,6 +191,7 @@ pop_differs v d e (Pop (Some w)) s t (inr h) k f =
     }
 pop_differs v d e (Pop None) s t h k f = absurd h
 
+-- The gap of a push crosses an operation, with as many items above as there are after it.
 pub crosses_push : (v : ℤ) (d e : ℕ) (op : StackOp) (g : StackGap) → gap.Push v d ≡ g
     → IsAboveBehind v d op e → Crosses stack Bears Differ g op (crossed.Apart (gap.Push v e))
 crosses_push v d e op g is h =
@@ -199,6 +201,7 @@ crosses_push v d e op g is h =
       λ t also differ. push_differs v d e op s t h (told op s legal) bears differ,
     ))
 
+-- The gap of a pop crosses an operation, with as many items above as there are after it.
 pub crosses_pop : (v : ℤ) (d e : ℕ) (op : StackOp) (g : StackGap) → gap.Pop v d ≡ g
     → IsAboveBehind v d op e → Crosses stack Bears Differ g op (crossed.Apart (gap.Pop v e))
 crosses_pop v d e op g is h =
@@ -217,11 +220,13 @@ found v (x ∷ items) (suc i) h =
     let more = found v items i h in
     (x ∷ more.0, more.1, ap (λ (l : List ℤ). x ∷ l) more.2, ap suc more.3)
 
+-- If the test says that an item was found, it was this item.
 pub same_item : (was : Option ℤ) (u v : ℤ) → u ≡ v → option_eq int_eq was (Some u) ≡ true
     → was ≡ Some v
 same_item None u v e h = cc
 same_item (Some x) u v e h = ap Some ((Decides-int_eq x u).0 h ∙ e)
 
+-- A stack with the pushed item at its position bears the gap of the push.
 pub bears_found : (v : ℤ) (d i : ℕ) (items : List ℤ) → d < length items
     → i ≡ length items - 1 - d → slice_get items i ≡ Some v → Bears (gap.Push v d) items
 bears_found v d i items h e k =
@@ -237,6 +242,7 @@ taken_out : (v : ℤ) (low high : List ℤ) → remove (low ++ v ∷ high) (leng
 taken_out v [] high = refl
 taken_out v (x ∷ low) high = ap (λ (l : List ℤ). x ∷ l) (taken_out v low high)
 
+-- To remove the pushed item from its position closes the gap of the push.
 pub push_closes : (v : ℤ) (d at : ℕ) (g : StackGap) (s t : List ℤ) → g ≡ gap.Push v d
     → at ≡ length s - 1 - d → Differ g s t → remove s at ≡ t
 push_closes v d at g s t is e f =

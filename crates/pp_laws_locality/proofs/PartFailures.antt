@@ -161,6 +161,7 @@ module _ {Op State : Type 0} (O : Object Op State) (place : Op → ℕ) (part : 
               (subst (λ (b : Bool). Parts o (own_at place o P ++ cond b (e ∷ []) []) (own_at place o M)) r.0 k))
         ]
 
+    -- If a publish fails, its bookkeeping does, or that of one object fails alike.
     pub publish_fail : (M P : List (LocalEntry Op)) (rest : List (Asked Op)) → Allowed O (shared_ops B.shared ++ local_ops P) → (AskedFails rest s n → X) →
         AskedFails (publish_asks O place B t x P M ++ rest) s n → X ⊎ ((o : ℕ) × Parts o (own_at place o P) (own_at place o M))
     publish_fail [] P rest all k f = inl (k f)

@@ -85,12 +85,15 @@ unpushed_at {Op} place o l = filters_turned (λ (e : LocalEntry Op). is_mark e.m
 pub from_own : {Op : Type 0} (place : Op → ℕ) (o : ℕ) (e : LocalEntry Op) (l : List (LocalEntry Op)) → In e (own_at place o l) → In e l
 from_own {Op} place o e l i = (from_filter (λ (w : LocalEntry Op). place w.op == o) e l i).0
 
+-- An own entry that is on an object is among the own entries on the object.
 pub to_own : {Op : Type 0} (place : Op → ℕ) (o : ℕ) (e : LocalEntry Op) (l : List (LocalEntry Op)) → In e l → place e.op ≡ o → In e (own_at place o l)
 to_own {Op} place o e l i n = in_filter (λ (w : LocalEntry Op). place w.op == o) e l i (eq-eqb (place e.op) o n)
 
+-- An entry of the shared log on an object is an entry of the shared log.
 pub from_shared : {Op : Type 0} (place : Op → ℕ) (o : ℕ) (g : SharedEntry Op) (G : List (SharedEntry Op)) → In g (shared_at place o G) → In g G
 from_shared {Op} place o g G i = (from_filter (λ (w : SharedEntry Op). place w.op == o) g G i).0
 
+-- An entry of the shared log that is on an object is among those on the object.
 pub to_shared : {Op : Type 0} (place : Op → ℕ) (o : ℕ) (g : SharedEntry Op) (G : List (SharedEntry Op)) → In g G → place g.op ≡ o → In g (shared_at place o G)
 to_shared {Op} place o g G i n = in_filter (λ (w : SharedEntry Op). place w.op == o) g G i (eq-eqb (place g.op) o n)
 
@@ -170,6 +173,7 @@ module _ {Op State : Type 0} (O : Object Op State) (place : Op → ℕ) (part : 
         (subst (λ (w : List (SharedEntry Op)). Allowed O (summary_view place o B.done x ++ shared_ops w)) (sym (missing_same place o js B x)) g.allowed);
   }
 
+  -- A refresh that is good on its object is good.
   pub refresh_from : (o : ℕ) → SummaryRefresh O place (summary_at place o js B) o (open_at place o x) → SummaryRefresh O place B o x
   refresh_from o g = record {
     swaps = λ a h i p j. g.swaps a h (to_own place o a x.own i p) p (subst (λ (w : List (SharedEntry Op)). In h w) (sym (missing_same place o js B x)) j);
@@ -203,6 +207,7 @@ pushes_from {Op} O place part js B x g = record {
 }
 
 module _ {Op State : Type 0} (O : Object Op State) (place : Op → ℕ) (part : PlacesPart O place) (B : Summary Op) (x : OpenSummary Op) where
+  -- A good commit is good on each object.
   pub commit_to : (style : Style) → HasSummary style → (o : ℕ) (js : List ℕ) → SummaryCommit style O place B x → SummaryCommit style O place (summary_at place o js B) (open_at place o x)
   commit_to Rules h o js g = absurd h
   commit_to Boosted h o js g = record { word = tt; pushed = λ e i m. g.pushed e (from_own place o e x.own i) m }
@@ -210,6 +215,7 @@ module _ {Op State : Type 0} (O : Object Op State) (place : Op → ℕ) (part : 
   commit_to Hardware h o js g = record { word = tt; pushed = pushes_to O place part js B x o g.pushed }
   commit_to Dependent h o js g = absurd h
 
+  -- A commit is good if its calls are a word of the body, and it is good on each object.
   pub commit_from : (style : Style) → HasSummary style → (js : ℕ → List ℕ) → IsWord x.body (calls O (map item x.own)) →
       ((o : ℕ) → SummaryCommit style O place (summary_at place o (js o) B) (open_at place o x)) → SummaryCommit style O place B x
   commit_from Rules h js w g = absurd h

@@ -109,6 +109,7 @@ module _ {Op State : Type 0} (style : Style) (has : HasSummary style) (O : Objec
     abbrev C : Summary Op
     C = summary_at place o js B
 
+    -- A good plain step is good on each object, without its body.
     pub plain_to : (step : Step Op) → SummaryMeets B step → SummaryMeets C (without_body step)
     plain_to (Begin t p b) k = (k.0, (λ y i e. let m = from_map (open_at place o) y B.opened i in k.1 m.0 m.1 (ap (λ (z : OpenSummary Op). z.thread) (sym m.2) ∙ e)))
     plain_to (App t id op) k = k
@@ -121,6 +122,7 @@ module _ {Op State : Type 0} (style : Style) (has : HasSummary style) (O : Objec
     plain_to (Quit t) k = k
     plain_to (Note t) k = k
 
+    -- A transaction that is open is open on each object.
     pub alone_to : (t : Name) → OfOpenSummary B t (λ x. Unit {0}) → OfOpenSummary C t (λ x. Unit {0})
     alone_to t g = open_to place o js B t (λ x. Unit {0}) (λ x. Unit {0}) (λ x k. k) g
 

@@ -104,6 +104,7 @@ serial_same {Op} place o (d ∷ D) =
 pub ops_own : {Op : Type 0} (place : Op → ℕ) (o : ℕ) (l : List (LocalEntry Op)) → ops_at place o (local_ops l) ≡ local_ops (own_at place o l)
 ops_own {Op} place o l = filter_map (λ (a : Op). place a == o) (λ (e : LocalEntry Op). e.op) l
 
+-- The operations on an object of a shared log are those of its entries on the object.
 pub ops_shared : {Op : Type 0} (place : Op → ℕ) (o : ℕ) (G : List (SharedEntry Op)) → ops_at place o (shared_ops G) ≡ shared_ops (shared_at place o G)
 ops_shared {Op} place o G = filter_map (λ (a : Op). place a == o) (λ (g : SharedEntry Op). g.op) G
 

@@ -77,6 +77,7 @@ module _ {Op : Type 0} (place : Op → ℕ) (o : ℕ) (style : Style) where
   Stays None = Unit {0}
   Stays (Some r) = IsOfStyle style r
 
+  -- A record of a style, restricted to an object, is of that style if it stays.
   pub stays : (r : RunRecord Op) → IsOfStyle style r → Stays (restricted place o r)
   stays (records.Plain step) s = begin_of style step s
   stays (records.Op t id op) s = elim (place op == o) as (λ b. Stays (cond b (Some (records.Op t id op)) None)) [ true ↦ s | false ↦ tt ]

@@ -17,10 +17,12 @@ use Rattle.pp_laws_opacity.specs.Opacity.{Began, IsPrefix, IsOpaque, IsOpaqueAtA
 use Rattle.pp_laws_opacity.proofs.Prefixes.{prefix_trans, ends, last_app}
 use Rattle.pp_laws_opacity.proofs.Runs.{attempts_within, fewer_before, front, meets_at, traced_at}
 
+-- The configuration after one more step is the one before it with the effect of the step.
 pub after_step : {Op : Type 0} (c : Config Op) (past : List (Step Op)) (s : Step Op) → after_from c (past ++ s ∷ []) ≡ then (after_from c past) s
 after_step c [] s = refl
 after_step c (a ∷ past) s = after_step (then c a) past s
 
+-- The first n elements are the same in a longer list.
 pub fewer : {A : Type 0} (n : ℕ) (xs ys more : List A) → xs ≡ ys ++ more → n ≤ length ys → take n xs ≡ take n ys
 fewer {A} n xs ys more e l = ap (λ (w : List A). take n w) e ∙ take-append-le n ys more l
 
@@ -45,6 +47,7 @@ seen_later {Op} O h met seen past t r b own later s =
     }
 
 module _ {Op State : Type 0} (O : Object Op State) (h : Option (Start Op)) (met : StartMeets O h) (ss : List (Step Op)) (run : RunsFrom O (first h) ss) where
+  -- Each prefix of an accepted run is accepted.
   pub runs : (past : List (Step Op)) → IsPrefix past ss → RunsFrom O (first h) past
   runs past b = front O h met past b.0 (subst (λ (w : List (Step Op)). RunsFrom O (first h) w) b.1 run)
 
@@ -63,11 +66,13 @@ module _ {Op State : Type 0} (O : Object Op State) (h : Option (Start Op)) (met 
         λ e. not_empty (own_of t past) [] (record { id = id; op = op }) (sym e ∙ more),
       )
 
+  -- An opaque run is opaque after each of its APP steps.
   pub at_apps : IsOpaque O h ss → IsOpaqueAtApps O h ss
   at_apps opaque past t id op b =
       let a = applied_open past t id op (runs (past ++ App t id op ∷ []) b) in
       opaque (past ++ App t id op ∷ []) t b a.0 a.1
 
+  -- A run that is opaque after each of its APP steps is opaque.
   pub from_apps : IsOpaqueAtApps O h ss → IsOpaque O h ss
   from_apps apps past t b open_there some =
       let e = ends (own_of t past) some in

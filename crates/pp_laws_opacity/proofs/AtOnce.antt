@@ -83,6 +83,7 @@ same_first : {A : Type 0} (x y : A) (k l : List A) → x ∷ k ≡ y ∷ l → x
 same_first x y k l e = cc
 
 module _ {Op State : Type 0} (O : Object Op State) (h : Option (Start Op)) (met : StartMeets O h) where
+  -- The open transactions after a PUSH are those before it, with one mark set to Pushed.
   pub opened_by_push : (past : List (Step Op)) (t : Name) (id : ℕ) → RunsFrom O (first h) (past ++ Push t id ∷ []) → (after h (past ++ Push t id ∷ [])).opened ≡ on_log t (set_mark id Pushed) (after h past).opened
   opened_by_push past t id run =
       let c = after h past in

@@ -169,6 +169,7 @@ module _ {Op State : Type 0} (O : Object Op State) (place : Op → ℕ) (ks : Li
       (at_once-append ss (bare rest) (record_at_once p.front p.config r.what (style r (inl refl)) both.0)
       (records_at_once (after_record T p r.what) rs (λ q i. style q (inr i)) both.1))
 
+  -- An accepted run of records of style `boosted` is opaque.
   pub boosted_opaque : (h : Option (Start Op)) (rs : Records (RunRecord Op)) → ((r : Lined (RunRecord Op)) → In r rs → IsOfStyle Boosted r.what) → StartMeets O h
       → RunsFrom O (first h) (boosted_steps place ks h rs) → IsOpaque O h (boosted_steps place ks h rs)
   boosted_opaque h rs style met run =

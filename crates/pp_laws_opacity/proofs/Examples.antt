@@ -96,6 +96,7 @@ torn_sees (suc zero) k = clash (sym k.1.0)
 torn_sees (suc (suc zero)) k = clash k.1.1.1.0
 torn_sees (suc (suc (suc n))) k = clash k.1.1.1.0
 
+-- It is not enough for opacity that only committed entries are pulled.
 pub torn_law : TornLaw
 torn_law = record {
   accepted = torn_runs;
@@ -115,6 +116,7 @@ stale_sees (suc (suc n)) l k = clash k.1.0
 one_committed : (early rest : List (Step Access)) → early ≡ late ++ rest → 1 ≤ length (attempts none early)
 one_committed early rest e = subst (λ (w : List (Step Access)). 1 ≤ length (attempts none w)) (sym e) (omega arith)
 
+-- It is not enough for opacity that some number of commits explains an own list.
 pub stale_law : StaleLaw
 stale_law = record {
   accepted = (
@@ -158,6 +160,7 @@ retried_sees (suc (suc n)) l k = clash k.1.0
 one_before_retry : (early rest : List (Step Access)) → early ≡ taken_back ++ rest → 1 ≤ length (attempts none early)
 one_before_retry early rest e = subst (λ (w : List (Step Access)). 1 ≤ length (attempts none w)) (sym e) (omega arith)
 
+-- It is not enough for opacity that the number is no smaller than when the transaction began.
 pub retried_law : RetriedLaw
 retried_law = record {
   accepted = (
@@ -221,6 +224,7 @@ early_sees : (n : ℕ) → n ≤ 0 → Sees cells none seen c n → ⊥
 early_sees zero l k = clash (sym k.0)
 early_sees (suc n) l k = omega (arith, l)
 
+-- It is not enough for opacity that a number in the window explains the own list in the end.
 pub early_law : EarlyLaw
 early_law = record {
   accepted = (
@@ -376,6 +380,7 @@ zombie_sees zero k = clash (sym k.1.0)
 zombie_sees (suc zero) k = clash k.1.1.0
 zombie_sees (suc (suc n)) k = clash k.1.1.0
 
+-- An accepted run of style `optimistic` may have a zombie.
 pub optimistic_law : OptimisticLaw
 optimistic_law = record {
   style = zombie_is;
@@ -478,5 +483,6 @@ old_sees zero k = refl
 old_sees (suc zero) k = clash k.1.0
 old_sees (suc (suc n)) k = clash k.1.0
 
+-- A run may be opaque though a transaction sees an old snapshot.
 pub old_law : OldLaw
 old_law = record { accepted = old_runs; snapshots = old_snapshots; sees = old_sees }

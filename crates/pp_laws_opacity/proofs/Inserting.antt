@@ -26,12 +26,14 @@ module _ {Op : Type 0} (t : Name) (seen : List (Step Op)) where
   insert (suc n) (Committed a ∷ l) = Committed a ∷ insert n l
   insert (suc n) (Uncommitted u s ∷ l) = Uncommitted u s ∷ insert (suc n) l
 
+  -- An uncommitted execution that is put in leaves the committed ones as they were.
   pub insert_committed : (n : ℕ) (l : List (Execution Op)) → committed_in (insert n l) ≡ committed_in l
   insert_committed zero l = refl
   insert_committed (suc n) [] = refl
   insert_committed (suc n) (Committed a ∷ l) = ap (λ (w : List (Attempt Op)). a ∷ w) (insert_committed n l)
   insert_committed (suc n) (Uncommitted u s ∷ l) = insert_committed (suc n) l
 
+  -- An element after one was put in is the new one, or was there before.
   pub in_insert : (n : ℕ) (l : List (Execution Op)) (p : Execution Op) → In p (insert n l) → (p ≡ x) ⊎ In p l
   in_insert zero l p i = i
   in_insert (suc n) [] p (inl e) = inl e
@@ -41,12 +43,14 @@ module _ {Op : Type 0} (t : Name) (seen : List (Step Op)) where
   in_insert (suc n) (Uncommitted u s ∷ l) p (inl e) = inr (inl e)
   in_insert (suc n) (Uncommitted u s ∷ l) p (inr i) = elim (in_insert (suc n) l p i) [ inl e ↦ inl e | inr j ↦ inr (inr j) ]
 
+  -- The execution that is put in is in the sequence.
   pub insert_new : (n : ℕ) (l : List (Execution Op)) → In x (insert n l)
   insert_new zero l = inl refl
   insert_new (suc n) [] = inl refl
   insert_new (suc n) (Committed a ∷ l) = inr (insert_new n l)
   insert_new (suc n) (Uncommitted u s ∷ l) = inr (insert_new (suc n) l)
 
+  -- Each old element is in the sequence after one was put in.
   pub insert_old : (n : ℕ) (l : List (Execution Op)) (p : Execution Op) → In p l → In p (insert n l)
   insert_old zero l p i = inr i
   insert_old (suc n) [] p i = absurd i
@@ -55,6 +59,7 @@ module _ {Op : Type 0} (t : Name) (seen : List (Step Op)) where
   insert_old (suc n) (Uncommitted u s ∷ l) p (inl e) = inl e
   insert_old (suc n) (Uncommitted u s ∷ l) p (inr i) = inr (insert_old (suc n) l p i)
 
+  -- The old elements keep their order if one is put in.
   pub insert_before : (n : ℕ) (l : List (Execution Op)) (p q : Execution Op) → Before p q l → Before p q (insert n l)
   insert_before zero l p q b = inr b
   insert_before (suc n) [] p q b = absurd b
@@ -81,6 +86,7 @@ module _ {Op : Type 0} (t : Name) (seen : List (Step Op)) where
     | inr (inr c) ↦ inr (inr (c.0, inr c.1))
   ]
 
+  -- Distinct executions stay distinct if a new one is put in.
   pub insert_apart : (n : ℕ) (l : List (Execution Op)) → AreApart l → (In x l → ⊥) → AreApart (insert n l)
   insert_apart n l apart new p q b e = elim (from_insert n l p q b) [
     | inl c ↦ apart p q c e
@@ -116,6 +122,7 @@ module _ {Op : Type 0} (t : Name) (seen : List (Step Op)) where
       let r = insert_split (suc n) before rest q in
       (Uncommitted u s ∷ r.0, r.1, ap (λ (w : List (Execution Op)). Uncommitted u s ∷ w) r.2, r.3)
 
+  -- An old element keeps the number of committed ones before it if one is put in.
   pub insert_placed : (n : ℕ) (l : List (Execution Op)) (q : Execution Op) (k : ℕ) → IsPlaced q l k → IsPlaced q (insert n l) k
   insert_placed n l q k p =
       let r = insert_split n p.0 p.1 q in
@@ -165,6 +172,7 @@ pub base_committed : {Op : Type 0} (A : List (Attempt Op)) → committed_in (map
 base_committed [] = refl
 base_committed {Op} (a ∷ A) = ap (λ (w : List (Attempt Op)). a ∷ w) (base_committed A)
 
+-- An element of the sequence of committed attempts is one of them, with the others around it.
 pub base_split : {Op : Type 0} (A : List (Attempt Op)) (before rest : List (Execution Op)) (p : Execution Op) → map Committed A ≡ before ++ p ∷ rest
     → (a : Attempt Op) × (A2 : List (Attempt Op)) × (p ≡ Committed a) × (A ≡ committed_in before ++ a ∷ A2)
 base_split [] before rest p e = absurd (not_empty before rest p e)
@@ -179,6 +187,7 @@ base_split {Op} (a ∷ A) (y ∷ before) rest p e =
         → a ∷ A ≡ committed_in (y ∷ before) ++ b ∷ A2
     more a A A2 y before b e k = ap (λ (w : List (Attempt Op)). a ∷ w) e ∙ ap (λ (w : Execution Op). committed_in (w ∷ before) ++ b ∷ A2) k
 
+-- A committed attempt is placed after as many committed ones as are before it.
 pub base_placed : {Op : Type 0} (A1 : List (Attempt Op)) (a : Attempt Op) (A2 : List (Attempt Op)) → IsPlaced (Committed a) (map Committed (A1 ++ a ∷ A2)) (length A1)
 base_placed [] a A2 = ([], map Committed A2, refl, refl)
 base_placed {Op} (b ∷ A1) a A2 =
@@ -198,10 +207,12 @@ abbrev pub built : {Op : Type 0} → List (Attempt Op) → List (Place Op) → L
 built A [] = map Committed A
 built A (c ∷ N) = insert c.tx c.seen c.n (built A N)
 
+-- The committed executions of a built sequence are the committed attempts.
 pub built_committed : {Op : Type 0} (A : List (Attempt Op)) (N : List (Place Op)) → committed_in (built A N) ≡ A
 built_committed A [] = base_committed A
 built_committed A (c ∷ N) = insert_committed c.tx c.seen c.n (built A N) ∙ built_committed A N
 
+-- An element of a built sequence is a committed attempt, or one that was put in.
 pub in_built : {Op : Type 0} (A : List (Attempt Op)) (N : List (Place Op)) (p : Execution Op) → In p (built A N)
     → ((a : Attempt Op) × In a A × (p ≡ Committed a)) ⊎ ((c : Place Op) × In c N × (p ≡ part c))
 in_built A [] p i = inl (from_map Committed p A i)
@@ -210,11 +221,13 @@ in_built A (c ∷ N) p i = elim (in_insert c.tx c.seen c.n (built A N) p i) [
   | inr j ↦ elim (in_built A N p j) [ inl r ↦ inl r | inr r ↦ inr (r.0, inr r.1, r.2) ]
 ]
 
+-- Each attempt that was put in is in the built sequence.
 pub built_in : {Op : Type 0} (A : List (Attempt Op)) (N : List (Place Op)) (c : Place Op) → In c N → In (part c) (built A N)
 built_in A [] c i = absurd i
 built_in {Op} A (d ∷ N) c (inl e) = subst (λ (w : Place Op). In (part w) (built A (d ∷ N))) (sym e) (insert_new d.tx d.seen d.n (built A N))
 built_in A (d ∷ N) c (inr i) = insert_old d.tx d.seen d.n (built A N) (part c) (built_in A N c i)
 
+-- The elements of a built sequence are distinct if what it is built of is.
 pub built_apart : {Op : Type 0} (A : List (Attempt Op)) (N : List (Place Op)) → AreApart A → ((c d : Place Op) → Before c d N → part c ≢ part d) → AreApart (built A N)
 built_apart {Op} A [] apart places = λ p q b e.
     let m = before_from_map Committed p q A b in
@@ -236,6 +249,7 @@ pub committed_placed : {Op : Type 0} (A1 : List (Attempt Op)) (a : Attempt Op) (
 committed_placed A1 a A2 [] = base_placed A1 a A2
 committed_placed A1 a A2 (c ∷ N) = insert_placed c.tx c.seen c.n (built (A1 ++ a ∷ A2) N) (Committed a) (length A1) (committed_placed A1 a A2 N)
 
+-- An attempt that was put in is placed after as many commits as it was given.
 pub part_placed : {Op : Type 0} (A : List (Attempt Op)) (N : List (Place Op)) → ((c : Place Op) → In c N → c.n ≤ length A) → (c : Place Op) → In c N → IsPlaced (part c) (built A N) c.n
 part_placed A [] most c i = absurd i
 part_placed {Op} A (d ∷ N) most c (inl e) =
@@ -254,10 +268,12 @@ last_of_two {Op} c l q k p h =
     subst (λ (w : List (Execution Op)). Before q (part c) (insert c.tx c.seen c.n w)) (sym p.2)
     (insert_last c.tx c.seen c.n p.0 p.1 q (subst (λ (w : ℕ). w < c.n) (sym p.3) h))
 
+-- Committed attempts keep their order in a built sequence.
 pub two_committed : {Op : Type 0} (A : List (Attempt Op)) (N : List (Place Op)) (a b : Attempt Op) → Before a b A → Before (Committed a) (Committed b) (built A N)
 two_committed A [] a b i = before_map Committed a b A i
 two_committed A (c ∷ N) a b i = insert_before c.tx c.seen c.n (built A N) (Committed a) (Committed b) (two_committed A N a b i)
 
+-- An attempt put in after at most n commits is before the committed attempt with n before it.
 pub to_committed : {Op : Type 0} (A1 : List (Attempt Op)) (a : Attempt Op) (A2 : List (Attempt Op)) (N : List (Place Op)) (c : Place Op) → In c N → c.n ≤ length A1 → Before (part c) (Committed a) (built (A1 ++ a ∷ A2) N)
 to_committed A1 a A2 [] c i h = absurd i
 to_committed {Op} A1 a A2 (d ∷ N) c (inl e) h =
@@ -266,6 +282,7 @@ to_committed {Op} A1 a A2 (d ∷ N) c (inl e) h =
     (first_of_two d (built A N) (Committed a) (length A1) (committed_placed A1 a A2 N) (subst (λ (w : Place Op). w.n ≤ length A1) e h))
 to_committed A1 a A2 (d ∷ N) c (inr i) h = insert_before d.tx d.seen d.n (built (A1 ++ a ∷ A2) N) (part c) (Committed a) (to_committed A1 a A2 N c i h)
 
+-- An attempt put in after more than n commits is after the committed attempt with n before it.
 pub from_committed : {Op : Type 0} (A1 : List (Attempt Op)) (a : Attempt Op) (A2 : List (Attempt Op)) (N : List (Place Op)) (c : Place Op) → In c N → length A1 < c.n → Before (Committed a) (part c) (built (A1 ++ a ∷ A2) N)
 from_committed A1 a A2 [] c i h = absurd i
 from_committed {Op} A1 a A2 (d ∷ N) c (inl e) h =
@@ -274,6 +291,7 @@ from_committed {Op} A1 a A2 (d ∷ N) c (inl e) h =
     (last_of_two d (built A N) (Committed a) (length A1) (committed_placed A1 a A2 N) (subst (λ (w : Place Op). length A1 < w.n) e h))
 from_committed A1 a A2 (d ∷ N) c (inr i) h = insert_before d.tx d.seen d.n (built (A1 ++ a ∷ A2) N) (Committed a) (part c) (from_committed A1 a A2 N c i h)
 
+-- Two attempts that were put in are in the order of their numbers of commits.
 pub two_parts : {Op : Type 0} (A : List (Attempt Op)) (N : List (Place Op)) → ((c : Place Op) → In c N → c.n ≤ length A) → (c d : Place Op) → Before c d N → c.n ≤ d.n → Before (part c) (part d) (built A N)
 two_parts A [] most c d b h = absurd b
 two_parts {Op} A (e ∷ N) most c d (inl i) h =

@@ -25,6 +25,7 @@ use Rattle.pp_laws_opacity.proofs.Runs.{attempts_within, fewer_before, front, no
 use Rattle.pp_laws_opacity.proofs.Unfinished.{Unfinished, are_unfinished, prefix_length, prefix_shorter, unfinished, unfinished_apart, unfinished_are}
 use Rattle.pp_laws_opacity.proofs.Unfinished.{unfinished_sorted, unfinished_at}
 
+-- The serial run of joined attempts is that of the first, then that of the second.
 pub serial-append : {Op : Type 0} (xs ys : List (Attempt Op)) → serial (xs ++ ys) ≡ serial xs ++ serial ys
 serial-append [] ys = refl
 serial-append {Op} (a ∷ xs) ys =
@@ -58,6 +59,7 @@ first_parts (x ∷ E) more (y ∷ cb) cr a e =
     let k : E ++ more ≡ cb ++ a ∷ cr = cc in
     elim (first_parts E more cb cr a k) [ inl l ↦ inl (omega (arith, l)) | inr i ↦ inr (inr i) ]
 
+-- A run has as many attempts as commits, and that of the start, if there is one.
 pub counted : {Op : Type 0} (h : Option (Start Op)) (past : List (Step Op)) → length (attempts h past) ≡ length (start_attempts h) + length (commits past)
 counted {Op} h past =
     let all : length (attempts h past) ≡ length (start_attempts h) + length (map (attempt_of past) (commits past)) = length-append (start_attempts h) (map (attempt_of past) (commits past)) in
@@ -95,6 +97,7 @@ module _ {Op State : Type 0} (O : Object Op State) where
   ]
 
   module _ (h : Option (Start Op)) (met : StartMeets O h) where
+    -- The first n attempts of a run have the serial run that they have in a prefix with n of them.
     pub seen_in_whole : (past ss : List (Step Op)) (t : Name) (n : ℕ) → RunsFrom O (first h) ss → IsPrefix past ss → n ≤ length (attempts h past)
         → serial (take n (attempts h ss)) ≡ serial (take n (attempts h past))
     seen_in_whole past ss t n run b l =
@@ -252,6 +255,7 @@ module _ {Op State : Type 0} (O : Object Op State) where
                 subst (λ (w : Execution Op). Before w (part d) (built A N)) (sym r.2) (two_parts A N most c d time place)
           ]
 
+      -- An accepted run all of whose unfinished attempts see some commits has an opaque order.
       pub ordered_prefix : (order : List (Execution Op)) × IsOpaqueOrder O h past order
       ordered_prefix = (
         built A N,
@@ -317,6 +321,7 @@ module _ {Op State : Type 0} (O : Object Op State) where
         least E more cb (a ∷ cr) e f = elim (first_parts E more cb cr a e) [ inl l ↦ l | inr i ↦ absurd (f a i (inl refl)) ]
 
   module _ (h : Option (Start Op)) (met : StartMeets O h) (ss : List (Step Op)) (run : RunsFrom O (first h) ss) where
+    -- An opaque run has an opaque order after each prefix.
     pub ordered : IsOpaque O h ss → HasOpaqueOrders O h ss
     ordered opaque past b =
         let r = runs O h met ss run past b in
@@ -328,6 +333,7 @@ module _ {Op State : Type 0} (O : Object Op State) where
         begins_at t seen past (inl e) = subst (λ (w : List (Step Op)). IsPrefix w past) (sym e) (prefix_same past)
         begins_at t seen past (inr u) = prefix_trans seen (seen ++ Unapp t u.0 ∷ []) past (Unapp t u.0 ∷ [], refl) u.1
 
+    -- A run with an opaque order after each prefix is opaque.
     pub opaque : HasOpaqueOrders O h ss → IsOpaque O h ss
     opaque all past t b open_there some =
         let s = all past b in

@@ -19,15 +19,18 @@ use Rattle.pp_model.proofs.Trace.{bodies-append, own_quiet, quiet_bodies}
 use Rattle.pp_laws_opacity.specs.Opacity.{Began, IsPrefix, IsOpen, MayStart, Starts}
 use Rattle.pp_laws_opacity.proofs.Runs.{along_from, front, meets_at, own_step, traced_at}
 
+-- The last element of a list with an element at its end is this element.
 pub last_end : {A : Type 0} (xs : List A) (x : A) → last (xs ++ x ∷ []) ≡ Some x
 last_end [] x = refl
 last_end (y ∷ []) x = refl
 last_end (y ∷ z ∷ xs) x = last_end (z ∷ xs) x
 
+-- A list is empty or not.
 pub empty_or_not : {A : Type 0} (l : List A) → (l ≡ []) ⊎ (l ≢ [])
 empty_or_not [] = inl refl
 empty_or_not (x ∷ l) = inr (λ e. cc)
 
+-- If joined lists are empty, both are.
 pub both_none : {A : Type 0} (xs ys : List A) → xs ++ ys ≡ [] → (xs ≡ []) × (ys ≡ [])
 both_none [] ys e = (refl, e)
 both_none (x ∷ xs) ys e = absurd (let n : x ∷ (xs ++ ys) ≡ [] = e in cc)
@@ -60,12 +63,15 @@ prefix_cases later past s (x ∷ rest, e) = elim (end_cases later rest past x s 
   | inr r ↦ inl (x ∷ r.0, r.2)
 ]
 
+-- Each run is a prefix of itself.
 pub prefix_same : {Op : Type 0} (ss : List (Step Op)) → IsPrefix ss ss
 prefix_same ss = ([], sym (append-nil ss))
 
+-- A prefix of a prefix of a run is a prefix of the run.
 pub prefix_trans : {Op : Type 0} (a b c : List (Step Op)) → IsPrefix a b → IsPrefix b c → IsPrefix a c
 prefix_trans {Op} a b c i j = (i.0 ++ j.0, j.1 ∙ ap (λ (w : List (Step Op)). w ++ j.0) i.1 ∙ append_assoc a i.0 j.0)
 
+-- Runs that are prefixes of each other are equal.
 pub prefix_both : {Op : Type 0} (a b : List (Step Op)) → IsPrefix a b → IsPrefix b a → a ≡ b
 prefix_both {Op} a b i j =
     let k = j.1 ∙ ap (λ (w : List (Step Op)). w ++ j.0) i.1 ∙ append_assoc a i.0 j.0 in
@@ -91,9 +97,11 @@ starts_or_not {Op} t past s = elim (may_start t s) [
   | inr n ↦ inr (λ k. n (subst (λ (w : Step Op). MayStart t w) (same_Some k.0 s (sym k.1 ∙ last_end past s)) k.2))
 ]
 
+-- A transaction whose attempt starts after some steps began it there.
 pub began_new : {Op : Type 0} (t : Name) (past : List (Step Op)) → Starts t past → Began t past past
 began_new t past s = record { starts = s; within = prefix_same past; last = λ later b k. b }
 
+-- A step that starts no attempt of a transaction leaves where its attempt began.
 pub began_kept : {Op : Type 0} (t : Name) (early past : List (Step Op)) (s : Step Op) → Began t early past → (Starts t (past ++ s ∷ []) → ⊥) → Began t early (past ++ s ∷ [])
 began_kept {Op} t early past s b n = record {
   starts = b.starts;
@@ -104,6 +112,7 @@ began_kept {Op} t early past s b n = record {
   ];
 }
 
+-- An attempt of a transaction began after one prefix only.
 pub began_one : {Op : Type 0} (t : Name) (ss e f : List (Step Op)) → Began t e ss → Began t f ss → e ≡ f
 began_one t ss e f b c = prefix_both e f (c.last e b.within b.starts) (b.last f c.within c.starts)
 
@@ -159,12 +168,14 @@ module _ {Op State : Type 0} (O : Object Op State) (h : Option (Start Op)) (met 
             | inr (inr less) ↦ absurd (not_empty (own_of t (past ++ s ∷ [])) [] less.1 (sym (k none) ∙ less.3))
           ]
 
+  -- Each open transaction of an accepted run began an attempt.
   pub began_open : (t : Name) (ss : List (Step Op)) → RunsFrom O (first h) ss → IsOpen h ss t → (early : List (Step Op)) × Began t early ss
   began_open t ss run x = began_body t ss run (λ e.
       let body = (traced_at O h met ss run).bodies x.0 x.1 in
       let no : [] ≡ (x.0).body ∷ [] = sym e ∙ ap (λ (w : Name). bodies_of w ss) (sym x.2) ∙ body in
       cc)
 
+  -- Each transaction with an own list that is not empty began an attempt.
   pub began_some : (t : Name) (ss : List (Step Op)) → RunsFrom O (first h) ss → own_of t ss ≢ [] → (early : List (Step Op)) × Began t early ss
   began_some t ss run n = began_body t ss run (λ e. n (has_body t ss run e))
 
@@ -174,6 +185,7 @@ module _ {Op State : Type 0} (O : Object Op State) (h : Option (Start Op)) (met 
       (a : List (Step Op)) × IsPrefix (a ++ App t p.id p.op ∷ []) past × (own_of t (a ++ App t p.id p.op ∷ []) ≡ l ++ p ∷ [])
       × ((early : List (Step Op)) → Began t early (a ++ App t p.id p.op ∷ []) → Began t early past)
 
+  -- Each item of an own list was applied by an APP after which it was the last.
   pub last_app : (t : Name) (ss : List (Step Op)) → RunsFrom O (first h) ss → (l more : List (Item Op)) (p : Item Op) → own_of t ss ≡ l ++ p ∷ more → Applied t ss l p
   last_app t ss run =
       along_from O h met (λ w. (l more : List (Item Op)) (p : Item Op) → own_of t w ≡ l ++ p ∷ more → Applied t w l p) step [] ss (λ l more p e. absurd (not_empty l more p e)) run

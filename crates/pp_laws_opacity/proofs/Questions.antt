@@ -149,12 +149,14 @@ module _ {Op State : Type 0} (O : Object Op State) (h : Option (Start Op)) (met 
     subst (λ (w : List Op). Allowed O (w ++ ops (own_of t past))) (sym (seen_in_whole O h met past ss t s.n run b s.most)) s.sees,
   )
 
+  -- In an opaque run, each question has a number of commits that explains it.
   pub all_answered : IsOpaque O h ss → (q : Question Op) → In q (questions h ss) → HasAnswer O h ss q
   all_answered opaque q i =
       let r = asked h [] ss q i in
       let past : List (Step Op) = r.0 ++ App r.1 r.2 r.3 ∷ [] in
       subst (λ (w : Question Op). HasAnswer O h ss w) (sym r.5) (answer past r.1 r.4 (at_apps O h met ss run opaque r.0 r.1 r.2 r.3 r.4))
 
+  -- A run in which each question has a number of commits that explains it is opaque.
   pub from_answers : ((q : Question Op) → In q (questions h ss) → HasAnswer O h ss q) → IsOpaque O h ss
   from_answers all = from_apps O h met ss run (λ past t id op b.
       let here : List (Step Op) = past ++ App t id op ∷ [] in

@@ -55,15 +55,19 @@ module _ {Op State : Type 0} (O : Object Op State) where
       (run_traced h ss (past ++ a ∷ []) (then c a) (step_keeps O c a s r.0) (follow O h past c a s t r.0) r.1)
 
   module _ (h : Option (Start Op)) (met : StartMeets O h) where
+    -- The configuration after an accepted run is sound.
     pub sound_at : (ss : List (Step Op)) → RunsFrom O (first h) ss → Sound O (after h ss)
     sound_at ss r = run_keeps O ss (first h) (start_sound O h met) r
 
+    -- The configuration after an accepted run is what the steps say of it (`Traced`).
     pub traced_at : (ss : List (Step Op)) → RunsFrom O (first h) ss → Traced O h ss (after h ss)
     traced_at ss r = run_traced h ss [] (first h) (start_sound O h met) (start_traced h) r
 
+    -- The first part of an accepted run is accepted.
     pub front : (p q : List (Step Op)) → RunsFrom O (first h) (p ++ q) → RunsFrom O (first h) p
     front p q r = run_front (first h) p q r
 
+    -- Each step of an accepted run meets its criteria after the steps before it.
     pub meets_at : (p q : List (Step Op)) (s : Step Op) → RunsFrom O (first h) (p ++ s ∷ q) → Meets O (after h p) s
     meets_at p q s r = run_at (first h) p q s r
 
@@ -115,6 +119,7 @@ module _ {Op State : Type 0} (O : Object Op State) where
         let m = attempts_more early b.0 (subst (λ (w : List (Step Op)). RunsFrom O (first h) w) b.1 r) in
         (m.0, ap (λ (w : List (Step Op)). attempts h w) b.1 ∙ m.1)
 
+    -- A prefix of an accepted run has at most as many attempts as the run.
     pub fewer_before : (early past : List (Step Op)) → RunsFrom O (first h) past → IsPrefix early past → length (attempts h early) ≤ length (attempts h past)
     fewer_before early past r b =
         let m = attempts_within early past r b in
@@ -128,6 +133,7 @@ module _ {Op State : Type 0} (O : Object Op State) where
         ⊎ ((id : ℕ) × (op : Op) × (s ≡ App t id op) × (own_of t (past ++ s ∷ []) ≡ own_of t past ++ record { id = id; op = op } ∷ []))
         ⊎ ((id : ℕ) × (p : Item Op) × (s ≡ Unapp t id) × (own_of t past ≡ own_of t (past ++ s ∷ []) ++ p ∷ []))
 
+    -- An UNAPP of an accepted run removes the last item of an own list.
     pub own_undone : (t : Name) (past : List (Step Op)) (id : ℕ) → RunsFrom O (first h) (past ++ Unapp t id ∷ [])
         → (p : Item Op) × (own_of t past ≡ own_of t (past ++ Unapp t id ∷ []) ++ p ∷ [])
     own_undone t past id run =
@@ -150,6 +156,7 @@ module _ {Op State : Type 0} (O : Object Op State) where
         let less : own_of t (past ++ Unapp t id ∷ []) ≡ own_items (but_last x.local) = own_unapp t id past (own_items (but_last x.local)) (item e) list k.2 apart in
         (item e, list ∙ ap (λ (w : List (Item Op)). w ++ item e ∷ []) (sym less))
 
+    -- A step leaves an own list as it was, or adds one item, or removes the last one.
     pub own_step : (t : Name) (past : List (Step Op)) (s : Step Op) → RunsFrom O (first h) (past ++ s ∷ []) → OwnStep t past s
     own_step t past (App u id op) run = elim (name_or_not u t) [
       | inl n ↦

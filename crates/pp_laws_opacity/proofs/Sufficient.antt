@@ -58,6 +58,7 @@ module _ {Op State : Type 0} (O : Object Op State) (h : Option (Start Op)) (met 
       let done : serial_ops c.done ≡ serial (attempts h ss) = ap (λ (w : List (CommittedTx Op)). serial_ops w) traced.done ∙ ap (λ (w : List (Item Op)). ops w) (same_serial (attempts h ss)) in
       subst (λ (w : List Op). Allowed O w) (parts ∙ ap (λ (w : List Op). w ++ ops (own_items x.local)) done ∙ ap (λ (w : List (Item Op)). serial (attempts h ss) ++ ops w) own) before
 
+  -- The own list of a transaction that pushed all is allowed after all committed transactions.
   pub pushed_sees : (ss : List (Step Op)) (t : Name) → RunsFrom O (first h) ss → (x : Tx Op) → In x (after h ss).opened → x.name ≡ t → HasPushed h ss t
       → Allowed O (serial (take (length (attempts h ss)) (attempts h ss)) ++ ops (own_of t ss))
   pushed_sees ss t run x i n pushed =
@@ -101,6 +102,7 @@ module _ {Op State : Type 0} (O : Object Op State) (h : Option (Start Op)) (met 
               (subst (λ (w : List (Item Op)). Allowed O (serial (attempts h past2) ++ ops w)) own sees));
         }
 
+    -- An accepted run that pushes each operation at once is opaque.
     pub eager_opaque : PushesAtOnce ss → IsOpaque O h ss
     eager_opaque eager = from_apps O h met ss run (eager_apps eager)
 
@@ -122,6 +124,7 @@ module _ {Op State : Type 0} (O : Object Op State) (h : Option (Start Op)) (met 
           sees = permuted O (joined (map (λ (a : Attempt Op). a.items) (take s.n (attempts h past)))) (pulled_items x.local) [] (ops (own_of t past)) s.same front_then_own;
         }
 
+    -- An accepted run whose attempts see snapshots is opaque.
     pub snapshots_opaque : HasSnapshots O h ss → IsOpaque O h ss
     snapshots_opaque all = from_apps O h met ss run (λ past t id op b.
         snapshot_sees (past ++ App t id op ∷ []) t (runs O h met ss run (past ++ App t id op ∷ []) b) (all past t id op b))

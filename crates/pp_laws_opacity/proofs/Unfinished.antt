@@ -27,9 +27,11 @@ pub record Unfinished (Op : Type 0) : Type 0 where
 abbrev pub unfinished_at : {Op : Type 0} → Name → List (Step Op) → Unfinished Op
 unfinished_at t seen = record { tx = t; seen = seen }
 
+-- A prefix of a run is no longer than the run.
 pub prefix_length : {Op : Type 0} (a b : List (Step Op)) → IsPrefix a b → length a ≤ length b
 prefix_length {Op} a b i = let e : length b ≡ length a + length i.0 = ap (λ (w : List (Step Op)). length w) i.1 ∙ length-append a i.0 in omega (arith, e)
 
+-- Steps before the last step of a prefix are fewer than those of the run.
 pub prefix_shorter : {Op : Type 0} (a b : List (Step Op)) (s : Step Op) → IsPrefix (a ++ s ∷ []) b → length a < length b
 prefix_shorter a b s i = let l = prefix_length (a ++ s ∷ []) b i in let e : length (a ++ s ∷ []) ≡ length a + 1 = length-append a (s ∷ []) in omega (arith, l, e)
 
@@ -104,6 +106,7 @@ module _ {Op State : Type 0} (O : Object Op State) (h : Option (Start Op)) (met 
       let f = from_filter applies m.0 (after h past).opened m.1 in
       (m.0, f.0, any_some (own_of (m.0).name past) f.1, m.2)
 
+  -- Each unfinished attempt of an accepted run is an uncommitted execution.
   pub unfinished_are : (p : Unfinished Op) → In p unfinished → IsUncommitted h past p.tx p.seen
   unfinished_are p i = elim (in_cases p (given_up [] past) open_now i) [
     | inl j ↦
@@ -119,6 +122,7 @@ module _ {Op State : Type 0} (O : Object Op State) (h : Option (Start Op)) (met 
         subst (λ (w : Unfinished Op). IsUncommitted h past w.tx w.seen) (sym o.3) ((o.0, o.1, refl), o.2, inl refl)
   ]
 
+  -- Each uncommitted execution of an accepted run is among its unfinished attempts.
   pub are_unfinished : (t : Name) (seen : List (Step Op)) → IsUncommitted h past t seen → In (unfinished_at t seen) unfinished
   are_unfinished t seen k = elim k.2 [
     | inl e ↦
@@ -140,6 +144,7 @@ module _ {Op State : Type 0} (O : Object Op State) (h : Option (Start Op)) (met 
   open_length : (p : Unfinished Op) → In p open_now → length p.seen ≡ length past
   open_length p i = let o = open_there p i in ap (λ (w : Unfinished Op). length w.seen) o.3
 
+  -- The unfinished attempts are in the order of the steps after which they are seen.
   pub unfinished_sorted : (p q : Unfinished Op) → Before p q unfinished → length p.seen ≤ length q.seen
   unfinished_sorted p q b = elim (before_cases p q (given_up [] past) open_now b) [
     | inl i ↦ let l = given_sorted [] past p q i in omega (arith, l)
@@ -151,6 +156,7 @@ module _ {Op State : Type 0} (O : Object Op State) (h : Option (Start Op)) (met 
     | inr (inr i) ↦ let l = given_shorter p i.0 in let e = open_length q i.1 in omega (arith, l, e)
   ]
 
+  -- The unfinished attempts of an accepted run are distinct.
   pub unfinished_apart : (p q : Unfinished Op) → Before p q unfinished → p ≢ q
   unfinished_apart p q b e = elim (before_cases p q (given_up [] past) open_now b) [
     | inl i ↦ let l = given_sorted [] past p q i in let same : length p.seen ≡ length q.seen = ap (λ (w : Unfinished Op). length w.seen) e in absurd (omega (arith, l, same))

@@ -53,6 +53,7 @@ module _ {Op State : Type 0} (O : Object Op State) (h : Option (Start Op)) where
       (subst (λ (k : ℕ). k ≤ s.n) (ap (λ (w : List (Step Op)). length (attempts h w)) same ∙ sym is.least) s.least)
       (subst (λ (k : ℕ). s.n ≤ k) (sym is.most) s.most) s.sees
 
+  -- A run with a zombie is not opaque.
   pub not_opaque : (past ss : List (Step Op)) (z : Zombie Op) (is : IsZombie O h ss z) → IsPrefix is.past past → IsOpaque O h past → ⊥
   not_opaque past ss z is b opaque = not_seen ss z is (opaque is.past z.tx b is.opened is.some)
 
@@ -82,6 +83,7 @@ module _ {Op State : Type 0} (O : Object Op State) (h : Option (Start Op)) where
       | inr less ↦ absurd (not_opaque is.past ss z is (prefix_same is.past) (it.first is.past b less))
     ]
 
+    -- A run has at most one first zombie.
     pub one_zombie : (z w : Zombie Op) → IsZombie O h ss z → IsZombie O h ss w → z ≡ w
     one_zombie z w is it =
         let past : is.past ≡ it.past = elim (one_within is.past it.past (is.within).0 (it.within).0 (sym (is.within).1 ∙ (it.within).1)) [

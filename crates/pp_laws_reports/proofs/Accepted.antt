@@ -67,12 +67,14 @@ module _ (bytes : List ℕ) (run : HasRun (scan bytes)) (report : List ℕ) (is 
         | inr few ↦ none statuses.Accepted (certificate_text run.header.what.catalog config) (statuses.Accepted, report, is, (run, inl (few, refl, refl)))
       ]
 
+-- Every input has an output of `views`.
 pub views_are_defined : (bytes : List ℕ) → IsDefined (IsViews bytes)
 views_are_defined bytes none =
     some_report bytes (λ report is. none statuses.InputFault report (statuses.InputFault, report, is, (refl, refl)))
     (λ run report is. accepted_views bytes run report is none)
     (λ run report is. none statuses.Rejected report (statuses.Rejected, report, is, (refl, refl)))
 
+-- Every input has an output of `swaps`.
 pub swaps_are_defined : (bytes : List ℕ) → IsDefined (IsSwaps bytes)
 swaps_are_defined bytes none =
     some_report bytes (λ report is. none statuses.InputFault report (statuses.InputFault, report, is, (refl, refl)))

@@ -149,6 +149,7 @@ found methods.Insert = refl
 found methods.Take = refl
 found methods.Least = refl
 
+-- Methods with the same word are equal.
 pub same_method : (m n : Method) → method_word m ≡ method_word n → m ≡ n
 same_method m n e =
     let both : Some m ≡ Some n = sym (found m) ∙ ap (λ (w : List ℕ). named method_word all_methods w) e ∙ found n in

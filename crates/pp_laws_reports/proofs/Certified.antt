@@ -86,6 +86,7 @@ module _ (bytes : List ℕ)
     no_run : ⊥
     no_run = some_verdict (object_of header.what) (start_of header.what) (bare all_steps) no_verdict
 
+  -- It is impossible that an input without a fault has no report.
   pub some_report : ⊥
   some_report = within (λ line over. no_fault (line, TooManySteps) (inl (line, over, refl)))
     where
@@ -96,12 +97,14 @@ module _ (bytes : List ℕ)
           by (Some f) is = no_fault f (inr (few, sym is))
           by None is = let h = header_of_sound bytes is in no_run h.0 h.1 (inr (few, sym is))
 
+-- Every input has an output of `certify`.
 pub certify_is_defined : (bytes : List ℕ) → IsDefined (IsCertified bytes)
 certify_is_defined bytes none = some_report bytes (none statuses.InputFault) (λ run. none statuses.Accepted) (λ run. none statuses.Rejected)
 
 abbrev printed_run : (bytes : List ℕ) → HasRun (scan bytes) → List ℕ
 printed_run bytes r = run_text r.header.what.catalog r.header.what.start (bare r.run)
 
+-- Every input has an output of `expand`.
 pub expand_is_defined : (bytes : List ℕ) → IsDefined (IsExpanded bytes)
 expand_is_defined bytes none =
     some_report bytes (λ report is. none statuses.InputFault report (report, is, refl))

@@ -80,6 +80,7 @@ module _ (catalog : Objects) where
       let one : IsPrintable catalog (committed_tx a) = record { named = h.0.0; each = h.0.1 } in
       (one, without_bodies as' h.1)
 
+  -- The committed transactions of a run that can be stated are printable.
   pub all_printable : (start : Option Start) (ss : List (Step Op)) → CanStart catalog start → Each (IsStatable catalog) ss
       → ArePrintable catalog (map committed_tx (attempts (option_map (λ z. start_with z.tx z.ops) start) ss))
   all_printable start ss begun h =

@@ -30,6 +30,7 @@ header_of_quick bytes sound = by (scan bytes).header refl
     by (Some h) is = (h, is)
     by None is = header_of_sound bytes (subst (λ (o : Option (Lined Header)). style_fault o (scan bytes).fault ≡ None) is sound)
 
+-- Every input has an output of `quick`.
 pub quick_is_defined : (bytes : List ℕ) → IsDefined (IsQuick bytes)
 quick_is_defined bytes none = by (quick_fault (scan bytes)) refl
   where

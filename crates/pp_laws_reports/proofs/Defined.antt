@@ -19,6 +19,7 @@ recheck_is_defined bytes none =
 drill_is_defined : (n : ℕ) → 1 ≤ n → n ≤ 20_000 → IsDefined (IsDrilled n)
 drill_is_defined n low high none = none statuses.Accepted (drill_lines n) (prints_lines n low high).output
 
+-- Every input has an output of each command.
 pub defined_laws : DefinedLaws
 defined_laws =
     record {

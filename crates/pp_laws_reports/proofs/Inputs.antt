@@ -142,6 +142,7 @@ same_runs bytes other text r q is also =
     let few_q : length q.run ≤ 200_000 = subst (λ (n : ℕ). n ≤ 200_000) (length_bare q.run) there.few in
     (law.count (small (length r.run) few_r) (small (length q.run) few_q), serial_run x y r.run q.run (length r.run) (length q.run) law)
 
+-- Accepted inputs with the same report of `certify` have the same committed transactions.
 pub certify_law : CertifyLaw
 certify_law bytes other text is also = (has_run bytes text is, has_run other text also, λ r q. same_runs bytes other text r q is also)
 
@@ -221,5 +222,6 @@ same_decided bytes other text is also h k here there =
     let law = quick_readable x.catalog y.catalog m n (committed_in x run) (committed_in y again) (final_of x run) (final_of y again) over.0 under.0 (quick_printable bytes text h here one.hold) (quick_printable other text k there two.hold) (sym one.printed ∙ two.printed) in
     serial_run x y run again m n law
 
+-- Accepted inputs with the same report of `quick` have the same committed transactions.
 pub quick_law : QuickLaw
 quick_law bytes other text is also = (has_header bytes text is, has_header other text also, λ h k here there. same_decided bytes other text is also h k here there)

@@ -40,6 +40,7 @@ decimal_only n = onto_only 64 n [] tt
 digit_in_number : (b : ℕ) → is_digit b ≡ true → is_number_byte b ≡ true
 digit_in_number b h = ap (λ t. t || b == 45) h
 
+-- The decimal text of a whole number has only digits and a sign.
 pub signed_only : (z : ℤ) → Only is_number_byte (signed_decimal z)
 signed_only (pos n) = only_weaker is_digit is_number_byte digit_in_number (decimal n) (decimal_only n)
 signed_only (negsuc n) = (refl, only_weaker is_digit is_number_byte digit_in_number (decimal (suc n)) (decimal_only (suc n)))
@@ -52,6 +53,7 @@ least = negsuc 999_999_999_999_999_999
 abbrev most : ℤ
 most = pos 1_000_000_000_000_000_000
 
+-- A number in the range of records has a magnitude below 2 to the power of 63.
 pub range_mag : (z : ℤ) → IsTrue (in_range z) → mag z < 2 ^ 63
 range_mag (pos n) h =
     let ends = both (int_le least (pos n)) (int_le (pos n) most) h in
@@ -62,6 +64,7 @@ range_mag (negsuc n) h =
     let le : nat_le n 999_999_999_999_999_999 ≡ true = ends.0 in
     grind (arith, nat_tests)
 
+-- Numbers in the range of records with the same decimal text are equal.
 pub same_number : (y z : ℤ) → IsTrue (in_range y) → IsTrue (in_range z) → signed_decimal y ≡ signed_decimal z → y ≡ z
 same_number y z h k e = signed_decimal_injective y z (range_mag y h) (range_mag z k) e
 
@@ -119,6 +122,7 @@ more_only : (ns : List ℤ) → Only is_arguments_byte (more_bytes ns)
 more_only [] = tt
 more_only (n ∷ ns) = (refl, only_append is_arguments_byte (signed_decimal n) (more_bytes ns) (signed_in n) (more_only ns))
 
+-- The text of a list of numbers has only digits, signs and commas.
 pub arguments_only : (ns : List ℤ) → Only is_arguments_byte (arguments_bytes ns)
 arguments_only [] = tt
 arguments_only (n ∷ ns) = only_append is_arguments_byte (signed_decimal n) (more_bytes ns) (signed_in n) (more_only ns)

@@ -21,6 +21,7 @@ line_stop : (catalog : Objects) (p : ℕ → Bool) (s : List ObjectState) (place
 line_stop catalog p s [] h = tt
 line_stop catalog p s (place ∷ places) h = h
 
+-- The lines of states begin with no byte of a class that lacks the letter `s`.
 pub states_stop : (catalog : Objects) (p : ℕ → Bool) (s : List ObjectState) → p 115 ≡ false → Stops p (state_lines catalog s)
 states_stop catalog p s h = line_stop catalog p s (range_with_len 0 (length catalog)) h
 
@@ -90,5 +91,6 @@ module _ (catalog other : Objects) (names : HasNames catalog) (others : HasNames
       let tails : map (name_at catalog) ps ≡ map (name_at other) qs = same_lines ps qs bare in
       cc
 
+  -- State lines that are the same have the same names of objects.
   pub same_names : state_lines catalog s ≡ state_lines other t → keys_of catalog ≡ keys_of other
   same_names e = sym (names_are catalog) ∙ same_lines (range_with_len 0 (length catalog)) (range_with_len 0 (length other)) e ∙ names_are other

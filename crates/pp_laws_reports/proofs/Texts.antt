@@ -140,6 +140,7 @@ module _ (catalog other : Objects) (names : HasNames catalog) (others : HasNames
 text_regrouped : (first : List ℕ) (catalog : Objects) (a : List (CommittedTx Op)) (s : List ObjectState) → text_with first catalog a s ≡ first ++ 10 ∷ txs_then catalog a (state_lines catalog s)
 text_regrouped first catalog a s = simp append_assoc
 
+-- The committed transactions can be read back from the text of a report.
 pub text_law : TextLaw
 text_law catalog other first next a b s t here there unbroken whole h k e =
     let after_a = txs_then catalog a (state_lines catalog s) in
@@ -190,8 +191,10 @@ with_front front unbroken catalog other m n a b s t here there h k e =
     let law = text_law catalog other first next a b s t here there (first_unbroken front m (length a) unbroken) (first_unbroken front n (length b) unbroken) h k e in
     record { names = law.names; committed = law.committed; count = same_count front m n (length a) (length b) law.line }
 
+-- The committed transactions can be read back from an accepted report of `certify`.
 pub certify_readable : IsReadable accepted_text
 certify_readable = with_front (codes "accepted steps ") refl
 
+-- The committed transactions can be read back from an accepted report of `quick`.
 pub quick_readable : IsReadable quick_accepted_text
 quick_readable = with_front (codes "quick accepted records ") refl

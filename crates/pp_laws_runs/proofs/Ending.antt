@@ -77,11 +77,13 @@ module _ {Op State : Type 0} (O : Object Op State) where
     cmt_listed styles.Hardware recorded stand n b = cmt_settled (stand (λ e. cc)) n b
     cmt_listed styles.Dependent recorded stand n b = cmt_dependent n b
 
+    -- A CMT of a transaction with no unpushed entry breaks only breakable criteria.
     pub cmt_only : (style : Style) → style ≢ styles.Rules → (style ≢ styles.Dependent → PulledStand c x.local) → OnlyBreaks O style c (Cmt t ∷ [])
     cmt_only style recorded stand = (cmt_listed style recorded stand, λ m. tt)
 
   -- ---- an abort
 
+  -- The steps of an abort break only breakable criteria.
   pub abort_only : (style : Style) (c : Config Op) (t : Name) (x : Tx Op) → Sound O c → tx t c.opened ≡ Some x → OnlyBreaks O style c (back t 0 x.local ++ Quit t ∷ [])
   abort_only style c t x s h =
       let steps : List (Step Op) = back t 0 x.local in
@@ -114,6 +116,7 @@ module _ {Op State : Type 0} (O : Object Op State) where
             (λ v w i. d v w (inr i)),
       )
 
+  -- The UNPULL steps that give up a source break only breakable criteria.
   pub unpulls_only : (c : Config Op) (t source : Name) (x : Tx Op) → Sound O c → tx t c.opened ≡ Some x → OnlyBreaks O styles.Dependent c (unpulls t source x.local)
   unpulls_only c t source x s h =
       let ids : LocalIds x.local = s.local_ids x (found_tx t c.opened x h).0 in

@@ -51,6 +51,7 @@ done_more {Op} c (s ∷ ss) =
     let more = done_more (then c s) ss in
     (one.0 ++ more.0, more.1 ∙ ap (λ (l : List (CommittedTx Op)). l ++ more.0) one.1 ∙ append_assoc c.done one.0 more.0)
 
+-- The transactions that the first steps commit are the first that all steps commit.
 pub committed_more : {Op State : Type 0} (O : Object Op State) (h : Option (Start Op)) (xs ys : List (Step Op)) → StartMeets O h → RunsFrom O (first h) (xs ++ ys) →
     Begins (map committed_tx (attempts h xs)) (map committed_tx (attempts h (xs ++ ys)))
 committed_more {Op} O h xs ys begun runs =

@@ -52,9 +52,11 @@ module _ {H F R Op State Cause : Type 0} (setting : H → Setting F R Op State) 
       let same = told_accepted Cause s (steps_of s sc.records) told.0 steps committed final told.2 in
       (is, subst (λ (v : Verdict). IsVerdict s.object s.start (steps_in sc.records) v) same.0 told.1, same.1, same.2)
 
+  -- An accepted report has no fault, accepted records, and their numbers of steps and attempts.
   pub accepted_parts : (sc : Scan H R Cause) (steps : ℕ) (committed : List (Attempt Op)) (final : State) → sc.header ≡ Some h → IsReport setting too_many sc (Accepts steps committed final) → Parts sc steps committed
   accepted_parts sc steps committed final header is = parts_behind sc steps committed final is.0 header is.1 is.2
 
+  -- A scan with no fault and accepted records has a report that accepts it.
   pub accepted_whole : (sc : Scan H R Cause) (steps : ℕ) (committed : List (Attempt Op)) → sc.header ≡ Some h → Parts sc steps committed → (final : State) × IsReport setting too_many sc (Accepts steps committed final)
   accepted_whole sc steps committed header (none, accepted, count, same) =
       let final : State = state s.object (serial (attempts s.start (steps_in sc.records))) in
@@ -71,6 +73,7 @@ module _ {H F R Op State Cause : Type 0} (setting : H → Setting F R Op State) 
   -- ---- the first records of it
 
   module _ (sc wider : Scan H R Cause) (records : Begins sc.records wider.records) where
+    -- The steps of the first records are the first steps of all records.
     pub first_steps : Begins (steps_of s sc.records) (steps_of s wider.records)
     first_steps =
         let p = outset s.translation s.start in (
@@ -85,6 +88,7 @@ module _ {H F R Op State Cause : Type 0} (setting : H → Setting F R Op State) 
       first_runs : RunsFrom s.object (first s.start) (steps_in sc.records ++ bare first_steps.0)
       first_runs = subst (λ (ss : List (Step Op)). RunsFrom s.object (first s.start) ss) first_bare ((accepted_iff s.object s.start (steps_in wider.records)).0 accepted).1
 
+      -- If all records of a run are accepted, so are the first ones.
       pub first_accepted : AreAccepted sc.records
       first_accepted =
           (accepted_iff s.object s.start (steps_in sc.records)).1 (
@@ -92,6 +96,7 @@ module _ {H F R Op State Cause : Type 0} (setting : H → Setting F R Op State) 
             runs_front s.object (first s.start) (steps_in sc.records) (bare first_steps.0) first_runs,
           )
 
+      -- The transactions that the first records commit are the first that all records commit.
       pub first_committed : Begins (map committed_tx (attempts s.start (steps_in sc.records))) (map committed_tx (attempts s.start (steps_in wider.records)))
       first_committed =
           subst (λ (ss : List (Step Op)). Begins (map committed_tx (attempts s.start (steps_in sc.records))) (map committed_tx (attempts s.start ss))) (sym first_bare)
@@ -105,6 +110,7 @@ module _ {H F R Op State Cause : Type 0} (setting : H → Setting F R Op State) 
           (subst (λ (rs : Records R). OverrunsAt setting (Some h) rs line) (sym records.1)
           ((extends_law s.object s.translation).too_many s.start sc.records records.0 line (subst (λ (o : Option H). OverrunsAt setting o sc.records line) header over)))
 
+      -- If an input has no fault, and no line of its first records has one, they have none.
       pub first_sound : sc.fault ≡ None → IsFault setting too_many wider None → IsFault setting too_many sc None
       first_sound sound (inl over) = absurd (let e : None ≡ Some (over.0, too_many) = over.2 in cc)
       first_sound sound (inr none) = inr (λ line over. none.0 line (overruns_too line over), sym sound)

@@ -139,6 +139,7 @@ module _ {Op State : Type 0} (O : Object Op State) (place : Op → ℕ) where
         (λ e. let z : Pushed ≡ Unpushed = sym (ap (λ (w : LocalEntry Op). w.mark) e) ∙ k in cc))
         (λ y i n. kept y (still_after t ss c y g.own i n)))
 
+    -- Records of style `boosted` leave no unpushed entry between them.
     pub boosted_keeps : (r : RunRecord Op) → IsOfStyle styles.Boosted r → RunsFrom O c (expand place styles.Boosted f c r) → Kept styles.Boosted (front_after f c r) (after_from c (expand place styles.Boosted f c r))
     boosted_keeps (records.Plain step) i =
         let b = only_begin O place styles.Boosted (λ e. cc) step i in
@@ -325,6 +326,7 @@ module _ {Op State : Type 0} (O : Object Op State) (place : Op → ℕ) where
     abbrev KeptBy : (Option (Tx Op) → Front) → Option (Tx Op) → List (Step Op) → Type 0
     KeptBy g o ss = KeptAfter (g o) ss
 
+    -- Records of style `hardware` keep what is true of sections between them.
     pub hardware_keeps : (r : RunRecord Op) → IsOfStyle styles.Hardware r → RunsFrom O c (expand place styles.Hardware f c r) → KeptAfter (front_after f c r) (expand place styles.Hardware f c r)
     hardware_keeps (records.Plain step) i =
         let b = only_begin O place styles.Hardware (λ e. cc) step i in
@@ -353,6 +355,7 @@ module _ {Op State : Type 0} (O : Object Op State) (place : Op → ℕ) where
     hardware_keeps (records.Publish t) i = absurd i
     hardware_keeps (records.DropSource t source) i = absurd i
 
+  -- Each record of a recorded style keeps what is true between records.
   pub record_keeps : (style : Style) → style ≢ styles.Rules → (f : Front) (c : Config Op) → Sound O c → Kept style f c → (r : RunRecord Op) → IsOfStyle style r → RunsFrom O c (expand place style f c r) →
       Kept style (front_after f c r) (after_from c (expand place style f c r))
   record_keeps styles.Rules recorded f c s kept r i run = absurd (recorded refl)

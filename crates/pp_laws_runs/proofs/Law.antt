@@ -83,6 +83,7 @@ module _ {Op State : Type 0} (O : Object Op State) (place : Op → ℕ) (apart :
         (λ n. run_pulled O c ss s (pulled n) run (record_committed O place style recorded n f c s r.what of))
         (record_keeps O place style recorded f c s kept r.what of run)))
 
+  -- The steps of records of a recorded style break only breakable criteria.
   pub breakable_law : BreakableLaw O place
   breakable_law style kinds h rs past rest s n recorded styled met is run breaks =
       let T = translation place style kinds in

@@ -82,6 +82,7 @@ module _ {Op State : Type 0} (O : Object Op State) (h : Option (Start Op)) (run 
         | inr (inr k) ↦ absurd (not_both i j less (never y x k))
       ]
 
+  -- The commit order of an accepted run respects real time by lines that never fall.
   pub respects_lines : RespectsLines h run
   respects_lines =
       let time = respects_time O h met (bare run) hold in
@@ -92,8 +93,10 @@ module _ {Op State : Type 0} (O : Object Op State) (h : Option (Start Op)) (run 
         thread_order = λ t u p b c i j x y less k l. time.thread_order t u p b c (in_step_order _ _ i j x y less) k l;
       }
 
+-- Each accepted run on lines that never fall respects real time by its lines.
 pub lines_law : {Op State : Type 0} (O : Object Op State) → LinesLaw O
 lines_law O h run never met hold = respects_lines O h run never met hold
 
+-- Each accepted run of records on lines that never fall respects real time by its lines.
 pub records_law : {F R Op State : Type 0} (O : Object Op State) (T : Translation F R Op) → RecordsLaw O T
 records_law O T h rs run never is met hold = respects_lines O h run (run_never_falls O T h rs run never is) met hold

@@ -47,6 +47,7 @@ other_found {Op} t G g d i n =
     (ap (λ (b : Bool). b && not (g.owner =ⁿ t)) (eq-eqb g.id g.id refl) ∙ names_not g.owner t n)
     (λ y j h. by_key (λ (w : SharedEntry Op). w.id) G d y g j i (eqb-true y.id g.id (and_parts (y.id == g.id) (not (y.owner =ⁿ t)) h).0))
 
+-- The last element of a list with an element at its end is this element.
 pub last_end : {A : Type 0} (xs : List A) (x : A) → last (xs ++ x ∷ []) ≡ Some x
 last_end [] x = refl
 last_end (y ∷ []) x = refl
@@ -63,12 +64,15 @@ set_mark_off {Op} id m (a ∷ l) n =
 
 -- an entry of a log, with what comes before and after it
 module _ {Op : Type 0} (p q : List (LocalEntry Op)) (e : LocalEntry Op) (d : LocalIds (p ++ e ∷ q)) where
+  -- An entry before another one in a log has another id.
   pub apart_before : (a : LocalEntry Op) → In a p → a.id ≢ e.id
   apart_before a i = d a e (before_across a e p (e ∷ q) i (inl refl))
 
+  -- An entry after another one in a log has another id.
   pub apart_after : (a : LocalEntry Op) → In a q → a.id ≢ e.id
   apart_after a i z = d e a (before_right e a p (e ∷ q) (inl (refl, i))) (sym z)
 
+  -- An entry that is in order before another one is in the part before it.
   pub before_it : (a : LocalEntry Op) → Before a e (p ++ e ∷ q) → In a p
   before_it a h = elim (before_cases a e p (e ∷ q) h) [
     | inl k ↦ before_in_first a e p k
@@ -77,6 +81,7 @@ module _ {Op : Type 0} (p q : List (LocalEntry Op)) (e : LocalEntry Op) (d : Loc
     | inr (inr k) ↦ k.0
   ]
 
+  -- An entry that is in order after another one is in the part after it.
   pub after_it : (b : LocalEntry Op) → Before e b (p ++ e ∷ q) → In b q
   after_it b h = elim (before_cases e b p (e ∷ q) h) [
     | inl k ↦ absurd (apart_before e (before_in_first e b p k) refl)
@@ -85,6 +90,7 @@ module _ {Op : Type 0} (p q : List (LocalEntry Op)) (e : LocalEntry Op) (d : Loc
     | inr (inr k) ↦ absurd (apart_before e k.0 refl)
   ]
 
+  -- A mark at the id of an entry changes the mark of this entry alone.
   pub set_mark_at : (m : Mark) → set_mark e.id m (p ++ e ∷ q) ≡ p ++ marked m e ∷ q
   set_mark_at m =
       let f = λ (a : LocalEntry Op). cond (a.id == e.id) (marked m a) a in
@@ -93,6 +99,7 @@ module _ {Op : Type 0} (p q : List (LocalEntry Op)) (e : LocalEntry Op) (d : Loc
       ∙ ap (λ (b : Bool). p ++ cond b (marked m e) e ∷ map f q) (eq-eqb e.id e.id refl)
       ∙ ap (λ (w : List (LocalEntry Op)). p ++ marked m e ∷ w) (set_mark_off e.id m q apart_after)
 
+  -- A log without the id of an entry is the part before it and the part after it.
   pub without_it : without_local e.id (p ++ e ∷ q) ≡ p ++ q
   without_it =
       let test = λ (a : LocalEntry Op). not (a.id == e.id) in

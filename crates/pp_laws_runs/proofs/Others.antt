@@ -86,6 +86,7 @@ begun_stays {Op} c (Cmt u) t i = by (tx u c.opened)
 begun_stays c (Quit u) t i = i
 begun_stays c (Note u) t i = i
 
+-- A name that was begun stays begun.
 pub begun_after : {Op : Type 0} (ss : List (Step Op)) (c : Config Op) (t : Name) → In t c.names → In t (after_from c ss).names
 begun_after [] c t i = i
 begun_after (s ∷ ss) c t i = begun_after ss (then c s) t (begun_stays c s t i)
@@ -93,10 +94,12 @@ begun_after (s ∷ ss) c t i = begun_after ss (then c s) t (begun_stays c s t i)
 abbrev pub AreOf : {Op : Type 0} → Name → List (Step Op) → Type 0
 AreOf t ss = Each (λ s. subject s ≡ t) ss
 
+-- A transaction that is open after steps of another one was open before them.
 pub still_after : {Op : Type 0} (t : Name) (ss : List (Step Op)) (c : Config Op) (y : Tx Op) → AreOf t ss → In y (after_from c ss).opened → y.name ≢ t → In y c.opened
 still_after t [] c y k i n = i
 still_after t (s ∷ ss) c y k i n = still_open c s y (still_after t ss (then c s) y k.1 i n) (λ z. n (z ∙ k.0))
 
+-- Joined steps are of one transaction if both parts are.
 pub of_append : {Op : Type 0} (t : Name) (xs ys : List (Step Op)) → AreOf t xs → AreOf t ys → AreOf t (xs ++ ys)
 of_append t [] ys h k = k
 of_append t (x ∷ xs) ys h k = (h.0, of_append t xs ys h.1 k)
@@ -109,9 +112,11 @@ of_pushes : {Op : Type 0} (t : Name) (es : List (LocalEntry Op)) → AreOf {Op =
 of_pushes t [] = tt
 of_pushes t (e ∷ es) = (refl, of_pushes t es)
 
+-- The steps of a pushall are of its transaction.
 pub of_pushall : {Op : Type 0} (t : Name) (l : List (LocalEntry Op)) → AreOf {Op = Op} t (pushall t l)
 of_pushall t l = of_pushes t (filter (λ e. is_mark e.mark Unpushed) l)
 
+-- The steps that take entries out of a local log are of its transaction.
 pub of_taken : {Op : Type 0} (t : Name) (l : List (LocalEntry Op)) → AreOf {Op = Op} t (taken_out t l)
 of_taken t [] = tt
 of_taken {Op} t (e ∷ l) = of_append t (taken_out t l) (taken_at t e.id e.mark) (of_taken t l) (by e.mark)
@@ -125,6 +130,7 @@ of_taken {Op} t (e ∷ l) = of_append t (taken_out t l) (taken_at t e.id e.mark)
 pub after_quit : {Op : Type 0} (c : Config Op) (t : Name) (y : Tx Op) → In y (then c (Quit t)).opened → In y c.opened × (y.name ≢ t)
 after_quit {Op} c t y i = let f = from_filter (λ (w : Tx Op). not (w.name =ⁿ t)) y c.opened i in (f.0, not_names y.name t f.1)
 
+-- A transaction that is open after a CMT was open before it, and is another one.
 pub after_cmt : {Op State : Type 0} (O : Object Op State) (c : Config Op) (t : Name) (y : Tx Op) → Meets O c (Cmt t) → In y (then c (Cmt t)).opened → In y c.opened × (y.name ≢ t)
 after_cmt {Op} O c t y m i =
     let x = there_holds (tx t c.opened) _ m in
@@ -170,6 +176,7 @@ module _ {Op State : Type 0} (O : Object Op State) (place : Op → ℕ) (c : Con
       ∙ tx_on t (λ l. l ++ applied ∷ []) (after_from c steps).opened (relog (λ l. l ++ more) x) led
       ∙ ap (λ (l : List (LocalEntry Op)). Some (relog (λ k. l) x)) (append_assoc x.local more (applied ∷ []))
 
+  -- An operation at once adds pulled entries and a pushed one to the local log.
   pub at_once_grows : RunsFrom O c (op_at_once place c.shared x.local t id op) → Grows t x c (op_at_once place c.shared x.local t id op) (marked Pushed applied)
   at_once_grows r =
       let two : List (Step Op) = App t id op ∷ Push t id ∷ [] in
@@ -194,6 +201,7 @@ module _ {Op State : Type 0} (O : Object Op State) (place : Op → ℕ) (c : Con
         own = of_append t first two (of_pulls t (missing wanted c.shared x.local)) (refl, (refl, tt));
       }
 
+  -- An operation that is pushed later adds pulled entries and an unpushed one to the local log.
   pub later_grows : (seen : List (LocalEntry Op)) → RunsFrom O c (op_later place seen c.shared x.local t id op) → Grows t x c (op_later place seen c.shared x.local t id op) applied
   later_grows seen r = by (touches place (place op) seen) r
     where

@@ -31,6 +31,7 @@ run_is sc header there accepted r =
     run_whole setting_of TooManySteps header sc.records r.run accepted
     (subst (λ (h : Lined Header). IsRun (object_of h.what) (translation_of h.what) (start_of h.what) sc.records r.run) same r.steps)
 
+-- Each prefix of an accepted input that has the header's line and ends a line is accepted.
 pub prefix_law : PrefixLaw
 prefix_law front back steps committed is (final, report) =
     let sc : InputScan = scan front in
@@ -68,6 +69,7 @@ accepted_told (Some header) (StartRejected line criterion) text is = absurd (let
 accepted_told None (StepRejected number line criterion before step) text is = absurd is
 accepted_told (Some header) (StepRejected number line criterion before step) text is = absurd (let e : statuses.Accepted ≡ statuses.Rejected = is.0 in cc)
 
+-- If an input is certified as accepted, so is each prefix with its header that ends a line.
 pub certified_prefix_law : CertifiedPrefixLaw
 certified_prefix_law front back text is (report, reported, told) =
     let bytes : List ℕ = front ++ back in
@@ -85,6 +87,7 @@ some_ended front (start, is) =
     let parts : length (ended front) ≡ length (ended start) + 1 = ap (λ (bytes : List ℕ). length (ended bytes)) is ∙ ap length (ended_append [] start (10 ∷ [])) ∙ length-append (ended start) (rest start ∷ []) in
     omega (arith, parts)
 
+-- If the header is on line 1, each prefix that ends a line has the header's line whole.
 pub first_line_law : FirstLineLaw
 first_line_law front back header ends read one =
     record {

@@ -27,6 +27,7 @@ use Rattle.pp_laws_runs.specs.Breakable.{breakable}
 abbrev pub NoneUnpushed : {Op : Type 0} → List (LocalEntry Op) → Type 0
 NoneUnpushed {Op} l = (a : LocalEntry Op) → In a l → a.mark ≢ Unpushed
 
+-- A log with no unpushed entry has none with one more that is not unpushed.
 pub one_more_pushed : {Op : Type 0} (l : List (LocalEntry Op)) (e : LocalEntry Op) → NoneUnpushed l → e.mark ≢ Unpushed → NoneUnpushed (l ++ e ∷ [])
 one_more_pushed {Op} l e none n a i = elim (in_cases a l (e ∷ []) i) [
   | inl j ↦ none a j
@@ -88,5 +89,6 @@ module _ {Op State : Type 0} (O : Object Op State) (style : Style) where
         )
       ] refl
 
+  -- The steps of a pushall break only breakable criteria.
   pub pushall_only : style ≢ styles.Rules → (c : Config Op) (t : Name) (x : Tx Op) → OwnIfOptimistic t c → Sound O c → tx t c.opened ≡ Some x → OnlyBreaks O style c (pushall t x.local)
   pushall_only recorded c t x own s h = rest_only recorded t x.local [] c x own s h refl (λ a i. absurd i)

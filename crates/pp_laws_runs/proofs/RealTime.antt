@@ -127,6 +127,7 @@ module _ {Op State : Type 0} (O : Object Op State) (h : Option (Start Op)) (met 
             others x n (one_thread t x.thread p o.0 b (in_run (Begin t x.thread o.0) mine) (in_run (Begin t p b) i)),
       )
 
+  -- The commit order of an accepted run respects real time.
   pub respects_time : RespectsTime h ss
   respects_time = record {
     once = λ t u i.
@@ -149,5 +150,6 @@ module _ {Op State : Type 0} (O : Object Op State) (h : Option (Start Op)) (met 
         ];
   }
 
+-- The commit order of each accepted run respects real time.
 pub real_time_law : {Op State : Type 0} (O : Object Op State) → RealTimeLaw O
 real_time_law O h ss met run = respects_time O h met ss run

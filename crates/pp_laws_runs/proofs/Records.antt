@@ -35,6 +35,7 @@ use Rattle.pp_laws_runs.proofs.Undoing.{back_only}
 
 -- ---- steps that pull nothing
 
+-- Each element of joined lists has a property if each of both lists has it.
 pub each_append : {A : Type 0} (P : A → Type 0) (xs ys : List A) → Each P xs → Each P ys → Each P (xs ++ ys)
 each_append P [] ys h k = k
 each_append P (x ∷ xs) ys h k = (h.0, each_append P xs ys h.1 k)
@@ -163,6 +164,7 @@ module _ {Op State : Type 0} (O : Object Op State) (place : Op → ℕ) where
     noted : (t : Name) (steps : List (LocalEntry Op) → List (Step Op)) → ((x : Tx Op) → tx t c.opened ≡ Some x → OnlyBreaks O style c (steps x.local)) → OnlyBreaks O style c (where_open c t (Note t) (λ l. Note t ∷ steps l))
     noted t steps k = open_all (λ ss. OnlyBreaks O style c ss) c t (Note t) (λ l. Note t ∷ steps l) (λ e. note_alone style c t) (λ x h. note_only O style c t (steps x.local) (λ m. k x h))
 
+    -- The steps of a record break only breakable criteria, if what is true between records is.
     pub record_only : (style ≡ styles.Optimistic → AllShared c) → (style ≢ styles.Dependent → PulledCommitted c) → PassesAtOnce style f c → (style ≡ styles.Boosted → (x : Tx Op) → In x c.opened → NoneUnpushed x.local) → (r : RunRecord Op) → IsOfStyle style r →
         OnlyBreaks O style c (expand place style f c r)
     record_only calm pulled passes none (records.Plain step) i =
@@ -240,6 +242,7 @@ module _ {Op State : Type 0} (O : Object Op State) (place : Op → ℕ) where
     note_and : (t : Name) (steps : List (LocalEntry Op) → List (Step Op)) → ((l : List (LocalEntry Op)) → AllCommitted c (steps l)) → AllCommitted c (where_open c t (Note t) (λ l. Note t ∷ steps l))
     note_and t steps k = open_all (λ ss. AllCommitted c ss) c t (Note t) (λ l. Note t ∷ steps l) (λ e. no_pulls c (Note t ∷ []) (tt, tt)) (λ x h. (no_pull c (Note t) tt, k x.local))
 
+    -- The steps of a record pull only committed entries, but in styles `rules` and `dependent`.
     pub record_committed : (r : RunRecord Op) → IsOfStyle style r → AllCommitted c (expand place style f c r)
     record_committed (records.Plain step) i =
         let b = only_begin style recorded step i in

@@ -140,5 +140,6 @@ scan_rises sc [] rise before numbers = rise
 scan_rises sc (line ∷ lines) rise before numbers =
     scan_rises (scan_line sc line) lines (next_rises sc line lines rise before numbers) (next_before sc line lines rise before numbers) (λ a b h. numbers a b (inr h))
 
+-- The records of an input are on lines that rise.
 pub rising_law : RisingLaw
 rising_law bytes = scan_rises nothing (scanned_lines bytes) (λ x y b. absurd b) (λ r l i j. absurd i) (scanned_rise bytes)

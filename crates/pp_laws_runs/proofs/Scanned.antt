@@ -142,9 +142,11 @@ module _ (front back : List ℕ) (is : IsPrefixOfLines front back) (none : IsFau
         | Some fault ↦ λ h. ap (λ (s : InputScan). s.fault) (sym (widens.fault fault h)) ∙ sound.0
       ] refl
 
+  -- A prefix that has the header's line and ends a line has the same header.
   pub front_header : (scan front).header ≡ Some is.header
   front_header = ap (λ (ls : List NumberedLine). (scan_lines ls).header) lines ∙ header_there
 
+  -- A prefix of an input without a fault has no fault.
   pub front_sound : (scan front).fault ≡ None
   front_sound =
       ap (λ (ls : List NumberedLine). option_or (scan_lines ls).fault (option_or (limit_fault (overrun front)) (no_header front (scan_lines ls).header))) lines
@@ -152,5 +154,6 @@ module _ (front back : List ℕ) (is : IsPrefixOfLines front back) (none : IsFau
       ∙ ap (λ (o : Option LineFault). option_or (limit_fault o) (no_header front sc.header)) within
       ∙ ap (λ (o : Option (Lined Header)). no_header front o) header_there
 
+  -- The records of a prefix of an input are its first records.
   pub front_records : Begins (scan front).records (scan (front ++ back)).records
   front_records = (widens.records.0, widens.records.1 ∙ ap (λ (ls : List NumberedLine). (scan_lines ls).records ++ widens.records.0) (sym lines))

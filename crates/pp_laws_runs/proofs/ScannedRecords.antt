@@ -74,5 +74,6 @@ lines_styled : (sc : InputScan) (lines : List NumberedLine) → AreStyled sc →
 lines_styled sc [] s = s
 lines_styled sc (line ∷ lines) s = lines_styled (scan_line sc line) lines (line_styled sc line s)
 
+-- The records of an input are of the style of its header.
 pub scan_styled : (bytes : List ℕ) (h : Lined Header) → (scan bytes).header ≡ Some h → (r : Lined (RunRecord Op)) → In r (scan bytes).records → IsOfStyle h.what.style r.what
 scan_styled bytes h e r i = (lines_styled nothing (scanned_lines bytes) (record { none = λ z. refl; styled = λ k z q j. absurd j })).styled h e r i

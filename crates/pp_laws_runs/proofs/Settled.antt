@@ -45,13 +45,16 @@ abbrev pub AllCommitted : {Op : Type 0} → Config Op → List (Step Op) → Typ
 AllCommitted c [] = Unit {0}
 AllCommitted c (s ∷ ss) = PullsCommitted c s × AllCommitted (then c s) ss
 
+-- A step that is no PULL pulls only committed entries.
 pub no_pull : {Op : Type 0} (c : Config Op) (s : Step Op) → NotPull s → PullsCommitted c s
 no_pull {Op} c s n t id g e f = absurd (subst (λ (w : Step Op). NotPull w) e n)
 
+-- Steps that are no PULL pull only committed entries.
 pub no_pulls : {Op : Type 0} (c : Config Op) (ss : List (Step Op)) → Each NotPull ss → AllCommitted c ss
 no_pulls c [] n = tt
 no_pulls c (s ∷ ss) n = (no_pull c s n.0, no_pulls (then c s) ss n.1)
 
+-- Joined steps pull only committed entries if the first do, and the second do after them.
 pub committed_append : {Op : Type 0} (c : Config Op) (xs ys : List (Step Op)) → AllCommitted c xs → AllCommitted (after_from c xs) ys → AllCommitted c (xs ++ ys)
 committed_append c [] ys a b = b
 committed_append c (x ∷ xs) ys a b = (a.0, committed_append (then c x) xs ys a.1 b)
@@ -64,6 +67,7 @@ pull_shared {Op} c t id = by (of_other t id c.shared)
     by None = refl
     by (Some g) = refl
 
+-- The PULL steps of committed entries pull only committed entries.
 pub pulls_committed : {Op : Type 0} (t : Name) (gs : List (SharedEntry Op)) (c : Config Op) → SharedIds c.shared → ((g : SharedEntry Op) → In g gs → In g c.shared × (g.committed ≡ true)) → AllCommitted c (map (λ g. Pull t g.id) gs)
 pulls_committed t [] c d all = tt
 pulls_committed {Op} t (g ∷ gs) c d all = (
@@ -158,6 +162,7 @@ module _ {Op State : Type 0} (O : Object Op State) (c : Config Op) (s : Sound O 
       sides g k true = (refl, refl)
       sides g k false = (refl, k)
 
+  -- A step that pulls only committed entries keeps all pulled entries committed.
   pub step_pulled : (a : Step Op) → Meets O c a → PullsCommitted c a → PulledCommitted (then c a)
   step_pulled (Begin t p b) m k = each_added c.opened (record { name = t; thread = p; body = b; local = [] }) (Stand c.shared) (moved c.shared same_log) (λ e i. absurd i)
   step_pulled (App t id op) m k = at_log c.shared same_log t _ (λ l e i z. elim (in_cases e l (as_applied t id op ∷ []) i) [
@@ -174,6 +179,7 @@ module _ {Op State : Type 0} (O : Object Op State) (c : Config Op) (s : Sound O 
   step_pulled (Quit t) m k = λ x i. moved c.shared same_log x (from_filter (λ (w : Tx Op). not (w.name =ⁿ t)) x c.opened i).0
   step_pulled (Note t) m k = pulled
 
+-- Steps that pull only committed entries keep all pulled entries committed.
 pub run_pulled : {Op State : Type 0} (O : Object Op State) (c : Config Op) (ss : List (Step Op)) → Sound O c → PulledCommitted c → RunsFrom O c ss → AllCommitted c ss → PulledCommitted (after_from c ss)
 run_pulled O c [] s pulled r k = pulled
 run_pulled O c (a ∷ ss) s pulled r k = run_pulled O (then c a) ss (step_keeps O c a s r.0) (step_pulled O c s pulled a r.0 k.0) r.1 k.1

@@ -137,6 +137,7 @@ module _ {Op State : Type 0} (O : Object Op State) (place : Op → ℕ) (f : Fro
       subst (λ (d : Config Op). AllShared d) (sym (after_append c (pushall t l) (Cmt t ∷ [])))
       (after_commit O (after_from c (pushall t l)) t m.0 (after_pushes t (filter (λ e. is_mark e.mark Unpushed) l) c (λ u i. inl (all u i))))
 
+  -- Records of style `optimistic` keep all entries of the shared log committed.
   pub optimistic_keeps : (r : RunRecord Op) → IsOfStyle styles.Optimistic r → Shares (expand place styles.Optimistic f c r)
   optimistic_keeps (records.Plain step) i =
       let b = only_begin O place styles.Optimistic (λ e. cc) step i in

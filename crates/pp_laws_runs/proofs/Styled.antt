@@ -99,6 +99,7 @@ named_styled styles.Dependent catalog word value =
     (either P (bytes_eq word (codes "drop")) _ _ (source_is P records.DropSource value (λ t u. tt))
     (either P (bytes_eq word (codes "publish")) _ _ (alone_is P records.Publish value (λ t. tt)) (boosted_styled styles.Dependent tt catalog word value)))
 
+-- A record that is read is of the style of its header.
 pub record_styled : (header : Header) (line : List ℕ) (r : RunRecord Op) → record_of header line ≡ Ok r → IsOfStyle header.style r
 unfolding record_of
 record_styled header line r e =

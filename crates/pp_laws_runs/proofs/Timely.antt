@@ -18,6 +18,7 @@ use Rattle.pp_laws_runs.specs.Timely.{CertifiedTimelyLaw, IsTimely, TimelyLaw}
 use Rattle.pp_laws_runs.proofs.Lines.{records_law, rise_never_fall}
 use Rattle.pp_laws_runs.proofs.Rising.{rising_law}
 
+-- A scan on lines that never fall is timely if each of its steps meets its criteria.
 pub timely_law : TimelyLaw
 timely_law sc never meets =
     let h = meets.header.what in
@@ -37,5 +38,6 @@ timely_law sc never meets =
 pub meets_timely : (bytes : List ℕ) → EachStepMeets (scan bytes) → IsTimely (scan bytes)
 meets_timely bytes meets = timely_law (scan bytes) (rise_never_fall (scan bytes).records (rising_law bytes)) meets
 
+-- An input that `certify` accepts is timely.
 pub certified_timely_law : CertifiedTimelyLaw
 certified_timely_law bytes text certified = meets_timely bytes ((certified_exact bytes statuses.Accepted text certified).0 refl).1

@@ -52,12 +52,14 @@ module _ {Op State : Type 0} (O : Object Op State) where
     found_at : (m : Mark) → e.mark ≡ m → at_mark e.id m x.local ≡ Some e
     found_at m k = mark_found x.local e m (s.local_ids x there) in_log k
 
+    -- An UNAPP of an unpushed last entry breaks no criterion.
     pub unapp_never : e.mark ≡ Unpushed → (n : ℕ) → Breaks O c (Unapp t e.id) (suc n) → ⊥
     unapp_never k n b =
         let a = after_there (tx t c.opened) _ x n h b in
         let is : last x.local ≡ Some e = ap (λ (l : List (LocalEntry Op)). last l) w ∙ last_end p e in
         one_never (IsLast e.id (last x.local)) a.0 (subst (λ (o : Option (LocalEntry Op)). IsLast e.id o) (sym is) (refl, k)) a.2
 
+    -- An UNPULL of a pulled last entry breaks no criterion.
     pub unpull_never : e.mark ≡ Pulled → (n : ℕ) → Breaks O c (Unpull t e.id) (suc n) → ⊥
     unpull_never k n b =
         let a = after_there (tx t c.opened) _ x n h b in
@@ -128,6 +130,7 @@ module _ {Op State : Type 0} (O : Object Op State) where
           (dropped (shared_ops parts.0) (shared_ops parts.1) e.op
           (λ o i. let m = from_map op_of o parts.1 i in subst (λ (z : Op). Swaps O e.op z) (sym m.2) (behind_swaps m.0 m.1)) whole))
 
+      -- An UNPUSH of a pushed last entry breaks no criterion.
       pub unpush_never : (n : ℕ) → Breaks O c (Unpush t e.id) (suc n) → ⊥
       unpush_never n b =
           let a = after_there (tx t c.opened) _ x n h b in
@@ -154,6 +157,7 @@ module _ {Op State : Type 0} (O : Object Op State) where
           )
         ] refl
 
+    -- The steps that take entries from the end of a local log break only breakable criteria.
     pub taken_only : (t : Name) (l p : List (LocalEntry Op)) (c : Config Op) (x : Tx Op) → Sound O c → tx t c.opened ≡ Some x → x.local ≡ p ++ l → OnlyBreaks O style c (taken_out t l)
     taken_only t [] p c x s h w = tt
     taken_only t (e ∷ l) p c x s h w =
@@ -167,5 +171,6 @@ module _ {Op State : Type 0} (O : Object Op State) where
         subst (λ (v : List (LocalEntry Op)). tx t (after_from c (taken_out t v)).opened ≡ Some (relog (λ v. take n v) x)) out (back_law O c t n x s h) in
         last_only (after_from c (taken_out t l)) t (relog (λ v. take n v) x) p e (run_keeps O (taken_out t l) c s r) led kept)
 
+    -- The steps of `back` break only breakable criteria.
     pub back_only : (c : Config Op) (t : Name) (n : ℕ) (x : Tx Op) → Sound O c → tx t c.opened ≡ Some x → OnlyBreaks O style c (back t n x.local)
     back_only c t n x s h = taken_only t (drop n x.local) (take n x.local) c x s h (sym (take-append-drop n x.local))

@@ -9,18 +9,23 @@ use Rattle.pp_log.proofs.Parted.{is_at, there_at, there_off, there_twice}
 
 -- What happens at a place depends on the items of this place alone.
 module _ {Shape State Op Undo : Type 0} (o : Object Shape State Op Undo) (place : Op → ℕ) (SameAt : ℕ → State → State → Type 0) (laws : IsLawful o) (places : IsPlaced o place SameAt) where
+  -- States that are the same at a place stay so after an operation of this place.
   pub next_at : (p : ℕ) (s t : State) (a : Op) → place a ≡ p → SameAt p s t → SameAt p (o.next s a) (o.next t a)
   next_at p s t a e = subst (λ (q : ℕ). SameAt q s t → SameAt q (o.next s a) (o.next t a)) e (places.next_there s t a)
 
+  -- An operation of another place leaves a place as it was.
   pub next_off : (p : ℕ) (s t : State) (a : Op) → (place a ≡ p → ⊥) → SameAt p s t → SameAt p (o.next s a) t
   next_off p s t a n h = places.joined p (o.next s a) s t (places.turned p s (o.next s a) (places.next_elsewhere s a p (λ e. n (sym e)))) h
 
+  -- An operation has one result in states that are the same at its place.
   pub gives_at : (p : ℕ) (s t : State) (a : Op) → place a ≡ p → SameAt p s t → o.gives s a ≡ o.gives t a
   gives_at p s t a e = subst (λ (q : ℕ). SameAt q s t → o.gives s a ≡ o.gives t a) e (places.gives_there s t a)
 
+  -- An operation keeps one undo value in states that are the same at its place.
   pub kept_at : (p : ℕ) (s t : State) (a : Op) → place a ≡ p → SameAt p s t → o.upkeep.kept s a ≡ o.upkeep.kept t a
   kept_at p s t a e = subst (λ (q : ℕ). SameAt q s t → o.upkeep.kept s a ≡ o.upkeep.kept t a) e (places.kept_there s t a)
 
+  -- A legal operation is legal in each state of the shape that is the same at its place.
   pub legal_at : (p : ℕ) (s t : State) (a : Op) → place a ≡ p → SameAt p s t → o.shape s ≡ o.shape t → IsLegal o s a → IsLegal o t a
   legal_at p s t a e h k l =
       (subst (λ (sh : Shape). IsTrue (o.fits sh a)) k l.0, sym (gives_at p s t a e h) ∙ l.1)
@@ -51,6 +56,7 @@ module _ {Shape State Op Undo : Type 0} (o : Object Shape State Op Undo) (place 
   pub allowed_same : (p : ℕ) (s t : State) (x : List (Item Op)) → SameAt p s t → o.shape s ≡ o.shape t → AllowedFrom o s (ops (there place p x)) → AllowedFrom o t (ops (there place p x))
   allowed_same p s t x h k l = subst (λ (z : List (Item Op)). AllowedFrom o t (ops z)) (there_twice place p x) (allowed_there p s t (there place p x) h k l)
 
+  -- The items of a place keep the same values from states that are the same at the place.
   pub kept_same : (p : ℕ) (s t : State) (x : List (Item Op)) → SameAt p s t → kept_along o s (ops (there place p x)) ≡ kept_along o t (ops (there place p x))
   kept_same p s t [] h = refl
   kept_same p s t (e ∷ x) h =

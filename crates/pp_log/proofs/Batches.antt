@@ -50,6 +50,7 @@ pub record IsPartOver {Shape State Op Undo : Type 0} (o : Object Shape State Op 
       → IsAlong o b base (x ++ (ops (take left batch) ++ c ∷ (ops (drop left batch) ++ z))) vs s
 
 module _ {Shape State Op Undo : Type 0} (o : Object Shape State Op Undo) (laws : IsLawful o) (place : Op → ℕ) (batch : List (Item Op)) (at : ℕ) (us : List Undo) where
+  -- At the start no operation of the batch has been carried over the one at the position.
   pub over_first : (left : ℕ) → left ≡ length batch → IsPartOver o place batch at us left us
   over_first left is = record {
     within = omega arith;
@@ -61,6 +62,7 @@ module _ {Shape State Op Undo : Type 0} (o : Object Shape State Op Undo) (laws :
         (subst (λ (l : List (Item Op)). IsAlong o b base (x ++ (ops batch ++ c ∷ (ops l ++ z))) us s) (sym none) h);
   }
 
+  -- If none of the batch is left, all of it has been carried over the one at the position.
   pub over_last : (left : ℕ) (vs : List Undo) → left ≡ 0 → IsPartOver o place batch at us left vs → CarriesAllOver o place batch at us vs
   over_last left vs none part b s base x z c n swap h =
       let now = part.carries b s base x z c n swap h in
@@ -81,6 +83,7 @@ module _ {Shape State Op Undo : Type 0} (o : Object Shape State Op Undo) (laws :
     inside = subst (In e) (take-append-drop (k + 1) batch)
         (in_left e (take (k + 1) batch) (drop (k + 1) batch) (subst (In e) (sym front_of) (in_right e (take k batch) (e ∷ []) (inl refl))))
 
+    -- To carry one more operation of the batch over leaves one fewer to carry.
     pub over_next : (n first : ℕ) (vs ws : List Undo) → n ≡ k + 1 → first + length batch ≡ at → length ws ≡ length vs → CarriesOver o place e.op (first + k) vs ws → IsPartOver o place batch at us n vs → IsPartOver o place batch at us k ws
     over_next n first vs ws n_is first_is one_size over part = record {
       within = omega arith;
@@ -120,6 +123,7 @@ module _ {Shape State Op Undo : Type 0} (o : Object Shape State Op Undo) (place 
   abbrev others : List (Item Op) → List (Item Op)
   others x = without_items itself batch x
 
+  -- A place has as many ids as items.
   pub many : length ids ≡ length items
   many = ap length h.same_ids ∙ length-map items (λ e. e.id)
 
@@ -130,12 +134,14 @@ module _ {Shape State Op Undo : Type 0} (o : Object Shape State Op Undo) (place 
       let size = ap length h.same_ids in
       sym (get_or-map (λ (e : Item Op). e.id) items at h.stand.first) ∙ get_or_default (ids_of items) at h.stand.first.id 0 (omega arith) ∙ ap (λ (l : List ℕ). get_or l at 0) (sym h.same_ids)
 
+  -- The first item of a batch is at a position of the list.
   pub first_within : from < length items
   first_within = slice_get_within items from h.stand.first h.stand.first_there
 
   front_stays : others (take from items) ≡ take from items
   front_stays = filter_all stays (take from items) (λ e i. ap not (none_before batch items from h.stand e i))
 
+  -- The gathering of a batch begins with the list as it is.
   pub gathered_first : (b s : State) (base : List Op) (us : List Undo) → IsAlong o b base (ops items) us s
       → IsAlong o b base (ops (others (take from items) ++ (take 0 batch ++ drop from items))) us s
   gathered_first b s base us along =
@@ -183,11 +189,13 @@ module _ {Shape State Op Undo : Type 0} (o : Object Shape State Op Undo) (place 
       N_in : (p : Item Op) → In p N → In p batch
       N_in p i = subst (In p) (take-append-drop next batch) (in_left p N (drop next batch) i)
 
+      -- Each item of the batch met so far swaps with the next other item, and has its place.
       pub lets_pass : (p : Item Op) → In p N → Swaps o p.op d.op × (place p.op ≡ place d.op)
       lets_pass p i =
           let before = across batch items from h.stand at p d (here.done p i) (d_there batch items from h.stand at next here d lt is) in
           (h.may.pass p d (N_in p i) before not_own, h.one_place p d (N_in p i) d_in)
 
+      -- The items gathered so far, if carried over the next other item, are gathered after it.
       pub gathered_other : (us vs ws : List Undo) (b s : State) (base : List Op) → length vs ≡ length us → IsAlong o b base (ops items) us s → CarriesAllOver o place N at vs ws
           → IsAlong o b base (ops (W ++ (N ++ drop at items))) vs s → IsAlong o b base (ops (others (take (at + 1) items) ++ (N ++ R))) ws s
       gathered_other us vs ws b s base size begun carries along =

@@ -77,6 +77,7 @@ many_kept o b base x z a us way =
     ap length way.kept ∙ length-kept o b (x ++ a ∷ z) ∙ omega arith
 
 module _ {Shape State Op Undo : Type 0} (o : Object Shape State Op Undo) (place : Op → ℕ) (a : Op) (from : ℕ) (us : List Undo) where
+  -- An operation that is carried to the end begins at its own position.
   pub part_first : from < length us → IsPart o place a from us from us
   part_first lt = record {
     size = refl;
@@ -102,6 +103,7 @@ module _ {Shape State Op Undo : Type 0} (o : Object Shape State Op Undo) (place 
       record { others = both.0; own = both.1 }
 
   module _ (at : ℕ) (vs : List Undo) (part : IsPart o place a from us at vs) where
+    -- An operation that is carried over one more is one position further.
     pub part_next : (ws : List Undo) → at + 1 < length us → length ws ≡ length vs → CarriesOver o place a at vs ws → IsPart o place a from us (at + 1) ws
     part_next ws more same over = record {
       size = same ∙ part.size;

@@ -26,10 +26,12 @@ not_new : {Op : Type 0} (id : ℕ) (x : List (Item Op)) (q : Item Op) → IsNew 
 not_new id [] q n k is = k
 not_new {Op} id (e ∷ x) q n k is = elim k [ inl same ↦ n.0 (is ∙ ap (λ (d : Item Op). d.id) same) | inr later ↦ not_new id x q n.1 later is ]
 
+-- Items with distinct ids are distinct item by item (`AreDistinct`).
 pub apart : {Op : Type 0} (x : List (Item Op)) → HasDistinctIds x → AreDistinct x
 apart [] h = tt
 apart (e ∷ x) h = (new_of e.id x (λ q k. h e q (inl (refl, k))), apart x (λ p q k. h p q (inr k)))
 
+-- Items that are distinct item by item have distinct ids (`HasDistinctIds`).
 pub told : {Op : Type 0} (x : List (Item Op)) → AreDistinct x → HasDistinctIds x
 told [] h p q k is = k
 told {Op} (e ∷ x) h p q k is = elim k [ inl here ↦ not_new e.id x q h.0 here.1 (ap (λ (d : Item Op). d.id) (sym here.0) ∙ is) | inr later ↦ told x h.1 p q later is ]
@@ -43,6 +45,7 @@ distinct-push : {Op : Type 0} (x : List (Item Op)) (e : Item Op) → AreDistinct
 distinct-push [] e h n = (tt, tt)
 distinct-push (f ∷ x) e h n = (new-push f.id x e h.0 (λ k. n.0 (sym k)), distinct-push x e h.1 n.1)
 
+-- Distinct ids stay distinct with one more item of a new id at the end.
 pub one_more_id : {Op : Type 0} (x : List (Item Op)) (e : Item Op) → HasDistinctIds x → IsNew e.id x → HasDistinctIds (x ++ e ∷ [])
 one_more_id x e h n = told (x ++ e ∷ []) (distinct-push x e (apart x h) n)
 
@@ -59,6 +62,7 @@ distinct_remove [] (suc i) h = tt
 distinct_remove (e ∷ x) zero h = h.1
 distinct_remove (e ∷ x) (suc i) h = (new_remove e.id x i h.0, distinct_remove x i h.1)
 
+-- Distinct ids stay distinct without the item at a position.
 pub one_id_less : {Op : Type 0} (x : List (Item Op)) (i : ℕ) → HasDistinctIds x → HasDistinctIds (remove x i)
 one_id_less x i h = told (remove x i) (distinct_remove x i (apart x h))
 
@@ -72,6 +76,7 @@ new_mid : {Op : Type 0} (id : ℕ) (u v : List (Item Op)) (e : Item Op) → IsNe
 new_mid id [] v e h is = h.0 is
 new_mid id (g ∷ u) v e h is = new_mid id u v e h.1 is
 
+-- If ids are distinct, an item with the id of e is at the position of e.
 pub distinct_index : {Op : Type 0} (u v : List (Item Op)) (e : Item Op) (k : ℕ) (f : Item Op) → AreDistinct (u ++ e ∷ v) → slice_get (u ++ e ∷ v) k ≡ Some f → f.id ≡ e.id → k ≡ length u
 distinct_index [] v e zero f h g is = refl
 distinct_index [] v e (suc k) f h g is = absurd (new_not e.id v k f h.0 g (sym is))
@@ -86,6 +91,7 @@ new_there place p id (e ∷ x) h = elim (is_at place e p) [
   | inr k ↦ subst (IsNew id) (sym (there_off place p e x k)) (new_there place p id x h.1)
 ]
 
+-- The items of a place among distinct items are distinct.
 pub distinct_there : {Op : Type 0} (place : Op → ℕ) (p : ℕ) (x : List (Item Op)) → AreDistinct x → AreDistinct (there place p x)
 distinct_there place p [] h = tt
 distinct_there {Op} place p (e ∷ x) h =

@@ -51,6 +51,7 @@ module _ {Op E : Type 0} (f : E → Item Op) (own : List (Item Op)) (x : List E)
   now_is : now ≡ without_items f last x
   now_is = left ∙ ap (λ (m : ℕ). without_items f (drop m own) x) n_is
 
+  -- The id of the next item to leave is found in the log.
   pub found_before : position (nat_eq e.id) (ids_of log) ≡ None → ⊥
   found_before none = nowhere log e (sym (position_of_id log e.id) ∙ none) (can.stand e e_own)
 
@@ -85,9 +86,11 @@ module _ {Op E : Type 0} (f : E → Item Op) (own : List (Item Op)) (x : List E)
     apart_now : (p q : E) → Before p q (without_items f last x) → (f p).id ≡ (f q).id → ⊥
     apart_now p q b = can.distinct (f p) (f q) (before_map f p q x (before_from_filter (λ (r : E). not (has_id (f r).id (ids_of last))) p q x b))
 
+    -- The next entry to leave is at a position of what is left.
     pub still_within : i < length now
     still_within = subst (λ (l : List E). i < length l) (sym now_is) (slice_get_within (without_items f last x) i entry.0 still_at)
 
+    -- To remove the next entry leaves out one more of the items.
     pub left_next : remove now i ≡ without_items f (drop k own) x
     left_next =
         ap (λ (l : List E). remove l i) now_is ∙ sym (one_less f x e last i entry.0 still_at entry.2 apart_now)

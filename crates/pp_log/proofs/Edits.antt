@@ -25,6 +25,7 @@ take-remove x zero (suc j) h = absurd (omega arith)
 take-remove [] (suc i) (suc j) h = refl
 take-remove {Op} (e ∷ x) (suc i) (suc j) h = ap (λ (z : List Op). e.op ∷ z) (take-remove x i j (omega arith))
 
+-- The operations of the first items are the first operations.
 pub ops-take : {Op : Type 0} (x : List (Item Op)) (i : ℕ) → ops (take i x) ≡ take i (ops x)
 ops-take x zero = refl
 ops-take [] (suc i) = refl
@@ -45,12 +46,14 @@ module _ {Shape State Op Undo : Type 0} (o : Object Shape State Op Undo) where
   fit-remove sh (e ∷ x) zero h = h.1
   fit-remove sh (e ∷ x) (suc i) h = (h.0, fit-remove sh x i h.1)
 
+  -- Ranged items stay ranged without the item at a position.
   pub ranged-remove : (x : List (Item Op)) (i : ℕ) → AllRanged o (ops x) → AllRanged o (ops (remove x i))
   ranged-remove [] zero h = tt
   ranged-remove [] (suc i) h = tt
   ranged-remove (e ∷ x) zero h = h.1
   ranged-remove (e ∷ x) (suc i) h = (h.0, ranged-remove x i h.1)
 
+  -- The first operations of an allowed list are allowed.
   pub allowed-take : (s : State) (i : ℕ) (x : List Op) → AllowedFrom o s x → AllowedFrom o s (take i x)
   allowed-take s zero x h = tt
   allowed-take s (suc i) [] h = tt
@@ -100,6 +103,7 @@ module _ {Shape State Op Undo : Type 0} (o : Object Shape State Op Undo) where
         differs = differs;
       }
 
+  -- No item differs in a list of items that were all applied before from the same state.
   pub never_stops : (b s t : State) (x : List (Item Op)) (us vs : List Undo) (answer : Answer) → IsRun o b x vs t → length vs ≡ length x → IsRun o b x us s → Stops o x us s (Some answer) → ⊥
   never_stops b s t x us vs answer whole all r stop =
       let e = stop.0 in
@@ -107,6 +111,7 @@ module _ {Shape State Op Undo : Type 0} (o : Object Shape State Op Undo) where
       let found = sym (get_or_from_slice_get x (length us) e e stop.1) in
       stop.3 (sym stop.2 ∙ never_differs b s t x us vs e whole all r at found)
 
+  -- The item at which a run stops is the first one that differs.
   pub differs_where : (b s : State) (x : List (Item Op)) (us : List Undo) (f : Item Op) (answer : Answer) → f ≡ get_or x (length us) f → IsRun o b x us s → Stops o x us s (Some answer) → DiffersFrom o itself b x f.id answer
   differs_where b s x us f answer is r stop =
       let e = stop.0 in

@@ -37,6 +37,7 @@ pub record AreForgotten {Shape State Op Undo : Type 0} (o : Object Shape State O
       → IsIndexOf js (ids_of (without_items itself (drop left batch) log)) × (now ≡ ids_of (without_items itself (drop left batch) items))
 
 module _ {Shape State Op Undo : Type 0} (o : Object Shape State Op Undo) (batch : List (Item Op)) (ids : Index) (here : List ℕ) where
+  -- At the start no id of the batch is forgotten, and index and ids are as they were.
   pub forgotten_first : (n : ℕ) → n ≡ length batch → AreForgotten o batch ids here n ids here
   forgotten_first n is = record {
     within = omega arith;
@@ -48,6 +49,7 @@ module _ {Shape State Op Undo : Type 0} (o : Object Shape State Op Undo) (batch 
         );
   }
 
+  -- If no item of the batch is left, all ids of the batch are forgotten.
   pub forgotten_last : (n : ℕ) (js : Index) (now : List ℕ) → n ≡ 0 → AreForgotten o batch ids here n js now → Forgets o batch ids here js now
   forgotten_last n js now zero part log items can =
       let those : drop n batch ≡ batch = ap (λ (k : ℕ). drop k batch) zero ∙ drop_none batch in
@@ -68,12 +70,15 @@ module _ {Shape State Op Undo : Type 0} (o : Object Shape State Op Undo) (batch 
     before : IsIndexOf js (ids_of log_now) × (now ≡ ids_of items_now)
     before = subst (λ (j : ℕ). IsIndexOf js (ids_of (without_items itself (drop j batch) log)) × (now ≡ ids_of (without_items itself (drop j batch) items))) n_is (part.both log items can)
 
+    -- Before the next id is forgotten, the index is of the ids that are left.
     pub index_before : IsIndexOf js (ids_of log_now)
     index_before = before.0
 
+    -- The next id to forget is found among the ids that are left of the log.
     pub id_stands : position (nat_eq e.id) (ids_of log_now) ≡ None → ⊥
     id_stands = not_nowhere o batch log can.distinct can.may k e lt is
 
+    -- The next id to forget is among the ids that are left at the place.
     pub id_here : In e.id now
     id_here = subst (In e.id) (sym before.1) (in_map (λ (d : Item Op). d.id) e items_now (still_in o batch items can.distinct_here can.may_here k e lt is))
 
@@ -81,9 +86,11 @@ module _ {Shape State Op Undo : Type 0} (o : Object Shape State Op Undo) (batch 
       stands : slice_get log_now i ≡ Some e
       stands = item_at o batch log can.distinct can.may k e lt is i found
 
+      -- The position at which the next id is found is within the index.
       pub index_within : i < index_len js
       index_within = item_within js log_now i e before.0 stands
 
+      -- To remove the next id from the index and the place forgets one more of the batch.
       pub forgotten_both : (at : ℕ) (ls : Index) (left : List ℕ) → slice_get now at ≡ Some e.id → left ≡ remove now at
           → (slice_get (ids_of log_now) i ≡ Some e.id → IsIndexOf ls (remove (ids_of log_now) i))
           → IsIndexOf ls (ids_of (without_items itself (drop k batch) log)) × (left ≡ ids_of (without_items itself (drop k batch) items))

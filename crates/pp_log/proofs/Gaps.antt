@@ -28,6 +28,7 @@ module _ {Shape State Op Undo Gap : Type 0} (o : Object Shape State Op Undo) (la
   behind : (s : State) (x : List Op) → o.upkeep.IsState s → AllowedFrom o s x → o.upkeep.IsState (state_from o s x)
   behind s x is h = allowed_is_state o s x laws.next_is_state is h
 
+  -- A gap stays the same over no operations.
   pub crossed_none : (g : Gap) → CrossesAll o Bears Differ g [] (crossing.Apart g)
   crossed_none g = λ s is h bears. (bears, λ t it d. record { allowed = tt; differ = d; kept = refl })
 
@@ -88,14 +89,17 @@ module _ {Shape State Op Undo Gap : Type 0} (o : Object Shape State Op Undo) (la
     abbrev done : List (Item Op)
     done = items_on place f p (take k x)
 
+    -- A gap that crosses the next entry of its place crosses the entries up to this one.
     pub crossed_item : (next : Gap) → place (f d).op ≡ p → Crosses o Bears Differ h (f d).op (crossed.Apart next) → CrossesAll o Bears Differ g (ops (items_on place f p (take (k + 1) x))) (crossing.Apart next)
     crossed_item next at one =
         let more : ops (items_on place f p (take (k + 1) x)) ≡ ops done ++ (f d).op ∷ [] = ap ops (one_more_there place f p x k d lt is at) ∙ ops-append done (f d ∷ []) in
         subst (λ (l : List Op). CrossesAll o Bears Differ g l (crossing.Apart next)) (sym more) (crossed_more g h next (ops done) (f d).op so_far one)
 
+    -- An entry of another place leaves the gap over the first entries the same.
     pub crossed_other : (place (f d).op ≡ p → ⊥) → CrossesAll o Bears Differ g (ops (items_on place f p (take (k + 1) x))) (crossing.Apart h)
     crossed_other off = subst (λ (l : List (Item Op)). CrossesAll o Bears Differ g (ops l) (crossing.Apart h)) (sym (none_more_there place f p x k d lt is off)) so_far
 
+    -- If the states meet at the next entry of the place, they meet over all its entries.
     pub crossed_last : (n : ℕ) (u : Undo) → place (f d).op ≡ p → n ≡ length done → Crosses o Bears Differ h (f d).op (crossed.Same u) → CrossesAll o Bears Differ g (ops (items_on place f p x)) (crossing.Same n u)
     crossed_last n u at size one =
         let rest = items_on place f p (drop (k + 1) x) in
@@ -146,15 +150,18 @@ module _ {Shape State Op Undo : Type 0} (o : Object Shape State Op Undo) (laws :
   first : AllowedFrom o b x
   first = allowed-first o b x (a ∷ y) allowed
 
+  -- The removed operation and those after it are allowed from the state before it.
   pub from_here : AllowedFrom o here (a ∷ y)
   from_here = allowed-second o b x (a ∷ y) allowed
 
   b_is_state : o.upkeep.IsState b
   b_is_state = log_is_state o laws b run.base run.log
 
+  -- The state before the removed operation is one that the laws speak of (`IsState`).
   pub here_is_state : o.upkeep.IsState here
   here_is_state = allowed_is_state o b x laws.next_is_state b_is_state first
 
+  -- The removed operation and those after it lead from the state before it to the log's state.
   pub state_is : s ≡ state_from o here (a ∷ y)
   state_is = run.is ∙ ap (state_from o b) list ∙ state-append o b x (a ∷ y)
 
@@ -164,6 +171,7 @@ module _ {Shape State Op Undo : Type 0} (o : Object Shape State Op Undo) (laws :
   front_size : length front ≡ from
   front_size = length-kept o b x ∙ length-ops before ∙ size
 
+  -- The undo value at the position is what the removed operation kept.
   pub kept_here : (u : Undo) → u ≡ get_or us from u → o.upkeep.kept here a ≡ u
   kept_here u at = sym (at ∙ ap (λ (l : List Undo). get_or l from u) undos_are ∙ get_or_at front (o.upkeep.kept here a) rest u from front_size)
 
@@ -173,6 +181,7 @@ module _ {Shape State Op Undo : Type 0} (o : Object Shape State Op Undo) (laws :
   rest_size : length rest ≡ length z
   rest_size = length-kept o (o.next here a) y ∙ length-ops z
 
+  -- Each operation after the removed one has a value among the undo values that are left.
   pub others_have : (at : ℕ) → at < length y → from + at < length (remove us from)
   others_have at h =
       let n = ap length others_are in
@@ -212,6 +221,7 @@ module _ {Shape State Op Undo : Type 0} (o : Object Shape State Op Undo) (laws :
     cut : take (length next.undos.items) (ops (before ++ z)) ≡ x ++ y
     cut = ap (λ (n : ℕ). take n (ops (before ++ z))) (undos_size ∙ sym (length-ops (before ++ z))) ∙ take-length (ops (before ++ z)) ∙ ops-append before z
 
+    -- A place is whole without an item, if the others are allowed and these values are kept.
     pub whole_left : IsWhole o b (remove (before ++ items) from) next t
     whole_left =
         let none = none_applied in
@@ -232,6 +242,7 @@ module _ {Shape State Op Undo : Type 0} (o : Object Shape State Op Undo) (laws :
           ids = ids_are ∙ ap (λ (l : List ℕ). remove l from) whole.ids ∙ ids-remove (before ++ items) from ∙ ap ids_of left_is;
         })
 
+  -- The state that the other operations lead to is reached, if they are allowed.
   pub reached_left : AllowedFrom o here y → IsReached o (state_from o here y)
   reached_left ok =
       let none = none_applied in
@@ -254,6 +265,7 @@ module _ {Shape State Op Undo : Type 0} (o : Object Shape State Op Undo) (laws :
       same_here : o.next here a ≡ here
       same_here = leaves here here_is_state from_here (kept_here u at_from)
 
+      -- If the removed operation changes nothing, the place is whole without it in the same state.
       pub out_idle : next.undos.items ≡ remove us from → IsWhole o b (remove (before ++ items) from) next s
       out_idle undos = whole_left s next ids_are (subst (λ (r : State). AllowedFrom o r y) same_here from_here.1)
           (state_is ∙ ap (λ (r : State). state_from o r y) same_here) (undos ∙ others_are ∙ ap (λ (r : State). front ++ kept_along o r y) same_here)
@@ -263,6 +275,7 @@ module _ {Shape State Op Undo : Type 0} (o : Object Shape State Op Undo) (laws :
       together : AllMeet o y at v (o.next here a) here
       together = leaves.1 here here_is_state from_here (kept_here u at_from)
 
+      -- If the states come together, the place is whole without the operation in the same state.
       pub out_same : next.undos.items ≡ slice_set (remove us from) (from + at) v → IsWhole o b (remove (before ++ items) from) next s
       out_same undos = whole_left s next ids_are together.allowed (state_is ∙ sym together.same)
           (undos ∙ ap (λ (l : List Undo). slice_set l (from + at) v) others_are
@@ -279,12 +292,14 @@ module _ {Shape State Op Undo : Type 0} (o : Object Shape State Op Undo) (laws :
       differ : Differ h s (state_from o here y)
       differ = subst (λ (r : State). Differ h r (state_from o here y)) (sym state_is) stay.differ
 
+      -- The gap that an operation leaves may be closed, if the state bears it.
       pub may_close : MayClose o Differ h s
       may_close = (
         subst o.upkeep.IsState (sym state_is) (allowed_is_state o here (a ∷ y) laws.next_is_state here_is_state from_here),
         (state_from o here y, end_is_state, reached_left stay.allowed, differ),
       )
 
+      -- If the gap is closed, the place is whole without the operation.
       pub out_apart : (t : State) (next : Place Undo) → next.ids.items ≡ remove q.ids.items from → next.undos.items ≡ remove us from → ClosesTo o Differ h s t → IsWhole o b (remove (before ++ items) from) next t
       out_apart t next ids_are undos closes = whole_left t next ids_are stay.allowed (closes (state_from o here y) end_is_state differ)
           (undos ∙ others_are ∙ ap (λ (l : List Undo). front ++ l) (sym stay.kept))

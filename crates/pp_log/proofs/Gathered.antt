@@ -39,10 +39,12 @@ module _ {Op : Type 0} (place : Op → ℕ) (p : ℕ) where
   abbrev pub at_place : Item Op → Bool
   at_place e = nat_eq (place e.op) p
 
+  -- The items of a place are those that pass the test for the place.
   pub there_is : (x : List (Item Op)) → there place p x ≡ filter at_place x
   there_is [] = refl
   there_is (e ∷ x) = ap (λ (l : List (Item Op)). cond (at_place e) (e ∷ l) l) (there_is x)
 
+  -- The items of all other places are those that fail the test for the place.
   pub elsewhere_is : (x : List (Item Op)) → elsewhere place p x ≡ filter (λ e. not (at_place e)) x
   elsewhere_is [] = refl
   elsewhere_is (e ∷ x) = ap (λ (l : List (Item Op)). cond (at_place e) l (e ∷ l)) (elsewhere_is x) ∙ by (at_place e)
@@ -96,9 +98,11 @@ module _ {Shape State Op Undo : Type 0} (o : Object Shape State Op Undo) (place 
   before_log : (e d : Item Op) → Before e d items → Before e d log
   before_log e d w = before_from_filter (at_place place p) e d log (subst (Before e d) items_is w)
 
+  -- The items of the place of a batch have distinct ids.
   pub distinct_items : HasDistinctIds items
   distinct_items = told items (distinct_there place p log (apart log h.distinct))
 
+  -- A batch that may leave the log may leave the items of its place.
   pub may_items : MayLeave o batch items
   may_items = record {
     stand = in_items;
@@ -113,6 +117,7 @@ module _ {Shape State Op Undo : Type 0} (o : Object Shape State Op Undo) (place 
   site : IsSite place log spot.0 first p
   site = site_of place log spot.0 first p spot.1 (sym (get_or_from_slice_get log spot.0 first first spot.2)) refl
 
+  -- The log has the place of the batch.
   pub has_place : p < length ps
   has_place = place_there o place s log ps spot.0 first p h site
 
@@ -120,9 +125,11 @@ module _ {Shape State Op Undo : Type 0} (o : Object Shape State Op Undo) (place 
     at : slice_get ps p ≡ Some q
     at = place_at o place s log ps spot.0 first p q h site value
 
+    -- The id of the first item of the batch is among the ids of its place.
     pub has_id_there : (In first.id q.ids.items → ⊥) → ⊥
     has_id_there none = id_there o place s log ps spot.0 first p q h site at none
 
+    -- The ids that the place keeps are those of its items.
     pub ids_there : q.ids.items ≡ ids_of items
     ids_there = kept_of o place s log ps p q h at
 
@@ -144,6 +151,7 @@ module _ {Shape State Op Undo : Type 0} (o : Object Shape State Op Undo) (place 
     }
 
     module _ (from : ℕ) (found : slice_get q.ids.items from ≡ Some first.id) where
+      -- The items of the place have the batch, from the position of its first item on.
       pub has_batch : HasBatch o place batch from q.ids.items items
       has_batch = record {
         stand = record {
@@ -159,6 +167,7 @@ module _ {Shape State Op Undo : Type 0} (o : Object Shape State Op Undo) (place 
         one_place = λ e d i j. one_place e first i inside ∙ sym (eqb-true (place d.op) p (from_filter (at_place place p) d log (subst (In d) items_is j)).1);
       }
 
+      -- The batch can be gathered at the end of its place.
       pub can_gather : CanGather o place batch from q.ids.items q.undos.items
       can_gather = (items, has_batch, many)
 
@@ -167,6 +176,7 @@ module _ {Shape State Op Undo : Type 0} (o : Object Shape State Op Undo) (place 
         behind : IsAlong o b whole.run.base (ops (others ++ batch)) vs s
         behind = gathers b s whole.run.base items has_batch along
 
+        -- The gathered undo values are as many as the other items and the batch together.
         pub sizes : length vs ≡ length others + length batch
         sizes = ap length behind.kept ∙ length-kept o b (ops (others ++ batch)) ∙ length-ops (others ++ batch) ∙ length-append others batch
 
@@ -195,6 +205,7 @@ module _ {Shape State Op Undo : Type 0} (o : Object Shape State Op Undo) (place 
         many_others : (n : ℕ) → n ≡ length vs - length batch → length others ≡ n
         many_others n is = let k = sizes in omega arith
 
+        -- The batch, gathered at the end of its place, makes a run that leads to the log's state.
         pub has_run : length vs ≡ length q.undos.items → (n : ℕ) → n ≡ length vs - length batch → HasRun o n batch vs s
         has_run same n is = record { start = b; before = others; size = many_others n is; run = run same }
 
@@ -262,6 +273,7 @@ module _ {Shape State Op Undo : Type 0} (o : Object Shape State Op Undo) (place 
               apart_from e true k at_r = absurd (n' (sym (eqb-true (place e.op) p k) ∙ at_r))
               apart_from e false k at_r = refl
 
+          -- After the batch was taken back, the log keeps the other items, in its shape.
           pub keeps_rest : Keeps o place t rest_log (slice_set ps p r) × (o.shape t ≡ o.shape s)
           keeps_rest =
               let sh = o.shape s in

@@ -29,6 +29,7 @@ pub ids-append : {Op : Type 0} (x y : List (Item Op)) → ids_of (x ++ y) ≡ id
 ids-append [] y = refl
 ids-append (e ∷ x) y = ap (λ (z : List ℕ). e.id ∷ z) (ids-append x y)
 
+-- The ids without the one at a position are those of the items without the one there.
 pub ids-remove : {Op : Type 0} (x : List (Item Op)) (i : ℕ) → remove (ids_of x) i ≡ ids_of (remove x i)
 ids-remove [] zero = refl
 ids-remove [] (suc i) = refl
@@ -36,6 +37,7 @@ ids-remove (e ∷ x) zero = refl
 ids-remove (e ∷ x) (suc i) = ap (λ (z : List ℕ). e.id ∷ z) (ids-remove x i)
 
 module _ {Shape State Op Undo : Type 0} (o : Object Shape State Op Undo) where
+  -- A place with the same ids and undo values keeps the same items.
   pub kept_still : (b : State) (x : List (Item Op)) (old new : Option (Place Undo)) → KeptIn o b x old → SameIn old new → KeptIn o b x new
   kept_still b x None None h k = h
   kept_still b x None (Some q) h k = record { same_ids = k.0 ∙ ap (λ (z : List (Item Op)). ids_of z) (sym h); same_undos = k.1 ∙ ap (λ (z : List (Item Op)). kept_along o b (ops z)) (sym h) }
@@ -46,10 +48,12 @@ module _ {Shape State Op Undo : Type 0} (o : Object Shape State Op Undo) where
   roomy : (place : Op → ℕ) (s : State) (log : List (Item Op)) (ps qs : List (Place Undo)) → Keeps o place s log ps → ArePlacesSame ps qs → Keeps o place s log qs
   roomy place s log ps qs h k = record { allowed = h.allowed; is = h.is; ranged = h.ranged; few = h.few; distinct = h.distinct; kept = λ r. kept_still (o.start (o.shape s)) (there place r log) (slice_get ps r) (slice_get qs r) (h.kept r) (k r) }
 
+  -- A log keeps the same entries if its places and its index only get more room.
   pub with_room : (place : Op → ℕ) (s : State) (log new : List (Item Op)) (ps qs : List (Place Undo)) (ids more : Index) → KeepsAll o place s log ps ids → new ≡ log → ArePlacesSame ps qs → IsSameIndex ids more → KeepsAll o place s new qs more
   with_room place s log new ps qs ids more h is k same =
       subst (λ (z : List (Item Op)). KeepsAll o place s z qs more) (sym is) (record { keeps = roomy place s log ps qs h.keeps k; index = same (ids_of log) (ids_once log (apart log h.keeps.distinct)) h.index })
 
+  -- The state of a log of fewer than a million items is reached.
   pub keeps_reached : (place : Op → ℕ) (s : State) (log : List (Item Op)) (ps : List (Place Undo)) → Keeps o place s log ps → length log < 1_000_000 → IsReached o s
   keeps_reached place s log ps h k = record {
     ops = ops log;
@@ -92,6 +96,7 @@ module _ {Shape State Op Undo : Type 0} (o : Object Shape State Op Undo) (place 
       } in
       (keeps, shape)
 
+-- A log with one more entry is seen as before, with the entry added.
 pub seen_more : {Shape E : Type 0} (sh k : Shape) (log now : List E) (e : E) (seen : Shape × List E) → ◌≡◌ {A = Shape × List E} (sh, log) seen → k ≡ sh → now ≡ log ++ e ∷ [] → ◌≡◌ {A = Shape × List E} (k, now) (seen.0, seen.1 ++ e ∷ [])
 seen_more {Shape} {E} sh k log now e seen is f g =
     let P : Shape × List E → Type 0 = λ p. ◌≡◌ {A = Shape × List E} (k, now) (p.0, p.1 ++ e ∷ []) in

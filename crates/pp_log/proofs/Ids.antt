@@ -17,6 +17,7 @@ turned a b = elim (eqb_tells a b) [
   | inr h ↦ h.0 ∙ sym (ne_eqb b a (λ e. h.1 (sym e)))
 ]
 
+-- The position of an id among the ids of items is that of its item among the items.
 pub position_of_id : {Op : Type 0} (x : List (Item Op)) (id : ℕ) → position (nat_eq id) (ids_of x) ≡ position (λ e. e.id == id) x
 position_of_id {Op} x id = same_position (λ (e : Item Op). e.id) (nat_eq id) (λ (e : Item Op). e.id == id) (λ e. turned id e.id) x
 
@@ -25,10 +26,12 @@ pub new_id : {Op : Type 0} (x : List (Item Op)) (id : ℕ) → IsNew id x → Is
 new_id [] id h = tt
 new_id (e ∷ x) id h = (h.0, new_id x id h.1)
 
+-- Each id of distinct items is among their ids once.
 pub ids_once : {Op : Type 0} (x : List (Item Op)) → AreDistinct x → StandOnce (ids_of x)
 ids_once [] h = tt
 ids_once (e ∷ x) h = (new_id x e.id h.0, ids_once x h.1)
 
+-- The id of the entry at a position is at this position among the ids.
 pub id_stands : {Shape Op E : Type 0} (f : E → Item Op) (sh : Shape) (x : List E) (log : Shape × List E) (i : ℕ) (a : E) (e : Item Op) → ◌≡◌ {A = Shape × List E} (sh, x) log → i < length log.1 → a ≡ get_or x i a → e ≡ f a → slice_get (ids_of (map f x)) i ≡ Some e.id
 id_stands {Shape} {Op} {E} f sh x log i a e is lt at item =
     let within : i < length x = subst (λ (z : Shape × List E). i < length z.1) (sym is) lt in

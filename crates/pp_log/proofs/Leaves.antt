@@ -33,10 +33,12 @@ use Rattle.pp_log.proofs.Parted.{there_at}
 use Rattle.pp_log.proofs.Sites.{IsFound, IsSite, found_in, id_there, place_at, place_there, site_of, taken_out}
 use Rattle.pp_log.proofs.Whole.{whole_of}
 
+-- An index has as many entries as ids.
 pub index_size : (x : Index) (ids : List ℕ) → IsIndexOf x ids → index_len x ≡ length ids
 index_size (Few few) ids h = ap length h
 index_size (Many table) ids h = h.size
 
+-- The position of an item of a log is within its index.
 pub item_within : {Op : Type 0} (x : Index) (log : List (Item Op)) (i : ℕ) (e : Item Op) → IsIndexOf x (ids_of log) → slice_get log i ≡ Some e → i < index_len x
 item_within x log i e h at =
     let size = index_size x (ids_of log) h in
@@ -58,9 +60,11 @@ module _ {Shape State Op Undo : Type 0} (o : Object Shape State Op Undo) (place 
   site : IsSite place log i e (place e.op)
   site = site_of place log i e (place e.op) within read refl
 
+  -- The log has the place of the item that is to leave.
   pub has_place : place e.op < length ps
   has_place = place_there o place s log ps i e (place e.op) h site
 
+  -- The id of the item that is to leave is at its position among the ids.
   pub id_at : slice_get (ids_of log) i ≡ Some e.id
   id_at = slice_get-map (λ (d : Item Op). d.id) log i ∙ ap (option_map (λ (d : Item Op). d.id)) stands.is
 
@@ -68,6 +72,7 @@ module _ {Shape State Op Undo : Type 0} (o : Object Shape State Op Undo) (place 
     at : slice_get ps (place e.op) ≡ Some q
     at = place_at o place s log ps i e (place e.op) q h site value
 
+    -- The id of the item that is to leave is among the ids of its place.
     pub has_id_there : (In e.id q.ids.items → ⊥) → ⊥
     has_id_there none = id_there o place s log ps i e (place e.op) q h site at none
 
@@ -94,6 +99,7 @@ module _ {Shape State Op Undo : Type 0} (o : Object Shape State Op Undo) (place 
         behind = stands.passes;
       }
 
+      -- The item that is to leave can pass out of its place, at the position of its id there.
       pub can_pass_out : CanPassOut o place q s k e.op
       can_pass_out = record {
         start = state_after o (o.shape s) (ops (elsewhere place (place e.op) log));
@@ -104,6 +110,7 @@ module _ {Shape State Op Undo : Type 0} (o : Object Shape State Op Undo) (place 
         one_place = all_there place (place e.op) behind;
       }
 
+      -- Once the item has passed out of its place, the log keeps the others, in its shape.
       pub keeps_left : (r : Place Undo) (t : State) → PassesOutOf o place k e.op q s r t
           → Keeps o place t (remove log i) (slice_set ps (place e.op) r) × (o.shape t ≡ o.shape s)
       keeps_left r t out =
@@ -120,6 +127,7 @@ nowhere x e none inside = new_not_in x e (new_len x e.id (none_len (λ d. d.id =
     new_not_in {Op} (c ∷ y) d n (inl here) = n.0 (ap (λ (w : Item Op). w.id) here)
     new_not_in (c ∷ y) d n (inr later) = new_not_in y d n.1 later
 
+-- If ids are distinct, an item of the list is at the position at which its id is found.
 pub found_item : {Op : Type 0} (x : List (Item Op)) → HasDistinctIds x → (e : Item Op) (i : ℕ) → position (λ d. d.id == e.id) x ≡ Some i → In e x → slice_get x i ≡ Some e
 found_item {Op} x distinct e i found inside =
     let p = position-Some (λ (d : Item Op). d.id == e.id) x i e found in
@@ -136,25 +144,31 @@ module _ {Shape State Op Undo : Type 0} (o : Object Shape State Op Undo) (own lo
   cut : own ≡ take k own ++ e ∷ drop (k + 1) own
   cut = cut_there own k e lt is
 
+  -- The next item to leave is in what is left.
   pub still_in : In e now_of
   still_in = still_there o own log distinct may (take k own) (drop (k + 1) own) e cut
 
+  -- The id of the next item to leave is found among the ids that are left.
   pub not_nowhere : position (nat_eq e.id) (ids_of now_of) ≡ None → ⊥
   not_nowhere none = nowhere now_of e (sym (position_of_id now_of e.id) ∙ none) still_in
 
+  -- The items that are left have distinct ids.
   pub distinct_now : HasDistinctIds now_of
   distinct_now = now_distinct o own log distinct may (drop (k + 1) own)
 
+  -- The next item to leave is at the position at which its id is found.
   pub item_at : (i : ℕ) → position (nat_eq e.id) (ids_of now_of) ≡ Some i → slice_get now_of i ≡ Some e
   item_at i found = found_item now_of distinct_now e i (sym (position_of_id now_of e.id) ∙ found) still_in
 
   module _ (i : ℕ) (at : slice_get now_of i ≡ Some e) where
+    -- The next item to leave swaps with those of its place after it, in what is left.
     pub may_pass : (place : Op → ℕ) → MayPassOut o place now_of i e
     may_pass place = record {
       is = at;
       passes = lets_behind o own log distinct may (take k own) (drop (k + 1) own) e cut i at place;
     }
 
+    -- To remove the next item from what is left leaves out one more of the own items.
     pub one_gone : without_items itself (drop k own) log ≡ remove now_of i
     one_gone = ap (λ (l : List (Item Op)). without_items itself l log) (drop_there own k e lt is) ∙ leaves_next o own log distinct may (take k own) (drop (k + 1) own) e cut i at
 
@@ -165,6 +179,7 @@ pub record HaveLeft {Shape State Op Undo : Type 0} (o : Object Shape State Op Un
       → KeepsAll o place t (without_items itself (drop k own) log) qs js × (o.shape t ≡ o.shape s)
 
 module _ {Shape State Op Undo : Type 0} (o : Object Shape State Op Undo) (place : Op → ℕ) (own : List (Item Op)) (s : State) (ps : List (Place Undo)) (ids : Index) where
+  -- At the start no own item has left, and all is kept as it was.
   pub left_first : (n : ℕ) → n ≡ length own → HaveLeft o place own s ps ids n s ps ids
   left_first n is = record {
     keeps = λ log h leaves.
@@ -172,6 +187,7 @@ module _ {Shape State Op Undo : Type 0} (o : Object Shape State Op Undo) (place 
         (subst (λ (l : List (Item Op)). KeepsAll o place s l ps ids) (sym none) h, refl);
   }
 
+  -- Once all own items have left, the log keeps the others, in its shape.
   pub left_last : (k : ℕ) (t : State) (qs : List (Place Undo)) (js : Index) → k ≡ 0 → HaveLeft o place own s ps ids k t qs js
       → (log : List (Item Op)) → KeepsAll o place s log ps ids → MayLeave o own log → KeepsAll o place t (without_items itself own log) qs js × (o.shape t ≡ o.shape s)
   left_last k t qs js zero_is left log h leaves =
@@ -185,12 +201,15 @@ module _ {Shape State Op Undo : Type 0} (o : Object Shape State Op Undo) (place 
       abbrev pub now_log : List (Item Op)
       now_log = without_items itself (drop (k + 1) own) log
 
+      -- Before the next item leaves, the log keeps what is left, in its shape.
       pub now : KeepsAll o place t now_log qs js × (o.shape t ≡ o.shape s)
       now = subst (λ (j : ℕ). KeepsAll o place t (without_items itself (drop j own) log) qs js × (o.shape t ≡ o.shape s)) n_is (left.keeps log h leaves)
 
+      -- The id of the next item to leave is found in what is left of the log.
       pub found_somewhere : position (nat_eq e.id) (ids_of now_log) ≡ None → ⊥
       found_somewhere = not_nowhere o own log h.keeps.distinct leaves k e lt is
 
+      -- Before the next item leaves, the index is of the ids that are left.
       pub index_now : IsIndexOf js (ids_of now_log)
       index_now = now.0.index
 
@@ -198,12 +217,14 @@ module _ {Shape State Op Undo : Type 0} (o : Object Shape State Op Undo) (place 
         e_at : slice_get now_log i ≡ Some e
         e_at = item_at o own log h.keeps.distinct leaves k e lt is i found
 
+        -- The next item to leave may pass out of what is left.
         pub stands_now : MayPassOut o place now_log i e
         stands_now = may_pass o own log h.keeps.distinct leaves k e lt is i e_at place
 
         next_is : without_items itself (drop k own) log ≡ remove now_log i
         next_is = one_gone o own log h.keeps.distinct leaves k e lt is i e_at
 
+        -- If what is left is kept without the next item, one more of the own items has left.
         pub left_next : (u : State) (rs : List (Place Undo)) (ls : Index) → KeepsAll o place u (remove now_log i) rs ls → o.shape u ≡ o.shape t
             → KeepsAll o place u (without_items itself (drop k own) log) rs ls × (o.shape u ≡ o.shape s)
         left_next u rs ls keeps shape = (

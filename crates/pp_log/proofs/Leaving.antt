@@ -33,6 +33,7 @@ has_one {Op} j (q ∷ x) p (inr later) e = either (q.id == j) (has_id j (ids_of 
     either true b h = refl
     either false b h = h
 
+-- If `has_id` finds an id among those of items, one of the items has it.
 pub from_has : {Op : Type 0} (j : ℕ) (x : List (Item Op)) → has_id j (ids_of x) ≡ true → (q : Item Op) × In q x × (q.id ≡ j)
 from_has j [] h = cc
 from_has {Op} j (p ∷ x) h = by (p.id == j) refl h (λ k. from_has j x k)
@@ -41,9 +42,11 @@ from_has {Op} j (p ∷ x) h = by (p.id == j) refl h (λ k. from_has j x k)
     by true e k later = (p, inl refl, eqb-true p.id j e)
     by false e k later = let r = later k in (r.0, inr r.1, r.2)
 
+-- If no item has an id, `has_id` does not find it.
 pub has_none : {Op : Type 0} (j : ℕ) (x : List (Item Op)) → ((p : Item Op) → In p x → p.id ≡ j → ⊥) → has_id j (ids_of x) ≡ false
 has_none j x h = is_false (has_id j (ids_of x)) (λ t. let r = from_has j x t in h r.0 r.1 r.2)
 
+-- If `has_id` does not find an id, no item has it.
 pub has_not : {Op : Type 0} (j : ℕ) (x : List (Item Op)) → has_id j (ids_of x) ≡ false → (p : Item Op) → In p x → p.id ≡ j → ⊥
 has_not j x h p i e = let t = has_one j x p i e in let k : true ≡ false = sym t ∙ h in cc
 
@@ -52,6 +55,7 @@ pub filter_all : {A : Type 0} (t : A → Bool) (x : List A) → ((a : A) → In 
 filter_all t [] h = refl
 filter_all {A} t (a ∷ x) h = ap (λ (b : Bool). cond b (a ∷ filter t x) (filter t x)) (h a (inl refl)) ∙ ap (λ (z : List A). a ∷ z) (filter_all t x (λ d i. h d (inr i)))
 
+-- Two filters in turn are one filter, by a test that is both tests on the list.
 pub filter_twice : {A : Type 0} (p q r : A → Bool) (x : List A) → ((a : A) → In a x → (q a && p a) ≡ r a) → filter p (filter q x) ≡ filter r x
 filter_twice p q r [] h = refl
 filter_twice {A} p q r (a ∷ x) h = by (q a) refl (filter_twice p q r x (λ d i. h d (inr i)))
@@ -76,6 +80,7 @@ removed_filter {A} less key (a ∷ x) (suc i) e at d out stay =
     in_at (b ∷ y) zero c h = let w : b ≡ c = cc in inl (sym w)
     in_at (b ∷ y) (suc j) c h = inr (in_at y j c h)
 
+-- Two booleans are both false exactly if their disjunction is false.
 pub neither : (a b : Bool) → (not a && not b) ≡ not (b || a)
 neither true true = refl
 neither true false = refl
@@ -94,6 +99,7 @@ one_less {Op} {E} f x e last i a at is distinct =
     ∙ removed_filter one (λ (r : E). (f r).id) (without_items f last x) i a at distinct (ap not (eq-eqb e.id (f a).id (sym same)))
     (λ d j n. ap not (is_false (e.id == (f d).id) (λ t. n (sym (eqb-true e.id (f d).id t) ∙ sym same))))
 
+-- To leave out no items leaves the whole list.
 pub without_none : {Op E : Type 0} (f : E → Item Op) (x : List E) → without_items f [] x ≡ x
 without_none f x = filter_all (λ e. not (has_id (f e).id [])) x (λ e i. refl)
 
@@ -116,6 +122,7 @@ module _ {Shape State Op Undo : Type 0} (o : Object Shape State Op Undo) (own lo
   abbrev pub left_of : List (Item Op) → List (Item Op)
   left_of last = without_items itself last log
 
+  -- The items that are left after some have left have distinct ids.
   pub now_distinct : (last : List (Item Op)) → HasDistinctIds (left_of last)
   now_distinct last p q b e = distinct p q (before_from_filter (λ (r : Item Op). not (has_id r.id (ids_of last))) p q log b) e
 
@@ -133,10 +140,12 @@ module _ {Shape State Op Undo : Type 0} (o : Object Shape State Op Undo) (own lo
     stays : has_id e.id (ids_of last) ≡ false
     stays = has_none e.id last (λ p i k. distinct e p (e_then p i) (sym k))
 
+    -- The next item to leave is still in the list.
     pub still_there : In e (left_of last)
     still_there = in_filter (λ (r : Item Op). not (has_id r.id (ids_of last))) e log (may.stand e own_e) (ap not stays)
 
     module _ (i : ℕ) (at : slice_get (left_of last) i ≡ Some e) where
+      -- To leave out the next item too is to remove it from what is left.
       pub leaves_next : left_of (e ∷ last) ≡ remove (left_of last) i
       leaves_next = one_less itself log e last i e at refl (now_distinct last)
 

@@ -29,6 +29,7 @@ pub record IsSeen {Shape Op E : Type 0} (f : E → Item Op) (past : Shape × Lis
   pub shape : past.0 ≡ log.0
   pub items : past.1 ≡ map f log.1
 
+-- A log with its shape is seen as the items of its entries in that shape.
 pub seen : {Shape Op E : Type 0} (f : E → Item Op) (sh : Shape) (x : List E) (log : Shape × List E) → ◌≡◌ {A = Shape × List E} (sh, x) log → IsSeen f (sh, map f x) log
 seen {Shape} {Op} {E} f sh x log is = record { shape = ap (λ (p : Shape × List E). p.0) is; items = ap (λ (p : Shape × List E). map f p.1) is }
 
@@ -37,6 +38,7 @@ pub through : {Shape Op E : Type 0} {f : E → Item Op} {past : Shape × List (I
 through {Shape} {Op} {E} {f} {past} {log} P s h =
     subst (λ (z : List Op). P log.0 z) (ops_mapped f log.1) (subst (λ (z : List (Item Op)). P log.0 (ops z)) s.items (subst (λ (sh : Shape). P sh (ops past.1)) s.shape h))
 
+-- A fact of the items that are seen of a log is a fact of the operations of its entries.
 pub back : {Shape Op E : Type 0} {f : E → Item Op} {past : Shape × List (Item Op)} {log : Shape × List E} (P : Shape → List Op → Type 0) → IsSeen f past log → P log.0 (entry_ops f log.1) → P past.0 (ops past.1)
 back {Shape} {Op} {E} {f} {past} {log} P s h =
     subst (λ (sh : Shape). P sh (ops past.1)) (sym s.shape) (subst (λ (z : List (Item Op)). P log.0 (ops z)) (sym s.items) (subst (λ (z : List Op). P log.0 z) (sym (ops_mapped f log.1)) h))
@@ -46,6 +48,7 @@ pub position_seen : {Op E : Type 0} (f : E → Item Op) (y : List (Item Op)) (x 
 position_seen {Op} {E} f y x id h =
     ap (position (λ (e : Item Op). e.id == id)) h ∙ same_position f (λ (e : Item Op). e.id == id) (λ (e : E). (f e).id == id) (λ e. refl) x
 
+-- If the search for an id goes to the end of the list, the id is new.
 pub new_len : {Op : Type 0} (x : List (Item Op)) (id : ℕ) → length x ≤ position_or_len (λ (e : Item Op). e.id == id) x → IsNew id x
 new_len [] id h = tt
 new_len {Op} (e ∷ x) id h =
@@ -56,6 +59,7 @@ new_len {Op} (e ∷ x) id h =
           ((λ same. k.1 (sym same)), new_len x id (omega arith))
     ]
 
+-- If no entry of a log has the id of an entry, this id is new among the items of the log.
 pub new_seen : {Shape Op E : Type 0} (f : E → Item Op) (sh : Shape) (x : List E) (log : Shape × List E) (a : E) (e : Item Op) → ◌≡◌ {A = Shape × List E} (sh, x) log → e ≡ f a → position (λ (b : E). (f b).id == (f a).id) log.1 ≡ None → IsNew e.id (map f x)
 new_seen {Shape} {Op} {E} f sh x log a e is item none =
     let absent = none_len (λ (d : Item Op). d.id == (f a).id) (map f x) (position_seen f (map f x) log.1 (f a).id (ap (λ (p : Shape × List E). map f p.1) is) ∙ none) in
@@ -67,6 +71,7 @@ legal_seen {Shape} {State} {Op} {Undo} {E} o f s x log a e is after item h =
     subst (λ (d : Item Op). IsLegal o s d.op) (sym item)
     (last_is_legal o (o.shape s) s (ops (map f x)) (f a).op after (back (λ sh xs. IsAllowed o sh (xs ++ (f a).op ∷ [])) (seen f (o.shape s) x log is) h))
 
+-- A log of fewer than a million entries has fewer than a million items.
 pub few_seen : {Shape Op E : Type 0} (f : E → Item Op) (sh : Shape) (x : List E) (log : Shape × List E) → ◌≡◌ {A = Shape × List E} (sh, x) log → length log.1 < 1_000_000 → length (map f x) < 1_000_000
 few_seen {Shape} {Op} {E} f sh x log is few =
     let size = length-map x f in
@@ -93,6 +98,7 @@ pub left_mapped : {A B : Type 0} (f : A → B) (removed : Removed) (x : List A) 
 left_mapped f Done x i = map-remove f x i
 left_mapped f (Differs id answer) x i = refl
 
+-- To remove an item from the items of a log is to remove its entry from the log.
 pub entry_removed : {Shape State Op Undo E : Type 0} (o : Object Shape State Op Undo) (f : E → Item Op) (sh new : Shape) (x : List E) (i : ℕ) (removed : Removed) → RemovesEntry o itself (sh, map f x) i (new, left removed (map f x) i) removed → RemovesEntry o f (sh, x) i (new, left removed x i) removed
 entry_removed {Shape} {State} {Op} {Undo} {E} o f sh new x i Done r =
     let same : ops (remove (map f x) i) ≡ entry_ops f (remove x i) = ap (λ (z : List (Item Op)). ops z) (sym (map-remove f x i)) ∙ ops_mapped f (remove x i) in (
@@ -104,12 +110,14 @@ entry_removed {Shape} {State} {Op} {Undo} {E} o f sh new x i (Differs id answer)
   differs_entry o f sh (remove x i) id answer (subst (λ (z : List (Item Op)). DiffersFirst o itself sh z id answer) (sym (map-remove f x i)) r.1),
 )
 
+-- A position of a log is a position of the list of its items.
 pub inside : {Shape A B : Type 0} (f : A → B) (sh : Shape) (x : List A) (log : Shape × List A) (i : ℕ) → ◌≡◌ {A = Shape × List A} (sh, x) log → i < length log.1 → i < length (map f x)
 inside {Shape} {A} f sh x log i is lt =
     let size = length-map x f in
     let within : i < length x = subst (λ (p : Shape × List A). i < length p.1) (sym is) lt in
     omega arith
 
+-- The entry at a position of a log has its site among the items.
 pub site_seen : {Shape Op E : Type 0} (place : Op → ℕ) (f : E → Item Op) (sh : Shape) (x : List E) (log : Shape × List E) (i : ℕ) (a : E) (e : Item Op) (p : ℕ) → ◌≡◌ {A = Shape × List E} (sh, x) log → i < length log.1 → a ≡ get_or x i a → e ≡ f a → p ≡ place e.op → IsSite place (map f x) i e p
 site_seen {Shape} {Op} {E} place f sh x log i a e p is lt at item here =
     site_of place (map f x) i e p (inside f sh x log i is lt) (item ∙ ap f at ∙ sym (get_or-map f x i a) ∙ ap (λ (d : Item Op). get_or (map f x) i d) (sym item)) (sym here)

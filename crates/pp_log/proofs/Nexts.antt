@@ -102,6 +102,7 @@ module _ {Op : Type 0} (place : Op → ℕ) (p : ℕ) where
       let same : r.0 ≡ m = one_position x r.0 m e d h r.1.is (slice_get-get_or x m e f.0) (sym (eqb-true d.id e.id f.1)) in
       subst (IsStand place p x k e) same r.1
 
+  -- Each item of a place is found in the whole list by its id.
   pub stand_not_lost : (x : List (Item Op)) (k : ℕ) (e : Item Op) → slice_get (there place p x) k ≡ Some e → position (λ (d : Item Op). d.id == e.id) x ≡ None → ⊥
   stand_not_lost x k e at lost =
       let r = stand x k e at in
@@ -111,6 +112,7 @@ module _ {Op : Type 0} (place : Op → ℕ) (p : ℕ) where
   pub stand_before : (x : List (Item Op)) (k : ℕ) (e : Item Op) (m from : ℕ) → IsStand place p x k e m → m < from → k < ahead place p x from
   stand_before x k e m from r h = let less = ahead_more x m from e r.is r.on h in let count = r.count in omega arith
 
+  -- If the k-th item of a place is at or after a position, at most k of them are before it.
   pub stand_behind : (x : List (Item Op)) (k : ℕ) (e : Item Op) (m from : ℕ) → IsStand place p x k e m → from ≤ m → ahead place p x from ≤ k
   stand_behind x k e m from r h = let less = ahead_rises x from m h in let count = r.count in omega arith
 
@@ -119,6 +121,7 @@ pub if_some : {A : Type 0} (o : Option A) (P : A → Type 0) → ((a : A) → o 
 if_some None P h = tt
 if_some (Some a) P h = h a refl
 
+-- A fact that follows if an option is none is a fact of `IfNone`.
 pub if_none : {A : Type 0} (o : Option A) (P : Type 0) → (o ≡ None → P) → IfNone o P
 if_none None P h = h refl
 if_none (Some a) P h = tt
@@ -133,6 +136,7 @@ module _ {E Op : Type 0} (place : Op → ℕ) (f : E → Item Op) (p : ℕ) (x :
       let e = mapped_from (λ (d : Item Op). d.id) (there place p (map f x)) k id (ap (λ (z : List ℕ). slice_get z k) (sym is) ∙ at) in
       (e.0, stand_found place p (map f x) k e.0 m h e.1 (position_seen f (map f x) x e.0.id refl ∙ ap (λ (i : ℕ). position (λ (a : E). (f a).id == i) x) e.2 ∙ sym found))
 
+  -- Each id that a place keeps is found among the entries.
   pub never_lost : (ids : List ℕ) (k id : ℕ) → ids ≡ ids_of (there place p (map f x)) → slice_get ids k ≡ Some id → None ≡ position (λ (a : E). (f a).id == id) x → ⊥
   never_lost ids k id is at lost =
       let e = mapped_from (λ (d : Item Op). d.id) (there place p (map f x)) k id (ap (λ (z : List ℕ). slice_get z k) (sym is) ∙ at) in
@@ -168,15 +172,18 @@ module _ {E Op : Type 0} (place : Op → ℕ) (f : E → Item Op) (p : ℕ) (x :
 
 -- What a log keeps of a place, once it was looked up.
 module _ {Shape State Op Undo E : Type 0} (o : Object Shape State Op Undo) (place : Op → ℕ) (f : E → Item Op) (s : State) (x : List E) (log : Shape × List E) (ps lent : List (Place Undo)) (k p : ℕ) where
+  -- The ids that a log keeps at a place are those of the items of the place.
   pub ids_are : (q : Place Undo) → ◌≡◌ {A = Shape × List E} (o.shape s, x) log → Keeps o place s (map f x) ps → lent ≡ ps → k ≡ p → k < length lent → q ≡ get_or lent k q → q.ids.items ≡ ids_of (there place p (map f log.1))
   ids_are q seen h is at within value =
       kept_of o place s (map f x) ps k q h (ap (λ (z : List (Place Undo)). slice_get z k) (sym is) ∙ slice_get_read lent (length lent) k q refl within value)
       ∙ ap (λ (j : ℕ). ids_of (there place j (map f x))) at ∙ ap (λ (z : Shape × List E). ids_of (there place p (map f z.1))) seen
 
+  -- A place past the end of the places that a log keeps has no items.
   pub no_items : ◌≡◌ {A = Shape × List E} (o.shape s, x) log → Keeps o place s (map f x) ps → lent ≡ ps → k ≡ p → length lent ≤ k → there place p (map f log.1) ≡ []
   no_items seen h is at past =
       let none : there place k (map f x) ≡ [] = subst (KeptIn o (o.start (o.shape s)) (there place k (map f x))) (ap (λ (z : List (Place Undo)). slice_get z k) (sym is) ∙ slice_get_past lent k past) (h.kept k) in
       ap (λ (z : Shape × List E). there place p (map f z.1)) (sym seen) ∙ ap (λ (j : ℕ). there place j (map f x)) (sym at) ∙ none
 
+-- The items of a log with distinct ids are distinct, item by item.
 pub distinct_seen : {Shape Op E : Type 0} (f : E → Item Op) (sh : Shape) (x : List E) (log : Shape × List E) → ◌≡◌ {A = Shape × List E} (sh, x) log → HasDistinctIds (map f x) → AreDistinct (map f log.1)
 distinct_seen {Shape} {Op} {E} f sh x log is h = subst (λ (z : Shape × List E). AreDistinct (map f z.1)) is (apart (map f x) h)

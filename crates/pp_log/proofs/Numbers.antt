@@ -41,9 +41,11 @@ without_last (a ∷ []) zero d h = refl
 without_last (a ∷ b ∷ x) zero d h = absurd (omega arith)
 without_last (a ∷ x) (suc i) d h = ap (λ (z : List ℕ). a ∷ z) (without_last x i d (omega arith))
 
+-- Rising numbers still rise if the last of them is freed and becomes the next number.
 pub rising_without_last : (x : List ℕ) (n i d : ℕ) → IsRising (x ++ n ∷ []) → length x ≡ suc i → IsRising (remove x i ++ get_or x i d ∷ [])
 rising_without_last x n i d h k = subst IsRising (sym (without_last x i d k)) (rising_front x n h)
 
+-- Rising numbers still rise without the one at a position, and before the same next number.
 pub rising_without : (x : List ℕ) (n i : ℕ) → IsRising (x ++ n ∷ []) → i < length x → IsRising (remove x i ++ n ∷ [])
 rising_without x n i h k =
     let size = length_push x n in
@@ -70,6 +72,7 @@ number_of_new [] (m ∷ numbers) id n h new = absurd (omega arith)
 number_of_new (i ∷ ids) [] id n h new = absurd (omega arith)
 number_of_new (i ∷ ids) (m ∷ numbers) id n h new = not_here i m id (ids ++ id ∷ []) (numbers ++ n ∷ []) (λ is. new.0 (sym is)) ∙ number_of_new ids numbers id n (omega arith) new.1
 
+-- With one more id in a table, each other id has the number that it had.
 pub number_of_old : (ids numbers : List ℕ) (id n other : ℕ) → length numbers ≡ length ids → (id ≡ other → ⊥) → number_of (ids ++ id ∷ []) (numbers ++ n ∷ []) other ≡ number_of ids numbers other
 number_of_old [] [] id n other h apart = not_here id n other [] [] apart
 number_of_old [] (m ∷ numbers) id n other h apart = absurd (omega arith)
@@ -87,12 +90,14 @@ stands_behind [] i id a new at is = cc
 stands_behind (b ∷ ids) zero id a new at is = let same : b ≡ id = cc in new.0 (is ∙ sym same)
 stands_behind (b ∷ ids) (suc i) id a new at is = stands_behind ids i id a new.1 at is
 
+-- An id that is removed with its number has no number.
 pub number_of_gone : (ids numbers : List ℕ) (i id : ℕ) → length numbers ≡ length ids → StandOnce ids → slice_get ids i ≡ Some id → number_of (remove ids i) (remove numbers i) id ≡ None
 number_of_gone [] numbers i id h once at = cc
 number_of_gone (a ∷ ids) [] i id h once at = absurd (omega arith)
 number_of_gone (a ∷ ids) (n ∷ numbers) zero id h once at = let same : a ≡ id = cc in no_number ids numbers id (subst (λ (k : ℕ). IsNewId k ids) same once.0)
 number_of_gone (a ∷ ids) (n ∷ numbers) (suc i) id h once at = not_here a n id (remove ids i) (remove numbers i) (stands_behind ids i id a once.0 at) ∙ number_of_gone ids numbers i id (omega arith) once.1 at
 
+-- If an id is removed with its number, each other id has the number that it had.
 pub number_of_left : (ids numbers : List ℕ) (i id other : ℕ) → length numbers ≡ length ids → slice_get ids i ≡ Some id → (id ≡ other → ⊥) → number_of (remove ids i) (remove numbers i) other ≡ number_of ids numbers other
 number_of_left [] numbers i id other h at apart = cc
 number_of_left (a ∷ ids) [] i id other h at apart = absurd (omega arith)
@@ -122,6 +127,7 @@ number_there (i ∷ ids) (m ∷ numbers) id n h k = elim (eqb_tells i id) [
       (omega arith, ap (λ (j : ℕ). get_or (m ∷ numbers) j 0) next ∙ r.1)
 ]
 
+-- An id with a number is at the position of its number.
 pub position_by_number : (ids numbers : List ℕ) (next id n k : ℕ) → length numbers ≡ length ids → IsRising (numbers ++ next ∷ []) → number_of ids numbers id ≡ Some n → k < length numbers → get_or numbers k 0 ≡ n → position (nat_eq id) ids ≡ Some k
 position_by_number ids numbers next id n k size h has lt at =
     let j = position_or_len (nat_eq id) ids in
@@ -146,6 +152,7 @@ no_place (i ∷ ids) (n ∷ numbers) id h k = elim (eqb_tells i id) [
       let at = place_later id i ids off.1 in omega arith
 ]
 
+-- An id without a number is not among the ids.
 pub no_position : (ids numbers : List ℕ) (id : ℕ) → length numbers ≡ length ids → number_of ids numbers id ≡ None → position (nat_eq id) ids ≡ None
 no_position ids numbers id h k =
     let j = position_or_len (nat_eq id) ids in
@@ -195,6 +202,7 @@ table_pushed old new ids id h fresh serials next updates =
       ] ∙ ap (λ (z : List ℕ). number_of (ids ++ id ∷ []) z other) (sym serials);
     }
 
+-- A table from which an entry was removed is the table of the ids without its id.
 pub table_removed : (old new : IdTable) (ids : List ℕ) (i id : ℕ) → IsTableOf old ids → StandOnce ids → slice_get ids i ≡ Some id → new.serials.items ≡ remove old.serials.items i → IsRising (remove old.serials.items i ++ new.next ∷ []) → Updates old.serial_of new.serial_of id None → IsTableOf new (remove ids i)
 table_removed old new ids i id h once at serials rising updates =
     let within = slice_get_within ids i id at in

@@ -37,6 +37,7 @@ module _ {Op : Type 0} (own log : List (Item Op)) (from : ℕ) (st : StandFrom o
   in_back : (k : ℕ) (p : Item Op) → In p (drop k log) → In p log
   in_back k p i = subst (In p) (take-append-drop k log) (in_right p (take k log) (drop k log) i)
 
+  -- An item before a position is in order with each item from the position on.
   pub across : (k : ℕ) (p q : Item Op) → In p (take k log) → In q (drop k log) → Before p q log
   across k p q i j = subst (Before p q) (take-append-drop k log) (before_across p q (take k log) (drop k log) i j)
 
@@ -56,19 +57,24 @@ module _ {Op : Type 0} (own log : List (Item Op)) (from : ℕ) (st : StandFrom o
         ]
       ]
 
+  -- At the first own item, no own item is before the position, and all are from it on.
   pub at_first_own : IsAt own log from 0
   at_first_own = record { done = λ p i. absurd i; left = first_left }
 
+  -- No entry before the first own item has the id of an own item.
   pub none_before : (d : Item Op) → In d (take from log) → has_id d.id (ids_of own) ≡ false
   none_before d i = has_none d.id own (λ p j e. never from d p i (first_left p j) (sym e))
 
   module _ (at next : ℕ) (here : IsAt own log at next) (d : Item Op) (within : at < length log) (is : d ≡ get_or log at d) where
+    -- The entries from the position on are the one there and those after it.
     pub rest : drop at log ≡ d ∷ drop (at + 1) log
     rest = drop_there log at d within is
 
+    -- The entries up to and with the position are those before it and the one there.
     pub front : take (at + 1) log ≡ take at log ++ d ∷ []
     front = take_more log at d within ∙ ap (λ (r : Item Op). take at log ++ r ∷ []) (sym is)
 
+    -- The entry at the position is among those from the position on.
     pub d_there : In d (drop at log)
     d_there = subst (In d) (sym rest) (inl refl)
 
@@ -89,6 +95,7 @@ module _ {Op : Type 0} (own log : List (Item Op)) (from : ℕ) (st : StandFrom o
       own_rest : drop next own ≡ h.0 ∷ drop (next + 1) own
       own_rest = drop_there own next h.0 own_within own_is
 
+      -- The own items up to and with the next one are those before it and this one.
       pub own_front : take (next + 1) own ≡ take next own ++ h.0 ∷ []
       own_front = take_more own next h.0 own_within ∙ ap (λ (r : Item Op). take next own ++ r ∷ []) (sym own_is)
 
@@ -98,12 +105,15 @@ module _ {Op : Type 0} (own log : List (Item Op)) (from : ℕ) (st : StandFrom o
       p_own : In h.0 own
       p_own = subst (In h.0) (sym own_cut) (in_right h.0 (take next own) (h.0 ∷ drop (next + 1) own) (inl refl))
 
+      -- The next own item, if it has the id of the entry at the position, is that entry's item.
       pub same : h.0 ≡ d
       same = one h.0 d (st.stand h.0 p_own) (in_back at d d_there) h.2
 
+      -- An entry with the id of the next own item has an id of the own items.
       pub has_it : has_id d.id (ids_of own) ≡ true
       has_it = has_one d.id own h.0 p_own h.2
 
+      -- After the next own item, one more own item is before the next position.
       pub at_next_own : IsAt own log (at + 1) (next + 1)
       at_next_own = record {
         done = λ q i. elim (in_cases q (take next own) (h.0 ∷ []) (subst (In q) own_front i)) [
@@ -152,9 +162,11 @@ module _ {Op : Type 0} (own log : List (Item Op)) (from : ℕ) (st : StandFrom o
               rest_is : {u : Item Op} {x y : List (Item Op)} → drop next own ≡ u ∷ x → drop next own ≡ u ∷ y → y ≡ x
               rest_is {u} {x} {y} a b = let c : u ∷ x ≡ u ∷ y = sym a ∙ b in cc
 
+      -- An entry that is not the next own item has no id of the own items.
       pub has_not_it : has_id d.id (ids_of own) ≡ false
       has_not_it = has_none d.id own none
 
+      -- If the entry is not the next own item, no more own items are before the next position.
       pub at_same_own : IsAt own log (at + 1) next
       at_same_own = record {
         done = λ q i. in_more q (here.done q i);
@@ -189,6 +201,7 @@ module _ {Op E : Type 0} (f : E → Item Op) (own : List (Item Op)) (x : List E)
   front_kept : kept_of (take from x) ≡ take from x
   front_kept = filter_all stays (take from x) front_stays
 
+  -- At the first own item nothing has been left out yet.
   pub keeping_first : IsKeeping from from 0 x
   keeping_first = record {
     here = at_first_own own (map f x) from st;
@@ -200,6 +213,7 @@ module _ {Op E : Type 0} (f : E → Item Op) (own : List (Item Op)) (x : List E)
   }
 
   module _ (at kept next : ℕ) (now : List E) (h : IsKeeping at kept next now) where
+    -- The list that is written over keeps its length.
     pub now_size : length now ≡ length x
     now_size =
         let a = ap length h.now_is ∙ length-append (kept_of (take at x)) (h.gap ++ drop at x) in
@@ -210,9 +224,11 @@ module _ {Op E : Type 0} (f : E → Item Op) (own : List (Item Op)) (x : List E)
         let g = h.gap_size in
         omega arith
 
+    -- The position to write at is not past the position to read from.
     pub kept_before : kept ≤ at
     kept_before = let g = h.gap_size in omega arith
 
+    -- At the end of the list, the entries before the position to write at are those that stay.
     pub keeping_last : length x ≤ at → take kept now ≡ kept_of x
     keeping_last all =
         let whole = take_all at x all in
@@ -247,6 +263,7 @@ module _ {Op E : Type 0} (f : E → Item Op) (own : List (Item Op)) (x : List E)
       more : at + 1 ≤ length x
       more = omega arith
 
+      -- If the entry at the position is own, it is skipped, and nothing is written.
       pub keeping_skip : HasIdAt own next (f e).id → IsKeeping (at + 1) kept (next + 1) now
       keeping_skip has =
           let out : kept_of (e ∷ []) ≡ [] = ap (λ (b : Bool). cond (not b) (e ∷ []) []) (has_it own (map f x) from st at next h.here (f e) item_lt item_is has) in
@@ -262,6 +279,7 @@ module _ {Op E : Type 0} (f : E → Item Op) (own : List (Item Op)) (x : List E)
             gap_size = let g = h.gap_size in let l = length-append h.gap (e ∷ []) in omega arith;
           }
 
+      -- If the entry at the position is not own, it is kept: it is written after those that stay.
       pub keeping_keep : (HasIdAt own next (f e).id → ⊥) → IsKeeping (at + 1) (kept + 1) next (slice_set now kept e)
       keeping_keep none =
           let into : kept_of (e ∷ []) ≡ e ∷ [] = ap (λ (b : Bool). cond (not b) (e ∷ []) []) (has_not_it own (map f x) from st at next h.here (f e) item_lt item_is none) in

@@ -21,18 +21,23 @@ module _ {Op : Type 0} (place : Op → ℕ) where
   pub is_at : (e : Item Op) (p : ℕ) → (place e.op ≡ p) ⊎ (place e.op ≡ p → ⊥)
   is_at e p = elim (eqb_tells (place e.op) p) [ inl h ↦ inl h.1 | inr h ↦ inr h.1 ]
 
+  -- An item with the place, before a list, is the first of the items of the place.
   pub there_at : (p : ℕ) (e : Item Op) (x : List (Item Op)) → place e.op ≡ p → there place p (e ∷ x) ≡ e ∷ there place p x
   there_at p e x h = ap (λ (b : Bool). cond b (e ∷ there place p x) (there place p x)) (eq-eqb (place e.op) p h)
 
+  -- An item of another place, before a list, adds nothing to the items of the place.
   pub there_off : (p : ℕ) (e : Item Op) (x : List (Item Op)) → (place e.op ≡ p → ⊥) → there place p (e ∷ x) ≡ there place p x
   there_off p e x h = ap (λ (b : Bool). cond b (e ∷ there place p x) (there place p x)) (ne_eqb (place e.op) p h)
 
+  -- An item with the place, before a list, adds nothing to the items of the other places.
   pub elsewhere_at : (p : ℕ) (e : Item Op) (x : List (Item Op)) → place e.op ≡ p → elsewhere place p (e ∷ x) ≡ elsewhere place p x
   elsewhere_at p e x h = ap (λ (b : Bool). cond b (elsewhere place p x) (e ∷ elsewhere place p x)) (eq-eqb (place e.op) p h)
 
+  -- An item of another place, before a list, is the first of the items of the other places.
   pub elsewhere_off : (p : ℕ) (e : Item Op) (x : List (Item Op)) → (place e.op ≡ p → ⊥) → elsewhere place p (e ∷ x) ≡ e ∷ elsewhere place p x
   elsewhere_off p e x h = ap (λ (b : Bool). cond b (elsewhere place p x) (e ∷ elsewhere place p x)) (ne_eqb (place e.op) p h)
 
+  -- The items of a place in joined lists are those of the first, then those of the second.
   pub there-append : (p : ℕ) (x y : List (Item Op)) → there place p (x ++ y) ≡ there place p x ++ there place p y
   there-append p [] y = refl
   there-append p (e ∷ x) y = elim (is_at e p) [
@@ -40,6 +45,7 @@ module _ {Op : Type 0} (place : Op → ℕ) where
     | inr h ↦ there_off p e (x ++ y) h ∙ there-append p x y ∙ ap (λ (z : List (Item Op)). z ++ there place p y) (sym (there_off p e x h))
   ]
 
+  -- The items of the other places in joined lists are those of the first, then of the second.
   pub elsewhere-append : (p : ℕ) (x y : List (Item Op)) → elsewhere place p (x ++ y) ≡ elsewhere place p x ++ elsewhere place p y
   elsewhere-append p [] y = refl
   elsewhere-append p (e ∷ x) y = elim (is_at e p) [
@@ -47,6 +53,7 @@ module _ {Op : Type 0} (place : Op → ℕ) where
     | inr h ↦ elsewhere_off p e (x ++ y) h ∙ ap (λ (z : List (Item Op)). e ∷ z) (elsewhere-append p x y) ∙ ap (λ (z : List (Item Op)). z ++ elsewhere place p y) (sym (elsewhere_off p e x h))
   ]
 
+  -- All items of a place have the place.
   pub there_twice : (p : ℕ) (x : List (Item Op)) → there place p (there place p x) ≡ there place p x
   there_twice p [] = refl
   there_twice p (e ∷ x) = elim (is_at e p) [
@@ -54,6 +61,7 @@ module _ {Op : Type 0} (place : Op → ℕ) where
     | inr h ↦ ap (there place p) (there_off p e x h) ∙ there_twice p x ∙ sym (there_off p e x h)
   ]
 
+  -- No item of a place is among the items of the other places.
   pub there_of_elsewhere : (p : ℕ) (x : List (Item Op)) → there place p (elsewhere place p x) ≡ []
   there_of_elsewhere p [] = refl
   there_of_elsewhere p (e ∷ x) = elim (is_at e p) [
@@ -61,6 +69,7 @@ module _ {Op : Type 0} (place : Op → ℕ) where
     | inr h ↦ ap (there place p) (elsewhere_off p e x h) ∙ there_off p e (elsewhere place p x) h ∙ there_of_elsewhere p x
   ]
 
+  -- The items of a place are the same in a list without the items of another place.
   pub there_of_others : (p q : ℕ) (x : List (Item Op)) → (p ≡ q → ⊥) → there place q (elsewhere place p x) ≡ there place q x
   there_of_others p q [] n = refl
   there_of_others p q (e ∷ x) n = elim (is_at e p) [
@@ -71,6 +80,7 @@ module _ {Op : Type 0} (place : Op → ℕ) where
     ]
   ]
 
+  -- No item of one place is among the items of another place.
   pub others_of_there : (p q : ℕ) (x : List (Item Op)) → (p ≡ q → ⊥) → there place q (there place p x) ≡ []
   others_of_there p q [] n = refl
   others_of_there p q (e ∷ x) n = elim (is_at e p) [
@@ -86,6 +96,7 @@ module _ {Op : Type 0} (place : Op → ℕ) where
     | inr h ↦ ap (λ (z : List (Item Op)). there place q (elsewhere place p x) ++ z) (others_of_there p q x h.1) ∙ append-nil (there place q (elsewhere place p x)) ∙ there_of_others p q x h.1
   ]
 
+  -- The items of a place and those of the others are together as many as the list has.
   pub length-parts : (p : ℕ) (x : List (Item Op)) → length (elsewhere place p x) + length (there place p x) ≡ length x
   length-parts p [] = refl
   length-parts p (e ∷ x) = let IH = length-parts p x in elim (is_at e p) [
@@ -98,6 +109,7 @@ more_or_not : {A B : Type 0} (b : Bool) (a : A) (c : B) (x : List A) (y : List B
 more_or_not true a c x y h = ap suc h
 more_or_not false a c x y h = h
 
+-- A place has as many items as the list has operations with this place.
 pub there_count : {Op : Type 0} (place : Op → ℕ) (p : ℕ) (x : List (Item Op)) → length (there place p x) ≡ length (filter (λ b. place b == p) (ops x))
 there_count place p [] = refl
 there_count place p (e ∷ x) = more_or_not (place e.op == p) e e.op (there place p x) (filter (λ b. place b == p) (ops x)) (there_count place p x)
@@ -112,9 +124,11 @@ module _ {E Op : Type 0} (place : Op → ℕ) (f : E → Item Op) (p : ℕ) (x :
       ap (λ (z : List E). there place p (map f z)) (take_more x i d h ∙ ap (λ (b : E). take i x ++ b ∷ []) (sym is))
       ∙ ap (there place p) (map_push f (take i x) d) ∙ there-append place p (map f (take i x)) (f d ∷ [])
 
+  -- If the next entry has the place, its item is added to those of the place before it.
   pub one_more_there : place (f d).op ≡ p → there place p (map f (take (i + 1) x)) ≡ front ++ f d ∷ []
   one_more_there at = longer ∙ ap (λ (z : List (Item Op)). front ++ z) (there_at place p (f d) [] at)
 
+  -- If the next entry has another place, no item is added to those of the place before it.
   pub none_more_there : (place (f d).op ≡ p → ⊥) → there place p (map f (take (i + 1) x)) ≡ front
   none_more_there off = longer ∙ ap (λ (z : List (Item Op)). front ++ z) (there_off place p (f d) [] off) ∙ append-nil front
 
@@ -132,6 +146,7 @@ module _ {E Op : Type 0} (place : Op → ℕ) (f : E → Item Op) (p : ℕ) (x :
   pub stands_behind : (before : List (Item Op)) (n : ℕ) → n ≡ length before + length front → place (f d).op ≡ p → f d ≡ get_or (before ++ items_on place f p x) n (f d)
   stands_behind before n n_is at = found_behind before (items_on place f p x) (length front) n (f d) n_is (stands_there at)
 
+  -- If the next entry has the place, the place has one more item before the next position.
   pub one_more : place (f d).op ≡ p → length (items_on place f p (take (i + 1) x)) ≡ length front + 1
   one_more at = ap length (one_more_there at) ∙ length_push front (f d)
 

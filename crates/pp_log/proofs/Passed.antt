@@ -30,12 +30,15 @@ module _ {Shape State Op Undo : Type 0} (o : Object Shape State Op Undo) (laws :
   abbrev sh : Shape
   sh = o.shape b
 
+  -- The state after a log and more operations is the one after these from the log's state.
   pub seen : (x : List Op) → state_after o sh (base ++ x) ≡ state_from o b x
   seen x = state-append o (o.start sh) base x ∙ ap (λ (t : State). state_from o t x) (sym log.is)
 
+  -- Operations that are allowed from the state of a log are allowed after the log.
   pub long : (x : List Op) → AllowedFrom o b x → IsAllowed o sh (base ++ x)
   long x h = allowed-append o (o.start sh) base x log.allowed (subst (λ (t : State). AllowedFrom o t x) log.is h)
 
+  -- Operations that are allowed after a log are allowed from its state.
   pub short : (x : List Op) → IsAllowed o sh (base ++ x) → AllowedFrom o b x
   short x h = subst (λ (t : State). AllowedFrom o t x) (sym log.is) (allowed-second o (o.start sh) base x h)
 
@@ -47,6 +50,7 @@ module _ {Shape State Op Undo : Type 0} (o : Object Shape State Op Undo) (laws :
     stands : IsPair o laws (state_from o b x) a c
     stands = subst (λ (t : State). IsPair o laws t a c) (seen x) (pair o laws sh (base ++ x) z a c swaps whole)
 
+    -- An operation moves past the next one of an allowed list, if the two swap.
     pub turned_on : AllowedFrom o b ((x ++ c ∷ []) ++ a ∷ z)
     turned_on = short ((x ++ c ∷ []) ++ a ∷ z) (subst (IsAllowed o sh) (append_assoc base (x ++ c ∷ []) (a ∷ z))
         (subst (λ (w : List Op). IsAllowed o sh (w ++ a ∷ z)) (append_assoc base x (c ∷ [])) (turned o laws sh (base ++ x) z a c swaps whole)))
@@ -119,6 +123,7 @@ module _ {Shape State Op Undo : Type 0} (o : Object Shape State Op Undo) (laws :
           ap (λ (l : List Op). o.upkeep.kept (state_from o b l) a) (sym (append_assoc x (c ∷ []) z)) ∙ rest.1 ∙ ap (λ (t : State). o.upkeep.kept t a) next ∙ both.1,
         )
 
+    -- An operation that keeps its value in any order is carried to the end with that value.
     pub carried_alone : (x z : List Op) (us : List Undo) (d : Undo) (n : ℕ) → length x ≡ n → LetsPass o a z → AllowedFrom o b (x ++ a ∷ z) → us ≡ kept_along o b (x ++ a ∷ z)
         → IsCarried o b (x ++ z) a (remove us n) (get_or us n d)
     carried_alone x z us d n is p h kept =
@@ -152,6 +157,7 @@ module _ {Shape State Op Undo : Type 0} (o : Object Shape State Op Undo) (laws :
   whole_list : take (length us) (ops items) ≡ x ++ a ∷ y
   whole_list = ap (λ (n : ℕ). take n (ops items)) (all ∙ sym (length-ops items)) ∙ take-length (ops items) ∙ cut
 
+  -- The item with the items before and after it is allowed.
   pub allowed_there : AllowedFrom o b (x ++ a ∷ y)
   allowed_there = subst (AllowedFrom o b) whole_list h.allowed
 
@@ -207,6 +213,7 @@ module _ {Shape State Op Undo : Type 0} (o : Object Shape State Op Undo) (laws :
         let ranged = subst (λ (f : Item Op). IsTrue (o.ranged f.op)) (sym is) (ranged-get o items i e k h.ranged) in
         (state_from o b (x ++ y), reached, ranged, legal, state_is, carried.own)
 
+    -- After one item is taken out, each other item still has an undo value.
     pub all_left : length vs ≡ length (remove items i)
     all_left = ap length carried.others ∙ length-kept o b (x ++ y) ∙ ap length (sym ops_left) ∙ length-ops (remove items i)
 
@@ -279,11 +286,14 @@ module _ {Shape State Op Undo : Type 0} (o : Object Shape State Op Undo) (laws :
     carried_all = subst (λ (l : List (Item Op)). IsCarried o b (ops (take i items) ++ ops l) passes.item.op vs v) (sym passes.others)
         (subst (λ (c : Op). IsCarried o b (ops (take i items) ++ ops z) c vs v) (sym passes.op) carried)
 
+    -- An operation that is carried past all others was applied last, with its carried undo value.
     pub applied_out : WasApplied o a v s
     applied_out = subst (λ (c : Op). WasApplied o c v s) passes.op (was_applied o laws b s items us h all i passes.item within is behind vs v carried_all)
 
+    -- After the carried operation is taken back, the others make a run.
     pub run_out : IsRun o b (remove items i) vs (o.upkeep.back s a v)
     run_out = subst (λ (c : Op). IsRun o b (remove items i) vs (o.upkeep.back s c v)) passes.op (run_left o laws b s items us h all i passes.item within is behind vs v carried_all)
 
+    -- After one item is taken out, all other items are still applied.
     pub all_out : length vs ≡ length (remove items i)
     all_out = all_left o laws b s items us h all i passes.item within is behind vs v carried_all

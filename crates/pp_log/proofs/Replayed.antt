@@ -73,16 +73,20 @@ module _ {Op E : Type 0} (place : Op → ℕ) (f : E → Item Op) (y : List E) (
   abbrev pub others : List E
   others = take (length y - 1) (drop 1 y)
 
+  -- The items with the place of the first entry are the items of that place.
   pub whole_is : with_first place f y ≡ items_on place f p y
   whole_is = with_first_is place f y a some is ∙ ap (λ (q : ℕ). items_on place f q y) (sym p_is)
 
+  -- The items of the first entry's place are its item, then those among the entries after it.
   pub all_is : items_on place f p y ≡ f a ∷ items_on place f p others
   all_is = sym whole_is ∙ first_of place f y a some is ∙ ap (λ (q : ℕ). f a ∷ there place q (map f (drop 1 y))) (sym p_is)
       ∙ ap (λ (z : List E). f a ∷ there place p (map f z)) (sym (all_behind y 1))
 
+  -- The place of the first entry has one item more than it has among the entries after it.
   pub size_is : length (items_on place f p y) ≡ length (items_on place f p others) + 1
   size_is = let n = ap length all_is in omega arith
 
+  -- To remove the first entry's item leaves the items of its place among those after it.
   pub left_is : (before : List (Item Op)) (from : ℕ) → length before ≡ from → remove (before ++ items_on place f p y) from ≡ before ++ items_on place f p others
   left_is before from n =
       ap (λ (z : List (Item Op)). remove (before ++ z) from) all_is ∙ ap (remove (before ++ f a ∷ items_on place f p others)) (sym n)

@@ -5,6 +5,7 @@ use Rattle.std.proofs.Math.Seq.{drop-nil, take-length}
 use Rattle.std.proofs.lemmas.List.{length-drop}
 use Rattle.std.proofs.lemmas.List.Edits.{take-paste}
 
+-- To drop no elements leaves the whole list.
 pub drop_none : {A : Type 0} (x : List A) → drop 0 x ≡ x
 drop_none [] = refl
 drop_none (a ∷ x) = refl
@@ -23,6 +24,7 @@ removed {A} (a ∷ x) zero i k e = let same : k ≡ i = omega arith in ap (λ (j
 removed (a ∷ x) (suc n) i zero e = absurd (omega arith)
 removed (a ∷ x) (suc n) i (suc k) e = removed x n i k (omega arith)
 
+-- To remove an element after the first n and drop these is to drop these and remove it.
 pub drop-remove : {A : Type 0} (x : List A) (n i : ℕ) → drop n (remove x (n + i)) ≡ remove (drop n x) i
 drop-remove x n i = removed x n i (n + i) refl
 

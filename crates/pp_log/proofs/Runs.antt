@@ -25,28 +25,34 @@ take_one_more {Op} x i e h k =
     take_more (ops x) i e.op within ∙ ap (λ (a : Op). take i (ops x) ++ a ∷ []) (get-ops x i e ∙ ap (λ (f : Item Op). f.op) (sym k))
 
 module _ {Shape State Op Undo : Type 0} (o : Object Shape State Op Undo) where
+  -- The first operations of a ranged list are ranged.
   pub ranged-take : (i : ℕ) (x : List Op) → AllRanged o x → AllRanged o (take i x)
   ranged-take zero x h = tt
   ranged-take (suc i) [] h = tt
   ranged-take (suc i) (a ∷ x) h = (h.0, ranged-take i x h.1)
 
+  -- The operation at a position of a ranged list is ranged.
   pub ranged-get : (x : List (Item Op)) (i : ℕ) (e : Item Op) → i < length x → AllRanged o (ops x) → IsTrue (o.ranged (get_or x i e).op)
   ranged-get [] i e h r = absurd (omega arith)
   ranged-get (f ∷ x) zero e h r = r.0
   ranged-get (f ∷ x) (suc i) e h r = ranged-get x i e (omega arith) r.1
 
+  -- The operation at a position of a list that fits a shape fits the shape.
   pub fit-get : (sh : Shape) (x : List (Item Op)) (i : ℕ) (e : Item Op) → i < length x → AllFit o sh (ops x) → IsTrue (o.fits sh (get_or x i e).op)
   fit-get sh [] i e h r = absurd (omega arith)
   fit-get sh (f ∷ x) zero e h r = r.0
   fit-get sh (f ∷ x) (suc i) e h r = fit-get sh x i e (omega arith) r.1
 
+  -- The undo values of joined lists are those of the first, then those of the second after it.
   pub kept-append : (s : State) (x y : List Op) → kept_along o s (x ++ y) ≡ kept_along o s x ++ kept_along o (state_from o s x) y
   kept-append s [] y = refl
   kept-append s (a ∷ x) y = ap (λ (us : List Undo). o.upkeep.kept s a ∷ us) (kept-append (o.next s a) x y)
 
+  -- One more operation adds one undo value: what it keeps in the state before it.
   pub kept-push : (s : State) (x : List Op) (a : Op) → kept_along o s (x ++ a ∷ []) ≡ kept_along o s x ++ o.upkeep.kept (state_from o s x) a ∷ []
   kept-push s x a = kept-append s x (a ∷ [])
 
+  -- A list of operations leaves as many undo values as it has operations.
   pub length-kept : (s : State) (x : List Op) → length (kept_along o s x) ≡ length x
   length-kept s [] = refl
   length-kept s (a ∷ x) = ap suc (length-kept (o.next s a) x)
@@ -63,6 +69,7 @@ module _ {Shape State Op Undo : Type 0} (o : Object Shape State Op Undo) (laws :
         ranged = ranged-append o base x h.ranged r;
       }
 
+  -- The state of a log is one that the laws speak of (`IsState`).
   pub log_is_state : (b : State) (base : List Op) → IsLog o b base → o.upkeep.IsState b
   log_is_state b base h = subst o.upkeep.IsState (sym h.is) (reached_is_state o laws (o.shape b) base h.allowed)
 
@@ -81,6 +88,7 @@ module _ {Shape State Op Undo : Type 0} (o : Object Shape State Op Undo) (laws :
         few = omega arith;
       }
 
+  -- A run keeps the shape of the state that it begins in.
   pub run_shape : (b s : State) (items : List (Item Op)) (us : List Undo) → IsRun o b items us s → o.shape s ≡ o.shape b
   run_shape b s items us h = ap o.shape h.is ∙ shape_stays o laws b (take (length us) (ops items)) h.allowed
 
@@ -90,9 +98,11 @@ module _ {Shape State Op Undo : Type 0} (o : Object Shape State Op Undo) (laws :
       subst (λ (sh : Shape). IsTrue (o.fits sh e.op)) (sym (run_shape b s items us h))
       (subst (λ (f : Item Op). IsTrue (o.fits (o.shape b) f.op)) (sym is) (fit-get o (o.shape b) items (length us) e k h.fit))
 
+  -- The next item of a run is ranged.
   pub run_ranged : (b s : State) (items : List (Item Op)) (us : List Undo) (e : Item Op) → IsRun o b items us s → length us < length items → e ≡ get_or items (length us) e → IsTrue (o.ranged e.op)
   run_ranged b s items us e h k is = subst (λ (f : Item Op). IsTrue (o.ranged f.op)) (sym is) (ranged-get o items (length us) e k h.ranged)
 
+  -- A run goes on with its next item if the object's result is the recorded one.
   pub run_more : (b s : State) (items : List (Item Op)) (us vs : List Undo) (e : Item Op) (u : Undo) (t : State) → IsRun o b items us s → length us < length items → e ≡ get_or items (length us) e → o.gives s e.op ≡ o.recorded e.op → u ≡ o.upkeep.kept s e.op → t ≡ o.next s e.op → vs ≡ us ++ u ∷ [] → IsRun o b items vs t
   run_more b s items us vs e u t h k is gives kept next longer =
       let n = length us in
@@ -125,6 +135,7 @@ pub record IsLast {Shape State Op Undo : Type 0} (o : Object Shape State Op Undo
   pub undo : u ≡ o.upkeep.kept before a
   pub back : o.upkeep.back s a u ≡ before
 
+-- The last item of a run has the facts of `IsLast`: it may be taken back.
 pub run_last : {Shape State Op Undo : Type 0} (o : Object Shape State Op Undo) (laws : IsLawful o) (b s : State) (items : List (Item Op)) (vs us : List Undo) (u : Undo) (e : Item Op) → vs ≡ us ++ u ∷ [] → e ≡ get_or items (length us) e → IsRun o b items vs s → IsLast o b s items us e.op u
 run_last {Shape} {State} {Op} {Undo} o laws b s items vs us u e f is h =
     let n = length us in

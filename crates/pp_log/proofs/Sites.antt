@@ -48,6 +48,7 @@ pub record IsSite {Op : Type 0} (place : Op → ℕ) (log : List (Item Op)) (i :
   pub others : (r : ℕ) → (p ≡ r → ⊥) → there place r (remove log i) ≡ there place r log
   pub count : from_place place (ops log) i ≡ length v + 1
 
+-- The item at a position of a list has its site there.
 pub site_of : {Op : Type 0} (place : Op → ℕ) (log : List (Item Op)) (i : ℕ) (e : Item Op) (p : ℕ) → i < length log → e ≡ get_or log i e → place e.op ≡ p → IsSite place log i e p
 site_of {Op} place log i e p h is at =
     let x = take i log in
@@ -86,6 +87,7 @@ abbrev pub left : {A : Type 0} → Removed → List A → ℕ → List A
 left Done x i = remove x i
 left (Differs id answer) x i = x
 
+-- A removal that is not done leaves the list as it was.
 pub left_else : {A : Type 0} (removal : Removed) (x : List A) (i : ℕ) → (removal ≡ Done → ⊥) → left removal x i ≡ x
 left_else Done x i n = absurd (n refl)
 left_else (Differs id answer) x i n = refl
@@ -117,6 +119,7 @@ module _ {Shape State Op Undo : Type 0} (o : Object Shape State Op Undo) (place 
   pub kept_of : (s : State) (log : List (Item Op)) (ps : List (Place Undo)) (p : ℕ) (q : Place Undo) → Keeps o place s log ps → slice_get ps p ≡ Some q → q.ids.items ≡ ids_of (there place p log)
   kept_of s log ps p q h e = let kept : IsKept o (o.start (o.shape s)) (there place p log) q = subst (KeptIn o (o.start (o.shape s)) (there place p log)) e (h.kept p) in kept.same_ids
 
+  -- The position of an item's id at its place is how many items of the place are before it.
   pub index_of_site : (s : State) (log : List (Item Op)) (ps : List (Place Undo)) (i : ℕ) (e : Item Op) (p k : ℕ) (q : Place Undo) → Keeps o place s log ps → (site : IsSite place log i e p) → slice_get ps p ≡ Some q → slice_get q.ids.items k ≡ Some e.id → k ≡ length site.u
   index_of_site s log ps i e p k q h site at found =
       let ids = kept_of s log ps p q h at ∙ ap (λ (z : List (Item Op)). ids_of z) site.here in
@@ -128,6 +131,7 @@ module _ {Shape State Op Undo : Type 0} (o : Object Shape State Op Undo) (place 
   pub place_at : (s : State) (log : List (Item Op)) (ps : List (Place Undo)) (i : ℕ) (e : Item Op) (p : ℕ) (q : Place Undo) → Keeps o place s log ps → IsSite place log i e p → q ≡ get_or ps p q → slice_get ps p ≡ Some q
   place_at s log ps i e p q h site value = slice_get-get_or ps p q (place_there s log ps i e p h site) ∙ ap Some (sym value)
 
+  -- An item whose id is found at its place has the facts of `IsFound`.
   pub found_in : (s : State) (log : List (Item Op)) (ps : List (Place Undo)) (i : ℕ) (e : Item Op) (p k : ℕ) (q : Place Undo) → Keeps o place s log ps → i < length log → IsSite place log i e p → q ≡ get_or ps p q → slice_get q.ids.items k ≡ Some e.id → IsFound place log ps i e p k q
   found_in s log ps i e p k q h within site value stands =
       let at = place_at s log ps i e p q h site value in

@@ -49,6 +49,7 @@ module _ {Shape State Op Undo : Type 0} (o : Object Shape State Op Undo) (own lo
         ]
       ])
 
+  -- The batch may leave what is left after the last items have left.
   pub may_now : MayLeave o batch now_of
   may_now = record {
     stand = λ p i. in_filter (λ (d : Item Op). not (has_id d.id (ids_of last))) p log (may.stand p (own_of p (in_left p batch last i))) (stays p i);
@@ -63,6 +64,7 @@ module _ {Shape State Op Undo : Type 0} (o : Object Shape State Op Undo) (own lo
   has_of_both j [] y = refl
   has_of_both j (d ∷ x) y = ap (λ (v : Bool). (d.id == j) || v) (has_of_both j x y) ∙ sym (or_assoc (d.id == j) (has_id j (ids_of x)) (has_id j (ids_of y)))
 
+  -- To leave out a batch and the last items is to leave the batch out of what is left.
   pub gone_next : without_items itself (batch ++ last) log ≡ without_items itself batch now_of
   gone_next = sym (filter_twice (λ (d : Item Op). not (has_id d.id (ids_of batch))) (λ (d : Item Op). not (has_id d.id (ids_of last))) (λ (d : Item Op). not (has_id d.id (ids_of (batch ++ last)))) log
       (λ d i. neither (has_id d.id (ids_of last)) (has_id d.id (ids_of batch)) ∙ ap not (sym (has_of_both d.id batch last))))
@@ -83,15 +85,19 @@ module _ {Shape State Op Undo : Type 0} (o : Object Shape State Op Undo) (place 
     abbrev pub log_now : List (Item Op)
     log_now = without_items itself (drop k own) log
 
+    -- Once the items from the k-th on have left, the log keeps what is left, in its shape.
     pub keeps_now : KeepsAll o place t log_now qs js × (o.shape t ≡ o.shape s)
     keeps_now = left.keeps log h may
 
+    -- The next batch of own items may leave what is left.
     pub batch_may : MayLeave o batch_of log_now
     batch_may = may_now o own log h.keeps.distinct may (take i own) batch_of (drop k own) cut_own
 
+    -- To leave the next batch out of what is left leaves out the own items from the i-th on.
     pub batch_gone : without_items itself (drop i own) log ≡ without_items itself batch_of log_now
     batch_gone = ap (λ (l : List (Item Op)). without_items itself l log) cut_off ∙ gone_next o own log h.keeps.distinct may (take i own) batch_of (drop k own) cut_own
 
+  -- If the next batch leaves what is left, the own items from the i-th on have left.
   pub left_before : (u : State) (rs : List (Place Undo)) (ls : Index) → AllLeave o place batch_of t qs js u rs ls → HaveLeft o place own s ps ids i u rs ls
   left_before u rs ls leaves = record {
     keeps = λ log h may.

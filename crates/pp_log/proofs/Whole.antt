@@ -33,6 +33,7 @@ pub record IsCutThere {Op : Type 0} (place : Op → ℕ) (p : ℕ) (x w z : List
   pub there_before : there place p before ≡ w
   pub at : place f.op ≡ p
 
+-- If the items of a place are cut at an item, the whole list is cut at this item.
 pub cut_at : {Op : Type 0} (place : Op → ℕ) (p : ℕ) (x w z : List (Item Op)) (f : Item Op) → there place p x ≡ w ++ f ∷ z → IsCutThere place p x w z f
 cut_at place p [] w z f e = absurd (not_empty w z f e)
 cut_at {Op} place p (g ∷ x) [] z f e = elim (is_at place g p) [
@@ -53,18 +54,21 @@ cut_at {Op} place p (g ∷ x) (k ∷ w) z f e = elim (is_at place g p) [
 ]
 
 module _ {Shape State Op Undo : Type 0} (o : Object Shape State Op Undo) (place : Op → ℕ) where
+  -- The items of a place in a ranged list are ranged.
   pub ranged_there : (p : ℕ) (x : List (Item Op)) → AllRanged o (ops x) → AllRanged o (ops (there place p x))
   ranged_there p [] h = tt
   ranged_there p (e ∷ x) h =
       let P : List (Item Op) → Type 0 = λ z. AllRanged o (ops z) in
       elim (is_at place e p) [ inl k ↦ subst P (sym (there_at place p e x k)) (h.0, ranged_there p x h.1) | inr k ↦ subst P (sym (there_off place p e x k)) (ranged_there p x h.1) ]
 
+  -- The items of the other places in a ranged list are ranged.
   pub ranged_elsewhere : (p : ℕ) (x : List (Item Op)) → AllRanged o (ops x) → AllRanged o (ops (elsewhere place p x))
   ranged_elsewhere p [] h = tt
   ranged_elsewhere p (e ∷ x) h =
       let P : List (Item Op) → Type 0 = λ z. AllRanged o (ops z) in
       elim (is_at place e p) [ inl k ↦ subst P (sym (elsewhere_at place p e x k)) (ranged_elsewhere p x h.1) | inr k ↦ subst P (sym (elsewhere_off place p e x k)) (h.0, ranged_elsewhere p x h.1) ]
 
+-- Each operation of an allowed list fits the shape of the state that it begins in.
 pub allowed_fit : {Shape State Op Undo : Type 0} (o : Object Shape State Op Undo) (laws : IsLawful o) (s : State) (x : List Op) → AllowedFrom o s x → AllFit o (o.shape s) x
 allowed_fit o laws s [] h = tt
 allowed_fit {Shape} {State} {Op} {Undo} o laws s (a ∷ x) h = (h.0.0, subst (λ (sh : Shape). AllFit o sh x) (laws.next_shape s a h.0) (allowed_fit o laws (o.next s a) x h.1))
@@ -76,6 +80,7 @@ module _ {Shape State Op Undo : Type 0} (o : Object Shape State Op Undo) (place 
       let b = state_from o s (ops (elsewhere place p x)) in
       places.turned p b s (subst (λ (z : List (Item Op)). SameAt p b (state_from o s (ops z))) (there_of_elsewhere place p x) (same_run o place SameAt laws places p s s (elsewhere place p x) (places.same p s)))
 
+  -- The items of the other places are allowed if the whole list is.
   pub base_allowed : (p : ℕ) (s : State) (x : List (Item Op)) → AllowedFrom o s (ops x) → AllowedFrom o s (ops (elsewhere place p x))
   base_allowed p s x h = allowed_by_places o place SameAt laws places s (elsewhere place p x) (λ q. elim (eqb_tells p q) [
     | inl e ↦ subst (λ (z : List (Item Op)). AllowedFrom o s (ops z)) (sym (ap (λ (r : ℕ). there place r (elsewhere place p x)) (sym e.1) ∙ there_of_elsewhere place p x)) tt

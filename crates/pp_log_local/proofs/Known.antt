@@ -70,6 +70,7 @@ alone d e false false h = refl
 alone d e true false h = cc
 alone d e false true h = cc
 
+-- To set an entry leaves the number of own entries, if it is own exactly if the old one was.
 pub count_set : {Op : Type 0} (x : List (LocalEntry Op)) (i : ℕ) (e d : LocalEntry Op) → slice_get x i ≡ Some e → is_own d.mark ≡ is_own e.mark → length (own (slice_set x i d)) ≡ length (own x)
 count_set [] i e d at h = absurd (cc)
 count_set {Op} (a ∷ x) zero e d at h =
@@ -128,9 +129,11 @@ module _ {Op : Type 0} (x : List (LocalEntry Op)) where
       let within = slice_get_within (x ++ e ∷ []) j d at in
       sym (front_stays x (e ∷ []) j (omega arith)) ∙ at
 
+  -- A position with no unpushed entry before it stays one, but for the entry that was added.
   pub unpushed_added : (e : LocalEntry Op) (k : ℕ) → NoneUnpushedBefore x k → NoneUnpushedBut (length x) (x ++ e ∷ []) k
   unpushed_added e k h j d other lt at = h j d lt (added_at e j d other at)
 
+  -- A position with no pushed entry from it on stays one, but for the entry that was added.
   pub pushed_added : (e : LocalEntry Op) (k : ℕ) → NonePushedFrom x k → NonePushedBut (length x) (x ++ e ∷ []) k
   pushed_added e k h j d other le at = h j d le (added_at e j d other at)
 
@@ -138,6 +141,7 @@ module _ {Op : Type 0} (x : List (LocalEntry Op)) where
   pub unpushed_set : (i : ℕ) (e : LocalEntry Op) (k : ℕ) → NoneUnpushedBefore x k → NoneUnpushedBut i (slice_set x i e) k
   unpushed_set i e k h j d other lt at = h j d lt (sym (set_other x i j e (λ s. other (sym s))) ∙ at)
 
+  -- A position with no pushed entry from it on stays one, but for the entry that was set.
   pub pushed_set : (i : ℕ) (e : LocalEntry Op) (k : ℕ) → NonePushedFrom x k → NonePushedBut i (slice_set x i e) k
   pushed_set i e k h j d other le at = h j d le (sym (set_other x i j e (λ s. other (sym s))) ∙ at)
 
@@ -151,6 +155,7 @@ module _ {Op : Type 0} (x : List (LocalEntry Op)) where
     | inr l ↦ let one = same l in let f : j < i = omega arith in h j d (omega arith) (sym (before_stays x i j f) ∙ at)
   ]
 
+  -- A position with no pushed entry from it on stays one if an entry is removed.
   pub pushed_removed : (i k m : ℕ) → (i < k → m + 1 ≡ k) → (k ≤ i → m ≡ k) → NonePushedFrom x k → NonePushedFrom (remove x i) m
   pushed_removed i k m less same h j d le at = elim (cases_lt i k) [
     | inl l ↦ let one = less l in let f : i ≤ j = omega arith in h (suc j) d (omega arith) (sym (behind_stays x i j f) ∙ at)
@@ -225,11 +230,13 @@ swapping_unpushed Unpushed r h = ap is_some (h refl)
 swapping_unpushed Pushed r h = refl
 swapping_unpushed Pulled r h = refl
 
+-- If no own entry is refuted, an entry is not found as a pushed one that is refuted.
 pub swapping_pushed : {A : Type 0} (m : Mark) (r : Option A) → (is_own m ≡ true → r ≡ None) → (is_mark m Pushed && is_some r) ≡ false
 swapping_pushed Unpushed r h = refl
 swapping_pushed Pushed r h = ap is_some (h refl)
 swapping_pushed Pulled r h = refl
 
+-- If no own entry is refuted, an entry is not found as an own one that is refuted.
 pub swapping_own : {A : Type 0} (m : Mark) (r : Option A) → (is_own m ≡ true → r ≡ None) → (is_own m && is_some r) ≡ false
 swapping_own Unpushed r h = ap is_some (h refl)
 swapping_own Pushed r h = ap is_some (h refl)
@@ -242,6 +249,7 @@ other_mark false c h = refl
 
 -- the same, where each of its parts has another name
 module _ {Shape State Op Undo : Type 0} (o : Object Shape State Op Undo) where
+  -- All that is known of the own entries of a log is known under equal names of its parts.
   pub known_moved : (x y : List (LocalEntry Op)) (s t : SampleList Op) (n m from start to end : ℕ) → y ≡ x → t ≡ s → m ≡ n → start ≡ from → end ≡ to → KnowsOwn (Covers o s) x n from to → KnowsOwn (Covers o t) y m start end
   known_moved x y s t n m from start to end a b c d e k =
       subst (λ (z : List (LocalEntry Op)). KnowsOwn (Covers o t) z m start end) (sym a)
@@ -255,6 +263,7 @@ module _ {Shape State Op Undo : Type 0} (o : Object Shape State Op Undo) where
   removed_done old new i Done e h = ap (λ (z : Shape × List (LocalEntry Op)). z.1) h.0
   removed_done old new i (Differs id answer) e h = absurd (cc)
 
+  -- A removal that is not done leaves the entries as they were.
   pub removed_not : (old new : Shape × List (LocalEntry Op)) (i : ℕ) (removed : Removed) → (removed ≡ Done → ⊥) → RemovesEntry o item old i new removed → new.1 ≡ old.1
   removed_not old new i Done n h = absurd (n refl)
   removed_not old new i (Differs id answer) n h = ap (λ (z : Shape × List (LocalEntry Op)). z.1) h.0
@@ -268,6 +277,7 @@ length_head : {A : Type 0} (a : A) (x : List A) (b : Bool) → length (cond b (a
 length_head a x true = refl
 length_head a x false = refl
 
+-- A log has at most as many own entries as entries.
 pub few_own : {Op : Type 0} (x : List (LocalEntry Op)) → length (own x) ≤ length x
 few_own [] = omega arith
 few_own (a ∷ x) =
@@ -285,16 +295,19 @@ module _ {Shape Op : Type 0} (old new : Shape × List (LocalEntry Op)) (z : List
     grown : z ≡ old.1 ++ e ∷ []
     grown = list ∙ ap (λ (p : Shape × List (LocalEntry Op)). p.1) is
 
+    -- In the log with an added entry, no other entry before the frontier is unpushed.
     pub unpushed_grown : (i k : ℕ) → i ≡ length old.1 → NoneUnpushedBefore old.1 k → NoneUnpushedBut i z k
     unpushed_grown i k at h =
         subst (λ (l : List (LocalEntry Op)). NoneUnpushedBut i l k) (sym grown)
         (subst (λ (n : ℕ). NoneUnpushedBut n (old.1 ++ e ∷ []) k) (sym at) (unpushed_added old.1 e k h))
 
+    -- In the log with an added entry, no other entry from the frontier on is pushed.
     pub pushed_grown : (i k : ℕ) → i ≡ length old.1 → NonePushedFrom old.1 k → NonePushedBut i z k
     pushed_grown i k at h =
         subst (λ (l : List (LocalEntry Op)). NonePushedBut i l k) (sym grown)
         (subst (λ (n : ℕ). NonePushedBut n (old.1 ++ e ∷ []) k) (sym at) (pushed_added old.1 e k h))
 
+    -- The facts about the own entries stay true with one more entry, if its operation is covered.
     pub known_grown : (C D : Op → Type 0) (n m from start to end : ℕ) →
         ((b : Op) → C b → D b) → (is_own e.mark ≡ true → D e.op) → m ≡ n + length (own (e ∷ [])) →
         start ≤ length z → NoneUnpushedBefore z start → end ≤ length z → NonePushedFrom z end →

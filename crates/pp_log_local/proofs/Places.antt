@@ -38,6 +38,7 @@ passed p x xs h =
     ∙ ap (λ (b : Bool). cond b (Some (1 + n)) None) (lt_suc n (length xs))
     ∙ later n (nat_lt n (length xs))
 
+-- If the first element passes a test, the test first holds at position 0.
 pub met : {X : Type 0} (p : X → Bool) (x : X) (xs : List X) → p x ≡ true → position p (x ∷ xs) ≡ Some 0
 met p x xs h =
     let front : position_or_len p (x ∷ xs) ≡ 0 = ap (λ (b : Bool). cond (not b) (1 + position_or_len p xs) 0) h in
@@ -57,14 +58,17 @@ taken_within [] (suc n) j x h = absurd (cc)
 taken_within (y ∷ ys) (suc n) zero x h = omega arith
 taken_within (y ∷ ys) (suc n) (suc j) x h = let k = taken_within ys n j x h in omega arith
 
+-- The element at j after n elements were dropped is the one at n + j before.
 pub get_dropped : {X : Type 0} (xs : List X) (n j : ℕ) → slice_get (drop n xs) j ≡ slice_get xs (n + j)
 get_dropped xs zero j = ap (slice_get xs) (plus_none j)
 get_dropped [] (suc n) j = refl
 get_dropped (y ∷ ys) (suc n) j = get_dropped ys n j ∙ ap (slice_get (y ∷ ys)) (plus_more n j)
 
+-- An element of the first n elements is an element of the list.
 pub in_front : {X : Type 0} (xs : List X) (n : ℕ) (x : X) → In x (take n xs) → In x xs
 in_front xs n x i = let r = in_at (take n xs) x i in stands_in xs r.0 x (get_taken xs n r.0 x r.2)
 
+-- An element of what is after the first n elements is an element of the list.
 pub in_rest : {X : Type 0} (xs : List X) (n : ℕ) (x : X) → In x (drop n xs) → In x xs
 in_rest xs n x i = let r = in_at (drop n xs) x i in stands_in xs (n + r.0) x (sym (get_dropped xs n r.0) ∙ r.2)
 
@@ -77,6 +81,7 @@ later_place : (n : ℕ) (o : Option ℕ) → option_map suc (option_map (λ k. n
 later_place n None = refl
 later_place n (Some k) = ap (λ (m : ℕ). Some m) (plus_more n k)
 
+-- If a test fails for the first n elements, its position is n plus that among the others.
 pub skip : {X : Type 0} (p : X → Bool) (xs : List X) (n : ℕ) → ((j : ℕ) (x : X) → j < n → slice_get xs j ≡ Some x → p x ≡ false) → position p xs ≡ option_map (λ k. n + k) (position p (drop n xs))
 skip p xs zero h = same_place (position p xs)
 skip p [] (suc n) h = refl
@@ -90,6 +95,7 @@ cut_head : {X : Type 0} (p : X → Bool) (x : X) (xs ys : List X) (b : Bool) →
 cut_head p x xs ys true h e = met p x xs h ∙ sym (met p x ys h)
 cut_head p x xs ys false h e = passed p x xs h ∙ ap (option_map suc) e ∙ sym (passed p x ys h)
 
+-- If a test fails for all elements from n on, its position is that among the first n.
 pub cut : {X : Type 0} (p : X → Bool) (xs : List X) (n : ℕ) → ((j : ℕ) (x : X) → n ≤ j → slice_get xs j ≡ Some x → p x ≡ false) → position p (take n xs) ≡ position p xs
 cut p xs zero h = sym (nowhere p xs (λ x i. let r = in_at xs x i in h r.0 x (omega arith) r.2))
 cut p [] (suc n) h = refl
@@ -103,6 +109,7 @@ before_from {X} p xs n i r le h is =
     ap (option_map (λ (k : ℕ). n + k)) (is ∙ ap (position p) (sym part))
     ∙ sym (skip p (take i xs) n (λ j x lt at. h j x lt (get_taken xs i j x at)))
 
+-- If a test fails for the first n elements, it has no position among the first i of them.
 pub none_before : {X : Type 0} (p : X → Bool) (xs : List X) (n i : ℕ) → i ≤ n → ((j : ℕ) (x : X) → j < n → slice_get xs j ≡ Some x → p x ≡ false) → None ≡ position p (take i xs)
 none_before p xs n i le h =
     sym (nowhere p (take i xs) (λ x m.
@@ -116,6 +123,7 @@ from_before {X} p xs n m r h is =
     ap (option_map (λ (k : ℕ). n + k))
     (is ∙ cut p (drop n xs) (m - n) (λ j x le at. h (n + j) x (omega arith) (sym (get_dropped xs n j) ∙ at)))
 
+-- If a test fails for all elements from m on, it has no position from a later n on.
 pub none_from : {X : Type 0} (p : X → Bool) (xs : List X) (n m : ℕ) → m ≤ n → ((j : ℕ) (x : X) → m ≤ j → slice_get xs j ≡ Some x → p x ≡ false) → None ≡ option_map (λ k. n + k) (position p (drop n xs))
 none_from {X} p xs n m le h =
     sym (ap (option_map (λ (k : ℕ). n + k)) (nowhere p (drop n xs) (λ x i.
@@ -127,6 +135,7 @@ within_len : (n m k : ℕ) (b : Bool) → nat_lt n m ≡ b → cond b (Some n) N
 within_len n m k true h e = let l = ltb-true n m h in let same : n ≡ k = cc in omega arith
 within_len n m k false h e = absurd (cc)
 
+-- A position that a search found is below the length of the list.
 pub place_within : {X : Type 0} (p : X → Bool) (xs : List X) (k : ℕ) → position p xs ≡ Some k → k < length xs
 place_within p xs k h = within_len (position_or_len p xs) (length xs) k (nat_lt (position_or_len p xs) (length xs)) refl h
 
@@ -138,6 +147,7 @@ found_from {X} p xs n k is = go (position p (drop n xs)) refl is
     go None e same = absurd (cc)
     go (Some j) e same = let there : k ≡ n + j = cc in (j, e, there)
 
+-- If no position from n on was found, the search in the rest of the list found none.
 pub not_found_from : {X : Type 0} (p : X → Bool) (xs : List X) (n : ℕ) → None ≡ option_map (λ j. n + j) (position p (drop n xs)) → position p (drop n xs) ≡ None
 not_found_from {X} p xs n is = go (position p (drop n xs)) refl is
   where
@@ -145,6 +155,7 @@ not_found_from {X} p xs n is = go (position p (drop n xs)) refl is
     go None e same = e
     go (Some j) e same = absurd (cc)
 
+-- A position that a search from n on found is below the length of the list.
 pub from_within : {X : Type 0} (p : X → Bool) (xs : List X) (n k : ℕ) → Some k ≡ option_map (λ j. n + j) (position p (drop n xs)) → k < length xs
 from_within p xs n k is =
     let r = found_from p xs n k is in

@@ -24,6 +24,7 @@ module _ {Shape State Op Undo : Type 0} (o : Object Shape State Op Undo) (C : Op
   pub none_held_before : (i : ℕ) → i ≤ from → None ≡ position (holds_back o op) (take i seen.1)
   none_held_before i le = none_before (holds_back o op) seen.1 from i le not_held
 
+  -- From the frontier of the pushed entries on, no pushed entry may stay after the operation.
   pub none_staying_from : (i : ℕ) → to ≤ i → None ≡ option_map (λ k. i + k) (position (stays_behind o op) (drop i seen.1))
   none_staying_from i le = none_from (stays_behind o op) seen.1 i to le not_staying
 
@@ -33,6 +34,7 @@ module _ {Shape State Op Undo : Type 0} (o : Object Shape State Op Undo) (C : Op
       before_from (holds_back o op) seen.1 from i r le not_held
       (found ∙ ap (λ (z : List (LocalEntry Op)). position (holds_back o op) (take (i - from) (drop from z))) list)
 
+  -- A search up to the frontier of the pushed entries finds what a search to the end finds.
   pub staying_between : (i : ℕ) (xs : List (LocalEntry Op)) (r : Option ℕ) → xs ≡ seen.1 → r ≡ position (stays_behind o op) (take (to - i) (drop i xs)) → option_map (λ k. i + k) r ≡ option_map (λ k. i + k) (position (stays_behind o op) (drop i seen.1))
   staying_between i xs r list found =
       from_before (stays_behind o op) seen.1 i to r not_staying
@@ -43,16 +45,19 @@ module _ {Shape State Op Undo : Type 0} (o : Object Shape State Op Undo) (C : Op
 
   -- where all that are own swap, none is found
   module _ (laws : IsLawful o) where
+    -- If the operation swaps with all covered ones, no unpushed entry holds it back.
     pub none_holds_back : (i : ℕ) → ((b : Op) → C b → Swaps o op b) → None ≡ position (holds_back o op) (take i seen.1)
     none_holds_back i swap =
         sym (nowhere (holds_back o op) (take i seen.1) (λ e there.
         swapping_unpushed e.mark (o.refuting op e.op) (λ h. (laws.unrefuted op e.op).1 (swap e.op (covered_there e (in_front seen.1 i e there) h)))))
 
+    -- If all covered operations swap with this one, no pushed entry must stay after it.
     pub none_stays_behind : (i : ℕ) → ((b : Op) → C b → Swaps o b op) → None ≡ option_map (λ k. i + k) (position (stays_behind o op) (drop i seen.1))
     none_stays_behind i swap =
         sym (ap (option_map (λ (k : ℕ). i + k)) (nowhere (stays_behind o op) (drop i seen.1) (λ e there.
         swapping_pushed e.mark (o.refuting e.op op) (λ h. (laws.unrefuted e.op op).1 (swap e.op (covered_there e (in_rest seen.1 i e there) h))))))
 
+    -- If all covered operations swap with this one, no own entry must come before it.
     pub none_stands_first : ((b : Op) → C b → Swaps o b op) → None ≡ position (stands_first o op) seen.1
     none_stands_first swap =
         sym (nowhere (stands_first o op) seen.1 (λ e there.

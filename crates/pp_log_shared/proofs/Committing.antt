@@ -40,6 +40,7 @@ stays : {Op : Type 0} (t : Name) (e : SharedEntry Op) → (e.committed ≡ false
 stays t e none true is = stays_committed t e is
 stays t e none false is = elim (names_tell e.owner t) [ inl own ↦ absurd (none is own.1) | inr other ↦ stays_other t e other.0 ]
 
+-- If an owner has no uncommitted entry in a log, to commit its entries changes nothing.
 pub all_committed : {Op : Type 0} (t : Name) (x : List (SharedEntry Op)) → ((e : SharedEntry Op) → In e x → e.committed ≡ false → e.owner ≡ t → ⊥) → commit_all t x ≡ x
 all_committed t [] none = refl
 all_committed {Op} t (e ∷ x) none =
@@ -60,6 +61,7 @@ length_set [] j d = refl
 length_set (a ∷ x) zero d = refl
 length_set (a ∷ x) (suc j) d = ap suc (length_set x j d)
 
+-- A log whose first k entries are committed has so with an entry set to a committed one.
 pub settled_set : {Op : Type 0} (x : List (SharedEntry Op)) (k j : ℕ) (d : SharedEntry Op) → d.committed ≡ true → IsSettled x k → IsSettled (slice_set x j d) k
 settled_set x k j d is h =
     let size = length_set x j d in
@@ -83,6 +85,7 @@ stands_set (a ∷ x) (suc j) d e at = inr (stands_set x j d e at)
 pub same_entry : {Op : Type 0} (x : List (SharedEntry Op)) → HasDistinctIds (map shared_item x) → (e f : SharedEntry Op) → In e x → In f x → e.id ≡ f.id → e ≡ f
 same_entry {Op} x distinct e f = by_key (λ (g : SharedEntry Op). g.id) x (λ p q before is. distinct (shared_item p) (shared_item q) (before_map shared_item p q x before) is) e f
 
+-- If a test has no position in a list, it fails for each element.
 pub nowhere : {A : Type 0} (p : A → Bool) (x : List A) → position p x ≡ None → (a : A) → In a x → p a ≡ false
 nowhere {A} p x none a inside =
     let at = in_at x a inside in
@@ -90,9 +93,11 @@ nowhere {A} p x none a inside =
     let within = at.1 in
     ap p (sym (get_or_from_slice_get x at.0 a a at.2)) ∙ fails_before_first p x at.0 a (omega arith)
 
+-- If a test has a position in a list, it holds for the element there.
 pub somewhere : {A : Type 0} (p : A → Bool) (x : List A) (k : ℕ) (a : A) → position p x ≡ Some k → slice_get x k ≡ Some a → p a ≡ true
 somewhere p x k a is at = ap p (sym (get_or_from_slice_get x k a a at)) ∙ (position-Some p x k a is).1
 
+-- If a test has a position in a list, there is an element at this position.
 pub not_missing : {A : Type 0} (p : A → Bool) (x : List A) (k : ℕ) → position p x ≡ Some k → slice_get x k ≡ None → ⊥
 not_missing p [] k is none = absurd (cc)
 not_missing p (a ∷ x) k is none = not_past (a ∷ x) k (position-Some p (a ∷ x) k a is).0 none
@@ -163,6 +168,7 @@ drop_past (suc i) [] h = refl
 drop_past zero (a ∷ x) h = absurd (omega arith)
 drop_past (suc i) (a ∷ x) h = drop_past i x (omega arith)
 
+-- The items from a position on hold the ids of an owner as the item there and the others do.
 pub held_from : {Op : Type 0} (t : Name) (i : ℕ) (items : List (Item Op)) (p : Item Op) (log : List (SharedEntry Op)) → i < length items → p ≡ get_or items i p → HoldsIdsOf t (drop i items) log → HoldsIdsOf t (p ∷ drop (i + 1) items) log
 held_from {Op} t i items p log lt is =
     let next : suc i ≡ i + 1 = omega arith in

@@ -96,6 +96,7 @@ twice : {A : Type 0} (b : Bool) (v u w : A) → cond b v (cond b u w) ≡ cond b
 twice true v u w = refl
 twice false v u w = refl
 
+-- A tally that is set twice for one holder has the last value for it, and else the old ones.
 pub set_twice : (k : Holder) (old mid new : TallyList) (now then : Option Counted)
     → ((h : Holder) → lookup (same_holder h) mid ≡ cond (same_holder k h) then (lookup (same_holder h) old))
     → ((h : Holder) → lookup (same_holder h) new ≡ cond (same_holder k h) now (lookup (same_holder h) mid))
@@ -103,6 +104,7 @@ pub set_twice : (k : Holder) (old mid new : TallyList) (now then : Option Counte
 set_twice k old mid new now then before behind h =
     behind h ∙ ap (λ (t : Option Counted). cond (same_holder k h) now t) (before h) ∙ twice (same_holder k h) now then (lookup (same_holder h) old)
 
+-- If one count changes by f in a tally, all numbers that are held change by f there alone.
 pub changed : (f : ℕ → ℕ → ℕ) → ((a : ℕ) → f a 0 ≡ a) → (owner : Option Name) (label : Label) (old new : TallyList) (now : Option Counted)
     → ((h : Holder) → lookup (same_holder h) new ≡ cond (same_holder (holder_at owner label) h) now (lookup (same_holder h) old))
     → ((q : Option ℤ) → amount q (counted_of now) ≡ f (amount q (counted_of (lookup (same_holder (holder_at owner label)) old))) (one_if (is_number q label.number)))
@@ -137,6 +139,7 @@ passes_here gate own n e rest true is here later more =
     subst (λ (m : ℤ). IsTrue (passes gate m)) (sym same) (or_left (passes gate e.0) (nat_le e.1 (amount (Some e.0) own)) here (not_above e.1 (amount (Some e.0) own) above))
 passes_here gate own n e rest false is here later more = later more
 
+-- If all numbers that others have pass a gate, a number with more counts than own ones passes.
 pub all_pass : (gate : Gate) (own : Counted) (numbers : List (ℤ × ℕ)) → list_all (λ e. passes gate e.0 || nat_le e.1 (amount (Some e.0) own)) numbers ≡ true
     → (n : ℤ) → amount (Some n) own < count_at (λ m. lookup (int_eq m) numbers) n → IsTrue (passes gate n)
 all_pass gate own [] all n more = absurd (omega arith)
@@ -144,6 +147,7 @@ all_pass gate own (e ∷ numbers) all n more =
     let both = and_parts (passes gate e.0 || nat_le e.1 (amount (Some e.0) own)) (list_all (λ d. passes gate d.0 || nat_le d.1 (amount (Some d.0) own)) numbers) all in
     passes_here gate own n e numbers (int_eq n e.0) refl both.0 (all_pass gate own numbers both.1 n) more
 
+-- If all numbers pass a gate, each passes it or is counted no more than own.
 pub each_passes : (gate : Gate) (own : Counted) (numbers : List (ℤ × ℕ)) → list_all (passes gate) (keys_of numbers) ≡ true → list_all (λ e. passes gate e.0 || nat_le e.1 (amount (Some e.0) own)) numbers ≡ true
 each_passes gate own [] all = refl
 each_passes gate own (e ∷ numbers) all =
@@ -186,9 +190,11 @@ module _ {Op : Type 0} (view : Name → Option Name) (label_of : Op → Label) w
   }
 
 module _ {Op : Type 0} (label_of : Op → Label) where
+  -- Empty tallies count an empty list of entries.
   pub counts_all_none : CountsAll label_of (record { all = []; own = [] }) []
   counts_all_none = record { all = counts_none as_one label_of; own = counts_none Some label_of }
 
+  -- Tallies that gain an entry count the list with this entry at its end.
   pub counts_all_more : (old new : NumberList) (x : List (SharedEntry Op)) (e : SharedEntry Op)
       → GainsEntry label_of old new e → CountsAll label_of old x → CountsAll label_of new (x ++ e ∷ [])
   counts_all_more old new x e gains counts = record {
@@ -196,6 +202,7 @@ module _ {Op : Type 0} (label_of : Op → Label) where
     own = counts_more Some label_of old.own new.own x e gains.1 counts.own;
   }
 
+  -- Tallies that lose an entry count the list without it.
   pub counts_all_less : (old new : NumberList) (x y : List (SharedEntry Op)) (e : SharedEntry Op)
       → LosesEntry label_of old new e → CountsAll label_of old x → LosesOne e x y → CountsAll label_of new y
   counts_all_less old new x y e loses counts lost = record {
@@ -231,6 +238,7 @@ module _ {Op : Type 0} (label_of : Op → Label) where
     one_of_all number =
         ap (λ (b : Bool). b && is_number q (label_of e.op).number) ((Decides-eqb (label_of e.op).form (label_of e.op).form).1 refl) ∙ number
 
+    -- If an entry has another owner, more entries of its form are counted than own ones.
     pub more_than_own : (numbers : NumberList) → CountsAll label_of numbers x → In e x → e.owner ≢ owner → is_number q (label_of e.op).number ≡ true
         → held numbers.own (record { owner = Some owner; form = (label_of e.op).form }) q < held numbers.all (record { owner = None; form = (label_of e.op).form }) q
     unfolding own_one any_one

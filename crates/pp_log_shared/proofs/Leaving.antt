@@ -111,6 +111,7 @@ pub settled_none : {Op : Type 0} (own : List (Item Op)) (x : List (SharedEntry O
 settled_none {Op} [] x settled none h = subst (λ (z : List (SharedEntry Op)). IsSettled z settled) (sym (without_none shared_item x)) h
 settled_none (p ∷ own) x settled none h = cc
 
+-- The element at a position of a list is in the list.
 pub item_in : {E : Type 0} (x : List E) (i : ℕ) (a : E) → i < length x → a ≡ get_or x i a → In a x
 item_in {E} x i a within is = subst (λ (z : List E). In a z) (sym (cut_there x i a within is)) (in_right a (take i x) (a ∷ drop (i + 1) x) (inl refl))
 
@@ -171,6 +172,7 @@ module _ {Shape State Op Undo : Type 0} (o : Object Shape State Op Undo) (own : 
         ∙ ap (λ (b : Bool). has_id d.id (ids_of (take i own)) || b) (false_from_ne_true (p.id == d.id) (λ t. apart (sym (eqb-true p.id d.id t) ∙ sym here)))
         ∙ or_none (has_id d.id (ids_of (take i own)))
 
+    -- To leave out the next item removes its entry at each part.
     pub leaves_next : (part_of : Op → Part) → LeavesOut part_of e (without_items shared_item (take i own) log) (without_items shared_item (take (i + 1) own) log)
     leaves_next part_of part =
         let test = is_open_in part_of part in
@@ -200,6 +202,7 @@ module _ {Shape State Op Undo : Type 0} (o : Object Shape State Op Undo) (own : 
               not_before b.0 r.0 (omega arith) b.2 (ap (λ (w : Item Op). w.id) (sym r.3))
         ])
 
+    -- A settled front of the log is still settled after items that are not before it have left.
     pub settled_before : (settled m : ℕ) → m ≤ settled → m ≤ k → IsSettled log settled → IsSettled (without_items shared_item own log) m
     settled_before settled m low front h =
         let within = h.within in

@@ -19,6 +19,7 @@ pub read : {E : Type 0} (x y : List E) (k : ℕ) (e : E) → x ≡ y → k < len
 read {E} x y k e same size is = slice_get-get_or y k e size ∙ ap Some (sym (is ∙ ap (λ (z : List E). get_or z k e) same))
 
 module _ {Op : Type 0} (place_of : Op → ℕ) (place : ℕ) (log : List (SharedEntry Op)) where
+  -- No committed entry of the place is between a position and itself.
   pub none_yet : (from : ℕ) → NoneBetween (IsCommittedOn place_of place) log from from
   none_yet from j e above below at on = absurd (omega arith)
 
@@ -26,6 +27,7 @@ module _ {Op : Type 0} (place_of : Op → ℕ) (place : ℕ) (log : List (Shared
   pub within : (at k : ℕ) → IsFirstFrom (IsOn place_of shared_item place) log at k → k < length log
   within at k next = slice_get_within log k next.entry next.is
 
+  -- From the entry after the found one on, fewer entries are left to search.
   pub smaller : (at k : ℕ) → IsFirstFrom (IsOn place_of shared_item place) log at k → length log - (k + 1) < length log - at
   smaller at k next = let size = within at k next in let behind = next.behind in omega arith
 

@@ -44,11 +44,13 @@ open_behind part_of p (e ∷ x) (suc k) h =
 
 -- so what is known of the whole log is known of what stands behind the front, and the other way round
 module _ {Shape State Op Undo : Type 0} (o : Object Shape State Op Undo) (label_of : Op → Label) (part_of : Op → Part) (slots : List (Part × OpenPart (SampleList Op))) (x : List (SharedEntry Op)) (k : ℕ) (h : IsSettled x k) where
+  -- The facts about the uncommitted entries of a log are true of those after its settled front.
   pub known_behind : KeepsOpen o label_of part_of slots x → KeepsOpen o label_of part_of slots (drop k x)
   known_behind kept = record {
     told = λ p. subst (TellsOf o label_of (lookup (same_part p) slots)) (sym (open_behind part_of p x k h)) (kept.told p);
   }
 
+  -- The facts about the uncommitted entries after a settled front are true of those of the log.
   pub known_of_all : KeepsOpen o label_of part_of slots (drop k x) → KeepsOpen o label_of part_of slots x
   known_of_all kept = record {
     told = λ p. subst (TellsOf o label_of (lookup (same_part p) slots)) (open_behind part_of p x k h) (kept.told p);

@@ -33,6 +33,7 @@ same_part-true p q h =
     let change : p ≡ record { object = q.object; key = p.key } = ap (λ (n : ℕ). let r : Part = record { object = n; key = p.key } in r) object in
     change ∙ ap (λ (k : _). let r : Part = record { object = q.object; key = k } in r) key
 
+-- A part is the same as itself.
 pub same_part-itself : (p : Part) → same_part p p ≡ true
 same_part-itself p =
     ap (λ (b : Bool). b && int_eq p.key p.key) ((Decides-eqb p.object p.object).1 refl) ∙ (Decides-int_eq p.key p.key).1 refl
@@ -50,6 +51,7 @@ pub loses_first : {E : Type 0} (b : Bool) (a : E) (x : List E) → LosesAt a b (
 loses_first true a x = ([], x, refl, refl)
 loses_first false a x = refl
 
+-- A list that loses an entry loses it too with one more element before it.
 pub loses_later : {E : Type 0} (e : E) (b c : Bool) (a : E) (x y : List E) → LosesAt e b x y → LosesAt e b (cond c (a ∷ x) x) (cond c (a ∷ y) y)
 loses_later {E} e true true a x y h = (a ∷ h.0, h.1, ap (λ (z : List E). a ∷ z) h.2, ap (λ (z : List E). a ∷ z) h.3)
 loses_later e true false a x y h = h
@@ -80,6 +82,7 @@ one_less {E} e x y h =
     let behind : length y ≡ length (h.0 ++ h.1) = ap length h.3 in
     omega arith
 
+-- An element of a list that has lost one entry was in the list.
 pub was_there : {E : Type 0} (e : E) (x y : List E) → LosesOne e x y → (d : E) → In d y → In d x
 was_there {E} e x y h d there =
     subst (λ (z : List E). In d z) (sym h.2) (elim (in_cases d h.0 h.1 (subst (λ (z : List E). In d z) h.3 there)) [
@@ -87,9 +90,11 @@ was_there {E} e x y h d there =
       | inr behind ↦ in_right d h.0 (e ∷ h.1) (inr behind)
     ])
 
+-- To remove the entry at a position leaves it out at each part.
 pub leaves_removed : {Op : Type 0} (part_of : Op → Part) (x : List (SharedEntry Op)) (i : ℕ) (e : SharedEntry Op) → slice_get x i ≡ Some e → LeavesOut part_of e x (remove x i)
 leaves_removed part_of x i e at p = loses_removed (is_open_in part_of p) x i e at
 
+-- To commit the entry at a position leaves it out at each part of the uncommitted entries.
 pub leaves_committed : {Op : Type 0} (part_of : Op → Part) (x : List (SharedEntry Op)) (i : ℕ) (e : SharedEntry Op) → slice_get x i ≡ Some e → LeavesOut part_of e x (slice_set x i (as_committed e))
 leaves_committed part_of x i e at p = loses_set (is_open_in part_of p) x i e (as_committed e) refl at
 
@@ -157,6 +162,7 @@ module _ {Shape State Op Undo : Type 0} (o : Object Shape State Op Undo) (label_
       }
 
   module _ (part_of : Op → Part) where
+    -- An empty table is true of an empty log: it has no uncommitted entries.
     pub tells_nothing : KeepsOpen o label_of part_of [] []
     tells_nothing = record { told = λ p. refl }
 
@@ -223,6 +229,7 @@ module _ {Shape State Op Undo : Type 0} (o : Object Shape State Op Undo) (label_
         subst (λ (p : Part). ((q : Part) → lookup (same_part q) new ≡ cond (same_part p q) (Some slot) (lookup (same_part q) old)) → Tells o label_of slot (open_in part_of p x ++ e ∷ []) → KeepsOpen o label_of part_of new (x ++ e ∷ [])) (sym here)
         (λ is2 told2. kept_more old new x e slot uncommitted is2 told2 kept) is told
 
+    -- If the part of a lost entry is known without it, all parts are known without it.
     pub less_at : (k : Part) (old new : List (Part × OpenPart (SampleList Op))) (x y : List (SharedEntry Op)) (e : SharedEntry Op) (r : Option (OpenPart (SampleList Op))) → k ≡ part_of e.op → e.committed ≡ false
         → ((q : Part) → lookup (same_part q) new ≡ cond (same_part k q) r (lookup (same_part q) old))
         → (LosesOne e (open_in part_of k x) (open_in part_of k y) → TellsOf o label_of r (open_in part_of k y)) → KeepsOpen o label_of part_of old x → LeavesOut part_of e x y → KeepsOpen o label_of part_of new y
@@ -285,24 +292,29 @@ module _ {Shape State Op Undo : Type 0} (o : Object Shape State Op Undo) (label_
     none_there : PartsSwap o part_of → (owner : Name) (op : Op) (x : List (SharedEntry Op)) → open_in part_of (part_of op) x ≡ [] → AllGiveWay o owner op x
     none_there apart owner op x empty = part_gives_way apart owner op x (λ e inside. absurd (subst (λ (z : List (SharedEntry Op)). In e z) empty inside))
 
+    -- If nothing is known of the part of an operation, all entries commute with it.
     pub none_in_the_way : PartsSwap o part_of → (owner : Name) (op : Op) (slots : List (Part × OpenPart (SampleList Op))) (x : List (SharedEntry Op)) → lookup (same_part (part_of op)) slots ≡ None → KeepsOpen o label_of part_of slots x → AllGiveWay o owner op x
     none_in_the_way apart owner op slots x none kept = none_there apart owner op x (told_at slots x (part_of op) None none kept)
 
+    -- If the part of an operation has no uncommitted entries, all entries commute with it.
     pub none_left : PartsSwap o part_of → (owner : Name) (op : Op) (slots : List (Part × OpenPart (SampleList Op))) (x : List (SharedEntry Op)) (slot : OpenPart (SampleList Op)) → lookup (same_part (part_of op)) slots ≡ Some slot → slot.count ≡ 0 → KeepsOpen o label_of part_of slots x → AllGiveWay o owner op x
     none_left apart owner op slots x slot is count kept =
         let told = told_at slots x (part_of op) (Some slot) is kept in
         none_there apart owner op x (none_of (open_in part_of (part_of op) x) (sym count ∙ told.count))
 
+    -- If all entries of the part of an operation have its owner, all entries commute with it.
     pub owner_alone : PartsSwap o part_of → (owner : Name) (op : Op) (slots : List (Part × OpenPart (SampleList Op))) (x : List (SharedEntry Op)) (slot : OpenPart (SampleList Op)) → lookup (same_part (part_of op)) slots ≡ Some slot → slot.alone ≡ true → slot.owner ≡ owner → KeepsOpen o label_of part_of slots x → AllGiveWay o owner op x
     owner_alone apart owner op slots x slot is alone same kept =
         let told = told_at slots x (part_of op) (Some slot) is kept in
         part_gives_way apart owner op x (λ e inside other. absurd (other (told.alone alone e inside ∙ same)))
 
+    -- If the samples of the part of an operation swap with it, all entries commute with it.
     pub samples_swap : PartsSwap o part_of → (owner : Name) (op : Op) (slots : List (Part × OpenPart (SampleList Op))) (x : List (SharedEntry Op)) (slot : OpenPart (SampleList Op)) → lookup (same_part (part_of op)) slots ≡ Some slot → ((b : Op) → Covers o slot.samples b → Swaps o b op) → KeepsOpen o label_of part_of slots x → AllGiveWay o owner op x
     samples_swap apart owner op slots x slot is swaps kept =
         let told = told_at slots x (part_of op) (Some slot) is kept in
         part_gives_way apart owner op x (λ e inside _. swaps e.op (told.covers e inside))
 
+    -- If the counted entries of other owners swap with an operation, all entries commute with it.
     pub numbers_swap : PartsSwap o part_of → (owner : Name) (op : Op) (slots : List (Part × OpenPart (SampleList Op))) (x : List (SharedEntry Op)) (slot : OpenPart (SampleList Op)) → lookup (same_part (part_of op)) slots ≡ Some slot
         → ((y : List (SharedEntry Op)) → CountsAllOf label_of slot.numbers y → (e : SharedEntry Op) → In e y → e.owner ≢ owner → Swaps o e.op op) → KeepsOpen o label_of part_of slots x → AllGiveWay o owner op x
     numbers_swap apart owner op slots x slot is swaps kept =

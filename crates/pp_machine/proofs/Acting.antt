@@ -51,43 +51,52 @@ module _ {Shape Op : Type 0} where
       ∙ ap (λ (z : List (Tx Op)). cond (not (x.name =ⁿ t)) (tx_of x ∷ z) z) (left t l)
 
   module _ (v : Txs Shape Op) (ids : List ℕ) (G : List (SharedEntry Op)) (F : List (CommittedTx Op)) (t : Name) where
+    -- A new open transaction with an empty log makes the configuration after a BEGIN.
     pub after_begin : (p : Name) (b : Option Tree) (l : Shape × List (LocalEntry Op)) → l.1 ≡ [] → config_of (with_open (open_of t p b l) v) ids G F ≡ then (config_of v ids G F) (Begin t p b)
     after_begin p b l e =
         ap (λ (z : List Name). record { names = z; ids = reverse ids; opened = map tx_of (v.opened ++ open_of t p b l ∷ []); shared = G; done = F }) (reverse_more v.names t)
         ∙ ap (λ (z : List (Tx Op)). record { names = t ∷ reverse v.names; ids = reverse ids; opened = z; shared = G; done = F })
         (map-append tx_of v.opened (open_of t p b l ∷ []) ∙ ap (λ (z : List (LocalEntry Op)). map tx_of v.opened ++ record { name = t; thread = p; body = b; local = z } ∷ []) e)
 
+    -- A new unpushed entry in the local log and a used id make the configuration after an APP.
     pub after_app : (id : ℕ) (op : Op) → config_of (with_log t (λ l. l ++ record { id = id; owner = t; mark = Unpushed; op = op } ∷ []) v) (ids ++ id ∷ []) G F ≡ then (config_of v ids G F) (App t id op)
     after_app id op =
         ap (λ (z : List ℕ). record { names = reverse v.names; ids = z; opened = map tx_of (with_log t (λ l. l ++ record { id = id; owner = t; mark = Unpushed; op = op } ∷ []) v).opened; shared = G; done = F }) (reverse_more ids id)
         ∙ ap (λ (z : List (Tx Op)). record { names = reverse v.names; ids = id ∷ reverse ids; opened = z; shared = G; done = F }) (on_logs t (λ l. l ++ record { id = id; owner = t; mark = Unpushed; op = op } ∷ []) v.opened)
 
+    -- A new pulled entry in the local log makes the configuration after a PULL.
     pub after_pull : (id : ℕ) (g : SharedEntry Op) → of_other t id G ≡ Some g →
         config_of (with_log t (λ l. l ++ record { id = g.id; owner = g.owner; mark = Pulled; op = g.op } ∷ []) v) ids G F ≡ then (config_of v ids G F) (Pull t id)
     after_pull id g h =
         ap (λ (z : List (Tx Op)). record { names = reverse v.names; ids = reverse ids; opened = z; shared = G; done = F }) (on_logs t (λ l. l ++ record { id = g.id; owner = g.owner; mark = Pulled; op = g.op } ∷ []) v.opened)
         ∙ sym (ap (λ (z : Option (SharedEntry Op)). pull_effect (config_of v ids G F) t id z) h)
 
+    -- The mark Pushed and a new entry of the shared log make the configuration after a PUSH.
     pub after_push : (id : ℕ) (x : Tx Op) (p : LocalEntry Op) → tx t (map tx_of v.opened) ≡ Some x → at_mark id Unpushed x.local ≡ Some p →
         config_of (with_log t (set_mark id Pushed) v) ids (G ++ as_shared t false (item p) ∷ []) F ≡ then (config_of v ids G F) (Push t id)
     after_push id x p e h =
         ap (λ (z : List (Tx Op)). record { names = reverse v.names; ids = reverse ids; opened = z; shared = G ++ as_shared t false (item p) ∷ []; done = F }) (on_logs t (set_mark id Pushed) v.opened)
         ∙ sym (ap (λ (z : Option (Tx Op)). push_effect (config_of v ids G F) t id (entry_of id Unpushed z)) e ∙ ap (λ (z : Option (LocalEntry Op)). push_effect (config_of v ids G F) t id z) h)
 
+    -- Without the transaction, with its entries committed, the configuration is that after its CMT.
     pub after_cmt : (x : Tx Op) → tx t (map tx_of v.opened) ≡ Some x →
         config_of (without_open t v) ids (commit_all t G) (F ++ record { name = t; entries = own_items x.local } ∷ []) ≡ then (config_of v ids G F) (Cmt t)
     after_cmt x e =
         ap (λ (z : List (Tx Op)). record { names = reverse v.names; ids = reverse ids; opened = z; shared = commit_all t G; done = F ++ record { name = t; entries = own_items x.local } ∷ [] }) (left t v.opened)
         ∙ sym (ap (λ (z : Option (Tx Op)). commit_effect (config_of v ids G F) t z) e)
 
+    -- Without the transaction, the configuration is that after its QUIT.
     pub after_quit : config_of (without_open t v) ids G F ≡ then (config_of v ids G F) (Quit t)
     after_quit = ap (λ (z : List (Tx Op)). record { names = reverse v.names; ids = reverse ids; opened = z; shared = G; done = F }) (left t v.opened)
 
+    -- Without the last entry of its local log, the configuration is that after an UNAPP.
     pub after_unapp : (id : ℕ) → config_of (with_log t but_last v) ids G F ≡ then (config_of v ids G F) (Unapp t id)
     after_unapp id = ap (λ (z : List (Tx Op)). record { names = reverse v.names; ids = reverse ids; opened = z; shared = G; done = F }) (on_logs t but_last v.opened)
 
+    -- The mark Unpushed, and no entry in the shared log, make the configuration after an UNPUSH.
     pub after_unpush : (id : ℕ) → config_of (with_log t (set_mark id Unpushed) v) ids (without_shared id G) F ≡ then (config_of v ids G F) (Unpush t id)
     after_unpush id = ap (λ (z : List (Tx Op)). record { names = reverse v.names; ids = reverse ids; opened = z; shared = without_shared id G; done = F }) (on_logs t (set_mark id Unpushed) v.opened)
 
+    -- Without the entry in the local log, the configuration is that after an UNPULL.
     pub after_unpull : (id : ℕ) → config_of (with_log t (without_local id) v) ids G F ≡ then (config_of v ids G F) (Unpull t id)
     after_unpull id = ap (λ (z : List (Tx Op)). record { names = reverse v.names; ids = reverse ids; opened = z; shared = G; done = F }) (on_logs t (without_local id) v.opened)

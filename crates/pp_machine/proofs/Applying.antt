@@ -33,9 +33,11 @@ module _ {S Shape State Op Undo Gap : Type 0} (o : Object Shape State Op Undo) (
   goes_back : with_course t k q.transactions ≡ q.transactions
   goes_back = course_same o q.shape q.transactions q.ids q.shared q.committed q.count w same h t k k course refl
 
+  -- With the course given back as it was lent, the machine holds what it held.
   pub holds_back : Holds o q.shape (with_course t k q.transactions) q.ids q.shared q.committed q.count
   holds_back = holds_same o q.shape q.transactions q.ids q.shared q.committed q.count w same h (with_course t k q.transactions) q.shared goes_back refl
 
+  -- With the course given back as it was lent, what is seen of the machine is the same.
   pub seen_back : ◌≡◌ {A = Seen Shape Op} (record { shape = q.shape; config = config_of (with_course t k q.transactions) q.ids q.shared.1 q.committed; count = q.count }) w
   seen_back = seen_same o q.shape q.transactions q.ids q.shared q.committed q.count w same h (with_course t k q.transactions) q.shared goes_back refl
 
@@ -45,11 +47,13 @@ module _ {S Shape State Op Undo Gap : Type 0} (o : Object Shape State Op Undo) (
     used_refused e r is = app_2 o (seen_of q) w same t id op _ course.log.is (used_in q.ids id e) r is
 
     module _ (new : false ≡ list_any (λ i. id == i) q.ids) where
+      -- An APP whose call may not follow violates criterion 3.
       pub stray_refused : (MayFollow o k.body k.local.1 op → ⊥) → (r : Refusal Op) → r ≡ record { criterion = 3; detail = Nothing } → Refuses o w (App t id op) r
       stray_refused n r is =
           app_3 o (seen_of q) w same t id op _ course.log.is (not_used q.ids id new) (λ m. n (subst (λ (b : Option Tree). MayFollow o b k.local.1 op) course.body_is m)) r is
 
       module _ (may : MayFollow o k.body k.local.1 op) (l : Shape × List (LocalEntry Op)) (local : l ≡ k.local) where
+        -- An APP whose operation is not allowed after the local log violates criterion 4.
         pub illegal_refused : (IsAllowed o l.0 (local_ops l.1 ++ op ∷ []) → ⊥) → (a : Answer) → a ≡ answer_behind o l.0 (local_ops l.1) op → (r : Refusal Op) → r ≡ record { criterion = 4; detail = Gives id a } → Refuses o w (App t id op) r
         illegal_refused n a gives r is =
             app_4 o (seen_of q) w same t id op _ course.log.is (not_used q.ids id new) (subst (λ (b : Option Tree). MayFollow o b k.local.1 op) (sym course.body_is) may)
@@ -58,6 +62,7 @@ module _ {S Shape State Op Undo Gap : Type 0} (o : Object Shape State Op Undo) (
             (ap (Gives id) (gives ∙ ap (λ (z : Shape × List (LocalEntry Op)). answer_behind o z.0 (local_ops z.1) op) local ∙ ap (λ (sh : Shape). answer_behind o sh (local_ops k.local.1) op) course.log.fine.same_shape))
             r is
 
+        -- An APP meets its criteria if its id is new, its call may follow, and it is allowed.
         pub meets_app : IsAllowed o l.0 (local_ops l.1 ++ op ∷ []) → Meets (rules_of o w.shape) w.config (App t id op)
         meets_app m =
             app_0 o (seen_of q) w same t id op _ course.log.is (not_used q.ids id new) (subst (λ (b : Option Tree). MayFollow o b k.local.1 op) (sym course.body_is) may)
@@ -73,9 +78,11 @@ module _ {S Shape State Op Undo Gap : Type 0} (o : Object Shape State Op Undo) (
     entry = record { id = id; owner = t; mark = Unpushed; op = op }
 
     module _ (m : Meets (rules_of o w.shape) w.config (App t id op)) where
+      -- The id of an APP that meets its criteria is not used yet.
       pub new_id : list_any (λ j. id == j) q.ids ≡ false
       new_id = id_unused o q.shape q.transactions q.ids q.shared q.committed q.count w same h t id op m
 
+      -- The local log takes the entry of an APP that meets its criteria, and the body its call.
       pub takes_entry : IsTrue (o.ranged op) → w.count < 200_000 → Takes o k.local entry × FollowsIfOwn o k.body k.local.1 entry
       takes_entry r few =
           let y = takes_app o q.shape q.transactions q.ids q.shared q.committed q.count w same h t id op m r few in
@@ -86,8 +93,10 @@ module _ {S Shape State Op Undo Gap : Type 0} (o : Object Shape State Op Undo) (
         relogged : with_course t more q.transactions ≡ with_log t (λ l. l ++ entry ∷ []) q.transactions
         relogged = relogged_is o q.shape q.transactions q.ids q.shared q.committed q.count w same h t k more course (λ l. l ++ entry ∷ []) appended
 
+        -- With the entry of an APP in its course, the machine holds what each machine keeps.
         pub holds_more : IsTrue (o.ranged op) → Holds o q.shape (with_course t more q.transactions) js q.shared q.committed (q.count + 1)
         holds_more r = holds_app o q.shape q.transactions q.ids q.shared q.committed q.count w same h t id op (with_course t more q.transactions) js m r relogged inserted
 
+        -- With the entry of an APP in its course, the machine is seen as after the step.
         pub seen_more : ◌≡◌ {A = Seen Shape Op} (record { shape = q.shape; config = config_of (with_course t more q.transactions) js q.shared.1 q.committed; count = q.count + 1 }) (stepped w (App t id op))
         seen_more = seen_app o q.shape q.transactions q.ids q.shared q.committed q.count w same h t id op (with_course t more q.transactions) js relogged inserted

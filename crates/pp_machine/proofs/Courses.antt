@@ -24,6 +24,7 @@ use Rattle.pp_machine.specs.Finding.{AreDistinct}
 use Rattle.pp_machine.specs.Transactions.{HasOwn, MayLeave, Takes}
 use Rattle.pp_machine.proofs.Removing.{front_is, last_removed}
 
+-- A mark that is not Pulled is own.
 pub own_mark : (m : Mark) → m ≢ Pulled → is_own m ≡ true
 own_mark Unpushed n = refl
 own_mark Pushed n = refl
@@ -37,11 +38,13 @@ map_cond true e w = refl
 map_cond false e w = refl
 
 module _ {Shape State Op Undo : Type 0} (o : Object Shape State Op Undo) where
+  -- One more own entry adds its call to the own calls.
   pub calls_own : (l : List (LocalEntry Op)) (e : LocalEntry Op) → is_own e.mark ≡ true → own_calls o (l ++ e ∷ []) ≡ own_calls o l ++ o.call e.op ∷ []
   calls_own l e h =
       ap (map (λ (p : Item Op). o.call p.op)) (own_items-append l (e ∷ []) ∙ ap (λ (w : List (Item Op)). own_items l ++ w) (own_of e true h))
       ∙ map-append (λ (p : Item Op). o.call p.op) (own_items l) (item e ∷ [])
 
+  -- Another own mark at an own entry leaves the own calls the same.
   pub calls_marked : (l : List (LocalEntry Op)) (i : ℕ) (e : LocalEntry Op) (m : Mark) → AreDistinct l → slice_get l i ≡ Some e → e.mark ≢ Pulled → m ≢ Pulled → own_calls o (set_mark e.id m l) ≡ own_calls o l
   calls_marked l i e m d h own to =
       ap (map (λ (p : Item Op). o.call p.op)) (own_marked e.id m (own_mark m to) l (λ a j s.
@@ -49,23 +52,29 @@ module _ {Shape State Op Undo : Type 0} (o : Object Shape State Op Undo) where
 
 -- the course as it is seen
 module _ {Shape State Op Undo : Type 0} (o : Object Shape State Op Undo) (w : Walked) (log : Shape × List (LocalEntry Op)) (v : Guided Shape Op) (same : ◌≡◌ {A = Guided Shape Op} (record { body = w.body; local = log }) v) (taken : HasTaken w (own_calls o log.1)) where
+  -- The test whether the body can take a call says whether the operation may follow.
   pub can_is : (r : Bool) (call : Call) (op : Op) → call ≡ o.call op → ((calls : List Call) → HasTaken w calls → IsTrue r ↔ Begins w.body (calls ++ call ∷ [])) → IsTrue r ↔ MayFollow o v.body v.local.1 op
   can_is r call op e known =
       subst (λ (z : Guided Shape Op). IsTrue r ↔ MayFollow o z.body z.local.1 op) same
       (subst (λ (z : Call). IsTrue r ↔ Begins w.body (own_calls o log.1 ++ z ∷ [])) e (known (own_calls o log.1) taken))
 
+  -- The test whether the walk is complete says whether the own calls are a word of the body.
   pub complete_is : (r : Bool) → ((calls : List Call) → HasTaken w calls → IsTrue r ↔ IsWord w.body calls) → IsTrue r ↔ IsWord v.body (own_calls o v.local.1)
   complete_is r known = subst (λ (z : Guided Shape Op). IsTrue r ↔ IsWord z.body (own_calls o z.local.1)) same (known (own_calls o log.1) taken)
 
+  -- An operation that may follow a course as it is seen may follow the course.
   pub may_follow : (op : Op) → MayFollow o v.body v.local.1 op → MayFollow o w.body log.1 op
   may_follow op h = subst (λ (z : Guided Shape Op). MayFollow o z.body z.local.1 op) (sym same) h
 
+  -- A log that takes an entry as it is seen takes it.
   pub takes_still : (e : LocalEntry Op) → Takes o v.local e → Takes o log e
   takes_still e h = subst (λ (z : Guided Shape Op). Takes o z.local e) (sym same) h
 
+  -- An entry that may leave a log as it is seen may leave it.
   pub leaves_still : (i : ℕ) → MayLeave v.local.1 i → MayLeave log.1 i
   leaves_still i h = subst (λ (z : Guided Shape Op). MayLeave z.local.1 i) (sym same) h
 
+  -- Another own mark at an own entry keeps the calls that the walk has taken.
   pub mark_kept : (new : Shape × List (LocalEntry Op)) (i : ℕ) (m : Mark) → AreDistinct log.1 → m ≢ Pulled → HasOwn v.local.1 i → ((e : LocalEntry Op) → slice_get log.1 i ≡ Some e → new ≡ (log.0, set_mark e.id m log.1)) → HasTaken w (own_calls o new.1)
   mark_kept new i m d to h is =
       let own = subst (λ (z : Guided Shape Op). HasOwn z.local.1 i) (sym same) h in
@@ -90,6 +99,7 @@ module _ {Shape State Op Undo : Type 0} (o : Object Shape State Op Undo) (w : Wa
   own_split : is_own (m.entry).mark ≡ true → own_calls o log.1 ≡ own_calls o (but_last log.1) ++ o.call (m.entry).op ∷ []
   own_split mine = ap (own_calls o) (front_is o log i m (m.own_last mine)) ∙ calls_own o (but_last log.1) m.entry mine
 
+  -- If the entry that leaves is own, the walk may go back.
   pub goes_back : is_own (m.entry).mark ≡ true → MayGoBack w
   goes_back mine = (own_calls o (but_last log.1), o.call (m.entry).op, subst (HasTaken w) (own_split mine) taken)
 
@@ -97,6 +107,7 @@ module _ {Shape State Op Undo : Type 0} (o : Object Shape State Op Undo) (w : Wa
   pulled_removed other new Done r = ap (λ (z : Shape × List (LocalEntry Op)). own_calls o z.1) r.0 ∙ ap (map (λ (p : Item Op). o.call p.op)) (own_removed log.1 i m.entry m.here other)
   pulled_removed other new (Differs id answer) r = ap (λ (z : Shape × List (LocalEntry Op)). own_calls o z.1) r.0
 
+  -- After a removal the walk has taken the own calls that are left.
   pub taken_removed : IsAllowed o log.0 (local_ops log.1) → (new : Shape × List (LocalEntry Op)) (removed : Removed) → RemovesEntry o item log i new removed → (b : Bool) → b ≡ is_own (m.entry).mark → (u : Walked) →
       (b ≡ false → u ≡ w) → (b ≡ true → IsGivenBack w u) → HasTaken u (own_calls o new.1)
   taken_removed h new removed r b is u kept back = elim (own_or_not b) [

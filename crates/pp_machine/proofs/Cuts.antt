@@ -28,6 +28,7 @@ found_both : {X : Type 0} (p q : X → Bool) (y x : X) (ys : List X) → q x ≡
 found_both {X} p q y x ys t f true e h = let k = same_Some y x h in ap (λ (c : Bool). cond c (Some y) (find (λ z. p z && q z) ys)) (ap q k ∙ t) ∙ ap (λ (z : X). Some z) k
 found_both p q y x ys t f false e h = f h
 
+-- If an element found by a key passes another test, it is found by both tests.
 pub find_both : {X : Type 0} (p q : X → Bool) (xs : List X) (x : X) → find p xs ≡ Some x → q x ≡ true → find (λ z. p z && q z) xs ≡ Some x
 find_both p q [] x h t = absurd (cc)
 find_both p q (y ∷ ys) x h t = found_both p q y x ys t (λ k. find_both p q ys x k t) (p y) refl h
@@ -36,6 +37,7 @@ neither : {X : Type 0} (p q : X → Bool) (y : X) (ys : List X) → (find p ys �
 neither p q y ys f true h = absurd (cc)
 neither p q y ys f false h = f h
 
+-- If no element is found by a key, none is found by the key and another test.
 pub find_neither : {X : Type 0} (p q : X → Bool) (xs : List X) → find p xs ≡ None → find (λ z. p z && q z) xs ≡ None
 find_neither p q [] h = refl
 find_neither p q (y ∷ ys) h = neither p q y ys (λ k. find_neither p q ys k) (p y) h
@@ -49,6 +51,7 @@ found_one : {X : Type 0} (p q : X → Bool) (y x : X) (ys : List X) → q x ≡ 
 found_one {X} p q y x ys t d f true e h = ap (λ (c : Bool). cond c (Some y) (find (λ z. p z && q z) ys)) (ap q (same_Some y x h) ∙ t) ∙ no_other p q ys (d e)
 found_one p q y x ys t d f false e h = f h
 
+-- If the only element with a key fails another test, none is found by both tests.
 pub find_one : {X : Type 0} (p q : X → Bool) (xs : List X) (x : X) → ((y z : X) → Before y z xs → p y ≡ true → p z ≡ true → ⊥) → find p xs ≡ Some x → q x ≡ false → find (λ z. p z && q z) xs ≡ None
 find_one p q [] x d h t = refl
 find_one p q (y ∷ ys) x d h t = found_one p q y x ys t (λ e z i. false_from_ne_true (p z) (d y z (inl (refl, i)) e)) (λ k. find_one p q ys x (λ u v b. d u v (inr b)) k t) (p y) refl h
@@ -58,10 +61,12 @@ pub mapped_some : {X Y : Type 0} (f : X → Y) (o : Option X) (y : Y) → Some y
 mapped_some f None y e = absurd (cc)
 mapped_some f (Some x) y e = (x, refl, same_Some (f x) y (sym e))
 
+-- If a mapped option is none, so is the option.
 pub mapped_none : {X Y : Type 0} (f : X → Y) (o : Option X) → None ≡ option_map f o → o ≡ None
 mapped_none f None e = refl
 mapped_none f (Some x) e = absurd (cc)
 
+-- To map an option twice is to map it once by both functions.
 pub mapped_twice : {X Y Z : Type 0} (g : Y → Z) (f : X → Y) (o : Option X) → option_map g (option_map f o) ≡ option_map (λ x. g (f x)) o
 mapped_twice g f None = refl
 mapped_twice g f (Some x) = refl
@@ -70,6 +75,7 @@ map_cond : {X Y : Type 0} (f : X → Y) (x : X) (r : Option X) (b : Bool) → co
 map_cond f x r true = refl
 map_cond f x r false = refl
 
+-- The first element found in a mapped list is the image of the first found in the list.
 pub find_map : {X Y : Type 0} (f : X → Y) (p : Y → Bool) (xs : List X) → find p (map f xs) ≡ option_map f (find (λ x. p (f x)) xs)
 find_map f p [] = refl
 find_map {X} {Y} f p (x ∷ xs) = ap (λ (r : Option Y). cond (p (f x)) (Some (f x)) r) (find_map f p xs) ∙ map_cond f x (find (λ y. p (f y)) xs) (p (f x))
@@ -80,12 +86,14 @@ slice_within [] i x h = absurd (cc)
 slice_within (y ∷ ys) zero x h = omega arith
 slice_within (y ∷ ys) (suc i) x h = let k = slice_within ys i x h in omega (arith, k)
 
+-- An element of the part before a position is before the element there.
 pub before_here : {X : Type 0} (xs : List X) (i : ℕ) (x a : X) → slice_get xs i ≡ Some x → In a (take i xs) → Before a x xs
 before_here [] i x a h j = absurd (cc)
 before_here (y ∷ ys) zero x a h j = elim j [ ]
 before_here (y ∷ ys) (suc i) x a h (inl e) = inl (e, stands_in ys i x h)
 before_here (y ∷ ys) (suc i) x a h (inr j) = inr (before_here ys i x a h j)
 
+-- If keys are distinct, an element before the one at a position is in the part before it.
 pub here_before : {X K : Type 0} (f : X → K) (xs : List X) → ((p q : X) → Before p q xs → f p ≡ f q → ⊥) → (i : ℕ) (x a : X) → slice_get xs i ≡ Some x → Before a x xs → In a (take i xs)
 here_before f [] d i x a h b = elim b [ ]
 here_before f (y ∷ ys) d zero x a h (inl k) = absurd (d y x (inl (refl, k.1)) (ap f (same_Some y x h)))
@@ -93,16 +101,19 @@ here_before f (y ∷ ys) d zero x a h (inr b) = absurd (d y x (inl (refl, before
 here_before f (y ∷ ys) d (suc i) x a h (inl k) = inl k.0
 here_before f (y ∷ ys) d (suc i) x a h (inr b) = inr (here_before f ys (λ p q w. d p q (inr w)) i x a h b)
 
+-- An element of the first i elements is an element of the list.
 pub in_taken : {X : Type 0} (i : ℕ) (a : X) (xs : List X) → In a (take i xs) → In a xs
 in_taken zero a xs h = elim h [ ]
 in_taken (suc i) a [] h = elim h [ ]
 in_taken (suc i) a (y ∷ ys) (inl e) = inl e
 in_taken (suc i) a (y ∷ ys) (inr h) = inr (in_taken i a ys h)
 
+-- A copied option is there exactly if the option is.
 pub some_copied : {X : Type 0} (r : Option (Bor X)) → is_some r ≡ is_some (option_copied r)
 some_copied None = refl
 some_copied (Some x) = refl
 
+-- If an id has no position in a local log, no entry has it.
 pub not_placed : {Op : Type 0} (l : List (LocalEntry Op)) (id : ℕ) → position (λ e. e.id == id) l ≡ None → (a : LocalEntry Op) → In a l → a.id ≡ id → ⊥
 not_placed {Op} l id h a i e =
     let n = find_nowhere (λ (z : LocalEntry Op). z.id == id) l (place_none (λ (z : LocalEntry Op). z.id == id) l h) a i in
@@ -113,10 +124,12 @@ pub a_place : (r : Option ℕ) (b : Bool) → b ≡ is_some r → b ≡ true →
 a_place None b e t = let z : true ≡ false = sym t ∙ e in cc
 a_place (Some k) b e t = (k, refl)
 
+-- If the test that says whether there is a position is false, there is none.
 pub no_place : (r : Option ℕ) (b : Bool) → b ≡ is_some r → b ≡ false → r ≡ None
 no_place None b e t = refl
 no_place (Some k) b e t = let z : true ≡ false = sym e ∙ t in cc
 
+-- If a test has a position in a list, an element of the list passes it.
 pub place_in : {X : Type 0} (p : X → Bool) (xs : List X) (i : ℕ) → position p xs ≡ Some i → (x : X) × In x xs × (p x ≡ true)
 place_in p xs i h = let q = placed p xs i h in (q.0, stands_in xs i q.0 q.1, q.2)
 
@@ -126,11 +139,13 @@ in_dropped zero a xs h = h
 in_dropped (suc i) a [] h = elim h [ ]
 in_dropped (suc i) a (y ∷ ys) h = inr (in_dropped i a ys h)
 
+-- An element of the part after a position is after the element there.
 pub here_behind : {X : Type 0} (xs : List X) (i : ℕ) (x b : X) → slice_get xs i ≡ Some x → In b (drop (suc i) xs) → Before x b xs
 here_behind [] i x b h j = absurd (cc)
 here_behind {X} (y ∷ ys) zero x b h j = inl (sym (same_Some y x h), j)
 here_behind (y ∷ ys) (suc i) x b h j = inr (here_behind ys i x b h j)
 
+-- If keys are distinct, an element after the one at a position is in the part after it.
 pub behind_here : {X K : Type 0} (f : X → K) (xs : List X) → ((p q : X) → Before p q xs → f p ≡ f q → ⊥) → (i : ℕ) (x b : X) → slice_get xs i ≡ Some x → Before x b xs → In b (drop (suc i) xs)
 behind_here f [] d i x b h k = elim k [ ]
 behind_here f (y ∷ ys) d zero x b h (inl k) = k.1
@@ -145,6 +160,7 @@ before_taken (suc i) a b [] h = elim h [ ]
 before_taken (suc i) a b (y ∷ ys) (inl k) = inl (k.0, in_taken i b ys k.1)
 before_taken (suc i) a b (y ∷ ys) (inr k) = inr (before_taken i a b ys k)
 
+-- If keys are distinct, what is before an element of a front is before it in the front.
 pub taken_before : {X K : Type 0} (f : X → K) (xs : List X) → ((p q : X) → Before p q xs → f p ≡ f q → ⊥) → (i : ℕ) (a b : X) → In b (take i xs) → Before a b xs → Before a b (take i xs)
 taken_before f [] d i a b j k = elim k [ ]
 taken_before f (y ∷ ys) d zero a b j k = elim j [ ]
@@ -153,11 +169,13 @@ taken_before f (y ∷ ys) d (suc i) a b (inl e) (inr k) = absurd (d y b (inl (re
 taken_before f (y ∷ ys) d (suc i) a b (inr j) (inl k) = inl (k.0, j)
 taken_before f (y ∷ ys) d (suc i) a b (inr j) (inr k) = inr (taken_before f ys (λ p q w. d p q (inr w)) i a b j k)
 
+-- A pair in order in what is left of a list is in order in the list.
 pub before_dropped : {X : Type 0} (i : ℕ) (a b : X) (xs : List X) → Before a b (drop i xs) → Before a b xs
 before_dropped zero a b xs h = h
 before_dropped (suc i) a b [] h = elim h [ ]
 before_dropped (suc i) a b (y ∷ ys) h = inr (before_dropped i a b ys h)
 
+-- If keys are distinct, a pair in order after the element at a position is so in the rest.
 pub dropped_before : {X K : Type 0} (f : X → K) (xs : List X) → ((p q : X) → Before p q xs → f p ≡ f q → ⊥) → (i : ℕ) (x a b : X) → slice_get xs i ≡ Some x → Before x a xs → Before a b xs → Before a b (drop (suc i) xs)
 dropped_before f [] d i x a b h j k = elim k [ ]
 dropped_before f (y ∷ ys) d i x a b h (inl j) (inl k) = absurd (d y a (inl (refl, j.1)) (ap f (sym k.0)))
@@ -181,6 +199,7 @@ before_found {X} f p (y ∷ ys) d x z h b = go (p y) refl h b (λ k w. before_fo
 differs_in : (a b : ℕ) → a ≢ b → not (a == b) ≡ true
 differs_in a b n = ap not (false_from_ne_true (a == b) (λ e. n (eqb-true a b e)))
 
+-- If keys are distinct, to remove the element at a position is to filter its key out.
 pub removed_filter : {X : Type 0} (key : X → ℕ) (id : ℕ) (xs : List X) → ((p q : X) → Before p q xs → key p ≡ key q → ⊥) → (i : ℕ) (x : X) → slice_get xs i ≡ Some x → key x ≡ id → remove xs i ≡ filter (λ z. not (key z == id)) xs
 removed_filter key id [] d i x h e = absurd (cc)
 removed_filter {X} key id (y ∷ ys) d zero x h e =
@@ -191,6 +210,7 @@ removed_filter {X} key id (y ∷ ys) d (suc i) x h e =
     ap (λ (z : List X). y ∷ z) (removed_filter key id ys (λ p q w. d p q (inr w)) i x h e)
     ∙ sym (ap (λ (b : Bool). cond b (y ∷ filter (λ z. not (key z == id)) ys) (filter (λ z. not (key z == id)) ys)) (differs_in (key y) id (λ q. d y x (inl (refl, stands_in ys i x h)) (q ∙ sym e))))
 
+-- To remove the element at the last position is to take the list without its last element.
 pub removed_last : {X : Type 0} (xs : List X) (i : ℕ) → i + 1 ≡ length xs → remove xs i ≡ but_last xs
 removed_last [] i e = absurd (omega arith)
 removed_last (y ∷ []) zero e = refl
@@ -198,6 +218,7 @@ removed_last (y ∷ []) (suc i) e = absurd (omega arith)
 removed_last (y ∷ z ∷ zs) zero e = absurd (omega arith)
 removed_last {X} (y ∷ z ∷ zs) (suc i) e = ap (λ (w : List X). y ∷ w) (removed_last (z ∷ zs) i (omega arith))
 
+-- The last element is the one at the position before the length.
 pub last_at : {X : Type 0} (xs : List X) → last xs ≡ slice_get xs (length xs - 1)
 last_at [] = refl
 last_at (y ∷ []) = refl
@@ -205,11 +226,13 @@ last_at {X} (y ∷ z ∷ zs) =
     let e : suc (length (z ∷ zs) - 1) ≡ length (y ∷ z ∷ zs) - 1 = omega arith in
     last_at (z ∷ zs) ∙ ap (slice_get (y ∷ z ∷ zs)) e
 
+-- A list without its last element is no longer than the list.
 pub but_last_short : {X : Type 0} (xs : List X) → length (but_last xs) ≤ length xs
 but_last_short [] = omega arith
 but_last_short (x ∷ []) = omega arith
 but_last_short (x ∷ y ∷ xs) = let k = but_last_short (y ∷ xs) in omega (arith, k)
 
+-- A filtered list is no longer than the list.
 pub filter_short : {X : Type 0} (p : X → Bool) (xs : List X) → length (filter p xs) ≤ length xs
 filter_short p [] = omega arith
 filter_short {X} p (x ∷ xs) = go (p x) (filter_short p xs)
@@ -222,31 +245,39 @@ filter_short {X} p (x ∷ xs) = go (p x) (filter_short p xs)
 pub read_there : {X : Type 0} (xs : List X) (k : ℕ) (x y : X) → slice_get xs k ≡ Some y → x ≡ get_or xs k x → y ≡ x
 read_there xs k x y h e = sym (get_or_from_slice_get xs k y x h) ∙ sym e
 
+-- The element that an index reads at a position that was found is the element there.
 pub read_found : {X : Type 0} (p : X → Bool) (xs : List X) (k : ℕ) (x : X) → position p xs ≡ Some k → x ≡ get_or xs k x → slice_get xs k ≡ Some x
 read_found {X} p xs k x h e = let r = placed p xs k h in r.1 ∙ ap (λ (z : X). Some z) (read_there xs k x r.0 r.1 e)
 
 -- what an index reads at a place that was found in a list, before a place of it, or behind that
 module _ {X : Type 0} (p : X → Bool) (xs l : List X) (e : xs ≡ l) where
+  -- A position that was found in a list is below its length.
   pub found_within : (k : ℕ) → position p l ≡ Some k → k < length xs
   found_within k h = subst (λ (z : List X). k < length z) (sym e) (place_within p l k h)
 
+  -- The element read at a position that was found is the element there.
   pub read_place : (k : ℕ) (x : X) → position p l ≡ Some k → x ≡ get_or xs k x → slice_get l k ≡ Some x
   read_place k x h is = ap (λ (z : List X). slice_get z k) (sym e) ∙ slice_get_read xs (length xs) k x refl (found_within k h) is
 
+  -- A position that was found among the first i elements is below the length of the list.
   pub taken_within : (i k : ℕ) → position p (take i l) ≡ Some k → k < length xs
   taken_within i k h = let r = placed p (take i l) k h in subst (λ (z : List X). k < length z) (sym e) (slice_within l k r.0 (get_taken l i k r.0 r.1))
 
+  -- The element read at a position found among the first i is the one there among them.
   pub read_taken : (i k : ℕ) (x : X) → position p (take i l) ≡ Some k → x ≡ get_or xs k x → slice_get (take i l) k ≡ Some x
   read_taken i k x h is =
       let r = placed p (take i l) k h in
       r.1 ∙ ap (λ (z : X). Some z) (read_there xs k x r.0 (ap (λ (z : List X). slice_get z k) e ∙ get_taken l i k r.0 r.1) is)
 
+  -- A position that was found from n on is below the length of the list.
   pub behind_within : (n k : ℕ) → Some k ≡ option_map (λ j. n + j) (position p (drop n l)) → k < length xs
   behind_within n k h = subst (λ (z : List X). k < length z) (sym e) (from_within p l n k h)
 
+  -- The element read at a position found from n on is the one at its position in the rest.
   pub read_behind : (n k : ℕ) (x : X) → Some k ≡ option_map (λ j. n + j) (position p (drop n l)) → x ≡ get_or xs k x → (j : ℕ) × (position p (drop n l) ≡ Some j) × (slice_get (drop n l) j ≡ Some x)
   read_behind n k x h is =
       stands_from p l n k x h (ap (λ (z : List X). slice_get z k) (sym e) ∙ slice_get_read xs (length xs) k x refl (behind_within n k h) is)
 
+-- To drop i + 1 elements is to drop as many as the successor of i.
 pub drop_next : {X : Type 0} (i : ℕ) (l : List X) → drop (i + 1) l ≡ drop (suc i) l
 drop_next {X} i l = ap (λ (n : ℕ). drop n l) (add-one i)

@@ -20,6 +20,7 @@ module _ {Shape State Op Undo : Type 0} (o : Object Shape State Op Undo) (v : Se
   one_more s (False n detail) w h = let e : w.count ≡ v.count = ap (λ (z : Seen Shape Op). z.count) h.2 in omega (arith, e)
 
   module _ {E : Type 0} (r : Result (Seen Shape Op × Outcome Op) E) (s asked : Step Op) (is : asked ≡ s) where
+    -- The effect of a step is the effect of the step that was asked, if they are equal.
     pub effect_of : IfOk r (λ k. Stepped o v s k.1 k.0) → IfOk r (λ k. Stepped o v asked k.1 k.0)
     effect_of h = subst (λ (z : Step Op). IfOk r (λ k. Stepped o v z k.1 k.0)) (sym is) h
 
@@ -32,10 +33,12 @@ module _ {Shape State Op Undo : Type 0} (o : Object Shape State Op Undo) (v : Se
         let law = evidence_law o laws v.shape in
         subst (λ (d : Detail Op). HoldsAtNumber o (facts o v.shape v.config s) (suc n) d × Fits o v.shape d) (sym h.3) (law.shows v.config s n sound asks h.0, law.fits v.config s (suc n) sound)
 
+    -- The evidence that the machine returns of a step shows its first false criterion.
     pub shown_of : {E : Type 0} (r : Result (Seen Shape Op × Outcome Op) E) → IfOk r (λ k. Stepped o v s k.1 k.0) → IfOk r (λ k. IsShown o v s k.1)
     shown_of (Ok k) h = shows_by k.1 k.0 h
     shown_of (Err e) h = tt
 
+  -- One step raises the count of steps by at most one.
   pub count_of : {E : Type 0} (r : Result (Seen Shape Op × Outcome Op) E) (s : Step Op) → IfOk r (λ k. Stepped o v s k.1 k.0) → IfOk r (λ k. k.0.count ≤ v.count + 1)
   count_of (Ok k) s h = one_more s k.1 k.0 h
   count_of (Err e) s h = tt

@@ -18,12 +18,15 @@ use Rattle.pp_kind.proofs.Fitting.{fits_in, in_ranged, ranged_in}
 module _ {Shape State Op Undo : Type 0} (o : Object Shape State Op Undo) where
   -- each operation of a log of a sound configuration fits
   module _ (laws : IsLawful o) (shape : Shape) (c : Config Op) (s : Sound (rules_of o shape) c) where
+    -- Each entry of the local log of an open transaction fits the shape.
     pub local_fits : (t : _) (x : Tx Op) → tx t c.opened ≡ Some x → (e : LocalEntry Op) → In e x.local → IsTrue (o.fits shape e.op)
     local_fits t x h e i = fits_in o laws shape (local_ops x.local) (s.local_allowed x (found_tx t c.opened x h).0) e.op (in_map (λ (z : LocalEntry Op). z.op) e x.local i)
 
+    -- Each entry of the shared log fits the shape.
     pub shared_fits : (u : SharedEntry Op) → In u c.shared → IsTrue (o.fits shape u.op)
     shared_fits u i = fits_in o laws shape (shared_ops c.shared) s.shared_allowed u.op (in_map (λ (z : SharedEntry Op). z.op) u c.shared i)
 
+    -- An entry found by its id and mark in a local log fits the shape.
     pub marked_fits : (t : _) (x : Tx Op) → tx t c.opened ≡ Some x → (id : ℕ) (m : Mark) (e : LocalEntry Op) → at_mark id m x.local ≡ Some e → IsTrue (o.fits shape e.op)
     marked_fits t x h id m e k = local_fits t x h e (found_mark id m x.local e k).0
 

@@ -46,9 +46,11 @@ use Rattle.pp_machine.proofs.Opened.{HasCourse, HasLog, begun_in, busy_in, disti
 use Rattle.pp_machine.proofs.Opened.{ranged_shared, used_in}
 use Rattle.pp_machine.proofs.Removing.{ranged_posts}
 
+-- The mark Unpushed is not Pulled.
 pub unpushed_own : Unpushed ≢ Pulled
 unpushed_own e = cc
 
+-- The mark Pushed is not Pulled.
 pub pushed_own : Pushed ≢ Pulled
 pushed_own e = cc
 
@@ -112,6 +114,7 @@ module _ {Shape State Op Undo : Type 0} (o : Object Shape State Op Undo) (shape 
         | inr r ↦ subst (IsFine o shape (n + 1)) (sym (m.2 ∙ ap (λ (b : Bool). cond b (relogged h m.0) m.0) r.0)) (fine_later m.0 m.1)
       ]
 
+  -- Open transactions that are fine are so one step later, without some of them.
   pub fine_left : (test : Open Shape Op → Bool) (x : Open Shape Op) → In x (filter test l) → IsFine o shape (n + 1) x
   fine_left test x i = fine_later x (from_filter test x l i).0
 
@@ -163,9 +166,11 @@ module _ {Shape State Op Undo : Type 0} (o : Object Shape State Op Undo) (shape 
   begin_is : (t p : Name) (b : Option Tree) (u : Txs Shape Op) → u ≡ with_open (open_of t p b (shape, [])) v → config_of u ids G.1 F ≡ then (config_of v ids G.1 F) (Begin t p b)
   begin_is t p b u e = ap (λ (z : Txs Shape Op). config_of z ids G.1 F) e ∙ after_begin v ids G.1 F t p b (shape, []) refl
 
+  -- A new open transaction makes the machine seen as after a BEGIN.
   pub seen_begin : (t p : Name) (b : Option Tree) (u : Txs Shape Op) → u ≡ with_open (open_of t p b (shape, [])) v → ◌≡◌ {A = Seen Shape Op} (record { shape = shape; config = config_of u ids G.1 F; count = n + 1 }) (stepped w (Begin t p b))
   seen_begin t p b u e = seen_as (Begin t p b) (config_of u ids G.1 F) (begin_is t p b u e)
 
+  -- After a BEGIN that meets its criteria, the machine holds what each machine keeps.
   pub holds_begin : (t p : Name) (b : Option Tree) (u : Txs Shape Op) → Meets (rules_of o w.shape) w.config (Begin t p b) → u ≡ with_open (open_of t p b (shape, [])) v → Holds o shape u ids G F (n + 1)
   holds_begin t p b u f e = record {
     sound = sound_as (Begin t p b) (config_of u ids G.1 F) f (begin_is t p b u e);
@@ -177,9 +182,11 @@ module _ {Shape State Op Undo : Type 0} (o : Object Shape State Op Undo) (shape 
     serial_ranged = h.serial_ranged;
   }
 
+  -- The name of a BEGIN that meets its criteria was not begun.
   pub begin_free : (t p : Name) (b : Option Tree) → Meets (rules_of o w.shape) w.config (Begin t p b) → is_begun v t ≡ false
   begin_free t p b f = false_from_ne_true (is_begun v t) (λ k. (lower (Begin t p b) 0 f).0 (begun_in v t (sym k)))
 
+  -- The thread of a BEGIN that meets its criteria is not busy.
   pub begin_idle : (t p : Name) (b : Option Tree) → Meets (rules_of o w.shape) w.config (Begin t p b) → is_busy v p ≡ false
   begin_idle t p b f = false_from_ne_true (is_busy v p) (λ k. let x = busy_in v p (sym k) in (lower (Begin t p b) 0 f).1.0 x.0 x.1 x.2)
 
@@ -195,6 +202,7 @@ module _ {Shape State Op Undo : Type 0} (o : Object Shape State Op Undo) (shape 
       ∙ ap (λ (z : List ℕ). config_of (with_log t (λ l. l ++ record { id = id; owner = t; mark = Unpushed; op = op } ∷ []) v) z G.1 F) i
       ∙ after_app v ids G.1 F t id op
 
+  -- A new unpushed entry makes the machine seen as after an APP.
   pub seen_app : (t : Name) (id : ℕ) (op : Op) (u : Txs Shape Op) (js : List ℕ) → u ≡ with_log t (λ l. l ++ record { id = id; owner = t; mark = Unpushed; op = op } ∷ []) v → js ≡ ids ++ id ∷ [] →
       ◌≡◌ {A = Seen Shape Op} (record { shape = shape; config = config_of u js G.1 F; count = n + 1 }) (stepped w (App t id op))
   seen_app t id op u js e i = seen_as (App t id op) (config_of u js G.1 F) (app_is t id op u js e i)
@@ -202,6 +210,7 @@ module _ {Shape State Op Undo : Type 0} (o : Object Shape State Op Undo) (shape 
   fine_after : (t : Name) (k : List (LocalEntry Op) → List (LocalEntry Op)) (u : Txs Shape Op) → u ≡ with_log t k v → ((x : Open Shape Op) → In x v.opened → IsFine o shape (n + 1) (relogged k x)) → (x : Open Shape Op) → In x u.opened → IsFine o shape (n + 1) x
   fine_after t k u e f = subst (λ (z : Txs Shape Op). (x : Open Shape Op) → In x z.opened → IsFine o shape (n + 1) x) (sym e) (fine_log o shape n v.opened h.fine t k (λ x i same. f x i))
 
+  -- After an APP that meets its criteria, the machine holds what each machine keeps.
   pub holds_app : (t : Name) (id : ℕ) (op : Op) (u : Txs Shape Op) (js : List ℕ) → Meets (rules_of o w.shape) w.config (App t id op) → IsTrue (o.ranged op) → u ≡ with_log t (λ l. l ++ record { id = id; owner = t; mark = Unpushed; op = op } ∷ []) v → js ≡ ids ++ id ∷ [] → Holds o shape u js G F (n + 1)
   holds_app t id op u js f r e i = record {
     sound = sound_as (App t id op) (config_of u js G.1 F) f (app_is t id op u js e i);
@@ -230,6 +239,7 @@ module _ {Shape State Op Undo : Type 0} (o : Object Shape State Op Undo) (shape 
         subst (λ (z : Tx Op). FollowsIfOwn o z.body z.local e) (sym y.2) follows,
       )
 
+  -- The local log takes the entry of an APP that meets its criteria, and the body its call.
   pub takes_app : (t : Name) (id : ℕ) (op : Op) → Meets (rules_of o w.shape) w.config (App t id op) → IsTrue (o.ranged op) → w.count < 200_000 →
       (y : Open Shape Op) × (open_at t v.opened ≡ Some y) × Takes o y.local (record { id = id; owner = t; mark = Unpushed; op = op }) × FollowsIfOwn o y.body y.local.1 (record { id = id; owner = t; mark = Unpushed; op = op })
   takes_app t id op f r few =
@@ -241,10 +251,12 @@ module _ {Shape State Op Undo : Type 0} (o : Object Shape State Op Undo) (shape 
   pull_is : (t : Name) (id : ℕ) (g : SharedEntry Op) (u : Txs Shape Op) → of_other t id G.1 ≡ Some g → u ≡ with_log t (λ l. l ++ record { id = g.id; owner = g.owner; mark = Pulled; op = g.op } ∷ []) v → config_of u ids G.1 F ≡ then (config_of v ids G.1 F) (Pull t id)
   pull_is t id g u q e = ap (λ (z : Txs Shape Op). config_of z ids G.1 F) e ∙ after_pull v ids G.1 F t id g q
 
+  -- A new pulled entry makes the machine seen as after a PULL.
   pub seen_pull : (t : Name) (id : ℕ) (g : SharedEntry Op) (u : Txs Shape Op) → of_other t id G.1 ≡ Some g → u ≡ with_log t (λ l. l ++ record { id = g.id; owner = g.owner; mark = Pulled; op = g.op } ∷ []) v →
       ◌≡◌ {A = Seen Shape Op} (record { shape = shape; config = config_of u ids G.1 F; count = n + 1 }) (stepped w (Pull t id))
   seen_pull t id g u q e = seen_as (Pull t id) (config_of u ids G.1 F) (pull_is t id g u q e)
 
+  -- After a PULL that meets its criteria, the machine holds what each machine keeps.
   pub holds_pull : (t : Name) (id : ℕ) (g : SharedEntry Op) (u : Txs Shape Op) → Meets (rules_of o w.shape) w.config (Pull t id) → of_other t id G.1 ≡ Some g → u ≡ with_log t (λ l. l ++ record { id = g.id; owner = g.owner; mark = Pulled; op = g.op } ∷ []) v → Holds o shape u ids G F (n + 1)
   holds_pull t id g u f q e = record {
     sound = sound_as (Pull t id) (config_of u ids G.1 F) f (pull_is t id g u q e);
@@ -255,6 +267,7 @@ module _ {Shape State Op Undo : Type 0} (o : Object Shape State Op Undo) (shape 
     serial_ranged = h.serial_ranged;
   }
 
+  -- The local log takes the entry of a PULL that meets its criteria.
   pub takes_pull : (t : Name) (id : ℕ) (g : SharedEntry Op) → Meets (rules_of o w.shape) w.config (Pull t id) → of_other t id G.1 ≡ Some g → w.count < 200_000 →
       (y : Open Shape Op) × (open_at t v.opened ≡ Some y) × Takes o y.local (record { id = g.id; owner = g.owner; mark = Pulled; op = g.op }) × FollowsIfOwn o y.body y.local.1 (record { id = g.id; owner = g.owner; mark = Pulled; op = g.op })
   takes_pull t id g f q few =
@@ -274,6 +287,7 @@ module _ {Shape State Op Undo : Type 0} (o : Object Shape State Op Undo) (shape 
       let z : Some m.0 ≡ Some p = sym m.1 ∙ ap (λ (y : Tx Op). at_mark id Unpushed y.local) (same_Some k.0 _ (sym k.1 ∙ r.is)) ∙ q in
       subst (λ (s : Shape). IsAllowed o s (shared_ops G.1 ++ p.op ∷ [])) (sym h.shared_shape) (subst (λ (y : LocalEntry Op). IsAllowed o shape (shared_ops G.1 ++ y.op ∷ [])) (same_Some m.0 p z) m.2.1.1.0)
 
+  -- The id of a PUSH that meets its criteria is not in the shared log.
   pub push_new : (t : Name) (id : ℕ) → Meets (rules_of o w.shape) w.config (Push t id) → (l : Shape × List (LocalEntry Op)) → HasLog o shape v ids G F n h t l → (p : LocalEntry Op) → at_mark id Unpushed l.1 ≡ Some p → position (λ g. g.id == p.id) G.1 ≡ None
   push_new t id f l r p q =
       let s = subst (λ (c : Config Op). Sound (rules_of o shape) c) (sym (after_push v ids G.1 F t id _ p r.is q)) (sound_then (Push t id) f) in
@@ -286,10 +300,12 @@ module _ {Shape State Op Undo : Type 0} (o : Object Shape State Op Undo) (shape 
       ∙ ap (λ (z : List (SharedEntry Op)). config_of (with_log t (set_mark id Pushed) v) ids z F) k
       ∙ after_push v ids G.1 F t id _ p r.is q
 
+  -- The mark Pushed and the new shared entry make the machine seen as after a PUSH.
   pub seen_push : (t : Name) (id : ℕ) (l : Shape × List (LocalEntry Op)) → HasLog o shape v ids G F n h t l → (p : LocalEntry Op) → at_mark id Unpushed l.1 ≡ Some p → (u : Txs Shape Op) (H : Shape × List (SharedEntry Op)) → u ≡ with_log t (set_mark p.id Pushed) v → H ≡ (G.0, G.1 ++ as_shared t false (item p) ∷ []) →
       ◌≡◌ {A = Seen Shape Op} (record { shape = shape; config = config_of u ids H.1 F; count = n + 1 }) (stepped w (Push t id))
   seen_push t id l r p q u H e k = seen_as (Push t id) (config_of u ids H.1 F) (push_is t id l r p q u H.1 e (ap (λ (z : Shape × List (SharedEntry Op)). z.1) k))
 
+  -- After a PUSH that meets its criteria, the machine holds what each machine keeps.
   pub holds_push : (t : Name) (id : ℕ) → Meets (rules_of o w.shape) w.config (Push t id) → (l : Shape × List (LocalEntry Op)) → HasLog o shape v ids G F n h t l → (p : LocalEntry Op) (i : ℕ) → at_mark id Unpushed l.1 ≡ Some p → slice_get l.1 i ≡ Some p →
       (u : Txs Shape Op) (H : Shape × List (SharedEntry Op)) → u ≡ with_log t (set_mark p.id Pushed) v → H ≡ (G.0, G.1 ++ as_shared t false (item p) ∷ []) → Holds o shape u ids H F (n + 1)
   holds_push t id f l r p i q at u H e k =
@@ -303,6 +319,7 @@ module _ {Shape State Op Undo : Type 0} (o : Object Shape State Op Undo) (shape 
         serial_ranged = h.serial_ranged;
       }
 
+  -- An entry found with an own mark in the local log of t is own in its course.
   pub owns : (t : Name) (id : ℕ) (m : Mark) → m ≢ Pulled → (l : Shape × List (LocalEntry Op)) → HasLog o shape v ids G F n h t l → (p : LocalEntry Op) (i : ℕ) → at_mark id m l.1 ≡ Some p → slice_get l.1 i ≡ Some p → (y : Open Shape Op) × (open_at t v.opened ≡ Some y) × HasOwn y.local.1 i
   owns t id m d l r p i q at =
       (open_of t r.thread r.body l, r.at, record { within = slice_within l.1 i p at; entry = p; here = at; own = λ e. d (sym (found_mark id m l.1 p q).2 ∙ e) })
@@ -323,6 +340,7 @@ module _ {Shape State Op Undo : Type 0} (o : Object Shape State Op Undo) (shape 
   pub relogged_is : (t : Name) (k new : Guided Shape Op) → HasCourse o shape v ids G F n h t k → (f : List (LocalEntry Op) → List (LocalEntry Op)) → new ≡ record { body = k.body; local = (k.local.0, f k.local.1) } → with_course t new v ≡ with_log t f v
   relogged_is t k new r f e = with_course_is t k new r (λ z. record { body = z.body; local = (z.local.0, f z.local.1) }) e
 
+  -- To write back the course of t as it was leaves the transactions the same.
   pub course_same : (t : Name) (k new : Guided Shape Op) → HasCourse o shape v ids G F n h t k → new ≡ k → with_course t new v ≡ v
   course_same t k new r e = with_course_is t k new r (λ z. z) e ∙ ap (λ (z : List (Open Shape Op)). record { names = v.names; opened = z }) (all_same v.opened t)
 
@@ -336,9 +354,11 @@ module _ {Shape State Op Undo : Type 0} (o : Object Shape State Op Undo) (shape 
   unapp_is : (t : Name) (id : ℕ) (u : Txs Shape Op) → u ≡ with_log t but_last v → config_of u ids G.1 F ≡ then (config_of v ids G.1 F) (Unapp t id)
   unapp_is t id u e = ap (λ (z : Txs Shape Op). config_of z ids G.1 F) e ∙ after_unapp v ids G.1 F t id
 
+  -- Without the last entry of a local log, the machine is seen as after an UNAPP.
   pub seen_unapp : (t : Name) (id : ℕ) (u : Txs Shape Op) → u ≡ with_log t but_last v → ◌≡◌ {A = Seen Shape Op} (record { shape = shape; config = config_of u ids G.1 F; count = n + 1 }) (stepped w (Unapp t id))
   seen_unapp t id u e = seen_as (Unapp t id) (config_of u ids G.1 F) (unapp_is t id u e)
 
+  -- After an UNAPP that meets its criteria, the machine holds what each machine keeps.
   pub holds_unapp : (t : Name) (id : ℕ) (u : Txs Shape Op) → Meets (rules_of o w.shape) w.config (Unapp t id) → u ≡ with_log t but_last v → Holds o shape u ids G F (n + 1)
   holds_unapp t id u f e = record {
     sound = sound_as (Unapp t id) (config_of u ids G.1 F) f (unapp_is t id u e);
@@ -353,9 +373,11 @@ module _ {Shape State Op Undo : Type 0} (o : Object Shape State Op Undo) (shape 
   unpull_is : (t : Name) (id : ℕ) (u : Txs Shape Op) → u ≡ with_log t (without_local id) v → config_of u ids G.1 F ≡ then (config_of v ids G.1 F) (Unpull t id)
   unpull_is t id u e = ap (λ (z : Txs Shape Op). config_of z ids G.1 F) e ∙ after_unpull v ids G.1 F t id
 
+  -- Without the entry in the local log, the machine is seen as after an UNPULL.
   pub seen_unpull : (t : Name) (id : ℕ) (u : Txs Shape Op) → u ≡ with_log t (without_local id) v → ◌≡◌ {A = Seen Shape Op} (record { shape = shape; config = config_of u ids G.1 F; count = n + 1 }) (stepped w (Unpull t id))
   seen_unpull t id u e = seen_as (Unpull t id) (config_of u ids G.1 F) (unpull_is t id u e)
 
+  -- After an UNPULL that meets its criteria, the machine holds what each machine keeps.
   pub holds_unpull : (t : Name) (id : ℕ) (u : Txs Shape Op) → Meets (rules_of o w.shape) w.config (Unpull t id) → u ≡ with_log t (without_local id) v → Holds o shape u ids G F (n + 1)
   holds_unpull t id u f e = record {
     sound = sound_as (Unpull t id) (config_of u ids G.1 F) f (unpull_is t id u e);
@@ -371,6 +393,7 @@ module _ {Shape State Op Undo : Type 0} (o : Object Shape State Op Undo) (shape 
   unpull_leaves t id l r p i q at =
       (open_of t r.thread r.body l, r.at, record { within = slice_within l.1 i p at; entry = p; here = at; own_last = λ mine. absurd (pulled_other (sym (ap is_own (found_mark id Pulled l.1 p q).2) ∙ mine)) })
 
+  -- To remove the pulled entry at its position is to take its id out of the local log.
   pub unpulled : (t : Name) (id : ℕ) (l : Shape × List (LocalEntry Op)) → HasLog o shape v ids G F n h t l → (p : LocalEntry Op) (i : ℕ) → at_mark id Pulled l.1 ≡ Some p → slice_get l.1 i ≡ Some p → remove l.1 i ≡ without_local id l.1
   unpulled t id l r p i q at = removed_filter (λ (z : LocalEntry Op). z.id) id l.1 (distinct o shape v ids G F n h t l r) i p at (found_mark id Pulled l.1 p q).1
 
@@ -386,10 +409,12 @@ module _ {Shape State Op Undo : Type 0} (o : Object Shape State Op Undo) (shape 
       ∙ ap (λ (z : List (SharedEntry Op)). config_of (with_log t (set_mark id Unpushed) v) ids z F) k
       ∙ after_unpush v ids G.1 F t id
 
+  -- The mark Unpushed, and no shared entry, make the machine seen as after an UNPUSH.
   pub seen_unpush : (t : Name) (id : ℕ) (u : Txs Shape Op) (H : Shape × List (SharedEntry Op)) → u ≡ with_log t (set_mark id Unpushed) v → H ≡ (G.0, without_shared id G.1) →
       ◌≡◌ {A = Seen Shape Op} (record { shape = shape; config = config_of u ids H.1 F; count = n + 1 }) (stepped w (Unpush t id))
   seen_unpush t id u H e k = seen_as (Unpush t id) (config_of u ids H.1 F) (unpush_is t id u H.1 e (ap (λ (z : Shape × List (SharedEntry Op)). z.1) k))
 
+  -- After an UNPUSH that meets its criteria, the machine holds what each machine keeps.
   pub holds_unpush : (t : Name) (id : ℕ) (u : Txs Shape Op) (H : Shape × List (SharedEntry Op)) → Meets (rules_of o w.shape) w.config (Unpush t id) → u ≡ with_log t (set_mark id Unpushed) v → H ≡ (G.0, without_shared id G.1) → Holds o shape u ids H F (n + 1)
   holds_unpush t id u H f e k =
       let posts : H.1 ≡ without_shared id G.1 = ap (λ (z : Shape × List (SharedEntry Op)). z.1) k in
@@ -409,6 +434,7 @@ module _ {Shape State Op Undo : Type 0} (o : Object Shape State Op Undo) (shape 
       ∙ ap (λ (z : Shape × List (SharedEntry Op)). record { shape = shape; config = config_of v ids z.1 F; count = n }) k
       ∙ same
 
+  -- A machine in which nothing has changed holds what it held.
   pub holds_same : (u : Txs Shape Op) (H : Shape × List (SharedEntry Op)) → u ≡ v → H ≡ G → Holds o shape u ids H F n
   holds_same u H e k =
       subst (λ (z : Txs Shape Op). Holds o shape z ids H F n) (sym e)
@@ -423,6 +449,7 @@ module _ {Shape State Op Undo : Type 0} (o : Object Shape State Op Undo) (shape 
       ∙ ap (λ (z : List (CommittedTx Op)). config_of (without_open t v) ids (commit_all t G.1) z) d
       ∙ after_cmt v ids G.1 F t _ r.is
 
+  -- Without the transaction, its entries committed, the machine is seen as after a CMT.
   pub seen_cmt : (t : Name) (l : Shape × List (LocalEntry Op)) → HasLog o shape v ids G F n h t l → (u : Txs Shape Op) (H : Shape × List (SharedEntry Op)) (D : List (CommittedTx Op)) → u ≡ without_open t v → H ≡ (G.0, commit_all t G.1) → D ≡ F ++ record { name = t; entries = own_items l.1 } ∷ [] →
       ◌≡◌ {A = Seen Shape Op} (record { shape = shape; config = config_of u ids H.1 D; count = n + 1 }) (stepped w (Cmt t))
   seen_cmt t l r u H D e k d = seen_as (Cmt t) (config_of u ids H.1 D) (cmt_is t l r u H.1 D e (ap (λ (z : Shape × List (SharedEntry Op)). z.1) k) d)
@@ -430,6 +457,7 @@ module _ {Shape State Op Undo : Type 0} (o : Object Shape State Op Undo) (shape 
   fine_without : (t : Name) (u : Txs Shape Op) → u ≡ without_open t v → (x : Open Shape Op) → In x u.opened → IsFine o shape (n + 1) x
   fine_without t u e = subst (λ (z : Txs Shape Op). (x : Open Shape Op) → In x z.opened → IsFine o shape (n + 1) x) (sym e) (fine_left o shape n v.opened h.fine _)
 
+  -- After a CMT that meets its criteria, the machine holds what each machine keeps.
   pub holds_cmt : (t : Name) → Meets (rules_of o w.shape) w.config (Cmt t) → (l : Shape × List (LocalEntry Op)) → HasLog o shape v ids G F n h t l → (u : Txs Shape Op) (H : Shape × List (SharedEntry Op)) (D : List (CommittedTx Op)) →
       u ≡ without_open t v → H ≡ (G.0, commit_all t G.1) → D ≡ F ++ record { name = t; entries = own_items l.1 } ∷ [] → Holds o shape u ids H D (n + 1)
   holds_cmt t f l r u H D e k d =
@@ -447,9 +475,11 @@ module _ {Shape State Op Undo : Type 0} (o : Object Shape State Op Undo) (shape 
   quit_is : (t : Name) (u : Txs Shape Op) → u ≡ without_open t v → config_of u ids G.1 F ≡ then (config_of v ids G.1 F) (Quit t)
   quit_is t u e = ap (λ (z : Txs Shape Op). config_of z ids G.1 F) e ∙ after_quit v ids G.1 F t
 
+  -- Without the transaction, the machine is seen as after a QUIT.
   pub seen_quit : (t : Name) (u : Txs Shape Op) → u ≡ without_open t v → ◌≡◌ {A = Seen Shape Op} (record { shape = shape; config = config_of u ids G.1 F; count = n + 1 }) (stepped w (Quit t))
   seen_quit t u e = seen_as (Quit t) (config_of u ids G.1 F) (quit_is t u e)
 
+  -- After a QUIT that meets its criteria, the machine holds what each machine keeps.
   pub holds_quit : (t : Name) (u : Txs Shape Op) → Meets (rules_of o w.shape) w.config (Quit t) → u ≡ without_open t v → Holds o shape u ids G F (n + 1)
   holds_quit t u f e = record {
     sound = sound_as (Quit t) (config_of u ids G.1 F) f (quit_is t u e);
@@ -464,6 +494,7 @@ module _ {Shape State Op Undo : Type 0} (o : Object Shape State Op Undo) (shape 
   pub seen_note : (t : Name) → ◌≡◌ {A = Seen Shape Op} (record { shape = shape; config = config_of v ids G.1 F; count = n + 1 }) (stepped w (Note t))
   seen_note t = seen_as (Note t) (config_of v ids G.1 F) refl
 
+  -- After a NOTE, the machine holds what each machine keeps.
   pub holds_note : Holds o shape v ids G F (n + 1)
   holds_note = record {
     sound = h.sound;
@@ -486,11 +517,14 @@ start_holds {Shape} {State} {Op} o shape v ids G F a b c d =
 
 -- what is seen of a machine is sound
 module _ {Shape State Op Undo : Type 0} (o : Object Shape State Op Undo) (v w : Seen Shape Op) (same : v ≡ w) where
+  -- A machine that is seen the same has a sound configuration if the other has.
   pub seen_sound : Sound (rules_of o v.shape) v.config → Sound (rules_of o w.shape) w.config
   seen_sound s = subst (λ (z : Seen Shape Op). Sound (rules_of o z.shape) z.config) same s
 
+  -- The serial run of a sound configuration of a machine is allowed.
   pub seen_allowed : Sound (rules_of o v.shape) v.config → IsAllowed o w.shape (serial_ops w.config.done)
   seen_allowed s = serial_allowed o w.shape w.config (seen_sound s)
 
+  -- The serial run of a machine is ranged if it is so as the machine is seen.
   pub seen_ranged : AllRanged o (serial_ops v.config.done) → AllRanged o (serial_ops w.config.done)
   seen_ranged s = subst (λ (z : Seen Shape Op). AllRanged o (serial_ops z.config.done)) same s

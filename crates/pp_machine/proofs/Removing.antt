@@ -35,6 +35,7 @@ module _ {Shape State Op Undo : Type 0} (o : Object Shape State Op Undo) where
       let rest = allowed-second o (o.start shape) (entry_ops f d.before) ((f d.entry).op ∷ entry_ops f d.after) (subst (λ (z : List Op). IsAllowed o shape z) is h) in
       d.differs (sym d.gives ∙ rest.0.1)
 
+  -- A ranged shared log is ranged without the entries of an id.
   pub ranged_posts : (id : ℕ) (l : List (SharedEntry Op)) → AllRanged o (shared_ops l) → AllRanged o (shared_ops (without_shared id l))
   ranged_posts id l r = in_ranged o (shared_ops (without_shared id l)) (λ a j.
       let k = from_map (λ (e : SharedEntry Op). e.op) a (without_shared id l) j in
@@ -50,6 +51,7 @@ passing {X} {Y} f t (x ∷ xs) = go (t (f x)) (passing f t xs)
     go false e = e
 
 module _ {Op E : Type 0} (f : E → Item Op) (place : Op → ℕ) (id : ℕ) where
+  -- As many operations of its place are from an entry on as from its id on.
   pub from_place_is : (l : List E) → ((p q : E) → Before p q l → (f p).id ≡ (f q).id → ⊥) → (i : ℕ) (e : E) → slice_get l i ≡ Some e → (f e).id ≡ id → from_place place (entry_ops f l) i ≡ from_id place id (map f l)
   from_place_is [] d i e h k = absurd (cc)
   from_place_is (a ∷ l) d zero e h k =
@@ -66,6 +68,7 @@ some_pass : {X : Type 0} (t : X → Bool) (x : X) (xs : List X) → t x ≡ true
 some_pass {X} t x xs e =
     let k : length (filter t (x ∷ xs)) ≡ length (x ∷ filter t xs) = ap (λ (b : Bool). length (cond b (x ∷ filter t xs) (filter t xs))) e in omega (arith, k)
 
+-- At least one operation is counted from an id on.
 pub from_id_some : {Op : Type 0} (place : Op → ℕ) (id : ℕ) (ps : List (Item Op)) → 1 ≤ from_id place id ps
 from_id_some place id [] = omega arith
 from_id_some {Op} place id (p ∷ ps) = go (p.id == id) (some_pass (λ (q : Item Op). place q.op == place p.op) p ps (eq-eqb (place p.op) (place p.op) refl)) (from_id_some place id ps)
@@ -87,6 +90,7 @@ within_bound place ops i (Differs id answer) old new c = c
 
 -- the last entry of a local log
 module _ {Shape State Op Undo : Type 0} (o : Object Shape State Op Undo) (log : Shape × List (LocalEntry Op)) (i : ℕ) (m : MayLeave log.1 i) (end : i + 1 ≡ length log.1) where
+  -- A log whose last entry may leave is its front and this entry.
   pub front_is : log.1 ≡ but_last log.1 ++ m.entry ∷ []
   front_is =
       let e : length log.1 - 1 ≡ i = omega (arith, end) in
@@ -99,14 +103,17 @@ module _ {Shape State Op Undo : Type 0} (o : Object Shape State Op Undo) (log : 
       subst (λ (z : List (LocalEntry Op)). IsAllowed o log.0 (local_ops z)) (sym (removed_last log.1 i end))
       (allowed_front (rules_of o log.0) (o.start log.0) (local_ops (but_last log.1)) ((m.entry).op ∷ []) (subst (λ (z : List Op). IsAllowed o log.0 z) e h))
 
+  -- To remove the last entry of an allowed local log leaves its front.
   pub last_removed : IsAllowed o log.0 (local_ops log.1) → (new : Shape × List (LocalEntry Op)) (removed : Removed) → RemovesEntry o item log i new removed → new ≡ (log.0, but_last log.1)
   last_removed h new Done r = r.0 ∙ ap (λ (z : List (LocalEntry Op)). (log.0, z)) (removed_last log.1 i end)
   last_removed h new (Differs id answer) r = absurd (differs_not o item log.0 (remove log.1 i) id answer r.1 (front_allowed h))
 
+  -- To remove the last entry of an allowed local log never differs.
   pub never_differs : IsAllowed o log.0 (local_ops log.1) → (new : Shape × List (LocalEntry Op)) (removed : Removed) → RemovesEntry o item log i new removed → removed ≡ Done
   never_differs h new Done r = refl
   never_differs h new (Differs id answer) r = absurd (differs_not o item log.0 (remove log.1 i) id answer r.1 (front_allowed h))
 
+-- From the last operation on, one operation has its place.
 pub from_place_last : {Op : Type 0} (place : Op → ℕ) (ops : List Op) (i : ℕ) → i + 1 ≡ length ops → from_place place ops i ≡ 1
 from_place_last place [] i e = refl
 from_place_last {Op} place (a ∷ []) zero e =

@@ -47,6 +47,7 @@ module _ {Op E : Type 0} (passes : E → Bool) (refuting : E → Option (List Op
   pub none_stops : (l : List E) → position stops l ≡ None → (e : E) → In e l → passes e ≡ true → is_some (refuting e) ≡ false
   none_stops l h e i p = second_fails (passes e) (is_some (refuting e)) (find_nowhere stops l (place_none stops l h) e i) p
 
+  -- The entry at which a walk stops is in the list, passes the test, and is refuted.
   pub stops_here : (l : List E) (k : ℕ) (e : E) → position stops l ≡ Some k → slice_get l k ≡ Some e → In e l × (passes e ≡ true) × (is_some (refuting e) ≡ true)
   stops_here l k e h at =
       let q = found stops l e (place_found stops l k e h at) in
@@ -72,6 +73,7 @@ same_answer a b e = subst (λ (z : Answer). is_same a z ≡ true) e (itself a)
     itself (answers.Truth true) = refl
     itself (answers.Truth false) = refl
 
+-- Results for which the test says that they are the same are equal.
 pub answers_same : (a b : Answer) → is_same a b ≡ true → a ≡ b
 answers_same answers.None answers.None e = refl
 answers_same answers.None (answers.Number y) e = absurd (cc)

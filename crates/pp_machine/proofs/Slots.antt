@@ -29,6 +29,7 @@ kept_more ns ts bs ms us t p k n i e u = record {
   threads_are = λ q. u q ∙ ap (cond (p =ⁿ q) true) (k.threads_are q) ∙ sym (or_last (list_any (λ z. z =ⁿ q) bs) (p =ⁿ q)) ∙ sym (any_joined bs (p ∷ []) q);
 }
 
+-- Names and threads are kept without a thread that is free again.
 pub kept_less : (ns ts ms us k l : List Name) (p : Name) → Kept ns ts (k ++ p ∷ l) → ms ≡ ns →
     ((q : Name) → list_any (λ z. q =ⁿ z) us ≡ cond (p =ⁿ q) false (list_any (λ z. q =ⁿ z) ts)) → Kept ms us (k ++ l)
 kept_less ns ts ms us k l p h e u = record {
@@ -37,12 +38,15 @@ kept_less ns ts ms us k l p h e u = record {
   threads_are = λ q. u q ∙ ap (cond (p =ⁿ q) false) (h.threads_are q) ∙ sym (any_skip k l p q h.busy_apart);
 }
 
+-- Names and threads are kept with an equal list of threads.
 pub kept_threads : (ns ts bs us : List Name) → Kept ns ts bs → us ≡ ts → Kept ns us bs
 kept_threads ns ts bs us h e = subst (λ (z : List Name). Kept ns z bs) (sym e) h
 
+-- If a thread is gone from the threads under one name, it is gone under an equal name.
 pub same_gone : (ts us : List Name) (p r : Name) → p ≡ r → ((q : Name) → list_any (λ z. q =ⁿ z) us ≡ cond (r =ⁿ q) false (list_any (λ z. q =ⁿ z) ts)) → (q : Name) → list_any (λ z. q =ⁿ z) us ≡ cond (p =ⁿ q) false (list_any (λ z. q =ⁿ z) ts)
 same_gone ts us p r e u q = u q ∙ ap (λ (z : Name). cond (z =ⁿ q) false (list_any (λ z. q =ⁿ z) ts)) (sym e)
 
+-- Names and threads are kept with equal lists of names and of busy threads.
 pub kept_same : (ns ts bs ms cs : List Name) → Kept ns ts bs → ms ≡ ns → cs ≡ bs → Kept ms ts cs
 kept_same ns ts bs ms cs h e d = subst (λ (z : List Name). Kept z ts cs) (sym e) (subst (λ (z : List Name). Kept ns ts z) (sym d) h)
 
@@ -52,11 +56,13 @@ lends_as n e = λ i. inl (n, λ w. e w i)
 
 -- the entry at a place
 module _ {X : Type 0} where
+  -- Each slot has a name: if a value is at a position, a name is at this position.
   pub key_at : (es : List (Name × X)) (i : ℕ) (x : X) → slice_get (values_of es) i ≡ Some x → (t : Name) × (slice_get (keys_of es) i ≡ Some t)
   key_at [] i x h = absurd (cc)
   key_at (e ∷ es) zero x h = (e.0, refl)
   key_at (e ∷ es) (suc i) x h = key_at es i x h
 
+  -- Each name has a slot: if a name is at a position, a value is at this position.
   pub value_at : (es : List (Name × X)) (i : ℕ) (t : Name) → slice_get (keys_of es) i ≡ Some t → (x : X) × (slice_get (values_of es) i ≡ Some x)
   value_at [] i t h = absurd (cc)
   value_at (e ∷ es) zero t h = (e.1, refl)
@@ -71,6 +77,7 @@ module _ {X : Type 0} where
     | inr r ↦ ap (λ (b : Bool). cond b (Some e.1) (lookup (λ n. t =ⁿ n) es)) r.0 ∙ lookup_at es i t x h k (λ u v b. d u v (inr b))
   ]
 
+  -- To set the value at the position of a name is to set the value of the name.
   pub set_at : (es : List (Name × X)) (i : ℕ) (t : Name) (x : X) → slice_get (keys_of es) i ≡ Some t → ((u v : Name) → Before u v (keys_of es) → u ≢ v) → set_value_at es i x ≡ set_value (λ n. t =ⁿ n) es x
   set_at [] i t x h d = refl
   set_at (e ∷ es) zero t x h d = sym (ap (λ (b : Bool). cond b ((e.0, x) ∷ es) (e ∷ set_value (λ n. t =ⁿ n) es x)) (eq-names t e.0 (sym (same_Some e.0 t h))))
@@ -81,6 +88,7 @@ module _ {X : Type 0} where
         ∙ sym (ap (λ (b : Bool). cond b ((e.0, x) ∷ es) (e ∷ set_value (λ n. t =ⁿ n) es x)) r.0)
   ]
 
+-- The position that is found for a name has this name.
 pub placed_name : (ns : List Name) (t : Name) (i : ℕ) → Some i ≡ position (λ n. t =ⁿ n) ns → slice_get ns i ≡ Some t
 placed_name ns t i e =
     let p = placed (λ (n : Name). t =ⁿ n) ns i (sym e) in
@@ -174,6 +182,7 @@ module _ {A Shape Op : Type 0} (f : Name → A → Open Shape Op) (named : (n : 
   filled_none ((m, None) ∷ es) n = filled_none es n
   filled_none ((m, Some b) ∷ es) n = ap (λ (w : List (Open Shape Op)). f m b ∷ w) (filled_none es n)
 
+  -- A name has a slot exactly if it was begun.
   pub begun_is : (es : List (Name × Option A)) (t : Name) → is_some (lookup (λ n. t =ⁿ n) es) ≡ list_any (λ n. n =ⁿ t) (keys_of es)
   begun_is [] t = refl
   begun_is ((n, o) ∷ es) t = elim (names_tell t n) [
@@ -244,11 +253,13 @@ module _ {A Shape Op : Type 0} (f : Name → A → Open Shape Op) (named : (n : 
   pub not_begun : (es : List (Name × Option A)) (t : Name) → lookup (λ n. t =ⁿ n) es ≡ None → open_at t (filled f es) ≡ None
   not_begun es t h = find_off t (filled f es) (absent es t h)
 
+  -- A transaction with an empty slot is not open.
   pub not_open : (es : List (Name × Option A)) (t : Name) → lookup (λ n. t =ⁿ n) es ≡ Some None → ((u v : Name) → Before u v (keys_of es) → u ≢ v) → open_at t (filled f es) ≡ None
   not_open es t h d =
       let r = located es t None h d in
       ap (open_at t) r.is ∙ find_off t (r.before ++ r.after) (off_joined t r.before r.after r.off_before r.off_after)
 
+  -- A transaction with a value in its slot is open, with this value.
   pub is_open : (es : List (Name × Option A)) (t : Name) (a : A) → lookup (λ n. t =ⁿ n) es ≡ Some (Some a) → ((u v : Name) → Before u v (keys_of es) → u ≢ v) → open_at t (filled f es) ≡ Some (f t a)
   is_open es t a h d =
       let r = located es t (Some a) h d in
@@ -264,21 +275,25 @@ module _ {A Shape Op : Type 0} (f : Name → A → Open Shape Op) (named : (n : 
       ∙ sym (on_here t g r.before r.after (f t a) r.off_before r.off_after (named t a))
       ∙ ap (map (λ x. cond (x.name =ⁿ t) (g x) x)) (sym r.is)
 
+  -- To empty the slot of a transaction leaves all other open transactions.
   pub ended : (es : List (Name × Option A)) (t : Name) (a : A) → lookup (λ n. t =ⁿ n) es ≡ Some (Some a) → ((u v : Name) → Before u v (keys_of es) → u ≢ v) →
       filled f (set_value (λ n. t =ⁿ n) es None) ≡ filter (λ x. not (x.name =ⁿ t)) (filled f es)
   ended es t a h d =
       let r = located es t (Some a) h d in
       r.changed None ∙ sym (without_here t r.before r.after (f t a) r.off_before r.off_after (named t a)) ∙ ap (filter (λ x. not (x.name =ⁿ t))) (sym r.is)
 
+  -- If no open transaction has a name, to leave it out changes nothing.
   pub ended_none : (es : List (Name × Option A)) (t : Name) → Off t (filled f es) → filled f es ≡ filter (λ x. not (x.name =ⁿ t)) (filled f es)
   ended_none es t n = sym (without_off t (filled f es) n)
 
+  -- To empty a slot that is empty leaves the open transactions without that name.
   pub same_slot : (es : List (Name × Option A)) (t : Name) → lookup (λ n. t =ⁿ n) es ≡ Some None → ((u v : Name) → Before u v (keys_of es) → u ≢ v) →
       filled f (set_value (λ n. t =ⁿ n) es None) ≡ filter (λ x. not (x.name =ⁿ t)) (filled f es)
   same_slot es t h d =
       let r = located es t None h d in
       r.changed None ∙ sym r.is ∙ ended_none es t (subst (Off t) (sym r.is) (off_joined t r.before r.after r.off_before r.off_after))
 
+  -- If a slot is emptied and its thread freed, names and threads are still kept.
   pub threads_left : (es : List (Name × Option A)) (t : Name) (a : A) → lookup (λ n. t =ⁿ n) es ≡ Some (Some a) → ((u v : Name) → Before u v (keys_of es) → u ≢ v) → (ts ms us : List Name) → Kept (keys_of es) ts (threads_of (filled f es)) → ms ≡ keys_of es →
       ((q : Name) → list_any (λ z. q =ⁿ z) us ≡ cond ((f t a).thread =ⁿ q) false (list_any (λ z. q =ⁿ z) ts)) → Kept ms us (threads_of (filled f (set_value (λ n. t =ⁿ n) es None)))
   threads_left es t a h d ts ms us k e u =
@@ -287,6 +302,7 @@ module _ {A Shape Op : Type 0} (f : Name → A → Open Shape Op) (named : (n : 
       let new : threads_of (filled f (set_value (λ n. t =ⁿ n) es None)) ≡ threads_of r.before ++ threads_of r.after = ap (λ (z : List (Open Shape Op)). threads_of z) (r.changed None) ∙ map-append (λ x. x.thread) r.before r.after in
       subst (λ (z : List Name). Kept ms us z) (sym new) (kept_less (keys_of es) ts ms us (threads_of r.before) (threads_of r.after) (f t a).thread (subst (λ (z : List Name). Kept (keys_of es) ts z) old k) e u)
 
+  -- A changed value with the same thread leaves the busy threads the same.
   pub threads_stay : (es : List (Name × Option A)) (t : Name) (a b : A) → lookup (λ n. t =ⁿ n) es ≡ Some (Some a) → ((u v : Name) → Before u v (keys_of es) → u ≢ v) → (f t b).thread ≡ (f t a).thread →
       threads_of (filled f (set_value (λ n. t =ⁿ n) es (Some b))) ≡ threads_of (filled f es)
   threads_stay es t a b h d e =
@@ -300,6 +316,7 @@ module _ {A Shape Op : Type 0} (f : Name → A → Open Shape Op) (named : (n : 
   abbrev seen : List (Name × Option A) → Txs Shape Op
   seen es = record { names = keys_of es; opened = filled f es }
 
+  -- With no slots and no threads, names and threads are kept.
   pub kept_none : (es : List (Name × Option A)) (ts : List Name) → es ≡ [] → ts ≡ [] → Kept (keys_of es) ts (threads_of (filled f es))
   kept_none es ts e h =
       subst (λ (z : List (Name × Option A)). Kept (keys_of z) ts (threads_of (filled f z))) (sym e)
@@ -307,12 +324,15 @@ module _ {A Shape Op : Type 0} (f : Name → A → Open Shape Op) (named : (n : 
 
   -- the same of the transactions as they are seen
   module _ (es : List (Name × Option A)) (ts : List Name) (v : Txs Shape Op) (same : ◌≡◌ {A = Txs Shape Op} (record { names = keys_of es; opened = filled f es }) v) (kept : Kept (keys_of es) ts (threads_of (filled f es))) (t : Name) where
+    -- A name without a slot has no open transaction.
     pub no_log : lookup (λ n. t =ⁿ n) es ≡ None → open_at t v.opened ≡ None
     no_log h = ap (λ (w : Txs Shape Op). open_at t w.opened) (sym same) ∙ not_begun es t h
 
+    -- A name with an empty slot has no open transaction.
     pub closed_log : lookup (λ n. t =ⁿ n) es ≡ Some None → open_at t v.opened ≡ None
     closed_log h = ap (λ (w : Txs Shape Op). open_at t w.opened) (sym same) ∙ not_open es t h kept.names_apart
 
+    -- A name with a value in its slot has the open transaction of that value.
     pub open_log : (a : A) → lookup (λ n. t =ⁿ n) es ≡ Some (Some a) → open_at t v.opened ≡ Some (f t a)
     open_log a h = ap (λ (w : Txs Shape Op). open_at t w.opened) (sym same) ∙ is_open es t a h kept.names_apart
 
@@ -325,6 +345,7 @@ module _ {A Shape Op : Type 0} (f : Name → A → Open Shape Op) (named : (n : 
         ∙ ap (λ (z : List (Open Shape Op)). record { names = keys_of es; opened = z }) opened
         ∙ ap (with_course t k) same
 
+    -- A changed value in a slot, with the same thread, keeps names and threads.
     pub kept_changed : (a b : A) (fs : List (Name × Option A)) → lookup (λ n. t =ⁿ n) es ≡ Some (Some a) → (f t b).thread ≡ (f t a).thread → fs ≡ set_value (λ n. t =ⁿ n) es (Some b) → keys_of fs ≡ keys_of es → Kept (keys_of fs) ts (threads_of (filled f fs))
     kept_changed a b fs k e m n =
         kept_same (keys_of es) ts (threads_of (filled f es)) (keys_of fs) (threads_of (filled f fs)) kept n (ap (λ (z : List (Name × Option A)). threads_of (filled f z)) m ∙ threads_stay es t a b k kept.names_apart e)
@@ -336,17 +357,20 @@ module _ {A Shape Op : Type 0} (f : Name → A → Open Shape Op) (named : (n : 
         ∙ ap (λ (z : List (Open Shape Op)). record { names = keys_of es; opened = z }) (ap (filled f) m ∙ ended es t a k kept.names_apart)
         ∙ ap (without_open t) same
 
+    -- To empty a slot and free its thread keeps names and threads.
     pub kept_ended : (a : A) (fs : List (Name × Option A)) (us : List Name) → lookup (λ n. t =ⁿ n) es ≡ Some (Some a) → fs ≡ set_value (λ n. t =ⁿ n) es None → keys_of fs ≡ keys_of es →
         ((q : Name) → list_any (λ z. q =ⁿ z) us ≡ cond ((f t a).thread =ⁿ q) false (list_any (λ z. q =ⁿ z) ts)) → Kept (keys_of fs) us (threads_of (filled f fs))
     kept_ended a fs us k m n u =
         subst (λ (z : List (Name × Option A)). Kept (keys_of fs) us (threads_of (filled f z))) (sym m) (threads_left es t a k kept.names_apart ts (keys_of fs) us kept n u)
 
+    -- To empty an empty slot makes the transactions seen without that name.
     pub seen_empty : (fs : List (Name × Option A)) → lookup (λ n. t =ⁿ n) es ≡ Some None → fs ≡ set_value (λ n. t =ⁿ n) es None → keys_of fs ≡ keys_of es → ◌≡◌ {A = Txs Shape Op} (record { names = keys_of fs; opened = filled f fs }) (without_open t v)
     seen_empty fs k m n =
         ap (λ (z : List Name). record { names = z; opened = filled f fs }) n
         ∙ ap (λ (z : List (Open Shape Op)). record { names = keys_of es; opened = z }) (ap (filled f) m ∙ same_slot es t k kept.names_apart)
         ∙ ap (without_open t) same
 
+    -- To empty an empty slot keeps names and threads.
     pub kept_empty : (fs : List (Name × Option A)) → lookup (λ n. t =ⁿ n) es ≡ Some None → fs ≡ set_value (λ n. t =ⁿ n) es None → keys_of fs ≡ keys_of es → Kept (keys_of fs) ts (threads_of (filled f fs))
     kept_empty fs k m n =
         let r = located es t None k kept.names_apart in
@@ -356,6 +380,7 @@ module _ {A Shape Op : Type 0} (f : Name → A → Open Shape Op) (named : (n : 
     pub not_there : is_begun v t ≡ false → lookup (λ n. t =ⁿ n) es ≡ None
     not_there h = is_none_of (lookup (λ n. t =ⁿ n) es) (begun_is es t ∙ ap (λ (w : Txs Shape Op). is_begun w t) same ∙ h)
 
+    -- A new slot at the end makes the transactions seen with one more open one.
     pub seen_begun : (a : A) (fs : List (Name × Option A)) → fs ≡ es ++ (t, Some a) ∷ [] → ◌≡◌ {A = Txs Shape Op} (record { names = keys_of fs; opened = filled f fs }) (with_open (f t a) v)
     seen_begun a fs m =
         ap seen m
@@ -363,6 +388,7 @@ module _ {A Shape Op : Type 0} (f : Name → A → Open Shape Op) (named : (n : 
         ∙ ap (λ (z : List (Open Shape Op)). record { names = keys_of es ++ (f t a).name ∷ []; opened = z }) (filled_more es t a)
         ∙ ap (with_open (f t a)) same
 
+    -- A new slot for a new name on an idle thread keeps names and threads.
     pub kept_begun : (a : A) (fs : List (Name × Option A)) (us : List Name) → is_begun v t ≡ false → is_busy v (f t a).thread ≡ false → fs ≡ es ++ (t, Some a) ∷ [] →
         ((q : Name) → list_any (λ z. q =ⁿ z) us ≡ cond ((f t a).thread =ⁿ q) true (list_any (λ z. q =ⁿ z) ts)) → Kept (keys_of fs) us (threads_of (filled f fs))
     kept_begun a fs us n i m u =
@@ -378,6 +404,7 @@ module _ {A Shape Op : Type 0} (f : Name → A → Open Shape Op) (named : (n : 
         ∙ ap (λ (z : List (Open Shape Op)). record { names = keys_of es ++ t ∷ []; opened = z }) (filled_none es t)
         ∙ ap (λ (w : Txs Shape Op). record { names = w.names ++ t ∷ []; opened = w.opened }) same
 
+    -- A new empty slot for a new name keeps names and threads.
     pub kept_used : (fs : List (Name × Option A)) → is_begun v t ≡ false → fs ≡ es ++ (t, None) ∷ [] → Kept (keys_of fs) ts (threads_of (filled f fs))
     kept_used fs n m =
         subst (λ (z : List (Name × Option A)). Kept (keys_of z) ts (threads_of (filled f z))) (sym m)
@@ -388,12 +415,15 @@ module _ {A Shape Op : Type 0} (f : Name → A → Open Shape Op) (named : (n : 
           threads_are = kept.threads_are;
         }))
 
+    -- Equal slots keep names and threads.
     pub kept_as : (fs : List (Name × Option A)) → fs ≡ es → Kept (keys_of fs) ts (threads_of (filled f fs))
     kept_as fs m = subst (λ (z : List (Name × Option A)). Kept (keys_of z) ts (threads_of (filled f z))) (sym m) kept
 
+    -- Equal slots leave the transactions as they were seen.
     pub seen_same : (fs : List (Name × Option A)) → fs ≡ es → ◌≡◌ {A = Txs Shape Op} (record { names = keys_of fs; opened = filled f fs }) v
     seen_same fs m = ap seen m ∙ same
 
+    -- To empty an empty slot leaves the transactions as they were seen.
     pub seen_closed : (fs : List (Name × Option A)) → lookup (λ n. t =ⁿ n) es ≡ Some None → fs ≡ set_value (λ n. t =ⁿ n) es None → ◌≡◌ {A = Txs Shape Op} (record { names = keys_of fs; opened = filled f fs }) v
     seen_closed fs k m = seen_same fs (m ∙ set_value_same (λ n. t =ⁿ n) es None k)
 

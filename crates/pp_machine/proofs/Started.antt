@@ -59,6 +59,7 @@ module _ {Shape State Op Undo : Type 0} (o : Object Shape State Op Undo) (shape 
   was : config_of v ids G.1 F ≡ first None
   was = ap (λ (z : Seen Shape Op). z.config) same ∙ empty
 
+  -- The shape of a new machine is the one that is seen.
   pub shape_is : shape ≡ w.shape
   shape_is = ap (λ (z : Seen Shape Op). z.shape) same
 
@@ -75,6 +76,7 @@ module _ {Shape State Op Undo : Type 0} (o : Object Shape State Op Undo) (shape 
   unbegun t true e = absurd (subst (λ (l : List Name). In t l) no_names (begun_in v t (sym e)))
   unbegun t false e = refl
 
+  -- A new machine has begun no transaction.
   pub not_begun : (t : Name) → is_begun v t ≡ false
   not_begun t = unbegun t (is_begun v t) refl
 
@@ -96,6 +98,7 @@ module _ {Shape State Op Undo : Type 0} (o : Object Shape State Op Undo) (shape 
     config_is : config_of u js K.1 D ≡ first (Some z)
     config_is = same_config _ _ _ _ _ _ _ _ _ _ names_are used opened_are shared_are done_are
 
+    -- After a start, the machine is seen with the first configuration of this start.
     pub seen_started : w.count ≡ 0 → ◌≡◌ {A = Seen Shape Op} (record { shape = shape; config = config_of u js K.1 D; count = n }) (record { shape = w.shape; config = first (Some z); count = 0 })
     seen_started e =
         ap (λ (s : Shape). record { shape = s; config = config_of u js K.1 D; count = n }) shape_is
@@ -114,6 +117,7 @@ module _ {Shape State Op Undo : Type 0} (o : Object Shape State Op Undo) (shape 
       none : (x : Open Shape Op) → In x u.opened → ⊥
       none x i = subst (λ (l : List (Tx Op)). In (tx_of x) l) opened_are (in_map tx_of x u.opened i)
 
+      -- After a start that meets its criteria, the machine holds what each machine keeps.
       pub holds_started : length z.items ≤ 256 → StartMeets (rules_of o w.shape) (Some z) → Holds o shape u js K D n
       holds_started few meets =
           let size : length K.1 ≡ length z.items = ap (λ (l : List (SharedEntry Op)). length l) shared_are ∙ length-map z.items (as_shared z.tx true) in

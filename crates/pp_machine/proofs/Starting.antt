@@ -81,6 +81,7 @@ module _ {Op : Type 0} where
       let b = before_across t.5 t.1 t.0 (t.1 ∷ t.2) t.6 (inl refl) in
       d t.5 t.1 (subst (λ (w : List (Item Op)). Before t.5 t.1 w) (sym t.3) b) t.7
 
+  -- If the walk over the items finds no repeated id, the ids are distinct.
   pub told_distinct : (items : List (Item Op)) → Nothing ≡ first_repeated [] items → HasDistinctIds items
   told_distinct items e = elim (repeated [] items none_before) [ inl r ↦ r.0 | inr r ↦ absurd (let z : Nothing ≡ Entry r.0 = e ∙ r.1 in cc) ]
 
@@ -147,15 +148,18 @@ module _ {Shape State Op Undo : Type 0} (o : Object Shape State Op Undo) (laws :
     asked_at : All (IsAskedItem o shape) items → IsAskedItem o shape p
     asked_at asked = subst (IsAskedItem o shape) (sym is) (All-get_or (IsAskedItem o shape) items k p lt asked)
 
+    -- The item at a position of a start that is asked is ranged.
     pub ranged_at : All (IsAskedItem o shape) items → IsTrue (o.ranged p.op)
     ranged_at asked = (asked_at asked).1
 
+    -- If ids are distinct, the id of the next item is not in the log of those before it.
     pub new_at : HasDistinctIds items → position (λ e. e.id == p.id) log.1 ≡ None
     new_at d = nowhere (λ (e : SharedEntry Op). e.id == p.id) log.1 (λ e i.
         let m = from_map (as_shared tx false) e (take k items) (subst (λ (w : List (SharedEntry Op)). In e w) (ap (λ (z : Shape × List (SharedEntry Op)). z.1) so_far) i) in
         ap (λ (z : SharedEntry Op). z.id == p.id) m.2
         ∙ false_from_ne_true ((m.0).id == p.id) (λ t. d m.0 p (earlier items k p lt is m.0 m.1) (eqb-true (m.0).id p.id t)))
 
+    -- With one more entry, the log is that of one more item of the start.
     pub posted_more : (new : Shape × List (SharedEntry Op)) → new ≡ (log.0, log.1 ++ as_shared tx false p ∷ []) → new ≡ (shape, posted tx (take (k + 1) items))
     posted_more new e =
         e
@@ -168,9 +172,11 @@ module _ {Shape State Op Undo : Type 0} (o : Object Shape State Op Undo) (laws :
     goes_here : IsAllowed o shape (ops (take k items) ++ p.op ∷ []) → GoesBehind o log.0 (shared_ops log.1) p.op
     goes_here h = subst (λ (z : Shape). IsAllowed o z (shared_ops log.1 ++ p.op ∷ [])) (sym shape_is) (subst (λ (z : List Op). IsAllowed o shape (z ++ p.op ∷ [])) (sym ops_are) h)
 
+    -- If the next item is allowed after the log, the first items with it are allowed.
     pub allowed_more : GoesBehind o log.0 (shared_ops log.1) p.op → IsAllowed o shape (ops (take (k + 1) items))
     allowed_more h = subst (λ (z : List Op). IsAllowed o shape z) (sym (ap (λ (z : List (Item Op)). ops z) (taken items k p lt is) ∙ map-append (λ (q : Item Op). q.op) (take k items) (p ∷ []))) (goes_there h)
 
+    -- An item that is not allowed after the log is the first that differs, by the object's result.
     pub differs_at : All (IsAskedItem o shape) items → IsAllowed o shape (ops (take k items)) → (GoesBehind o log.0 (shared_ops log.1) p.op → ⊥) → (answer : Answer) → answer ≡ answer_behind o log.0 (shared_ops log.1) p.op
         → TellsFirstOther o (λ q. q) shape items (Gives p.id answer)
     differs_at asked allowed n answer e =
@@ -204,10 +210,12 @@ module _ {Shape State Op Undo : Type 0} (o : Object Shape State Op Undo) (laws :
           is_evidence = t.3 ∙ differing_shown o (λ q. q) (o.start shape) items t.0 t.1 t.2 ∙ ap (λ (n : ℕ). start_evidence o shape the n) (sym e);
         }
 
+    -- A start with distinct ids is judged by what becomes of its items.
     pub judged : (r : Result (Shape × List (SharedEntry Op)) (Refusal Op)) → Posts o shape tx items r → JudgesStart o shape the r
     judged (Ok log) h = ((d, (h.0, refl)), h.1)
     judged (Err refusal) h = refused refusal h.0 h.1
 
+  -- A start with a repeated id violates criterion 1, with the id as evidence.
   pub repeated_refused : (id : ℕ) → Entry id ≡ first_repeated [] items → (refusal : Refusal Op) → refusal ≡ record { criterion = 1; detail = Entry id } → RefusesStart o shape (record { tx = tx; items = items }) refusal
   repeated_refused id e refusal is =
       subst (λ (z : Refusal Op). RefusesStart o shape (record { tx = tx; items = items }) z) (sym is)
@@ -233,6 +241,7 @@ module _ {Shape State Op Undo : Type 0} (o : Object Shape State Op Undo) (laws :
   evidence_fits z (suc (suc zero)) = differing_fits o laws shape (λ q. q) (o.start shape) z.items
   evidence_fits z (suc (suc (suc n))) = tt
 
+  -- The evidence of a rejected start shows its first false criterion.
   pub start_evidence_law : StartEvidenceLaw o shape
   start_evidence_law = record { shows = shows; refutes = refutes; fits = evidence_fits }
     where
@@ -241,6 +250,7 @@ module _ {Shape State Op Undo : Type 0} (o : Object Shape State Op Undo) (laws :
       refutes z (suc zero) detail h = λ a. differs_not o (λ q. q) shape z.items h.0 h.1 h.2 a
       refutes z (suc (suc n)) detail h = h
 
+  -- The items of a start that is asked fit the shape.
   pub asked_fit : (z : Start Op) → All (IsAskedItem o shape) z.items → StartFits o shape z
   asked_fit z asked p i =
       let m = in_at z.items p i in
@@ -251,6 +261,7 @@ module _ {Shape State Op Undo : Type 0} (o : Object Shape State Op Undo) (laws :
 pub refused_start : {Shape State Op Undo : Type 0} (o : Object Shape State Op Undo) (old : Seen Shape Op) (z : Start Op) (refusal : Refusal Op) (out : Outcome Op) → out ≡ False refusal.criterion refusal.detail → RefusesStart o old.shape z refusal → Started o old z out old
 refused_start {Shape} {State} {Op} o old z refusal out is k = subst (λ (d : Outcome Op). Started o old z d old) (sym is) (k.breaks, k.not_zero, refl, k.is_evidence)
 
+-- The outcome of a start shows what its evidence says.
 pub start_shown : {Shape State Op Undo : Type 0} (o : Object Shape State Op Undo) → IsLawful o → (old : Seen Shape Op) (z : Start Op) → All (IsAskedItem o old.shape) z.items → (new : Seen Shape Op) (outcome : Outcome Op) → Started o old z outcome new → IsStartShown o old z outcome
 start_shown o laws old z asked new Done h = tt
 start_shown o laws old z asked new (False zero detail) h = absurd (let e = h.1 in omega (arith, e))

@@ -55,11 +55,13 @@ module _ {Shape State Op Undo : Type 0} (o : Object Shape State Op Undo) (laws :
     AllFit = (p : LocalEntry Op) → In p l → IsTrue (o.fits shape p.op)
 
     module _ (i : ℕ) (p : LocalEntry Op) (at : slice_get l i ≡ Some p) (ds : List (LocalEntry Op)) where
+      -- If no entry before p holds it back, each earlier unpushed entry swaps with it.
       pub own_swap : AreDistinct l → ds ≡ take i l → position (holds_back o p.op) ds ≡ None → (a : LocalEntry Op) → Before a p l → a.mark ≡ Unpushed → SwapsIn o shape p.op a.op
       own_swap d e n a b m =
           unrefuted_in p.op a.op
           (none_stops (λ z. is_mark z.mark Unpushed) (λ z. o.refuting p.op z.op) ds n a (subst (λ (z : List (LocalEntry Op)). In a z) (sym e) (here_before (λ (z : LocalEntry Op). z.id) l d i p a at b)) (mark_is a.mark Unpushed m))
 
+      -- The entry that holds p back is an earlier unpushed one that does not swap with it.
       pub own_not : (k : ℕ) (a : LocalEntry Op) → AllFit → IsTrue (o.fits shape p.op) → ds ≡ take i l → position (holds_back o p.op) ds ≡ Some k → slice_get ds k ≡ Some a →
           Before a p l × (a.mark ≡ Unpushed) × (SwapsIn o shape p.op a.op → ⊥)
       own_not k a fit f e w here =
@@ -67,17 +69,20 @@ module _ {Shape State Op Undo : Type 0} (o : Object Shape State Op Undo) (laws :
           let inside = subst (λ (z : List (LocalEntry Op)). In a z) e q.0 in
           (before_here l i p a at inside, is_mark-true a.mark Unpushed q.1, refuted_in p.op a.op f (fit a (in_taken i a l inside)) q.2)
 
+      -- The first entry that holds p back is the evidence of PUSH 3.
       pub own_shown : (k : ℕ) (a : LocalEntry Op) (id : ℕ) → ds ≡ take i l → position (holds_back o p.op) ds ≡ Some k → slice_get ds k ≡ Some a → position (λ z. z.id == id) l ≡ Some i →
           swap_or a.id (o.refuting p.op a.op) Nothing ≡ first_swap (λ z. z.id) (λ z. o.refuting p.op z.op) (filter (λ z. is_mark z.mark Unpushed) (entries_before id l))
       own_shown k a id e w here place =
           swap_shown (λ z. is_mark z.mark Unpushed) (λ z. o.refuting p.op z.op) (λ z. z.id) ds a (place_found (holds_back o p.op) ds k a w here)
           ∙ ap (λ (z : List (LocalEntry Op)). first_swap (λ z. z.id) (λ z. o.refuting p.op z.op) (filter (λ z. is_mark z.mark Unpushed) z)) (e ∙ ap (λ (n : ℕ). take n l) (sym (place_or_len (λ z. z.id == id) l i place)))
 
+      -- If no pushed entry stays after p, each later pushed entry swaps with it.
       pub behind_swap : AreDistinct l → ds ≡ drop (suc i) l → position (stays_behind o p.op) ds ≡ None → (b : LocalEntry Op) → Before p b l → b.mark ≡ Pushed → SwapsIn o shape b.op p.op
       behind_swap d e n b before m =
           unrefuted_in b.op p.op
           (none_stops (λ z. is_mark z.mark Pushed) (λ z. o.refuting z.op p.op) ds n b (subst (λ (z : List (LocalEntry Op)). In b z) (sym e) (behind_here (λ (z : LocalEntry Op). z.id) l d i p b at before)) (mark_is b.mark Pushed m))
 
+      -- The entry that stays after p is a later pushed one that does not swap with it.
       pub behind_not : (k : ℕ) (b : LocalEntry Op) → AllFit → IsTrue (o.fits shape p.op) → ds ≡ drop (suc i) l → position (stays_behind o p.op) ds ≡ Some k → slice_get ds k ≡ Some b →
           Before p b l × (b.mark ≡ Pushed) × (SwapsIn o shape b.op p.op → ⊥)
       behind_not k b fit f e w here =
@@ -85,6 +90,7 @@ module _ {Shape State Op Undo : Type 0} (o : Object Shape State Op Undo) (laws :
           let inside = subst (λ (z : List (LocalEntry Op)). In b z) e q.0 in
           (here_behind l i p b at inside, is_mark-true b.mark Pushed q.1, refuted_in b.op p.op (fit b (in_dropped (suc i) b l inside)) f q.2)
 
+      -- The first entry that stays after p is the evidence of UNPUSH 3.
       pub behind_shown : (k : ℕ) (b : LocalEntry Op) (id : ℕ) → ds ≡ drop (suc i) l → position (stays_behind o p.op) ds ≡ Some k → slice_get ds k ≡ Some b → position (λ z. z.id == id) l ≡ Some i →
           swap_or b.id (o.refuting b.op p.op) Nothing ≡ first_swap (λ z. z.id) (λ z. o.refuting z.op p.op) (filter (λ z. is_mark z.mark Pushed) (entries_behind id l))
       behind_shown k b id e w here place =
@@ -94,17 +100,20 @@ module _ {Shape State Op Undo : Type 0} (o : Object Shape State Op Undo) (laws :
           ∙ ap (λ (z : List (LocalEntry Op)). first_swap (λ z. z.id) (λ z. o.refuting z.op p.op) (filter (λ z. is_mark z.mark Pushed) z)) (e ∙ ap (λ (n : ℕ). drop n l) m)
 
     module _ (op : Op) (ds : List (LocalEntry Op)) (e : ds ≡ l) where
+      -- If no own entry must be first, each own entry swaps with the operation after it.
       pub own_before : position (stands_first o op) ds ≡ None → (a : LocalEntry Op) → In a l → is_own a.mark ≡ true → SwapsIn o shape a.op op
       own_before n a i m =
           unrefuted_in a.op op
           (none_stops (λ z. is_own z.mark) (λ z. o.refuting z.op op) ds n a (subst (λ (z : List (LocalEntry Op)). In a z) (sym e) i) m)
 
+      -- The entry that must be first is an own one that does not swap with the operation.
       pub not_before : (k : ℕ) (a : LocalEntry Op) → AllFit → IsTrue (o.fits shape op) → position (stands_first o op) ds ≡ Some k → slice_get ds k ≡ Some a → In a l × (is_own a.mark ≡ true) × (SwapsIn o shape a.op op → ⊥)
       not_before k a fit f w here =
           let q = stops_here (λ z. is_own z.mark) (λ z. o.refuting z.op op) ds k a w here in
           let inside = subst (λ (z : List (LocalEntry Op)). In a z) e q.0 in
           (inside, q.1, refuted_in a.op op (fit a inside) f q.2)
 
+      -- The first own entry that must be first is the evidence of PULL 5.
       pub before_shown : (k : ℕ) (a : LocalEntry Op) → position (stands_first o op) ds ≡ Some k → slice_get ds k ≡ Some a → swap_or a.id (o.refuting a.op op) Nothing ≡ first_swap (λ z. z.id) (λ z. o.refuting z.op op) (own l)
       before_shown k a w here =
           swap_shown (λ z. is_own z.mark) (λ z. o.refuting z.op op) (λ z. z.id) ds a (place_found (stands_first o op) ds k a w here)
@@ -128,6 +137,7 @@ module _ {Shape State Op Undo : Type 0} (o : Object Shape State Op Undo) (laws :
       ap (λ (b : Bool). cond b (Some y) (find p l)) (n 0 y (omega arith) refl)
       ∙ first_blocks p l k u at h (λ j z b w. n (suc j) z (omega arith) w)
 
+  -- The first uncommitted entry of another that does not swap is the evidence of PUSH 4.
   pub blocking_shown : (t : Name) (op : Op) (l : List (SharedEntry Op)) (k : ℕ) (d : IsFirstBlocking o t op l k) →
       swap_or (d.entry).id (o.refuting (d.entry).op op) Nothing ≡ first_swap (λ z. z.id) (λ z. o.refuting z.op op) (filter (λ z. not z.committed && not (z.owner =ⁿ t)) l)
   blocking_shown t op l k d =

@@ -63,27 +63,35 @@ module _ {Op : Type 0} (l : List (LocalEntry Op)) (d : AreDistinct l) (e : Local
           let q = found (λ z. z.id == id) l y h in
           ap (λ (z : LocalEntry Op). Some z) (by_key (λ (z : LocalEntry Op). z.id) l d y e q.0 i (eqb-true y.id id q.1 ∙ sym is))
 
+  -- An entry among those before the id of e is before e.
   pub before_in : (a : LocalEntry Op) → In a (entries_before id l) → Before a e l
   before_in a j = before_here l place e a at_place j
 
+  -- An entry before e is among the entries before its id.
   pub in_before : (a : LocalEntry Op) → Before a e l → In a (entries_before id l)
   in_before a b = here_before (λ (z : LocalEntry Op). z.id) l d place e a at_place b
 
+  -- An entry among those after the id of e is after e.
   pub behind_in : (b : LocalEntry Op) → In b (entries_behind id l) → Before e b l
   behind_in b j = here_behind l place e b at_place (subst (λ (n : ℕ). In b (drop n l)) (add-one place) j)
 
+  -- A pair in order, whose second is before the id of e, is in order before this id.
   pub first_before : (z a : LocalEntry Op) → In a (entries_before id l) → Before z a l → Before z a (entries_before id l)
   first_before z a j b = taken_before (λ (z : LocalEntry Op). z.id) l d place z a j b
 
+  -- The entries before the id of e are distinct.
   pub distinct_before : AreDistinct (entries_before id l)
   distinct_before p q b = d p q (before_taken place p q l b)
 
+  -- A pair in order after e is in order among the entries after its id.
   pub first_behind : (z b : LocalEntry Op) → Before e z l → Before z b l → Before z b (entries_behind id l)
   first_behind z b j k = subst (λ (n : ℕ). Before z b (drop n l)) (sym (add-one place)) (dropped_before (λ (z : LocalEntry Op). z.id) l d place e z b at_place j k)
 
+  -- The entries after the id of e are distinct.
   pub distinct_behind : AreDistinct (entries_behind id l)
   distinct_behind p q b = d p q (before_dropped (place + 1) p q l b)
 
+  -- An entry after e is among the entries after its id.
   pub in_behind : (b : LocalEntry Op) → Before e b l → In b (entries_behind id l)
   in_behind b j = subst (λ (n : ℕ). In b (drop n l)) (sym (add-one place)) (behind_here (λ (z : LocalEntry Op). z.id) l d place e b at_place j)
 
@@ -130,6 +138,7 @@ module _ {Shape State Op Undo : Type 0} (o : Object Shape State Op Undo) (laws :
   abbrev pub FirstOther : {E : Type 0} → (E → Item Op) → State → List E → Detail Op → Type 0
   FirstOther item_of s l detail = (id : ℕ) × (answer : Answer) × DiffersFrom o item_of s l id answer × (detail ≡ Gives id answer)
 
+  -- In a list that is not allowed there is a first entry that differs, and it is the evidence.
   pub differing : {E : Type 0} (item_of : E → Item Op) (s : State) (l : List E) → o.shape s ≡ shape → ((e : E) → In e l → IsTrue (o.fits shape (item_of e).op)) → (AllowedFrom o s (entry_ops item_of l) → ⊥) → FirstOther item_of s l (first_differing o item_of s l)
   differing item_of s [] e f n = absurd (n tt)
   differing {E} item_of s (y ∷ l) e f n = go (is_same (o.gives s (item_of y).op) (o.recorded (item_of y).op)) refl
@@ -196,6 +205,7 @@ module _ {Shape State Op Undo : Type 0} (o : Object Shape State Op Undo) (laws :
     swap_fits [] f = tt
     swap_fits (e ∷ l) f = lists_fit e (f e (inl refl)).0 (f e (inl refl)).1 (first_swap id_of (λ z. o.refuting (a z) (b z)) l) (swap_fits l (λ z i. f z (inr i)))
 
+  -- The first entry that differs, as evidence, speaks of operations of the objects.
   pub differing_fits : {E : Type 0} (item_of : E → Item Op) (s : State) (l : List E) → Fits o shape (first_differing o item_of s l)
   differing_fits item_of s [] = tt
   differing_fits {E} item_of s (y ∷ l) = go (is_same (o.gives s (item_of y).op) (o.recorded (item_of y).op)) (differing_fits item_of (o.next s (item_of y).op) l)
@@ -340,6 +350,7 @@ module _ {Shape State Op Undo : Type 0} (o : Object Shape State Op Undo) (laws :
     all_tied (Quit t) a = tied_there (tx t c.opened) _ _ _ (λ x h. ((λ n. first_told x.local n), tt))
     all_tied (Note t) a = tied_there (tx t c.opened) _ _ _ (λ x h. tt)
 
+  -- The evidence of a step shows its first false criterion, with operations of the objects.
   pub evidence_law : EvidenceLaw o shape
   evidence_law = record {
     shows = λ c step n s a h. tied_at (criteria (rules_of o shape) c step) (evidences o shape c step) (facts o shape c step) n (all_tied c s step a) h;

@@ -27,10 +27,12 @@ own_pushed Pushed h k = refl
 own_pushed Pulled h k = absurd (cc)
 
 module _ {Op : Type 0} where
+  -- If no entry is unpushed, all own entries are pushed.
   pub all_pushed : (l ds : List (LocalEntry Op)) → ds ≡ l → position (λ e. is_mark e.mark Unpushed) ds ≡ None → (p : LocalEntry Op) → In p l → is_own p.mark ≡ true → p.mark ≡ Pushed
   all_pushed l ds e h p i m =
       own_pushed p.mark (find_nowhere (λ z. is_mark z.mark Unpushed) ds (place_none (λ z. is_mark z.mark Unpushed) ds h) p (subst (λ (z : List (LocalEntry Op)). In p z) (sym e) i)) m
 
+  -- The first unpushed entry is own and not pushed, and is the evidence of CMT 3.
   pub not_all_pushed : (l ds : List (LocalEntry Op)) → ds ≡ l → (k : ℕ) (p : LocalEntry Op) → position (λ e. is_mark e.mark Unpushed) ds ≡ Some k → slice_get ds k ≡ Some p →
       In p l × (is_own p.mark ≡ true) × (p.mark ≡ Pushed → ⊥) × (Entry p.id ≡ first_entry (filter (λ e. is_mark e.mark Unpushed) l))
   not_all_pushed l ds e k p h at =
@@ -45,6 +47,7 @@ module _ {Op : Type 0} where
   head_shown l (y ∷ ds) x e h =
       (λ k. let z : (y ∷ ds) ≡ [] = e ∙ k in cc, ap (λ (z : LocalEntry Op). Entry z.id) (same_Some x y h) ∙ ap first_entry e)
 
+  -- If there is no first entry, the local log is empty.
   pub none_there : (l ds : List (LocalEntry Op)) → ds ≡ l → None ≡ slice_get ds 0 → l ≡ []
   none_there l [] e h = sym e
   none_there l (y ∷ ds) e h = absurd (cc)
@@ -69,9 +72,11 @@ module _ {Op : Type 0} where
       let pulled : is_mark p.mark Pulled ≡ true = ap (λ (z : Mark). is_mark z Pulled) m in
       standing_found G p.id (find (λ g. g.id == p.id) G) refl (not-false (stands_committed p.id G) (second_fails (is_mark p.mark Pulled) (not (stands_committed p.id G)) n pulled))
 
+  -- If no pulled entry has fallen, all pulled entries are committed in the shared log.
   pub all_stand : (l ds : List (LocalEntry Op)) (G : List (SharedEntry Op)) → ds ≡ l → position (fallen G) ds ≡ None → (p : LocalEntry Op) → In p l → p.mark ≡ Pulled → StandsCommitted p.id G
   all_stand l ds G e h p i m = stands G p (find_nowhere (fallen G) ds (place_none (fallen G) ds h) p (subst (λ (z : List (LocalEntry Op)). In p z) (sym e) i)) m
 
+  -- The first pulled entry that is not committed is the evidence of CMT 4.
   pub not_all_stand : (l ds : List (LocalEntry Op)) (G : List (SharedEntry Op)) → ds ≡ l → HaveOwnIds G → (k : ℕ) (p : LocalEntry Op) → position (fallen G) ds ≡ Some k → slice_get ds k ≡ Some p →
       In p l × (p.mark ≡ Pulled) × (StandsCommitted p.id G → ⊥) × (Entry p.id ≡ first_entry (filter (fallen G) l))
   not_all_stand l ds G e d k p h at =

@@ -89,6 +89,7 @@ module _ {Shape State Op Undo : Type 0} (o : Object Shape State Op Undo) (shape 
     pub leaves : MayLeave log.1 i
     pub end : i + 1 ≡ length log.1
 
+  -- The last unpushed entry of a local log is the last one of the machine's log, and may leave.
   pub last_of : (t : Name) (i : ℕ) → IsLastAt w.config t i → HasLast t i
   last_of t i k =
       let q = subst (λ (z : Seen Shape Op). IsLastAt z.config t i) (sym same) k in
@@ -103,9 +104,11 @@ module _ {Shape State Op Undo : Type 0} (o : Object Shape State Op Undo) (shape 
         end = end;
       }
 
+  -- The last entry of the local log of an UNAPP may leave it.
   pub unapp_leaves : (t : Name) (i : ℕ) → HasLast t i → (y : Open Shape Op) × (open_at t v.opened ≡ Some y) × MayLeave y.local.1 i
   unapp_leaves t i k = (open_of t (k.has).thread (k.has).body k.log, (k.has).at, k.leaves)
 
+  -- To remove the last entry of the local log is the effect of an UNAPP.
   pub unapplied : (t : Name) (i : ℕ) (k : HasLast t i) (u : Txs Shape Op) (removed : Removed) → RemovesAt o v t i u removed → u ≡ with_log t but_last v
   unapplied t i k u removed r =
       let q = r (open_of t (k.has).thread (k.has).body k.log) (k.has).at in
@@ -114,6 +117,7 @@ module _ {Shape State Op Undo : Type 0} (o : Object Shape State Op Undo) (shape 
   one_behind : (place : Op → ℕ) (t : Name) (i : ℕ) (k : HasLast t i) → from_place place (local_ops (k.log).1) i ≡ 1
   one_behind place t i k = from_place_last place (local_ops (k.log).1) i (k.end ∙ sym (length-map (k.log).1 _))
 
+  -- An UNAPP costs exactly one tick.
   pub unapp_cost : (place : Op → ℕ) (t : Name) (i : ℕ) (k : HasLast t i) (u : Txs Shape Op) (removed : Removed) (a b : ℕ) → RemovesAt o v t i u removed → CostsAt {E = ℕ} place v t i (Ok removed) a b → b ≡ a + 1
   unapp_cost place t i k u removed a b r c =
       let q = r (open_of t (k.has).thread (k.has).body k.log) (k.has).at in
@@ -121,9 +125,11 @@ module _ {Shape State Op Undo : Type 0} (o : Object Shape State Op Undo) (shape 
       let steps = subst (λ (z : ℕ). removal_ticks removed z a b) (one_behind place t i k) (c (open_of t (k.has).thread (k.has).body k.log) (k.has).at) in
       cost_alone removed a b done steps
 
+  -- An UNAPP costs at most one tick.
   pub unapp_most : (place : Op → ℕ) (t : Name) (i : ℕ) (k : HasLast t i) (u : Txs Shape Op) (removed : Removed) (a b : ℕ) → RemovesAt o v t i u removed → CostsAt {E = ℕ} place v t i (Ok removed) a b → b ≤ a + 1
   unapp_most place t i k u removed a b r c = let e = unapp_cost place t i k u removed a b r c in omega (arith, e)
 
+  -- An UNAPP that runs out of memory costs at most one tick.
   pub unapp_bound : (place : Op → ℕ) (t : Name) (i : ℕ) (k : HasLast t i) (a b : ℕ) → CostsAt {E = ℕ} place v t i (Err 0) a b → b ≤ a + 1
   unapp_bound place t i k a b c =
       let s : b + 3 ≤ a + 4 * 1 = subst (λ (z : ℕ). b + 3 ≤ a + 4 * z) (one_behind place t i k) (c (open_of t (k.has).thread (k.has).body k.log) (k.has).at).1 in
@@ -150,6 +156,7 @@ module _ {Shape State Op Undo : Type 0} (o : Object Shape State Op Undo) (shape 
         subst (λ (s : Shape). IsAllowed o s (local_ops (remove (k.log).1 i))) (sym ((k.has).fine).same_shape)
         (subst (λ (z : List (LocalEntry Op)). IsAllowed o shape (local_ops z)) (sym without) a)
 
+    -- If the entry is removed from the local log, the UNPULL meets its criteria and is done.
     pub unpull_done : (u : Txs Shape Op) (removed : Removed) → removed ≡ Done → RemovesAt o v t i u removed → (u ≡ with_log t (without_local id) v) × Meets (rules_of o w.shape) w.config (Unpull t id)
     unpull_done u Done e r =
         let q = r (open_of t (k.has).thread (k.has).body k.log) (k.has).at in (
@@ -158,6 +165,7 @@ module _ {Shape State Op Undo : Type 0} (o : Object Shape State Op Undo) (shape 
         )
     unpull_done u (Differs a b) e r = absurd (cc)
 
+    -- If the local log differs without the entry, the UNPULL violates criterion 3.
     pub unpull_differs : (u : Txs Shape Op) (removed : Removed) (a : ℕ) (b : Answer) → removed ≡ Differs a b → RemovesAt o v t i u removed → (u ≡ v) × Breaks (rules_of o w.shape) w.config (Unpull t id) 3
         × (Gives a b ≡ evidence o w.shape w.config (Unpull t id) 3)
     unpull_differs u Done a b e r = absurd (cc)
@@ -171,20 +179,24 @@ module _ {Shape State Op Undo : Type 0} (o : Object Shape State Op Undo) (shape 
               ∙ ap (λ (s : Shape). first_differing o item (o.start s) (remove (k.log).1 i)) ((k.has).fine).same_shape ∙ ap (first_differing o item (o.start shape)) without),
         )
 
+    -- An UNPULL that is done costs at most two ticks for each operation of the place, less one.
     pub unpull_cost_done : (place : Op → ℕ) (removed : Removed) (a b : ℕ) → removed ≡ Done → CostsAt {E = ℕ} place v t i (Ok removed) a b → (a ≤ b) × (b ≤ a + (2 * from_id place id (log_items (tx t w.config.opened)) - 1))
     unpull_cost_done place removed a b e c =
         cost_done removed (from_id place id (log_items (tx t w.config.opened))) a b e (from_id_some place id (log_items (tx t w.config.opened)))
         (subst (λ (z : ℕ). removal_ticks removed z a b) (unpull_behind place) (c (open_of t (k.has).thread (k.has).body k.log) (k.has).at))
 
+    -- An UNPULL that is done costs at most four ticks for each operation of the place, less three.
     pub unpull_cost_more : (place : Op → ℕ) (removed : Removed) (a b : ℕ) → removed ≡ Done → CostsAt {E = ℕ} place v t i (Ok removed) a b → b ≤ a + (4 * from_id place id (log_items (tx t w.config.opened)) - 3)
     unpull_cost_more place removed a b e c =
         cost_more (from_id place id (log_items (tx t w.config.opened))) a b (from_id_some place id (log_items (tx t w.config.opened))) (unpull_cost_done place removed a b e c)
 
+    -- An UNPULL that differs costs at most four ticks for each operation of the place, less three.
     pub unpull_cost_differs : (place : Op → ℕ) (removed : Removed) (x : ℕ) (y : Answer) (a b : ℕ) → removed ≡ Differs x y → CostsAt {E = ℕ} place v t i (Ok removed) a b → (a ≤ b) × (b ≤ a + (4 * from_id place id (log_items (tx t w.config.opened)) - 3))
     unpull_cost_differs place removed x y a b e c =
         cost_differs removed x y (from_id place id (log_items (tx t w.config.opened))) a b e (from_id_some place id (log_items (tx t w.config.opened)))
         (subst (λ (z : ℕ). removal_ticks removed z a b) (unpull_behind place) (c (open_of t (k.has).thread (k.has).body k.log) (k.has).at))
 
+    -- An UNPULL out of memory costs at most four ticks for each operation of the place, less three.
     pub unpull_cost_err : (place : Op → ℕ) (a b : ℕ) → CostsAt {E = ℕ} place v t i (Err 0) a b → b ≤ a + (4 * from_id place id (log_items (tx t w.config.opened)) - 3)
     unpull_cost_err place a b c =
         cost_err (from_id place id (log_items (tx t w.config.opened))) a b (from_id_some place id (log_items (tx t w.config.opened)))
@@ -197,6 +209,7 @@ module _ {Shape State Op Undo : Type 0} (o : Object Shape State Op Undo) (shape 
     pub swap : (b : LocalEntry Op) → Before entry b (has.log).1 → b.mark ≡ Pushed → SwapsIn o shape b.op entry.op
     pub posted : position (λ g. g.id == id) G.1 ≡ Some j
 
+  -- The entry that an UNPUSH finds is in the machine's local log and in its shared log.
   pub pushed_of : (t : Name) (id i j : ℕ) → FindsPushed o w t id i j → HasPushed t id i j
   pushed_of t id i j k =
       let q = subst (λ (z : Seen Shape Op). FindsPushed o z t id i j) (sym same) k in
@@ -215,15 +228,18 @@ module _ {Shape State Op Undo : Type 0} (o : Object Shape State Op Undo) (shape 
       }
 
   module _ (t : Name) (id i j : ℕ) (k : HasPushed t id i j) where
+    -- The position of the entry that an UNPUSH removes is within the shared log.
     pub posted_within : j < length G.1
     posted_within = let q = placed (λ (z : SharedEntry Op). z.id == id) G.1 j k.posted in slice_within G.1 j q.0 q.1
 
+    -- The mark Unpushed at the id of the entry is the mark at the id of the UNPUSH.
     pub unmarked : (u : Txs Shape Op) → u ≡ with_log t (set_mark (k.entry).id Unpushed) v → u ≡ with_log t (set_mark id Unpushed) v
     unmarked u e = e ∙ ap (λ (z : ℕ). with_log t (set_mark z Unpushed) v) (found_mark id Pushed ((k.has).log).1 k.entry (k.has).found).1
 
     unposted : remove G.1 j ≡ without_shared id G.1
     unposted = posted_at o shape v ids G F n w same h id j k.posted
 
+    -- If the entry is removed from the shared log, the UNPUSH meets its criteria and is done.
     pub unpush_done : (H : Shape × List (SharedEntry Op)) (removed : Removed) → removed ≡ Done → RemovesEntry o shared_item G j H removed → (H ≡ (G.0, without_shared id G.1)) × Meets (rules_of o w.shape) w.config (Unpush t id)
     unpush_done H Done e r = (
       r.0 ∙ ap (λ (z : List (SharedEntry Op)). (G.0, z)) unposted,
@@ -232,6 +248,7 @@ module _ {Shape State Op Undo : Type 0} (o : Object Shape State Op Undo) (shape 
     )
     unpush_done H (Differs a b) e r = absurd (cc)
 
+    -- If the shared log differs without the entry, the UNPUSH violates criterion 4.
     pub unpush_differs : (H : Shape × List (SharedEntry Op)) (removed : Removed) (a : ℕ) (b : Answer) → removed ≡ Differs a b → RemovesEntry o shared_item G j H removed → (H ≡ G) × Breaks (rules_of o w.shape) w.config (Unpush t id) 4
         × (Gives a b ≡ evidence o w.shape w.config (Unpush t id) 4)
     unpush_differs H Done a b e r = absurd (cc)
@@ -251,17 +268,21 @@ module _ {Shape State Op Undo : Type 0} (o : Object Shape State Op Undo) (shape 
         from_place_is shared_item place id G.1 h.sound.shared_ids j q.0 q.1 (eqb-true (q.0).id id q.2)
         ∙ ap (λ (z : Seen Shape Op). from_id place id (map shared_item z.config.shared)) same
 
+    -- An UNPUSH that is done costs at most two ticks for each operation of the place, less one.
     pub unpush_cost_done : (place : Op → ℕ) (removed : Removed) (a b : ℕ) → removed ≡ Done → removal_ticks removed (from_place place (shared_ops G.1) j) a b → (a ≤ b) × (b ≤ a + (2 * from_id place id (map shared_item w.config.shared) - 1))
     unpush_cost_done place removed a b e c =
         cost_done removed (from_id place id (map shared_item w.config.shared)) a b e (from_id_some place id (map shared_item w.config.shared)) (subst (λ (z : ℕ). removal_ticks removed z a b) (unpush_behind place) c)
 
+    -- An UNPUSH that is done costs at most four ticks for each operation of the place, less three.
     pub unpush_cost_more : (place : Op → ℕ) (removed : Removed) (a b : ℕ) → removed ≡ Done → removal_ticks removed (from_place place (shared_ops G.1) j) a b → b ≤ a + (4 * from_id place id (map shared_item w.config.shared) - 3)
     unpush_cost_more place removed a b e c = cost_more (from_id place id (map shared_item w.config.shared)) a b (from_id_some place id (map shared_item w.config.shared)) (unpush_cost_done place removed a b e c)
 
+    -- An UNPUSH that differs costs at most four ticks for each operation of the place, less three.
     pub unpush_cost_differs : (place : Op → ℕ) (removed : Removed) (x : ℕ) (y : Answer) (a b : ℕ) → removed ≡ Differs x y → removal_ticks removed (from_place place (shared_ops G.1) j) a b → (a ≤ b) × (b ≤ a + (4 * from_id place id (map shared_item w.config.shared) - 3))
     unpush_cost_differs place removed x y a b e c =
         cost_differs removed x y (from_id place id (map shared_item w.config.shared)) a b e (from_id_some place id (map shared_item w.config.shared)) (subst (λ (z : ℕ). removal_ticks removed z a b) (unpush_behind place) c)
 
+    -- An UNPUSH out of memory costs at most four ticks for each operation of the place, less three.
     pub unpush_cost_err : (place : Op → ℕ) (a b : ℕ) → (a ≤ b) × (b + 3 ≤ a + 4 * from_place place (shared_ops G.1) j) → b ≤ a + (4 * from_id place id (map shared_item w.config.shared) - 3)
     unpush_cost_err place a b c =
         cost_err (from_id place id (map shared_item w.config.shared)) a b (from_id_some place id (map shared_item w.config.shared)) (subst (λ (z : ℕ). (a ≤ b) × (b + 3 ≤ a + 4 * z)) (unpush_behind place) c)

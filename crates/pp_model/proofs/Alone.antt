@@ -41,11 +41,13 @@ find_step {A} test x z r h u t true e = ap (λ (w : A). Some w) (u e)
 find_step {A} test x z r (inl h) u t false e = absurd (let k : true ≡ false = sym t ∙ ap test h ∙ e in cc)
 find_step test x z r (inr h) u t false e = h
 
+-- If x is the only element of a list that passes a test, `find` returns x.
 pub find_only : {A : Type 0} (test : A → Bool) (x : A) (xs : List A) → In x xs → test x ≡ true → ((y : A) → In y xs → test y ≡ true → y ≡ x) → find test xs ≡ Some x
 find_only test x [] i t u = absurd i
 find_only test x (z ∷ zs) (inl e) t u = find_step test x z (find test zs) (inl e) (λ k. u z (inl refl) k) t (test z) refl
 find_only test x (z ∷ zs) (inr i) t u = find_step test x z (find test zs) (inr (find_only test x zs i t (λ y j k. u y (inr j) k))) (λ k. u z (inl refl) k) t (test z) refl
 
+-- If an option is `Some x`, and no fact about x is false, then `there` has no false fact.
 pub there_is : {A : Type 0} (o : Option A) (F : A → List (Type 0)) (x : A) → o ≡ Some x → FirstFalse (F x) 0 → FirstFalse (there o F) 0
 there_is {A} o F x e h = subst (λ (w : Option A). FirstFalse (there w F) 0) (sym e) (tt, h)
 
@@ -508,10 +510,12 @@ alone_from {Op} O (Some z) thread l c s e al w f =
       words = λ a i. w a (inr i);
     }))
 
+-- If a run is accepted, so is the run of its committed transactions alone, in commit order.
 pub alone_law : {Op State : Type 0} (O : Object Op State) (h : Option (Start Op)) (ss : List (Step Op)) → StartMeets O h → RunsFrom O (first h) ss → RunsFrom O (first h) (alone h ss)
 alone_law {Op} O h ss f r =
     alone_from O h (λ t. first_thread (threads_of t ss)) (map (attempt_of ss) (commits ss)) (after h ss) (run_keeps O ss (first h) (start_sound O h f) r) (finished_are O h ss f r) (serial_allowed O h ss f r) (all_words O h ss f r) f
 
+-- The run of the committed transactions alone has the attempts of the accepted run.
 pub alone_attempts : {Op State : Type 0} (O : Object Op State) (h : Option (Start Op)) (ss : List (Step Op)) → StartMeets O h → RunsFrom O (first h) ss → attempts h (alone h ss) ≡ attempts h ss
 alone_attempts {Op} O h ss f r =
     let l = map (attempt_of ss) (commits ss) in

@@ -61,6 +61,7 @@ owned_one {Op} O c s t u p q i j e = go i j (s.one_owner t u p q i j e)
         let same : a.0 ≡ b.0 = by_key (λ (w : CommittedTx Op). w.name) c.done s.done_names a.0 b.0 a.1 b.1 (a.2 ∙ n ∙ sym b.2) in
         by_key (λ (w : Item Op). w.id) (a.0).entries (s.done_ids a.0 a.1) p q a.3 (subst (λ (w : CommittedTx Op). In q w.entries) (sym same) b.3) e
 
+-- A sound configuration meets the conditions of `AsWritten`.
 pub as_written : {Op State : Type 0} (O : Object Op State) (c : Config Op) → Sound O c → AsWritten O c
 as_written {Op} O c s =
     record {

@@ -18,9 +18,11 @@ use Rattle.pp_model.proofs.Steps.{there_holds, only_one}
 use Rattle.pp_model.specs.Names.{Name, ◌=ⁿ◌}
 use Rattle.pp_model.proofs.Names.{names_not}
 
+-- If all elements of a list and x have a property, so have all of the list with x at its end.
 pub each_added : {A : Type 0} (xs : List A) (x : A) (P : A → Type 0) → ((y : A) → In y xs → P y) → P x → (y : A) → In y (xs ++ x ∷ []) → P y
 each_added {A} xs x P h p y i = elim (in_cases y xs (x ∷ []) i) [ inl j ↦ h y j | inr (inl e) ↦ subst P (sym e) p | inr (inr j) ↦ absurd j ]
 
+-- A pair in order in a list with x added at the end was in order before, or its second is x.
 pub before_added : {A : Type 0} (xs : List A) (x y z : A) → Before y z (xs ++ x ∷ []) → Before y z xs ⊎ (In y xs × (z ≡ x))
 before_added xs x y z i = elim (before_cases y z xs (x ∷ []) i) [
   | inl j ↦ inl j
@@ -29,6 +31,7 @@ before_added xs x y z i = elim (before_cases y z xs (x ∷ []) i) [
   | inr (inr j) ↦ elim j.1 [ inl e ↦ inr (j.0, e) | inr k ↦ absurd k ]
 ]
 
+-- A BEGIN that meets its criteria keeps a configuration sound.
 pub begin_keeps : {Op State : Type 0} (O : Object Op State) (c : Config Op) → Sound O c → (t p : Name) (b : Option Tree) → Meets O c (Begin t p b) → Sound O (then c (Begin t p b))
 begin_keeps {Op} O c s t p b h =
     record {
@@ -69,6 +72,7 @@ begin_keeps {Op} O c s t p b h =
     old u q (inr i) = inr i
     old u q (inl i) = each_added c.opened new (λ (w : Tx Op). w.name ≡ u → In q (own_items w.local) → Owns c u q) (λ y k m n. inl (y, k, m, n)) (λ m n. absurd n) i.0 i.1 i.2 i.3
 
+-- A QUIT that meets its criteria keeps a configuration sound.
 pub quit_keeps : {Op State : Type 0} (O : Object Op State) (c : Config Op) → Sound O c → (t : Name) → Meets O c (Quit t) → Sound O (then c (Quit t))
 quit_keeps {Op} O c s t h =
     record {
@@ -147,6 +151,7 @@ ops_posted : {Op : Type 0} (t : Name) (l : List (Item Op)) → shared_ops (map (
 ops_posted t [] = refl
 ops_posted {Op} t (p ∷ l) = ap (λ (w : List Op). p.op ∷ w) (ops_posted t l)
 
+-- The configuration after a given start is sound, if the start is allowed and its ids are distinct.
 pub given_sound : {Op State : Type 0} (O : Object Op State) (z : Start Op) → HasDistinctIds z.items → Allowed O (ops z.items) → Sound O (first (Some z))
 given_sound {Op} O z distinct allowed =
     record {
@@ -207,6 +212,7 @@ given_sound {Op} O z distinct allowed =
         let ea : m.1 ≡ a = by_key (λ (w : Item Op). w.id) z.items distinct m.1 a (before_in_second m.0 m.1 z.items m.2) (before_in_first a b z.items i) (ap (λ (w : SharedEntry Op). w.id) (sym m.4) ∙ n.4) in
         not_both (λ (w : Item Op). w.id) z.items distinct a b i (subst (λ (w : Item Op). Before w a z.items) eb (subst (λ (w : Item Op). Before m.0 w z.items) ea m.2))
 
+-- The configuration before the first step is sound, if the start meets its criteria.
 pub start_sound : {Op State : Type 0} (O : Object Op State) (h : Option (Start Op)) → StartMeets O h → Sound O (first h)
 start_sound O None h = empty_sound O
 start_sound O (Some z) h = given_sound O z h.0 h.1.0

@@ -50,6 +50,7 @@ commit_keeps_rest {Op} t g = elim (names_tell g.owner t) [
   | inr r ↦ (ap (λ (b : Bool). (cond b (as_committed g) g).id) r.0, ap (λ (b : Bool). (cond b (as_committed g) g).owner) r.0, ap (λ (b : Bool). (cond b (as_committed g) g).op) r.0)
 ]
 
+-- To mark a transaction's entries as committed leaves the operations of the shared log the same.
 pub ops_committed : {Op : Type 0} (t : Name) (G : List (SharedEntry Op)) → shared_ops (commit_all t G) ≡ shared_ops G
 ops_committed t [] = refl
 ops_committed {Op} t (g ∷ G) = ap (λ (o : Op). o ∷ shared_ops (commit_all t G)) (commit_keeps_rest t g).2 ∙ ap (λ (w : List Op). g.op ∷ w) (ops_committed t G)
@@ -70,6 +71,7 @@ order_committed : {Op State : Type 0} (O : Object Op State) (t : Name) (G : List
 order_committed O t G xs h a b i j k =
     h a b i (stood t b.id G j) (elim k [ inl n ↦ inl (λ m. n (stands_still t a.id G m)) | inr m ↦ inr (stood_before t b.id a.id G m) ])
 
+-- The effect of a CMT keeps a configuration sound if all own entries of the transaction are pushed.
 pub committed_keeps : {Op State : Type 0} (O : Object Op State) (c : Config Op) → Sound O c → (t : Name) (x : Tx Op) → In x c.opened → x.name ≡ t →
     ((e : LocalEntry Op) → In e x.local → is_own e.mark ≡ true → e.mark ≡ Pushed) → Sound O (commit_effect c t (Some x))
 committed_keeps {Op} O c s t x ix nx pushed =
@@ -202,6 +204,7 @@ committed_keeps {Op} O c s t x ix nx pushed =
           absurd (s.apart x r.0 ix r.1 (nx ∙ ap (λ (w : CommittedTx Op). w.name) (sym j.1) ∙ k.4 ∙ ap (λ (w : SharedEntry Op). w.owner) r.4))
     ]
 
+-- A CMT that meets its criteria keeps a configuration sound.
 pub commit_keeps : {Op State : Type 0} (O : Object Op State) (c : Config Op) → Sound O c → (t : Name) → Meets O c (Cmt t) → Sound O (then c (Cmt t))
 commit_keeps {Op} O c s t h =
     let r = there_holds (tx t c.opened) _ h in

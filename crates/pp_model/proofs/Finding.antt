@@ -18,6 +18,7 @@ stands_in [] i a h = cc
 stands_in (b ∷ x) zero a h = inl cc
 stands_in (b ∷ x) (suc i) a h = inr (stands_in x i a h)
 
+-- A list has an element at each position below its length.
 pub not_past : {A : Type 0} (x : List A) (k : ℕ) → k < length x → slice_get x k ≡ None → ⊥
 not_past [] k h at = absurd (omega arith)
 not_past (a ∷ x) zero h at = cc
@@ -35,19 +36,24 @@ place_past n m false e k = ltb-false n m e
 place_or_len : {X : Type 0} (p : X → Bool) (xs : List X) (i : ℕ) → position p xs ≡ Some i → position_or_len p xs ≡ i
 place_or_len p xs i h = place_is (position_or_len p xs) (length xs) i (nat_lt (position_or_len p xs) (length xs)) h
 
+-- If `position` returns the position i, `find` returns the element at i.
 pub place_find : {X : Type 0} (p : X → Bool) (xs : List X) (i : ℕ) → position p xs ≡ Some i → find p xs ≡ slice_get xs i
 place_find p xs i h = find_at p xs ∙ ap (slice_get xs) (place_or_len p xs i h)
 
+-- If `position` returns none, `find` returns none.
 pub place_none : {X : Type 0} (p : X → Bool) (xs : List X) → position p xs ≡ None → find p xs ≡ None
 place_none p xs h = find_at p xs ∙ slice_get_past xs (position_or_len p xs) (place_past (position_or_len p xs) (length xs) (nat_lt (position_or_len p xs) (length xs)) refl h)
 
+-- The position that `position` returns is not past the end of the list.
 pub place_there : {X : Type 0} (p : X → Bool) (xs : List X) (i : ℕ) → position p xs ≡ Some i → slice_get xs i ≡ None → ⊥
 place_there p [] i h e = absurd (cc)
 place_there p (y ∷ ys) i h e = not_past (y ∷ ys) i (position-Some p (y ∷ ys) i y h).0 e
 
+-- If `position` returns i, and x is the element at i, `find` returns x.
 pub place_found : {X : Type 0} (p : X → Bool) (xs : List X) (i : ℕ) (x : X) → position p xs ≡ Some i → slice_get xs i ≡ Some x → find p xs ≡ Some x
 place_found p xs i x h e = place_find p xs i h ∙ e
 
+-- If `find` returns none, no element of the list passes the test.
 pub find_nowhere : {X : Type 0} (p : X → Bool) (xs : List X) → find p xs ≡ None → (x : X) → In x xs → p x ≡ false
 find_nowhere p [] h x i = elim i [ ]
 find_nowhere {X} p (y ∷ ys) h x i = go (p y) refl h i (λ k j. find_nowhere p ys k x j)
@@ -70,6 +76,7 @@ or_false : (a b : Bool) → (a || b) ≡ false → (a ≡ false) × (b ≡ false
 or_false true b e = absurd (cc)
 or_false false b e = (refl, e)
 
+-- If `list_any` is false, no element of the list passes the test.
 pub none_in : {X : Type 0} (p : X → Bool) (xs : List X) → list_any p xs ≡ false → (x : X) → In x xs → p x ≡ false
 none_in p [] h x i = elim i [ ]
 none_in p (y ∷ ys) h x (inl e) = ap p e ∙ (or_false (p y) (list_any p ys) h).0
@@ -79,6 +86,7 @@ none_in p (y ∷ ys) h x (inr j) = none_in p ys (or_false (p y) (list_any p ys) 
 pub reverse_more : {X : Type 0} (xs : List X) (x : X) → reverse (xs ++ x ∷ []) ≡ x ∷ reverse xs
 reverse_more xs x = reverse-append xs (x ∷ [])
 
+-- An element of a reversed list is an element of the list.
 pub from_reverse : {X : Type 0} (x : X) (xs : List X) → In x (reverse xs) → In x xs
 from_reverse x [] h = h
 from_reverse {X} x (y ∷ ys) h = elim (in_cases x (reverse ys) (y ∷ []) (subst (λ (w : List X). In x w) (reverse-append (y ∷ []) ys) h)) [
@@ -87,6 +95,7 @@ from_reverse {X} x (y ∷ ys) h = elim (in_cases x (reverse ys) (y ∷ []) (subs
   | inr (inr j) ↦ absurd j
 ]
 
+-- An element of a list is an element of the reversed list.
 pub in_reverse : {X : Type 0} (x : X) (xs : List X) → In x xs → In x (reverse xs)
 in_reverse x [] h = h
 in_reverse {X} x (y ∷ ys) (inl e) = subst (λ (w : List X). In x w) (sym (reverse-append (y ∷ []) ys)) (in_right x (reverse ys) (y ∷ []) (inl e))
@@ -96,9 +105,11 @@ in_reverse {X} x (y ∷ ys) (inr j) = subst (λ (w : List X). In x w) (sym (reve
 pub decided : (b : Bool) (P : Type 0) → IsTrue b ↔ P → b ≡ true → P
 decided b P h e = h.0 e
 
+-- If a test decides a property and is false, the property is false.
 pub decided_not : (b : Bool) (P : Type 0) → IsTrue b ↔ P → b ≡ false → P → ⊥
 decided_not b P h e p = let k : true ≡ false = sym (h.1 p) ∙ e in cc
 
+-- If `position` returns i, there is an element at i, and it passes the test.
 pub placed : {X : Type 0} (p : X → Bool) (xs : List X) (i : ℕ) → position p xs ≡ Some i → (x : X) × (slice_get xs i ≡ Some x) × (p x ≡ true)
 placed {X} p xs i h = go (slice_get xs i) refl
   where

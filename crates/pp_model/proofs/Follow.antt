@@ -133,6 +133,7 @@ at_commit {Op} O h ss c t s r f x ix nx word =
     body : first_body (bodies_of t (ss ++ a ∷ [])) ≡ x.body
     body = ap first_body (bodies_quiet t ss a refl ∙ ap (λ (w : Name). bodies_of w ss) (sym nx) ∙ r.bodies x ix)
 
+-- A step that meets its criteria keeps `Traced`: the steps say what is in the configuration.
 pub follow : {Op State : Type 0} (O : Object Op State) (h : Option (Start Op)) (ss : List (Step Op)) (c : Config Op) (a : Step Op) → Sound O c → Traced O h ss c → Meets O c a → Traced O h (ss ++ a ∷ []) (then c a)
 follow {Op} O h ss c (App t id op) s r f =
     let a : Step Op = App t id op in

@@ -10,6 +10,7 @@ use Rattle.pp_model.specs.Sound.{Sound, serial_items, serial_ops}
 use Rattle.pp_model.proofs.Lists.{in_cases, in_left, in_right, split_at}
 use Rattle.pp_model.proofs.Serial.{items, ordered, reorders, target}
 
+-- A list of items has as many operations as items.
 pub length-ops : {Op : Type 0} (l : List (Item Op)) → length (ops l) ≡ length l
 length-ops {Op} l = length-map l (λ (p : Item Op). p.op)
 
@@ -28,6 +29,7 @@ no_longer {Op} (x ∷ xs) ys distinct within =
           | inr b ↦ elim b [ inl e ↦ absurd (distinct x q (inl (refl, i)) (ap (λ (p : Item Op). p.id) (sym e))) | inr t ↦ in_right q front back t ]
         ]
 
+-- The serial run of a sound configuration is no longer than its shared log.
 pub serial_fits : {Op State : Type 0} (O : Object Op State) (c : Config Op) → Sound O c → length (serial_ops c.done) ≤ length c.shared
 serial_fits {Op} O c sound =
     let r = reorders O c.shared c.done (ordered O c sound) in

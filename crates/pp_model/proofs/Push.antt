@@ -32,6 +32,7 @@ remark m e = record { id = e.id; owner = e.owner; mark = m; op = e.op }
 abbrev pub mark_at : {Op : Type 0} → ℕ → Mark → LocalEntry Op → LocalEntry Op
 mark_at id m e = cond (e.id == id) (remark m e) e
 
+-- `mark_at` changes the mark of an entry with the given id, and leaves another entry the same.
 pub mark_cases : {Op : Type 0} (id : ℕ) (m : Mark) (e : LocalEntry Op) → ((e.id ≡ id) × (mark_at id m e ≡ remark m e)) ⊎ ((e.id ≢ id) × (mark_at id m e ≡ e))
 mark_cases id m e = elim (eqb_tells e.id id) [
   | inl r ↦ inl (r.1, ap (λ (b : Bool). cond b (remark m e) e) r.0)
@@ -44,6 +45,7 @@ mark_keeps_id {Op} id m e = elim (mark_cases id m e) [ inl r ↦ ap (λ (w : Loc
 mark_keeps_op : {Op : Type 0} (id : ℕ) (m : Mark) (e : LocalEntry Op) → (mark_at id m e).op ≡ e.op
 mark_keeps_op {Op} id m e = elim (mark_cases id m e) [ inl r ↦ ap (λ (w : LocalEntry Op). w.op) r.1 | inr r ↦ ap (λ (w : LocalEntry Op). w.op) r.1 ]
 
+-- A changed mark leaves the operations of a local log the same.
 pub ops_marked : {Op : Type 0} (id : ℕ) (m : Mark) (l : List (LocalEntry Op)) → local_ops (set_mark id m l) ≡ local_ops l
 ops_marked id m [] = refl
 ops_marked {Op} id m (e ∷ l) = ap (λ (o : Op). o ∷ local_ops (set_mark id m l)) (mark_keeps_op id m e) ∙ ap (λ (w : List Op). e.op ∷ w) (ops_marked id m l)
@@ -81,6 +83,7 @@ pub record IsRemarked {Op State : Type 0} (O : Object Op State) (c : Config Op) 
   pub same_ops : local_ops (f x.local) ≡ local_ops x.local
   pub pulled : (a p : LocalEntry Op) → Before a p (f x.local) → is_own a.mark ≡ true → p.mark ≡ Pulled → Swaps O a.op p.op
 
+-- A new own mark at the id of an own entry keeps what `IsRemarked` says.
 pub remarked : {Op State : Type 0} (O : Object Op State) (c : Config Op) → Sound O c → (id : ℕ) (m : Mark) → is_own m ≡ true →
     (x : Tx Op) → In x c.opened → ((e : LocalEntry Op) → In e x.local → e.id ≡ id → is_own e.mark ≡ true) → IsRemarked O c (set_mark id m) x
 remarked {Op} O c s id m k x i h =
@@ -117,6 +120,7 @@ remarked {Op} O c s id m k x i h =
 pub one_open : {Op State : Type 0} (O : Object Op State) (c : Config Op) → Sound O c → (x w : Tx Op) → In x c.opened → In w c.opened → w.name ≡ x.name → w ≡ x
 one_open {Op} O c s x w i k n = by_key (λ (z : Tx Op). z.name) c.opened s.open_names w x k i n
 
+-- In a sound configuration, entries of one open transaction with one id are the same entry.
 pub one_entry : {Op State : Type 0} (O : Object Op State) (c : Config Op) → Sound O c → (x w : Tx Op) → In x c.opened → In w c.opened → w.name ≡ x.name →
     (e a : LocalEntry Op) → In e x.local → In a w.local → a.id ≡ e.id → a ≡ e
 one_entry {Op} O c s x w i k n e a j m z =
@@ -136,6 +140,7 @@ standing {Op} O c s x i e j o g k n false u =
     let one : r.2 ≡ e = by_key (λ (w : LocalEntry Op). w.id) x.local (s.local_ids x i) r.2 e here j (ap (λ (w : SharedEntry Op). w.id) (sym r.5) ∙ n) in
     ap (λ (w : LocalEntry Op). w.mark) (sym one) ∙ r.4
 
+-- An own entry of an open transaction whose id is in the shared log has the mark Pushed.
 pub stands_pushed : {Op State : Type 0} (O : Object Op State) (c : Config Op) → Sound O c → (x : Tx Op) → In x c.opened → (e : LocalEntry Op) → In e x.local → is_own e.mark ≡ true → Stands e.id c.shared → e.mark ≡ Pushed
 stands_pushed O c s x i e j o h = standing O c s x i e j o h.0 h.1 h.2 (h.0).committed refl
 
@@ -198,10 +203,12 @@ pub elsewhere : {Op State : Type 0} (O : Object Op State) (c : Config Op) → So
     (y : Tx Op) → In y c.opened → y.name ≢ x.name → (p : Item Op) → In p (own_items y.local) → p.id ≢ e.id
 elsewhere O c s x i e j o y k n p q z = n (s.one_owner y.name x.name p (item e) (inl (y, k, refl, q)) (inl (x, i, refl, in_own x.local e j o)) z)
 
+-- No committed transaction has an entry with the id of an own entry of an open one.
 pub not_done : {Op State : Type 0} (O : Object Op State) (c : Config Op) → Sound O c → (x : Tx Op) → In x c.opened → (e : LocalEntry Op) → In e x.local → is_own e.mark ≡ true →
     (d : CommittedTx Op) → In d c.done → (p : Item Op) → In p d.entries → p.id ≢ e.id
 not_done O c s x i e j o d k p q z = s.apart x d i k (s.one_owner x.name d.name (item e) p (inl (x, i, refl, in_own x.local e j o)) (inr (d, k, refl, q)) (sym z))
 
+-- To publish an unpushed entry keeps a configuration sound if it meets the criteria of PUSH.
 pub pushed_keeps : {Op State : Type 0} (O : Object Op State) (c : Config Op) → Sound O c → (t : Name) (id : ℕ) (x : Tx Op) → In x c.opened → x.name ≡ t →
     (e : LocalEntry Op) → In e x.local → e.id ≡ id → e.mark ≡ Unpushed →
     ((a : LocalEntry Op) → Before a e x.local → a.mark ≡ Unpushed → Swaps O e.op a.op) →
@@ -316,6 +323,7 @@ pushed_keeps {Op} O c s t id x ix nx e ie ne me before others allowed =
         unpushed a i o n Pushed q = absurd (n (as_shared x.name false (item a), s.pushed_stand x ix a i q, refl))
         unpushed a i o n Pulled q = absurd (let z : false ≡ true = ap is_own (sym q) ∙ o in cc)
 
+-- A PUSH that meets its criteria keeps a configuration sound.
 pub push_keeps : {Op State : Type 0} (O : Object Op State) (c : Config Op) → Sound O c → (t : Name) (id : ℕ) → Meets O c (Push t id) → Sound O (then c (Push t id))
 push_keeps {Op} O c s t id h =
     let r = there_holds (tx t c.opened) _ h in

@@ -46,9 +46,11 @@ from_serial {Op} D p i =
     let m = from_map (λ (d : CommittedTx Op). d.entries) r.0 D r.1 in
     (m.0, m.1, subst (λ (w : List (Item Op)). In p w) m.2 r.2)
 
+-- An item of a committed transaction is an item of the serial run.
 pub to_serial : {Op : Type 0} (D : List (CommittedTx Op)) (d : CommittedTx Op) (p : Item Op) → In d D → In p d.entries → In p (serial_items D)
 to_serial {Op} D d p i j = in_joined p d.entries (map (λ (d : CommittedTx Op). d.entries) D) (in_map (λ (d : CommittedTx Op). d.entries) d D i) j
 
+-- A pair in order in the serial run is in one committed transaction, or in two in commit order.
 pub before_from_serial : {Op : Type 0} (D : List (CommittedTx Op)) (p q : Item Op) → Before p q (serial_items D) →
     ((d : CommittedTx Op) × In d D × Before p q d.entries) ⊎ ((d e : CommittedTx Op) × Before d e D × In p d.entries × In q e.entries)
 before_from_serial {Op} D p q i =
@@ -59,12 +61,14 @@ before_from_serial {Op} D p q i =
           inr (m.0, m.1, m.2, subst (λ (w : List (Item Op)). In p w) m.3 r.3, subst (λ (w : List (Item Op)). In q w) m.4 r.4)
     ]
 
+-- Each item of the uncommitted part of a shared log is that of an uncommitted entry.
 pub from_uncommitted : {Op : Type 0} (G : List (SharedEntry Op)) (p : Item Op) → In p (items (uncommitted G)) → (g : SharedEntry Op) × In g G × (g.committed ≡ false) × (p ≡ shared_item g)
 from_uncommitted {Op} G p i =
     let m = from_map shared_item p (uncommitted G) i in
     let f = from_filter (λ (g : SharedEntry Op). not g.committed) m.0 G m.1 in
     (m.0, f.0, not-true (m.0).committed f.1, m.2)
 
+-- An ordered shared log may be reordered to the serial run, then the uncommitted entries.
 pub reorders : {Op State : Type 0} (O : Object Op State) (G : List (SharedEntry Op)) (D : List (CommittedTx Op)) → IsOrdered O G D → Reorders O (items G) (target G D)
 reorders {Op} O G D o =
     record {
@@ -141,6 +145,7 @@ reorders {Op} O G D o =
             let eg = key g m.1 (before_in_first g h G i) (before_in_second m.0 m.1 G b) m.4 in
             not_both (λ (w : SharedEntry Op). w.id) G o.ids g h i (subst (λ (w : SharedEntry Op). Before w g G) (sym eh) (subst (λ (w : SharedEntry Op). Before m.0 w G) (sym eg) b))
 
+-- The shared log and the committed transactions of a sound configuration are ordered.
 pub ordered : {Op State : Type 0} (O : Object Op State) (c : Config Op) → Sound O c → IsOrdered O c.shared c.done
 ordered {Op} O c s =
     record {
@@ -156,6 +161,7 @@ ordered {Op} O c s =
       order = s.done_order;
     }
 
+-- An id with a committed entry in the shared log has an entry in the whole log.
 pub stands_in : {Op : Type 0} (G : List (SharedEntry Op)) (i : ℕ) → Stands i (only_committed G) → Stands i G
 stands_in {Op} G i h = (h.0, (from_filter (λ (w : SharedEntry Op). w.committed) h.0 G h.1).0, h.2)
 
@@ -186,6 +192,7 @@ ops_items : {Op : Type 0} (G : List (SharedEntry Op)) → ops (items G) ≡ shar
 ops_items [] = refl
 ops_items {Op} (g ∷ G) = ap (λ (w : List Op). g.op ∷ w) (ops_items G)
 
+-- An ordered shared log may be replaced by the serial run, then the uncommitted entries.
 pub serial_law : {Op State : Type 0} (O : Object Op State) (G : List (SharedEntry Op)) (D : List (CommittedTx Op)) (k : List Op) → IsOrdered O G D →
     Allowed O (shared_ops G ++ k) → Allowed O (serial_ops D ++ (shared_ops (uncommitted G) ++ k))
 serial_law {Op} O G D k o h =
@@ -195,6 +202,7 @@ serial_law {Op} O G D k o h =
     let h3 : Allowed O ((serial_ops D ++ shared_ops (uncommitted G)) ++ k) = subst (λ (w : List Op). Allowed O (w ++ k)) e1 h2 in
     subst (λ (w : List Op). Allowed O w) (append_assoc (serial_ops D) (shared_ops (uncommitted G)) k) h3
 
+-- The serial run may replace the committed part of a sound shared log, whatever follows.
 pub may_run_serially : {Op State : Type 0} (O : Object Op State) (c : Config Op) → Sound O c → MayRunSerially O c
 may_run_serially O c s k h = serial_law O c.shared c.done k (ordered O c s) h
 
@@ -209,6 +217,7 @@ pub allowed_front : {Op State : Type 0} (O : Object Op State) (s : State) (l k :
 allowed_front O s [] k a = tt
 allowed_front O s (x ∷ l) k a = (a.0, allowed_front O (O.next s x) l k a.1)
 
+-- If two joined lists are allowed, the second is allowed from the state after the first.
 pub allowed_back : {Op State : Type 0} (O : Object Op State) (s : State) (l k : List Op) → AllowedFrom O s (l ++ k) → AllowedFrom O (state_from O s l) k
 allowed_back O s [] k a = a
 allowed_back O s (x ∷ l) k a = allowed_back O (O.next s x) l k a.1
@@ -221,6 +230,7 @@ none_uncommitted : {Op : Type 0} (G : List (SharedEntry Op)) → uncommitted (on
 none_uncommitted [] = refl
 none_uncommitted (g ∷ G) = none_step g (only_committed G) (none_uncommitted G) g.committed refl
 
+-- The committed entries of a sound configuration are allowed alone, in the order of the shared log.
 pub committed_allowed : {Op State : Type 0} (O : Object Op State) (c : Config Op) → Sound O c → Allowed O (shared_ops (only_committed c.shared))
 committed_allowed {Op} O c s =
     let G = c.shared in
@@ -230,6 +240,7 @@ committed_allowed {Op} O c s =
     let h3 : Allowed O (ops (items (only_committed G)) ++ ops (items (uncommitted G))) = subst (λ (w : List Op). Allowed O w) (append-nil (ops y) ∙ map-append (λ (w : Item Op). w.op) (items (only_committed G)) (items (uncommitted G))) h2 in
     subst (λ (w : List Op). Allowed O w) (ops_items (only_committed G)) (allowed_front O O.start (ops (items (only_committed G))) (ops (items (uncommitted G))) h3)
 
+-- The committed entries of the shared log and the serial run lead to one state.
 pub same_state : {Op State : Type 0} (O : Object Op State) → TellsStates O → (c : Config Op) → Sound O c → HasSerialState O c
 same_state {Op} O tells c s = tells (shared_ops (only_committed c.shared)) (serial_ops c.done) (committed_allowed O c s) (λ k h.
     let turned = serial_law O (only_committed c.shared) c.done k (ordered_committed O c.shared c.done (ordered O c s)) h in

@@ -64,9 +64,11 @@ module _ {Op State : Type 0} (O : Object Op State) (h : Option (Start Op)) (ss :
   traced : Traced O h ss (after h ss)
   traced = run_traced O h ss [] (first h) (start_sound O h f) (start_traced O h) r
 
+  -- The committed transactions after an accepted run are those of its attempts.
   pub finished_are : (after h ss).done ≡ map committed_tx (attempts h ss)
   finished_are = traced.done
 
+  -- The calls of each committed attempt of an accepted run are a word of its body.
   pub all_words : (a : Attempt Op) → In a (attempts h ss) → IsWord a.body (calls O a.items)
   all_words = traced.words
 
@@ -76,10 +78,12 @@ module _ {Op State : Type 0} (O : Object Op State) (h : Option (Start Op)) (ss :
   serial_onto : (k : List Op) → Allowed O (shared_ops (after h ss).shared ++ k) → Allowed O (serial (attempts h ss) ++ (shared_ops (uncommitted (after h ss).shared) ++ k))
   serial_onto k a = subst (λ (w : List Op). Allowed O (w ++ (shared_ops (uncommitted (after h ss).shared) ++ k))) serial_is (serial_law O (after h ss).shared (after h ss).done k (ordered O (after h ss) sound) a)
 
+  -- The serial run of an accepted run is allowed.
   pub serial_allowed : Allowed O (serial (attempts h ss))
   serial_allowed = allowed_front O O.start (serial (attempts h ss)) (shared_ops (uncommitted (after h ss).shared) ++ [])
       (serial_onto [] (subst (λ (w : List Op). Allowed O w) (sym (append-nil (shared_ops (after h ss).shared))) sound.shared_allowed))
 
+  -- The serial run of an accepted run simulates it, if what may follow lists fixes their states.
   pub simulated : TellsStates O → Simulated O h ss
   simulated tells = record {
     done = finished_are;

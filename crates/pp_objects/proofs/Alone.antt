@@ -13,10 +13,12 @@ use Rattle.pp_objects.specs.laws.One.{reached_shape, others_swap}
 use Rattle.pp_objects.specs.laws.Reached.{reached_alone, was_applied_alone}
 
 module _ (k : Kind) where
+  -- A state of a kind that is reached among all kinds is reached in the kind by itself.
   pub reached_here : (w : ObjectState) (s : States k) → w ≡ state_of k s → IsReached one w
       → IsReached (object_of k) s
   reached_here w s e h = reached_alone k s (subst (λ (v : ObjectState). IsReached one v) e h)
 
+  -- An act of a kind that was applied among all kinds was applied in the kind by itself.
   pub was_applied_here : (w : ObjectState) (s : States k) (x : Act) (a : Ops k) (u : Undo)
       → w ≡ state_of k s → x ≡ act_of k a → WasApplied one x u w
       → WasApplied (object_of k) a (undo_from k u) s

@@ -52,26 +52,32 @@ pub memory_gap : (f : ActGap) → kinds.Memory ≡ kind_for f → (g : MemGap) �
 memory_gap (Memory g) e = (g, refl)
 memory_gap f e = absurd (cc)
 
+-- A gap of the kind set is a gap of sets.
 pub set_gap : (f : ActGap) → kinds.KeySet ≡ kind_for f → (g : SetGap) × (f ≡ KeySet g)
 set_gap (KeySet g) e = (g, refl)
 set_gap f e = absurd (cc)
 
+-- A gap of the kind map is a gap of maps.
 pub map_gap : (f : ActGap) → kinds.KeyMap ≡ kind_for f → (g : MapGap) × (f ≡ KeyMap g)
 map_gap (KeyMap g) e = (g, refl)
 map_gap f e = absurd (cc)
 
+-- A gap of the kind counter is a gap of counters.
 pub counter_gap : (f : ActGap) → kinds.Counter ≡ kind_for f → (g : CounterGap) × (f ≡ Counter g)
 counter_gap (Counter g) e = (g, refl)
 counter_gap f e = absurd (cc)
 
+-- A gap of the kind queue is a gap of queues.
 pub queue_gap : (f : ActGap) → kinds.Queue ≡ kind_for f → (g : QueueGap) × (f ≡ Queue g)
 queue_gap (Queue g) e = (g, refl)
 queue_gap f e = absurd (cc)
 
+-- A gap of the kind stack is a gap of stacks.
 pub stack_gap : (f : ActGap) → kinds.Stack ≡ kind_for f → (g : StackGap) × (f ≡ Stack g)
 stack_gap (Stack g) e = (g, refl)
 stack_gap f e = absurd (cc)
 
+-- A gap of the kind priority queue is a gap of priority queues.
 pub prio_gap : (f : ActGap) → kinds.PriorityQueue ≡ kind_for f → (g : PrioGap) × (f ≡ PriorityQueue g)
 prio_gap (PriorityQueue g) e = (g, refl)
 prio_gap f e = absurd (cc)
@@ -145,6 +151,7 @@ module _ (k : Kind) {G : Type 0} (gaps : GapsOf k G) where
       → OneDiffer (gaps.wrap g) (one.next v (act_of k a)) v in
       subst P (sym t.1) (leaves_apart g a u h t.0) is legal kept
 
+  -- If an operation of a kind leaves a gap, its act leaves it among all kinds.
   pub leaves_here : (x : Act) (a : Ops k) (u : Undo) (r : Left G) (q : Left ActGap)
       → x ≡ act_of k a → q ≡ left_as gaps.wrap r
       → Leaves (object_of k) gaps.Bears gaps.Differ a (undo_from k u) r
@@ -236,6 +243,7 @@ module _ (k : Kind) {G : Type 0} (gaps : GapsOf k G) where
       subst P (sym t.1) (crosses_apart g q a h t.0) is legal bears
   crosses_by g a crossed.Unknown h = tt
 
+  -- If an operation of a kind crosses a gap, its act crosses it among all kinds.
   pub crosses_here : (f : ActGap) (g : G) (x : Act) (a : Ops k) (r : Crossed G (Undos k))
       (q : Crossed ActGap Undo) → f ≡ gaps.wrap g → x ≡ act_of k a
       → q ≡ crossed_as gaps.wrap (undo_as k) r
@@ -270,6 +278,7 @@ module _ (k : Kind) {G : Type 0} (gaps : GapsOf k G) where
         ),
       )
 
+  -- A gap that may be closed among all kinds may be closed in its kind.
   pub may_close_here : (f : ActGap) (g : G) (w : ObjectState) (s : States k) → f ≡ gaps.wrap g
       → w ≡ state_of k s → MayClose one OneDiffer f w → MayClose (object_of k) gaps.Differ g s
   may_close_here f g w s e i h =
@@ -298,6 +307,7 @@ module _ (k : Kind) {G : Type 0} (gaps : GapsOf k G) where
   closes_as f g w v s new (Ok done) e i j h = closes_there f g w v s new e i j h
   closes_as f g w v s new (Err refused) e i j h = tt
 
+  -- If a kind closes a gap of its own, the gap is closed among all kinds.
   pub closes_here : (f : ActGap) (g : G) (w v : ObjectState) (s new : States k)
       (q r : Result (Unit {0}) OutOfMemory) → f ≡ gaps.wrap g → w ≡ state_of k s
       → v ≡ state_of k new → q ≡ r → OnOk r (ClosesTo (object_of k) gaps.Differ g s new)

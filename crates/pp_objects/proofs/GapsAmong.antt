@@ -170,12 +170,14 @@ pub same_left : (x : Op) (u : Undo) (r : Left ActGap) → r ≡ left.Same
 same_left x u r e h =
     same_there x u (subst (λ (l : Left ActGap). Leaves one OneBears OneDiffer x.act u l) e h)
 
+-- If an act leaves a gap at its object, its operation leaves it at the object of the run.
 pub apart_left : (x : Op) (u : Undo) (g : ActGap) (r : Left ActGap) → r ≡ left.Apart g
     → Leaves one OneBears OneDiffer x.act u r
     → Leaves objects Bears Differ x u (left.Apart (gap_at x.object g))
 apart_left x u g r e h =
     apart_there x u g (subst (λ (l : Left ActGap). Leaves one OneBears OneDiffer x.act u l) e h)
 
+-- If an act closes a gap at its object, its operation closes it at the object of the run.
 pub same_crossed : (f : Gap) (x : Op) (u : Undo) (r : Crossed ActGap Undo) → x.object ≡ f.object
     → r ≡ crossed.Same u → Crosses one OneBears OneDiffer f.act x.act r
     → Crosses objects Bears Differ f x (crossed.Same u)
@@ -184,6 +186,7 @@ same_crossed f x u r e i h =
     (subst (λ (c : Crossed ActGap Undo). Crosses one OneBears OneDiffer f.act x.act c) i h) in
     subst (λ (p : ℕ). Crosses objects Bears Differ (gap_at p f.act) x (crossed.Same u)) e there
 
+-- If an act takes one gap to another, its operation does so at the object of the run.
 pub apart_crossed : (f : Gap) (x : Op) (g : ActGap) (r : Crossed ActGap Undo)
     → x.object ≡ f.object → r ≡ crossed.Apart g → Crosses one OneBears OneDiffer f.act x.act r
     → Crosses objects Bears Differ f x (crossed.Apart (gap_at f.object g))
@@ -225,6 +228,7 @@ closes_by f ss s v e h ts is d =
     in
     ap (λ (w : ObjectState). set ss f.object w) (h d.1 (is f.object d.1 there) differ) ∙ sym d.3
 
+-- If the gap at one object is closed, it is closed for all objects of a run.
 pub closes_there : (f : Gap) (ss : List ObjectState) (s v : ObjectState)
     (r : Result (Unit {0}) OutOfMemory) (new : List ObjectState) → slice_get ss f.object ≡ Some s
     → new ≡ set ss f.object v → OnOk r (ClosesTo one OneDiffer f.act s v)

@@ -172,6 +172,7 @@ in_place in_turn p a b kept swaps ss is h g l =
     kept_at_place in_turn p ss a b s.0 s.1 (kept (swaps_alone one one_lawful p a b swaps) s.0
     (is p s.0 s.1) both.0 other.0 both.1.0)
 
+-- Operations on one object keep what their acts keep.
 pub same_place_kept : (in_turn : Bool) (a b : Op) → a.object ≡ b.object
     → (Swaps one a.act b.act → KeptAs one in_turn a.act b.act)
     → Swaps objects a b → KeptAs objects in_turn a b
@@ -181,6 +182,7 @@ same_place_kept in_turn a b e kept =
     let there : P a.object = in_place in_turn a.object a.act b.act kept in
     subst P e there
 
+-- A value that an operation may keep is one that its act may keep.
 pub keeps_there : (b : Op) (u : Undo) → MayKeep objects b u → MayKeep one b.act u
 keeps_there b u keeps =
     let s = legal_there one one_lawful keeps.0 b keeps.1 in

@@ -322,6 +322,7 @@ made_called kind c answer h = by_answer (is_ranged_answer answer) refl h
     by_answer false near h = absurd (cc)
     by_answer true near h = by_act near (act_made kind c answer) refl h
 
+-- A call and a result make an operation exactly if they are of the kind and in range.
 pub called_exactly : (kind : Kind) (c : Call) (answer : Answer) → IsSome (op_made kind c answer) ↔ IsCallOf kind c answer
 called_exactly kind c answer = (made_called kind c answer, called_made kind c answer)
 

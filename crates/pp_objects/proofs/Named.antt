@@ -22,6 +22,7 @@ module _ {X : Type 0} (word_of : X → List ℕ) (word : List ℕ) where
   first_or_later x xs true e later = (inl refl, sym ((bytes_eq-Decides word (word_of x)).0 e))
   first_or_later x xs false e later = one_more x xs (named word_of xs word) later
 
+  -- An item that `named` finds by a word is in the list and has the word.
   pub found : (xs : List X) → IfSome (named word_of xs word) (IsOneNamed xs)
   found [] = tt
   found (x ∷ xs) = first_or_later x xs (bytes_eq word (word_of x)) refl (found xs)
@@ -40,6 +41,7 @@ module _ {X : Type 0} (word_of : X → List ℕ) (word : List ℕ) where
         | inr is_later ↦ later h (is_later, m.1)
       ]
 
+  -- If `named` finds none by a word, no item of the list has the word.
   pub none : (xs : List X) (x : X) → named word_of xs word ≡ None → ¬ (IsOneNamed xs x)
   none [] x h m = m.0
   none (y ∷ ys) x h m = neither x y ys (bytes_eq word (word_of y)) refl (none ys x) h m
@@ -51,6 +53,7 @@ module _ {X : Type 0} (word_of : X → List ℕ) (word : List ℕ) where
       let here : named word_of (drop i xs) word ≡ Some (get_or xs i x) = rw (drop_more xs i x lt, is) refl in
       sym here ∙ so_far
 
+  -- A search by a word goes on after an item with another word.
   pub goes_on : (xs : List X) (i : ℕ) (x : X) (total : Option X) → i < length xs → bytes_eq word (word_of (get_or xs i x)) ≡ false
       → named word_of (drop i xs) word ≡ total → named word_of (drop (i + 1) xs) word ≡ total
   goes_on xs i x total lt is so_far =

@@ -110,6 +110,7 @@ pub addition_stands : (a b : Op) → a.object ≡ b.object → both_add a.act b.
 addition_stands a b e t = subst (λ (p : ℕ). StandsFor objects a (act_at p b.act)) e
     (stands_at a.object a.act b.act (act_stands a.act b.act t))
 
+-- An operation stands for each operation with its object and its act.
 pub equal_stands : (a b : Op) → a.object ≡ b.object → a.act ≡ b.act → StandsFor objects a b
 equal_stands a b e f =
     let there : StandsFor objects a (act_at a.object b.act) =

@@ -20,6 +20,7 @@ use Rattle.pp_objects.specs.laws.Places.{next_is, next_there, legal_there, other
 use Rattle.pp_objects.specs.laws.Places.{swaps_alone}
 use Rattle.pp_objects.specs.laws.One.{one_lawful}
 
+-- To apply an act to its object applies the operation to the objects of a run.
 pub applies_there : (ss : List ObjectState) (x : Op) (s t : ObjectState)
     (r : Result (Applied Undo) OutOfMemory) → slice_get ss x.object ≡ Some s
     → Applies one s x.act r t → Applies objects ss x r (set ss x.object t)
@@ -47,6 +48,7 @@ same_place_swaps a b t e h g =
     ) in
     subst P e there
 
+-- Operations on different objects swap.
 pub other_place_swaps : (a b : Op) → (a.object ≡ b.object → ⊥) → IsTrue true ↔ Swaps objects a b
 other_place_swaps a b apart = ((λ r. others_swap one one_lawful a b apart), (λ r. refl))
 
@@ -56,12 +58,14 @@ fits_by : (t : Option ObjectState) (a : Act) → IsTrue (fits_in one (option_map
 fits_by None a h = absurd (cc)
 fits_by (Some s) a h = (s, refl)
 
+-- An operation that fits the objects of a run has an object at its place.
 pub fits_there : (ss : List ObjectState) (x : Op) → IsTrue (objects.fits (objects.shape ss) x)
     → (s : ObjectState) × (slice_get ss x.object ≡ Some s)
 fits_there ss x h = fits_by (slice_get ss x.object) x.act
     (subst (λ (t : Option Kind). IsTrue (fits_in one t x.act))
     (slice_get-map one.shape ss x.object) h)
 
+-- An operation that was applied has an object at its place.
 pub was_there : (ss : List ObjectState) (x : Op) (u : Undo) → WasApplied objects x u ss
     → (s : ObjectState) × (slice_get ss x.object ≡ Some s)
 was_there ss x u h =
@@ -85,6 +89,7 @@ pub written : (ss items : List ObjectState) (p n : ℕ) (t : ObjectState) → it
 written ss items p n t i j = ap (λ (l : List ObjectState). set l n t) i
     ∙ ap (λ (q : ℕ). set ss q t) j
 
+-- To take an act back at its object takes the operation back in the objects of a run.
 pub back_there : (ss : List ObjectState) (x : Op) (u : Undo) (s t : ObjectState)
     (r : Result (Unit {0}) OutOfMemory) (new : List ObjectState) → slice_get ss x.object ≡ Some s
     → new ≡ set ss x.object t → OnOk r (t ≡ one.upkeep.back s x.act u)

@@ -35,6 +35,7 @@ use Rattle.pp_records.proofs.Restating.{run_front}
 -- ---- a property of each element of a list
 
 module _ {A : Type 0} (P : A → Type 0) where
+  -- An element of a list of which each has a property has the property.
   pub each_in : (xs : List A) → Each P xs → (x : A) → In x xs → P x
   each_in [] h x i = elim i [ ]
   each_in (y ∷ ys) h x (inl e) = subst P (sym e) h.0
@@ -155,6 +156,7 @@ module _ {Op : Type 0} (OfName : Name → Type 0) (OfId : ℕ → Type 0) (OfOp 
       Each Carry (where_open c t alone steps)
   where_carry c t alone steps logs a h = open_carry (tx t c.opened) alone steps a (λ x e. h x.local (each_in TxIds c.opened logs.1 x (found_tx t c.opened x e).0))
 
+  -- Each step of a record carries what the record carries, or an id of a log.
   pub expand_carry : (place : Op → ℕ) (style : Style) (f : Front) (c : Config Op) (r : RunRecord Op) → LogsCarry OfId c → RecordCarries OfName OfId OfOp OfBody r →
       Each Carry (expand place style f c r)
   expand_carry place style f c (records.Plain step) logs h = (h, tt)
@@ -256,5 +258,6 @@ module _ {Op : Type 0} (OfName : Name → Type 0) (OfId : ℕ → Type 0) (OfOp 
       let all : Each Carry (bare (joined_steps T (outset T h) rs)) = joined_carry place style ks (outset T h) rs (first_carry h start) each in
       each_front Carry (bare run) (bare front.0) (subst (Each Carry) (ap (λ (w : LinedSteps Op). bare w) front.1 ∙ bare_append run front.0) all)
 
+  -- Each step of a run carries only what its records and its start carry.
   pub carried_law : {State : Type 0} (O : Object Op State) → CarriedLaw OfName OfId OfOp OfBody O
   carried_law O = record { steps = expand_carry; run = run_carries O }

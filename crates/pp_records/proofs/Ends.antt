@@ -11,43 +11,54 @@ use Rattle.pp_model.specs.Rules.{FirstFalse, Verdict, criteria}
 use Rattle.pp_model.proofs.Parted.{one_number}
 use Rattle.pp_records.specs.Runs.{EndsAtFailure, HasOneMore, Lined, bare, on_line}
 
+-- The bare elements of joined lists are those of the first, then those of the second.
 pub bare_append : {A : Type 0} (xs ys : List (Lined A)) → bare (xs ++ ys) ≡ bare xs ++ bare ys
 bare_append {A} xs ys = map-append (λ (s : Lined A). s.what) xs ys
 
+-- Elements that are put on a line are bare what they were.
 pub bare_on_line : {A : Type 0} (line : ℕ) (ss : List A) → bare (on_line line ss) ≡ ss
 bare_on_line line [] = refl
 bare_on_line {A} line (s ∷ ss) = ap (λ (w : List A). s ∷ w) (bare_on_line line ss)
 
+-- A list of lined elements has as many bare ones.
 pub length_bare : {A : Type 0} (xs : List (Lined A)) → length (bare xs) ≡ length xs
 length_bare [] = refl
 length_bare (x ∷ xs) = ap (λ (k : ℕ). suc k) (length_bare xs)
 
+-- A list that is put on a line keeps its length.
 pub length_on_line : {A : Type 0} (line : ℕ) (ss : List A) → length (on_line line ss) ≡ length ss
 length_on_line line [] = refl
 length_on_line line (s ∷ ss) = ap (λ (k : ℕ). suc k) (length_on_line line ss)
 
+-- The configuration after joined steps is the one after the second, from that after the first.
 pub after_append : {Op : Type 0} (c : Config Op) (xs ys : List (Step Op)) → after_from c (xs ++ ys) ≡ after_from (after_from c xs) ys
 after_append c [] ys = refl
 after_append c (x ∷ xs) ys = after_append (then c x) xs ys
 
+-- Joined steps meet their criteria if the first do, and the second do after them.
 pub runs_append : {Op State : Type 0} (O : Object Op State) (c : Config Op) (xs ys : List (Step Op)) → RunsFrom O c xs → RunsFrom O (after_from c xs) ys → RunsFrom O c (xs ++ ys)
 runs_append O c [] ys a b = b
 runs_append O c (x ∷ xs) ys a b = (a.0, runs_append O (then c x) xs ys a.1 b)
 
+-- If joined steps meet their criteria, so do the first.
 pub runs_front : {Op State : Type 0} (O : Object Op State) (c : Config Op) (xs ys : List (Step Op)) → RunsFrom O c (xs ++ ys) → RunsFrom O c xs
 runs_front O c [] ys a = tt
 runs_front O c (x ∷ xs) ys a = (a.0, runs_front O (then c x) xs ys a.1)
 
+-- If joined steps meet their criteria, so do the second from the configuration after the first.
 pub runs_back : {Op State : Type 0} (O : Object Op State) (c : Config Op) (xs ys : List (Step Op)) → RunsFrom O c (xs ++ ys) → RunsFrom O (after_from c xs) ys
 runs_back O c [] ys a = a
 runs_back O c (x ∷ xs) ys a = runs_back O (then c x) xs ys a.1
 
+-- Equal lists that are not empty have equal first elements.
 pub heads : {A : Type 0} (x y : A) (xs ys : List A) → x ∷ xs ≡ y ∷ ys → x ≡ y
 heads x y xs ys e = cc
 
+-- Equal lists that are not empty have equal rests.
 pub tails : {A : Type 0} (x y : A) (xs ys : List A) → x ∷ xs ≡ y ∷ ys → xs ≡ ys
 tails x y xs ys e = cc
 
+-- A step that meets its criteria breaks none.
 pub never : {Op State : Type 0} (O : Object Op State) (c : Config Op) (s : Step Op) (n : ℕ) → Meets O c s → Breaks O c s (suc n) → ⊥
 never O c s n a b = let e : zero ≡ suc n = one_number _ zero (suc n) a b in cc
 
@@ -84,6 +95,7 @@ pub ends_behind : {Op State : Type 0} (O : Object Op State) (c : Config Op) (xs 
 ends_behind O c [] ys rest r e = e
 ends_behind O c (x ∷ xs) ys rest r e = inr (r.0, (xs ++ rest, ends_behind O (then c x.what) xs ys rest r.1 e, refl))
 
+-- A run of joined steps, the first of which hold, is these and a run of the others after them.
 pub ends_split : {Op State : Type 0} (O : Object Op State) (c : Config Op) (xs ys run : List (Lined (Step Op))) → RunsFrom O c (bare xs) →
     EndsAtFailure O c (xs ++ ys) run → (rest : List (Lined (Step Op))) × EndsAtFailure O (after_from c (bare xs)) ys rest × (run ≡ xs ++ rest)
 ends_split O c [] ys run r e = (run, e, refl)
@@ -92,6 +104,7 @@ ends_split {Op} O c (x ∷ xs) ys run r (inr e) =
     let k = ends_split O (then c x.what) xs ys e.1.0 r.1 e.1.1 in
     (k.0, k.1, e.1.2 ∙ ap (λ (w : List (Lined (Step Op))). x ∷ w) k.2)
 
+-- The run of steps that all meet their criteria is all of them.
 pub ends_whole : {Op State : Type 0} (O : Object Op State) (c : Config Op) (ss : List (Lined (Step Op))) → RunsFrom O c (bare ss) → EndsAtFailure O c ss ss
 ends_whole O c [] r = refl
 ends_whole O c (s ∷ ss) r = inr (r.0, (ss, ends_whole O (then c s.what) ss r.1, refl))
@@ -108,6 +121,7 @@ verdict_on {Op} O i c (s ∷ ss) run v (inr e) k =
       | inr z ↦ inr (z.0, verdict_on O (suc i) (then c s.what) ss e.1.0 v e.1.1 z.1)
     ]
 
+-- The verdict of all steps is the verdict of their run.
 pub verdict_off : {Op State : Type 0} (O : Object Op State) (i : ℕ) (c : Config Op) (ss run : List (Lined (Step Op))) (v : Verdict) → EndsAtFailure O c ss run →
     IsVerdictFrom O i c (bare ss) v → IsVerdictFrom O i c (bare run) v
 verdict_off {Op} O i c [] run v e k = subst (λ (w : List (Lined (Step Op))). IsVerdictFrom O i c (bare w) v) (sym e) k
@@ -149,6 +163,7 @@ pub ends_here : {Op State : Type 0} (O : Object Op State) (c : Config Op) (xs : 
     RunsFrom O c (bare xs) → Breaks O (after_from c (bare xs)) s.what (suc n) → EndsAtFailure O c (xs ++ s ∷ ys) (xs ++ s ∷ [])
 ends_here O c xs s ys n r f = ends_behind O c xs (s ∷ ys) (s ∷ []) r (inl (n, f, refl))
 
+-- If the steps before a step hold and it breaks a criterion, the verdict rejects that step.
 pub rejected_here : {Op State : Type 0} (O : Object Op State) (i : ℕ) (c : Config Op) (xs : List (Step Op)) (s : Step Op) (ys : List (Step Op)) (n : ℕ) →
     RunsFrom O c xs → Breaks O (after_from c xs) s (suc n) → IsVerdictFrom O i c (xs ++ s ∷ ys) (Rejected (i + length xs) (suc n))
 rejected_here O i c [] s ys n r f = inl (n, f, ap (λ (k : ℕ). Rejected k (suc n)) (omega arith))
@@ -187,6 +202,7 @@ one_place [] (z' ∷ zs) ys ws s z e l = absurd (cc)
 one_place (x ∷ xs) [] ys ws s z e l = absurd (cc)
 one_place (x ∷ xs) (z' ∷ zs) ys ws s z e l = one_place xs zs ys ws s z (tails x z' (xs ++ s ∷ ys) (zs ++ z ∷ ws) e) (omega arith)
 
+-- At most one line has one step more than a run may have.
 pub one_line : {Op State : Type 0} (O : Object Op State) (most : ℕ) (c : Config Op) (ss : List (Lined (Step Op))) (m n : ℕ) → HasOneMore O most c ss m → HasOneMore O most c ss n → m ≡ n
 one_line {Op} O most c ss m n a b =
     sym a.place ∙ ap (λ (w : Lined (Step Op)). w.line) (one_place a.before b.before a.behind b.behind a.next b.next (sym a.parts ∙ b.parts) (a.count ∙ sym b.count)) ∙ b.place
@@ -239,6 +255,7 @@ front_of {A} (x ∷ xs) ss (b ∷ before) rest e l =
     let same : x ≡ b = heads x b (xs ++ ss) (before ++ rest) e in
     (r.0, ap (λ (w : List A). b ∷ w) r.1 ∙ ap (λ (w : A). w ∷ (xs ++ r.0)) (sym same), r.2)
 
+-- If joined steps have one more than they may have, so have the second after the first.
 pub less_before : {Op State : Type 0} (O : Object Op State) (most : ℕ) (c : Config Op) (xs ss : List (Lined (Step Op))) (line : ℕ) →
     HasOneMore O (length xs + most) c (xs ++ ss) line → HasOneMore O most (after_from c (bare xs)) ss line
 less_before {Op} O most c xs ss line m =

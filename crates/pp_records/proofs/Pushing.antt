@@ -50,6 +50,7 @@ unmarked {Op} (k ∷ is) l e i m =
           (subst (λ (w : LocalEntry Op). In w l) (sym same) f.1, λ j. elim j [ inl z ↦ a.1 (sym (ap (λ (w : LocalEntry Op). w.id) same) ∙ z) | inr z ↦ r.1 z ])
     ]
 
+-- After a pushall that holds, no entry of the local log is unpushed.
 pub pushall_law : {Op State : Type 0} (O : Object Op State) → PushallLaw O
 pushall_law {Op} O c t x h r =
     let test : LocalEntry Op → Bool = λ e. is_mark e.mark Unpushed in

@@ -137,6 +137,7 @@ module _ {F R Op State : Type 0} (O : Object Op State) (T : Translation F R Op) 
         λ line m. few_steps O 200_000 (first h) ss line (subst (λ (w : ℕ). w ≤ 200_000) s.number s.few) m.1,
       )
 
+  -- A reader that takes the records one by one keeps the run that they have so far.
   pub reading_law : ReadingLaw O T
   reading_law =
       record {

@@ -112,6 +112,7 @@ module _ {H F R Op State Cause : Type 0} (setting : H → Setting F R Op State) 
       inl (a.0, subst (λ (k : List (Lined R)). OverrunsAt setting wider.header k a.0) (sym w.records.1) (overrun_stays sc.header wider.header sc.records w.records.0 a.0 w.header a.1), a.2)
   fault_stays sc wider f w (inr a) = subst (λ (k : Scan H R Cause). IsFault setting too_many k (Some f)) (sym (w.fault f (sym a.1))) (inr a)
 
+  -- An input has at most one fault and one report.
   pub input_law : InputLaw setting too_many
   input_law =
       record {
@@ -139,6 +140,7 @@ module _ {H Op State Cause : Type 0} (setting : H → Setting Front (RunRecord O
   plain_fault rules header ss scanned f few (inl a) = absurd (no_overrun rules header ss few a.0 a.1)
   plain_fault rules header ss scanned f few (inr a) = a.1
 
+  -- The fault of an input is that of its scan, and its report that of the verdict of its steps.
   pub plain_input_law : PlainInputLaw setting too_many
   plain_input_law =
       record {

@@ -60,6 +60,7 @@ module _ {F R Op State Cause : Type 0} (s : Setting F R Op State) (line : ℕ) (
       other : (i : ℕ) → suc (suc i) ≡ 1 + suc i
       other i = omega arith
 
+-- The steps of a run, written down, have the same verdict and report, but for the lines.
 pub reprint_law : {H F R Op State : Type 0} (setting : H → Setting F R Op State) (Cause : Type 0) → ReprintLaw setting Cause
 reprint_law {H} {F} {R} {Op} setting Cause line place ks h rs run v r is verdict report = (
   restated_run (setting h).object (setting h).translation place ks (setting h).start rs run is,

@@ -15,6 +15,7 @@ use Rattle.pp_records.specs.Styles.{RestatedLaw, RulesLaw, numbered, plain, rest
 use Rattle.pp_records.proofs.Ends.{bare_append, few_steps, heads, length_bare, more_behind, tails}
 use Rattle.pp_records.proofs.Whole.{one_run_law, unbegun}
 
+-- The steps of records that are steps are these steps, in every style.
 pub plain_steps : {Op : Type 0} (place : Op → ℕ) (style : Style) (ks : List Kind) (p : Standing Front Op) (ss : List (Lined (Step Op))) → joined_steps (translation place style ks) p (plain ss) ≡ ss
 plain_steps place style ks p [] = refl
 plain_steps {Op} place style ks p (s ∷ ss) =
@@ -38,6 +39,7 @@ module _ {Op State : Type 0} (O : Object Op State) (place : Op → ℕ) (ks : Li
       few_steps O 200_000 (first h) (joined_steps (translation place Rules ks) (outset (translation place Rules ks) h) (plain ss)) line
       (subst (λ (w : List (Lined (Step Op))). length w ≤ 200_000) (sym (plain_steps place Rules ks (outset (translation place Rules ks) h) ss)) few) m.1
 
+-- In style `rules`, the run of records is the steps up to and with the first that fails.
 pub rules_law : {Op State : Type 0} (O : Object Op State) → RulesLaw O
 rules_law O =
     record {
@@ -47,6 +49,7 @@ rules_law O =
       few = λ place ks h ss line few m. plain_few O place ks h ss line few m;
     }
 
+-- Steps that are put on numbered lines are bare what they were.
 pub bare_numbered : {A : Type 0} (i : ℕ) (ss : List A) → bare (numbered i ss) ≡ ss
 bare_numbered i [] = refl
 bare_numbered {A} i (s ∷ ss) = ap (λ (w : List A). s ∷ w) (bare_numbered (suc i) ss)
@@ -118,6 +121,7 @@ one_more_again {Op} O most c run again line same m =
     )
 
 module _ {F R Op State : Type 0} (O : Object Op State) (T : Translation F R Op) where
+  -- The steps of a run, as records of style `rules`, have that run.
   pub restated_run : (place : Op → ℕ) (ks : List Kind) (h : Option (Start Op)) (rs : List (Lined R)) (run : List (Lined (Step Op))) → IsRun O T h rs run →
       IsRun O (translation place Rules ks) h (plain (restated run)) (restated run)
   restated_run place ks h rs run (inl r) = inl (r.0, r.1, ap (λ (w : List (Lined (Step Op))). restated w) r.2)
@@ -140,6 +144,7 @@ module _ {F R Op State : Type 0} (O : Object Op State) (T : Translation F R Op) 
       let m2 = one_more_again O 200_000 (first h) run (restated run) line (bare_numbered 1 (bare run)) m1 in
       none m2.0 (r.0, subst (λ (w : List (Lined (Step Op))). HasOneMore O 200_000 (first h) w m2.0) (sym front.1) (more_behind O 200_000 (first h) run front.0 m2.0 m2.1))
 
+  -- The steps of a run, as records of style `rules`, have the same run and verdict.
   pub restated_law : RestatedLaw O T
   restated_law =
       record {

@@ -35,6 +35,7 @@ on_step {Op} t f z x zs false e h k =
     ∙ ap (λ (b : Bool). cond b (Some z) (tx t (on_log t f zs))) e
     ∙ k h
 
+-- A changed local log is the one that `tx` finds for its transaction afterwards.
 pub tx_on : {Op : Type 0} (t : Name) (f : List (LocalEntry Op) → List (LocalEntry Op)) (xs : List (Tx Op)) (x : Tx Op) → tx t xs ≡ Some x → tx t (on_log t f xs) ≡ Some (relog f x)
 tx_on t f [] x h = absurd (cc)
 tx_on t f (z ∷ zs) x h = on_step t f z x zs (z.name =ⁿ t) refl h (λ k. tx_on t f zs x k)
@@ -101,6 +102,7 @@ all_out {Op} t c x p (e ∷ l) h w n =
     ap (λ (k : Config Op). tx t k.opened) (after_append c (taken_out t l) (taken_at t e.id e.mark))
     ∙ one_out t c2 (relog (λ l. p ++ e ∷ []) x) e p e.mark rest refl (apart e l p n)
 
+-- The steps of `back` leave the first n entries of a local log.
 pub back_law : {Op State : Type 0} (O : Object Op State) → BackLaw O
 back_law {Op} O c t n x s h =
     let whole : take n x.local ++ drop n x.local ≡ x.local = take-append-drop n x.local in
@@ -151,6 +153,7 @@ stand_by {Op} wanted G l g i w false h =
     let j : In g (missing wanted G l) = in_filter (λ (g : SharedEntry Op). wanted g && not (stands_in l g.id)) g G i passes in
     (as_pulled g, in_right (as_pulled g) l (map as_pulled (missing wanted G l)) (in_map as_pulled g (missing wanted G l) j), refl)
 
+-- Pulls that hold add the missing entries to a local log, in the order of the shared log.
 pub pulls_law : {Op State : Type 0} (O : Object Op State) → PullsLaw O
 pulls_law {Op} O =
     record {

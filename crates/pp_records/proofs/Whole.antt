@@ -16,6 +16,7 @@ use Rattle.pp_records.proofs.Ends.{ends_behind, ends_once, ends_some, ends_split
 use Rattle.pp_records.proofs.Ends.{more_before, more_behind, one_line, rejected_from, verdict_off}
 use Rattle.pp_records.proofs.Ends.{some_number, verdict_on}
 
+-- A start that meets its criteria breaks none.
 pub unbegun : {Op State : Type 0} (O : Object Op State) (h : Option (Start Op)) (n : ℕ) → StartMeets O h → StartBreaks O h (suc n) → ⊥
 unbegun O h n a b = let e : zero ≡ suc n = one_number _ zero (suc n) a b in cc
 
@@ -58,6 +59,7 @@ module _ {F R Op State : Type 0} (O : Object Op State) (T : Translation F R Op) 
       number : (i k : ℕ) → i ≡ 1 + k → suc k ≡ i
       number i k e = omega arith
 
+  -- Records cannot have no run; they have at most one, and it has the verdict of all their steps.
   pub one_run_law : OneRunLaw O T
   one_run_law =
       record {
@@ -75,10 +77,12 @@ module _ {F R Op State : Type 0} (O : Object Op State) (T : Translation F R Op) 
       ap (λ (w : List (Lined (Step Op))). on_line r.line (steps_at T p r.what) ++ w) (joined_more (after_record T p r.what) rs more)
       ∙ sym (append_assoc (on_line r.line (steps_at T p r.what)) (joined_steps T (after_record T p r.what) rs) (joined_steps T (after_records T (after_record T p r.what) rs) more))
 
+  -- Records in two parts lead to where the second part leads from where the first does.
   pub led_more : (p : Standing F Op) (rs more : List (Lined R)) → after_records T p (rs ++ more) ≡ after_records T (after_records T p rs) more
   led_more p [] more = refl
   led_more p (r ∷ rs) more = led_more (after_record T p r.what) rs more
 
+  -- The configuration after records is the one after their joined steps.
   pub led_config : (p : Standing F Op) (rs : List (Lined R)) → (after_records T p rs).config ≡ after_from p.config (bare (joined_steps T p rs))
   led_config p [] = refl
   led_config p (r ∷ rs) =
@@ -139,6 +143,7 @@ module _ {F R Op State : Type 0} (O : Object Op State) (T : Translation F R Op) 
         (more_behind O 200_000 (first h) (joined_steps T (outset T h) rs) (joined_steps T (after_records T (outset T h) rs) more) line m.1),
   )
 
+  -- Records after others only extend the run.
   pub extends_law : ExtendsLaw O T
   extends_law =
       record {

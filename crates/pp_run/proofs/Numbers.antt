@@ -41,6 +41,7 @@ test word n = bytes_eq word (decimal n) && (nat_le 1 n && nat_le n 20_000)
 abbrev IsNumberOf : List ℕ → ℕ → Type 0
 IsNumberOf word n = (word ≡ decimal n) × (1 ≤ n) × (n ≤ 20_000)
 
+-- An argument that is the text of a number from 1 to 20,000 has this number.
 pub number_is : (word : List ℕ) (n : ℕ) → IsNumberOf word n → drill_number word ≡ Some n
 number_is word n (is, low, high) =
     let value : digits_value 10 word ≡ n = ap (digits_value 10) is ∙ (decimal_is_IsNumeral n (omega (arith, high))).1 in
@@ -48,6 +49,7 @@ number_is word n (is, low, high) =
     both (bytes_eq word (decimal n)) (nat_le 1 n && nat_le n 20_000) ((bytes_eq-Decides word (decimal n)).1 is) (both (nat_le 1 n) (nat_le n 20_000) (yes_le 1 n low) (yes_le n 20_000 high)) in
     ap (λ (k : ℕ). if test word k then Some k else None) value ∙ ap (λ (b : Bool). if b then Some n else None) passes
 
+-- The number of an argument is from 1 to 20,000, and the argument is its text.
 pub number_told : (word : List ℕ) (n : ℕ) → drill_number word ≡ Some n → IsNumberOf word n
 number_told word n e =
     let v = digits_value 10 word in
@@ -56,6 +58,7 @@ number_told word n e =
     let q = parts (nat_le 1 v) (nat_le v 20_000) p.1 in
     subst (IsNumberOf word) t.1 ((bytes_eq-Decides word (decimal v)).0 p.0, le_yes 1 v q.0, le_yes v 20_000 q.1)
 
+-- An argument that is the text of no number from 1 to 20,000 has no number.
 pub no_number : (word : List ℕ) → ((n : ℕ) → IsNumberOf word n → ⊥) → drill_number word ≡ None
 no_number word none = cases (drill_number word) refl
   where
@@ -86,11 +89,13 @@ module _ {E : Type 0} (word text : List ℕ) (same : text ≡ word) (r : Result 
       let here : r ≡ Ok n = parsed n is in
       cc)
 
+  -- An argument that is read as a number out of range has no number.
   pub outside : (k : ℕ) → r ≡ Ok k → (1 ≤ k → k ≤ 20_000 → ⊥) → drill_number word ≡ None
   outside k read none = no_number word (λ n is.
       let one : k ≡ n = parsed_is k n read is in
       none (omega (arith, one, is.1)) (omega (arith, one, is.2)))
 
+  -- An argument that is not the text of the number that it is read as has no number.
   pub unlike : (k : ℕ) → r ≡ Ok k → (word ≡ decimal k → ⊥) → drill_number word ≡ None
   unlike k read none = no_number word (λ n is. none (is.0 ∙ ap decimal (sym (parsed_is k n read is))))
 
@@ -132,9 +137,11 @@ drill_within (word ∷ number ∷ more ∷ words) n e = absurd (let no : None �
 
 -- ---- what a comparison of arguments means
 
+-- Arguments for which the comparison is true are equal.
 pub equal_words : (b : Bool) (xs ys : List ℕ) → b ≡ bytes_eq xs ys → b ≡ true → xs ≡ ys
 equal_words b xs ys is e = (bytes_eq-Decides xs ys).0 (sym is ∙ e)
 
+-- Arguments for which the comparison is false are different.
 pub other_words : (b : Bool) (xs ys : List ℕ) → b ≡ bytes_eq xs ys → b ≡ false → xs ≡ ys → ⊥
 other_words b xs ys is e same =
     let told : true ≡ false = sym ((bytes_eq-Decides xs ys).1 same) ∙ sym is ∙ e in

@@ -43,18 +43,22 @@ module _ (o : Option Command) (command : Command) (is : o ≡ Some command) (lef
   follows : (Q : Option Command → List ℕ → Type 0) → ((bytes : List ℕ) → IsOutput (Some command) bytes status text → Q (Some command) bytes) → OfInput o left (Q o)
   follows Q f = subst (λ (c : Option Command). OfInput c left (Q c)) (sym is) (of_input (Some command) left (λ bytes. IsOutput (Some command) bytes status text) (Q (Some command)) f output)
 
+  -- A text that is the output of a command and is written whole is what the command prints.
   pub prints : Appends old new text → OfInput o left (λ bytes. Prints o bytes status old new)
   prints written = follows (λ c bytes. Prints c bytes status old new) (λ bytes here. (text, here, written))
 
+  -- A text that is the only output of a command, written whole, is all that the command prints.
   pub prints_only : Appends old new text → OfInput o left (λ bytes. PrintsOnly o bytes status old new)
   prints_only written =
       follows (λ c bytes. PrintsOnly c bytes status old new) (λ bytes here other more there.
       let one = one_output (Some command) bytes status other text more here there in
       (sym one.0, subst (Appends old new) one.1 written))
 
+  -- A written prefix of the output of a command is a prefix of what the command prints.
   pub prints_prefix : AppendsPrefix old new text → OfInput o left (λ bytes. PrintsPrefix o bytes old new)
   prints_prefix written = follows (λ c bytes. PrintsPrefix c bytes old new) (λ bytes here. (status, text, here, written))
 
+  -- A written prefix of the only output of a command is a prefix of all that the command prints.
   pub prints_prefix_only : AppendsPrefix old new text → OfInput o left (λ bytes. PrintsPrefixOnly o bytes old new)
   prints_prefix_only written =
       follows (λ c bytes. PrintsPrefixOnly c bytes old new) (λ bytes here other more there.

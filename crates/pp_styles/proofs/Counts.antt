@@ -59,9 +59,11 @@ module _ {Op : Type 0} (place : Op → ℕ) (o : ℕ) (done : List (CommittedTx 
 -- ---- what is pushed
 
 module _ {Op : Type 0} where
+  -- None of the first 0 entries of a local log is unpushed.
   pub pushed_none : (l : List (LocalEntry Op)) → HasPushed 0 l
   pushed_none l = record { within = omega arith; none = λ i e below at. absurd (omega arith) }
 
+  -- If none of the first n entries is unpushed, so it is in a longer log.
   pub pushed_longer : (n : ℕ) (l r : List (LocalEntry Op)) → HasPushed n l → HasPushed n (l ++ r)
   pushed_longer n l r h =
       let within = h.within in
@@ -91,6 +93,7 @@ module _ {Op : Type 0} where
   marked_at id (e ∷ l) zero none (suc i) f below at = absurd (omega arith)
   marked_at id (e ∷ l) (suc n) none (suc i) f below at = marked_at id l n (λ j g under there. none (suc j) g (omega arith) there) i f (omega arith) at
 
+  -- If none of the first n entries is unpushed, so it is after a PUSH.
   pub pushed_marked : (n id : ℕ) (l : List (LocalEntry Op)) → HasPushed n l → HasPushed n (set_mark id Pushed l)
   pushed_marked n id l h =
       let within = h.within in
@@ -120,6 +123,7 @@ module _ {Op : Type 0} where
   slice_end [] e = refl
   slice_end (f ∷ l) e = slice_end l e
 
+  -- If none of the first n entries is unpushed, so it is without an unpushed last entry.
   pub pushed_shorter : (n : ℕ) (l : List (LocalEntry Op)) (e : LocalEntry Op) → e.mark ≡ Unpushed → HasPushed n (l ++ e ∷ []) → HasPushed n l
   pushed_shorter n l e unpushed h =
       record {
@@ -145,6 +149,7 @@ module _ {Op : Type 0} where
   unmarked_at id (e ∷ l) (suc n) other none (suc i) f below at =
       unmarked_at id l n (λ j g under there. other (suc j) g (omega arith) there) (λ j g under there. none (suc j) g (omega arith) there) i f (omega arith) at
 
+  -- If none of the first n entries is unpushed or has an id, so it is after an UNPUSH of this id.
   pub pushed_unmarked : (n id : ℕ) (l : List (LocalEntry Op)) → ((i : ℕ) (e : LocalEntry Op) → i < n → slice_get l i ≡ Some e → (e.id == id) ≡ false) → HasPushed n l → HasPushed n (set_mark id Unpushed l)
   pushed_unmarked n id l other h =
       let within = h.within in
@@ -176,6 +181,7 @@ module _ {Op : Type 0} where
       none zero f below at = subst (λ (g : LocalEntry Op). is_mark g.mark Unpushed ≡ false) (same_Some e f at) (first below)
       none (suc i) f below at = h.none i f (omega arith) at
 
+  -- If none of the first n entries is unpushed, none of n - 1 is after an entry has left.
   pub pushed_without : (n id : ℕ) (l : List (LocalEntry Op)) → ((e f : LocalEntry Op) → Before e f l → e.id ≢ f.id) → HasPushed n l → HasPushed (n - 1) (without_local id l)
   pushed_without n id [] distinct h = pushed_fewer n (n - 1) [] (omega arith) h
   pushed_without n id (e ∷ l) distinct h = elim (eqb_tells e.id id) [

@@ -43,6 +43,7 @@ pub from_there : {Op : Type 0} (list : List (StepOf Op)) (i next : ℕ) (s : Ste
 from_there list i next s here is_next =
     ap meanings (drop_there list i s here) ∙ ap (λ (n : ℕ). meaning s ∷ meanings (drop n list)) (sym is_next)
 
+-- No steps are left after the last one of a list.
 pub none_left : {Op : Type 0} (list : List (StepOf Op)) (i : ℕ) → length list ≤ i → meanings (drop i list) ≡ []
 none_left list i past = ap meanings (drop_all i list past)
 
@@ -94,10 +95,12 @@ below m r most full le same told may = less (λ (e : r ≡ most). true≢false (
 -- ---- costs
 
 module _ {Op : Type 0} where
+  -- Joined steps have as many single steps as both lists together.
   pub singles_append : (xs ys : List (Step Op)) → singles (xs ++ ys) ≡ singles xs + singles ys
   singles_append xs ys = ap (λ (l : List (Step Op)). length l) (filter-append is_single xs ys) ∙ length-append (filter is_single xs) (filter is_single ys)
 
   module _ (place : Op → ℕ) where
+    -- Joined steps take at most the ticks of the first, and those of the second after it.
     pub most_append : (c : Config Op) (xs ys : List (Step Op)) → most_ticks place c (xs ++ ys) ≡ most_ticks place c xs + most_ticks place (after_from c xs) ys
     most_append c [] ys = zero_plus (most_ticks place c ys)
     most_append c (x ∷ xs) ys =
@@ -141,6 +144,7 @@ module _ {Shape State Op Undo : Type 0} (o : Object Shape State Op Undo) (place 
     pub done : HasDone o old steps rest mid from now
     pub most : now ≤ from + most_ticks place old.config done.before
 
+  -- At first none of the steps is done, and none has cost a tick.
   pub at_first : old.count ≤ MOST_STEPS → SoFar steps old from
   at_first few =
       record {

@@ -71,6 +71,7 @@ module _ {Op : Type 0} (l : List (LocalEntry Op)) (d : HasDistinctIds (map item 
         subst (λ (n : ℕ). Contains (at ++ q ∷ []) n) one (Contains-push at q)
   ]
 
+  -- If the next id is not in a local log, the positions kept are those of one more id.
   pub no_local_next : None ≡ position (λ g. g.id == get_or ids i e) l → HoldsLocal (take (i + 1) ids) l at
   no_local_next none k g here there = elim (next_id g.id there) [
     | inl old ↦ h k g here old
@@ -104,6 +105,7 @@ module _ {Op : Type 0} (t source : Name) (l : List (LocalEntry Op)) where
     pub rest : (k : ℕ) (e : LocalEntry Op) → k < from → slice_get l k ≡ Some e → is_pulled_from source e ≡ true →
         (j : ℕ) × (j < n) × (get_or at j k ≡ k)
 
+  -- At first no pulled entry was visited, and all are at one of the positions.
   pub all_rest : (at : List ℕ) → HoldsPulled source l at → Rest at (length at) (length l)
   all_rest at h =
       record {
@@ -158,6 +160,7 @@ module _ {Op : Type 0} (t source : Name) (l : List (LocalEntry Op)) where
               (r.0, earlier r.0 k r.1 r.2 (λ same. omega arith), r.2);
         }
 
+    -- The pulled entry at the last position that is left adds its UNPULL to the steps.
     pub unpulls_here : IsSorted nat_cmp at → p < from → (e : LocalEntry Op) → slice_get l p ≡ Some e →
         unpulls t source (drop p l) ≡ unpulls t source (drop from l) ++ unpull_of t source e
     unpulls_here up less e here =
@@ -190,6 +193,7 @@ inserted_here ids id = by (list_any (nat_eq id) ids) refl
         subst (λ (n : ℕ). In n ids) (sym (eqb-true id r.0 r.2)) r.1
     by false is = in_right id ids (id ∷ []) (inl refl)
 
+-- An id that is in a list is still in it after another was inserted.
 pub inserted_still : (ids : List ℕ) (id i : ℕ) → In i ids → In i (insert_key nat_eq ids id)
 inserted_still ids id i there = by (list_any (nat_eq id) ids)
   where
@@ -199,6 +203,7 @@ inserted_still ids id i there = by (list_any (nat_eq id) ids)
 
 -- at one owner, and at each
 module _ (owner : Name) (id : ℕ) (old new : Name → List ℕ) (is : (v : Name) → new v ≡ at_name owner (insert_key nat_eq (old owner) id) old v) where
+  -- An inserted id is in the list of its owner.
   pub at_owner : In id (new owner)
   at_owner = subst (λ (w : List ℕ). In id w) (sym (is owner)) (by (names_tell owner owner))
     where
@@ -206,6 +211,7 @@ module _ (owner : Name) (id : ℕ) (old new : Name → List ℕ) (is : (v : Name
       by (inl same) = subst (λ (b : Bool). In id (if b then insert_key nat_eq (old owner) id else old owner)) (sym same.0) (inserted_here (old owner) id)
       by (inr other) = absurd (other.1 refl)
 
+  -- An id that is in the list of an owner is still in it after another was inserted.
   pub at_each : (v : Name) (i : ℕ) → In i (old v) → In i (new v)
   at_each v i there = subst (λ (w : List ℕ). In i w) (sym (is v)) (by (names_tell v owner))
     where
@@ -217,6 +223,7 @@ module _ (owner : Name) (id : ℕ) (old new : Name → List ℕ) (is : (v : Name
 pub adds_pulled : {Op : Type 0} (e : LocalEntry Op) (old new : Name → List ℕ) → ((v : Name) → new v ≡ at_name e.owner (insert_key nat_eq (old e.owner) e.id) old v) → AddsPulled e old new
 adds_pulled e old new is = record { same = at_each e.owner e.id old new is; here = λ mark. at_owner e.owner e.id old new is }
 
+-- If the next entry of a local log is added, the pulled entries up to it are known.
 pub pulled_next : {Op : Type 0} (l : List (LocalEntry Op)) (i : ℕ) (g : LocalEntry Op) → slice_get l i ≡ Some g → (old new : Name → List ℕ) → AddsPulled g old new → HasPulled old (take i l) → HasPulled new (take (i + 1) l)
 pulled_next {Op} l i g here old new more before e there is = elim (in_next e l i g here there) [
   | inl early ↦ more.same e.owner e.id (before e early is)
@@ -225,18 +232,21 @@ pulled_next {Op} l i g here old new more before e there is = elim (in_next e l i
 
 -- ---- what is forgotten or added
 
+-- If nothing changes, no list that is kept is shorter than before.
 pub same_grows : (p : Pullings) → Grows p p
 same_grows p u kept = (kept, λ v i there. there)
 
 unkept : (p : Pullings) (u : Name) → p.kept u ≡ true → p.kept u ≡ false → ⊥
 unkept p u kept none = never (sym kept ∙ none)
 
+-- If lists are no longer kept, no list that is kept is shorter than before.
 pub loses_grow : (p q : Pullings) → Loses p q → Grows p q
 loses_grow p q f u kept = elim (f u) [
   | inl none ↦ absurd (unkept q u kept none)
   | inr same ↦ (sym same.0 ∙ kept, λ v i there. subst (λ (w : List ℕ). In i w) (sym (same.1 v)) there)
 ]
 
+-- If the lists put for a transaction are true of its local log, it was looked at.
 pub looks_put : {Op : Type 0} (t : Name) (l : List (LocalEntry Op)) (p q : Pullings) (ids : Name → List ℕ) → HasPulled ids l → Puts t ids p q → Looks t l p q
 looks_put t l p q ids has f u = elim (f u) [
   | inl none ↦ inl none
@@ -245,6 +255,7 @@ looks_put t l p q ids has f u = elim (f u) [
 ]
 
 module _ (t owner : Name) (id : ℕ) (p q : Pullings) (f : AddsAt t owner id p q) where
+  -- If one more id is in a list, no list that is kept is shorter than before.
   pub adds_grow : Grows p q
   adds_grow u kept = elim (f u) [
     | inl none ↦ absurd (unkept q u kept none)
@@ -252,6 +263,7 @@ module _ (t owner : Name) (id : ℕ) (p q : Pullings) (f : AddsAt t owner id p q
     | inr (inr more) ↦ (more.0, at_each owner id (p.ids u) (q.ids u) more.1)
   ]
 
+  -- An added id is in the list of its owner, if lists are kept for the transaction.
   pub adds_here : q.kept t ≡ true → In id (q.ids t owner)
   adds_here kept = elim (f t) [
     | inl none ↦ absurd (unkept q t kept none)
@@ -263,9 +275,11 @@ module _ (t owner : Name) (id : ℕ) (p q : Pullings) (f : AddsAt t owner id p q
       by (inl same) off = never (sym same.0 ∙ off)
       by (inr other) off = other.1 refl
 
+-- An id that no entry of the shared log has is listed, as nothing has to be.
 pub lists_none : {Op : Type 0} (t : Name) (id : ℕ) (G : List (SharedEntry Op)) (p : Pullings) → ((g : SharedEntry Op) → In g G → g.id ≡ id → ⊥) → IsListed t id G p
 lists_none t id G p none g i is kept = absurd (none g i is)
 
+-- An id is listed if the only entry with it has it in the list of its owner.
 pub lists_one : {Op : Type 0} (t : Name) (id : ℕ) (G : List (SharedEntry Op)) (p : Pullings) (e : SharedEntry Op) → ((g : SharedEntry Op) → In g G → g.id ≡ id → g ≡ e) → (p.kept t ≡ true → In id (p.ids t e.owner)) → IsListed t id G p
 lists_one {Op} t id G p e one here g i is kept = subst (λ (w : SharedEntry Op). In id (p.ids t w.owner)) (sym (one g i is)) (here kept)
 
@@ -384,6 +398,7 @@ module _ {Op : Type 0} where
 
     -- what is looked at
     module _ {State : Type 0} (O : Object Op State) (s : Sound O c) (t : Name) (y : Tx Op) (open_is : tx t c.opened ≡ Some y) where
+      -- The facts looked up in the local log of an open transaction are true of the configuration.
       pub looks_pulled : (q : Pullings) → Looks t y.local p q → KnowsPulled q c
       looks_pulled q f x i kept = elim (f x.name) [
         | inl none ↦ absurd (unkept q x.name kept none)

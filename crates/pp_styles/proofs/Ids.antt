@@ -23,6 +23,7 @@ slice_front [] ys i x below h = absurd (omega arith)
 slice_front (y ∷ xs) ys zero x below h = h
 slice_front (y ∷ xs) ys (suc i) x below h = slice_front xs ys i x (omega arith) h
 
+-- The last element of a list with an element at its end is this element.
 pub last_there : {A : Type 0} (xs : List A) (x : A) → last_of (xs ++ x ∷ []) ≡ Some x
 last_there {A} xs x = ap (λ (n : ℕ). slice_get (xs ++ x ∷ []) n) size ∙ at_end xs
   where
@@ -39,6 +40,7 @@ or_more : (b c d : Bool) → (c ≡ true → d ≡ true) → (b || c) ≡ true �
 or_more true c d more h = refl
 or_more false c d more h = more h
 
+-- An id in a local log is in each longer log.
 pub stands_longer : {Op : Type 0} (l r : List (LocalEntry Op)) (i : ℕ) → stands_in l i ≡ true → stands_in (l ++ r) i ≡ true
 stands_longer [] r i h = absurd (cc)
 stands_longer (e ∷ l) r i h = or_more (e.id == i) (stands_in l i) (stands_in (l ++ r) i) (stands_longer l r i) h
@@ -47,6 +49,7 @@ same_id : {Op : Type 0} (m : Mark) (e : LocalEntry Op) (b : Bool) → (cond b (r
 same_id m e true = refl
 same_id m e false = refl
 
+-- Another mark leaves the ids in a local log the same.
 pub stands_marked : {Op : Type 0} (id : ℕ) (m : Mark) (l : List (LocalEntry Op)) (i : ℕ) → stands_in (set_mark id m l) i ≡ stands_in l i
 stands_marked id m [] i = refl
 stands_marked {Op} id m (e ∷ l) i =
@@ -67,6 +70,7 @@ in_drop_left zero ids more id h = in_left id ids more h
 in_drop_left (suc n) [] more id h = absurd h
 in_drop_left (suc n) (j ∷ ids) more id h = in_drop_left n ids more id h
 
+-- An id among those added to a list is among its last ones, after any first n.
 pub in_drop_right : (n : ℕ) (ids more : List ℕ) (id : ℕ) → n ≤ length ids → In id more → In id (drop n (ids ++ more))
 in_drop_right zero ids more id low h = in_right id ids more h
 in_drop_right (suc n) [] more id low h = absurd (omega arith)

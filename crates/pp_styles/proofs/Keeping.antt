@@ -12,10 +12,12 @@ use Rattle.pp_styles.specs.declared.dependent.Dependent.{Dependent}
 use Rattle.pp_styles.specs.Sources.{sources_in}
 use Rattle.pp_styles.specs.States.{dependent_state}
 
+-- A fact that is true anyway is true if a result is `Ok`.
 pub whenever : {A E : Type 0} {P : Type 0} (r : Result A E) → P → OnOk r P
 whenever (Ok x) p = p
 whenever (Err e) p = tt
 
+-- The front after a record is that after an equal record.
 pub at_record : {Op : Type 0} (f : Front) (c : Config Op) (g : Front) (rec r : RecordOf Op) → rec ≡ r → g ≡ front_after f c (record_meaning r) → g ≡ front_after f c (record_meaning rec)
 at_record {Op} f c g rec r is kept = kept ∙ ap (λ (w : RecordOf Op). front_after f c (record_meaning w)) (sym is)
 
@@ -32,6 +34,7 @@ unsectioned ks f t = λ i.
       kinds = ks;
     }
 
+-- If the sources of a transaction are forgotten, it makes no difference to end its section too.
 pub forgotten : {Op : Type 0} (ks : List Kind) (f : Dependent) (t : Name) (x : Option (Tx Op)) → front_of_open x (dependent_state ks f) (λ l. with_sources (dependent_state ks f) t [])
     ≡ front_of_open x (dependent_state ks f) (λ l. with_sources (with_section (dependent_state ks f) t None) t [])
 forgotten ks f t None = refl

@@ -217,6 +217,7 @@ module _ {Op : Type 0} (place : Op → ℕ) where
   next_done (d ∷ done) zero e here = ap (λ (w : CommittedTx Op). w ∷ []) (same_Some d e here)
   next_done (d ∷ done) (suc i) e here = ap (λ (w : List (CommittedTx Op)). d ∷ w) (next_done done i e here)
 
+  -- If one more committed transaction is listed, the ids of all up to it are.
   pub listed_next : (k new : Knowledge) (done : List (CommittedTx Op)) (i : ℕ) (e : CommittedTx Op) → slice_get done i ≡ Some e → ((o : ℕ) → new.ids o ≡ k.ids o ++ ids_on place o e.entries) →
       ((d : CommittedTx Op) → In d (take i done) → (p : Item Op) → In p d.entries → In p.id (k.ids (place p.op))) →
       (d : CommittedTx Op) → In d (take (i + 1) done) → (p : Item Op) → In p d.entries → In p.id (new.ids (place p.op))
@@ -242,6 +243,7 @@ module _ {Op : Type 0} (place : Op → ℕ) where
     low_listed : (new : Knowledge) → Lowers k new → Listed place new c.done
     low_listed new f d i p j = subst (λ (ids : List ℕ). In p.id ids) (sym (f.ids (place p.op))) (h.listed d i p j)
 
+    -- Facts about transactions stay true with lower numbers.
     pub lowers : (new : Knowledge) → Lowers k new → IsTrueOf place new c
     lowers new f = from_each new c (low_listed new f) (λ x i. holds_lower place c.done k new f x (by_each k c h x i))
 
@@ -395,6 +397,7 @@ module _ {Op : Type 0} (place : Op → ℕ) where
             none = λ i e below at. elim (cases_lt i old) [ inl early ↦ known.none i e early at | inr late ↦ none i e late below at ];
           }
 
+      -- Facts about transactions stay true if one is found to have more of the committed entries.
       pub takes : (new : Knowledge) → TakesMore t x.local k new → IsTrueOf place new c
       takes new f =
           record {
@@ -421,6 +424,7 @@ module _ {Op : Type 0} (place : Op → ℕ) where
               subst (λ (w : Tx Op). HasTaken place o c.done (k.ids o) (new.taken y.name o) w.local) (sym same_tx)
               (from_here o (k.ids o) x.local (k.taken t o) (new.taken y.name o) more.1 more.2 before)
 
+      -- Facts about transactions stay true if more entries of one are found not to be unpushed.
       pub pushes : (new : Knowledge) → PushesMore t x.local k new → IsTrueOf place new c
       pushes new f =
           record {
@@ -457,6 +461,7 @@ module _ {Op : Type 0} (place : Op → ℕ) where
           subst (λ (n : ℕ). In n (drop (k.taken t o) (k.ids o))) (sym named)
           (has.rest d from.1 p from.3 at (subst (λ (n : ℕ). stands_in x.local n ≡ false) named missing))
 
+      -- A pushall of the entries after those known not to be unpushed is a pushall of all.
       pub known_pushed : (from : ℕ) → from ≤ k.pushed t → pushall t (drop from x.local) ≡ pushall t x.local
       known_pushed from low =
           let r = found_tx t c.opened x open_is in

@@ -30,6 +30,7 @@ if_none (Some x) p = tt
 
 -- ---- an entry of the shared log, by its id
 
+-- If ids are distinct, the entry found by an id is the only one with it.
 pub one_of_id : {Op : Type 0} (G : List (SharedEntry Op)) → HasDistinctIds (map shared_item G) → (id at : ℕ) (e : SharedEntry Op) → position (λ w. w.id == id) G ≡ Some at → slice_get G at ≡ Some e →
     (g : SharedEntry Op) → In g G → g.id ≡ id → g ≡ e
 one_of_id {Op} G d id at e found here g i is =
@@ -38,15 +39,18 @@ one_of_id {Op} G d id at e found here g i is =
     by_key (λ (w : SharedEntry Op). w.id) G (λ p q b k. d (shared_item p) (shared_item q) (before_map shared_item p q G b) k) g e i (is_in G at e here)
     (is ∙ sym (ap (λ (w : SharedEntry Op). w.id) (sym same) ∙ eqb-true (r.0).id id r.2))
 
+-- If an id has no position in the shared log, no entry has it.
 pub none_of_id : {Op : Type 0} (G : List (SharedEntry Op)) (id : ℕ) → position (λ w. w.id == id) G ≡ None → (g : SharedEntry Op) → In g G → g.id ≡ id → ⊥
 none_of_id {Op} G id none g i is =
     no (sym (eq-eqb g.id id is) ∙ find_nowhere (λ (w : SharedEntry Op). w.id == id) G (place_none (λ (w : SharedEntry Op). w.id == id) G none) g i)
 
 -- ---- lower numbers
 
+-- Numbers are no higher than themselves.
 pub lowers_same : (k : Knowledge) → Lowers k k
 lowers_same k = record { ids = λ o. refl; taken = λ u o. omega arith; pushed = λ u. omega arith }
 
+-- If numbers are lowered twice, they are lowered.
 pub lowers_on : (a b c : Knowledge) → Lowers a b → Lowers b c → Lowers a c
 lowers_on a b c f g =
     record {
@@ -83,6 +87,7 @@ module _ {Op Shape : Type 0} (c : Config Op) (shape : Shape) (t : Name) (id : �
   abbrev pub lent : Option (Shape × LocalLog Op)
   lent = option_map (λ (y : Tx Op). (shape, y.local)) (tx t c.opened)
 
+  -- If the transaction is not open, no entry of it is among those known not to be unpushed.
   pub none_open : None ≡ lent → IsAfterPushed c t id k
   none_open none x open_is =
       let pair : Shape × LocalLog Op = (shape, x.local) in
@@ -94,10 +99,12 @@ module _ {Op Shape : Type 0} (c : Config Op) (shape : Shape) (t : Name) (id : �
         let same : local ≡ (shape, x.local) = same_Some local (shape, x.local) (is ∙ ap (λ (o : Option (Tx Op)). option_map (λ (y : Tx Op). (shape, y.local)) o) open_is) in
         subst (λ (l : LocalLog Op). slice_get l i ≡ Some e) (sym (ap (λ (p : Shape × LocalLog Op). p.1) same)) at
 
+    -- If the local log lacks the id, none of the entries known not to be unpushed has it.
     pub none_marked : position (λ e. e.id == id) local.1 ≡ None → IsAfterPushed c t id k
     none_marked none x open_is i e below at =
         find_nowhere (λ (w : LocalEntry Op). w.id == id) local.1 (place_none (λ (w : LocalEntry Op). w.id == id) local.1 none) e (is_in local.1 i e (at_local x open_is i e at))
 
+    -- An entry at or after those known not to be unpushed is none of them.
     pub marked_at : (n : ℕ) → position (λ e. e.id == id) local.1 ≡ Some n → k.pushed t ≤ n → IsAfterPushed c t id k
     marked_at n found low x open_is i e below at =
         let r = position-Some (λ (w : LocalEntry Op). w.id == id) local.1 n e found in
@@ -107,13 +114,16 @@ module _ {Op Shape : Type 0} (c : Config Op) (shape : Shape) (t : Name) (id : �
 
 module _ {Op : Type 0} (place : Op → ℕ) (G : List (SharedEntry Op)) (t : Name) (id : ℕ) where
   module _ (e : SharedEntry Op) (one : (g : SharedEntry Op) → In g G → g.id ≡ id → g ≡ e) where
+    -- An uncommitted entry need not be looked at again by a transaction.
     pub untaken_fresh : (k : Knowledge) → e.committed ≡ false → IsUntaken place G t id k
     untaken_fresh k fresh g i is committed = absurd (no (sym committed ∙ ap (λ (w : SharedEntry Op). w.committed) (one g i is) ∙ fresh))
 
+    -- If the id is after those that the transaction has taken, it is to look at the id again.
     pub untaken_again : (k : Knowledge) → (k.taken t (place e.op) ≡ 0) ⊎ In id (drop (k.taken t (place e.op)) (k.ids (place e.op))) → IsUntaken place G t id k
     untaken_again k again g i is committed =
         subst (λ (w : SharedEntry Op). (k.taken t (place w.op) ≡ 0) ⊎ In id (drop (k.taken t (place w.op)) (k.ids (place w.op)))) (sym (one g i is)) again
 
+    -- If numbers are only lowered, and exclude the id, the transaction has not passed it.
     pub passes_back : (p q : Publications) → q.kept ≡ p.kept → ((v : Name) (o : ℕ) → q.ids v o ≡ p.ids v o) → ((u v : Name) (o : ℕ) → q.passed u v o ≤ p.passed u v o) →
         (p.kept ≡ true → (q.passed t e.owner (place e.op) ≡ 0) ⊎ In id (drop (q.passed t e.owner (place e.op)) (p.ids e.owner (place e.op)))) → PassesBack place G t id p q
     passes_back p q kept ids passed again =
@@ -126,9 +136,11 @@ module _ {Op : Type 0} (place : Op → ℕ) (G : List (SharedEntry Op)) (t : Nam
         }
 
   module _ (none : (g : SharedEntry Op) → In g G → g.id ≡ id → ⊥) where
+    -- If no entry has the id, no transaction has to look at it again.
     pub untaken_none : (k : Knowledge) → IsUntaken place G t id k
     untaken_none k g i is committed = absurd (none g i is)
 
+    -- If no entry has the id, no number must be lowered before the id is looked at again.
     pub passes_none : (p : Publications) → PassesBack place G t id p p
     passes_none p =
         record {
@@ -140,6 +152,7 @@ module _ {Op : Type 0} (place : Op → ℕ) (G : List (SharedEntry Op)) (t : Nam
 
 -- ---- what is passed of a transaction is taken out, lowered, and put back
 
+-- If a number is put back at or before the position of an id, the id is not passed.
 pub put_again : (t : Name) (p mid q : Publications) → Unpasses t p mid → (b : Name → ℕ → ℕ) (v : Name) (o at id : ℕ) → b v o ≤ at → (at ≡ 0) ⊎ (slice_get (p.ids v o) at ≡ Some id) →
     ((u w : Name) (n : ℕ) → (q.passed u w n ≡ mid.passed u w n) ⊎ (((u =ⁿ t) ≡ true) × (q.passed u w n ≡ b w n))) → (q.passed t v o ≡ 0) ⊎ In id (drop (q.passed t v o) (p.ids v o))
 put_again t p mid q f b v o at id low here put = elim (put t v o) [

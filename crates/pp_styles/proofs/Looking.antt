@@ -31,6 +31,7 @@ use Rattle.pp_styles.proofs.Publishing.{grown, grown_in, listed_here}
 no : true ≡ false → ⊥
 no e = cc
 
+-- A fact that follows from another one if a result is `Ok` is true if it is.
 pub on_ok : {A E : Type 0} {P Q : Type 0} (r : Result A E) → OnOk r P → (P → Q) → OnOk r Q
 on_ok (Ok x) p f = f p
 on_ok (Err e) p f = tt
@@ -40,6 +41,7 @@ module _ {Op : Type 0} (l : List (LocalEntry Op)) (G : List (SharedEntry Op)) wh
   abbrev pub Gone : ℕ → Type 0
   Gone id = (stands_in l id ≡ true) ⊎ (position (λ (e : SharedEntry Op). e.id == id) G ≡ None)
 
+  -- If the id at the next position needs no further look, none of the ids up to it does.
   pub gone_next : (ids : List ℕ) (from at d : ℕ) → Gone (get_or ids at d) → ((i id : ℕ) → from ≤ i → i < at → slice_get ids i ≡ Some id → Gone id) → (i id : ℕ) → from ≤ i → i < at + 1 → slice_get ids i ≡ Some id → Gone id
   gone_next ids from at d is before i id above below here = elim (cases_lt i at) [
     | inl early ↦ before i id above early here
@@ -63,9 +65,11 @@ module _ {Op : Type 0} (l : List (LocalEntry Op)) (G : List (SharedEntry Op)) wh
     abbrev Passes : (Name → ℕ → ℕ) → (Name → ℕ → ℕ) → Type 0
     Passes a b = PassesAt l G o ids a b
 
+    -- Numbers that stay the same pass nothing more.
     pub passes_same : (a : Name → ℕ → ℕ) → Passes a a
     passes_same a v p = inl refl
 
+    -- A number that is set for an owner passes only ids that need no further look.
     pub passes_set : (owner : Name) (at : ℕ) (a b : Name → ℕ → ℕ) → ((v : Name) (p : ℕ) → (b v p ≡ 0) ⊎ (b v p ≡ a v p) ⊎ (((v =ⁿ owner) ≡ true) × (p ≡ o) × (b v p ≡ at))) →
         at ≤ length (ids owner) → Adds l G (ids owner) (a owner o) (drop at (ids owner)) → Passes a b
     passes_set owner at a b each low adds v p = elim (each v p) [
@@ -87,6 +91,7 @@ module _ {Op : Type 0} (l : List (LocalEntry Op)) (G : List (SharedEntry Op)) wh
       | inr (inr more) ↦ more.2 g i off there
     ]
 
+    -- Numbers that pass twice only what needs no further look do so together.
     pub passes_on : (a b c : Name → ℕ → ℕ) → Passes a b → Passes b c → Passes a c
     passes_on a b c first second v p = elim (second v p) [
       | inl same ↦ elim (first v p) [
@@ -202,6 +207,7 @@ module _ {Op State : Type 0} (place : Op → ℕ) (p : Publications) (c : Config
       let has = h.passed kept x r.0 in
       subst (λ (u : Name). In g.id (drop (p.passed u g.owner (place g.op)) (p.ids g.owner (place g.op)))) r.1 (has.rest g i off)
 
+  -- Facts about published entries stay true after a transaction looked further.
   pub looks : (o : ℕ) (q : Publications) → LooksFurther t o x.local c.shared p q → TellsTrue place q c
   looks o q f =
       record {

@@ -38,6 +38,7 @@ pushed_next {Op} l from at f there off before i e above below here = elim (cases
       subst (λ (g : LocalEntry Op). is_mark g.mark Unpushed ≡ false) read off
 ]
 
+-- The first i + 1 elements are the first i and the one at position i.
 pub take_next : (xs : List ℕ) (i d : ℕ) → i < length xs → take (i + 1) xs ≡ take i xs ++ get_or xs i d ∷ []
 take_next xs i d below = ap (λ (n : ℕ). take n xs) one_more ∙ take-suc xs i d below
   where
@@ -51,6 +52,7 @@ module _ {Op : Type 0} (G : List (SharedEntry Op)) (d : HasDistinctIds (map shar
       subst (λ (w : List ℕ). HoldsPositions w G (at ++ q ∷ [])) (sym (take_next ids i e below))
       (with_position G d (take i ids) at (get_or ids i e) q h (sym found))
 
+  -- If the next id is not in the shared log, the positions kept are those of one more id.
   pub no_position_next : None ≡ position (λ g. g.id == get_or ids i e) G → HoldsPositions (take (i + 1) ids) G at
   no_position_next none =
       subst (λ (w : List ℕ). HoldsPositions w G at) (sym (take_next ids i e below))

@@ -49,6 +49,7 @@ module _ {Op : Type 0} (place : Op → ℕ) where
       nothing [] = refl
       nothing (z ∷ zs) = ap (λ (w : List ℕ). z ∷ w) (nothing zs)
 
+  -- To list an entry makes each list stay the same or grow at its end.
   pub grown : (o : Option (SharedEntry Op)) (old : Name → ℕ → List ℕ) (v : Name) (p : ℕ) → Grown (old v p) (listed_more place o old v p)
   grown None old v p = stays_list (old v p)
   grown (Some g) old v p = elim (eqb_tells p (place g.op)) [
@@ -70,6 +71,7 @@ module _ {Op : Type 0} (place : Op → ℕ) where
       let same : length ys ≡ length (xs ++ h.more) = ap (λ (w : List ℕ). length w) h.is in
       omega arith
 
+  -- An id that is in a list after the first n is so in a longer one.
   pub grown_in : (xs ys : List ℕ) (n id : ℕ) → Grown xs ys → In id (drop n xs) → In id (drop n ys)
   grown_in xs ys n id h i = subst (λ (w : List ℕ). In id (drop n w)) (sym h.is) (in_drop_left n xs h.more id i)
 

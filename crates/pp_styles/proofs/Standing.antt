@@ -26,6 +26,7 @@ module _ {Op : Type 0} (i : ℕ) where
   by_place l None p = ap (λ (w : Option (LocalEntry Op)). is_some w) (sym (place_none (λ (e : LocalEntry Op). e.id == i) l p))
   by_place l (Some k) p = by_entry l k (slice_get l k) refl p
 
+  -- An id is in a local log exactly if its position is found there.
   pub standing : (l : List (LocalEntry Op)) → is_some (position (λ e. e.id == i) l) ≡ stands_in l i
   standing l = by_place l (position (λ (e : LocalEntry Op). e.id == i) l) refl ∙ told l
 

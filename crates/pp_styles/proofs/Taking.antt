@@ -43,6 +43,7 @@ module _ {Op : Type 0} (G : List (SharedEntry Op)) (d : HasDistinctIds (map shar
       let r = placed (λ (e : SharedEntry Op). e.id == id) G q found in
       same_place G d q k r.0 g r.1 here (eqb-true (r.0).id id r.2 ∙ sym same)
 
+  -- If an id has no position in the shared log, no entry there has it.
   pub no_position : (id k : ℕ) (g : SharedEntry Op) → position (λ e. e.id == id) G ≡ None → slice_get G k ≡ Some g → g.id ≡ id → ⊥
   no_position id k g none here same =
       no (sym (eq-eqb g.id id same) ∙ find_nowhere (λ (e : SharedEntry Op). e.id == id) G (place_none (λ (e : SharedEntry Op). e.id == id) G none) g (is_in G k g here))
@@ -58,6 +59,7 @@ module _ {Op : Type 0} (G : List (SharedEntry Op)) (d : HasDistinctIds (map shar
     | inr (inr none) ↦ absurd none
   ]
 
+  -- The positions of ids are those of one more id, if this one is not in the shared log.
   pub without_position : (ids at : List ℕ) (id : ℕ) → HoldsPositions ids G at → position (λ e. e.id == id) G ≡ None → HoldsPositions (ids ++ id ∷ []) G at
   without_position ids at id h none k g here i = elim (in_cases g.id ids (id ∷ []) i) [
     | inl old ↦ h k g here old
@@ -67,6 +69,7 @@ module _ {Op : Type 0} (G : List (SharedEntry Op)) (d : HasDistinctIds (map shar
 
 -- ---- pulls
 
+-- A boolean that is not true is false.
 pub not_true : (b : Bool) → (b ≡ true → ⊥) → b ≡ false
 not_true true off = absurd (off refl)
 not_true false off = refl
@@ -96,6 +99,7 @@ module _ {Op : Type 0} (place : Op → ℕ) (t : Name) (o : ℕ) (sources : List
     pub left : (k : ℕ) (g : SharedEntry Op) → from ≤ k → slice_get G k ≡ Some g → wanted g ≡ true →
         (j : ℕ) × (i ≤ j) × (j < length at) × (get_or at j k ≡ k)
 
+  -- At first all wanted entries are at one of the positions, from the first on.
   pub all_left : (at : List ℕ) → HoldsWanted place o sources G l at → Left at 0 0
   all_left at h =
       record {
@@ -145,6 +149,7 @@ module _ {Op : Type 0} (place : Op → ℕ) (t : Name) (o : ℕ) (sources : List
               (r.0, later r.0 k r.1 r.3 (λ same. omega arith), r.2, r.3);
         }
 
+    -- To take the wanted entry at the next position adds its PULL to the steps.
     pub pulls_here : IsSorted nat_cmp at → from ≤ p → (g : SharedEntry Op) → slice_get G p ≡ Some g →
         follow place t o sources (take (p + 1) G) l ≡ follow place t o sources (take from G) l ++ pull_on place o sources l t g
     pulls_here up above g here =
@@ -173,6 +178,7 @@ module _ {Op : Type 0} (place : Op → ℕ) (t : Name) (o : ℕ) (sources : List
   none_wanted all =
       all_taken [] 0 0 (omega arith) (all_left [] (λ k g here followed on missing. absurd (all g (is_in G k g here) followed on missing)))
 
+  -- If no id is listed as wanted, no entry is pulled.
   pub none_told : (ids : List ℕ) → true ≡ (length ids == 0) → IsFollowedBut place o sources G l ids → [] ≡ follow place t o sources G l
   none_told [] empty all = none_wanted all
   none_told (id ∷ ids) empty all =

@@ -38,6 +38,7 @@ module _ {Op : Type 0} (place : Op → ℕ) (o : ℕ) where
   touched (f ∷ l) (suc from) zero e there le on = absurd (omega arith)
   touched (f ∷ l) (suc from) (suc k) e there le on = touched l from k e there (omega arith) on
 
+  -- An object is touched from a position on exactly if a next entry on it is found.
   pub found_touches : (l : List (LocalEntry Op)) (from : ℕ) (r : Option ℕ) → IfSome r (IsFirstFrom (IsOn place item o) l from) → IfNone r (NoneFrom (IsOn place item o) l from) →
       is_some r ≡ touches place o (drop from l)
   found_touches l from None some none = sym (untouched l from none)

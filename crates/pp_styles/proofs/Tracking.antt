@@ -44,6 +44,7 @@ module _ {Shape State Op Undo : Type 0} (o : Object Shape State Op Undo) (place 
   true_here = subst (λ (w : Seen Shape Op). IsTrueOf place k w.config) view true_inside
 
   module _ (s : Sound (rules_of o v.shape) v.config) (t : Name) (local : Shape × LocalLog Op) (is : Some local ≡ option_map (λ (y : Tx Op). (v.shape, y.local)) (tx t v.config.opened)) where
+    -- The ids after those taken are all that the local log may lack of an object.
     pub all_but_here : (object : ℕ) (ids : List ℕ) → ids ≡ drop (k.taken t object) (k.ids object) → IsAllBut place object v.config.shared local.1 ids
     all_but_here object ids same =
         let x = opened_is v.shape local (tx t v.config.opened) is in
@@ -51,6 +52,7 @@ module _ {Shape State Op Undo : Type 0} (o : Object Shape State Op Undo) (place 
         (subst (λ (l : LocalLog Op). IsAllBut place object v.config.shared l (drop (k.taken t object) (k.ids object))) (sym x.2)
         (all_but place k v.config true_here (rules_of o v.shape) s t x.0 x.1 object))
 
+    -- A pushall of the entries from the known number on is a pushall of the local log.
     pub unpushed_here : (from : ℕ) (all : LocalLog Op) → all ≡ local.1 → from ≤ k.pushed t → Some (pushall t (take (length all - from) (drop from all))) ≡ option_map (λ (x : Tx Op). pushall t x.local) (tx t v.config.opened)
     unpushed_here from all same low =
         let x = opened_is v.shape local (tx t v.config.opened) is in
@@ -62,11 +64,13 @@ module _ {Shape State Op Undo : Type 0} (o : Object Shape State Op Undo) (place 
         rest : (n : ℕ) (xs : LocalLog Op) → take (length xs - n) (drop n xs) ≡ drop n xs
         rest n xs = let size = length-drop n xs in take_all (length xs - n) (drop n xs) (omega arith)
 
+    -- Facts about a machine stay true if more committed entries are found in a local log.
     pub takes_here : (new : Knowledge) → TakesMore t local.1 k new → IsTrueOf place new v.config
     takes_here new more =
         let x = opened_is v.shape local (tx t v.config.opened) is in
         takes place k v.config true_here (rules_of o v.shape) s t x.0 x.1 new (subst (λ (l : LocalLog Op). TakesMore t l k new) x.2 more)
 
+    -- Facts about a machine stay true if more entries are found not to be unpushed.
     pub pushes_here : (new : Knowledge) → PushesMore t local.1 k new → IsTrueOf place new v.config
     pushes_here new more =
         let x = opened_is v.shape local (tx t v.config.opened) is in
@@ -135,6 +139,7 @@ pulled_behind {Shape} {State} {Op} o p v h step Done w G is q effect f =
 pulled_behind {Shape} {State} {Op} o p v h step (False n detail) w G is q effect f =
     subst (λ (z : Seen Shape Op). KnowsPulled q z.config) (sym effect.2) (waits_pulled p v.config h step q (subst (λ (z : Shape × SharedLog Op). ListsPull step z.1 p q) is f))
 
+-- Facts about pulled entries stay true after a local log of the machine was looked at.
 pub pulled_looks : {Shape State Op Undo : Type 0} (o : Object Shape State Op Undo) (p : Pullings) (v : Seen Shape Op) → KnowsPulled p v.config → Sound (rules_of o v.shape) v.config → (t : Name) (local : Shape × LocalLog Op) →
     Some local ≡ option_map (λ (y : Tx Op). (v.shape, y.local)) (tx t v.config.opened) → (l : LocalLog Op) → l ≡ local.1 → (q : Pullings) → Looks t l p q → KnowsPulled q v.config
 pulled_looks {Shape} {State} {Op} o p v h s t local is l l_is q f =

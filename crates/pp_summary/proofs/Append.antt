@@ -25,11 +25,13 @@ use Rattle.pp_summary.proofs.Lookups.{tx_is, mark_is, there_of}
 use Rattle.pp_summary.proofs.Entries.{same_or_not}
 use Rattle.pp_model.proofs.Names.{name_or_not}
 
+-- A mark at an id that no entry has leaves a local log the same.
 pub marked_other : {Op : Type 0} (id : ℕ) (m : Mark) (l : List (LocalEntry Op)) → ((e : LocalEntry Op) → In e l → e.id ≢ id) → set_mark id m l ≡ l
 marked_other id m [] h = refl
 marked_other {Op} id m (e ∷ l) h =
     ap (λ (w : LocalEntry Op). w ∷ set_mark id m l) (elim (mark_cases id m e) [ inl r ↦ absurd (h e (inl refl) r.0) | inr r ↦ r.1 ]) ∙ ap (λ (w : List (LocalEntry Op)). e ∷ w) (marked_other id m l (λ a i. h a (inr i)))
 
+-- A mark at the id of the last entry alone changes only the mark of this entry.
 pub marked_last : {Op : Type 0} (id : ℕ) (m : Mark) (l : List (LocalEntry Op)) (e : LocalEntry Op) → ((a : LocalEntry Op) → In a l → a.id ≢ id) → e.id ≡ id → set_mark id m (l ++ e ∷ []) ≡ l ++ remark m e ∷ []
 marked_last {Op} id m l e h n = map-append (mark_at id m) l (e ∷ [])
     ∙ ap (λ (w : List (LocalEntry Op)). w ++ mark_at id m e ∷ []) (marked_other id m l h)
@@ -93,6 +95,7 @@ module _ {Op State : Type 0} (O : Object Op State) (place : Op → ℕ) (apart :
   abbrev pub two : Config Op
   two = record { names = c.names; ids = id ∷ c.ids; opened = on_log t (set_mark id Pushed) (on_log t (λ l. l ++ unpushed ∷ []) c.opened); shared = c.shared ++ entry ∷ []; done = c.done }
 
+  -- An APP that meets its criteria has a new id, and its call may follow.
   pub asked_app : Meets O c (App t id op) → (In id c.ids → ⊥) × Begins x.body (calls O (own_items x.local) ++ O.call op ∷ [])
   asked_app h = let k = there_of (tx t c.opened) _ x lookup h in (k.0, k.1.0)
 
@@ -133,10 +136,12 @@ module _ {Op State : Type 0} (O : Object Op State) (place : Op → ℕ) (apart :
   mark_one h = mark_is (x.local ++ unpushed ∷ []) ((sound_one h).local_ids x1 (in_on_same t (λ l. l ++ unpushed ∷ []) x c.opened ix nx)) id Unpushed unpushed
       (in_right unpushed x.local (unpushed ∷ []) (inl refl)) refl refl
 
+  -- If a PUSH right after its APP meets its criteria, others swap with it, and it is allowed.
   pub asked_push : Meets O c (App t id op) → Meets O one (Push t id) →
       ((u : SharedEntry Op) → In u c.shared → u.committed ≡ false → u.owner ≢ t → Swaps O u.op op) × Allowed O (shared_ops c.shared ++ op ∷ [])
   asked_push h k = let r = there_of (at_mark id Unpushed (x.local ++ unpushed ∷ [])) _ unpushed (mark_one h) (there_of (tx t one.opened) _ x1 (lookup_one h) k) in (r.1.0, r.1.1.0)
 
+  -- A PUSH right after its APP meets its criteria if it has what `Asked` says.
   pub push_holds : (h : Meets O c (App t id op)) → Asked → Meets O one (Push t id)
   push_holds h a = there_is (tx t one.opened) _ x1 (lookup_one h) (there_is (at_mark id Unpushed (x.local ++ unpushed ∷ [])) _ unpushed (mark_one h) (
     (λ p i m. absurd (none p i m)),
@@ -149,6 +154,7 @@ module _ {Op State : Type 0} (O : Object Op State) (place : Op → ℕ) (apart :
           let z : Unpushed ≡ Pushed = sym m ∙ f.own_pushed p j (ap is_own m) in
           cc
 
+  -- An APP and its PUSH lead to the configuration with the pushed entry in both logs.
   pub then_two : Meets O c (App t id op) → then one (Push t id) ≡ two
   then_two h = ap (λ (w : Option (Tx Op)). push_effect one t id (entry_of id Unpushed w)) (lookup_one h) ∙ ap (λ (w : Option (LocalEntry Op)). push_effect one t id w) (mark_one h)
 

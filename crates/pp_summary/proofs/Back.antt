@@ -28,16 +28,19 @@ use Rattle.pp_summary.proofs.Append.{marked_last}
 use Rattle.pp_records.proofs.Ends.{after_append, runs_append}
 use Rattle.std.proofs.lemmas.List.Elements.{filter-append}
 
+-- The last element of a list with an element at its end is this element.
 pub last_snoc : {A : Type 0} (l : List A) (x : A) → last (l ++ x ∷ []) ≡ Some x
 last_snoc [] x = refl
 last_snoc (y ∷ []) x = refl
 last_snoc (y ∷ z ∷ l) x = last_snoc (z ∷ l) x
 
+-- A list with an element at its end is the list again without its last element.
 pub but_last_snoc : {A : Type 0} (l : List A) (x : A) → but_last (l ++ x ∷ []) ≡ l
 but_last_snoc [] x = refl
 but_last_snoc (y ∷ []) x = refl
 but_last_snoc {A} (y ∷ z ∷ l) x = ap (λ (w : List A). y ∷ w) (but_last_snoc (z ∷ l) x)
 
+-- A local log with a last entry of an id of its own is the log again without this id.
 pub without_last : {Op : Type 0} (l : List (LocalEntry Op)) (e : LocalEntry Op) → ((a : LocalEntry Op) → In a l → a.id ≢ e.id) → without_local e.id (l ++ e ∷ []) ≡ l
 without_last {Op} l e h =
     filter-append (λ (a : LocalEntry Op). not (a.id == e.id)) l (e ∷ [])
@@ -120,6 +123,7 @@ module _ {Op State : Type 0} (O : Object Op State) (place : Op → ℕ) (apart :
         front_allowed = allowed_front O O.start (local_ops P) (e.op ∷ [])
             (subst (λ (w : List Op). Allowed O w) (ap (λ (w : List (LocalEntry Op)). local_ops w) cut ∙ map-append (λ (w : LocalEntry Op). w.op) P (e ∷ [])) (b.sound.local_allowed x ix))
 
+    -- To take back a pulled last entry is one UNPULL, and leaves the rest of the log.
     pub unpull_left : e.mark ≡ Pulled → Left P (then c (Unpull t e.id))
     unpull_left m =
         let s : Sound O (then c (Unpull t e.id)) = step_keeps O c (Unpull t e.id) b.sound (unpull_holds m) in
@@ -160,6 +164,7 @@ module _ {Op State : Type 0} (O : Object Op State) (place : Op → ℕ) (apart :
                 | inr (inr k) ↦ absurd k
               ]
 
+      -- If the last own entry leaves the shared log, the rest of that log is allowed.
       pub shorter_allowed : Allowed O (shared_ops (without_shared e.id c.shared))
       shorter_allowed =
           let F = filter test c.shared in
@@ -184,6 +189,7 @@ module _ {Op State : Type 0} (O : Object Op State) (place : Op → ℕ) (apart :
               let eg = is_mine g (before_in_first g h c.shared i) n in
               subst (λ (w : SharedEntry Op). Swaps O w.op h.op) (sym eg) (passes h (subst (λ (w : SharedEntry Op). Before w h c.shared) eg i))
 
+      -- The UNPUSH of the last own entry of a local log meets its criteria.
       pub unpush_holds : Meets O c (Unpush t e.id)
       unpush_holds = there_is (tx t c.opened) _ x lookup (there_is (at_mark e.id Pushed x.local) _ e (mark_is x.local (b.sound.local_ids x ix) e.id Pushed e ie refl m) (
         (λ a i n. absurd (none a i)),
@@ -208,6 +214,7 @@ module _ {Op State : Type 0} (O : Object Op State) (place : Op → ℕ) (apart :
       now : set_mark e.id Unpushed x.local ≡ P ++ remark Unpushed e ∷ []
       now = ap (set_mark e.id Unpushed) cut ∙ marked_last e.id Unpushed P e other_ids refl
 
+      -- The UNAPP of the last own entry of a local log meets its criteria after its UNPUSH.
       pub unapp_holds : Meets O one (Unapp t e.id)
       unapp_holds = there_is (tx t one.opened) _ (relog (set_mark e.id Unpushed) x)
           (tx_is O one s_one t (relog (set_mark e.id Unpushed) x) (in_on_same t (set_mark e.id Unpushed) x c.opened ix nx) nx)
@@ -226,6 +233,7 @@ module _ {Op State : Type 0} (O : Object Op State) (place : Op → ℕ) (apart :
             cc
       ]
 
+      -- To take back an own last entry is an UNPUSH and an UNAPP, and leaves the rest of the log.
       pub unpush_left : Left P two
       unpush_left =
           let s : Sound O two = step_keeps O one (Unapp t e.id) s_one unapp_holds in
@@ -255,6 +263,7 @@ module _ {Op State : Type 0} (O : Object Op State) (place : Op → ℕ) (apart :
     by_mark Pushed m = ((unpush_holds m, (unapp_holds m, tt)), unpush_left m)
     by_mark Pulled m = ((unpull_holds m, tt), unpull_left m)
 
+    -- The steps that take back the last entry of a local log meet their criteria.
     pub one_back : RunsFrom O c (taken_at t e.id e.mark) × Left P (after_from c (taken_at t e.id e.mark))
     one_back = by_mark e.mark refl
 

@@ -70,6 +70,7 @@ module _ {Op State : Type 0} (O : Object Op State) (place : Op → ℕ) (apart :
     by_mark Pushed m = unpushed m
     by_mark Pulled m = unpulled
 
+  -- To take back entries from the end of a local log leaves the entries of all others.
   pub all_since : (S P : List (LocalEntry Op)) (c : Config Op) → Left O place apart t (P ++ S) c → Since c0 t (P ++ S) c → Since c0 t P (after_from c (taken_out t S))
   all_since [] P c h k = subst (λ (w : List (LocalEntry Op)). Since c0 t w c) (append-nil P) k
   all_since (e ∷ S) P c h k =

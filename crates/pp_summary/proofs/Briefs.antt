@@ -36,10 +36,12 @@ use Rattle.pp_summary.proofs.Deciding.{by_record, whole}
 use Rattle.std.proofs.lemmas.Bool.{and_parts}
 use Rattle.std.proofs.lemmas.List.Elements.{filter-append}
 
+-- An id that `has_id` finds is in the list.
 pub has_in : (i : ℕ) (js : List ℕ) → has_id i js ≡ true → In i js
 has_in i [] e = absurd (cc)
 has_in i (j ∷ js) e = elim (or_true (j == i) (has_id i js) e) [ inl k ↦ inl (sym (eqb-true j i k)) | inr k ↦ inr (has_in i js k) ]
 
+-- An id that is in the list is found by `has_id`.
 pub in_has : (i : ℕ) (js : List ℕ) → In i js → has_id i js ≡ true
 in_has i [] h = absurd h
 in_has i (j ∷ js) (inl e) = ap (λ (b : Bool). b || has_id i js) (eq-eqb j i (sym e))
@@ -52,9 +54,11 @@ and_false : (a : Bool) → (a && false) ≡ false
 and_false true = refl
 and_false false = refl
 
+-- No boolean is both true and false.
 pub differ : (b : Bool) → b ≡ true → b ≡ false → ⊥
 differ b h k = let z : true ≡ false = sym h ∙ k in cc
 
+-- If `any_at` is true, one of the items is at the place.
 pub from_any_at : {Op : Type 0} (place : Op → ℕ) (o : ℕ) (l : List (Item Op)) → any_at place o l ≡ true → (q : Item Op) × In q l × (place q.op ≡ o)
 from_any_at place o [] h = absurd (cc)
 from_any_at place o (p ∷ l) h = elim (or_true (place p.op == o) (any_at place o l) h) [
@@ -62,6 +66,7 @@ from_any_at place o (p ∷ l) h = elim (or_true (place p.op == o) (any_at place 
   | inr k ↦ let r = from_any_at place o l k in (r.0, inr r.1, r.2)
 ]
 
+-- If one of the items is at the place, `any_at` is true.
 pub to_any_at : {Op : Type 0} (place : Op → ℕ) (o : ℕ) (l : List (Item Op)) (q : Item Op) → In q l → place q.op ≡ o → any_at place o l ≡ true
 to_any_at place o [] q h e = absurd h
 to_any_at {Op} place o (p ∷ l) q (inl h) e = or_left (place p.op == o) (any_at place o l) (eq-eqb (place p.op) o (ap (λ (w : Item Op). place w.op) (sym h) ∙ e))
@@ -104,6 +109,7 @@ abbrev pub to_brief : {Op : Type 0} → (Op → ℕ) → List (SharedEntry Op) �
 to_brief place G None = None
 to_brief place G (Some x) = Some (brief_tx place G x)
 
+-- The open transaction that is found in a brief is the brief of the one in the configuration.
 pub brief_of_is : {Op : Type 0} (place : Op → ℕ) (G : List (SharedEntry Op)) (t : Name) (xs : List (Tx Op)) → brief_of t (map (brief_tx place G) xs) ≡ to_brief place G (tx t xs)
 brief_of_is place G t [] = refl
 brief_of_is {Op} place G t (x ∷ xs) = ap (λ (w : Option (BriefTx Op)). cond (x.name =ⁿ t) (Some (brief_tx place G x)) w) (brief_of_is place G t xs) ∙ into (x.name =ⁿ t)
@@ -378,6 +384,7 @@ module _ {Op State : Type 0} (O : Object Op State) (place : Op → ℕ) (apart :
       (λ t g. ap (λ (w : Option (Tx Op)). brief place (after_from c (steps_of_open w (Quit t) (λ l. taken_out t l ++ Quit t ∷ [])))) g.1 ∙ abort_step t g.0 g.1)
       (λ t g. ap (λ (w : Option (Tx Op)). brief place (after_from c (steps_of_open w (Note t) (λ l. Note t ∷ taken_out t l)))) g.1 ∙ retry_step t g.0 g.1)
 
+-- The brief decides whether a record is good, and which brief a good record leads to.
 pub briefed : {Op State : Type 0} (O : Object Op State) (place : Op → ℕ) → PlacesSwap O place → IsBriefed O place
 briefed O place apart =
     record {

@@ -122,6 +122,7 @@ pub total_append : (k l : List (ℕ × ℕ)) → seen_total (k ++ l) ≡ seen_to
 total_append [] l = omega arith
 total_append (e ∷ k) l = let h = total_append k l in omega arith
 
+-- The counts up to the next place are those before it, and the count of this place.
 pub total_next : (entries : List (ℕ × ℕ)) (k : ℕ) → k < length entries → seen_total (take (k + 1) entries) ≡ seen_total (take k entries) + (get_or entries k (0, 0)).1
 total_next entries k within =
     let e = get_or entries k (0, 0) in

@@ -96,6 +96,7 @@ module _ {Op State : Type 0} (O : Object Op State) (place : Op → ℕ) (apart :
       by y i (inr n) = h.0.anchored y i n
 
   module _ (c : Config Op) (b : Boosted O place c) where
+    -- All entries of a local log that follows the shared log can be taken back from the end.
     pub whole : (t : Name) (x : Tx Op) → tx t c.opened ≡ Some x → RunsFrom O c (taken_out t x.local) × Left O place apart t [] (after_from c (taken_out t x.local))
     whole t x e = all_back O place apart t x.local [] c (as_boosted_but O place t c b, (x, e, refl))
 
@@ -152,6 +153,7 @@ module _ {Op State : Type 0} (O : Object Op State) (place : Op → ℕ) (apart :
         (λ t g. subst (λ (w : Option (Tx Op)). Boosted O place (after_from c (steps_of_open w (Note t) (λ l. Note t ∷ taken_out t l)))) (sym g.1)
         (empty_boosted t (after_from c (taken_out t (g.0).local)) (whole t g.0 g.1).1))
 
+  -- A record is good exactly if its steps hold, and then it keeps a configuration boosted.
   pub quick : KeepsBoosted O place
   quick =
       record {

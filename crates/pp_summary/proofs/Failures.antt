@@ -156,6 +156,7 @@ module _ {F R Op State : Type 0} (O : Object Op State) (T : Translation F R Op) 
       subst (λ (z : Records R). IsRejectedOn (all_steps T h z) r.line v) (sym k.parts)
       (verdict_here k.before k.behind r k.hold k.fails v (subst (λ (z : Records R). IsVerdict O h (bare (all_steps T h z)) v) k.parts a) k.begun)
 
+-- At most one record of a run fails: the one of the first step that breaks a criterion.
 pub failure_law : {F R Op State : Type 0} (O : Object Op State) (T : Translation F R Op) → FailureLaw O T
 failure_law O T =
     record {

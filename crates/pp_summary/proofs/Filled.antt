@@ -12,6 +12,7 @@ use Rattle.pp_model.proofs.NameLists.{names_turned}
 use Rattle.pp_summary.specs.Brief.{BriefTx, at_brief, brief_of, without_brief}
 use Rattle.pp_summary.specs.Shown.{filled, in_slot, open_in}
 
+-- To set the value of a name that is there keeps the names.
 pub keys_stay : {X : Type 0} (t : Name) (es : List (Name × X)) (x : X) → keys_of (set_value (λ n. t =ⁿ n) es x) ≡ keys_of es
 keys_stay t [] x = refl
 keys_stay {X} t (e ∷ es) x = by (t =ⁿ e.0) (keys_stay t es x)
@@ -20,6 +21,7 @@ keys_stay {X} t (e ∷ es) x = by (t =ⁿ e.0) (keys_stay t es x)
     by true k = refl
     by false k = ap (λ (w : List Name). e.0 ∷ w) k
 
+-- A name has a slot exactly if it is among the names of the slots.
 pub begun_is : {X : Type 0} (es : List (Name × X)) (t : Name) → is_some (lookup (λ n. t =ⁿ n) es) ≡ list_any (λ n. n =ⁿ t) (keys_of es)
 begun_is [] t = refl
 begun_is (e ∷ es) t = elim (names_tell t e.0) [
@@ -166,6 +168,7 @@ module _ {A Op : Type 0} (t : Name) (f h : Name → A → BriefTx Op) (named : (
         | inr r ↦ ap (λ (b : Bool). cond b (Some (f n x)) (brief_of t (filled f es))) r.0 ∙ s
       ]
 
+  -- A new slot at the end adds its transaction at the end.
   pub filled_more : (es : List (Name × Option A)) (n : Name) (x : A) → filled f (es ++ (n, Some x) ∷ []) ≡ filled f es ++ f n x ∷ []
   filled_more [] n x = refl
   filled_more ((m, None) ∷ es) n x = filled_more es n x
@@ -178,6 +181,7 @@ pub record IsAmong {Op : Type 0} (t : Name) (l : List (BriefTx Op)) (x : BriefTx
   pub is : l ≡ before ++ x ∷ after
   pub without : without_brief t l ≡ before ++ after
 
+-- An open transaction that is found is among the others, and can be left out there.
 pub among : {Op : Type 0} (t : Name) (l : List (BriefTx Op)) (x : BriefTx Op) → ((y z : BriefTx Op) → Before y z l → y.name ≢ z.name) → brief_of t l ≡ Some x → IsAmong t l x
 among t [] x d h = absurd (cc)
 among {Op} t (y ∷ l) x d h = elim (names_tell y.name t) [

@@ -28,6 +28,7 @@ module _ {Shape State Op Undo : Type 0} (o : Object Shape State Op Undo) (place 
     opened_none : filled (shown_tx place v.shared.1 v.commits.items) v.slots.entries ≡ []
     opened_none = ap (λ (z : List (Name × Option (OpenTx (List (Item Op))))). filled (shown_tx place v.shared.1 v.commits.items) z) slots
 
+    -- A new summary shows the brief of the configuration before the first record.
     pub fresh_shown : shown place v ≡ brief place (first None)
     fresh_shown = same_brief _ _ _ _ _ _ _ _ _ _
         (ap (λ (z : List (Name × Option (OpenTx (List (Item Op))))). reverse (keys_of z)) slots)
@@ -36,6 +37,7 @@ module _ {Shape State Op Undo : Type 0} (o : Object Shape State Op Undo) (place 
         (ap (λ (z : Shape × List (SharedEntry Op)). z.1) shared)
         committed
 
+    -- A new summary has the facts that each summary keeps.
     pub fresh_keeps : KeepsQuick o place v
     fresh_keeps =
         record {
@@ -62,6 +64,7 @@ module _ {Shape State Op Undo : Type 0} (o : Object Shape State Op Undo) (place 
       let k = h.is_held in
       subst (λ (b : Brief Op). IsAllowed o v.shape (serial_ops b.done)) k.1.is (serial_allowed v.shape k.0 k.1.boosted.sound)
 
+  -- The serial run of a summary has at most one operation for each record, and 256 of the start.
   pub done_few : (v : Kept Shape Op) → KeepsQuick o place v → length (serial_ops v.committed) ≤ v.count + 256
   done_few v h =
       let k = h.is_held in
@@ -70,6 +73,7 @@ module _ {Shape State Op Undo : Type 0} (o : Object Shape State Op Undo) (place 
       let shared : length k.0.shared ≡ length v.shared.1 = ap (λ (b : Brief Op). length b.shared) k.1.is in
       omega (arith, all, done, shared, h.few)
 
+  -- The serial run of a summary is ranged.
   pub done_ranged : (v : Kept Shape Op) → KeepsQuick o place v → AllRanged o (serial_ops v.committed)
   done_ranged v h = in_ranged o (serial_ops v.committed) (λ a i.
       let m = from_map (λ (p : Item Op). p.op) a (serial_items v.committed) i in

@@ -24,9 +24,11 @@ module _ {Op State : Type 0} (O : Object Op State) (place : Op → ℕ) (apart :
     | inr o ↦ (e.owner, true, f.pulled_stand e i o.0)
   ]
 
+  -- Entries of the shared log with one id are one entry.
   pub same : (g h : SharedEntry Op) → In g c.shared → In h c.shared → g.id ≡ h.id → g ≡ h
   same g h i j e = by_key (λ (w : SharedEntry Op). w.id) c.shared s.shared_ids g h i j e
 
+  -- An entry of the shared log with the id of a local entry has the item of that entry.
   pub is_item : (e : LocalEntry Op) → In e x.local → (g : SharedEntry Op) → In g c.shared → g.id ≡ e.id → shared_item g ≡ item e
   is_item e i g j n = let r = stands e i in ap shared_item (same g (as_shared r.0 r.1 (item e)) j r.2 n)
 
@@ -85,6 +87,7 @@ module _ {Op State : Type 0} (O : Object Op State) (place : Op → ℕ) (apart :
   abbrev out : SharedEntry Op → Bool
   out g = not (stands_in x.local g.id)
 
+  -- A shared log may be reordered: first a local log that follows it, and then the rest.
   pub reordered : Reorders O (map shared_item c.shared) (map item x.local ++ map shared_item (rest x.local c.shared))
   reordered =
       record {

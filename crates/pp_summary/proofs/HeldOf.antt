@@ -137,25 +137,31 @@ module _ {Shape State Op Undo : Type 0} (o : Object Shape State Op Undo) (place 
         },
       )
 
+  -- An id that was not used is no id of the shared log.
   pub new_id : (id : ℕ) → (In id v.brief.ids → ⊥) → (g : SharedEntry Op) → In g v.brief.shared → g.id ≡ id → ⊥
   new_id = subst (λ (w : Brief Op). (id : ℕ) → (In id w.ids → ⊥) → (g : SharedEntry Op) → In g w.shared → g.id ≡ id → ⊥) k.1.is (c_new o place apart v.shape k.0 k.1.boosted)
 
+  -- The ids of the shared log are distinct.
   pub distinct : (g h : SharedEntry Op) → Before g h v.brief.shared → g.id ≡ h.id → ⊥
   distinct = subst (λ (w : Brief Op). (g h : SharedEntry Op) → Before g h w.shared → g.id ≡ h.id → ⊥) k.1.is k.1.boosted.sound.shared_ids
 
+  -- Each item of the serial run is committed in the shared log.
   pub done_stands : (p : Item Op) → In p (serial_items v.brief.done) → (n : Name) × In (as_shared n true p) v.brief.shared
   done_stands = subst (λ (w : Brief Op). (p : Item Op) → In p (serial_items w.done) → (n : Name) × In (as_shared n true p) w.shared) k.1.is (c_done o place apart v.shape k.0 k.1.boosted)
 
+  -- Each entry of the shared log fits the shape.
   pub fits : IsLawful o → (g : SharedEntry Op) → In g v.brief.shared → IsTrue (o.fits v.shape g.op)
   fits laws = subst (λ (w : Brief Op). (g : SharedEntry Op) → In g w.shared → IsTrue (o.fits v.shape g.op)) k.1.is
       (fit o place apart v.shape k.0 k.1.boosted laws)
 
+  -- The names of the open transactions are distinct.
   pub names_apart : (y z : BriefTx Op) → Before y z v.brief.opened → y.name ≢ z.name
   names_apart = subst (λ (w : Brief Op). (y z : BriefTx Op) → Before y z w.opened → y.name ≢ z.name) k.1.is (λ y z i.
       let m = before_from_map (brief_tx place k.0.shared) y z k.0.opened i in
       λ e. k.1.boosted.sound.open_names m.0 m.1 m.2 (ap (λ (w : BriefTx Op). w.name) (sym m.3) ∙ e ∙ ap (λ (w : BriefTx Op). w.name) m.4))
 
   module _ (t : Name) (y : BriefTx Op) (found : brief_of t v.brief.opened ≡ Some y) where
+    -- An open transaction of the brief is the brief of one in the configuration.
     pub there : (x : Tx Op) × (tx t k.0.opened ≡ Some x) × (brief_tx place k.0.shared x ≡ y)
     there = found_of place k.0 t y (tx t k.0.opened) refl
         (sym (brief_of_is place k.0.shared t k.0.opened) ∙ ap (λ (w : Brief Op). brief_of t w.opened) k.1.is ∙ found)
@@ -169,17 +175,22 @@ module _ {Shape State Op Undo : Type 0} (o : Object Shape State Op Undo) (place 
     both : (P : List (Item Op) → List (SharedEntry Op) → Type 0) → P (own_items (there.0).local) k.0.shared → P y.own v.brief.shared
     both P h = subst (λ (w : List (Item Op)). P w v.brief.shared) own_is (subst (λ (w : List (SharedEntry Op)). P (own_items (there.0).local) w) log_is h)
 
+    -- Each own item of an open transaction is uncommitted in the shared log.
     pub own_stands : (p : Item Op) → In p y.own → In (as_shared t false p) v.brief.shared
     own_stands = both (λ l G. (p : Item Op) → In p l → In (as_shared t false p) G) (stands o place apart v.shape k.0 k.1.boosted t there.0 there.1)
 
+    -- Each entry of the shared log that an open transaction owns is one of its own items.
     pub is_owned : (g : SharedEntry Op) → In g v.brief.shared → g.owner ≡ t → (p : Item Op) × In p y.own × (g ≡ as_shared t false p)
     is_owned = both (λ l G. (g : SharedEntry Op) → In g G → g.owner ≡ t → (p : Item Op) × In p l × (g ≡ as_shared t false p)) (owned o place apart v.shape k.0 k.1.boosted t there.0 there.1)
 
+    -- The own items of an open transaction have the ids of its entries in the shared log.
     pub holds_ids : HoldsIdsOf t y.own v.brief.shared
     holds_ids e i u n = let w = is_owned e i n in (w.0, w.1, ap (λ (z : SharedEntry Op). z.id) (sym w.2))
 
+    -- The own items of an open transaction may leave the shared log.
     pub may_leave : IsLawful o → MayLeave o y.own (map shared_item v.brief.shared)
     may_leave laws = both (λ l G. MayLeave o l (map shared_item G)) (leaves o place apart v.shape k.0 k.1.boosted t there.0 there.1 laws)
 
+    -- To leave the own items out of the shared log is to leave out the entries of their owner.
     pub without_is : without_items shared_item y.own v.brief.shared ≡ without_owner t v.brief.shared
     without_is = both (λ l G. without_items shared_item l G ≡ without_owner t G) (without o place apart v.shape k.0 k.1.boosted t there.0 there.1)

@@ -39,6 +39,7 @@ pub used_in : (l : List ℕ) (id : ℕ) → list_any (λ i. id == i) l ≡ true 
 used_in l id e =
     let r = any_in (λ (i : ℕ). id == i) l e in subst (λ (i : ℕ). In i l) (sym (eqb-true id r.0 r.2)) r.1
 
+-- An id for which the test says that it was not used is not among the ids.
 pub not_used : (l : List ℕ) (id : ℕ) → list_any (λ i. id == i) l ≡ false → In id l → ⊥
 not_used l id e i =
     let k = none_in (λ (j : ℕ). id == j) l e id i in
@@ -61,6 +62,7 @@ slot_stays {A} t ((n, o) ∷ es) x s e = elim (names_tell t n) [
       ∙ slot_stays t es x s (sym (ap (λ (b : Bool). in_slot (cond b (Some o) (lookup (λ m. t =ⁿ m) es))) r.0) ∙ e)
 ]
 
+-- An option that is equal to some value has a value.
 pub some_there : {A : Type 0} (o : Option A) (x : A) → o ≡ Some x → IsSome o
 some_there o x e = subst (λ z. IsSome z) (sym e) refl
 
@@ -74,6 +76,7 @@ module _ {Shape State Op Undo : Type 0} (o : Object Shape State Op Undo) (place 
   abbrev commits : List (List ℕ)
   commits = v.commits.items
 
+  -- Two entries of the shared log of a summary have different ids.
   pub own_ids : HaveOwnIds G
   own_ids = distinct o place apart (as_held place v) h.is_held
 
@@ -90,17 +93,20 @@ module _ {Shape State Op Undo : Type 0} (o : Object Shape State Op Undo) (place 
       let r = any_in (λ (n : Name). n =ⁿ t) (keys_of v.slots.entries) (sym (begun_is v.slots.entries t) ∙ e) in
       in_reverse t (keys_of v.slots.entries) (subst (λ (n : Name). In n (keys_of v.slots.entries)) (names-true r.0 t r.2) r.1)
 
+  -- A name without a slot is not among the names that were begun.
   pub fresh_name : (t : Name) → is_some (lookup (λ n. t =ⁿ n) v.slots.entries) ≡ false → In t B.names → ⊥
   fresh_name t e i =
       let k = none_in (λ (n : Name). n =ⁿ t) (keys_of v.slots.entries) (sym (begun_is v.slots.entries t) ∙ e) t (from_reverse t (keys_of v.slots.entries) i) in
       let z : true ≡ false = sym (eq-names t t refl) ∙ k in cc
 
+  -- A thread that is among the busy ones is that of an open transaction.
   pub busy_thread : (p : Name) → list_any (λ q. p =ⁿ q) v.threads.keys ≡ true → ((x : BriefTx Op) → In x B.opened → x.thread ≢ p) → ⊥
   busy_thread p e n =
       let r = any_in (λ (q : Name). q =ⁿ p) (threads_of B.opened) (sym (h.threads.are p) ∙ e) in
       let m = from_map (λ (x : BriefTx Op). x.thread) r.0 B.opened r.1 in
       n m.0 m.1 (sym m.2 ∙ names-true r.0 p r.2)
 
+  -- A thread that is not among the busy ones is that of no open transaction.
   pub idle_thread : (p : Name) → list_any (λ q. p =ⁿ q) v.threads.keys ≡ false → (x : BriefTx Op) → In x B.opened → x.thread ≢ p
   idle_thread p e x i q =
       let k = none_in (λ (z : Name). z =ⁿ p) (threads_of B.opened) (sym (h.threads.are p) ∙ e) x.thread (in_map (λ (y : BriefTx Op). y.thread) x B.opened i) in
@@ -117,9 +123,11 @@ module _ {Shape State Op Undo : Type 0} (o : Object Shape State Op Undo) (place 
     here : brief_of t B.opened ≡ Some show
     here = open_there o place apart v h t x found
 
+    -- A fact of the open transaction in the brief is a fact of the one that is shown.
     pub of_it : (P : BriefTx Op → Type 0) → (X : BriefTx Op) × (brief_of t B.opened ≡ Some X) × P X → P show
     of_it P g = subst P (same_Some g.0 show (sym g.1 ∙ here)) g.2
 
+    -- A fact of the one that is shown is a fact of the open transaction in the brief.
     pub it_is : (P : BriefTx Op → Type 0) → P show → (X : BriefTx Op) × (brief_of t B.opened ≡ Some X) × P X
     it_is P p = (show, here, p)
 
@@ -131,9 +139,11 @@ module _ {Shape State Op Undo : Type 0} (o : Object Shape State Op Undo) (place 
       abbrev Good : BriefTx Op → Type 0
       Good X = BriefGoodOp (rules_of o v.shape) place B id op X
 
+      -- An op record with an id that was used is not good.
       pub used : list_any (λ i. id == i) v.ids ≡ true → IsGood o place v (records.Op t id op) → ⊥
       used e g = (of_it Good g).new (in_reverse id v.ids (used_in v.ids id e))
 
+      -- An op record with a call that may not follow is not good.
       pub unbegun : (answer : Bool) → TellsBegins x.walk (o.call op) answer → answer ≡ false → IsGood o place v (records.Op t id op) → ⊥
       unbegun answer w e g = let z : true ≡ false = sym ((w (calls_of o x.own) (fine_of o place apart v h t x found).taken).1 (of_it Good g).begins) ∙ e in cc
 
@@ -149,6 +159,7 @@ module _ {Shape State Op Undo : Type 0} (o : Object Shape State Op Undo) (place 
           ∙ in_has p.id (unseen_at (place p.op) commits x.seen.entries) (subst (λ (q : ℕ). In p.id (unseen_at q commits x.seen.entries)) (sym there) u) in
           (there, in_map (λ (w : SharedEntry Op). w.id) p (filter (is_unseen place commits x.seen.entries) G) (in_filter (is_unseen place commits x.seen.entries) p G i has))
 
+      -- An op record is not good if an unseen commit at its place does not swap with an own one.
       pub stopped : IsLawful o → StopsOne o place x.own G (unseen_at (place op) commits x.seen.entries) → IsGood o place v (records.Op t id op) → ⊥
       stopped laws s g =
           let m = missed s.entry s.is s.among in
@@ -157,11 +168,13 @@ module _ {Shape State Op Undo : Type 0} (o : Object Shape State Op Undo) (place 
           let fit_p = fits o place apart (as_held place v) h.is_held laws s.entry s.is in
           a.stays v.shape fit_a fit_p ((of_it Good g).swaps a.item s.entry a.is (a.there ∙ m.0) s.is m.0 m.1)
 
+      -- An op record is not good if an uncommitted entry of another does not swap with it.
       pub blocked : IsLawful o → IsTrue (o.fits v.shape op) → (k : ℕ) → IsFirstBlocking o t op G k → IsGood o place v (records.Op t id op) → ⊥
       blocked laws fit k b g =
           let i = stands_in G k b.entry b.is in
           b.blocks.stays v.shape (fits o place apart (as_held place v) h.is_held laws b.entry i) fit ((of_it Good g).passes b.entry i b.blocks.uncommitted b.blocks.other)
 
+      -- An op record that is not allowed after the shared log is not good.
       pub illegal : (answer : Bool) → IsTrue answer ↔ GoesBehind o v.shared.0 (shared_ops G) op → answer ≡ false → IsGood o place v (records.Op t id op) → ⊥
       illegal answer w e g =
           let z : true ≡ false = sym (w.1 (subst (λ (s : Shape). IsAllowed o s (shared_ops G ++ op ∷ [])) (sym h.same_shape) (of_it Good g).allowed)) ∙ e in cc
@@ -174,6 +187,7 @@ module _ {Shape State Op Undo : Type 0} (o : Object Shape State Op Undo) (place 
           let among = has_in p.id l (and_parts p.committed (has_id p.id l) u).1 in
           pass p j (subst (λ (n : ℕ). In p.id (unseen_at n commits x.seen.entries)) r among) a i (q ∙ sym r) v.shape
 
+      -- An op record that passes all tests of the summary is good.
       pub good : list_any (λ i. id == i) v.ids ≡ false → (can : Bool) → TellsBegins x.walk (o.call op) can → can ≡ true → LetAllPass o place x.own G (unseen_at (place op) commits x.seen.entries) →
           AllGiveWay o t op G → GoesBehind o v.shared.0 (shared_ops G) op → IsGood o place v (records.Op t id op)
       good fresh can begins ok pass give legal = it_is Good (record {
@@ -188,6 +202,7 @@ module _ {Shape State Op Undo : Type 0} (o : Object Shape State Op Undo) (place 
       pub may_take : IsGood o place v (records.Op t id op) → MayTake x.walk (o.call op)
       may_take g = (calls_of o x.own, (fine_of o place apart v h t x found).taken, (of_it Good g).begins)
 
+      -- The id of a good op record is not in the shared log.
       pub is_new : IsGood o place v (records.Op t id op) → position (λ e. e.id == id) G ≡ None
       is_new g = by (position (λ e. e.id == id) G) refl
         where
@@ -197,6 +212,7 @@ module _ {Shape State Op Undo : Type 0} (o : Object Shape State Op Undo) (place 
               let p = placed (λ (z : SharedEntry Op). z.id == id) G k e in
               absurd (new_id o place apart (as_held place v) h.is_held id (of_it Good g).new p.0 (stands_in G k p.0 p.1) (eqb-true (p.0).id id p.2))
 
+      -- The id of a good op record was not used.
       pub unused : IsGood o place v (records.Op t id op) → list_any (λ i. id == i) v.ids ≡ false
       unused g = by (list_any (λ i. id == i) v.ids) refl
         where

@@ -39,6 +39,7 @@ module _ {Op State : Type 0} (O : Object Op State) (place : Op → ℕ) (apart :
       was_true true e = refl
       was_true false e = cc
 
+  -- Two own items in order in a local log are in this order in the shared log.
   pub own_before : (a p : Item Op) → Before a p (own_items x.local) → StandsBefore a.id p.id c.shared
   own_before a p i =
       let o = before_from_own x.local a p i in
@@ -72,6 +73,7 @@ module _ {Op State : Type 0} (O : Object Op State) (place : Op → ℕ) (apart :
                 (was_false (has_id h.id (map (λ (p : Item Op). p.id) last)) k)
           ]
 
+  -- The shared log without the last own entries of an open transaction is allowed.
   pub leave : Allowed O (shared_ops (without_ids (map (λ (p : Item Op). p.id) last) c.shared))
   leave =
       let F = filter test c.shared in

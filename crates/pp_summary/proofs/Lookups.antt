@@ -14,6 +14,7 @@ use Rattle.pp_model.proofs.Names.{eq-names, names-true, names_not}
 use Rattle.pp_model.proofs.Alone.{find_only}
 use Rattle.std.proofs.lemmas.Bool.{and_parts}
 
+-- If two booleans are true, so is their conjunction.
 pub and_true : (a b : Bool) → a ≡ true → b ≡ true → (a && b) ≡ true
 and_true true b h k = k
 and_true false b h k = absurd (cc)
@@ -23,16 +24,19 @@ same_mark Unpushed = refl
 same_mark Pushed = refl
 same_mark Pulled = refl
 
+-- An open transaction of a sound configuration is found by its name.
 pub tx_is : {Op State : Type 0} (O : Object Op State) (c : Config Op) → Sound O c → (t : Name) (x : Tx Op) → In x c.opened → x.name ≡ t → tx t c.opened ≡ Some x
 tx_is {Op} O c s t x i n = find_only (λ (w : Tx Op). w.name =ⁿ t) x c.opened i (eq-names x.name t n)
     (λ y j k. by_key (λ (w : Tx Op). w.name) c.opened s.open_names y x j i (names-true y.name t k ∙ sym n))
 
+-- If ids are distinct, an entry of a local log is found by its id and its mark.
 pub mark_is : {Op : Type 0} (L : List (LocalEntry Op)) → ((e f : LocalEntry Op) → Before e f L → e.id ≢ f.id) → (id : ℕ) (m : Mark) (e : LocalEntry Op) → In e L → e.id ≡ id → e.mark ≡ m →
     at_mark id m L ≡ Some e
 mark_is {Op} L d id m e i n k = find_only (λ (w : LocalEntry Op). (w.id == id) && is_mark w.mark m) e L i
     (and_true (e.id == id) (is_mark e.mark m) (eq-eqb e.id id n) (subst (λ (w : Mark). is_mark w m ≡ true) (sym k) (same_mark m)))
     (λ y j h. by_key (λ (w : LocalEntry Op). w.id) L d y e j i (eqb-true y.id id (and_parts (y.id == id) (is_mark y.mark m) h).0 ∙ sym n))
 
+-- An entry of a sound shared log that another owns is found by its id.
 pub other_is : {Op State : Type 0} (O : Object Op State) (c : Config Op) → Sound O c → (t : Name) (g : SharedEntry Op) → In g c.shared → g.owner ≢ t → of_other t g.id c.shared ≡ Some g
 other_is {Op} O c s t g i n = find_only (λ (w : SharedEntry Op). (w.id == g.id) && not (w.owner =ⁿ t)) g c.shared i
     (and_true (g.id == g.id) (not (g.owner =ⁿ t)) (eq-eqb g.id g.id refl) (names_not g.owner t n))

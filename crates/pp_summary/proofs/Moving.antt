@@ -50,6 +50,7 @@ same_brief {Op} a b c d e f g h i j p q r s t =
     ∙ ap (λ (z : List (SharedEntry Op)). record { names = b; ids = d; opened = f; shared = z; done = i }) s
     ∙ ap (λ (z : List (CommittedTx Op)). record { names = b; ids = d; opened = f; shared = h; done = z }) t
 
+-- Transactions of a brief with equal parts are equal.
 pub same_tx : {Op : Type 0} (n : Name) (a b : Name) (c d : Option Tree) (e f : List (Item Op)) (g h : List ℕ) → a ≡ b → c ≡ d → e ≡ f → g ≡ h
     → ◌≡◌ {A = BriefTx Op} (record { name = n; thread = a; body = c; own = e; missed = g }) (record { name = n; thread = b; body = d; own = f; missed = h })
 same_tx {Op} n a b c d e f g h p q r s =
@@ -104,6 +105,7 @@ module _ {Shape State Op Undo : Type 0} (o : Object Shape State Op Undo) (place 
   pub open_is : (t : Name) → brief_of t B.opened ≡ option_map (show t) (open_in t es)
   open_is t = found_is t show show (named G commits) es h.names
 
+  -- An open transaction in a slot is shown under its name in the brief.
   pub open_there : (t : Name) (x : OpenTx (List (Item Op))) → open_in t es ≡ Some x → brief_of t B.opened ≡ Some (show t x)
   open_there t x e = open_is t ∙ ap (option_map (show t)) e
 
@@ -120,6 +122,7 @@ module _ {Shape State Op Undo : Type 0} (o : Object Shape State Op Undo) (place 
     | inr r ↦ inr (in_slot_of t fs x (sym (ap (λ (b : Bool). cond b (Some s) (lookup (λ n. t =ⁿ n) fs)) r.0) ∙ e))
   ]
 
+  -- An open transaction in a slot has the facts that each one keeps.
   pub fine_of : (t : Name) (x : OpenTx (List (Item Op))) → open_in t es ≡ Some x → IsFine o place commits x
   fine_of t x e = h.fine t x (in_slot_of t es x (slot_there t x e))
 
@@ -228,6 +231,7 @@ module _ {Shape State Op Undo : Type 0} (o : Object Shape State Op Undo) (place 
             let m = from_map (λ (y : BriefTx Op). y.thread) r.0 B.opened r.1 in
             absurd (g.1 m.0 m.1 (sym m.2 ∙ names-true r.0 p r.2))
 
+    -- A good begin record leads a summary to the brief after it, and keeps the summary's facts.
     pub begun_moves : Moves o place v (records.Plain (Begin t p b)) w
     begun_moves = moves (records.Plain (Begin t p b)) w tt g shape count begun_shown
         (subst (λ (l : List Name). (a c : Name) → Before a c l → a ≢ c) (sym keys_are) (apart_more (keys_of es) t h.names not_in))
@@ -305,6 +309,7 @@ module _ {Shape State Op Undo : Type 0} (o : Object Shape State Op Undo) (place 
             omega arith
         at_most q k false e m = (fine_of t x found).within q k (sym (ap (λ (b : Bool). cond b (Some (length (at (place op) commits))) (lookup (nat_eq q) x.seen.entries)) e) ∙ m)
 
+    -- A good op record leads a summary to the brief after it, and keeps the summary's facts.
     pub grown_moves : Moves o place v (records.Op t id op) w
     grown_moves = moves (records.Op t id op) w tt g shape count grown_shown (names_set t (Some y) w.slots.entries slots)
         (subst (λ (l : List Name). AreThreads l (threads_of (at_brief t (grown place G id op) B.opened))) (sym threads)
@@ -354,6 +359,7 @@ module _ {Shape State Op Undo : Type 0} (o : Object Shape State Op Undo) (place 
     serial_is : serial_items w.committed ≡ serial_items v.committed ++ x.own
     serial_is = ap (λ (z : List (CommittedTx Op)). serial_items z) committed ∙ serial_more v.committed (record { name = t; entries = x.own })
 
+    -- A good commit record leads a summary to the brief after it, and keeps the summary's facts.
     pub committed_moves : Moves o place v (records.Commit t) w
     committed_moves = moves (records.Commit t) w tt g shape count committed_shown (names_set t None w.slots.entries slots)
         (subst (λ (l : List Name). AreThreads w.threads.keys l) (sym (map_map (λ (y : BriefTx Op). y.thread) (missing_more place G t) (without_brief t B.opened))) (threads_gone t x w.threads.keys found busy))
@@ -407,6 +413,7 @@ module _ {Shape State Op Undo : Type 0} (o : Object Shape State Op Undo) (place 
           left_is
           committed
 
+      -- A good abort record leads a summary to the brief after it, and keeps the summary's facts.
       pub aborted_moves : Moves o place v (records.Abort t) w
       aborted_moves = moves (records.Abort t) w tt g shape count aborted_shown (names_set t None w.slots.entries slots) (threads_gone t x w.threads.keys found busy)
           (fine_set t None w.slots.entries w.commits.items slots (λ z k. subst (λ (c : List (List ℕ)). IsFine o place c z) (sym commits_are) k) (λ z e. absurd (cc)))
@@ -436,6 +443,7 @@ module _ {Shape State Op Undo : Type 0} (o : Object Shape State Op Undo) (place 
           left_is
           committed
 
+      -- A good retry record leads a summary to the brief after it, and keeps the summary's facts.
       pub retried_moves : Moves o place v (records.Retry t) w
       retried_moves = moves (records.Retry t) w tt g shape count retried_shown (names_set t (Some y) w.slots.entries again_is)
           (subst (λ (l : List Name). AreThreads l (threads_of (at_brief t emptied B.opened))) (sym threads)

@@ -20,6 +20,7 @@ use Rattle.pp_summary.specs.Boosted.{PlacesSwap, Follows, Boosted, Anchored, Com
 use Rattle.pp_summary.proofs.Front.{turn, is_item}
 use Rattle.pp_summary.proofs.Lookups.{there_of}
 
+-- A BEGIN that meets its criteria keeps a configuration boosted.
 pub begin_boosted : {Op State : Type 0} (O : Object Op State) (place : Op → ℕ) (c : Config Op) → Boosted O place c → (t p : Name) (w : Option Tree) → Meets O c (Begin t p w) → Boosted O place (then c (Begin t p w))
 begin_boosted {Op} O place c b t p w h =
     record {
@@ -34,6 +35,7 @@ begin_boosted {Op} O place c b t p w h =
       anchored = each_added c.opened (record { name = t; thread = p; body = w; local = [] }) (λ (y : Tx Op). Anchored place y.local) b.anchored (λ a i m. absurd i);
     }
 
+-- A commit leaves the id and the operation of an entry the same.
 pub commit_rest : {Op : Type 0} (t : Name) (g : SharedEntry Op) → ((commit t g).id ≡ g.id) × ((commit t g).op ≡ g.op)
 commit_rest {Op} t g = elim (names_tell g.owner t) [
   | inl r ↦ (ap (λ (b : Bool). (cond b (as_committed g) g).id) r.0, ap (λ (b : Bool). (cond b (as_committed g) g).op) r.0)
@@ -61,9 +63,11 @@ module _ {Op State : Type 0} (O : Object Op State) (place : Op → ℕ) (apart :
       let f = b.follows x ix in
       there_is (tx t c.opened) _ x lookup (w, (f.own_pushed, ((λ e i m. (as_shared e.owner true (item e), f.pulled_stand e i m, refl, refl)), refl)))
 
+  -- If a CMT meets its criteria, the own calls are a word of the body.
   pub cmt_word : Meets O c (Cmt t) → IsWord x.body (calls O (own_items x.local))
   cmt_word h = (there_of (tx t c.opened) _ x lookup h).0
 
+  -- A CMT that meets its criteria keeps a configuration boosted.
   pub cmt_boosted : Meets O c (Cmt t) → Boosted O place (then c (Cmt t))
   cmt_boosted h = subst (λ (w : Option (Tx Op)). Boosted O place (commit_effect c t w)) (sym lookup)
       (record {

@@ -22,6 +22,7 @@ use Rattle.pp_summary.proofs.Append.{Asked, asked_app, asked_push, app_holds, pu
 use Rattle.pp_summary.proofs.Relog.{on_log-same, on_log-twice}
 use Rattle.pp_records.proofs.Ends.{after_append, runs_append, runs_front, runs_back}
 
+-- A boosted configuration is boosted but for one transaction.
 pub as_boosted_but : {Op State : Type 0} (O : Object Op State) (place : Op → ℕ) (t : Name) (c : Config Op) → Boosted O place c → BoostedBut O place t c
 as_boosted_but O place t c b = record { sound = b.sound; follows = b.follows; anchored = λ y i n. b.anchored y i }
 
@@ -160,24 +161,28 @@ module _ {Op State : Type 0} (O : Object Op State) (place : Op → ℕ) (apart :
               is_there q.id (y.local ++ now_pushed ∷ []) e.0 (in_left e.0 y.local (now_pushed ∷ []) e.1) e.2;
         }
 
+  -- If an op record is good, its pulls, its APP and its PUSH meet their criteria.
   pub op_runs : GoodOp O place c id op x → RunsFrom O c (pulls ++ ends)
   op_runs g =
       let k = goal.0 g.swaps in
       let e = (goal.1 k).1 in
       runs_append O c pulls ends k (end_runs e.0 e.1 e.2 g)
 
+  -- If the steps of an op record meet their criteria, the record is good.
   pub op_good : RunsFrom O c (pulls ++ ends) → GoodOp O place c id op x
   op_good h =
       let k : RunsFrom O c pulls × RunsFrom O d ends = (runs_front O c pulls ends h, runs_back O c pulls ends h) in
       let e = goal.1 k.0 in
       end_good e.1.0 e.1.1 e.1.2 k.1 e.0
 
+  -- The steps of an op record, if they meet their criteria, keep a configuration boosted.
   pub op_boosted : RunsFrom O c (pulls ++ ends) → Boosted O place (after_from c (pulls ++ ends))
   op_boosted h =
       let k : RunsFrom O c pulls × RunsFrom O d ends = (runs_front O c pulls ends h, runs_back O c pulls ends h) in
       let e = (goal.1 k.0).1 in
       subst (λ (w : Config Op). Boosted O place w) (sym (after_append c pulls ends)) (end_boosted e.0 e.1 e.2 k.1)
 
+  -- The steps of an op record add its entry to both logs, and pull what was missed.
   pub op_grown : RunsFrom O c (pulls ++ ends) → Grown place c t id op x (after_from c (pulls ++ ends))
   op_grown h =
       let k : RunsFrom O c pulls × RunsFrom O d ends = (runs_front O c pulls ends h, runs_back O c pulls ends h) in

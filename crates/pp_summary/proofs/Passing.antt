@@ -18,6 +18,7 @@ use Rattle.pp_summary.specs.Passing.{HaveOwnIds, LetAllPass, LetPass, Stops, Sto
 use Rattle.pp_summary.specs.Shown.{at, calls_of, ids_behind, ids_or_none, unseen_at}
 use Rattle.pp_summary.proofs.Items.{some_there, take_next}
 
+-- The unseen commits at a place are those after the ones that were seen.
 pub unseen_is : (q : ℕ) (commits : List (List ℕ)) (seen : List (ℕ × ℕ)) (k : ℕ) (l : List ℕ) →
     lookup (nat_eq q) seen ≡ Some k → slice_get commits q ≡ Some l → unseen_at q commits seen ≡ drop k l
 unseen_is q commits seen k l h e =
@@ -29,6 +30,7 @@ none_with_id {Op} G id h g i n =
     let k = find_nowhere (λ (e : SharedEntry Op). e.id == id) G (place_none (λ (e : SharedEntry Op). e.id == id) G h) g i in
     let z : true ≡ false = sym (eq-eqb g.id id n) ∙ k in cc
 
+-- The entry at the position of an id is in the shared log and has the id.
 pub with_id : {Op : Type 0} (G : List (SharedEntry Op)) (id k : ℕ) (e : SharedEntry Op) → position (λ e. e.id == id) G ≡ Some k → slice_get G k ≡ Some e → In e G × (e.id ≡ id)
 with_id {Op} G id k e h s =
     let p = placed (λ (g : SharedEntry Op). g.id == id) G k h in
@@ -41,6 +43,7 @@ passes_alone {Op = Op} o place own G id d e there pass g i (inl n) =
     subst (λ (w : SharedEntry Op). LetPass o place own w.op) (by_key (λ (w : SharedEntry Op). w.id) G d e g there.0 i (there.1 ∙ sym n)) pass
 passes_alone o place own G id d e there pass g i (inr n) = absurd n
 
+-- If an own operation does not swap with an entry, the id of this entry alone shows it.
 pub stops_alone : {Shape State Op Undo : Type 0} (o : Object Shape State Op Undo) (place : Op → ℕ) (own : List (Item Op)) (G : List (SharedEntry Op)) (id : ℕ) (e : SharedEntry Op) → In e G × (e.id ≡ id) →
     Stops o place own e.op → StopsOne o place own G (id ∷ [])
 stops_alone o place own G id e there stops = record { entry = e; is = there.0; among = inl there.1; stops = stops }

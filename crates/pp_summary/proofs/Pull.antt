@@ -72,6 +72,7 @@ module _ {Op State : Type 0} (O : Object Op State) (place : Op → ℕ) (apart :
     ),
   ))
 
+  -- If a PULL meets its criteria, each own entry swaps with the entry that it pulls.
   pub pull_swaps : Meets O c (Pull t g.id) → (a : LocalEntry Op) → In a x.local → is_own a.mark ≡ true → Swaps O a.op g.op
   pull_swaps h = (there_of (of_other t g.id c.shared) _ g found (there_of (tx t c.opened) _ x lookup h)).1.1.0
 
@@ -81,6 +82,7 @@ module _ {Op State : Type 0} (O : Object Op State) (place : Op → ℕ) (apart :
   abbrev pub next : Config Op
   next = record c { opened = on_log t (λ l. l ++ as_pulled g ∷ []) c.opened }
 
+  -- A PULL adds the pulled entry to the local log of its transaction.
   pub pull_then : then c (Pull t g.id) ≡ next
   pull_then = ap (λ (w : Option (SharedEntry Op)). pull_effect c t g.id w) found
 
@@ -92,6 +94,7 @@ module _ {Op State : Type 0} (O : Object Op State) (place : Op → ℕ) (apart :
   lone p q (inl k) = k.1
   lone p q (inr k) = k
 
+  -- A local log that follows the shared log still follows it with the pulled entry.
   pub pull_follows : Follows O place c.shared (x.local ++ as_pulled g ∷ [])
   pull_follows =
       let f = b.follows x ix in
@@ -127,6 +130,7 @@ module _ {Op State : Type 0} (O : Object Op State) (place : Op → ℕ) (apart :
           let k = entry_in r.id x.local (seen r (in_K r rg, d.1, d.2 ∙ ap (λ (w : LocalEntry Op). place w.op) e)) in
           (k.0, as_pulled g, before_across k.0 (as_pulled g) x.local (as_pulled g ∷ []) k.1 (inl refl), k.2, ap (λ (w : LocalEntry Op). w.id) (sym e))
 
+  -- A PULL of a refresh keeps a configuration boosted but for its transaction.
   pub pull_boosted_but : Meets O c (Pull t g.id) → BoostedBut O place t next
   pull_boosted_but h =
       record {

@@ -139,6 +139,7 @@ module _ {Shape State Op Undo : Type 0} (o : Object Shape State Op Undo) (place 
         (sym (ap (λ (z : Records (RunRecord Op)). bare z) f.parts ∙ bare_append f.before (r ∷ f.behind)))
         (tried_to (rules_of o shape) place (bare f.before) (bare f.behind) (brief place (first h)) r.what good_before not_good)
 
+  -- A summary that takes the records of a run keeps what each reader of them keeps.
   pub reader : IsReader o place ks h
   reader =
       record {

@@ -75,6 +75,7 @@ module _ {Op : Type 0} (items : List (Item Op)) (k : ℕ) (p : Item Op) (lt : k 
       with_it d a b (inl h) e = behind_differs b h.1 (sym (ap (λ (z : Item Op). z.id) h.0) ∙ e)
       with_it d a b (inr h) e = d a b h e
 
+      -- If an item has a new id, and those after it are distinct, all from it on are.
       pub distinct_back : HasDistinctIds (drop (k + 1) items) → HasDistinctIds (drop k items)
       distinct_back d = subst (λ (w : List (Item Op)). HasDistinctIds w) (sym left) (with_it d)
 
@@ -94,15 +95,18 @@ module _ {Shape State Op Undo : Type 0} (o : Object Shape State Op Undo) (shape 
     asked_at : All (IsItemAsked o shape) items → IsItemAsked o shape p
     asked_at asked = subst (IsItemAsked o shape) (sym is) (All-get_or (IsItemAsked o shape) items k p lt asked)
 
+    -- The item at a position of a start that is asked is ranged.
     pub ranged_at : All (IsItemAsked o shape) items → IsTrue (o.ranged p.op)
     ranged_at asked = (asked_at asked).1
 
+    -- If ids are distinct, the id of the next item is not in the log of those before it.
     pub new_at : HasDistinctIds items → position (λ e. e.id == p.id) log.1 ≡ None
     new_at d = nowhere (λ (e : SharedEntry Op). e.id == p.id) log.1 (λ e i.
         let m = from_map (as_shared tx false) e (take k items) (subst (λ (w : List (SharedEntry Op)). In e w) (ap (λ (z : Shape × List (SharedEntry Op)). z.1) so_far) i) in
         ap (λ (z : SharedEntry Op). z.id == p.id) m.2
         ∙ false_from_ne_true ((m.0).id == p.id) (λ t. d m.0 p (earlier items k p lt is m.0 m.1) (eqb-true (m.0).id p.id t)))
 
+    -- With one more entry, the log is that of one more item of the start.
     pub log_more : (new : Shape × List (SharedEntry Op)) → new ≡ (log.0, log.1 ++ as_shared tx false p ∷ []) → new ≡ (shape, start_entries tx (take (k + 1) items))
     log_more new e =
         e
@@ -118,6 +122,7 @@ module _ {Shape State Op Undo : Type 0} (o : Object Shape State Op Undo) (shape 
     ops_more : ops (take (k + 1) items) ≡ ops (take k items) ++ p.op ∷ []
     ops_more = ap (λ (z : List (Item Op)). ops z) (taken items k p lt is) ∙ map-append (λ (q : Item Op). q.op) (take k items) (p ∷ [])
 
+    -- If the next item is allowed after the log, the first items with it are allowed.
     pub allowed_more : GoesBehind o log.0 (shared_ops log.1) p.op → IsAllowed o shape (ops (take (k + 1) items))
     allowed_more h = subst (λ (z : List Op). IsAllowed o shape z) (sym ops_more) (goes_there h)
 
@@ -127,6 +132,7 @@ module _ {Shape State Op Undo : Type 0} (o : Object Shape State Op Undo) (shape 
         ∙ map-append (λ (q : Item Op). q.op) (take k items) (p ∷ drop (k + 1) items)
         ∙ sym (append_assoc (ops (take k items)) (p.op ∷ []) (ops (drop (k + 1) items)))
 
+    -- If the next item is not allowed after the log, the start is not allowed.
     pub differs_at : (GoesBehind o log.0 (shared_ops log.1) p.op → ⊥) → IsAllowed o shape (ops items) → ⊥
     differs_at n a = n (goes_here (allowed_front (rules_of o shape) (o.start shape) (ops (take k items) ++ p.op ∷ []) (ops (drop (k + 1) items)) (subst (λ (z : List Op). IsAllowed o shape z) ops_cut a)))
 
@@ -172,6 +178,7 @@ module _ {Shape State Op Undo : Type 0} (o : Object Shape State Op Undo) (place 
   no_commits : (q : ℕ) → at q v.commits.items ≡ []
   no_commits q = h.commits q ∙ ap (λ (d : List (CommittedTx Op)). ids_at place q (serial_items d)) none_done
 
+  -- A new summary has begun no transaction.
   pub not_begun : (t : Name) → lookup (λ m. t =ⁿ m) v.slots.entries ≡ None
   not_begun t = ap (λ z. lookup (λ m. t =ⁿ m) z) no_slots
 
@@ -203,6 +210,7 @@ module _ {Shape State Op Undo : Type 0} (o : Object Shape State Op Undo) (place 
         ∙ ap (λ (l : List (Item Op)). ids_at place q l) (sym (append-nil items))
         ∙ ap (λ (d : List (CommittedTx Op)). ids_at place q (serial_items d)) (sym done_are)
 
+    -- A start that meets its criteria is put into a new summary.
     pub started : length items ≤ 256 → All (IsItemAsked o v.shape) items → StartMeets (rules_of o v.shape) (Some z) → PutsStart o place v z w
     started few asked meets =
         record {

@@ -207,6 +207,7 @@ module _ {Shape State Op Undo : Type 0} (o : Object Shape State Op Undo) (place 
       same_log : c.shared ≡ G
       same_log = ap (λ (b : Brief Op). b.shared) is.is
 
+      -- The own items of the local log are those that the summary keeps.
       pub same_own : own_items l ≡ x.own
       same_own = ap (λ (b : BriefTx Op). b.own) opened.2
 
@@ -335,6 +336,7 @@ module _ {Shape State Op Undo : Type 0} (o : Object Shape State Op Undo) (place 
           let m : length (take k (at q commits)) ≡ k = length-take-le k (at q commits) w in
           omega arith
 
+      -- If nothing was seen of a place, no pulled entry is at it.
       pub pulled_none : (q : ℕ) → lookup (nat_eq q) x.seen.entries ≡ None → length (pulled_there place q l) ≡ 0
       pulled_none q e =
           let a = stood_and_lacking q in
@@ -385,17 +387,21 @@ module _ {Shape State Op Undo : Type 0} (o : Object Shape State Op Undo) (place 
   pub op_alone : (t : Name) → open_in t v.slots.entries ≡ None → (id : ℕ) (op : Op) → Has (records.Op t id op) 1
   op_alone t e id op f c is = sym (ap (λ (w : Option (Tx Op)). length (steps_of_open w (App t id op) (λ k. refresh place t (place op) c.shared k ++ App t id op ∷ Push t id ∷ []))) (none_open c is t e))
 
+  -- An abort record of a transaction that is not open is one step.
   pub abort_alone : (t : Name) → open_in t v.slots.entries ≡ None → Has (records.Abort t) 1
   abort_alone t e f c is = sym (ap (λ (w : Option (Tx Op)). length (steps_of_open w (Quit t) (λ k. taken_out t k ++ Quit t ∷ []))) (none_open c is t e))
 
+  -- A retry record of a transaction that is not open is one step.
   pub retry_alone : (t : Name) → open_in t v.slots.entries ≡ None → Has (records.Retry t) 1
   retry_alone t e f c is = sym (ap (λ (w : Option (Tx Op)). length (steps_of_open w (Note t) (λ k. Note t ∷ taken_out t k))) (none_open c is t e))
 
   module _ (t : Name) (x : OpenTx (List (Item Op))) (found : open_in t v.slots.entries ≡ Some x) where
+    -- An op record is as many steps as commits at its place were not seen, and two more.
     pub op_steps : (id : ℕ) (op : Op) (n : ℕ) → n ≡ count_behind (lookup (nat_eq (place op)) x.seen.entries) (at (place op) commits) + 2 → Has (records.Op t id op) n
     op_steps id op n e f c is = e ∙ sym (op_length c is t x found f id op)
 
     module _ (own : HaveOwnPlaces x.seen.entries) (n : ℕ) (e : n ≡ seen_total x.seen.entries + 2 * length x.own + 1) where
+      -- An abort is a step for each pulled entry, two for each own one, and one more.
       pub abort_steps : Has (records.Abort t) n
       abort_steps f c is =
           let y = opened c is t x found in
@@ -404,6 +410,7 @@ module _ {Shape State Op Undo : Type 0} (o : Object Shape State Op Undo) (place 
           let d : n ≡ length (taken_out t (y.0).local ++ Quit t ∷ []) = omega arith in
           d ∙ sym (ap (λ (w : Option (Tx Op)). length (steps_of_open w (Quit t) (λ k. taken_out t k ++ Quit t ∷ []))) y.1)
 
+      -- A retry is a step for each pulled entry, two for each own one, and one more.
       pub retry_steps : Has (records.Retry t) n
       retry_steps f c is =
           let y = opened c is t x found in

@@ -54,6 +54,7 @@ module _ {Op State : Type 0} (O : Object Op State) (place : Op → ℕ) where
   tried_to [] more B r h bad = inl (bad, refl)
   tried_to (x ∷ xs) more B r h bad = inr (h.0, (xs ++ r ∷ [], tried_to xs more (brief_then place B x) r h.1 bad, refl))
 
+  -- If all records of a list are good, all are tried.
   pub tried_all : (xs : List (RunRecord Op)) (B : Brief Op) → BriefRuns O place B xs → AreTried O place B xs xs
   tried_all [] B h = refl
   tried_all (x ∷ xs) B h = inr (h.0, (xs, tried_all xs (brief_then place B x) h.1, refl))
@@ -78,6 +79,7 @@ module _ {Op State : Type 0} (O : Object Op State) (place : Op → ℕ) where
       let b = length-append (filter is_op rs) (filter is_op (r ∷ [])) in
       omega (arith, a, b, last_op B r old new cost)
 
+  -- The tried records of a run are one list, and their cost bounds that of the records so far.
   pub sum_law : SumLaw O place
   sum_law =
       record {

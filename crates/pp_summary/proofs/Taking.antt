@@ -15,6 +15,7 @@ use Rattle.pp_summary.specs.Starting.{StartAnswers}
 use Rattle.pp_summary.proofs.Briefs.{briefed}
 use Rattle.pp_summary.proofs.Deciding.{quick}
 
+-- Equal shapes, briefs and counts make equal views of a summary.
 pub same_held : {Shape Op : Type 0} (a b : Shape) (c d : Brief Op) (e f : ℕ) → a ≡ b → c ≡ d → e ≡ f → ◌≡◌ {A = Held Shape Op} (record { shape = a; brief = c; count = e }) (record { shape = b; brief = d; count = f })
 same_held {Shape} {Op} a b c d e f p q r =
     ap (λ (z : Shape). record { shape = z; brief = c; count = e }) p
@@ -29,6 +30,7 @@ module _ {Shape State Op Undo : Type 0} (o : Object Shape State Op Undo) (place 
     is_good : Good (rules_of o v.shape) place c r → IsGood o place v r
     is_good g = subst (λ (b : Brief Op). BriefGood (rules_of o v.shape) place b r) k.is (((briefed (rules_of o v.shape) place (apart v.shape)).good c r s k.boosted).0 g)
 
+    -- The answer of a summary to a record says whether it is good in each configuration it is of.
     pub taken : (answer : Bool) → Answers o place v r answer w → TakesIn o place (as_held place v) r answer (as_held place w) f c
     taken true a =
         let g = good_is a.0 in (
@@ -38,6 +40,7 @@ module _ {Shape State Op Undo : Type 0} (o : Object Shape State Op Undo) (place 
     taken false a =
         ((λ run. a.0 (is_good (((quick (rules_of o v.shape) place (apart v.shape)).good f c r s k.boosted).1 run))), ap (as_held place) a.1)
 
+  -- The answer of a summary to a record is right of all that it is seen to hold.
   pub takes_of : (v w : Kept Shape Op) (r : RunRecord Op) (answer : Bool) → IsBoosted r → Answers o place v r answer w → Takes o place (as_held place v) r answer (as_held place w)
   takes_of v w r answer s a f c k = taken v w r s f c k answer a
 
@@ -46,6 +49,7 @@ pub keeps_after : {Shape State Op Undo : Type 0} (o : Object Shape State Op Undo
 keeps_after o place v w r true a h = a.1.keeps
 keeps_after {Shape = Shape} {Op = Op} o place v w r false a h = subst (λ (z : Kept Shape Op). KeepsQuick o place z) (sym a.1) h
 
+-- A record keeps the shape of a summary.
 pub shape_after : {Shape State Op Undo : Type 0} (o : Object Shape State Op Undo) (place : Op → ℕ) (v w : Kept Shape Op) (r : RunRecord Op) (answer : Bool) → Answers o place v r answer w → w.shape ≡ v.shape
 shape_after o place v w r true a = a.1.shape
 shape_after {Shape = Shape} {Op = Op} o place v w r false a = ap (λ (z : Kept Shape Op). z.shape) a.1

@@ -16,6 +16,7 @@ threads_more ts bs us p k i u =
       are = λ q. u q ∙ ap (cond (p =ⁿ q) true) (k.are q) ∙ sym (or_last (list_any (λ z. z =ⁿ q) bs) (p =ⁿ q)) ∙ sym (any_joined bs (p ∷ []) q);
     }
 
+-- If one thread is free again, the busy threads are the others.
 pub threads_less : (ts us k l : List Name) (p : Name) → AreThreads ts (k ++ p ∷ l) →
     ((q : Name) → list_any (λ z. q =ⁿ z) us ≡ cond (p =ⁿ q) false (list_any (λ z. q =ⁿ z) ts)) → AreThreads us (k ++ l)
 threads_less ts us k l p h u =

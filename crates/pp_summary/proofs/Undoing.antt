@@ -15,6 +15,7 @@ use Rattle.pp_summary.specs.declared.undo.Undoing.{Undoing}
 use Rattle.pp_summary.specs.declared.undo.Undoing.TheVariants as ways
 use Rattle.pp_summary.proofs.Judging.{it_is, not_open}
 
+-- The most ticks of an abort or a retry are as many as the transaction has own operations.
 pub undo_most : {Op : Type 0} (B : Brief Op) (how : Undoing) (t : Name) → take_most B (undo_record how t) ≡ own_count t B
 undo_most B ways.Abort t = refl
 undo_most B ways.Retry t = refl

@@ -180,6 +180,7 @@ module _ {Op : Type 0} (place : Op → ℕ) where
             ∙ ap (λ (b : Bool). g.committed && b) (or_none old)
             ∙ sym (ap (λ (b : Bool). (g.committed && old) || (b && any_there)) r.0 ∙ or_none (g.committed && old))
 
+    -- After a commit, a transaction has not seen the committed entries that it met either.
     pub unseen_committed : unseen place (commit_all t G) later seen ≡ shared_ids (filter (λ g. has_id g.id (unseen place G commits seen) || is_met place t own g) G)
     unseen_committed =
         ap (λ (w : List (SharedEntry Op)). shared_ids w) (filter_map (is_unseen place later seen) (commit t) G)

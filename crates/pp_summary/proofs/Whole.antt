@@ -144,6 +144,7 @@ module _ {Op State : Type 0} (O : Object Op State) (place : Op → ℕ) (apart :
         let t = lined_there (joined_steps T p rs) r.line e (joined_steps T (after_record T d r.what) more) k l (omega arith) in
         ap (λ (z : Lined (Step Op)). z.line) (same_Some s t.0 (sym (subst (λ (z : LinedSteps Op). slice_get z k ≡ Some s) steps_are f) ∙ t.1)) ∙ t.2
 
+-- The records of a run decide in the brief as they do in configurations.
 pub decided : {Op State : Type 0} (O : Object Op State) (place : Op → ℕ) → PlacesSwap O place → BriefsDecide O place
 decided O place apart =
     record {

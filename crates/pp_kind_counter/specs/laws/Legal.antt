@@ -20,6 +20,7 @@ told (Add by) n h = tt
 told (Get value) n h = let k = h.1 in cc
 told (FetchAdd by was) n h = let k = h.1 in cc
 
+-- An operation is legal at the number that it records.
 pub legal_where_told : (op : CounterOp) (n : ℤ) → Tells op n → IsLegal counter n op
 legal_where_told (Add by) n h = (search rules, refl)
 legal_where_told (Get value) n h = (search rules, ap Number h)

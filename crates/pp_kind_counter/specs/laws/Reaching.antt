@@ -18,9 +18,11 @@ reach_by_allowed false true up n x = search rules
 reach_by_allowed false false true n x = search rules
 reach_by_allowed false false false n x = search rules
 
+-- The additions of `reach` lead to the number.
 pub reach_state : (x : ℤ) → state_from counter (pos 0) (reach x) ≡ x
 reach_state x = grind (arith, ints)
 
+-- The additions of `reach` to a number within twice the limit are ranged.
 pub reach_by_ranged : (zero inside up : Bool) (x : ℤ) → negsuc 1_999_999_999_999_999_999 ≤ℤ x
     → x ≤ℤ pos 2_000_000_000_000_000_000 → inside ≡ in_range x → up ≡ int_lt (pos 0) x
     → AllRanged counter (reach_by zero inside up x)
@@ -42,6 +44,7 @@ begins_low (Add d) (Add e) h k = grind (arith, ints)
 begins_low (Add d) (Get v) h k = grind (arith, ints)
 begins_low (Add d) (FetchAdd e v) h k = grind (arith, ints)
 
+-- A ranged pair begins at no more than twice the limit.
 pub begins_high : (a b : CounterOp) → IsTrue (is_ranged a) → IsTrue (is_ranged b)
     → pair_begins a b ≤ℤ pos 2_000_000_000_000_000_000
 begins_high (Get v) (Add e) h k = grind (arith, ints)

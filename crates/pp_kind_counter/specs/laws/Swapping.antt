@@ -71,8 +71,10 @@ table_tells = record {
   ranged_after = λ a b h k. tt;
 }
 
+-- Two operations on a counter swap exactly if the table says so.
 pub may_swap_exact : (a b : CounterOp) → (may_swap a b ≡ true) ↔ Swaps counter a b
 may_swap_exact = swaps_exact counter may_swap lists_round table_tells
 
+-- Two operations on a counter swap nowhere if the table says that they do not swap.
 pub may_not_swap : (a b : CounterOp) → may_swap a b ≡ false → SwapsNowhere counter a b
 may_not_swap = swaps_nowhere counter may_swap lists_round table_tells

@@ -21,6 +21,7 @@ second_is_first (FetchAdd d v) (Add e) n t h k = tt
 second_is_first (FetchAdd d v) (Get w) n t h k = grind (arith, ints)
 second_is_first (FetchAdd d v) (FetchAdd e w) n t h k = grind (arith, ints)
 
+-- If a pair is legal and the table says that it swaps, its first is legal after its second.
 pub first_is_second : (a b : CounterOp) (n : ℤ) → may_swap a b ≡ true → Tells a n
     → Tells b (n +ℤ shift_of a) → Tells a (n +ℤ shift_of b)
 first_is_second (Add d) b n t h k = tt
@@ -41,6 +42,7 @@ begins_first (FetchAdd d v) (Add e) t = refl
 begins_first (FetchAdd d v) (Get w) t = refl
 begins_first (FetchAdd d v) (FetchAdd e w) t = refl
 
+-- If the table says that a pair does not swap, its second is legal after its first there.
 pub begins_second : (a b : CounterOp) → may_swap a b ≡ false
     → Tells b (pair_begins a b +ℤ shift_of a)
 begins_second a (Add e) t = tt
@@ -51,6 +53,7 @@ begins_second (Get v) (FetchAdd e w) t = grind (arith, ints)
 begins_second (FetchAdd d v) (Get w) t = grind (arith, ints)
 begins_second (FetchAdd d v) (FetchAdd e w) t = grind (arith, ints)
 
+-- If the table says that a pair does not swap, it is not legal in the other order.
 pub not_turned : (a b : CounterOp) → may_swap a b ≡ false → Tells b (pair_begins a b)
     → Tells a (pair_begins a b +ℤ shift_of b) → ⊥
 not_turned (Add d) (Add e) t h k = grind (arith, ints)

@@ -18,6 +18,7 @@ use Rattle.pp_kind_map.specs.Operations.{key_of, found_by, left_by, call_of, rec
 use Rattle.pp_kind_map.specs.Operations.{with_value, values_after, values_before, is_ranged}
 use Rattle.pp_kind_map.specs.KeyMap.{key_map, map_keys}
 
+-- A map with a value set at a key has it there, and at other keys what it had.
 pub get-with_value : (values : FinMap int_cmp ℤ) (key : ℤ) (v : Option ℤ) (q : ℤ)
     → get (with_value values key v) q ≡ cond (int_eq q key) v (get values q)
 get-with_value values key None q = get-remove int_cmp_total values key q

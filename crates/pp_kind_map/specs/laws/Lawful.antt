@@ -44,6 +44,7 @@ before_ranged (Put key v was) h =
 before_ranged (Get key found) h = put_ranged key found h
 before_ranged (Remove key was) h = put_ranged key was h
 
+-- The lists of a map refute each pair that its table does not let swap.
 pub map_is_shown : IsShown key_map (told_keys map_keys) table_lets lists_round
 map_is_shown = record {
   by_table = λ a b. refl;
@@ -60,12 +61,15 @@ told : IsTold key_map may_swap lists_round
 told = keyed.table_tells key_map (told_keys map_keys) table_lets lists_round map_is_keyed
     map_is_shown
 
+-- Two operations on a map swap exactly if the table says so.
 pub may_swap_exact : (a b : MapOp) → (may_swap a b ≡ true) ↔ Swaps key_map a b
 may_swap_exact = swaps_exact key_map may_swap lists_round told
 
+-- Two operations on a map swap nowhere if the table says that they do not swap.
 pub may_not_swap : (a b : MapOp) → may_swap a b ≡ false → SwapsNowhere key_map a b
 may_not_swap = swaps_nowhere key_map may_swap lists_round told
 
+-- A map is lawful.
 pub key_map_lawful : IsLawful key_map
 key_map_lawful = keyed.keyed_lawful key_map (told_keys map_keys) table_lets lists_round map_is_keyed
     map_is_shown

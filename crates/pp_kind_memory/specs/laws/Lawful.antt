@@ -252,12 +252,15 @@ memory_shown = record {
 told : IsTold memory may_swap lists_round
 told = keyed.table_tells memory addresses may_swap_there lists_round memory_keyed memory_shown
 
+-- Two operations on a memory swap exactly if the table says so.
 pub may_swap_exact : (a b : MemOp) → (may_swap a b ≡ true) ↔ Swaps memory a b
 may_swap_exact = swaps_exact memory may_swap lists_round told
 
+-- Two operations on a memory swap nowhere if the table says that they do not swap.
 pub may_not_swap : (a b : MemOp) → may_swap a b ≡ false → SwapsNowhere memory a b
 may_not_swap = swaps_nowhere memory may_swap lists_round told
 
+-- A memory is lawful.
 pub memory_lawful : IsLawful memory
 memory_lawful = keyed.keyed_lawful memory addresses may_swap_there lists_round memory_keyed
     memory_shown
@@ -268,6 +271,7 @@ clique_by a b there = (may_swap_exact a b).0
     (cond_both (int_eq (address_of a) (address_of b)) (may_swap_there a b) true
     (λ t. t ≡ true) (λ e. there) (λ e. refl))
 
+-- Any two operations in the clique of a memory swap: reads and failed compare-and-swaps.
 pub clique_swaps : CliqueSwaps memory
 clique_swaps (Read a v) (Read b w) h k = clique_by (Read a v) (Read b w) refl
 clique_swaps (Read a v) (Cas b f m false) h k = clique_by (Read a v) (Cas b f m false) refl

@@ -36,14 +36,17 @@ no_zero_by true false v o e h k = h k
 no_zero_by false true v o e h k = let s : v ≡ pos 0 = cc in grind (arith, ints)
 no_zero_by false false v o e h k = h k
 
+-- A memory that stores no zero stores none after a write.
 pub written_has_no_zero : (m : FinMap int_cmp ℤ) (a v : ℤ) → HasNoZero m → HasNoZero (written m a v)
 written_has_no_zero m a v h q k =
     no_zero_by (int_eq v (pos 0)) (int_eq q a) v (get m q) refl (h q)
     (sym (kept_at (int_eq v (pos 0)) m a v q refl) ∙ k)
 
+-- The empty memory stores no zero.
 pub empty_has_no_zero : HasNoZero empty
 empty_has_no_zero q k = let e = get-empty {X = ℤ} int_cmp q in cc
 
+-- The empty memory has 0 at each address.
 pub empty_at : (q : ℤ) → value_at empty q ≡ pos 0
 empty_at q = ap (λ (o : Option ℤ). unwrap_or o (pos 0)) (get-empty {X = ℤ} int_cmp q)
 
@@ -55,6 +58,7 @@ same_option (Some v) (Some w) h k e = ap Some e
 same_option None (Some w) h k e = absurd (k (ap Some (sym e)))
 same_option (Some v) None h k e = absurd (h (ap Some e))
 
+-- Memories that store no zero and have the same number at each address are equal.
 pub one_memory : (m n : FinMap int_cmp ℤ) → HasNoZero m → HasNoZero n
     → ((q : ℤ) → value_at m q ≡ value_at n q) → m ≡ n
 one_memory m n h k e = same_map int_cmp_total int_cmp-IsAntisymmetric m n

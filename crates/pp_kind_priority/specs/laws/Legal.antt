@@ -23,6 +23,7 @@ told (Insert value) values h = tt
 told (Take value) values h = same_found (least_of values) value h.1
 told (Least value) values h = same_found (least_of values) value h.1
 
+-- An operation is legal if the least value is the one that it records.
 pub legal_where_told : (op : PrioOp) (values : List ℤ) → Tells op values → IsLegal prio values op
 legal_where_told (Insert value) values h = (refl, refl)
 legal_where_told (Take value) values h = (refl, ap answer_of h)

@@ -163,8 +163,10 @@ table_tells = record {
   ranged_after = λ a b h k. tt;
 }
 
+-- Two operations on a priority queue swap exactly if the table says so.
 pub may_swap_exact : (a b : PrioOp) → (may_swap a b ≡ true) ↔ Swaps prio a b
 may_swap_exact = swaps_exact prio may_swap lists_round table_tells
 
+-- Two operations on a priority queue swap nowhere if the table says that they do not swap.
 pub may_not_swap : (a b : PrioOp) → may_swap a b ≡ false → SwapsNowhere prio a b
 may_not_swap = swaps_nowhere prio may_swap lists_round table_tells

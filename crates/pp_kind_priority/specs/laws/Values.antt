@@ -11,6 +11,7 @@ pub put_before : (v x : ℤ) (values : List ℤ) → int_le v x ≡ true
 put_before v x values h =
     ap (λ (b : Bool). if b then v ∷ x ∷ values else x ∷ with_one v values) h
 
+-- A value is put in after a first value that is less.
 pub put_behind : (v x : ℤ) (values : List ℤ) → int_le v x ≡ false
     → with_one v (x ∷ values) ≡ x ∷ with_one v values
 put_behind v x values h =
@@ -21,6 +22,7 @@ pub taken_here : (v x : ℤ) (values : List ℤ) → int_eq v x ≡ true
     → without_one v (x ∷ values) ≡ values
 taken_here v x values h = ap (λ (b : Bool). if b then values else x ∷ without_one v values) h
 
+-- A value is taken out after a first value that is another one.
 pub taken_past : (v x : ℤ) (values : List ℤ) → int_eq v x ≡ false
     → without_one v (x ∷ values) ≡ x ∷ without_one v values
 taken_past v x values h = ap (λ (b : Bool). if b then values else x ∷ without_one v values) h
@@ -31,6 +33,7 @@ pub copies_here : (v x : ℤ) (values : List ℤ) → int_eq v x ≡ true
 copies_here v x values h =
     ap (λ (b : Bool). if b then suc (copies_of v values) else copies_of v values) h
 
+-- A first value that is another one is no copy of a value.
 pub copies_past : (v x : ℤ) (values : List ℤ) → int_eq v x ≡ false
     → copies_of v (x ∷ values) ≡ copies_of v values
 copies_past v x values h =
@@ -64,6 +67,7 @@ put_taken_by v x values true e h = ap (without_one v) (put_before v x values e)
 put_taken_by v x values false e h = ap (without_one v) (put_behind v x values e)
     ∙ taken_past v x (with_one v values) (greater v x e) ∙ ap (λ (l : List ℤ). x ∷ l) h
 
+-- To take out a value that was put in leaves the values as they were.
 pub put_taken : (v : ℤ) (values : List ℤ) → without_one v (with_one v values) ≡ values
 put_taken v [] = taken_here v v [] (same_test v)
 put_taken v (x ∷ values) = put_taken_by v x values (int_le v x) refl (put_taken v values)
@@ -90,12 +94,14 @@ ascending_by : (v x : ℤ) (values : List ℤ) (t : Bool) → int_le v x ≡ t
 ascending_by v x values true e h k = (grind (arith, ints), h)
 ascending_by v x values false e h k = (begins v x values (above v x e) h.0, k)
 
+-- Ascending values ascend with one more value.
 pub with_one_ascends : (v : ℤ) (values : List ℤ) → IsAscending values
     → IsAscending (with_one v values)
 with_one_ascends v [] h = (tt, tt)
 with_one_ascends v (x ∷ values) h =
     ascending_by v x values (int_le v x) refl h (with_one_ascends v values h.1)
 
+-- Ascending values ascend without the least.
 pub rest_ascends : (values : List ℤ) → IsAscending values → IsAscending (without_least values)
 rest_ascends [] h = tt
 rest_ascends (x ∷ values) h = h.1
@@ -146,6 +152,7 @@ none_yet v w true false e f = put_before v w [] e ∙ sym (put_behind w v [] f)
 none_yet v w false true e f = put_behind v w [] e ∙ sym (put_before w v [] f)
 none_yet v w false false e f = absurd (one_is_less v w e f)
 
+-- Two values may be put in in either order.
 pub with_two : (v w : ℤ) (values : List ℤ) → Turned v w values
 with_two v w [] = none_yet v w (int_le v w) (int_le w v) refl refl
 with_two v w (x ∷ values) =
@@ -163,6 +170,7 @@ was_least_by v w x values true e n h = absurd (n (let f : v ≡ w = cc in f))
 was_least_by v w x values false e n h =
     record { least = h; rest = sym (ap without_least (put_behind v x values e)) }
 
+-- If the least value is not the one that was put in, it was the least before.
 pub was_least : (v w : ℤ) (values : List ℤ) → v ≢ w → least_of (with_one v values) ≡ Some w
     → WasLeast v w values
 was_least v w [] n h = absurd (n (let f : v ≡ w = cc in f))
@@ -174,6 +182,7 @@ some_least_by : (v x : ℤ) (values : List ℤ) (t : Bool)
 some_least_by v x values true h = cc
 some_least_by v x values false h = cc
 
+-- There is a least value after one was put in.
 pub some_least : (v : ℤ) (values : List ℤ) → least_of (with_one v values) ≡ None → ⊥
 some_least v [] h = cc
 some_least v (x ∷ values) h = some_least_by v x values (int_le v x) h
@@ -191,6 +200,7 @@ stays_least_by w v values true e h k = let same = alike v w e h in
 stays_least_by w v values false e h k = let put = put_behind v w values e in
     record { least = ap least_of put; rest = ap without_least put }
 
+-- A value that is not less than the least leaves it the least.
 pub stays_least : (w v : ℤ) (values : List ℤ) → int_le w v ≡ true → IsAscending (w ∷ values)
     → StaysLeast w v values
 stays_least w v values h k = stays_least_by w v values (int_le v w) refl h k.0

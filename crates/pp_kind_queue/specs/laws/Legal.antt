@@ -19,6 +19,7 @@ pub told : (op : QueueOp) (items : List ℤ) → IsLegal fifo items op → Tells
 told (Enq value) items h = tt
 told (Deq value) items h = same_found (front_of items) value h.1
 
+-- An operation is legal if the front of the queue is the one that it records.
 pub legal_where_told : (op : QueueOp) (items : List ℤ) → Tells op items → IsLegal fifo items op
 legal_where_told (Enq value) items h = (refl, refl)
 legal_where_told (Deq value) items h = (refl, ap answer_of h)

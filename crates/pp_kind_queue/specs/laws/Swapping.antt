@@ -80,8 +80,10 @@ table_tells = record {
   ranged_after = after_ranged;
 }
 
+-- Two operations on a queue swap exactly if the table says so.
 pub may_swap_exact : (a b : QueueOp) → (may_swap a b ≡ true) ↔ Swaps fifo a b
 may_swap_exact = swaps_exact fifo may_swap lists_round table_tells
 
+-- Two operations on a queue swap nowhere if the table says that they do not swap.
 pub may_not_swap : (a b : QueueOp) → may_swap a b ≡ false → SwapsNowhere fifo a b
 may_not_swap = swaps_nowhere fifo may_swap lists_round table_tells

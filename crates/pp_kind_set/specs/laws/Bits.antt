@@ -21,15 +21,18 @@ bit_put : (here : Bool) (x o : Option (Unit {0}))
 bit_put true x o = refl
 bit_put false x o = refl
 
+-- After a key is inserted, it is in the set, and other keys are as before.
 pub inserted_at : (s : FinSet int_cmp) (k q : ℤ)
     → contains (insert s k) q ≡ cond (int_eq q k) true (contains s q)
 inserted_at s k q = ap is_some (get-insert int_cmp_total s k tt q)
     ∙ bit_put (int_eq q k) (Some tt) (get s q)
 
+-- After a key is removed, it is not in the set, and other keys are as before.
 pub removed_at : (s : FinSet int_cmp) (k q : ℤ)
     → contains (remove s k) q ≡ cond (int_eq q k) false (contains s q)
 removed_at s k q = ap is_some (get-remove int_cmp_total s k q) ∙ bit_put (int_eq q k) None (get s q)
 
+-- No key is in the empty set.
 pub empty_at : (q : ℤ) → contains empty q ≡ false
 empty_at q = ap is_some (get-empty {X = Unit {0}} int_cmp q)
 
@@ -40,6 +43,7 @@ same_mark (Some u) (Some v) e = refl
 same_mark None (Some v) e = cc
 same_mark (Some u) None e = cc
 
+-- Sets with the same keys are equal.
 pub one_set : (s t : FinSet int_cmp) → ((q : ℤ) → contains s q ≡ contains t q) → s ≡ t
 one_set s t same = same_map int_cmp_total int_cmp-IsAntisymmetric s t
     (λ q. same_mark (get s q) (get t q) (same q))

@@ -80,12 +80,15 @@ set_shown = record {
 told : IsTold key_set may_swap lists_round
 told = keyed.table_tells key_set (told_keys bits) may_swap_there lists_round set_keyed set_shown
 
+-- Two operations on a set swap exactly if the table says so.
 pub may_swap_exact : (a b : SetOp) → (may_swap a b ≡ true) ↔ Swaps key_set a b
 may_swap_exact = swaps_exact key_set may_swap lists_round told
 
+-- Two operations on a set swap nowhere if the table says that they do not swap.
 pub may_not_swap : (a b : SetOp) → may_swap a b ≡ false → SwapsNowhere key_set a b
 may_not_swap = swaps_nowhere key_set may_swap lists_round told
 
+-- A set is lawful.
 pub set_lawful : IsLawful key_set
 set_lawful = keyed.keyed_lawful key_set (told_keys bits) may_swap_there lists_round set_keyed
     set_shown

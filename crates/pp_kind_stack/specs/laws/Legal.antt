@@ -20,9 +20,11 @@ found_last : (items : List ℤ) (x : ℤ) → slice_get (items ++ x ∷ []) (len
 found_last [] x = refl
 found_last (y ∷ items) x = found_last items x
 
+-- The top of a list with an item added is this item.
 pub top_pushed : (items : List ℤ) (x : ℤ) → top_of (items ++ x ∷ []) ≡ Some x
 top_pushed items x = ap (slice_get (items ++ x ∷ [])) (one_more items x) ∙ found_last items x
 
+-- A list with an item added, without its top, is the list.
 pub rest_pushed : (items : List ℤ) (x : ℤ) → without_top (items ++ x ∷ []) ≡ items
 rest_pushed items x = ap (λ (n : ℕ). take n (items ++ x ∷ [])) (one_more items x)
     ∙ take-append_seam items (x ∷ [])
@@ -35,6 +37,7 @@ cut_last (y ∷ []) zero x e h = cc
 cut_last (y ∷ z ∷ items) zero x e h = absurd (omega arith)
 cut_last (y ∷ items) (suc n) x e h = ap (λ (l : List ℤ). y ∷ l) (cut_last items n x (omega arith) h)
 
+-- A list with a top is the list without it, followed by it.
 pub top_there : (items : List ℤ) (x : ℤ) → top_of items ≡ Some x
     → without_top items ++ x ∷ [] ≡ items
 top_there [] x h = cc
@@ -45,6 +48,7 @@ none_there [] n e h = cc
 none_there (y ∷ items) zero e h = cc
 none_there (y ∷ items) (suc n) e h = none_there items n (omega arith) h
 
+-- A list without a top is empty.
 pub no_top : (items : List ℤ) → top_of items ≡ None → items ≡ []
 no_top [] h = refl
 no_top (y ∷ items) h =
@@ -60,6 +64,7 @@ pub told : (op : StackOp) (items : List ℤ) → IsLegal stack items op → Tell
 told (Push value) items h = tt
 told (Pop value) items h = same_found (top_of items) value h.1
 
+-- An operation is legal if the top of the stack is the one that it records.
 pub legal_where_told : (op : StackOp) (items : List ℤ) → Tells op items → IsLegal stack items op
 legal_where_told (Push value) items h = (refl, refl)
 legal_where_told (Pop value) items h = (refl, ap answer_of h)

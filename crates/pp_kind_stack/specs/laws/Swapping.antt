@@ -81,8 +81,10 @@ table_tells = record {
   ranged_after = after_ranged;
 }
 
+-- Two operations on a stack swap exactly if the table says so.
 pub may_swap_exact : (a b : StackOp) → (may_swap a b ≡ true) ↔ Swaps stack a b
 may_swap_exact = swaps_exact stack may_swap lists_round table_tells
 
+-- Two operations on a stack swap nowhere if the table says that they do not swap.
 pub may_not_swap : (a b : StackOp) → may_swap a b ≡ false → SwapsNowhere stack a b
 may_not_swap = swaps_nowhere stack may_swap lists_round table_tells

@@ -12,6 +12,7 @@ use Rattle.pp_objects.specs.laws.Kinds.{its_act, next_is, object_of, only_kind, 
 use Rattle.pp_objects.specs.laws.Kinds.{recorded_is, start_is, state_of}
 
 module _ (k : Kind) where
+  -- An operation that is legal in a state of its kind is legal as an act.
   pub legal_in : (s : States k) (a : Ops k) → IsLegal (object_of k) s a
       → IsLegal one (state_of k s) (act_of k a)
   legal_in s a h = (
@@ -20,6 +21,7 @@ module _ (k : Kind) where
     gives_is k s a ∙ h.1 ∙ sym (recorded_is k a),
   )
 
+  -- An act that is legal in a state of its kind is legal as an operation of the kind.
   pub legal_out : (s : States k) (a : Ops k) → IsLegal one (state_of k s) (act_of k a)
       → IsLegal (object_of k) s a
   legal_out s a h = (fits k a, sym (gives_is k s a) ∙ h.1 ∙ recorded_is k a)
@@ -29,6 +31,7 @@ module _ (k : Kind) where
       × (a ≡ act_of k b)
   legal_act s a h = its_act k a (subst (λ (q : Kind). IsTrue (one.fits q a)) (has_kind k s) h.0)
 
+  -- A list that is allowed in a kind is allowed as acts.
   pub allowed_in : (s : States k) (l : List (Ops k)) → AllowedFrom (object_of k) s l
       → AllowedFrom one (state_of k s) (map (act_of k) l)
   allowed_in s [] h = tt
@@ -38,6 +41,7 @@ module _ (k : Kind) where
         (allowed_in ((object_of k).next s a) l h.1),
   )
 
+  -- A list that is allowed as acts of one kind is allowed in the kind.
   pub allowed_out : (s : States k) (l : List (Ops k))
       → AllowedFrom one (state_of k s) (map (act_of k) l) → AllowedFrom (object_of k) s l
   allowed_out s [] h = tt
@@ -47,6 +51,7 @@ module _ (k : Kind) where
         (subst (λ (t : ObjectState). AllowedFrom one t (map (act_of k) l)) (next_is k s a) h.1),
   )
 
+  -- Acts of a kind lead to the state that its operations lead to.
   pub state_in : (s : States k) (l : List (Ops k))
       → state_from one (state_of k s) (map (act_of k) l) ≡ state_of k (state_from (object_of k) s l)
   state_in s [] = refl
@@ -116,6 +121,7 @@ module _ (k : Kind) where
       (subst (Q (act_of k a ∷ act_of k b ∷ l)) r.3 g)) in
       subst P (sym e) there first l h)
 
+  -- Two operations whose acts swap, swap in their kind.
   pub swaps_out : (a b : Ops k) → Swaps one (act_of k a) (act_of k b) → Swaps (object_of k) a b
   swaps_out a b swaps =
       swaps_where_turned (object_of k) a b
@@ -136,10 +142,12 @@ module _ (k : Kind) where
       allowed_out (state_after (object_of k) tt before) (b ∷ a ∷ l)
       (subst (λ (t : ObjectState). P t (act_of k b ∷ act_of k a ∷ map (act_of k) l)) e turned))
 
+  -- A list that is ranged in a kind is ranged as acts.
   pub ranged_in : (l : List (Ops k)) → AllRanged (object_of k) l → AllRanged one (map (act_of k) l)
   ranged_in [] h = tt
   ranged_in (a ∷ l) h = (subst IsTrue (sym (ranged_is k a)) h.0, ranged_in l h.1)
 
+  -- A list that is ranged as acts of one kind is ranged in the kind.
   pub ranged_out : (l : List (Ops k)) → AllRanged one (map (act_of k) l) → AllRanged (object_of k) l
   ranged_out [] h = tt
   ranged_out (a ∷ l) h = (subst IsTrue (ranged_is k a) h.0, ranged_out l h.1)

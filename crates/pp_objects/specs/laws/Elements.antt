@@ -16,16 +16,19 @@ same_place_by false p q e = inr (grind (arith, nat_tests))
 pub same_place : (p q : ℕ) → (p ≡ q) ⊎ (p ≢ q)
 same_place p q = same_place_by (nat_eq p q) p q refl
 
+-- Two values are equal if the options with them are.
 pub same_some : {X : Type 0} (x y : X) → Some x ≡ Some y → x ≡ y
 same_some x y h = cc
 
 module _ {X : Type 0} where
+  -- After an element is set at a position, it is there.
   pub get_set : (l : List X) (p : ℕ) (x y : X) → slice_get l p ≡ Some x
       → slice_get (set l p y) p ≡ Some y
   get_set [] p x y h = absurd (cc)
   get_set (z ∷ l) zero x y h = refl
   get_set (z ∷ l) (suc p) x y h = get_set l p x y h
 
+  -- To set an element at one position leaves those at other positions.
   pub get_other : (l : List X) (p q : ℕ) (y : X) → (q ≡ p → ⊥)
       → slice_get (set l p y) q ≡ slice_get l q
   get_other [] p q y h = refl
@@ -34,6 +37,7 @@ module _ {X : Type 0} where
   get_other (z ∷ l) (suc p) zero y h = refl
   get_other (z ∷ l) (suc p) (suc q) y h = get_other l p q y (λ e. h (ap suc e))
 
+  -- To set the element that is at a position leaves the list the same.
   pub set_own : (l : List X) (p : ℕ) (x : X) → slice_get l p ≡ Some x → set l p x ≡ l
   set_own [] p x h = refl
   set_own (z ∷ l) zero x h = ap (λ (y : X). y ∷ l) (sym (same_some z x h))
@@ -53,19 +57,23 @@ module _ {X : Type 0} where
   get_put_by f l p None h = h
   get_put_by f l p (Some x) h = get_set l p x (f x) h
 
+  -- The image of an element that is put at its position is there afterwards.
   pub get_put : (f : X → X) (l : List X) (p : ℕ)
       → slice_get (put l p (option_map f (slice_get l p))) p ≡ option_map f (slice_get l p)
   get_put f l p = get_put_by f l p (slice_get l p) refl
 
+  -- To put an element at one position leaves those at other positions.
   pub put_other : (l : List X) (p q : ℕ) (t : Option X) → (q ≡ p → ⊥)
       → slice_get l q ≡ slice_get (put l p t) q
   put_other l p q None h = refl
   put_other l p q (Some y) h = sym (get_other l p q y h)
 
+  -- A list of p + 1 copies of an element has it at position p.
   pub get_replicate : (p : ℕ) (x : X) → slice_get (replicate (suc p) x) p ≡ Some x
   get_replicate zero x = refl
   get_replicate (suc p) x = get_replicate p x
 
+-- An element that is set with the image of the old one leaves the mapped list the same.
 pub map_set : {X Y : Type 0} (f : X → Y) (l : List X) (p : ℕ) (x y : X)
     → slice_get l p ≡ Some x → f y ≡ f x → map f (set l p y) ≡ map f l
 map_set {X} {Y} f l p x y h e =

@@ -77,6 +77,7 @@ object_of kinds.Queue = fifo
 object_of kinds.Stack = stack
 object_of kinds.PriorityQueue = prio
 
+-- The object of each kind is lawful.
 pub lawful : (k : Kind) → IsLawful (object_of k)
 lawful kinds.Memory = memory_lawful
 lawful kinds.KeySet = set_lawful
@@ -182,10 +183,12 @@ pub fits : (k : Kind) (a : Ops k) → IsTrue ((object_of k).fits tt a)
 fits kinds.Memory a = refl
 fits k a = refl
 
+-- A state of a kind has this kind as its shape.
 pub has_kind : (k : Kind) (s : States k) → one.shape (state_of k s) ≡ k
 has_kind kinds.Memory s = refl
 has_kind k s = refl
 
+-- An operation of a kind fits the kind.
 pub asks_kind : (k : Kind) (a : Ops k) → IsTrue (one.fits k (act_of k a))
 asks_kind kinds.Memory a = refl
 asks_kind k a = refl
@@ -194,25 +197,31 @@ act_kind : (k : Kind) (a : Ops k) → kind_for (act_of k a) ≡ k
 act_kind kinds.Memory a = refl
 act_kind k a = refl
 
+-- An operation of a kind fits no other kind.
 pub only_kind : (k q : Kind) (a : Ops k) → IsTrue (one.fits q (act_of k a)) → q ≡ k
 only_kind k q a h = fits_own q (act_of k a) h ∙ act_kind k a
 
+-- No lists refute an act of a kind with an act that does not fit the kind.
 pub other : (k : Kind) (a : Ops k) (b : Act) → one.fits k b ≡ false
     → one.refuting (act_of k a) b ≡ None
 other k a b h = unrefuted_apart (act_of k a) b
     (subst (λ (q : Kind). one.fits q b ≡ false) (sym (act_kind k a)) h)
 
+-- A state whose shape is a kind is a state of the kind.
 pub its_state : (k : Kind) (s : ObjectState) → one.shape s ≡ k → (t : States k) × (s ≡ state_of k t)
 its_state k s e = subst (λ (q : Kind). (t : States q) × (s ≡ state_of q t)) e (own_state s)
 
+-- An act that fits a kind is an operation of the kind.
 pub its_act : (k : Kind) (a : Act) → IsTrue (one.fits k a) → (b : Ops k) × (a ≡ act_of k b)
 its_act k a h = subst (λ (q : Kind). (b : Ops q) × (a ≡ act_of q b)) (sym (fits_own k a h))
     (own_act a)
 
+-- States of a kind that are equal among all kinds are equal.
 pub one_state : (k : Kind) (s t : States k) → state_of k s ≡ state_of k t → s ≡ t
 one_state kinds.Memory s t h = cc
 one_state k s t h = cc
 
+-- An undo value of a kind, taken among all kinds and back, is the same.
 pub one_undo : (k : Kind) (u : Undos k) → undo_from k (undo_as k u) ≡ u
 one_undo kinds.Memory u = refl
 one_undo k u = refl
@@ -223,6 +232,7 @@ pub into_state : (k : Kind) (s : States k) → (object_of k).upkeep.IsState s
 into_state kinds.Memory s h = h
 into_state k s h = h
 
+-- A state that the laws speak of among all kinds is one that they speak of in its kind.
 pub from_state : (k : Kind) (s : States k) → one.upkeep.IsState (state_of k s)
     → (object_of k).upkeep.IsState s
 from_state kinds.Memory s h = h
@@ -233,39 +243,47 @@ pub start_is : (k : Kind) → one.start k ≡ state_of k ((object_of k).start tt
 start_is kinds.Memory = refl
 start_is k = refl
 
+-- An act is ranged exactly if its operation is ranged in the kind.
 pub ranged_is : (k : Kind) (a : Ops k) → one.ranged (act_of k a) ≡ (object_of k).ranged a
 ranged_is kinds.Memory a = refl
 ranged_is k a = refl
 
+-- The call of an act is the call of its operation in the kind.
 pub call_is : (k : Kind) (a : Ops k) → one.call (act_of k a) ≡ (object_of k).call a
 call_is kinds.Memory a = refl
 call_is k a = refl
 
+-- The recorded result of an act is that of its operation in the kind.
 pub recorded_is : (k : Kind) (a : Ops k) → one.recorded (act_of k a) ≡ (object_of k).recorded a
 recorded_is kinds.Memory a = refl
 recorded_is k a = refl
 
+-- The result of an act in a state is that of its operation in the kind.
 pub gives_is : (k : Kind) (s : States k) (a : Ops k)
     → one.gives (state_of k s) (act_of k a) ≡ (object_of k).gives s a
 gives_is kinds.Memory s a = refl
 gives_is k s a = refl
 
+-- The state after an act is the one after its operation in the kind.
 pub next_is : (k : Kind) (s : States k) (a : Ops k)
     → one.next (state_of k s) (act_of k a) ≡ state_of k ((object_of k).next s a)
 next_is kinds.Memory s a = refl
 next_is k s a = refl
 
+-- The undo value of an act is that of its operation in the kind.
 pub kept_is : (k : Kind) (s : States k) (a : Ops k)
     → one.upkeep.kept (state_of k s) (act_of k a) ≡ undo_as k ((object_of k).upkeep.kept s a)
 kept_is kinds.Memory s a = refl
 kept_is k s a = refl
 
+-- To take an act back is to take its operation back in the kind.
 pub back_is : (k : Kind) (s : States k) (a : Ops k) (u : Undo)
     → one.upkeep.back (state_of k s) (act_of k a) u
     ≡ state_of k ((object_of k).upkeep.back s a (undo_from k u))
 back_is kinds.Memory s a u = refl
 back_is k s a u = refl
 
+-- The lists that refute two acts of a kind are those that refute their operations.
 pub refuting_is : (k : Kind) (a b : Ops k)
     → one.refuting (act_of k a) (act_of k b) ≡ both_as (act_of k) ((object_of k).refuting a b)
 refuting_is kinds.Memory a b = refl
@@ -275,6 +293,7 @@ refuting_is k a b = refl
 pub each_act : (P : Act → Type 0) → ((k : Kind) (a : Ops k) → P (act_of k a)) → (a : Act) → P a
 each_act P h a = let b = own_act a in subst P (sym b.1) (h (kind_for a) b.0)
 
+-- A fact of the states of each kind is a fact of all states.
 pub each_state : (P : ObjectState → Type 0) → ((k : Kind) (s : States k) → P (state_of k s))
     → (s : ObjectState) → P s
 each_state P h s = let t = own_state s in subst P (sym t.1) (h (one.shape s) t.0)

@@ -170,6 +170,7 @@ module _ (o : Object Kind ObjectState Act Undo) (laws : IsLawful o)
   exact : (a b : Op) → IsExact a b ((many o).refuting a b)
   exact a b = exact_by a b (nat_eq a.object b.object) refl
 
+  -- The objects of a run are lawful if an object of any kind is.
   pub many_lawful : IsLawful (many o)
   unfolding IsExact
   many_lawful = record {
@@ -185,6 +186,7 @@ module _ (o : Object Kind ObjectState Act Undo) (laws : IsLawful o)
     refuted = λ a b. (exact a b).1;
   }
 
+  -- Each operation on the objects of a run depends on its place alone.
   pub many_placed : IsPlaced (many o) place_of SameAt
   many_placed = record {
     same = λ p ss. refl;
@@ -205,5 +207,6 @@ module _ (o : Object Kind ObjectState Act Undo) (laws : IsLawful o)
 pub objects_lawful : IsLawful objects
 objects_lawful = many_lawful one one_lawful call_has_no_place
 
+-- Each operation on the objects of a run of all kinds depends on its place alone.
 pub objects_placed : IsPlaced objects place_of SameAt
 objects_placed = many_placed one one_lawful call_has_no_place

@@ -42,6 +42,7 @@ next_shape = each_legal (λ s a. one.shape (one.next s a) ≡ one.shape s)
 start_shape : (q : Kind) → one.shape (one.start q) ≡ q
 start_shape k = ap one.shape (start_is k) ∙ has_kind k ((object_of k).start tt)
 
+-- The state after an allowed list of acts has the kind that it began with.
 pub reached_shape : (q : Kind) (l : List Act) → IsAllowed one q l
     → one.shape (state_after one q l) ≡ q
 reached_shape q l h = keeps_shape one next_shape (one.start q) l h ∙ start_shape q
@@ -112,6 +113,7 @@ ranged_numbers =
     ∙ ap (λ (r : Answer). has_ranged_arguments (one.call (act_of k a)) && is_ranged_answer r)
     (sym (recorded_is k a)))
 
+-- The call of an act has the object 0, as an act has no place.
 pub call_has_no_place : (a : Act) → (one.call a).object ≡ 0
 call_has_no_place = each_act (λ a. (one.call a).object ≡ 0)
     (λ k a. ap (λ (c : Call). c.object) (call_is k a) ∙ no_place k a)
@@ -126,6 +128,7 @@ others_swap k a b other =
     let f : one.fits k b ≡ true = subst (λ (q : Kind). IsTrue (one.fits q b)) e h.1.0.0 in
     absurd (cc))
 
+-- If lists mapped to another type are none, the lists are none.
 pub none_as : {A B : Type 0} (f : A → B) (o : Option (List A × List A)) → both_as f o ≡ None
     → o ≡ None
 none_as f None h = refl
@@ -198,6 +201,7 @@ exact_by k a b false e =
 exact : (a b : Act) → IsExact a b
 exact = each_act (λ a. (b : Act) → IsExact a b) (λ k a b. exact_by k a b (one.fits k b) refl)
 
+-- An object of any kind is lawful.
 pub one_lawful : IsLawful one
 unfolding IsExact
 one_lawful = record {

@@ -26,12 +26,14 @@ module _ (o : Object Kind ObjectState Act Undo) (laws : IsLawful o) where
   legal_by None a f g = absurd (cc)
   legal_by (Some s) a f g = (s, refl, (f, g))
 
+  -- If an operation is legal, an object is at its place, and its act is legal there.
   pub legal_there : (ss : List ObjectState) (x : Op) → IsLegal (many o) ss x → (s : ObjectState)
       × (slice_get ss x.object ≡ Some s) × IsLegal o s x.act
   legal_there ss x h = legal_by (slice_get ss x.object) x.act
       (subst (λ (t : Option Kind). IsTrue (fits_in o t x.act))
       (slice_get-map o.shape ss x.object) h.0) h.1
 
+  -- An operation is legal if its act is legal at its place.
   pub legal_from : (ss : List ObjectState) (x : Op) (s : ObjectState)
       → slice_get ss x.object ≡ Some s → IsLegal o s x.act → IsLegal (many o) ss x
   legal_from ss x s e h = (
@@ -47,12 +49,14 @@ module _ (o : Object Kind ObjectState Act Undo) (laws : IsLawful o) where
   next_is ss x s e = ap (λ (t : Option ObjectState).
       put ss x.object (option_map (λ r. o.next r x.act) t)) e
 
+  -- After an operation, its object is in the state after its act.
   pub next_there : (ss : List ObjectState) (x : Op) (s : ObjectState)
       → slice_get ss x.object ≡ Some s
       → slice_get ((many o).next ss x) x.object ≡ Some (o.next s x.act)
   next_there ss x s e = ap (λ (ts : List ObjectState). slice_get ts x.object) (next_is ss x s e)
       ∙ get_set ss x.object s (o.next s x.act) e
 
+  -- A legal operation keeps the shapes of all objects.
   pub next_shapes : (ss : List ObjectState) (x : Op) → IsLegal (many o) ss x
       → map o.shape ((many o).next ss x) ≡ map o.shape ss
   next_shapes ss x h =
@@ -60,6 +64,7 @@ module _ (o : Object Kind ObjectState Act Undo) (laws : IsLawful o) where
       ap (λ (ts : List ObjectState). map o.shape ts) (next_is ss x t.0 t.1)
       ∙ map_set o.shape ss x.object t.0 (o.next t.0 x.act) t.1 (laws.next_shape t.0 x.act t.2)
 
+  -- The shapes of the objects at the start are the kinds that they were made of.
   pub start_shapes : (kinds : List Kind) → map o.shape (map o.start kinds) ≡ kinds
   start_shapes [] = refl
   start_shapes (q ∷ kinds) = ap (λ (r : Kind). r ∷ map o.shape (map o.start kinds))
@@ -75,6 +80,7 @@ module _ (o : Object Kind ObjectState Act Undo) (laws : IsLawful o) where
         (next_there ss (act_at p a) s e) h.1,
   )
 
+  -- Acts on one object that are allowed in a run are allowed for the object alone.
   pub allowed_alone : (p : ℕ) (l : List Act) (ss : List ObjectState) (s : ObjectState)
       → slice_get ss p ≡ Some s → AllowedFrom (many o) ss (map (act_at p) l) → AllowedFrom o s l
   allowed_alone p [] ss s e h = tt
@@ -85,6 +91,7 @@ module _ (o : Object Kind ObjectState Act Undo) (laws : IsLawful o) where
             (next_there ss (act_at p a) s e) h.1,
       )
 
+  -- Acts on one object lead it where they lead it alone.
   pub state_at : (p : ℕ) (l : List Act) (ss : List ObjectState) (s : ObjectState)
       → slice_get ss p ≡ Some s → slice_get (state_from (many o) ss (map (act_at p) l)) p
       ≡ Some (state_from o s l)
@@ -143,6 +150,7 @@ module _ (o : Object Kind ObjectState Act Undo) (laws : IsLawful o) where
         },
       )
 
+  -- A list that is allowed for all objects is allowed at each place, by the acts there.
   pub seen_at : (p : ℕ) (l : List Op) (ss : List ObjectState) (s : ObjectState)
       → slice_get ss p ≡ Some s → AllowedFrom (many o) ss l → (m : List Act) × IsSeenAt ss p s l m
   seen_at p [] ss s e h = (
@@ -164,6 +172,7 @@ module _ (o : Object Kind ObjectState Act Undo) (laws : IsLawful o) where
   start_at kinds p q e = slice_get-map o.start kinds p
       ∙ ap (λ (t : Option Kind). option_map o.start t) e
 
+  -- The shape at a place is the shape of the object there.
   pub shape_at : (ss : List ObjectState) (p : ℕ) (s : ObjectState) → slice_get ss p ≡ Some s
       → slice_get (map o.shape ss) p ≡ Some (o.shape s)
   shape_at ss p s e = slice_get-map o.shape ss p
@@ -227,6 +236,7 @@ module _ (o : Object Kind ObjectState Act Undo) (laws : IsLawful o) where
             ∙ sym (next_is ((many o).next ss a) b r.0 r.1),
       )
 
+  -- Operations on different objects of a run swap.
   pub others_swap : (a b : Op) → (a.object ≡ b.object → ⊥) → Swaps (many o) a b
   others_swap a b apart = commuting_swap (many o) a b (others_commute a b apart)
 
@@ -312,6 +322,7 @@ module _ (o : Object Kind ObjectState Act Undo) (laws : IsLawful o) where
       ∙ sym (one_set b a) in
       (both.0, (both.1.0, subst Q left after))
 
+  -- Acts that swap alone swap on one object of a run.
   pub swaps_at : (p : ℕ) (a b : Act) → Swaps o a b → Swaps (many o) (act_at p a) (act_at p b)
   swaps_at p a b swaps =
       swaps_where_turned (many o) (act_at p a) (act_at p b)
@@ -335,6 +346,7 @@ module _ (o : Object Kind ObjectState Act Undo) (laws : IsLawful o) where
     | inr apart ↦ others_swap a b apart
   ]
 
+  -- Acts that swap on one object of a run swap alone.
   pub swaps_alone : (p : ℕ) (a b : Act) → Swaps (many o) (act_at p a) (act_at p b) → Swaps o a b
   swaps_alone p a b swaps =
       swaps_where_turned o a b

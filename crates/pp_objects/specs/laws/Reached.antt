@@ -14,6 +14,7 @@ use Rattle.pp_objects.specs.laws.Kinds.{state_of, undo_from}
 use Rattle.pp_objects.specs.laws.Acts.{legal_out, reached_in, ranged_out}
 
 module _ (k : Kind) where
+  -- A state of a kind that is reached among all kinds is reached in the kind alone.
   pub reached_alone : (s : States k) → IsReached one (state_of k s) → IsReached (object_of k) s
   reached_alone s h =
       let P : Kind → Type 0 = λ q. IsAllowed one q h.ops in
@@ -30,6 +31,7 @@ module _ (k : Kind) where
         few = subst (λ n. n < 1_000_000) (ap length r.1 ∙ length-map r.0 (act_of k)) h.few;
       }
 
+  -- An act of a kind that was applied among all kinds was applied in the kind alone.
   pub was_applied_alone : (s : States k) (a : Ops k) (u : Undo)
       → WasApplied one (act_of k a) u (state_of k s) → WasApplied (object_of k) a (undo_from k u) s
   was_applied_alone s a u h =
