@@ -2,17 +2,16 @@
 use Rattle.std.specs.Prelude.{◌≡◌, ◌≢◌, ◌≤◌, ◌+◌, ℕ, zero, ◌==◌, Bool, true, false, not, cond, ◌&&◌, List, [], ◌∷◌, ◌++◌, map, filter, take, drop, length, if◌then◌else◌, Option, Some, None}
 use Rattle.std.proofs.Common.{refl, sym, ap, subst, ◌∙◌, arith, append_assoc, take-append-drop, length-append}
 use Rattle.std.proofs.lemmas.List.{append-nil, take-append-le}
-use Rattle.std.proofs.lemmas.List.Elements.{filter-append}
 use Rattle.std.proofs.Math.Seq.{take-length}
 use mathlib.Core.Logic.{inl, inr}
-use Rattle.pp_model.specs.Lists.{In}
+use Rattle.pp_model.specs.Lists.{In, Before}
 use Rattle.pp_model.specs.Names.{Name, ◌=ⁿ◌}
-use Rattle.pp_model.specs.Object.{Object}
-use Rattle.pp_model.specs.Config.{Mark, Unpushed, Pushed, Pulled, is_mark, LocalEntry, SharedEntry, CommittedTx, Tx, Config, Quit, Note, item, as_pulled, as_shared, tx, then, on_log, relog, without_tx, after_from}
+use Rattle.pp_model.specs.Object.{Object, Item, Swaps, ops}
+use Rattle.pp_model.specs.Config.{Mark, Unpushed, Pushed, Pulled, is_mark, is_own, LocalEntry, SharedEntry, CommittedTx, Tx, Config, Quit, Note, item, as_pulled, as_shared, local_ops, tx, then, on_log, relog, without_tx, after_from}
 use Rattle.pp_model.specs.Rules.{RunsFrom}
 use Rattle.pp_model.specs.Serial.{has_id}
 use Rattle.pp_model.specs.Sound.{Sound}
-use Rattle.pp_model.proofs.Lists.{in_left, in_right, in_cases, from_map, in_filter, from_filter}
+use Rattle.pp_model.proofs.Lists.{before_across, before_left, in_left, in_right, in_cases, in_map, from_map, in_filter, from_filter}
 use Rattle.pp_model.proofs.Logs.{found_tx, on_each, is_mark-true}
 use Rattle.pp_model.proofs.Names.{eq-names, names_tell, name_or_not}
 use Rattle.pp_model.proofs.Alone.{there_is}
@@ -21,17 +20,17 @@ use Rattle.pp_records.specs.Expansions.{touches, refresh, pushall, taken_out}
 use Rattle.pp_records.specs.Fronts.{Front, with_section, with_sources, opened_at, mark_of}
 use Rattle.pp_records.proofs.Ends.{after_append, runs_append}
 use Rattle.pp_records.proofs.Taking.{tx_on}
-use Rattle.pp_laws_summary.specs.Places.{PlacesPart}
+use Rattle.pp_laws_summary.specs.Places.{PlacesPart, ops_at}
 use Rattle.pp_laws_summary.specs.Views.{missing_at, pulled_at}
 use Rattle.pp_laws_summary.specs.LocalLogs.{Summable, HasSnapshots, as_pushed, posted, pushed_ids, without_ids, new_entry, new_shared, pulled_before, unpushed}
 use Rattle.pp_laws_summary.proofs.Relog.{on_log-same, without_on}
-use Rattle.pp_laws_summary.proofs.AtPlace.{is_pulled_at}
 use Rattle.pp_laws_summary.proofs.Pushes.{led}
-use Rattle.pp_laws_summary.proofs.Pushed.{was_pulled, as_pushed_at}
+use Rattle.pp_laws_summary.proofs.Pushed.{was_pulled, as_pushed_at, own_pushed}
+use Rattle.pp_laws_summary.proofs.Turning.{own_ops}
 use Rattle.pp_laws_summary.proofs.BackAll.{all_back, left}
 use Rattle.pp_laws_summary.proofs.Steps.{from_missing}
 use Rattle.pp_laws_summary.proofs.Steps as steps
-use Rattle.pp_laws_summary.proofs.Snapshots.{no_snapshots, same_snapshots, refreshed_snapshots, is_pulled}
+use Rattle.pp_laws_summary.proofs.Snapshots.{no_snapshots, same_snapshot, grown_snapshots, refreshed_snapshots, is_pulled}
 use Rattle.pp_laws_summary.proofs.Entries.{has_in}
 
 -- the section of t is changed, or no section is
@@ -98,14 +97,23 @@ module _ {Op State : Type 0} (O : Object Op State) (place : Op → ℕ) (part : 
     missed : (o : ℕ) (g : SharedEntry Op) → In g (missing_at place o c.shared x.local) → In g c.shared × (g.committed ≡ true)
     missed o g i = let k = from_missing place o c.shared x.local g i in (k.0, k.1)
 
+    -- in a sound configuration each own entry of a log swaps with the pulled ones after it
+    own_past : (I : List ℕ) (K : List (LocalEntry Op)) (G : List (SharedEntry Op)) → Sound O (record c { ids = I; opened = on_log t (λ l. K) c.opened; shared = G }) →
+        (a p : LocalEntry Op) → Before a p K → is_own a.mark ≡ true → p.mark ≡ Pulled → Swaps O a.op p.op
+    own_past I K G s = s.own_pulled (relog (λ l. K) x) (found_tx t (on_log t (λ l. K) c.opened) (relog (λ l. K) x) (tx_on t (λ l. K) c.opened x lookup)).0
+
     -- refresh
     pub note_kept : (o : ℕ) → RunsFrom O c (Note t ∷ refresh place t o c.shared x.local) → Summable O place f (after_from c (Note t ∷ refresh place t o c.shared x.local))
     note_kept o r =
         let M = missing_at place o c.shared x.local in
         let e = steps.note_leads O place part t c b.sound x lookup o r in
+        let s = subst (λ (w : Config Op). Sound O w) e (run_keeps O (Note t ∷ refresh place t o c.shared x.local) c b.sound r) in
         subst (λ (w : Config Op). Summable O place f w) (sym e)
-        (kept_on f c.ids (x.local ++ map as_pulled M) c.shared still (subst (λ (w : Config Op). Sound O w) e (run_keeps O (Note t ∷ refresh place t o c.shared x.local) c b.sound r))
-        (λ h i u. i) (stand_more M (missed o)) (refreshed_snapshots O place c b.sound x ix (b.pulls_committed x ix) (b.snapshots x ix) o) (more_section (map as_pulled M)))
+        (kept_on f c.ids (x.local ++ map as_pulled M) c.shared still s
+        (λ h i u. i) (stand_more M (missed o))
+        (refreshed_snapshots O place c b.sound x ix (b.pulls_committed x ix) (b.snapshots x ix) o
+        (λ a g i w j. own_past c.ids (x.local ++ map as_pulled M) c.shared s a (as_pulled g) (before_across a (as_pulled g) x.local (map as_pulled M) i (in_map as_pulled g M j)) w refl))
+        (more_section (map as_pulled M)))
 
     -- operation
     module _ (mode : Option ℕ) (id : ℕ) (op : Op) where
@@ -115,51 +123,61 @@ module _ {Op State : Type 0} (O : Object Op State) (place : Op → ℕ) (part : 
       abbrev new : LocalEntry Op
       new = new_entry mode t id op
 
-      not_pulled : is_mark (new_entry mode t id op).mark Pulled ≡ false
-      not_pulled = by mode
+      is_owned : is_own (new_entry mode t id op).mark ≡ true
+      is_owned = by mode
         where
-          by : (mode : Option ℕ) → is_mark (new_entry mode t id op).mark Pulled ≡ false
+          by : (mode : Option ℕ) → is_own (new_entry mode t id op).mark ≡ true
           by None = refl
           by (Some m) = refl
 
-      before : HasSnapshots O place c.done (x.local ++ map as_pulled M) × ((g : SharedEntry Op) → In g M → In g c.shared × (g.committed ≡ true))
+      pulled_done : (g : SharedEntry Op) → In g M → In g c.shared × (g.committed ≡ true)
+      pulled_done = by mode
+        where
+          two : (z : Bool) (g : SharedEntry Op) → In g (cond z [] (missing_at place (place op) c.shared x.local)) → In g c.shared × (g.committed ≡ true)
+          two true g i = absurd i
+          two false g i = missed (place op) g i
+
+          by : (mode : Option ℕ) (g : SharedEntry Op) → In g (pulled_before place mode (place op) c.shared x.local) → In g c.shared × (g.committed ≡ true)
+          by None = missed (place op)
+          by (Some m) = two (touches place (place op) (drop m x.local))
+
+      before : ((a : LocalEntry Op) (g : SharedEntry Op) → In a x.local → is_own a.mark ≡ true → In g M → Swaps O a.op g.op) → HasSnapshots O place c.done (x.local ++ map as_pulled M)
       before = by mode
         where
+          Past : List (SharedEntry Op) → Type 0
+          Past N = (a : LocalEntry Op) (g : SharedEntry Op) → In a x.local → is_own a.mark ≡ true → In g N → Swaps O a.op g.op
+
           none : HasSnapshots O place c.done (x.local ++ [])
           none = subst (λ (w : List (LocalEntry Op)). HasSnapshots O place c.done w) (sym (append-nil x.local)) (b.snapshots x ix)
 
-          all : HasSnapshots O place c.done (x.local ++ map as_pulled (missing_at place (place op) c.shared x.local))
-          all = refreshed_snapshots O place c b.sound x ix (b.pulls_committed x ix) (b.snapshots x ix) (place op)
+          all : Past (missing_at place (place op) c.shared x.local) → HasSnapshots O place c.done (x.local ++ map as_pulled (missing_at place (place op) c.shared x.local))
+          all w = refreshed_snapshots O place c b.sound x ix (b.pulls_committed x ix) (b.snapshots x ix) (place op) w
 
-          two : (z : Bool) → HasSnapshots O place c.done (x.local ++ map as_pulled (cond z [] (missing_at place (place op) c.shared x.local)))
-              × ((g : SharedEntry Op) → In g (cond z [] (missing_at place (place op) c.shared x.local)) → In g c.shared × (g.committed ≡ true))
-          two true = (none, λ g i. absurd i)
-          two false = (all, missed (place op))
+          two : (z : Bool) → Past (cond z [] (missing_at place (place op) c.shared x.local)) → HasSnapshots O place c.done (x.local ++ map as_pulled (cond z [] (missing_at place (place op) c.shared x.local)))
+          two true w = none
+          two false w = all w
 
-          by : (mode : Option ℕ) → HasSnapshots O place c.done (x.local ++ map as_pulled (pulled_before place mode (place op) c.shared x.local))
-              × ((g : SharedEntry Op) → In g (pulled_before place mode (place op) c.shared x.local) → In g c.shared × (g.committed ≡ true))
-          by None = (all, missed (place op))
-          by (Some m) = two (touches place (place op) (drop m x.local))
-
-      pulled_same : (o : ℕ) → pulled_at place o ((x.local ++ map as_pulled M) ++ new ∷ []) ≡ pulled_at place o (x.local ++ map as_pulled M)
-      pulled_same o = filter-append (is_pulled_at place o) (x.local ++ map as_pulled M) (new ∷ [])
-          ∙ ap (λ (z : Bool). pulled_at place o (x.local ++ map as_pulled M) ++ cond (z && (place op == o)) (new ∷ []) []) not_pulled ∙ append-nil (pulled_at place o (x.local ++ map as_pulled M))
+          by : (mode : Option ℕ) → Past (pulled_before place mode (place op) c.shared x.local) → HasSnapshots O place c.done (x.local ++ map as_pulled (pulled_before place mode (place op) c.shared x.local))
+          by None w = all w
+          by (Some m) w = two (touches place (place op) (drop m x.local)) w
 
       -- An operation keeps the configuration summable.
       pub op_kept : RunsFrom O c (steps.steps O place part t c b.sound x lookup mode id op) → Summable O place f (after_from c (steps.steps O place part t c b.sound x lookup mode id op))
       op_kept r =
           let e = steps.op_leads O place part t c b.sound x lookup mode id op r in
           let K = (x.local ++ map as_pulled M) ++ new ∷ [] in
+          let s = subst (λ (w : Config Op). Sound O w) e (run_keeps O (steps.steps O place part t c b.sound x lookup mode id op) c b.sound r) in
           subst (λ (w : Config Op). Summable O place f w) (sym e)
-          (kept_on f (id ∷ c.ids) K (c.shared ++ new_shared mode t id op) still
-          (subst (λ (w : Config Op). Sound O w) e (run_keeps O (steps.steps O place part t c b.sound x lookup mode id op) c b.sound r))
+          (kept_on f (id ∷ c.ids) K (c.shared ++ new_shared mode t id op) still s
           (λ h i u. in_left h c.shared (new_shared mode t id op) i)
           (λ a i m. elim (in_cases a (x.local ++ map as_pulled M) (new ∷ []) i) [
-            | inl j ↦ in_left (as_shared a.owner true (item a)) c.shared (new_shared mode t id op) (stand_more M before.1 a j m)
-            | inr (inl j) ↦ absurd (let z : true ≡ false = sym (ap (λ (w : Mark). is_mark w Pulled) m) ∙ ap (λ (w : LocalEntry Op). is_mark w.mark Pulled) j ∙ not_pulled in cc)
+            | inl j ↦ in_left (as_shared a.owner true (item a)) c.shared (new_shared mode t id op) (stand_more M pulled_done a j m)
+            | inr (inl j) ↦ absurd (let z : false ≡ true = sym (ap (λ (w : Mark). is_own w) m) ∙ ap (λ (w : LocalEntry Op). is_own w.mark) j ∙ is_owned in cc)
             | inr (inr j) ↦ absurd j
           ])
-          (same_snapshots O place c.done (x.local ++ map as_pulled M) K pulled_same before.0)
+          (grown_snapshots O place c.done (x.local ++ map as_pulled M) new is_owned (before (λ a g i w j.
+          own_past (id ∷ c.ids) K (c.shared ++ new_shared mode t id op) s a (as_pulled g) (before_left a (as_pulled g) (x.local ++ map as_pulled M) (new ∷ [])
+          (before_across a (as_pulled g) x.local (map as_pulled M) i (in_map as_pulled g M j))) w refl)))
           (λ m q. subst (λ (w : List (LocalEntry Op)). (m ≤ length w) × HasSnapshots O place c.done (take m w)) (sym (append_assoc x.local (map as_pulled M) (new ∷ []))) (more_section (map as_pulled M ++ new ∷ []) m q)))
 
     -- taking back
@@ -275,6 +293,14 @@ module _ {Op State : Type 0} (O : Object Op State) (place : Op → ℕ) (part : 
         by Pulled h r = ap (λ (w : LocalEntry Op). pulled_at place o (w ∷ map as_pushed l)) (as_pushed_at e Pulled h)
             ∙ ap (λ (w : List (LocalEntry Op)). cond (is_mark e.mark Pulled && (place e.op == o)) (e ∷ w) w) r
 
+    pushed_ops : (l : List (LocalEntry Op)) → local_ops (map as_pushed l) ≡ local_ops l
+    pushed_ops [] = refl
+    pushed_ops (e ∷ l) = ap (λ (a : Op). a ∷ local_ops (map as_pushed l)) (one (is_mark e.mark Unpushed)) ∙ ap (λ (w : List Op). e.op ∷ w) (pushed_ops l)
+      where
+        one : (b : Bool) → (cond b (record e { mark = Pushed }) e).op ≡ e.op
+        one true = refl
+        one false = refl
+
     stand_pushed : (G : List (SharedEntry Op)) → ((h : SharedEntry Op) → In h c.shared → In h G) → (e : LocalEntry Op) → In e (map as_pushed x.local) → e.mark ≡ Pulled → In (as_shared e.owner true (item e)) G
     stand_pushed G stay e i m =
         let r = from_map as_pushed e x.local i in
@@ -293,7 +319,8 @@ module _ {Op State : Type 0} (O : Object Op State) (place : Op → ℕ) (part : 
         (kept_on (with_section f t None) c.ids (map as_pushed x.local) (c.shared ++ posted t (unpushed x.local)) closed (subst (λ (w : Config Op). Sound O w) e (run_keeps O (pushall t x.local) c b.sound r.1))
         (λ h i u. in_left h c.shared (posted t (unpushed x.local)) i)
         (stand_pushed (c.shared ++ posted t (unpushed x.local)) (λ h i. in_left h c.shared (posted t (unpushed x.local)) i))
-        (same_snapshots O place c.done x.local (map as_pushed x.local) (λ o. pushed_pulled o x.local) (b.snapshots x ix))
+        (λ o. same_snapshot O place c.done x.local (map as_pushed x.local) o (pushed_pulled o x.local) (ap (λ (w : List Op). ops_at place o w) (pushed_ops x.local))
+        (ap (λ (w : List Op). ops_at place o w) (own_ops (map as_pushed x.local) ∙ ap (λ (w : List (Item Op)). ops w) (own_pushed x.local) ∙ sym (own_ops x.local))) (b.snapshots x ix o))
         (λ m q. absurd (let z : None ≡ Some m = sym closed_here ∙ q in cc)))
 
     -- the section begins

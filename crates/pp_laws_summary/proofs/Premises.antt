@@ -6,7 +6,7 @@ use Rattle.pp_core.specs.declared.call.Style.TheVariants.{Optimistic}
 use Rattle.pp_model.specs.Body.{Call}
 use Rattle.pp_model.specs.Lists.{In}
 use Rattle.pp_model.specs.Names.{Name}
-use Rattle.pp_model.specs.Object.{Allowed, AllowedFrom, Item, Object, Reorders, Swaps}
+use Rattle.pp_model.specs.Object.{Allowed, AllowedFrom, Item, Reorders, Swaps, ops}
 use Rattle.pp_model.specs.Config.{Unpushed, Pushed, Pulled, LocalEntry, SharedEntry, Tx, Config, Step, Begin, App, Push, Pull, Cmt, as_pulled, as_shared, item, first, after_from}
 use Rattle.pp_model.specs.Rules.{RunsFrom}
 use Rattle.pp_model.specs.Sound.{Sound}
@@ -57,9 +57,6 @@ module _ (k : Call) where
   reached : RunsFrom (once k) (first None) (Begin t t None ∷ App t 0 0 ∷ [])
   reached = (((λ i. i), ((λ x i. absurd i), refl)), ((tt, ((λ i. i), (([], tt), ((refl, tt), refl)))), tt))
 
-  no_items : {Op State : Type 0} (O : Object Op State) → Reorders O [] []
-  no_items O = record { distinct_x = λ p q i e. i; distinct_y = λ p q i e. i; into = λ p i. i; back = λ p i. i; turned = λ p q i j. absurd i }
-
   is_own_zero : (e : LocalEntry ℕ) → In e (own_zero ∷ []) → e ≡ own_zero
   is_own_zero e i = elim i [ inl h ↦ h | inr h ↦ absurd h ]
 
@@ -74,7 +71,7 @@ module _ (k : Call) where
             let h : In e (own_zero ∷ []) = subst (λ (w : Tx ℕ). In e w.local) (is_one_open x i) j in
             let z : Unpushed ≡ Pulled = ap (λ (w : LocalEntry ℕ). w.mark) (sym (is_own_zero e h)) ∙ m in
             cc;
-        snapshots = λ x i. subst (λ (w : Tx ℕ). HasSnapshots (once k) (λ a. a) [] w.local) (sym (is_one_open x i)) (λ o. no_items (once k));
+        snapshots = λ x i. subst (λ (w : Tx ℕ). HasSnapshots (once k) (λ a. a) [] w.local) (sym (is_one_open x i)) (λ o. record { distinct_x = λ p q i e. i; distinct_y = λ p q i e. i; into = λ p i. i; back = λ p i. i; leads = λ k h. h });
         sections = λ x i m e. let z : None ≡ Some m = e in cc;
         fresh = λ u n. refl;
       }
@@ -253,11 +250,23 @@ module _ (k : Call) where
         back = λ p i. i;
         turned = λ p q i j. elim i [ inl h ↦ absurd h.1 | inr h ↦ absurd h ];
       }
-  one_item false = no_items (turning k)
+  one_item false = record { distinct_x = λ p q i e. i; distinct_y = λ p q i e. i; into = λ p i. i; back = λ p i. i; turned = λ p q i j. absurd i }
 
   pulled_or : (z : Bool) → Reorders (turning k) (map item (cond z (as_pulled the_second ∷ []) [])) (take (length (cond z (as_pulled the_second ∷ []) [])) (cond z (second_item ∷ []) []))
   pulled_or true = one_item true
   pulled_or false = one_item false
+
+  -- what may follow the log may follow the snapshot and then the own operation
+  abbrev snapshot_ops : Bool → List Three
+  snapshot_ops z = ops (take (length (cond z (as_pulled the_second ∷ []) [])) (cond z (second_item ∷ []) []))
+
+  follows1 : (z : Bool) (j : List Three) → Allowed (turning k) (cond z (First ∷ cond z (Second ∷ []) []) (cond z (Second ∷ []) []) ++ j) → Allowed (turning k) (snapshot_ops z ++ (cond z (First ∷ []) [] ++ j))
+  follows1 true j h = first_second.always [] j h
+  follows1 false j h = h
+
+  follows2 : (z : Bool) (j : List Three) → Allowed (turning k) (cond z (Second ∷ cond z (First ∷ []) []) (cond z (First ∷ []) []) ++ j) → Allowed (turning k) (snapshot_ops z ++ (cond z (First ∷ []) [] ++ j))
+  follows2 true j h = h
+  follows2 false j h = h
 
   abbrev p_of : Tx Three → Standing Front Three
   p_of x = record { front = new_front []; config = with_open x }
@@ -283,12 +292,12 @@ module _ (k : Call) where
   is1 : Summable (turning k) (λ a. zero) (new_front []) (with_open x1)
   is1 = is_summable x1 steps1 runs1 leads1
       (λ e i m. elim i [ inl h ↦ absurd (not_first e h m) | inr j ↦ elim j [ inl h ↦ h | inr h ↦ absurd h ] ])
-      (λ o. pulled_or (zero == o))
+      (λ o. let r = pulled_or (zero == o) in record { distinct_x = r.distinct_x; distinct_y = r.distinct_y; into = r.into; back = r.back; leads = follows1 (zero == o) })
 
   is2 : Summable (turning k) (λ a. zero) (new_front []) (with_open x2)
   is2 = is_summable x2 steps2 runs2 leads2
       (λ e i m. elim i [ inl h ↦ h | inr j ↦ elim j [ inl h ↦ absurd (not_first e h m) | inr h ↦ absurd h ] ])
-      (λ o. pulled_or (zero == o))
+      (λ o. let r = pulled_or (zero == o) in record { distinct_x = r.distinct_x; distinct_y = r.distinct_y; into = r.into; back = r.back; leads = follows2 (zero == o) })
 
   same : summary_of (λ a. zero) (p_of x1) ≡ summary_of (λ a. zero) (p_of x2)
   same = refl

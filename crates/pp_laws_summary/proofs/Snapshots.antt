@@ -6,21 +6,25 @@ use Rattle.std.proofs.lemmas.List.Elements.{filter-append}
 use Rattle.std.proofs.lemmas.Bool.{eq-eqb}
 use mathlib.Core.Logic.{inl, inr}
 use Rattle.pp_model.specs.Lists.{In, Before}
-use Rattle.pp_model.specs.Object.{Object, Item, Reorders, HasDistinctIds}
-use Rattle.pp_model.specs.Config.{Mark, Unpushed, Pushed, Pulled, is_own, LocalEntry, SharedEntry, CommittedTx, Tx, Config, item, shared_item, as_pulled, as_shared, only_committed}
+use Rattle.pp_model.specs.Object.{Object, Allowed, Item, Reorders, HasDistinctIds, Swaps, ops}
+use Rattle.pp_model.specs.Config.{Mark, Unpushed, Pushed, Pulled, is_own, is_mark, LocalEntry, SharedEntry, CommittedTx, Tx, Config, item, own, shared_item, as_pulled, as_shared, only_committed, local_ops, shared_ops}
 use Rattle.pp_model.specs.Sound.{Sound, serial_items}
-use Rattle.pp_model.proofs.Lists.{in_left, in_right, in_cases, in_map, from_map, in_filter, from_filter, before_map, before_from_map, before_from_filter, before_cases, before_left, before_across, before_in_first, before_in_second, in_order, by_key, not_both}
+use Rattle.pp_model.proofs.Lists.{in_left, in_right, in_cases, in_map, from_map, in_filter, from_filter, before_map, before_from_map, before_from_filter, before_cases, before_left, before_across, before_in_first, before_in_second, by_key, not_both}
+use Rattle.pp_model.proofs.Permute.{permuted}
 use Rattle.pp_model.proofs.Push.{not_done}
 use Rattle.pp_model.proofs.Lengths.{no_longer}
 use Rattle.pp_model.proofs.Serial.{items, target, ordered, ordered_committed, reorders}
 use Rattle.pp_records.specs.Expansions.{stands_in}
-use Rattle.pp_laws_summary.specs.Views.{done_at, missing_at, pulled_at, seen_at}
-use Rattle.pp_laws_summary.specs.LocalLogs.{HasSnapshots, serial_at}
-use Rattle.pp_laws_summary.proofs.Entries.{entry_in, is_there, same_or_not}
+use Rattle.pp_laws_summary.specs.Places.{ops_at}
+use Rattle.pp_laws_summary.specs.Views.{done_at, log_at, missing_at, pulled_at, seen_at}
+use Rattle.pp_laws_summary.specs.LocalLogs.{HasSnapshots, IsSnapshot, serial_at}
+use Rattle.pp_laws_summary.proofs.Entries.{entry_in, is_there, ops_items, same_or_not}
 use Rattle.pp_laws_summary.proofs.Relog.{filter_none, filter_map}
 use Rattle.pp_laws_summary.proofs.AtPlace.{is_done_at, is_pulled_at, filter_twice, from_done, from_pulled, to_pulled, to_done}
 use Rattle.pp_laws_summary.proofs.Steps.{from_missing}
-use Rattle.pp_laws_summary.proofs.Parts.{not_eq}
+use Rattle.pp_laws_summary.proofs.Parts.{at-append, at_all, at_none, not_eq}
+use Rattle.pp_laws_summary.proofs.Pulled.{ops_more}
+use Rattle.pp_laws_summary.proofs.Turning.{all_drawn}
 
 take_all : {A : Type 0} (n : ℕ) (l : List A) → length l ≤ n → take n l ≡ l
 take_all zero [] h = refl
@@ -32,6 +36,11 @@ not_own : (m : Mark) → (is_own m ≡ true) ⊎ (m ≡ Pulled)
 not_own Unpushed = inl refl
 not_own Pushed = inl refl
 not_own Pulled = inr refl
+
+own_not_pulled : (m : Mark) → is_own m ≡ true → is_mark m Pulled ≡ false
+own_not_pulled Unpushed h = refl
+own_not_pulled Pushed h = refl
+own_not_pulled Pulled h = absurd (cc)
 
 -- of two lists, the items that pass a test
 pub reorders_filter : {Op State : Type 0} (O : Object Op State) (test : Item Op → Bool) (x y : List (Item Op)) → Reorders O x y → Reorders O (filter test x) (filter test y)
@@ -67,17 +76,9 @@ before_part {Op} T D p q d i j = elim (before_cases q p T D i) [
   | inr (inr k) ↦ k.0
 ]
 
--- and their order there
-order_part : {Op : Type 0} (T D : List (Item Op)) (p q : Item Op) → HasDistinctIds (T ++ D) → Before q p (T ++ D) → In p T → In q T → Before q p T
-order_part {Op} T D p q d i jp jq = elim (in_order q p T jq jp) [
-  | inl e ↦ absurd (d q p i (ap (λ (w : Item Op). w.id) e))
-  | inr (inl k) ↦ k
-  | inr (inr k) ↦ absurd (not_both (λ (w : Item Op). w.id) (T ++ D) d q p i (before_left p q T D k))
-]
-
 -- what the snapshot says of the numbers
 pub few_seen : {Op State : Type 0} (O : Object Op State) (place : Op → ℕ) (o : ℕ) (D : List (CommittedTx Op)) (l : List (LocalEntry Op)) →
-    Reorders O (map item (pulled_at place o l)) (take (seen_at place o l) (serial_at place o D)) → seen_at place o l ≤ length (serial_at place o D)
+    IsSnapshot O place l o (take (seen_at place o l) (serial_at place o D)) → seen_at place o l ≤ length (serial_at place o D)
 few_seen {Op} O place o D l r =
     let a : length (map item (pulled_at place o l)) ≤ length (take (seen_at place o l) (serial_at place o D)) = no_longer (map item (pulled_at place o l)) (take (seen_at place o l) (serial_at place o D)) r.distinct_x r.into in
     let b : length (map item (pulled_at place o l)) ≡ length (pulled_at place o l) = length-map (pulled_at place o l) (item {Op = Op}) in
@@ -91,11 +92,44 @@ few_seen {Op} O place o D l r =
 module _ {Op State : Type 0} (O : Object Op State) (place : Op → ℕ) where
   -- no entry
   pub no_snapshots : (D : List (CommittedTx Op)) → HasSnapshots O place D []
-  no_snapshots D o = record { distinct_x = λ p q i e. i; distinct_y = λ p q i e. i; into = λ p i. i; back = λ p i. i; turned = λ p q i j. absurd i }
+  no_snapshots D o = record { distinct_x = λ p q i e. i; distinct_y = λ p q i e. i; into = λ p i. i; back = λ p i. i; leads = λ k h. h }
 
-  -- the same pulled entries
-  pub same_snapshots : (D : List (CommittedTx Op)) (l k : List (LocalEntry Op)) → ((o : ℕ) → pulled_at place o k ≡ pulled_at place o l) → HasSnapshots O place D l → HasSnapshots O place D k
-  same_snapshots D l k e h o = subst (λ (w : List (LocalEntry Op)). Reorders O (map item w) (take (length w) (serial_at place o D))) (sym (e o)) (h o)
+  -- the same pulled entries and the same operations
+  pub same_snapshot : (D : List (CommittedTx Op)) (l k : List (LocalEntry Op)) (o : ℕ) → pulled_at place o k ≡ pulled_at place o l → log_at place o k ≡ log_at place o l →
+      ops_at place o (local_ops (own k)) ≡ ops_at place o (local_ops (own l)) → IsSnapshot O place l o (take (seen_at place o l) (serial_at place o D)) → IsSnapshot O place k o (take (seen_at place o k) (serial_at place o D))
+  same_snapshot D l k o pulled log owned s =
+      let S = serial_at place o D in
+      record {
+        distinct_x = subst (λ (w : List (LocalEntry Op)). HasDistinctIds (map item w)) (sym pulled) s.distinct_x;
+        distinct_y = subst (λ (w : List (LocalEntry Op)). HasDistinctIds (take (length w) S)) (sym pulled) s.distinct_y;
+        into = subst (λ (w : List (LocalEntry Op)). (p : Item Op) → In p (map item w) → In p (take (length w) S)) (sym pulled) s.into;
+        back = subst (λ (w : List (LocalEntry Op)). (p : Item Op) → In p (take (length w) S) → In p (map item w)) (sym pulled) s.back;
+        leads = λ j a. subst (λ (w : List (LocalEntry Op)). Allowed O (ops (take (length w) S) ++ (ops_at place o (local_ops (own k)) ++ j))) (sym pulled)
+            (subst (λ (w : List Op). Allowed O (ops (take (seen_at place o l) S) ++ (w ++ j))) (sym owned) (s.leads j (subst (λ (w : List Op). Allowed O (w ++ j)) log a)));
+      }
+
+  -- one more own entry
+  pub grown_snapshots : (D : List (CommittedTx Op)) (l : List (LocalEntry Op)) (e : LocalEntry Op) → is_own e.mark ≡ true → HasSnapshots O place D l → HasSnapshots O place D (l ++ e ∷ [])
+  grown_snapshots D l e mine h o =
+      let S = serial_at place o D in
+      let E = ops_at place o (e.op ∷ []) in
+      let W = ops_at place o (local_ops (own l)) in
+      let s = h o in
+      let pulled : pulled_at place o (l ++ e ∷ []) ≡ pulled_at place o l = filter-append (is_pulled_at place o) l (e ∷ [])
+      ∙ ap (λ (b : Bool). pulled_at place o l ++ cond (b && (place e.op == o)) (e ∷ []) []) (own_not_pulled e.mark mine) ∙ append-nil (pulled_at place o l) in
+      let log : log_at place o (l ++ e ∷ []) ≡ log_at place o l ++ E = ap (λ (w : List Op). ops_at place o w) (map-append (λ (w : LocalEntry Op). w.op) l (e ∷ [])) ∙ at-append place o (local_ops l) (e.op ∷ []) in
+      let owned : ops_at place o (local_ops (own (l ++ e ∷ []))) ≡ W ++ E = ap (λ (w : List (LocalEntry Op)). ops_at place o (local_ops w)) (filter-append (λ (w : LocalEntry Op). is_own w.mark) l (e ∷ []) ∙ ap (λ (b : Bool). own l ++ cond b (e ∷ []) []) mine)
+      ∙ ap (λ (w : List Op). ops_at place o w) (map-append (λ (w : LocalEntry Op). w.op) (own l) (e ∷ [])) ∙ at-append place o (local_ops (own l)) (e.op ∷ []) in
+      record {
+        distinct_x = subst (λ (w : List (LocalEntry Op)). HasDistinctIds (map item w)) (sym pulled) s.distinct_x;
+        distinct_y = subst (λ (w : List (LocalEntry Op)). HasDistinctIds (take (length w) S)) (sym pulled) s.distinct_y;
+        into = subst (λ (w : List (LocalEntry Op)). (p : Item Op) → In p (map item w) → In p (take (length w) S)) (sym pulled) s.into;
+        back = subst (λ (w : List (LocalEntry Op)). (p : Item Op) → In p (take (length w) S) → In p (map item w)) (sym pulled) s.back;
+        leads = λ j a.
+            let a1 = subst (λ (w : List Op). Allowed O w) (ap (λ (w : List Op). w ++ j) log ∙ append_assoc (log_at place o l) E j) a in
+            subst (λ (w : List (LocalEntry Op)). Allowed O (ops (take (length w) S) ++ (ops_at place o (local_ops (own (l ++ e ∷ []))) ++ j))) (sym pulled)
+            (subst (λ (w : List Op). Allowed O (ops (take (seen_at place o l) S) ++ w)) (sym (ap (λ (w : List Op). w ++ j) owned ∙ append_assoc W E j)) (s.leads (E ++ j) a1));
+      }
 
   serial_joined : (D : List (CommittedTx Op)) (d : CommittedTx Op) → serial_items (D ++ d ∷ []) ≡ serial_items D ++ d.entries
   serial_joined [] d = append-nil d.entries
@@ -107,7 +141,7 @@ module _ {Op State : Type 0} (O : Object Op State) (place : Op → ℕ) where
       let test : Item Op → Bool = λ (p : Item Op). place p.op == o in
       let e : serial_at place o (D ++ d ∷ []) ≡ serial_at place o D ++ filter test d.entries = ap (λ (w : List (Item Op)). filter test w) (serial_joined D d) ∙ filter-append test (serial_items D) d.entries in
       let few = few_seen O place o D l (h o) in
-      subst (λ (w : List (Item Op)). Reorders O (map item (pulled_at place o l)) w)
+      subst (λ (w : List (Item Op)). IsSnapshot O place l o w)
       (sym (ap (λ (w : List (Item Op)). take (seen_at place o l) w) e ∙ take-append-le (seen_at place o l) (serial_at place o D) (filter test d.entries) few)) (h o)
 
 module _ {Op State : Type 0} (O : Object Op State) (place : Op → ℕ) (c : Config Op) (s : Sound O c) (x : Tx Op) (ix : In x c.opened)
@@ -122,7 +156,7 @@ module _ {Op State : Type 0} (O : Object Op State) (place : Op → ℕ) (c : Con
           absurd (not_done O c s x ix e j m k.0 k.1 k.2 k.3 (sym (n ∙ ap (λ (w : SharedEntry Op). w.id) k.4)))
       by (inr m) = (m, ap (λ (w : SharedEntry Op). shared_item w) (by_key (λ (w : SharedEntry Op). w.id) c.shared s.shared_ids (as_shared e.owner true (item e)) g (stand e j m) i n))
 
-  module _ (o : ℕ) (h : Reorders O (map item (pulled_at place o x.local)) (take (seen_at place o x.local) (serial_at place o c.done))) where
+  module _ (o : ℕ) (h : IsSnapshot O place x.local o (take (seen_at place o x.local) (serial_at place o c.done))) where
     abbrev M : List (SharedEntry Op)
     M = missing_at place o c.shared x.local
 
@@ -192,26 +226,43 @@ module _ {Op State : Type 0} (O : Object Op State) (place : Op → ℕ) (c : Con
         (before_map shared_item m.0 m.1 (done_at place o c.shared) j))
 
     -- after a refresh, all is pulled
-    pub now_whole : Reorders O (A ++ map shared_item M) (serial_at place o c.done)
+    pub now_distinct : HasDistinctIds (A ++ map shared_item M)
+    now_distinct p q i e = elim (before_cases p q A (map shared_item M) i) [
+      | inl j ↦ h.distinct_x p q j e
+      | inr (inl j) ↦ base.distinct_x p q (M_before p q j) e
+      | inr (inr j) ↦ apart p q j.0 j.1 e
+    ]
+
+    pub now_into : (p : Item Op) → In p (A ++ map shared_item M) → In p (serial_at place o c.done)
+    now_into p i = elim (in_cases p A (map shared_item M) i) [
+      | inl j ↦ subst (λ (w : List (Item Op)). In p w) whole (in_left p T D (h.into p j))
+      | inr j ↦ base.into p (M_in p j)
+    ]
+
+    pub now_back : (p : Item Op) → In p (serial_at place o c.done) → In p (A ++ map shared_item M)
+    now_back q i = elim (back_to q i) [ inl j ↦ in_left q A (map shared_item M) j | inr j ↦ in_right q A (map shared_item M) j ]
+
+    -- The snapshot, and then what is missed, is the serial run up to an order that swaps allow.
+    pub now_whole : Reorders O (T ++ map shared_item M) (serial_at place o c.done)
     now_whole =
         record {
-          distinct_x = λ p q i e. elim (before_cases p q A (map shared_item M) i) [
-            | inl j ↦ h.distinct_x p q j e
+          distinct_x = λ p q i e. elim (before_cases p q T (map shared_item M) i) [
+            | inl j ↦ h.distinct_y p q j e
             | inr (inl j) ↦ base.distinct_x p q (M_before p q j) e
-            | inr (inr j) ↦ apart p q j.0 j.1 e
+            | inr (inr j) ↦ apart p q (h.back p j.0) j.1 e
           ];
           distinct_y = base.distinct_y;
-          into = λ p i. elim (in_cases p A (map shared_item M) i) [
-            | inl j ↦ subst (λ (w : List (Item Op)). In p w) whole (in_left p T D (h.into p j))
+          into = λ p i. elim (in_cases p T (map shared_item M) i) [
+            | inl j ↦ subst (λ (w : List (Item Op)). In p w) whole (in_left p T D j)
             | inr j ↦ base.into p (M_in p j)
           ];
-          back = λ q i. elim (back_to q i) [ inl j ↦ in_left q A (map shared_item M) j | inr j ↦ in_right q A (map shared_item M) j ];
+          back = λ q i. elim (back_to q i) [ inl j ↦ in_left q T (map shared_item M) (h.into q j) | inr j ↦ in_right q T (map shared_item M) j ];
           turned = λ p q i j.
               let k : Before q p (T ++ D) = subst (λ (w : List (Item Op)). Before q p w) (sym whole) j in
-              elim (before_cases p q A (map shared_item M) i) [
-                | inl z ↦ h.turned p q z (order_part T D p q parts_distinct k (h.into p (before_in_first p q A z)) (h.into q (before_in_second p q A z)))
+              elim (before_cases p q T (map shared_item M) i) [
+                | inl z ↦ absurd (not_both (λ (w : Item Op). w.id) (T ++ D) parts_distinct q p k (before_left p q T D z))
                 | inr (inl z) ↦ base.turned p q (M_before p q z) j
-                | inr (inr z) ↦ absurd (apart q q (h.back q (before_part T D p q parts_distinct k (h.into p z.0))) z.1 refl)
+                | inr (inr z) ↦ absurd (apart q q (h.back q (before_part T D p q parts_distinct k z.0)) z.1 refl)
               ];
         }
 
@@ -265,23 +316,74 @@ module _ {Op State : Type 0} (O : Object Op State) (place : Op → ℕ) (c : Con
     items_now : map item (pulled_at place o (x.local ++ map as_pulled N)) ≡ map item (pulled_at place o x.local) ++ map shared_item N
     items_now = ap (λ (w : List (LocalEntry Op)). map item w) pulled_here ∙ map-append item (pulled_at place o x.local) (map as_pulled N) ∙ ap (λ (w : List (Item Op)). map item (pulled_at place o x.local) ++ w) (items_pulled N)
 
-    whole_now : Reorders O (map item (pulled_at place o (x.local ++ map as_pulled N))) (serial_at place o c.done)
-    whole_now = subst (λ (w : List (Item Op)). Reorders O w (serial_at place o c.done)) (sym items_now) (now_whole o (v o))
+    distinct_now : HasDistinctIds (map item (pulled_at place o (x.local ++ map as_pulled N)))
+    distinct_now = subst (λ (w : List (Item Op)). HasDistinctIds w) (sym items_now) (now_distinct o (v o))
+
+    into_now : (p : Item Op) → In p (map item (pulled_at place o (x.local ++ map as_pulled N))) → In p (serial_at place o c.done)
+    into_now = subst (λ (w : List (Item Op)). (p : Item Op) → In p w → In p (serial_at place o c.done)) (sym items_now) (now_into o (v o))
+
+    back_now : (p : Item Op) → In p (serial_at place o c.done) → In p (map item (pulled_at place o (x.local ++ map as_pulled N)))
+    back_now = subst (λ (w : List (Item Op)). (p : Item Op) → In p (serial_at place o c.done) → In p w) (sym items_now) (now_back o (v o))
+
+    serial_distinct : HasDistinctIds (serial_at place o c.done)
+    serial_distinct = (now_whole o (v o)).distinct_y
 
     -- the number of the snapshot then: all
     pub all_seen : seen_at place o (x.local ++ map as_pulled N) ≡ length (serial_at place o c.done)
     all_seen =
         let P = pulled_at place o (x.local ++ map as_pulled N) in
-        let a : length (map item P) ≤ length (serial_at place o c.done) = no_longer (map item P) (serial_at place o c.done) whole_now.distinct_x whole_now.into in
-        let b : length (serial_at place o c.done) ≤ length (map item P) = no_longer (serial_at place o c.done) (map item P) whole_now.distinct_y whole_now.back in
+        let a : length (map item P) ≤ length (serial_at place o c.done) = no_longer (map item P) (serial_at place o c.done) distinct_now into_now in
+        let b : length (serial_at place o c.done) ≤ length (map item P) = no_longer (serial_at place o c.done) (map item P) serial_distinct back_now in
         let d : length (map item P) ≡ length P = length-map P (item {Op = Op}) in
         omega arith
 
-    -- A refresh leads to a snapshot of each object.
-    pub refreshed_snapshots : HasSnapshots O place c.done (x.local ++ map as_pulled N)
-    refreshed_snapshots p = elim (same_or_not p o) [
-      | inl e ↦ subst (λ (q : ℕ). Reorders O (map item (pulled_at place q (x.local ++ map as_pulled N))) (take (seen_at place q (x.local ++ map as_pulled N)) (serial_at place q c.done))) (sym e)
-          (subst (λ (w : List (Item Op)). Reorders O (map item (pulled_at place o (x.local ++ map as_pulled N))) w)
-          (sym (take_all (seen_at place o (x.local ++ map as_pulled N)) (serial_at place o c.done) (let z = all_seen in omega arith))) whole_now)
-      | inr n ↦ subst (λ (w : List (LocalEntry Op)). Reorders O (map item w) (take (length w) (serial_at place p c.done))) (sym (pulled_elsewhere p n)) (v p)
-    ]
+    none_own : (M : List (SharedEntry Op)) → own (map as_pulled M) ≡ []
+    none_own [] = refl
+    none_own (g ∷ M) = none_own M
+
+    own_now : own (x.local ++ map as_pulled N) ≡ own x.local
+    own_now = filter-append (λ (w : LocalEntry Op). is_own w.mark) x.local (map as_pulled N) ∙ ap (λ (w : List (LocalEntry Op)). own x.local ++ w) (none_own N) ∙ append-nil (own x.local)
+
+    ops_at_o : (a : Op) → In a (shared_ops N) → place a ≡ o
+    ops_at_o a i = let r = from_map (λ (w : SharedEntry Op). w.op) a N i in ap place r.2 ∙ at_o r.0 r.1
+
+    log_now : (p : ℕ) → log_at place p (x.local ++ map as_pulled N) ≡ log_at place p x.local ++ ops_at place p (shared_ops N)
+    log_now p = ap (λ (w : List Op). ops_at place p w) (ops_more x.local N) ∙ at-append place p (local_ops x.local) (shared_ops N)
+
+    -- If each own operation swaps with each that is pulled, a refresh leads to a snapshot of each object.
+    module _ (swaps : (a : LocalEntry Op) (g : SharedEntry Op) → In a x.local → is_own a.mark ≡ true → In g N → Swaps O a.op g.op) where
+      abbrev W : List Op
+      W = ops_at place o (local_ops (own x.local))
+
+      own_before : (w n : Op) → In w W → In n (shared_ops N) → Swaps O w n
+      own_before w n i j =
+          let f = from_filter (λ (a : Op). place a == o) w (local_ops (own x.local)) i in
+          let m = from_map (λ (a : LocalEntry Op). a.op) w (own x.local) f.0 in
+          let k = from_filter (λ (a : LocalEntry Op). is_own a.mark) m.0 x.local m.1 in
+          let g = from_map (λ (a : SharedEntry Op). a.op) n N j in
+          subst (λ (z : Op). Swaps O z n) (sym m.2) (subst (λ (z : Op). Swaps O (m.0).op z) (sym g.2) (swaps m.0 g.0 k.0 k.1 g.1))
+
+      leads_now : (k : List Op) → Allowed O (log_at place o (x.local ++ map as_pulled N) ++ k) →
+          Allowed O (ops (serial_at place o c.done) ++ (ops_at place o (local_ops (own (x.local ++ map as_pulled N))) ++ k))
+      leads_now k a =
+          let S = shared_ops N in
+          let T = take (seen_at place o x.local) (serial_at place o c.done) in
+          let log : log_at place o (x.local ++ map as_pulled N) ≡ log_at place o x.local ++ S = log_now o ∙ ap (λ (w : List Op). log_at place o x.local ++ w) (at_all place o S ops_at_o) in
+          let h1 = subst (λ (w : List Op). Allowed O w) (ap (λ (w : List Op). w ++ k) log ∙ append_assoc (log_at place o x.local) S k) a in
+          let h2 = all_drawn O S W (ops T) k own_before ((v o).leads (S ++ k) h1) in
+          let parts : ops (T ++ map shared_item N) ≡ ops T ++ S = map-append (λ (w : Item Op). w.op) T (map shared_item N) ∙ ap (λ (w : List Op). ops T ++ w) (ops_items N) in
+          let h3 = subst (λ (w : List Op). Allowed O w) (sym (ap (λ (w : List Op). w ++ (W ++ k)) parts ∙ append_assoc (ops T) S (W ++ k))) h2 in
+          let h4 = permuted O (serial_at place o c.done) (T ++ map shared_item N) [] (W ++ k) (now_whole o (v o)) h3 in
+          subst (λ (w : List (LocalEntry Op)). Allowed O (ops (serial_at place o c.done) ++ (ops_at place o (local_ops w) ++ k))) (sym own_now) h4
+
+      -- A refresh leads to a snapshot of each object.
+      pub refreshed_snapshots : HasSnapshots O place c.done (x.local ++ map as_pulled N)
+      refreshed_snapshots p = elim (same_or_not p o) [
+        | inl e ↦ subst (λ (q : ℕ). IsSnapshot O place (x.local ++ map as_pulled N) q (take (seen_at place q (x.local ++ map as_pulled N)) (serial_at place q c.done))) (sym e)
+            (subst (λ (w : List (Item Op)). IsSnapshot O place (x.local ++ map as_pulled N) o w)
+            (sym (take_all (seen_at place o (x.local ++ map as_pulled N)) (serial_at place o c.done) (let z = all_seen in omega arith)))
+            (record { distinct_x = distinct_now; distinct_y = serial_distinct; into = into_now; back = back_now; leads = leads_now }))
+        | inr n ↦ same_snapshot O place c.done x.local (x.local ++ map as_pulled N) p (pulled_elsewhere p n)
+            (log_now p ∙ ap (λ (w : List Op). log_at place p x.local ++ w) (at_none place p (shared_ops N) (λ a i e. n (sym e ∙ ops_at_o a i))) ∙ append-nil (log_at place p x.local))
+            (ap (λ (w : List (LocalEntry Op)). ops_at place p (local_ops w)) own_now) (v p)
+      ]

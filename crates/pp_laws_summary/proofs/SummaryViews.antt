@@ -16,7 +16,6 @@ use Rattle.pp_model.specs.Config.{Mark, Unpushed, Pushed, Pulled, is_own, is_mar
 use Rattle.pp_model.specs.Serial.{has_id}
 use Rattle.pp_model.proofs.Lists.{in_map, from_map}
 use Rattle.pp_model.proofs.Logs.{found_tx}
-use Rattle.pp_model.proofs.Permute.{permuted}
 use Rattle.pp_model.proofs.Serial.{allowed_back}
 use Rattle.pp_records.specs.Expansions.{touches, stands_in}
 use Rattle.pp_records.specs.Fronts.{Front, is_mem}
@@ -24,11 +23,11 @@ use Rattle.pp_laws_summary.specs.Places.{PlacesPart, ops_at}
 use Rattle.pp_laws_summary.specs.Views.{missing_at, pulled_at, seen_at, log_at}
 use Rattle.pp_laws_summary.specs.LocalLogs.{HasSummary, Summable, push_mode, pulled_before, serial_at, unpushed, pushed_ids}
 use Rattle.pp_laws_summary.specs.Summary.{Held, OpenSummary, Summary, held_of, open_summary, summary_of, summary_mode, touched_since, summary_view, seen_ids, summary_missing, summary_pulled}
-use Rattle.pp_laws_summary.proofs.Entries.{ops_local, has_in, in_has}
+use Rattle.pp_laws_summary.proofs.Entries.{has_in, in_has}
 use Rattle.pp_laws_summary.proofs.Relog.{filter_same, filter_within, same_bool}
 use Rattle.pp_laws_summary.proofs.AtPlace.{is_pulled_at, to_done}
 use Rattle.pp_laws_summary.proofs.Touching.{any_at, touches_is}
-use Rattle.pp_laws_summary.proofs.Turning.{allowed_join, pulled_first, own_ops}
+use Rattle.pp_laws_summary.proofs.Turning.{allowed_join}
 use Rattle.pp_laws_summary.proofs.Snapshots.{seen_tells}
 
 -- own entries
@@ -135,19 +134,9 @@ module _ {Op State : Type 0} (O : Object Op State) (place : Op → ℕ) (part : 
 
   -- the same is allowed after both views
   module _ (o : ℕ) where
-    view_is : (k : List Op) → (local_ops (pulled_at place o x.local) ++ ops_at place o (ops (own_items x.local))) ++ k ≡ ops (map item (pulled_at place o x.local)) ++ (ops_at place o (local_ops (own x.local)) ++ k)
-    view_is k = append_assoc (local_ops (pulled_at place o x.local)) (ops_at place o (ops (own_items x.local))) k
-        ∙ ap (λ (w : List Op). w ++ (ops_at place o (ops (own_items x.local)) ++ k)) (sym (ops_local (pulled_at place o x.local)))
-        ∙ ap (λ (w : List Op). ops (map item (pulled_at place o x.local)) ++ (ops_at place o w ++ k)) (sym (own_ops x.local))
-
     -- What is allowed after the local log is allowed after the view of the summary.
     pub log_to : (k : List Op) → Allowed O (log_at place o x.local ++ k) → Allowed O (summary_view place o c.done y ++ k)
-    log_to k a =
-        let h1 = pulled_first O place c b.sound x ix o k a in
-        let T = take (seen_at place o x.local) (serial_at place o c.done) in
-        let h2 : Allowed O (ops (map item (pulled_at place o x.local)) ++ (ops_at place o (local_ops (own x.local)) ++ k)) = subst (λ (w : List Op). Allowed O w) (view_is k) h1 in
-        let h3 : Allowed O (ops T ++ (ops_at place o (local_ops (own x.local)) ++ k)) = permuted O T (map item (pulled_at place o x.local)) [] (ops_at place o (local_ops (own x.local)) ++ k) (b.snapshots x ix o) h2 in
-        subst (λ (w : List Op). Allowed O w) (sym (append_assoc (ops T) (ops_at place o (local_ops (own x.local))) k)) h3
+    log_to k a = subst (λ (w : List Op). Allowed O w) (sym (append_assoc (ops (take (seen_at place o x.local) (serial_at place o c.done))) (ops_at place o (local_ops (own x.local))) k)) ((b.snapshots x ix o).leads k a)
 
     log_allowed : Allowed O (log_at place o x.local)
     log_allowed = (part.parts (local_ops x.local)).0 (b.sound.local_allowed x ix) o

@@ -8,10 +8,10 @@ use Rattle.pp_core.specs.declared.call.Style.TheVariants.{Dependent}
 use Rattle.pp_model.specs.Body.{Begins, IsWord}
 use Rattle.pp_model.specs.Config.{CommittedTx, Config, LocalEntry, Mark, Pulled, Pushed}
 use Rattle.pp_model.specs.Config.{SharedEntry, Tx, Unpushed, as_shared, is_mark, is_own, item}
-use Rattle.pp_model.specs.Config.{local_ops, own_items, shared_ops, tx}
+use Rattle.pp_model.specs.Config.{local_ops, own, own_items, shared_ops, tx}
 use Rattle.pp_model.specs.Lists.{In}
 use Rattle.pp_model.specs.Names.{Name}
-use Rattle.pp_model.specs.Object.{Allowed, Item, Object, Reorders, Swaps}
+use Rattle.pp_model.specs.Object.{Allowed, HasDistinctIds, Item, Object, Swaps, ops}
 use Rattle.pp_model.specs.Rules.{Meets, calls}
 use Rattle.pp_model.specs.Serial.{has_id}
 use Rattle.pp_model.specs.Sound.{Sound, serial_items}
@@ -19,6 +19,7 @@ use Rattle.pp_records.specs.Expansions.{touches}
 use Rattle.pp_records.specs.Fronts.{Front, is_mem}
 use Rattle.pp_records.specs.Records.{RunRecord}
 use Rattle.pp_records.specs.Records as records
+use Rattle.pp_laws_summary.specs.Places.{ops_at}
 use Rattle.pp_laws_summary.specs.Views.{IsOwnAt, log_at, missing_at, pulled_at, seen_at}
 
 -- The transaction t is open, and P is true of it.
@@ -178,13 +179,23 @@ LocalGood style O place f c (records.DropSource t source) = ⊥
 abbrev pub serial_at : {Op : Type 0} → (Op → ℕ) → ℕ → List (CommittedTx Op) → List (Item Op)
 serial_at place o D = filter (λ p. place p.op == o) (serial_items D)
 
--- L has a snapshot of each object: what it pulled of the object are the first operations that were
--- committed on it, up to an order that swaps allow.
+-- What L pulled of the object o are these items, in any order, and what is allowed after L at o is
+-- allowed after them and then L's own operations.
+pub record IsSnapshot {Op State : Type 0} (O : Object Op State) (place : Op → ℕ)
+    (l : List (LocalEntry Op)) (o : ℕ) (items : List (Item Op)) : Type 0 where
+  pub distinct_x : HasDistinctIds (map item (pulled_at place o l))
+  pub distinct_y : HasDistinctIds items
+  pub into : (p : Item Op) → In p (map item (pulled_at place o l)) → In p items
+  pub back : (p : Item Op) → In p items → In p (map item (pulled_at place o l))
+  pub leads : (k : List Op) → Allowed O (log_at place o l ++ k) →
+      Allowed O (ops items ++ (ops_at place o (local_ops (own l)) ++ k))
+
+-- L has a snapshot of each object: the first operations that were committed on it, as many as L
+-- pulled of it.
 abbrev pub HasSnapshots : {Op State : Type 0} → Object Op State → (Op → ℕ) →
     List (CommittedTx Op) → List (LocalEntry Op) → Type 0
 HasSnapshots O place D l =
-    (o : ℕ) →
-    Reorders O (map item (pulled_at place o l)) (take (seen_at place o l) (serial_at place o D))
+    (o : ℕ) → IsSnapshot O place l o (take (seen_at place o l) (serial_at place o D))
 
 -- A summary describes this front and this configuration. It is so between the records of a run.
 pub record Summable {Op State : Type 0} (O : Object Op State) (place : Op → ℕ) (f : Front)

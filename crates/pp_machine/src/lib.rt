@@ -8,7 +8,7 @@ mod laws;
 mod machine;
 mod transactions;
 
-pub use detail::{BoxedContext, Detail};
+pub use detail::{BoxedContext, Detail, swap_detail};
 pub use laws::{
     alone_law, evidence_law, kept_law, same_state_law, serial_law, simulation_law,
     start_evidence_law, verdict_law, views_law, written_law,

@@ -1,0 +1,9 @@
+pub mod Finds
+pub mod Pulls
+pub mod Summarised
+pub mod SummarisedLogs
+pub mod SummarisedSnapshots
+pub mod Kept
+pub mod Records
+pub mod Views
+pub mod Missing

@@ -1,0 +1,4 @@
+pub mod Summarised
+pub mod Asks
+pub mod Searches
+pub mod Violations
