@@ -8,6 +8,7 @@ use Rattle.pp_core.specs.Catalogs.{Objects}
 use Rattle.pp_core.specs.declared.call.Kind.{Kind}
 use Rattle.pp_core.specs.declared.status.Status.{Status}
 use Rattle.pp_core.specs.declared.status.Status.TheVariants as statuses
+use Rattle.pp_input.specs.Limits.{usual_limits}
 use Rattle.pp_input.specs.Overruns.{early_lines, overrun, scanned_lines}
 use Rattle.pp_objects.specs.Objects.{objects}
 use Rattle.pp_objects.specs.declared.act.Op.{Op}
@@ -28,11 +29,11 @@ use Rattle.pp_certificate_lines.specs.Reading.{objects_in, reader_of}
 
 -- the lines of an input before the one that passes a limit
 abbrev pub texts : List ℕ → List (List ℕ)
-texts bytes = map (λ numbered. numbered.1) (scanned_lines bytes)
+texts bytes = map (λ numbered. numbered.1) (scanned_lines usual_limits bytes)
 
 -- those of them that no further byte can change
 abbrev pub early_texts : List ℕ → List (List ℕ)
-early_texts bytes = map (λ numbered. numbered.1) (early_lines bytes)
+early_texts bytes = map (λ numbered. numbered.1) (early_lines usual_limits bytes)
 
 -- what an input is, as a certificate
 pub data Checked : Type 0 where
@@ -64,7 +65,7 @@ abbrev pub IsChecked : List ℕ → Checked → Type 0
 IsChecked bytes found =
     (v : Verdict (List Kind) (List ObjectState) Op)
     × IsVerdictOf objects (reader_of (texts bytes)) (texts bytes) v
-    × (found ≡ checked (limit_fault (overrun bytes)) (length (texts bytes)) v)
+    × (found ≡ checked (limit_fault (overrun usual_limits bytes)) (length (texts bytes)) v)
 
 -- where a line is refused
 abbrev pub refused_place : ℕ → List ℕ
@@ -121,6 +122,6 @@ IsCheckedSound bytes =
 -- What was read passes no limit, and each line that no further byte can change is taken.
 abbrev pub RecheckReadsNoFault : Option (List ℕ) → Option (List ℕ) → Type 0
 RecheckReadsNoFault old new =
-    (bytes : List ℕ) × Consumes old new bytes × (overrun bytes ≡ None)
+    (bytes : List ℕ) × Consumes old new bytes × (overrun usual_limits bytes ≡ None)
     × ((s : Stage (List Kind) Op)
     × Leads objects (reader_of (early_texts bytes)) Fresh (early_texts bytes) s)

@@ -1,6 +1,7 @@
 -- Proof machinery: what reading the lines of an input as those of a certificate comes to.
 use Rattle.std.specs.Prelude.{◌≤◌, ◌+◌, ℕ, List, length, map}
 use Rattle.pp_core.specs.declared.call.Kind.{Kind}
+use Rattle.pp_input.specs.Limits.{usual_limits}
 use Rattle.pp_input.specs.Lines.{NumberedLine}
 use Rattle.pp_objects.specs.Objects.{objects}
 use Rattle.pp_objects.specs.declared.act.Op.{Op}
@@ -34,10 +35,11 @@ entries_at (Ended shape list count n) = length list
 abbrev pub entries_in : Checking → ℕ
 entries_in checking = entries_at (read_in checking).stage
 
--- where lines lead to, with what the counter then shows, which of them is not taken, and what they
--- cost, by what the counter shows before the first
+-- the usual limits; and where lines lead to, with what the counter then shows, which of them
+-- is not taken, and what they cost, by what the counter shows before the first
 abbrev pub check_reading : ℕ → Reading (Checking × ℕ) CheckFault
 check_reading first = record {
+  limits = usual_limits;
   Leads = λ lines at. Covers (bare lines) at.0 × (at.1 ≤ first + length lines)
       × (first + entries_in at.0 ≤ at.1);
   HasFault = λ lines at fault. HasCheckFault (bare lines) at fault;

@@ -2,7 +2,7 @@
 use crate::checking::Checking;
 use pp_certificate_checker::Refusal;
 use pp_core::Ticks;
-use pp_input::Line;
+use pp_input::{Limits, Line};
 use pp_input_reader::{Cause, Stop, TakesLines};
 use std::alloc::Global;
 use std::sync::ledger::Ledger;
@@ -22,6 +22,10 @@ impl TakesLines for Checking {
     type Fault = CheckFault;
 
     ghost reading = { check_reading };
+
+    fn limits() -> Limits {
+        Limits::usual()
+    }
 
     fn at_limit(cause: Cause) -> CheckFault {
         CheckFault::Cause(cause)

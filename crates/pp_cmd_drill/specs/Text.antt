@@ -1,6 +1,7 @@
 -- Meaning: the text of the run of `drill N`, and what is read from it.
 use Rattle.std.specs.Prelude.{◌≡◌, ◌≤◌, ◌<◌, ℕ, false, List, map, length, count_by, Ok, None}
 use Rattle.pp_records.specs.Records.{Plain}
+use Rattle.pp_input.specs.Limits.{usual_limits}
 use Rattle.pp_input.specs.Lines.{blank, numbered_from}
 use Rattle.pp_input.specs.Overruns.{overrun, scanned_lines}
 use Rattle.pp_format_read.specs.Headers.{header_of}
@@ -28,10 +29,10 @@ pub record IsReadBack (n : ℕ) : Type 0 where
   pub statable : IsStatableRun drill_catalog None (drill_steps n)
   pub begun : count_by is_begin (drill_steps n) ≡ n
   -- it passes no limit
-  pub within : overrun (drill_text n) ≡ None
+  pub within : overrun usual_limits (drill_text n) ≡ None
   pub short : length (drill_text n) < 200_000_000
   -- its lines are those that were written, and none of them is blank
-  pub lines : scanned_lines (drill_text n)
+  pub lines : scanned_lines usual_limits (drill_text n)
       ≡ numbered_from 1 (run_lines drill_catalog None (drill_steps n))
   pub shown : Each (λ line. blank line ≡ false) (run_lines drill_catalog None (drill_steps n))
   -- the first is read as the header, and those behind it as the steps, in turn

@@ -28,20 +28,13 @@ pub(crate) struct RunText {
 }
 
 impl Observer for RunText {
-    ghost use Rattle.std.specs.Prelude.{true};
     ghost use Rattle.pp_cmd_expand.specs.Written.{HasWritten};
 
     ghost HasSeen = { HasWritten };
 
-    ghost looks = { true };
-
     fn begin(alloc: Global, header: &Header) -> Result<RunText, OutOfMemory> {
         let text = header_text(alloc, &header.catalog, &header.start)?;
         Ok(RunText { text })
-    }
-
-    fn looks() -> bool {
-        true
     }
 
     fn see(
@@ -54,8 +47,6 @@ impl Observer for RunText {
         add_steps(alloc, &header.catalog, steps, &mut text)?;
         Ok(RunText { text })
     }
-
-    ghost blind = { λ no _ _ _. cc };
 }
 
 /// The status of the input of a source, and its run of rule steps as a run of style rules.

@@ -117,7 +117,7 @@ failed_least header rs it old now new least rises r f =
 
 -- a run may have one record more
 pub below_most : (h : Header) (judge : Decider) → MayTake quick_judging h judge → judge.quick.count < 200_000
-below_most h judge may = omega (arith, may.2.read.count, may.3)
+below_most h judge may = let room : length may.1 + 1 < 200_001 = may.3 in omega (arith, may.2.read.count, room)
 
 module _ (h : Header) (judge : Decider) (r : RunRecord Op) (line now new : ℕ) where
   pub judges_most : new ≤ now + take_most judge.quick.brief r → CostsAtMostThere quick_judging h judge r line now new

@@ -11,6 +11,7 @@ use Rattle.pp_objects.specs.Objects.{kinds_of, objects, place_of}
 use Rattle.pp_summary.specs.Held.{Held, held_first}
 use Rattle.pp_summary.specs.Reading.{HasRead}
 use Rattle.pp_summary.specs.Sums.{count_ops}
+use Rattle.pp_input.specs.Limits.{usual_limits}
 use Rattle.pp_judge.specs.Judging.{Judging}
 use Rattle.pp_judge.specs.Objects.{object_of, start_of}
 use Rattle.pp_judge.specs.Scans.{InputScan}
@@ -29,9 +30,11 @@ pub record AreGoodBehind (header : Header) (records : Records (RunRecord Op))
   pub few : quick.count ≤ 200_000
   pub read : HasRead objects place_of (kinds_of header.catalog) (start_of header) records quick
 
--- A record is good if all its steps meet their criteria. A rejection is told by its line.
+-- The limits are the usual ones. A record is good if all its steps meet their criteria. A rejection
+-- is told by its line.
 abbrev pub quick_judging : Judging Decider FailedOn
 quick_judging = record {
+  limits = usual_limits;
   IsGood = λ header records judge. AreGoodBehind header.what records judge.quick;
   IsBad = λ header records failed. (header.what.style ≡ Boosted)
       × FailsOn header records failed.line;

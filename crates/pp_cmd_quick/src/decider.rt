@@ -8,6 +8,7 @@ ghost use Rattle.pp_cmd_quick.specs.Taking.{StartsQuick};
 
 use pp_core::{OutOfMemory, Style, Ticks};
 use pp_format_read::Header;
+use pp_input::Limits;
 use pp_input_reader::{Cause, Stop};
 use pp_judge::{Judge, Judged};
 use pp_objects::{Objects, Op};
@@ -64,6 +65,10 @@ impl Judge for Decider {
     type Rejection = FailedOn;
 
     ghost judging = { quick_judging };
+
+    fn limits() -> Limits {
+        Limits::usual()
+    }
 
     fn begin<L: Ledger>(
         alloc: Global,

@@ -5,6 +5,7 @@ use Rattle.std.specs.Io.KnownBytes.{IsAtEnd}
 use Rattle.std.proofs.lemmas.List.{length-append}
 use Rattle.pp_core.specs.Catalogs.{Objects}
 use Rattle.pp_core.specs.declared.call.Kind.{Kind}
+use Rattle.pp_input.specs.Limits.{usual_limits}
 use Rattle.pp_input.specs.Lines.{NumberedLine}
 use Rattle.pp_input.specs.Overruns.{overrun, scanned_lines}
 use Rattle.pp_objects.specs.Objects.{objects}
@@ -83,7 +84,7 @@ fault_is first bytes at (faults.Cause cause) (inl h) = absurd h
 fault_is first bytes at (faults.Refusal why) (inl h) = (
   Refused at why,
   h.1,
-  refused_first (length (texts bytes)) at why h.0 (limit_fault (overrun bytes)),
+  refused_first (length (texts bytes)) at why h.0 (limit_fault (overrun usual_limits bytes)),
 )
 fault_is first bytes at fault (inr (taker, leads, (cause, is, same))) =
     let told = limit_told (texts bytes) taker.0 leads.0 (at, cause) in
@@ -101,11 +102,11 @@ pub fault_found : (first : ℕ) (old : Option (List ℕ)) (at : ℕ) (fault : Ch
 fault_found first old at fault h bytes is = fault_is first bytes at fault (h bytes is)
 
 -- ---- all lines are taken
-module _ (bytes : List ℕ) (none : overrun bytes ≡ None) where
+module _ (bytes : List ℕ) (none : overrun usual_limits bytes ≡ None) where
   -- no limit is passed
   unlimited : (v : Found)
       → checked None (length (texts bytes)) v
-      ≡ checked (limit_fault (overrun bytes)) (length (texts bytes)) v
+      ≡ checked (limit_fault (overrun usual_limits bytes)) (length (texts bytes)) v
   unlimited v =
       ap (λ (o : Option (ℕ × Cause)). checked o (length (texts bytes)) v)
       (sym (ap limit_fault none))
@@ -146,19 +147,19 @@ module _ (first now : ℕ) (old new : Option (List ℕ)) (checking : Checking)
         h,
         all.3.1,
         covers_count (texts all.0) checking all.3.0,
-        length-bare (scanned_lines all.0),
+        length-bare (scanned_lines usual_limits all.0),
       ))
 
 -- ---- what the counter shows
 pub counted : (first new : ℕ) (bytes : List ℕ)
-    → CountsTo (check_reading first) (scanned_lines bytes) new → CheckCostsAtMost bytes first new
+    → CountsTo (check_reading first) (scanned_lines usual_limits bytes) new → CheckCostsAtMost bytes first new
 counted first new bytes c =
     omega (
       arith,
       at_most c.3,
       length-append c.0 c.1,
       ap (λ (ls : List NumberedLine). length ls) c.2,
-      length-bare (scanned_lines bytes),
+      length-bare (scanned_lines usual_limits bytes),
     )
   where
     at_most : ((taker : Checking) × (check_reading first).Leads c.0 (taker, new))

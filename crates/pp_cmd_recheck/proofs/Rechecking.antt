@@ -6,6 +6,7 @@ use Rattle.pp_core.specs.Catalogs.{Objects}
 use Rattle.pp_core.specs.declared.call.Kind.{Kind}
 use Rattle.pp_core.specs.declared.status.Status.{Status}
 use Rattle.pp_core.specs.declared.status.Status.TheVariants as statuses
+use Rattle.pp_input.specs.Limits.{usual_limits}
 use Rattle.pp_input.specs.Overruns.{overrun}
 use Rattle.pp_objects.specs.Objects.{objects}
 use Rattle.pp_objects.specs.declared.act.Op.{Op}
@@ -34,7 +35,7 @@ checked_once bytes f g a b =
     let lines = texts bytes in
     let one : a.0 ≡ b.0 =
     read_once objects (reader_of lines) 1 Fresh lines a.0 b.0 a.1 b.1 in
-    a.2 ∙ ap (λ (v : Found). checked (limit_fault (overrun bytes)) (length lines) v) one ∙ sym b.2
+    a.2 ∙ ap (λ (v : Found). checked (limit_fault (overrun usual_limits bytes)) (length lines) v) one ∙ sym b.2
 
 told_once : (catalog : Objects) (f : Checked) (s r : Status) (t u : List ℕ)
     → IsCheckedTold catalog f s t → IsCheckedTold catalog f r u → (s ≡ r) × (t ≡ u)
@@ -62,7 +63,7 @@ pub some_recheck : (bytes : List ℕ) → (s : Status) × (t : List ℕ) × IsRe
 some_recheck bytes =
     let lines = texts bytes in
     let v = read_some objects objects_lawful (reader_of lines) 1 Fresh lines in
-    let f : Checked = checked (limit_fault (overrun bytes)) (length lines) v.0 in
+    let f : Checked = checked (limit_fault (overrun usual_limits bytes)) (length lines) v.0 in
     let told = told_some (objects_in lines) f in
     (told.0, told.1, (f, (v.0, v.1, refl), told.2))
 
@@ -100,7 +101,7 @@ pub shows_sound : (bytes : List ℕ) (h : Shown (List Kind) (List ObjectState) O
     → IsChecked bytes (Shows h) → IsSoundOf bytes h
 shows_sound bytes h a =
     let lines = texts bytes in
-    let holds = shown_holds (limit_fault (overrun bytes)) (length lines) a.0 h a.2 in
+    let holds = shown_holds (limit_fault (overrun usual_limits bytes)) (length lines) a.0 h a.2 in
     let verdict : IsVerdictOf objects (reader_of lines) lines (Holds h) =
     subst (λ (v : Found). IsVerdictOf objects (reader_of lines) lines v) holds a.1 in (
       read_sound objects objects_lawful (reader_of lines) 1 Fresh lines h tt verdict,

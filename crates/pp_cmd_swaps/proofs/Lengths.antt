@@ -6,6 +6,7 @@ use Rattle.std.proofs.lemmas.List.{length-map}
 use Rattle.serde_json.specs.View.{items_of}
 use Rattle.pp_core.specs.Catalogs.{HasNames, Objects}
 use Rattle.pp_core.specs.declared.entry.Item.{Item}
+use Rattle.pp_input.specs.Limits.{usual_limits}
 use Rattle.pp_input.specs.Joined.{AreAllowed, AreLines, AreShort, joined_lines}
 use Rattle.pp_model.specs.Lists.{Each, joined}
 use Rattle.pp_objects.specs.Objects.{kinds_of}
@@ -46,7 +47,7 @@ module _ {A : Type 0} (f : A → List ℕ) (P : A → Type 0) (most : ℕ) (line
   lines_all [] h = tt
   lines_all (x ∷ xs) h = (is_line (f x) (line_of x h.0), lines_all xs h.1)
 
-  short_all : most ≤ 65_536 → (xs : List A) → Each P xs → AreShort (map f xs)
+  short_all : most ≤ 65_536 → (xs : List A) → Each P xs → AreShort usual_limits (map f xs)
   short_all few [] h = tt
   short_all few (x ∷ xs) h = (omega (arith, short_of x h.0), short_all few xs h.1)
 
@@ -58,7 +59,7 @@ lines_append : (xs ys : List (List ℕ)) → AreLines xs → AreLines ys → Are
 lines_append [] ys h k = k
 lines_append (x ∷ xs) ys h k = (h.0, lines_append xs ys h.1 k)
 
-short_append : (xs ys : List (List ℕ)) → AreShort xs → AreShort ys → AreShort (xs ++ ys)
+short_append : (xs ys : List (List ℕ)) → AreShort usual_limits xs → AreShort usual_limits ys → AreShort usual_limits (xs ++ ys)
 short_append [] ys h k = k
 short_append (x ∷ xs) ys h k = (h.0, short_append xs ys h.1 k)
 
@@ -143,7 +144,7 @@ module _ (catalog : Objects) (cat : IsCatalog catalog) (log : List (Item Op)) (i
         serial_short n number,
       )
 
-  pub certificate_allowed : length log ≤ 150_000 → length is ≤ 1_000_000 → AreAllowed (certificate (line_bytes catalog) (kinds_of catalog) log is n)
+  pub certificate_allowed : length log ≤ 150_000 → length is ≤ 1_000_000 → AreAllowed usual_limits (certificate (line_bytes catalog) (kinds_of catalog) log is n)
   certificate_allowed few short = record {
     few =
         omega (

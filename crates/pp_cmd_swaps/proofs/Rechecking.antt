@@ -13,6 +13,7 @@ use Rattle.pp_core.specs.declared.status.Status.{Status}
 use Rattle.pp_core.specs.declared.status.Status.TheVariants as statuses
 use Rattle.pp_records.specs.Runs.{bare}
 use Rattle.pp_input.specs.Joined.{AreAllowed, AreLines}
+use Rattle.pp_input.specs.Limits.{usual_limits}
 use Rattle.pp_input.specs.Lines.{NumberedLine, numbered_from}
 use Rattle.pp_input.specs.Overruns.{overrun}
 use Rattle.pp_input.proofs.Joined as joining
@@ -194,16 +195,16 @@ module _ (bytes report : List ℕ) (sound : IsFaultOf (scan bytes) None) (own : 
     text_lines : AreLines lines
     text_lines = certificate_lines catalog statable.over G (route G T) n stated small_positions small_number
 
-    text_allowed : AreAllowed lines
+    text_allowed : AreAllowed usual_limits lines
     text_allowed =
         certificate_allowed catalog statable.over G (route G T) n stated small_positions small_number (omega (arith, few))
         (omega (arith, swaps, length_route G T permutes))
 
-    no_limit : overrun text ≡ None
-    no_limit = joining.allowed lines text_lines text_allowed
+    no_limit : overrun usual_limits text ≡ None
+    no_limit = joining.allowed usual_limits lines text_lines text_allowed
 
     read_lines : texts text ≡ lines
-    read_lines = ap (λ (ls : List NumberedLine). map (λ (l : NumberedLine). l.1) ls) (joining.scanned lines text_lines text_allowed) ∙ lines_again 1 lines
+    read_lines = ap (λ (ls : List NumberedLine). map (λ (l : NumberedLine). l.1) ls) (joining.scanned usual_limits lines text_lines text_allowed) ∙ lines_again 1 lines
 
     is_checked : IsChecked text (Shows (shown_in catalog c))
     is_checked = (

@@ -26,21 +26,14 @@ fn add_copies(alloc: Global, list: &mut StepList<Op>, steps: &[Step<Op>]) -> Res
 }
 
 impl Observer for RunSteps {
-    ghost use Rattle.std.specs.Prelude.{true};
     ghost use Rattle.pp_cmd_views.specs.Taken.{HasSeenSteps};
 
     ghost HasSeen = { HasSeenSteps };
-
-    ghost looks = { true };
 
     fn begin(alloc: Global, _header: &Header) -> Result<RunSteps, OutOfMemory> {
         Ok(RunSteps {
             steps: StepList::new(alloc),
         })
-    }
-
-    fn looks() -> bool {
-        true
     }
 
     fn see(
@@ -53,6 +46,4 @@ impl Observer for RunSteps {
         add_copies(alloc, &mut steps, more)?;
         Ok(RunSteps { steps })
     }
-
-    ghost blind = { λ no _ _ _. cc };
 }

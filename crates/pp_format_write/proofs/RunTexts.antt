@@ -10,6 +10,7 @@ use Rattle.pp_core.specs.Catalogs.{Objects}
 use Rattle.pp_core.specs.Steps.{Step, Begin, App, Unapp, Push, Unpush, Pull, Unpull, Cmt, Quit, Note, meaning}
 use Rattle.pp_core.specs.declared.step.Step.{Step as StepOf}
 use Rattle.pp_input.specs.Joined.{joined_lines, IsLine, AreLines, AreShort, AreAllowed}
+use Rattle.pp_input.specs.Limits.{usual_limits}
 use Rattle.pp_input.specs.Lines.{blank, numbered_from}
 use Rattle.pp_input.specs.Overruns.{overrun, scanned_lines}
 use Rattle.pp_input.proofs.Joined as joined
@@ -128,7 +129,7 @@ module _ (catalog : Objects) (cat : IsCatalog catalog) where
   step_lines [] h = tt
   step_lines (s ∷ ss) h = (is_line (step_bytes catalog s) (one_line (step_bytes catalog s) (clean IsNear (step_value catalog s) (near_step catalog s cat.named h.0))), step_lines ss h.1)
 
-  steps_short : (steps : List (Step Op)) → Each (IsStatable catalog) steps → AreShort (map (step_bytes catalog) steps)
+  steps_short : (steps : List (Step Op)) → Each (IsStatable catalog) steps → AreShort usual_limits (map (step_bytes catalog) steps)
   steps_short [] h = tt
   steps_short (s ∷ ss) h = (omega (arith, statable_short catalog s cat h.0, most_most s), steps_short ss h.1)
 
@@ -153,18 +154,18 @@ module _ (catalog : Objects) (start : Option Start) (steps : List (Step Op)) (h 
         begins_are steps,
       )
 
-  text_allowed : AreAllowed (run_lines catalog start steps)
+  text_allowed : AreAllowed usual_limits (run_lines catalog start steps)
   text_allowed = let few = h.few in record {
     few = omega (arith, length-map steps (step_bytes catalog));
     short = (omega (arith, short catalog start h.over h.begun), steps_short catalog h.over steps h.each);
     bytes = omega (arith, text_short);
   }
 
-  pub text_passes : overrun (run_text catalog start steps) ≡ None
-  text_passes = joined.allowed (run_lines catalog start steps) lines text_allowed
+  pub text_passes : overrun usual_limits (run_text catalog start steps) ≡ None
+  text_passes = joined.allowed usual_limits (run_lines catalog start steps) lines text_allowed
 
-  pub text_scanned : scanned_lines (run_text catalog start steps) ≡ numbered_from 1 (run_lines catalog start steps)
-  text_scanned = joined.scanned (run_lines catalog start steps) lines text_allowed
+  pub text_scanned : scanned_lines usual_limits (run_text catalog start steps) ≡ numbered_from 1 (run_lines catalog start steps)
+  text_scanned = joined.scanned usual_limits (run_lines catalog start steps) lines text_allowed
 
 -- ---- no line is blank
 header_shows : (catalog : Objects) (start : Option Start) → blank (printed_header catalog start) ≡ false

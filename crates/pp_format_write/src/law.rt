@@ -7,6 +7,7 @@ ghost use Rattle.pp_core.specs.Steps.{Step};
 ghost use Rattle.pp_core.specs.declared.call.Style.TheVariants.{Rules};
 ghost use Rattle.pp_records.specs.Records.{RunRecord, Plain};
 ghost use Rattle.pp_input.specs.Joined.{joined_lines};
+ghost use Rattle.pp_input.specs.Limits.{usual_limits};
 ghost use Rattle.pp_input.specs.Lines.{blank, numbered_from};
 ghost use Rattle.pp_input.specs.Overruns.{overrun, scanned_lines};
 ghost use Rattle.pp_format_read.specs.Headers.{header_of};
@@ -62,16 +63,18 @@ pub fn length_law()
 
 /// Where a run can be stated, its text is an input of which each line is examined: the line of its
 /// header, numbered 1, and the line of its step i, numbered i + 1. None of these lines is blank,
-/// and the input passes no limit and has less than 200,000,000 bytes. The text of a run with steps
-/// behind it is that of the run with their lines behind it.
+/// and the input passes no usual limit and has less than 200,000,000 bytes. The text of a run
+/// with steps behind it is that of the run with their lines behind it.
 pub fn run_text_law()
     ensures lines { (catalog : Objects) (start : Option Start) (steps : List (Step Op))
-        → IsStatableRun catalog start steps → scanned_lines (run_text catalog start steps)
+        → IsStatableRun catalog start steps
+        → scanned_lines usual_limits (run_text catalog start steps)
         ≡ numbered_from 1 (run_lines catalog start steps) }
     ensures shown { (catalog : Objects) (start : Option Start) (steps : List (Step Op))
         → Each (λ line. blank line ≡ false) (run_lines catalog start steps) }
     ensures limits { (catalog : Objects) (start : Option Start) (steps : List (Step Op))
-        → IsStatableRun catalog start steps → overrun (run_text catalog start steps) ≡ None }
+        → IsStatableRun catalog start steps
+        → overrun usual_limits (run_text catalog start steps) ≡ None }
     ensures short { (catalog : Objects) (start : Option Start) (steps : List (Step Op))
         → IsStatableRun catalog start steps → length (run_text catalog start steps) < 200_000_000 }
     ensures more { (catalog : Objects) (start : Option Start) (before steps : List (Step Op))

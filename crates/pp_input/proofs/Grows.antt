@@ -15,8 +15,8 @@ lines_counted at front (b ∷ bs) =
       | true ↦ λ e. rw e (omega arith)
       | false ↦ λ e. rw e (
           elim (b == 10) as (λ v. (b == 10) ≡ v → (reach_from (past at b) bs).lines ≡ at.lines + length (ended_behind front (b ∷ within_from (past at b) bs))) [
-            | true ↦ λ t. rw t (omega (arith, lines_counted (record { bytes = at.bytes + 1; lines = at.lines + 1; column = 0 }) [] bs))
-            | false ↦ λ t. rw t (lines_counted (record { bytes = at.bytes + 1; lines = at.lines; column = at.column + 1 }) (front ++ b ∷ []) bs)
+            | true ↦ λ t. rw t (omega (arith, lines_counted (record { limits = at.limits; bytes = at.bytes + 1; lines = at.lines + 1; column = 0 }) [] bs))
+            | false ↦ λ t. rw t (lines_counted (record { limits = at.limits; bytes = at.bytes + 1; lines = at.lines; column = at.column + 1 }) (front ++ b ∷ []) bs)
           ] refl)
     ] refl
 
@@ -28,8 +28,8 @@ column_counted at front (b ∷ bs) le =
       | true ↦ λ e. rw e le
       | false ↦ λ e. rw e (
           elim (b == 10) as (λ v. (b == 10) ≡ v → length (rest_behind front (b ∷ within_from (past at b) bs)) ≤ (reach_from (past at b) bs).column) [
-            | true ↦ λ t. rw t (column_counted (record { bytes = at.bytes + 1; lines = at.lines + 1; column = 0 }) [] bs (omega arith))
-            | false ↦ λ t. rw t (column_counted (record { bytes = at.bytes + 1; lines = at.lines; column = at.column + 1 }) (front ++ b ∷ []) bs (omega (arith, length-append front (b ∷ []))))
+            | true ↦ λ t. rw t (column_counted (record { limits = at.limits; bytes = at.bytes + 1; lines = at.lines + 1; column = 0 }) [] bs (omega arith))
+            | false ↦ λ t. rw t (column_counted (record { limits = at.limits; bytes = at.bytes + 1; lines = at.lines; column = at.column + 1 }) (front ++ b ∷ []) bs (omega (arith, length-append front (b ∷ []))))
           ] refl)
     ] refl
 

@@ -5,13 +5,13 @@ use Rattle.std.proofs.Common.{arith}
 use Rattle.std.proofs.lemmas.List.{append-nil, length-append}
 use Rattle.std.proofs.lemmas.Bool.{and_parts}
 use Rattle.std.specs.List.{list_all}
-use Rattle.pp_core.specs.declared.limits.TheConstants.{LONGEST_LINE, MOST_BYTES, MOST_LINES}
+use Rattle.pp_input.specs.declared.limits.Limits.{Limits}
 use Rattle.pp_input.specs.declared.reach.Reach.{Reach}
 use Rattle.pp_input.specs.Lines.{ended, rest, ended_behind, rest_behind, unended, without_return, numbered_from, numbered_lines}
 use Rattle.pp_input.specs.Reaches.{overrun_from, start}
 use Rattle.pp_input.specs.Overruns.{overrun, lines_before, scanned_lines}
 use Rattle.pp_input.specs.Joined.{joined_lines, AreLines, AreShort, AreAllowed}
-use Rattle.pp_input.proofs.Limits.{start_overrun}
+use Rattle.pp_input.proofs.Overruns.{start_overrun}
 use Rattle.pp_input.proofs.Skips.{reach_same, passed_end, passed_byte}
 
 is_false : (t : Bool) → not t ≡ true → t ≡ false
@@ -61,30 +61,30 @@ split lines h =
     ∙ ap (numbered_from 1) (all_kept lines h)
 
 -- ---- within the limits
-line_allowed : (at to : Reach) (line more : List ℕ) → IsUnbroken line → at.bytes + length line < MOST_BYTES → at.lines < MOST_LINES → at.column + length line ≤ LONGEST_LINE
-    → to.bytes ≡ at.bytes + length line + 1 → to.lines ≡ at.lines + 1 → to.column ≡ 0 → overrun_from at (line ++ 10 ∷ more) ≡ overrun_from to more
-line_allowed at to [] more h b l c tb tl tc =
-    let next : Reach = record { bytes = at.bytes + 1; lines = at.lines + 1; column = 0 } in
-    rw (passed_end at 10 refl (omega arith) l) (ap (λ r. overrun_from r more) (reach_same next to (omega arith) (omega arith) (omega arith)))
-line_allowed at to (x ∷ xs) more h b l c tb tl tc =
+line_allowed : (at to : Reach) (line more : List ℕ) → IsUnbroken line → at.bytes + length line < at.limits.bytes → at.lines < at.limits.lines → at.column + length line ≤ at.limits.line_bytes
+    → to.limits ≡ at.limits → to.bytes ≡ at.bytes + length line + 1 → to.lines ≡ at.lines + 1 → to.column ≡ 0 → overrun_from at (line ++ 10 ∷ more) ≡ overrun_from to more
+line_allowed at to [] more h b l c ts tb tl tc =
+    let next : Reach = record { limits = at.limits; bytes = at.bytes + 1; lines = at.lines + 1; column = 0 } in
+    rw (passed_end at 10 refl (omega arith) l) (ap (λ r. overrun_from r more) (reach_same next to (sym ts) (omega arith) (omega arith) (omega arith)))
+line_allowed at to (x ∷ xs) more h b l c ts tb tl tc =
     let parts = unbroken_parts x xs h in
-    let next : Reach = record { bytes = at.bytes + 1; lines = at.lines; column = at.column + 1 } in
-    rw (passed_byte at x parts.0 (omega arith) l (omega arith), parts.0) (line_allowed next to xs more parts.1 (omega arith) l (omega arith) (omega arith) tl tc)
+    let next : Reach = record { limits = at.limits; bytes = at.bytes + 1; lines = at.lines; column = at.column + 1 } in
+    rw (passed_byte at x parts.0 (omega arith) l (omega arith), parts.0) (line_allowed next to xs more parts.1 (omega arith) l (omega arith) ts (omega arith) tl tc)
 
-all_allowed : (at : Reach) (lines : List (List ℕ)) → AreLines lines → AreShort lines → at.column ≡ 0 → at.lines + length lines ≤ MOST_LINES
-    → at.bytes + length (joined_lines lines) ≤ MOST_BYTES → overrun_from at (joined_lines lines) ≡ None
+all_allowed : (at : Reach) (lines : List (List ℕ)) → AreLines lines → AreShort at.limits lines → at.column ≡ 0 → at.lines + length lines ≤ at.limits.lines
+    → at.bytes + length (joined_lines lines) ≤ at.limits.bytes → overrun_from at (joined_lines lines) ≡ None
 all_allowed at [] h short column few bytes = refl
 all_allowed at (l ∷ ls) h short column few bytes =
-    let to : Reach = record { bytes = at.bytes + length l + 1; lines = at.lines + 1; column = 0 } in
+    let to : Reach = record { limits = at.limits; bytes = at.bytes + length l + 1; lines = at.lines + 1; column = 0 } in
     let long = length-append l (10 ∷ joined_lines ls) in
     let first = short.0 in
-    line_allowed at to l (joined_lines ls) h.0.unbroken (omega arith) (omega arith) (omega arith) refl refl refl
+    line_allowed at to l (joined_lines ls) h.0.unbroken (omega arith) (omega arith) (omega arith) refl refl refl refl
     ∙ all_allowed to ls h.1 short.1 refl (omega arith) (omega arith)
 
-pub allowed : (lines : List (List ℕ)) → AreLines lines → AreAllowed lines → overrun (joined_lines lines) ≡ None
-allowed lines h w =
+pub allowed : (L : Limits) (lines : List (List ℕ)) → AreLines lines → AreAllowed L lines → overrun L (joined_lines lines) ≡ None
+allowed L lines h w =
     let few = w.few in let bytes = w.bytes in
-    sym (start_overrun (joined_lines lines)) ∙ all_allowed start lines h w.short refl (omega arith) (omega arith)
+    sym (start_overrun L (joined_lines lines)) ∙ all_allowed (start L) lines h w.short refl (omega arith) (omega arith)
 
-pub scanned : (lines : List (List ℕ)) → AreLines lines → AreAllowed lines → scanned_lines (joined_lines lines) ≡ numbered_from 1 lines
-scanned lines h w = ap (λ o. lines_before o (numbered_lines (joined_lines lines))) (allowed lines h w) ∙ split lines h
+pub scanned : (L : Limits) (lines : List (List ℕ)) → AreLines lines → AreAllowed L lines → scanned_lines L (joined_lines lines) ≡ numbered_from 1 lines
+scanned L lines h w = ap (λ o. lines_before o (numbered_lines (joined_lines lines))) (allowed L lines h w) ∙ split lines h

@@ -1,7 +1,7 @@
 pub mod Cuts
 pub mod Grows
 pub mod Given
-pub mod Limits
+pub mod Overruns
 pub mod Reading
 pub mod Skips
 pub mod Joined

@@ -1,7 +1,6 @@
 -- Proof machinery: what the fields of `Lines` keep.
 use Rattle.std.specs.Prelude.{◌≡◌, ◌≤◌, ◌+◌, ℕ, List, [], ◌∷◌, length, Bool, false, Option, Some}
 use Rattle.std.specs.Prelude.{None}
-use Rattle.pp_core.specs.declared.limits.TheConstants.{MOST_LINES}
 use Rattle.pp_input.specs.declared.reach.Reach.{Reach}
 use Rattle.pp_input.specs.Reaches.{IsReach}
 
@@ -16,4 +15,4 @@ pub record IsCounted (whole : List (List ℕ)) (last : Option (List ℕ)) (rest 
   pub reached : IsReach reach
   pub column : length rest ≤ reach.column
   pub ahead : closed ≡ false → (handed + length whole ≤ reach.lines) × (last ≡ None)
-  pub room : handed + length whole + length (listed last) ≤ MOST_LINES
+  pub room : handed + length whole + length (listed last) ≤ reach.limits.lines

@@ -3,6 +3,7 @@ use Rattle.std.specs.Prelude.{◌≡◌, ℕ, ◌+◌, List, [], ◌∷◌, ◌+
 use Rattle.std.specs.Prelude.{Some, None}
 use Rattle.pp_input.specs.declared.fault.LineFault.{LineFault}
 use Rattle.pp_input.specs.declared.fault.LineFault.TheVariants.{OutOfMemory}
+use Rattle.pp_input.specs.declared.limits.Limits.{Limits}
 use Rattle.pp_input.specs.declared.reach.Reach.{Reach}
 use Rattle.pp_input.specs.Lines.{NumberedLine, ended_behind, rest_behind, unended, without_return}
 use Rattle.pp_input.specs.Reaches.{overrun_from, within_from, reach_from, start}
@@ -18,9 +19,16 @@ pub record Held : Type 0 where
   pub fault : Option LineFault
   pub closed : Bool
 
--- before the first piece
-abbrev pub empty : Held
-empty = record { whole = []; rest = []; handed = 0; reach = start; fault = None; closed = false }
+-- before the first piece of an input with these limits
+abbrev pub empty : Limits → Held
+empty limits = record {
+  whole = [];
+  rest = [];
+  handed = 0;
+  reach = start limits;
+  fault = None;
+  closed = false;
+}
 
 -- after a piece: its bytes up to the first that passes a limit are taken
 abbrev pub fed : Held → List ℕ → Held

@@ -1,7 +1,7 @@
 -- Meaning: lines that are written one after another.
 use Rattle.std.specs.Prelude.{◌≡◌, ◌≤◌, ℕ, ◌==◌, not, IsTrue, List, [], ◌∷◌, ◌++◌, length}
 use Rattle.std.specs.List.{list_all}
-use Rattle.pp_core.specs.declared.limits.TheConstants.{LONGEST_LINE, MOST_BYTES, MOST_LINES}
+use Rattle.pp_input.specs.declared.limits.Limits.{Limits}
 use Rattle.pp_input.specs.Lines.{without_return}
 
 -- the lines, each with a byte 10 behind it
@@ -20,13 +20,13 @@ AreLines [] = Unit {0}
 AreLines (line ∷ lines) = IsLine line × AreLines lines
 
 -- none of them is too long
-abbrev pub AreShort : List (List ℕ) → Type 0
-AreShort [] = Unit {0}
-AreShort (line ∷ lines) = (length line ≤ LONGEST_LINE) × AreShort lines
+abbrev pub AreShort : Limits → List (List ℕ) → Type 0
+AreShort limits [] = Unit {0}
+AreShort limits (line ∷ lines) = (length line ≤ limits.line_bytes) × AreShort limits lines
 
 -- The lines keep to the limits: they are not too many, none is too long, and with their ends they
 -- have not too many bytes.
-pub record AreAllowed (lines : List (List ℕ)) : Type 0 where
-  pub few : length lines ≤ MOST_LINES
-  pub short : AreShort lines
-  pub bytes : length (joined_lines lines) ≤ MOST_BYTES
+pub record AreAllowed (limits : Limits) (lines : List (List ℕ)) : Type 0 where
+  pub few : length lines ≤ limits.lines
+  pub short : AreShort limits lines
+  pub bytes : length (joined_lines lines) ≤ limits.bytes

@@ -2,6 +2,7 @@
 use Rattle.std.specs.Prelude.{ℕ, ◌-◌, List, [], ◌∷◌, ◌++◌, length, take, Option, Some, None, Result}
 use Rattle.std.specs.Prelude.{Ok, Err}
 use Rattle.std.specs.Option.{option_or}
+use Rattle.pp_input.specs.declared.limits.Limits.{Limits}
 use Rattle.pp_input.specs.declared.reach.Reach.{Reach}
 use Rattle.pp_input.specs.declared.fault.LineFault.{LineFault}
 use Rattle.pp_input.specs.declared.fault.LineFault.TheVariants.{TooLong, TooManyLines, LineTooLong}
@@ -10,27 +11,28 @@ use Rattle.pp_input.specs.Lines.{NumberedLine, ended, rest, ended_lines, numbere
 use Rattle.pp_input.specs.Reaches.{passed, within_from, start}
 
 -- how far bytes reach: how many they are, how many lines they end, and how many bytes follow the
--- last end
-abbrev pub reach_of : List ℕ → Reach
-reach_of bytes = record {
+-- last end; and the limits
+abbrev pub reach_of : Limits → List ℕ → Reach
+reach_of limits bytes = record {
+  limits = limits;
   bytes = length bytes;
   lines = length (ended bytes);
   column = length (rest bytes);
 }
 
 -- the limit that the first of the bytes to pass one passes, where front stands before the bytes
-abbrev pub overrun_behind : List ℕ → List ℕ → Option LineFault
-overrun_behind front [] = None
-overrun_behind front (byte ∷ bytes) =
-    option_or (passed (reach_of front) byte) (overrun_behind (front ++ byte ∷ []) bytes)
+abbrev pub overrun_behind : Limits → List ℕ → List ℕ → Option LineFault
+overrun_behind limits front [] = None
+overrun_behind limits front (byte ∷ bytes) = option_or (passed (reach_of limits front) byte)
+    (overrun_behind limits (front ++ byte ∷ []) bytes)
 
 -- the limit that an input passes first, with the line of the byte that passes it
-abbrev pub overrun : List ℕ → Option LineFault
-overrun bytes = overrun_behind [] bytes
+abbrev pub overrun : Limits → List ℕ → Option LineFault
+overrun limits bytes = overrun_behind limits [] bytes
 
 -- the bytes before that byte
-abbrev pub within : List ℕ → List ℕ
-within bytes = within_from start bytes
+abbrev pub within : Limits → List ℕ → List ℕ
+within limits bytes = within_from (start limits) bytes
 
 -- the line of a fault; want of memory has none
 abbrev pub line_of : LineFault → ℕ
@@ -45,12 +47,12 @@ lines_before None lines = lines
 lines_before (Some fault) lines = take (line_of fault - 1) lines
 
 -- the lines of an input that are examined: those before the line that passes a limit
-abbrev pub scanned_lines : List ℕ → List NumberedLine
-scanned_lines bytes = lines_before (overrun bytes) (numbered_lines bytes)
+abbrev pub scanned_lines : Limits → List ℕ → List NumberedLine
+scanned_lines limits bytes = lines_before (overrun limits bytes) (numbered_lines bytes)
 
 -- those of them that no further byte can change
-abbrev pub early_lines : List ℕ → List NumberedLine
-early_lines bytes = lines_before (overrun bytes) (ended_lines bytes)
+abbrev pub early_lines : Limits → List ℕ → List NumberedLine
+early_lines limits bytes = lines_before (overrun limits bytes) (ended_lines bytes)
 
 -- what a feed answers, where this is the limit that was passed
 abbrev pub answer_of : Option LineFault → Result Unit LineFault

@@ -2,11 +2,11 @@
 /// Why a piece of an input is not taken.
 #[derive(Clone, Copy, Debug, PartialEq, Eq)]
 pub enum LineFault {
-    /// A line has more than 65,536 bytes.
+    /// A line has more bytes than the limit allows.
     LineTooLong { line: u32 },
-    /// The input has more than 200,001 lines.
+    /// The input has more lines than the limit allows.
     TooManyLines { line: u32 },
-    /// The input has more than 268,435,456 bytes.
+    /// The input has more bytes than the limit allows.
     TooLong { line: u32 },
     /// Memory was refused.
     OutOfMemory,

@@ -3,6 +3,7 @@ ghost use Rattle.std.specs.Prelude.{◌≡◌, ℕ, List, None};
 ghost use Rattle.pp_input.specs.Joined.{joined_lines, AreLines, AreAllowed};
 ghost use Rattle.pp_input.specs.Lines.{numbered_lines, numbered_from};
 ghost use Rattle.pp_input.specs.Overruns.{overrun, scanned_lines};
+ghost use Rattle.pp_input.specs.declared.limits.Limits.{Limits};
 
 /// Lines without a byte 10, and without a byte 13 at their end, each with a byte 10 behind it and
 /// joined, are split into these lines again, numbered from 1. Where they keep to the limits they
@@ -11,8 +12,9 @@ ghost use Rattle.pp_input.specs.Overruns.{overrun, scanned_lines};
 pub fn joined_law()
     ensures split { (lines : List (List ℕ)) → AreLines lines
         → numbered_lines (joined_lines lines) ≡ numbered_from 1 lines }
-    ensures limits { (lines : List (List ℕ)) → AreLines lines → AreAllowed lines
-        → overrun (joined_lines lines) ≡ None }
-    ensures scanned { (lines : List (List ℕ)) → AreLines lines → AreAllowed lines
-        → scanned_lines (joined_lines lines) ≡ numbered_from 1 lines }
+    ensures limits { (limits : Limits) (lines : List (List ℕ)) → AreLines lines
+        → AreAllowed limits lines → overrun limits (joined_lines lines) ≡ None }
+    ensures scanned { (limits : Limits) (lines : List (List ℕ)) → AreLines lines
+        → AreAllowed limits lines
+        → scanned_lines limits (joined_lines lines) ≡ numbered_from 1 lines }
 {}

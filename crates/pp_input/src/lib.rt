@@ -4,6 +4,7 @@
 mod cut;
 mod fault;
 mod law;
+mod limits;
 mod lines;
 mod memory_sink;
 mod memory_source;
@@ -15,6 +16,7 @@ mod tail;
 
 pub use fault::LineFault;
 pub use law::joined_law;
+pub use limits::Limits;
 pub use lines::{Line, Lines, is_blank};
 pub use memory_sink::MemorySink;
 pub use memory_source::MemorySource;

@@ -1,15 +1,17 @@
 //! Whole lines out of pieces of bytes.
 ghost use Rattle.std.specs.Prelude.{◌≡◌, ◌≤◌, ◌+◌, ◌++◌, ◌∷◌, [], ℕ, List, IfNone, None, Some, Err};
 ghost use Rattle.std.specs.Prelude.{OnOk, IfErr, IsErrOf, option_map, IfSome, false};
-ghost use Rattle.pp_core.specs.declared.limits.TheConstants.{MOST_LINES};
+ghost use Rattle.pp_input.specs.Limits.{CanCount, HasNext};
 ghost use Rattle.pp_input.specs.Lines.{NumberedLine, blank, numbered_lines};
 ghost use Rattle.pp_input.specs.Overruns.{overrun, answer_of};
 ghost use Rattle.pp_input.specs.Taken.{Hands, Took};
 ghost use Rattle.pp_input.specs.Held.{TakesPiece, empty, refused, finished, next_line, after_next};
 ghost use Rattle.pp_input.specs.declared.fault.LineFault.TheVariants.{OutOfMemory};
+ghost use Rattle.pp_input.specs.declared.limits.Limits.{Limits as LimitsOf};
 
 use crate::cut::cut;
 use crate::fault::LineFault;
+use crate::limits::Limits;
 use crate::reach::{Reach, allowed};
 use crate::tail::Tail;
 use pp_core::Text;
@@ -57,10 +59,11 @@ impl Model for Lines {
 }
 
 impl Lines {
-    /// No byte yet.
-    pub fn new(alloc: Global) -> Lines
-        ensures value { result ≡ empty }
-        ensures input { Took [] [] result }
+    /// No byte yet of an input with these limits.
+    pub fn new(alloc: Global, limits: Limits) -> Lines
+        requires { CanCount limits }
+        ensures value { result ≡ empty limits }
+        ensures input { Took limits [] [] result }
     {
         Lines {
             whole: VecDeque::new(alloc),
@@ -68,6 +71,7 @@ impl Lines {
             tail: Tail::new(alloc),
             handed: 0,
             reach: Reach {
+                limits,
                 bytes: 0,
                 lines: 0,
                 column: 0,
@@ -91,10 +95,11 @@ impl Lines {
             self.new ≡ refused self.old }
 
         // In whatever pieces the bytes before it came.
-        ensures input { (bytes : List ℕ) (out : List NumberedLine) → Took bytes out self.old →
+        ensures input { (limits : LimitsOf) (bytes : List ℕ) (out : List NumberedLine) →
+            Took limits bytes out self.old →
             self.old.fault ≡ None → ¬ IsErrOf result OutOfMemory →
-            (result ≡ answer_of (overrun (bytes ++ piece.now)))
-            × Took (bytes ++ piece.now) out self.new }
+            (result ≡ answer_of (overrun limits (bytes ++ piece.now)))
+            × Took limits (bytes ++ piece.now) out self.new }
     {
         if let Some(fault) = self.fault {
             return Err(fault);
@@ -121,8 +126,8 @@ impl Lines {
         requires sound { self.old.fault ≡ None }
         requires open { self.old.closed ≡ false }
         ensures after { self.new ≡ finished self.old }
-        ensures input { (bytes : List ℕ) (out : List NumberedLine) → Took bytes out self.old →
-            Hands (numbered_lines bytes) out self.new }
+        ensures input { (limits : LimitsOf) (bytes : List ℕ) (out : List NumberedLine) →
+            Took limits bytes out self.old → Hands (numbered_lines bytes) out self.new }
     {
         self.closed = true;
         if !self.tail.is_empty() {
@@ -137,9 +142,11 @@ impl Lines {
         ensures number { IfSome result (λ line.
             (line.number ≡ self.old.handed + 1)
             × (self.new.handed ≡ line.number)
-            × (line.number ≤ MOST_LINES)) }
-        ensures input { (bytes : List ℕ) (out : List NumberedLine) → Took bytes out self.old →
-            IfSome result (λ line. Took bytes (out ++ (line.number, line.text) ∷ []) self.new) }
+            × (line.number ≤ self.old.reach.limits.lines)
+            × HasNext line.number) }
+        ensures input { (limits : LimitsOf) (bytes : List ℕ) (out : List NumberedLine) →
+            Took limits bytes out self.old → IfSome result (λ line.
+            Took limits bytes (out ++ (line.number, line.text) ∷ []) self.new) }
         ensures some { (lines out : List NumberedLine) → Hands lines out self.old →
             IfSome result (λ line. Hands lines (out ++ (line.number, line.text) ∷ []) self.new) }
         ensures none { (lines out : List NumberedLine) → Hands lines out self.old →

@@ -5,12 +5,14 @@ ghost use Rattle.pp_input.specs.Reaches.{IsReach, IsSkipped};
 ghost use Rattle.pp_input.specs.declared.fault.LineFault.TheVariants.{OutOfMemory};
 
 use crate::fault::LineFault;
+use crate::limits::Limits;
 use bstr::ByteSlice;
-use pp_core::{LONGEST_LINE, MOST_BYTES, MOST_LINES};
 
-/// The bytes so far, the lines that they end, and the bytes behind the last end.
+/// The limits of an input; and the bytes so far, the lines that they end, and the bytes behind the
+/// last end.
 #[derive(Clone, Copy)]
 pub(crate) struct Reach {
+    pub(crate) limits: Limits,
     pub(crate) bytes: u64,
     pub(crate) lines: u32,
     pub(crate) column: u64,
@@ -21,11 +23,11 @@ fn passing(at: Reach, byte: u8) -> Option<LineFault>
     ensures passed { result ≡ passed at byte }
     ensures cause { result ≢ Some OutOfMemory }
 {
-    if at.bytes >= MOST_BYTES {
+    if at.bytes >= at.limits.bytes {
         Some(LineFault::TooLong { line: at.lines + 1 })
-    } else if at.lines >= MOST_LINES {
+    } else if at.lines >= at.limits.lines {
         Some(LineFault::TooManyLines { line: at.lines + 1 })
-    } else if byte != b'\n' && at.column >= LONGEST_LINE {
+    } else if byte != b'\n' && at.column >= at.limits.line_bytes {
         Some(LineFault::LineTooLong { line: at.lines + 1 })
     } else {
         None
@@ -38,12 +40,14 @@ fn behind(at: Reach, byte: u8) -> Reach
 {
     if byte == b'\n' {
         Reach {
+            limits: at.limits,
             bytes: at.bytes + 1,
             lines: at.lines + 1,
             column: 0,
         }
     } else {
         Reach {
+            limits: at.limits,
             bytes: at.bytes + 1,
             lines: at.lines,
             column: at.column + 1,
@@ -56,11 +60,11 @@ fn has_room(at: Reach, len: usize) -> bool
     ensures { IsTrue result ↔ HasRoom at len }
 {
     let len = len as u64;
-    at.bytes < MOST_BYTES
-        && len < MOST_BYTES - at.bytes
-        && at.lines < MOST_LINES
-        && len <= LONGEST_LINE
-        && at.column <= LONGEST_LINE - len
+    at.bytes < at.limits.bytes
+        && len < at.limits.bytes - at.bytes
+        && at.lines < at.limits.lines
+        && len <= at.limits.line_bytes
+        && at.column <= at.limits.line_bytes - len
 }
 
 /// How many bytes the lines are that end in a piece and pass no limit, and where they reach to.
@@ -78,6 +82,7 @@ fn skipped(from: Reach, piece: &[u8]) -> (usize, Reach)
             break;
         }
         at = Reach {
+            limits: at.limits,
             bytes: at.bytes + len as u64 + 1,
             lines: at.lines + 1,
             column: 0,

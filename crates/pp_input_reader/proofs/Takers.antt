@@ -5,15 +5,16 @@ use Rattle.std.specs.Io.KnownBytes.{Consumes, IsAtEnd}
 use Rattle.std.proofs.Common.{refl, sym, ap, ◌∙◌, subst, arith, append_assoc, lit≤}
 use Rattle.std.proofs.lemmas.List.{append-nil, length-append}
 use mathlib.Core.Logic.{inl, inr}
-use Rattle.pp_core.specs.declared.limits.TheConstants.{MOST_BYTES, MOST_LINES}
 use Rattle.pp_input.specs.declared.fault.LineFault.{LineFault}
+use Rattle.pp_input.specs.declared.limits.Limits.{Limits}
 use Rattle.pp_input.specs.declared.reach.Reach.{Reach}
 use Rattle.pp_input.specs.Held.{Held, after_first, after_next, fed, finished, first_of, next_line}
+use Rattle.pp_input.specs.Limits.{HasNext}
 use Rattle.pp_input.specs.Lines.{NumberedLine, numbered_from, unended, without_return}
 use Rattle.pp_input.specs.Overruns.{early_lines, overrun, scanned_lines}
 use Rattle.pp_input.specs.Reaches.{overrun_from}
 use Rattle.pp_input.specs.Taken.{Hands, Took}
-use Rattle.pp_input.proofs.Limits.{within_all}
+use Rattle.pp_input.proofs.Overruns.{within_all}
 use Rattle.pp_input.proofs.Reading.{hands_all, hands_finished, hands_front, hands_next, overrun_kept}
 use Rattle.pp_input.proofs.Reading.{scanned_front, scanned_kept, took_bytes, took_fed, took_overrun}
 use Rattle.pp_input_reader.specs.declared.stop.Failure.TheVariants as failures
@@ -24,6 +25,12 @@ use Rattle.pp_input_reader.specs.Takers.{CountsEarly, CountsTo, Follows, HasEarl
 use Rattle.pp_input_reader.specs.Takers.{HasInputFault, IfFault, IfInputFault, IsAt, IsLimitFault, IsNext, LeadsOn}
 use Rattle.pp_input_reader.specs.Takers.{PassesLimit, Reading, ReadsSoFar, StopsWith}
 
+-- ---- the limits
+
+-- a number that is within the lines of the same limits
+pub within_lines : (from to : Reach) (limits : Limits) (n : ℕ) → from ≡ to → to.limits ≡ limits → n ≤ from.limits.lines → n ≤ limits.lines
+within_lines from to limits n same is le = subst (λ (l : Limits). n ≤ l.lines) (ap (λ (r : Reach). r.limits) same ∙ is) le
+
 -- ---- line by line
 
 number_at : (handed : ℕ) (whole : List (List ℕ)) (line : NumberedLine) → first_of handed whole ≡ Some line → line.0 ≡ handed + 1
@@ -32,8 +39,8 @@ number_at handed (x ∷ xs) line h = let e : (handed + 1, x) ≡ line = cc in ap
 
 module _ {T F : Type 0} (R : Reading T F) (all : List NumberedLine) (held : Held) (taker : T) (f : Follows R all held taker) where
   -- the next line is the one behind those that were taken
-  pub follows_is_next : (line : NumberedLine) → next_line held ≡ Some line → line.0 ≤ MOST_LINES → IsNext R taker line
-  follows_is_next line h few = (f.0, f.2, omega (arith, number_at held.handed held.whole line h, f.1.handed), few)
+  pub follows_is_next : (line : NumberedLine) → next_line held ≡ Some line → line.0 ≤ R.limits.lines → HasNext line.0 → IsNext R taker line
+  follows_is_next line h few next = (f.0, f.2, omega (arith, number_at held.handed held.whole line h, f.1.handed), few, next)
 
   -- it is taken
   pub follows_next : (line : NumberedLine) (next : T) → next_line held ≡ Some line → LeadsOn R taker line next → Follows R all (after_next held) next
@@ -71,14 +78,14 @@ module _ {T F : Type 0} (R : Reading (T × ℕ) F) where
   counts_more : (lines more : List NumberedLine) (new : ℕ) → CountsTo R lines new → CountsTo R (lines ++ more) new
   counts_more lines more new c = (c.0, c.1 ++ more, ap (λ (ls : List NumberedLine). ls ++ more) c.2 ∙ append_assoc c.0 c.1 more, c.3)
 
-  pub counts_early : (bytes : List ℕ) (new : ℕ) → CountsTo R (early_lines bytes) new → CountsEarly R bytes new
+  pub counts_early : (bytes : List ℕ) (new : ℕ) → CountsTo R (early_lines R.limits bytes) new → CountsEarly R bytes new
   counts_early bytes new c left =
-      let front = scanned_front bytes left in
-      subst (λ (ls : List NumberedLine). CountsTo R ls new) (sym front.1) (counts_more (early_lines bytes) front.0 new c)
+      let front = scanned_front R.limits bytes left in
+      subst (λ (ls : List NumberedLine). CountsTo R ls new) (sym front.1) (counts_more (early_lines R.limits bytes) front.0 new c)
 
   -- of more bytes only those before them were taken
   pub counts_before : (bytes piece : List ℕ) (new : ℕ) → CountsEarly R bytes new → CountsEarly R (bytes ++ piece) new
-  counts_before bytes piece new c left = subst (λ (bs : List ℕ). CountsTo R (scanned_lines bs) new) (sym (append_assoc bytes piece left)) (c (piece ++ left))
+  counts_before bytes piece new c left = subst (λ (bs : List ℕ). CountsTo R (scanned_lines R.limits bs) new) (sym (append_assoc bytes piece left)) (c (piece ++ left))
 
 -- ---- what was taken
 
@@ -101,60 +108,64 @@ taken_all (Some a) None taken bytes h end is = absurd h
 taken_all (Some a) (Some b) taken bytes h end is = let e : a ≡ bytes = cc in sym (append-nil taken) ∙ ap (λ zs. taken ++ zs) (sym end) ∙ sym h ∙ e
 
 -- what holds of the lines whatever comes behind what was taken
-pub taken_lines : (a b : Option (List ℕ)) (taken bytes : List ℕ) (P : List NumberedLine → Type 0) → Consumes a b taken → a ≡ Some bytes → ((left : List ℕ) → P (scanned_lines (taken ++ left))) → P (scanned_lines bytes)
-taken_lines a b taken bytes P h is f =
+pub taken_lines : (L : Limits) (a b : Option (List ℕ)) (taken bytes : List ℕ) (P : List NumberedLine → Type 0) → Consumes a b taken → a ≡ Some bytes → ((left : List ℕ) → P (scanned_lines L (taken ++ left))) → P (scanned_lines L bytes)
+taken_lines L a b taken bytes P h is f =
     let front = consumed_front a b taken bytes h is in
-    subst (λ (bs : List ℕ). P (scanned_lines bs)) (sym front.1) (f front.0)
+    subst (λ (bs : List ℕ). P (scanned_lines L bs)) (sym front.1) (f front.0)
 
 -- ---- piece by piece
 
 module _ {T F : Type 0} (R : Reading T F) where
   module _ (bytes piece : List ℕ) (held : Held) (taker : T) (at : IsAt R bytes held taker) where
     -- a piece was fed
-    pub piece_follows : Follows R (early_lines (bytes ++ piece)) (fed held piece) taker
-    piece_follows = (early_lines bytes, (took_fed bytes piece (early_lines bytes) held at.took at.sound).hands, at.leads)
+    pub piece_follows : Follows R (early_lines R.limits (bytes ++ piece)) (fed held piece) taker
+    piece_follows = (early_lines R.limits bytes, (took_fed R.limits bytes piece (early_lines R.limits bytes) held at.took at.sound).hands, at.leads)
+
+    -- with the same limits
+    pub piece_limits : (fed held piece).reach.limits ≡ R.limits
+    piece_limits = ap (λ (r : Reach). r.limits) (took_fed R.limits bytes piece (early_lines R.limits bytes) held at.took at.sound).reach
 
     -- and each line that it ends was taken
-    pub piece_taken : (new : Held) (next : T) → overrun_from held.reach piece ≡ None → Follows R (early_lines (bytes ++ piece)) new next
+    pub piece_taken : (new : Held) (next : T) → overrun_from held.reach piece ≡ None → Follows R (early_lines R.limits (bytes ++ piece)) new next
         → next_line new ≡ None → new.rest ≡ (fed held piece).rest → new.reach ≡ (fed held piece).reach → new.fault ≡ (fed held piece).fault → new.closed ≡ (fed held piece).closed → IsAt R (bytes ++ piece) new next
     piece_taken new next none follows left rest reach fault closed =
-        let took = took_fed bytes piece (early_lines bytes) held at.took at.sound in
-        let all = follows_all R (early_lines (bytes ++ piece)) new next follows left in
+        let took = took_fed R.limits bytes piece (early_lines R.limits bytes) held at.took at.sound in
+        let all = follows_all R (early_lines R.limits (bytes ++ piece)) new next follows left in
         record {
           took = record {
-            hands = subst (λ ls. Hands (early_lines (bytes ++ piece)) ls new) all follows.1;
+            hands = subst (λ ls. Hands (early_lines R.limits (bytes ++ piece)) ls new) all follows.1;
             rest = rest ∙ took.rest;
             reach = reach ∙ took.reach;
             fault = fault ∙ took.fault;
             unclosed = closed ∙ took.unclosed;
           };
           sound = fault ∙ none;
-          leads = follows_done R (early_lines (bytes ++ piece)) new next follows left;
+          leads = follows_done R (early_lines R.limits (bytes ++ piece)) new next follows left;
         }
 
     -- the piece passes a limit, and the lines before have no fault
     pub piece_passes : (next : T) (limit : LineFault) (line : ℕ) (fault : F) → overrun_from held.reach piece ≡ Some limit → IsLimitFault R (Some limit) line fault
-        → R.Leads (early_lines (bytes ++ piece)) next → HasEarlyFault R (bytes ++ piece) line fault
+        → R.Leads (early_lines R.limits (bytes ++ piece)) next → HasEarlyFault R (bytes ++ piece) line fault
     piece_passes next limit line fault passes is leads =
-        let over : overrun (bytes ++ piece) ≡ Some limit = sym (took_overrun bytes piece (early_lines bytes) held at.took at.sound) ∙ passes in
+        let over : overrun R.limits (bytes ++ piece) ≡ Some limit = sym (took_overrun R.limits bytes piece (early_lines R.limits bytes) held at.took at.sound) ∙ passes in
         inr (next, leads, (is.0, ap limit_fault over ∙ is.1, is.2))
 
   -- ---- faults
 
-  limit_is_final : (bytes left : List ℕ) (at : ℕ) (fault : F) (o : Option LineFault) → overrun bytes ≡ o → PassesLimit R (early_lines bytes) o at fault → PassesLimit R (scanned_lines (bytes ++ left)) (overrun (bytes ++ left)) at fault
+  limit_is_final : (bytes left : List ℕ) (at : ℕ) (fault : F) (o : Option LineFault) → overrun R.limits bytes ≡ o → PassesLimit R (early_lines R.limits bytes) o at fault → PassesLimit R (scanned_lines R.limits (bytes ++ left)) (overrun R.limits (bytes ++ left)) at fault
   limit_is_final bytes left at fault None is (taker, leads, caused) = absurd (cc)
   limit_is_final bytes left at fault (Some passed) is (taker, leads, caused) = (
     taker,
-    subst (λ ls. R.Leads ls taker) (sym (scanned_kept bytes left passed is)) leads,
-    (caused.0, ap limit_fault (overrun_kept bytes left passed is) ∙ caused.1, caused.2),
+    subst (λ ls. R.Leads ls taker) (sym (scanned_kept R.limits bytes left passed is)) leads,
+    (caused.0, ap limit_fault (overrun_kept R.limits bytes left passed is) ∙ caused.1, caused.2),
   )
 
   -- an early fault is the fault of the whole input
   early_is_final : (bytes left : List ℕ) (at : ℕ) (fault : F) → HasEarlyFault R bytes at fault → HasInputFault R (bytes ++ left) at fault
   early_is_final bytes left at fault (inl faulty) =
-      let front = scanned_front bytes left in
+      let front = scanned_front R.limits bytes left in
       inl (subst (λ ls. R.HasFault ls at fault) (sym front.1) (faulty front.0))
-  early_is_final bytes left at fault (inr limit) = inr (limit_is_final bytes left at fault (overrun bytes) refl limit)
+  early_is_final bytes left at fault (inr limit) = inr (limit_is_final bytes left at fault (overrun R.limits bytes) refl limit)
 
   -- a fault in what was taken
   pub taken_fault : (a b : Option (List ℕ)) (taken bytes : List ℕ) (at : ℕ) (fault : F) → Consumes a b taken → a ≡ Some bytes → HasEarlyFault R taken at fault → HasInputFault R bytes at fault
@@ -168,19 +179,22 @@ module _ {T F : Type 0} (R : Reading T F) where
 
   -- ---- the end
 
-  pub rest_follows : (bytes : List ℕ) (held : Held) (taker : T) → IsAt R bytes held taker → Follows R (scanned_lines bytes) (finished held) taker
-  rest_follows bytes held taker at = (early_lines bytes, hands_finished bytes (early_lines bytes) held at.took at.sound, at.leads)
+  pub rest_limits : (bytes : List ℕ) (held : Held) (taker : T) → IsAt R bytes held taker → (finished held).reach.limits ≡ R.limits
+  rest_limits bytes held taker at = ap (λ (r : Reach). r.limits) at.took.reach
+
+  pub rest_follows : (bytes : List ℕ) (held : Held) (taker : T) → IsAt R bytes held taker → Follows R (scanned_lines R.limits bytes) (finished held) taker
+  rest_follows bytes held taker at = (early_lines R.limits bytes, hands_finished R.limits bytes (early_lines R.limits bytes) held at.took at.sound, at.leads)
 
   -- a fault that a line has with nothing behind it
   pub fault_here : (lines : List NumberedLine) (at : ℕ) (fault : F) → HasFaultBehind R lines at fault → R.HasFault lines at fault
   fault_here lines at fault faulty = subst (λ ls. R.HasFault ls at fault) (append-nil lines) (faulty [])
 
   -- the bytes so far are counted
-  pub at_bytes : (bytes : List ℕ) (held : Held) (taker : T) → IsAt R bytes held taker → (held.reach.bytes ≡ length bytes) × (length bytes ≤ MOST_BYTES)
+  pub at_bytes : (bytes : List ℕ) (held : Held) (taker : T) → IsAt R bytes held taker → (held.reach.bytes ≡ length bytes) × (length bytes ≤ R.limits.bytes)
   at_bytes bytes held taker at =
-      let none : overrun bytes ≡ None = sym at.took.fault ∙ at.sound in
-      let count : held.reach.bytes ≡ length bytes = ap (λ (r : Reach). r.bytes) at.took.reach ∙ ap (λ (bs : List ℕ). length bs) (within_all bytes none) in
-      (count, omega (arith, count, took_bytes bytes (early_lines bytes) held at.took))
+      let none : overrun R.limits bytes ≡ None = sym at.took.fault ∙ at.sound in
+      let count : held.reach.bytes ≡ length bytes = ap (λ (r : Reach). r.bytes) at.took.reach ∙ ap (λ (bs : List ℕ). length bs) (within_all R.limits bytes none) in
+      (count, omega (arith, count, took_bytes R.limits bytes (early_lines R.limits bytes) held at.took))
 
 -- ---- what stays
 
@@ -219,9 +233,9 @@ few_unended [] = lit≤ tt
 few_unended (byte ∷ rest) = lit≤ tt
 
 -- what follows the last line end is one line at most
-pub one_rest_line : (bytes : List ℕ) (held : Held) → Took bytes (early_lines bytes) held → next_line (after_next (finished held)) ≡ None
-one_rest_line bytes held took =
-    let none : held.whole ≡ [] = none_held (early_lines bytes) (held.handed + 1) held.whole took.hands.order in
+pub one_rest_line : (L : Limits) (bytes : List ℕ) (held : Held) → Took L bytes (early_lines L bytes) held → next_line (after_next (finished held)) ≡ None
+one_rest_line L bytes held took =
+    let none : held.whole ≡ [] = none_held (early_lines L bytes) (held.handed + 1) held.whole took.hands.order in
     let is : (finished held).whole ≡ map without_return (unended held.rest) = ap (λ (ls : List (List ℕ)). ls ++ map without_return (unended held.rest)) none in
     none_behind (finished held) (finished held).whole (subst (λ (ls : List (List ℕ)). length ls ≤ 1) (sym is) (few_unended held.rest)) refl
 

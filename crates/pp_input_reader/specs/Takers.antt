@@ -2,9 +2,10 @@
 use Rattle.std.specs.Prelude.{◌≡◌, ◌≤◌, ◌+◌, ◌⊎◌, ℕ, List, ◌∷◌, [], ◌++◌, length, Option, None}
 use Rattle.std.specs.Prelude.{Some}
 use Rattle.std.specs.Io.KnownBytes.{Consumes}
-use Rattle.pp_core.specs.declared.limits.TheConstants.{MOST_LINES}
 use Rattle.pp_input.specs.declared.fault.LineFault.{LineFault}
+use Rattle.pp_input.specs.declared.limits.Limits.{Limits}
 use Rattle.pp_input.specs.Held.{Held}
+use Rattle.pp_input.specs.Limits.{HasNext}
 use Rattle.pp_input.specs.Lines.{NumberedLine}
 use Rattle.pp_input.specs.Overruns.{early_lines, overrun, scanned_lines}
 use Rattle.pp_input.specs.Taken.{Hands, Took}
@@ -14,8 +15,11 @@ use Rattle.pp_input_reader.specs.declared.stop.Stop.{Stop}
 use Rattle.pp_input_reader.specs.declared.stop.Stop.TheVariants as stops
 use Rattle.pp_input_reader.specs.Limits.{limit_fault}
 
--- where lines lead to, which fault they have, and what they cost; and which fault a passed limit is
+-- the limits of an input; where lines lead to, which fault they have, and what they cost; and which
+-- fault a passed limit is
 pub record Reading (T F : Type 0) : Type 1 where
+  -- the limits of an input
+  pub limits : Limits
   -- these lines have no fault, and lead to here
   pub Leads : List NumberedLine → T → Type 0
   -- the first fault of these lines is this one, of this line
@@ -40,7 +44,7 @@ IfInputFault (stops.Failure failure) P = Unit {0}
 -- this line comes next, behind lines that led to here
 abbrev pub IsNext : {T F : Type 0} → Reading T F → T → NumberedLine → Type 0
 IsNext R from line = (lines : List NumberedLine) × R.Leads lines from
-    × (line.0 ≡ length lines + 1) × (line.0 ≤ MOST_LINES)
+    × (line.0 ≡ length lines + 1) × (line.0 ≤ R.limits.lines) × HasNext line.0
 
 -- it leads from here to there
 abbrev pub LeadsOn : {T F : Type 0} → Reading T F → T → NumberedLine → T → Type 0
@@ -75,9 +79,9 @@ Follows R lines held taker = (out : List NumberedLine) × Hands lines out held �
 -- these bytes were taken, with no fault, and each line that they end
 pub record IsAt {T F : Type 0} (R : Reading T F) (bytes : List ℕ) (held : Held) (taker : T) :
     Type 0 where
-  pub took : Took bytes (early_lines bytes) held
+  pub took : Took R.limits bytes (early_lines R.limits bytes) held
   pub sound : held.fault ≡ None
-  pub leads : R.Leads (early_lines bytes) taker
+  pub leads : R.Leads (early_lines R.limits bytes) taker
 
 -- a limit that is passed on this line is this fault
 abbrev pub IsLimitFault : {T F : Type 0} → Reading T F → Option LineFault → ℕ → F → Type 0
@@ -92,26 +96,28 @@ PassesLimit {T} {F} R lines limit at fault =
 
 -- the first fault of an input: of its lines, or that a limit is passed
 abbrev pub HasInputFault : {T F : Type 0} → Reading T F → List ℕ → ℕ → F → Type 0
-HasInputFault R bytes at fault = R.HasFault (scanned_lines bytes) at fault
-    ⊎ PassesLimit R (scanned_lines bytes) (overrun bytes) at fault
+HasInputFault R bytes at fault = R.HasFault (scanned_lines R.limits bytes) at fault
+    ⊎ PassesLimit R (scanned_lines R.limits bytes) (overrun R.limits bytes) at fault
 
 -- this fault of an input no further byte can change
 abbrev pub HasEarlyFault : {T F : Type 0} → Reading T F → List ℕ → ℕ → F → Type 0
-HasEarlyFault R bytes at fault = HasFaultBehind R (early_lines bytes) at fault
-    ⊎ PassesLimit R (early_lines bytes) (overrun bytes) at fault
+HasEarlyFault R bytes at fault = HasFaultBehind R (early_lines R.limits bytes) at fault
+    ⊎ PassesLimit R (early_lines R.limits bytes) (overrun R.limits bytes) at fault
 
 -- what the counter shows where these bytes were read, whatever bytes come behind them
 abbrev pub CountsEarly : {T F : Type 0} → Reading (T × ℕ) F → List ℕ → ℕ → Type 0
-CountsEarly R bytes new = (left : List ℕ) → CountsTo R (scanned_lines (bytes ++ left)) new
+CountsEarly R bytes new =
+    (left : List ℕ) → CountsTo R (scanned_lines R.limits (bytes ++ left)) new
 
 -- ---- a source
 
 -- what was read passes no limit, and its lines lead to here
 abbrev pub ReadsAll : {T F : Type 0} → Reading T F → Option (List ℕ) → Option (List ℕ) → T → Type 0
-ReadsAll R old new taker = (bytes : List ℕ) × Consumes old new bytes × (overrun bytes ≡ None)
-    × R.Leads (scanned_lines bytes) taker
+ReadsAll R old new taker = (bytes : List ℕ) × Consumes old new bytes
+    × (overrun R.limits bytes ≡ None) × R.Leads (scanned_lines R.limits bytes) taker
 
 -- what was read has no fault that no further byte can change
 abbrev pub ReadsSoFar : {T F : Type 0} → Reading T F → Option (List ℕ) → Option (List ℕ) → Type 0
-ReadsSoFar {T} {F} R old new = (bytes : List ℕ) × Consumes old new bytes × (overrun bytes ≡ None)
-    × ((taker : T) × R.Leads (early_lines bytes) taker)
+ReadsSoFar {T} {F} R old new = (bytes : List ℕ) × Consumes old new bytes
+    × (overrun R.limits bytes ≡ None)
+    × ((taker : T) × R.Leads (early_lines R.limits bytes) taker)

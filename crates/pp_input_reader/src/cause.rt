@@ -36,11 +36,11 @@ pub enum Cause {
     BodyBad,
     /// The body has more than 64 nodes, or is deeper than 16.
     BodyTooLarge,
-    /// The line has more than 65,536 bytes.
+    /// The line has more bytes than the limit allows, which is usually 65,536.
     LineTooLong,
-    /// There are more than 200,001 lines.
+    /// There are more lines than the limit allows, which is usually 200,001.
     TooManyLines,
-    /// There are more than 268,435,456 bytes.
+    /// There are more bytes than the limit allows, which is usually 268,435,456.
     TooLong,
     /// All lines are blank.
     NoHeader,

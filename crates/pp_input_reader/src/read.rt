@@ -96,14 +96,14 @@ fn take_rest<T: TakesLines, L: Ledger>(
         × IsAt (T.reading first) bytes lines.old (taker, ticks.old) }
     ensures ok { IfOk result (λ next. (first : ℕ) (bytes : List ℕ) →
         IsAt (T.reading first) bytes lines.old (taker, ticks.old) →
-        (T.reading first).Leads (scanned_lines bytes) (next, ticks.new)) }
+        (T.reading first).Leads (scanned_lines (T.reading first).limits bytes) (next, ticks.new)) }
     ensures stop { IfErr result (λ stop. (first : ℕ) →
         IfFault stop (λ at cause. (bytes : List ℕ) →
         IsAt (T.reading first) bytes lines.old (taker, ticks.old) →
         HasInputFault (T.reading first) bytes at cause)) }
     ensures cost { OnErr result ((first : ℕ) (bytes : List ℕ) →
         IsAt (T.reading first) bytes lines.old (taker, ticks.old) →
-        CountsTo (T.reading first) (scanned_lines bytes) ticks.new) }
+        CountsTo (T.reading first) (scanned_lines (T.reading first).limits bytes) ticks.new) }
 {
     lines.finish();
     match lines.next() {
@@ -140,10 +140,11 @@ pub fn read_lines<S: Source, T: TakesLines, L: Ledger>(
     ensures faultless { ¬ IsErrOf result (StopsByFailure ReadFault) →
         S.faults source.new ≡ S.faults source.old }
     ensures cost { (bytes : List ℕ) → S.left source.old ≡ Some bytes →
-        CountsTo (T.reading ticks.old) (scanned_lines bytes) ticks.new }
+        CountsTo (T.reading ticks.old) (scanned_lines (T.reading ticks.old).limits bytes)
+        ticks.new }
 {
     let mut buffer = room(alloc)?;
-    let mut lines = Lines::new(alloc);
+    let mut lines = Lines::new(alloc, T::limits());
     let mut taker = taker;
     'pieces: loop {
         let Ok(n) = source.read(&mut buffer) else {

@@ -1,11 +1,12 @@
 //! What takes the lines of an input, one after another.
 ghost use Rattle.std.specs.Prelude.{◌≡◌, ℕ, IfOk, IfErr, OnErr};
+ghost use Rattle.pp_input.specs.Limits.{CanCount};
 ghost use Rattle.pp_input_reader.specs.Takers.{IsNext, LeadsOn, Reading, StopsAt, StopsWith};
 
 use crate::cause::Cause;
 use crate::stop::Stop;
 use pp_core::Ticks;
-use pp_input::Line;
+use pp_input::{Limits, Line};
 use std::alloc::Global;
 use std::sync::ledger::Ledger;
 
@@ -14,9 +15,15 @@ pub trait TakesLines: Drop {
     /// What a fault of an input is to it.
     type Fault: Drop;
 
-    /// Where lines lead to, with what the counter then shows, which fault they have, and what they
-    /// cost, by what the counter shows before the first; and which fault a passed limit is.
+    /// The limits of an input; where lines lead to, with what the counter then shows, which fault
+    /// they have, and what they cost, by what the counter shows before the first; and which fault a
+    /// passed limit is.
     ghost reading: { ℕ → Reading (Self × ℕ) Self.Fault };
+
+    /// The limits of an input.
+    fn limits() -> Limits
+        ensures limits { (first : ℕ) → result ≡ (reading first).limits }
+        ensures count { CanCount result };
 
     /// The fault that the cause of a passed limit is.
     fn at_limit(cause: Cause) -> Self::Fault

@@ -1,5 +1,5 @@
 -- What the machine as a judge says of a start, and of a record more.
-use Rattle.std.specs.Prelude.{◌≡◌, ◌≤◌, ◌+◌, ℕ, zero, suc, Bool, true, false, List, [], ◌∷◌}
+use Rattle.std.specs.Prelude.{◌≡◌, ◌≤◌, ◌+◌, ℕ, zero, suc, List, [], ◌∷◌}
 use Rattle.std.specs.Prelude.{◌++◌, length, take, Option, None, Some, Result, Ok, Err}
 use Rattle.std.proofs.Common.{refl, sym, ap, ◌∙◌, subst, arith, append_assoc}
 use Rattle.std.proofs.lemmas.List.{append-nil, take_all}
@@ -144,13 +144,12 @@ module _ {W : Type 0} (HasSeen : Header → List (Step Op) → W → Type 0) whe
   -- ---- a record
 
   -- an observer that was shown the steps behind those so far
-  seen_next : (looks : Bool) → (looks ≡ false → (h : Header) (steps : List (Step Op)) (v : W) → HasSeen h steps v) → (h : Header) (before steps : List (Step Op)) (w next : W)
-      → (looks ≡ true → (so_far : List (Step Op)) → HasSeen h so_far w → HasSeen h (so_far ++ steps) next) → HasSeen h before w → (others : List (Step Op)) → steps ≡ others → HasSeen h (before ++ others) next
-  seen_next true blind h before steps w next sees seen others is = subst (λ (ss : List (Step Op)). HasSeen h (before ++ ss) next) is (sees refl before seen)
-  seen_next false blind h before steps w next sees seen others is = blind refl h (before ++ others) next
+  seen_next : (h : Header) (before steps : List (Step Op)) (w next : W) → ((so_far : List (Step Op)) → HasSeen h so_far w → HasSeen h (so_far ++ steps) next)
+      → HasSeen h before w → (others : List (Step Op)) → steps ≡ others → HasSeen h (before ++ others) next
+  seen_next h before steps w next sees seen others is = subst (λ (ss : List (Step Op)). HasSeen h (before ++ ss) next) is (sees before seen)
 
-  module _ (looks : Bool) (blind : looks ≡ false → (h : Header) (steps : List (Step Op)) (v : W) → HasSeen h steps v) (h : Header) (judge : Driven W) (r : RunRecord Op) (line now new : ℕ)
-      (told : List (Step Op)) (next : W) (sees : looks ≡ true → (so_far : List (Step Op)) → HasSeen h so_far judge.observer → HasSeen h (so_far ++ told) next) where
+  module _ (h : Header) (judge : Driven W) (r : RunRecord Op) (line now new : ℕ)
+      (told : List (Step Op)) (next : W) (sees : (so_far : List (Step Op)) → HasSeen h so_far judge.observer → HasSeen h (so_far ++ told) next) where
     abbrev here : List (Step Op)
     here = steps_here h judge.front judge.machine r
 
@@ -165,7 +164,7 @@ module _ {W : Type 0} (HasSeen : Header → List (Step Op) → W → Type 0) whe
           let c = good.0 in (
             goes_on h before judge.front judge.machine c r line front machine now new style kept done,
             λ run is. subst (λ (ss : List (Step Op)). HasSeen h ss next) (sym (done_run h before judge.front judge.machine c line r now new machine done run is))
-                (seen_next looks blind h (bare (all_so_far h before)) told judge.observer next sees (good.1 (all_so_far h before) (run_there h before judge.front judge.machine c)) done.before first),
+                (seen_next h (bare (all_so_far h before)) told judge.observer next sees (good.1 (all_so_far h before) (run_there h before judge.front judge.machine c)) done.before first),
           );
       least = λ at before good old least. least_done h before judge.front judge.machine good.0 line r at old now new least machine done;
     }
@@ -179,7 +178,7 @@ module _ {W : Type 0} (HasSeen : Header → List (Step Op) → W → Type 0) whe
           let xs : List (Step Op) = bare (all_so_far h before) in (
             ends_there h before judge.front judge.machine c r at line now new rejection e,
             λ run is. subst (λ (ss : List (Step Op)). HasSeen h ss next) (sym (run_to_failed h before judge.front judge.machine c line r now new rejection e run is ∙ append_assoc xs done (e.step ∷ [])))
-                (seen_next looks blind h xs told judge.observer next sees (good.1 (all_so_far h before) (run_there h before judge.front judge.machine c)) (done ++ e.step ∷ []) first),
+                (seen_next h xs told judge.observer next sees (good.1 (all_so_far h before) (run_there h before judge.front judge.machine c)) (done ++ e.step ∷ []) first),
           );
       least = λ at before good old least. least_failed h before judge.front judge.machine good.0 line r at old now new least rejection e;
     }

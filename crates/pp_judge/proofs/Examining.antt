@@ -5,6 +5,7 @@ use Rattle.std.specs.Option.{option_or}
 use Rattle.std.specs.Io.KnownBytes.{IsAtEnd}
 use Rattle.std.proofs.Common.{refl, lit≤, sym, ap, ◌∙◌, subst, arith, length-append}
 use mathlib.Core.Logic.{inl, inr}
+use Rattle.pp_input.specs.Limits.{HasNext}
 use Rattle.pp_input.specs.Lines.{NumberedLine}
 use Rattle.pp_input.specs.Overruns.{early_lines, overrun, scanned_lines}
 use Rattle.pp_input.proofs.Reading.{scanned_all}
@@ -16,7 +17,7 @@ use Rattle.pp_input_reader.specs.Takers.{CountsTo, HasFaultBehind, HasInputFault
 use Rattle.pp_input_reader.specs.Takers.{LeadsOn, ReadsAll, ReadsSoFar, StopsAt, StopsWith}
 use Rattle.pp_input_reader.proofs.Takers.{if_fault, taken_all}
 use Rattle.pp_judge.specs.Findings.{AreBad, AreGood, Finds, ReadsSound, RisesAtLeast, finding_of}
-use Rattle.pp_judge.specs.Inputs.{no_header, or_fault, scan}
+use Rattle.pp_judge.specs.Inputs.{no_header, or_fault, scan_within}
 use Rattle.pp_judge.specs.Judging.{Judging, JudgingLaws}
 use Rattle.pp_judge.specs.Progresses.{BadAt, CostsOn, Covers, GoodAt, HasFaultOn, IsNextLine, Leads}
 use Rattle.pp_judge.specs.Progresses.{LeadsTo, judged_reading, lines_of}
@@ -33,7 +34,7 @@ use Rattle.pp_judge.proofs.Widening.{widens_fault, widens_lines}
 
 module _ {J R : Type 0} (M : Judging J R) where
   pub leads_nothing : (old : ℕ) → Leads M [] (Waiting 0) old old
-  leads_nothing old = record { covers = (refl, refl); count = refl; few = lit≤ tt }
+  leads_nothing old = record { covers = (refl, refl); count = refl; next = lit≤ tt }
 
   pub next_line : (first now : ℕ) (from : Progress J R) (line : NumberedLine) → IsNext (judged_reading M first) (from, now) line → IsNextLine M from line now
   next_line first now from line is = record {
@@ -42,13 +43,14 @@ module _ {J R : Type 0} (M : Judging J R) where
     covers = is.1.covers;
     number = omega (arith, is.2, is.1.count);
     few = is.3;
+    next = is.4;
   }
 
   pub leads_on : (from : Progress J R) (line : NumberedLine) (now : ℕ) (to : Progress J R) (new : ℕ) → IsNextLine M from line now → LeadsTo M from line now to new → (first : ℕ) → LeadsOn (judged_reading M first) (from, now) line (to, new)
   leads_on from line now to new next to' first lines leads = record {
     covers = subst (λ (s : InputScan). Covers M s to first new) (sym (scan_more lines line)) (to'.covers (scan_lines lines) first leads.covers);
     count = omega (arith, to'.lines, leads.count, length-append lines (line ∷ []));
-    few = omega (arith, to'.lines, next.number, next.few);
+    next = subst HasNext (next.number ∙ sym to'.lines) next.next;
   }
 
   pub stops_with : (from : Progress J R) (line : NumberedLine) (now new : ℕ) → CostsOn M from line now new → (first : ℕ) → StopsWith (judged_reading M first) (from, now) line new
@@ -91,86 +93,86 @@ module _ {J R : Type 0} (M : Judging J R) where
         (covers_fault M laws sc p old now o c)
 
     -- what comes after the lines of an input: a limit that is passed, or that there is no header
-    after_lines : (bytes : List ℕ) (p : Progress J R) (first now : ℕ) (o : Option (ℕ × Cause)) → Leads M (scanned_lines bytes) p first now
-        → option_or (limit_fault (overrun bytes)) (no_header bytes (scan_lines (scanned_lines bytes)).header) ≡ o → M.IsFault (scan bytes) o
+    after_lines : (bytes : List ℕ) (p : Progress J R) (first now : ℕ) (o : Option (ℕ × Cause)) → Leads M (scanned_lines M.limits bytes) p first now
+        → option_or (limit_fault (overrun M.limits bytes)) (no_header bytes (scan_lines (scanned_lines M.limits bytes)).header) ≡ o → M.IsFault (scan_within M.limits bytes) o
     after_lines bytes p first now o leads is =
-        let sc : InputScan = scan_lines (scanned_lines bytes) in
-        let behind : Option (ℕ × Cause) = option_or (limit_fault (overrun bytes)) (no_header bytes sc.header) in
-        subst (λ (w : Option (ℕ × Cause)). M.IsFault (scan bytes) w) is (or_covers sc p first now behind leads.covers)
+        let sc : InputScan = scan_lines (scanned_lines M.limits bytes) in
+        let behind : Option (ℕ × Cause) = option_or (limit_fault (overrun M.limits bytes)) (no_header bytes sc.header) in
+        subst (λ (w : Option (ℕ × Cause)). M.IsFault (scan_within M.limits bytes) w) is (or_covers sc p first now behind leads.covers)
 
-    pub input_fault : (first : ℕ) (bytes : List ℕ) (at : ℕ) (cause : Cause) → HasInputFault (judged_reading M first) bytes at cause → M.IsFault (scan bytes) (Some (at, cause))
+    pub input_fault : (first : ℕ) (bytes : List ℕ) (at : ℕ) (cause : Cause) → HasInputFault (judged_reading M first) bytes at cause → M.IsFault (scan_within M.limits bytes) (Some (at, cause))
     input_fault first bytes at cause (inl line) =
-        let sc : InputScan = scan_lines (scanned_lines bytes) in
-        laws.fault_stays sc (scan bytes) (at, cause) (widens_fault sc (option_or (limit_fault (overrun bytes)) (no_header bytes sc.header))) line
+        let sc : InputScan = scan_lines (scanned_lines M.limits bytes) in
+        laws.fault_stays sc (scan_within M.limits bytes) (at, cause) (widens_fault sc (option_or (limit_fault (overrun M.limits bytes)) (no_header bytes sc.header))) line
     input_fault first bytes at cause (inr (place, leads, (named, limit, same))) =
-        let is : limit_fault (overrun bytes) ≡ Some (at, cause) = limit ∙ ap (λ (c : Cause). let o : Option (ℕ × Cause) = Some (at, c) in o) (sym same) in
-        after_lines bytes place.0 first place.1 (Some (at, cause)) leads (ap (λ (o : Option (ℕ × Cause)). option_or o (no_header bytes (scan_lines (scanned_lines bytes)).header)) is)
+        let is : limit_fault (overrun M.limits bytes) ≡ Some (at, cause) = limit ∙ ap (λ (c : Cause). let o : Option (ℕ × Cause) = Some (at, c) in o) (sym same) in
+        after_lines bytes place.0 first place.1 (Some (at, cause)) leads (ap (λ (o : Option (ℕ × Cause)). option_or o (no_header bytes (scan_lines (scanned_lines M.limits bytes)).header)) is)
 
     -- what was read so far has no fault
     pub reads_sound : (first : ℕ) (old new : Option (List ℕ)) → ReadsSoFar (judged_reading M first) old new → ReadsSound M old new
     reads_sound first old new (bytes, read, none, (place, leads)) =
-        let sc : InputScan = scan_lines (early_lines bytes) in (
+        let sc : InputScan = scan_lines (early_lines M.limits bytes) in (
           bytes,
           read,
-          subst (λ (o : Option (ℕ × Cause)). M.IsFault (or_fault sc (limit_fault (overrun bytes))) o) (ap limit_fault none)
-              (or_covers sc place.0 first place.1 (limit_fault (overrun bytes)) leads.covers),
+          subst (λ (o : Option (ℕ × Cause)). M.IsFault (or_fault sc (limit_fault (overrun M.limits bytes))) o) (ap limit_fault none)
+              (or_covers sc place.0 first place.1 (limit_fault (overrun M.limits bytes)) leads.covers),
         )
 
     -- ---- an input that was read to its end
 
-    module _ (bytes : List ℕ) (none : overrun bytes ≡ None) (p : Progress J R) (first now : ℕ) (leads : Leads M (scanned_lines bytes) p first now) where
+    module _ (bytes : List ℕ) (none : overrun M.limits bytes ≡ None) (p : Progress J R) (first now : ℕ) (leads : Leads M (scanned_lines M.limits bytes) p first now) where
       abbrev sc : InputScan
-      sc = scan_lines (scanned_lines bytes)
+      sc = scan_lines (scanned_lines M.limits bytes)
 
       -- without a header
-      no_header_fault : sc.header ≡ None → M.IsFault (scan bytes) (Some (lines_of p + 1, NoHeader))
+      no_header_fault : sc.header ≡ None → M.IsFault (scan_within M.limits bytes) (Some (lines_of p + 1, NoHeader))
       no_header_fault is =
-          let count : length (scanned_lines bytes) ≡ lines_of p = sym leads.count in
+          let count : length (scanned_lines M.limits bytes) ≡ lines_of p = sym leads.count in
           after_lines bytes p first now (Some (lines_of p + 1, NoHeader)) leads
           (ap (λ o. option_or (limit_fault o) (no_header bytes sc.header)) none ∙ ap (no_header bytes) is
-          ∙ ap (λ (k : ℕ). let o : Option (ℕ × Cause) = Some (k + 1, NoHeader) in o) (ap (λ (ls : List NumberedLine). length ls) (sym (scanned_all bytes none)) ∙ count))
+          ∙ ap (λ (k : ℕ). let o : Option (ℕ × Cause) = Some (k + 1, NoHeader) in o) (ap (λ (ls : List NumberedLine). length ls) (sym (scanned_all M.limits bytes none)) ∙ count))
 
       -- with one
-      scan_is : (tally : Tally) → IsTallied sc tally → scan bytes ≡ sc
+      scan_is : (tally : Tally) → IsTallied sc tally → scan_within M.limits bytes ≡ sc
       scan_is tally f =
-          let same : (scan bytes).fault ≡ sc.fault =
-          ap (λ o. option_or o (option_or (limit_fault (overrun bytes)) (no_header bytes sc.header))) f.sound
+          let same : (scan_within M.limits bytes).fault ≡ sc.fault =
+          ap (λ o. option_or o (option_or (limit_fault (overrun M.limits bytes)) (no_header bytes sc.header))) f.sound
           ∙ ap (λ o. option_or (limit_fault o) (no_header bytes sc.header)) none ∙ ap (no_header bytes) f.header ∙ sym f.sound in
           ap (λ (w : Option (ℕ × Cause)). let s : InputScan = record sc { fault = w } in s) same
 
     -- what is found is so
     pub finds : (first now : ℕ) (old new : Option (List ℕ)) (p : Progress J R) → IsAtEnd new → ReadsAll (judged_reading M first) old new (p, now) → Finds M old new (finding_of p)
     finds first now old new (Waiting lines) end (taken, read, none, leads) = λ bytes is.
-        subst (λ (bs : List ℕ). M.IsFault (scan bs) (Some (lines + 1, NoHeader))) (taken_all old new taken bytes read end is)
+        subst (λ (bs : List ℕ). M.IsFault (scan_within M.limits bs) (Some (lines + 1, NoHeader))) (taken_all old new taken bytes read end is)
         (no_header_fault taken none (Waiting lines) first now leads (ap (λ (s : InputScan). s.header) leads.covers.0))
     finds first now old new (Running tally judge) end (taken, read, none, leads) =
-        let c : GoodAt M (scan_lines (scanned_lines taken)) tally judge first now = leads.covers in
+        let c : GoodAt M (scan_lines (scanned_lines M.limits taken)) tally judge first now = leads.covers in
         let is = scan_is taken none (Running tally judge) first now leads tally c.follows in
         (taken, read, end, subst (λ (s : InputScan). AreGood M s tally judge) (sym is) (record { follows = c.follows; good = c.good }))
     finds first now old new (Rejected tally rejection) end (taken, read, none, leads) =
-        let c : BadAt M (scan_lines (scanned_lines taken)) tally rejection first now = leads.covers in
+        let c : BadAt M (scan_lines (scanned_lines M.limits taken)) tally rejection first now = leads.covers in
         let is = scan_is taken none (Rejected tally rejection) first now leads tally c.follows in
         (taken, read, end, subst (λ (s : InputScan). AreBad M s tally rejection) (sym is) (record { follows = c.follows; bad = c.bad }))
 
     -- ---- what the counter shows
 
     -- the lines of an input, of which some were taken from the first on
-    pub lines_cost : (first new : ℕ) (bytes : List ℕ) → CountsTo (judged_reading M first) (scanned_lines bytes) new → M.AtMost (scan bytes) first new
+    pub lines_cost : (first new : ℕ) (bytes : List ℕ) → CountsTo (judged_reading M first) (scanned_lines M.limits bytes) new → M.AtMost (scan_within M.limits bytes) first new
     lines_cost first new bytes (front, back, is, taken) =
         let here : M.AtMost (scan_lines front) first new = elim taken [ inl x ↦ covers_most M laws (scan_lines front) x.0 first new x.1.covers | inr y ↦ y ] in
-        let sc : InputScan = scan_lines (scanned_lines bytes) in
+        let sc : InputScan = scan_lines (scanned_lines M.limits bytes) in
         let all : M.AtMost sc first new =
         subst (λ (ls : List NumberedLine). M.AtMost (scan_lines ls) first new) (sym is) (laws.most_widens (scan_lines front) (scan_lines (front ++ back)) first new (widens_lines front back) here) in
-        laws.most_widens sc (scan bytes) first new (widens_fault sc (option_or (limit_fault (overrun bytes)) (no_header bytes sc.header))) all
+        laws.most_widens sc (scan_within M.limits bytes) first new (widens_fault sc (option_or (limit_fault (overrun M.limits bytes)) (no_header bytes sc.header))) all
 
     -- where all lines were taken
-    pub finding_counted : (first now : ℕ) (old new : Option (List ℕ)) (bytes : List ℕ) (p : Progress J R) → IsAtEnd new → old ≡ Some bytes → ReadsAll (judged_reading M first) old new (p, now) → RisesAtLeast M (scan bytes) (finding_of p) first now
+    pub finding_counted : (first now : ℕ) (old new : Option (List ℕ)) (bytes : List ℕ) (p : Progress J R) → IsAtEnd new → old ≡ Some bytes → ReadsAll (judged_reading M first) old new (p, now) → RisesAtLeast M (scan_within M.limits bytes) (finding_of p) first now
     finding_counted first now old new bytes (Waiting lines) end is reads = tt
     finding_counted first now old new bytes (Running tally judge) end is (taken, read, none, leads) =
-        let c : GoodAt M (scan_lines (scanned_lines taken)) tally judge first now = leads.covers in
-        subst (λ (bs : List ℕ). M.GoodAtLeast (scan bs) first now) (taken_all old new taken bytes read end is)
+        let c : GoodAt M (scan_lines (scanned_lines M.limits taken)) tally judge first now = leads.covers in
+        subst (λ (bs : List ℕ). M.GoodAtLeast (scan_within M.limits bs) first now) (taken_all old new taken bytes read end is)
         (subst (λ (s : InputScan). M.GoodAtLeast s first now) (sym (scan_is taken none (Running tally judge) first now leads tally c.follows)) c.least)
     finding_counted first now old new bytes (Rejected tally rejection) end is (taken, read, none, leads) =
-        let c : BadAt M (scan_lines (scanned_lines taken)) tally rejection first now = leads.covers in
-        subst (λ (bs : List ℕ). M.BadAtLeast (scan bs) first now) (taken_all old new taken bytes read end is)
+        let c : BadAt M (scan_lines (scanned_lines M.limits taken)) tally rejection first now = leads.covers in
+        subst (λ (bs : List ℕ). M.BadAtLeast (scan_within M.limits bs) first now) (taken_all old new taken bytes read end is)
         (subst (λ (s : InputScan). M.BadAtLeast s first now) (sym (scan_is taken none (Rejected tally rejection) first now leads tally c.follows)) c.least)

@@ -24,6 +24,7 @@ use Rattle.pp_records.proofs.Reprinting.{reprint_law}
 use Rattle.pp_records.proofs.Restating.{bare_numbered, restated_run}
 use Rattle.pp_records.proofs.Whole.{one_run_law}
 use Rattle.pp_input.specs.Lines.{blank, numbered_from, numbered_lines}
+use Rattle.pp_input.specs.Limits.{usual_limits}
 use Rattle.pp_input.specs.Overruns.{lines_before, overrun, scanned_lines}
 use Rattle.pp_input.specs.declared.fault.LineFault.{LineFault}
 use Rattle.pp_format_read.specs.declared.header.Header.{Header}
@@ -124,13 +125,13 @@ module _ (catalog : Objects) (start : Option Start) (ss : List (Step Op)) (h : I
   abbrev text : List ℕ
   text = run_text catalog start ss
 
-  passes : overrun text ≡ None
+  passes : overrun usual_limits text ≡ None
   passes = text_passes catalog start ss h
 
   few_begun : how_many ss ≤ 20_000
   few_begun = let begun = h.begins in omega (arith, begun, how_many_are ss)
 
-  text_lines : scan_lines (scanned_lines text) ≡ so_far catalog start h.over (plain (numbered 1 ss))
+  text_lines : scan_lines (scanned_lines usual_limits text) ≡ so_far catalog start h.over (plain (numbered 1 ss))
   text_lines = ap scan_lines (text_scanned catalog start ss h) ∙ lines_scanned catalog start h.over ss h.begun h.each few_begun
 
   abbrev behind : InputScan → Option LineFault → InputScan
@@ -138,7 +139,7 @@ module _ (catalog : Objects) (start : Option Start) (ss : List (Step Op)) (h : I
 
   pub text_scan : scan text ≡ so_far catalog start h.over (plain (numbered 1 ss))
   text_scan =
-      ap (λ (sc : InputScan). behind sc (overrun text)) text_lines ∙ ap (λ (o : Option LineFault). behind (so_far catalog start h.over (plain (numbered 1 ss))) o) passes
+      ap (λ (sc : InputScan). behind sc (overrun usual_limits text)) text_lines ∙ ap (λ (o : Option LineFault). behind (so_far catalog start h.over (plain (numbered 1 ss))) o) passes
 
   few_lines : length (numbered_lines text) ≤ MOST_LINES
   few_lines =

@@ -28,6 +28,7 @@ use Rattle.pp_model.specs.Config.{start_with}
 use Rattle.pp_model.specs.Lists.{Each}
 use Rattle.pp_objects.specs.Objects.{kinds_of, place_of}
 use Rattle.pp_objects.specs.declared.act.Op.{Op}
+use Rattle.pp_input.specs.Limits.{usual_limits}
 use Rattle.pp_input.specs.Overruns.{scanned_lines}
 use Rattle.pp_input_reader.specs.declared.cause.Cause.{Cause}
 use Rattle.pp_input_reader.specs.declared.cause.Cause.TheVariants.{TooManyTransactions}
@@ -118,7 +119,7 @@ stated_lines sc (line ∷ lines) h = stated_lines (scan_line sc line) lines (sta
 
 pub stated_scan : (bytes : List ℕ) → IsStated (scan bytes)
 stated_scan bytes =
-    let h = stated_lines nothing (scanned_lines bytes) stated_nothing in
+    let h = stated_lines nothing (scanned_lines usual_limits bytes) stated_nothing in
     record { stated = h.stated; begun = h.begun }
 
 -- ---- what the steps of a run carry

@@ -7,6 +7,7 @@ use Rattle.pp_records.specs.Records.{RunRecord}
 use Rattle.pp_records.specs.Runs.{IsRun, LinedSteps, Records, bare}
 use Rattle.pp_objects.specs.declared.act.Op.{Op}
 use Rattle.pp_format_read.specs.declared.header.Header.{Header}
+use Rattle.pp_input.specs.Limits.{usual_limits}
 use Rattle.pp_machine.specs.Machines.{Seen}
 use Rattle.pp_styles.specs.declared.any_front.AnyFront.{AnyFront}
 use Rattle.pp_judge.specs.Costs.{StepsCostAtLeast, StepsCostAtMost}
@@ -27,10 +28,12 @@ HasSeenRun HasSeen header records observer = (run : LinedSteps Op) →
     IsRun (object_of header) (translation_of header) (start_of header) records run →
     HasSeen header (bare run) observer
 
--- Records are good if their steps meet their criteria, and bad if one does not, whatever follows.
+-- The limits are the usual ones. Records are good if their steps meet their criteria, and bad if one
+-- does not, whatever follows.
 abbrev pub driven_judging : {W : Type 0} → (Header → List (Step Op) → W → Type 0) →
     Judging (Driven W) (Refused W)
 driven_judging HasSeen = record {
+  limits = usual_limits;
   IsGood = λ header records judge. GoesOn header.what records judge.front judge.machine
       × HasSeenRun HasSeen header.what records judge.observer;
   IsBad = λ header records refused. EndsAt header.what header.line records refused.rejection

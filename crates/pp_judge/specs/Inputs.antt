@@ -4,6 +4,8 @@ use Rattle.std.specs.Io.KnownBytes.{Consumes}
 use Rattle.std.specs.Option.{option_or}
 use Rattle.pp_records.specs.Inputs.{IsFault}
 use Rattle.pp_records.specs.Runs.{Lined}
+use Rattle.pp_input.specs.declared.limits.Limits.{Limits}
+use Rattle.pp_input.specs.Limits.{usual_limits}
 use Rattle.pp_input.specs.Lines.{numbered_lines}
 use Rattle.pp_input.specs.Overruns.{early_lines, overrun, scanned_lines}
 use Rattle.pp_format_read.specs.declared.header.Header.{Header}
@@ -22,16 +24,25 @@ no_header bytes None = Some (length (numbered_lines bytes) + 1, NoHeader)
 abbrev pub or_fault : InputScan → Option (ℕ × Cause) → InputScan
 or_fault sc fault = record sc { fault = option_or sc.fault fault }
 
--- What an input is: the lines before the line that passes a limit, in turn. Where no line has a
--- fault, the passed limit is the fault, and else that there is no header.
-abbrev pub scan : List ℕ → InputScan
-scan bytes =
-    let sc = scan_lines (scanned_lines bytes) in
-    or_fault sc (option_or (limit_fault (overrun bytes)) (no_header bytes sc.header))
+-- What an input with these limits is: the lines before the line that passes a limit, in turn. Where
+-- no line has a fault, the passed limit is the fault, and else that there is no header.
+abbrev pub scan_within : Limits → List ℕ → InputScan
+scan_within limits bytes =
+    let sc = scan_lines (scanned_lines limits bytes) in
+    or_fault sc (option_or (limit_fault (overrun limits bytes)) (no_header bytes sc.header))
 
 -- what no further byte can change of it: the lines that a byte 10 ends, and a passed limit
+abbrev pub early_scan_within : Limits → List ℕ → InputScan
+early_scan_within limits bytes =
+    or_fault (scan_lines (early_lines limits bytes)) (limit_fault (overrun limits bytes))
+
+-- what an input with the usual limits is
+abbrev pub scan : List ℕ → InputScan
+scan bytes = scan_within usual_limits bytes
+
+-- what no further byte can change of it
 abbrev pub early_scan : List ℕ → InputScan
-early_scan bytes = or_fault (scan_lines (early_lines bytes)) (limit_fault (overrun bytes))
+early_scan bytes = early_scan_within usual_limits bytes
 
 -- the fault of an input: that its records have too many steps, or the fault of its scan
 abbrev pub IsFaultOf : InputScan → Option (ℕ × Cause) → Type 0

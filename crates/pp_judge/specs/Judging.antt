@@ -1,10 +1,10 @@
 -- Proof machinery: what a judge says of a header and the records after it.
 use Rattle.std.specs.Prelude.{◌≡◌, ℕ, ◌+◌, ◌<◌, ◌++◌, length, Option, Some}
-use Rattle.pp_core.specs.declared.limits.TheConstants.{MOST_LINES}
 use Rattle.pp_records.specs.Inputs.{Widens}
 use Rattle.pp_records.specs.Records.{RunRecord}
 use Rattle.pp_records.specs.Runs.{Lined, Records}
 use Rattle.pp_objects.specs.declared.act.Op.{Op}
+use Rattle.pp_input.specs.declared.limits.Limits.{Limits}
 use Rattle.pp_format_read.specs.declared.header.Header.{Header}
 use Rattle.pp_input_reader.specs.declared.cause.Cause.{Cause}
 use Rattle.pp_judge.specs.Scans.{InputScan, nothing}
@@ -14,6 +14,8 @@ use Rattle.pp_judge.specs.declared.judge.Judged.TheVariants.{Good, Bad}
 
 -- What a judge says of runs. J is the judge and R what it rejects a run by.
 pub record Judging (J R : Type 0) : Type 1 where
+  -- the limits of an input
+  pub limits : Limits
   -- the start and these records are good, and this is the judge that took them
   pub IsGood : Lined Header → Records (RunRecord Op) → J → Type 0
   -- the start or one of these records is rejected so
@@ -76,7 +78,7 @@ JudgedAtLeast M sc (Bad rejection) old new = M.BadAtLeast sc old new
 -- the judge took some records, of which a run may have one more
 abbrev pub MayTake : {J R : Type 0} → Judging J R → Header → J → Type 0
 MayTake M header judge = (at : ℕ) × (before : Records (RunRecord Op))
-    × M.IsGood (headed at header) before judge × (length before + 1 < MOST_LINES)
+    × M.IsGood (headed at header) before judge × (length before + 1 < M.limits.lines)
 
 -- This holds of every header line and all records that the judge may have taken.
 abbrev pub OfTaken : {J R : Type 0} → Judging J R → Header → J →

@@ -1,6 +1,6 @@
 -- Proof machinery: where the judging of a run stands after some of its lines.
 use Rattle.std.specs.Prelude.{◌≡◌, ℕ, ◌+◌, ◌≤◌, List, length, Some}
-use Rattle.pp_core.specs.declared.limits.TheConstants.{MOST_LINES}
+use Rattle.pp_input.specs.Limits.{HasNext}
 use Rattle.pp_input.specs.Lines.{NumberedLine}
 use Rattle.pp_input_reader.specs.declared.cause.Cause.{Cause}
 use Rattle.pp_input_reader.specs.Takers.{Reading}
@@ -62,7 +62,8 @@ pub record IsNextLine {J R : Type 0} (M : Judging J R) (from : Progress J R) (li
   pub old : ℕ
   pub covers : Covers M sc from old now
   pub number : line.0 ≡ lines_of from + 1
-  pub few : line.0 ≤ MOST_LINES
+  pub few : line.0 ≤ M.limits.lines
+  pub next : HasNext line.0
 
 -- a line leads from here to there
 pub record LeadsTo {J R : Type 0} (M : Judging J R) (from : Progress J R) (line : NumberedLine)
@@ -90,12 +91,13 @@ pub record Leads {J R : Type 0} (M : Judging J R) (lines : List NumberedLine) (a
     (old new : ℕ) : Type 0 where
   pub covers : Covers M (scan_lines lines) at old new
   pub count : lines_of at ≡ length lines
-  pub few : lines_of at ≤ MOST_LINES
+  pub next : HasNext (lines_of at)
 
--- where the lines of a run lead to, with what the counter then shows, which fault they have, and
--- what they cost, by what the counter shows before the first
+-- the limits of an input; and where the lines of a run lead to, with what the counter then shows,
+-- which fault they have, and what they cost, by what the counter shows before the first
 abbrev pub judged_reading : {J R : Type 0} → Judging J R → ℕ → Reading (Progress J R × ℕ) Cause
 judged_reading M old = record {
+  limits = M.limits;
   Leads = λ lines at. Leads M lines at.0 old at.1;
   HasFault = λ lines at cause. M.IsFault (scan_lines lines) (Some (at, cause));
   Stops = λ lines new. M.AtMost (scan_lines lines) old new;

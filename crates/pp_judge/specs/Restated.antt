@@ -7,6 +7,7 @@ use Rattle.pp_records.specs.Inputs.{IsReport}
 use Rattle.pp_records.specs.Reprints.{relined}
 use Rattle.pp_records.specs.Runs.{IsRun, Lined, LinedSteps, bare}
 use Rattle.pp_records.specs.Styles.{plain, restated}
+use Rattle.pp_input.specs.Limits.{usual_limits}
 use Rattle.pp_input.specs.Lines.{numbered_lines}
 use Rattle.pp_input.specs.Overruns.{overrun}
 use Rattle.pp_format_read.specs.declared.header.Header.{Header}
@@ -58,7 +59,7 @@ pub record IsRestated (bytes : List ℕ) (header : Header) (run : LinedSteps Op)
       IsReport setting_of TooManySteps (scan (restated_text header run)) (relined 1 r)
   pub accepted : (text : List ℕ) → IsCertified bytes statuses.Accepted text →
       IsCertified (restated_text header run) statuses.Accepted text
-  pub within : overrun (restated_text header run) ≡ None
+  pub within : overrun usual_limits (restated_text header run) ≡ None
   pub lines : length (numbered_lines (restated_text header run)) ≤ MOST_LINES
   pub short : length (restated_text header run) < 200_000_000
 

@@ -1,15 +1,10 @@
 //! The machine as a judge: it is driven through the steps of each record, and an observer is shown
 //! them.
-ghost use Rattle.std.specs.Prelude.{◌≡◌, ◌≤◌, ◌+◌, true, List, ◌++◌, take, None, IfOk};
-ghost use Rattle.pp_core.specs.Steps.{Step as StepOf};
+ghost use Rattle.std.specs.Prelude.{◌≡◌, ◌≤◌, ◌+◌, take, None, IfOk};
 ghost use Rattle.pp_core.specs.declared.limits.TheConstants.{MOST_STEPS};
 ghost use Rattle.pp_format_read.specs.Starts.{IsReadableStart};
-ghost use Rattle.pp_format_write.specs.Statable.{IsWritable};
 ghost use Rattle.pp_model.specs.Config.{first};
-ghost use Rattle.pp_model.specs.Lists.{Each};
 ghost use Rattle.pp_objects.specs.Objects.{kinds_of};
-ghost use Rattle.pp_objects.specs.declared.act.Op.{Op as OpOf};
-ghost use Rattle.pp_styles.specs.Meanings.{meanings};
 ghost use Rattle.pp_judge.specs.Costs.{start_at_most};
 ghost use Rattle.pp_judge.specs.Driven.{judged_of};
 ghost use Rattle.pp_judge.specs.Objects.{start_of};
@@ -19,6 +14,7 @@ use crate::judge::{Judge, Judged};
 use crate::observer::Observer;
 use pp_core::{OutOfMemory, Rule, Step, Ticks};
 use pp_format_read::Header;
+use pp_input::Limits;
 use pp_input_reader::{Cause, Stop};
 use pp_machine::{Detail, Machine, Outcome};
 use pp_objects::{Objects, Op};
@@ -141,25 +137,6 @@ fn tried(list: &StepList<Op>, done: u32) -> &[Step<Op>]
     }
 }
 
-/// An observer that is shown these steps, if it looks at them.
-fn show<W: Observer>(
-    alloc: Global,
-    observer: W,
-    header: &Header,
-    steps: &[Step<Op>],
-) -> Result<W, OutOfMemory>
-    requires { W.looks ≡ true → Each (IsWritable header.now.catalog) (meanings steps.now) }
-    ensures { IfOk result (λ next. W.looks ≡ true → (before : List (StepOf OpOf)) →
-        W.HasSeen header.now before observer →
-        W.HasSeen header.now (before ++ meanings steps.now) next) }
-{
-    if W::looks() {
-        observer.see(alloc, header, steps)
-    } else {
-        Ok(observer)
-    }
-}
-
 /// The judge that took a record, or the rejection of a step of it.
 fn judged_of<W: Observer>(
     front: BoxedFront,
@@ -189,6 +166,10 @@ impl<W: Observer> Judge for Driven<W> {
     type Rejection = Refused<W>;
 
     ghost judging = { driven_judging W.HasSeen };
+
+    fn limits() -> Limits {
+        Limits::usual()
+    }
 
     fn begin<L: Ledger>(
         alloc: Global,
@@ -243,7 +224,7 @@ impl<W: Observer> Judge for Driven<W> {
         let count = machine.count();
         let rejection = rejection_on(line, count, halt)?;
         let steps = tried(&list, count - before);
-        let observer = show(alloc, observer, header, steps)?;
+        let observer = observer.see(alloc, header, steps)?;
         Ok(judged_of(front, machine, observer, rejection))
     }
 

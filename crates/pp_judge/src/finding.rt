@@ -1,11 +1,11 @@
 //! Examining an input: its fault, or how its run is judged.
 ghost use Rattle.std.specs.Prelude.{◌≡◌, ◌≤◌, IfOk, IsErrOf};
-ghost use Rattle.pp_core.specs.declared.limits.TheConstants.{MOST_LINES};
 ghost use Rattle.pp_input.specs.Faults.{HasRisen};
+ghost use Rattle.pp_input.specs.Limits.{HasNext};
 ghost use Rattle.pp_input_reader.specs.declared.stop.Failure.TheVariants.{ReadFault};
 ghost use Rattle.pp_input_reader.specs.Sources.{WhereTold};
 ghost use Rattle.pp_judge.specs.Findings.{Finds, ReadsSound, RisesAtLeast, finding_of};
-ghost use Rattle.pp_judge.specs.Inputs.{scan};
+ghost use Rattle.pp_judge.specs.Inputs.{scan_within};
 ghost use Rattle.pp_judge.specs.Progresses.{lines_of};
 
 use crate::judge::Judge;
@@ -29,7 +29,7 @@ pub enum Finding<J, R> {
 
 /// What an input is found to be, of which all lines were taken.
 fn conclude<J, R>(progress: Progress<J, R>) -> Finding<J, R>
-    requires { lines_of progress ≤ MOST_LINES }
+    requires { HasNext (lines_of progress) }
     ensures { result ≡ finding_of progress }
 {
     match progress {
@@ -39,7 +39,8 @@ fn conclude<J, R>(progress: Progress<J, R>) -> Finding<J, R>
     }
 }
 
-/// Examines the input that a source gives. A verdict is found on the whole of it.
+/// Examines the input that a source gives, within the limits of the judge. A verdict is found on
+/// the whole of it.
 pub fn examine<S: Source, J: Judge, L: Ledger>(
     alloc: Global,
     source: &mut S,
@@ -52,9 +53,10 @@ pub fn examine<S: Source, J: Judge, L: Ledger>(
     ensures count { S.faults source.old ≤ S.faults source.new }
     ensures faultless { ¬ IsErrOf result ReadFault → S.faults source.new ≡ S.faults source.old }
     ensures most { WhereTold (S.left source.old) λ bytes.
-        J.judging.AtMost (scan bytes) ticks.old ticks.new }
+        J.judging.AtMost (scan_within J.judging.limits bytes) ticks.old ticks.new }
     ensures least { IfOk result (λ finding. WhereTold (S.left source.old) λ bytes.
-        RisesAtLeast J.judging (scan bytes) finding ticks.old ticks.new) }
+        RisesAtLeast J.judging (scan_within J.judging.limits bytes) finding
+        ticks.old ticks.new) }
 {
     let first: Progress<J, J::Rejection> = Progress::Waiting(0);
     match read_lines(alloc, source, first, ticks) {

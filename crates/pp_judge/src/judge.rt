@@ -5,6 +5,7 @@ ghost use Rattle.pp_records.specs.Records.{record_meaning};
 ghost use Rattle.pp_format_read.specs.Records.{IsReadable};
 ghost use Rattle.pp_format_read.specs.Starts.{IsReadableStart};
 ghost use Rattle.pp_format_write.specs.Statable.{IsStatableRecord, IsWritableStart};
+ghost use Rattle.pp_input.specs.Limits.{CanCount};
 ghost use Rattle.pp_input_reader.specs.Takers.{IfFault};
 ghost use Rattle.pp_judge.specs.Judging.{CostsAtMostThere, HasFaultThere, IsJudged, JudgedAtLeast};
 ghost use Rattle.pp_judge.specs.Judging.{Judges, Judging, JudgingLaws, MayTake};
@@ -12,6 +13,7 @@ ghost use Rattle.pp_judge.specs.Tallies.{headed, scan_of};
 
 use pp_core::Ticks;
 use pp_format_read::Header;
+use pp_input::Limits;
 use pp_input_reader::{Cause, Stop};
 use pp_objects::Op;
 use pp_records::RunRecord;
@@ -32,8 +34,13 @@ pub trait Judge: Drop {
     /// What a run is rejected by.
     type Rejection: Drop;
 
-    /// What the judge says of a header and the records after it.
+    /// The limits of an input, and what the judge says of a header and the records after it.
     ghost judging: { Judging Self Self.Rejection };
+
+    /// The limits of an input.
+    fn limits() -> Limits
+        ensures limits { result ≡ judging.limits }
+        ensures count { CanCount result };
 
     /// Judges the start of the header on this line. A judge may have a fault of its own for a header.
     fn begin<L: Ledger>(

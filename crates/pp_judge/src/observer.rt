@@ -1,5 +1,5 @@
 //! What is shown the steps of a run.
-ghost use Rattle.std.specs.Prelude.{◌≡◌, Bool, false, List, [], ◌++◌, IfOk};
+ghost use Rattle.std.specs.Prelude.{List, [], ◌++◌, IfOk};
 ghost use Rattle.pp_core.specs.Steps.{Step as StepOf};
 ghost use Rattle.pp_format_read.specs.declared.header.Header.{Header as HeaderOf};
 ghost use Rattle.pp_format_write.specs.Statable.{IsWritable, IsWritableStart};
@@ -18,17 +18,10 @@ pub trait Observer: Drop {
     /// It has seen these steps of a run with this header.
     ghost HasSeen: { HeaderOf → List (StepOf OpOf) → Self → Type 0 };
 
-    /// Whether it looks at the steps.
-    ghost looks: { Bool };
-
     /// It has seen no step. The only error is out of memory.
     fn begin(alloc: Global, header: &Header) -> Result<Self, OutOfMemory>
         requires { IsWritableStart header.now.catalog header.now.start }
         ensures { IfOk result (HasSeen header.now []) };
-
-    /// Whether it looks at the steps: if not, it needs not be shown any.
-    fn looks() -> bool
-        ensures { result ≡ looks };
 
     /// It sees these steps after those that it has seen. The only error is out of memory.
     fn see(self, alloc: Global, header: &Header, steps: &[Step<Op>]) -> Result<Self, OutOfMemory>
@@ -36,10 +29,6 @@ pub trait Observer: Drop {
         ensures { IfOk result (λ next. (before : List (StepOf OpOf)) →
             HasSeen header.now before self →
             HasSeen header.now (before ++ meanings steps.now) next) };
-
-    /// Without a look at the steps any of them count as seen.
-    ghost blind: { looks ≡ false → (header : HeaderOf) (steps : List (StepOf OpOf))
-        (observer : Self) → HasSeen header steps observer };
 }
 
 /// An observer that does nothing.
@@ -47,18 +36,10 @@ pub trait Observer: Drop {
 pub struct Blind {}
 
 impl Observer for Blind {
-    ghost use Rattle.std.specs.Prelude.{false};
-
     ghost HasSeen = { λ _ _ _. Unit {0} };
-
-    ghost looks = { false };
 
     fn begin(_alloc: Global, _header: &Header) -> Result<Blind, OutOfMemory> {
         Ok(Blind {})
-    }
-
-    fn looks() -> bool {
-        false
     }
 
     fn see(
@@ -69,6 +50,4 @@ impl Observer for Blind {
     ) -> Result<Blind, OutOfMemory> {
         Ok(self)
     }
-
-    ghost blind = { λ _ _ _ _. tt };
 }

@@ -1,8 +1,8 @@
 //! Where the judging of a run stands after some of its lines.
 ghost use Rattle.std.specs.Prelude.{◌≡◌, ◌<◌};
-ghost use Rattle.pp_core.specs.declared.limits.TheConstants.{MOST_LINES};
 ghost use Rattle.pp_records.specs.Records.{record_meaning};
 ghost use Rattle.pp_core.specs.Steps.{meaning};
+ghost use Rattle.pp_input.specs.Limits.{HasNext};
 ghost use Rattle.pp_format_write.specs.Statable.{is_begin};
 ghost use Rattle.pp_judge.specs.Progresses.{lines_of, progress_of, with_blank};
 ghost use Rattle.pp_judge.specs.Scans.{is_begin_record};
@@ -73,7 +73,7 @@ pub(crate) fn is_begin_record(recorded: &RunRecord<Op>) -> bool
 
 /// One line more.
 fn with_line(mut tally: Tally) -> Tally
-    requires { tally.lines < MOST_LINES }
+    requires { HasNext tally.lines }
     ensures { result ≡ with_line tally }
 {
     tally.lines += 1;
@@ -82,7 +82,7 @@ fn with_line(mut tally: Tally) -> Tally
 
 /// One record more.
 pub(crate) fn with_record(mut tally: Tally, recorded: &RunRecord<Op>) -> Tally
-    requires lines { tally.lines < MOST_LINES }
+    requires lines { HasNext tally.lines }
     requires begins { tally.begins < tally.lines }
     ensures { result ≡ with_record tally (record_meaning recorded.now) }
 {
@@ -95,7 +95,7 @@ pub(crate) fn with_record(mut tally: Tally, recorded: &RunRecord<Op>) -> Tally
 
 /// One blank line more.
 pub(crate) fn with_blank<J, R>(progress: Progress<J, R>) -> Progress<J, R>
-    requires { lines_of progress < MOST_LINES }
+    requires { HasNext (lines_of progress) }
     ensures { result ≡ with_blank progress }
 {
     match progress {

@@ -20,7 +20,7 @@ use crate::judge::Judge;
 use crate::progress::{Progress, Tally, is_begin_record, progress_of, with_blank, with_record};
 use pp_core::{MOST_TRANSACTIONS, OutOfMemory, Ticks};
 use pp_format_read::{RecordFault, read_header, read_record};
-use pp_input::{Line, is_blank};
+use pp_input::{Limits, Line, is_blank};
 use pp_input_reader::{Cause, Failure, Stop, TakesLines};
 use pp_objects::Op;
 use pp_records::RunRecord;
@@ -141,6 +141,10 @@ impl<J: Judge> TakesLines for Progress<J, J::Rejection> {
     type Fault = Cause;
 
     ghost reading = { judged_reading J.judging };
+
+    fn limits() -> Limits {
+        J::limits()
+    }
 
     fn at_limit(cause: Cause) -> Cause {
         cause

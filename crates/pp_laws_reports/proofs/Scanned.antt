@@ -4,6 +4,7 @@ use Rattle.std.specs.Option.{option_or}
 use Rattle.std.proofs.Common.{refl, subst, arith}
 use mathlib.Core.Logic.{inl, inr}
 use Rattle.pp_records.specs.Runs.{Lined, LinedSteps, bare}
+use Rattle.pp_input.specs.Limits.{usual_limits}
 use Rattle.pp_input.specs.Overruns.{overrun, scanned_lines}
 use Rattle.pp_format_read.specs.declared.header.Header.{Header}
 use Rattle.pp_model.specs.Config.{Config, Start, Step, then}
@@ -16,7 +17,7 @@ use Rattle.pp_judge.specs.Scans.{scan_lines}
 
 -- an input without a fault has a header
 pub header_of_sound : (bytes : List ℕ) → (scan bytes).fault ≡ None → (header : Lined Header) × ((scan bytes).header ≡ Some header)
-header_of_sound bytes sound = by (scan_lines (scanned_lines bytes)).fault (limit_fault (overrun bytes)) (scan_lines (scanned_lines bytes)).header sound
+header_of_sound bytes sound = by (scan_lines (scanned_lines usual_limits bytes)).fault (limit_fault (overrun usual_limits bytes)) (scan_lines (scanned_lines usual_limits bytes)).header sound
   where
     by : (read limit : Option (ℕ × Cause)) (o : Option (Lined Header)) → option_or read (option_or limit (no_header bytes o)) ≡ None → (header : Lined Header) × (o ≡ Some header)
     by (Some f) limit o e = absurd (let no : Some f ≡ None = e in cc)

@@ -6,7 +6,7 @@ use Rattle.pp_core.specs.declared.status.Status.TheVariants as statuses
 use Rattle.pp_records.specs.Inputs.{Accepts, Faulty, IsReport, StartRejected, StepRejected, steps_of}
 use Rattle.pp_records.specs.Runs.{IsRun, Lined, LinedSteps, bare}
 use Rattle.pp_input.specs.Lines.{ended, rest}
-use Rattle.pp_input.proofs.Limits.{ended_append}
+use Rattle.pp_input.proofs.Overruns.{ended_append}
 use Rattle.pp_format_read.specs.declared.header.Header.{Header}
 use Rattle.pp_model.specs.Serial.{Attempt, attempts, committed_tx}
 use Rattle.pp_objects.specs.declared.act.Op.{Op}

@@ -11,6 +11,7 @@ use Rattle.pp_records.specs.Inputs.{Widens}
 use Rattle.pp_records.specs.Runs.{Lined}
 use Rattle.pp_input.specs.declared.fault.LineFault.{LineFault}
 use Rattle.pp_input.specs.declared.fault.LineFault.TheVariants as limits
+use Rattle.pp_input.specs.Limits.{usual_limits}
 use Rattle.pp_input.specs.Lines.{NumberedLine, blank, ended, ended_lines, numbered_from}
 use Rattle.pp_input.specs.Overruns.{overrun, scanned_lines}
 use Rattle.pp_format_read.specs.declared.fault.RecordFault.{RecordFault}
@@ -91,13 +92,13 @@ no_limit (Some (limits.LineTooLong line)) never h = absurd (cc)
 no_limit (Some limits.OutOfMemory) never h = absurd (never refl)
 
 -- no line has one, and no limit is passed
-sound_parts : (bytes : List ℕ) → IsFaultOf (scan bytes) None → ((scan_lines (scanned_lines bytes)).fault ≡ None) × (overrun bytes ≡ None)
+sound_parts : (bytes : List ℕ) → IsFaultOf (scan bytes) None → ((scan_lines (scanned_lines usual_limits bytes)).fault ≡ None) × (overrun usual_limits bytes ≡ None)
 sound_parts bytes (inl over) = absurd (let e : None ≡ Some (over.0, TooManySteps) = over.2 in cc)
 sound_parts bytes (inr none) =
-    let sc : InputScan = scan_lines (scanned_lines bytes) in
-    let parts = both_none sc.fault (option_or (limit_fault (overrun bytes)) (no_header bytes sc.header)) (sym none.1) in
-    let limit = both_none (limit_fault (overrun bytes)) (no_header bytes sc.header) parts.1 in
-    (parts.0, no_limit (overrun bytes) (no_memory bytes) limit.0)
+    let sc : InputScan = scan_lines (scanned_lines usual_limits bytes) in
+    let parts = both_none sc.fault (option_or (limit_fault (overrun usual_limits bytes)) (no_header bytes sc.header)) (sym none.1) in
+    let limit = both_none (limit_fault (overrun usual_limits bytes)) (no_header bytes sc.header) parts.1 in
+    (parts.0, no_limit (overrun usual_limits bytes) (no_memory bytes) limit.0)
 
 -- ---- its prefix
 
@@ -106,15 +107,15 @@ module _ (front back : List ℕ) (is : IsPrefixOfLines front back) (none : IsFau
   sc = scan_lines (ended_lines front)
 
   abbrev wide : InputScan
-  wide = scan_lines (scanned_lines (front ++ back))
+  wide = scan_lines (scanned_lines usual_limits (front ++ back))
 
-  sound : (wide.fault ≡ None) × (overrun (front ++ back) ≡ None)
+  sound : (wide.fault ≡ None) × (overrun usual_limits (front ++ back) ≡ None)
   sound = sound_parts (front ++ back) none
 
-  within : overrun front ≡ None
+  within : overrun usual_limits front ≡ None
   within = front_within front back sound.1
 
-  lines : scanned_lines front ≡ ended_lines front
+  lines : scanned_lines usual_limits front ≡ ended_lines front
   lines = front_lines front is.ends within
 
   behind : (more : List (List ℕ)) × (wide ≡ scan_lines (ended_lines front ++ numbered_from (1 + length (ended front)) more))
@@ -149,8 +150,8 @@ module _ (front back : List ℕ) (is : IsPrefixOfLines front back) (none : IsFau
   -- A prefix of an input without a fault has no fault.
   pub front_sound : (scan front).fault ≡ None
   front_sound =
-      ap (λ (ls : List NumberedLine). option_or (scan_lines ls).fault (option_or (limit_fault (overrun front)) (no_header front (scan_lines ls).header))) lines
-      ∙ ap (λ (o : Option (ℕ × Cause)). option_or o (option_or (limit_fault (overrun front)) (no_header front sc.header))) no_line
+      ap (λ (ls : List NumberedLine). option_or (scan_lines ls).fault (option_or (limit_fault (overrun usual_limits front)) (no_header front (scan_lines ls).header))) lines
+      ∙ ap (λ (o : Option (ℕ × Cause)). option_or o (option_or (limit_fault (overrun usual_limits front)) (no_header front sc.header))) no_line
       ∙ ap (λ (o : Option LineFault). option_or (limit_fault o) (no_header front sc.header)) within
       ∙ ap (λ (o : Option (Lined Header)). no_header front o) header_there
 

@@ -9,6 +9,7 @@ use Rattle.pp_core.specs.declared.limits.TheConstants.{MOST_TRANSACTIONS}
 use Rattle.pp_records.specs.Expansions.{IsOfStyle}
 use Rattle.pp_records.specs.Records.{RunRecord}
 use Rattle.pp_records.specs.Runs.{Lined}
+use Rattle.pp_input.specs.Limits.{usual_limits}
 use Rattle.pp_input.specs.Lines.{NumberedLine, blank}
 use Rattle.pp_input.specs.Overruns.{scanned_lines}
 use Rattle.pp_format_read.specs.declared.fault.RecordFault.{RecordFault}
@@ -76,4 +77,4 @@ lines_styled sc (line ∷ lines) s = lines_styled (scan_line sc line) lines (lin
 
 -- The records of an input are of the style of its header.
 pub scan_styled : (bytes : List ℕ) (h : Lined Header) → (scan bytes).header ≡ Some h → (r : Lined (RunRecord Op)) → In r (scan bytes).records → IsOfStyle h.what.style r.what
-scan_styled bytes h e r i = (lines_styled nothing (scanned_lines bytes) (record { none = λ z. refl; styled = λ k z q j. absurd j })).styled h e r i
+scan_styled bytes h e r i = (lines_styled nothing (scanned_lines usual_limits bytes) (record { none = λ z. refl; styled = λ k z q j. absurd j })).styled h e r i

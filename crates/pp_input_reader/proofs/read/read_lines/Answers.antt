@@ -113,7 +113,7 @@ take_rest-requires g c = (c.args.ticks.now, c.pieces.invariant.at.0, c.pieces.in
 -- ---- what the counter shows
 
 pub returns-in_err-buffer-clause-cost : goal.returns-in_err-buffer-clause-cost
-returns-in_err-buffer-clause-cost g c = λ bytes is. ([], scanned_lines bytes, refl, inl (c.args.taker, c.requires))
+returns-in_err-buffer-clause-cost g c = λ bytes is. ([], scanned_lines (g.T.TakesLines.reading c.args.ticks.now).limits bytes, refl, inl (c.args.taker, c.requires))
 
 pub returns-in_default-clause-cost : goal.returns-in_default-clause-cost
 returns-in_default-clause-cost g c = λ bytes is.
@@ -122,7 +122,7 @@ returns-in_default-clause-cost g c = λ bytes is.
     let now = c.pieces.ticks in
     let old = g.S.Source.left c.args.source.now in
     let new = g.S.Source.left c.pieces.source in
-    taken_lines old new at.0 bytes (λ ls. CountsTo R ls now) at.2 is (counts_early R at.0 now (counts_all R (early_lines at.0) c.pieces.taker now at.1.leads))
+    taken_lines R.limits old new at.0 bytes (λ ls. CountsTo R ls now) at.2 is (counts_early R at.0 now (counts_all R (early_lines R.limits at.0) c.pieces.taker now at.1.leads))
 
 pub returns-in_err-taker-clause-cost : goal.returns-in_err-taker-clause-cost
 returns-in_err-taker-clause-cost g c = λ bytes is.
@@ -135,7 +135,7 @@ returns-in_err-taker-clause-cost g c = λ bytes is.
     let full : length c.read.new.into ≡ c.pieces.buffer.len = search rules in
     let same : c.deref.result.now ≡ c.read.new.into = c.deref.ensures.value ∙ filled c.pieces.buffer.len c.read.new.into (drop (length c.read.new.into) c.pieces.buffer.items) full in
     let read : Consumes old new piece = subst (λ (bs : List ℕ). Consumes old new (take c.in-Ok.n bs)) (sym same) c.in-Ok.ensures.bytes.0 in
-    taken_lines first new (at.0 ++ piece) bytes (λ ls. CountsTo R ls c.take_piece.new.ticks) (consumes_more first old new at.0 piece at.2 read) is (c.in_err-taker.ensures.cost c.args.ticks.now at.0 at.1)
+    taken_lines R.limits first new (at.0 ++ piece) bytes (λ ls. CountsTo R ls c.take_piece.new.ticks) (consumes_more first old new at.0 piece at.2 read) is (c.in_err-taker.ensures.cost c.args.ticks.now at.0 at.1)
 
 pub returns-in_err-take_rest-clause-cost : goal.returns-in_err-take_rest-clause-cost
 returns-in_err-take_rest-clause-cost g c = λ bytes is.
@@ -148,7 +148,7 @@ returns-in_err-take_rest-clause-cost g c = λ bytes is.
     let none : Consumes old new [] = subst (λ (k : ℕ). Consumes old new (take k c.read.new.into)) c.if-n-eq0.true c.in-Ok.ensures.bytes.0 in
     let end : IsAtEnd new = c.in-Ok.ensures.bytes.1 c.if-n-eq0.true room in
     let all = taken_all first new (at.0 ++ []) bytes (consumes_more first old new at.0 [] at.2 none) end is in
-    subst (λ bs. CountsTo R (scanned_lines bs) c.take_rest.new.ticks) (sym (append-nil at.0) ∙ all) (c.in_err-take_rest.ensures.cost c.args.ticks.now at.0 at.1)
+    subst (λ bs. CountsTo R (scanned_lines R.limits bs) c.take_rest.new.ticks) (sym (append-nil at.0) ∙ all) (c.in_err-take_rest.ensures.cost c.args.ticks.now at.0 at.1)
 
 pub returns-clause-cost : goal.returns-clause-cost
 returns-clause-cost g c = λ bytes is.
@@ -161,4 +161,4 @@ returns-clause-cost g c = λ bytes is.
     let none : Consumes old new [] = subst (λ (k : ℕ). Consumes old new (take k c.read.new.into)) c.if-n-eq0.true c.in-Ok.ensures.bytes.0 in
     let end : IsAtEnd new = c.in-Ok.ensures.bytes.1 c.if-n-eq0.true room in
     let all = taken_all first new (at.0 ++ []) bytes (consumes_more first old new at.0 [] at.2 none) end is in
-    subst (λ bs. CountsTo R (scanned_lines bs) c.take_rest.new.ticks) (sym (append-nil at.0) ∙ all) (counts_all R (scanned_lines at.0) _ c.take_rest.new.ticks (c.in_ok-take_rest.ensures.ok c.args.ticks.now at.0 at.1))
+    subst (λ bs. CountsTo R (scanned_lines R.limits bs) c.take_rest.new.ticks) (sym (append-nil at.0) ∙ all) (counts_all R (scanned_lines R.limits at.0) _ c.take_rest.new.ticks (c.in_ok-take_rest.ensures.ok c.args.ticks.now at.0 at.1))

@@ -1,6 +1,5 @@
 use Rattle.std.proofs.Common.{◌≡◌, ◌-◌, ℕ, List, length}
 use Rattle.std.specs.Io.KnownBytes.{Consumes}
-use Rattle.pp_core.specs.declared.limits.TheConstants.{MOST_BYTES}
 use Rattle.pp_input_reader.specs.declared.read.TheConstants.{LONGEST_PIECE}
 use Rattle.pp_input_reader.specs.Takers.{IsAt}
 use Rattle.pp_input_reader.proofs.read.read_lines.Given as goal
@@ -13,4 +12,4 @@ invariant-pieces g l = record {
 }
 
 abbrev pub decreases-pieces : goal.decreases-pieces
-decreases-pieces g l = MOST_BYTES - l.lines.reach.bytes
+decreases-pieces g l = (g.T.TakesLines.reading l.fn.ticks).limits.bytes - l.lines.reach.bytes

@@ -7,7 +7,7 @@ use Rattle.pp_input_reader.proofs.read.take_piece.Given as goal
 abbrev pub invariant-lines : goal.invariant-lines
 invariant-lines g l = record {
   follows : (first : ℕ) (bytes : List ℕ) → IsAt (g.T.TakesLines.reading first) bytes l.fn.lines (l.fn.taker, l.fn.ticks) →
-      Follows (g.T.TakesLines.reading first) (early_lines (bytes ++ l.fn.piece)) l.lines (l.taker, l.ticks);
+      Follows (g.T.TakesLines.reading first) (early_lines (g.T.TakesLines.reading first).limits (bytes ++ l.fn.piece)) l.lines (l.taker, l.ticks);
   rest : l.lines.rest ≡ (fed l.fn.lines l.fn.piece).rest;
   reach : l.lines.reach ≡ (fed l.fn.lines l.fn.piece).reach;
   fault : l.lines.fault ≡ (fed l.fn.lines l.fn.piece).fault;

@@ -3,7 +3,7 @@ use Rattle.pp_input_reader.specs.Takers.{HasInputFault, IfInputFault}
 use Rattle.pp_input_reader.specs.declared.stop.Failure.TheVariants.{ReadFault}
 use Rattle.pp_input_reader.specs.declared.stop.Stop.TheVariants as stops
 use Rattle.pp_judge.specs.Findings.{Finds, RisesAtLeast}
-use Rattle.pp_judge.specs.Inputs.{scan}
+use Rattle.pp_judge.specs.Inputs.{scan_within}
 use Rattle.pp_judge.specs.Progresses.{judged_reading}
 use Rattle.pp_judge.proofs.Examining.{finding_counted, finds, input_fault, leads_nothing, lines_cost}
 use Rattle.pp_judge.proofs.Examining.{reads_sound}
@@ -50,7 +50,7 @@ returns-in-Ok-clause-least g c = λ bytes is.
     let old = g.S.Source.left c.args.source.now in
     let new = g.S.Source.left c.read_lines.new.source in
     let M = g.J.Judge.judging in
-    subst (λ finding. RisesAtLeast M (scan bytes) finding c.args.ticks.now c.read_lines.new.ticks) (sym c.conclude.ensures)
+    subst (λ finding. RisesAtLeast M (scan_within M.limits bytes) finding c.args.ticks.now c.read_lines.new.ticks) (sym c.conclude.ensures)
     (finding_counted M g.met.J.Judge.laws c.args.ticks.now c.read_lines.new.ticks old new bytes c.in-Ok.progress c.in-Ok.ensures.end is c.in-Ok.ensures.ok)
 
 pub returns-in-Err-Fault-clause-least : goal.returns-in-Err-Fault-clause-least

@@ -19,9 +19,9 @@ invariant_of-self-2 c =
     rw c.allowed-count.ensures.reach (counted_fed inside.reach inside.tail c.args.piece.now taken inside.whole.items c.cut.new.whole.items c.cut.new.tail inside.last inside.handed inside.closed c.self.invariant opened c.allowed-count.ensures.within reached added left)
 
 pub returns-clause-input : goal.returns-clause-input
-returns-clause-input c = λ bytes out took sound none.
+returns-clause-input c = λ limits bytes out took sound none.
     let old = c.args.self.now in
     let piece = c.args.piece.now in
     let answer : c.match-overrun.result ≡ answer_of c.allowed-count.result.2 = elim c.match-overrun.branch [ in-None w ↦ rw (w.result-is, w.in-None.is) refl | in-Some-overrun w ↦ rw (w.result-is, w.in-Some-overrun.is) refl ] in
-    let fault : c.allowed-count.result.2 ≡ overrun (bytes ++ piece) = c.allowed-count.ensures.overrun ∙ ap (λ (held : Held). overrun_from held.reach piece) c.self.view_is ∙ took_overrun bytes piece out old took sound in
-    (answer ∙ ap answer_of fault, took_after bytes piece out old _ took sound (search rules))
+    let fault : c.allowed-count.result.2 ≡ overrun limits (bytes ++ piece) = c.allowed-count.ensures.overrun ∙ ap (λ (held : Held). overrun_from held.reach piece) c.self.view_is ∙ took_overrun limits bytes piece out old took sound in
+    (answer ∙ ap answer_of fault, took_after limits bytes piece out old _ took sound (search rules))

@@ -1,4 +1,4 @@
-use Rattle.std.proofs.Common.{◌≡◌, ◌≤◌, ◌+◌, ◌-◌, true, ◌∙◌, ap, arith, subst, sym}
+use Rattle.std.proofs.Common.{◌≡◌, ◌≤◌, ◌+◌, ◌-◌, ◌∙◌, ap, arith, subst, sym}
 use Rattle.std.specs.Prelude.{Ok, Err, take}
 use Rattle.std.proofs.lemmas.Result.{err_from_is_err_and}
 use Rattle.pp_core.specs.declared.limits.TheConstants.{MOST_STEPS}
@@ -78,8 +78,8 @@ tried-steps-requires g c =
     let drives = subst (λ m. Drives objects m here now halt machine new) c.in_ok-list.ensures.machine (subst (λ w. Drives objects c.expand.new.machine w now halt machine new) same c.in_ok-machine.ensures.drives) in
     omega (arith, c.count-count.ensures.count, few_there self.machine machine here now new halt drives)
 
-pub show-requires : goal.show-requires
-show-requires g c = λ yes.
+pub see-requires : goal.see-requires
+see-requires g c =
     let header = c.args.header.now in
     let self = c.args.self in
     let r = record_meaning c.args.recorded.now in
@@ -108,7 +108,7 @@ returns-clause-judged g c =
     let fewer = no_fewer_there self.machine machine here now new halt drives in
     let first = told_meant ((c.count-count.result - c.count-before.result) + 1) c.tried-steps.result.now c.in_ok-list.list c.tried-steps.ensures ∙ ap (λ l. take ((c.count-count.result - c.count-before.result) + 1) l) (c.in_ok-list.ensures.steps kinds) in
     subst (λ judged. Judges (driven_judging W) header self r c.args.line judged now new) (sym c.judged_of.ensures)
-    (judges W g.W.Observer.looks g.met.W.Observer.blind header self r c.args.line now new (meanings c.tried-steps.result.now) next c.in_ok-observer.ensures front machine c.expand.ensures.same (c.in_ok-list.ensures.kept kinds)
+    (judges W header self r c.args.line now new (meanings c.tried-steps.result.now) next c.in_ok-observer.ensures front machine c.expand.ensures.same (c.in_ok-list.ensures.kept kinds)
     c.count-count.ensures.sound (c.count-count.result - c.count-before.result) first (omega (arith, c.count-before.ensures.count, counted, fewer)) halt c.in_ok-rejection.rejection drives
     (subst (λ n. rejection_on c.args.line n halt ≡ Ok c.in_ok-rejection.rejection) counted (sym c.in_ok-rejection.ensures)))
 

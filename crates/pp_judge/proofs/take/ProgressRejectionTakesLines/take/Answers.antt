@@ -1,10 +1,10 @@
-use Rattle.std.proofs.Common.{◌≡◌, ◌≤◌, ◌+◌, true, arith, rules, sym, subst}
+use Rattle.std.proofs.Common.{◌≡◌, ◌≤◌, ◌<◌, ◌+◌, true, arith, rules, sym, subst}
 use Rattle.std.proofs.lemmas.Result.{IfErr-weaker, IfOk-weaker}
 use Rattle.std.specs.Prelude.{IfErr, Some}
 use Rattle.pp_input.specs.Lines.{NumberedLine, blank}
 use Rattle.pp_input_reader.specs.Takers.{IfFault}
 use Rattle.pp_input_reader.proofs.Takers.{if_fault, if_ok_two}
-use Rattle.pp_judge.specs.Progresses.{CostsOn, HasFaultOn, IsNextLine, LeadsTo}
+use Rattle.pp_judge.specs.Progresses.{CostsOn, HasFaultOn, IsNextLine, LeadsTo, lines_of}
 use Rattle.pp_judge.proofs.Examining.{costs_on, leads_on, next_line, stops_on, takes_on}
 use Rattle.pp_judge.proofs.Taking.{blank_on, header_leads, header_on, still_cost}
 use Rattle.pp_judge.proofs.take.ProgressRejectionTakesLines.take.Goals as goal
@@ -15,7 +15,9 @@ pub with_blank-requires : goal.with_blank-requires
 with_blank-requires g c =
     let line : NumberedLine = (c.args.line.now.number, c.args.line.now.text) in
     let next = next_line g.J.Judge.judging c.requires.0 c.args.ticks.now c.args.self line c.requires.1 in
-    omega (arith, next.number, next.few)
+    let few : line.0 < 4_294_967_295 = next.next in
+    let below : lines_of c.args.self < 4_294_967_295 = omega (arith, next.number, few) in
+    below
 
 pub returns-then-is_blank-clause-ok : goal.returns-then-is_blank-clause-ok
 returns-then-is_blank-clause-ok g c =

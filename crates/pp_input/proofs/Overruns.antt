@@ -6,7 +6,7 @@ use Rattle.std.proofs.lemmas.List.{append-nil, length-append}
 use Rattle.std.proofs.lemmas.Bool.{leb-false}
 use Rattle.std.proofs.lemmas.Option.{same_Some}
 use Rattle.std.specs.Option.{option_or}
-use Rattle.pp_core.specs.declared.limits.TheConstants.{MOST_BYTES}
+use Rattle.pp_input.specs.declared.limits.Limits.{Limits}
 use Rattle.pp_input.specs.declared.reach.Reach.{Reach}
 use Rattle.pp_input.specs.declared.fault.LineFault.{LineFault}
 use Rattle.pp_input.specs.declared.fault.LineFault.TheVariants.{TooLong, TooManyLines, LineTooLong}
@@ -31,14 +31,14 @@ rest_append front (x ∷ xs) b =
     ]
 
 -- one byte further
-past_push : (front : List ℕ) (b : ℕ) → past (reach_of front) b ≡ reach_of (front ++ b ∷ [])
-past_push front b =
+past_push : (L : Limits) (front : List ℕ) (b : ℕ) → past (reach_of L front) b ≡ reach_of L (front ++ b ∷ [])
+past_push L front b =
     let lines : length (ended (front ++ b ∷ [])) ≡ length (ended front) + length (ended_behind (rest front) (b ∷ [])) = ap length (ended_append [] front (b ∷ [])) ∙ length-append (ended front) (ended_behind (rest front) (b ∷ [])) in
     let column : length (rest (front ++ b ∷ [])) ≡ length (rest_behind (rest front) (b ∷ [])) = ap length (rest_append [] front (b ∷ [])) in
     let bytes : length (front ++ b ∷ []) ≡ length front + 1 = length-append front (b ∷ []) in
     rw (lines, column, bytes) (
-    elim (b == 10) as (λ v. cond {A = Reach} v (record { bytes = length front + 1; lines = length (ended front) + 1; column = 0 }) (record { bytes = length front + 1; lines = length (ended front); column = length (rest front) + 1 })
-    ≡ record { bytes = length front + 1; lines = length (ended front) + length (cond v (rest front ∷ []) []); column = length (cond v [] (rest front ++ b ∷ [])) }) [
+    elim (b == 10) as (λ v. cond {A = Reach} v (record { limits = L; bytes = length front + 1; lines = length (ended front) + 1; column = 0 }) (record { limits = L; bytes = length front + 1; lines = length (ended front); column = length (rest front) + 1 })
+    ≡ record { limits = L; bytes = length front + 1; lines = length (ended front) + length (cond v (rest front ∷ []) []); column = length (cond v [] (rest front ++ b ∷ [])) }) [
       | true ↦ refl
       | false ↦
           let none : length (ended front) ≡ length (ended front) + 0 = omega arith in
@@ -47,35 +47,35 @@ past_push front b =
     ])
 
 -- how far the bytes reach is all that a limit looks at
-pub overrun_is : (front bytes : List ℕ) → overrun_from (reach_of front) bytes ≡ overrun_behind front bytes
-overrun_is front [] = refl
-overrun_is front (b ∷ bs) = ap (λ at. option_or (passed (reach_of front) b) (overrun_from at bs)) (past_push front b) ∙ ap (option_or (passed (reach_of front) b)) (overrun_is (front ++ b ∷ []) bs)
+pub overrun_is : (L : Limits) (front bytes : List ℕ) → overrun_from (reach_of L front) bytes ≡ overrun_behind L front bytes
+overrun_is L front [] = refl
+overrun_is L front (b ∷ bs) = ap (λ at. option_or (passed (reach_of L front) b) (overrun_from at bs)) (past_push L front b) ∙ ap (option_or (passed (reach_of L front) b)) (overrun_is L (front ++ b ∷ []) bs)
 
-pub reach_is : (front bytes : List ℕ) → reach_from (reach_of front) bytes ≡ reach_of (front ++ within_from (reach_of front) bytes)
-reach_is front [] = ap reach_of (sym (append-nil front))
-reach_is front (b ∷ bs) =
-    elim (is_some (passed (reach_of front) b)) as (λ v. cond {A = Reach} v (reach_of front) (reach_from (past (reach_of front) b) bs) ≡ reach_of (front ++ cond v [] (b ∷ within_from (past (reach_of front) b) bs))) [
-      | true ↦ ap reach_of (sym (append-nil front))
-      | false ↦ rw past_push (reach_is (front ++ b ∷ []) bs ∙ ap reach_of (append_assoc front (b ∷ []) (within_from (reach_of (front ++ b ∷ [])) bs)))
+pub reach_is : (L : Limits) (front bytes : List ℕ) → reach_from (reach_of L front) bytes ≡ reach_of L (front ++ within_from (reach_of L front) bytes)
+reach_is L front [] = ap (reach_of L) (sym (append-nil front))
+reach_is L front (b ∷ bs) =
+    elim (is_some (passed (reach_of L front) b)) as (λ v. cond {A = Reach} v (reach_of L front) (reach_from (past (reach_of L front) b) bs) ≡ reach_of L (front ++ cond v [] (b ∷ within_from (past (reach_of L front) b) bs))) [
+      | true ↦ ap (reach_of L) (sym (append-nil front))
+      | false ↦ rw (past_push L) (reach_is L (front ++ b ∷ []) bs ∙ ap (reach_of L) (append_assoc front (b ∷ []) (within_from (reach_of L (front ++ b ∷ [])) bs)))
     ]
 
 none_first : {A : Type 0} (o p : Option A) → option_or o p ≡ None → (o ≡ None) × (p ≡ None)
 none_first None p h = (refl, h)
 none_first (Some x) p h = absurd (cc)
 
-pub overrun_on : (front a b : List ℕ) → overrun_behind front a ≡ None → overrun_behind front (a ++ b) ≡ overrun_behind (front ++ a) b
-overrun_on front [] b none = ap (λ f. overrun_behind f b) (sym (append-nil front))
-overrun_on front (x ∷ xs) b none =
-    let first = none_first (passed (reach_of front) x) (overrun_behind (front ++ x ∷ []) xs) none in
-    rw first.0 (overrun_on (front ++ x ∷ []) xs b first.1 ∙ ap (λ f. overrun_behind f b) (append_assoc front (x ∷ []) xs))
+pub overrun_on : (L : Limits) (front a b : List ℕ) → overrun_behind L front a ≡ None → overrun_behind L front (a ++ b) ≡ overrun_behind L (front ++ a) b
+overrun_on L front [] b none = ap (λ f. overrun_behind L f b) (sym (append-nil front))
+overrun_on L front (x ∷ xs) b none =
+    let first = none_first (passed (reach_of L front) x) (overrun_behind L (front ++ x ∷ []) xs) none in
+    rw first.0 (overrun_on L (front ++ x ∷ []) xs b first.1 ∙ ap (λ f. overrun_behind L f b) (append_assoc front (x ∷ []) xs))
 
 or_same : (o p q : Option LineFault) (x : LineFault) → (p ≡ Some x → q ≡ Some x) → option_or o p ≡ Some x → option_or o q ≡ Some x
 or_same None p q x f h = f h
 or_same (Some y) p q x f h = h
 
-pub overrun_stays : (front a b : List ℕ) (fault : LineFault) → overrun_behind front a ≡ Some fault → overrun_behind front (a ++ b) ≡ Some fault
-overrun_stays front [] b fault h = absurd (cc)
-overrun_stays front (x ∷ xs) b fault h = or_same (passed (reach_of front) x) _ _ fault (overrun_stays (front ++ x ∷ []) xs b fault) h
+pub overrun_stays : (L : Limits) (front a b : List ℕ) (fault : LineFault) → overrun_behind L front a ≡ Some fault → overrun_behind L front (a ++ b) ≡ Some fault
+overrun_stays L front [] b fault h = absurd (cc)
+overrun_stays L front (x ∷ xs) b fault h = or_same (passed (reach_of L front) x) _ _ fault (overrun_stays L (front ++ x ∷ []) xs b fault) h
 
 pub within_on : (at : Reach) (a b : List ℕ) → overrun_from at a ≡ None → within_from at (a ++ b) ≡ a ++ within_from (reach_from at a) b
 within_on at [] b none = refl
@@ -117,39 +117,43 @@ line_is at (x ∷ xs) fault h =
     ] (line_in _ _ _ (at.lines + 1) fault) h
 
 -- what all bytes of an input are, in terms of the program's steps
-pub start_overrun : (bytes : List ℕ) → overrun_from start bytes ≡ overrun bytes
-start_overrun bytes = overrun_is [] bytes
+pub start_overrun : (L : Limits) (bytes : List ℕ) → overrun_from (start L) bytes ≡ overrun L bytes
+start_overrun L bytes = overrun_is L [] bytes
 
-pub start_reach : (bytes : List ℕ) → reach_from start bytes ≡ reach_of (within bytes)
-start_reach bytes = reach_is [] bytes
+pub start_reach : (L : Limits) (bytes : List ℕ) → reach_from (start L) bytes ≡ reach_of L (within L bytes)
+start_reach L bytes = reach_is L [] bytes
 
-pub within_all : (bytes : List ℕ) → overrun bytes ≡ None → within bytes ≡ bytes
-within_all bytes none = ap (within_from start) (sym (append-nil bytes)) ∙ within_on start bytes [] (start_overrun bytes ∙ none) ∙ append-nil bytes
+pub within_all : (L : Limits) (bytes : List ℕ) → overrun L bytes ≡ None → within L bytes ≡ bytes
+within_all L bytes none = ap (within_from (start L)) (sym (append-nil bytes)) ∙ within_on (start L) bytes [] (start_overrun L bytes ∙ none) ∙ append-nil bytes
 
-pub start_reach_all : (bytes : List ℕ) → overrun bytes ≡ None → reach_from start bytes ≡ reach_of bytes
-start_reach_all bytes none = start_reach bytes ∙ ap reach_of (within_all bytes none)
+pub start_reach_all : (L : Limits) (bytes : List ℕ) → overrun L bytes ≡ None → reach_from (start L) bytes ≡ reach_of L bytes
+start_reach_all L bytes none = start_reach L bytes ∙ ap (reach_of L) (within_all L bytes none)
 
-pub within_more : (bytes piece : List ℕ) → overrun bytes ≡ None → within (bytes ++ piece) ≡ bytes ++ within_from (reach_of bytes) piece
-within_more bytes piece none = within_on start bytes piece (start_overrun bytes ∙ none) ∙ ap (λ at. bytes ++ within_from at piece) (start_reach_all bytes none)
+pub within_more : (L : Limits) (bytes piece : List ℕ) → overrun L bytes ≡ None → within L (bytes ++ piece) ≡ bytes ++ within_from (reach_of L bytes) piece
+within_more L bytes piece none = within_on (start L) bytes piece (start_overrun L bytes ∙ none) ∙ ap (λ at. bytes ++ within_from at piece) (start_reach_all L bytes none)
 
 -- a piece that is fed behind bytes that pass no limit
-pub overrun_more : (bytes piece : List ℕ) → overrun bytes ≡ None → overrun_from (reach_of bytes) piece ≡ overrun (bytes ++ piece)
-overrun_more bytes piece none = overrun_is bytes piece ∙ sym (overrun_on [] bytes piece none)
+pub overrun_more : (L : Limits) (bytes piece : List ℕ) → overrun L bytes ≡ None → overrun_from (reach_of L bytes) piece ≡ overrun L (bytes ++ piece)
+overrun_more L bytes piece none = overrun_is L bytes piece ∙ sym (overrun_on L [] bytes piece none)
 
 not_first : {A : Type 0} (t : Bool) (x : A) (more : Option A) → cond t (Some x) more ≡ None → t ≡ false
 not_first true x more h = absurd (cc)
 not_first false x more h = refl
 
 past_bytes : (at : Reach) (b : ℕ) → (past at b).bytes ≡ at.bytes + 1
-past_bytes at b = elim (b == 10) as (λ v. (cond {A = Reach} v (record { bytes = at.bytes + 1; lines = at.lines + 1; column = 0 }) (record { bytes = at.bytes + 1; lines = at.lines; column = at.column + 1 })).bytes ≡ at.bytes + 1) [ true ↦ refl | false ↦ refl ]
+past_bytes at b = elim (b == 10) as (λ v. (cond {A = Reach} v (record { limits = at.limits; bytes = at.bytes + 1; lines = at.lines + 1; column = 0 }) (record { limits = at.limits; bytes = at.bytes + 1; lines = at.lines; column = at.column + 1 })).bytes ≡ at.bytes + 1) [ true ↦ refl | false ↦ refl ]
+
+past_limits : (at : Reach) (b : ℕ) → (past at b).limits ≡ at.limits
+past_limits at b = elim (b == 10) as (λ v. (cond {A = Reach} v (record { limits = at.limits; bytes = at.bytes + 1; lines = at.lines + 1; column = 0 }) (record { limits = at.limits; bytes = at.bytes + 1; lines = at.lines; column = at.column + 1 })).limits ≡ at.limits) [ true ↦ refl | false ↦ refl ]
 
 -- no more bytes than may be are taken
-pub bytes_bounded : (at : Reach) (bytes : List ℕ) → at.bytes ≤ MOST_BYTES → (reach_from at bytes).bytes ≤ MOST_BYTES
-bytes_bounded at [] le = le
-bytes_bounded at (b ∷ bs) le =
-    elim (passed at b) as (λ o. passed at b ≡ o → (cond {A = Reach} (is_some o) at (reach_from (past at b) bs)).bytes ≤ MOST_BYTES) [
+pub bytes_bounded : (most : ℕ) (at : Reach) (bytes : List ℕ) → at.limits.bytes ≡ most → at.bytes ≤ most → (reach_from at bytes).bytes ≤ most
+bytes_bounded most at [] is le = le
+bytes_bounded most at (b ∷ bs) is le =
+    elim (passed at b) as (λ o. passed at b ≡ o → (cond {A = Reach} (is_some o) at (reach_from (past at b) bs)).bytes ≤ most) [
       | None ↦ λ none.
-          let lt : at.bytes < MOST_BYTES = leb-false MOST_BYTES at.bytes (not_first _ _ _ none) in
-          bytes_bounded (past at b) bs (omega (arith, past_bytes at b))
+          let lt : at.bytes < at.limits.bytes = leb-false at.limits.bytes at.bytes (not_first _ _ _ none) in
+          let same : (past at b).limits.bytes ≡ most = ap (λ (l : Limits). l.bytes) (past_limits at b) ∙ is in
+          bytes_bounded most (past at b) bs same (omega (arith, past_bytes at b))
       | Some fault ↦ λ h. le
     ] refl

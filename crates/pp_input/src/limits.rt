@@ -1,0 +1,29 @@
+//! The limits of an input.
+ghost use Rattle.std.specs.Prelude.{◌≡◌};
+ghost use Rattle.pp_input.specs.Limits.{usual_limits};
+
+use pp_core::{LONGEST_LINE, MOST_BYTES, MOST_LINES};
+
+/// How much of an input is read. A command passes the limits of its inputs.
+#[derive(Clone, Copy, Debug, PartialEq, Eq)]
+pub struct Limits {
+    /// The most bytes. No input passes the limit `u64::MAX`.
+    pub bytes: u64,
+    /// The most lines: fewer than `u32::MAX`, so that the line after the last one has a number.
+    pub lines: u32,
+    /// The most bytes of a line, without its end. No line passes the limit `u64::MAX`.
+    pub line_bytes: u64,
+}
+
+impl Limits {
+    /// The usual limits: 268,435,456 bytes, 200,001 lines, and 65,536 bytes a line.
+    pub fn usual() -> Limits
+        ensures { result ≡ usual_limits }
+    {
+        Limits {
+            bytes: MOST_BYTES,
+            lines: MOST_LINES,
+            line_bytes: LONGEST_LINE,
+        }
+    }
+}
