@@ -1,12 +1,14 @@
 -- Proof machinery: where a machine stands that takes the steps of the records.
-use Rattle.std.specs.Prelude.{◌≡◌, ℕ, zero, suc, ◌+◌, ◌<◌, List, ◌++◌, slice_get, take, Option}
-use Rattle.std.specs.Prelude.{None, Some, Result, Ok, Err}
+use Rattle.std.specs.Prelude.{◌≡◌, ℕ, zero, suc, ◌+◌, ◌<◌, List, [], ◌∷◌, ◌++◌, slice_get, take}
+use Rattle.std.specs.Prelude.{Option, None, Some, Result, Ok, Err}
 use Rattle.pp_core.specs.declared.call.Kind.{Kind}
 use Rattle.pp_core.specs.declared.step.Rule.TheVariants as rules
 use Rattle.pp_core.specs.Steps.{Step, rule_of}
+use Rattle.pp_core.specs.declared.step.Step.{Step as StepOf}
 use Rattle.pp_records.specs.Fronts.{Front, new_front}
 use Rattle.pp_records.specs.Laws.{IsRejectedAt, StandsAt}
 use Rattle.pp_records.specs.Records.{RunRecord}
+use Rattle.pp_records.specs.Records as records
 use Rattle.pp_records.specs.Runs.{LinedSteps, Records, Standing, bare}
 use Rattle.pp_objects.specs.declared.act.Op.{Op}
 use Rattle.pp_objects.specs.Objects.{kinds_of, objects}
@@ -19,6 +21,7 @@ use Rattle.pp_machine.specs.Evidence.{Fits, evidence}
 use Rattle.pp_machine.specs.declared.machine.Outcome.{Outcome}
 use Rattle.pp_machine.specs.declared.machine.Outcome.TheVariants.{Done, False}
 use Rattle.pp_styles.specs.AnyFronts.{any_state, any_style}
+use Rattle.pp_styles.specs.Meanings.{meanings}
 use Rattle.pp_styles.specs.declared.any_front.AnyFront.{AnyFront}
 use Rattle.pp_styles.specs.declared.drive.Halt.{Halt}
 use Rattle.pp_styles.specs.declared.drive.Halt.TheVariants.{Failed, TooMany}
@@ -125,6 +128,26 @@ abbrev pub IsFirstFront : Header → AnyFront → Type 0
 IsFirstFront header front =
     let kinds = kinds_of header.catalog in
     (any_style front ≡ header.style) × (any_state kinds front ≡ new_front kinds)
+
+-- the step that a record is, if it is one
+abbrev pub own_step : RunRecord Op → List (Step Op)
+own_step (records.Plain step) = step ∷ []
+own_step (records.Op t id op) = []
+own_step (records.Commit t) = []
+own_step (records.Abort t) = []
+own_step (records.Retry t) = []
+own_step (records.Refresh t o) = []
+own_step (records.XBegin t) = []
+own_step (records.XEnd t) = []
+own_step (records.XAbort t) = []
+own_step (records.Depend t source) = []
+own_step (records.Publish t) = []
+own_step (records.DropSource t source) = []
+
+-- the steps of this list, if there is one, or else the record itself
+abbrev pub steps_given : RunRecord Op → Option (List (StepOf Op)) → List (Step Op)
+steps_given r None = own_step r
+steps_given r (Some list) = meanings list
 
 -- What a halt after so many steps of a run is, if the record on this line halts it: the rejection of
 -- the next step, or the fault that there are too many.

@@ -12,6 +12,7 @@ ghost use Rattle.pp_judge.specs.Running.{HasStarted, IsFirstFront, rejection_on}
 
 use crate::judge::{Judge, Judged};
 use crate::observer::Observer;
+use crate::record_steps::{make_steps, steps_of};
 use pp_core::{OutOfMemory, Rule, Step, Ticks};
 use pp_format_read::Header;
 use pp_input::Limits;
@@ -19,7 +20,7 @@ use pp_input_reader::{Cause, Stop};
 use pp_machine::{Detail, Machine, Outcome};
 use pp_objects::{Objects, Op};
 use pp_records::RunRecord;
-use pp_styles::{BoxedFront, Front, Halt, StepList, Tracked, do_steps};
+use pp_styles::{BoxedFront, Halt, Tracked, do_steps};
 use std::alloc::Global;
 use std::sync::ledger::Ledger;
 
@@ -124,11 +125,10 @@ fn rejection_on(
 }
 
 /// The steps of a record that were tried: those that were done, and the next one, if there is one.
-fn tried(list: &StepList<Op>, done: u32) -> &[Step<Op>]
+fn tried(steps: &[Step<Op>], done: u32) -> &[Step<Op>]
     requires { done ≤ MOST_STEPS }
-    ensures { result.now ≡ take (done + 1) list.now }
+    ensures { result.now ≡ take (done + 1) steps.now }
 {
-    let steps = list.as_slice();
     let count = done as usize + 1;
     if count <= steps.len() {
         &steps[..count]
@@ -219,12 +219,12 @@ impl<W: Observer> Judge for Driven<W> {
             observer,
         } = self;
         let before = machine.count();
-        let list = front.expand(recorded, &mut machine)?;
-        let (machine, halt) = do_steps(machine, list.as_slice(), ticks)?;
+        let made = make_steps(&mut front, recorded, &mut machine)?;
+        let steps = steps_of(recorded, &made);
+        let (machine, halt) = do_steps(machine, steps, ticks)?;
         let count = machine.count();
         let rejection = rejection_on(line, count, halt)?;
-        let steps = tried(&list, count - before);
-        let observer = observer.see(alloc, header, steps)?;
+        let observer = observer.see(alloc, header, tried(steps, count - before))?;
         Ok(judged_of(front, machine, observer, rejection))
     }
 

@@ -9,6 +9,7 @@ mod judge;
 mod law;
 mod observer;
 mod progress;
+mod record_steps;
 mod report;
 mod take;
 

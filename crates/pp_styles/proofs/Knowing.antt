@@ -23,14 +23,15 @@ use Rattle.pp_model.proofs.Logs.{found_tx, on_each}
 use Rattle.pp_model.proofs.Names.{eq-names, names-true, names_tell}
 use Rattle.pp_model.proofs.Push.{not_done}
 use Rattle.pp_model.proofs.Steps.{only_one, there_holds}
-use Rattle.pp_styles.specs.Knowing.{Forgets, ForgetsBefore, HasPushed, HasTaken, IsAfterPushed, IsAllBut}
-use Rattle.pp_styles.specs.Knowing.{IsTrueOf, IsUntaken, Knowledge, Lists, ListsAfter, ListsAll, Lowers}
-use Rattle.pp_styles.specs.Knowing.{PushesMore, TakesMore, ids_of, ids_on, last_of}
+use Rattle.pp_styles.specs.Knowing.{Forgets, ForgetsBefore, HasPushed, HasTaken, IsAllBut}
+use Rattle.pp_styles.specs.Knowing.{IsTrueOf, IsUntaken, Knowledge, Lists, ListsAfter, ListsAll}
+use Rattle.pp_styles.specs.Knowing.{PushesMore, TakesMore, ids_of, ids_on, last_of, local_place}
 use Rattle.pp_styles.proofs.Counts.{pushed_fewer, pushed_longer, pushed_marked, pushed_none, pushed_rest}
 use Rattle.pp_styles.proofs.Counts.{pushed_shorter, pushed_unmarked, pushed_without, taken_listed, taken_lower}
 use Rattle.pp_styles.proofs.Counts.{taken_none, taken_onward, taken_without}
 use Rattle.pp_styles.proofs.Ids.{in_drop_right, last_there, later_in, not_shorter, not_with, stands_marked}
 use Rattle.pp_styles.proofs.Ids.{unapplied_entry}
+use Rattle.pp_styles.proofs.Leaving.{IsAfterPushed, Lowers, after_pushed, lowers_pulled, lowers_to}
 
 -- ---- a transaction
 
@@ -346,11 +347,14 @@ module _ {Op : Type 0} (place : Op → ℕ) where
       stays (Push t id) meets new last f m = same new last f m ((then) c (Push t id)) (published t id (entry_of id Unpushed (tx t c.opened)))
       stays (Unpush t id) meets new last f m =
           let r = there_holds (tx t c.opened) _ meets in
-          same_last new last m ((then) c (Unpush t id)) (from_each new ((then) c (Unpush t id)) (low_listed new f.0) (unpublished t id new f.0 r.0 r.1 f.1))
+          let low = lowers_to t (local_place id (tx t c.opened)) k new f in
+          same_last new last m ((then) c (Unpush t id)) (from_each new ((then) c (Unpush t id)) (low_listed new low) (unpublished t id new low r.0 r.1 (after_pushed t id c k new f)))
       stays (Pull t id) meets new last f m = same new last f m ((then) c (Pull t id)) (pulled t id (of_other t id c.shared))
       stays (Unpull t id) meets new last f m =
           let r = there_holds (tx t c.opened) _ meets in
-          same_last new last m ((then) c (Unpull t id)) (from_each new ((then) c (Unpull t id)) (low_listed new f.0) (unpulled t id new f.0 r.0 r.1 f.1 f.2))
+          let low = lowers_pulled place c.shared t id k new f in
+          let less : new.pushed t ≡ k.pushed t - 1 = f.pushed t ∙ ap (λ (b : Bool). if b then k.pushed t - 1 else k.pushed t) (eq-names t t refl) in
+          same_last new last m ((then) c (Unpull t id)) (from_each new ((then) c (Unpull t id)) (low_listed new low) (unpulled t id new low r.0 r.1 (omega (arith, less)) f.untaken))
       stays (Cmt t) meets new last f m = committed t new f last (tx t c.opened) m
       stays (Quit t) meets new last f m =
           same_last new last m ((then) c (Quit t)) (from_each new ((then) c (Quit t)) (all_listed t new f) (fewer t new f))
@@ -362,9 +366,9 @@ module _ {Op : Type 0} (place : Op → ℕ) where
     waits (App t id op) done new last f m = same new last f m c h
     waits (Unapp t id) done new last f m = same new last f m c h
     waits (Push t id) done new last f m = same new last f m c h
-    waits (Unpush t id) done new last f m = same_last new last m c (lowers new f.0)
+    waits (Unpush t id) done new last f m = same_last new last m c (lowers new (lowers_to t (local_place id (tx t c.opened)) k new f))
     waits (Pull t id) done new last f m = same new last f m c h
-    waits (Unpull t id) done new last f m = same_last new last m c (lowers new f.0)
+    waits (Unpull t id) done new last f m = same_last new last m c (lowers new (lowers_pulled place c.shared t id k new f))
     waits (Cmt t) done new last f m =
         from_each last c (more_listed _ new last m c.done (all_listed t new f))
         (λ x i. holds_listed place c.done _ new last m x (holds_still place c.done t k new f h.listed x (by_each k c h x i)))

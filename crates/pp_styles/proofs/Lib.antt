@@ -11,11 +11,11 @@ pub mod Driven
 pub mod Arms
 pub mod Ids
 pub mod Counts
+pub mod Leaving
 pub mod Knowing
 pub mod Taking
 pub mod Noted
 pub mod Publishing
 pub mod Looking
-pub mod Leaving
 pub mod Dropping
 pub mod Tracking

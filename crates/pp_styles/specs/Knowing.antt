@@ -1,7 +1,7 @@
 -- Meaning: what is known of the open transactions of a machine, and when it is true.
 use Rattle.std.specs.Prelude.{◌≡◌, ◌⊎◌, ◌≤◌, ◌<◌, ◌==◌, ◌-◌, ℕ, true, false, List, []}
-use Rattle.std.specs.Prelude.{◌++◌, drop, length, map, filter, slice_get, Option, None, Some}
-use Rattle.std.specs.Prelude.{if◌then◌else◌}
+use Rattle.std.specs.Prelude.{◌++◌, drop, length, map, filter, min, slice_get, Option, None, Some}
+use Rattle.std.specs.Prelude.{if◌then◌else◌, position}
 use Rattle.std.specs.List.{Contains}
 use Rattle.pp_core.specs.Steps.{Step, Begin, App, Unapp, Push, Unpush, Pull, Unpull, Cmt, Quit, Note}
 use Rattle.pp_core.specs.declared.entry.CommittedTx.{CommittedTx}
@@ -54,16 +54,34 @@ pub record Forgets (t : Name) (old new : Knowledge) : Type 0 where
   pub taken : (u : Name) (o : ℕ) → new.taken u o ≡ (if u =ⁿ t then 0 else old.taken u o)
   pub pushed : (u : Name) → new.pushed u ≡ (if u =ⁿ t then 0 else old.pushed u)
 
--- no number is higher than before
-pub record Lowers (old new : Knowledge) : Type 0 where
+-- of a transaction at most so many entries are known not to be unpushed; nothing else changes
+pub record LowersPushed (t : Name) (most : ℕ) (old new : Knowledge) : Type 0 where
   pub ids : (o : ℕ) → new.ids o ≡ old.ids o
-  pub taken : (u : Name) (o : ℕ) → new.taken u o ≤ old.taken u o
-  pub pushed : (u : Name) → new.pushed u ≤ old.pushed u
+  pub taken : (u : Name) (o : ℕ) → new.taken u o ≡ old.taken u o
+  pub pushed : (u : Name) →
+      new.pushed u ≡ (if u =ⁿ t then min (old.pushed u) most else old.pushed u)
 
--- none of the entries of a transaction that are known not to be unpushed has this id
-abbrev pub IsAfterPushed : {Op : Type 0} → Config Op → Name → ℕ → Knowledge → Type 0
-IsAfterPushed {Op} c t id k = (x : Tx Op) → tx t c.opened ≡ Some x → (i : ℕ) (e : LocalEntry Op) →
-    i < k.pushed t → slice_get x.local i ≡ Some e → (e.id == id) ≡ false
+-- the same, if there is such a number; else nothing changes
+abbrev pub LowersTo : Name → Option ℕ → Knowledge → Knowledge → Type 0
+LowersTo t None old new = new ≡ old
+LowersTo t (Some most) old new = LowersPushed t most old new
+
+-- the position of the entry of an id in the local log of a transaction that may be open
+abbrev pub local_place : {Op : Type 0} → ℕ → Option (Tx Op) → Option ℕ
+local_place id None = None
+local_place id (Some x) = position (λ e. e.id == id) x.local
+
+-- A number of ids of one transaction and object may be lower than before. Nothing else changes.
+pub record LowersTaken (t : Name) (object : ℕ) (old new : Knowledge) : Type 0 where
+  pub ids : (o : ℕ) → new.ids o ≡ old.ids o
+  pub taken : (u : Name) (o : ℕ) → (new.taken u o ≡ old.taken u o)
+      ⊎ (((u =ⁿ t) ≡ true) × (o ≡ object) × (new.taken u o ≤ old.taken u o))
+  pub pushed : (u : Name) → new.pushed u ≡ old.pushed u
+
+-- a committed entry of this id is on the object
+abbrev pub IsCommittedOn : {Op : Type 0} → (Op → ℕ) → List (SharedEntry Op) → ℕ → ℕ → Type 0
+IsCommittedOn {Op} place G id o =
+    (g : SharedEntry Op) × In g G × (g.id ≡ id) × (g.committed ≡ true) × (place g.op ≡ o)
 
 -- If an entry of this id is committed, a transaction is to look at its id again.
 abbrev pub IsUntaken : {Op : Type 0} → (Op → ℕ) → List (SharedEntry Op) → Name → ℕ → Knowledge →
@@ -71,18 +89,30 @@ abbrev pub IsUntaken : {Op : Type 0} → (Op → ℕ) → List (SharedEntry Op) 
 IsUntaken {Op} place G t id k = (g : SharedEntry Op) → In g G → g.id ≡ id → g.committed ≡ true →
     (k.taken t (place g.op) ≡ 0) ⊎ In id (drop (k.taken t (place g.op)) (k.ids (place g.op)))
 
+-- Before an UNPULL, of its transaction one entry less is known not to be unpushed. If its entry is
+-- committed, the number of ids on that object may be lower, so that the id is looked at again. All
+-- other numbers are as before.
+pub record ForgetsPulled {Op : Type 0} (place : Op → ℕ) (G : List (SharedEntry Op)) (t : Name)
+    (id : ℕ) (old new : Knowledge) : Type 0 where
+  pub ids : (o : ℕ) → new.ids o ≡ old.ids o
+  pub taken : (u : Name) (o : ℕ) → (new.taken u o ≡ old.taken u o)
+      ⊎ (((u =ⁿ t) ≡ true) × IsCommittedOn place G id o × (new.taken u o ≤ old.taken u o))
+  pub pushed : (u : Name) →
+      new.pushed u ≡ (if u =ⁿ t then old.pushed u - 1 else old.pushed u)
+  pub untaken : IsUntaken place G t id new
+
 -- What is forgotten before a step: what is known of a transaction that begins or ends; before an
--- UNPUSH, that its entry is not unpushed; and before an UNPULL, that its entry is there.
+-- UNPUSH, that its entry and those after it are not unpushed; and before an UNPULL, that its entry is
+-- there.
 abbrev pub ForgetsBefore : {Op : Type 0} → (Op → ℕ) → Step Op → Config Op → Knowledge →
     Knowledge → Type 0
 ForgetsBefore place (Begin t p b) c old new = Forgets t old new
 ForgetsBefore place (App t id op) c old new = new ≡ old
 ForgetsBefore place (Unapp t id) c old new = new ≡ old
 ForgetsBefore place (Push t id) c old new = new ≡ old
-ForgetsBefore place (Unpush t id) c old new = Lowers old new × IsAfterPushed c t id new
+ForgetsBefore place (Unpush t id) c old new = LowersTo t (local_place id (tx t c.opened)) old new
 ForgetsBefore place (Pull t id) c old new = new ≡ old
-ForgetsBefore place (Unpull t id) c old new =
-    Lowers old new × (new.pushed t ≤ old.pushed t - 1) × IsUntaken place c.shared t id new
+ForgetsBefore place (Unpull t id) c old new = ForgetsPulled place c.shared t id old new
 ForgetsBefore place (Cmt t) c old new = Forgets t old new
 ForgetsBefore place (Quit t) c old new = Forgets t old new
 ForgetsBefore place (Note t) c old new = new ≡ old
@@ -133,6 +163,19 @@ pub record SetsTaken (t : Name) (object count : ℕ) (old new : Knowledge) : Typ
   pub pushed : (u : Name) → new.pushed u ≡ old.pushed u
   pub taken : (u : Name) (o : ℕ) → (new.taken u o ≡ 0) ⊎ (new.taken u o ≡ old.taken u o)
       ⊎ (((u =ⁿ t) ≡ true) × (o ≡ object) × (new.taken u o ≡ count))
+
+-- the count of ids of a transaction and an object is as it was, or this one; nothing else changes
+pub record ReplacesTaken (t : Name) (object count : ℕ) (old new : Knowledge) : Type 0 where
+  pub ids : (o : ℕ) → new.ids o ≡ old.ids o
+  pub pushed : (u : Name) → new.pushed u ≡ old.pushed u
+  pub taken : (u : Name) (o : ℕ) → (new.taken u o ≡ old.taken u o)
+      ⊎ (((u =ⁿ t) ≡ true) × (o ≡ object) × (new.taken u o ≡ count))
+
+-- the count of entries of a transaction is this one; nothing else changes
+pub record SetsPushed (t : Name) (count : ℕ) (old new : Knowledge) : Type 0 where
+  pub ids : (o : ℕ) → new.ids o ≡ old.ids o
+  pub taken : (u : Name) (o : ℕ) → new.taken u o ≡ old.taken u o
+  pub pushed : (u : Name) → new.pushed u ≡ (if u =ⁿ t then count else old.pushed u)
 
 -- Each count of ids is none, or as it was, or it is of a transaction with this local log, which has
 -- what is counted more.

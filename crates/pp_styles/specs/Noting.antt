@@ -20,11 +20,11 @@ kept_counts (Some counts) = counts
 abbrev pub ids_in : ℕ → List (ℕ × List ℕ) → List ℕ
 ids_in o committed = kept_ids (lookup (nat_eq o) committed)
 
--- how many of them a transaction is known to have
+-- how many of them, from the first on, a transaction need not look at again
 abbrev pub taken_in : Name → List (Name × List (ℕ × ℕ)) → ℕ → ℕ
 taken_in t taken o = count_of (kept_counts (lookup (bytes_eq t) taken)) o
 
--- how many entries of its local log are known not to be unpushed
+-- how many entries of its local log, from the first on, are known not to be unpushed
 abbrev pub pushed_in : Name → List (Name × ℕ) → ℕ
 pushed_in t pushed = kept_count (lookup (bytes_eq t) pushed)
 

@@ -8,7 +8,7 @@ ghost use Rattle.pp_model.specs.Config.{is_mark};
 ghost use Rattle.pp_styles.specs.Knowing.{ids_on};
 ghost use Rattle.pp_styles.specs.Noting.{at_object, ids_in};
 
-use crate::places::{Places, place_in};
+use crate::places::{Places, add_places, place_in};
 use crate::taken::Taken;
 use crate::walks::is_mark;
 use indexmap::IndexMap;
@@ -25,7 +25,10 @@ type CommittedIds = IndexMap<u16, Sequence<u32>>;
 pub struct Notes {
     alloc: Global,
     committed: CommittedIds,
+    /// The positions of ids in these lists. They are kept only once a note is lowered.
     places: Places,
+    /// For an object: of so many of its ids, from the first on, the positions are kept.
+    placed: Taken,
     /// For an open transaction and an object: so many of the committed entries on the object, from
     /// the first on, are in its local log, or are listed again after these.
     taken: IndexMap<Name, Taken>,
@@ -38,7 +41,6 @@ pub struct Notes {
 fn add_id(
     alloc: Global,
     committed: &mut CommittedIds,
-    places: &mut Places,
     object: u16,
     id: u32,
 ) -> Result<(), OutOfMemory>
@@ -50,7 +52,6 @@ fn add_id(
         Some(ids) => ids,
         None => Sequence::new(alloc),
     };
-    places.insert(id, ids.len())?;
     ids.push(id)?;
     committed.insert(object, ids)?;
     Ok(())
@@ -60,14 +61,13 @@ fn add_id(
 fn add_ids<S: Parted>(
     alloc: Global,
     committed: &mut CommittedIds,
-    places: &mut Places,
     items: &[Item<S::Op>],
 ) -> Result<(), OutOfMemory>
     ensures { OnOk result ((o : ℕ) → ids_in o committed.new.entries
         ≡ ids_in o committed.old.entries ++ ids_on S.place_of o items.now) }
 {
     for item in items {
-        add_id(alloc, committed, places, S::place(&item.op), item.id)?;
+        add_id(alloc, committed, S::place(&item.op), item.id)?;
     }
     Ok(())
 }
@@ -102,10 +102,10 @@ fn first_unpushed<S: Parted>(local: &Local<S>, from: usize) -> usize
 }
 
 impl Notes {
-    ghost use Rattle.std.specs.Prelude.{◌≡◌, ◌⊎◌, ◌≤◌, ℕ, OnOk, Some, drop, slice_get};
+    ghost use Rattle.std.specs.Prelude.{◌≡◌, ◌⊎◌, ◌<◌, OnOk, Some, drop, slice_get};
     ghost use Rattle.pp_model.specs.Lists.{In};
-    ghost use Rattle.pp_model.specs.Names.{Name as NameOf};
-    ghost use Rattle.pp_styles.specs.Knowing.{IsBlank, Forgets, Lists, ListsAll, Lowers, PushesMore};
+    ghost use Rattle.pp_styles.specs.Knowing.{IsBlank, Forgets, Lists, ListsAll, LowersPushed};
+    ghost use Rattle.pp_styles.specs.Knowing.{LowersTaken, PushesMore, ReplacesTaken, SetsPushed};
     ghost use Rattle.pp_styles.specs.Knowing.{SetsTaken, TakesMore, ids_of, last_of};
     ghost use Rattle.pp_styles.specs.Noting.{ids_in, known, pushed_in, taken_in};
 
@@ -117,6 +117,7 @@ impl Notes {
             alloc,
             committed: IndexMap::new(alloc),
             places: Places::new(alloc),
+            placed: Taken::new(alloc),
             taken: IndexMap::new(alloc),
             pushed: IndexMap::new(alloc),
         }
@@ -134,12 +135,7 @@ impl Notes {
         let Some(last) = committed.get(at) else {
             return Ok(());
         };
-        add_ids::<S>(
-            self.alloc,
-            &mut self.committed,
-            &mut self.places,
-            last.entries.as_slice(),
-        )
+        add_ids::<S>(self.alloc, &mut self.committed, last.entries.as_slice())
     }
 
     /// Notes what each of the committed transactions committed.
@@ -148,12 +144,7 @@ impl Notes {
         ensures { OnOk result (ListsAll S.place_of committed.now (known self.new)) }
     {
         for done in committed.as_slice() {
-            add_ids::<S>(
-                self.alloc,
-                &mut self.committed,
-                &mut self.places,
-                done.entries.as_slice(),
-            )?;
+            add_ids::<S>(self.alloc, &mut self.committed, done.entries.as_slice())?;
         }
         Ok(())
     }
@@ -166,7 +157,7 @@ impl Notes {
         self.pushed.swap_remove(tx);
     }
 
-    /// How many of the committed entries on an object are known to be in the local log.
+    /// How many of the committed ids on an object, from the first on, need no further look.
     fn taken(&self, tx: &Name, object: u16) -> usize
         ensures { result ≡ taken_in tx.now self.now.taken.entries object }
     {
@@ -176,14 +167,15 @@ impl Notes {
         taken.count(object)
     }
 
-    /// How many entries of the local log are known not to be unpushed.
+    /// How many entries of the local log, from the first on, are known not to be unpushed.
     pub fn pushed(&self, tx: &Name) -> usize
         ensures { result ≡ pushed_in tx.now self.now.pushed.entries }
     {
         self.pushed.get(tx).copied().unwrap_or(0)
     }
 
-    /// The ids of the committed entries on an object that are not known to be in the local log.
+    /// The committed ids on an object that need a look. Each one that is missing in the local log is
+    /// among these.
     pub fn unknown(&self, tx: &Name, object: u16) -> &[u32]
         ensures { result.now ≡ drop (taken_in tx.now self.now.taken.entries object)
             (ids_in object self.now.committed.entries) }
@@ -196,8 +188,8 @@ impl Notes {
         &ids[from..]
     }
 
-    /// Notes that so many of the committed entries on an object are in the local log. Without
-    /// memory nothing is known of the transaction.
+    /// Notes that so many of the committed ids on an object, from the first on, need no further
+    /// look. Without memory nothing is known of the transaction.
     fn note_taken(&mut self, tx: &Name, object: u16, count: usize)
         ensures { SetsTaken tx.now object count (known self.old) (known self.new) }
     {
@@ -209,10 +201,23 @@ impl Notes {
         let _ = self.taken.insert(*tx, taken);
     }
 
-    /// The position of an id among the committed ids of an object, if it is known, and else 0.
+    /// Keeps the positions of the committed ids on an object. Without memory some are not kept.
+    fn keep_places(&mut self, object: u16)
+        ensures { known self.new ≡ known self.old }
+    {
+        let Some(ids) = self.committed.get(&object) else {
+            return;
+        };
+        let from = self.placed.count(object);
+        if add_places(&mut self.places, ids.as_slice(), from).is_ok() {
+            self.placed.set(object, ids.len());
+        }
+    }
+
+    /// The position of an id among the committed ids of an object, if it is kept, and else 0.
     fn place_of(&self, object: u16, id: u32) -> usize
         ensures { (result ≡ 0)
-            ⊎ (slice_get (ids_in object self.now.committed.entries) result ≡ Some id) }
+            ⊎ (slice_get ((known self.now).ids object) result ≡ Some id) }
     {
         let Some(ids) = self.committed.get(&object) else {
             return 0;
@@ -220,51 +225,58 @@ impl Notes {
         place_in(&self.places, ids.as_slice(), id)
     }
 
-    /// Notes another number of committed entries on an object, if any is noted of the transaction.
-    /// Without memory nothing is known of it.
+    /// Notes another number of committed ids on an object, if one is noted there.
     fn replace_taken(&mut self, tx: &Name, object: u16, count: usize)
-        ensures each { SetsTaken tx.now object count (known self.old) (known self.new) }
+        ensures each { ReplacesTaken tx.now object count (known self.old) (known self.new) }
         ensures here { ((known self.new).taken tx.now object ≡ 0)
             ⊎ ((known self.new).taken tx.now object ≡ count) }
     {
-        let Some(mut taken) = self.taken.swap_remove(tx) else {
-            return;
-        };
-        taken.forget(object);
-        taken.set(object, count);
-        let _ = self.taken.insert(*tx, taken);
+        if let Some(taken) = self.taken.get_mut(tx) {
+            taken.replace(object, count);
+        }
     }
 
-    /// Takes back that a committed entry on an object is in the local log of a transaction.
+    /// Notes that the id of a committed entry on an object needs a look again, before the entry
+    /// leaves the local log of a transaction.
     pub fn give_back(&mut self, tx: &Name, object: u16, id: u32)
-        ensures lowers { Lowers (known self.old) (known self.new) }
-        ensures pushed { (known self.new).pushed tx.now ≡ (known self.old).pushed tx.now }
+        ensures lowers { LowersTaken tx.now object (known self.old) (known self.new) }
         ensures again { ((known self.new).taken tx.now object ≡ 0)
             ⊎ In id (drop ((known self.new).taken tx.now object) ((known self.new).ids object)) }
     {
+        let taken = self.taken(tx, object);
+        if taken == 0 {
+            return;
+        }
+        self.keep_places(object);
         let at = self.place_of(object, id);
-        if at >= self.taken(tx, object) {
+        if at >= taken {
             return;
         }
         self.replace_taken(tx, object, at);
     }
 
-    /// Takes back that entries of a local log from a position on are not unpushed.
+    /// Notes that the entries of a local log from a position on need a look again: one of them may
+    /// become unpushed.
     pub fn lower_pushed(&mut self, tx: &Name, most: usize)
-        ensures lowers { Lowers (known self.old) (known self.new) }
-        ensures taken { (u : NameOf) (o : ℕ) → (known self.new).taken u o
-            ≡ (known self.old).taken u o }
-        ensures most { (known self.new).pushed tx.now ≤ most }
+        ensures { LowersPushed tx.now most (known self.old) (known self.new) }
     {
-        if self.pushed(tx) <= most {
-            return;
+        if self.pushed(tx) > most {
+            self.replace_pushed(tx, most);
         }
-        self.pushed.swap_remove(tx);
-        let _ = self.pushed.insert(*tx, most);
     }
 
-    /// Looks which of the committed entries on an object are in the local log, from those on of
-    /// which it is known.
+    /// Notes another number of entries of a local log, if one is noted.
+    fn replace_pushed(&mut self, tx: &Name, count: usize)
+        requires { 0 < (known self.old).pushed tx.now }
+        ensures { SetsPushed tx.now count (known self.old) (known self.new) }
+    {
+        if let Some(kept) = self.pushed.get_mut(tx) {
+            *kept = count;
+        }
+    }
+
+    /// Passes the committed ids on an object up to the first that is not in the local log. It begins
+    /// at the first that needs a look.
     pub fn look_at_taken<S: Parted>(&mut self, tx: &Name, object: u16, local: &Local<S>)
         ensures { TakesMore tx.now local.now.1 (known self.old) (known self.new) }
     {
@@ -278,7 +290,8 @@ impl Notes {
         }
     }
 
-    /// Looks how many entries of the local log are not unpushed, from those on of which it is known.
+    /// Passes the entries of the local log up to the first that is own and unpushed. It begins at
+    /// the first that needs a look.
     pub fn look_at_pushed<S: Parted>(&mut self, tx: &Name, local: &Local<S>)
         ensures { PushesMore tx.now local.now.1 (known self.old) (known self.new) }
     {

@@ -1,4 +1,4 @@
-//! How many of the committed entries on each object a transaction is known to have.
+//! For each object a number of its ids, from the first on.
 ghost use Rattle.std.specs.Prelude.{◌≡◌, ◌⊎◌, ◌==◌, ℕ, [], if◌then◌else◌};
 ghost use Rattle.pp_styles.specs.Counting.{count_of};
 
@@ -6,8 +6,8 @@ use indexmap::IndexMap;
 use std::alloc::Global;
 use std::marker::Model;
 
-/// For objects, a number of entries. It is 0 where none is kept. Contracts see the objects, each
-/// with its number.
+/// For objects, a number of ids. It is 0 if none is kept. Contracts see the objects, each with its
+/// number.
 #[derive(Drop)]
 pub struct Taken {
     counts: IndexMap<u16, usize>,
@@ -36,6 +36,17 @@ impl Taken {
         ensures { result ≡ count_of self.now object }
     {
         self.counts.get(&object).copied().unwrap_or(0)
+    }
+
+    /// Keeps a number in place of another, if one is kept at the object.
+    pub fn replace(&mut self, object: u16, count: usize)
+        ensures each { (o : ℕ) → (count_of self.new o ≡ count_of self.old o)
+            ⊎ ((o ≡ object) × (count_of self.new o ≡ count)) }
+        ensures here { (count_of self.new object ≡ 0) ⊎ (count_of self.new object ≡ count) }
+    {
+        if let Some(kept) = self.counts.get_mut(&object) {
+            *kept = count;
+        }
     }
 
     /// Keeps none at an object.

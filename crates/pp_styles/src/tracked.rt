@@ -73,6 +73,7 @@ fn entry_of<S: Parted>(shared: &Shared<S>, id: u32) -> Option<&SharedEntry<S::Op
     ensures some { IfSome result (λ e. (g : EntryOf S.Op) → In g shared.now.1 → g.id ≡ id →
         g ≡ e.now) }
     ensures none { IfNone result ((g : EntryOf S.Op) → In g shared.now.1 → g.id ≡ id → ⊥) }
+    ensures there { IfSome result (λ e. In e.now shared.now.1 × (e.now.id ≡ id)) }
 {
     // It stands here for what its clauses say of each log.
     let _distinct = shared.len();

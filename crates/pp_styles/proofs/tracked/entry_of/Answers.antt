@@ -1,6 +1,6 @@
 use Rattle.std.proofs.Common.{◌==◌, sym}
 use Rattle.pp_model.proofs.Finding.{place_there}
-use Rattle.pp_styles.proofs.Leaving.{if_none, none_of_id, one_of_id}
+use Rattle.pp_styles.proofs.Leaving.{if_none, is_of_id, none_of_id, one_of_id}
 use Rattle.pp_styles.proofs.tracked.entry_of.Goals as goal
 
 pub returns-in_err-at-clause-none : goal.returns-in_err-at-clause-none
@@ -13,3 +13,7 @@ returns-in_err-entry-clause-none g c = if_none c.from_residual-in_err-entry.resu
 pub returns-clause-some : goal.returns-clause-some
 returns-clause-some g c =
     one_of_id c.args.shared.now.1 c.len-distinct.ensures.distinct c.args.id c.in_ok-at.at c.in_ok-entry.entry.now (sym c.in_ok-at.ensures) (sym c.in_ok-entry.ensures)
+
+pub returns-clause-there : goal.returns-clause-there
+returns-clause-there g c =
+    is_of_id c.args.shared.now.1 c.args.id c.in_ok-at.at c.in_ok-entry.entry.now (sym c.in_ok-at.ensures) (sym c.in_ok-entry.ensures)

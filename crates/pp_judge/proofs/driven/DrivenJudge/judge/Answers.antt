@@ -23,19 +23,19 @@ use Rattle.pp_judge.proofs.driven.DrivenJudge.judge.Goals as goal
 
 -- ---- the steps of the record
 
-pub expand-requires : goal.expand-requires
-expand-requires g c = subst (λ s. IsOfStyle s (record_meaning c.args.recorded.now)) (sym c.requires.good.2.0.style) c.requires.styled
+pub make_steps-requires : goal.make_steps-requires
+make_steps-requires g c = subst (λ s. IsOfStyle s (record_meaning c.args.recorded.now)) (sym c.requires.good.2.0.style) c.requires.styled
 
 pub do_steps-requires-clause-asked : goal.do_steps-requires-clause-asked
 do_steps-requires-clause-asked g c =
     let header = c.args.header.now in
     let self = c.args.self in
-    let list = meanings c.as_slice.result.now in
-    subst (λ m. (step : Step Op) → In step list → IsAsked objects m.shape step) (sym c.in_ok-list.ensures.machine)
-    (steps_asked header self.front self.machine (record_meaning c.args.recorded.now) list c.requires.good.2.0.shape c.requires.readable (ap meanings c.as_slice.ensures ∙ c.in_ok-list.ensures.steps (kinds_of header.catalog)))
+    let list = meanings c.steps_of-steps.result.now in
+    subst (λ m. (step : Step Op) → In step list → IsAsked objects m.shape step) (sym c.in_ok-made.ensures.machine)
+    (steps_asked header self.front self.machine (record_meaning c.args.recorded.now) list c.requires.good.2.0.shape c.requires.readable (c.steps_of-steps.ensures ∙ c.in_ok-made.ensures.steps (kinds_of header.catalog)))
 
 pub do_steps-requires-clause-few : goal.do_steps-requires-clause-few
-do_steps-requires-clause-few g c = subst (λ m. m.count ≤ MOST_STEPS) (sym c.in_ok-list.ensures.machine) c.requires.good.2.0.stands.few
+do_steps-requires-clause-few g c = subst (λ m. m.count ≤ MOST_STEPS) (sym c.in_ok-made.ensures.machine) c.requires.good.2.0.stands.few
 
 -- ---- what halted them
 
@@ -48,8 +48,8 @@ rejection_on-requires g c =
     let new = c.do_steps.new.ticks in
     let halt = c.in_ok-machine.halt in
     let machine = c.in_ok-machine.machine in
-    let same = ap meanings c.as_slice.ensures ∙ c.in_ok-list.ensures.steps (kinds_of header.catalog) in
-    let drives = subst (λ m. Drives objects m here now halt machine new) c.in_ok-list.ensures.machine (subst (λ w. Drives objects c.expand.new.machine w now halt machine new) same c.in_ok-machine.ensures.drives) in
+    let same = c.steps_of-steps.ensures ∙ c.in_ok-made.ensures.steps (kinds_of header.catalog) in
+    let drives = subst (λ m. Drives objects m here now halt machine new) c.in_ok-made.ensures.machine (subst (λ w. Drives objects c.make_steps.new.machine w now halt machine new) same c.in_ok-machine.ensures.drives) in
     subst (λ n. n ≤ MOST_STEPS) (sym c.count-count.ensures.count) (few_there self.machine machine here now new halt drives)
 
 pub overflow_sub-count : goal.overflow_sub-count
@@ -61,12 +61,12 @@ overflow_sub-count g c =
     let new = c.do_steps.new.ticks in
     let halt = c.in_ok-machine.halt in
     let machine = c.in_ok-machine.machine in
-    let same = ap meanings c.as_slice.ensures ∙ c.in_ok-list.ensures.steps (kinds_of header.catalog) in
-    let drives = subst (λ m. Drives objects m here now halt machine new) c.in_ok-list.ensures.machine (subst (λ w. Drives objects c.expand.new.machine w now halt machine new) same c.in_ok-machine.ensures.drives) in
+    let same = c.steps_of-steps.ensures ∙ c.in_ok-made.ensures.steps (kinds_of header.catalog) in
+    let drives = subst (λ m. Drives objects m here now halt machine new) c.in_ok-made.ensures.machine (subst (λ w. Drives objects c.make_steps.new.machine w now halt machine new) same c.in_ok-machine.ensures.drives) in
     omega (arith, c.count-before.ensures.count, c.count-count.ensures.count, no_fewer_there self.machine machine here now new halt drives)
 
-pub tried-steps-requires : goal.tried-steps-requires
-tried-steps-requires g c =
+pub tried-requires : goal.tried-requires
+tried-requires g c =
     let header = c.args.header.now in
     let self = c.args.self in
     let here = steps_here header self.front self.machine (record_meaning c.args.recorded.now) in
@@ -74,8 +74,8 @@ tried-steps-requires g c =
     let new = c.do_steps.new.ticks in
     let halt = c.in_ok-machine.halt in
     let machine = c.in_ok-machine.machine in
-    let same = ap meanings c.as_slice.ensures ∙ c.in_ok-list.ensures.steps (kinds_of header.catalog) in
-    let drives = subst (λ m. Drives objects m here now halt machine new) c.in_ok-list.ensures.machine (subst (λ w. Drives objects c.expand.new.machine w now halt machine new) same c.in_ok-machine.ensures.drives) in
+    let same = c.steps_of-steps.ensures ∙ c.in_ok-made.ensures.steps (kinds_of header.catalog) in
+    let drives = subst (λ m. Drives objects m here now halt machine new) c.in_ok-made.ensures.machine (subst (λ w. Drives objects c.make_steps.new.machine w now halt machine new) same c.in_ok-machine.ensures.drives) in
     omega (arith, c.count-count.ensures.count, few_there self.machine machine here now new halt drives)
 
 pub see-requires : goal.see-requires
@@ -83,8 +83,8 @@ see-requires g c =
     let header = c.args.header.now in
     let self = c.args.self in
     let r = record_meaning c.args.recorded.now in
-    each_told (IsWritable header.catalog) _ c.tried-steps.result.now c.in_ok-list.list c.tried-steps.ensures
-    (subst (Each (IsWritable header.catalog)) (sym (c.in_ok-list.ensures.steps (kinds_of header.catalog))) (record_written header self.front self.machine r c.requires.statable))
+    each_told (IsWritable header.catalog) _ c.tried.result.now c.steps_of-steps.result.now c.tried.ensures
+    (subst (Each (IsWritable header.catalog)) (sym (c.steps_of-steps.ensures ∙ c.in_ok-made.ensures.steps (kinds_of header.catalog))) (record_written header self.front self.machine r c.requires.statable))
 
 -- ---- how the run is judged
 
@@ -100,15 +100,15 @@ returns-clause-judged g c =
     let new = c.do_steps.new.ticks in
     let halt = c.in_ok-machine.halt in
     let machine = c.in_ok-machine.machine in
-    let front = c.expand.new.self in
+    let front = c.make_steps.new.front in
     let next = c.in_ok-observer.observer in
-    let same = ap meanings c.as_slice.ensures ∙ c.in_ok-list.ensures.steps kinds in
-    let drives = subst (λ m. Drives objects m here now halt machine new) c.in_ok-list.ensures.machine (subst (λ w. Drives objects c.expand.new.machine w now halt machine new) same c.in_ok-machine.ensures.drives) in
+    let same = c.steps_of-steps.ensures ∙ c.in_ok-made.ensures.steps kinds in
+    let drives = subst (λ m. Drives objects m here now halt machine new) c.in_ok-made.ensures.machine (subst (λ w. Drives objects c.make_steps.new.machine w now halt machine new) same c.in_ok-machine.ensures.drives) in
     let counted = c.count-count.ensures.count in
     let fewer = no_fewer_there self.machine machine here now new halt drives in
-    let first = told_meant ((c.count-count.result - c.count-before.result) + 1) c.tried-steps.result.now c.in_ok-list.list c.tried-steps.ensures ∙ ap (λ l. take ((c.count-count.result - c.count-before.result) + 1) l) (c.in_ok-list.ensures.steps kinds) in
+    let first = told_meant ((c.count-count.result - c.count-before.result) + 1) c.tried.result.now c.steps_of-steps.result.now c.tried.ensures ∙ ap (λ l. take ((c.count-count.result - c.count-before.result) + 1) l) same in
     subst (λ judged. Judges (driven_judging W) header self r c.args.line judged now new) (sym c.judged_of.ensures)
-    (judges W header self r c.args.line now new (meanings c.tried-steps.result.now) next c.in_ok-observer.ensures front machine c.expand.ensures.same (c.in_ok-list.ensures.kept kinds)
+    (judges W header self r c.args.line now new (meanings c.tried.result.now) next c.in_ok-observer.ensures front machine c.make_steps.ensures.same (c.in_ok-made.ensures.kept kinds)
     c.count-count.ensures.sound (c.count-count.result - c.count-before.result) first (omega (arith, c.count-before.ensures.count, counted, fewer)) halt c.in_ok-rejection.rejection drives
     (subst (λ n. rejection_on c.args.line n halt ≡ Ok c.in_ok-rejection.rejection) counted (sym c.in_ok-rejection.ensures)))
 
@@ -124,18 +124,18 @@ returns-in_err-rejection-clause-stop g c =
     let here = steps_here header self.front self.machine r in
     let now = c.args.ticks.now in
     let new = c.do_steps.new.ticks in
-    let same = ap meanings c.as_slice.ensures ∙ c.in_ok-list.ensures.steps kinds in
+    let same = c.steps_of-steps.ensures ∙ c.in_ok-made.ensures.steps kinds in
     let halt = c.in_ok-machine.halt in
     let machine = c.in_ok-machine.machine in
-    let drives = subst (λ m. Drives objects m here now halt machine new) c.in_ok-list.ensures.machine (subst (λ w. Drives objects c.expand.new.machine w now halt machine new) same c.in_ok-machine.ensures.drives) in
+    let drives = subst (λ m. Drives objects m here now halt machine new) c.in_ok-made.ensures.machine (subst (λ w. Drives objects c.make_steps.new.machine w now halt machine new) same c.in_ok-machine.ensures.drives) in
     let p = err_from_is_err_and c.from_residual-in_err-rejection.result c.from_residual-in_err-rejection.ensures.1 in
     rw (p.1, p.2) (stops_there W header self r c.args.line now new machine halt c.in_err-rejection.field-0.0 drives
     (subst (λ n. rejection_on c.args.line n halt ≡ Err c.in_err-rejection.field-0.0) c.count-count.ensures.count (sym c.in_err-rejection.ensures)))
 
 -- ---- what they cost
 
-pub returns-in_err-list-clause-most : goal.returns-in_err-list-clause-most
-returns-in_err-list-clause-most g c =
+pub returns-in_err-made-clause-most : goal.returns-in_err-made-clause-most
+returns-in_err-made-clause-most g c =
     let header = c.args.header.now in
     let self = c.args.self in
     let r = record_meaning c.args.recorded.now in
@@ -152,8 +152,8 @@ returns-in_err-machine-clause-most g c =
     let here = steps_here header self.front self.machine r in
     let now = c.args.ticks.now in
     let new = c.do_steps.new.ticks in
-    let same = ap meanings c.as_slice.ensures ∙ c.in_ok-list.ensures.steps kinds in
-    let cost = subst (λ m. CostAtMost objects place_of m here now new) c.in_ok-list.ensures.machine (subst (λ w. CostAtMost objects place_of c.expand.new.machine w now new) same c.do_steps.ensures.most) in
+    let same = c.steps_of-steps.ensures ∙ c.in_ok-made.ensures.steps kinds in
+    let cost = subst (λ m. CostAtMost objects place_of m here now new) c.in_ok-made.ensures.machine (subst (λ w. CostAtMost objects place_of c.make_steps.new.machine w now new) same c.do_steps.ensures.most) in
     judges_most W header self r c.args.line now new cost
 
 pub returns-in_err-rejection-clause-most : goal.returns-in_err-rejection-clause-most
@@ -166,8 +166,8 @@ returns-in_err-rejection-clause-most g c =
     let here = steps_here header self.front self.machine r in
     let now = c.args.ticks.now in
     let new = c.do_steps.new.ticks in
-    let same = ap meanings c.as_slice.ensures ∙ c.in_ok-list.ensures.steps kinds in
-    let cost = subst (λ m. CostAtMost objects place_of m here now new) c.in_ok-list.ensures.machine (subst (λ w. CostAtMost objects place_of c.expand.new.machine w now new) same c.do_steps.ensures.most) in
+    let same = c.steps_of-steps.ensures ∙ c.in_ok-made.ensures.steps kinds in
+    let cost = subst (λ m. CostAtMost objects place_of m here now new) c.in_ok-made.ensures.machine (subst (λ w. CostAtMost objects place_of c.make_steps.new.machine w now new) same c.do_steps.ensures.most) in
     judges_most W header self r c.args.line now new cost
 
 pub returns-in_err-observer-clause-most : goal.returns-in_err-observer-clause-most
@@ -180,8 +180,8 @@ returns-in_err-observer-clause-most g c =
     let here = steps_here header self.front self.machine r in
     let now = c.args.ticks.now in
     let new = c.do_steps.new.ticks in
-    let same = ap meanings c.as_slice.ensures ∙ c.in_ok-list.ensures.steps kinds in
-    let cost = subst (λ m. CostAtMost objects place_of m here now new) c.in_ok-list.ensures.machine (subst (λ w. CostAtMost objects place_of c.expand.new.machine w now new) same c.do_steps.ensures.most) in
+    let same = c.steps_of-steps.ensures ∙ c.in_ok-made.ensures.steps kinds in
+    let cost = subst (λ m. CostAtMost objects place_of m here now new) c.in_ok-made.ensures.machine (subst (λ w. CostAtMost objects place_of c.make_steps.new.machine w now new) same c.do_steps.ensures.most) in
     judges_most W header self r c.args.line now new cost
 
 pub returns-clause-most : goal.returns-clause-most
@@ -194,6 +194,6 @@ returns-clause-most g c =
     let here = steps_here header self.front self.machine r in
     let now = c.args.ticks.now in
     let new = c.do_steps.new.ticks in
-    let same = ap meanings c.as_slice.ensures ∙ c.in_ok-list.ensures.steps kinds in
-    let cost = subst (λ m. CostAtMost objects place_of m here now new) c.in_ok-list.ensures.machine (subst (λ w. CostAtMost objects place_of c.expand.new.machine w now new) same c.do_steps.ensures.most) in
+    let same = c.steps_of-steps.ensures ∙ c.in_ok-made.ensures.steps kinds in
+    let cost = subst (λ m. CostAtMost objects place_of m here now new) c.in_ok-made.ensures.machine (subst (λ w. CostAtMost objects place_of c.make_steps.new.machine w now new) same c.do_steps.ensures.most) in
     judges_most W header self r c.args.line now new cost
