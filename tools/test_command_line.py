@@ -11,7 +11,7 @@ import command_line
 from for_tests import EXAMPLES, PROGRAM, TOOLS, example, needs_program, pozhiqas, run_bytes
 from test_order import CYCLE, SKEW
 
-COMMANDS = ("certify", "quick", "expand", "views", "swaps", "recheck", "why", "order", "picture")
+COMMANDS = ("certify", "judge", "quick", "expand", "views", "swaps", "recheck", "why", "order", "picture")
 
 
 def path_of(name):
@@ -39,7 +39,8 @@ class Outputs(Temporary):
 
     def test_output_and_status_are_the_program_s(self):
         rows = [("certify", "accepted.jsonl"), ("certify", "rejected_race.jsonl"), ("certify", "fault.jsonl"),
-                ("quick", "boosted.jsonl"), ("expand", "rejected_optimistic.jsonl"), ("views", "zombie_read.jsonl"),
+                ("judge", "boosted.jsonl"), ("judge", "rejected_boosted_lock.jsonl"), ("quick", "boosted.jsonl"),
+                ("expand", "rejected_optimistic.jsonl"), ("views", "zombie_read.jsonl"),
                 ("swaps", "accepted.jsonl"), ("recheck", "certificate.jsonl"), ("recheck", "refused_certificate.jsonl")]
         for command, name in rows:
             with self.subTest(command, name=name):

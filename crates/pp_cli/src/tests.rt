@@ -189,6 +189,36 @@ fn a_boosted_run_may_have_more_steps_than_a_run_of_the_machine(
 }
 
 #[test]
+fn a_run_is_judged_however_many_steps_it_has(rt: HostRuntime) -> Result<(), Fail> {
+    let alloc = rt.alloc();
+    let input = bytes_of(alloc, TOO_MANY_STEPS)?;
+    let (status, report) = answered_bytes(alloc, b"judge", input, false)?;
+    let first = b"accepted steps 200001 committed 628\n".as_slice();
+    assert_eq!(rt; status, Status::Accepted);
+    assert_eq!(rt; report.as_slice().starts_with(first), true);
+    assert_eq!(rt;
+        report.as_slice().ends_with(b"state c 628\n".as_slice()),
+        true
+    );
+    Ok(())
+}
+
+/// A call of the open transaction after those many steps, with a result that is not right.
+const WRONG_RESULT: &[u8] =
+    br#"{"step":"op","tx":"t629","id":629,"on":"c","call":"get","args":[],"result":7}"#;
+
+#[test]
+fn a_rejected_step_may_come_after_many(rt: HostRuntime) -> Result<(), Fail> {
+    let alloc = rt.alloc();
+    let mut input = bytes_of(alloc, TOO_MANY_STEPS)?;
+    input.extend_from_slice(WRONG_RESULT)?;
+    let answer = answered_bytes(alloc, b"judge", input, false)?;
+    let report = b"rejected step 200630 line 2497 APP 4\nentry 629 gives 628\n";
+    assert_answer(&rt, "many steps", &answer, Status::Rejected, report);
+    Ok(())
+}
+
+#[test]
 fn peaks_may_be_too_many(rt: HostRuntime) -> Result<(), Fail> {
     let alloc = rt.alloc();
     let answer = answered_bytes(alloc, b"views", bytes_of(alloc, MANY_PEAKS)?, false)?;

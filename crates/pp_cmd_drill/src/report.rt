@@ -15,7 +15,7 @@ pub(crate) fn drill_report(
     alloc: Global,
     n: u32,
     catalog: &Catalog,
-    steps: u32,
+    steps: u64,
     committed: usize,
     states: &ObjectStates,
 ) -> Result<Text, OutOfMemory>

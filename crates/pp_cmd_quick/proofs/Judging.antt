@@ -19,11 +19,12 @@ use Rattle.pp_summary.specs.Sums.{AreTried, count_ops, is_op, records_most}
 use Rattle.pp_summary.proofs.Sums.{sum_law}
 use Rattle.pp_input_reader.specs.declared.cause.Cause.{Cause}
 use Rattle.pp_input_reader.specs.declared.cause.Cause.TheVariants.{NotBoosted}
-use Rattle.pp_judge.specs.Costs.{start_at_most}
+use Rattle.pp_judge.specs.Costs.{start_at_most, start_length}
 use Rattle.pp_judge.specs.Judging.{CostsAtMostThere, Judges, MayTake}
 use Rattle.pp_judge.specs.Objects.{object_of, start_of}
 use Rattle.pp_judge.specs.Tallies.{headed, one_more, scan_of}
 use Rattle.pp_judge.specs.declared.judge.Judged.TheVariants.{Good, Bad}
+use Rattle.pp_judge.proofs.Starting.{start_twice}
 use Rattle.pp_cmd_quick.specs.Costs.{OfTaken, RecordsCostAtMost, TakenCostAtLeast, first_brief, tried_most}
 use Rattle.pp_cmd_quick.specs.DeciderLaws.{Least, boosted_is}
 use Rattle.pp_cmd_quick.specs.Decisions.{is_boosted, quick_fault}
@@ -74,8 +75,11 @@ module _ (line : ℕ) (h : Header) where
     pub begun_bad : (quick : Held (List Kind) Op) → StartsQuick h false quick → quick_judging.IsBad (headed line h) [] (record { line = line })
     begun_bad quick s = (boosted_is h.style boosted, inl (s, refl))
 
-  pub begun_most : (old new : ℕ) → new ≤ old + start_at_most (start_of h) → RecordsCostAtMost (scan_of (headed line h) []) old new
-  begun_most old new cost tried k = subst (λ (l : List (RunRecord Op)). new ≤ old + tried_most h l) (sym k) (with_none old new (start_at_most (start_of h)) cost)
+  pub begun_twice : (old new : ℕ) → new ≤ old + start_at_most (start_of h) → RecordsCostAtMost (scan_of (headed line h) []) old new
+  begun_twice old new cost tried k = subst (λ (l : List (RunRecord Op)). new ≤ old + tried_most h l) (sym k) (with_none old new (start_at_most (start_of h)) cost)
+
+  pub begun_most : (old new : ℕ) → new ≤ old + start_length (start_of h) → RecordsCostAtMost (scan_of (headed line h) []) old new
+  begun_most old new cost = begun_twice old new (start_twice old new (start_of h) cost)
 
   pub begun_good_least : (old new : ℕ) → old ≤ new → quick_judging.GoodAtLeast (scan_of (headed line h) []) old new
   begun_good_least old new rises = no_ops old new rises

@@ -22,7 +22,7 @@ use Rattle.pp_objects.specs.declared.act.Op.{Op}
 use Rattle.pp_objects.specs.Objects.{kinds_of, objects, place_of}
 use Rattle.pp_summary.specs.Held.{Held, IsItemAsked, IsRecordAsked, IsStepAsked, Starts, held_first}
 use Rattle.pp_kind.specs.Object.{rules_of}
-use Rattle.pp_judge.specs.Costs.{start_at_most}
+use Rattle.pp_judge.specs.Costs.{start_length}
 use Rattle.pp_judge.specs.Objects.{object_of, start_of}
 use Rattle.pp_cmd_quick.specs.Taking.{StartsQuick}
 
@@ -58,9 +58,6 @@ pub asked_record : (catalog : Objects) (shape : List Kind) (r : RunRecord Op) �
 asked_record catalog shape r is h = subst (λ (k : List Kind). IsRecordAsked objects k r) (sym is) (asked catalog r h)
 
 -- ---- the start
-
-twice_as_many : (old new n : ℕ) → new ≤ old + n → new ≤ old + 2 * n
-twice_as_many old new n bound = omega (arith, bound)
 
 module _ (header : Header) (quick : Held (List Kind) Op) (new : quick ≡ held_first objects place_of (kinds_of header.catalog) None) where
   abbrev ks : List Kind
@@ -101,5 +98,5 @@ module _ (header : Header) (quick : Held (List Kind) Op) (new : quick ≡ held_f
   started_result z is r s = IfOk-weaker r _ _ (λ x k. some_started z is x.1 x.0 k) s
 
   -- and of what it costs
-  pub start_bound : (z : HeaderStart) → header.start ≡ Some z → (old now : ℕ) → now ≤ old + length z.ops → now ≤ old + start_at_most (start_of header)
-  start_bound z is old now bound = subst (λ (h : Option (Start Op)). now ≤ old + start_at_most h) (sym (one z is)) (twice_as_many old now (length z.ops) bound)
+  pub start_bound : (z : HeaderStart) → header.start ≡ Some z → (old now : ℕ) → now ≤ old + length z.ops → now ≤ old + start_length (start_of header)
+  start_bound z is old now bound = subst (λ (h : Option (Start Op)). now ≤ old + start_length h) (sym (one z is)) bound

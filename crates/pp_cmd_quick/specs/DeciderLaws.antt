@@ -44,29 +44,41 @@ boosted_is styles.Optimistic h = absurd (cc)
 boosted_is styles.Hardware h = absurd (cc)
 boosted_is styles.Dependent h = absurd (cc)
 
--- of the style it is that of the scan
+module _ (is_taken : Style → Bool) (cause : Cause) where
+  -- the fault of a scan
+  abbrev pub fault_of : InputScan → Option (ℕ × Cause)
+  fault_of sc = style_fault is_taken cause sc.header sc.fault
+
+  -- in a style that is taken it is that of the scan
+  pub taken_fault : (sc : InputScan) (h : Lined Header) → sc.header ≡ Some h →
+      is_taken h.what.style ≡ true → fault_of sc ≡ sc.fault
+  taken_fault sc h there is =
+      ap (λ (o : Option (Lined Header)). style_fault is_taken cause o sc.fault) there
+      ∙ ap (λ (b : Bool). cond b sc.fault (Some (h.line, cause))) is
+
+  -- it stays, whatever comes after
+  pub style_fault_stays : (sc wider : InputScan) (x : ℕ × Cause) → Widens sc wider →
+      fault_of sc ≡ Some x → fault_of wider ≡ Some x
+  style_fault_stays sc wider x w is = by sc.header refl is
+    where
+      styled : (b : Bool) (h : Lined Header) → cond b sc.fault (Some (h.line, cause)) ≡ Some x →
+          cond b wider.fault (Some (h.line, cause)) ≡ Some x
+      styled true h k = ap (λ (s : InputScan). s.fault) (w.fault x k) ∙ k
+      styled false h k = k
+
+      by : (o : Option (Lined Header)) → sc.header ≡ o →
+          style_fault is_taken cause o sc.fault ≡ Some x → fault_of wider ≡ Some x
+      by None none k = ap (λ (s : InputScan). fault_of s) (w.fault x k) ∙ is
+      by (Some h) there k =
+          ap (λ (o : Option (Lined Header)). style_fault is_taken cause o wider.fault)
+          (w.header h there)
+          ∙ styled (is_taken h.what.style) h k
+
+-- of a boosted run it is that of the scan
 pub boosted_fault : (sc : InputScan) (h : Lined Header) → sc.header ≡ Some h →
     h.what.style ≡ styles.Boosted → quick_fault sc ≡ sc.fault
 boosted_fault sc h there is =
-    ap (λ (o : Option (Lined Header)). style_fault o sc.fault) there
-    ∙ ap (λ (s : Style). cond (is_boosted s) sc.fault (Some (h.line, NotBoosted))) is
-
--- it stays, whatever comes behind
-pub fault_stays : (sc wider : InputScan) (x : ℕ × Cause) → Widens sc wider →
-    quick_fault sc ≡ Some x → quick_fault wider ≡ Some x
-fault_stays sc wider x w is = by sc.header refl is
-  where
-    styled : (b : Bool) (h : Lined Header) → cond b sc.fault (Some (h.line, NotBoosted)) ≡ Some x →
-        cond b wider.fault (Some (h.line, NotBoosted)) ≡ Some x
-    styled true h k = ap (λ (s : InputScan). s.fault) (w.fault x k) ∙ k
-    styled false h k = k
-
-    by : (o : Option (Lined Header)) → sc.header ≡ o → style_fault o sc.fault ≡ Some x →
-        quick_fault wider ≡ Some x
-    by None none k = ap (λ (s : InputScan). quick_fault s) (w.fault x k) ∙ is
-    by (Some h) there k =
-        ap (λ (o : Option (Lined Header)). style_fault o wider.fault) (w.header h there) ∙
-        styled (is_boosted h.what.style) h k
+    taken_fault is_boosted NotBoosted sc h there (ap (λ (s : Style). is_boosted s) is)
 
 from_none : (old new a : ℕ) → new ≤ old + 0 → new ≤ old + a
 from_none old new a x = omega (arith, x)
@@ -200,7 +212,7 @@ quick_laws = record {
       refl good.style;
   bad_fault = λ h rs failed fault bad. boosted_fault (record (scan_of h rs) { fault = fault }) h
       refl bad.0;
-  fault_stays = fault_stays;
+  fault_stays = style_fault_stays is_boosted NotBoosted;
   bad_stays = λ h rs more failed bad. (bad.0, fails_stay h rs more failed.line bad.1);
   first_most = same_count;
   most_widens = most_widens;

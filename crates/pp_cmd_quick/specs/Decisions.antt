@@ -34,16 +34,17 @@ is_boosted styles.Optimistic = false
 is_boosted styles.Hardware = false
 is_boosted styles.Dependent = false
 
--- where a header is of another style, this is the fault of its line
-abbrev pub style_fault : Option (Lined Header) → Option (ℕ × Cause) → Option (ℕ × Cause)
-style_fault None fault = fault
-style_fault (Some header) fault =
-    if is_boosted header.what.style then fault else Some (header.line, NotBoosted)
+-- if a header is of a style that is not taken, this cause is the fault of its line
+abbrev pub style_fault : (Style → Bool) → Cause → Option (Lined Header) → Option (ℕ × Cause) →
+    Option (ℕ × Cause)
+style_fault is_taken cause None fault = fault
+style_fault is_taken cause (Some header) fault =
+    if is_taken header.what.style then fault else Some (header.line, cause)
 
 -- The fault of an input: that its header is of another style, or the fault of its scan. There is no
 -- limit on steps. Of the early scan it is the early fault.
 abbrev pub quick_fault : InputScan → Option (ℕ × Cause)
-quick_fault sc = style_fault sc.header sc.fault
+quick_fault sc = style_fault is_boosted NotBoosted sc.header sc.fault
 
 -- what was read has no fault that no further byte can change
 abbrev pub QuickReadsNoFault : Option (List ℕ) → Option (List ℕ) → Type 0

@@ -1,7 +1,7 @@
 //! The summary of a boosted run, as its judge.
 ghost use Rattle.std.specs.Prelude.{◌≡◌, ◌≤◌, ◌+◌, IfOk};
 ghost use Rattle.pp_format_read.specs.Starts.{IsReadableStart};
-ghost use Rattle.pp_judge.specs.Costs.{start_at_most};
+ghost use Rattle.pp_judge.specs.Costs.{start_length};
 ghost use Rattle.pp_judge.specs.Objects.{start_of};
 ghost use Rattle.pp_cmd_quick.specs.Decisions.{is_boosted};
 ghost use Rattle.pp_cmd_quick.specs.Taking.{StartsQuick};
@@ -40,7 +40,7 @@ fn is_boosted(style: Style) -> bool
 }
 
 /// A summary with the start of a header, if it has one; with false the start fails.
-fn start_quick<L: Ledger>(
+pub fn start_quick<L: Ledger>(
     alloc: Global,
     header: &Header,
     ticks: &mut Ticks<L>,
@@ -48,7 +48,7 @@ fn start_quick<L: Ledger>(
     requires { IsReadableStart header.now.catalog header.now.start }
     ensures starts { IfOk result (λ r. StartsQuick header.now r.1 r.0) }
     ensures rises { ticks.old ≤ ticks.new }
-    ensures bound { ticks.new ≤ ticks.old + start_at_most (start_of header.now) }
+    ensures bound { ticks.new ≤ ticks.old + start_length (start_of header.now) }
 {
     let kinds = header.catalog.kinds(alloc)?;
     let quick: Quick<Objects> = Quick::new(alloc, kinds)?;

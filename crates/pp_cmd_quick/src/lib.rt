@@ -7,4 +7,5 @@ mod law;
 mod report;
 
 pub use command::quick;
+pub use decider::start_quick;
 pub use law::decision_law;

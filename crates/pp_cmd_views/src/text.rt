@@ -61,7 +61,7 @@ pub(crate) fn views_text(
     ensures { IfOk result (λ text. text ≡ views_text steps committed views.now) }
 {
     let mut text = Text::new(alloc);
-    write_first_line(&mut text, steps, committed)?;
+    write_first_line(&mut text, u64::from(steps), committed)?;
     write_views(&mut text, views.as_slice())?;
     Ok(text)
 }

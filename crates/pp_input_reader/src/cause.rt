@@ -50,6 +50,8 @@ pub enum Cause {
     TooManySteps,
     /// The run is not of the style that `quick` decides.
     NotBoosted,
+    /// The run is not of a style that `judge` judges.
+    StyleNotJudged,
     /// It is not a certificate, by this line, or by its end.
     NotCertificate,
 }

@@ -43,6 +43,7 @@ pub(crate) fn write_cause(text: &mut Text, cause: Cause) -> Result<(), OutOfMemo
         Cause::TooManyTransactions => text.append(b"TooManyTransactions"),
         Cause::TooManySteps => text.append(b"TooManySteps"),
         Cause::NotBoosted => text.append(b"NotBoosted"),
+        Cause::StyleNotJudged => text.append(b"StyleNotJudged"),
         Cause::NotCertificate => text.append(b"NotCertificate"),
     }
 }

@@ -6,8 +6,11 @@ use Rattle.pp_core.specs.Steps.{Step, Begin, App, Unapp, Push, Unpush, Pull, Unp
 use Rattle.pp_core.specs.Steps.{Note}
 use Rattle.pp_core.specs.Trees.{IsWithinLimits}
 use Rattle.pp_core.specs.declared.call.Kind.{Kind}
+use Rattle.pp_core.specs.declared.call.Style.{Style}
 use Rattle.pp_records.specs.Carried.{Carries, LogsCarry, RecordCarries}
 use Rattle.pp_records.proofs.Carrying.{each_in, expand_carry}
+use Rattle.pp_records.specs.Expansions.{expand}
+use Rattle.pp_records.specs.Fronts.{Front}
 use Rattle.pp_records.specs.Records.{RunRecord, Plain}
 use Rattle.pp_records.specs.Records as records
 use Rattle.pp_format_read.specs.declared.header.Header.{Header}
@@ -82,11 +85,17 @@ record_carries catalog (records.Depend t source) h = (tt, tt)
 record_carries catalog (records.Publish t) h = tt
 record_carries catalog (records.DropSource t source) h = (tt, tt)
 
--- each step of a record may be asked
+-- each step that a record means may be asked
+pub expansion_asked : (catalog : Objects) (style : Style) (f : Front) (c : Config Op) (r : RunRecord Op) → IsReadable catalog r → (step : Step Op) → In step (expand place_of style f c r)
+    → IsAsked objects (kinds_of catalog) step
+expansion_asked catalog style f c r readable step there =
+    let kinds : List Kind = kinds_of catalog in
+    let all = expand_carry AnyName AnyId (OfKinds kinds) IsWithinLimits place_of style f c r (logs_carry c) (record_carries catalog r readable) in
+    carried_asked kinds step (each_in (StepCarries kinds) (expand place_of style f c r) all step there)
+
+-- so may each step of a record that is taken here
 pub steps_asked : (header : Header) (front : AnyFront) (machine : Seen (List Kind) Op) (r : RunRecord Op) (list : List (Step Op)) → machine.shape ≡ kinds_of header.catalog → IsReadable header.catalog r
     → list ≡ steps_here header front machine r → (step : Step Op) → In step list → IsAsked objects machine.shape step
 steps_asked header front machine r list shape readable same step there =
-    let kinds : List Kind = kinds_of header.catalog in
-    let all = expand_carry AnyName AnyId (OfKinds kinds) IsWithinLimits place_of (any_style front) (any_state kinds front) machine.config r (logs_carry machine.config) (record_carries header.catalog r readable) in
     subst (λ (k : List Kind). IsAsked objects k step) (sym shape)
-    (carried_asked kinds step (each_in (StepCarries kinds) (steps_here header front machine r) all step (subst (λ (w : List (Step Op)). In step w) same there)))
+    (expansion_asked header.catalog (any_style front) (any_state (kinds_of header.catalog) front) machine.config r readable step (subst (λ (w : List (Step Op)). In step w) same there))

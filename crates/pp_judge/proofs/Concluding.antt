@@ -25,7 +25,7 @@ use Rattle.pp_format_read.specs.declared.header.Header.{Header}
 use Rattle.pp_model.specs.Config.{Config, Start, Step, after, first}
 use Rattle.pp_model.specs.Lists.{joined}
 use Rattle.pp_model.specs.Object.{Item, ops, state}
-use Rattle.pp_model.specs.Rules.{Accepted, Rejected, RunsFrom, StartMeets}
+use Rattle.pp_model.specs.Rules.{Accepted, IsVerdict, Rejected, RunsFrom, StartMeets}
 use Rattle.pp_model.proofs.Alone.{alone_attempts, alone_law}
 use Rattle.pp_model.proofs.Verdict.{accepted_iff}
 use Rattle.pp_model.specs.Serial.{Attempt, attempts, committed_tx, serial, Simulated}
@@ -60,10 +60,10 @@ pub serial_is : (as' : List (Attempt Op)) → serial_ops (map committed_tx as') 
 serial_is as' = ap (λ (ls : List (List (Item Op))). ops (joined ls)) (entries_of as')
 
 -- the report of a scan, of which this holds
-abbrev Reports : InputScan → Option (Lined Header) → (Option (Lined Header) → RunReport → Type 0) → Type 0
+abbrev pub Reports : InputScan → Option (Lined Header) → (Option (Lined Header) → RunReport → Type 0) → Type 0
 Reports sc o P = (report : RunReport) × IsRunReport setting_of o sc.records report × P o report
 
-reported : (sc : InputScan) (o : Option (Lined Header)) (P : Option (Lined Header) → RunReport → Type 0) → sc.header ≡ o → Reports sc o P → Reports sc sc.header P
+pub reported : (sc : InputScan) (o : Option (Lined Header)) (P : Option (Lined Header) → RunReport → Type 0) → sc.header ≡ o → Reports sc o P → Reports sc sc.header P
 reported sc o P is r = subst (λ (w : Option (Lined Header)). Reports sc w P) (sym is) r
 
 -- an accepted run: its committed transactions are its attempts
@@ -110,39 +110,37 @@ step_refuting : (kinds : List Kind) (before : Config Op) (step : Step Op) (n : �
 step_refuting kinds before step n h = λ detail. refutes objects objects_lawful kinds before step n detail h.0
 
 -- a rejected run: what is printed, and what its evidence shows
-abbrev printed_of : Header → Rejection → List ℕ
+abbrev pub printed_of : Header → Rejection → List ℕ
 printed_of h w = rejected_text h.catalog w.step w.line w.rule w.criterion w.detail
 
-abbrev RejectedTold : Header → Rejection → Option (Lined Header) → RunReport → Type 0
+abbrev pub RejectedTold : Header → Rejection → Option (Lined Header) → RunReport → Type 0
 RejectedTold h rejection o report =
     ((text : List ℕ) → text ≡ printed_of h rejection → IsTold o report statuses.Rejected text)
     × TellsEvident o report
 
+-- the report of a run that ends with a rejected step
+pub rejection_reported : (head : Lined Header) (rs : Records (RunRecord Op)) (rejection : Rejection) (run : LinedSteps Op) (i n : ℕ) → IsRejectionOf head.what head.line run i (suc n) rejection
+    → IsRun (object_of head.what) (translation_of head.what) (start_of head.what) rs run → IsVerdict (object_of head.what) (start_of head.what) (bare run) (Rejected i (suc n))
+    → (report : RunReport) × IsRunReport setting_of (Some head) rs report × RejectedTold head.what rejection (Some head) report
+rejection_reported head rs rejection run zero n is run_is verdict =
+    let h : Header = head.what in
+    (StartRejected head.line (suc n), (run, Rejected 0 (suc n), run_is, verdict, refl), (λ text printed. (refl, printed ∙ ap (printed_of h) is.0), (is.1, start_refuting (kinds_of h.catalog) (start_of h) n is.1)))
+rejection_reported head rs rejection run (suc i) n is run_is verdict =
+    let h : Header = head.what in (
+      StepRejected (suc i) rejection.line (suc n) (after (start_of h) (bare (take i run))) is.0,
+      (run, Rejected (suc i) (suc n), run_is, verdict, (record { line = rejection.line; what = is.0 }, is.1, refl)),
+      (λ text printed. (refl, printed ∙ ap (printed_of h) is.2), (is.3, step_refuting (kinds_of h.catalog) (after (start_of h) (bare (take i run))) is.0 n is.3)),
+    )
+
 module _ (sc : InputScan) (tally : Tally) (rejection : Rejection) (r : IsRejected sc tally rejection) where
   rejected_report : Reports sc sc.header (RejectedTold tally.header rejection)
-  rejected_report = reported sc (Some head) (RejectedTold h rejection) r.follows.header (go e.number e.is here)
-    where
-      h : Header
-      h = tally.header
-
-      head : Lined Header
-      head = record { line = r.follows.at; what = h }
-
-      e : EndsAt tally.header r.follows.at sc.records rejection
-      e = r.ends
-
-      here : IsRejectedAt (object_of h) (translation_of h) (start_of h) sc.records e.run e.number e.criterion
-      here = subst (λ (w : Records (RunRecord Op)). IsRejectedAt (object_of h) (translation_of h) (start_of h) w e.run e.number e.criterion) (append-nil sc.records) (e.stays [])
-
-      go : (i : ℕ) → IsRejectionOf h r.follows.at e.run i (suc e.criterion) rejection → IsRejectedAt (object_of h) (translation_of h) (start_of h) sc.records e.run i e.criterion
-          → Reports sc (Some head) (RejectedTold h rejection)
-      go zero is at =
-          (StartRejected r.follows.at (suc e.criterion), (e.run, Rejected 0 (suc e.criterion), at.run_is, at.verdict, refl), (λ text printed. (refl, printed ∙ ap (printed_of h) is.0), (is.1, start_refuting (kinds_of h.catalog) (start_of h) e.criterion is.1)))
-      go (suc i) is at = (
-        StepRejected (suc i) rejection.line (suc e.criterion) (after (start_of h) (bare (take i e.run))) is.0,
-        (e.run, Rejected (suc i) (suc e.criterion), at.run_is, at.verdict, (record { line = rejection.line; what = is.0 }, is.1, refl)),
-        (λ text printed. (refl, printed ∙ ap (printed_of h) is.2), (is.3, step_refuting (kinds_of h.catalog) (after (start_of h) (bare (take i e.run))) is.0 e.criterion is.3)),
-      )
+  rejected_report =
+      let h : Header = tally.header in
+      let head : Lined Header = record { line = r.follows.at; what = h } in
+      let e : EndsAt h r.follows.at sc.records rejection = r.ends in
+      let here : IsRejectedAt (object_of h) (translation_of h) (start_of h) sc.records e.run e.number e.criterion =
+      subst (λ (w : Records (RunRecord Op)). IsRejectedAt (object_of h) (translation_of h) (start_of h) w e.run e.number e.criterion) (append-nil sc.records) (e.stays []) in
+      reported sc (Some head) (RejectedTold h rejection) r.follows.header (rejection_reported head sc.records rejection e.run e.number e.criterion e.is here.run_is here.verdict)
 
   pub rejected_told : (text : List ℕ) → text ≡ rejected_text tally.header.catalog rejection.step rejection.line rejection.rule rejection.criterion rejection.detail → IsRunTold sc statuses.Rejected text
   rejected_told text is = let k = rejected_report in (k.0, k.1, k.2.0 text is)
@@ -155,7 +153,7 @@ module _ (sc : InputScan) (tally : Tally) (rejection : Rejection) (r : IsRejecte
       subst (λ (w : RunReport). TellsEvident sc.header w) same k.2.1
 
 -- a fault
-told_fault : (o : Option (Lined Header)) (line : ℕ) (cause : Cause) (text : List ℕ) → text ≡ fault_text line cause → IsTold o (Faulty line cause) statuses.InputFault text
+pub told_fault : (o : Option (Lined Header)) (line : ℕ) (cause : Cause) (text : List ℕ) → text ≡ fault_text line cause → IsTold o (Faulty line cause) statuses.InputFault text
 told_fault None line cause text is = (refl, is)
 told_fault (Some header) line cause text is = (refl, is)
 
@@ -236,7 +234,8 @@ accepted_alone bytes text r = run_alone (scan bytes) (accepted_run bytes text r)
 
 -- ---- an input has one report
 
-told_once : (o : Option (Lined Header)) (report : RunReport) (s s' : Status) (t t' : List ℕ) → IsTold o report s t → IsTold o report s' t' → (s ≡ s') × (t ≡ t')
+-- a report has one status and one text at most
+pub told_once : (o : Option (Lined Header)) (report : RunReport) (s s' : Status) (t t' : List ℕ) → IsTold o report s t → IsTold o report s' t' → (s ≡ s') × (t ≡ t')
 told_once None (Faulty line cause) s s' t t' a b = (a.0 ∙ sym b.0, a.1 ∙ sym b.1)
 told_once (Some h) (Faulty line cause) s s' t t' a b = (a.0 ∙ sym b.0, a.1 ∙ sym b.1)
 told_once None (Accepts n committed final) s s' t t' a b = absurd a

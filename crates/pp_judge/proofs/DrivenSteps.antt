@@ -36,7 +36,7 @@ use Rattle.pp_input_reader.specs.declared.cause.Cause.{Cause}
 use Rattle.pp_input_reader.specs.declared.cause.Cause.TheVariants.{TooManySteps}
 use Rattle.pp_input_reader.specs.declared.stop.Stop.{Stop}
 use Rattle.pp_input_reader.specs.declared.stop.Stop.TheVariants as stops
-use Rattle.pp_judge.specs.Costs.{StepsCostAtLeast, StepsCostAtMost, start_at_most, steps_at_most}
+use Rattle.pp_judge.specs.Costs.{StepsCostAtLeast, StepsCostAtMost, start_length, steps_at_most}
 use Rattle.pp_judge.specs.Driven.{HasSeenRun, driven_judging, judged_of}
 use Rattle.pp_judge.specs.Judging.{CostsAtMostThere, HasFaultThere, Judges}
 use Rattle.pp_judge.specs.Objects.{object_of, start_of, translation_of}
@@ -52,6 +52,7 @@ use Rattle.pp_judge.proofs.Driving.{FailsWithin, Overruns, fails, steps_here, to
 use Rattle.pp_judge.proofs.RecordCosts.{done_run, least_done, least_failed, most_record, run_to_failed}
 use Rattle.pp_judge.proofs.Recorded.{ends_there, goes_on, overruns_there}
 use Rattle.pp_judge.proofs.Running.{all_so_far, run_there}
+use Rattle.pp_judge.proofs.Starting.{start_twice}
 
 -- ---- results
 
@@ -94,9 +95,10 @@ plus_none : (old new : ℕ) → old ≤ new → old + 0 ≤ new
 plus_none old new h = omega (arith, h)
 
 module _ (line : ℕ) (h : Header) (old new : ℕ) where
-  pub begun_most : new ≤ old + start_at_most (start_of h) → StepsCostAtMost (scan_of (headed line h) []) old new
+  pub begun_most : new ≤ old + start_length (start_of h) → StepsCostAtMost (scan_of (headed line h) []) old new
   begun_most cost run is =
-      subst (λ (w : LinedSteps Op). new ≤ old + steps_at_most (start_of h) (bare w)) (sym (empty_run h run is)) (subst (λ (k : ℕ). new ≤ old + k) (sym (no_steps (start_of h))) cost)
+      subst (λ (w : LinedSteps Op). new ≤ old + steps_at_most (start_of h) (bare w)) (sym (empty_run h run is))
+      (subst (λ (k : ℕ). new ≤ old + k) (sym (no_steps (start_of h))) (start_twice old new (start_of h) cost))
 
   pub begun_still : StepsCostAtMost (scan_of (headed line h) []) old old
   begun_still run is = still old (steps_at_most (start_of h) (bare run))

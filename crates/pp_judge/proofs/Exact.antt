@@ -25,11 +25,11 @@ use Rattle.pp_judge.specs.Scans.{InputScan}
 use Rattle.pp_judge.proofs.Concluding.{AcceptedRun, faulty_by, run_alone, run_simulated}
 
 -- all steps behind a header, in its style
-abbrev steps_behind : Lined Header → Records (RunRecord Op) → LinedSteps Op
+abbrev pub steps_behind : Lined Header → Records (RunRecord Op) → LinedSteps Op
 steps_behind h rs = joined_steps (translation_of h.what) (outset (translation_of h.what) (start_of h.what)) rs
 
 -- `EachStepMeets`, of a header that may be missing
-record Meeting (o : Option (Lined Header)) (rs : Records (RunRecord Op)) : Type 0 where
+pub record Meeting (o : Option (Lined Header)) (rs : Records (RunRecord Op)) : Type 0 where
   pub header : Lined Header
   pub first_line : o ≡ Some header
   pub start : StartMeets (object_of header.what) (start_of header.what)
@@ -52,7 +52,7 @@ report_meets (Some h) rs report text r t =
     verdict_meets h rs report text k.0 k.1 k.2 t
 
 -- an input that is accepted has no fault, and its steps meet their criteria
-behind_meets : (fault : Option (ℕ × Cause)) (sc : InputScan) (report : RunReport) (text : List ℕ) → IsReportBehind setting_of fault sc report → IsTold sc.header report statuses.Accepted text
+pub behind_meets : (fault : Option (ℕ × Cause)) (sc : InputScan) (report : RunReport) (text : List ℕ) → IsReportBehind setting_of fault sc report → IsTold sc.header report statuses.Accepted text
     → (fault ≡ None) × Meeting sc.header sc.records
 behind_meets (Some f) sc report text r t = absurd (faulty_by sc.header f.0 f.1 text (subst (λ (w : RunReport). IsTold sc.header w statuses.Accepted text) r t))
 behind_meets None sc report text r t = (refl, report_meets sc.header sc.records report text r t)
@@ -65,10 +65,10 @@ accepted_meets bytes text r =
       record { header = m.header; first_line = m.first_line; start = m.start; steps = m.steps },
     )
 
--- the report of an input whose steps meet their criteria
-meets_report : (sc : InputScan) → IsFaultOf sc None → (m : EachStepMeets sc) → (report : RunReport) × IsReport setting_of TooManySteps sc report
+-- the report of a run whose steps meet their criteria
+pub meets_run_report : (sc : InputScan) (m : EachStepMeets sc) → (report : RunReport) × IsRunReport setting_of sc.header sc.records report
     × ((status : Status) (text : List ℕ) → IsTold sc.header report status text → status ≡ statuses.Accepted)
-meets_report sc none m =
+meets_run_report sc m =
     let h = m.header in
     let ss = steps_behind h sc.records in
     let as' = attempts (start_of h.what) (bare ss) in
@@ -76,9 +76,14 @@ meets_report sc none m =
     let accepted = (accepted_iff (object_of h.what) (start_of h.what) (bare ss)).1 (m.start, m.steps) in
     let behind : IsRunReport setting_of (Some h) sc.records report = ((input_law setting_of TooManySteps).unfolded h sc.records report).1 (Accepted, accepted, refl) in (
       report,
-      (None, none, subst (λ (o : Option (Lined Header)). IsRunReport setting_of o sc.records report) (sym m.first_line) behind),
+      subst (λ (o : Option (Lined Header)). IsRunReport setting_of o sc.records report) (sym m.first_line) behind,
       λ status text t. let told = subst (λ (o : Option (Lined Header)). IsTold o report status text) m.first_line t in told.0,
     )
+
+-- the report of an input whose steps meet their criteria
+meets_report : (sc : InputScan) → IsFaultOf sc None → (m : EachStepMeets sc) → (report : RunReport) × IsReport setting_of TooManySteps sc report
+    × ((status : Status) (text : List ℕ) → IsTold sc.header report status text → status ≡ statuses.Accepted)
+meets_report sc none m = let k = meets_run_report sc m in (k.0, (None, none, k.1), k.2)
 
 meets_accepted : (bytes : List ℕ) (status : Status) (text : List ℕ) → IsCertified bytes status text → IsFaultOf (scan bytes) None → EachStepMeets (scan bytes) → status ≡ statuses.Accepted
 meets_accepted bytes status text r none m =

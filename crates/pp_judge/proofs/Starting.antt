@@ -23,7 +23,7 @@ use Rattle.pp_machine.specs.declared.detail.Detail.{Detail}
 use Rattle.pp_machine.specs.declared.machine.Outcome.{Outcome}
 use Rattle.pp_machine.specs.declared.machine.Outcome.TheVariants.{Done, False}
 use Rattle.pp_kind.specs.Object.{rules_of}
-use Rattle.pp_judge.specs.Costs.{start_at_most}
+use Rattle.pp_judge.specs.Costs.{start_at_most, start_length}
 use Rattle.pp_judge.specs.Objects.{start_of}
 use Rattle.pp_judge.specs.Rejected.{IsStartEvident}
 use Rattle.pp_judge.specs.Reports.{detail_of_start}
@@ -41,8 +41,13 @@ abbrev IsRefused : List Kind → Option (Start Op) → ℕ → Detail Op → Typ
 IsRefused kinds h n detail =
     StartBreaks (rules_of objects kinds) h n × (0 < n) × (detail ≡ detail_of_start kinds h n) × Fits objects kinds detail × IsStartEvident kinds h n
 
-twice_as_many : (old new n : ℕ) → new ≤ old + n → new ≤ old + 2 * n
-twice_as_many old new n bound = omega (arith, bound)
+-- one for each operation of a start is within two for each
+pub start_twice : (old new : ℕ) (h : Option (Start Op)) → new ≤ old + start_length h → new ≤ old + start_at_most h
+start_twice old new None bound = bound
+start_twice old new (Some z) bound = twice (length z.items) bound
+  where
+    twice : (n : ℕ) → new ≤ old + n → new ≤ old + 2 * n
+    twice n bound = omega (arith, bound)
 
 module _ (header : Header) (machine : Seen (List Kind) Op) (new : machine ≡ made (kinds_of header.catalog) None) where
   shape_is : machine.shape ≡ kinds_of header.catalog
@@ -89,5 +94,5 @@ module _ (header : Header) (machine : Seen (List Kind) Op) (new : machine ≡ ma
   started_result z is (Err e) a b = tt
 
   -- and of what it costs
-  pub start_bound : (z : HeaderStart) → header.start ≡ Some z → (old new : ℕ) → new ≤ old + length z.ops → new ≤ old + start_at_most (start_of header)
-  start_bound z is old new bound = subst (λ (h : Option (Start Op)). new ≤ old + start_at_most h) (sym (one z is)) (twice_as_many old new (length z.ops) bound)
+  pub start_bound : (z : HeaderStart) → header.start ≡ Some z → (old new : ℕ) → new ≤ old + length z.ops → new ≤ old + start_length (start_of header)
+  start_bound z is old new bound = subst (λ (h : Option (Start Op)). new ≤ old + start_length h) (sym (one z is)) bound

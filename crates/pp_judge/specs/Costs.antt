@@ -36,6 +36,11 @@ OfRun header records P = (run : LinedSteps Op) → IsRunBehind header records ru
 
 -- ---- the parts
 
+-- how many operations the start has
+abbrev pub start_length : Option (Start Op) → ℕ
+start_length None = 0
+start_length (Some z) = length z.items
+
 -- what the start costs at most: two for each of its operations
 abbrev pub start_at_most : Option (Start Op) → ℕ
 start_at_most None = 0

@@ -5,7 +5,7 @@ ghost use Rattle.pp_core.specs.declared.limits.TheConstants.{MOST_STEPS};
 ghost use Rattle.pp_format_read.specs.Starts.{IsReadableStart};
 ghost use Rattle.pp_model.specs.Config.{first};
 ghost use Rattle.pp_objects.specs.Objects.{kinds_of};
-ghost use Rattle.pp_judge.specs.Costs.{start_at_most};
+ghost use Rattle.pp_judge.specs.Costs.{start_length};
 ghost use Rattle.pp_judge.specs.Driven.{judged_of};
 ghost use Rattle.pp_judge.specs.Objects.{start_of};
 ghost use Rattle.pp_judge.specs.Running.{HasStarted, IsFirstFront, rejection_on};
@@ -28,7 +28,7 @@ use std::sync::ledger::Ledger;
 /// false criterion, and the evidence of it. The start is step 0, on the line of the header.
 #[derive(Drop)]
 pub struct Rejection {
-    pub step: u32,
+    pub step: u64,
     pub line: u32,
     pub rule: Rule,
     pub criterion: u8,
@@ -64,7 +64,7 @@ fn with_start<L: Ledger>(
     requires readable { IsReadableStart header.now.catalog header.now.start }
     ensures starts { IfOk result (λ r. HasStarted header.now r.1 r.0) }
     ensures rises { ticks.old ≤ ticks.new }
-    ensures bound { ticks.new ≤ ticks.old + start_at_most (start_of header.now) }
+    ensures bound { ticks.new ≤ ticks.old + start_length (start_of header.now) }
 {
     match &header.start {
         None => Ok((machine, Outcome::Done)),
@@ -73,7 +73,7 @@ fn with_start<L: Ledger>(
 }
 
 /// A machine with the start of a header, and whether that meets its criteria.
-fn start_machine<L: Ledger>(
+pub fn start_machine<L: Ledger>(
     alloc: Global,
     header: &Header,
     ticks: &mut Ticks<L>,
@@ -81,7 +81,7 @@ fn start_machine<L: Ledger>(
     requires { IsReadableStart header.now.catalog header.now.start }
     ensures starts { IfOk result (λ r. HasStarted header.now r.1 r.0) }
     ensures rises { ticks.old ≤ ticks.new }
-    ensures bound { ticks.new ≤ ticks.old + start_at_most (start_of header.now) }
+    ensures bound { ticks.new ≤ ticks.old + start_length (start_of header.now) }
 {
     let machine = Machine::new(alloc, header.catalog.kinds(alloc)?)?;
     with_start(machine, header, ticks)
@@ -115,7 +115,7 @@ fn rejection_on(
                 detail,
             },
         ) => Ok(Some(Rejection {
-            step: count + 1,
+            step: u64::from(count) + 1,
             line,
             rule,
             criterion,

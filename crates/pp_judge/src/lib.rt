@@ -13,7 +13,7 @@ mod record_steps;
 mod report;
 mod take;
 
-pub use driven::{Driven, Refused, Rejection};
+pub use driven::{Driven, Refused, Rejection, start_machine};
 pub use finding::{Finding, examine};
 pub use judge::{Judge, Judged};
 pub use law::{limits_law, records_are_steps, records_extend};

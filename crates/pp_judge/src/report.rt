@@ -26,7 +26,7 @@ pub fn summary<L: Ledger>(
     tally: &Tally,
     machine: &Machine<Objects>,
     ticks: &mut Ticks<L>,
-) -> Result<(u32, ObjectStates), OutOfMemory>
+) -> Result<(u64, ObjectStates), OutOfMemory>
     requires { (sc : InputScan) × IsRunning sc tally.now machine.now }
     ensures count { IfOk result (λ r. r.0 ≡ machine.now.count) }
     ensures states { IfOk result (λ r. r.1 ≡ state_after objects
@@ -40,7 +40,7 @@ pub fn summary<L: Ledger>(
     let count = machine.count();
     let committed = machine.committed();
     let states = serial_state::<Objects, L>(alloc, &kinds, committed, ticks)?;
-    Ok((count, states))
+    Ok((u64::from(count), states))
 }
 
 /// The report of a run of which the start or a step is rejected. The only error is that memory was

@@ -8,9 +8,10 @@ use Rattle.pp_format_read.specs.declared.header.Header.{Header}
 use Rattle.pp_model.specs.Serial.{committed_tx}
 use Rattle.pp_input_reader.specs.FaultTexts.{fault_text}
 use Rattle.pp_input_reader.specs.declared.cause.Cause.{Cause}
+use Rattle.pp_input_reader.specs.declared.cause.Cause.TheVariants.{NotBoosted}
 use Rattle.pp_judge.specs.Inputs.{scan}
 use Rattle.pp_cmd_quick.proofs.Decided.{decided}
-use Rattle.pp_cmd_quick.specs.Decisions.{Accepts, Decision, Faulty, IsDecisionBehind, IsDecisionTold, IsQuick, Rejects, quick_fault, style_fault}
+use Rattle.pp_cmd_quick.specs.Decisions.{Accepts, Decision, Faulty, IsDecisionBehind, IsDecisionTold, IsQuick, Rejects, is_boosted, quick_fault, style_fault}
 use Rattle.pp_cmd_quick.specs.Reports.{quick_accepted_text, quick_rejected_text}
 use Rattle.pp_laws_reports.proofs.Scanned.{header_of_sound}
 use Rattle.pp_laws_reports.specs.Defined.{IsDefined}
@@ -28,7 +29,7 @@ header_of_quick bytes sound = by (scan bytes).header refl
   where
     by : (o : Option (Lined Header)) → (scan bytes).header ≡ o → (header : Lined Header) × ((scan bytes).header ≡ Some header)
     by (Some h) is = (h, is)
-    by None is = header_of_sound bytes (subst (λ (o : Option (Lined Header)). style_fault o (scan bytes).fault ≡ None) is sound)
+    by None is = header_of_sound bytes (subst (λ (o : Option (Lined Header)). style_fault is_boosted NotBoosted o (scan bytes).fault ≡ None) is sound)
 
 -- Every input has an output of `quick`.
 pub quick_is_defined : (bytes : List ℕ) → IsDefined (IsQuick bytes)

@@ -9,6 +9,7 @@ use Rattle.pp_cmd_recheck.proofs.Rechecking.{some_recheck}
 use Rattle.pp_laws_reports.proofs.Accepted.{swaps_are_defined, views_are_defined}
 use Rattle.pp_laws_reports.proofs.Certified.{certify_is_defined, expand_is_defined}
 use Rattle.pp_laws_reports.proofs.Decided.{quick_is_defined}
+use Rattle.pp_laws_reports.proofs.Judged.{judge_is_defined}
 use Rattle.pp_laws_reports.specs.Defined.{DefinedLaws, IsDefined}
 
 recheck_is_defined : (bytes : List ℕ) → IsDefined (IsRecheck bytes)
@@ -25,6 +26,7 @@ defined_laws =
     record {
       certify = certify_is_defined;
       expand = expand_is_defined;
+      judge = judge_is_defined;
       quick = quick_is_defined;
       swaps = swaps_are_defined;
       recheck = recheck_is_defined;

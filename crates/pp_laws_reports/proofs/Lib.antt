@@ -9,5 +9,6 @@ pub mod Inputs
 pub mod Scanned
 pub mod Certified
 pub mod Decided
+pub mod Judged
 pub mod Accepted
 pub mod Defined

@@ -10,11 +10,11 @@ use pp_text::{write_number, write_op_lines, write_state_lines};
 use std::alloc::Global;
 
 /// Adds the first line of an accepted run. After a refusal the text may end with a part of it.
-pub fn write_first_line(text: &mut Text, steps: u32, committed: usize) -> Result<(), OutOfMemory>
+pub fn write_first_line(text: &mut Text, steps: u64, committed: usize) -> Result<(), OutOfMemory>
     ensures { OnOk result (text.new ≡ text.old ++ accepted_line steps committed) }
 {
     text.append(b"accepted steps ")?;
-    write_number(text, u64::from(steps))?;
+    write_number(text, steps)?;
     text.append(b" committed ")?;
     write_number(text, committed as u64)?;
     text.append(b"\n")
@@ -56,7 +56,7 @@ pub fn write_transactions(
 pub fn accepted(
     alloc: Global,
     catalog: &Catalog,
-    count: u32,
+    count: u64,
     committed: &Committed<Op>,
     states: &ObjectStates,
 ) -> Result<Text, OutOfMemory>

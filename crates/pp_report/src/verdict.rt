@@ -11,11 +11,11 @@ use pp_text::write_number;
 use std::alloc::Global;
 
 /// Adds where the failed step stands.
-fn write_place(text: &mut Text, step: u32, line: u32) -> Result<(), OutOfMemory>
+fn write_place(text: &mut Text, step: u64, line: u32) -> Result<(), OutOfMemory>
     ensures { OnOk result (text.new ≡ text.old ++ rejected_place step line) }
 {
     text.append(b"rejected step ")?;
-    write_number(text, u64::from(step))?;
+    write_number(text, step)?;
     text.append(b" line ")?;
     write_number(text, u64::from(line))
 }
@@ -35,7 +35,7 @@ fn write_rule(text: &mut Text, rule: Rule, criterion: u8) -> Result<(), OutOfMem
 pub fn rejected(
     alloc: Global,
     catalog: &Catalog,
-    step: u32,
+    step: u64,
     line: u32,
     rule: Rule,
     criterion: u8,

@@ -12,9 +12,10 @@ use Rattle.pp_certificate_lines.specs.Rechecked.{IsCheckedSound}
 use Rattle.pp_judge.specs.Certified.{IsDecided}
 use Rattle.pp_judge.specs.Inputs.{scan}
 use Rattle.pp_judge.specs.Rejected.{IsEvident}
+use Rattle.pp_cmd_judge.specs.Judgements.{IsJudgedEvident}
 use Rattle.pp_cmd_drill.specs.Prints.{PrintsLines}
 use Rattle.pp_run.specs.declared.words.Command.{Command}
-use Rattle.pp_run.specs.declared.words.Command.TheVariants.{Certify, Drill, Expand, Quick, Recheck, Swaps, Views}
+use Rattle.pp_run.specs.declared.words.Command.TheVariants.{Certify, Drill, Expand, Judge, Quick, Recheck, Swaps, Views}
 use Rattle.pp_run.specs.Bounds.{RisesAtLeast, RisesAtMost}
 use Rattle.pp_run.specs.Outcomes.{outcome}
 use Rattle.pp_run.specs.Outputs.{IsOfWhole, IsOutput, IsPrinted, IsUnwritten, IsVerdictOrSize, OfInput}
@@ -50,6 +51,7 @@ whole_verdict : (o : Option Command) (s : Status) → IsOfWhole o s → IsVerdic
 whole_verdict None s whole = absurd whole
 whole_verdict (Some Certify) s whole = inl whole
 whole_verdict (Some Expand) s whole = inl whole
+whole_verdict (Some Judge) s whole = inl whole
 whole_verdict (Some Quick) s whole = inl whole
 whole_verdict (Some Swaps) s whole = whole
 whole_verdict (Some Recheck) s whole = inl (subst IsDecided (sym whole) tt)
@@ -75,6 +77,7 @@ of_all : (o : Option Command) (left : Option (List ℕ)) (P : List ℕ → Type 
 of_all None left P f = f []
 of_all (Some Certify) left P f = λ bytes is. f bytes
 of_all (Some Expand) left P f = λ bytes is. f bytes
+of_all (Some Judge) left P f = λ bytes is. f bytes
 of_all (Some Quick) left P f = λ bytes is. f bytes
 of_all (Some Swaps) left P f = λ bytes is. f bytes
 of_all (Some Recheck) left P f = λ bytes is. f bytes
@@ -101,6 +104,7 @@ pub record Reports (k : Command) (input rest : Option (List ℕ)) (before after 
   pub size : s ≡ statuses.TooLarge → TellsSize (Some k)
   pub whole : IsOfWhole (Some k) s → IsAtEnd rest
   pub shown : DrivesMachine (Some k) → s ≡ statuses.Rejected → WhereTold input (λ bytes. IsEvident (scan bytes))
+  pub judged : k ≡ Judge → s ≡ statuses.Rejected → WhereTold input (λ bytes. IsJudgedEvident (scan bytes))
   pub checked : k ≡ Recheck → s ≡ statuses.Accepted → WhereTold input (λ bytes. IsCheckedSound bytes)
   pub least : RisesAtLeast (Some k) input s before after
 
@@ -171,6 +175,7 @@ module _ (SameSource SameSink : Type 0) (input rest held holds sent_before sent 
             output = λ printed. prints (Some k) k refl input held holds s text r.output written;
             only = λ printed. prints_only (Some k) k refl input held holds s text r.output written;
             shown = r.shown;
+            judged = λ judge. r.judged (cc);
             checked = λ recheck. r.checked (cc);
             most = p.most;
             least = r.least;
@@ -215,6 +220,7 @@ module _ (SameSource SameSink : Type 0) (input rest held holds sent_before sent 
             output = λ printed. absurd (none printed);
             only = λ printed. absurd (none printed);
             shown = λ drives e. absurd (none (subst IsPrinted (sym e) tt));
+            judged = λ judge e. absurd (none (subst IsPrinted (sym e) tt));
             checked = λ recheck e. absurd (none (subst IsPrinted (sym e) tt));
             most = p.most;
             least = no_verdict_no_least (Some k) input s before after (λ decided. none (decided_printed s decided));

@@ -12,7 +12,7 @@ use Rattle.std.proofs.lemmas.Slice.Eq.{bytes_eq-Decides}
 use Rattle.std.proofs.lemmas.Str.{IsUtf8-from_ascii}
 use Rattle.pp_run.specs.Words.{command_named, command_of, drill_number}
 use Rattle.pp_run.specs.declared.words.Command.{Command}
-use Rattle.pp_run.specs.declared.words.Command.TheVariants.{Certify, Drill, Expand, Quick, Recheck, Swaps, Views}
+use Rattle.pp_run.specs.declared.words.Command.TheVariants.{Certify, Drill, Expand, Judge, Quick, Recheck, Swaps, Views}
 
 -- ---- tests
 
@@ -114,11 +114,12 @@ unnumbered word =
     let is : List ℕ → Bool = bytes_eq word in
     either (is (codes "certify")) (Some Certify) _ (λ n e. let no : Some Certify ≡ Some (Drill n) = e in cc)
     (either (is (codes "expand")) (Some Expand) _ (λ n e. let no : Some Expand ≡ Some (Drill n) = e in cc)
+    (either (is (codes "judge")) (Some Judge) _ (λ n e. let no : Some Judge ≡ Some (Drill n) = e in cc)
     (either (is (codes "quick")) (Some Quick) _ (λ n e. let no : Some Quick ≡ Some (Drill n) = e in cc)
     (either (is (codes "swaps")) (Some Swaps) _ (λ n e. let no : Some Swaps ≡ Some (Drill n) = e in cc)
     (either (is (codes "recheck")) (Some Recheck) _ (λ n e. let no : Some Recheck ≡ Some (Drill n) = e in cc)
     (either (is (codes "views")) (Some Views) None (λ n e. let no : Some Views ≡ Some (Drill n) = e in cc)
-    (λ n e. let no : None ≡ Some (Drill n) = e in cc))))))
+    (λ n e. let no : None ≡ Some (Drill n) = e in cc)))))))
 
 -- the number of a `drill` command is from 1 to 20,000
 pub drill_within : (words : List (List ℕ)) (n : ℕ) → command_of words ≡ Some (Drill n) → (1 ≤ n) × (n ≤ 20_000)

@@ -7,7 +7,7 @@ use Rattle.pp_judge.specs.Certified.{IsDecided}
 use Rattle.pp_run.specs.Bounds.{RisesAtLeast}
 use Rattle.pp_run.specs.Outputs.{IsVerdictOrSize}
 use Rattle.pp_run.specs.declared.words.Command.{Command}
-use Rattle.pp_run.specs.declared.words.Command.TheVariants.{Certify, Drill, Expand, Quick, Recheck, Swaps, Views}
+use Rattle.pp_run.specs.declared.words.Command.TheVariants.{Certify, Drill, Expand, Judge, Quick, Recheck, Swaps, Views}
 
 -- a verdict or a fault is a status of `perform`
 pub answered : (s : Status) → IsDecided s ⊎ (s ≡ statuses.InputFault) → IsVerdictOrSize s ⊎ (s ≡ statuses.InputFault)
@@ -50,6 +50,7 @@ pub no_verdict_no_least : (k : Option Command) (left : Option (List ℕ)) (s : S
 no_verdict_no_least None left s old new none = tt
 no_verdict_no_least (Some Certify) left s old new none = λ decided. absurd (none decided)
 no_verdict_no_least (Some Expand) left s old new none = λ decided. absurd (none decided)
+no_verdict_no_least (Some Judge) left s old new none = λ decided. absurd (none decided)
 no_verdict_no_least (Some Quick) left s old new none = λ decided. absurd (none decided)
 no_verdict_no_least (Some Swaps) left s old new none = λ decided. absurd (none decided)
 no_verdict_no_least (Some Recheck) left s old new none = λ accepted. absurd (none (subst IsDecided (sym accepted) tt))

@@ -4,13 +4,14 @@ use Rattle.std.specs.Io.KnownBytes.{Appends}
 use Rattle.std.proofs.Common.{sym, ◌∙◌, subst}
 use Rattle.pp_core.specs.declared.status.Status.{Status}
 use Rattle.pp_run.specs.declared.words.Command.{Command}
-use Rattle.pp_run.specs.declared.words.Command.TheVariants.{Certify, Drill, Expand, Quick, Recheck, Swaps, Views}
+use Rattle.pp_run.specs.declared.words.Command.TheVariants.{Certify, Drill, Expand, Judge, Quick, Recheck, Swaps, Views}
 use Rattle.pp_run.specs.Outputs.{IsOutput, OfInput, Prints, PrintsOnly, PrintsPrefix, PrintsPrefixOnly}
 use Rattle.pp_run.specs.Writing.{AppendsPrefix}
 use Rattle.pp_judge.proofs.Concluding.{one_certified}
 use Rattle.pp_cmd_expand.proofs.Expanding.{one_expanded}
 use Rattle.pp_cmd_views.proofs.Viewed.{one_views}
 use Rattle.pp_cmd_quick.proofs.Decided.{one_quick}
+use Rattle.pp_cmd_judge.proofs.Judged.{one_judged}
 use Rattle.pp_cmd_drill.proofs.Drilling.{one_drilled}
 use Rattle.pp_cmd_swaps.proofs.Swapping.{one_swaps}
 use Rattle.pp_cmd_recheck.proofs.Rechecking.{one_recheck}
@@ -20,6 +21,7 @@ pub one_output : (command : Option Command) (bytes : List ℕ) (s s' : Status) (
 one_output None bytes s s' t t' a b = (a.0 ∙ sym b.0, a.1 ∙ sym b.1)
 one_output (Some Certify) bytes s s' t t' a b = one_certified bytes s s' t t' a b
 one_output (Some Expand) bytes s s' t t' a b = one_expanded bytes s s' t t' a b
+one_output (Some Judge) bytes s s' t t' a b = one_judged bytes s s' t t' a b
 one_output (Some Quick) bytes s s' t t' a b = one_quick bytes s s' t t' a b
 one_output (Some Swaps) bytes s s' t t' a b = one_swaps bytes s s' t t' a b
 one_output (Some Recheck) bytes s s' t t' a b = one_recheck bytes s s' t t' a b
@@ -31,6 +33,7 @@ of_input : (o : Option Command) (left : Option (List ℕ)) (P Q : List ℕ → T
 of_input None left P Q f p = f [] p
 of_input (Some Certify) left P Q f p = λ bytes is. f bytes (p bytes is)
 of_input (Some Expand) left P Q f p = λ bytes is. f bytes (p bytes is)
+of_input (Some Judge) left P Q f p = λ bytes is. f bytes (p bytes is)
 of_input (Some Quick) left P Q f p = λ bytes is. f bytes (p bytes is)
 of_input (Some Swaps) left P Q f p = λ bytes is. f bytes (p bytes is)
 of_input (Some Recheck) left P Q f p = λ bytes is. f bytes (p bytes is)

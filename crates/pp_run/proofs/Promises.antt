@@ -33,7 +33,7 @@ use Rattle.pp_run.specs.Promises.{HaveOneRun, IsDecidedAsRun, SeesKept}
 use Rattle.pp_run.specs.Runs.{RunLaws}
 use Rattle.pp_run.specs.Words.{command_of}
 use Rattle.pp_run.specs.declared.words.Command.{Command}
-use Rattle.pp_run.specs.declared.words.Command.TheVariants.{Certify, Drill, Expand, Quick, Recheck, Swaps, Views}
+use Rattle.pp_run.specs.declared.words.Command.TheVariants.{Certify, Drill, Expand, Judge, Quick, Recheck, Swaps, Views}
 use Rattle.std.proofs.Common.{refl, subst}
 
 -- the records after any header have one run, and steps have one verdict
@@ -93,6 +93,7 @@ output_of : (words : List (List ℕ)) (bytes : List ℕ) (command : Option Comma
 output_of words bytes None is = λ none. none statuses.BadWords [] (refl, refl)
 output_of words bytes (Some Certify) is = defined_laws.certify bytes
 output_of words bytes (Some Expand) is = defined_laws.expand bytes
+output_of words bytes (Some Judge) is = defined_laws.judge bytes
 output_of words bytes (Some Quick) is = defined_laws.quick bytes
 output_of words bytes (Some Swaps) is = defined_laws.swaps bytes
 output_of words bytes (Some Recheck) is = defined_laws.recheck bytes

@@ -14,6 +14,8 @@ use Rattle.pp_judge.specs.Reports.{IsCertified}
 use Rattle.pp_judge.specs.Scans.{InputScan}
 use Rattle.pp_cmd_quick.specs.Decisions.{Decision, IsDecisionBehind, IsDecisionOf}
 use Rattle.pp_cmd_quick.specs.Decisions.{IsDecisionTold, IsQuick, quick_fault}
+use Rattle.pp_cmd_judge.proofs.Judged.{judged_exact, same_judged}
+use Rattle.pp_cmd_judge.specs.Judgements.{IsJudged, IsJudgedEvident}
 use Rattle.pp_cmd_drill.specs.Prints.{PrintsLines, certified_text}
 use Rattle.pp_cmd_drill.specs.Text.{drill_text}
 use Rattle.pp_cmd_swaps.proofs.Rechecking.{prints_certificate}
@@ -29,8 +31,8 @@ use Rattle.pp_run.specs.Outcomes.{Outcome}
 use Rattle.pp_run.specs.Outputs.{IsPrinted, OfInput, Prints, PrintsOnly}
 use Rattle.pp_run.specs.Words.{DrivesMachine}
 use Rattle.pp_run.specs.declared.words.Command.{Command}
-use Rattle.pp_run.specs.declared.words.Command.TheVariants.{Certify, Drill, Expand, Quick}
-use Rattle.pp_run.specs.declared.words.Command.TheVariants.{Recheck, Swaps, Views}
+use Rattle.pp_run.specs.declared.words.Command.TheVariants.{Certify, Drill, Expand, Judge}
+use Rattle.pp_run.specs.declared.words.Command.TheVariants.{Quick, Recheck, Swaps, Views}
 use Rattle.pp_input_reader.specs.Sources.{WhereTold}
 
 -- what is printed, how far the counter rises, and the lines of `drill`
@@ -38,6 +40,7 @@ pub record Answers (k : Option Command) (o : Outcome) : Type 0 where
   pub output : IsPrinted o.status → OfInput k o.input (λ bytes. Prints k bytes o.status o.held o.holds)
   pub only : IsPrinted o.status → OfInput k o.input (λ bytes. PrintsOnly k bytes o.status o.held o.holds)
   pub shown : DrivesMachine k → o.status ≡ statuses.Rejected → WhereTold o.input (λ bytes. IsEvident (scan bytes))
+  pub judged : k ≡ Some Judge → o.status ≡ statuses.Rejected → WhereTold o.input (λ bytes. IsJudgedEvident (scan bytes))
   pub checked : k ≡ Some Recheck → o.status ≡ statuses.Accepted → WhereTold o.input (λ bytes. IsCheckedSound bytes)
   pub most : RisesAtMost k o.input o.before o.after
   pub least : RisesAtLeast k o.input o.status o.before o.after
@@ -98,6 +101,10 @@ accepted_behind None sc decision text (header, here, is) told = accepted_of sc h
 quick_meets : (bytes text : List ℕ) → IsQuick bytes statuses.Accepted text → EachStepMeets (scan bytes)
 quick_meets bytes text (decision, is, told) = accepted_behind (quick_fault (scan bytes)) (scan bytes) decision text is told
 
+-- if `judge` accepts an input, its start and steps meet their criteria
+judged_meets : (bytes text : List ℕ) → IsJudged bytes statuses.Accepted text → EachStepMeets (scan bytes)
+judged_meets bytes text r = ((judged_exact bytes statuses.Accepted text r).0 refl).1
+
 -- ---- the promises
 
 -- a verdict is printed
@@ -139,6 +146,23 @@ promised (Some Expand) o a =
       again = λ d bytes is.
           let out = a.output (decided_printed o.status d) bytes is in
           prints_again bytes o.status out.0 o.held o.holds d out.1 out.2;
+      most = a.most;
+      least = a.least;
+    }
+promised (Some Judge) o a =
+    record {
+      prints = λ p bytes is. record { output = a.output p bytes is; only = a.only p bytes is };
+      exact = λ p bytes is. let out = a.output p bytes is in judged_exact bytes o.status out.0 out.1;
+      same = λ p bytes is styled few.
+          let out = a.output p bytes is in
+          record {
+            output = (out.0, (same_judged bytes o.status out.0 styled few).0 out.1, out.2);
+            only = λ other text certified. a.only p bytes is other text ((same_judged bytes other text styled few).1 certified);
+          };
+      accepted = λ e bytes is.
+          let out = a.output (printed o statuses.Accepted e tt) bytes is in
+          serializable bytes (judged_meets bytes out.0 (subst (λ (s : Status). IsJudged bytes s out.0) e out.1));
+      rejected = a.judged refl;
       most = a.most;
       least = a.least;
     }

@@ -10,11 +10,12 @@ use Rattle.pp_judge.specs.Costs.{CostsAtLeast, CostsAtMost, StepsCostAtLeast, St
 use Rattle.pp_judge.specs.Inputs.{scan}
 use Rattle.pp_cmd_views.specs.Costs.{ViewsCostAtMost}
 use Rattle.pp_cmd_quick.specs.Costs.{QuickCostsAtLeast, QuickCostsAtMost}
+use Rattle.pp_cmd_judge.specs.Costs.{JudgeCostsAtMost}
 use Rattle.pp_cmd_drill.specs.Reports.{drill_scan}
 use Rattle.pp_cmd_recheck.specs.Costs.{CheckCostsAtLeast, CheckCostsAtMost}
 use Rattle.pp_run.specs.declared.words.Command.{Command}
-use Rattle.pp_run.specs.declared.words.Command.TheVariants.{Certify, Drill, Expand, Quick}
-use Rattle.pp_run.specs.declared.words.Command.TheVariants.{Recheck, Swaps, Views}
+use Rattle.pp_run.specs.declared.words.Command.TheVariants.{Certify, Drill, Expand, Judge}
+use Rattle.pp_run.specs.declared.words.Command.TheVariants.{Quick, Recheck, Swaps, Views}
 
 -- The greatest rise of the counter, from old to new, at every status. `certify` and `drill` rise at
 -- most by the greatest cost of the start, the steps and the serial run. The other commands have
@@ -24,6 +25,8 @@ RisesAtMost None left old new = new ≡ old
 RisesAtMost (Some Certify) left old new = WhereTold left λ bytes. CostsAtMost (scan bytes) old new
 RisesAtMost (Some Expand) left old new =
     WhereTold left λ bytes. StepsCostAtMost (scan bytes) old new
+RisesAtMost (Some Judge) left old new =
+    WhereTold left λ bytes. JudgeCostsAtMost (scan bytes) old new
 RisesAtMost (Some Quick) left old new =
     WhereTold left λ bytes. QuickCostsAtMost (scan bytes) old new
 RisesAtMost (Some Swaps) left old new =
@@ -34,16 +37,18 @@ RisesAtMost (Some Views) left old new =
 RisesAtMost (Some (Drill n)) left old new = CostsAtMost (drill_scan n) old new
 
 -- The least rise of the counter at this status. With a verdict it is one for each step that applies
--- or takes back one operation and meets its criteria. For `quick` it is one for each record that is
--- an operation, before the one that fails, if one does. `certify`, `quick` and `drill` add the
--- serial run of an accepted run. For `recheck` it is one for each entry and for each serial entry,
--- and only at accepted.
+-- or takes back one operation and meets its criteria. For `judge` and `quick` it is one for each
+-- record that is an operation, before the one that fails, if one does. `certify`, `judge`, `quick`
+-- and `drill` add the serial run of an accepted run. For `recheck` it is one for each entry and for
+-- each serial entry, and only at accepted.
 abbrev pub RisesAtLeast : Option Command → Option (List ℕ) → Status → (old new : ℕ) → Type 0
 RisesAtLeast None left status old new = Unit {0}
 RisesAtLeast (Some Certify) left status old new = IsDecided status →
     WhereTold left λ bytes. CostsAtLeast status (scan bytes) old new
 RisesAtLeast (Some Expand) left status old new = IsDecided status →
     WhereTold left λ bytes. StepsCostAtLeast status (scan bytes) old new
+RisesAtLeast (Some Judge) left status old new = IsDecided status →
+    WhereTold left λ bytes. QuickCostsAtLeast status (scan bytes) old new
 RisesAtLeast (Some Quick) left status old new = IsDecided status →
     WhereTold left λ bytes. QuickCostsAtLeast status (scan bytes) old new
 RisesAtLeast (Some Swaps) left status old new = IsDecided status →

@@ -13,6 +13,10 @@ use Rattle.pp_cmd_views.specs.Costs.{ViewsCostAtMost}
 use Rattle.pp_cmd_views.specs.Outputs.{IsViews}
 use Rattle.pp_cmd_quick.specs.Costs.{QuickCostsAtLeast, QuickCostsAtMost}
 use Rattle.pp_cmd_quick.specs.Decisions.{IsQuick}
+use Rattle.pp_cmd_judge.specs.Costs.{JudgeCostsAtMost}
+use Rattle.pp_cmd_judge.specs.Judgements.{HasJudgedStyle, IsJudged, IsJudgedEvident}
+use Rattle.pp_cmd_judge.specs.Judgements.{IsJudgedExactly}
+use Rattle.pp_cmd_judge.specs.Laws.{HasFewSteps}
 use Rattle.pp_cmd_drill.specs.Prints.{PrintsLines}
 use Rattle.pp_cmd_drill.specs.Reports.{IsDrilled, drill_scan}
 use Rattle.pp_cmd_drill.specs.Text.{drill_text}
@@ -21,8 +25,8 @@ use Rattle.pp_cmd_swaps.specs.Swaps.{IsSwaps}
 use Rattle.pp_laws_runs.specs.Timely.{IsTimely}
 use Rattle.pp_cmd_recheck.specs.Costs.{CheckCostsAtLeast, CheckCostsAtMost}
 use Rattle.pp_run.specs.declared.words.Command.{Command}
-use Rattle.pp_run.specs.declared.words.Command.TheVariants.{Certify, Drill, Expand, Quick}
-use Rattle.pp_run.specs.declared.words.Command.TheVariants.{Recheck, Swaps, Views}
+use Rattle.pp_run.specs.declared.words.Command.TheVariants.{Certify, Drill, Expand, Judge}
+use Rattle.pp_run.specs.declared.words.Command.TheVariants.{Quick, Recheck, Swaps, Views}
 use Rattle.pp_run.specs.Outcomes.{IsTheOutput, OfItsInput, Outcome, PrintsJust}
 use Rattle.pp_run.specs.Outputs.{IsPrinted}
 use Rattle.pp_run.specs.Promises.{SeesKept}
@@ -71,6 +75,27 @@ pub record ExpandPromise (o : Outcome) : Type 0 where
   pub most : OfItsInput o λ bytes. StepsCostAtMost (scan bytes) o.before o.after
   pub least : IsDecided o.status → OfItsInput o λ bytes.
       StepsCostAtLeast o.status (scan bytes) o.before o.after
+
+-- What `judge` promises. It is `certify` without a limit on steps, for the styles that it judges.
+pub record JudgePromise (o : Outcome) : Type 0 where
+  pub prints : PrintsJust IsJudged o
+  -- Accepted is printed exactly if the input has no fault, and its start and each step meet their
+  -- criteria.
+  pub exact : IsPrinted o.status → OfItsInput o λ bytes. IsJudgedExactly bytes o.status
+  -- If the style is judged, and `certify` does not report TooManySteps, then the status and the text
+  -- are the only output of `certify` for the input.
+  pub same : IsPrinted o.status → OfItsInput o λ bytes. HasJudgedStyle (scan bytes).header →
+      HasFewSteps (scan bytes) → IsTheOutput IsCertified bytes o
+  -- An accepted run is serializable, also if it has too many steps for `certify`.
+  pub accepted : o.status ≡ statuses.Accepted → OfItsInput o λ bytes. IsSerializable bytes
+  -- The evidence of a rejection is the one that is defined for its criterion. If it is not empty,
+  -- it proves that the criterion is false.
+  pub rejected : o.status ≡ statuses.Rejected → OfItsInput o λ bytes. IsJudgedEvident (scan bytes)
+  -- The counter rises at most by what `quick` costs, if no record has a step that violates a
+  -- criterion. In any case it rises at most by that and what the search for the step costs.
+  pub most : OfItsInput o λ bytes. JudgeCostsAtMost (scan bytes) o.before o.after
+  pub least : IsDecided o.status → OfItsInput o λ bytes.
+      QuickCostsAtLeast o.status (scan bytes) o.before o.after
 
 pub record QuickPromise (o : Outcome) : Type 0 where
   pub prints : PrintsJust IsQuick o
@@ -128,6 +153,7 @@ abbrev pub CommandPromise : Option Command → Outcome → Type 0
 CommandPromise None o = Unit {0}
 CommandPromise (Some Certify) o = CertifyPromise o
 CommandPromise (Some Expand) o = ExpandPromise o
+CommandPromise (Some Judge) o = JudgePromise o
 CommandPromise (Some Quick) o = QuickPromise o
 CommandPromise (Some Swaps) o = SwapsPromise o
 CommandPromise (Some Recheck) o = RecheckPromise o

@@ -10,12 +10,13 @@ use Rattle.pp_judge.specs.Inputs.{ReadsNoFault}
 use Rattle.pp_judge.specs.Reports.{IsCertified, IsExpanded}
 use Rattle.pp_cmd_views.specs.Outputs.{IsViews}
 use Rattle.pp_cmd_quick.specs.Decisions.{IsQuick, QuickReadsNoFault}
+use Rattle.pp_cmd_judge.specs.Judgements.{IsJudged, JudgeReadsNoFault}
 use Rattle.pp_laws_reports.specs.Defined.{IsDefined}
 use Rattle.pp_cmd_drill.specs.Reports.{IsDrilled}
 use Rattle.pp_cmd_swaps.specs.Swaps.{IsSwaps}
 use Rattle.pp_run.specs.declared.words.Command.{Command}
-use Rattle.pp_run.specs.declared.words.Command.TheVariants.{Certify, Drill, Expand, Quick}
-use Rattle.pp_run.specs.declared.words.Command.TheVariants.{Recheck, Swaps, Views}
+use Rattle.pp_run.specs.declared.words.Command.TheVariants.{Certify, Drill, Expand, Judge}
+use Rattle.pp_run.specs.declared.words.Command.TheVariants.{Quick, Recheck, Swaps, Views}
 use Rattle.pp_run.specs.Words.{command_of}
 use Rattle.pp_run.specs.Writing.{AppendsPrefix}
 
@@ -25,6 +26,7 @@ abbrev pub OfInput : Option Command → Option (List ℕ) → (List ℕ → Type
 OfInput None left P = P []
 OfInput (Some Certify) left P = WhereTold left P
 OfInput (Some Expand) left P = WhereTold left P
+OfInput (Some Judge) left P = WhereTold left P
 OfInput (Some Quick) left P = WhereTold left P
 OfInput (Some Swaps) left P = WhereTold left P
 OfInput (Some Recheck) left P = WhereTold left P
@@ -36,6 +38,7 @@ abbrev pub IsOutput : Option Command → List ℕ → Status → List ℕ → Ty
 IsOutput None bytes status text = (status ≡ statuses.BadWords) × (text ≡ [])
 IsOutput (Some Certify) bytes status text = IsCertified bytes status text
 IsOutput (Some Expand) bytes status text = IsExpanded bytes status text
+IsOutput (Some Judge) bytes status text = IsJudged bytes status text
 IsOutput (Some Quick) bytes status text = IsQuick bytes status text
 IsOutput (Some Swaps) bytes status text = IsSwaps bytes status text
 IsOutput (Some Recheck) bytes status text = IsRecheck bytes status text
@@ -59,6 +62,7 @@ abbrev pub IsOfWhole : Option Command → Status → Type 0
 IsOfWhole None status = ⊥
 IsOfWhole (Some Certify) status = IsDecided status
 IsOfWhole (Some Expand) status = IsDecided status
+IsOfWhole (Some Judge) status = IsDecided status
 IsOfWhole (Some Quick) status = IsDecided status
 IsOfWhole (Some Swaps) status = IsVerdictOrSize status
 IsOfWhole (Some Recheck) status = status ≡ statuses.Accepted
@@ -71,6 +75,7 @@ abbrev pub ReadsSound : Option Command → Option (List ℕ) → Option (List �
 ReadsSound None old new = ⊥
 ReadsSound (Some Certify) old new = ReadsNoFault old new
 ReadsSound (Some Expand) old new = ReadsNoFault old new
+ReadsSound (Some Judge) old new = JudgeReadsNoFault old new
 ReadsSound (Some Quick) old new = QuickReadsNoFault old new
 ReadsSound (Some Swaps) old new = ReadsNoFault old new
 ReadsSound (Some Recheck) old new = RecheckReadsNoFault old new

@@ -5,14 +5,15 @@ use Rattle.std.specs.Fmt.{decimal}
 use Rattle.std.specs.Str.{bytes_eq}
 use Rattle.std.specs.Str.Parse.{digits_value}
 use Rattle.pp_run.specs.declared.words.Command.{Command}
-use Rattle.pp_run.specs.declared.words.Command.TheVariants.{Certify, Drill, Expand, Quick}
-use Rattle.pp_run.specs.declared.words.Command.TheVariants.{Recheck, Swaps, Views}
+use Rattle.pp_run.specs.declared.words.Command.TheVariants.{Certify, Drill, Expand, Judge}
+use Rattle.pp_run.specs.declared.words.Command.TheVariants.{Quick, Recheck, Swaps, Views}
 
 -- the command of one argument
 abbrev pub command_named : List ℕ → Option Command
 command_named word =
     if bytes_eq word (codes "certify") then Some Certify
     else if bytes_eq word (codes "expand") then Some Expand
+    else if bytes_eq word (codes "judge") then Some Judge
     else if bytes_eq word (codes "quick") then Some Quick
     else if bytes_eq word (codes "swaps") then Some Swaps
     else if bytes_eq word (codes "recheck") then Some Recheck
@@ -46,6 +47,7 @@ abbrev pub Reads : Option Command → Type 0
 Reads None = ⊥
 Reads (Some Certify) = Unit {0}
 Reads (Some Expand) = Unit {0}
+Reads (Some Judge) = Unit {0}
 Reads (Some Quick) = Unit {0}
 Reads (Some Swaps) = Unit {0}
 Reads (Some Recheck) = Unit {0}
@@ -58,6 +60,7 @@ abbrev pub DrivesMachine : Option Command → Type 0
 DrivesMachine None = ⊥
 DrivesMachine (Some Certify) = Unit {0}
 DrivesMachine (Some Expand) = Unit {0}
+DrivesMachine (Some Judge) = ⊥
 DrivesMachine (Some Quick) = ⊥
 DrivesMachine (Some Swaps) = Unit {0}
 DrivesMachine (Some Recheck) = ⊥
@@ -69,6 +72,7 @@ abbrev pub TellsSize : Option Command → Type 0
 TellsSize None = ⊥
 TellsSize (Some Certify) = ⊥
 TellsSize (Some Expand) = ⊥
+TellsSize (Some Judge) = ⊥
 TellsSize (Some Quick) = ⊥
 TellsSize (Some Swaps) = Unit {0}
 TellsSize (Some Recheck) = ⊥

@@ -8,7 +8,8 @@ ghost use Rattle.pp_input_reader.specs.Sources.{WhereTold};
 ghost use Rattle.pp_certificate_lines.specs.Rechecked.{IsCheckedSound};
 ghost use Rattle.pp_judge.specs.Inputs.{scan};
 ghost use Rattle.pp_judge.specs.Rejected.{IsEvident};
-ghost use Rattle.pp_run.specs.declared.words.Command.TheVariants.{Drill, Recheck};
+ghost use Rattle.pp_cmd_judge.specs.Judgements.{IsJudgedEvident};
+ghost use Rattle.pp_run.specs.declared.words.Command.TheVariants.{Drill, Judge, Recheck};
 ghost use Rattle.pp_run.specs.Bounds.{RisesAtLeast, RisesAtMost};
 ghost use Rattle.pp_run.specs.Outputs.{IsOfWhole, IsOutput, IsVerdictOrSize, OfInput, ReadsSound};
 ghost use Rattle.pp_run.specs.Words.{DrivesMachine, Reads, TellsSize};
@@ -17,6 +18,7 @@ use crate::words::Command;
 use pp_cmd_certify::certify;
 use pp_cmd_drill::drill;
 use pp_cmd_expand::expand;
+use pp_cmd_judge::judge;
 use pp_cmd_quick::quick;
 use pp_cmd_recheck::recheck;
 use pp_cmd_swaps::swaps;
@@ -43,6 +45,8 @@ pub(crate) fn perform<S: Source, L: Ledger>(
     ensures end { IfOk result (λ r. IsOfWhole (Some command) r.0 → IsAtEnd (S.left source.new)) }
     ensures shown { IfOk result (λ r. DrivesMachine (Some command) → r.0 ≡ statuses.Rejected →
         WhereTold (S.left source.old) λ bytes. IsEvident (scan bytes)) }
+    ensures judged { IfOk result (λ r. command ≡ Judge → r.0 ≡ statuses.Rejected →
+        WhereTold (S.left source.old) λ bytes. IsJudgedEvident (scan bytes)) }
     ensures checked { IfOk result (λ r. command ≡ Recheck → r.0 ≡ statuses.Accepted →
         WhereTold (S.left source.old) λ bytes. IsCheckedSound bytes) }
     ensures untouched { ¬ Reads (Some command) → source.new ≡ source.old }
@@ -59,6 +63,7 @@ pub(crate) fn perform<S: Source, L: Ledger>(
     match command {
         Command::Certify => certify(alloc, source, ticks),
         Command::Expand => expand(alloc, source, ticks),
+        Command::Judge => judge(alloc, source, ticks),
         Command::Quick => quick(alloc, source, ticks),
         Command::Swaps => swaps(alloc, source, ticks),
         Command::Recheck => recheck(alloc, source, ticks),

@@ -13,6 +13,8 @@ pub(crate) enum Command {
     Certify,
     /// Print the steps that the records of the input mean.
     Expand,
+    /// Report the same without a limit on steps, if the style is one that is judged so.
+    Judge,
     /// Report whether the input is a boosted run of the machine, without local logs.
     Quick,
     /// Print the exchanges that turn the shared log of the run into its serial run.
@@ -54,6 +56,8 @@ fn command_named(word: &[u8]) -> Option<Command>
         Some(Command::Certify)
     } else if word == b"expand".as_slice() {
         Some(Command::Expand)
+    } else if word == b"judge".as_slice() {
+        Some(Command::Judge)
     } else if word == b"quick".as_slice() {
         Some(Command::Quick)
     } else if word == b"swaps".as_slice() {

@@ -1,10 +1,9 @@
 -- Which step is the first with a false criterion: one step, and steps after one another.
-use Rattle.std.specs.Prelude.{◌≡◌, ◌↔◌, ◌<◌, ◌+◌, ℕ, zero, suc, List, [], ◌∷◌, ◌++◌, length, slice_get, option_map, Option, None, Some}
-use Rattle.std.proofs.Common.{refl, sym, ap, subst, ◌∙◌, arith}
+use Rattle.std.specs.Prelude.{◌≡◌, ℕ, zero, suc, List, [], ◌∷◌, ◌++◌, slice_get, option_map, Option, None, Some}
+use Rattle.std.proofs.Common.{refl, ap, ◌∙◌}
 use Rattle.pp_core.specs.declared.step.Rule.{Rule}
 use Rattle.pp_core.specs.Steps.{rule_of}
 use Rattle.pp_model.specs.Config.{Step}
-use Rattle.pp_model.specs.Rules.{FirstFalse}
 use Rattle.pp_machine.specs.declared.detail.Detail.{Detail}
 use Rattle.pp_machine.specs.declared.detail.Detail.TheVariants.{Nothing}
 use Rattle.pp_machine.specs.Evidence.{at_number}
@@ -13,7 +12,6 @@ use Rattle.pp_laws_summary.proofs.Asks.{Alike, alike}
 use Rattle.pp_violations.specs.Asks.{AllTrue, Breaks, FalseAt, Finds, HasDetailAt, HasRuleAt, Judges}
 use Rattle.pp_violations.specs.Searches.{alone_violation, step_violation}
 use Rattle.pp_violations.specs.declared.violation.Broken.{Broken}
-use Rattle.pp_violations.specs.declared.violation.Violation.{Violation}
 
 -- Steps that cannot fail.
 pub all_safe : (Op : Type 0) (n : ℕ) → AllTrue (safe {Op = Op} n)
@@ -59,11 +57,13 @@ module _ {Op : Type 0} where
   false_left (a ∷ qs) more zero n h = h
   false_left (a ∷ qs) more (suc k) n h = (h.0, false_left qs more k n h.1)
 
+  -- Nor do they change its rule.
   pub rule_left : (qs more : List (Asked Op)) (k : ℕ) (rule : Rule) → HasRuleAt qs k rule → HasRuleAt (qs ++ more) k rule
   rule_left [] more k rule h = absurd h
   rule_left (a ∷ qs) more zero rule h = h
   rule_left (a ∷ qs) more (suc k) rule h = rule_left qs more k rule h
 
+  -- Nor its evidence.
   pub detail_left : (ds more : List (List (Detail Op))) (k n : ℕ) (d : Detail Op) → HasDetailAt ds k n d → HasDetailAt (ds ++ more) k n d
   detail_left ds more k n d h = (h.0, slice_left ds more k h.0 h.1, h.2)
 

@@ -1,11 +1,10 @@
 -- What the summary that a Quick keeps says of names and threads, and of one open transaction.
-use Rattle.std.specs.Prelude.{◌≡◌, ◌≢◌, ◌==◌, ℕ, Bool, true, false, cond, List, [], ◌∷◌, ◌++◌, filter, map, option_map, take, is_some, Option, None, Some}
+use Rattle.std.specs.Prelude.{◌≡◌, ◌≢◌, ◌==◌, ℕ, Bool, true, false, cond, List, [], ◌∷◌, ◌++◌, map, take, None, Some}
 use Rattle.std.specs.List.{list_any}
-use Rattle.std.specs.Map.{keys_of, lookup}
-use Rattle.std.proofs.Common.{refl, sym, ap, subst, ◌∙◌}
+use Rattle.std.proofs.Common.{refl, sym, ap, ◌∙◌}
 use Rattle.std.proofs.lemmas.List.{map-append}
 use Rattle.pp_core.specs.declared.entry.Item.{Item}
-use Rattle.pp_model.specs.Config.{LocalEntry, Pushed, SharedEntry, Unpushed, item, local_ops}
+use Rattle.pp_model.specs.Config.{LocalEntry, Pushed, SharedEntry, item, local_ops}
 use Rattle.pp_model.specs.Lists.{In}
 use Rattle.pp_model.specs.Names.{Name, ◌=ⁿ◌}
 use Rattle.pp_model.specs.Object.{ops}
@@ -15,9 +14,8 @@ use Rattle.pp_model.proofs.Names.{eq-names, names-true}
 use Rattle.pp_kind.specs.Object.{Object}
 use Rattle.pp_laws_summary.specs.LocalLogs.{serial_at, unpushed}
 use Rattle.pp_laws_summary.specs.Places.{ops_at}
-use Rattle.pp_laws_summary.specs.Summary.{OpenSummary, Summary, open_named, summary_view}
-use Rattle.pp_summary.specs.Brief.{BriefTx}
-use Rattle.pp_summary.specs.Shown.{KeepsQuick, Kept, filled, items_at, open_in, shown_tx, threads_of}
+use Rattle.pp_laws_summary.specs.Summary.{OpenSummary, summary_view}
+use Rattle.pp_summary.specs.Shown.{KeepsQuick, Kept, filled, items_at, shown_tx, threads_of}
 use Rattle.pp_summary.specs.declared.parts.OpenTx.{OpenTx}
 use Rattle.pp_violations.specs.Searches.{view_items}
 use Rattle.pp_violations.specs.Summarised.{kept_open, kept_summary, own_entry, seen_of}

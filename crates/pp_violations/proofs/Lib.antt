@@ -7,3 +7,8 @@ pub mod Kept
 pub mod Records
 pub mod Views
 pub mod Missing
+pub mod Judging
+pub mod Searching
+pub mod Opened
+pub mod Operations
+pub mod Verdicts

@@ -1,13 +1,13 @@
 -- The PULLs of an operation, as a summary asks for them.
-use Rattle.std.specs.Prelude.{◌≡◌, ◌==◌, ◌↔◌, ◌<◌, ◌+◌, ℕ, zero, suc, Bool, true, false, cond, List, [], ◌∷◌, ◌++◌, filter, length, map, slice_get, take, Option, None, Some}
+use Rattle.std.specs.Prelude.{◌≡◌, ◌↔◌, ◌<◌, ◌+◌, ℕ, zero, suc, List, [], ◌∷◌, ◌++◌, length, map, slice_get, take, Option, Some}
 use Rattle.std.proofs.Common.{refl, sym, ap, subst, ◌∙◌, append_assoc, arith}
-use Rattle.std.proofs.lemmas.List.{append-nil, map-append}
+use Rattle.std.proofs.lemmas.List.{append-nil}
 use Rattle.std.proofs.lemmas.Option.{same_Some}
 use mathlib.Core.Logic.{inl, inr}
 use Rattle.pp_core.specs.declared.entry.Item.{Item}
 use Rattle.pp_core.specs.declared.step.Rule.{Rule}
 use Rattle.pp_core.specs.declared.step.Rule.TheVariants as rules
-use Rattle.pp_model.specs.Config.{LocalEntry, SharedEntry, Step, Pull, item, local_ops, shared_ops}
+use Rattle.pp_model.specs.Config.{LocalEntry, SharedEntry, shared_ops}
 use Rattle.pp_model.specs.Lists.{In}
 use Rattle.pp_model.specs.Names.{Name}
 use Rattle.pp_model.specs.Object as model
@@ -23,7 +23,7 @@ use Rattle.pp_laws_summary.specs.Failures.{Asked, pull_asks}
 use Rattle.pp_laws_summary.specs.Summary.{OpenSummary, Summary, summary_view}
 use Rattle.pp_laws_summary.proofs.Asks.{Alike, alike}
 use Rattle.pp_violations.specs.Asks.{AllTrue, FalseAt, HasRuleAt}
-use Rattle.pp_violations.specs.Searches.{own_swap, pull_evidence, pull_facts}
+use Rattle.pp_violations.specs.Searches.{pull_evidence, pull_facts}
 use Rattle.pp_violations.specs.Summarised.{own_entry}
 
 -- the first pair that does not swap, of entries
@@ -106,6 +106,7 @@ module _ {Shape State Op Undo : Type 0} (o : Object Shape State Op Undo) (place 
     pulls_false (P ++ m ∷ []) M k n g (λ z i. at z (inr i)) e (later P M m k h) (moved P M m g k (suc n) f),
   )
 
+  -- Its rule is PULL.
   pub pulls_rule : (P M : List (SharedEntry Op)) (k : ℕ) (g : SharedEntry Op) (rule : Rule) → rule ≡ rules.Pull → slice_get M k ≡ Some g → HasRuleAt (pull_asks O place B t x q P M) k rule
   pulls_rule P [] k g rule r e = absurd (cc)
   pulls_rule P (m ∷ M) zero g rule r e = r
@@ -130,12 +131,14 @@ module _ {Shape State Op Undo : Type 0} (o : Object Shape State Op Undo) (place 
       let z : suc (length M + k) ≡ j = omega arith in
       subst (λ (w : ℕ). FalseAt (pull_asks O place B t x q P (m ∷ M) ++ more) w n) z (a.0, after_pulls (P ++ m ∷ []) M more k n (length M + k) a.1 refl f)
 
+  -- Their rules.
   pub rule_after_pulls : (P M : List (SharedEntry Op)) (more : List (Asked Op)) (k j : ℕ) (rule : Rule) → j ≡ length M + k → HasRuleAt more k rule → HasRuleAt (pull_asks O place B t x q P M ++ more) j rule
   rule_after_pulls P [] more k j rule e f = let z : k ≡ j = omega arith in subst (λ (w : ℕ). HasRuleAt more w rule) z f
   rule_after_pulls P (m ∷ M) more k j rule e f =
       let z : suc (length M + k) ≡ j = omega arith in
       subst (λ (w : ℕ). HasRuleAt (pull_asks O place B t x q P (m ∷ M) ++ more) w rule) z (rule_after_pulls (P ++ m ∷ []) M more k (length M + k) rule refl f)
 
+  -- Their evidence.
   pub shown_after_pulls : (P M : List (SharedEntry Op)) (more : List (List (Detail Op))) (k j : ℕ) (d : List (Detail Op)) → j ≡ length M + k → slice_get more k ≡ Some d →
       slice_get (details.pull_details o shape place B x q P M ++ more) j ≡ Some d
   shown_after_pulls P [] more k j d e f = let z : k ≡ j = omega arith in subst (λ (w : ℕ). slice_get more w ≡ Some d) z f

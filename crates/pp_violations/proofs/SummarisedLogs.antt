@@ -1,14 +1,12 @@
 -- What is allowed after the local log of a boosted transaction, at a place, is allowed after what it pulled there, in commit order, and then its own operations.
-use Rattle.std.specs.Prelude.{◌≡◌, ◌≢◌, ◌==◌, ℕ, Bool, true, false, not, ◌&&◌, List, [], ◌∷◌, ◌++◌, filter, map}
+use Rattle.std.specs.Prelude.{◌≡◌, ◌≢◌, ◌==◌, ℕ, Bool, true, false, not, ◌&&◌, List, [], ◌++◌, filter, map}
 use Rattle.std.proofs.Common.{refl, sym, ap, subst, ◌∙◌, append_assoc}
 use Rattle.std.proofs.lemmas.Bool.{and_parts, eqb-true, eq-eqb}
 use Rattle.std.proofs.lemmas.List.{append-nil, map-append}
 use mathlib.Core.Logic.{inl, inr}
 use Rattle.pp_model.specs.Config.{Config, LocalEntry, Mark, Pulled, Pushed, SharedEntry, Tx, Unpushed, as_shared, is_own, item, local_ops, own, shared_item, shared_ops}
 use Rattle.pp_model.specs.Lists.{Before, In}
-use Rattle.pp_model.specs.Names.{Name}
 use Rattle.pp_model.specs.Object.{Allowed, AllowedFrom, HasDistinctIds, Item, Object, Reorders, Swaps, TellsStates, ops, state}
-use Rattle.pp_model.specs.Sound.{Sound}
 use Rattle.pp_model.proofs.Lists.{before_cases, before_filter, before_from_filter, before_from_map, before_in_first, before_in_second, before_map, by_key, from_filter, from_map, in_cases, in_filter, in_left, in_map, in_right, not_both}
 use Rattle.pp_model.proofs.Parted.{parted}
 use Rattle.pp_model.proofs.Permute.{permuted}
@@ -23,7 +21,7 @@ use Rattle.pp_laws_summary.proofs.Parts.{swap_apart}
 use Rattle.pp_laws_summary.proofs.Relog.{filter_map}
 use Rattle.pp_laws_summary.proofs.Snapshots.{done_serial}
 use Rattle.pp_laws_summary.proofs.Turning.{allowed_join}
-use Rattle.pp_summary.specs.Boosted.{Boosted, ComesBefore, Follows, PlacesSwap}
+use Rattle.pp_summary.specs.Boosted.{Boosted, Follows, PlacesSwap}
 use Rattle.pp_summary.proofs.Entries.{entry_in, is_there, ops_items, ops_local}
 use Rattle.pp_summary.proofs.Front.{is_item, same, stands, turn}
 

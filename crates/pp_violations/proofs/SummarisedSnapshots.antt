@@ -2,7 +2,7 @@
 use Rattle.std.specs.Prelude.{◌≡◌, ◌≢◌, ◌==◌, ℕ, zero, nat_eq, is_some, Bool, true, false, not, ◌&&◌, List, [], ◌∷◌, ◌++◌, drop, filter, length, map, take, Option, None, Some}
 use Rattle.std.specs.Map.{lookup}
 use Rattle.std.proofs.Common.{refl, sym, ap, subst, ◌∙◌}
-use Rattle.std.proofs.lemmas.Bool.{and_parts, eqb-true, eq-eqb, false_from_ne_true}
+use Rattle.std.proofs.lemmas.Bool.{eq-eqb, false_from_ne_true}
 use Rattle.std.proofs.lemmas.List.{take-append-drop, take-map}
 use mathlib.Core.Logic.{inl, inr}
 use Rattle.pp_core.specs.declared.entry.Item.{Item}
@@ -12,7 +12,6 @@ use Rattle.pp_model.specs.Names.{Name}
 use Rattle.pp_model.specs.Object.{HasDistinctIds, TellsStates}
 use Rattle.pp_model.specs.Object as model
 use Rattle.pp_model.specs.Serial.{has_id}
-use Rattle.pp_model.specs.Sound.{serial_items}
 use Rattle.pp_model.proofs.Lists.{before_across, before_from_filter, before_from_map, before_left, by_key, from_filter, from_map, in_cases, in_filter, in_left, in_map}
 use Rattle.pp_kind.specs.Object.{Object, rules_of}
 use Rattle.pp_records.specs.Expansions.{stands_in}
@@ -23,14 +22,14 @@ use Rattle.pp_laws_summary.proofs.AtPlace.{from_done, from_pulled, to_pulled}
 use Rattle.pp_laws_summary.proofs.Parts.{swap_apart}
 use Rattle.pp_laws_summary.proofs.Snapshots.{done_serial, is_pulled}
 use Rattle.pp_summary.specs.Boosted.{PlacesSwap}
-use Rattle.pp_summary.specs.Brief.{BriefTx, any_at, brief_tx, is_missed, missed, shared_ids}
+use Rattle.pp_summary.specs.Brief.{BriefTx, any_at, brief_tx, is_missed, shared_ids}
 use Rattle.pp_summary.specs.Held.{IsHeldOf}
-use Rattle.pp_summary.specs.Shown.{KeepsQuick, Kept, as_held, at, filled, ids_behind, is_unseen, open_in, shown_tx, unseen, unseen_at}
+use Rattle.pp_summary.specs.Shown.{KeepsQuick, Kept, as_held, at, filled, ids_behind, is_unseen, shown_tx, unseen, unseen_at}
 use Rattle.pp_summary.specs.declared.parts.OpenTx.{OpenTx}
 use Rattle.pp_summary.proofs.Briefs.{differ, has_in, in_has}
 use Rattle.pp_summary.proofs.Entries.{entry_in, is_there}
 use Rattle.pp_summary.proofs.Relog.{same_bool}
-use Rattle.pp_violations.specs.Summarised.{no_section, seen_of, number_or_zero}
+use Rattle.pp_violations.specs.Summarised.{no_section, number_or_zero}
 use Rattle.pp_violations.proofs.Summarised.{Slots, seen_is}
 use Rattle.pp_violations.proofs.SummarisedLogs.{log_leads}
 

@@ -1,8 +1,8 @@
 -- Lists that are made of entries and operations one by one.
-use Rattle.std.specs.Prelude.{◌≡◌, ◌==◌, ◌<◌, ◌+◌, ℕ, Bool, true, false, cond, not, ◌&&◌, ◌||◌, List, [], ◌∷◌, ◌++◌, filter, length, take}
+use Rattle.std.specs.Prelude.{◌≡◌, ◌==◌, ◌<◌, ◌+◌, ℕ, Bool, true, false, cond, ◌||◌, List, [], ◌∷◌, ◌++◌, filter, length, take}
 use Rattle.std.specs.List.{list_any}
-use Rattle.std.proofs.Common.{refl, sym, ap, subst, ◌∙◌, append_assoc, arith, get_or}
-use Rattle.std.proofs.lemmas.Bool.{eqb-true, eq-eqb}
+use Rattle.std.proofs.Common.{refl, sym, ap, subst, ◌∙◌, append_assoc, get_or}
+use Rattle.std.proofs.lemmas.Bool.{eqb-true}
 use Rattle.std.proofs.lemmas.List.{append-nil}
 use Rattle.std.proofs.lemmas.List.Elements.{filter-append}
 use Rattle.std.proofs.lemmas.Option.{get_or_from_slice_get, slice_get-get_or}
@@ -21,13 +21,14 @@ use Rattle.pp_summary.proofs.Items.{take_next}
 pub filter_next : {A : Type 0} (test : A → Bool) (l : List A) (i : ℕ) (e : A) → i < length l → e ≡ get_or l i e → filter test (take (i + 1) l) ≡ filter test (take i l) ++ cond (test e) (e ∷ []) []
 filter_next {A} test l i e lt is = ap (λ (w : List A). filter test w) (take_next l i e lt is) ∙ filter-append test (take i l) (e ∷ [])
 
--- So it is of one that passes, and of one that does not.
+-- A list that is filtered so far, and one more element that passes.
 pub filter_yes : {A : Type 0} (test : A → Bool) (l old new : List A) (i : ℕ) (e : A) → i < length l → e ≡ get_or l i e → test e ≡ true → (front : List A) → old ≡ front ++ filter test (take i l) → new ≡ old ++ e ∷ [] → new ≡ front ++ filter test (take (i + 1) l)
 filter_yes {A} test l old new i e lt is passed front so more =
     more ∙ ap (λ (w : List A). w ++ e ∷ []) so ∙ append_assoc front (filter test (take i l)) (e ∷ [])
     ∙ ap (λ (b : Bool). front ++ (filter test (take i l) ++ cond b (e ∷ []) [])) (sym passed)
     ∙ ap (λ (w : List A). front ++ w) (sym (filter_next test l i e lt is))
 
+-- The same of one that does not pass.
 pub filter_no : {A : Type 0} (test : A → Bool) (l old : List A) (i : ℕ) (e : A) → i < length l → e ≡ get_or l i e → test e ≡ false → (front : List A) → old ≡ front ++ filter test (take i l) → old ≡ front ++ filter test (take (i + 1) l)
 filter_no {A} test l old i e lt is failed front so =
     so ∙ ap (λ (w : List A). front ++ w) (sym (append-nil (filter test (take i l))))

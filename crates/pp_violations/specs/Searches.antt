@@ -1,6 +1,6 @@
 -- Proof machinery: what the parts of the search answer.
-use Rattle.std.specs.Prelude.{◌≡◌, ◌≢◌, ◌<◌, ◌==◌, ◌&&◌, ℕ, Bool, false, not, List, [], ◌∷◌, ◌++◌, length}
-use Rattle.std.specs.Prelude.{slice_get, take, Option, None, Some, Result, Ok, Err}
+use Rattle.std.specs.Prelude.{◌≡◌, ◌≢◌, ◌<◌, ◌==◌, ◌&&◌, ℕ, Bool, false, not, List, [], ◌∷◌, ◌++◌}
+use Rattle.std.specs.Prelude.{length, slice_get, take, Option, None, Some, Result, Ok, Err}
 use Rattle.std.specs.List.{list_any}
 use Rattle.pp_core.specs.declared.call.Style.TheVariants.{Boosted}
 use Rattle.pp_core.specs.declared.entry.Item.{Item}
@@ -66,18 +66,18 @@ module _ {Shape State Op Undo : Type 0} (o : Object Shape State Op Undo) where
   abbrev pub AreEntriesAsked : Shape → List (SharedEntry Op) → Type 0
   AreEntriesAsked shape entries = (g : SharedEntry Op) → In g entries → IsOpAsked o shape g.op
 
-  -- the evidence that one of these operations does not swap with another behind it
+  -- the evidence that one of these operations does not swap with another after it
   abbrev pub own_swap : List (Item Op) → Op → Detail Op
   own_swap own op = first_swap (λ a. a.id) (λ a. o.refuting a.op op) own
 
 module _ {Shape State Op Undo : Type 0} (o : Object Shape State Op Undo) (place : Op → ℕ)
     (shape : Shape) where
-  -- The state is the one behind these operations of the shape, which are allowed.
+  -- The state is the one after these operations of the shape, which are allowed.
   pub record IsStateOf (s : State) (before : List Op) : Type 0 where
     pub log : IsLog o s before
     pub shape_is : o.shape s ≡ shape
 
-  -- the criteria of a PULL behind these operations, of a transaction with these own ones
+  -- the criteria of a PULL after these operations, of a transaction with these own ones
   abbrev pub pull_facts : List Op → List (Item Op) → SharedEntry Op → List (Type 0)
   pull_facts before own g =
       Unit {0}
@@ -97,7 +97,7 @@ module _ {Shape State Op Undo : Type 0} (o : Object Shape State Op Undo) (place 
       ∷ own_swap o own g.op
       ∷ []
 
-  -- What judging a PULL answers: if no criterion is false, the state is the one behind it.
+  -- What judging a PULL answers: if no criterion is false, the state is the one after it.
   abbrev pub JudgesPull : List Op → List (Item Op) → SharedEntry Op → State →
       Option (Broken Op) → Type 0
   JudgesPull before own g s None =
@@ -122,14 +122,14 @@ module _ {Shape State Op Undo : Type 0} (o : Object Shape State Op Undo) (place 
         (pull_evidence (before ++ shared_ops (take x.offset entries)) own entry)
         (record { criterion = x.criterion; detail = x.detail })
 
-  -- What a search through PULLs answers: the state behind all of them, or the first that fails.
+  -- What a search through PULLs answers: the state after all of them, or the first that fails.
   abbrev pub SearchesPulls : List Op → List (Item Op) → List (SharedEntry Op) →
       Result State (Violation Op) → Type 0
   SearchesPulls before own entries (Ok s) =
       ArePulled before own entries (length entries) × IsStateOf s (before ++ shared_ops entries)
   SearchesPulls before own entries (Err x) = FailsPull before own entries x
 
-  -- the criteria of an APP behind these operations, of a transaction with these own ones
+  -- the criteria of an APP after these operations, of a transaction with these own ones
   abbrev pub app_facts : List ℕ → ℕ → Op → Option Tree → List (Item Op) → List Op → List (Type 0)
   app_facts ids id op body own before =
       Unit {0}
@@ -143,7 +143,7 @@ module _ {Shape State Op Undo : Type 0} (o : Object Shape State Op Undo) (place 
   app_evidence id op before =
       Nothing ∷ Nothing ∷ Nothing ∷ gives_behind o shape id before op ∷ []
 
-  -- the criteria of a PUSH behind these entries, of a transaction whose own entries are pushed
+  -- the criteria of a PUSH after these entries, of a transaction whose own entries are pushed
   abbrev pub push_facts : Name → Op → List (SharedEntry Op) → List (Type 0)
   push_facts t op G =
       Unit {0}

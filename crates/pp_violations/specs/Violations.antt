@@ -20,7 +20,7 @@ module _ {Shape State Op Undo : Type 0} (o : Object Shape State Op Undo) (place 
       (f : Front) (c : Config Op) : Type 0 where
     pub step : Step Op
     pub number : ℕ
-    pub fails : FailsAt o v.shape c (expand place Boosted f c r) x.offset step number
+    pub fails : FailsAt o v.shape place c (expand place Boosted f c r) x.offset step number
     pub rule : x.rule ≡ rule_of step
     pub criterion : x.criterion ≡ suc number
     pub detail : x.detail

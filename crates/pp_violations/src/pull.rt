@@ -16,8 +16,8 @@ use pp_summary::Own;
 use std::alloc::Global;
 use std::sync::ledger::Ledger;
 
-/// The evidence of the first of these operations that does not swap with another behind it.
-fn tell_own_swap<S: Spec>(
+/// The evidence of the first of these operations that does not swap with another after it.
+fn find_own_swap<S: Spec>(
     alloc: Global,
     own: &[Item<S::Op>],
     op: &S::Op,
@@ -35,7 +35,7 @@ fn tell_own_swap<S: Spec>(
 }
 
 /// The first violated criterion of the PULL of an entry. If there is none, the state becomes the
-/// one behind it.
+/// one after it.
 fn judge_pull<S: Parted, L: Ledger>(
     alloc: Global,
     own: &Own<S>,
@@ -68,14 +68,14 @@ fn judge_pull<S: Parted, L: Ledger>(
     if own.let_pass(&entry.op) {
         return Ok(None);
     }
-    let detail = tell_own_swap::<S>(alloc, own.as_slice(), &entry.op)?;
+    let detail = find_own_swap::<S>(alloc, own.as_slice(), &entry.op)?;
     Ok(Some(Broken {
         criterion: 5,
         detail,
     }))
 }
 
-/// The first of the PULLs that violates a criterion, or else the state behind them.
+/// The first of the PULLs that violates a criterion, or else the state after them.
 pub(crate) fn search_pulls<S: Parted, L: Ledger>(
     alloc: Global,
     shape: &S::Shape,

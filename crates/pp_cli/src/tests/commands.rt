@@ -8,7 +8,7 @@ pub(crate) struct CommandRow {
     pub(crate) row: Row,
 }
 
-pub(crate) const COMMANDS: [CommandRow; 11] = [
+pub(crate) const COMMANDS: [CommandRow; 16] = [
     CommandRow {
         command: b"swaps",
         row: Row {
@@ -130,6 +130,89 @@ pub(crate) const COMMANDS: [CommandRow; 11] = [
 "#,
             status: Status::Accepted,
             report: b"accepted steps 8 committed 0\nview t1 ops 1 after 0\nview t2 ops 1 after none\n",
+        },
+    },
+    CommandRow {
+        command: b"judge",
+        row: Row {
+            what: "accounts",
+            header: b"",
+            records: br#"{"run":1,"style":"boosted","objects":[{"name":"acct","kind":"map"}]}
+{"step":"begin","tx":"t0","thread":"p0"}
+{"step":"op","tx":"t0","id":1,"on":"acct","call":"put","args":[1,100],"result":null}
+{"step":"op","tx":"t0","id":2,"on":"acct","call":"put","args":[2,50],"result":null}
+{"step":"commit","tx":"t0"}
+{"step":"begin","tx":"t1","thread":"p1"}
+{"step":"begin","tx":"t2","thread":"p2"}
+{"step":"op","tx":"t1","id":3,"on":"acct","call":"put","args":[1,70],"result":100}
+{"step":"op","tx":"t2","id":4,"on":"acct","call":"put","args":[3,5],"result":null}
+{"step":"commit","tx":"t2"}
+{"step":"op","tx":"t1","id":5,"on":"acct","call":"put","args":[2,80],"result":50}
+{"step":"commit","tx":"t1"}
+"#,
+            status: Status::Accepted,
+            report: b"accepted steps 21 committed 3\ntx t0\nop 1 acct.put(1,100)=none\nop 2 acct.put(2,50)=none\ntx t2\nop 4 acct.put(3,5)=none\ntx t1\nop 3 acct.put(1,70)=100\nop 5 acct.put(2,80)=50\nstate acct 1=70 2=80 3=5\n",
+        },
+    },
+    CommandRow {
+        command: b"judge",
+        row: Row {
+            what: "a counter that does not start at 0",
+            header: b"",
+            records: br#"{"run":2,"style":"boosted","objects":[{"name":"c","kind":"counter"}],"start":{"tx":"t0","ops":[{"id":1,"on":"c","call":"add","args":[5],"result":null}]}}
+{"step":"begin","tx":"t1","thread":"p1"}
+{"step":"op","tx":"t1","id":2,"on":"c","call":"get","args":[],"result":5}
+{"step":"commit","tx":"t1"}
+"#,
+            status: Status::Accepted,
+            report: b"accepted steps 5 committed 2\ntx t0\nop 1 c.add(5)=none\ntx t1\nop 2 c.get()=5\nstate c 5\n",
+        },
+    },
+    CommandRow {
+        command: b"judge",
+        row: Row {
+            what: "a queue that is not left as it was found",
+            header: b"",
+            records: br#"{"run":1,"style":"boosted","objects":[{"name":"q","kind":"queue"}]}
+{"step":"begin","tx":"t0","thread":"p0"}
+{"step":"op","tx":"t0","id":1,"on":"q","call":"enq","args":[3],"result":null}
+{"step":"commit","tx":"t0"}
+{"step":"begin","tx":"t1","thread":"p1"}
+{"step":"op","tx":"t1","id":2,"on":"q","call":"deq","args":[],"result":3}
+{"step":"begin","tx":"t2","thread":"p2"}
+{"step":"op","tx":"t2","id":3,"on":"q","call":"enq","args":[3],"result":null}
+{"step":"commit","tx":"t1"}
+{"step":"op","tx":"t2","id":4,"on":"q","call":"enq","args":[3],"result":null}
+"#,
+            status: Status::Rejected,
+            report: b"rejected step 14 line 10 PULL 5\nentry 3\nbefore\nafter\n",
+        },
+    },
+    CommandRow {
+        command: b"judge",
+        row: Row {
+            what: "a run of style rules",
+            header: b"",
+            records: br#"{"run":1,"style":"rules","objects":[{"name":"c","kind":"counter"}]}
+{"step":"begin","tx":"t1","thread":"p1"}
+{"step":"app","tx":"t1","id":1,"on":"c","call":"add","args":[2],"result":null}
+{"step":"push","tx":"t1","id":1}
+{"step":"cmt","tx":"t1"}
+"#,
+            status: Status::InputFault,
+            report: b"fault line 1 StyleNotJudged\n",
+        },
+    },
+    CommandRow {
+        command: b"judge",
+        row: Row {
+            what: "a start that adds one key twice",
+            header: b"",
+            records: br#"{"run":2,"style":"boosted","objects":[{"name":"s","kind":"set"}],"start":{"tx":"t0","ops":[{"id":1,"on":"s","call":"add","args":[5],"result":true},{"id":2,"on":"s","call":"add","args":[5],"result":true}]}}
+{"step":"begin","tx":"t1","thread":"p1"}
+"#,
+            status: Status::Rejected,
+            report: b"rejected step 0 line 1 START 2\nentry 2 gives false\n",
         },
     },
     CommandRow {

@@ -20,6 +20,11 @@ returns-in-Expand-clause-output g c =
     let left = g.S.Source.left c.args.source.now in
     IfOk-weaker c.expand.result _ _ (λ r here. subst (λ (k : Command). OfInput (Some k) left (λ bytes. IsOutput (Some k) bytes r.0 r.1)) (sym c.in-Expand.is) here) c.expand.ensures.output
 
+pub returns-in-Judge-clause-output : goal.returns-in-Judge-clause-output
+returns-in-Judge-clause-output g c =
+    let left = g.S.Source.left c.args.source.now in
+    IfOk-weaker c.judge.result _ _ (λ r here. subst (λ (k : Command). OfInput (Some k) left (λ bytes. IsOutput (Some k) bytes r.0 r.1)) (sym c.in-Judge.is) here) c.judge.ensures.output
+
 pub returns-in-Quick-clause-output : goal.returns-in-Quick-clause-output
 returns-in-Quick-clause-output g c =
     let left = g.S.Source.left c.args.source.now in
@@ -48,6 +53,9 @@ returns-in-Certify-clause-status g c = IfOk-weaker c.certify.result _ _ (λ r. a
 pub returns-in-Expand-clause-status : goal.returns-in-Expand-clause-status
 returns-in-Expand-clause-status g c = IfOk-weaker c.expand.result _ _ (λ r. answered r.0) c.expand.ensures.status
 
+pub returns-in-Judge-clause-status : goal.returns-in-Judge-clause-status
+returns-in-Judge-clause-status g c = IfOk-weaker c.judge.result _ _ (λ r. answered r.0) c.judge.ensures.status
+
 pub returns-in-Quick-clause-status : goal.returns-in-Quick-clause-status
 returns-in-Quick-clause-status g c = IfOk-weaker c.quick.result _ _ (λ r. answered r.0) c.quick.ensures.status
 
@@ -67,6 +75,9 @@ returns-in-Certify-clause-size g c = IfOk-weaker c.certify.result _ _ (λ r told
 
 pub returns-in-Expand-clause-size : goal.returns-in-Expand-clause-size
 returns-in-Expand-clause-size g c = IfOk-weaker c.expand.result _ _ (λ r told large. absurd (decided_fits r.0 told large)) c.expand.ensures.status
+
+pub returns-in-Judge-clause-size : goal.returns-in-Judge-clause-size
+returns-in-Judge-clause-size g c = IfOk-weaker c.judge.result _ _ (λ r told large. absurd (decided_fits r.0 told large)) c.judge.ensures.status
 
 pub returns-in-Quick-clause-size : goal.returns-in-Quick-clause-size
 returns-in-Quick-clause-size g c = IfOk-weaker c.quick.result _ _ (λ r told large. absurd (decided_fits r.0 told large)) c.quick.ensures.status
@@ -89,6 +100,10 @@ returns-in-Certify-clause-end g c =
 pub returns-in-Expand-clause-end : goal.returns-in-Expand-clause-end
 returns-in-Expand-clause-end g c =
     IfOk-weaker c.expand.result _ _ (λ r end whole. end (subst (λ (k : Command). IsOfWhole (Some k) r.0) c.in-Expand.is whole)) c.expand.ensures.end
+
+pub returns-in-Judge-clause-end : goal.returns-in-Judge-clause-end
+returns-in-Judge-clause-end g c =
+    IfOk-weaker c.judge.result _ _ (λ r end whole. end (subst (λ (k : Command). IsOfWhole (Some k) r.0) c.in-Judge.is whole)) c.judge.ensures.end
 
 pub returns-in-Quick-clause-end : goal.returns-in-Quick-clause-end
 returns-in-Quick-clause-end g c =
@@ -114,6 +129,10 @@ returns-in-Certify-clause-shown g c = IfOk-weaker c.certify.result _ _ (λ r sho
 pub returns-in-Expand-clause-shown : goal.returns-in-Expand-clause-shown
 returns-in-Expand-clause-shown g c = IfOk-weaker c.expand.result _ _ (λ r shown drives. shown) c.expand.ensures.shown
 
+pub returns-in-Judge-clause-shown : goal.returns-in-Judge-clause-shown
+returns-in-Judge-clause-shown g c =
+    if_ok_all c.judge.result _ (λ r drives. absurd (subst (λ (k : Command). DrivesMachine (Some k)) c.in-Judge.is drives))
+
 pub returns-in-Quick-clause-shown : goal.returns-in-Quick-clause-shown
 returns-in-Quick-clause-shown g c =
     if_ok_all c.quick.result _ (λ r drives. absurd (subst (λ (k : Command). DrivesMachine (Some k)) c.in-Quick.is drives))
@@ -128,6 +147,47 @@ returns-in-Recheck-clause-shown g c =
 pub returns-in-Views-clause-shown : goal.returns-in-Views-clause-shown
 returns-in-Views-clause-shown g c = IfOk-weaker c.views.result _ _ (λ r shown drives. shown) c.views.ensures.shown
 
+-- ---- the evidence of a rejection of `judge`
+
+pub returns-in-Certify-clause-judged : goal.returns-in-Certify-clause-judged
+returns-in-Certify-clause-judged g c =
+    if_ok_all c.certify.result _ (λ r is.
+    let no : ⊥ = cc in
+    absurd no)
+
+pub returns-in-Expand-clause-judged : goal.returns-in-Expand-clause-judged
+returns-in-Expand-clause-judged g c =
+    if_ok_all c.expand.result _ (λ r is.
+    let no : ⊥ = cc in
+    absurd no)
+
+pub returns-in-Judge-clause-judged : goal.returns-in-Judge-clause-judged
+returns-in-Judge-clause-judged g c = IfOk-weaker c.judge.result _ _ (λ r shown is. shown) c.judge.ensures.shown
+
+pub returns-in-Quick-clause-judged : goal.returns-in-Quick-clause-judged
+returns-in-Quick-clause-judged g c =
+    if_ok_all c.quick.result _ (λ r is.
+    let no : ⊥ = cc in
+    absurd no)
+
+pub returns-in-Swaps-clause-judged : goal.returns-in-Swaps-clause-judged
+returns-in-Swaps-clause-judged g c =
+    if_ok_all c.swaps.result _ (λ r is.
+    let no : ⊥ = cc in
+    absurd no)
+
+pub returns-in-Recheck-clause-judged : goal.returns-in-Recheck-clause-judged
+returns-in-Recheck-clause-judged g c =
+    if_ok_all c.recheck.result _ (λ r is.
+    let no : ⊥ = cc in
+    absurd no)
+
+pub returns-in-Views-clause-judged : goal.returns-in-Views-clause-judged
+returns-in-Views-clause-judged g c =
+    if_ok_all c.views.result _ (λ r is.
+    let no : ⊥ = cc in
+    absurd no)
+
 -- ---- what an accepted certificate shows
 
 pub returns-in-Certify-clause-checked : goal.returns-in-Certify-clause-checked
@@ -139,6 +199,12 @@ returns-in-Certify-clause-checked g c =
 pub returns-in-Expand-clause-checked : goal.returns-in-Expand-clause-checked
 returns-in-Expand-clause-checked g c =
     if_ok_all c.expand.result _ (λ r is.
+    let no : ⊥ = cc in
+    absurd no)
+
+pub returns-in-Judge-clause-checked : goal.returns-in-Judge-clause-checked
+returns-in-Judge-clause-checked g c =
+    if_ok_all c.judge.result _ (λ r is.
     let no : ⊥ = cc in
     absurd no)
 
@@ -171,6 +237,9 @@ returns-in-Certify-clause-untouched g c = λ none. absurd (none (subst (λ (k : 
 pub returns-in-Expand-clause-untouched : goal.returns-in-Expand-clause-untouched
 returns-in-Expand-clause-untouched g c = λ none. absurd (none (subst (λ (k : Command). Reads (Some k)) (sym c.in-Expand.is) tt))
 
+pub returns-in-Judge-clause-untouched : goal.returns-in-Judge-clause-untouched
+returns-in-Judge-clause-untouched g c = λ none. absurd (none (subst (λ (k : Command). Reads (Some k)) (sym c.in-Judge.is) tt))
+
 pub returns-in-Quick-clause-untouched : goal.returns-in-Quick-clause-untouched
 returns-in-Quick-clause-untouched g c = λ none. absurd (none (subst (λ (k : Command). Reads (Some k)) (sym c.in-Quick.is) tt))
 
@@ -190,6 +259,9 @@ returns-in-Certify-clause-reading g c = λ failed. subst (λ (k : Command). Read
 
 pub returns-in-Expand-clause-reading : goal.returns-in-Expand-clause-reading
 returns-in-Expand-clause-reading g c = λ failed. subst (λ (k : Command). Reads (Some k)) (sym c.in-Expand.is) tt
+
+pub returns-in-Judge-clause-reading : goal.returns-in-Judge-clause-reading
+returns-in-Judge-clause-reading g c = λ failed. subst (λ (k : Command). Reads (Some k)) (sym c.in-Judge.is) tt
 
 pub returns-in-Quick-clause-reading : goal.returns-in-Quick-clause-reading
 returns-in-Quick-clause-reading g c = λ failed. subst (λ (k : Command). Reads (Some k)) (sym c.in-Quick.is) tt
@@ -214,6 +286,11 @@ pub returns-in-Expand-clause-read_fault : goal.returns-in-Expand-clause-read_fau
 returns-in-Expand-clause-read_fault g c = λ failed.
     let told = c.expand.ensures.read_fault failed in
     (told.0, subst (λ (k : Command). ReadsSound (Some k) (g.S.Source.left c.args.source.now) (g.S.Source.left c.expand.new.source)) (sym c.in-Expand.is) told.1)
+
+pub returns-in-Judge-clause-read_fault : goal.returns-in-Judge-clause-read_fault
+returns-in-Judge-clause-read_fault g c = λ failed.
+    let told = c.judge.ensures.read_fault failed in
+    (told.0, subst (λ (k : Command). ReadsSound (Some k) (g.S.Source.left c.args.source.now) (g.S.Source.left c.judge.new.source)) (sym c.in-Judge.is) told.1)
 
 pub returns-in-Quick-clause-read_fault : goal.returns-in-Quick-clause-read_fault
 returns-in-Quick-clause-read_fault g c = λ failed.
@@ -243,6 +320,9 @@ returns-in-Certify-clause-most g c = subst (λ (k : Command). RisesAtMost (Some 
 pub returns-in-Expand-clause-most : goal.returns-in-Expand-clause-most
 returns-in-Expand-clause-most g c = subst (λ (k : Command). RisesAtMost (Some k) (g.S.Source.left c.args.source.now) c.args.ticks.now c.expand.new.ticks) (sym c.in-Expand.is) c.expand.ensures.most
 
+pub returns-in-Judge-clause-most : goal.returns-in-Judge-clause-most
+returns-in-Judge-clause-most g c = subst (λ (k : Command). RisesAtMost (Some k) (g.S.Source.left c.args.source.now) c.args.ticks.now c.judge.new.ticks) (sym c.in-Judge.is) c.judge.ensures.most
+
 pub returns-in-Quick-clause-most : goal.returns-in-Quick-clause-most
 returns-in-Quick-clause-most g c = subst (λ (k : Command). RisesAtMost (Some k) (g.S.Source.left c.args.source.now) c.args.ticks.now c.quick.new.ticks) (sym c.in-Quick.is) c.quick.ensures.most
 
@@ -264,6 +344,10 @@ returns-in-Certify-clause-least g c =
 pub returns-in-Expand-clause-least : goal.returns-in-Expand-clause-least
 returns-in-Expand-clause-least g c =
     IfOk-weaker c.expand.result _ _ (λ r told. subst (λ (k : Command). RisesAtLeast (Some k) (g.S.Source.left c.args.source.now) r.0 c.args.ticks.now c.expand.new.ticks) (sym c.in-Expand.is) told) c.expand.ensures.least
+
+pub returns-in-Judge-clause-least : goal.returns-in-Judge-clause-least
+returns-in-Judge-clause-least g c =
+    IfOk-weaker c.judge.result _ _ (λ r told. subst (λ (k : Command). RisesAtLeast (Some k) (g.S.Source.left c.args.source.now) r.0 c.args.ticks.now c.judge.new.ticks) (sym c.in-Judge.is) told) c.judge.ensures.least
 
 pub returns-in-Quick-clause-least : goal.returns-in-Quick-clause-least
 returns-in-Quick-clause-least g c =

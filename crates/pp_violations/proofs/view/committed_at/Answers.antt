@@ -1,5 +1,3 @@
-use Rattle.std.proofs.Common.{◌++◌, ◌∙◌, ap, sym, subst, ◌<◌, length, arith}
-use Rattle.pp_summary.specs.Shown.{items_at}
 use Rattle.pp_violations.proofs.Views.{serial_read}
 use Rattle.pp_violations.proofs.view.committed_at.Goals as goal
 

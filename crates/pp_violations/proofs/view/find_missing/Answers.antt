@@ -1,4 +1,3 @@
-use Rattle.std.proofs.Common.{◌∙◌, ap, sym}
 use Rattle.pp_summary.proofs.HeldOf.{apart_of}
 use Rattle.pp_violations.proofs.Missing.{missing_found}
 use Rattle.pp_violations.proofs.view.find_missing.Goals as goal

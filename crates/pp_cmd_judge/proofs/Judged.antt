@@ -1,0 +1,114 @@
+-- An input is judged in one way at most, and as `certify` reports it.
+use Rattle.std.specs.Prelude.{◌≡◌, ◌↔◌, ℕ, zero, suc, List, take, Option, None, Some}
+use Rattle.std.proofs.Common.{refl, sym, ap, ◌∙◌, subst}
+use Rattle.std.proofs.lemmas.Option.{same_Some}
+use mathlib.Core.Logic.{inl, inr}
+use Rattle.pp_core.specs.declared.status.Status.{Status}
+use Rattle.pp_core.specs.declared.status.Status.TheVariants as statuses
+use Rattle.pp_records.specs.Inputs.{IsFault, IsReportBehind, IsReportOf, IsRunReport}
+use Rattle.pp_records.specs.Inputs.{OverrunsAt, StepRejected}
+use Rattle.pp_records.specs.Records.{RunRecord}
+use Rattle.pp_records.specs.Runs.{Lined, LinedSteps, Records, bare}
+use Rattle.pp_records.proofs.Reporting.{input_law}
+use Rattle.pp_format_read.specs.declared.header.Header.{Header}
+use Rattle.pp_model.specs.Config.{Step, after}
+use Rattle.pp_model.specs.Rules.{Accepted, Rejected, Verdict}
+use Rattle.pp_model.proofs.Verdict.{one_verdict}
+use Rattle.pp_objects.specs.declared.act.Op.{Op}
+use Rattle.pp_input_reader.specs.declared.cause.Cause.{Cause}
+use Rattle.pp_input_reader.specs.declared.cause.Cause.TheVariants.{StyleNotJudged, TooManySteps}
+use Rattle.pp_judge.proofs.Concluding.{told_once}
+use Rattle.pp_judge.proofs.Exact.{behind_meets, meets_run_report}
+use Rattle.pp_judge.specs.Accepted.{EachStepMeets}
+use Rattle.pp_judge.specs.Inputs.{scan}
+use Rattle.pp_judge.specs.Objects.{object_of, setting_of, start_of}
+use Rattle.pp_judge.specs.Reports.{IsCertified, IsTold, RunReport}
+use Rattle.pp_judge.specs.Scans.{InputScan}
+use Rattle.pp_cmd_quick.specs.DeciderLaws.{taken_fault}
+use Rattle.pp_cmd_quick.specs.Decisions.{steps_behind, style_fault}
+use Rattle.pp_cmd_judge.specs.Judgements.{HasJudgedStyle, IsJudged, IsJudgedExactly, IsJudgement}
+use Rattle.pp_cmd_judge.specs.Judgements.{is_judged, judge_fault}
+use Rattle.pp_cmd_judge.specs.Laws.{HasFewSteps, JudgementLaw}
+
+-- ---- one report at most
+
+one_of : (h : Lined Header) (all : LinedSteps Op) (v : Verdict) (r q : RunReport) → IsReportOf (setting_of h) all v r → IsReportOf (setting_of h) all v q → r ≡ q
+one_of h all Accepted r q a b = a ∙ sym b
+one_of h all (Rejected zero n) r q a b = a ∙ sym b
+one_of h all (Rejected (suc i) n) r q a b =
+    a.2 ∙ ap (λ (w : Lined (Step Op)). let x : RunReport = StepRejected (suc i) w.line n (after (start_of h.what) (bare (take i all))) w.what in x) (same_Some a.0 b.0 (sym a.1 ∙ b.1)) ∙ sym b.2
+
+one_run_report : (o : Option (Lined Header)) (rs : Records (RunRecord Op)) (r q : RunReport) → IsRunReport setting_of o rs r → IsRunReport setting_of o rs q → r ≡ q
+one_run_report None rs r q a b = absurd a
+one_run_report (Some h) rs r q a b =
+    let all : LinedSteps Op = steps_behind h.what rs in
+    let x = ((input_law setting_of TooManySteps).unfolded h rs r).0 a in
+    let y = ((input_law setting_of TooManySteps).unfolded h rs q).0 b in
+    let same : x.0 ≡ y.0 = one_verdict (object_of h.what) (start_of h.what) (bare all) x.0 y.0 x.1 y.1 in
+    one_of h all y.0 r q (subst (λ (w : Verdict). IsReportOf (setting_of h) all w r) same x.2) y.2
+
+one_behind : (f : Option (ℕ × Cause)) (sc : InputScan) (r q : RunReport) → IsReportBehind setting_of f sc r → IsReportBehind setting_of f sc q → r ≡ q
+one_behind (Some f) sc r q a b = a ∙ sym b
+one_behind None sc r q a b = one_run_report sc.header sc.records r q a b
+
+pub one_judgement : (sc : InputScan) (r q : RunReport) → IsJudgement sc r → IsJudgement sc q → r ≡ q
+one_judgement sc r q a b = one_behind (judge_fault sc) sc r q a b
+
+pub one_judged : (bytes : List ℕ) (s s' : Status) (t t' : List ℕ) → IsJudged bytes s t → IsJudged bytes s' t' → (s ≡ s') × (t ≡ t')
+one_judged bytes s s' t t' a b =
+    let same : a.0 ≡ b.0 = one_judgement (scan bytes) a.0 b.0 a.1 b.1 in
+    told_once (scan bytes).header b.0 s s' t t' (subst (λ (w : RunReport). IsTold (scan bytes).header w s t) same a.2) b.2
+
+-- ---- the same as `certify`
+
+-- in a style that is judged the fault is that of the scan
+judged_fault : (sc : InputScan) → HasJudgedStyle sc.header → judge_fault sc ≡ sc.fault
+judged_fault sc styled = by sc.header refl styled
+  where
+    by : (o : Option (Lined Header)) → sc.header ≡ o → HasJudgedStyle o → judge_fault sc ≡ sc.fault
+    by None there is = ap (λ (w : Option (Lined Header)). style_fault is_judged StyleNotJudged w sc.fault) there
+    by (Some h) there is = taken_fault is_judged StyleNotJudged sc h there is
+
+few_overruns : (sc : InputScan) → HasFewSteps sc → (line : ℕ) → OverrunsAt setting_of sc.header sc.records line → ⊥
+few_overruns sc few line over = few line (Some (line, TooManySteps), inl (line, over, refl), refl)
+
+module _ (bytes : List ℕ) (s : Status) (t : List ℕ) (styled : HasJudgedStyle (scan bytes).header) (few : HasFewSteps (scan bytes)) where
+  judged_certified : IsJudged bytes s t → IsCertified bytes s t
+  judged_certified j = (j.0, (judge_fault (scan bytes), inr (few_overruns (scan bytes) few, judged_fault (scan bytes) styled), j.1), j.2)
+
+  certified_judged : IsCertified bytes s t → IsJudged bytes s t
+  certified_judged (report, (fault, is, told), printed) = by is
+    where
+      by : IsFault setting_of TooManySteps (scan bytes) fault → IsJudged bytes s t
+      by (inl k) = absurd (few_overruns (scan bytes) few k.0 k.1)
+      by (inr k) =
+          let same : fault ≡ judge_fault (scan bytes) = k.1 ∙ sym (judged_fault (scan bytes) styled) in
+          (report, subst (λ (o : Option (ℕ × Cause)). IsReportBehind setting_of o (scan bytes) report) same told, printed)
+
+  pub same_judged : IsJudged bytes s t ↔ IsCertified bytes s t
+  same_judged = (judged_certified, certified_judged)
+
+-- ---- accepted
+
+accepted_meets : (bytes text : List ℕ) → IsJudged bytes statuses.Accepted text → (judge_fault (scan bytes) ≡ None) × EachStepMeets (scan bytes)
+accepted_meets bytes text r =
+    let k = behind_meets (judge_fault (scan bytes)) (scan bytes) r.0 text r.1 r.2 in
+    let m = k.1 in
+    (k.0, record { header = m.header; first_line = m.first_line; start = m.start; steps = m.steps })
+
+meets_accepted : (bytes : List ℕ) (status : Status) (text : List ℕ) → IsJudged bytes status text → judge_fault (scan bytes) ≡ None → EachStepMeets (scan bytes) → status ≡ statuses.Accepted
+meets_accepted bytes status text r none m =
+    let k = meets_run_report (scan bytes) m in
+    let own : IsJudgement (scan bytes) k.0 = subst (λ (o : Option (ℕ × Cause)). IsReportBehind setting_of o (scan bytes) k.0) (sym none) k.1 in
+    let same : r.0 ≡ k.0 = one_judgement (scan bytes) r.0 k.0 r.1 own in
+    k.2 status text (subst (λ (w : RunReport). IsTold (scan bytes).header w status text) same r.2)
+
+-- an input is judged as accepted exactly if it has no fault and each step meets its criteria
+pub judged_exact : (bytes : List ℕ) (status : Status) (text : List ℕ) → IsJudged bytes status text → IsJudgedExactly bytes status
+judged_exact bytes status text r = (
+  λ accepted. accepted_meets bytes text (subst (λ (s : Status). IsJudged bytes s text) accepted r),
+  λ both. meets_accepted bytes status text r both.0 both.1,
+)
+
+pub judgements : JudgementLaw
+judgements = record { one = one_judged; same = same_judged }

@@ -1,0 +1,4 @@
+pub mod Ending
+pub mod Counting
+pub mod Judged
+pub mod Reporting

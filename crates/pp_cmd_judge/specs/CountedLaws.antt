@@ -1,0 +1,120 @@
+-- Proof machinery: what holds of the summary with its number of steps as a judge.
+use Rattle.std.specs.Prelude.{◌≡◌, ◌≤◌, ◌+◌, ◌*◌, ℕ, [], ◌++◌, length, Option, None, Some}
+use Rattle.std.proofs.Common.{refl, sym, ap, ◌∙◌, subst, arith, append_assoc, length-append}
+use Rattle.pp_core.specs.declared.call.Style.{Style}
+use Rattle.pp_core.specs.declared.call.Style.TheVariants.{Boosted}
+use Rattle.pp_records.specs.Inputs.{Widens}
+use Rattle.pp_records.specs.Records.{RunRecord}
+use Rattle.pp_records.specs.Runs.{IsRun, Lined, Records}
+use Rattle.pp_format_read.specs.declared.header.Header.{Header}
+use Rattle.pp_objects.specs.declared.act.Op.{Op}
+use Rattle.pp_summary.proofs.Failures.{failure_law}
+use Rattle.pp_summary.specs.Failures.{FailsIn}
+use Rattle.pp_input_reader.specs.declared.cause.Cause.TheVariants.{StyleNotJudged}
+use Rattle.pp_judge.specs.Judging.{JudgingLaws}
+use Rattle.pp_judge.specs.Objects.{object_of, start_of, translation_of}
+use Rattle.pp_judge.specs.Scans.{InputScan, nothing}
+use Rattle.pp_judge.specs.Tallies.{scan_of}
+use Rattle.pp_judge.specs.declared.driven.Rejection.{Rejection}
+use Rattle.pp_cmd_quick.specs.Costs.{OfTried, RecordsCostAtMost, tried_most}
+use Rattle.pp_cmd_quick.specs.DeciderLaws.{quick_laws, style_fault_stays, taken_fault}
+use Rattle.pp_cmd_judge.specs.Costs.{JudgedCostAtMost, NoneFails, search_most}
+use Rattle.pp_cmd_judge.specs.Judgements.{is_judged, judge_fault}
+use Rattle.pp_cmd_judge.specs.Taking.{IsRejectedBehind, counted_judging}
+
+-- of a boosted run the fault is that of the scan
+pub boosted_fault : (sc : InputScan) (h : Lined Header) → sc.header ≡ Some h →
+    h.what.style ≡ Boosted → judge_fault sc ≡ sc.fault
+boosted_fault sc h there is =
+    taken_fault is_judged StyleNotJudged sc h there (ap (λ (s : Style). is_judged s) is)
+
+-- records after the rejected step change nothing
+pub rejected_stays : (h : Lined Header) (rs more : Records (RunRecord Op)) (rejection : Rejection) →
+    IsRejectedBehind h rs rejection → IsRejectedBehind h (rs ++ more) rejection
+rejected_stays h rs more rejection e = record {
+  run = e.run;
+  number = e.number;
+  criterion = e.criterion;
+  is = e.is;
+  named = e.named;
+  verdict = e.verdict;
+  stays = λ others.
+      subst (λ (w : Records (RunRecord Op)). IsRun (object_of h.what) (translation_of h.what)
+      (start_of h.what) w e.run) (sym (append_assoc rs more others)) (e.stays (more ++ others));
+}
+
+-- ---- the cost
+
+-- a bound from a number on is one from a greater number on
+pub cost_from : (sc : InputScan) (old more new : ℕ) → old ≤ more → RecordsCostAtMost sc old new →
+    RecordsCostAtMost sc more new
+cost_from sc old more new le most = by sc.header most
+  where
+    later : (n : ℕ) → new ≤ old + n → new ≤ more + n
+    later n x = omega (arith, le, x)
+
+    by : (o : Option (Lined Header)) → OfTried o sc.records (λ n. new ≤ old + n) →
+        OfTried o sc.records (λ n. new ≤ more + n)
+    by None m = later 0 m
+    by (Some h) m = λ tried k. later (tried_most h.what tried) (m tried k)
+
+-- if no record of more fails, none of these does
+pub none_stays : (sc wider : InputScan) → Widens sc wider → NoneFails wider.header wider.records →
+    NoneFails sc.header sc.records
+none_stays sc wider w none = by sc.header refl
+  where
+    by : (o : Option (Lined Header)) → sc.header ≡ o → NoneFails o sc.records
+    by None there = tt
+    by (Some h) there = λ r f.
+        let here : NoneFails (Some h) wider.records = subst
+        (λ (o : Option (Lined Header)). NoneFails o wider.records) (w.header h there) none in
+        here r (subst (λ (rs : Records (RunRecord Op)). FailsIn (object_of h.what)
+        (translation_of h.what) (start_of h.what) rs r) (sym w.records.1)
+        ((failure_law (object_of h.what) (translation_of h.what)).stays (start_of h.what)
+        sc.records w.records.0 r f))
+
+pub judged_widens : (sc wider : InputScan) (old new : ℕ) → Widens sc wider →
+    JudgedCostAtMost sc old new → JudgedCostAtMost wider old new
+judged_widens sc wider old new w cost = (
+  λ none. quick_laws.most_widens sc wider old new w (cost.0 (none_stays sc wider w none)),
+  cost_from wider (old + search_most sc.records) (old + search_most wider.records) new
+      (grows (length sc.records) (length wider.records) (length w.records.0)
+      (ap (λ (rs : Records (RunRecord Op)). length rs) w.records.1
+      ∙ length-append sc.records w.records.0))
+      (quick_laws.most_widens sc wider (old + search_most sc.records) new w cost.1),
+)
+  where
+    grows : (a b more : ℕ) → b ≡ a + more → old + 3 * (a + 256) ≤ old + 3 * (b + 256)
+    grows a b more e = omega (arith, e)
+
+nothing_judged : (old : ℕ) → JudgedCostAtMost nothing old old
+nothing_judged old = (
+  λ none. quick_laws.first_most old,
+  cost_from nothing old (old + search_most []) old (from old (search_most []))
+      (quick_laws.first_most old),
+)
+  where
+    from : (n m : ℕ) → n ≤ n + m
+    from n m = omega arith
+
+pub counted_laws : JudgingLaws counted_judging
+counted_laws = record {
+  not_both = λ h rs judge rejection good bad. quick_laws.not_both h rs
+      (record { quick = judge.quick }) (record { line = rejection.line }) good.good
+      (bad.0, bad.1);
+  one_fault = λ sc f g is same. sym is ∙ same;
+  first_fault = λ fault. refl;
+  good_fault = λ h rs judge fault good. boosted_fault (record (scan_of h rs) { fault = fault }) h
+      refl good.good.style;
+  bad_fault = λ h rs rejection fault bad. boosted_fault
+      (record (scan_of h rs) { fault = fault }) h refl bad.0;
+  fault_stays = style_fault_stays is_judged StyleNotJudged;
+  bad_stays = λ h rs more rejection bad.
+      let fails = quick_laws.bad_stays h rs more (record { line = rejection.line })
+      (bad.0, bad.1) in
+      (bad.0, fails.1, rejected_stays h rs more rejection bad.2);
+  first_most = nothing_judged;
+  most_widens = judged_widens;
+  bad_least_stays = λ h rs more rejection old new bad least. quick_laws.bad_least_stays h rs more
+      (record { line = rejection.line }) old new (bad.0, bad.1) least;
+}

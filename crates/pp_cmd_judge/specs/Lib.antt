@@ -1,0 +1,5 @@
+pub mod Judgements
+pub mod Laws
+pub mod Costs
+pub mod Taking
+pub mod CountedLaws

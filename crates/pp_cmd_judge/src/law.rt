@@ -1,0 +1,8 @@
+//! Laws of what is reported.
+ghost use Rattle.pp_cmd_judge.specs.Laws.{JudgementLaw};
+
+/// An input is judged in one way at most, and as `certify` reports it, unless `certify` reports
+/// TooManySteps. It is a law of the definitions, and does nothing.
+pub fn judgement_law()
+    ensures { JudgementLaw }
+{}
