@@ -2,6 +2,7 @@
 use Rattle.std.proofs.Common.{◌≡◌, ◌<◌, ◌+◌, List, [], ◌∷◌, ◌++◌, length, refl, sym, ◌∙◌}
 use Rattle.std.proofs.Common.{ap, subst, arith}
 use Rattle.std.proofs.lemmas.List.{length-append}
+use Rattle.pp_kind.specs.declared.range.TheConstants.{MOST_OPERATIONS}
 use Rattle.pp_kind.specs.Object.{Object, AllowedFrom, IsAllowed, AllRanged, IsLog, IsLawful}
 use Rattle.pp_kind.specs.Object.{state_from, state_after}
 use Rattle.pp_kind.proofs.Lists.{log_grows, allowed-first, ranged-first}
@@ -14,7 +15,7 @@ pub record IsReplaying {Shape State Op Undo : Type 0} (o : Object Shape State Op
   pub leads : state_from o s rest ≡ t
   pub before : List Op
   pub log : IsLog o s before
-  pub few : length before + length rest < 1_000_000
+  pub few : length before + length rest < MOST_OPERATIONS
 
 module _ {Shape State Op Undo : Type 0} (o : Object Shape State Op Undo) where
   -- The first part of an allowed list is allowed.
@@ -30,7 +31,7 @@ module _ {Shape State Op Undo : Type 0} (o : Object Shape State Op Undo) where
 module _ {Shape State Op Undo : Type 0} (o : Object Shape State Op Undo) (laws : IsLawful o) where
   -- The replay of an allowed list begins at the empty state, with the whole list left.
   pub begins : (sh : Shape) (l : List Op) (s : State) → s ≡ o.start sh → IsAllowed o sh l
-      → AllRanged o l → length l < 1_000_000 → IsReplaying o (state_after o sh l) s l
+      → AllRanged o l → length l < MOST_OPERATIONS → IsReplaying o (state_after o sh l) s l
   begins sh l s e h r few = record {
     allowed = subst (λ (u : State). AllowedFrom o u l) (sym e) h;
     ranged = r;

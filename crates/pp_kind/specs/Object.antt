@@ -4,6 +4,7 @@ use Rattle.std.specs.Prelude.{◌≡◌, ℕ, Bool, true, false, ◌&&◌, IsTru
 use Rattle.std.specs.Prelude.{List, [], ◌∷◌, ◌++◌, length, Option, Some, None}
 use Rattle.pp_core.specs.declared.answer.Answer.{Answer}
 use Rattle.pp_core.specs.declared.call.Call.{Call}
+use Rattle.pp_kind.specs.declared.range.TheConstants.{MOST_OPERATIONS}
 use Rattle.pp_kind.specs.Numbers.{has_ranged_arguments, is_ranged_answer}
 use Rattle.pp_model.specs.Object as model
 use Rattle.pp_model.specs.Object.{AllowedBy, state_by}
@@ -151,11 +152,11 @@ module _ {Shape State Op Undo : Type 0} (o : Object Shape State Op Undo) where
     pub is : s ≡ state_after (o.shape s) ops
     pub ranged : AllRanged ops
 
-  -- The state is the one after an allowed list of fewer than a million ranged operations.
+  -- The state is the one after an allowed list of ranged operations, fewer than a log may have.
   pub record IsReached (s : State) : Type 0 where
     pub ops : List Op
     pub log : IsLog s ops
-    pub few : length ops < 1_000_000
+    pub few : length ops < MOST_OPERATIONS
 
   -- All that is allowed from the first state on is allowed from the second on.
   abbrev pub AllowsAllOf : State → State → Type 0

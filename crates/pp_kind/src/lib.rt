@@ -25,7 +25,7 @@ pub use label::Label;
 pub use part::Part;
 pub use parted::{Parted, other_parts_swap};
 pub use permutation::permutation_law;
-pub use range::{GREATEST_NUMBER, in_range};
+pub use range::{GREATEST_NUMBER, MOST_OPERATIONS, in_range};
 pub use samples::{MOST_SAMPLES, Samples};
 pub use serial_run::{SerialList, serial, serial_state, state_after};
 pub use spec::{

@@ -1,6 +1,7 @@
 //! The states after entries and after the serial run, and the list of this.
 ghost use Rattle.std.specs.Prelude.{◌≡◌, ◌+◌, ◌≤◌, ◌<◌, List, length, IfOk, OnOk};
 ghost use Rattle.pp_model.specs.Object.{ops};
+ghost use Rattle.pp_kind.specs.declared.range.TheConstants.{MOST_OPERATIONS};
 ghost use Rattle.pp_kind.specs.Object.{AllowedFrom, IsAllowed, AllRanged, IsLog, state_from};
 ghost use Rattle.pp_kind.specs.Object.{state_after};
 ghost use Rattle.pp_model.specs.Sound.{serial_ops};
@@ -23,7 +24,7 @@ fn replay<S: Spec, L: Ledger>(
     requires allowed { AllowedFrom S.object state.old (ops entries.now) }
     requires ranged { AllRanged S.object (ops entries.now) }
     requires reached { (before : List S.Op) × IsLog S.object state.old before
-        × (length before + length entries.now < 1_000_000) }
+        × (length before + length entries.now < MOST_OPERATIONS) }
     ensures state { OnOk result (state.new ≡ state_from S.object state.old (ops entries.now)) }
     ensures cost { OnOk result (ticks.new ≡ ticks.old + length entries.now) }
     ensures rises { ticks.old ≤ ticks.new }
@@ -48,7 +49,7 @@ pub fn state_after<S: Spec, L: Ledger>(
 ) -> Result<S::State, OutOfMemory>
     requires allowed { IsAllowed S.object shape.now (ops entries.now) }
     requires ranged { AllRanged S.object (ops entries.now) }
-    requires few { length entries.now < 1_000_000 }
+    requires few { length entries.now < MOST_OPERATIONS }
     ensures state { IfOk result (λ state.
         state ≡ state_after S.object shape.now (ops entries.now)) }
     ensures cost { OnOk result (ticks.new ≡ ticks.old + length entries.now) }
@@ -70,7 +71,7 @@ pub fn serial_state<S: Spec, L: Ledger>(
 ) -> Result<S::State, OutOfMemory>
     requires allowed { IsAllowed S.object shape.now (serial_ops committed.now) }
     requires ranged { AllRanged S.object (serial_ops committed.now) }
-    requires few { length (serial_ops committed.now) < 1_000_000 }
+    requires few { length (serial_ops committed.now) < MOST_OPERATIONS }
     ensures state { IfOk result (λ state. state
         ≡ state_after S.object shape.now (serial_ops committed.now)) }
     ensures cost { OnOk result (ticks.new ≡ ticks.old + length (serial_ops committed.now)) }
@@ -94,7 +95,7 @@ pub fn serial<S: Spec, L: Ledger>(
 ) -> Result<(SerialList<S::Op>, S::State), OutOfMemory>
     requires allowed { IsAllowed S.object shape.now (serial_ops committed.now) }
     requires ranged { AllRanged S.object (serial_ops committed.now) }
-    requires few { length (serial_ops committed.now) < 1_000_000 }
+    requires few { length (serial_ops committed.now) < MOST_OPERATIONS }
     ensures list { IfOk result (λ run. run.0 ≡ serial_ops committed.now) }
     ensures state { IfOk result (λ run. run.1
         ≡ state_after S.object shape.now (serial_ops committed.now)) }

@@ -1,5 +1,6 @@
 -- Proof machinery: how far a run moves the number.
-use Rattle.std.proofs.Common.{ℤ, pos, negsuc, ◌+ℤ◌, ◌≤ℤ◌, ◌*◌, IsTrue, List, [], ◌∷◌, length, arith}
+use Rattle.std.proofs.Common.{ℤ, pos, negsuc, ◌+ℤ◌, ◌≤ℤ◌, ◌*◌, ◌<◌, IsTrue, List, [], ◌∷◌}
+use Rattle.std.proofs.Common.{length, arith}
 use Rattle.std.proofs.lemmas.Int.{ints}
 use Rattle.pp_kind.specs.Object.{AllRanged, state_from, IsReached}
 use Rattle.pp_kind_counter.specs.declared.op.CounterOp.{CounterOp}
@@ -23,13 +24,19 @@ below n (Get value ∷ ops) r = let h = below (n +ℤ pos 0) ops r.1 in grind (a
 below n (FetchAdd by was ∷ ops) r = let h = below (n +ℤ by) ops r.1 in grind (arith, ints)
 
 -- What a state that is reached lies in.
-pub reached_high : (n : ℤ) → IsReached counter n → n ≤ℤ pos 1_000_000_000_000_000_000_000_000
-reached_high n h = let k = above (pos 0) h.ops h.log.ranged in let f = h.few in let e = h.log.is in
+pub reached_high : (n : ℤ) → IsReached counter n → n ≤ℤ pos 4_294_967_552_000_000_000_000_000_000
+reached_high n h =
+    let k = above (pos 0) h.ops h.log.ranged in
+    let f : length h.ops < 4_294_967_552 = h.few in
+    let e = h.log.is in
     grind (arith, ints)
 
 -- A counter that is reached is not below the least number that a run can lead to.
-pub reached_low : (n : ℤ) → IsReached counter n → negsuc 1_000_000_000_000_000_000_000_000 ≤ℤ n
-reached_low n h = let k = below (pos 0) h.ops h.log.ranged in let f = h.few in let e = h.log.is in
+pub reached_low : (n : ℤ) → IsReached counter n → negsuc 4_294_967_552_000_000_000_000_000_000 ≤ℤ n
+reached_low n h =
+    let k = below (pos 0) h.ops h.log.ranged in
+    let f : length h.ops < 4_294_967_552 = h.few in
+    let e = h.log.is in
     grind (arith, ints)
 
 -- A ranged operation moves the number by at most the limit.

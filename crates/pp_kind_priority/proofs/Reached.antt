@@ -1,6 +1,7 @@
 -- Proof machinery: how many values a run leaves.
 use Rattle.std.proofs.Common.{◌≡◌, ℤ, suc, ◌≤◌, ◌<◌, ◌+◌, Bool, true, false, int_le, if◌then◌else◌}
 use Rattle.std.proofs.Common.{List, [], ◌∷◌, length, refl, ap, arith}
+use Rattle.pp_kind.specs.declared.range.TheConstants.{MOST_OPERATIONS}
 use Rattle.pp_kind.specs.Object.{state_from, IsReached}
 use Rattle.pp_kind_priority.specs.declared.op.PrioOp.{PrioOp}
 use Rattle.pp_kind_priority.specs.declared.op.PrioOp.TheVariants.{Insert, Take, Least}
@@ -36,7 +37,7 @@ run_length values [] = omega arith
 run_length values (op ∷ ops) = let h = run_length (values_after values op) ops in
     let k = after_length values op in omega arith
 
--- A run leaves fewer than a million values.
-pub reached_length : (values : List ℤ) → IsReached prio values → length values < 1_000_000
+-- A run leaves fewer values than a log may have operations.
+pub reached_length : (values : List ℤ) → IsReached prio values → length values < MOST_OPERATIONS
 reached_length values h = let k = run_length [] h.ops in let f = h.few in
     let e = ap (λ (l : List ℤ). length l) h.log.is in omega arith

@@ -5,6 +5,7 @@ use Rattle.std.specs.List.{slice_get, slice_set, remove}
 use Rattle.std.proofs.lemmas.Bool.Decides.{eqb_tells}
 use Rattle.std.proofs.lemmas.List.{length_push}
 use Rattle.pp_core.specs.declared.entry.Item.{Item}
+use Rattle.pp_kind.specs.declared.range.TheConstants.{MOST_OPERATIONS}
 use Rattle.pp_kind.specs.Object.{Object, IsLegal, IsAllowed, IsReached, IsLawful, IsPlaced}
 use Rattle.pp_kind.specs.Object.{AllRanged, state_after, state_from}
 use Rattle.pp_kind.proofs.Lists.{one_more, state_one_more, ranged-append}
@@ -53,8 +54,8 @@ module _ {Shape State Op Undo : Type 0} (o : Object Shape State Op Undo) where
   with_room place s log new ps qs ids more h is k same =
       subst (λ (z : List (Item Op)). KeepsAll o place s z qs more) (sym is) (record { keeps = roomy place s log ps qs h.keeps k; index = same (ids_of log) (ids_once log (apart log h.keeps.distinct)) h.index })
 
-  -- The state of a log of fewer than a million items is reached.
-  pub keeps_reached : (place : Op → ℕ) (s : State) (log : List (Item Op)) (ps : List (Place Undo)) → Keeps o place s log ps → length log < 1_000_000 → IsReached o s
+  -- The state of a log that has room for one more operation is reached.
+  pub keeps_reached : (place : Op → ℕ) (s : State) (log : List (Item Op)) (ps : List (Place Undo)) → Keeps o place s log ps → length log < MOST_OPERATIONS → IsReached o s
   keeps_reached place s log ps h k = record {
     ops = ops log;
     log = record { allowed = h.allowed; is = h.is; ranged = h.ranged };
@@ -63,7 +64,7 @@ module _ {Shape State Op Undo : Type 0} (o : Object Shape State Op Undo) where
 
 module _ {Shape State Op Undo : Type 0} (o : Object Shape State Op Undo) (place : Op → ℕ) (SameAt : ℕ → State → State → Type 0) (laws : IsLawful o) (places : IsPlaced o place SameAt) where
   -- one more item, at its place
-  pub grown : (s t : State) (log : List (Item Op)) (ps : List (Place Undo)) (e : Item Op) (p : ℕ) (q r : Place Undo) (u : Undo) → Keeps o place s log ps → IsLegal o s e.op → IsTrue (o.ranged e.op) → IsNew e.id log → length log < 1_000_000 → place e.op ≡ p → p < length ps → slice_get ps p ≡ Some q → t ≡ o.next s e.op → u ≡ o.upkeep.kept s e.op → r.ids.items ≡ q.ids.items ++ e.id ∷ [] → r.undos.items ≡ q.undos.items ++ u ∷ [] → Keeps o place t (log ++ e ∷ []) (slice_set ps p r) × (o.shape t ≡ o.shape s)
+  pub grown : (s t : State) (log : List (Item Op)) (ps : List (Place Undo)) (e : Item Op) (p : ℕ) (q r : Place Undo) (u : Undo) → Keeps o place s log ps → IsLegal o s e.op → IsTrue (o.ranged e.op) → IsNew e.id log → length log < MOST_OPERATIONS → place e.op ≡ p → p < length ps → slice_get ps p ≡ Some q → t ≡ o.next s e.op → u ≡ o.upkeep.kept s e.op → r.ids.items ≡ q.ids.items ++ e.id ∷ [] → r.undos.items ≡ q.undos.items ++ u ∷ [] → Keeps o place t (log ++ e ∷ []) (slice_set ps p r) × (o.shape t ≡ o.shape s)
   grown s t log ps e p q r u h legal ranged new few at within found next kept ids undos =
       let sh = o.shape s in
       let start = o.start sh in

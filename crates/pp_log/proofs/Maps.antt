@@ -6,6 +6,7 @@ use Rattle.std.proofs.lemmas.List.{length-map}
 use Rattle.std.proofs.lemmas.Bool.Decides.{eqb_tells}
 use Rattle.pp_core.specs.declared.answer.Answer.{Answer}
 use Rattle.pp_core.specs.declared.entry.Item.{Item}
+use Rattle.pp_kind.specs.declared.range.TheConstants.{MOST_OPERATIONS}
 use Rattle.pp_kind.specs.Object.{Object, IsAllowed, IsLegal, state_after}
 use Rattle.pp_kind.proofs.Lists.{last_is_legal}
 use Rattle.pp_log.specs.declared.place.Removed.{Removed}
@@ -71,11 +72,11 @@ legal_seen {Shape} {State} {Op} {Undo} {E} o f s x log a e is after item h =
     subst (λ (d : Item Op). IsLegal o s d.op) (sym item)
     (last_is_legal o (o.shape s) s (ops (map f x)) (f a).op after (back (λ sh xs. IsAllowed o sh (xs ++ (f a).op ∷ [])) (seen f (o.shape s) x log is) h))
 
--- A log of fewer than a million entries has fewer than a million items.
-pub few_seen : {Shape Op E : Type 0} (f : E → Item Op) (sh : Shape) (x : List E) (log : Shape × List E) → ◌≡◌ {A = Shape × List E} (sh, x) log → length log.1 < 1_000_000 → length (map f x) < 1_000_000
+-- A log whose entries are fewer than its limit has as few items.
+pub few_seen : {Shape Op E : Type 0} (f : E → Item Op) (sh : Shape) (x : List E) (log : Shape × List E) → ◌≡◌ {A = Shape × List E} (sh, x) log → length log.1 < MOST_OPERATIONS → length (map f x) < MOST_OPERATIONS
 few_seen {Shape} {Op} {E} f sh x log is few =
     let size = length-map x f in
-    let short : length x < 1_000_000 = subst (λ (p : Shape × List E). length p.1 < 1_000_000) (sym is) few in
+    let short : length x < MOST_OPERATIONS = subst (λ (p : Shape × List E). length p.1 < MOST_OPERATIONS) (sym is) few in
     omega arith
 
 differs_entry : {Shape State Op Undo E : Type 0} (o : Object Shape State Op Undo) (f : E → Item Op) (sh : Shape) (x : List E) (id : ℕ) (answer : Answer) → DiffersFirst o itself sh (map f x) id answer → DiffersFirst o f sh x id answer

@@ -5,6 +5,7 @@ use Rattle.std.proofs.Math.Seq.{take-length}
 use Rattle.std.specs.List.{slice_get}
 use Rattle.pp_core.specs.declared.entry.Item.{Item}
 use Rattle.pp_core.specs.declared.answer.Answer.{Answer}
+use Rattle.pp_kind.specs.declared.range.TheConstants.{MOST_OPERATIONS}
 use Rattle.pp_kind.specs.Object.{Object, AllowedFrom, IsAllowed, AllRanged, IsLawful, IsPlaced}
 use Rattle.pp_kind.specs.Object.{state_from, state_after}
 use Rattle.pp_kind.proofs.Lists.{state-append, allowed-first}
@@ -134,7 +135,7 @@ module _ {Shape State Op Undo : Type 0} (o : Object Shape State Op Undo) (place 
       record { run = run; all = size ∙ items; ids = kept.same_ids }
 
   -- a log of which one place was changed
-  pub log_of : (p : ℕ) (sh : Shape) (s : State) (log : List (Item Op)) (ps : List (Place Undo)) (q : Place Undo) → IsAllowed o sh (ops (elsewhere place p log)) → IsWhole o (state_after o sh (ops (elsewhere place p log))) (there place p log) q s → AllRanged o (ops log) → length log ≤ 1_000_000 → HasDistinctIds log → slice_get ps p ≡ Some q → ((r : ℕ) → (p ≡ r → ⊥) → KeptIn o (o.start sh) (there place r log) (slice_get ps r)) → Keeps o place s log ps × (o.shape s ≡ sh)
+  pub log_of : (p : ℕ) (sh : Shape) (s : State) (log : List (Item Op)) (ps : List (Place Undo)) (q : Place Undo) → IsAllowed o sh (ops (elsewhere place p log)) → IsWhole o (state_after o sh (ops (elsewhere place p log))) (there place p log) q s → AllRanged o (ops log) → length log ≤ MOST_OPERATIONS → HasDistinctIds log → slice_get ps p ≡ Some q → ((r : ℕ) → (p ≡ r → ⊥) → KeptIn o (o.start sh) (there place r log) (slice_get ps r)) → Keeps o place s log ps × (o.shape s ≡ sh)
   log_of p sh s log ps q base_ok whole ranged few distinct found others =
       let start = o.start sh in
       let base = ops (elsewhere place p log) in

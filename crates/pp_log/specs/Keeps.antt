@@ -2,6 +2,7 @@
 use Rattle.std.specs.Prelude.{◌≡◌, ◌≤◌, ℕ, List, [], length, slice_get, Option, Some, None}
 use Rattle.pp_core.specs.declared.entry.Item.{Item}
 use Rattle.pp_model.specs.Object.{HasDistinctIds, ops}
+use Rattle.pp_kind.specs.declared.range.TheConstants.{MOST_OPERATIONS}
 use Rattle.pp_kind.specs.Object.{Object, AllRanged, IsAllowed, state_after}
 use Rattle.pp_log.specs.declared.index.Index.{Index}
 use Rattle.pp_log.specs.declared.place.Place.{Place}
@@ -30,7 +31,7 @@ pub record Keeps {Shape State Op Undo : Type 0} (o : Object Shape State Op Undo)
   pub allowed : IsAllowed o (o.shape s) (ops log)
   pub is : s ≡ state_after o (o.shape s) (ops log)
   pub ranged : AllRanged o (ops log)
-  pub few : length log ≤ 1_000_000
+  pub few : length log ≤ MOST_OPERATIONS
   pub distinct : HasDistinctIds log
   pub kept : (p : ℕ) → KeptIn o (o.start (o.shape s)) (there place p log) (slice_get places p)
 

@@ -4,6 +4,7 @@ use Rattle.std.specs.Prelude.{Option, Some, None, option_map, slice_get, take}
 use Rattle.pp_core.specs.declared.answer.Answer.{Answer}
 use Rattle.pp_core.specs.declared.entry.Item.{Item}
 use Rattle.pp_model.specs.Object.{ops}
+use Rattle.pp_kind.specs.declared.range.TheConstants.{MOST_OPERATIONS}
 use Rattle.pp_kind.specs.Object.{Object, AllowedFrom, AllRanged, IsLog, state_from}
 use Rattle.pp_log.specs.declared.run.Stop.{Stop}
 use Rattle.pp_log.specs.Parts.{items_on}
@@ -26,7 +27,7 @@ pub record IsRun {Shape State Op Undo : Type 0} (o : Object Shape State Op Undo)
     (b : State) (items : List (Item Op)) (us : List Undo) (s : State) : Type 0 where
   pub base : List Op
   pub log : IsLog o b base
-  pub few : length base + length items ≤ 1_000_000
+  pub few : length base + length items ≤ MOST_OPERATIONS
   pub fit : AllFit o (o.shape b) (ops items)
   pub ranged : AllRanged o (ops items)
   pub within : length us ≤ length items

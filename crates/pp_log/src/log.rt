@@ -4,6 +4,7 @@ ghost use Rattle.std.specs.Prelude.{None, List, [], ◌∷◌, ◌++◌, length,
 ghost use Rattle.std.specs.Prelude.{slice_get, slice_set, IfSome, IfNone};
 ghost use Rattle.std.specs.Option.{option_copied};
 ghost use Rattle.pp_model.specs.Object.{HasDistinctIds};
+ghost use Rattle.pp_kind.specs.declared.range.TheConstants.{MOST_OPERATIONS};
 ghost use Rattle.pp_kind.specs.Object.{IsAllowed, AllRanged, IsLog};
 ghost use Rattle.pp_log.specs.Keeps.{KeepsAll};
 ghost use Rattle.pp_log.specs.Leaving.{MayLeave, without_items};
@@ -67,7 +68,7 @@ impl<S: Placed + Gapped, T: Side<S::Op>> Log<S, T> {
         ensures allowed { IsAllowed S.object self.now.0 (entry_ops T.item_of self.now.1) }
         ensures ranged { AllRanged S.object (entry_ops T.item_of self.now.1) }
         ensures distinct { HasDistinctIds (map T.item_of self.now.1) }
-        ensures few { length self.now.1 ≤ 1_000_000 }
+        ensures few { length self.now.1 ≤ MOST_OPERATIONS }
     {
         self.entries.len()
     }
@@ -138,7 +139,7 @@ impl<S: Placed + Gapped, T: Side<S::Op>> Log<S, T> {
             (T.item_of entry).op }
         requires ranged { IsTrue (S.object.ranged (T.item_of entry).op) }
         requires new { position (λ e. (T.item_of e).id == (T.item_of entry).id) self.old.1 ≡ None }
-        requires few { length self.old.1 < 1_000_000 }
+        requires few { length self.old.1 < MOST_OPERATIONS }
         ensures ok { OnOk result (self.new ≡ (self.old.0, self.old.1 ++ entry ∷ [])) }
         ensures err { OnErr result (self.new ≡ self.old) }
         ensures cost { OnOk result (ticks.new ≡ ticks.old + 1) }

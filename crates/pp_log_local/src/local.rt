@@ -7,6 +7,7 @@ ghost use Rattle.pp_core.specs.declared.entry.LocalEntry.{LocalEntry as EntryOf}
 ghost use Rattle.pp_core.specs.declared.entry.Mark.TheVariants.{Pulled};
 ghost use Rattle.pp_model.specs.Config.{item, local_ops, set_mark};
 ghost use Rattle.pp_model.specs.Object.{HasDistinctIds};
+ghost use Rattle.pp_kind.specs.declared.range.TheConstants.{MOST_OPERATIONS};
 ghost use Rattle.pp_kind.specs.Object.{IsAllowed, AllRanged};
 ghost use Rattle.pp_log.specs.Logs.{GoesBehind, RemovesEntry, RemovalCosts, RemovalBound};
 ghost use Rattle.pp_log.specs.Logs.{answer_behind, IsFirstFrom, IsOn, NoneFrom};
@@ -127,7 +128,7 @@ impl<S: Parted> Local<S> {
         requires allowed { GoesBehind S.object self.old.0 (local_ops self.old.1) entry.op }
         requires ranged { IsTrue (S.object.ranged entry.op) }
         requires new { position (λ e. e.id == entry.id) self.old.1 ≡ None }
-        requires few { length self.old.1 < 1_000_000 }
+        requires few { length self.old.1 < MOST_OPERATIONS }
         ensures ok { OnOk result (self.new ≡ (self.old.0, self.old.1 ++ entry ∷ [])) }
         ensures err { OnErr result (self.new ≡ self.old) }
         ensures cost { OnOk result (ticks.new ≡ ticks.old + 1) }

@@ -1,6 +1,7 @@
 //! How many entries of a local log are own, and what stands for their operations.
 ghost use Rattle.std.specs.Prelude.{◌≡◌, ◌<◌, ◌≤◌, ◌+◌, true, length, [], ◌∷◌};
 ghost use Rattle.pp_model.specs.Config.{is_own, own};
+ghost use Rattle.pp_kind.specs.declared.range.TheConstants.{MOST_OPERATIONS};
 ghost use Rattle.pp_kind.specs.Parts.{Covers};
 
 use crate::movers::is_own;
@@ -9,7 +10,7 @@ use pp_kind::{Parted, Samples};
 
 /// Takes a new entry in, if it is own. The count is the answer.
 pub fn with<S: Parted>(samples: &mut Samples<S>, count: usize, entry: &LocalEntry<S::Op>) -> usize
-    requires { count < 1_000_000 }
+    requires { count < MOST_OPERATIONS }
     ensures keeps { (b : S.Op) → Covers S.object samples.old b → Covers S.object samples.new b }
     ensures covers { is_own entry.now.mark ≡ true → Covers S.object samples.new entry.now.op }
     ensures count { result ≡ count + length (own (entry.now ∷ [])) }

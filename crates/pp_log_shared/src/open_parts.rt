@@ -2,6 +2,7 @@
 ghost use Rattle.std.specs.Prelude.{◌≡◌, ◌<◌, OnOk, IsTrue, false, List, [], ◌∷◌, ◌++◌, length};
 ghost use Rattle.indexmap.specs.IndexMap.{spare};
 ghost use Rattle.pp_core.specs.declared.entry.SharedEntry.{SharedEntry as EntryOf};
+ghost use Rattle.pp_kind.specs.declared.range.TheConstants.{MOST_OPERATIONS};
 ghost use Rattle.pp_log_shared.specs.Blocking.{AllGiveWay};
 ghost use Rattle.pp_log_shared.specs.Uncommitted.{KeepsOpen, LeavesOut, LosesOne, Tells};
 
@@ -43,7 +44,7 @@ fn first<S: Parted>(alloc: Global, entry: &SharedEntry<S::Op>) -> OpenPart<Sampl
 
 /// One more entry. Where there was none, what is known begins anew.
 fn note<S: Parted>(alloc: Global, slot: &mut OpenPart<Samples<S>>, entry: &SharedEntry<S::Op>)
-    requires { slot.old.count < 1_000_000 }
+    requires { slot.old.count < MOST_OPERATIONS }
     ensures { (x : List (EntryOf S.Op)) → Tells S.object S.label_of slot.old x →
         Tells S.object S.label_of slot.new (x ++ entry.now ∷ []) }
 {
@@ -118,7 +119,7 @@ impl<S: Parted> OpenParts<S> {
         requires room { 0 < spare self.old.slots }
         requires few { (x : List (EntryOf S.Op))
             × KeepsOpen S.object S.label_of S.part_of self.old.slots.entries x
-            × (length x < 1_000_000) }
+            × (length x < MOST_OPERATIONS) }
         ensures { entry.now.committed ≡ false → (x : List (EntryOf S.Op)) →
             KeepsOpen S.object S.label_of S.part_of self.old.slots.entries x →
             KeepsOpen S.object S.label_of S.part_of self.new.slots.entries (x ++ entry.now ∷ []) }

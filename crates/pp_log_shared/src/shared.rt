@@ -7,6 +7,7 @@ ghost use Rattle.pp_core.specs.declared.entry.SharedEntry.{SharedEntry as EntryO
 ghost use Rattle.pp_model.specs.Config.{shared_item, shared_ops, commit_all};
 ghost use Rattle.pp_model.specs.Names.{◌=ⁿ◌};
 ghost use Rattle.pp_model.specs.Object.{HasDistinctIds};
+ghost use Rattle.pp_kind.specs.declared.range.TheConstants.{MOST_OPERATIONS};
 ghost use Rattle.pp_kind.specs.Object.{IsAllowed, AllRanged};
 ghost use Rattle.pp_log.specs.Leaving.{MayLeave, without_items};
 ghost use Rattle.pp_log.specs.Logs.{GoesBehind, RemovesEntry, RemovalCosts, RemovalBound};
@@ -220,7 +221,7 @@ impl<S: Parted> Shared<S> {
         requires allowed { GoesBehind S.object self.old.0 (shared_ops self.old.1) entry.op }
         requires ranged { IsTrue (S.object.ranged entry.op) }
         requires new { position (λ e. e.id == entry.id) self.old.1 ≡ None }
-        requires few { length self.old.1 < 1_000_000 }
+        requires few { length self.old.1 < MOST_OPERATIONS }
         requires uncommitted { entry.committed ≡ false }
         ensures ok { OnOk result (self.new ≡ (self.old.0, self.old.1 ++ entry ∷ [])) }
         ensures err { OnErr result (self.new ≡ self.old) }

@@ -9,6 +9,7 @@ use Rattle.pp_core.specs.declared.entry.Mark.TheVariants.{Pulled}
 use Rattle.pp_model.specs.Config.{is_own, local_ops}
 use Rattle.pp_model.specs.Lists.{Before}
 use Rattle.pp_model.specs.Names.{Name, ◌=ⁿ◌}
+use Rattle.pp_kind.specs.declared.range.TheConstants.{MOST_OPERATIONS}
 use Rattle.pp_kind.specs.Object.{Object, IsAllowed}
 use Rattle.pp_machine.specs.Courses.{Guided}
 
@@ -83,7 +84,7 @@ pub record Takes {Shape State Op Undo : Type 0} (o : Object Shape State Op Undo)
   pub allowed : IsAllowed o log.0 (local_ops log.1 ++ entry.op ∷ [])
   pub ranged : IsTrue (o.ranged entry.op)
   pub new : position (λ e. e.id == entry.id) log.1 ≡ None
-  pub few : length log.1 < 1_000_000
+  pub few : length log.1 < MOST_OPERATIONS
 
 -- At this position of the local log stands an own entry.
 pub record HasOwn {Op : Type 0} (log : List (LocalEntry Op)) (i : ℕ) : Type 0 where

@@ -24,7 +24,7 @@ pub fn begin<S: Parted>(
 ) -> Result<bool, OutOfMemory>
     requires keeps { KeepsQuick S.object S.place_of parts.old }
     requires within { IsWithinLimits (option_map tree body.now) }
-    requires few { parts.old.count < 200_000 }
+    requires few { parts.old.count < 4_294_967_295 }
     ensures { IfOk result (λ answer. Answers S.object S.place_of parts.old
         (Plain (Begin tx.now thread.now (option_map tree body.now))) answer parts.new) }
 {

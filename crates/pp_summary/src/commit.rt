@@ -18,7 +18,7 @@ pub fn commit<S: Parted>(
     tx: &Name,
 ) -> Result<bool, OutOfMemory>
     requires keeps { KeepsQuick S.object S.place_of parts.old }
-    requires few { parts.old.count < 200_000 }
+    requires few { parts.old.count < 4_294_967_295 }
     ensures { IfOk result (λ good. Answers S.object S.place_of parts.old (Commit tx.now) good
         parts.new) }
 {

@@ -25,7 +25,7 @@ pub fn do_op<S: Parted, L: Ledger>(
 ) -> Result<bool, OutOfMemory>
     requires keeps { KeepsQuick S.object S.place_of parts.old }
     requires asked { IsOpAsked S.object parts.old.shape op.now }
-    requires few { parts.old.count < 200_000 }
+    requires few { parts.old.count < 4_294_967_295 }
     ensures answers { IfOk result (λ good. Answers S.object S.place_of parts.old
         (Op tx.now id op.now) good parts.new) }
     ensures cost { IfOk result (λ good. TakeCosts (shown S.place_of parts.old)

@@ -106,7 +106,7 @@ impl<S: Parted> Quick<S> {
     /// How many steps the record stands for, good or not.
     pub fn steps(&self, recorded: &RunRecord<S::Op>) -> u64
         requires style { IsBoosted (record_meaning recorded.now) }
-        requires few { self.now.count < 200_000 }
+        requires few { self.now.count < 4_294_967_295 }
         ensures count { HasSteps S.object S.place_of self.now (record_meaning recorded.now) result }
         ensures bound { result ≤ 3 * (self.now.count + 256) + 1 }
     {
@@ -143,7 +143,7 @@ impl<S: Parted + TakesBack> Quick<S> {
     ) -> Result<(Self, bool), OutOfMemory>
         requires style { IsBoosted (record_meaning recorded.now) }
         requires asked { IsRecordAsked S.object self.shape (record_meaning recorded.now) }
-        requires few { self.count < 200_000 }
+        requires few { self.count < 4_294_967_295 }
         ensures takes { IfOk result (λ r.
             Takes S.object S.place_of self (record_meaning recorded.now) r.1 r.0) }
         ensures shape { IfOk result (λ r. r.0.shape ≡ self.shape) }

@@ -54,7 +54,7 @@ fn op_steps<S: Parted>(
 /// UNPUSH and an UNAPP of each own operation, and one more for the record itself.
 fn back_steps<S: Parted>(parts: &Parts<S::Shape, S::Op, Shared<S>, Own<S>>, tx: &Name) -> u64
     requires keeps { KeepsQuick S.object S.place_of parts.now }
-    requires few { parts.now.count < 200_000 }
+    requires few { parts.now.count < 4_294_967_295 }
     ensures abort { HasSteps S.object S.place_of (as_held S.place_of parts.now) (Abort tx.now)
         result }
     ensures retry { HasSteps S.object S.place_of (as_held S.place_of parts.now) (Retry tx.now)
@@ -76,7 +76,7 @@ pub fn steps<S: Parted>(
     recorded: &RunRecord<S::Op>,
 ) -> u64
     requires keeps { KeepsQuick S.object S.place_of parts.now }
-    requires few { parts.now.count < 200_000 }
+    requires few { parts.now.count < 4_294_967_295 }
     requires style { IsBoosted (record_meaning recorded.now) }
     ensures count { HasSteps S.object S.place_of (as_held S.place_of parts.now)
         (record_meaning recorded.now) result }

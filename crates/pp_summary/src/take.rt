@@ -27,7 +27,7 @@ fn take_step<S: Parted>(
 ) -> Result<bool, OutOfMemory>
     requires keeps { KeepsQuick S.object S.place_of parts.old }
     requires asked { IsStepAsked (meaning step.now) }
-    requires few { parts.old.count < 200_000 }
+    requires few { parts.old.count < 4_294_967_295 }
     ensures { IfOk result (λ good. Answers S.object S.place_of parts.old
         (Plain (meaning step.now)) good parts.new) }
 {
@@ -54,7 +54,7 @@ pub fn take<S: Parted + TakesBack, L: Ledger>(
 ) -> Result<(Box<Parts<S::Shape, S::Op, Shared<S>, Own<S>>>, bool), OutOfMemory>
     requires keeps { KeepsQuick S.object S.place_of parts.value }
     requires asked { IsRecordAsked S.object parts.value.shape (record_meaning recorded.now) }
-    requires few { parts.value.count < 200_000 }
+    requires few { parts.value.count < 4_294_967_295 }
     ensures answers { IfOk result (λ r.
         Answers S.object S.place_of parts.value (record_meaning recorded.now) r.1 r.0.value) }
     ensures cost { IfOk result (λ r. TakeCosts (shown S.place_of parts.value)

@@ -32,7 +32,7 @@ fn undo_parts<S: Parted + TakesBack, L: Ledger>(
     ticks: &mut Ticks<L>,
 ) -> Result<(Parts<S::Shape, S::Op, Shared<S>, Own<S>>, bool), OutOfMemory>
     requires keeps { KeepsQuick S.object S.place_of parts }
-    requires few { parts.count < 200_000 }
+    requires few { parts.count < 4_294_967_295 }
     ensures answers { IfOk result (λ r.
         Answers S.object S.place_of parts (undo_record how tx.now) r.1 r.0) }
     ensures cost { IfOk result (λ r. TakeCosts (shown S.place_of parts)
@@ -79,7 +79,7 @@ pub fn undo<S: Parted + TakesBack, L: Ledger>(
     ticks: &mut Ticks<L>,
 ) -> Result<(Box<Parts<S::Shape, S::Op, Shared<S>, Own<S>>>, bool), OutOfMemory>
     requires keeps { KeepsQuick S.object S.place_of parts.value }
-    requires few { parts.value.count < 200_000 }
+    requires few { parts.value.count < 4_294_967_295 }
     ensures answers { IfOk result (λ r.
         Answers S.object S.place_of parts.value (undo_record how tx.now) r.1 r.0.value) }
     ensures cost { IfOk result (λ r. TakeCosts (shown S.place_of parts.value)

@@ -2,6 +2,7 @@
 use Rattle.std.proofs.Common.{◌≡◌, ◌<◌, IsTrue, List, length, ◌∙◌, ap, subst}
 use Rattle.std.proofs.lemmas.List.{length-map}
 use Rattle.pp_core.specs.declared.call.Kind.{Kind}
+use Rattle.pp_kind.specs.declared.range.TheConstants.{MOST_OPERATIONS}
 use Rattle.pp_kind.specs.Calls.{WasApplied}
 use Rattle.pp_kind.specs.Object.{IsLegal, AllRanged, IsAllowed, state_after, IsReached}
 use Rattle.pp_kind_memory.specs.declared.undo.Undo.{Undo}
@@ -28,7 +29,7 @@ module _ (k : Kind) where
               (subst Q (has_kind k s) h.log.is ∙ r.3);
           ranged = ranged_out k r.0 (subst (λ (l : List Act). AllRanged one l) r.1 h.log.ranged);
         };
-        few = subst (λ n. n < 1_000_000) (ap length r.1 ∙ length-map r.0 (act_of k)) h.few;
+        few = subst (λ n. n < MOST_OPERATIONS) (ap length r.1 ∙ length-map r.0 (act_of k)) h.few;
       }
 
   -- An act of a kind that was applied among all kinds was applied in the kind alone.

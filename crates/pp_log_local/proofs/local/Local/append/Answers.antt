@@ -1,11 +1,12 @@
 use Rattle.std.proofs.Common.{◌≡◌, ◌<◌, ◌≤◌, ℕ, length, ap, arith}
 use Rattle.pp_model.specs.Config.{own}
+use Rattle.pp_kind.specs.declared.range.TheConstants.{MOST_OPERATIONS}
 use Rattle.pp_log_local.proofs.Known.{few_own, known_grown, pushed_grown, unpushed_grown}
 use Rattle.pp_log_local.proofs.local.Local.append.Goals as goal
 
 pub with-self-inside-requires : goal.with-self-inside-requires
 with-self-inside-requires g c =
-    below c.self.inside.own_count (length (own c.self.inside.log.1)) (length c.self.inside.log.1) (length c.args.self.now.1) 1_000_000
+    below c.self.inside.own_count (length (own c.self.inside.log.1)) (length c.self.inside.log.1) (length c.args.self.now.1) MOST_OPERATIONS
     c.self.invariant.counted (few_own c.self.inside.log.1) (ap (λ z. length z.1) c.self.view_is) c.requires.few
   where
     below : (p q r s t : ℕ) → p ≡ q → q ≤ r → r ≡ s → s < t → p < t
