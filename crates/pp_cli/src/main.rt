@@ -1,7 +1,7 @@
 //! Certifies that a recorded run of a transactional memory is a run of the Push/Pull machine.
 #![tactic(auto)]
 
-ghost use Rattle.std.specs.Prelude.{◌≡◌, ℕ, None};
+ghost use Rattle.std.specs.Prelude.{◌≡◌, ℕ};
 ghost use Rattle.pp_run.specs.Outcomes.{outcome};
 ghost use Rattle.pp_run.specs.Runs.{RunLaws, RunPromise};
 ghost use Rattle.pp_run.specs.Streams.{counts};
@@ -27,8 +27,8 @@ const NO_WORDS: u8 = 8;
 
 /// Runs a command over any reader and any writer, with a counter of operations that begins at 0.
 /// `main` calls it once it has its arguments. It promises what `run` promises, for the bytes that
-/// the reader has left and that the writer holds. The system's own streams do not say these bytes.
-/// But the code is the same for every reader and writer, so it cannot treat these differently.
+/// the reader has left and that the writer holds. The system's own streams do not say these bytes:
+/// see "The real streams" in `docs/PROMISES.md`.
 ///
 /// The promise says of the counter only that some number is within the bounds. `main` picks the
 /// ledger, so no type in the signature can depend on it, and the counter cannot be handed in or
@@ -47,7 +47,6 @@ pub fn run_streams<L: Ledger, R: Read + Drop, W: Write + Drop>(
         (command_of words.now)
         (outcome (R.remaining source.old.stream) (R.remaining source.new.stream)
         (W.contents sink.old.stream) (W.contents sink.new.stream) result 0 after)
-        None None
         (counts source.old.faults source.new.faults sink.old.faults sink.new.faults
         0 0 sink.old.flushes sink.new.flushes) }
     ensures laws { RunLaws }

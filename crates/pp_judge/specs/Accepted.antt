@@ -14,7 +14,7 @@ use Rattle.pp_judge.specs.Inputs.{IsFaultOf, scan}
 use Rattle.pp_judge.specs.Objects.{object_of, setting_of, start_of, translation_of}
 use Rattle.pp_judge.specs.Scans.{InputScan}
 
--- The start meets its criteria, and so does each step that the records stand for.
+-- The start meets its criteria, and so does each step that the records mean.
 pub record EachStepMeets (sc : InputScan) : Type 0 where
   pub header : Lined Header
   pub first_line : sc.header ≡ Some header
@@ -41,7 +41,8 @@ abbrev pub IsSimulated : InputScan → Type 0
 IsSimulated sc = HasRun sc
     × ((r : HasRun sc) → Simulated (object_of r.header.what) (start_of r.header.what) (bare r.run))
 
--- These transactions, each alone, are an accepted run of the same transactions.
+-- The committed transactions, one after another without the others, are an accepted run with the
+-- same committed transactions.
 abbrev pub RunsAlone : Header → LinedSteps Op → Type 0
 RunsAlone header run =
     let start = start_of header in let steps = bare run in

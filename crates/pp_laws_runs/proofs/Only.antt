@@ -39,11 +39,11 @@ module _ {Op State : Type 0} (O : Object Op State) (style : Style) where
 
   -- ---- steps whose criteria are all breakable
 
-  pub begin_only : (c : Config Op) (t p : Name) (b : Option Tree) → OnlyBreaks c (Begin t p b ∷ [])
-  begin_only c t p b = ((λ n k. in_begin_row style (suc n) (in_two n (of_two _ _ n k))), λ m. tt)
+  pub begin_only : style ≢ styles.Rules → (c : Config Op) (t p : Name) (b : Option Tree) → OnlyBreaks c (Begin t p b ∷ [])
+  begin_only recorded c t p b = ((λ n k. in_begin_row style recorded (suc n) (in_two n (of_two _ _ n k))), λ m. tt)
 
-  pub app_breaks : (c : Config Op) (t : Name) (id : ℕ) (op : Op) (n : ℕ) → Breaks O c (App t id op) (suc n) → In (suc n) (breakable rules.App style)
-  app_breaks c t id op n b = in_app_row style (suc n) (elim (known (tx t c.opened)) [
+  pub app_breaks : style ≢ styles.Rules → (c : Config Op) (t : Name) (id : ℕ) (op : Op) (n : ℕ) → Breaks O c (App t id op) (suc n) → In (suc n) (breakable rules.App style)
+  app_breaks recorded c t id op n b = in_app_row style recorded (suc n) (elim (known (tx t c.opened)) [
     | inl e ↦ inl (let k : n ≡ 0 = of_nothing (tx t c.opened) _ n e b in omega (arith, k))
     | inr x ↦ let r = after_there (tx t c.opened) _ x.0 n x.1 b in by r.0 r.1 (of_three _ _ _ r.0 r.2)
   ])
@@ -53,22 +53,22 @@ module _ {Op State : Type 0} (O : Object Op State) (style : Style) where
       by k e (inr (inl h)) = inr (inr (inl (omega (arith, e, h))))
       by k e (inr (inr h)) = inr (inr (inr (inl (omega (arith, e, h)))))
 
-  pub app_only : (c : Config Op) (t : Name) (id : ℕ) (op : Op) → OnlyBreaks c (App t id op ∷ [])
-  app_only c t id op = (app_breaks c t id op, λ m. tt)
+  pub app_only : style ≢ styles.Rules → (c : Config Op) (t : Name) (id : ℕ) (op : Op) → OnlyBreaks c (App t id op ∷ [])
+  app_only recorded c t id op = (app_breaks recorded c t id op, λ m. tt)
 
-  note_breaks : (c : Config Op) (t : Name) (n : ℕ) → Breaks O c (Note t) (suc n) → In (suc n) (breakable rules.Note style)
-  note_breaks c t n b = elim (known (tx t c.opened)) [
-    | inl e ↦ in_note_row style (suc n) (in_one n (of_nothing (tx t c.opened) _ n e b))
+  note_breaks : style ≢ styles.Rules → (c : Config Op) (t : Name) (n : ℕ) → Breaks O c (Note t) (suc n) → In (suc n) (breakable rules.Note style)
+  note_breaks recorded c t n b = elim (known (tx t c.opened)) [
+    | inl e ↦ in_note_row style recorded (suc n) (in_one n (of_nothing (tx t c.opened) _ n e b))
     | inr x ↦ absurd (let r = after_there (tx t c.opened) _ x.0 n x.1 b in of_none r.0 r.2)
   ]
 
-  pub note_only : (c : Config Op) (t : Name) (ss : List (Step Op)) → (Meets O c (Note t) → OnlyBreaks c ss) → OnlyBreaks c (Note t ∷ ss)
-  note_only c t ss k = (note_breaks c t, k)
+  pub note_only : style ≢ styles.Rules → (c : Config Op) (t : Name) (ss : List (Step Op)) → (Meets O c (Note t) → OnlyBreaks c ss) → OnlyBreaks c (Note t ∷ ss)
+  note_only recorded c t ss k = (note_breaks recorded c t, k)
 
   -- ---- a transaction that is not open
 
-  pub quit_alone : (c : Config Op) (t : Name) → tx t c.opened ≡ None → OnlyBreaks c (Quit t ∷ [])
-  quit_alone c t e = ((λ n b. in_quit_row style (suc n) (in_one n (of_nothing (tx t c.opened) _ n e b))), λ m. tt)
+  pub quit_alone : style ≢ styles.Rules → (c : Config Op) (t : Name) → tx t c.opened ≡ None → OnlyBreaks c (Quit t ∷ [])
+  quit_alone recorded c t e = ((λ n b. in_quit_row style recorded (suc n) (in_one n (of_nothing (tx t c.opened) _ n e b))), λ m. tt)
 
   pub cmt_alone : style ≢ styles.Rules → (c : Config Op) (t : Name) → tx t c.opened ≡ None → OnlyBreaks c (Cmt t ∷ [])
   cmt_alone recorded c t e = ((λ n b. first_of style recorded n (of_nothing (tx t c.opened) _ n e b)), λ m. tt)

@@ -5,6 +5,7 @@ use Rattle.std.proofs.Common.{refl, sym, ap, subst, ◌∙◌}
 use Rattle.std.proofs.lemmas.Bool.{and_parts, eq-eqb}
 use mathlib.Core.Logic.{inl, inr}
 use Rattle.pp_core.specs.declared.call.Style.{Style}
+use Rattle.pp_core.specs.declared.call.Style.TheVariants as styles
 use Rattle.pp_core.specs.declared.step.Rule.TheVariants as rules
 use Rattle.pp_model.specs.Config.{App, Config, LocalEntry, Pull, Pulled, Push, SharedEntry, Step, Tx}
 use Rattle.pp_model.specs.Config.{Unpushed, after_from, at_mark, as_applied, of_other}
@@ -47,7 +48,7 @@ AllShared {Op} c = (u : SharedEntry Op) → In u c.shared → u.committed ≡ tr
 abbrev pub OnlyOwnOpen : {Op : Type 0} → Name → Config Op → Type 0
 OnlyOwnOpen {Op} t c = (u : SharedEntry Op) → In u c.shared → u.committed ≡ false → u.owner ≡ t
 
-module _ {Op State : Type 0} (O : Object Op State) (style : Style) where
+module _ {Op State : Type 0} (O : Object Op State) (style : Style) (recorded : style ≢ styles.Rules) where
   -- an entry of the shared log that an open transaction owns is in its local log
   pub own_stands : (c : Config Op) (x : Tx Op) (g : SharedEntry Op) → Sound O c → In x c.opened → In g c.shared → g.owner ≡ x.name → stands_in x.local g.id ≡ true
   own_stands c x g s i j own = by g.committed refl
@@ -69,7 +70,7 @@ module _ {Op State : Type 0} (O : Object Op State) (style : Style) where
       let a = after_there (tx t c.opened) _ x n e b in
       let k = after_there (of_other t id c.shared) _ g a.0 f a.2 in
       let l = first_holds _ _ _ k.0 apart k.2 in
-      in_pull_row style (suc n) (four_or_five n a.0 k.0 l.0 a.1 k.1 l.1 l.2)
+      in_pull_row style recorded (suc n) (four_or_five n a.0 k.0 l.0 a.1 k.1 l.1 l.2)
 
   each_pull_only : (t : Name) (gs : List (SharedEntry Op)) (c : Config Op) (x : Tx Op) → SharedIds gs → ((g : SharedEntry Op) → In g gs → of_other t g.id c.shared ≡ Some g) → tx t c.opened ≡ Some x →
       ((g : SharedEntry Op) → In g gs → (e : LocalEntry Op) → In e x.local → e.id ≢ g.id) → OnlyBreaks O style c (map (λ g. Pull t g.id) gs)
@@ -110,7 +111,7 @@ module _ {Op State : Type 0} (O : Object Op State) (style : Style) where
   later_only place seen c t x id op s h =
       only_append O style c (refresh_unless place t (place op) seen c.shared x.local) (App t id op ∷ [])
       (unless_only place c t x (place op) s h (touches place (place op) seen))
-      (λ r. app_only O style (after_from c (refresh_unless place t (place op) seen c.shared x.local)) t id op)
+      (λ r. app_only O style recorded (after_from c (refresh_unless place t (place op) seen c.shared x.local)) t id op)
 
   -- ---- a push
 
@@ -151,7 +152,7 @@ module _ {Op State : Type 0} (O : Object Op State) (style : Style) where
   pub at_once_only : ((n : ℕ) → In n (4 ∷ 5 ∷ []) → In n (breakable rules.Push style)) → (place : Op → ℕ) (c : Config Op) (t : Name) (x : Tx Op) (id : ℕ) (op : Op) → Sound O c → tx t c.opened ≡ Some x →
       ((a : LocalEntry Op) → In a x.local → a.mark ≡ Unpushed → Swaps O op a.op) → OnlyBreaks O style c (op_at_once place c.shared x.local t id op)
   at_once_only listed place c t x id op s h swap =
-      only_append O style c first (App t id op ∷ Push t id ∷ []) (pulls_only c t x wanted s h) (λ r. (app_breaks O style (after_from c first) t id op, push r))
+      only_append O style c first (App t id op ∷ Push t id ∷ []) (pulls_only c t x wanted s h) (λ r. (app_breaks O style recorded (after_from c first) t id op, push r))
     where
       wanted : SharedEntry Op → Bool
       wanted = λ g. g.committed && (place g.op == place op)

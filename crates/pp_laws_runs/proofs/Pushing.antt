@@ -49,10 +49,10 @@ module _ {Op State : Type 0} (O : Object Op State) (style : Style) where
 
       by : (s : Style) → s ≢ styles.Rules → (s ≡ styles.Optimistic → OnlyOwnOpen t c) → In (suc n) (breakable rules.Push s)
       by styles.Rules r o = absurd (r refl)
-      by styles.Boosted r o = push_breaks O style c t x p q e s h w k swap n b
-      by styles.Optimistic r o = push_breaks_last O style c t x p q e s h w k swap (o refl) n b
-      by styles.Hardware r o = push_breaks O style c t x p q e s h w k swap n b
-      by styles.Dependent r o = push_breaks O style c t x p q e s h w k swap n b
+      by styles.Boosted r o = push_breaks O style recorded c t x p q e s h w k swap n b
+      by styles.Optimistic r o = push_breaks_last O style recorded c t x p q e s h w k swap (o refl) n b
+      by styles.Hardware r o = push_breaks O style recorded c t x p q e s h w k swap n b
+      by styles.Dependent r o = push_breaks O style recorded c t x p q e s h w k swap n b
 
   own_pushed : (c : Config Op) (t : Name) (e : LocalEntry Op) → OwnIfOptimistic t c → OwnIfOptimistic t (push_effect c t e.id (Some e))
   own_pushed c t e own z u i k = elim (in_cases u c.shared (as_shared t false (item e) ∷ []) i) [

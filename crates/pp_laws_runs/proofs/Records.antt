@@ -59,8 +59,8 @@ module _ {Op State : Type 0} (O : Object Op State) (place : Op → ℕ) where
       ((x : Tx Op) → tx t c.opened ≡ Some x → P (steps x.local)) → P (where_open c t alone steps)
   open_all P c t alone steps a b = elim (tx t c.opened) as (λ o. tx t c.opened ≡ o → P (steps_of_open o alone steps)) [ None ↦ λ e. a e | Some x ↦ λ e. b x e ] refl
 
-  note_alone : (style : Style) (c : Config Op) (t : Name) → OnlyBreaks O style c (Note t ∷ [])
-  note_alone style c t = note_only O style c t [] (λ m. tt)
+  note_alone : (style : Style) → style ≢ styles.Rules → (c : Config Op) (t : Name) → OnlyBreaks O style c (Note t ∷ [])
+  note_alone style recorded c t = note_only O style recorded c t [] (λ m. tt)
 
   -- the operation may move before each unpushed entry of the transaction's log
   abbrev MayPass : Config Op → Name → Op → Type 0
@@ -110,28 +110,28 @@ module _ {Op State : Type 0} (O : Object Op State) (place : Op → ℕ) where
     op_only : (style : Style) (f : Front) (c : Config Op) (t : Name) (id : ℕ) (op : Op) → style ≢ styles.Rules → Sound O c → PassesAtOnce style f c →
         OnlyBreaks O style c (where_open c t (App t id op) (λ l. op_steps place style f c.shared l t id op))
     op_only style f c t id op recorded s passes =
-        open_all (λ ss. OnlyBreaks O style c ss) c t (App t id op) (λ l. op_steps place style f c.shared l t id op) (λ e. app_only O style c t id op) (λ x h. by style recorded passes x h)
+        open_all (λ ss. OnlyBreaks O style c ss) c t (App t id op) (λ l. op_steps place style f c.shared l t id op) (λ e. app_only O style recorded c t id op) (λ x h. by style recorded passes x h)
       where
         in_section : (x : Tx Op) → tx t c.opened ≡ Some x → PassesAtOnce styles.Hardware f c → (memory : Bool) → is_mem f (place op) ≡ memory → (section : Option ℕ) → f.section t ≡ section →
             OnlyBreaks O styles.Hardware c (hardware_op place memory section c.shared x.local t id op)
-        in_section x h passes true m (Some mark) e = later_only O styles.Hardware place (drop mark x.local) c t x id op s h
+        in_section x h passes true m (Some mark) e = later_only O styles.Hardware (λ e. cc) place (drop mark x.local) c t x id op s h
         in_section x h passes true m None e =
-            at_once_only O styles.Hardware (λ n i. i) place c t x id op s h
+            at_once_only O styles.Hardware (λ e. cc) (λ n i. i) place c t x id op s h
             (λ a i k. let g = found_tx t c.opened x h in absurd ((passes x g.0 a i k).1 (ap f.section g.1 ∙ e)))
         in_section x h passes false m section e =
-            at_once_only O styles.Hardware (λ n i. i) place c t x id op s h
+            at_once_only O styles.Hardware (λ e. cc) (λ n i. i) place c t x id op s h
             (λ a i k. let g = found_tx t c.opened x h in
             apart op a.op (λ z. let bad : false ≡ true = sym m ∙ ap (λ o. is_mem f o) z ∙ (passes x g.0 a i k).0 in cc))
 
         by : (style : Style) → style ≢ styles.Rules → PassesAtOnce style f c → (x : Tx Op) → tx t c.opened ≡ Some x → OnlyBreaks O style c (op_steps place style f c.shared x.local t id op)
         by styles.Rules recorded passes x h = absurd (recorded refl)
-        by styles.Boosted recorded passes x h = at_once_only O styles.Boosted (λ n i. i) place c t x id op s h (λ a i k. absurd (passes x (found_tx t c.opened x h).0 a i k))
-        by styles.Optimistic recorded passes x h = later_only O styles.Optimistic place x.local c t x id op s h
+        by styles.Boosted recorded passes x h = at_once_only O styles.Boosted recorded (λ n i. i) place c t x id op s h (λ a i k. absurd (passes x (found_tx t c.opened x h).0 a i k))
+        by styles.Optimistic recorded passes x h = later_only O styles.Optimistic recorded place x.local c t x id op s h
         by styles.Hardware recorded passes x h = in_section x h passes (is_mem f (place op)) refl (f.section t) refl
         by styles.Dependent recorded passes x h =
             let wanted : SharedEntry Op → Bool = λ g. is_followed (f.sources t) g && (place g.op == place op) in
             let first : List (Step Op) = pulls t wanted c.shared x.local in
-            only_append O styles.Dependent c first (App t id op ∷ []) (pulls_only O styles.Dependent c t x wanted s h) (λ r. app_only O styles.Dependent (after_from c first) t id op)
+            only_append O styles.Dependent c first (App t id op ∷ []) (pulls_only O styles.Dependent recorded c t x wanted s h) (λ r. app_only O styles.Dependent recorded (after_from c first) t id op)
 
   -- ---- records
 
@@ -157,29 +157,29 @@ module _ {Op State : Type 0} (O : Object Op State) (place : Op → ℕ) where
         by styles.Optimistic r i = absurd i
         by styles.Hardware r i = absurd i
         by styles.Dependent r i =
-            open_all (λ ss. OnlyBreaks O styles.Dependent c ss) c t (Note t) (λ l. Note t ∷ unpulls t source l) (λ e. note_alone styles.Dependent c t)
-            (λ x h. note_only O styles.Dependent c t (unpulls t source x.local) (λ m. unpulls_only O c t source x s h))
+            open_all (λ ss. OnlyBreaks O styles.Dependent c ss) c t (Note t) (λ l. Note t ∷ unpulls t source l) (λ e. note_alone styles.Dependent r c t)
+            (λ x h. note_only O styles.Dependent r c t (unpulls t source x.local) (λ m. unpulls_only O c t source x s h))
 
     -- a note and then these steps
     noted : (t : Name) (steps : List (LocalEntry Op) → List (Step Op)) → ((x : Tx Op) → tx t c.opened ≡ Some x → OnlyBreaks O style c (steps x.local)) → OnlyBreaks O style c (where_open c t (Note t) (λ l. Note t ∷ steps l))
-    noted t steps k = open_all (λ ss. OnlyBreaks O style c ss) c t (Note t) (λ l. Note t ∷ steps l) (λ e. note_alone style c t) (λ x h. note_only O style c t (steps x.local) (λ m. k x h))
+    noted t steps k = open_all (λ ss. OnlyBreaks O style c ss) c t (Note t) (λ l. Note t ∷ steps l) (λ e. note_alone style recorded c t) (λ x h. note_only O style recorded c t (steps x.local) (λ m. k x h))
 
     -- The steps of a record break only breakable criteria, if what is true between records is.
     pub record_only : (style ≡ styles.Optimistic → AllShared c) → (style ≢ styles.Dependent → PulledCommitted c) → PassesAtOnce style f c → (style ≡ styles.Boosted → (x : Tx Op) → In x c.opened → NoneUnpushed x.local) → (r : RunRecord Op) → IsOfStyle style r →
         OnlyBreaks O style c (expand place style f c r)
     record_only calm pulled passes none (records.Plain step) i =
         let b = only_begin style recorded step i in
-        subst (λ (w : Step Op). OnlyBreaks O style c (w ∷ [])) (sym b.3) (begin_only O style c b.0 b.1 b.2)
+        subst (λ (w : Step Op). OnlyBreaks O style c (w ∷ [])) (sym b.3) (begin_only O style recorded c b.0 b.1 b.2)
     record_only calm pulled passes none (records.Op t id op) i = op_only apart style f c t id op recorded s passes
     record_only calm pulled passes none (records.Commit t) i = commit_only style c t recorded calm s pulled none
     record_only calm pulled passes none (records.Abort t) i =
-        open_all (λ ss. OnlyBreaks O style c ss) c t (Quit t) (λ l. back t 0 l ++ Quit t ∷ []) (λ e. quit_alone O style c t e) (λ x h. abort_only O style c t x s h)
+        open_all (λ ss. OnlyBreaks O style c ss) c t (Quit t) (λ l. back t 0 l ++ Quit t ∷ []) (λ e. quit_alone O style recorded c t e) (λ x h. abort_only O style c t x s h)
     record_only calm pulled passes none (records.Retry t) i = noted t (λ l. back t 0 l) (λ x h. back_only O style c t 0 x s h)
-    record_only calm pulled passes none (records.Refresh t o) i = noted t (λ l. refresh place t o c.shared l) (λ x h. pulls_only O style c t x (λ g. g.committed && (place g.op == o)) s h)
-    record_only calm pulled passes none (records.XBegin t) i = note_alone style c t
+    record_only calm pulled passes none (records.Refresh t o) i = noted t (λ l. refresh place t o c.shared l) (λ x h. pulls_only O style recorded c t x (λ g. g.committed && (place g.op == o)) s h)
+    record_only calm pulled passes none (records.XBegin t) i = note_alone style recorded c t
     record_only calm pulled passes none (records.XEnd t) i = noted t (λ l. pushall t l) (λ x h. pushall_only O style recorded c t x (calm_own style c t calm) s h)
     record_only calm pulled passes none (records.XAbort t) i = noted t (λ l. back t (mark_of (f.section t)) l) (λ x h. back_only O style c t (mark_of (f.section t)) x s h)
-    record_only calm pulled passes none (records.Depend t source) i = note_alone style c t
+    record_only calm pulled passes none (records.Depend t source) i = note_alone style recorded c t
     record_only calm pulled passes none (records.Publish t) i = noted t (λ l. pushall t l) (λ x h. pushall_only O style recorded c t x (calm_own style c t calm) s h)
     record_only calm pulled passes none (records.DropSource t source) i = drop_only t source i
 

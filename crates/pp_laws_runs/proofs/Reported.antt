@@ -95,7 +95,7 @@ less_one i k e = omega (arith, e)
 module _ (bytes : List ℕ) (h : Lined Header) (there : (scan bytes).header ≡ Some h) (recorded : IsRecorded h.what.style) where
   start_listed : (o : Option (Start Op)) (n : ℕ) → StartBreaks (object_of h.what) o (suc n) → In (suc n) (breakable rules.Start h.what.style)
   start_listed None n b = absurd (of_none n b)
-  start_listed (Some z) n b = in_start_row h.what.style (suc n) (in_two n (of_two _ _ n b))
+  start_listed (Some z) n b = in_start_row h.what.style (λ e. subst IsRecorded e recorded) (suc n) (in_two n (of_two _ _ n b))
 
   module _ (run : LinedSteps Op) (is : IsRun (object_of h.what) (translation_of h.what) (start_of h.what) (scan bytes).records run) where
     -- the start

@@ -54,8 +54,10 @@ kind_of (states.Queue s) = kinds.Queue
 kind_of (states.Stack s) = kinds.Stack
 kind_of (states.PriorityQueue s) = kinds.PriorityQueue
 
--- It is an act on objects of this kind. Here and below, the variable `act` is every act of another
--- kind. A new kind falls into none of these arms, since each names its kind by the first argument.
+-- It is an act on objects of this kind. Here and below, the variable `act` is every act that no arm
+-- before it names. This is an act of another kind, but in the arms `Nothing` of `kept_by` also an
+-- act of the same kind. A new act of a known kind falls into these arms of `kept_by`. An act of a
+-- new kind falls into the arms of all known kinds, which is right: it is an act of another kind.
 abbrev pub fits : Kind → Act → Bool
 fits kinds.Memory (Memory a) = true
 fits kinds.Memory act = false

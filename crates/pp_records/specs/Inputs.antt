@@ -36,8 +36,8 @@ IsFault setting too_many sc fault =
     ((line : ℕ) × OverrunsAt setting sc.header sc.records line × (fault ≡ Some (line, too_many)))
     ⊎ (((line : ℕ) → OverrunsAt setting sc.header sc.records line → ⊥) × (fault ≡ sc.fault))
 
--- What is reported. Of a rejected step the configuration before it tells the evidence; step 0 is
--- the start.
+-- What is reported. For a rejected step, the configuration before it determines the evidence. Step
+-- 0 is the start.
 pub data Report (Op State Cause : Type 0) : Type 0 where
   Faulty : (line : ℕ) (cause : Cause) → Report Op State Cause
   Accepts : (steps : ℕ) (committed : List (Attempt Op)) (final : State) → Report Op State Cause

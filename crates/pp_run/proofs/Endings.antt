@@ -6,7 +6,6 @@ use Rattle.std.proofs.KnownBytes.{Appends-nil}
 use Rattle.pp_core.specs.declared.status.Status.{Status}
 use Rattle.pp_core.specs.declared.status.Status.TheVariants as statuses
 use Rattle.pp_input.specs.Faults.{HasRisen, counted}
-use Rattle.pp_input.specs.Sent.{SendsAll}
 use Rattle.pp_input_reader.specs.Sources.{WhereTold}
 use Rattle.pp_certificate_lines.specs.Rechecked.{IsCheckedSound}
 use Rattle.pp_judge.specs.Certified.{IsDecided}
@@ -110,16 +109,15 @@ pub record Reports (k : Command) (input rest : Option (List ℕ)) (before after 
 
 -- ---- the promise
 
-module _ (SameSource SameSink : Type 0) (input rest held holds sent_before sent : Option (List ℕ)) (before after : ℕ) (n : Counts) where
+module _ (SameSource SameSink : Type 0) (input rest held holds : Option (List ℕ)) (before after : ℕ) (n : Counts) where
   abbrev Promises : Option Command → Status → Type 0
-  Promises o s = RunPromise SameSource SameSink o (outcome input rest held holds s before after) sent_before sent n
+  Promises o s = RunPromise SameSource SameSink o (outcome input rest held holds s before after) n
 
   -- the arguments are no command
   pub no_command : SameSource → SameSink → n.failed_reads ≡ n.failed_reads_before → n.failed_writes ≡ n.failed_writes_before → n.flushes ≡ n.flushes_before → after ≡ before → Promises None statuses.BadWords
   no_command source sink reads writes flushes ticks = record {
     streams = record {
       faultless = λ printed. (reads, writes);
-      sent_on = λ printed other. absurd (other refl);
       flushed = λ printed other. absurd (other refl);
       once = inl flushes;
       bad_words = (λ e. refl, λ e. refl);
@@ -145,13 +143,12 @@ module _ (SameSource SameSink : Type 0) (input rest held holds sent_before sent 
   module _ (k : Command) (p : Performs SameSource k input before after n) where
     -- the output was written and flushed
     pub printed : (s : Status) (text : List ℕ) → Reports k input rest before after s text → n.failed_reads ≡ n.failed_reads_before → n.failed_writes ≡ n.failed_writes_before
-        → Appends held holds text → SendsAll sent_before sent holds → n.flushes ≡ counted n.flushes_before → Promises (Some k) s
-    printed s text r reads writes written sent_on flushed =
+        → Appends held holds text → n.flushes ≡ counted n.flushes_before → Promises (Some k) s
+    printed s text r reads writes written flushed =
         let shown : IsPrinted s = report_printed s r.status in
         record {
           streams = record {
             faultless = λ printed. (reads, writes);
-            sent_on = λ printed other. sent_on;
             flushed = λ printed other. flushed;
             once = inr flushed;
             bad_words = (λ e. absurd (report_has_words s r.status e), λ e. absurd (is_command k e));
@@ -196,7 +193,6 @@ module _ (SameSource SameSink : Type 0) (input rest held holds sent_before sent 
         record {
           streams = record {
             faultless = λ printed. absurd (none printed);
-            sent_on = λ printed other. absurd (none printed);
             flushed = λ printed other. absurd (none printed);
             once = once;
             bad_words = (λ e. absurd (no_bad_words e), λ e. absurd (is_command k e));

@@ -26,7 +26,8 @@ use Rattle.pp_laws_runs.proofs.Reported.{reported_law}
 use Rattle.pp_laws_runs.specs.Prefixes.{CertifiedPrefixLaw, PrefixLaw}
 use Rattle.pp_summary.proofs.Sums.{sum_law}
 use Rattle.pp_laws_reports.proofs.Inputs.{certify_law, quick_law}
-use Rattle.pp_laws_reports.specs.Readable.{CertifyLaw, QuickLaw}
+use Rattle.pp_laws_reports.proofs.Texts.{certify_readable, quick_readable}
+use Rattle.pp_laws_reports.specs.Readable.{CertifyLaw, QuickLaw, ReportLaw}
 use Rattle.pp_run.proofs.Numbers.{drill_within}
 use Rattle.pp_run.specs.Outputs.{DefinedLaw, IsOutput}
 use Rattle.pp_run.specs.Promises.{HaveOneRun, IsDecidedAsRun, SeesKept}
@@ -86,8 +87,8 @@ pub prefixes_accepted : PrefixLaw × CertifiedPrefixLaw
 prefixes_accepted = (prefix_law, certified_prefix_law)
 
 -- two different lists of committed transactions never have the same report
-pub reports_readable : CertifyLaw × QuickLaw
-reports_readable = (certify_law, quick_law)
+pub reports_readable : ReportLaw × CertifyLaw × QuickLaw
+reports_readable = ((certify_readable, quick_readable), certify_law, quick_law)
 
 output_of : (words : List (List ℕ)) (bytes : List ℕ) (command : Option Command) → command_of words ≡ command → IsDefined (IsOutput command bytes)
 output_of words bytes None is = λ none. none statuses.BadWords [] (refl, refl)

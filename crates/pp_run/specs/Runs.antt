@@ -4,7 +4,7 @@ use Rattle.pp_judge.specs.Scans.{InputScan}
 use Rattle.pp_records.specs.Runs.{Lined}
 use Rattle.pp_format_read.specs.declared.header.Header.{Header}
 use Rattle.pp_laws_runs.specs.Prefixes.{CertifiedPrefixLaw, PrefixLaw}
-use Rattle.pp_laws_reports.specs.Readable.{CertifyLaw, QuickLaw}
+use Rattle.pp_laws_reports.specs.Readable.{CertifyLaw, QuickLaw, ReportLaw}
 use Rattle.pp_run.specs.declared.words.Command.{Command}
 use Rattle.pp_run.specs.Commands.{CommandPromise}
 use Rattle.pp_run.specs.Outcomes.{Outcome}
@@ -14,12 +14,11 @@ use Rattle.pp_run.specs.Streams.{Counts, StreamsPromise}
 use Rattle.pp_laws_runs.specs.Reported.{ReportedLaw}
 
 -- `asked` is the command, or None if the arguments are no command. `SameSource` and `SameSink` say
--- that the source and the sink did not change. `sent_before` and `sent` are what the sink had sent
--- on before the call and after it, if it says that.
+-- that the calls that the program makes leave the value of the source, and of the sink, as it was.
 pub record RunPromise (SameSource SameSink : Type 0) (asked : Option Command) (o : Outcome)
-    (sent_before sent : Option (List ℕ)) (n : Counts) : Type 0 where
+    (n : Counts) : Type 0 where
   -- what is read and written, whatever the command is
-  pub streams : StreamsPromise SameSource SameSink asked o sent_before sent n
+  pub streams : StreamsPromise SameSource SameSink asked o n
   -- what the command prints, and what that means
   pub command : CommandPromise asked o
 
@@ -40,6 +39,6 @@ pub record RunLaws : Type 0 where
   -- Two lists of committed transactions that differ in a name, an id or an operation never have the
   -- same report, under `certify` and under `quick`. Two accepted inputs with the same report have
   -- the same committed transactions. A report has no bodies and no threads.
-  pub readable : CertifyLaw × QuickLaw
+  pub readable : ReportLaw × CertifyLaw × QuickLaw
   -- In the four recorded styles only the criteria that `breakable` lists can be the first violated.
   pub styles_fail_only : ReportedLaw

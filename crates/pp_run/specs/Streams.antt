@@ -1,9 +1,8 @@
 -- Meaning: what `run` promises of the source and the sink, whatever the command is.
-use Rattle.std.specs.Prelude.{◌≡◌, ◌≢◌, ◌≤◌, ◌↔◌, ◌⊎◌, ℕ, List, Option, None}
+use Rattle.std.specs.Prelude.{◌≡◌, ◌≢◌, ◌≤◌, ◌↔◌, ◌⊎◌, ℕ, Option, None}
 use Rattle.std.specs.Io.KnownBytes.{IsAtEnd}
 use Rattle.pp_core.specs.declared.status.Status.TheVariants as statuses
 use Rattle.pp_input.specs.Faults.{HasRisen, counted}
-use Rattle.pp_input.specs.Sent.{SendsAll}
 use Rattle.pp_run.specs.declared.words.Command.{Command}
 use Rattle.pp_run.specs.Outcomes.{Outcome}
 use Rattle.pp_run.specs.Outputs.{IsOfWhole, IsPrinted, IsUnwritten, OfInput, PrintsPrefix}
@@ -37,15 +36,13 @@ counts reads_before reads writes_before writes refusals_before refusals flushes_
       flushes = flushes;
     }
 
--- `SameSource` and `SameSink` say that the source and the sink did not change.
+-- `SameSource` and `SameSink` say that the calls that the program makes leave the value of the
+-- source, and of the sink, as it was.
 pub record StreamsPromise (SameSource SameSink : Type 0) (command : Option Command) (o : Outcome)
-    (sent_before sent : Option (List ℕ)) (n : Counts) : Type 0 where
+    (n : Counts) : Type 0 where
   -- If an output is printed, no read and no write was counted as failed in this call.
   pub faultless : IsPrinted o.status → (n.failed_reads ≡ n.failed_reads_before)
       × (n.failed_writes ≡ n.failed_writes_before)
-  -- A printed output was sent on to its end, if the sink says what it sent.
-  pub sent_on : IsPrinted o.status → o.status ≢ statuses.BadWords →
-      SendsAll sent_before sent o.holds
   -- A printed output was flushed once.
   pub flushed : IsPrinted o.status → o.status ≢ statuses.BadWords →
       n.flushes ≡ counted n.flushes_before

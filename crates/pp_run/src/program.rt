@@ -33,7 +33,6 @@ pub fn run<S: Source, K: Sink, L: Ledger>(
         (command_of words.now)
         (outcome (S.left source.old) (S.left source.new) (K.held sink.old) (K.held sink.new)
         result ticks.old ticks.new)
-        (K.sent sink.old) (K.sent sink.new)
         (counts (S.faults source.old) (S.faults source.new) (K.faults sink.old) (K.faults sink.new)
         (K.refusals sink.old) (K.refusals sink.new) (K.flushes sink.old) (K.flushes sink.new)) }
 

@@ -2,7 +2,6 @@
 ghost use Rattle.std.specs.Prelude.{◌≡◌, ◌≤◌, OnOk, OnErr, IsErrOf};
 ghost use Rattle.std.specs.Io.KnownBytes.{Appends};
 ghost use Rattle.pp_input.specs.Faults.{HasRisen, counted};
-ghost use Rattle.pp_input.specs.Sent.{SendsAll};
 ghost use Rattle.pp_run.specs.Writing.{AppendsPrefix, FlushesOnceAtMost};
 ghost use Rattle.pp_run.specs.declared.write.WriteError.TheVariants.{Memory, WriteFault};
 
@@ -21,7 +20,6 @@ pub(crate) enum WriteError {
 /// was written.
 pub(crate) fn send<K: Sink>(sink: &mut K, bytes: &[u8]) -> Result<(), WriteError>
     ensures ok { OnOk result (Appends (K.held sink.old) (K.held sink.new) bytes.now) }
-    ensures sent { OnOk result (SendsAll (K.sent sink.old) (K.sent sink.new) (K.held sink.new)) }
     ensures flushed { OnOk result (K.flushes sink.new ≡ counted (K.flushes sink.old)) }
     ensures once { FlushesOnceAtMost (K.flushes sink.old) (K.flushes sink.new) }
     ensures err { OnErr result (AppendsPrefix (K.held sink.old) (K.held sink.new) bytes.now) }

@@ -1,4 +1,4 @@
-use Rattle.std.proofs.Common.{◌≡◌, None, subst}
+use Rattle.std.proofs.Common.{◌≡◌, subst}
 use Rattle.pp_run.specs.Outcomes.{outcome}
 use Rattle.pp_run.specs.Runs.{RunPromise}
 use Rattle.pp_run.specs.Streams.{counts}
@@ -18,7 +18,7 @@ returns g c =
         after,
         subst (λ n. RunPromise (new ≡ old) (holds ≡ held) (command_of c.args.words.now)
             (outcome (g.R.Read.remaining old.stream) (g.R.Read.remaining new.stream) (g.W.Write.contents held.stream) (g.W.Write.contents holds.stream) c.run.result n after)
-            None None (counts old.faults new.faults held.faults holds.faults 0 0 held.flushes holds.flushes))
+            (counts old.faults new.faults held.faults holds.faults 0 0 held.flushes holds.flushes))
             c.new-ticks.ensures c.run.ensures.promise,
       );
       laws = c.run.ensures.laws;

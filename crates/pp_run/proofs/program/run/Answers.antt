@@ -25,7 +25,6 @@ pub returns-in_default-clause-promise : goal.returns-in_default-clause-promise
 returns-in_default-clause-promise g c =
     let left = g.S.Source.left c.args.source.now in
     let held = g.K.Sink.held c.args.sink.now in
-    let sent = g.K.Sink.sent c.args.sink.now in
     let ticks = c.args.ticks.now in
     let reads = g.S.Source.faults c.args.source.now in
     let writes = g.K.Sink.faults c.args.sink.now in
@@ -33,8 +32,8 @@ returns-in_default-clause-promise g c =
     let flushes = g.K.Sink.flushes c.args.sink.now in
     let none : command_of c.args.words.now ≡ None = search rules in
     subst (λ (o : Option Command). RunPromise (c.args.source.now ≡ c.args.source.now) (c.args.sink.now ≡ c.args.sink.now) o
-    (outcome left left held held statuses.BadWords ticks ticks) sent sent (counts reads reads writes writes refusals refusals flushes flushes)) (sym none)
-    (no_command _ _ left left held held sent sent ticks ticks (counts reads reads writes writes refusals refusals flushes flushes) refl refl refl refl refl refl)
+    (outcome left left held held statuses.BadWords ticks ticks) (counts reads reads writes writes refusals refusals flushes flushes)) (sym none)
+    (no_command _ _ left left held held ticks ticks (counts reads reads writes writes refusals refusals flushes flushes) refl refl refl refl refl refl)
 
 -- the output was written and flushed
 pub returns-in-Ok-send-clause-promise : goal.returns-in-Ok-send-clause-promise
@@ -47,8 +46,6 @@ returns-in-Ok-send-clause-promise g c =
     let left' = g.S.Source.left source' in
     let held = g.K.Sink.held sink in
     let held' = g.K.Sink.held sink' in
-    let sent = g.K.Sink.sent sink in
-    let sent' = g.K.Sink.sent sink' in
     let ticks = c.args.ticks.now in
     let ticks' = c.perform.new.ticks in
     let n = counts (g.S.Source.faults source) (g.S.Source.faults source') (g.K.Sink.faults sink) (g.K.Sink.faults sink')
@@ -66,8 +63,8 @@ returns-in-Ok-send-clause-promise g c =
     let reads : g.S.Source.faults source' ≡ g.S.Source.faults source = search rules in
     let writes : g.K.Sink.faults sink' ≡ g.K.Sink.faults sink = told.faultless in
     let written : Appends held held' text = subst (Appends held held') c.bytes.ensures told.ok in
-    subst (λ (o : Option Command). RunPromise (source' ≡ source) (sink' ≡ sink) o (outcome left left' held held' s ticks ticks') sent sent' n) (sym command)
-    (printed (source' ≡ source) (sink' ≡ sink) left left' held held' sent sent' ticks ticks' n k performs s text reports reads writes written told.sent told.flushed)
+    subst (λ (o : Option Command). RunPromise (source' ≡ source) (sink' ≡ sink) o (outcome left left' held held' s ticks ticks') n) (sym command)
+    (printed (source' ≡ source) (sink' ≡ sink) left left' held held' ticks ticks' n k performs s text reports reads writes written told.flushed)
 
 -- a write or the flush failed
 pub returns-in-Err-WriteFault-clause-promise : goal.returns-in-Err-WriteFault-clause-promise
@@ -80,8 +77,6 @@ returns-in-Err-WriteFault-clause-promise g c =
     let left' = g.S.Source.left source' in
     let held = g.K.Sink.held sink in
     let held' = g.K.Sink.held sink' in
-    let sent = g.K.Sink.sent sink in
-    let sent' = g.K.Sink.sent sink' in
     let ticks = c.args.ticks.now in
     let ticks' = c.perform.new.ticks in
     let n = counts (g.S.Source.faults source) (g.S.Source.faults source') (g.K.Sink.faults sink) (g.K.Sink.faults sink')
@@ -96,8 +91,8 @@ returns-in-Err-WriteFault-clause-promise g c =
     let r = c.in-Ok.ensures in
     let reports : Reports k left left' ticks ticks' s text = record { output = r.output; status = r.status; size = r.size; whole = r.end; shown = r.shown; checked = r.checked; least = r.least } in
     let written : AppendsPrefix held held' text = subst (AppendsPrefix held held') c.bytes.ensures c.in-Err-WriteFault.ensures.err in
-    subst (λ (o : Option Command). RunPromise (source' ≡ source) (sink' ≡ sink) o (outcome left left' held held' statuses.WriteFault ticks ticks') sent sent' n) (sym command)
-    (write_failed (source' ≡ source) (sink' ≡ sink) left left' held held' sent sent' ticks ticks' n k performs s text reports written c.send.ensures.once c.send.ensures.count (c.send.ensures.write_fault (search rules)))
+    subst (λ (o : Option Command). RunPromise (source' ≡ source) (sink' ≡ sink) o (outcome left left' held held' statuses.WriteFault ticks ticks') n) (sym command)
+    (write_failed (source' ≡ source) (sink' ≡ sink) left left' held held' ticks ticks' n k performs s text reports written c.send.ensures.once c.send.ensures.count (c.send.ensures.write_fault (search rules)))
 
 -- the sink was out of memory
 pub returns-clause-promise : goal.returns-clause-promise
@@ -110,8 +105,6 @@ returns-clause-promise g c =
     let left' = g.S.Source.left source' in
     let held = g.K.Sink.held sink in
     let held' = g.K.Sink.held sink' in
-    let sent = g.K.Sink.sent sink in
-    let sent' = g.K.Sink.sent sink' in
     let ticks = c.args.ticks.now in
     let ticks' = c.perform.new.ticks in
     let n = counts (g.S.Source.faults source) (g.S.Source.faults source') (g.K.Sink.faults sink) (g.K.Sink.faults sink')
@@ -126,8 +119,8 @@ returns-clause-promise g c =
     let r = c.in-Ok.ensures in
     let reports : Reports k left left' ticks ticks' s text = record { output = r.output; status = r.status; size = r.size; whole = r.end; shown = r.shown; checked = r.checked; least = r.least } in
     let written : AppendsPrefix held held' text = subst (AppendsPrefix held held') c.bytes.ensures c.in-Err-Memory.ensures.err in
-    subst (λ (o : Option Command). RunPromise (source' ≡ source) (sink' ≡ sink) o (outcome left left' held held' statuses.OutOfMemory ticks ticks') sent sent' n) (sym command)
-    (sink_refused (source' ≡ source) (sink' ≡ sink) left left' held held' sent sent' ticks ticks' n k performs s text reports written c.send.ensures.once c.send.ensures.count (c.send.ensures.memory (search rules)))
+    subst (λ (o : Option Command). RunPromise (source' ≡ source) (sink' ≡ sink) o (outcome left left' held held' statuses.OutOfMemory ticks ticks') n) (sym command)
+    (sink_refused (source' ≡ source) (sink' ≡ sink) left left' held held' ticks ticks' n k performs s text reports written c.send.ensures.once c.send.ensures.count (c.send.ensures.memory (search rules)))
 
 -- a read failed
 pub returns-in-Err-ReadFault-clause-promise : goal.returns-in-Err-ReadFault-clause-promise
@@ -140,8 +133,6 @@ returns-in-Err-ReadFault-clause-promise g c =
     let left' = g.S.Source.left source' in
     let held = g.K.Sink.held sink in
     let held' = g.K.Sink.held sink' in
-    let sent = g.K.Sink.sent sink in
-    let sent' = g.K.Sink.sent sink' in
     let ticks = c.args.ticks.now in
     let ticks' = c.perform.new.ticks in
     let n = counts (g.S.Source.faults source) (g.S.Source.faults source') (g.K.Sink.faults sink) (g.K.Sink.faults sink')
@@ -152,8 +143,8 @@ returns-in-Err-ReadFault-clause-promise g c =
     let lines : (m : ℕ) → Some k ≡ Some (Drill m) → PrintsLines m = subst (λ (o : Option Command). (m : ℕ) → o ≡ Some (Drill m) → PrintsLines m) command (drilled_lines c.args.words.now) in
     let performs : Performs (source' ≡ source) k left ticks ticks' n = record { untouched = made.untouched; count = made.count; most = made.most; lines = lines } in
     let told = made.read_fault (search rules) in
-    subst (λ (o : Option Command). RunPromise (source' ≡ source) (sink' ≡ sink) o (outcome left left' held held' statuses.ReadFault ticks ticks') sent sent' n) (sym command)
-    (read_failed (source' ≡ source) (sink' ≡ sink) left left' held held' sent sent' ticks ticks' n k performs refl (made.reading (search rules)) told.0 told.1 refl refl)
+    subst (λ (o : Option Command). RunPromise (source' ≡ source) (sink' ≡ sink) o (outcome left left' held held' statuses.ReadFault ticks ticks') n) (sym command)
+    (read_failed (source' ≡ source) (sink' ≡ sink) left left' held held' ticks ticks' n k performs refl (made.reading (search rules)) told.0 told.1 refl refl)
 
 -- memory was refused before the output was whole
 pub returns-in-Err-OutOfMemory-clause-promise : goal.returns-in-Err-OutOfMemory-clause-promise
@@ -166,8 +157,6 @@ returns-in-Err-OutOfMemory-clause-promise g c =
     let left' = g.S.Source.left source' in
     let held = g.K.Sink.held sink in
     let held' = g.K.Sink.held sink' in
-    let sent = g.K.Sink.sent sink in
-    let sent' = g.K.Sink.sent sink' in
     let ticks = c.args.ticks.now in
     let ticks' = c.perform.new.ticks in
     let n = counts (g.S.Source.faults source) (g.S.Source.faults source') (g.K.Sink.faults sink) (g.K.Sink.faults sink')
@@ -177,5 +166,5 @@ returns-in-Err-OutOfMemory-clause-promise g c =
     let command : command_of c.args.words.now ≡ Some k = search rules in
     let lines : (m : ℕ) → Some k ≡ Some (Drill m) → PrintsLines m = subst (λ (o : Option Command). (m : ℕ) → o ≡ Some (Drill m) → PrintsLines m) command (drilled_lines c.args.words.now) in
     let performs : Performs (source' ≡ source) k left ticks ticks' n = record { untouched = made.untouched; count = made.count; most = made.most; lines = lines } in
-    subst (λ (o : Option Command). RunPromise (source' ≡ source) (sink' ≡ sink) o (outcome left left' held held' statuses.OutOfMemory ticks ticks') sent sent' n) (sym command)
-    (out_of_memory (source' ≡ source) (sink' ≡ sink) left left' held held' sent sent' ticks ticks' n k performs refl refl refl refl)
+    subst (λ (o : Option Command). RunPromise (source' ≡ source) (sink' ≡ sink) o (outcome left left' held held' statuses.OutOfMemory ticks ticks') n) (sym command)
+    (out_of_memory (source' ≡ source) (sink' ≡ sink) left left' held held' ticks ticks' n k performs refl refl refl refl)
