@@ -35,7 +35,6 @@ use Rattle.pp_laws_reports.specs.Defined.{IsDefined}
 module _ (header : Lined Header) (rs : Records (RunRecord Op)) where
   abbrev all : LinedSteps Op
   all = steps_of (setting_of header) rs
-
   abbrev kinds = kinds_of header.what.catalog
 
   abbrev Nowhere : Type 0
@@ -70,15 +69,16 @@ header_of_judged bytes sound = by (scan bytes).header refl
     by (Some h) is = (h, is)
     by None is = header_of_sound bytes (subst (λ (o : Option (Lined Header)). style_fault is_judged StyleNotJudged o (scan bytes).fault ≡ None) is sound)
 
+-- the records of an input have this status and text
+abbrev Told : List ℕ → Status → List ℕ → Option (Lined Header) → Type 0
+Told bytes status text o = (report : RunReport) × IsRunReport setting_of o (scan bytes).records report × IsTold o report status text
+
 pub judge_is_defined : (bytes : List ℕ) → IsDefined (IsJudged bytes)
 judge_is_defined bytes none = by (judge_fault (scan bytes)) refl
   where
-    abbrev Told : Status → List ℕ → Option (Lined Header) → Type 0
-    Told status text o = (report : RunReport) × IsRunReport setting_of o (scan bytes).records report × IsTold o report status text
-
     by : (fault : Option (ℕ × Cause)) → judge_fault (scan bytes) ≡ fault → ⊥
     by (Some f) is = none statuses.InputFault (fault_text f.0 f.1) (fault_reported bytes f.0 f.1 (fault_text f.0 f.1) is refl)
     by None is =
         let h = header_of_judged bytes is in
         some_told h.0 (scan bytes).records (λ report status text reported printed.
-        none status text (run_reported bytes status text is (subst (Told status text) (sym h.1) (report, reported, printed))))
+        none status text (run_reported bytes status text is (subst (Told bytes status text) (sym h.1) (report, reported, printed))))

@@ -10,5 +10,6 @@ pub mod Missing
 pub mod Judging
 pub mod Searching
 pub mod Opened
+pub mod Few
 pub mod Operations
 pub mod Verdicts

@@ -1,9 +1,9 @@
 -- What an open transaction has: its operations are of the objects, and what it has of a place is
 -- allowed.
-use Rattle.std.specs.Prelude.{◌≡◌, ◌==◌, ◌&&◌, ◌≤◌, ◌+◌, ◌*◌, ℕ, true, false, List, [], ◌++◌, drop, length, option_map, take, Some, IsTrue}
-use Rattle.std.proofs.Common.{sym, ap, subst, ◌∙◌, arith, length-append}
+use Rattle.std.specs.Prelude.{◌≡◌, ◌==◌, ◌&&◌, ℕ, true, false, List, [], ◌++◌, option_map, take, Some, IsTrue}
+use Rattle.std.proofs.Common.{sym, ap, subst, ◌∙◌}
 use Rattle.std.proofs.lemmas.Bool.{and_parts, eqb-true}
-use Rattle.std.proofs.lemmas.List.{append-nil, length-map, take-append-drop}
+use Rattle.std.proofs.lemmas.List.{append-nil}
 use Rattle.std.proofs.lemmas.Option.{same_Some}
 use mathlib.Core.Logic.{inl, inr}
 use Rattle.pp_core.specs.declared.entry.Item.{Item}
@@ -12,10 +12,10 @@ use Rattle.pp_model.specs.Lists.{In}
 use Rattle.pp_model.specs.Names.{Name}
 use Rattle.pp_model.specs.Object as model
 use Rattle.pp_model.specs.Object.{Allowed, ops}
-use Rattle.pp_model.specs.Sound.{serial_items, serial_ops}
+use Rattle.pp_model.specs.Sound.{serial_items}
 use Rattle.pp_model.proofs.Lists.{from_filter, from_map, in_cases}
 use Rattle.pp_model.proofs.Logs.{found_tx}
-use Rattle.pp_machine.proofs.Cuts.{filter_short, in_taken}
+use Rattle.pp_machine.proofs.Cuts.{in_taken}
 use Rattle.pp_kind.specs.Object.{AllRanged, IsAllowed, IsLawful, IsPlaced, Object, rules_of}
 use Rattle.pp_kind.proofs.Fitting.{in_ranged}
 use Rattle.pp_kind.proofs.Places.{tells_states}
@@ -29,20 +29,14 @@ use Rattle.pp_summary.specs.Boosted.{PlacesSwap}
 use Rattle.pp_summary.specs.Held.{IsHeldOf}
 use Rattle.pp_summary.specs.Shown.{KeepsQuick, Kept, as_held, items_at, open_in, shown_tx}
 use Rattle.pp_summary.specs.declared.parts.OpenTx.{OpenTx}
-use Rattle.pp_summary.proofs.Fresh.{done_few}
 use Rattle.pp_summary.proofs.HeldOf.{apart_of, done_stands, fits, own_stands}
 use Rattle.pp_summary.proofs.Moving.{open_there}
-use Rattle.pp_summary.proofs.StepCounts.{opened, own_few}
+use Rattle.pp_summary.proofs.StepCounts.{opened}
 use Rattle.pp_violations.specs.Searches.{AreEntriesAsked, AreItemsAsked, view_items}
 use Rattle.pp_violations.specs.Summarised.{kept_open, kept_summary, no_section, seen_of}
 use Rattle.pp_violations.proofs.Kept.{view_is}
 use Rattle.pp_violations.proofs.Summarised.{kept_named, summary_is}
 use Rattle.pp_violations.proofs.SummarisedSnapshots.{boosted_summable}
-
-take_few : {A : Type 0} (k : ℕ) (l : List A) → length (take k l) ≤ length l
-take_few {A} k l =
-    let h : length l ≡ length (take k l) + length (drop k l) = ap (λ (w : List A). length w) (sym (take-append-drop k l)) ∙ length-append (take k l) (drop k l) in
-    omega arith
 
 module _ {Shape State Op Undo : Type 0} (o : Object Shape State Op Undo) (place : Op → ℕ) (SameAt : ℕ → State → State → Type 0) (laws : IsLawful o) (places : IsPlaced o place SameAt) (v : Kept Shape Op) (h : KeepsQuick o place v) where
   apart : (shape : Shape) → PlacesSwap (rules_of o shape) place
@@ -72,13 +66,6 @@ module _ {Shape State Op Undo : Type 0} (o : Object Shape State Op Undo) (place 
       let a = and_parts (g.committed && (place g.op == q)) _ (from_filter _ g v.shared.1 i).1 in
       eqb-true (place g.op) q (and_parts g.committed (place g.op == q) a.0).1
 
-  -- They are few.
-  pub missing_few : (q : ℕ) (x : OpenSummary Op) → length (summary_missing place q (kept_summary v) x) ≤ v.count + 256
-  missing_few q x =
-      let a : length (summary_missing place q (kept_summary v) x) ≤ length v.shared.1 = filter_short _ v.shared.1 in
-      let b = h.few in
-      omega arith
-
   module _ (t : Name) (it : OpenTx (List (Item Op))) (found : open_in t v.slots.entries ≡ Some it) where
     stands : (p : Item Op) → In p it.own → In (as_shared t false p) v.shared.1
     stands = own_stands o place apart (as_held place v) h.is_held t (shown_tx place v.shared.1 v.commits.items t it) (open_there o place apart v h t it found)
@@ -88,20 +75,7 @@ module _ {Shape State Op Undo : Type 0} (o : Object Shape State Op Undo) (place 
     own_asked p i = asked (as_shared t false p) (stands p i)
 
     module _ (q : ℕ) where
-      -- What it has of a place is little.
-      pub view_few : length (view_items place q v it) ≤ 2 * (v.count + 256)
-      view_few =
-          let k = seen_of it.seen.entries q in
-          let a : length (take k (serial_at place q v.committed)) ≤ length (serial_at place q v.committed) = take_few k (serial_at place q v.committed) in
-          let b : length (serial_at place q v.committed) ≤ length (serial_items v.committed) = filter_short _ (serial_items v.committed) in
-          let d : length (serial_ops v.committed) ≡ length (serial_items v.committed) = length-map (serial_items v.committed) (λ (p : Item Op). p.op) in
-          let e = done_few o place apart v h in
-          let f : length (items_at place q it.own) ≤ length it.own = filter_short _ it.own in
-          let g = own_few o place apart v h t it found in
-          let j : length (view_items place q v it) ≡ length (take k (serial_at place q v.committed)) + length (items_at place q it.own) = length-append (take k (serial_at place q v.committed)) (items_at place q it.own) in
-          omega arith
-
-      -- Its numbers are in range.
+      -- The numbers of what it has of a place are in range.
       pub view_ranged : AllRanged o (ops (view_items place q v it))
       view_ranged = in_ranged o (ops (view_items place q v it)) (λ a i.
           let m = from_map (λ (p : Item Op). p.op) a (view_items place q v it) i in

@@ -1,5 +1,5 @@
 //! The search for the first step of a record that violates a criterion.
-ghost use Rattle.std.specs.Prelude.{◌≤◌, ◌<◌, ◌+◌, ◌*◌, IfOk};
+ghost use Rattle.std.specs.Prelude.{◌≤◌, ◌<◌, ◌+◌, IfOk};
 ghost use Rattle.pp_records.specs.Records.{record_meaning};
 ghost use Rattle.pp_summary.specs.Held.{IsRecordAsked};
 ghost use Rattle.pp_summary.specs.Runs.{IsBoosted};
@@ -33,7 +33,7 @@ fn search_record<S: Parted, L: Ledger>(
     ensures searches { IfOk result (SearchesRecord S.object S.place_of parts.now.shape parts.now
         (record_meaning recorded.now)) }
     ensures rises { ticks.old ≤ ticks.new }
-    ensures bound { ticks.new ≤ ticks.old + 3 * (parts.now.count + 256) }
+    ensures bound { ticks.new ≤ ticks.old + (parts.now.count + 256) }
 {
     match recorded {
         RunRecord::Plain(step) => Ok(search_begin::<S>(parts, step)),
@@ -67,7 +67,7 @@ pub fn find_violation<S: Parted, L: Ledger>(
     ensures found { IfOk result
         (IsViolation S.object S.place_of quick.now (record_meaning recorded.now)) }
     ensures rises { ticks.old ≤ ticks.new }
-    ensures bound { ticks.new ≤ ticks.old + 3 * (quick.now.count + 256) }
+    ensures bound { ticks.new ≤ ticks.old + (quick.now.count + 256) }
 {
     match search_record(alloc, quick.parts(), recorded, ticks)? {
         Some(violation) => Ok(violation),

@@ -1,5 +1,5 @@
 //! The criteria of an op record: those of its PULLs, of its APP and of its PUSH.
-ghost use Rattle.std.specs.Prelude.{◌≡◌, ◌≤◌, ◌<◌, ◌+◌, ◌*◌, IfOk, IsTrue, List, reverse};
+ghost use Rattle.std.specs.Prelude.{◌≡◌, ◌≤◌, ◌<◌, ◌+◌, IfOk, IsTrue, List, reverse};
 ghost use Rattle.pp_body.specs.Walks.{HasTaken};
 ghost use Rattle.pp_records.specs.Records.{Op};
 ghost use Rattle.pp_summary.specs.Held.{IsOpAsked};
@@ -100,7 +100,7 @@ pub(crate) fn search_op<S: Parted, L: Ledger>(
     ensures searches { IfOk result (SearchesRecord S.object S.place_of parts.now.shape parts.now
         (Op tx.now id op.now)) }
     ensures rises { ticks.old ≤ ticks.new }
-    ensures bound { ticks.new ≤ ticks.old + 3 * (parts.now.count + 256) }
+    ensures bound { ticks.new ≤ ticks.old + (parts.now.count + 256) }
 {
     let Some(it) = find_open(&parts.slots, tx) else {
         return Ok(Some(alone(Rule::App)));

@@ -10,7 +10,8 @@ use Rattle.pp_violations.specs.Asks.{Breaks, Judges}
 use Rattle.pp_violations.specs.Searches.{AreEntriesAsked, ArePulled, FailsPull, app_evidence, app_facts, push_evidence, push_facts, view_items}
 use Rattle.pp_violations.specs.Summarised.{kept_open, kept_summary}
 use Rattle.pp_violations.proofs.Operations.{op_absent, op_app, op_pull, op_push}
-use Rattle.pp_violations.proofs.Opened.{missing_asked, missing_at, missing_few, own_asked, view_allowed, view_few, view_ranged}
+use Rattle.pp_violations.proofs.Opened.{missing_asked, missing_at, own_asked, view_allowed, view_ranged}
+use Rattle.pp_violations.proofs.Few.{entries_few}
 use Rattle.pp_violations.proofs.Searching.{own_shape}
 use Rattle.pp_violations.proofs.op.search_op.Goals as goal
 
@@ -39,23 +40,23 @@ search_pulls-requires-clause-ranged g c =
 
 pub search_pulls-requires-clause-few : goal.search_pulls-requires-clause-few
 search_pulls-requires-clause-few g c =
+    let apart = apart_of g.S.Spec.object g.S.Placed.place_of g.S.Placed.SameAt g.met.S.Placed.placed in
     let seen : c.deref.result.now ≡ view_items g.S.Placed.place_of (g.S.Placed.place_of c.args.op.now) c.args.parts.now c.in-Some.it.now = c.deref.ensures.value ∙ c.in_ok-view.ensures ∙ ap (λ q. view_items g.S.Placed.place_of q c.args.parts.now c.in-Some.it.now) c.place-place.ensures in
     let lacks : c.deref-2.result.now ≡ summary_missing g.S.Placed.place_of (g.S.Placed.place_of c.args.op.now) (kept_summary c.args.parts.now) (kept_open c.args.tx.now c.in-Some.it.now) = c.deref-2.ensures.value ∙ c.in_ok-missing.ensures c.args.tx.now ∙ ap (λ q. summary_missing g.S.Placed.place_of q (kept_summary c.args.parts.now) (kept_open c.args.tx.now c.in-Some.it.now)) c.place-place.ensures in
-    let a = view_few g.S.Spec.object g.S.Placed.place_of g.S.Placed.SameAt g.met.S.Spec.lawful g.met.S.Placed.placed c.args.parts.now c.requires.keeps c.args.tx.now c.in-Some.it.now (sym c.in-Some.ensures) (g.S.Placed.place_of c.args.op.now) in
-    let b = missing_few g.S.Spec.object g.S.Placed.place_of g.S.Placed.SameAt g.met.S.Spec.lawful g.met.S.Placed.placed c.args.parts.now c.requires.keeps (g.S.Placed.place_of c.args.op.now) (kept_open c.args.tx.now c.in-Some.it.now) in
+    let a = entries_few g.S.Spec.object g.S.Placed.place_of apart c.args.parts.now c.requires.keeps c.args.tx.now c.in-Some.it.now (sym c.in-Some.ensures) (g.S.Placed.place_of c.args.op.now) in
     let d = ap (λ l. length l) seen in
     let e = ap (λ l. length l) lacks in
-    omega (arith, a, b, d, e, c.requires.few)
+    omega (arith, a, d, e, c.requires.few)
 
 pub returns-in_err-state-clause-bound : goal.returns-in_err-state-clause-bound
 returns-in_err-state-clause-bound g c =
+    let apart = apart_of g.S.Spec.object g.S.Placed.place_of g.S.Placed.SameAt g.met.S.Placed.placed in
     let seen : c.deref.result.now ≡ view_items g.S.Placed.place_of (g.S.Placed.place_of c.args.op.now) c.args.parts.now c.in-Some.it.now = c.deref.ensures.value ∙ c.in_ok-view.ensures ∙ ap (λ q. view_items g.S.Placed.place_of q c.args.parts.now c.in-Some.it.now) c.place-place.ensures in
     let lacks : c.deref-2.result.now ≡ summary_missing g.S.Placed.place_of (g.S.Placed.place_of c.args.op.now) (kept_summary c.args.parts.now) (kept_open c.args.tx.now c.in-Some.it.now) = c.deref-2.ensures.value ∙ c.in_ok-missing.ensures c.args.tx.now ∙ ap (λ q. summary_missing g.S.Placed.place_of q (kept_summary c.args.parts.now) (kept_open c.args.tx.now c.in-Some.it.now)) c.place-place.ensures in
-    let a = view_few g.S.Spec.object g.S.Placed.place_of g.S.Placed.SameAt g.met.S.Spec.lawful g.met.S.Placed.placed c.args.parts.now c.requires.keeps c.args.tx.now c.in-Some.it.now (sym c.in-Some.ensures) (g.S.Placed.place_of c.args.op.now) in
-    let b = missing_few g.S.Spec.object g.S.Placed.place_of g.S.Placed.SameAt g.met.S.Spec.lawful g.met.S.Placed.placed c.args.parts.now c.requires.keeps (g.S.Placed.place_of c.args.op.now) (kept_open c.args.tx.now c.in-Some.it.now) in
+    let a = entries_few g.S.Spec.object g.S.Placed.place_of apart c.args.parts.now c.requires.keeps c.args.tx.now c.in-Some.it.now (sym c.in-Some.ensures) (g.S.Placed.place_of c.args.op.now) in
     let d = ap (λ l. length l) seen in
     let e = ap (λ l. length l) lacks in
-    omega (arith, a, b, d, e, c.search_pulls.ensures.bound)
+    omega (arith, a, d, e, c.search_pulls.ensures.bound)
 
 pub returns-in-Err-clause-searches : goal.returns-in-Err-clause-searches
 returns-in-Err-clause-searches g c =
@@ -68,13 +69,13 @@ returns-in-Err-clause-searches g c =
 
 pub returns-in-Err-clause-bound : goal.returns-in-Err-clause-bound
 returns-in-Err-clause-bound g c =
+    let apart = apart_of g.S.Spec.object g.S.Placed.place_of g.S.Placed.SameAt g.met.S.Placed.placed in
     let seen : c.deref.result.now ≡ view_items g.S.Placed.place_of (g.S.Placed.place_of c.args.op.now) c.args.parts.now c.in-Some.it.now = c.deref.ensures.value ∙ c.in_ok-view.ensures ∙ ap (λ q. view_items g.S.Placed.place_of q c.args.parts.now c.in-Some.it.now) c.place-place.ensures in
     let lacks : c.deref-2.result.now ≡ summary_missing g.S.Placed.place_of (g.S.Placed.place_of c.args.op.now) (kept_summary c.args.parts.now) (kept_open c.args.tx.now c.in-Some.it.now) = c.deref-2.ensures.value ∙ c.in_ok-missing.ensures c.args.tx.now ∙ ap (λ q. summary_missing g.S.Placed.place_of q (kept_summary c.args.parts.now) (kept_open c.args.tx.now c.in-Some.it.now)) c.place-place.ensures in
-    let a = view_few g.S.Spec.object g.S.Placed.place_of g.S.Placed.SameAt g.met.S.Spec.lawful g.met.S.Placed.placed c.args.parts.now c.requires.keeps c.args.tx.now c.in-Some.it.now (sym c.in-Some.ensures) (g.S.Placed.place_of c.args.op.now) in
-    let b = missing_few g.S.Spec.object g.S.Placed.place_of g.S.Placed.SameAt g.met.S.Spec.lawful g.met.S.Placed.placed c.args.parts.now c.requires.keeps (g.S.Placed.place_of c.args.op.now) (kept_open c.args.tx.now c.in-Some.it.now) in
+    let a = entries_few g.S.Spec.object g.S.Placed.place_of apart c.args.parts.now c.requires.keeps c.args.tx.now c.in-Some.it.now (sym c.in-Some.ensures) (g.S.Placed.place_of c.args.op.now) in
     let d = ap (λ l. length l) seen in
     let e = ap (λ l. length l) lacks in
-    omega (arith, a, b, d, e, c.search_pulls.ensures.bound)
+    omega (arith, a, d, e, c.search_pulls.ensures.bound)
 
 pub judge_app-requires-clause-taken : goal.judge_app-requires-clause-taken
 judge_app-requires-clause-taken g c =
@@ -99,23 +100,23 @@ returns-in-Some-judge_app-clause-searches g c =
 
 pub returns-in-Some-judge_app-clause-bound : goal.returns-in-Some-judge_app-clause-bound
 returns-in-Some-judge_app-clause-bound g c =
+    let apart = apart_of g.S.Spec.object g.S.Placed.place_of g.S.Placed.SameAt g.met.S.Placed.placed in
     let seen : c.deref.result.now ≡ view_items g.S.Placed.place_of (g.S.Placed.place_of c.args.op.now) c.args.parts.now c.in-Some.it.now = c.deref.ensures.value ∙ c.in_ok-view.ensures ∙ ap (λ q. view_items g.S.Placed.place_of q c.args.parts.now c.in-Some.it.now) c.place-place.ensures in
     let lacks : c.deref-2.result.now ≡ summary_missing g.S.Placed.place_of (g.S.Placed.place_of c.args.op.now) (kept_summary c.args.parts.now) (kept_open c.args.tx.now c.in-Some.it.now) = c.deref-2.ensures.value ∙ c.in_ok-missing.ensures c.args.tx.now ∙ ap (λ q. summary_missing g.S.Placed.place_of q (kept_summary c.args.parts.now) (kept_open c.args.tx.now c.in-Some.it.now)) c.place-place.ensures in
-    let a = view_few g.S.Spec.object g.S.Placed.place_of g.S.Placed.SameAt g.met.S.Spec.lawful g.met.S.Placed.placed c.args.parts.now c.requires.keeps c.args.tx.now c.in-Some.it.now (sym c.in-Some.ensures) (g.S.Placed.place_of c.args.op.now) in
-    let b = missing_few g.S.Spec.object g.S.Placed.place_of g.S.Placed.SameAt g.met.S.Spec.lawful g.met.S.Placed.placed c.args.parts.now c.requires.keeps (g.S.Placed.place_of c.args.op.now) (kept_open c.args.tx.now c.in-Some.it.now) in
+    let a = entries_few g.S.Spec.object g.S.Placed.place_of apart c.args.parts.now c.requires.keeps c.args.tx.now c.in-Some.it.now (sym c.in-Some.ensures) (g.S.Placed.place_of c.args.op.now) in
     let d = ap (λ l. length l) seen in
     let e = ap (λ l. length l) lacks in
-    omega (arith, a, b, d, e, c.search_pulls.ensures.bound)
+    omega (arith, a, d, e, c.search_pulls.ensures.bound)
 
 pub returns-in_err-broken-clause-bound : goal.returns-in_err-broken-clause-bound
 returns-in_err-broken-clause-bound g c =
+    let apart = apart_of g.S.Spec.object g.S.Placed.place_of g.S.Placed.SameAt g.met.S.Placed.placed in
     let seen : c.deref.result.now ≡ view_items g.S.Placed.place_of (g.S.Placed.place_of c.args.op.now) c.args.parts.now c.in-Some.it.now = c.deref.ensures.value ∙ c.in_ok-view.ensures ∙ ap (λ q. view_items g.S.Placed.place_of q c.args.parts.now c.in-Some.it.now) c.place-place.ensures in
     let lacks : c.deref-2.result.now ≡ summary_missing g.S.Placed.place_of (g.S.Placed.place_of c.args.op.now) (kept_summary c.args.parts.now) (kept_open c.args.tx.now c.in-Some.it.now) = c.deref-2.ensures.value ∙ c.in_ok-missing.ensures c.args.tx.now ∙ ap (λ q. summary_missing g.S.Placed.place_of q (kept_summary c.args.parts.now) (kept_open c.args.tx.now c.in-Some.it.now)) c.place-place.ensures in
-    let a = view_few g.S.Spec.object g.S.Placed.place_of g.S.Placed.SameAt g.met.S.Spec.lawful g.met.S.Placed.placed c.args.parts.now c.requires.keeps c.args.tx.now c.in-Some.it.now (sym c.in-Some.ensures) (g.S.Placed.place_of c.args.op.now) in
-    let b = missing_few g.S.Spec.object g.S.Placed.place_of g.S.Placed.SameAt g.met.S.Spec.lawful g.met.S.Placed.placed c.args.parts.now c.requires.keeps (g.S.Placed.place_of c.args.op.now) (kept_open c.args.tx.now c.in-Some.it.now) in
+    let a = entries_few g.S.Spec.object g.S.Placed.place_of apart c.args.parts.now c.requires.keeps c.args.tx.now c.in-Some.it.now (sym c.in-Some.ensures) (g.S.Placed.place_of c.args.op.now) in
     let d = ap (λ l. length l) seen in
     let e = ap (λ l. length l) lacks in
-    omega (arith, a, b, d, e, c.search_pulls.ensures.bound)
+    omega (arith, a, d, e, c.search_pulls.ensures.bound)
 
 pub returns-clause-searches : goal.returns-clause-searches
 returns-clause-searches g c =
@@ -136,10 +137,10 @@ returns-clause-searches g c =
 
 pub returns-clause-bound : goal.returns-clause-bound
 returns-clause-bound g c =
+    let apart = apart_of g.S.Spec.object g.S.Placed.place_of g.S.Placed.SameAt g.met.S.Placed.placed in
     let seen : c.deref.result.now ≡ view_items g.S.Placed.place_of (g.S.Placed.place_of c.args.op.now) c.args.parts.now c.in-Some.it.now = c.deref.ensures.value ∙ c.in_ok-view.ensures ∙ ap (λ q. view_items g.S.Placed.place_of q c.args.parts.now c.in-Some.it.now) c.place-place.ensures in
     let lacks : c.deref-2.result.now ≡ summary_missing g.S.Placed.place_of (g.S.Placed.place_of c.args.op.now) (kept_summary c.args.parts.now) (kept_open c.args.tx.now c.in-Some.it.now) = c.deref-2.ensures.value ∙ c.in_ok-missing.ensures c.args.tx.now ∙ ap (λ q. summary_missing g.S.Placed.place_of q (kept_summary c.args.parts.now) (kept_open c.args.tx.now c.in-Some.it.now)) c.place-place.ensures in
-    let a = view_few g.S.Spec.object g.S.Placed.place_of g.S.Placed.SameAt g.met.S.Spec.lawful g.met.S.Placed.placed c.args.parts.now c.requires.keeps c.args.tx.now c.in-Some.it.now (sym c.in-Some.ensures) (g.S.Placed.place_of c.args.op.now) in
-    let b = missing_few g.S.Spec.object g.S.Placed.place_of g.S.Placed.SameAt g.met.S.Spec.lawful g.met.S.Placed.placed c.args.parts.now c.requires.keeps (g.S.Placed.place_of c.args.op.now) (kept_open c.args.tx.now c.in-Some.it.now) in
+    let a = entries_few g.S.Spec.object g.S.Placed.place_of apart c.args.parts.now c.requires.keeps c.args.tx.now c.in-Some.it.now (sym c.in-Some.ensures) (g.S.Placed.place_of c.args.op.now) in
     let d = ap (λ l. length l) seen in
     let e = ap (λ l. length l) lacks in
-    omega (arith, a, b, d, e, c.search_pulls.ensures.bound)
+    omega (arith, a, d, e, c.search_pulls.ensures.bound)
