@@ -2,6 +2,7 @@ pub mod Causes
 pub mod Objects
 pub mod Scans
 pub mod Inputs
+pub mod WiderLimits
 pub mod Reports
 pub mod Costs
 pub mod Tallies

@@ -14,6 +14,7 @@ ghost use Rattle.pp_records.specs.Styles.{RestatedLaw, RulesLaw};
 ghost use Rattle.pp_format_read.specs.declared.header.Header.{Header as HeaderOf};
 ghost use Rattle.pp_input_reader.specs.declared.cause.Cause.TheVariants.{TooManySteps};
 ghost use Rattle.pp_judge.specs.Objects.{object_of, setting_of, translation_of};
+ghost use Rattle.pp_judge.specs.WiderLimits.{WiderLimitsLaw};
 
 /// The records behind a header can not be without a run, and have one at most. Records that are
 /// steps, as all of style rules are, stand for themselves: of at most 200,000 of them the fault is
@@ -57,4 +58,10 @@ pub fn limits_law()
     ensures name { LONGEST_NAME ≡ 24 }
     ensures swaps { MOST_SWAPS ≡ 1_000_000 }
     ensures viewed { MOST_VIEWED ≡ 2_000_000 }
+{}
+
+/// An input that has not too many lines or bytes is the same under limits that allow more. It is a
+/// law of the definitions, and does nothing.
+pub fn wider_limits_law()
+    ensures { WiderLimitsLaw }
 {}

@@ -16,7 +16,7 @@ mod take;
 pub use driven::{Driven, Refused, Rejection, start_machine};
 pub use finding::{Finding, examine};
 pub use judge::{Judge, Judged};
-pub use law::{limits_law, records_are_steps, records_extend};
+pub use law::{limits_law, records_are_steps, records_extend, wider_limits_law};
 pub use observer::{Blind, Observer};
 pub use progress::{Progress, Tally};
 pub use report::{report_rejected, summary};
