@@ -2,7 +2,7 @@
 ghost use Rattle.std.specs.Prelude.{◌≡◌};
 ghost use Rattle.pp_input.specs.Limits.{usual_limits};
 
-use pp_core::{LONGEST_LINE, MOST_BYTES, MOST_LINES};
+use pp_core::{LONGEST_LINE, MOST_BYTES, MOST_LINES, MOST_TRANSACTIONS};
 
 /// How much of an input is read. A command passes the limits of its inputs.
 #[derive(Clone, Copy, Debug, PartialEq, Eq)]
@@ -13,10 +13,13 @@ pub struct Limits {
     pub lines: u32,
     /// The most bytes of a line, without its end. No line passes the limit `u64::MAX`.
     pub line_bytes: u64,
+    /// The most begin records. No input passes the limit `u32::MAX`: it has fewer lines.
+    pub transactions: u32,
 }
 
 impl Limits {
-    /// The usual limits: 268,435,456 bytes, 200,001 lines, and 65,536 bytes a line.
+    /// The usual limits: 268,435,456 bytes, 200,001 lines, 65,536 bytes a line, and
+    /// 20,000 transactions.
     pub fn usual() -> Limits
         ensures { result ≡ usual_limits }
     {
@@ -24,6 +27,7 @@ impl Limits {
             bytes: MOST_BYTES,
             lines: MOST_LINES,
             line_bytes: LONGEST_LINE,
+            transactions: MOST_TRANSACTIONS,
         }
     }
 }

@@ -38,7 +38,7 @@ module _ {J R : Type 0} (M : Judging J R) where
 
   pub next_line : (first now : ℕ) (from : Progress J R) (line : NumberedLine) → IsNext (judged_reading M first) (from, now) line → IsNextLine M from line now
   next_line first now from line is = record {
-    sc = scan_lines is.0;
+    sc = scan_lines M.limits.transactions is.0;
     old = first;
     covers = is.1.covers;
     number = omega (arith, is.2, is.1.count);
@@ -48,14 +48,14 @@ module _ {J R : Type 0} (M : Judging J R) where
 
   pub leads_on : (from : Progress J R) (line : NumberedLine) (now : ℕ) (to : Progress J R) (new : ℕ) → IsNextLine M from line now → LeadsTo M from line now to new → (first : ℕ) → LeadsOn (judged_reading M first) (from, now) line (to, new)
   leads_on from line now to new next to' first lines leads = record {
-    covers = subst (λ (s : InputScan). Covers M s to first new) (sym (scan_more lines line)) (to'.covers (scan_lines lines) first leads.covers);
+    covers = subst (λ (s : InputScan). Covers M s to first new) (sym (scan_more M.limits.transactions lines line)) (to'.covers (scan_lines M.limits.transactions lines) first leads.covers);
     count = omega (arith, to'.lines, leads.count, length-append lines (line ∷ []));
     next = subst HasNext (next.number ∙ sym to'.lines) next.next;
   }
 
   pub stops_with : (from : Progress J R) (line : NumberedLine) (now new : ℕ) → CostsOn M from line now new → (first : ℕ) → StopsWith (judged_reading M first) (from, now) line new
   stops_with from line now new costs first lines leads =
-      subst (λ (s : InputScan). M.AtMost s first new) (sym (scan_more lines line)) (costs (scan_lines lines) first leads.covers)
+      subst (λ (s : InputScan). M.AtMost s first new) (sym (scan_more M.limits.transactions lines line)) (costs (scan_lines M.limits.transactions lines) first leads.covers)
 
   -- what `take` answers, where this is where it leads
   pub takes_on : (from : Progress J R) (line : NumberedLine) (now new : ℕ) (to : Result (Progress J R) (Stop Cause)) → IsNextLine M from line now → IfOk to (λ p. LeadsTo M from line now p new)
@@ -72,10 +72,10 @@ module _ {J R : Type 0} (M : Judging J R) where
     stops_at from line now stop stops first =
         if_fault stop (λ at cause. (at ≡ line.0) × HasFaultOn M from line now cause) (λ at cause. (lines : List NumberedLine) → Leads M lines from first now → HasFaultBehind (judged_reading M first) (lines ++ line ∷ []) at cause)
         (λ at cause said lines leads more.
-        let here : M.IsFault (scan_lines (lines ++ line ∷ [])) (Some (line.0, cause)) =
-        subst (λ (s : InputScan). M.IsFault s (Some (line.0, cause))) (sym (scan_more lines line)) (said.1 (scan_lines lines) first leads.covers) in
-        subst (λ (n : ℕ). M.IsFault (scan_lines ((lines ++ line ∷ []) ++ more)) (Some (n, cause))) (sym said.0)
-        (laws.fault_stays (scan_lines (lines ++ line ∷ [])) (scan_lines ((lines ++ line ∷ []) ++ more)) (line.0, cause) (widens_lines (lines ++ line ∷ []) more) here))
+        let here : M.IsFault (scan_lines M.limits.transactions (lines ++ line ∷ [])) (Some (line.0, cause)) =
+        subst (λ (s : InputScan). M.IsFault s (Some (line.0, cause))) (sym (scan_more M.limits.transactions lines line)) (said.1 (scan_lines M.limits.transactions lines) first leads.covers) in
+        subst (λ (n : ℕ). M.IsFault (scan_lines M.limits.transactions ((lines ++ line ∷ []) ++ more)) (Some (n, cause))) (sym said.0)
+        (laws.fault_stays (scan_lines M.limits.transactions (lines ++ line ∷ [])) (scan_lines M.limits.transactions ((lines ++ line ∷ []) ++ more)) (line.0, cause) (widens_lines M.limits.transactions (lines ++ line ∷ []) more) here))
         stops
 
     -- and where this is its fault
@@ -94,24 +94,24 @@ module _ {J R : Type 0} (M : Judging J R) where
 
     -- what comes after the lines of an input: a limit that is passed, or that there is no header
     after_lines : (bytes : List ℕ) (p : Progress J R) (first now : ℕ) (o : Option (ℕ × Cause)) → Leads M (scanned_lines M.limits bytes) p first now
-        → option_or (limit_fault (overrun M.limits bytes)) (no_header bytes (scan_lines (scanned_lines M.limits bytes)).header) ≡ o → M.IsFault (scan_within M.limits bytes) o
+        → option_or (limit_fault (overrun M.limits bytes)) (no_header bytes (scan_lines M.limits.transactions (scanned_lines M.limits bytes)).header) ≡ o → M.IsFault (scan_within M.limits bytes) o
     after_lines bytes p first now o leads is =
-        let sc : InputScan = scan_lines (scanned_lines M.limits bytes) in
+        let sc : InputScan = scan_lines M.limits.transactions (scanned_lines M.limits bytes) in
         let behind : Option (ℕ × Cause) = option_or (limit_fault (overrun M.limits bytes)) (no_header bytes sc.header) in
         subst (λ (w : Option (ℕ × Cause)). M.IsFault (scan_within M.limits bytes) w) is (or_covers sc p first now behind leads.covers)
 
     pub input_fault : (first : ℕ) (bytes : List ℕ) (at : ℕ) (cause : Cause) → HasInputFault (judged_reading M first) bytes at cause → M.IsFault (scan_within M.limits bytes) (Some (at, cause))
     input_fault first bytes at cause (inl line) =
-        let sc : InputScan = scan_lines (scanned_lines M.limits bytes) in
+        let sc : InputScan = scan_lines M.limits.transactions (scanned_lines M.limits bytes) in
         laws.fault_stays sc (scan_within M.limits bytes) (at, cause) (widens_fault sc (option_or (limit_fault (overrun M.limits bytes)) (no_header bytes sc.header))) line
     input_fault first bytes at cause (inr (place, leads, (named, limit, same))) =
         let is : limit_fault (overrun M.limits bytes) ≡ Some (at, cause) = limit ∙ ap (λ (c : Cause). let o : Option (ℕ × Cause) = Some (at, c) in o) (sym same) in
-        after_lines bytes place.0 first place.1 (Some (at, cause)) leads (ap (λ (o : Option (ℕ × Cause)). option_or o (no_header bytes (scan_lines (scanned_lines M.limits bytes)).header)) is)
+        after_lines bytes place.0 first place.1 (Some (at, cause)) leads (ap (λ (o : Option (ℕ × Cause)). option_or o (no_header bytes (scan_lines M.limits.transactions (scanned_lines M.limits bytes)).header)) is)
 
     -- what was read so far has no fault
     pub reads_sound : (first : ℕ) (old new : Option (List ℕ)) → ReadsSoFar (judged_reading M first) old new → ReadsSound M old new
     reads_sound first old new (bytes, read, none, (place, leads)) =
-        let sc : InputScan = scan_lines (early_lines M.limits bytes) in (
+        let sc : InputScan = scan_lines M.limits.transactions (early_lines M.limits bytes) in (
           bytes,
           read,
           subst (λ (o : Option (ℕ × Cause)). M.IsFault (or_fault sc (limit_fault (overrun M.limits bytes))) o) (ap limit_fault none)
@@ -122,7 +122,7 @@ module _ {J R : Type 0} (M : Judging J R) where
 
     module _ (bytes : List ℕ) (none : overrun M.limits bytes ≡ None) (p : Progress J R) (first now : ℕ) (leads : Leads M (scanned_lines M.limits bytes) p first now) where
       abbrev sc : InputScan
-      sc = scan_lines (scanned_lines M.limits bytes)
+      sc = scan_lines M.limits.transactions (scanned_lines M.limits bytes)
 
       -- without a header
       no_header_fault : sc.header ≡ None → M.IsFault (scan_within M.limits bytes) (Some (lines_of p + 1, NoHeader))
@@ -146,11 +146,11 @@ module _ {J R : Type 0} (M : Judging J R) where
         subst (λ (bs : List ℕ). M.IsFault (scan_within M.limits bs) (Some (lines + 1, NoHeader))) (taken_all old new taken bytes read end is)
         (no_header_fault taken none (Waiting lines) first now leads (ap (λ (s : InputScan). s.header) leads.covers.0))
     finds first now old new (Running tally judge) end (taken, read, none, leads) =
-        let c : GoodAt M (scan_lines (scanned_lines M.limits taken)) tally judge first now = leads.covers in
+        let c : GoodAt M (scan_lines M.limits.transactions (scanned_lines M.limits taken)) tally judge first now = leads.covers in
         let is = scan_is taken none (Running tally judge) first now leads tally c.follows in
         (taken, read, end, subst (λ (s : InputScan). AreGood M s tally judge) (sym is) (record { follows = c.follows; good = c.good }))
     finds first now old new (Rejected tally rejection) end (taken, read, none, leads) =
-        let c : BadAt M (scan_lines (scanned_lines M.limits taken)) tally rejection first now = leads.covers in
+        let c : BadAt M (scan_lines M.limits.transactions (scanned_lines M.limits taken)) tally rejection first now = leads.covers in
         let is = scan_is taken none (Rejected tally rejection) first now leads tally c.follows in
         (taken, read, end, subst (λ (s : InputScan). AreBad M s tally rejection) (sym is) (record { follows = c.follows; bad = c.bad }))
 
@@ -159,20 +159,20 @@ module _ {J R : Type 0} (M : Judging J R) where
     -- the lines of an input, of which some were taken from the first on
     pub lines_cost : (first new : ℕ) (bytes : List ℕ) → CountsTo (judged_reading M first) (scanned_lines M.limits bytes) new → M.AtMost (scan_within M.limits bytes) first new
     lines_cost first new bytes (front, back, is, taken) =
-        let here : M.AtMost (scan_lines front) first new = elim taken [ inl x ↦ covers_most M laws (scan_lines front) x.0 first new x.1.covers | inr y ↦ y ] in
-        let sc : InputScan = scan_lines (scanned_lines M.limits bytes) in
+        let here : M.AtMost (scan_lines M.limits.transactions front) first new = elim taken [ inl x ↦ covers_most M laws (scan_lines M.limits.transactions front) x.0 first new x.1.covers | inr y ↦ y ] in
+        let sc : InputScan = scan_lines M.limits.transactions (scanned_lines M.limits bytes) in
         let all : M.AtMost sc first new =
-        subst (λ (ls : List NumberedLine). M.AtMost (scan_lines ls) first new) (sym is) (laws.most_widens (scan_lines front) (scan_lines (front ++ back)) first new (widens_lines front back) here) in
+        subst (λ (ls : List NumberedLine). M.AtMost (scan_lines M.limits.transactions ls) first new) (sym is) (laws.most_widens (scan_lines M.limits.transactions front) (scan_lines M.limits.transactions (front ++ back)) first new (widens_lines M.limits.transactions front back) here) in
         laws.most_widens sc (scan_within M.limits bytes) first new (widens_fault sc (option_or (limit_fault (overrun M.limits bytes)) (no_header bytes sc.header))) all
 
     -- where all lines were taken
     pub finding_counted : (first now : ℕ) (old new : Option (List ℕ)) (bytes : List ℕ) (p : Progress J R) → IsAtEnd new → old ≡ Some bytes → ReadsAll (judged_reading M first) old new (p, now) → RisesAtLeast M (scan_within M.limits bytes) (finding_of p) first now
     finding_counted first now old new bytes (Waiting lines) end is reads = tt
     finding_counted first now old new bytes (Running tally judge) end is (taken, read, none, leads) =
-        let c : GoodAt M (scan_lines (scanned_lines M.limits taken)) tally judge first now = leads.covers in
+        let c : GoodAt M (scan_lines M.limits.transactions (scanned_lines M.limits taken)) tally judge first now = leads.covers in
         subst (λ (bs : List ℕ). M.GoodAtLeast (scan_within M.limits bs) first now) (taken_all old new taken bytes read end is)
         (subst (λ (s : InputScan). M.GoodAtLeast s first now) (sym (scan_is taken none (Running tally judge) first now leads tally c.follows)) c.least)
     finding_counted first now old new bytes (Rejected tally rejection) end is (taken, read, none, leads) =
-        let c : BadAt M (scan_lines (scanned_lines M.limits taken)) tally rejection first now = leads.covers in
+        let c : BadAt M (scan_lines M.limits.transactions (scanned_lines M.limits taken)) tally rejection first now = leads.covers in
         subst (λ (bs : List ℕ). M.BadAtLeast (scan_within M.limits bs) first now) (taken_all old new taken bytes read end is)
         (subst (λ (s : InputScan). M.BadAtLeast s first now) (sym (scan_is taken none (Rejected tally rejection) first now leads tally c.follows)) c.least)

@@ -1,5 +1,6 @@
 pub mod Scanning
 pub mod Widening
+pub mod MoreBegins
 pub mod WiderLimits
 pub mod Tallying
 pub mod Taking

@@ -88,13 +88,13 @@ module _ (catalog : Objects) (start : Option Start) (cat : IsCatalog catalog) wh
   step_shows s = let shown = all_show catalog start (s ∷ []) in shown.1.0
 
   step_scanned : (rs : Records (RunRecord Op)) (n : ℕ) (s : Step Op) → IsStatable catalog s → (is_begin_record (Plain s) && begins rs == MOST_TRANSACTIONS) ≡ false
-      → scan_line (so_far rs) (n, step_bytes catalog s) ≡ so_far (rs ++ at_line n s ∷ [])
+      → scan_line MOST_TRANSACTIONS (so_far rs) (n, step_bytes catalog s) ≡ so_far (rs ++ at_line n s ∷ [])
   step_scanned rs n s h few =
-      scan_record (so_far rs) here (n, step_bytes catalog s) (Ok (Plain s)) refl refl (step_shows s) (steps.reads_back (rules_header catalog start) s refl cat h)
-      ∙ next_taken (so_far rs) n (Plain s) few
+      scan_record MOST_TRANSACTIONS (so_far rs) here (n, step_bytes catalog s) (Ok (Plain s)) refl refl (step_shows s) (steps.reads_back (rules_header catalog start) s refl cat h)
+      ∙ next_taken MOST_TRANSACTIONS (so_far rs) n (Plain s) few
 
   steps_scanned : (rs : Records (RunRecord Op)) (n i : ℕ) (ss : List (Step Op)) → n ≡ suc i → Each (IsStatable catalog) ss → begins rs + how_many ss ≤ 20_000
-      → fold scan_line (so_far rs) (numbered_from n (map (step_bytes catalog) ss)) ≡ so_far (rs ++ plain (numbered i ss))
+      → fold (scan_line MOST_TRANSACTIONS) (so_far rs) (numbered_from n (map (step_bytes catalog) ss)) ≡ so_far (rs ++ plain (numbered i ss))
   steps_scanned rs n i [] e each few = ap (λ (l : Records (RunRecord Op)). so_far l) (sym (append-nil rs))
   steps_scanned rs n i (s ∷ ss) e each few =
       let it : Lined (RunRecord Op) = at_line n s in
@@ -102,18 +102,18 @@ module _ (catalog : Objects) (start : Option Start) (cat : IsCatalog catalog) wh
       let more : begins (rs ++ it ∷ []) + how_many ss ≤ 20_000 =
       subst (λ (k : ℕ). k + how_many ss ≤ 20_000) (sym (begins_append rs (it ∷ []))) (shifted (is_begin s) (begins rs) (how_many ss) it few) in
       let rest : Records (RunRecord Op) = plain (numbered (suc i) ss) in
-      ap (λ (sc : InputScan). fold scan_line sc (numbered_from (n + 1) (map (step_bytes catalog) ss))) (step_scanned rs n s each.0 test)
+      ap (λ (sc : InputScan). fold (scan_line MOST_TRANSACTIONS) sc (numbered_from (n + 1) (map (step_bytes catalog) ss))) (step_scanned rs n s each.0 test)
       ∙ steps_scanned (rs ++ it ∷ []) (n + 1) (suc i) ss (one_on n i e) each.1 more
       ∙ ap (λ (l : Records (RunRecord Op)). so_far l) (append_assoc rs (it ∷ []) rest)
       ∙ ap (λ (k : ℕ). so_far (rs ++ at_line k s ∷ rest)) e
 
   -- and that header before them
-  lines_scanned : (ss : List (Step Op)) → CanStart catalog start → Each (IsStatable catalog) ss → how_many ss ≤ 20_000 → scan_lines (numbered_from 1 (run_lines catalog start ss)) ≡ so_far (plain (numbered 1 ss))
+  lines_scanned : (ss : List (Step Op)) → CanStart catalog start → Each (IsStatable catalog) ss → how_many ss ≤ 20_000 → scan_lines MOST_TRANSACTIONS (numbered_from 1 (run_lines catalog start ss)) ≡ so_far (plain (numbered 1 ss))
   lines_scanned ss begun each few =
       let header = printed_header catalog start in
       let shown = all_show catalog start ss in
-      let first : scan_line nothing (1, header) ≡ so_far [] = scan_header nothing (1, header) (Ok (rules_header catalog start)) refl refl shown.0 (headers.reads_back catalog start cat begun) in
-      ap (λ (sc : InputScan). fold scan_line sc (numbered_from 2 (map (step_bytes catalog) ss))) first ∙ steps_scanned [] 2 1 ss refl each (from_none (how_many ss) few)
+      let first : scan_line MOST_TRANSACTIONS nothing (1, header) ≡ so_far [] = scan_header MOST_TRANSACTIONS nothing (1, header) (Ok (rules_header catalog start)) refl refl shown.0 (headers.reads_back catalog start cat begun) in
+      ap (λ (sc : InputScan). fold (scan_line MOST_TRANSACTIONS) sc (numbered_from 2 (map (step_bytes catalog) ss))) first ∙ steps_scanned [] 2 1 ss refl each (from_none (how_many ss) few)
 
 -- ---- the text
 
@@ -131,8 +131,8 @@ module _ (catalog : Objects) (start : Option Start) (ss : List (Step Op)) (h : I
   few_begun : how_many ss ≤ 20_000
   few_begun = let begun = h.begins in omega (arith, begun, how_many_are ss)
 
-  text_lines : scan_lines (scanned_lines usual_limits text) ≡ so_far catalog start h.over (plain (numbered 1 ss))
-  text_lines = ap scan_lines (text_scanned catalog start ss h) ∙ lines_scanned catalog start h.over ss h.begun h.each few_begun
+  text_lines : scan_lines MOST_TRANSACTIONS (scanned_lines usual_limits text) ≡ so_far catalog start h.over (plain (numbered 1 ss))
+  text_lines = ap (scan_lines MOST_TRANSACTIONS) (text_scanned catalog start ss h) ∙ lines_scanned catalog start h.over ss h.begun h.each few_begun
 
   abbrev behind : InputScan → Option LineFault → InputScan
   behind sc o = or_fault sc (option_or (limit_fault o) (no_header text sc.header))

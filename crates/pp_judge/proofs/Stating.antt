@@ -94,7 +94,7 @@ stated_next sc header line r is each few h =
     }
 
 stated_record : (sc : InputScan) (header : Lined Header) (line : NumberedLine) (r : Result (RunRecord Op) RecordFault) → record_of header.what line.1 ≡ r → sc.header ≡ Some header
-    → IsStated sc → IsStated (with_record sc line.0 r)
+    → IsStated sc → IsStated (with_record MOST_TRANSACTIONS sc line.0 r)
 stated_record sc header line (Err fault) read is h = stated_fault sc line.0 (cause_of fault) h
 stated_record sc header line (Ok r) read is h = by (is_begin_record r && begins sc.records == MOST_TRANSACTIONS) refl
   where
@@ -102,20 +102,20 @@ stated_record sc header line (Ok r) read is h = by (is_begin_record r && begins 
     by true test = stated_fault sc line.0 (Ok TooManyTransactions) h
     by false test = stated_next sc header line.0 r is (is_statable header.what line.1 r read) test h
 
-stated_read : (sc : InputScan) (o : Option (Lined Header)) (line : NumberedLine) → sc.header ≡ o → IsStated sc → IsStated (read_line sc o line)
+stated_read : (sc : InputScan) (o : Option (Lined Header)) (line : NumberedLine) → sc.header ≡ o → IsStated sc → IsStated (read_line MOST_TRANSACTIONS sc o line)
 stated_read sc None line is h = stated_header sc line (header_of line.1) refl is h
 stated_read sc (Some header) line is h = stated_record sc header line (record_of header.what line.1) refl is h
 
-stated_line : (sc : InputScan) (line : NumberedLine) → IsStated sc → IsStated (scan_line sc line)
+stated_line : (sc : InputScan) (line : NumberedLine) → IsStated sc → IsStated (scan_line MOST_TRANSACTIONS sc line)
 stated_line sc line h = by (is_some sc.fault || blank line.1)
   where
-    by : (b : Bool) → IsStated (cond b sc (read_line sc sc.header line))
+    by : (b : Bool) → IsStated (cond b sc (read_line MOST_TRANSACTIONS sc sc.header line))
     by true = h
     by false = stated_read sc sc.header line refl h
 
-stated_lines : (sc : InputScan) (lines : List NumberedLine) → IsStated sc → IsStated (fold scan_line sc lines)
+stated_lines : (sc : InputScan) (lines : List NumberedLine) → IsStated sc → IsStated (fold (scan_line MOST_TRANSACTIONS) sc lines)
 stated_lines sc [] h = h
-stated_lines sc (line ∷ lines) h = stated_lines (scan_line sc line) lines (stated_line sc line h)
+stated_lines sc (line ∷ lines) h = stated_lines (scan_line MOST_TRANSACTIONS sc line) lines (stated_line sc line h)
 
 pub stated_scan : (bytes : List ℕ) → IsStated (scan bytes)
 stated_scan bytes =

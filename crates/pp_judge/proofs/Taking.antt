@@ -50,7 +50,7 @@ module _ {J R : Type 0} (M : Judging J R) where
 
   pub blank_on : (p : Progress J R) (line : NumberedLine) (now : ℕ) → blank line.1 ≡ true → LeadsTo M p line now (with_blank p) now
   blank_on p line now is = record {
-    covers = λ sc old c. subst (λ (s : InputScan). Covers M s (with_blank p) old now) (sym (scan_blank sc line (covers_sound sc p old now c) is)) (skip_covers sc p old now c);
+    covers = λ sc old c. subst (λ (s : InputScan). Covers M s (with_blank p) old now) (sym (scan_blank M.limits.transactions sc line (covers_sound sc p old now c) is)) (skip_covers sc p old now c);
     lines = blank_lines p;
   }
 
@@ -68,23 +68,23 @@ module _ {J R : Type 0} (M : Judging J R) where
     begun (Bad rejection) bad least = record { follows = follows_first line.0 header positive; bad = bad; most = most; least = least }
 
     pub header_covers : blank line.1 ≡ false → header_of line.1 ≡ Ok header → (judged : Judged J R) → IsJudged M (headed line.0 header) [] judged → JudgedAtLeast M (scan_of (headed line.0 header) []) judged now new
-        → Covers M (scan_line nothing line) (progress_of (first_tally line.0 header) judged) now new
+        → Covers M (scan_line M.limits.transactions nothing line) (progress_of (first_tally line.0 header) judged) now new
     header_covers other read judged is least =
-        subst (λ (s : InputScan). Covers M s (progress_of (first_tally line.0 header) judged) now new) (sym (scan_header nothing line (Ok header) refl refl other read)) (begun judged is least)
+        subst (λ (s : InputScan). Covers M s (progress_of (first_tally line.0 header) judged) now new) (sym (scan_header M.limits.transactions nothing line (Ok header) refl refl other read)) (begun judged is least)
 
   -- what holds of the header's line holds of it after blank lines
-  pub header_on : (P : InputScan → ℕ → Type 0) (lines : ℕ) (line : NumberedLine) (now : ℕ) → P (scan_line nothing line) now → (sc : InputScan) (old : ℕ) → Covers M sc (Waiting lines) old now → P (scan_line sc line) old
-  header_on P lines line now is sc old c = subst (λ (s : InputScan). P (scan_line s line) old) (sym c.0) (subst (λ (n : ℕ). P (scan_line nothing line) n) c.1 is)
+  pub header_on : (P : InputScan → ℕ → Type 0) (lines : ℕ) (line : NumberedLine) (now : ℕ) → P (scan_line M.limits.transactions nothing line) now → (sc : InputScan) (old : ℕ) → Covers M sc (Waiting lines) old now → P (scan_line M.limits.transactions sc line) old
+  header_on P lines line now is sc old c = subst (λ (s : InputScan). P (scan_line M.limits.transactions s line) old) (sym c.0) (subst (λ (n : ℕ). P (scan_line M.limits.transactions nothing line) n) c.1 is)
 
-  pub header_leads : (lines : ℕ) (line : NumberedLine) (now : ℕ) (to : Progress J R) (new : ℕ) → IsNextLine M (Waiting lines) line now → Covers M (scan_line nothing line) to now new → lines_of to ≡ line.0 → LeadsTo M (Waiting lines) line now to new
+  pub header_leads : (lines : ℕ) (line : NumberedLine) (now : ℕ) (to : Progress J R) (new : ℕ) → IsNextLine M (Waiting lines) line now → Covers M (scan_line M.limits.transactions nothing line) to now new → lines_of to ≡ line.0 → LeadsTo M (Waiting lines) line now to new
   header_leads lines line now to new next covers count = record {
     covers = header_on (λ (s : InputScan) (n : ℕ). Covers M s to n new) lines line now covers;
     lines = count ∙ next.number;
   }
 
   -- what a judge says of the header's line holds of its scan
-  pub header_there : (P : InputScan → Type 0) (line : NumberedLine) (header : Header) → blank line.1 ≡ false → header_of line.1 ≡ Ok header → P (scan_of (headed line.0 header) []) → P (scan_line nothing line)
-  header_there P line header other read is = subst P (sym (scan_header nothing line (Ok header) refl refl other read)) is
+  pub header_there : (P : InputScan → Type 0) (line : NumberedLine) (header : Header) → blank line.1 ≡ false → header_of line.1 ≡ Ok header → P (scan_of (headed line.0 header) []) → P (scan_line M.limits.transactions nothing line)
+  header_there P line header other read is = subst P (sym (scan_header M.limits.transactions nothing line (Ok header) refl refl other read)) is
 
   -- ---- what a judge may take
 
@@ -122,22 +122,22 @@ module _ {J R : Type 0} (M : Judging J R) where
       least = subst (λ (s : InputScan). M.BadAtLeast s old new) (sym (tallied_next sc tally c.follows line.0 r)) least;
     }
 
-  module _ (tally : Tally) (judge : J) (line : NumberedLine) (r : RunRecord Op) (now new : ℕ) (other : blank line.1 ≡ false) (read : record_of tally.header line.1 ≡ Ok r) (few : is_too_many tally r ≡ false) where
+  module _ (tally : Tally) (judge : J) (line : NumberedLine) (r : RunRecord Op) (now new : ℕ) (other : blank line.1 ≡ false) (read : record_of tally.header line.1 ≡ Ok r) (few : is_too_many M.limits.transactions tally r ≡ false) where
     pub record_on : (judged : Judged J R) → Judges M tally.header judge r line.0 judged now new → CostsAtMostThere M tally.header judge r line.0 now new → LeadsTo M (Running tally judge) line now (progress_of (with_record tally r) judged) new
     record_on judged judges most = record {
       covers = λ sc old c.
-          subst (λ (s : InputScan). Covers M s (progress_of (with_record tally r) judged) old new) (sym (scan_next sc tally c.follows line other r read few))
+          subst (λ (s : InputScan). Covers M s (progress_of (with_record tally r) judged) old new) (sym (scan_next M.limits.transactions sc tally c.follows line other r read few))
           (covers_next sc tally judge line r old now new c judged most (judges.is c.follows.at sc.records c.good) (judges.least c.follows.at sc.records c.good old (least_here sc tally judge line r old now new c)));
       lines = progress_lines (with_record tally r) judged;
     }
 
     pub record_cost : CostsAtMostThere M tally.header judge r line.0 now new → CostsOn M (Running tally judge) line now new
     record_cost most sc old c =
-        subst (λ (s : InputScan). M.AtMost s old new) (sym (scan_next sc tally c.follows line other r read few)) (most_next sc tally judge line r old now new c most)
+        subst (λ (s : InputScan). M.AtMost s old new) (sym (scan_next M.limits.transactions sc tally c.follows line other r read few)) (most_next sc tally judge line r old now new c most)
 
     pub record_faulty : (cause : Cause) → HasFaultThere M tally.header judge r line.0 cause → HasFaultOn M (Running tally judge) line now cause
     record_faulty cause faulty sc old c =
-        subst (λ (s : InputScan). M.IsFault s (Some (line.0, cause))) (sym (scan_next sc tally c.follows line other r read few ∙ tallied_next sc tally c.follows line.0 r))
+        subst (λ (s : InputScan). M.IsFault s (Some (line.0, cause))) (sym (scan_next M.limits.transactions sc tally c.follows line other r read few ∙ tallied_next sc tally c.follows line.0 r))
         (faulty c.follows.at sc.records c.good)
 
   module _ (laws : JudgingLaws M) where
@@ -158,23 +158,23 @@ module _ {J R : Type 0} (M : Judging J R) where
 
     -- a line at which the counter stays
     pub still_cost : (p : Progress J R) (line : NumberedLine) (now : ℕ) → CostsOn M p line now now
-    still_cost p line now sc old c = laws.most_widens sc (scan_line sc line) old now (widens_line sc line) (covers_most sc p old now c)
+    still_cost p line now sc old c = laws.most_widens sc (scan_line M.limits.transactions sc line) old now (widens_line M.limits.transactions sc line) (covers_most sc p old now c)
 
-    pub still_nothing : (line : NumberedLine) (now : ℕ) → M.AtMost (scan_line nothing line) now now
-    still_nothing line now = laws.most_widens nothing (scan_line nothing line) now now (widens_line nothing line) (laws.first_most now)
+    pub still_nothing : (line : NumberedLine) (now : ℕ) → M.AtMost (scan_line M.limits.transactions nothing line) now now
+    still_nothing line now = laws.most_widens nothing (scan_line M.limits.transactions nothing line) now now (widens_line M.limits.transactions nothing line) (laws.first_most now)
 
     -- ---- a line that can not be read
 
-    pub header_faulty : (line : NumberedLine) (fault : RecordFault) (cause : Cause) → blank line.1 ≡ false → header_of line.1 ≡ Err fault → cause_of fault ≡ Ok cause → M.IsFault (scan_line nothing line) (Some (line.0, cause))
+    pub header_faulty : (line : NumberedLine) (fault : RecordFault) (cause : Cause) → blank line.1 ≡ false → header_of line.1 ≡ Err fault → cause_of fault ≡ Ok cause → M.IsFault (scan_line M.limits.transactions nothing line) (Some (line.0, cause))
     header_faulty line fault cause other read caused =
-        let is : scan_line nothing line ≡ faulty_at nothing (line.0, cause) =
-        scan_header nothing line (Err fault) refl refl other read ∙ ap (λ (r : Result Cause OutOfMemory). with_fault nothing line.0 r) caused in
+        let is : scan_line M.limits.transactions nothing line ≡ faulty_at nothing (line.0, cause) =
+        scan_header M.limits.transactions nothing line (Err fault) refl refl other read ∙ ap (λ (r : Result Cause OutOfMemory). with_fault nothing line.0 r) caused in
         subst (λ (s : InputScan). M.IsFault s (Some (line.0, cause))) (sym is) (laws.first_fault (Some (line.0, cause)))
 
     pub refused_faulty : (tally : Tally) (p : Progress J R) (line : NumberedLine) (now : ℕ) (cause : Cause) → ((sc : InputScan) (old : ℕ) → Covers M sc p old now → IsTallied sc tally) → blank line.1 ≡ false
-        → IsRefused tally (record_of tally.header line.1) cause → HasFaultOn M p line now cause
+        → IsRefused M.limits.transactions tally (record_of tally.header line.1) cause → HasFaultOn M p line now cause
     refused_faulty tally p line now cause follows other refused sc old c =
-        subst (λ (s : InputScan). M.IsFault s (Some (line.0, cause))) (sym (record_fault sc tally (follows sc old c) line other (record_of tally.header line.1) cause refl refused))
+        subst (λ (s : InputScan). M.IsFault s (Some (line.0, cause))) (sym (record_fault M.limits.transactions sc tally (follows sc old c) line other (record_of tally.header line.1) cause refl refused))
         (covers_fault sc p old now (Some (line.0, cause)) c)
 
     -- ---- a record after a rejection
@@ -192,11 +192,11 @@ module _ {J R : Type 0} (M : Judging J R) where
               (laws.bad_least_stays h sc.records (on_record line.0 r ∷ []) rejection old now c.bad (subst (λ (s : InputScan). M.BadAtLeast s old now) (tallied_scan sc tally c.follows) c.least));
         }
 
-    pub passed_on : (tally : Tally) (rejection : R) (line : NumberedLine) (r : RunRecord Op) (now : ℕ) → blank line.1 ≡ false → record_of tally.header line.1 ≡ Ok r → is_too_many tally r ≡ false
+    pub passed_on : (tally : Tally) (rejection : R) (line : NumberedLine) (r : RunRecord Op) (now : ℕ) → blank line.1 ≡ false → record_of tally.header line.1 ≡ Ok r → is_too_many M.limits.transactions tally r ≡ false
         → LeadsTo M (Rejected tally rejection) line now (Rejected (with_record tally r) rejection) now
     passed_on tally rejection line r now other read few = record {
       covers = λ sc old c.
-          let is : scan_line sc line ≡ with_next sc line.0 r = scan_next sc tally c.follows line other r read few in
+          let is : scan_line M.limits.transactions sc line ≡ with_next sc line.0 r = scan_next M.limits.transactions sc tally c.follows line other r read few in
           subst (λ (s : InputScan). BadAt M s (with_record tally r) rejection old now) (sym is)
           (passed sc tally rejection line r old now c (subst (λ (s : InputScan). M.AtMost s old now) is (still_cost (Rejected tally rejection) line now sc old c)));
       lines = refl;

@@ -3,7 +3,6 @@ use Rattle.std.specs.Prelude.{◌≡◌, ◌≤◌, ◌<◌, ℕ, suc, ◌+◌, 
 use Rattle.std.specs.Prelude.{[], ◌∷◌, length, filter, cond, Option, Result, Ok, Err}
 use Rattle.std.proofs.Common.{refl, sym, ap, ◌∙◌, arith, length-append}
 use Rattle.std.proofs.lemmas.List.Elements.{filter-append}
-use Rattle.pp_core.specs.declared.limits.TheConstants.{MOST_TRANSACTIONS}
 use Rattle.pp_records.specs.Records.{RunRecord}
 use Rattle.pp_records.specs.Runs.{Lined, Records}
 use Rattle.pp_objects.specs.declared.act.Op.{Op}
@@ -51,18 +50,18 @@ unfoldable pub follows_first : (line : ℕ) (header : Header) → 0 < line → I
 follows_first line header positive = record { at = line; header = refl; sound = refl; begun = refl; fewer = positive }
 
 -- a record more
-module _ (sc : InputScan) (tally : Tally) (f : IsTallied sc tally) (line : NumberedLine) (other : blank line.1 ≡ false) where
-  test_same : (r : RunRecord Op) (b : Bool) → is_too_many tally r ≡ b → (is_begin_record r && begins sc.records == MOST_TRANSACTIONS) ≡ b
-  test_same r b test = ap (λ (n : ℕ). is_begin_record r && n == MOST_TRANSACTIONS) (sym f.begun) ∙ test
+module _ (most : ℕ) (sc : InputScan) (tally : Tally) (f : IsTallied sc tally) (line : NumberedLine) (other : blank line.1 ≡ false) where
+  test_same : (r : RunRecord Op) (b : Bool) → is_too_many most tally r ≡ b → (is_begin_record r && begins sc.records == most) ≡ b
+  test_same r b test = ap (λ (n : ℕ). is_begin_record r && n == most) (sym f.begun) ∙ test
 
-  pub scan_next : (r : RunRecord Op) → record_of tally.header line.1 ≡ Ok r → is_too_many tally r ≡ false → scan_line sc line ≡ with_next sc line.0 r
-  scan_next r read few = scan_record sc (record { line = f.at; what = tally.header }) line (Ok r) f.sound f.header other read ∙ next_taken sc line.0 r (test_same r false few)
+  pub scan_next : (r : RunRecord Op) → record_of tally.header line.1 ≡ Ok r → is_too_many most tally r ≡ false → scan_line most sc line ≡ with_next sc line.0 r
+  scan_next r read few = scan_record most sc (record { line = f.at; what = tally.header }) line (Ok r) f.sound f.header other read ∙ next_taken most sc line.0 r (test_same r false few)
 
-  pub record_fault : (r : Result (RunRecord Op) RecordFault) (cause : Cause) → record_of tally.header line.1 ≡ r → IsRefused tally r cause → scan_line sc line ≡ faulty_at sc (line.0, cause)
+  pub record_fault : (r : Result (RunRecord Op) RecordFault) (cause : Cause) → record_of tally.header line.1 ≡ r → IsRefused most tally r cause → scan_line most sc line ≡ faulty_at sc (line.0, cause)
   record_fault (Ok r) cause read refused =
-      scan_record sc (record { line = f.at; what = tally.header }) line (Ok r) f.sound f.header other read
-      ∙ too_many sc line.0 r (test_same r true refused.0) ∙ ap (λ (c : Cause). faulty_at sc (line.0, c)) (sym refused.1)
-  record_fault (Err fault) cause read refused = scan_record sc (record { line = f.at; what = tally.header }) line (Err fault) f.sound f.header other read ∙ rw refused refl
+      scan_record most sc (record { line = f.at; what = tally.header }) line (Ok r) f.sound f.header other read
+      ∙ too_many most sc line.0 r (test_same r true refused.0) ∙ ap (λ (c : Cause). faulty_at sc (line.0, c)) (sym refused.1)
+  record_fault (Err fault) cause read refused = scan_record most sc (record { line = f.at; what = tally.header }) line (Err fault) f.sound f.header other read ∙ rw refused refl
 
 abbrev pub on_record : ℕ → RunRecord Op → Lined (RunRecord Op)
 on_record line r = record { line = line; what = r }

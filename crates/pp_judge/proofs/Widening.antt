@@ -5,7 +5,6 @@ use Rattle.std.specs.Option.{option_or}
 use Rattle.std.proofs.Common.{refl, sym, ap, subst, ◌∙◌, append_assoc}
 use Rattle.std.proofs.lemmas.List.{append-nil}
 use Rattle.pp_core.specs.declared.answer.OutOfMemory.{OutOfMemory}
-use Rattle.pp_core.specs.declared.limits.TheConstants.{MOST_TRANSACTIONS}
 use Rattle.pp_records.specs.Inputs.{Widens}
 use Rattle.pp_records.specs.Records.{RunRecord}
 use Rattle.pp_records.specs.Runs.{Lined, Records}
@@ -49,9 +48,9 @@ extends_header sc line (Ok header) none =
 extends_header sc line (Err fault) none = extends_fault sc line (cause_of fault)
 
 -- a record
-extends_record : (sc : InputScan) (line : ℕ) (r : Result (RunRecord Op) RecordFault) → Extends sc (with_record sc line r)
-extends_record sc line (Err fault) = extends_fault sc line (cause_of fault)
-extends_record sc line (Ok r) = by (is_begin_record r && begins sc.records == MOST_TRANSACTIONS)
+extends_record : (most : ℕ) (sc : InputScan) (line : ℕ) (r : Result (RunRecord Op) RecordFault) → Extends sc (with_record most sc line r)
+extends_record most sc line (Err fault) = extends_fault sc line (cause_of fault)
+extends_record most sc line (Ok r) = by (is_begin_record r && begins sc.records == most)
   where
     by : (b : Bool) → Extends sc (cond b (with_fault sc line (Ok TooManyTransactions)) (with_next sc line r))
     by true = extends_fault sc line (Ok TooManyTransactions)
@@ -61,22 +60,22 @@ extends_record sc line (Ok r) = by (is_begin_record r && begins sc.records == MO
           records = (record { line = line; what = r } ∷ [], refl);
         }
 
-extends_read : (sc : InputScan) (o : Option (Lined Header)) (line : NumberedLine) → sc.header ≡ o → Extends sc (read_line sc o line)
-extends_read sc None line is = extends_header sc line.0 (header_of line.1) is
-extends_read sc (Some header) line is = extends_record sc line.0 (record_of header.what line.1)
+extends_read : (most : ℕ) (sc : InputScan) (o : Option (Lined Header)) (line : NumberedLine) → sc.header ≡ o → Extends sc (read_line most sc o line)
+extends_read most sc None line is = extends_header sc line.0 (header_of line.1) is
+extends_read most sc (Some header) line is = extends_record most sc line.0 (record_of header.what line.1)
 
-extends_line : (sc : InputScan) (line : NumberedLine) → Extends sc (scan_line sc line)
-extends_line sc line = by (is_some sc.fault || blank line.1)
+extends_line : (most : ℕ) (sc : InputScan) (line : NumberedLine) → Extends sc (scan_line most sc line)
+extends_line most sc line = by (is_some sc.fault || blank line.1)
   where
-    by : (b : Bool) → Extends sc (cond b sc (read_line sc sc.header line))
+    by : (b : Bool) → Extends sc (cond b sc (read_line most sc sc.header line))
     by true = extends_same sc sc refl refl
-    by false = extends_read sc sc.header line refl
+    by false = extends_read most sc sc.header line refl
 
 -- one line more
-pub widens_line : (sc : InputScan) (line : NumberedLine) → Widens sc (scan_line sc line)
-widens_line sc line =
-    let e = extends_line sc line in
-    record { header = e.header; records = e.records; fault = λ f faulty. skips sc line f faulty }
+pub widens_line : (most : ℕ) (sc : InputScan) (line : NumberedLine) → Widens sc (scan_line most sc line)
+widens_line most sc line =
+    let e = extends_line most sc line in
+    record { header = e.header; records = e.records; fault = λ f faulty. skips most sc line f faulty }
 
 extends_twice : (a b c : InputScan) → Extends a b → Extends b c → Extends a c
 extends_twice a b c x y =
@@ -88,25 +87,26 @@ extends_twice a b c x y =
       );
     }
 
-extends_lines : (sc : InputScan) (lines : List NumberedLine) → Extends sc (fold scan_line sc lines)
-extends_lines sc [] = extends_same sc sc refl refl
-extends_lines sc (line ∷ lines) =
-    extends_twice sc (scan_line sc line) (fold scan_line (scan_line sc line) lines) (extends_line sc line) (extends_lines (scan_line sc line) lines)
+extends_lines : (most : ℕ) (sc : InputScan) (lines : List NumberedLine) → Extends sc (fold (scan_line most) sc lines)
+extends_lines most sc [] = extends_same sc sc refl refl
+extends_lines most sc (line ∷ lines) =
+    extends_twice sc (scan_line most sc line) (fold (scan_line most) (scan_line most sc line) lines) (extends_line most sc line) (extends_lines most (scan_line most sc line) lines)
 
-stays : (sc : InputScan) (x : ℕ × Cause) (lines : List NumberedLine) → sc.fault ≡ Some x → fold scan_line sc lines ≡ sc
-stays sc x [] faulty = refl
-stays sc x (line ∷ lines) faulty = ap (λ (s : InputScan). fold scan_line s lines) (skips sc line x faulty) ∙ stays sc x lines faulty
+-- lines behind a fault
+pub stays : (most : ℕ) (sc : InputScan) (x : ℕ × Cause) (lines : List NumberedLine) → sc.fault ≡ Some x → fold (scan_line most) sc lines ≡ sc
+stays most sc x [] faulty = refl
+stays most sc x (line ∷ lines) faulty = ap (λ (s : InputScan). fold (scan_line most) s lines) (skips most sc line x faulty) ∙ stays most sc x lines faulty
 
 -- lines behind these
-pub widens_lines : (lines more : List NumberedLine) → Widens (scan_lines lines) (scan_lines (lines ++ more))
-widens_lines lines more =
-    let e = extends_lines (scan_lines lines) more in
-    let is : scan_lines (lines ++ more) ≡ fold scan_line (scan_lines lines) more = scan_append lines more in
-    subst (λ (w : InputScan). Widens (scan_lines lines) w) (sym is)
+pub widens_lines : (most : ℕ) (lines more : List NumberedLine) → Widens (scan_lines most lines) (scan_lines most (lines ++ more))
+widens_lines most lines more =
+    let e = extends_lines most (scan_lines most lines) more in
+    let is : scan_lines most (lines ++ more) ≡ fold (scan_line most) (scan_lines most lines) more = scan_append most lines more in
+    subst (λ (w : InputScan). Widens (scan_lines most lines) w) (sym is)
     (record {
       header = e.header;
       records = e.records;
-      fault = λ f faulty. stays (scan_lines lines) f more faulty;
+      fault = λ f faulty. stays most (scan_lines most lines) f more faulty;
     })
 
 -- a fault where no line has one

@@ -1,4 +1,4 @@
--- An input that has not too many lines or bytes is scanned the same under wider limits.
+-- An input that has not too many lines, bytes or transactions is scanned the same under wider limits.
 use Rattle.std.specs.Prelude.{◌≡◌, ◌≤◌, ◌⊎◌, ℕ, zero, suc, ◌+◌, ◌-◌, ◌==◌, ◌&&◌, not, nat_le, Bool, true, false}
 use Rattle.std.specs.Prelude.{List, [], ◌∷◌, ◌++◌, drop, take, cond, Option, None, Some}
 use Rattle.std.specs.Option.{option_or}
@@ -16,10 +16,12 @@ use Rattle.pp_input.specs.Reaches.{overrun_from, passed, past, start}
 use Rattle.pp_input.proofs.Overruns.{start_overrun}
 use Rattle.pp_input_reader.specs.declared.cause.Cause.{Cause}
 use Rattle.pp_input_reader.specs.declared.cause.Cause.TheVariants.{TooLong, TooManyLines}
+use Rattle.pp_input_reader.specs.declared.cause.Cause.TheVariants.{TooManyTransactions}
 use Rattle.pp_input_reader.specs.Limits.{limit_fault}
 use Rattle.pp_judge.specs.Inputs.{early_scan_within, no_header, or_fault, scan_within}
-use Rattle.pp_judge.specs.Scans.{InputScan, scan_lines}
+use Rattle.pp_judge.specs.Scans.{InputScan, nothing, scan_lines}
 use Rattle.pp_judge.specs.WiderLimits.{AreWider, HasAllowedSize, IsSizeLimit, WiderLimitsLaw}
+use Rattle.pp_judge.proofs.MoreBegins.{HasTooMany, lines_agree}
 use Rattle.pp_judge.proofs.Widening.{widens_fault, widens_lines}
 
 -- ---- the limit that is passed first
@@ -152,28 +154,28 @@ abbrev Ends : (Option LineFault → InputScan → Option (ℕ × Cause)) → Typ
 Ends end = (fault : LineFault) (sc : InputScan) → IsOfInput fault → (line : ℕ) × (cause : Cause) × IsSizeLimit cause × (end (Some fault) sc ≡ Some (line, cause))
 
 -- the lines before a limit that is passed, and the fault if no line has one
-abbrev scan_of_limit : (Option LineFault → InputScan → Option (ℕ × Cause)) → List NumberedLine → Option LineFault → InputScan
-scan_of_limit end lines o = let sc = scan_lines (lines_before o lines) in or_fault sc (end o sc)
+abbrev scan_of_limit : ℕ → (Option LineFault → InputScan → Option (ℕ × Cause)) → List NumberedLine → Option LineFault → InputScan
+scan_of_limit most end lines o = let sc = scan_lines most (lines_before o lines) in or_fault sc (end o sc)
 
-same_scan : (end : Option LineFault → InputScan → Option (ℕ × Cause)) (lines : List NumberedLine) (narrow wide : Option LineFault) → Ends end → Compares narrow wide
-    → HasAllowedSize (scan_of_limit end lines narrow) → scan_of_limit end lines wide ≡ scan_of_limit end lines narrow
-same_scan end lines narrow wide ends (inl same) allowed = ap (scan_of_limit end lines) same
-same_scan end lines narrow wide ends (inr (fault, is, kind, later)) allowed = rw is (by_fault (scan_lines (lines_before (Some fault) lines)).fault refl)
+same_scan : (most : ℕ) (end : Option LineFault → InputScan → Option (ℕ × Cause)) (lines : List NumberedLine) (narrow wide : Option LineFault) → Ends end → Compares narrow wide
+    → HasAllowedSize (scan_of_limit most end lines narrow) → scan_of_limit most end lines wide ≡ scan_of_limit most end lines narrow
+same_scan most end lines narrow wide ends (inl same) allowed = ap (scan_of_limit most end lines) same
+same_scan most end lines narrow wide ends (inr (fault, is, kind, later)) allowed = rw is (by_fault (scan_lines most (lines_before (Some fault) lines)).fault refl)
   where
-    allowed_here : HasAllowedSize (scan_of_limit end lines (Some fault))
-    allowed_here = subst (λ (o : Option LineFault). HasAllowedSize (scan_of_limit end lines o)) is allowed
+    allowed_here : HasAllowedSize (scan_of_limit most end lines (Some fault))
+    allowed_here = subst (λ (o : Option LineFault). HasAllowedSize (scan_of_limit most end lines o)) is allowed
 
-    by_fault : (o : Option (ℕ × Cause)) → (scan_lines (lines_before (Some fault) lines)).fault ≡ o → scan_of_limit end lines wide ≡ scan_of_limit end lines (Some fault)
+    by_fault : (o : Option (ℕ × Cause)) → (scan_lines most (lines_before (Some fault) lines)).fault ≡ o → scan_of_limit most end lines wide ≡ scan_of_limit most end lines (Some fault)
     by_fault None none =
-        let sc : InputScan = scan_lines (lines_before (Some fault) lines) in
+        let sc : InputScan = scan_lines most (lines_before (Some fault) lines) in
         let passes = ends fault sc kind in
         absurd (allowed_here passes.0 passes.1 passes.2 (ap (λ (o : Option (ℕ × Cause)). option_or o (end (Some fault) sc)) none ∙ passes.3))
     by_fault (Some x) faulty =
-        let sc : InputScan = scan_lines (lines_before (Some fault) lines) in
+        let sc : InputScan = scan_lines most (lines_before (Some fault) lines) in
         let front = lines_front fault wide lines later in
-        let wider : scan_lines (lines_before wide lines) ≡ sc =
-        ap scan_lines front.1 ∙ (widens_lines (lines_before (Some fault) lines) front.0).fault x faulty in
-        let left : scan_of_limit end lines wide ≡ or_fault sc (end wide sc) =
+        let wider : scan_lines most (lines_before wide lines) ≡ sc =
+        ap (scan_lines most) front.1 ∙ (widens_lines most (lines_before (Some fault) lines) front.0).fault x faulty in
+        let left : scan_of_limit most end lines wide ≡ or_fault sc (end wide sc) =
         ap (λ (s : InputScan). or_fault s (end wide s)) wider in
         left ∙ (widens_fault sc (end wide sc)).fault x faulty
         ∙ sym ((widens_fault sc (end (Some fault) sc)).fault x faulty)
@@ -185,24 +187,41 @@ abbrev whole_end : List ℕ → Option LineFault → InputScan → Option (ℕ �
 whole_end bytes o sc = option_or (limit_fault o) (no_header bytes sc.header)
 
 early_ends : Ends early_end
-early_ends (limits.TooLong line) sc h = (line, TooLong, inr refl, refl)
+early_ends (limits.TooLong line) sc h = (line, TooLong, inr (inl refl), refl)
 early_ends (limits.TooManyLines line) sc h = (line, TooManyLines, inl refl, refl)
 early_ends (limits.LineTooLong line) sc h = absurd h
 early_ends limits.OutOfMemory sc h = absurd h
 
 whole_ends : (bytes : List ℕ) → Ends (whole_end bytes)
-whole_ends bytes (limits.TooLong line) sc h = (line, TooLong, inr refl, refl)
+whole_ends bytes (limits.TooLong line) sc h = (line, TooLong, inr (inl refl), refl)
 whole_ends bytes (limits.TooManyLines line) sc h = (line, TooManyLines, inl refl, refl)
 whole_ends bytes (limits.LineTooLong line) sc h = absurd h
 whole_ends bytes limits.OutOfMemory sc h = absurd h
 
--- an input that has not too many lines or bytes is the same under wider limits
+-- where more transactions are allowed, a scan that does not begin too many is the same
+same_begins : (narrow wide : ℕ) (end : Option LineFault → InputScan → Option (ℕ × Cause)) (lines : List NumberedLine) (o : Option LineFault) → narrow ≤ wide
+    → HasAllowedSize (scan_of_limit narrow end lines o) → scan_of_limit wide end lines o ≡ scan_of_limit narrow end lines o
+same_begins narrow wide end lines o le allowed = by (lines_agree narrow wide le nothing (lines_before o lines) (omega arith))
+  where
+    by : HasTooMany (scan_lines narrow (lines_before o lines)) ⊎ (scan_lines wide (lines_before o lines) ≡ scan_lines narrow (lines_before o lines))
+        → scan_of_limit wide end lines o ≡ scan_of_limit narrow end lines o
+    by (inl many) = absurd (allowed many.0 TooManyTransactions (inr (inr refl)) (ap (λ (w : Option (ℕ × Cause)). option_or w (end o (scan_lines narrow (lines_before o lines)))) many.1))
+    by (inr same) = ap (λ (s : InputScan). or_fault s (end o s)) same
+
+same_limits : (narrow wide : Limits) (end : Option LineFault → InputScan → Option (ℕ × Cause)) (lines : List NumberedLine) (less more : Option LineFault) → Ends end → AreWider narrow wide
+    → Compares less more → HasAllowedSize (scan_of_limit narrow.transactions end lines less)
+    → scan_of_limit wide.transactions end lines more ≡ scan_of_limit narrow.transactions end lines less
+same_limits narrow wide end lines less more ends w compares allowed =
+    let same : scan_of_limit narrow.transactions end lines more ≡ scan_of_limit narrow.transactions end lines less = same_scan narrow.transactions end lines less more ends compares allowed in
+    same_begins narrow.transactions wide.transactions end lines more w.transactions (subst (λ (s : InputScan). HasAllowedSize s) (sym same) allowed) ∙ same
+
+-- an input that has not too many lines, bytes or transactions is the same under wider limits
 pub same_under_wider : (narrow wide : Limits) (bytes : List ℕ) → AreWider narrow wide → HasAllowedSize (scan_within narrow bytes) → scan_within wide bytes ≡ scan_within narrow bytes
-same_under_wider narrow wide bytes w allowed = same_scan (whole_end bytes) (numbered_lines bytes) (overrun narrow bytes) (overrun wide bytes) (whole_ends bytes) (overrun_compares narrow wide w bytes) allowed
+same_under_wider narrow wide bytes w allowed = same_limits narrow wide (whole_end bytes) (numbered_lines bytes) (overrun narrow bytes) (overrun wide bytes) (whole_ends bytes) w (overrun_compares narrow wide w bytes) allowed
 
 -- so is what no further byte can change of it
 pub early_same_under_wider : (narrow wide : Limits) (bytes : List ℕ) → AreWider narrow wide → HasAllowedSize (early_scan_within narrow bytes) → early_scan_within wide bytes ≡ early_scan_within narrow bytes
-early_same_under_wider narrow wide bytes w allowed = same_scan early_end (ended_lines bytes) (overrun narrow bytes) (overrun wide bytes) early_ends (overrun_compares narrow wide w bytes) allowed
+early_same_under_wider narrow wide bytes w allowed = same_limits narrow wide early_end (ended_lines bytes) (overrun narrow bytes) (overrun wide bytes) early_ends w (overrun_compares narrow wide w bytes) allowed
 
 pub wider_limits : WiderLimitsLaw
 wider_limits = record { scan = same_under_wider; early = early_same_under_wider }

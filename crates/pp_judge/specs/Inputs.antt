@@ -28,13 +28,14 @@ or_fault sc fault = record sc { fault = option_or sc.fault fault }
 -- no line has a fault, the passed limit is the fault, and else that there is no header.
 abbrev pub scan_within : Limits → List ℕ → InputScan
 scan_within limits bytes =
-    let sc = scan_lines (scanned_lines limits bytes) in
+    let sc = scan_lines limits.transactions (scanned_lines limits bytes) in
     or_fault sc (option_or (limit_fault (overrun limits bytes)) (no_header bytes sc.header))
 
 -- what no further byte can change of it: the lines that a byte 10 ends, and a passed limit
 abbrev pub early_scan_within : Limits → List ℕ → InputScan
 early_scan_within limits bytes =
-    or_fault (scan_lines (early_lines limits bytes)) (limit_fault (overrun limits bytes))
+    let sc = scan_lines limits.transactions (early_lines limits bytes) in
+    or_fault sc (limit_fault (overrun limits bytes))
 
 -- what an input with the usual limits is
 abbrev pub scan : List ℕ → InputScan

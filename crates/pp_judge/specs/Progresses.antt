@@ -69,27 +69,27 @@ pub record IsNextLine {J R : Type 0} (M : Judging J R) (from : Progress J R) (li
 pub record LeadsTo {J R : Type 0} (M : Judging J R) (from : Progress J R) (line : NumberedLine)
     (now : ℕ) (to : Progress J R) (new : ℕ) : Type 0 where
   pub covers : (sc : InputScan) (old : ℕ) → Covers M sc from old now →
-      Covers M (scan_line sc line) to old new
+      Covers M (scan_line M.limits.transactions sc line) to old new
   pub lines : lines_of to ≡ lines_of from + 1
 
 -- a line has this fault
 abbrev pub HasFaultOn : {J R : Type 0} → Judging J R → Progress J R → NumberedLine → (now : ℕ) →
     Cause → Type 0
 HasFaultOn M from line now cause = (sc : InputScan) (old : ℕ) → Covers M sc from old now →
-    M.IsFault (scan_line sc line) (Some (line.0, cause))
+    M.IsFault (scan_line M.limits.transactions sc line) (Some (line.0, cause))
 
 -- a line, taken or not, raised the counter at most so
 abbrev pub CostsOn : {J R : Type 0} → Judging J R → Progress J R → NumberedLine →
     (now new : ℕ) → Type 0
 CostsOn M from line now new = (sc : InputScan) (old : ℕ) → Covers M sc from old now →
-    M.AtMost (scan_line sc line) old new
+    M.AtMost (scan_line M.limits.transactions sc line) old new
 
 -- ---- all lines
 
 -- these lines led to here, and raised the counter
 pub record Leads {J R : Type 0} (M : Judging J R) (lines : List NumberedLine) (at : Progress J R)
     (old new : ℕ) : Type 0 where
-  pub covers : Covers M (scan_lines lines) at old new
+  pub covers : Covers M (scan_lines M.limits.transactions lines) at old new
   pub count : lines_of at ≡ length lines
   pub next : HasNext (lines_of at)
 
@@ -99,7 +99,8 @@ abbrev pub judged_reading : {J R : Type 0} → Judging J R → ℕ → Reading (
 judged_reading M old = record {
   limits = M.limits;
   Leads = λ lines at. Leads M lines at.0 old at.1;
-  HasFault = λ lines at cause. M.IsFault (scan_lines lines) (Some (at, cause));
-  Stops = λ lines new. M.AtMost (scan_lines lines) old new;
+  HasFault = λ lines at cause. M.IsFault (scan_lines M.limits.transactions lines)
+      (Some (at, cause));
+  Stops = λ lines new. M.AtMost (scan_lines M.limits.transactions lines) old new;
   at_limit = λ cause. cause;
 }

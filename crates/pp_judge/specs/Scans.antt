@@ -3,7 +3,6 @@ use Rattle.std.specs.Prelude.{ℕ, ◌==◌, ◌&&◌, ◌||◌, Bool, false, Li
 use Rattle.std.specs.Prelude.{filter, fold, is_some, if◌then◌else◌, Option, None, Some, Result, Ok}
 use Rattle.std.specs.Prelude.{Err}
 use Rattle.pp_core.specs.declared.answer.OutOfMemory.{OutOfMemory}
-use Rattle.pp_core.specs.declared.limits.TheConstants.{MOST_TRANSACTIONS}
 use Rattle.pp_records.specs.Inputs.{Scan}
 use Rattle.pp_records.specs.Records.{RunRecord, Plain}
 use Rattle.pp_records.specs.Records as records
@@ -60,21 +59,21 @@ with_header sc line (Err fault) = with_fault sc line (cause_of fault)
 abbrev pub with_next : InputScan → ℕ → RunRecord Op → InputScan
 with_next sc line r = record sc { records = sc.records ++ record { line = line; what = r } ∷ [] }
 
--- a line behind the header, of which 20,000 may begin a transaction
-abbrev pub with_record : InputScan → ℕ → Result (RunRecord Op) RecordFault → InputScan
-with_record sc line (Ok r) =
-    if is_begin_record r && begins sc.records == MOST_TRANSACTIONS
+-- a line behind the header, of which at most so many may begin a transaction
+abbrev pub with_record : ℕ → InputScan → ℕ → Result (RunRecord Op) RecordFault → InputScan
+with_record most sc line (Ok r) =
+    if is_begin_record r && begins sc.records == most
     then with_fault sc line (Ok TooManyTransactions) else with_next sc line r
-with_record sc line (Err fault) = with_fault sc line (cause_of fault)
+with_record most sc line (Err fault) = with_fault sc line (cause_of fault)
 
-abbrev pub read_line : InputScan → Option (Lined Header) → NumberedLine → InputScan
-read_line sc None line = with_header sc line.0 (header_of line.1)
-read_line sc (Some header) line = with_record sc line.0 (record_of header.what line.1)
+abbrev pub read_line : ℕ → InputScan → Option (Lined Header) → NumberedLine → InputScan
+read_line most sc None line = with_header sc line.0 (header_of line.1)
+read_line most sc (Some header) line = with_record most sc line.0 (record_of header.what line.1)
 
 -- one line more: blank lines are skipped, and nothing is read behind a fault
-abbrev pub scan_line : InputScan → NumberedLine → InputScan
-scan_line sc line =
-    if is_some sc.fault || blank line.1 then sc else read_line sc sc.header line
+abbrev pub scan_line : ℕ → InputScan → NumberedLine → InputScan
+scan_line most sc line =
+    if is_some sc.fault || blank line.1 then sc else read_line most sc sc.header line
 
-abbrev pub scan_lines : List NumberedLine → InputScan
-scan_lines lines = fold scan_line nothing lines
+abbrev pub scan_lines : ℕ → List NumberedLine → InputScan
+scan_lines most lines = fold (scan_line most) nothing lines

@@ -1,7 +1,6 @@
 -- Proof machinery: the header and the counts of the lines that were taken.
 use Rattle.std.specs.Prelude.{◌≡◌, ℕ, ◌+◌, ◌<◌, ◌==◌, ◌&&◌, Bool, true, [], ◌∷◌, ◌++◌, length}
 use Rattle.std.specs.Prelude.{if◌then◌else◌, None, Some, Result, Ok, Err}
-use Rattle.pp_core.specs.declared.limits.TheConstants.{MOST_TRANSACTIONS}
 use Rattle.pp_records.specs.Records.{RunRecord}
 use Rattle.pp_records.specs.Runs.{Lined, Records}
 use Rattle.pp_objects.specs.declared.act.Op.{Op}
@@ -45,11 +44,12 @@ pub record IsTallied (sc : InputScan) (tally : Tally) : Type 0 where
   pub begun : tally.begins ≡ begins sc.records
   pub fewer : length sc.records < tally.lines
 
--- a record that may not begin another transaction
-abbrev pub is_too_many : Tally → RunRecord Op → Bool
-is_too_many tally r = is_begin_record r && tally.begins == MOST_TRANSACTIONS
+-- a record that may not begin another transaction, where at most so many may
+abbrev pub is_too_many : ℕ → Tally → RunRecord Op → Bool
+is_too_many most tally r = is_begin_record r && tally.begins == most
 
 -- why a record is not taken: it can not be read, or it begins too many transactions
-abbrev pub IsRefused : Tally → Result (RunRecord Op) RecordFault → Cause → Type 0
-IsRefused tally (Err fault) cause = cause_of fault ≡ Ok cause
-IsRefused tally (Ok r) cause = (is_too_many tally r ≡ true) × (cause ≡ TooManyTransactions)
+abbrev pub IsRefused : ℕ → Tally → Result (RunRecord Op) RecordFault → Cause → Type 0
+IsRefused most tally (Err fault) cause = cause_of fault ≡ Ok cause
+IsRefused most tally (Ok r) cause =
+    (is_too_many most tally r ≡ true) × (cause ≡ TooManyTransactions)

@@ -60,8 +60,8 @@ pub fn limits_law()
     ensures viewed { MOST_VIEWED ≡ 2_000_000 }
 {}
 
-/// An input that has not too many lines or bytes is the same under limits that allow more. It is a
-/// law of the definitions, and does nothing.
+/// An input that has not too many lines, bytes or transactions is the same under limits that allow
+/// more. It is a law of the definitions, and does nothing.
 pub fn wider_limits_law()
     ensures { WiderLimitsLaw }
 {}

@@ -18,7 +18,7 @@ ghost use Rattle.pp_judge.specs.declared.progress.Progress.TheVariants.{Rejected
 use crate::cause::cause_of;
 use crate::judge::Judge;
 use crate::progress::{Progress, Tally, is_begin_record, progress_of, with_blank, with_record};
-use pp_core::{MOST_TRANSACTIONS, OutOfMemory, Ticks};
+use pp_core::{OutOfMemory, Ticks};
 use pp_format_read::{RecordFault, read_header, read_record};
 use pp_input::{Limits, Line, is_blank};
 use pp_input_reader::{Cause, Failure, Stop, TakesLines};
@@ -47,14 +47,16 @@ fn take_header<J: Judge, L: Ledger>(
 ) -> Result<Progress<J, J::Rejection>, Stop<Cause>>
     requires positive { 0 < line.now.number }
     requires other { blank line.now.text ≡ false }
-    ensures ok { IfOk result (λ next.
-        Covers J.judging (scan_line nothing (line.now.number, line.now.text)) next
+    ensures ok { IfOk result (λ next. Covers J.judging
+        (scan_line J.judging.limits.transactions nothing (line.now.number, line.now.text)) next
         ticks.old ticks.new) }
     ensures lines { IfOk result (λ next. lines_of next ≡ line.now.number) }
     ensures stop { IfErr result (λ stop. IfFault stop (λ at cause. (at ≡ line.now.number)
-        × J.judging.IsFault (scan_line nothing (line.now.number, line.now.text))
+        × J.judging.IsFault
+        (scan_line J.judging.limits.transactions nothing (line.now.number, line.now.text))
         (Some (line.now.number, cause)))) }
-    ensures most { J.judging.AtMost (scan_line nothing (line.now.number, line.now.text))
+    ensures most { J.judging.AtMost
+        (scan_line J.judging.limits.transactions nothing (line.now.number, line.now.text))
         ticks.old ticks.new }
 {
     let header = match read_header(alloc, line.text.bytes()) {
@@ -70,22 +72,27 @@ fn take_header<J: Judge, L: Ledger>(
     Ok(progress_of(tally, judged))
 }
 
-/// The record of a line after the header.
-fn read_next(alloc: Global, tally: &Tally, line: &Line) -> Result<RunRecord<Op>, Stop<Cause>>
+/// The record of a line after the header, where at most so many may begin a transaction.
+fn read_next(
+    alloc: Global,
+    tally: &Tally,
+    line: &Line,
+    most: u32,
+) -> Result<RunRecord<Op>, Stop<Cause>>
     ensures read { IfOk result
         (λ r. record_of tally.now.header line.now.text ≡ Ok (record_meaning r)) }
     ensures readable { IfOk result
         (λ r. IsReadable tally.now.header.catalog (record_meaning r)) }
     ensures styled { IfOk result (λ r. IsOfStyle tally.now.header.style (record_meaning r)) }
-    ensures few { IfOk result (λ r. is_too_many tally.now (record_meaning r) ≡ false) }
+    ensures few { IfOk result (λ r. is_too_many most tally.now (record_meaning r) ≡ false) }
     ensures err { IfErr result (λ stop. IfFault stop (λ at cause. (at ≡ line.now.number)
-        × IsRefused tally.now (record_of tally.now.header line.now.text) cause)) }
+        × IsRefused most tally.now (record_of tally.now.header line.now.text) cause)) }
 {
     let recorded = match read_record(alloc, &tally.header, line.text.bytes()) {
         Ok(recorded) => recorded,
         Err(fault) => return Err(stop_at(line.number, fault)),
     };
-    if is_begin_record(&recorded) && tally.begins == MOST_TRANSACTIONS {
+    if is_begin_record(&recorded) && tally.begins == most {
         return Err(Stop::Fault(line.number, Cause::TooManyTransactions));
     }
     Ok(recorded)
@@ -110,7 +117,8 @@ fn take_record<J: Judge, L: Ledger>(
     ensures most { CostsOn J.judging (Running tally judge)
         (line.now.number, line.now.text) ticks.old ticks.new }
 {
-    let recorded = read_next(alloc, &tally, line)?;
+    let most = J::limits().transactions;
+    let recorded = read_next(alloc, &tally, line, most)?;
     let judged = judge.judge(alloc, &tally.header, &recorded, line.number, ticks)?;
     Ok(progress_of(with_record(tally, &recorded), judged))
 }
@@ -131,7 +139,8 @@ fn pass_record<J: Judge>(
         × ((now : ℕ) → HasFaultOn J.judging (Rejected tally rejection)
         (line.now.number, line.now.text) now cause))) }
 {
-    let recorded = read_next(alloc, &tally, line)?;
+    let most = J::limits().transactions;
+    let recorded = read_next(alloc, &tally, line, most)?;
     Ok(Progress::Rejected(with_record(tally, &recorded), rejection))
 }
 

@@ -17,7 +17,7 @@ use Rattle.pp_judge.specs.Scans.{scan_lines}
 
 -- an input without a fault has a header
 pub header_of_sound : (bytes : List ℕ) → (scan bytes).fault ≡ None → (header : Lined Header) × ((scan bytes).header ≡ Some header)
-header_of_sound bytes sound = by (scan_lines (scanned_lines usual_limits bytes)).fault (limit_fault (overrun usual_limits bytes)) (scan_lines (scanned_lines usual_limits bytes)).header sound
+header_of_sound bytes sound = by (scan_lines usual_limits.transactions (scanned_lines usual_limits bytes)).fault (limit_fault (overrun usual_limits bytes)) (scan_lines usual_limits.transactions (scanned_lines usual_limits bytes)).header sound
   where
     by : (read limit : Option (ℕ × Cause)) (o : Option (Lined Header)) → option_or read (option_or limit (no_header bytes o)) ≡ None → (header : Lined Header) × (o ≡ Some header)
     by (Some f) limit o e = absurd (let no : Some f ≡ None = e in cc)

@@ -31,7 +31,7 @@ use Rattle.pp_laws_runs.proofs.Cutting.{front_lines, front_within, no_memory, wh
 -- ---- the line of a header
 
 -- a header is on the line that it was read from
-header_line : (sc : InputScan) (line : NumberedLine) (h : Lined Header) → sc.header ≡ None → (scan_line sc line).header ≡ Some h → h.line ≡ line.0
+header_line : (sc : InputScan) (line : NumberedLine) (h : Lined Header) → sc.header ≡ None → (scan_line usual_limits.transactions sc line).header ≡ Some h → h.line ≡ line.0
 header_line sc line h none is = by (is_some sc.fault || blank line.1) is
   where
     still : sc.header ≡ Some h → h.line ≡ line.0
@@ -47,11 +47,11 @@ header_line sc line h none is = by (is_some sc.fault || blank line.1) is
         ap (λ (k : Lined Header). k.line) (sym (same_Some one h there))
     made (Err fault) there = faulty (cause_of fault) there
 
-    read : (o : Option (Lined Header)) → o ≡ None → (read_line sc o line).header ≡ Some h → h.line ≡ line.0
+    read : (o : Option (Lined Header)) → o ≡ None → (read_line usual_limits.transactions sc o line).header ≡ Some h → h.line ≡ line.0
     read None e there = made (header_of line.1) there
     read (Some other) e there = absurd (cc)
 
-    by : (b : Bool) → (cond b sc (read_line sc sc.header line)).header ≡ Some h → h.line ≡ line.0
+    by : (b : Bool) → (cond b sc (read_line usual_limits.transactions sc sc.header line)).header ≡ Some h → h.line ≡ line.0
     by true there = still there
     by false there = read sc.header none there
 
@@ -62,19 +62,19 @@ at_least : (n k : ℕ) → k ≡ n → n ≤ k
 at_least n k h = omega (arith, h)
 
 -- where these lines have no header, it is on a line behind them
-header_behind : (before : List NumberedLine) (n : ℕ) (lines : List (List ℕ)) (h : Lined Header) → (scan_lines before).header ≡ None → (scan_lines (before ++ numbered_from n lines)).header ≡ Some h → n ≤ h.line
+header_behind : (before : List NumberedLine) (n : ℕ) (lines : List (List ℕ)) (h : Lined Header) → (scan_lines usual_limits.transactions before).header ≡ None → (scan_lines usual_limits.transactions (before ++ numbered_from n lines)).header ≡ Some h → n ≤ h.line
 header_behind before n [] h none is =
-    absurd (let e : None ≡ Some h = sym none ∙ ap (λ (ls : List NumberedLine). (scan_lines ls).header) (sym (append-nil before)) ∙ is in cc)
+    absurd (let e : None ≡ Some h = sym none ∙ ap (λ (ls : List NumberedLine). (scan_lines usual_limits.transactions ls).header) (sym (append-nil before)) ∙ is in cc)
 header_behind before n (line ∷ lines) h none is =
     let one : NumberedLine = (n, line) in
     let next : List NumberedLine = before ++ one ∷ [] in
     let more : List NumberedLine = numbered_from (n + 1) lines in
-    let whole : (scan_lines (next ++ more)).header ≡ Some h = ap (λ (ls : List NumberedLine). (scan_lines ls).header) (append_assoc before (one ∷ []) more) ∙ is in
-    elim ((scan_lines next).header) as (λ o. (scan_lines next).header ≡ o → n ≤ h.line) [
+    let whole : (scan_lines usual_limits.transactions (next ++ more)).header ≡ Some h = ap (λ (ls : List NumberedLine). (scan_lines usual_limits.transactions ls).header) (append_assoc before (one ∷ []) more) ∙ is in
+    elim ((scan_lines usual_limits.transactions next).header) as (λ o. (scan_lines usual_limits.transactions next).header ≡ o → n ≤ h.line) [
       | None ↦ λ still. below n h.line (header_behind next (n + 1) lines h still whole)
       | Some first ↦ λ there.
-          let same : first ≡ h = same_Some first h (sym ((widens_lines next more).header first there) ∙ whole) in
-          let here : first.line ≡ n = header_line (scan_lines before) one first none (ap (λ (s : InputScan). s.header) (sym (scan_more before one)) ∙ there) in
+          let same : first ≡ h = same_Some first h (sym ((widens_lines usual_limits.transactions next more).header first there) ∙ whole) in
+          let here : first.line ≡ n = header_line (scan_lines usual_limits.transactions before) one first none (ap (λ (s : InputScan). s.header) (sym (scan_more usual_limits.transactions before one)) ∙ there) in
           at_least n h.line (ap (λ (k : Lined Header). k.line) (sym same) ∙ here)
     ] refl
 
@@ -92,10 +92,10 @@ no_limit (Some (limits.LineTooLong line)) never h = absurd (cc)
 no_limit (Some limits.OutOfMemory) never h = absurd (never refl)
 
 -- no line has one, and no limit is passed
-sound_parts : (bytes : List ℕ) → IsFaultOf (scan bytes) None → ((scan_lines (scanned_lines usual_limits bytes)).fault ≡ None) × (overrun usual_limits bytes ≡ None)
+sound_parts : (bytes : List ℕ) → IsFaultOf (scan bytes) None → ((scan_lines usual_limits.transactions (scanned_lines usual_limits bytes)).fault ≡ None) × (overrun usual_limits bytes ≡ None)
 sound_parts bytes (inl over) = absurd (let e : None ≡ Some (over.0, TooManySteps) = over.2 in cc)
 sound_parts bytes (inr none) =
-    let sc : InputScan = scan_lines (scanned_lines usual_limits bytes) in
+    let sc : InputScan = scan_lines usual_limits.transactions (scanned_lines usual_limits bytes) in
     let parts = both_none sc.fault (option_or (limit_fault (overrun usual_limits bytes)) (no_header bytes sc.header)) (sym none.1) in
     let limit = both_none (limit_fault (overrun usual_limits bytes)) (no_header bytes sc.header) parts.1 in
     (parts.0, no_limit (overrun usual_limits bytes) (no_memory bytes) limit.0)
@@ -104,10 +104,10 @@ sound_parts bytes (inr none) =
 
 module _ (front back : List ℕ) (is : IsPrefixOfLines front back) (none : IsFaultOf (scan (front ++ back)) None) where
   abbrev sc : InputScan
-  sc = scan_lines (ended_lines front)
+  sc = scan_lines usual_limits.transactions (ended_lines front)
 
   abbrev wide : InputScan
-  wide = scan_lines (scanned_lines usual_limits (front ++ back))
+  wide = scan_lines usual_limits.transactions (scanned_lines usual_limits (front ++ back))
 
   sound : (wide.fault ≡ None) × (overrun usual_limits (front ++ back) ≡ None)
   sound = sound_parts (front ++ back) none
@@ -118,13 +118,13 @@ module _ (front back : List ℕ) (is : IsPrefixOfLines front back) (none : IsFau
   lines : scanned_lines usual_limits front ≡ ended_lines front
   lines = front_lines front is.ends within
 
-  behind : (more : List (List ℕ)) × (wide ≡ scan_lines (ended_lines front ++ numbered_from (1 + length (ended front)) more))
+  behind : (more : List (List ℕ)) × (wide ≡ scan_lines usual_limits.transactions (ended_lines front ++ numbered_from (1 + length (ended front)) more))
   behind =
       let whole = whole_lines front back sound.1 in
-      (whole.0, ap (λ (ls : List NumberedLine). scan_lines ls) whole.1)
+      (whole.0, ap (λ (ls : List NumberedLine). scan_lines usual_limits.transactions ls) whole.1)
 
   widens : Widens sc wide
-  widens = subst (λ (s : InputScan). Widens sc s) (sym behind.1) (widens_lines (ended_lines front) (numbered_from (1 + length (ended front)) behind.0))
+  widens = subst (λ (s : InputScan). Widens sc s) (sym behind.1) (widens_lines usual_limits.transactions (ended_lines front) (numbered_from (1 + length (ended front)) behind.0))
 
   header_there : sc.header ≡ Some is.header
   header_there =
@@ -145,16 +145,16 @@ module _ (front back : List ℕ) (is : IsPrefixOfLines front back) (none : IsFau
 
   -- A prefix that has the header's line and ends a line has the same header.
   pub front_header : (scan front).header ≡ Some is.header
-  front_header = ap (λ (ls : List NumberedLine). (scan_lines ls).header) lines ∙ header_there
+  front_header = ap (λ (ls : List NumberedLine). (scan_lines usual_limits.transactions ls).header) lines ∙ header_there
 
   -- A prefix of an input without a fault has no fault.
   pub front_sound : (scan front).fault ≡ None
   front_sound =
-      ap (λ (ls : List NumberedLine). option_or (scan_lines ls).fault (option_or (limit_fault (overrun usual_limits front)) (no_header front (scan_lines ls).header))) lines
+      ap (λ (ls : List NumberedLine). option_or (scan_lines usual_limits.transactions ls).fault (option_or (limit_fault (overrun usual_limits front)) (no_header front (scan_lines usual_limits.transactions ls).header))) lines
       ∙ ap (λ (o : Option (ℕ × Cause)). option_or o (option_or (limit_fault (overrun usual_limits front)) (no_header front sc.header))) no_line
       ∙ ap (λ (o : Option LineFault). option_or (limit_fault o) (no_header front sc.header)) within
       ∙ ap (λ (o : Option (Lined Header)). no_header front o) header_there
 
   -- The records of a prefix of an input are its first records.
   pub front_records : Begins (scan front).records (scan (front ++ back)).records
-  front_records = (widens.records.0, widens.records.1 ∙ ap (λ (ls : List NumberedLine). (scan_lines ls).records ++ widens.records.0) (sym lines))
+  front_records = (widens.records.0, widens.records.1 ∙ ap (λ (ls : List NumberedLine). (scan_lines usual_limits.transactions ls).records ++ widens.records.0) (sym lines))

@@ -5,7 +5,6 @@ use Rattle.std.proofs.Common.{refl, sym, subst, ◌∙◌}
 use Rattle.std.proofs.lemmas.Option.{same_Some}
 use mathlib.Core.Logic.{inl, inr}
 use Rattle.pp_core.specs.declared.answer.OutOfMemory.{OutOfMemory}
-use Rattle.pp_core.specs.declared.limits.TheConstants.{MOST_TRANSACTIONS}
 use Rattle.pp_records.specs.Expansions.{IsOfStyle}
 use Rattle.pp_records.specs.Records.{RunRecord}
 use Rattle.pp_records.specs.Runs.{Lined}
@@ -42,9 +41,9 @@ header_styled sc line (Ok header) e s = record {
 }
 header_styled sc line (Err fault) e s = fault_styled sc line (cause_of fault) s
 
-next_styled : (sc : InputScan) (header : Lined Header) (line : NumberedLine) (r : Result (RunRecord Op) RecordFault) → sc.header ≡ Some header → record_of header.what line.1 ≡ r → AreStyled sc → AreStyled (with_record sc line.0 r)
+next_styled : (sc : InputScan) (header : Lined Header) (line : NumberedLine) (r : Result (RunRecord Op) RecordFault) → sc.header ≡ Some header → record_of header.what line.1 ≡ r → AreStyled sc → AreStyled (with_record usual_limits.transactions sc line.0 r)
 next_styled sc header line (Err fault) there read s = fault_styled sc line.0 (cause_of fault) s
-next_styled sc header line (Ok r) there read s = by (is_begin_record r && begins sc.records == MOST_TRANSACTIONS)
+next_styled sc header line (Ok r) there read s = by (is_begin_record r && begins sc.records == usual_limits.transactions)
   where
     by : (b : Bool) → AreStyled (cond b (with_fault sc line.0 (Ok TooManyTransactions)) (with_next sc line.0 r))
     by true = fault_styled sc line.0 (Ok TooManyTransactions) s
@@ -60,20 +59,20 @@ next_styled sc header line (Ok r) there read s = by (is_begin_record r && begins
           ];
     }
 
-read_styled : (sc : InputScan) (o : Option (Lined Header)) (line : NumberedLine) → sc.header ≡ o → AreStyled sc → AreStyled (read_line sc o line)
+read_styled : (sc : InputScan) (o : Option (Lined Header)) (line : NumberedLine) → sc.header ≡ o → AreStyled sc → AreStyled (read_line usual_limits.transactions sc o line)
 read_styled sc None line e s = header_styled sc line.0 (header_of line.1) e s
 read_styled sc (Some header) line e s = next_styled sc header line (record_of header.what line.1) e refl s
 
-line_styled : (sc : InputScan) (line : NumberedLine) → AreStyled sc → AreStyled (scan_line sc line)
+line_styled : (sc : InputScan) (line : NumberedLine) → AreStyled sc → AreStyled (scan_line usual_limits.transactions sc line)
 line_styled sc line s = by (is_some sc.fault || blank line.1)
   where
-    by : (b : Bool) → AreStyled (cond b sc (read_line sc sc.header line))
+    by : (b : Bool) → AreStyled (cond b sc (read_line usual_limits.transactions sc sc.header line))
     by true = s
     by false = read_styled sc sc.header line refl s
 
-lines_styled : (sc : InputScan) (lines : List NumberedLine) → AreStyled sc → AreStyled (fold scan_line sc lines)
+lines_styled : (sc : InputScan) (lines : List NumberedLine) → AreStyled sc → AreStyled (fold (scan_line usual_limits.transactions) sc lines)
 lines_styled sc [] s = s
-lines_styled sc (line ∷ lines) s = lines_styled (scan_line sc line) lines (line_styled sc line s)
+lines_styled sc (line ∷ lines) s = lines_styled (scan_line usual_limits.transactions sc line) lines (line_styled sc line s)
 
 -- The records of an input are of the style of its header.
 pub scan_styled : (bytes : List ℕ) (h : Lined Header) → (scan bytes).header ≡ Some h → (r : Lined (RunRecord Op)) → In r (scan bytes).records → IsOfStyle h.what.style r.what

@@ -1,8 +1,10 @@
-use Rattle.std.proofs.Common.{sym, subst}
+use Rattle.std.proofs.Common.{◌≡◌, false, ap, sym, subst}
 use Rattle.std.proofs.lemmas.Result.{err_from_is_err_and}
 use Rattle.pp_records.specs.Records.{record_meaning}
 use Rattle.pp_input.specs.Lines.{NumberedLine}
 use Rattle.pp_input_reader.proofs.Takers.{if_fault}
+use Rattle.pp_format_read.specs.Records.{record_of}
+use Rattle.pp_judge.specs.Tallies.{IsRefused, is_too_many}
 use Rattle.pp_judge.specs.Progresses.{LeadsTo}
 use Rattle.pp_judge.specs.declared.progress.Progress.TheVariants.{Rejected}
 use Rattle.pp_judge.proofs.Taking.{passed_on, refused_faulty}
@@ -16,7 +18,8 @@ returns-in_err-recorded-clause-stop g c =
     rw (p.1, p.2) (if_fault c.in_err-recorded.field-0.0 _ _
     (λ at cause said. (
       said.0,
-      λ now. refused_faulty g.J.Judge.judging g.met.J.Judge.laws c.args.tally (Rejected c.args.tally c.args.rejection) line now cause (λ sc old covers. covers.follows) c.requires.other said.1,
+      λ now. refused_faulty g.J.Judge.judging g.met.J.Judge.laws c.args.tally (Rejected c.args.tally c.args.rejection) line now cause (λ sc old covers. covers.follows) c.requires.other
+          (subst (λ most. IsRefused most c.args.tally (record_of c.args.tally.header line.1) cause) (ap (λ limits. limits.transactions) c.limits-most.ensures.limits) said.1),
     ))
     c.in_err-recorded.ensures.err)
 
@@ -31,4 +34,5 @@ returns-clause-ok g c = λ now.
     let M = g.J.Judge.judging in
     let r = record_meaning c.in_ok-recorded.recorded in
     subst (λ t. LeadsTo M (Rejected c.args.tally c.args.rejection) line now (Rejected t c.args.rejection) now) (sym c.with_record.ensures)
-    (passed_on M g.met.J.Judge.laws c.args.tally c.args.rejection line r now c.requires.other c.in_ok-recorded.ensures.read c.in_ok-recorded.ensures.few)
+    (passed_on M g.met.J.Judge.laws c.args.tally c.args.rejection line r now c.requires.other c.in_ok-recorded.ensures.read
+    (subst (λ most. is_too_many most c.args.tally (record_meaning c.in_ok-recorded.recorded) ≡ false) (ap (λ limits. limits.transactions) c.limits-most.ensures.limits) c.in_ok-recorded.ensures.few))

@@ -18,7 +18,7 @@ returns-clause-ok g c =
     let M = g.J.Judge.judging in
     let header = c.in-Ok.header in
     let read : header_of line.1 ≡ Ok header = search rules in
-    subst (λ p. Covers M (scan_line nothing line) p c.args.ticks.now c.begin.new.ticks) (sym c.progress_of.ensures)
+    subst (λ p. Covers M (scan_line M.limits.transactions nothing line) p c.args.ticks.now c.begin.new.ticks) (sym c.progress_of.ensures)
     (header_covers M line header c.requires.positive c.args.ticks.now c.begin.new.ticks c.begin.ensures.most c.requires.other read c.in_ok-judged.judged c.in_ok-judged.ensures.judged c.in_ok-judged.ensures.least)
 
 pub begin-requires-clause-writable : goal.begin-requires-clause-writable
