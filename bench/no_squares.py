@@ -92,6 +92,18 @@ def dropped(calls):
     return records + [named("commit", source)], 2 + 3 * calls + 2 * (1 + calls + 1 + 1 + calls) + 1, 1
 
 
+def dropped_and_retried(count):
+    """A source publishes many additions, which another pulls and drops, and retries. Then the same of one addition at a time."""
+    (source, tx), records = opened(2)
+    numbers = itertools.count()
+    sizes = [2 * count] + [1] * count
+    for size in sizes:
+        records += [op(source, next(numbers), "add", [1]) for _ in range(size)]
+        records += [named("publish", source), named("depend", tx, source=source), op(tx, next(numbers), "add", [1])]
+        records += [named("drop", tx, source=source), named("retry", source)]
+    return records + [named("commit", source)], 2 + sum(6 * size + 5 for size in sizes) + 1, 1
+
+
 def retaken(count):
     """A transaction takes the additions of a large source, and then those of a small one, which it drops after each call."""
     (large, small, tx), records = opened(3)
@@ -142,6 +154,21 @@ def aborted(count):
     return records + [named("commit", tx)], 2 + 4 * count + 1 + 2 * count + 2 + 4 * count + 1, 2
 
 
+def aborted_beside_commits(count):
+    """A transaction takes over many committed reads. Each time that one more is committed, it reads in a section, which is
+    aborted, and then outside of it."""
+    (first, tx, *others), records = opened(2 + count)
+    numbers = itertools.count()
+    records += [op(other, next(numbers), "read", [0], 0) for other in others]
+    records += [op(first, next(numbers), "read", [0], 0) for _ in range(4 * count)]
+    records += [named("commit", first), op(tx, next(numbers), "read", [0], 0)]
+    for other in others:
+        records += [named("commit", other), named("xbegin", tx), op(tx, next(numbers), "read", [0], 0)]
+        records += [named("xabort", tx), op(tx, next(numbers), "read", [0], 0)]
+    steps = 2 + count + 2 * count + 8 * count + 1 + 4 * count + 2 + 10 * count + 1
+    return records + [named("commit", tx)], steps, 2 + count
+
+
 # Of each run its name, its header, what makes it of its size, and the larger size.
 RUNS = (
     ("one transaction on a map", header("boosted", "map"), one_map, 99_998),
@@ -159,11 +186,13 @@ RUNS = (
     ("two transactions add, one commits", header("boosted", "counter"), two_adding, 39_990),
     ("hardware sections on 16 memories", header("hardware", *["mem"] * 16), sections, 19_998),
     ("additions pulled and dropped twice", header("dependent", "counter"), dropped, 20_000),
+    ("a source dropped and retried", header("dependent", "counter"), dropped_and_retried, 7_500),
     ("a small source dropped beside a large one", header("dependent", "counter"), retaken, 5_000),
     ("sources dropped by a long transaction", header("dependent", "mem"), dropped_alone, 11_000),
     ("additions of a source, a reader after each", header("dependent", "counter"), followed, 20_000),
     ("rounds of 6,000 calls, each undone", header("boosted", "map"), undone, 8),
     ("hardware sections that read and abort", header("hardware", "mem"), aborted, 10_000),
+    ("aborted sections beside commits", header("hardware", "mem"), aborted_beside_commits, 5_000),
 )
 
 

@@ -33,7 +33,7 @@ same_of : {X : Type 0} (r : Result (Option X) OutOfMemory) (given : Option X)
 same_of (Ok o) given h = sym (same o) ∙ h
 same_of (Err refused) given h = tt
 
--- A result that was found without a fault is the one that was read.
+-- What is found is what was read, unless memory ran out. A fault is none.
 pub same_found : {X : Type 0} (read given : Result X RecordFault) (r : Result (Option X) OutOfMemory)
     → Gives (λ x. x) read given → Finds read r → IfOk r (λ o. o ≡ found given)
 same_found read given r h k = same_of r (found given) (found_is (λ x. x) read given r h k)

@@ -269,7 +269,7 @@ module _ (h : Header) (rs : Records (RunRecord Op)) (judge : Counted) (c : AreCo
 pub rises_twice : (now new then : ℕ) → now ≤ new → new ≤ then → now ≤ then
 rises_twice now new then x y = omega (arith, x, y)
 
-searched : (old new then most count so_far many : ℕ) → new ≤ old + most → then ≤ new + 3 * (count + 256) → count ≡ so_far → many ≡ so_far + 1 → then ≤ old + 3 * (many + 256) + most
+searched : (old new then most count so_far many : ℕ) → new ≤ old + most → then ≤ new + (count + 256) → count ≡ so_far → many ≡ so_far + 1 → then ≤ old + (many + 256) + most
 searched old new then most count so_far many x y z w = omega (arith, x, y, z, w)
 
 module _ (h : Header) (judge : Counted) (r : RunRecord Op) (line now new : ℕ) where
@@ -281,7 +281,7 @@ module _ (h : Header) (judge : Counted) (r : RunRecord Op) (line now new : ℕ) 
       (λ none. here, cost_from sc old (old + search_most sc.records) new (up_by old (search_most sc.records)) here)
 
   -- with the search, of a record that is not good
-  pub searched_most : (then : ℕ) (next : Held (List Kind) Op) → new ≤ now + take_most judge.quick.brief r → then ≤ new + 3 * (next.count + 256) → Takes objects place_of judge.quick r false next
+  pub searched_most : (then : ℕ) (next : Held (List Kind) Op) → new ≤ now + take_most judge.quick.brief r → then ≤ new + (next.count + 256) → Takes objects place_of judge.quick r false next
       → CostsAtMostThere counted_judging h judge r line now then
   searched_most then next cost search takes at rs c old most =
       let it : Lined (RunRecord Op) = record { line = line; what = r } in

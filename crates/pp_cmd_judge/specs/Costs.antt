@@ -1,5 +1,5 @@
 -- Meaning: how far judging an input raises the counter of operations applied or taken back.
-use Rattle.std.specs.Prelude.{◌+◌, ◌*◌, ℕ, length, Option, None, Some}
+use Rattle.std.specs.Prelude.{◌+◌, ℕ, length, Option, None, Some}
 use Rattle.pp_records.specs.Records.{RunRecord}
 use Rattle.pp_records.specs.Runs.{Lined, Records}
 use Rattle.pp_format_read.specs.declared.header.Header.{Header}
@@ -16,10 +16,10 @@ NoneFails (Some header) records = (r : Lined (RunRecord Op)) →
     FailsIn (object_of header.what) (translation_of header.what) (start_of header.what) records r →
     ⊥
 
--- what the search for the step of a rejection costs at most: three for each record, and for each
--- of the 256 operations that a start may have
+-- What the search for the step of a rejection costs at most: one for each record, and for each of
+-- the 256 operations that a start may have.
 abbrev pub search_most : Records (RunRecord Op) → ℕ
-search_most records = 3 * (length records + 256)
+search_most records = length records + 256
 
 -- Without the serial run the counter rises at most by what deciding the records costs, if none
 -- fails. In any case it rises at most by that and what the search costs.

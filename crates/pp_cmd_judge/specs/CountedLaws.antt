@@ -1,5 +1,5 @@
 -- Proof machinery: what holds of the summary with its number of steps as a judge.
-use Rattle.std.specs.Prelude.{◌≡◌, ◌≤◌, ◌+◌, ◌*◌, ℕ, [], ◌++◌, length, Option, None, Some}
+use Rattle.std.specs.Prelude.{◌≡◌, ◌≤◌, ◌+◌, ℕ, [], ◌++◌, length, Option, None, Some}
 use Rattle.std.proofs.Common.{refl, sym, ap, ◌∙◌, subst, arith, append_assoc, length-append}
 use Rattle.pp_core.specs.declared.call.Style.{Style}
 use Rattle.pp_core.specs.declared.call.Style.TheVariants.{Boosted}
@@ -84,7 +84,7 @@ judged_widens sc wider old new w cost = (
       (quick_laws.most_widens sc wider (old + search_most sc.records) new w cost.1),
 )
   where
-    grows : (a b more : ℕ) → b ≡ a + more → old + 3 * (a + 256) ≤ old + 3 * (b + 256)
+    grows : (a b more : ℕ) → b ≡ a + more → old + (a + 256) ≤ old + (b + 256)
     grows a b more e = omega (arith, e)
 
 nothing_judged : (old : ℕ) → JudgedCostAtMost nothing old old

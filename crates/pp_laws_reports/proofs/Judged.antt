@@ -1,12 +1,13 @@
 -- Every input has a report, however many steps it has, so `judge` has an output for it.
 use Rattle.std.specs.Prelude.{◌≡◌, ℕ, zero, suc, List, length, map, take, Option, None, Some}
 use Rattle.std.proofs.Common.{refl, sym, subst}
+use Rattle.pp_core.specs.declared.call.Kind.{Kind}
 use Rattle.pp_core.specs.declared.status.Status.{Status}
 use Rattle.pp_core.specs.declared.status.Status.TheVariants as statuses
 use Rattle.pp_core.specs.declared.step.Rule.TheVariants as rules
 use Rattle.pp_core.specs.Steps.{rule_of}
 use Rattle.pp_records.proofs.Reporting.{input_law}
-use Rattle.pp_records.specs.Inputs.{Accepts, Faulty, IsReportBehind, IsReportOf, IsRunReport, StartRejected, StepRejected, steps_of}
+use Rattle.pp_records.specs.Inputs.{Accepts, IsRunReport, StartRejected, StepRejected, steps_of}
 use Rattle.pp_records.specs.Records.{RunRecord}
 use Rattle.pp_records.specs.Runs.{Lined, LinedSteps, Records, bare}
 use Rattle.pp_format_read.specs.declared.header.Header.{Header}
@@ -35,7 +36,9 @@ use Rattle.pp_laws_reports.specs.Defined.{IsDefined}
 module _ (header : Lined Header) (rs : Records (RunRecord Op)) where
   abbrev all : LinedSteps Op
   all = steps_of (setting_of header) rs
-  abbrev kinds = kinds_of header.what.catalog
+
+  abbrev kinds : List Kind
+  kinds = kinds_of header.what.catalog
 
   abbrev Nowhere : Type 0
   Nowhere = (report : RunReport) (status : Status) (text : List ℕ) → IsRunReport setting_of (Some header) rs report → IsTold (Some header) report status text → ⊥

@@ -68,11 +68,12 @@ taken_count {Op} t (e ∷ l) = by e.mark refl (taken_count t l)
         ∙ ap (λ (w : List (LocalEntry Op)). (length (cond (is_own m) (e ∷ own l) (own l)) + length (map (λ (z : LocalEntry Op). z.id) w)) + length (cond (is_mark m Pulled) (e ∷ pulled_of l) (pulled_of l))) (sym (pushed_first m h))
         ∙ ap (λ (w : Mark). own_count (cond (is_own w) (e ∷ own l) (own l)) + length (cond (is_mark w Pulled) (e ∷ pulled_of l) (pulled_of l))) (sym h)
 
--- what a part of a list is
-in_taken : {A : Type 0} (n : ℕ) (l : List A) (x : A) → In x (take n l) → In x l
+-- What is in the first part of a list is in the list.
+pub in_taken : {A : Type 0} (n : ℕ) (l : List A) (x : A) → In x (take n l) → In x l
 in_taken {A} n l x i = subst (λ (w : List A). In x w) (take-append-drop n l) (in_left x (take n l) (drop n l) i)
 
-before_taken : {A : Type 0} (n : ℕ) (l : List A) (x y : A) → Before x y (take n l) → Before x y l
+-- The order of the first part of a list is that of the list.
+pub before_taken : {A : Type 0} (n : ℕ) (l : List A) (x y : A) → Before x y (take n l) → Before x y l
 before_taken {A} n l x y i = subst (λ (w : List A). Before x y w) (take-append-drop n l) (before_left x y (take n l) (drop n l) i)
 
 module _ {Op State : Type 0} (O : Object Op State) (place : Op → ℕ) (c : Config Op) (s : Sound O c) where

@@ -17,7 +17,7 @@ use Rattle.pp_run.specs.declared.words.Command.{Command}
 use Rattle.pp_run.specs.declared.words.Command.TheVariants.{Certify, Drill, Expand, Judge, Quick, Recheck, Swaps, Views}
 use Rattle.pp_run.specs.Bounds.{RisesAtLeast, RisesAtMost}
 use Rattle.pp_run.specs.Outcomes.{outcome}
-use Rattle.pp_run.specs.Outputs.{IsOfWhole, IsOutput, IsPrinted, IsUnwritten, IsVerdictOrSize, OfInput}
+use Rattle.pp_run.specs.Outputs.{IsOfWhole, IsOutput, IsPrinted, MayBeCutShort, IsVerdictOrSize, OfInput}
 use Rattle.pp_run.specs.Outputs.{PrintsPrefix, PrintsPrefixOnly, ReadsSound}
 use Rattle.pp_run.specs.Runs.{RunPromise}
 use Rattle.pp_run.specs.Streams.{Counts}
@@ -57,7 +57,7 @@ whole_verdict (Some Recheck) s whole = inl (subst IsDecided (sym whole) tt)
 whole_verdict (Some Views) s whole = whole
 whole_verdict (Some (Drill n)) s whole = absurd whole
 
-printed_written : (s : Status) → IsPrinted s → IsUnwritten s → ⊥
+printed_written : (s : Status) → IsPrinted s → MayBeCutShort s → ⊥
 printed_written statuses.Accepted printed unwritten = unwritten
 printed_written statuses.Rejected printed unwritten = unwritten
 printed_written statuses.BadWords printed unwritten = unwritten
@@ -185,7 +185,7 @@ module _ (SameSource SameSink : Type 0) (input rest held holds : Option (List �
         → (s ≡ statuses.ReadFault → HasRisen n.failed_reads_before n.failed_reads × SameSink × ReadsSound (Some k) input rest) → (s ≡ statuses.ReadFault → Reads (Some k))
         → (s ≡ statuses.WriteFault → HasRisen n.failed_writes_before n.failed_writes) → (s ≡ statuses.WriteFault → OfInput (Some k) input (λ bytes. PrintsPrefix (Some k) bytes held holds))
         → (s ≡ statuses.OutOfMemory → SameSink ⊎ (HasRisen n.refusals_before n.refusals × OfInput (Some k) input (λ bytes. PrintsPrefix (Some k) bytes held holds)))
-        → (IsUnwritten s → OfInput (Some k) input (λ bytes. PrintsPrefixOnly (Some k) bytes held holds))
+        → (MayBeCutShort s → OfInput (Some k) input (λ bytes. PrintsPrefixOnly (Some k) bytes held holds))
         → (¬ HasRisen n.failed_reads_before n.failed_reads → ¬ HasRisen n.failed_writes_before n.failed_writes → (s ≡ statuses.OutOfMemory) ⊎ IsPrinted s)
         → (¬ Reads (Some k) → ¬ HasRisen n.failed_writes_before n.failed_writes → (s ≡ statuses.OutOfMemory) ⊎ IsPrinted s) → Promises (Some k) s
     unprinted s none once writes read_fault reading write_fault written refused prefix complete no_input =

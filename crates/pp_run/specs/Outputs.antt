@@ -97,15 +97,15 @@ IsPrinted statuses.TooLarge = Unit {0}
 
 -- a write or the flush failed, or the call was out of memory: at most a prefix of an output was
 -- written, which may be all of it
-abbrev pub IsUnwritten : Status → Type 0
-IsUnwritten statuses.Accepted = ⊥
-IsUnwritten statuses.Rejected = ⊥
-IsUnwritten statuses.BadWords = ⊥
-IsUnwritten statuses.InputFault = ⊥
-IsUnwritten statuses.ReadFault = ⊥
-IsUnwritten statuses.WriteFault = Unit {0}
-IsUnwritten statuses.OutOfMemory = Unit {0}
-IsUnwritten statuses.TooLarge = ⊥
+abbrev pub MayBeCutShort : Status → Type 0
+MayBeCutShort statuses.Accepted = ⊥
+MayBeCutShort statuses.Rejected = ⊥
+MayBeCutShort statuses.BadWords = ⊥
+MayBeCutShort statuses.InputFault = ⊥
+MayBeCutShort statuses.ReadFault = ⊥
+MayBeCutShort statuses.WriteFault = Unit {0}
+MayBeCutShort statuses.OutOfMemory = Unit {0}
+MayBeCutShort statuses.TooLarge = ⊥
 
 -- the known bytes grow by an output that is defined, with this status
 abbrev pub Prints : Option Command → List ℕ → Status → Option (List ℕ) → Option (List ℕ) → Type 0

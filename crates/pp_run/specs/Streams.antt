@@ -5,7 +5,7 @@ use Rattle.pp_core.specs.declared.status.Status.TheVariants as statuses
 use Rattle.pp_input.specs.Faults.{HasRisen, counted}
 use Rattle.pp_run.specs.declared.words.Command.{Command}
 use Rattle.pp_run.specs.Outcomes.{Outcome}
-use Rattle.pp_run.specs.Outputs.{IsOfWhole, IsPrinted, IsUnwritten, OfInput, PrintsPrefix}
+use Rattle.pp_run.specs.Outputs.{IsOfWhole, IsPrinted, MayBeCutShort, OfInput, PrintsPrefix}
 use Rattle.pp_run.specs.Outputs.{PrintsPrefixOnly, ReadsSound}
 use Rattle.pp_run.specs.Words.{Reads, TellsSize}
 use Rattle.pp_run.specs.Writing.{FlushesOnceAtMost}
@@ -76,7 +76,7 @@ pub record StreamsPromise (SameSource SameSink : Type 0) (command : Option Comma
       ⊎ (HasRisen n.refusals_before n.refusals
       × OfInput command o.input λ bytes. PrintsPrefix command bytes o.held o.holds)
   -- What was written before a failed write or at out of memory is a prefix of each defined output.
-  pub prefix : IsUnwritten o.status → OfInput command o.input λ bytes.
+  pub prefix : MayBeCutShort o.status → OfInput command o.input λ bytes.
       PrintsPrefixOnly command bytes o.held o.holds
   -- The counts of failed reads and of failed writes never fall.
   pub reads : n.failed_reads_before ≤ n.failed_reads

@@ -14,7 +14,7 @@ use Rattle.indexmap.specs.IndexSet.{insert_key}
 use Rattle.pp_core.specs.Steps.{Step, Begin, App, Unapp, Push, Unpush, Pull, Unpull, Cmt, Quit, Note}
 use Rattle.pp_core.specs.declared.entry.LocalEntry.{LocalEntry}
 use Rattle.pp_core.specs.declared.entry.SharedEntry.{SharedEntry}
-use Rattle.pp_records.specs.Expansions.{LocalLog, is_pulled_from, unpulls}
+use Rattle.pp_records.specs.Expansions.{LocalLog, is_pulled_from, stands_in, unpulls}
 use Rattle.pp_records.specs.Fronts.{at_name}
 use Rattle.pp_model.specs.Config.{Config, Mark, Tx, Unpushed, Pushed, Pulled, as_pulled, but_last, commit_effect}
 use Rattle.pp_model.specs.Config.{entry_of, is_mark, item, of_other, on_log, pull_effect, push_effect, set_mark, then}
@@ -29,8 +29,9 @@ use Rattle.pp_model.proofs.Logs.{found, found_tx, in_but_last, on_each}
 use Rattle.pp_model.proofs.Names.{names-true, names_tell}
 use Rattle.pp_model.proofs.Steps.{only_one}
 use Rattle.pp_styles.specs.Dropping.{AddsAt, AddsPulled, Grows, HasPulled, HoldsLocal, HoldsPulled, IsListed, IsPulledBut}
-use Rattle.pp_styles.specs.Dropping.{KnowsPulled, ListsPull, Looks, Loses, Pullings, Puts}
+use Rattle.pp_styles.specs.Dropping.{KeepsThere, KnowsPulled, ListsPull, Looks, Loses, Pullings, Puts, Trims}
 use Rattle.pp_styles.specs.Walking.{unpull_of}
+use Rattle.pp_styles.proofs.Ids.{in_stands}
 use Rattle.pp_styles.proofs.Looking.{in_next}
 use Rattle.pp_styles.proofs.Noted.{take_next}
 use Rattle.pp_styles.proofs.Outs.{unpulled_more}
@@ -200,6 +201,52 @@ inserted_still ids id i there = by (list_any (nat_eq id) ids)
     by : (b : Bool) → In i (if b then ids else ids ++ id ∷ [])
     by true = there
     by false = in_left i ids (id ∷ []) there
+
+-- An id of a list with one more id is in the list, or it is that id.
+inserted_from : (ids : List ℕ) (id i : ℕ) → In i (insert_key nat_eq ids id) → In i ids ⊎ (i ≡ id)
+inserted_from ids id i = by (list_any (nat_eq id) ids)
+  where
+    by : (b : Bool) → In i (if b then ids else ids ++ id ∷ []) → In i ids ⊎ (i ≡ id)
+    by true there = inl there
+    by false there = elim (in_cases i ids (id ∷ []) there) [
+      | inl old ↦ inl old
+      | inr (inl same) ↦ inr same
+      | inr (inr none) ↦ absurd none
+    ]
+
+-- of no ids none is kept
+pub none_there : {Op : Type 0} (l : List (LocalEntry Op)) (there : List ℕ) → there ≡ [] → KeepsThere l [] there
+none_there l there is = record { from = λ i at. absurd (subst (λ (w : List ℕ). In i w) is at); all = λ i none has. absurd none }
+
+module _ {Op : Type 0} (l : List (LocalEntry Op)) (ids : List ℕ) (i e : ℕ) (below : i < length ids) (there : List ℕ) (h : KeepsThere l (take i ids) there) where
+  more : (b : Bool) → stands_in l (get_or ids i e) ≡ b → KeepsThere l (take i ids ++ get_or ids i e ∷ []) (if b then insert_key nat_eq there (get_or ids i e) else there)
+  more true is =
+      record {
+        from = λ j at. elim (inserted_from there (get_or ids i e) j at) [
+          | inl old ↦ let r = h.from j old in (in_left j (take i ids) (get_or ids i e ∷ []) r.0, r.1)
+          | inr same ↦ (in_right j (take i ids) (get_or ids i e ∷ []) (inl same), subst (λ (n : ℕ). stands_in l n ≡ true) (sym same) is)
+        ];
+        all = λ j at has. elim (in_cases j (take i ids) (get_or ids i e ∷ []) at) [
+          | inl old ↦ inserted_still there (get_or ids i e) j (h.all j old has)
+          | inr (inl same) ↦ subst (λ (n : ℕ). In n (insert_key nat_eq there (get_or ids i e))) (sym same) (inserted_here there (get_or ids i e))
+          | inr (inr none) ↦ absurd none
+        ];
+      }
+  more false is =
+      record {
+        from = λ j at. let r = h.from j at in (in_left j (take i ids) (get_or ids i e ∷ []) r.0, r.1);
+        all = λ j at has. elim (in_cases j (take i ids) (get_or ids i e ∷ []) at) [
+          | inl old ↦ h.all j old has
+          | inr (inl same) ↦ absurd (never (sym has ∙ ap (λ (n : ℕ). stands_in l n) same ∙ is))
+          | inr (inr none) ↦ absurd none
+        ];
+      }
+
+  -- If the next id is added when it is in a local log, of one id more those there are kept.
+  pub there_next : (new : List ℕ) → new ≡ (if stands_in l (get_or ids i e) then insert_key nat_eq there (get_or ids i e) else there) → KeepsThere l (take (i + 1) ids) new
+  there_next new is =
+      subst (λ (w : List ℕ). KeepsThere l w new) (sym (take_next ids i e below))
+      (subst (λ (w : List ℕ). KeepsThere l (take i ids ++ get_or ids i e ∷ []) w) (sym is) (more (stands_in l (get_or ids i e)) refl))
 
 -- at one owner, and at each
 module _ (owner : Name) (id : ℕ) (old new : Name → List ℕ) (is : (v : Name) → new v ≡ at_name owner (insert_key nat_eq (old owner) id) old v) where
@@ -405,6 +452,19 @@ module _ {Op : Type 0} where
         | inr (inl same) ↦ λ e there is. subst (λ (w : List ℕ). In e.id w) (sym (same.1 e.owner)) (h x i (sym same.0 ∙ kept) e there is)
         | inr (inr all) ↦ only_one O c s t y open_is (λ (w : Tx Op). HasPulled (q.ids x.name) w.local) all.1 x i (names-true x.name t all.0)
       ]
+
+      -- Facts about pulled entries stay true if a list is trimmed to the ids in the local log.
+      pub trims_pulled : (owner : Name) (q : Pullings) → Trims t owner y.local p q → KnowsPulled q c
+      trims_pulled owner q f x i kept e there is = elim (f.ids x.name) [
+        | inl same ↦ subst (λ (w : List ℕ). In e.id w) (sym (same e.owner)) listed
+        | inr here ↦ elim (here.1 e.owner) [
+          | inl same ↦ subst (λ (w : List ℕ). In e.id w) (sym same) listed
+          | inr trimmed ↦ trimmed.1.all e.id listed (only_one O c s t y open_is (λ (w : Tx Op). In e w.local → stands_in y.local e.id ≡ true) (in_stands y.local e) x i (names-true x.name t here.0) there)
+        ]
+      ]
+        where
+          listed : In e.id (p.ids x.name e.owner)
+          listed = h x i (sym (f.kept x.name) ∙ kept) e there is
 
 -- at first none are kept
 pub none_pulled : {Op : Type 0} (p : Pullings) (c : Config Op) → ((u : Name) → p.kept u ≡ false) → KnowsPulled p c

@@ -2,6 +2,8 @@
 use Rattle.std.proofs.Common.{◌≡◌, ◌≢◌, ◌≤◌, ◌<◌, ◌-◌, ◌==◌, ◌||◌, ℕ, zero, suc, Bool, true, false, cond, not, List, []}
 use Rattle.std.proofs.Common.{◌∷◌, ◌++◌, length, drop, Option, None, Some, refl, sym, ap, subst, ◌∙◌, arith, inl, inr}
 use Rattle.std.specs.List.{slice_get}
+use Rattle.std.proofs.Math.Bool.{or-true}
+use Rattle.std.proofs.lemmas.Bool.{eq-eqb}
 use Rattle.std.proofs.lemmas.Bool.Decides.{eqb_tells}
 use Rattle.std.proofs.lemmas.List.{length-append}
 use Rattle.std.proofs.lemmas.Option.{same_Some}
@@ -44,6 +46,12 @@ or_more false c d more h = more h
 pub stands_longer : {Op : Type 0} (l r : List (LocalEntry Op)) (i : ℕ) → stands_in l i ≡ true → stands_in (l ++ r) i ≡ true
 stands_longer [] r i h = absurd (cc)
 stands_longer (e ∷ l) r i h = or_more (e.id == i) (stands_in l i) (stands_in (l ++ r) i) (stands_longer l r i) h
+
+-- The id of an entry of a local log is in the log.
+pub in_stands : {Op : Type 0} (l : List (LocalEntry Op)) (e : LocalEntry Op) → In e l → stands_in l e.id ≡ true
+in_stands [] e none = absurd none
+in_stands {Op} (f ∷ l) e (inl same) = ap (λ (b : Bool). b || stands_in l e.id) (eq-eqb f.id e.id (ap (λ (w : LocalEntry Op). w.id) (sym same)))
+in_stands (f ∷ l) e (inr there) = ap (λ (b : Bool). (f.id == e.id) || b) (in_stands l e there) ∙ or-true (f.id == e.id)
 
 same_id : {Op : Type 0} (m : Mark) (e : LocalEntry Op) (b : Bool) → (cond b (record e { mark = m }) e).id ≡ e.id
 same_id m e true = refl

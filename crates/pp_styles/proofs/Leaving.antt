@@ -19,7 +19,7 @@ use Rattle.pp_model.proofs.Lists.{before_map, by_key}
 use Rattle.pp_model.proofs.Names.{eq-names, names-true, names_tell}
 use Rattle.pp_styles.specs.Knowing.{ForgetsPulled, IsCommittedOn, IsUntaken, Knowledge, LowersPushed, LowersTaken, LowersTo, ReplacesTaken, SetsPushed}
 use Rattle.pp_styles.specs.Knowing.{local_place}
-use Rattle.pp_styles.specs.Publishing.{PassesBack, Publications, Unpasses}
+use Rattle.pp_styles.specs.Publishing.{LowersPassed, PassesBack, Publications}
 use Rattle.pp_styles.proofs.Ids.{in_drop_at}
 
 no : true ≡ false → ⊥
@@ -221,14 +221,17 @@ module _ {Op : Type 0} (place : Op → ℕ) (G : List (SharedEntry Op)) (t : Nam
     untaken_again k again g i is committed =
         subst (λ (w : SharedEntry Op). (k.taken t (place w.op) ≡ 0) ⊎ In id (drop (k.taken t (place w.op)) (k.ids (place w.op)))) (sym (one g i is)) again
 
-    -- If numbers are only lowered, and exclude the id, the transaction has not passed it.
-    pub passes_back : (p q : Publications) → q.kept ≡ p.kept → ((v : Name) (o : ℕ) → q.ids v o ≡ p.ids v o) → ((u v : Name) (o : ℕ) → q.passed u v o ≤ p.passed u v o) →
+    -- If one number is lowered, and excludes the id, the transaction has not passed it.
+    pub passes_back : (object : ℕ) → place e.op ≡ object → In e G × (e.id ≡ id) → (p q : Publications) → q.kept ≡ p.kept → ((v : Name) (o : ℕ) → q.ids v o ≡ p.ids v o) → LowersPassed t e.owner object p q →
         (p.kept ≡ true → (q.passed t e.owner (place e.op) ≡ 0) ⊎ In id (drop (q.passed t e.owner (place e.op)) (p.ids e.owner (place e.op)))) → PassesBack place G t id p q
-    passes_back p q kept ids passed again =
+    passes_back object on there p q kept ids passed again =
         record {
           kept = kept;
           ids = ids;
-          passed = passed;
+          passed = λ u v o. elim (passed u v o) [
+            | inl same ↦ inl same
+            | inr low ↦ inr (low.0, (e, there.0, there.1, low.1, on ∙ sym low.2), low.3)
+          ];
           away = λ before g i is. subst (λ (w : SharedEntry Op). (q.passed t w.owner (place w.op) ≡ 0) ⊎ In id (drop (q.passed t w.owner (place w.op)) (p.ids w.owner (place w.op))))
               (sym (one g i is)) (again before);
         }
@@ -274,16 +277,6 @@ module _ {Op : Type 0} (place : Op → ℕ) (G : List (SharedEntry Op)) (t : Nam
         record {
           kept = refl;
           ids = λ v o. refl;
-          passed = λ u v o. omega arith;
+          passed = λ u v o. inl refl;
           away = λ before g i is. absurd (none g i is);
         }
-
--- ---- what is passed of a transaction is taken out, lowered, and put back
-
--- If a number is put back at or before the position of an id, the id is not passed.
-pub put_again : (t : Name) (p mid q : Publications) → Unpasses t p mid → (b : Name → ℕ → ℕ) (v : Name) (o at id : ℕ) → b v o ≤ at → (at ≡ 0) ⊎ (slice_get (p.ids v o) at ≡ Some id) →
-    ((u w : Name) (n : ℕ) → (q.passed u w n ≡ mid.passed u w n) ⊎ (((u =ⁿ t) ≡ true) × (q.passed u w n ≡ b w n))) → (q.passed t v o ≡ 0) ⊎ In id (drop (q.passed t v o) (p.ids v o))
-put_again t p mid q f b v o at id low here put = elim (put t v o) [
-  | inl same ↦ inl (same ∙ f.passed t v o ∙ ap (λ (c : Bool). if c then 0 else p.passed t v o) (eq-names t t refl))
-  | inr back ↦ let is = back.1 in again_at (p.ids v o) (q.passed t v o) at id (omega arith) here
-]

@@ -300,6 +300,10 @@ module _ {Op : Type 0} (place : Op → ℕ) where
 
     -- a pulled entry leaves a local log
     module _ (t : Name) (id : ℕ) (q : Publications) (f : PassesBack place c.shared t id p q) where
+      -- no number is higher than before
+      low : (u v : Name) (o : ℕ) → q.passed u v o ≤ p.passed u v o
+      low u v o = elim (f.passed u v o) [ inl same ↦ omega (arith, same) | inr lower ↦ lower.2 ]
+
       low_listed : q.kept ≡ true → AllListed place q c.shared
       low_listed kept g i = subst (λ (ids : List ℕ). In g.id ids) (sym (f.ids g.owner (place g.op))) (h.listed (sym f.kept ∙ kept) g i)
 
@@ -307,9 +311,9 @@ module _ {Op : Type 0} (place : Op → ℕ) where
       low_passed kept x i =
           let old = h.passed (sym f.kept ∙ kept) x i in
           record {
-            within = λ v o. subst (λ (ids : List ℕ). q.passed x.name v o ≤ length ids) (sym (f.ids v o)) (let low = f.passed x.name v o in let within = old.within v o in omega arith);
+            within = λ v o. subst (λ (ids : List ℕ). q.passed x.name v o ≤ length ids) (sym (f.ids v o)) (let less = low x.name v o in let within = old.within v o in omega (arith, less, within));
             rest = λ g j off. subst (λ (ids : List ℕ). In g.id (drop (q.passed x.name g.owner (place g.op)) ids)) (sym (f.ids g.owner (place g.op)))
-                (lower_in (p.ids g.owner (place g.op)) (p.passed x.name g.owner (place g.op)) (q.passed x.name g.owner (place g.op)) g.id (f.passed x.name g.owner (place g.op)) (old.rest g j off));
+                (lower_in (p.ids g.owner (place g.op)) (p.passed x.name g.owner (place g.op)) (q.passed x.name g.owner (place g.op)) g.id (low x.name g.owner (place g.op)) (old.rest g j off));
           }
 
       lowered : TellsTrue place q c
@@ -325,11 +329,11 @@ module _ {Op : Type 0} (place : Op → ℕ) where
       unpulled : q.kept ≡ true → AllPassed q c.shared (on_log t (without_local id) c.opened)
       unpulled kept =
           on_each t (without_local id) c.opened (λ (x : Tx Op). HasPassed place q c.shared x.name x.local)
-          (λ x i named. let low = low_passed kept x i in record {
-            within = low.within;
+          (λ x i named. let has = low_passed kept x i in record {
+            within = has.within;
             rest = λ g j off. elim (eqb_tells g.id id) [
               | inl same ↦ subst (λ (u : Name). In g.id (drop (q.passed u g.owner (place g.op)) (q.ids g.owner (place g.op)))) (sym named) (again kept g j same.1)
-              | inr other ↦ low.rest g j (sym (stands_without id x.local g.id other.1) ∙ off)
+              | inr other ↦ has.rest g j (sym (stands_without id x.local g.id other.1) ∙ off)
             ];
           })
           (λ x i off. low_passed kept x i)

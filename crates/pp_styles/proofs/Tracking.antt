@@ -14,11 +14,11 @@ use Rattle.pp_machine.specs.Stepping.{Stepped}
 use Rattle.pp_machine.specs.declared.machine.Outcome.{Outcome}
 use Rattle.pp_machine.specs.declared.machine.Outcome.TheVariants.{Done, False}
 use Rattle.pp_kind.specs.Object.{Object, rules_of}
-use Rattle.pp_styles.specs.Dropping.{IsPulledBut, KnowsPulled, ListsPull, Looks, Pullings}
+use Rattle.pp_styles.specs.Dropping.{IsPulledBut, KnowsPulled, ListsPull, Looks, Pullings, Trims}
 use Rattle.pp_styles.specs.Knowing.{ForgetsBefore, IsAllBut, IsFollowedBut, IsTrueOf, Knowledge, ListsAfter}
 use Rattle.pp_styles.specs.Knowing.{PushesMore, TakesMore}
 use Rattle.pp_styles.specs.Publishing.{Adds, Keeps, ListsPushed, LooksFurther, Publications, TellsTrue, UnpassesBefore}
-use Rattle.pp_styles.proofs.Dropping.{known_pulled, looks_pulled, stays_pulled, waits_pulled}
+use Rattle.pp_styles.proofs.Dropping.{known_pulled, looks_pulled, stays_pulled, trims_pulled, waits_pulled}
 use Rattle.pp_styles.proofs.Publishing.{keeps, stays as stays_listed, waits as waits_listed}
 use Rattle.pp_styles.proofs.Looking.{followed_but, looks}
 use Rattle.pp_styles.proofs.Taking.{committed_alone}
@@ -145,6 +145,13 @@ pub pulled_looks : {Shape State Op Undo : Type 0} (o : Object Shape State Op Und
 pulled_looks {Shape} {State} {Op} o p v h s t local is l l_is q f =
     let x = opened_is v.shape local (tx t v.config.opened) is in
     looks_pulled p v.config h (rules_of o v.shape) s t x.0 x.1 q (subst (λ (w : LocalLog Op). Looks t w p q) (l_is ∙ x.2) f)
+
+-- Facts about pulled entries stay true after a list was trimmed by a local log of the machine.
+pub pulled_trims : {Shape State Op Undo : Type 0} (o : Object Shape State Op Undo) (p : Pullings) (v : Seen Shape Op) → KnowsPulled p v.config → Sound (rules_of o v.shape) v.config → (t owner : Name) (local : Shape × LocalLog Op) →
+    Some local ≡ option_map (λ (y : Tx Op). (v.shape, y.local)) (tx t v.config.opened) → (q : Pullings) → Trims t owner local.1 p q → KnowsPulled q v.config
+pulled_trims {Shape} {State} {Op} o p v h s t owner local is q f =
+    let x = opened_is v.shape local (tx t v.config.opened) is in
+    trims_pulled p v.config h (rules_of o v.shape) s t x.0 x.1 owner q (subst (λ (w : LocalLog Op). Trims t owner w p q) x.2 f)
 
 -- what is listed of an open transaction
 pub pulled_here : {Shape Op A : Type 0} (p : Pullings) (inside v : Seen Shape Op) → inside ≡ v → KnowsPulled p inside.config → (t source : Name) (now : A → List ℕ) (r : Option A) →

@@ -8,7 +8,7 @@ use Rattle.indexmap.specs.IndexSet.{IndexSet, insert_key}
 use Rattle.pp_core.specs.Steps.{Step, Begin, App, Unapp, Push, Unpush, Pull, Unpull, Cmt, Quit, Note}
 use Rattle.pp_core.specs.declared.entry.LocalEntry.{LocalEntry}
 use Rattle.pp_core.specs.declared.entry.SharedEntry.{SharedEntry}
-use Rattle.pp_records.specs.Expansions.{is_pulled_from}
+use Rattle.pp_records.specs.Expansions.{is_pulled_from, stands_in}
 use Rattle.pp_records.specs.Fronts.{at_name}
 use Rattle.pp_model.specs.Config.{Config, Pulled as PulledMark, Tx, is_mark}
 use Rattle.pp_model.specs.Lists.{In}
@@ -76,6 +76,24 @@ abbrev pub Looks : {Op : Type 0} → Name → List (LocalEntry Op) → Pullings 
 Looks t l old new = (u : Name) → (new.kept u ≡ false)
     ⊎ ((new.kept u ≡ old.kept u) × ((v : Name) → new.ids u v ≡ old.ids u v))
     ⊎ (((u =ⁿ t) ≡ true) × HasPulled (new.ids u) l)
+
+-- Of these ids the others are those that are in a local log.
+pub record KeepsThere {Op : Type 0} (l : List (LocalEntry Op)) (ids there : List ℕ) : Type 0 where
+  pub from : (i : ℕ) → In i there → In i ids × (stands_in l i ≡ true)
+  pub all : (i : ℕ) → In i ids → stands_in l i ≡ true → In i there
+
+-- Each list is as it was, or it is of this owner and keeps the ids that are in a local log.
+abbrev pub TrimsAt : {Op : Type 0} → Name → List (LocalEntry Op) → (Name → List ℕ) →
+    (Name → List ℕ) → Type 0
+TrimsAt owner l old new = (v : Name) → (new v ≡ old v)
+    ⊎ (((v =ⁿ owner) ≡ true) × KeepsThere l (old v) (new v))
+
+-- The same of the lists of a transaction. Nothing else changes.
+pub record Trims {Op : Type 0} (t owner : Name) (l : List (LocalEntry Op)) (old new : Pullings) :
+    Type 0 where
+  pub kept : (u : Name) → new.kept u ≡ old.kept u
+  pub ids : (u : Name) → ((v : Name) → new.ids u v ≡ old.ids u v)
+      ⊎ (((u =ⁿ t) ≡ true) × TrimsAt owner l (old.ids u) (new.ids u))
 
 -- no list is shorter than before, where lists are kept
 abbrev pub Grows : Pullings → Pullings → Type 0

@@ -50,13 +50,27 @@ pub record Unpasses (t : Name) (old new : Publications) : Type 0 where
   pub passed : (u v : Name) (o : ℕ) →
       new.passed u v o ≡ (if u =ⁿ t then 0 else old.passed u v o)
 
--- No number is higher than before. If lists are kept, a transaction has not passed this id of an
--- entry of G.
+-- The number of ids of one transaction, owner and object may be lower than before. Each other number
+-- is as it was.
+abbrev pub LowersPassed : Name → Name → ℕ → Publications → Publications → Type 0
+LowersPassed t owner object old new = (u v : Name) (o : ℕ) → (new.passed u v o ≡ old.passed u v o)
+    ⊎ (((u =ⁿ t) ≡ true) × ((v =ⁿ owner) ≡ true) × (o ≡ object)
+    × (new.passed u v o ≤ old.passed u v o))
+
+-- an entry of G has this id, and is of this owner and object
+abbrev pub IsEntryOf : {Op : Type 0} → (Op → ℕ) → List (SharedEntry Op) → ℕ → Name → ℕ → Type 0
+IsEntryOf {Op} place G id v o =
+    (g : SharedEntry Op) × In g G × (g.id ≡ id) × ((v =ⁿ g.owner) ≡ true) × (place g.op ≡ o)
+
+-- A number of a transaction may be lower at the owner and object of an entry of G with this id. Each
+-- other number is as it was. If lists are kept, the transaction has not passed this id of an entry
+-- of G.
 pub record PassesBack {Op : Type 0} (place : Op → ℕ) (G : List (SharedEntry Op)) (t : Name) (id : ℕ)
     (old new : Publications) : Type 0 where
   pub kept : new.kept ≡ old.kept
   pub ids : (v : Name) (o : ℕ) → new.ids v o ≡ old.ids v o
-  pub passed : (u v : Name) (o : ℕ) → new.passed u v o ≤ old.passed u v o
+  pub passed : (u v : Name) (o : ℕ) → (new.passed u v o ≡ old.passed u v o)
+      ⊎ (((u =ⁿ t) ≡ true) × IsEntryOf place G id v o × (new.passed u v o ≤ old.passed u v o))
   pub away : old.kept ≡ true → (g : SharedEntry Op) → In g G → g.id ≡ id →
       (new.passed t g.owner (place g.op) ≡ 0)
       ⊎ In id (drop (new.passed t g.owner (place g.op)) (old.ids g.owner (place g.op)))

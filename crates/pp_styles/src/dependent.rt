@@ -110,6 +110,7 @@ fn drop_steps<S: Parted>(
 {
     let mut list = only(alloc, Step::Note { tx: *tx })?;
     machine.look_at_pulled(tx);
+    machine.trim_pulled(tx, source);
     let Some(local) = machine.local(tx) else {
         return Ok(list);
     };

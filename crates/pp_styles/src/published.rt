@@ -6,7 +6,7 @@ ghost use Rattle.pp_core.specs.declared.entry.SharedEntry.{SharedEntry as EntryO
 ghost use Rattle.pp_records.specs.Expansions.{stands_in};
 ghost use Rattle.pp_records.specs.Fronts.{at_name, has_name};
 ghost use Rattle.pp_model.specs.Lists.{In};
-ghost use Rattle.pp_model.specs.Names.{Name as NameOf};
+ghost use Rattle.pp_model.specs.Names.{Name as NameOf, ◌=ⁿ◌};
 ghost use Rattle.pp_styles.specs.Noting.{taken_in};
 ghost use Rattle.pp_styles.specs.Publishing.{Adds, PassesAt, ids_by, ids_of, passed_by};
 
@@ -161,7 +161,9 @@ fn none_passed(alloc: Global) -> IndexMap<Name, TakenFrom>
 
 /// Lowers the number of ids of an owner and an object that are passed.
 fn pass_back(passed: &mut TakenFrom, owner: &Name, object: u16, most: usize)
-    ensures each { (v : NameOf) (o : ℕ) → taken_in v passed.new o ≤ taken_in v passed.old o }
+    ensures each { (v : NameOf) (o : ℕ) → (taken_in v passed.new o ≡ taken_in v passed.old o)
+        ⊎ (((v =ⁿ owner.now) ≡ true) × (o ≡ object)
+        × (taken_in v passed.new o ≤ taken_in v passed.old o)) }
     ensures here { taken_in owner.now passed.new object ≤ most }
 {
     if passed.count(owner, object) <= most {
@@ -308,8 +310,8 @@ impl Published {
     ghost use Rattle.pp_model.specs.Lists.{In};
     ghost use Rattle.pp_model.specs.Names.{Name as NameOf, ◌=ⁿ◌};
     ghost use Rattle.pp_styles.specs.Noting.{taken_in};
-    ghost use Rattle.pp_styles.specs.Publishing.{Adds, Keeps, ListsLast, LooksFurther, Unpasses};
-    ghost use Rattle.pp_styles.specs.Publishing.{publications};
+    ghost use Rattle.pp_styles.specs.Publishing.{Adds, Keeps, ListsLast, LooksFurther};
+    ghost use Rattle.pp_styles.specs.Publishing.{LowersPassed, Unpasses, publications};
 
     /// No list is kept.
     pub fn new(alloc: Global) -> Published
@@ -414,13 +416,27 @@ impl Published {
         place_in(&self.places, listed(owners, owner), id)
     }
 
+    /// Lowers the number of ids of an owner and an object that an open transaction has passed.
+    fn lower(&mut self, tx: &Name, owner: &Name, object: u16, most: usize)
+        ensures kept { (publications self.new).kept ≡ (publications self.old).kept }
+        ensures ids { (v : NameOf) (o : ℕ) → (publications self.new).ids v o
+            ≡ (publications self.old).ids v o }
+        ensures passed { LowersPassed tx.now owner.now object (publications self.old)
+            (publications self.new) }
+        ensures here { (publications self.new).passed tx.now owner.now object ≤ most }
+    {
+        if let Some(passed) = self.passed.get_mut(tx) {
+            pass_back(passed, owner, object, most);
+        }
+    }
+
     /// Takes back that an open transaction has passed an id of an owner and an object.
     pub fn give_back(&mut self, tx: &Name, owner: &Name, object: u16, id: u32)
         ensures kept { (publications self.new).kept ≡ (publications self.old).kept }
         ensures ids { (v : NameOf) (o : ℕ) → (publications self.new).ids v o
             ≡ (publications self.old).ids v o }
-        ensures passed { (u v : NameOf) (o : ℕ) →
-            (publications self.new).passed u v o ≤ (publications self.old).passed u v o }
+        ensures passed { LowersPassed tx.now owner.now object (publications self.old)
+            (publications self.new) }
         ensures again { (publications self.old).kept ≡ true →
             ((publications self.new).passed tx.now owner.now object ≡ 0)
             ⊎ In id (drop ((publications self.new).passed tx.now owner.now object)
@@ -430,9 +446,7 @@ impl Published {
             return;
         }
         let at = self.place_of(owner, object, id);
-        let mut passed = self.take(tx);
-        pass_back(&mut passed, owner, object, at);
-        self.put(tx, passed);
+        self.lower(tx, owner, object, at);
     }
 
     /// Adds ids of what these sources published on an object: each such entry of the shared log is

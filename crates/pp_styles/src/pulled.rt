@@ -1,13 +1,16 @@
 //! What the transactions that drop sources pulled from others.
-ghost use Rattle.std.specs.Prelude.{◌≡◌, IfOk, OnOk, nat_eq};
+ghost use Rattle.std.specs.Prelude.{◌≡◌, IfOk, OnOk, if◌then◌else◌, nat_eq};
 ghost use Rattle.indexmap.specs.IndexSet.{insert_key};
+ghost use Rattle.pp_records.specs.Expansions.{stands_in};
 ghost use Rattle.pp_records.specs.Fronts.{at_name};
 ghost use Rattle.pp_model.specs.Names.{Name as NameOf};
-ghost use Rattle.pp_styles.specs.Dropping.{AddsPulled, HasPulled, ids_from};
+ghost use Rattle.pp_styles.specs.Dropping.{AddsPulled, HasPulled, KeepsThere, TrimsAt, ids_from};
 
 use crate::walks::is_mark;
 use indexmap::{IndexMap, IndexSet};
 use pp_core::{LocalEntry, Mark, Name, OutOfMemory};
+use pp_kind::Parted;
+use pp_log_local::Local;
 use std::alloc::Global;
 
 /// For each owner the ids of entries that were pulled from it, each of them once.
@@ -18,8 +21,15 @@ type Owners = IndexMap<Name, IndexSet<u32>>;
 pub struct Pulled {
     alloc: Global,
     /// If lists of a transaction are kept, each pulled entry of its local log has its id in the list
-    /// of its owner. An id that left the local log stays in its list.
+    /// of its owner. An id that left the local log stays in its list until the list is trimmed.
     lists: IndexMap<Name, Owners>,
+}
+
+/// Whether an entry of this id is in the local log.
+fn has_id<S: Parted>(local: &Local<S>, id: u32) -> bool
+    ensures { result ≡ stands_in local.now.1 id }
+{
+    local.find(id).is_some()
 }
 
 /// Adds an id to the list of its owner.
@@ -73,10 +83,54 @@ fn listed<'a>(owners: &'a Owners, owner: &Name) -> &'a [u32]
     }
 }
 
+/// Adds an id to a list, if its entry is in the local log.
+fn add_if_there<S: Parted>(
+    there: &mut IndexSet<u32>,
+    local: &Local<S>,
+    id: u32,
+) -> Result<(), OutOfMemory>
+    ensures { OnOk result (there.new.keys ≡ (if stands_in local.now.1 id
+        then insert_key nat_eq there.old.keys id else there.old.keys)) }
+{
+    if has_id(local, id) {
+        there.insert(id)?;
+    }
+    Ok(())
+}
+
+/// Of these ids those whose entries are in the local log.
+fn ids_there<S: Parted>(
+    alloc: Global,
+    local: &Local<S>,
+    ids: &[u32],
+) -> Result<IndexSet<u32>, OutOfMemory>
+    ensures { IfOk result (λ there. KeepsThere local.now.1 ids.now there.keys) }
+{
+    let mut there = IndexSet::new(alloc);
+    for id in ids {
+        add_if_there(&mut there, local, *id)?;
+    }
+    Ok(there)
+}
+
+/// Keeps in the list of an owner only the ids whose entries are in the local log. If memory runs
+/// out, the list is as it was.
+fn trim_at<S: Parted>(alloc: Global, owners: &mut Owners, owner: &Name, local: &Local<S>)
+    ensures { TrimsAt owner.now local.now.1 (λ v. ids_from v owners.old.entries)
+        (λ v. ids_from v owners.new.entries) }
+{
+    let Some(ids) = owners.get_mut(owner) else {
+        return;
+    };
+    if let Ok(there) = ids_there(alloc, local, ids.as_slice()) {
+        *ids = there;
+    }
+}
+
 impl Pulled {
     ghost use Rattle.std.specs.Prelude.{◌≡◌, IfSome, false, true};
     ghost use Rattle.pp_model.specs.Names.{Name as NameOf};
-    ghost use Rattle.pp_styles.specs.Dropping.{AddsAt, Looks, Loses, Puts, ids_from, pullings};
+    ghost use Rattle.pp_styles.specs.Dropping.{AddsAt, Looks, Loses, Puts, Trims, ids_from, pullings};
 
     /// No lists are kept.
     pub fn new(alloc: Global) -> Pulled
@@ -126,6 +180,16 @@ impl Pulled {
         }
         if let Ok(owners) = list_all(self.alloc, entries) {
             self.put(tx, owners);
+        }
+    }
+
+    /// Keeps in a list of a transaction only the ids whose entries are in its local log. If memory
+    /// runs out, the list is as it was.
+    pub fn trim<S: Parted>(&mut self, tx: &Name, owner: &Name, local: &Local<S>)
+        ensures { Trims tx.now owner.now local.now.1 (pullings self.old) (pullings self.new) }
+    {
+        if let Some(owners) = self.lists.get_mut(tx) {
+            trim_at(self.alloc, owners, owner, local);
         }
     }
 

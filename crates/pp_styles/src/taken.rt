@@ -49,14 +49,6 @@ impl Taken {
         }
     }
 
-    /// Keeps none at an object.
-    pub fn forget(&mut self, object: u16)
-        ensures { (o : ℕ) → count_of self.new o
-            ≡ (if o == object then 0 else count_of self.old o) }
-    {
-        self.counts.swap_remove(&object);
-    }
-
     /// Keeps a number at an object. Without memory all is as it was.
     pub fn set(&mut self, object: u16, count: usize)
         ensures { (o : ℕ) → (count_of self.new o ≡ count_of self.old o)

@@ -60,20 +60,15 @@ impl TakenFrom {
         let _ = self.counts.insert(*source, taken);
     }
 
-    /// Keeps a number in place of another, if any is kept at the transaction. If memory runs out,
-    /// none is kept at the object.
+    /// Keeps a number in place of another, if one is kept at the transaction and the object.
     pub fn replace(&mut self, source: &Name, object: u16, count: usize)
-        ensures each { (u : NameOf) (o : ℕ) → (taken_in u self.new o ≡ 0)
-            ⊎ (taken_in u self.new o ≡ taken_in u self.old o)
+        ensures each { (u : NameOf) (o : ℕ) → (taken_in u self.new o ≡ taken_in u self.old o)
             ⊎ (((u =ⁿ source.now) ≡ true) × (o ≡ object) × (taken_in u self.new o ≡ count)) }
         ensures here { (taken_in source.now self.new object ≡ 0)
             ⊎ (taken_in source.now self.new object ≡ count) }
     {
-        let Some(mut taken) = self.counts.swap_remove(source) else {
-            return;
-        };
-        taken.forget(object);
-        taken.set(object, count);
-        let _ = self.counts.insert(*source, taken);
+        if let Some(taken) = self.counts.get_mut(source) {
+            taken.replace(object, count);
+        }
     }
 }

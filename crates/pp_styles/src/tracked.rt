@@ -422,6 +422,18 @@ impl<S: Parted> Tracked<S> {
         self.pulled.look(tx, local.entries());
     }
 
+    /// Takes out of what is listed of a source the ids that an open transaction no longer has.
+    pub fn trim_pulled(&mut self, tx: &Name, source: &Name)
+        ensures { self.new ≡ self.old }
+    {
+        // It stands here for what its clauses say of each machine.
+        let _sound = self.machine.count();
+        let Some(local) = self.machine.local(tx) else {
+            return;
+        };
+        self.pulled.trim(tx, source, local);
+    }
+
     /// Ids of entries that an open transaction pulled from a source: each such entry of its local log
     /// has its id among these. It returns none if they are not listed.
     pub fn pulled_from(&self, tx: &Name, source: &Name) -> Option<&[u32]>

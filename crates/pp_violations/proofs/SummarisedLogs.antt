@@ -185,16 +185,21 @@ module _ {Op State : Type 0} (O : Object Op State) (place : Op → ℕ) (part : 
         let dh = from_filter (is_done_at place q) h G (is_done h (before_in_second g h G i) (before_in_first (shared_item h) (shared_item g) T j)) in
         base.turned (shared_item g) (shared_item h) (before_map shared_item g h (done_at place q G) (before_filter (is_done_at place q) g h G i dg.1 dh.1)) (T_order (shared_item h) (shared_item g) j)
 
+    -- own entries are in G in the order of L
+    own_apart : (g h : SharedEntry Op) → Before g h G → (d e : LocalEntry Op) → Before d e L → is_own d.mark ≡ true → is_own e.mark ≡ true → d.id ≡ h.id → e.id ≡ g.id → ⊥
+    own_apart g h i d e j md me u w =
+        let s = f.own_order d e j md me in
+        let eh : s.0 ≡ h = same O place apart c b.sound x ix f s.0 h (before_in_first s.0 s.1 G s.2) (before_in_second g h G i) (s.3 ∙ u) in
+        let eg : s.1 ≡ g = same O place apart c b.sound x ix f s.1 g (before_in_second s.0 s.1 G s.2) (before_in_first g h G i) (s.4 ∙ w) in
+        not_both (λ (z : SharedEntry Op). z.id) G ids g h i (subst (λ (z : SharedEntry Op). Before z g G) eh (subst (λ (z : SharedEntry Op). Before s.0 z G) eg s.2))
+
     own_turns : (g h : SharedEntry Op) → Before g h G → Before (shared_item h) (shared_item g) W → ⊥
     own_turns g h i j =
         let m = before_from_map item (shared_item h) (shared_item g) (filter at_q (own L)) j in
         let n = before_from_filter at_q m.0 m.1 (own L) m.2 in
-        let k = before_from_filter (λ (e : LocalEntry Op). is_own e.mark) m.0 m.1 L n in
         let mine = λ (e : LocalEntry Op) (z : In e (own L)). (from_filter (λ (w : LocalEntry Op). is_own w.mark) e L z).1 in
-        let s = f.own_order m.0 m.1 k (mine m.0 (before_in_first m.0 m.1 (own L) n)) (mine m.1 (before_in_second m.0 m.1 (own L) n)) in
-        let eh : s.0 ≡ h = same O place apart c b.sound x ix f s.0 h (before_in_first s.0 s.1 G s.2) (before_in_second g h G i) (s.3 ∙ ap (λ (w : Item Op). w.id) (sym m.3)) in
-        let eg : s.1 ≡ g = same O place apart c b.sound x ix f s.1 g (before_in_second s.0 s.1 G s.2) (before_in_first g h G i) (s.4 ∙ ap (λ (w : Item Op). w.id) (sym m.4)) in
-        not_both (λ (w : SharedEntry Op). w.id) G ids g h i (subst (λ (w : SharedEntry Op). Before w g G) eh (subst (λ (w : SharedEntry Op). Before s.0 w G) eg s.2))
+        own_apart g h i m.0 m.1 (before_from_filter (λ (e : LocalEntry Op). is_own e.mark) m.0 m.1 L n) (mine m.0 (before_in_first m.0 m.1 (own L) n)) (mine m.1 (before_in_second m.0 m.1 (own L) n))
+        (ap (λ (w : Item Op). w.id) (sym m.3)) (ap (λ (w : Item Op). w.id) (sym m.4))
 
     past_turns : (g h : SharedEntry Op) → Before g h G → In (shared_item h) T → In (shared_item g) W → Swaps O g.op h.op
     past_turns g h i j k =

@@ -2,7 +2,7 @@
 use Rattle.std.specs.Prelude.{◌≡◌, ◌≢◌, ◌==◌, ℕ, zero, nat_eq, is_some, Bool, true, false, not, ◌&&◌, List, [], ◌∷◌, ◌++◌, drop, filter, length, map, take, Option, None, Some}
 use Rattle.std.specs.Map.{lookup}
 use Rattle.std.proofs.Common.{refl, sym, ap, subst, ◌∙◌}
-use Rattle.std.proofs.lemmas.Bool.{eq-eqb, false_from_ne_true}
+use Rattle.std.proofs.lemmas.Bool.{eq-eqb}
 use Rattle.std.proofs.lemmas.List.{take-append-drop, take-map}
 use mathlib.Core.Logic.{inl, inr}
 use Rattle.pp_core.specs.declared.entry.Item.{Item}
@@ -12,13 +12,14 @@ use Rattle.pp_model.specs.Names.{Name}
 use Rattle.pp_model.specs.Object.{HasDistinctIds, TellsStates}
 use Rattle.pp_model.specs.Object as model
 use Rattle.pp_model.specs.Serial.{has_id}
-use Rattle.pp_model.proofs.Lists.{before_across, before_from_filter, before_from_map, before_left, by_key, from_filter, from_map, in_cases, in_filter, in_left, in_map}
+use Rattle.pp_model.proofs.Lists.{before_across, before_from_filter, before_from_map, by_key, from_filter, from_map, in_cases, in_filter, in_map}
 use Rattle.pp_kind.specs.Object.{Object, rules_of}
 use Rattle.pp_records.specs.Expansions.{stands_in}
 use Rattle.pp_laws_summary.specs.LocalLogs.{IsSnapshot, Summable, serial_at}
 use Rattle.pp_laws_summary.specs.Places.{PlacesPart}
 use Rattle.pp_laws_summary.specs.Views.{done_at, pulled_at, seen_at}
 use Rattle.pp_laws_summary.proofs.AtPlace.{from_done, from_pulled, to_pulled}
+use Rattle.pp_laws_summary.proofs.Counts.{before_taken, in_taken}
 use Rattle.pp_laws_summary.proofs.Parts.{swap_apart}
 use Rattle.pp_laws_summary.proofs.Snapshots.{done_serial, is_pulled}
 use Rattle.pp_summary.specs.Boosted.{PlacesSwap}
@@ -50,17 +51,12 @@ from_filled f ((n, None) ∷ es) y i = let r = from_filled f es y i in (r.0, r.1
 from_filled f ((n, Some a) ∷ es) y (inl e) = (n, a, inl refl, e)
 from_filled f ((n, Some a) ∷ es) y (inr i) = let r = from_filled f es y i in (r.0, r.1, inr r.2, r.3)
 
-in_taken : {A : Type 0} (k : ℕ) (l : List A) (p : A) → In p (take k l) → In p l
-in_taken {A} k l p i = subst (λ (w : List A). In p w) (take-append-drop k l) (in_left p (take k l) (drop k l) i)
-
-before_taken : {A : Type 0} (k : ℕ) (l : List A) (p r : A) → Before p r (take k l) → Before p r l
-before_taken {A} k l p r i = subst (λ (w : List A). Before p r w) (take-append-drop k l) (before_left p r (take k l) (drop k l) i)
+-- Operations at different places swap, in each shape.
+pub places_swap : {Shape State Op Undo : Type 0} (o : Object Shape State Op Undo) (place : Op → ℕ) → ((shape : Shape) → PlacesPart (rules_of o shape) place) → (shape : Shape) → PlacesSwap (rules_of o shape) place
+places_swap o place part shape = record { apart = (swap_apart (rules_of o shape) place (part shape)).apart }
 
 module _ {Shape State Op Undo : Type 0} (o : Object Shape State Op Undo) (place : Op → ℕ) (part : (shape : Shape) → PlacesPart (rules_of o shape) place) (v : Kept Shape Op) (h : KeepsQuick o place v)
     (tells : TellsStates (rules_of o v.shape)) (c : Config Op) (is : IsHeldOf o place (as_held place v) c) where
-  apart : (shape : Shape) → PlacesSwap (rules_of o shape) place
-  apart shape = record { apart = (swap_apart (rules_of o shape) place (part shape)).apart }
-
   abbrev O : model.Object Op State
   O = rules_of o v.shape
 
@@ -101,7 +97,7 @@ module _ {Shape State Op Undo : Type 0} (o : Object Shape State Op Undo) (place 
 
     -- as many were pulled there as were seen
     count_is : seen_at place q l ≡ number_or_zero seen
-    count_is = seen_is o place apart v h c is y n x iy i e q
+    count_is = seen_is o place (places_swap o place part) v h c is y n x iy i e q
 
     stand : (a : LocalEntry Op) → In a l → a.mark ≡ Pulled → In (as_shared a.owner true (item a)) G
     stand a j m = (is.boosted.follows y iy).pulled_stand a j m
@@ -161,20 +157,27 @@ module _ {Shape State Op Undo : Type 0} (o : Object Shape State Op Undo) (place 
             | inr z ↦ absurd (differ (has_id (m.0).id (drop k (at q commits))) (in_has (m.0).id (drop k (at q commits)) z) (behind_is g ig refl f.2 ∙ ap not (is_there (m.0).id l m.0 f.0 refl)))
           ])
 
+      -- a committed entry that is in the log was pulled
+      was_pulled : (g : SharedEntry Op) → In g G → g.committed ≡ true → place g.op ≡ q → stands_in l g.id ≡ true → In (shared_item g) (map item (pulled_at place q l))
+      was_pulled g j u z w =
+          let a = entry_in g.id l w in
+          let r = is_pulled O place c is.boosted.sound y iy stand g j u a.0 a.1 a.2 in
+          subst (λ (m : Item Op). In m (map item (pulled_at place q l))) r.1 (in_map item a.0 (pulled_at place q l) (to_pulled place q l a.0 a.1 r.0 (ap (λ (m : Item Op). place m.op) r.1 ∙ z)))
+
+      -- a committed entry that was seen is in the log
+      was_seen : (g : SharedEntry Op) → In g G → g.committed ≡ true → place g.op ≡ q → In g.id (take k (at q commits)) → stands_in l g.id ≡ true
+      was_seen g j u z w = by (stands_in l g.id) refl
+        where
+          by : (m : Bool) → stands_in l g.id ≡ m → stands_in l g.id ≡ true
+          by true e = e
+          by false e = absurd (not_behind g.id w (has_in g.id (drop k (at q commits)) (behind_is g j u z ∙ ap not e)))
+
       some_back : (p : Item Op) → In p (take k D) → In p (map item (pulled_at place q l))
       some_back p j =
           let m = from_map shared_item p (done_at place q G) ((done_serial O place c is.boosted.sound q).back p (in_taken k D p j)) in
           let d = from_done place q G m.0 m.1 in
-          let out : has_id (m.0).id (drop k (at q commits)) ≡ false = false_from_ne_true (has_id (m.0).id (drop k (at q commits))) (λ z.
-          not_behind p.id (id_in p j) (subst (λ (w : ℕ). In w (drop k (at q commits))) (ap (λ (w : Item Op). w.id) (sym m.2)) (has_in (m.0).id (drop k (at q commits)) z))) in
-          let a = entry_in (m.0).id l (stands (stands_in l (m.0).id) (sym (behind_is m.0 d.0 d.1 d.2) ∙ out)) in
-          let r = is_pulled O place c is.boosted.sound y iy stand m.0 d.0 d.1 a.0 a.1 a.2 in
-          subst (λ (w : Item Op). In w (map item (pulled_at place q l))) (r.1 ∙ sym m.2)
-          (in_map item a.0 (pulled_at place q l) (to_pulled place q l a.0 a.1 r.0 (ap (λ (w : Item Op). place w.op) r.1 ∙ d.2)))
-        where
-          stands : (z : Bool) → not z ≡ false → z ≡ true
-          stands true m = refl
-          stands false m = absurd (cc)
+          let seen : In (m.0).id (take k (at q commits)) = subst (λ (w : Item Op). In w.id (take k (at q commits))) m.2 (id_in p j) in
+          subst (λ (w : Item Op). In w (map item (pulled_at place q l))) (sym m.2) (was_pulled m.0 d.0 d.1 d.2 (was_seen m.0 d.0 d.1 d.2 seen))
 
     none_in : {A : Type 0} (w : List A) (p : A) → length w ≡ zero → In p w → ⊥
     none_in [] p z j = j
