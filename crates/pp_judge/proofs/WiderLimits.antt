@@ -16,11 +16,11 @@ use Rattle.pp_input.specs.Reaches.{overrun_from, passed, past, start}
 use Rattle.pp_input.proofs.Overruns.{start_overrun}
 use Rattle.pp_input_reader.specs.declared.cause.Cause.{Cause}
 use Rattle.pp_input_reader.specs.declared.cause.Cause.TheVariants.{TooLong, TooManyLines}
-use Rattle.pp_input_reader.specs.declared.cause.Cause.TheVariants.{TooManyTransactions}
 use Rattle.pp_input_reader.specs.Limits.{limit_fault}
 use Rattle.pp_judge.specs.Inputs.{early_scan_within, no_header, or_fault, scan_within}
 use Rattle.pp_judge.specs.Scans.{InputScan, nothing, scan_lines}
-use Rattle.pp_judge.specs.WiderLimits.{AreWider, HasAllowedSize, IsSizeLimit, WiderLimitsLaw}
+use Rattle.pp_judge.specs.WiderLimits.{AreWider, HasAllowedBegins, HasAllowedSize}
+use Rattle.pp_judge.specs.WiderLimits.{IsSizeLimit, WiderLimitsLaw}
 use Rattle.pp_judge.proofs.MoreBegins.{HasTooMany, lines_agree}
 use Rattle.pp_judge.proofs.Widening.{widens_fault, widens_lines}
 
@@ -187,41 +187,42 @@ abbrev whole_end : List ℕ → Option LineFault → InputScan → Option (ℕ �
 whole_end bytes o sc = option_or (limit_fault o) (no_header bytes sc.header)
 
 early_ends : Ends early_end
-early_ends (limits.TooLong line) sc h = (line, TooLong, inr (inl refl), refl)
+early_ends (limits.TooLong line) sc h = (line, TooLong, inr refl, refl)
 early_ends (limits.TooManyLines line) sc h = (line, TooManyLines, inl refl, refl)
 early_ends (limits.LineTooLong line) sc h = absurd h
 early_ends limits.OutOfMemory sc h = absurd h
 
 whole_ends : (bytes : List ℕ) → Ends (whole_end bytes)
-whole_ends bytes (limits.TooLong line) sc h = (line, TooLong, inr (inl refl), refl)
+whole_ends bytes (limits.TooLong line) sc h = (line, TooLong, inr refl, refl)
 whole_ends bytes (limits.TooManyLines line) sc h = (line, TooManyLines, inl refl, refl)
 whole_ends bytes (limits.LineTooLong line) sc h = absurd h
 whole_ends bytes limits.OutOfMemory sc h = absurd h
 
 -- where more transactions are allowed, a scan that does not begin too many is the same
-same_begins : (narrow wide : ℕ) (end : Option LineFault → InputScan → Option (ℕ × Cause)) (lines : List NumberedLine) (o : Option LineFault) → narrow ≤ wide
-    → HasAllowedSize (scan_of_limit narrow end lines o) → scan_of_limit wide end lines o ≡ scan_of_limit narrow end lines o
-same_begins narrow wide end lines o le allowed = by (lines_agree narrow wide le nothing (lines_before o lines) (omega arith))
+same_begins : (narrow wide : Limits) (end : Option LineFault → InputScan → Option (ℕ × Cause)) (lines : List NumberedLine) (o : Option LineFault) → narrow.transactions ≤ wide.transactions
+    → HasAllowedBegins narrow wide (scan_of_limit narrow.transactions end lines o) → scan_of_limit wide.transactions end lines o ≡ scan_of_limit narrow.transactions end lines o
+same_begins narrow wide end lines o le (inl same) = ap (λ (most : ℕ). scan_of_limit most end lines o) (sym same)
+same_begins narrow wide end lines o le (inr few) = by (lines_agree narrow.transactions wide.transactions le nothing (lines_before o lines) (omega arith))
   where
-    by : HasTooMany (scan_lines narrow (lines_before o lines)) ⊎ (scan_lines wide (lines_before o lines) ≡ scan_lines narrow (lines_before o lines))
-        → scan_of_limit wide end lines o ≡ scan_of_limit narrow end lines o
-    by (inl many) = absurd (allowed many.0 TooManyTransactions (inr (inr refl)) (ap (λ (w : Option (ℕ × Cause)). option_or w (end o (scan_lines narrow (lines_before o lines)))) many.1))
+    by : HasTooMany (scan_lines narrow.transactions (lines_before o lines)) ⊎ (scan_lines wide.transactions (lines_before o lines) ≡ scan_lines narrow.transactions (lines_before o lines))
+        → scan_of_limit wide.transactions end lines o ≡ scan_of_limit narrow.transactions end lines o
+    by (inl many) = absurd (few many.0 (ap (λ (w : Option (ℕ × Cause)). option_or w (end o (scan_lines narrow.transactions (lines_before o lines)))) many.1))
     by (inr same) = ap (λ (s : InputScan). or_fault s (end o s)) same
 
 same_limits : (narrow wide : Limits) (end : Option LineFault → InputScan → Option (ℕ × Cause)) (lines : List NumberedLine) (less more : Option LineFault) → Ends end → AreWider narrow wide
-    → Compares less more → HasAllowedSize (scan_of_limit narrow.transactions end lines less)
+    → Compares less more → HasAllowedSize (scan_of_limit narrow.transactions end lines less) → HasAllowedBegins narrow wide (scan_of_limit narrow.transactions end lines less)
     → scan_of_limit wide.transactions end lines more ≡ scan_of_limit narrow.transactions end lines less
-same_limits narrow wide end lines less more ends w compares allowed =
+same_limits narrow wide end lines less more ends w compares allowed few =
     let same : scan_of_limit narrow.transactions end lines more ≡ scan_of_limit narrow.transactions end lines less = same_scan narrow.transactions end lines less more ends compares allowed in
-    same_begins narrow.transactions wide.transactions end lines more w.transactions (subst (λ (s : InputScan). HasAllowedSize s) (sym same) allowed) ∙ same
+    same_begins narrow wide end lines more w.transactions (subst (λ (s : InputScan). HasAllowedBegins narrow wide s) (sym same) few) ∙ same
 
 -- an input that has not too many lines, bytes or transactions is the same under wider limits
-pub same_under_wider : (narrow wide : Limits) (bytes : List ℕ) → AreWider narrow wide → HasAllowedSize (scan_within narrow bytes) → scan_within wide bytes ≡ scan_within narrow bytes
-same_under_wider narrow wide bytes w allowed = same_limits narrow wide (whole_end bytes) (numbered_lines bytes) (overrun narrow bytes) (overrun wide bytes) (whole_ends bytes) w (overrun_compares narrow wide w bytes) allowed
+pub same_under_wider : (narrow wide : Limits) (bytes : List ℕ) → AreWider narrow wide → HasAllowedSize (scan_within narrow bytes) → HasAllowedBegins narrow wide (scan_within narrow bytes) → scan_within wide bytes ≡ scan_within narrow bytes
+same_under_wider narrow wide bytes w allowed few = same_limits narrow wide (whole_end bytes) (numbered_lines bytes) (overrun narrow bytes) (overrun wide bytes) (whole_ends bytes) w (overrun_compares narrow wide w bytes) allowed few
 
 -- so is what no further byte can change of it
-pub early_same_under_wider : (narrow wide : Limits) (bytes : List ℕ) → AreWider narrow wide → HasAllowedSize (early_scan_within narrow bytes) → early_scan_within wide bytes ≡ early_scan_within narrow bytes
-early_same_under_wider narrow wide bytes w allowed = same_limits narrow wide early_end (ended_lines bytes) (overrun narrow bytes) (overrun wide bytes) early_ends w (overrun_compares narrow wide w bytes) allowed
+pub early_same_under_wider : (narrow wide : Limits) (bytes : List ℕ) → AreWider narrow wide → HasAllowedSize (early_scan_within narrow bytes) → HasAllowedBegins narrow wide (early_scan_within narrow bytes) → early_scan_within wide bytes ≡ early_scan_within narrow bytes
+early_same_under_wider narrow wide bytes w allowed few = same_limits narrow wide early_end (ended_lines bytes) (overrun narrow bytes) (overrun wide bytes) early_ends w (overrun_compares narrow wide w bytes) allowed few
 
 pub wider_limits : WiderLimitsLaw
 wider_limits = record { scan = same_under_wider; early = early_same_under_wider }
