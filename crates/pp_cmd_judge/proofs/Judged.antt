@@ -1,11 +1,11 @@
 -- An input is judged in one way at most, and as `certify` reports it.
 use Rattle.std.specs.Prelude.{◌≡◌, ◌↔◌, ℕ, zero, suc, List, take, Option, None, Some}
-use Rattle.std.proofs.Common.{refl, sym, ap, ◌∙◌, subst}
+use Rattle.std.proofs.Common.{refl, sym, ap, ◌∙◌, subst, lit≤}
 use Rattle.std.proofs.lemmas.Option.{same_Some}
 use mathlib.Core.Logic.{inl, inr}
 use Rattle.pp_core.specs.declared.status.Status.{Status}
 use Rattle.pp_core.specs.declared.status.Status.TheVariants as statuses
-use Rattle.pp_records.specs.Inputs.{IsFault, IsReportBehind, IsReportOf, IsRunReport}
+use Rattle.pp_records.specs.Inputs.{IsFault, IsReport, IsReportBehind, IsReportOf, IsRunReport}
 use Rattle.pp_records.specs.Inputs.{OverrunsAt, StepRejected}
 use Rattle.pp_records.specs.Records.{RunRecord}
 use Rattle.pp_records.specs.Runs.{Lined, LinedSteps, Records, bare}
@@ -15,20 +15,25 @@ use Rattle.pp_model.specs.Config.{Step, after}
 use Rattle.pp_model.specs.Rules.{Accepted, Rejected, Verdict}
 use Rattle.pp_model.proofs.Verdict.{one_verdict}
 use Rattle.pp_objects.specs.declared.act.Op.{Op}
+use Rattle.pp_input.specs.Limits.{usual_limits}
 use Rattle.pp_input_reader.specs.declared.cause.Cause.{Cause}
 use Rattle.pp_input_reader.specs.declared.cause.Cause.TheVariants.{StyleNotJudged, TooManySteps}
 use Rattle.pp_judge.proofs.Concluding.{told_once}
 use Rattle.pp_judge.proofs.Exact.{behind_meets, meets_run_report}
+use Rattle.pp_judge.proofs.WiderLimits.{same_under_wider}
 use Rattle.pp_judge.specs.Accepted.{EachStepMeets}
 use Rattle.pp_judge.specs.Inputs.{scan}
 use Rattle.pp_judge.specs.Objects.{object_of, setting_of, start_of}
 use Rattle.pp_judge.specs.Reports.{IsCertified, IsTold, RunReport}
 use Rattle.pp_judge.specs.Scans.{InputScan}
+use Rattle.pp_judge.specs.WiderLimits.{AreWider, HasAllowedSize}
 use Rattle.pp_cmd_quick.specs.DeciderLaws.{taken_fault}
 use Rattle.pp_cmd_quick.specs.Decisions.{steps_behind, style_fault}
+use Rattle.pp_cmd_judge.proofs.AnyLength.{any_length}
+use Rattle.pp_cmd_judge.specs.Inputs.{judge_limits, judge_scan}
 use Rattle.pp_cmd_judge.specs.Judgements.{HasJudgedStyle, IsJudged, IsJudgedExactly, IsJudgement}
 use Rattle.pp_cmd_judge.specs.Judgements.{is_judged, judge_fault}
-use Rattle.pp_cmd_judge.specs.Laws.{HasFewSteps, JudgementLaw}
+use Rattle.pp_cmd_judge.specs.Laws.{IsWithinCertify, JudgementLaw}
 
 -- ---- one report at most
 
@@ -56,8 +61,8 @@ one_judgement sc r q a b = one_behind (judge_fault sc) sc r q a b
 
 pub one_judged : (bytes : List ℕ) (s s' : Status) (t t' : List ℕ) → IsJudged bytes s t → IsJudged bytes s' t' → (s ≡ s') × (t ≡ t')
 one_judged bytes s s' t t' a b =
-    let same : a.0 ≡ b.0 = one_judgement (scan bytes) a.0 b.0 a.1 b.1 in
-    told_once (scan bytes).header b.0 s s' t t' (subst (λ (w : RunReport). IsTold (scan bytes).header w s t) same a.2) b.2
+    let same : a.0 ≡ b.0 = one_judgement (judge_scan bytes) a.0 b.0 a.1 b.1 in
+    told_once (judge_scan bytes).header b.0 s s' t t' (subst (λ (w : RunReport). IsTold (judge_scan bytes).header w s t) same a.2) b.2
 
 -- ---- the same as `certify`
 
@@ -69,39 +74,63 @@ judged_fault sc styled = by sc.header refl styled
     by None there is = ap (λ (w : Option (Lined Header)). style_fault is_judged StyleNotJudged w sc.fault) there
     by (Some h) there is = taken_fault is_judged StyleNotJudged sc h there is
 
-few_overruns : (sc : InputScan) → HasFewSteps sc → (line : ℕ) → OverrunsAt setting_of sc.header sc.records line → ⊥
-few_overruns sc few line over = few line (Some (line, TooManySteps), inl (line, over, refl), refl)
+few_overruns : (sc : InputScan) → IsWithinCertify sc → (line : ℕ) → OverrunsAt setting_of sc.header sc.records line → ⊥
+few_overruns sc fits line over = fits line TooManySteps (inl refl) (Some (line, TooManySteps), inl (line, over, refl), refl)
 
-module _ (bytes : List ℕ) (s : Status) (t : List ℕ) (styled : HasJudgedStyle (scan bytes).header) (few : HasFewSteps (scan bytes)) where
-  judged_certified : IsJudged bytes s t → IsCertified bytes s t
-  judged_certified j = (j.0, (judge_fault (scan bytes), inr (few_overruns (scan bytes) few, judged_fault (scan bytes) styled), j.1), j.2)
+-- the status and the text of the report of a scan
+abbrev IsJudgedScan : InputScan → Status → List ℕ → Type 0
+IsJudgedScan sc s t = (report : RunReport) × IsJudgement sc report × IsTold sc.header report s t
 
-  certified_judged : IsCertified bytes s t → IsJudged bytes s t
+abbrev IsCertifiedScan : InputScan → Status → List ℕ → Type 0
+IsCertifiedScan sc s t = (report : RunReport) × IsReport setting_of TooManySteps sc report × IsTold sc.header report s t
+
+module _ (sc : InputScan) (s : Status) (t : List ℕ) (styled : HasJudgedStyle sc.header) (fits : IsWithinCertify sc) where
+  judged_certified : IsJudgedScan sc s t → IsCertifiedScan sc s t
+  judged_certified j = (j.0, (judge_fault sc, inr (few_overruns sc fits, judged_fault sc styled), j.1), j.2)
+
+  certified_judged : IsCertifiedScan sc s t → IsJudgedScan sc s t
   certified_judged (report, (fault, is, told), printed) = by is
     where
-      by : IsFault setting_of TooManySteps (scan bytes) fault → IsJudged bytes s t
-      by (inl k) = absurd (few_overruns (scan bytes) few k.0 k.1)
+      by : IsFault setting_of TooManySteps sc fault → IsJudgedScan sc s t
+      by (inl k) = absurd (few_overruns sc fits k.0 k.1)
       by (inr k) =
-          let same : fault ≡ judge_fault (scan bytes) = k.1 ∙ sym (judged_fault (scan bytes) styled) in
-          (report, subst (λ (o : Option (ℕ × Cause)). IsReportBehind setting_of o (scan bytes) report) same told, printed)
+          let same : fault ≡ judge_fault sc = k.1 ∙ sym (judged_fault sc styled) in
+          (report, subst (λ (o : Option (ℕ × Cause)). IsReportBehind setting_of o sc report) same told, printed)
 
-  pub same_judged : IsJudged bytes s t ↔ IsCertified bytes s t
-  same_judged = (judged_certified, certified_judged)
+-- `judge` allows at least what `certify` allows
+pub judge_allows_more : AreWider usual_limits judge_limits
+judge_allows_more = record { bytes = lit≤ tt; lines = lit≤ tt; line_bytes = refl; transactions = lit≤ tt }
+
+-- the fault is no limit on the lines or the bytes, since `certify` reports the fault of the scan
+allowed_size : (sc : InputScan) → IsWithinCertify sc → HasAllowedSize sc
+allowed_size sc fits line cause size faulty = fits line cause (inr size) (Some (line, cause), inr (few_overruns sc fits, sym faulty), refl)
+
+-- an input that is within the limits of `certify` is the same within those of `judge`
+pub same_input : (bytes : List ℕ) → IsWithinCertify (scan bytes) → judge_scan bytes ≡ scan bytes
+same_input bytes fits = same_under_wider usual_limits judge_limits bytes judge_allows_more (allowed_size (scan bytes) fits) (inl refl)
+
+-- `judge` and `certify` print the same, unless `certify` reports a limit that `judge` raises
+pub same_judged : (bytes : List ℕ) (s : Status) (t : List ℕ) → HasJudgedStyle (scan bytes).header → IsWithinCertify (scan bytes) → IsJudged bytes s t ↔ IsCertified bytes s t
+same_judged bytes s t styled fits =
+    let same : judge_scan bytes ≡ scan bytes = same_input bytes fits in (
+      λ judged. judged_certified (scan bytes) s t styled fits (subst (λ (sc : InputScan). IsJudgedScan sc s t) same judged),
+      λ certified. subst (λ (sc : InputScan). IsJudgedScan sc s t) (sym same) (certified_judged (scan bytes) s t styled fits certified),
+    )
 
 -- ---- accepted
 
-accepted_meets : (bytes text : List ℕ) → IsJudged bytes statuses.Accepted text → (judge_fault (scan bytes) ≡ None) × EachStepMeets (scan bytes)
+accepted_meets : (bytes text : List ℕ) → IsJudged bytes statuses.Accepted text → (judge_fault (judge_scan bytes) ≡ None) × EachStepMeets (judge_scan bytes)
 accepted_meets bytes text r =
-    let k = behind_meets (judge_fault (scan bytes)) (scan bytes) r.0 text r.1 r.2 in
+    let k = behind_meets (judge_fault (judge_scan bytes)) (judge_scan bytes) r.0 text r.1 r.2 in
     let m = k.1 in
     (k.0, record { header = m.header; first_line = m.first_line; start = m.start; steps = m.steps })
 
-meets_accepted : (bytes : List ℕ) (status : Status) (text : List ℕ) → IsJudged bytes status text → judge_fault (scan bytes) ≡ None → EachStepMeets (scan bytes) → status ≡ statuses.Accepted
+meets_accepted : (bytes : List ℕ) (status : Status) (text : List ℕ) → IsJudged bytes status text → judge_fault (judge_scan bytes) ≡ None → EachStepMeets (judge_scan bytes) → status ≡ statuses.Accepted
 meets_accepted bytes status text r none m =
-    let k = meets_run_report (scan bytes) m in
-    let own : IsJudgement (scan bytes) k.0 = subst (λ (o : Option (ℕ × Cause)). IsReportBehind setting_of o (scan bytes) k.0) (sym none) k.1 in
-    let same : r.0 ≡ k.0 = one_judgement (scan bytes) r.0 k.0 r.1 own in
-    k.2 status text (subst (λ (w : RunReport). IsTold (scan bytes).header w status text) same r.2)
+    let k = meets_run_report (judge_scan bytes) m in
+    let own : IsJudgement (judge_scan bytes) k.0 = subst (λ (o : Option (ℕ × Cause)). IsReportBehind setting_of o (judge_scan bytes) k.0) (sym none) k.1 in
+    let same : r.0 ≡ k.0 = one_judgement (judge_scan bytes) r.0 k.0 r.1 own in
+    k.2 status text (subst (λ (w : RunReport). IsTold (judge_scan bytes).header w status text) same r.2)
 
 -- an input is judged as accepted exactly if it has no fault and each step meets its criteria
 pub judged_exact : (bytes : List ℕ) (status : Status) (text : List ℕ) → IsJudged bytes status text → IsJudgedExactly bytes status
@@ -111,4 +140,4 @@ judged_exact bytes status text r = (
 )
 
 pub judgements : JudgementLaw
-judgements = record { one = one_judged; same = same_judged }
+judgements = record { any_length = any_length; one = one_judged; same = same_judged }

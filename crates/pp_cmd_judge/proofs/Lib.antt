@@ -1,4 +1,5 @@
 pub mod Ending
 pub mod Counting
+pub mod AnyLength
 pub mod Judged
 pub mod Reporting

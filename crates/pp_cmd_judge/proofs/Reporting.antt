@@ -24,7 +24,6 @@ use Rattle.pp_input_reader.specs.declared.cause.Cause.{Cause}
 use Rattle.pp_input_reader.specs.FaultTexts.{fault_text}
 use Rattle.pp_judge.proofs.Concluding.{RejectedTold, Reports, rejection_reported, reported, serial_is, told_fault}
 use Rattle.pp_judge.specs.Findings as findings
-use Rattle.pp_judge.specs.Inputs.{scan}
 use Rattle.pp_judge.specs.Objects.{object_of, setting_of, start_of, translation_of}
 use Rattle.pp_judge.specs.Rejected.{TellsEvident}
 use Rattle.pp_judge.specs.Reports.{IsRunTold, IsTold, RunReport}
@@ -39,6 +38,7 @@ use Rattle.pp_cmd_quick.specs.Decisions.{steps_behind}
 use Rattle.pp_cmd_quick.specs.Taking as quick
 use Rattle.pp_cmd_judge.specs.Costs.{JudgeCostsAtMost, JudgedCostAtMost, search_most}
 use Rattle.pp_cmd_judge.specs.CountedLaws.{boosted_fault}
+use Rattle.pp_cmd_judge.specs.Inputs.{judge_scan}
 use Rattle.pp_cmd_judge.specs.Judgements.{IsJudged, IsJudgedEvident, IsJudgement, judge_fault}
 use Rattle.pp_cmd_judge.specs.Taking.{AreCounted, IsRejectedThere, counted_judging}
 use Rattle.pp_cmd_judge.specs.declared.counted.Counted.{Counted}
@@ -54,14 +54,14 @@ rejected_of sc tally rejection b = record { follows = b.follows; style = b.bad.0
 
 -- ---- a fault
 
-pub fault_reported : (bytes : List ℕ) (line : ℕ) (cause : Cause) (text : List ℕ) → judge_fault (scan bytes) ≡ Some (line, cause) → text ≡ fault_text line cause → IsJudged bytes statuses.InputFault text
+pub fault_reported : (bytes : List ℕ) (line : ℕ) (cause : Cause) (text : List ℕ) → judge_fault (judge_scan bytes) ≡ Some (line, cause) → text ≡ fault_text line cause → IsJudged bytes statuses.InputFault text
 fault_reported bytes line cause text is text_is =
     let report : RunReport = Faulty line cause in
-    (report, subst (λ (o : Option (ℕ × Cause)). IsReportBehind setting_of o (scan bytes) report) (sym is) refl, told_fault (scan bytes).header line cause text text_is)
+    (report, subst (λ (o : Option (ℕ × Cause)). IsReportBehind setting_of o (judge_scan bytes) report) (sym is) refl, told_fault (judge_scan bytes).header line cause text text_is)
 
 -- the report of a run without a fault
-pub run_reported : (bytes : List ℕ) (status : Status) (text : List ℕ) → judge_fault (scan bytes) ≡ None → IsRunTold (scan bytes) status text → IsJudged bytes status text
-run_reported bytes status text none told = (told.0, subst (λ (o : Option (ℕ × Cause)). IsReportBehind setting_of o (scan bytes) told.0) (sym none) told.1, told.2)
+pub run_reported : (bytes : List ℕ) (status : Status) (text : List ℕ) → judge_fault (judge_scan bytes) ≡ None → IsRunTold (judge_scan bytes) status text → IsJudged bytes status text
+run_reported bytes status text none told = (told.0, subst (λ (o : Option (ℕ × Cause)). IsReportBehind setting_of o (judge_scan bytes) told.0) (sym none) told.1, told.2)
 
 -- ---- an accepted run
 

@@ -11,12 +11,12 @@ use Rattle.pp_format_read.specs.declared.header.Header.{Header}
 use Rattle.pp_input_reader.specs.declared.cause.Cause.{Cause}
 use Rattle.pp_input_reader.specs.declared.cause.Cause.TheVariants.{StyleNotJudged}
 use Rattle.pp_judge.specs.Accepted.{EachStepMeets}
-use Rattle.pp_judge.specs.Inputs.{early_scan, scan}
 use Rattle.pp_judge.specs.Objects.{setting_of}
 use Rattle.pp_judge.specs.Rejected.{TellsEvident}
 use Rattle.pp_judge.specs.Reports.{IsTold, RunReport}
 use Rattle.pp_judge.specs.Scans.{InputScan}
 use Rattle.pp_cmd_quick.specs.Decisions.{style_fault}
+use Rattle.pp_cmd_judge.specs.Inputs.{early_judge_scan, judge_scan}
 
 -- the styles of the runs that are judged
 abbrev pub is_judged : Style → Bool
@@ -39,7 +39,7 @@ judge_fault sc = style_fault is_judged StyleNotJudged sc.header sc.fault
 -- what was read has no fault that no further byte can change
 abbrev pub JudgeReadsNoFault : Option (List ℕ) → Option (List ℕ) → Type 0
 JudgeReadsNoFault old new =
-    (bytes : List ℕ) × Consumes old new bytes × (judge_fault (early_scan bytes) ≡ None)
+    (bytes : List ℕ) × Consumes old new bytes × (judge_fault (early_judge_scan bytes) ≡ None)
 
 -- The report of an input: its fault, if it has one. Otherwise it is the report of its run, which
 -- ends with the first step that violates a criterion, however many steps come before it.
@@ -48,13 +48,13 @@ IsJudgement sc report = IsReportBehind setting_of (judge_fault sc) sc report
 
 -- the status and the text of the report of an input, which are those of `certify`
 abbrev pub IsJudged : List ℕ → Status → List ℕ → Type 0
-IsJudged bytes status text = (report : RunReport) × IsJudgement (scan bytes) report
-    × IsTold (scan bytes).header report status text
+IsJudged bytes status text = (report : RunReport) × IsJudgement (judge_scan bytes) report
+    × IsTold (judge_scan bytes).header report status text
 
 -- The status is accepted exactly if the input has no fault and each of its steps meets its criteria.
 abbrev pub IsJudgedExactly : List ℕ → Status → Type 0
 IsJudgedExactly bytes status = (status ≡ statuses.Accepted)
-    ↔ ((judge_fault (scan bytes) ≡ None) × EachStepMeets (scan bytes))
+    ↔ ((judge_fault (judge_scan bytes) ≡ None) × EachStepMeets (judge_scan bytes))
 
 -- Every report of an input (there is one at most) is a rejection whose evidence shows why.
 abbrev pub IsJudgedEvident : InputScan → Type 0

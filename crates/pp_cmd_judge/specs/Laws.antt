@@ -1,23 +1,34 @@
 -- Meaning: the laws of how `judge` reports an input.
-use Rattle.std.specs.Prelude.{◌≡◌, ◌↔◌, ℕ, List}
+use Rattle.std.specs.Prelude.{◌≡◌, ◌↔◌, ◌⊎◌, ℕ, List, Some}
 use Rattle.pp_core.specs.declared.status.Status.{Status}
 use Rattle.pp_records.specs.Inputs.{Faulty, IsReport}
-use Rattle.pp_input_reader.specs.declared.cause.Cause.TheVariants.{TooManySteps}
+use Rattle.pp_input_reader.specs.declared.cause.Cause.{Cause}
+use Rattle.pp_input_reader.specs.declared.cause.Cause.TheVariants.{TooLong, TooManySteps}
 use Rattle.pp_judge.specs.Inputs.{scan}
 use Rattle.pp_judge.specs.Objects.{setting_of}
 use Rattle.pp_judge.specs.Reports.{IsCertified}
 use Rattle.pp_judge.specs.Scans.{InputScan}
-use Rattle.pp_cmd_judge.specs.Judgements.{HasJudgedStyle, IsJudged}
+use Rattle.pp_judge.specs.WiderLimits.{IsSizeLimit}
+use Rattle.pp_cmd_judge.specs.Inputs.{judge_scan}
+use Rattle.pp_cmd_judge.specs.Judgements.{HasJudgedStyle, IsJudged, judge_fault}
 
--- `certify` does not report that there are too many steps
-abbrev pub HasFewSteps : InputScan → Type 0
-HasFewSteps sc = (line : ℕ) → IsReport setting_of TooManySteps sc (Faulty line TooManySteps) → ⊥
+-- `judge` allows more than this limit of `certify`: on steps, lines or bytes
+abbrev pub IsRaisedLimit : Cause → Type 0
+IsRaisedLimit cause = (cause ≡ TooManySteps) ⊎ IsSizeLimit cause
+
+-- `certify` reports no such limit
+abbrev pub IsWithinCertify : InputScan → Type 0
+IsWithinCertify sc = (line : ℕ) (cause : Cause) → IsRaisedLimit cause →
+    IsReport setting_of TooManySteps sc (Faulty line cause) → ⊥
 
 pub record JudgementLaw : Type 0 where
+  -- no input has too many bytes
+  pub any_length : (bytes : List ℕ) (line : ℕ) → judge_fault (judge_scan bytes)
+      ≡ Some (line, TooLong) → ⊥
   -- an input has one status and one text at most
   pub one : (bytes : List ℕ) (s s' : Status) (t t' : List ℕ) → IsJudged bytes s t →
       IsJudged bytes s' t' → (s ≡ s') × (t ≡ t')
   -- For an input of a style that is judged, these are those of `certify`, unless `certify` reports
-  -- TooManySteps.
+  -- TooManySteps, TooManyLines or TooLong.
   pub same : (bytes : List ℕ) (s : Status) (t : List ℕ) → HasJudgedStyle (scan bytes).header →
-      HasFewSteps (scan bytes) → IsJudged bytes s t ↔ IsCertified bytes s t
+      IsWithinCertify (scan bytes) → IsJudged bytes s t ↔ IsCertified bytes s t

@@ -1,3 +1,4 @@
+pub mod Inputs
 pub mod Judgements
 pub mod Laws
 pub mod Costs

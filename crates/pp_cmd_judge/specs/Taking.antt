@@ -8,7 +8,6 @@ use Rattle.pp_model.specs.Rules.{IsVerdict, Rejected}
 use Rattle.pp_objects.specs.declared.act.Op.{Op}
 use Rattle.pp_summary.specs.Sums.{count_ops}
 use Rattle.pp_report.specs.Reports.{IsDetailNamed}
-use Rattle.pp_input.specs.Limits.{usual_limits}
 use Rattle.pp_judge.specs.Judging.{Judging}
 use Rattle.pp_judge.specs.Objects.{object_of, start_of, translation_of}
 use Rattle.pp_judge.specs.Running.{IsRejectionOf}
@@ -20,6 +19,7 @@ use Rattle.pp_cmd_quick.specs.Costs.{TakenCostAtLeast}
 use Rattle.pp_cmd_quick.specs.Decisions.{FailsOn, steps_behind}
 use Rattle.pp_cmd_quick.specs.Taking.{AreGoodBehind}
 use Rattle.pp_cmd_judge.specs.Costs.{JudgedCostAtMost}
+use Rattle.pp_cmd_judge.specs.Inputs.{judge_limits}
 use Rattle.pp_cmd_judge.specs.Judgements.{judge_fault}
 use Rattle.pp_cmd_judge.specs.declared.counted.Counted.{Counted}
 
@@ -47,11 +47,11 @@ pub record IsRejectedBehind (header : Lined Header) (records : Records (RunRecor
   pub stays : (more : Records (RunRecord Op)) → IsRun (object_of header.what)
       (translation_of header.what) (start_of header.what) (records ++ more) run
 
--- The limits are the usual ones. A record is good if all its steps meet their criteria. A rejection
--- is of the first step that does not.
+-- A record is good if all its steps meet their criteria. A rejection is of the first step that
+-- does not.
 abbrev pub counted_judging : Judging Counted Rejection
 counted_judging = record {
-  limits = usual_limits;
+  limits = judge_limits;
   IsGood = λ header records judge. AreCountedBehind header.what records judge;
   IsBad = λ header records rejection. (header.what.style ≡ Boosted)
       × FailsOn header records rejection.line × IsRejectedBehind header records rejection;

@@ -8,11 +8,11 @@ ghost use Rattle.pp_input_reader.specs.declared.stop.Failure.TheVariants.{ReadFa
 ghost use Rattle.pp_input_reader.specs.Sources.{WhereTold};
 ghost use Rattle.pp_report.specs.Reports.{IsDetailNamed, rejected_text};
 ghost use Rattle.pp_judge.specs.Certified.{IsDecided};
-ghost use Rattle.pp_judge.specs.Inputs.{scan};
 ghost use Rattle.pp_judge.specs.Reports.{IsRunTold};
 ghost use Rattle.pp_judge.specs.Scans.{InputScan};
 ghost use Rattle.pp_cmd_quick.specs.Costs.{QuickCostsAtLeast};
 ghost use Rattle.pp_cmd_judge.specs.Costs.{JudgeCostsAtMost};
+ghost use Rattle.pp_cmd_judge.specs.Inputs.{judge_scan};
 ghost use Rattle.pp_cmd_judge.specs.Judgements.{IsJudged, IsJudgedEvident, JudgeReadsNoFault};
 ghost use Rattle.pp_cmd_judge.specs.Taking.{AreCounted};
 
@@ -82,16 +82,16 @@ pub fn judge<S: Source, L: Ledger>(
     ensures status { IfOk result (λ r. IsDecided r.0 ⊎ (r.0 ≡ statuses.InputFault)) }
     ensures end { IfOk result (λ r. IsDecided r.0 → IsAtEnd (S.left source.new)) }
     ensures shown { IfOk result (λ r. r.0 ≡ statuses.Rejected →
-        WhereTold (S.left source.old) λ bytes. IsJudgedEvident (scan bytes)) }
+        WhereTold (S.left source.old) λ bytes. IsJudgedEvident (judge_scan bytes)) }
     ensures read_fault { IsErrOf result ReadFault →
         HasRisen (S.faults source.old) (S.faults source.new)
         × JudgeReadsNoFault (S.left source.old) (S.left source.new) }
     ensures count { S.faults source.old ≤ S.faults source.new }
     ensures faultless { ¬ IsErrOf result ReadFault → S.faults source.new ≡ S.faults source.old }
     ensures most { WhereTold (S.left source.old) λ bytes.
-        JudgeCostsAtMost (scan bytes) ticks.old ticks.new }
+        JudgeCostsAtMost (judge_scan bytes) ticks.old ticks.new }
     ensures least { IfOk result (λ r. IsDecided r.0 → WhereTold (S.left source.old) λ bytes.
-        QuickCostsAtLeast r.0 (scan bytes) ticks.old ticks.new) }
+        QuickCostsAtLeast r.0 (judge_scan bytes) ticks.old ticks.new) }
 {
     match examine::<S, Counted, L>(alloc, source, ticks)? {
         Finding::Fault(line, cause) => {

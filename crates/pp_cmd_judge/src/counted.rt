@@ -5,11 +5,12 @@ ghost use Rattle.pp_model.specs.Rules.{StartMeets};
 ghost use Rattle.pp_judge.specs.Costs.{start_length};
 ghost use Rattle.pp_judge.specs.Objects.{object_of, start_of};
 ghost use Rattle.pp_judge.specs.Tallies.{headed};
+ghost use Rattle.pp_cmd_judge.specs.Inputs.{judge_limits};
 ghost use Rattle.pp_cmd_judge.specs.Judgements.{is_judged};
 ghost use Rattle.pp_cmd_judge.specs.Taking.{IsRejectedBehind};
 
 use pp_cmd_quick::start_quick;
-use pp_core::{OutOfMemory, Rule, Style, Ticks};
+use pp_core::{LONGEST_LINE, MOST_LINES, MOST_TRANSACTIONS, OutOfMemory, Rule, Style, Ticks};
 use pp_format_read::Header;
 use pp_input::Limits;
 use pp_input_reader::{Cause, Stop};
@@ -27,6 +28,18 @@ use std::sync::ledger::Ledger;
 pub(crate) struct Counted {
     pub(crate) quick: Quick<Objects>,
     pub(crate) steps: u64,
+}
+
+/// The limits of an input that is judged. It may have any number of bytes.
+fn judge_limits() -> Limits
+    ensures { result ≡ judge_limits }
+{
+    Limits {
+        bytes: u64::MAX,
+        lines: MOST_LINES,
+        line_bytes: LONGEST_LINE,
+        transactions: MOST_TRANSACTIONS,
+    }
 }
 
 /// Whether runs of this style are judged.
@@ -75,7 +88,7 @@ impl Judge for Counted {
     ghost judging = { counted_judging };
 
     fn limits() -> Limits {
-        Limits::usual()
+        judge_limits()
     }
 
     fn begin<L: Ledger>(

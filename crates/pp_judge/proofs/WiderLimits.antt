@@ -12,7 +12,7 @@ use Rattle.pp_input.specs.declared.limits.Limits.{Limits}
 use Rattle.pp_input.specs.declared.reach.Reach.{Reach}
 use Rattle.pp_input.specs.Lines.{NumberedLine, ended_lines, numbered_lines}
 use Rattle.pp_input.specs.Overruns.{line_of, lines_before, overrun}
-use Rattle.pp_input.specs.Reaches.{overrun_from, passed, past, start}
+use Rattle.pp_input.specs.Reaches.{overrun_from, passed}
 use Rattle.pp_input.proofs.Overruns.{start_overrun}
 use Rattle.pp_input_reader.specs.declared.cause.Cause.{Cause}
 use Rattle.pp_input_reader.specs.declared.cause.Cause.TheVariants.{TooLong, TooManyLines}

@@ -22,12 +22,12 @@ use Rattle.pp_machine.specs.Evidence.{evidence}
 use Rattle.pp_input_reader.specs.FaultTexts.{fault_text}
 use Rattle.pp_input_reader.specs.declared.cause.Cause.{Cause}
 use Rattle.pp_input_reader.specs.declared.cause.Cause.TheVariants.{StyleNotJudged, TooManySteps}
-use Rattle.pp_judge.specs.Inputs.{scan}
 use Rattle.pp_judge.specs.Objects.{object_of, setting_of, start_of}
 use Rattle.pp_judge.specs.Reports.{IsTold, RunReport, detail_of_start}
 use Rattle.pp_cmd_quick.proofs.Verdicts.{some_verdict}
 use Rattle.pp_cmd_quick.specs.Decisions.{style_fault}
 use Rattle.pp_cmd_judge.proofs.Reporting.{fault_reported, run_reported}
+use Rattle.pp_cmd_judge.specs.Inputs.{judge_scan}
 use Rattle.pp_cmd_judge.specs.Judgements.{IsJudged, is_judged, judge_fault}
 use Rattle.pp_laws_reports.proofs.Scanned.{header_of_sound, rejected_step}
 use Rattle.pp_laws_reports.specs.Defined.{IsDefined}
@@ -65,23 +65,23 @@ module _ (header : Lined Header) (rs : Records (RunRecord Op)) where
   some_told none = some_verdict (object_of header.what) (start_of header.what) (bare all) (no_verdict none)
 
 -- an input that `judge` finds no fault in has a header
-header_of_judged : (bytes : List ℕ) → judge_fault (scan bytes) ≡ None → (header : Lined Header) × ((scan bytes).header ≡ Some header)
-header_of_judged bytes sound = by (scan bytes).header refl
+header_of_judged : (bytes : List ℕ) → judge_fault (judge_scan bytes) ≡ None → (header : Lined Header) × ((judge_scan bytes).header ≡ Some header)
+header_of_judged bytes sound = by (judge_scan bytes).header refl
   where
-    by : (o : Option (Lined Header)) → (scan bytes).header ≡ o → (header : Lined Header) × ((scan bytes).header ≡ Some header)
+    by : (o : Option (Lined Header)) → (judge_scan bytes).header ≡ o → (header : Lined Header) × ((judge_scan bytes).header ≡ Some header)
     by (Some h) is = (h, is)
-    by None is = header_of_sound bytes (subst (λ (o : Option (Lined Header)). style_fault is_judged StyleNotJudged o (scan bytes).fault ≡ None) is sound)
+    by None is = header_of_sound bytes (subst (λ (o : Option (Lined Header)). style_fault is_judged StyleNotJudged o (judge_scan bytes).fault ≡ None) is sound)
 
 -- the records of an input have this status and text
 abbrev Told : List ℕ → Status → List ℕ → Option (Lined Header) → Type 0
-Told bytes status text o = (report : RunReport) × IsRunReport setting_of o (scan bytes).records report × IsTold o report status text
+Told bytes status text o = (report : RunReport) × IsRunReport setting_of o (judge_scan bytes).records report × IsTold o report status text
 
 pub judge_is_defined : (bytes : List ℕ) → IsDefined (IsJudged bytes)
-judge_is_defined bytes none = by (judge_fault (scan bytes)) refl
+judge_is_defined bytes none = by (judge_fault (judge_scan bytes)) refl
   where
-    by : (fault : Option (ℕ × Cause)) → judge_fault (scan bytes) ≡ fault → ⊥
+    by : (fault : Option (ℕ × Cause)) → judge_fault (judge_scan bytes) ≡ fault → ⊥
     by (Some f) is = none statuses.InputFault (fault_text f.0 f.1) (fault_reported bytes f.0 f.1 (fault_text f.0 f.1) is refl)
     by None is =
         let h = header_of_judged bytes is in
-        some_told h.0 (scan bytes).records (λ report status text reported printed.
+        some_told h.0 (judge_scan bytes).records (λ report status text reported printed.
         none status text (run_reported bytes status text is (subst (Told bytes status text) (sym h.1) (report, reported, printed))))

@@ -9,7 +9,7 @@ use Rattle.pp_core.specs.declared.answer.OutOfMemory.{OutOfMemory}
 use Rattle.pp_records.specs.Records.{RunRecord}
 use Rattle.pp_records.specs.Runs.{Lined, Records}
 use Rattle.pp_input.specs.declared.fault.LineFault.{LineFault}
-use Rattle.pp_input.specs.Limits.{usual_limits}
+use Rattle.pp_input.specs.declared.limits.Limits.{Limits}
 use Rattle.pp_input.specs.Lines.{NumberedLine, blank, ended, numbered_from, numbered_lines, rest}
 use Rattle.pp_input.specs.Lines.{unended, without_return}
 use Rattle.pp_input.specs.Overruns.{line_of, lines_before, overrun, scanned_lines}
@@ -49,8 +49,8 @@ numbered_rise n (text ∷ texts) a b (inr h) = numbered_rise (n + 1) texts a b h
 taken_rise : (n : ℕ) (lines : List NumberedLine) → NumbersRise lines → NumbersRise (take n lines)
 taken_rise n lines rise a b h = rise a b (subst (λ (w : List NumberedLine). Before a b w) (take-append-drop n lines) (before_left a b (take n lines) (drop n lines) h))
 
-scanned_rise : (bytes : List ℕ) → NumbersRise (scanned_lines usual_limits bytes)
-scanned_rise bytes = by (overrun usual_limits bytes)
+scanned_rise : (limits : Limits) (bytes : List ℕ) → NumbersRise (scanned_lines limits bytes)
+scanned_rise limits bytes = by (overrun limits bytes)
   where
     all : NumbersRise (numbered_lines bytes)
     all = numbered_rise 1 (map without_return (ended bytes ++ unended (rest bytes)))
@@ -142,4 +142,4 @@ scan_rises sc (line ∷ lines) rise before numbers =
 
 -- The records of an input are on lines that rise.
 pub rising_law : RisingLaw
-rising_law bytes = scan_rises nothing (scanned_lines usual_limits bytes) (λ x y b. absurd b) (λ r l i j. absurd i) (scanned_rise bytes)
+rising_law limits bytes = scan_rises nothing (scanned_lines limits bytes) (λ x y b. absurd b) (λ r l i j. absurd i) (scanned_rise limits bytes)

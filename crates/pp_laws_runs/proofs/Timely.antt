@@ -8,8 +8,10 @@ use Rattle.pp_records.specs.Runs.{LinedSteps}
 use Rattle.pp_records.proofs.Ends.{ends_whole}
 use Rattle.pp_model.specs.Config.{first}
 use Rattle.pp_objects.specs.declared.act.Op.{Op}
+use Rattle.pp_input.specs.Limits.{usual_limits}
+use Rattle.pp_input.specs.declared.limits.Limits.{Limits}
 use Rattle.pp_judge.specs.Accepted.{EachStepMeets, HasRun}
-use Rattle.pp_judge.specs.Inputs.{scan}
+use Rattle.pp_judge.specs.Inputs.{scan_within}
 use Rattle.pp_judge.specs.Objects.{object_of, setting_of, start_of, translation_of}
 use Rattle.pp_judge.proofs.Concluding.{only_run}
 use Rattle.pp_judge.proofs.Exact.{certified_exact}
@@ -35,9 +37,9 @@ timely_law sc never meets =
     )
 
 -- the same for the scan of any input: its lines rise
-pub meets_timely : (bytes : List ℕ) → EachStepMeets (scan bytes) → IsTimely (scan bytes)
-meets_timely bytes meets = timely_law (scan bytes) (rise_never_fall (scan bytes).records (rising_law bytes)) meets
+pub meets_timely : (limits : Limits) (bytes : List ℕ) → EachStepMeets (scan_within limits bytes) → IsTimely (scan_within limits bytes)
+meets_timely limits bytes meets = timely_law (scan_within limits bytes) (rise_never_fall (scan_within limits bytes).records (rising_law limits bytes)) meets
 
 -- An input that `certify` accepts is timely.
 pub certified_timely_law : CertifiedTimelyLaw
-certified_timely_law bytes text certified = meets_timely bytes ((certified_exact bytes statuses.Accepted text certified).0 refl).1
+certified_timely_law bytes text certified = meets_timely usual_limits bytes ((certified_exact bytes statuses.Accepted text certified).0 refl).1

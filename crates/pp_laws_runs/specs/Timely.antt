@@ -1,8 +1,9 @@
 -- Meaning: an accepted input respects real time by its lines.
 use Rattle.std.specs.Prelude.{ℕ, List}
 use Rattle.pp_core.specs.declared.status.Status.TheVariants as statuses
+use Rattle.pp_input.specs.declared.limits.Limits.{Limits}
 use Rattle.pp_judge.specs.Accepted.{EachStepMeets, HasRun}
-use Rattle.pp_judge.specs.Inputs.{scan}
+use Rattle.pp_judge.specs.Inputs.{scan, scan_within}
 use Rattle.pp_judge.specs.Objects.{start_of}
 use Rattle.pp_judge.specs.Reports.{IsCertified}
 use Rattle.pp_judge.specs.Scans.{InputScan}
@@ -13,9 +14,9 @@ use Rattle.pp_laws_runs.specs.Lines.{LinesNeverFall, LinesRise, RespectsLines}
 abbrev pub IsTimely : InputScan → Type 0
 IsTimely sc = HasRun sc × ((r : HasRun sc) → RespectsLines (start_of r.header.what) r.run)
 
--- The lines of the records of an input rise.
+-- The lines of the records of an input rise, whatever its limits are.
 abbrev pub RisingLaw : Type 0
-RisingLaw = (bytes : List ℕ) → LinesRise (scan bytes).records
+RisingLaw = (limits : Limits) (bytes : List ℕ) → LinesRise (scan_within limits bytes).records
 
 -- A scan whose lines never fall is timely if each step meets its criteria, however many steps there
 -- are.

@@ -11,6 +11,7 @@ use Rattle.pp_certificate_lines.specs.Rechecked.{IsCheckedSound}
 use Rattle.pp_judge.specs.Certified.{IsDecided}
 use Rattle.pp_judge.specs.Inputs.{scan}
 use Rattle.pp_judge.specs.Rejected.{IsEvident}
+use Rattle.pp_cmd_judge.specs.Inputs.{judge_scan}
 use Rattle.pp_cmd_judge.specs.Judgements.{IsJudgedEvident}
 use Rattle.pp_cmd_drill.specs.Prints.{PrintsLines}
 use Rattle.pp_run.specs.declared.words.Command.{Command}
@@ -103,7 +104,7 @@ pub record Reports (k : Command) (input rest : Option (List ℕ)) (before after 
   pub size : s ≡ statuses.TooLarge → TellsSize (Some k)
   pub whole : IsOfWhole (Some k) s → IsAtEnd rest
   pub shown : DrivesMachine (Some k) → s ≡ statuses.Rejected → WhereTold input (λ bytes. IsEvident (scan bytes))
-  pub judged : k ≡ Judge → s ≡ statuses.Rejected → WhereTold input (λ bytes. IsJudgedEvident (scan bytes))
+  pub judged : k ≡ Judge → s ≡ statuses.Rejected → WhereTold input (λ bytes. IsJudgedEvident (judge_scan bytes))
   pub checked : k ≡ Recheck → s ≡ statuses.Accepted → WhereTold input (λ bytes. IsCheckedSound bytes)
   pub least : RisesAtLeast (Some k) input s before after
 

@@ -8,13 +8,14 @@ use Rattle.pp_judge.proofs.Exact.{certified_exact, meets_alone, meets_simulated}
 use Rattle.pp_judge.proofs.Restated.{prints_again}
 use Rattle.pp_judge.specs.Accepted.{EachStepMeets}
 use Rattle.pp_judge.specs.Certified.{IsDecided}
-use Rattle.pp_judge.specs.Inputs.{scan}
+use Rattle.pp_judge.specs.Inputs.{scan, scan_within}
 use Rattle.pp_judge.specs.Rejected.{IsEvident}
 use Rattle.pp_judge.specs.Reports.{IsCertified}
 use Rattle.pp_judge.specs.Scans.{InputScan}
 use Rattle.pp_cmd_quick.specs.Decisions.{Decision, IsDecisionBehind, IsDecisionOf}
 use Rattle.pp_cmd_quick.specs.Decisions.{IsDecisionTold, IsQuick, quick_fault}
 use Rattle.pp_cmd_judge.proofs.Judged.{judged_exact, same_judged}
+use Rattle.pp_cmd_judge.specs.Inputs.{judge_limits, judge_scan}
 use Rattle.pp_cmd_judge.specs.Judgements.{IsJudged, IsJudgedEvident}
 use Rattle.pp_cmd_drill.specs.Prints.{PrintsLines, certified_text}
 use Rattle.pp_cmd_drill.specs.Text.{drill_text}
@@ -22,6 +23,8 @@ use Rattle.pp_cmd_swaps.proofs.Rechecking.{prints_certificate}
 use Rattle.pp_cmd_swaps.specs.Swaps.{IsSwaps, IsSwapsOf}
 use Rattle.pp_records.specs.Runs.{Lined}
 use Rattle.pp_format_read.specs.declared.header.Header.{Header}
+use Rattle.pp_input.specs.Limits.{usual_limits}
+use Rattle.pp_input.specs.declared.limits.Limits.{Limits}
 use Rattle.pp_input_reader.specs.declared.cause.Cause.{Cause}
 use Rattle.pp_laws_runs.proofs.Timely.{meets_timely}
 use Rattle.pp_run.proofs.Promises.{accepted_how, sees_kept}
@@ -40,7 +43,7 @@ pub record Answers (k : Option Command) (o : Outcome) : Type 0 where
   pub output : IsPrinted o.status → OfInput k o.input (λ bytes. Prints k bytes o.status o.held o.holds)
   pub only : IsPrinted o.status → OfInput k o.input (λ bytes. PrintsOnly k bytes o.status o.held o.holds)
   pub shown : DrivesMachine k → o.status ≡ statuses.Rejected → WhereTold o.input (λ bytes. IsEvident (scan bytes))
-  pub judged : k ≡ Some Judge → o.status ≡ statuses.Rejected → WhereTold o.input (λ bytes. IsJudgedEvident (scan bytes))
+  pub judged : k ≡ Some Judge → o.status ≡ statuses.Rejected → WhereTold o.input (λ bytes. IsJudgedEvident (judge_scan bytes))
   pub checked : k ≡ Some Recheck → o.status ≡ statuses.Accepted → WhereTold o.input (λ bytes. IsCheckedSound bytes)
   pub most : RisesAtMost k o.input o.before o.after
   pub least : RisesAtLeast k o.input o.status o.before o.after
@@ -49,13 +52,13 @@ pub record Answers (k : Option Command) (o : Outcome) : Type 0 where
 -- ---- an accepted run
 
 -- an input whose start and steps all meet their criteria is serializable
-pub serializable : (bytes : List ℕ) → EachStepMeets (scan bytes) → IsSerializable bytes
-serializable bytes m =
+pub serializable : (limits : Limits) (bytes : List ℕ) → EachStepMeets (scan_within limits bytes) → IsSerializable (scan_within limits bytes)
+serializable limits bytes m =
     record {
       steps = m;
-      simulated = meets_simulated (scan bytes) m;
-      timely = meets_timely bytes m;
-      alone = meets_alone (scan bytes) m;
+      simulated = meets_simulated (scan_within limits bytes) m;
+      timely = meets_timely limits bytes m;
+      alone = meets_alone (scan_within limits bytes) m;
     }
 
 -- if `certify` accepts an input, its start and steps meet their criteria
@@ -102,7 +105,7 @@ quick_meets : (bytes text : List ℕ) → IsQuick bytes statuses.Accepted text �
 quick_meets bytes text (decision, is, told) = accepted_behind (quick_fault (scan bytes)) (scan bytes) decision text is told
 
 -- if `judge` accepts an input, its start and steps meet their criteria
-judged_meets : (bytes text : List ℕ) → IsJudged bytes statuses.Accepted text → EachStepMeets (scan bytes)
+judged_meets : (bytes text : List ℕ) → IsJudged bytes statuses.Accepted text → EachStepMeets (judge_scan bytes)
 judged_meets bytes text r = ((judged_exact bytes statuses.Accepted text r).0 refl).1
 
 -- ---- the promises
@@ -130,7 +133,7 @@ promised (Some Certify) o a =
       exact = λ p bytes is. let out = a.output p bytes is in certified_exact bytes o.status out.0 out.1;
       accepted = λ e bytes is.
           let out = a.output (printed o statuses.Accepted e tt) bytes is in
-          serializable bytes (certified_meets bytes out.0 (subst (λ (s : Status). IsCertified bytes s out.0) e out.1));
+          serializable usual_limits bytes (certified_meets bytes out.0 (subst (λ (s : Status). IsCertified bytes s out.0) e out.1));
       rejected = a.shown tt;
       most = a.most;
       least = a.least;
@@ -141,7 +144,7 @@ promised (Some Expand) o a =
       exact = λ p bytes is. let out = a.output p bytes is in certified_exact bytes o.status out.1.0 out.1.1;
       accepted = λ e bytes is.
           let out = a.output (printed o statuses.Accepted e tt) bytes is in
-          serializable bytes (certified_meets bytes out.1.0 (subst (λ (s : Status). IsCertified bytes s out.1.0) e out.1.1));
+          serializable usual_limits bytes (certified_meets bytes out.1.0 (subst (λ (s : Status). IsCertified bytes s out.1.0) e out.1.1));
       rejected = a.shown tt;
       again = λ d bytes is.
           let out = a.output (decided_printed o.status d) bytes is in
@@ -161,7 +164,7 @@ promised (Some Judge) o a =
           };
       accepted = λ e bytes is.
           let out = a.output (printed o statuses.Accepted e tt) bytes is in
-          serializable bytes (judged_meets bytes out.0 (subst (λ (s : Status). IsJudged bytes s out.0) e out.1));
+          serializable judge_limits bytes (judged_meets bytes out.0 (subst (λ (s : Status). IsJudged bytes s out.0) e out.1));
       rejected = a.judged refl;
       most = a.most;
       least = a.least;
@@ -171,7 +174,7 @@ promised (Some Quick) o a =
       prints = λ p bytes is. record { output = a.output p bytes is; only = a.only p bytes is };
       accepted = λ e bytes is.
           let out = a.output (printed o statuses.Accepted e tt) bytes is in
-          serializable bytes (quick_meets bytes out.0 (subst (λ (s : Status). IsQuick bytes s out.0) e out.1));
+          serializable usual_limits bytes (quick_meets bytes out.0 (subst (λ (s : Status). IsQuick bytes s out.0) e out.1));
       most = a.most;
       least = a.least;
     }
@@ -180,7 +183,7 @@ promised (Some Swaps) o a =
       prints = λ p bytes is. record { output = a.output p bytes is; only = a.only p bytes is };
       accepted = λ e bytes is.
           let out = a.output (printed o statuses.Accepted e tt) bytes is in
-          serializable bytes (swaps_meets bytes out.0 (subst (λ (s : Status). IsSwaps bytes s out.0) e out.1));
+          serializable usual_limits bytes (swaps_meets bytes out.0 (subst (λ (s : Status). IsSwaps bytes s out.0) e out.1));
       rejected = a.shown tt;
       certified = λ e bytes is.
           let out = a.output (printed o statuses.Accepted e tt) bytes is in
@@ -200,7 +203,7 @@ promised (Some Views) o a =
       prints = λ p bytes is. record { output = a.output p bytes is; only = a.only p bytes is };
       accepted = λ e bytes is.
           let out = a.output (printed o statuses.Accepted e tt) bytes is in
-          serializable bytes (views_meets bytes out.0 (subst (λ (s : Status). IsViews bytes s out.0) e out.1));
+          serializable usual_limits bytes (views_meets bytes out.0 (subst (λ (s : Status). IsViews bytes s out.0) e out.1));
       rejected = a.shown tt;
       seen = λ e bytes is.
           let out = a.output (printed o statuses.Accepted e tt) bytes is in
@@ -213,7 +216,7 @@ promised (Some (Drill n)) o a =
       prints = λ p. record { output = a.output p; only = a.only p };
       accepted = λ p. (a.output p).1.4;
       lines = a.lines n refl;
-      serializable = serializable (drill_text n) (certified_meets (drill_text n) (certified_text n) (a.lines n refl).report);
+      serializable = serializable usual_limits (drill_text n) (certified_meets (drill_text n) (certified_text n) (a.lines n refl).report);
       most = a.most;
       least = a.least;
     }

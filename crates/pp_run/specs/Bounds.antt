@@ -11,6 +11,7 @@ use Rattle.pp_judge.specs.Inputs.{scan}
 use Rattle.pp_cmd_views.specs.Costs.{ViewsCostAtMost}
 use Rattle.pp_cmd_quick.specs.Costs.{QuickCostsAtLeast, QuickCostsAtMost}
 use Rattle.pp_cmd_judge.specs.Costs.{JudgeCostsAtMost}
+use Rattle.pp_cmd_judge.specs.Inputs.{judge_scan}
 use Rattle.pp_cmd_drill.specs.Reports.{drill_scan}
 use Rattle.pp_cmd_recheck.specs.Costs.{CheckCostsAtLeast, CheckCostsAtMost}
 use Rattle.pp_run.specs.declared.words.Command.{Command}
@@ -26,7 +27,7 @@ RisesAtMost (Some Certify) left old new = WhereTold left λ bytes. CostsAtMost (
 RisesAtMost (Some Expand) left old new =
     WhereTold left λ bytes. StepsCostAtMost (scan bytes) old new
 RisesAtMost (Some Judge) left old new =
-    WhereTold left λ bytes. JudgeCostsAtMost (scan bytes) old new
+    WhereTold left λ bytes. JudgeCostsAtMost (judge_scan bytes) old new
 RisesAtMost (Some Quick) left old new =
     WhereTold left λ bytes. QuickCostsAtMost (scan bytes) old new
 RisesAtMost (Some Swaps) left old new =
@@ -48,7 +49,7 @@ RisesAtLeast (Some Certify) left status old new = IsDecided status →
 RisesAtLeast (Some Expand) left status old new = IsDecided status →
     WhereTold left λ bytes. StepsCostAtLeast status (scan bytes) old new
 RisesAtLeast (Some Judge) left status old new = IsDecided status →
-    WhereTold left λ bytes. QuickCostsAtLeast status (scan bytes) old new
+    WhereTold left λ bytes. QuickCostsAtLeast status (judge_scan bytes) old new
 RisesAtLeast (Some Quick) left status old new = IsDecided status →
     WhereTold left λ bytes. QuickCostsAtLeast status (scan bytes) old new
 RisesAtLeast (Some Swaps) left status old new = IsDecided status →

@@ -1,5 +1,5 @@
 -- Meaning: what each command promises. Each field is one promise.
-use Rattle.std.specs.Prelude.{◌≡◌, ℕ, List, [], Option, None, Some}
+use Rattle.std.specs.Prelude.{◌≡◌, ℕ, [], Option, None, Some}
 use Rattle.pp_core.specs.declared.status.Status.TheVariants as statuses
 use Rattle.pp_certificate_lines.specs.Rechecked.{IsCheckedSound, IsRecheck}
 use Rattle.pp_judge.specs.Accepted.{EachStepMeets, IsAloneAccepted, IsExact, IsSimulated}
@@ -9,14 +9,16 @@ use Rattle.pp_judge.specs.Inputs.{scan}
 use Rattle.pp_judge.specs.Rejected.{IsEvident}
 use Rattle.pp_judge.specs.Reports.{IsCertified, IsExpanded}
 use Rattle.pp_judge.specs.Restated.{PrintsAgain}
+use Rattle.pp_judge.specs.Scans.{InputScan}
 use Rattle.pp_cmd_views.specs.Costs.{ViewsCostAtMost}
 use Rattle.pp_cmd_views.specs.Outputs.{IsViews}
 use Rattle.pp_cmd_quick.specs.Costs.{QuickCostsAtLeast, QuickCostsAtMost}
 use Rattle.pp_cmd_quick.specs.Decisions.{IsQuick}
 use Rattle.pp_cmd_judge.specs.Costs.{JudgeCostsAtMost}
+use Rattle.pp_cmd_judge.specs.Inputs.{judge_scan}
 use Rattle.pp_cmd_judge.specs.Judgements.{HasJudgedStyle, IsJudged, IsJudgedEvident}
 use Rattle.pp_cmd_judge.specs.Judgements.{IsJudgedExactly}
-use Rattle.pp_cmd_judge.specs.Laws.{HasFewSteps}
+use Rattle.pp_cmd_judge.specs.Laws.{IsWithinCertify}
 use Rattle.pp_cmd_drill.specs.Prints.{PrintsLines}
 use Rattle.pp_cmd_drill.specs.Reports.{IsDrilled, drill_scan}
 use Rattle.pp_cmd_drill.specs.Text.{drill_text}
@@ -31,19 +33,19 @@ use Rattle.pp_run.specs.Outcomes.{IsTheOutput, OfItsInput, Outcome, PrintsJust}
 use Rattle.pp_run.specs.Outputs.{IsPrinted}
 use Rattle.pp_run.specs.Promises.{SeesKept}
 
--- What is true of an input if its start and each of its steps meet their criteria, however many
--- steps there are.
-pub record IsSerializable (bytes : List ℕ) : Type 0 where
+-- What is true of the scan of an input if its start and each of its steps meet their criteria,
+-- however many steps there are.
+pub record IsSerializable (sc : InputScan) : Type 0 where
   -- the start and each step meet their criteria
-  pub steps : EachStepMeets (scan bytes)
+  pub steps : EachStepMeets sc
   -- The committed transactions, one after another in commit order, return all recorded results.
   -- They lead to the state that the committed entries of the shared log lead to.
-  pub simulated : IsSimulated (scan bytes)
+  pub simulated : IsSimulated sc
   -- Strict serializability: the commit order respects real time by the lines of the input, and the
   -- order of each thread.
-  pub timely : IsTimely (scan bytes)
+  pub timely : IsTimely sc
   -- The committed transactions, one after another and without all others, are an accepted run.
-  pub alone : IsAloneAccepted (scan bytes)
+  pub alone : IsAloneAccepted sc
 
 -- What `certify` promises. `OfItsInput` is about the bytes that the source has left.
 pub record CertifyPromise (o : Outcome) : Type 0 where
@@ -53,7 +55,7 @@ pub record CertifyPromise (o : Outcome) : Type 0 where
   -- criteria.
   pub exact : IsPrinted o.status → OfItsInput o λ bytes. IsExact bytes o.status
   -- An accepted run is serializable.
-  pub accepted : o.status ≡ statuses.Accepted → OfItsInput o λ bytes. IsSerializable bytes
+  pub accepted : o.status ≡ statuses.Accepted → OfItsInput o λ bytes. IsSerializable (scan bytes)
   -- The evidence of a rejection is the one that is defined for its criterion. If it is not empty,
   -- it proves that the criterion is false.
   pub rejected : o.status ≡ statuses.Rejected → OfItsInput o λ bytes. IsEvident (scan bytes)
@@ -66,7 +68,7 @@ pub record CertifyPromise (o : Outcome) : Type 0 where
 pub record ExpandPromise (o : Outcome) : Type 0 where
   pub prints : PrintsJust IsExpanded o
   pub exact : IsPrinted o.status → OfItsInput o λ bytes. IsExact bytes o.status
-  pub accepted : o.status ≡ statuses.Accepted → OfItsInput o λ bytes. IsSerializable bytes
+  pub accepted : o.status ≡ statuses.Accepted → OfItsInput o λ bytes. IsSerializable (scan bytes)
   pub rejected : o.status ≡ statuses.Rejected → OfItsInput o λ bytes. IsEvident (scan bytes)
   -- The printed run is an input again, without a fault and within all limits. Its records are the
   -- steps. Its report is the same but for the line numbers. If the run is accepted, `certify`
@@ -76,38 +78,41 @@ pub record ExpandPromise (o : Outcome) : Type 0 where
   pub least : IsDecided o.status → OfItsInput o λ bytes.
       StepsCostAtLeast o.status (scan bytes) o.before o.after
 
--- What `judge` promises. It is `certify` without a limit on steps, for the styles that it judges.
+-- What `judge` promises. It is `certify` without a limit on steps and bytes, for the styles that it
+-- judges. `judge_scan` is what an input is within its limits.
 pub record JudgePromise (o : Outcome) : Type 0 where
   pub prints : PrintsJust IsJudged o
   -- Accepted is printed exactly if the input has no fault, and its start and each step meet their
   -- criteria.
   pub exact : IsPrinted o.status → OfItsInput o λ bytes. IsJudgedExactly bytes o.status
-  -- If the style is judged, and `certify` does not report TooManySteps, then the status and the text
-  -- are the only output of `certify` for the input.
+  -- If the style is judged, and `certify` reports none of TooManySteps, TooManyLines and TooLong,
+  -- then the status and the text are the only output of `certify` for the input.
   pub same : IsPrinted o.status → OfItsInput o λ bytes. HasJudgedStyle (scan bytes).header →
-      HasFewSteps (scan bytes) → IsTheOutput IsCertified bytes o
+      IsWithinCertify (scan bytes) → IsTheOutput IsCertified bytes o
   -- An accepted run is serializable, also if it has too many steps for `certify`.
-  pub accepted : o.status ≡ statuses.Accepted → OfItsInput o λ bytes. IsSerializable bytes
+  pub accepted : o.status ≡ statuses.Accepted → OfItsInput o λ bytes.
+      IsSerializable (judge_scan bytes)
   -- The evidence of a rejection is the one that is defined for its criterion. If it is not empty,
   -- it proves that the criterion is false.
-  pub rejected : o.status ≡ statuses.Rejected → OfItsInput o λ bytes. IsJudgedEvident (scan bytes)
+  pub rejected : o.status ≡ statuses.Rejected → OfItsInput o λ bytes.
+      IsJudgedEvident (judge_scan bytes)
   -- The counter rises at most by what `quick` costs, if no record has a step that violates a
   -- criterion. In any case it rises at most by that and what the search for the step costs.
-  pub most : OfItsInput o λ bytes. JudgeCostsAtMost (scan bytes) o.before o.after
+  pub most : OfItsInput o λ bytes. JudgeCostsAtMost (judge_scan bytes) o.before o.after
   pub least : IsDecided o.status → OfItsInput o λ bytes.
-      QuickCostsAtLeast o.status (scan bytes) o.before o.after
+      QuickCostsAtLeast o.status (judge_scan bytes) o.before o.after
 
 pub record QuickPromise (o : Outcome) : Type 0 where
   pub prints : PrintsJust IsQuick o
   -- An accepted run is serializable, also if it has too many steps for `certify`.
-  pub accepted : o.status ≡ statuses.Accepted → OfItsInput o λ bytes. IsSerializable bytes
+  pub accepted : o.status ≡ statuses.Accepted → OfItsInput o λ bytes. IsSerializable (scan bytes)
   pub most : OfItsInput o λ bytes. QuickCostsAtMost (scan bytes) o.before o.after
   pub least : IsDecided o.status → OfItsInput o λ bytes.
       QuickCostsAtLeast o.status (scan bytes) o.before o.after
 
 pub record SwapsPromise (o : Outcome) : Type 0 where
   pub prints : PrintsJust IsSwaps o
-  pub accepted : o.status ≡ statuses.Accepted → OfItsInput o λ bytes. IsSerializable bytes
+  pub accepted : o.status ≡ statuses.Accepted → OfItsInput o λ bytes. IsSerializable (scan bytes)
   pub rejected : o.status ≡ statuses.Rejected → OfItsInput o λ bytes. IsEvident (scan bytes)
   -- For an accepted run the printed text is its certificate, and `recheck` accepts it.
   pub certified : o.status ≡ statuses.Accepted → OfItsInput o λ bytes.
@@ -126,7 +131,7 @@ pub record RecheckPromise (o : Outcome) : Type 0 where
 
 pub record ViewsPromise (o : Outcome) : Type 0 where
   pub prints : PrintsJust IsViews o
-  pub accepted : o.status ≡ statuses.Accepted → OfItsInput o λ bytes. IsSerializable bytes
+  pub accepted : o.status ≡ statuses.Accepted → OfItsInput o λ bytes. IsSerializable (scan bytes)
   pub rejected : o.status ≡ statuses.Rejected → OfItsInput o λ bytes. IsEvident (scan bytes)
   -- The last attempt of a committed transaction has a number if the transaction took back nothing
   -- after it. The number is at most that of the transactions that committed before it.
@@ -143,7 +148,7 @@ pub record DrillPromise (n : ℕ) (o : Outcome) : Type 0 where
   -- The printed lines have numbers that are functions of n.
   pub lines : PrintsLines n
   -- The text of the run is an input, and it is serializable.
-  pub serializable : IsSerializable (drill_text n)
+  pub serializable : IsSerializable (scan (drill_text n))
   pub most : CostsAtMost (drill_scan n) o.before o.after
   pub least : o.status ≡ statuses.Accepted →
       CostsAtLeast statuses.Accepted (drill_scan n) o.before o.after

@@ -8,6 +8,7 @@ ghost use Rattle.pp_input_reader.specs.Sources.{WhereTold};
 ghost use Rattle.pp_certificate_lines.specs.Rechecked.{IsCheckedSound};
 ghost use Rattle.pp_judge.specs.Inputs.{scan};
 ghost use Rattle.pp_judge.specs.Rejected.{IsEvident};
+ghost use Rattle.pp_cmd_judge.specs.Inputs.{judge_scan};
 ghost use Rattle.pp_cmd_judge.specs.Judgements.{IsJudgedEvident};
 ghost use Rattle.pp_run.specs.declared.words.Command.TheVariants.{Drill, Judge, Recheck};
 ghost use Rattle.pp_run.specs.Bounds.{RisesAtLeast, RisesAtMost};
@@ -46,7 +47,7 @@ pub(crate) fn perform<S: Source, L: Ledger>(
     ensures shown { IfOk result (λ r. DrivesMachine (Some command) → r.0 ≡ statuses.Rejected →
         WhereTold (S.left source.old) λ bytes. IsEvident (scan bytes)) }
     ensures judged { IfOk result (λ r. command ≡ Judge → r.0 ≡ statuses.Rejected →
-        WhereTold (S.left source.old) λ bytes. IsJudgedEvident (scan bytes)) }
+        WhereTold (S.left source.old) λ bytes. IsJudgedEvident (judge_scan bytes)) }
     ensures checked { IfOk result (λ r. command ≡ Recheck → r.0 ≡ statuses.Accepted →
         WhereTold (S.left source.old) λ bytes. IsCheckedSound bytes) }
     ensures untouched { ¬ Reads (Some command) → source.new ≡ source.old }
