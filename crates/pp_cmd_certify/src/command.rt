@@ -17,7 +17,7 @@ ghost use Rattle.pp_judge.specs.Scans.{InputScan};
 use pp_core::{OutOfMemory, Status, Text, Ticks};
 use pp_input::Source;
 use pp_input_reader::{Failure, fault};
-use pp_judge::{Blind, Driven, Finding, Tally, examine, report_rejected, summary};
+use pp_judge::{Blind, Driven, Finding, Tally, compute_states, examine, report_rejected};
 use pp_machine::Machine;
 use pp_objects::Objects;
 use pp_report::accepted;
@@ -38,7 +38,7 @@ fn report_accepted<L: Ledger>(
         (ticks.new ≡ ticks.old + length (serial_ops machine.now.config.done)) }
     ensures bound { ticks.new ≤ ticks.old + length (serial_ops machine.now.config.done) }
 {
-    let (count, states) = summary(alloc, tally, machine, ticks)?;
+    let (count, states) = compute_states(alloc, tally, machine, ticks)?;
     let committed = machine.committed();
     accepted(alloc, &tally.header.catalog, count, committed, &states)
 }

@@ -14,7 +14,7 @@ use crate::pairs::drill_steps;
 use crate::report::drill_report;
 use pp_core::{Catalog, OutOfMemory, Status, Style, Text, Ticks};
 use pp_format_read::Header;
-use pp_judge::{Tally, summary};
+use pp_judge::{Tally, compute_states};
 use pp_machine::Machine;
 use pp_objects::Objects;
 use pp_styles::{Tracked, do_steps};
@@ -84,7 +84,7 @@ fn text_of_run<L: Ledger>(
         (ticks.new ≡ ticks.old + length (serial_ops machine.now.config.done)) }
     ensures bound { ticks.new ≤ ticks.old + length (serial_ops machine.now.config.done) }
 {
-    let (steps, states) = summary(alloc, tally, machine, ticks)?;
+    let (steps, states) = compute_states(alloc, tally, machine, ticks)?;
     let committed = machine.committed();
     drill_report(
         alloc,

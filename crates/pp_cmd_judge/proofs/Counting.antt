@@ -45,7 +45,7 @@ use Rattle.pp_judge.specs.Costs.{start_at_most, start_length}
 use Rattle.pp_judge.specs.Scans.{InputScan}
 use Rattle.pp_judge.specs.Tallies.{headed, one_more, scan_of}
 use Rattle.pp_judge.specs.declared.driven.Rejection.{Rejection}
-use Rattle.pp_judge.specs.declared.judge.Judged.TheVariants.{Good, Bad}
+use Rattle.pp_judge.specs.declared.judge.Judged.TheVariants.{Good, Rejected}
 use Rattle.pp_cmd_quick.proofs.Judging.{judges_bad, judges_good, judges_most}
 use Rattle.pp_cmd_quick.proofs.Judging as quick
 use Rattle.pp_cmd_quick.proofs.Readers.{fails_next}
@@ -83,7 +83,7 @@ module _ (line : ℕ) (h : Header) (judged : is_judged h.style ≡ true) where
   begun_good q s = record { good = quick.begun_good line h boosted q s; steps = refl; few = nothing_yet q.count }
 
   pub begun_bad : (q : Held (List Kind) Op) (rejection : Rejection) → StartsQuick h false q → rejection.line ≡ line → IsRejectedBehind (headed line h) [] rejection
-      → counted_judging.IsBad (headed line h) [] rejection
+      → counted_judging.IsRejectedBy (headed line h) [] rejection
   begun_bad q rejection s is rejected =
       let k = quick.begun_bad line h boosted q s in
       (k.0, subst (λ (n : ℕ). FailsOn (headed line h) [] n) (sym is) k.1, rejected)
@@ -320,7 +320,7 @@ module _ (h : Header) (judge : Counted) (r : RunRecord Op) (line now new : ℕ) 
 
   -- one that is not
   pub counts_bad : (next : Held (List Kind) Op) (x : Violation Op) → Takes objects place_of judge.quick r false next → now ≤ new → IsReadable h.catalog r → IsViolation objects place_of next r x
-      → Judges counted_judging h judge r line (Bad (rejection_by judge.steps line x)) now new
+      → Judges counted_judging h judge r line (Rejected (rejection_by judge.steps line x)) now new
   counts_bad next x takes rises readable is =
       let q = judges_bad h (record { quick = judge.quick }) r line now new next takes rises in
       record {

@@ -49,7 +49,7 @@ use Rattle.pp_cmd_judge.proofs.Judged.{one_judgement}
 pub counted_of : (sc : InputScan) (tally : Tally) (judge : Counted) → findings.AreGood counted_judging sc tally judge → AreCounted sc tally judge
 counted_of sc tally judge g = record { follows = g.follows; counted = g.good }
 
-pub rejected_of : (sc : InputScan) (tally : Tally) (rejection : Rejection) → findings.AreBad counted_judging sc tally rejection → IsRejectedThere sc tally rejection
+pub rejected_of : (sc : InputScan) (tally : Tally) (rejection : Rejection) → findings.AreRejected counted_judging sc tally rejection → IsRejectedThere sc tally rejection
 rejected_of sc tally rejection b = record { follows = b.follows; style = b.bad.0; rejected = b.bad.2 }
 
 -- ---- a fault

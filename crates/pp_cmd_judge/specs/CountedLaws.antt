@@ -106,15 +106,15 @@ counted_laws = record {
   first_fault = λ fault. refl;
   good_fault = λ h rs judge fault good. boosted_fault (record (scan_of h rs) { fault = fault }) h
       refl good.good.style;
-  bad_fault = λ h rs rejection fault bad. boosted_fault
+  rejected_fault = λ h rs rejection fault bad. boosted_fault
       (record (scan_of h rs) { fault = fault }) h refl bad.0;
   fault_stays = style_fault_stays is_judged StyleNotJudged;
-  bad_stays = λ h rs more rejection bad.
-      let fails = quick_laws.bad_stays h rs more (record { line = rejection.line })
+  rejection_stays = λ h rs more rejection bad.
+      let fails = quick_laws.rejection_stays h rs more (record { line = rejection.line })
       (bad.0, bad.1) in
       (bad.0, fails.1, rejected_stays h rs more rejection bad.2);
   first_most = nothing_judged;
   most_widens = judged_widens;
-  bad_least_stays = λ h rs more rejection old new bad least. quick_laws.bad_least_stays h rs more
-      (record { line = rejection.line }) old new (bad.0, bad.1) least;
+  rejected_least_stays = λ h rs more rejection old new bad least. quick_laws.rejected_least_stays h
+      rs more (record { line = rejection.line }) old new (bad.0, bad.1) least;
 }

@@ -53,12 +53,12 @@ abbrev pub counted_judging : Judging Counted Rejection
 counted_judging = record {
   limits = judge_limits;
   IsGood = λ header records judge. AreCountedBehind header.what records judge;
-  IsBad = λ header records rejection. (header.what.style ≡ Boosted)
+  IsRejectedBy = λ header records rejection. (header.what.style ≡ Boosted)
       × FailsOn header records rejection.line × IsRejectedBehind header records rejection;
   IsFault = λ sc fault. judge_fault sc ≡ fault;
   AtMost = JudgedCostAtMost;
   GoodAtLeast = λ sc old new. old + count_ops (bare sc.records) ≤ new;
-  BadAtLeast = TakenCostAtLeast;
+  RejectedAtLeast = TakenCostAtLeast;
 }
 
 -- the same of a scan, with its counts

@@ -105,7 +105,7 @@ impl Judge for Counted {
             Ok(Judged::Good(Counted { quick, steps: 0 }))
         } else {
             let rejection = reject_start(alloc, header, line, ticks)?;
-            Ok(Judged::Bad(rejection))
+            Ok(Judged::Rejected(rejection))
         }
     }
 
@@ -125,7 +125,7 @@ impl Judge for Counted {
             Ok(Judged::Good(Counted { quick, steps }))
         } else {
             let violation = find_violation(alloc, &quick, recorded, ticks)?;
-            Ok(Judged::Bad(Rejection {
+            Ok(Judged::Rejected(Rejection {
                 step: steps + violation.offset + 1,
                 line,
                 rule: violation.rule,

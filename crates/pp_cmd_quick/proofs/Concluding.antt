@@ -36,7 +36,7 @@ use Rattle.pp_cmd_quick.specs.Decisions.{Decision, Faulty, IsDecision, IsDecisio
 use Rattle.pp_cmd_quick.specs.Reports.{quick_accepted_text, quick_rejected_text}
 use Rattle.pp_cmd_quick.specs.Taking.{AreGood, HasFailed, quick_judging}
 use Rattle.pp_cmd_quick.specs.declared.decider.Decider.{Decider}
-use Rattle.pp_cmd_quick.specs.declared.decider.FailedOn.{FailedOn}
+use Rattle.pp_cmd_quick.specs.declared.decider.RejectedLine.{RejectedLine}
 use Rattle.pp_cmd_quick.specs.DeciderLaws.{all_hold, boosted_fault}
 use Rattle.pp_cmd_quick.proofs.Readers.{committed_are}
 
@@ -48,7 +48,7 @@ few_serial a b k x y z = omega (arith, x, y, z)
 pub good_of : (sc : InputScan) (tally : Tally) (judge : Decider) → findings.AreGood quick_judging sc tally judge → AreGood sc tally judge.quick
 good_of sc tally judge g = record { follows = g.follows; good = g.good }
 
-pub failed_of : (sc : InputScan) (tally : Tally) (failed : FailedOn) → findings.AreBad quick_judging sc tally failed → HasFailed sc tally failed.line
+pub failed_of : (sc : InputScan) (tally : Tally) (failed : RejectedLine) → findings.AreRejected quick_judging sc tally failed → HasFailed sc tally failed.line
 failed_of sc tally failed b = record { follows = b.follows; style = b.bad.0; fails = b.bad.1 }
 
 -- ---- what is told

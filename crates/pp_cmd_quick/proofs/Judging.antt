@@ -23,7 +23,7 @@ use Rattle.pp_judge.specs.Costs.{start_at_most, start_length}
 use Rattle.pp_judge.specs.Judging.{CostsAtMostThere, Judges, MayTake}
 use Rattle.pp_judge.specs.Objects.{object_of, start_of}
 use Rattle.pp_judge.specs.Tallies.{headed, one_more, scan_of}
-use Rattle.pp_judge.specs.declared.judge.Judged.TheVariants.{Good, Bad}
+use Rattle.pp_judge.specs.declared.judge.Judged.TheVariants.{Good, Rejected}
 use Rattle.pp_judge.proofs.Starting.{start_twice}
 use Rattle.pp_cmd_quick.specs.Costs.{OfTaken, RecordsCostAtMost, TakenCostAtLeast, first_brief, tried_most}
 use Rattle.pp_cmd_quick.specs.DeciderLaws.{Least, boosted_is}
@@ -72,7 +72,7 @@ module _ (line : ℕ) (h : Header) where
         } in
         subst (λ (q : Held (List Kind) Op). AreGoodBehind h [] q) (sym s.1) good
 
-    pub begun_bad : (quick : Held (List Kind) Op) → StartsQuick h false quick → quick_judging.IsBad (headed line h) [] (record { line = line })
+    pub begun_bad : (quick : Held (List Kind) Op) → StartsQuick h false quick → quick_judging.IsRejectedBy (headed line h) [] (record { line = line })
     begun_bad quick s = (boosted_is h.style boosted, inl (s, refl))
 
   pub begun_twice : (old new : ℕ) → new ≤ old + start_at_most (start_of h) → RecordsCostAtMost (scan_of (headed line h) []) old new
@@ -153,7 +153,7 @@ module _ (h : Header) (judge : Decider) (r : RunRecord Op) (line now new : ℕ) 
   }
 
   -- one that is not
-  pub judges_bad : (next : Held (List Kind) Op) → Takes objects place_of judge.quick r false next → now ≤ new → Judges quick_judging h judge r line (Bad (record { line = line })) now new
+  pub judges_bad : (next : Held (List Kind) Op) → Takes objects place_of judge.quick r false next → now ≤ new → Judges quick_judging h judge r line (Rejected (record { line = line })) now new
   judges_bad next takes rises = record {
     is = λ at rs c. (c.style, inr (record { line = line; what = r }, fails_next h rs judge.quick c (record { line = line; what = r }) next takes, refl));
     least = λ at rs c old least. failed_least (headed at h) rs (record { line = line; what = r }) old now new least rises;

@@ -210,12 +210,12 @@ quick_laws = record {
   first_fault = λ fault. refl;
   good_fault = λ h rs judge fault good. boosted_fault (record (scan_of h rs) { fault = fault }) h
       refl good.style;
-  bad_fault = λ h rs failed fault bad. boosted_fault (record (scan_of h rs) { fault = fault }) h
-      refl bad.0;
+  rejected_fault = λ h rs failed fault bad. boosted_fault (record (scan_of h rs) { fault = fault })
+      h refl bad.0;
   fault_stays = style_fault_stays is_boosted NotBoosted;
-  bad_stays = λ h rs more failed bad. (bad.0, fails_stay h rs more failed.line bad.1);
+  rejection_stays = λ h rs more failed bad. (bad.0, fails_stay h rs more failed.line bad.1);
   first_most = same_count;
   most_widens = most_widens;
-  bad_least_stays = λ h rs more failed old new bad least. passed_least h rs more failed.line old
-      new bad.1 least;
+  rejected_least_stays = λ h rs more failed old new bad least. passed_least h rs more failed.line
+      old new bad.1 least;
 }

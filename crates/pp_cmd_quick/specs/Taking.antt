@@ -20,7 +20,7 @@ use Rattle.pp_judge.specs.declared.progress.Tally.{Tally}
 use Rattle.pp_cmd_quick.specs.Costs.{RecordsCostAtMost, TakenCostAtLeast}
 use Rattle.pp_cmd_quick.specs.Decisions.{FailsOn, quick_fault}
 use Rattle.pp_cmd_quick.specs.declared.decider.Decider.{Decider}
-use Rattle.pp_cmd_quick.specs.declared.decider.FailedOn.{FailedOn}
+use Rattle.pp_cmd_quick.specs.declared.decider.RejectedLine.{RejectedLine}
 
 -- the start and the records after a header are good, and this is the Quick that took them
 pub record AreGoodBehind (header : Header) (records : Records (RunRecord Op))
@@ -32,16 +32,16 @@ pub record AreGoodBehind (header : Header) (records : Records (RunRecord Op))
 
 -- The limits are the usual ones. A record is good if all its steps meet their criteria. A rejection
 -- is told by its line.
-abbrev pub quick_judging : Judging Decider FailedOn
+abbrev pub quick_judging : Judging Decider RejectedLine
 quick_judging = record {
   limits = usual_limits;
   IsGood = λ header records judge. AreGoodBehind header.what records judge.quick;
-  IsBad = λ header records failed. (header.what.style ≡ Boosted)
+  IsRejectedBy = λ header records failed. (header.what.style ≡ Boosted)
       × FailsOn header records failed.line;
   IsFault = λ sc fault. quick_fault sc ≡ fault;
   AtMost = RecordsCostAtMost;
   GoodAtLeast = λ sc old new. old + count_ops (bare sc.records) ≤ new;
-  BadAtLeast = TakenCostAtLeast;
+  RejectedAtLeast = TakenCostAtLeast;
 }
 
 -- the same of a scan, with its counts

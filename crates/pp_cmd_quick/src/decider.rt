@@ -25,7 +25,7 @@ pub(crate) struct Decider {
 
 /// The line of the start, or of the first record, that is not good.
 #[derive(Drop)]
-pub(crate) struct FailedOn {
+pub(crate) struct RejectedLine {
     pub(crate) line: u32,
 }
 
@@ -62,7 +62,7 @@ impl Judge for Decider {
     ghost use Rattle.pp_cmd_quick.specs.Taking.{quick_judging};
     ghost use Rattle.pp_cmd_quick.specs.DeciderLaws.{quick_laws};
 
-    type Rejection = FailedOn;
+    type Rejection = RejectedLine;
 
     ghost judging = { quick_judging };
 
@@ -75,7 +75,7 @@ impl Judge for Decider {
         header: &Header,
         line: u32,
         ticks: &mut Ticks<L>,
-    ) -> Result<Judged<Decider, FailedOn>, Stop<Cause>> {
+    ) -> Result<Judged<Decider, RejectedLine>, Stop<Cause>> {
         if !is_boosted(header.style) {
             return Err(Stop::Fault(line, Cause::NotBoosted));
         }
@@ -83,7 +83,7 @@ impl Judge for Decider {
         if good {
             Ok(Judged::Good(Decider { quick }))
         } else {
-            Ok(Judged::Bad(FailedOn { line }))
+            Ok(Judged::Rejected(RejectedLine { line }))
         }
     }
 
@@ -94,13 +94,13 @@ impl Judge for Decider {
         recorded: &RunRecord<Op>,
         line: u32,
         ticks: &mut Ticks<L>,
-    ) -> Result<Judged<Decider, FailedOn>, Stop<Cause>> {
+    ) -> Result<Judged<Decider, RejectedLine>, Stop<Cause>> {
         let Decider { quick } = self;
         let (quick, good) = quick.take(recorded, ticks)?;
         if good {
             Ok(Judged::Good(Decider { quick }))
         } else {
-            Ok(Judged::Bad(FailedOn { line }))
+            Ok(Judged::Rejected(RejectedLine { line }))
         }
     }
 

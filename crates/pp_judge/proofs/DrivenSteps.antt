@@ -43,10 +43,10 @@ use Rattle.pp_judge.specs.Objects.{object_of, start_of, translation_of}
 use Rattle.pp_judge.specs.Running.{EndsAt, GoesOn, HasStarted, IsFirstFront, rejection_on}
 use Rattle.pp_judge.specs.Tallies.{headed, scan_of}
 use Rattle.pp_judge.specs.declared.driven.Driven.{Driven}
-use Rattle.pp_judge.specs.declared.driven.Refused.{Refused}
+use Rattle.pp_judge.specs.declared.driven.ObservedRejection.{ObservedRejection}
 use Rattle.pp_judge.specs.declared.driven.Rejection.{Rejection}
 use Rattle.pp_judge.specs.declared.judge.Judged.{Judged}
-use Rattle.pp_judge.specs.declared.judge.Judged.TheVariants.{Good, Bad}
+use Rattle.pp_judge.specs.declared.judge.Judged.TheVariants.{Good, Rejected}
 use Rattle.pp_judge.specs.laws.Driven.{empty_run, no_steps}
 use Rattle.pp_judge.proofs.Driving.{FailsWithin, Overruns, fails, steps_here, too_many}
 use Rattle.pp_judge.proofs.RecordCosts.{done_run, least_done, least_failed, most_record, run_to_failed}
@@ -140,7 +140,7 @@ module _ {W : Type 0} (HasSeen : Header → List (Step Op) → W → Type 0) whe
   }
 
   pub begun_bad : (line n : ℕ) (h : Header) (detail : Detail Op) (machine : Seen (List Kind) Op) (w : W) → HasStarted h (False n detail) machine → HasSeen h [] w
-      → (driven_judging HasSeen).IsBad (headed line h) [] (record { rejection = record { step = 0; line = line; rule = rules.Start; criterion = n; detail = detail }; observer = w })
+      → (driven_judging HasSeen).IsRejectedBy (headed line h) [] (record { rejection = record { step = 0; line = line; rule = rules.Start; criterion = n; detail = detail }; observer = w })
   begun_bad line n h detail machine w started seen = (begun_ends line n h detail machine started, seen_nothing h w seen)
 
   -- ---- a record
@@ -155,7 +155,7 @@ module _ {W : Type 0} (HasSeen : Header → List (Step Op) → W → Type 0) whe
     abbrev here : List (Step Op)
     here = steps_here h judge.front judge.machine r
 
-    abbrev TakenSo : Judged (Driven W) (Refused W) → Type 0
+    abbrev TakenSo : Judged (Driven W) (ObservedRejection W) → Type 0
     TakenSo judged = Judges (driven_judging HasSeen) h judge r line judged now new
 
     taken_good : (front : AnyFront) (machine : Seen (List Kind) Op) → any_style front ≡ any_style judge.front
@@ -172,7 +172,7 @@ module _ {W : Type 0} (HasSeen : Header → List (Step Op) → W → Type 0) whe
     }
 
     taken_bad : (rejection : Rejection) (e : FailsWithin judge.machine here line now new rejection) → told ≡ e.done.before ++ e.step ∷ []
-        → TakenSo (Bad (record { rejection = rejection; observer = next }))
+        → TakenSo (Rejected (record { rejection = rejection; observer = next }))
     taken_bad rejection e first = record {
       is = λ at before good.
           let c = good.0 in
@@ -202,7 +202,7 @@ module _ {W : Type 0} (HasSeen : Header → List (Step Op) → W → Type 0) whe
           taken_good front machine style kept d (first ∙ take_all (done + 1) here (omega (arith, same, many)) ∙ all)
 
       judges_failed : (rule : Rule) (n : ℕ) (detail : Detail Op) → Drives objects judge.machine here now (Some (Failed rule n detail)) machine new
-          → TakenSo (Bad (record { rejection = record { step = machine.count + 1; line = line; rule = rule; criterion = n; detail = detail }; observer = next }))
+          → TakenSo (Rejected (record { rejection = record { step = machine.count + 1; line = line; rule = rule; criterion = n; detail = detail }; observer = next }))
       unfolding fails
       judges_failed rule n detail d =
           let e = fails judge.machine machine here now new line rule n detail sound d in

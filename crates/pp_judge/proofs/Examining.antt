@@ -16,10 +16,10 @@ use Rattle.pp_input_reader.specs.Limits.{limit_fault}
 use Rattle.pp_input_reader.specs.Takers.{CountsTo, HasFaultBehind, HasInputFault, IfFault, IsNext}
 use Rattle.pp_input_reader.specs.Takers.{LeadsOn, ReadsAll, ReadsSoFar, StopsAt, StopsWith}
 use Rattle.pp_input_reader.proofs.Takers.{if_fault, taken_all}
-use Rattle.pp_judge.specs.Findings.{AreBad, AreGood, Finds, ReadsSound, RisesAtLeast, finding_of}
+use Rattle.pp_judge.specs.Findings.{AreGood, AreRejected, Finds, ReadsSound, RisesAtLeast, finding_of}
 use Rattle.pp_judge.specs.Inputs.{no_header, or_fault, scan_within}
 use Rattle.pp_judge.specs.Judging.{Judging, JudgingLaws}
-use Rattle.pp_judge.specs.Progresses.{BadAt, CostsOn, Covers, GoodAt, HasFaultOn, IsNextLine, Leads}
+use Rattle.pp_judge.specs.Progresses.{CostsOn, Covers, GoodAt, HasFaultOn, IsNextLine, Leads, RejectedAt}
 use Rattle.pp_judge.specs.Progresses.{LeadsTo, judged_reading, lines_of}
 use Rattle.pp_judge.specs.Scans.{InputScan, scan_lines}
 use Rattle.pp_judge.specs.Tallies.{IsTallied}
@@ -150,9 +150,9 @@ module _ {J R : Type 0} (M : Judging J R) where
         let is = scan_is taken none (Running tally judge) first now leads tally c.follows in
         (taken, read, end, subst (λ (s : InputScan). AreGood M s tally judge) (sym is) (record { follows = c.follows; good = c.good }))
     finds first now old new (Rejected tally rejection) end (taken, read, none, leads) =
-        let c : BadAt M (scan_lines M.limits.transactions (scanned_lines M.limits taken)) tally rejection first now = leads.covers in
+        let c : RejectedAt M (scan_lines M.limits.transactions (scanned_lines M.limits taken)) tally rejection first now = leads.covers in
         let is = scan_is taken none (Rejected tally rejection) first now leads tally c.follows in
-        (taken, read, end, subst (λ (s : InputScan). AreBad M s tally rejection) (sym is) (record { follows = c.follows; bad = c.bad }))
+        (taken, read, end, subst (λ (s : InputScan). AreRejected M s tally rejection) (sym is) (record { follows = c.follows; bad = c.bad }))
 
     -- ---- what the counter shows
 
@@ -173,6 +173,6 @@ module _ {J R : Type 0} (M : Judging J R) where
         subst (λ (bs : List ℕ). M.GoodAtLeast (scan_within M.limits bs) first now) (taken_all old new taken bytes read end is)
         (subst (λ (s : InputScan). M.GoodAtLeast s first now) (sym (scan_is taken none (Running tally judge) first now leads tally c.follows)) c.least)
     finding_counted first now old new bytes (Rejected tally rejection) end is (taken, read, none, leads) =
-        let c : BadAt M (scan_lines M.limits.transactions (scanned_lines M.limits taken)) tally rejection first now = leads.covers in
-        subst (λ (bs : List ℕ). M.BadAtLeast (scan_within M.limits bs) first now) (taken_all old new taken bytes read end is)
-        (subst (λ (s : InputScan). M.BadAtLeast s first now) (sym (scan_is taken none (Rejected tally rejection) first now leads tally c.follows)) c.least)
+        let c : RejectedAt M (scan_lines M.limits.transactions (scanned_lines M.limits taken)) tally rejection first now = leads.covers in
+        subst (λ (bs : List ℕ). M.RejectedAtLeast (scan_within M.limits bs) first now) (taken_all old new taken bytes read end is)
+        (subst (λ (s : InputScan). M.RejectedAtLeast s first now) (sym (scan_is taken none (Rejected tally rejection) first now leads tally c.follows)) c.least)

@@ -16,13 +16,13 @@ use Rattle.pp_objects.specs.declared.act.Op.{Op}
 use Rattle.pp_machine.specs.Machines.{Seen}
 use Rattle.pp_styles.specs.declared.any_front.AnyFront.{AnyFront}
 use Rattle.pp_judge.specs.Driven.{driven_judging}
-use Rattle.pp_judge.specs.Findings.{AreBad, AreGood}
+use Rattle.pp_judge.specs.Findings.{AreGood, AreRejected}
 use Rattle.pp_judge.specs.Inputs.{IsFaultOf}
 use Rattle.pp_judge.specs.Objects.{object_of, setting_of, start_of, translation_of}
 use Rattle.pp_judge.specs.Running.{GoesOn, IsRejected, IsRunning, standing_of}
 use Rattle.pp_judge.specs.Scans.{InputScan}
 use Rattle.pp_judge.specs.declared.driven.Driven.{Driven}
-use Rattle.pp_judge.specs.declared.driven.Refused.{Refused}
+use Rattle.pp_judge.specs.declared.driven.ObservedRejection.{ObservedRejection}
 use Rattle.pp_judge.specs.declared.driven.Rejection.{Rejection}
 use Rattle.pp_judge.specs.declared.progress.Tally.{Tally}
 use Rattle.pp_judge.specs.laws.Driven.{bad_few}
@@ -80,5 +80,5 @@ module _ {W : Type 0} (HasSeen : Header → List (Step Op) → W → Type 0) whe
   pub running_of : (sc : InputScan) (tally : Tally) (judge : Driven W) → AreGood (driven_judging HasSeen) sc tally judge → IsRunning sc tally judge.machine
   running_of sc tally judge g = record { follows = g.follows; shape = g.good.0.shape; state = g.good.0.state; stands = g.good.0.stands }
 
-  pub rejected_of : (sc : InputScan) (tally : Tally) (refused : Refused W) → AreBad (driven_judging HasSeen) sc tally refused → IsRejected sc tally refused.rejection
+  pub rejected_of : (sc : InputScan) (tally : Tally) (refused : ObservedRejection W) → AreRejected (driven_judging HasSeen) sc tally refused → IsRejected sc tally refused.rejection
   rejected_of sc tally refused b = record { follows = b.follows; ends = b.bad.0 }

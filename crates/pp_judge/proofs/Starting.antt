@@ -37,8 +37,8 @@ abbrev pub made : List Kind → Option (Start Op) → Seen (List Kind) Op
 made kinds h = record { shape = kinds; config = first h; count = 0 }
 
 -- a start is refused by its first false criterion, with its evidence
-abbrev IsRefused : List Kind → Option (Start Op) → ℕ → Detail Op → Type 0
-IsRefused kinds h n detail =
+abbrev IsRejectedStart : List Kind → Option (Start Op) → ℕ → Detail Op → Type 0
+IsRejectedStart kinds h n detail =
     StartBreaks (rules_of objects kinds) h n × (0 < n) × (detail ≡ detail_of_start kinds h n) × Fits objects kinds detail × IsStartEvident kinds h n
 
 -- one for each operation of a start is within two for each
@@ -84,8 +84,8 @@ module _ (header : Header) (machine : Seen (List Kind) Op) (new : machine ≡ ma
       go (False n detail) d s =
           let s' : Start Op = start_with z.tx z.ops in
           let evident : IsStartEvident machine.shape (Some s') n = subst (λ (w : Detail Op). HoldsAtNumber objects (start_facts objects machine.shape s') n w) d.3 s.0 in
-          subst (λ (h : Option (Start Op)). IsRefused (kinds_of header.catalog) h n detail) (sym (one z is))
-          (subst (λ (k : List Kind). IsRefused k (Some s') n detail) shape_is (d.0, d.1, d.3, s.1, evident))
+          subst (λ (h : Option (Start Op)). IsRejectedStart (kinds_of header.catalog) h n detail) (sym (one z is))
+          (subst (λ (k : List Kind). IsRejectedStart k (Some s') n detail) shape_is (d.0, d.1, d.3, s.1, evident))
 
   -- the same of what the machine answers
   pub started_result : (z : HeaderStart) → header.start ≡ Some z → (r : Result (Seen (List Kind) Op × Outcome Op) OutOfMemory) → IfOk r (λ x. Started objects machine (start_with z.tx z.ops) x.1 x.0) → IfOk r (λ x. IsStartShown objects machine (start_with z.tx z.ops) x.1)

@@ -14,13 +14,14 @@ use Rattle.pp_input_reader.specs.declared.cause.Cause.{Cause}
 use Rattle.pp_judge.specs.Causes.{cause_of}
 use Rattle.pp_judge.specs.Judging.{CostsAtMostThere, HasFaultThere, IsJudged, JudgedAtLeast, Judges}
 use Rattle.pp_judge.specs.Judging.{Judging, JudgingLaws, MayTake}
-use Rattle.pp_judge.specs.Progresses.{BadAt, CostsOn, Covers, GoodAt, HasFaultOn, IsNextLine, LeadsTo}
+use Rattle.pp_judge.specs.Progresses.{CostsOn, Covers, GoodAt, HasFaultOn, IsNextLine, LeadsTo, RejectedAt}
 use Rattle.pp_judge.specs.Progresses.{lines_of, progress_of, with_blank}
 use Rattle.pp_judge.specs.Scans.{InputScan, nothing, scan_line, with_fault, with_header, with_next}
-use Rattle.pp_judge.specs.Tallies.{IsRefused, IsTallied, headed, is_too_many, one_more, scan_of}
+use Rattle.pp_judge.specs.Tallies.{IsRecordFault, IsTallied, headed, is_too_many, one_more, scan_of}
 use Rattle.pp_judge.specs.Tallies.{with_record}
 use Rattle.pp_judge.specs.declared.judge.Judged.{Judged}
-use Rattle.pp_judge.specs.declared.judge.Judged.TheVariants.{Good, Bad}
+use Rattle.pp_judge.specs.declared.judge.Judged.TheVariants.{Good}
+use Rattle.pp_judge.specs.declared.judge.Judged.TheVariants as judged
 use Rattle.pp_judge.specs.declared.progress.Progress.{Progress}
 use Rattle.pp_judge.specs.declared.progress.Progress.TheVariants.{Waiting, Running, Rejected}
 use Rattle.pp_judge.specs.declared.progress.Tally.{Tally}
@@ -58,14 +59,14 @@ module _ {J R : Type 0} (M : Judging J R) where
 
   progress_lines : (tally : Tally) (judged : Judged J R) → lines_of (progress_of tally judged) ≡ tally.lines
   progress_lines tally (Good judge) = refl
-  progress_lines tally (Bad rejection) = refl
+  progress_lines tally (judged.Rejected rejection) = refl
 
   module _ (line : NumberedLine) (header : Header) (positive : 0 < line.0) (now new : ℕ) (most : M.AtMost (scan_of (headed line.0 header) []) now new) where
     begun : (judged : Judged J R) → IsJudged M (headed line.0 header) [] judged → JudgedAtLeast M (scan_of (headed line.0 header) []) judged now new
         → Covers M (with_header nothing line.0 (Ok header)) (progress_of (first_tally line.0 header) judged) now new
     unfolding follows_first
     begun (Good judge) good least = record { follows = follows_first line.0 header positive; good = good; most = most; least = least }
-    begun (Bad rejection) bad least = record { follows = follows_first line.0 header positive; bad = bad; most = most; least = least }
+    begun (judged.Rejected rejection) bad least = record { follows = follows_first line.0 header positive; bad = bad; most = most; least = least }
 
     pub header_covers : blank line.1 ≡ false → header_of line.1 ≡ Ok header → (judged : Judged J R) → IsJudged M (headed line.0 header) [] judged → JudgedAtLeast M (scan_of (headed line.0 header) []) judged now new
         → Covers M (scan_line M.limits.transactions nothing line) (progress_of (first_tally line.0 header) judged) now new
@@ -115,11 +116,11 @@ module _ {J R : Type 0} (M : Judging J R) where
       most = most_next most;
       least = subst (λ (s : InputScan). M.GoodAtLeast s old new) (sym (tallied_next sc tally c.follows line.0 r)) least;
     }
-    covers_next (Bad rejection) most is least = record {
+    covers_next (judged.Rejected rejection) most is least = record {
       follows = follows_next sc tally c.follows line.0 r;
       bad = is;
       most = most_next most;
-      least = subst (λ (s : InputScan). M.BadAtLeast s old new) (sym (tallied_next sc tally c.follows line.0 r)) least;
+      least = subst (λ (s : InputScan). M.RejectedAtLeast s old new) (sym (tallied_next sc tally c.follows line.0 r)) least;
     }
 
   module _ (tally : Tally) (judge : J) (line : NumberedLine) (r : RunRecord Op) (now new : ℕ) (other : blank line.1 ≡ false) (read : record_of tally.header line.1 ≡ Ok r) (few : is_too_many M.limits.transactions tally r ≡ false) where
@@ -149,7 +150,7 @@ module _ {J R : Type 0} (M : Judging J R) where
         (laws.good_fault (headed c.follows.at tally.header) sc.records judge fault c.good)
     covers_fault sc (Rejected tally rejection) old now fault c =
         subst (λ (s : InputScan). M.IsFault (record s { fault = fault }) fault) (sym (tallied_scan sc tally c.follows))
-        (laws.bad_fault (headed c.follows.at tally.header) sc.records rejection fault c.bad)
+        (laws.rejected_fault (headed c.follows.at tally.header) sc.records rejection fault c.bad)
 
     pub covers_most : (sc : InputScan) (p : Progress J R) (old now : ℕ) → Covers M sc p old now → M.AtMost sc old now
     covers_most sc (Waiting lines) old now c = subst (λ (s : InputScan). M.AtMost s old now) (sym c.0) (subst (λ (n : ℕ). M.AtMost nothing old n) (sym c.1) (laws.first_most old))
@@ -172,24 +173,24 @@ module _ {J R : Type 0} (M : Judging J R) where
         subst (λ (s : InputScan). M.IsFault s (Some (line.0, cause))) (sym is) (laws.first_fault (Some (line.0, cause)))
 
     pub refused_faulty : (tally : Tally) (p : Progress J R) (line : NumberedLine) (now : ℕ) (cause : Cause) → ((sc : InputScan) (old : ℕ) → Covers M sc p old now → IsTallied sc tally) → blank line.1 ≡ false
-        → IsRefused M.limits.transactions tally (record_of tally.header line.1) cause → HasFaultOn M p line now cause
+        → IsRecordFault M.limits.transactions tally (record_of tally.header line.1) cause → HasFaultOn M p line now cause
     refused_faulty tally p line now cause follows other refused sc old c =
         subst (λ (s : InputScan). M.IsFault s (Some (line.0, cause))) (sym (record_fault M.limits.transactions sc tally (follows sc old c) line other (record_of tally.header line.1) cause refl refused))
         (covers_fault sc p old now (Some (line.0, cause)) c)
 
     -- ---- a record after a rejection
 
-    passed : (sc : InputScan) (tally : Tally) (rejection : R) (line : NumberedLine) (r : RunRecord Op) (old now : ℕ) (c : BadAt M sc tally rejection old now) → M.AtMost (with_next sc line.0 r) old now
-        → BadAt M (with_next sc line.0 r) (with_record tally r) rejection old now
+    passed : (sc : InputScan) (tally : Tally) (rejection : R) (line : NumberedLine) (r : RunRecord Op) (old now : ℕ) (c : RejectedAt M sc tally rejection old now) → M.AtMost (with_next sc line.0 r) old now
+        → RejectedAt M (with_next sc line.0 r) (with_record tally r) rejection old now
     unfolding follows_next
     passed sc tally rejection line r old now c most =
         let h : Lined Header = headed c.follows.at tally.header in
         record {
           follows = follows_next sc tally c.follows line.0 r;
-          bad = laws.bad_stays h sc.records (on_record line.0 r ∷ []) rejection c.bad;
+          bad = laws.rejection_stays h sc.records (on_record line.0 r ∷ []) rejection c.bad;
           most = most;
-          least = subst (λ (s : InputScan). M.BadAtLeast s old now) (sym (tallied_next sc tally c.follows line.0 r))
-              (laws.bad_least_stays h sc.records (on_record line.0 r ∷ []) rejection old now c.bad (subst (λ (s : InputScan). M.BadAtLeast s old now) (tallied_scan sc tally c.follows) c.least));
+          least = subst (λ (s : InputScan). M.RejectedAtLeast s old now) (sym (tallied_next sc tally c.follows line.0 r))
+              (laws.rejected_least_stays h sc.records (on_record line.0 r ∷ []) rejection old now c.bad (subst (λ (s : InputScan). M.RejectedAtLeast s old now) (tallied_scan sc tally c.follows) c.least));
         }
 
     pub passed_on : (tally : Tally) (rejection : R) (line : NumberedLine) (r : RunRecord Op) (now : ℕ) → blank line.1 ≡ false → record_of tally.header line.1 ≡ Ok r → is_too_many M.limits.transactions tally r ≡ false
@@ -197,7 +198,7 @@ module _ {J R : Type 0} (M : Judging J R) where
     passed_on tally rejection line r now other read few = record {
       covers = λ sc old c.
           let is : scan_line M.limits.transactions sc line ≡ with_next sc line.0 r = scan_next M.limits.transactions sc tally c.follows line other r read few in
-          subst (λ (s : InputScan). BadAt M s (with_record tally r) rejection old now) (sym is)
+          subst (λ (s : InputScan). RejectedAt M s (with_record tally r) rejection old now) (sym is)
           (passed sc tally rejection line r old now c (subst (λ (s : InputScan). M.AtMost s old now) is (still_cost (Rejected tally rejection) line now sc old c)));
       lines = refl;
     }

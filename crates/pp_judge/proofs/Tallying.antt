@@ -13,7 +13,7 @@ use Rattle.pp_format_read.specs.Records.{record_of}
 use Rattle.pp_input_reader.specs.declared.cause.Cause.{Cause}
 use Rattle.pp_judge.specs.Scans.{InputScan, begins, is_begin_record, nothing, scan_line, with_header}
 use Rattle.pp_judge.specs.Scans.{with_next}
-use Rattle.pp_judge.specs.Tallies.{IsRefused, IsTallied, headed, is_too_many, one_more, scan_of}
+use Rattle.pp_judge.specs.Tallies.{IsRecordFault, IsTallied, headed, is_too_many, one_more, scan_of}
 use Rattle.pp_judge.specs.Tallies.{with_line, with_record}
 use Rattle.pp_judge.specs.declared.progress.Tally.{Tally}
 use Rattle.pp_judge.proofs.Scanning.{faulty_at, next_taken, scan_record, too_many}
@@ -57,7 +57,7 @@ module _ (most : ℕ) (sc : InputScan) (tally : Tally) (f : IsTallied sc tally) 
   pub scan_next : (r : RunRecord Op) → record_of tally.header line.1 ≡ Ok r → is_too_many most tally r ≡ false → scan_line most sc line ≡ with_next sc line.0 r
   scan_next r read few = scan_record most sc (record { line = f.at; what = tally.header }) line (Ok r) f.sound f.header other read ∙ next_taken most sc line.0 r (test_same r false few)
 
-  pub record_fault : (r : Result (RunRecord Op) RecordFault) (cause : Cause) → record_of tally.header line.1 ≡ r → IsRefused most tally r cause → scan_line most sc line ≡ faulty_at sc (line.0, cause)
+  pub record_fault : (r : Result (RunRecord Op) RecordFault) (cause : Cause) → record_of tally.header line.1 ≡ r → IsRecordFault most tally r cause → scan_line most sc line ≡ faulty_at sc (line.0, cause)
   record_fault (Ok r) cause read refused =
       scan_record most sc (record { line = f.at; what = tally.header }) line (Ok r) f.sound f.header other read
       ∙ too_many most sc line.0 r (test_same r true refused.0) ∙ ap (λ (c : Cause). faulty_at sc (line.0, c)) (sym refused.1)

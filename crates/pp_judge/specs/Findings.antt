@@ -32,10 +32,10 @@ pub record AreGood {J R : Type 0} (M : Judging J R) (sc : InputScan) (tally : Ta
   pub good : M.IsGood (headed follows.at tally.header) sc.records judge
 
 -- the start or a record of a scan is rejected
-pub record AreBad {J R : Type 0} (M : Judging J R) (sc : InputScan) (tally : Tally)
+pub record AreRejected {J R : Type 0} (M : Judging J R) (sc : InputScan) (tally : Tally)
     (rejection : R) : Type 0 where
   pub follows : IsTallied sc tally
-  pub bad : M.IsBad (headed follows.at tally.header) sc.records rejection
+  pub bad : M.IsRejectedBy (headed follows.at tally.header) sc.records rejection
 
 -- the finding is that of the input
 abbrev pub Finds : {J R : Type 0} → Judging J R → Option (List ℕ) → Option (List ℕ) →
@@ -43,7 +43,7 @@ abbrev pub Finds : {J R : Type 0} → Judging J R → Option (List ℕ) → Opti
 Finds M old new (findings.Fault line cause) =
     WhereTold old λ bytes. M.IsFault (scan_within M.limits bytes) (Some (line, cause))
 Finds M old new (findings.Rejected tally rejection) =
-    ReadsWhole M.limits old new λ sc. AreBad M sc tally rejection
+    ReadsWhole M.limits old new λ sc. AreRejected M sc tally rejection
 Finds M old new (findings.Accepted tally judge) =
     ReadsWhole M.limits old new λ sc. AreGood M sc tally judge
 
@@ -57,5 +57,5 @@ ReadsSound M old new =
 abbrev pub RisesAtLeast : {J R : Type 0} → Judging J R → InputScan → Finding J R →
     (old new : ℕ) → Type 0
 RisesAtLeast M sc (findings.Fault line cause) old new = Unit {0}
-RisesAtLeast M sc (findings.Rejected tally rejection) old new = M.BadAtLeast sc old new
+RisesAtLeast M sc (findings.Rejected tally rejection) old new = M.RejectedAtLeast sc old new
 RisesAtLeast M sc (findings.Accepted tally judge) old new = M.GoodAtLeast sc old new

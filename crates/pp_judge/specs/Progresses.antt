@@ -8,7 +8,8 @@ use Rattle.pp_judge.specs.Judging.{Judging}
 use Rattle.pp_judge.specs.Scans.{InputScan, nothing, scan_line, scan_lines}
 use Rattle.pp_judge.specs.Tallies.{IsTallied, headed, with_line}
 use Rattle.pp_judge.specs.declared.judge.Judged.{Judged}
-use Rattle.pp_judge.specs.declared.judge.Judged.TheVariants.{Good, Bad}
+use Rattle.pp_judge.specs.declared.judge.Judged.TheVariants.{Good}
+use Rattle.pp_judge.specs.declared.judge.Judged.TheVariants as judged
 use Rattle.pp_judge.specs.declared.progress.Progress.{Progress}
 use Rattle.pp_judge.specs.declared.progress.Progress.TheVariants.{Waiting, Running, Rejected}
 use Rattle.pp_judge.specs.declared.progress.Tally.{Tally}
@@ -28,7 +29,7 @@ with_blank (Rejected tally rejection) = Rejected (with_line tally) rejection
 -- a run that is judged so
 abbrev pub progress_of : {J R : Type 0} → Tally → Judged J R → Progress J R
 progress_of tally (Good judge) = Running tally judge
-progress_of tally (Bad rejection) = Rejected tally rejection
+progress_of tally (judged.Rejected rejection) = Rejected tally rejection
 
 -- the start and each record so far are good, and raised the counter
 pub record GoodAt {J R : Type 0} (M : Judging J R) (sc : InputScan) (tally : Tally) (judge : J)
@@ -39,19 +40,19 @@ pub record GoodAt {J R : Type 0} (M : Judging J R) (sc : InputScan) (tally : Tal
   pub least : M.GoodAtLeast sc old new
 
 -- the start or a record so far is rejected, whatever follows
-pub record BadAt {J R : Type 0} (M : Judging J R) (sc : InputScan) (tally : Tally) (rejection : R)
-    (old new : ℕ) : Type 0 where
+pub record RejectedAt {J R : Type 0} (M : Judging J R) (sc : InputScan) (tally : Tally)
+    (rejection : R) (old new : ℕ) : Type 0 where
   pub follows : IsTallied sc tally
-  pub bad : M.IsBad (headed follows.at tally.header) sc.records rejection
+  pub bad : M.IsRejectedBy (headed follows.at tally.header) sc.records rejection
   pub most : M.AtMost sc old new
-  pub least : M.BadAtLeast sc old new
+  pub least : M.RejectedAtLeast sc old new
 
 -- the lines so far, which are scanned so, lead to here, and raised the counter
 abbrev pub Covers : {J R : Type 0} → Judging J R → InputScan → Progress J R → (old new : ℕ) →
     Type 0
 Covers M sc (Waiting lines) old new = (sc ≡ nothing) × (new ≡ old)
 Covers M sc (Running tally judge) old new = GoodAt M sc tally judge old new
-Covers M sc (Rejected tally rejection) old new = BadAt M sc tally rejection old new
+Covers M sc (Rejected tally rejection) old new = RejectedAt M sc tally rejection old new
 
 -- ---- a line
 

@@ -49,7 +49,7 @@ abbrev pub is_too_many : ℕ → Tally → RunRecord Op → Bool
 is_too_many most tally r = is_begin_record r && tally.begins == most
 
 -- why a record is not taken: it can not be read, or it begins too many transactions
-abbrev pub IsRefused : ℕ → Tally → Result (RunRecord Op) RecordFault → Cause → Type 0
-IsRefused most tally (Err fault) cause = cause_of fault ≡ Ok cause
-IsRefused most tally (Ok r) cause =
+abbrev pub IsRecordFault : ℕ → Tally → Result (RunRecord Op) RecordFault → Cause → Type 0
+IsRecordFault most tally (Err fault) cause = cause_of fault ≡ Ok cause
+IsRecordFault most tally (Ok r) cause =
     (is_too_many most tally r ≡ true) × (cause ≡ TooManyTransactions)

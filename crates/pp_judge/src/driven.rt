@@ -45,7 +45,7 @@ pub struct Driven<W> {
 
 /// The first step that is rejected, and an observer that has seen the steps up to it.
 #[derive(Drop)]
-pub struct Refused<W> {
+pub struct ObservedRejection<W> {
     pub rejection: Rejection,
     pub observer: W,
 }
@@ -143,7 +143,7 @@ fn judged_of<W: Observer>(
     machine: Tracked<Objects>,
     observer: W,
     rejection: Option<Rejection>,
-) -> Judged<Driven<W>, Refused<W>>
+) -> Judged<Driven<W>, ObservedRejection<W>>
     ensures { result ≡ judged_of front machine observer rejection }
 {
     match rejection {
@@ -152,7 +152,7 @@ fn judged_of<W: Observer>(
             machine,
             observer,
         }),
-        Some(rejection) => Judged::Bad(Refused {
+        Some(rejection) => Judged::Rejected(ObservedRejection {
             rejection,
             observer,
         }),
@@ -163,7 +163,7 @@ impl<W: Observer> Judge for Driven<W> {
     ghost use Rattle.pp_judge.specs.Driven.{driven_judging};
     ghost use Rattle.pp_judge.specs.laws.Driven.{driven_laws};
 
-    type Rejection = Refused<W>;
+    type Rejection = ObservedRejection<W>;
 
     ghost judging = { driven_judging W.HasSeen };
 
@@ -176,7 +176,7 @@ impl<W: Observer> Judge for Driven<W> {
         header: &Header,
         line: u32,
         ticks: &mut Ticks<L>,
-    ) -> Result<Judged<Driven<W>, Refused<W>>, Stop<Cause>> {
+    ) -> Result<Judged<Driven<W>, ObservedRejection<W>>, Stop<Cause>> {
         let observer = W::begin(alloc, header)?;
         let front = first_front(alloc, header)?;
         let (machine, outcome) = start_machine(alloc, header, ticks)?;
@@ -197,7 +197,7 @@ impl<W: Observer> Judge for Driven<W> {
                     criterion,
                     detail,
                 };
-                Ok(Judged::Bad(Refused {
+                Ok(Judged::Rejected(ObservedRejection {
                     rejection,
                     observer,
                 }))
@@ -212,7 +212,7 @@ impl<W: Observer> Judge for Driven<W> {
         recorded: &RunRecord<Op>,
         line: u32,
         ticks: &mut Ticks<L>,
-    ) -> Result<Judged<Driven<W>, Refused<W>>, Stop<Cause>> {
+    ) -> Result<Judged<Driven<W>, ObservedRejection<W>>, Stop<Cause>> {
         let Driven {
             mut front,
             mut machine,

@@ -26,7 +26,7 @@ pub enum Judged<J, R> {
     /// Its start and its records are good, and the judge can take more.
     Good(J),
     /// Its start or a record is rejected.
-    Bad(R),
+    Rejected(R),
 }
 
 /// What judges the records of a run, one after another.

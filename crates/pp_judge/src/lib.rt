@@ -13,10 +13,10 @@ mod record_steps;
 mod report;
 mod take;
 
-pub use driven::{Driven, Refused, Rejection, start_machine};
+pub use driven::{Driven, ObservedRejection, Rejection, start_machine};
 pub use finding::{Finding, examine};
 pub use judge::{Judge, Judged};
 pub use law::{limits_law, records_are_steps, records_extend, wider_limits_law};
 pub use observer::{Blind, Observer};
 pub use progress::{Progress, Tally};
-pub use report::{report_rejected, summary};
+pub use report::{compute_states, report_rejected};

@@ -111,6 +111,6 @@ pub(crate) fn progress_of<J, R>(tally: Tally, judged: Judged<J, R>) -> Progress<
 {
     match judged {
         Judged::Good(judge) => Progress::Running(tally, judge),
-        Judged::Bad(rejection) => Progress::Rejected(tally, rejection),
+        Judged::Rejected(rejection) => Progress::Rejected(tally, rejection),
     }
 }

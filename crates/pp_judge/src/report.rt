@@ -1,4 +1,4 @@
-//! The report of a rejected run, and the summary of an accepted one.
+//! The report of a rejected run, and the states of an accepted one.
 ghost use Rattle.std.specs.Prelude.{◌≡◌, ◌≤◌, ◌+◌, length, IfOk, OnOk};
 ghost use Rattle.pp_core.specs.declared.status.Status.TheVariants as statuses;
 ghost use Rattle.pp_model.specs.Sound.{serial_ops};
@@ -21,7 +21,7 @@ use std::sync::ledger::Ledger;
 
 /// How many steps an accepted run has, and the states that its committed transactions lead to, one
 /// after another.
-pub fn summary<L: Ledger>(
+pub fn compute_states<L: Ledger>(
     alloc: Global,
     tally: &Tally,
     machine: &Machine<Objects>,

@@ -12,7 +12,7 @@ ghost use Rattle.pp_judge.specs.Causes.{cause_of};
 ghost use Rattle.pp_judge.specs.Progresses.{CostsOn, Covers, HasFaultOn, IsNextLine, LeadsTo};
 ghost use Rattle.pp_judge.specs.Progresses.{lines_of};
 ghost use Rattle.pp_judge.specs.Scans.{nothing, scan_line};
-ghost use Rattle.pp_judge.specs.Tallies.{IsRefused, is_too_many};
+ghost use Rattle.pp_judge.specs.Tallies.{IsRecordFault, is_too_many};
 ghost use Rattle.pp_judge.specs.declared.progress.Progress.TheVariants.{Rejected, Running};
 
 use crate::cause::cause_of;
@@ -86,7 +86,7 @@ fn read_next(
     ensures styled { IfOk result (λ r. IsOfStyle tally.now.header.style (record_meaning r)) }
     ensures few { IfOk result (λ r. is_too_many most tally.now (record_meaning r) ≡ false) }
     ensures err { IfErr result (λ stop. IfFault stop (λ at cause. (at ≡ line.now.number)
-        × IsRefused most tally.now (record_of tally.now.header line.now.text) cause)) }
+        × IsRecordFault most tally.now (record_of tally.now.header line.now.text) cause)) }
 {
     let recorded = match read_record(alloc, &tally.header, line.text.bytes()) {
         Ok(recorded) => recorded,

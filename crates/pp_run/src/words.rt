@@ -23,7 +23,7 @@ pub(crate) enum Command {
     Recheck,
     /// Print what each attempt of the run saw.
     Views,
-    /// Make the run of n transactions, and print a summary of it.
+    /// Make the run of n transactions, and print its report.
     Drill { n: u32 },
 }
 

@@ -232,18 +232,18 @@ driven_laws HasSeen = record {
   first_fault = λ fault. inr (λ line over. over, refl);
   good_fault = λ h rs judge fault good.
       inr (good_few h.what rs judge.front judge.machine good.0 h.line, refl);
-  bad_fault = λ h rs refused fault bad.
+  rejected_fault = λ h rs refused fault bad.
       inr (bad_few h.what h.line rs refused.rejection bad.0, refl);
   fault_stays = λ sc wider fault w is. (input_law setting_of TooManySteps).stays sc wider fault w
       is;
-  bad_stays = λ h rs more refused bad. (
+  rejection_stays = λ h rs more refused bad. (
     ends_behind h.what h.line rs refused.rejection bad.0 more,
     holds_behind h.what h.line rs refused.rejection bad.0
         (λ steps. HasSeen h.what steps refused.observer) more bad.1,
   );
   first_most = nothing_most;
   most_widens = most_widens;
-  bad_least_stays = λ h rs more refused old new bad least.
+  rejected_least_stays = λ h rs more refused old new bad least.
       holds_behind h.what h.line rs refused.rejection bad.0
       (λ steps. old + singles (but_last steps) ≤ new) more least;
 }

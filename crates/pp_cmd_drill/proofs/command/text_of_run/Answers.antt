@@ -10,8 +10,8 @@ use Rattle.pp_cmd_drill.proofs.Drilling.{catalog_is, drilled_by}
 use Rattle.pp_cmd_drill.specs.Reports.{drill_report, drill_scan}
 use Rattle.pp_cmd_drill.proofs.command.text_of_run.Goals as goal
 
-pub summary-requires : goal.summary-requires
-summary-requires g c = (drill_scan c.args.n, c.requires.running)
+pub compute_states-requires : goal.compute_states-requires
+compute_states-requires g c = (drill_scan c.args.n, c.requires.running)
 
 pub drill_report-requires-clause-over : goal.drill_report-requires-clause-over
 drill_report-requires-clause-over g c = catalog_is c.args.n c.requires.some c.requires.few c.args.tally.now c.args.machine.now c.requires.running

@@ -4,7 +4,7 @@ use Rattle.pp_records.specs.Records.{record_meaning}
 use Rattle.pp_input.specs.Lines.{NumberedLine}
 use Rattle.pp_input_reader.proofs.Takers.{if_fault}
 use Rattle.pp_format_read.specs.Records.{record_of}
-use Rattle.pp_judge.specs.Tallies.{IsRefused, is_too_many}
+use Rattle.pp_judge.specs.Tallies.{IsRecordFault, is_too_many}
 use Rattle.pp_judge.specs.Progresses.{LeadsTo}
 use Rattle.pp_judge.specs.declared.progress.Progress.TheVariants.{Rejected}
 use Rattle.pp_judge.proofs.Taking.{passed_on, refused_faulty}
@@ -19,7 +19,7 @@ returns-in_err-recorded-clause-stop g c =
     (λ at cause said. (
       said.0,
       λ now. refused_faulty g.J.Judge.judging g.met.J.Judge.laws c.args.tally (Rejected c.args.tally c.args.rejection) line now cause (λ sc old covers. covers.follows) c.requires.other
-          (subst (λ most. IsRefused most c.args.tally (record_of c.args.tally.header line.1) cause) (ap (λ limits. limits.transactions) c.limits-most.ensures.limits) said.1),
+          (subst (λ most. IsRecordFault most c.args.tally (record_of c.args.tally.header line.1) cause) (ap (λ limits. limits.transactions) c.limits-most.ensures.limits) said.1),
     ))
     c.in_err-recorded.ensures.err)
 

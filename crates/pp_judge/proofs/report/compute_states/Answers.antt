@@ -6,7 +6,7 @@ use Rattle.pp_objects.specs.Objects.{kinds_of, objects}
 use Rattle.pp_objects.specs.declared.act.Op.{Op}
 use Rattle.pp_kind.specs.Object.{rules_of, state_after}
 use Rattle.pp_judge.proofs.Naming.{allowed_over, states_named}
-use Rattle.pp_judge.proofs.report.summary.Goals as goal
+use Rattle.pp_judge.proofs.report.compute_states.Goals as goal
 
 pub serial_state-requires-clause-allowed : goal.serial_state-requires-clause-allowed
 serial_state-requires-clause-allowed g c =
