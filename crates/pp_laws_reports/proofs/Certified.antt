@@ -22,6 +22,7 @@ use Rattle.pp_objects.specs.Objects.{kinds_of, objects}
 use Rattle.pp_objects.specs.declared.act.Op.{Op}
 use Rattle.pp_report.specs.Reports.{accepted_text, rejected_text}
 use Rattle.pp_machine.specs.Evidence.{evidence}
+use Rattle.pp_input.specs.Limits.{usual_limits}
 use Rattle.pp_input_reader.specs.FaultTexts.{fault_text}
 use Rattle.pp_input_reader.specs.declared.cause.Cause.{Cause}
 use Rattle.pp_input_reader.specs.declared.cause.Cause.TheVariants.{TooManySteps}
@@ -95,7 +96,7 @@ module _ (bytes : List ℕ)
         where
           by : (o : Option (ℕ × Cause)) → (scan bytes).fault ≡ o → ⊥
           by (Some f) is = no_fault f (inr (few, sym is))
-          by None is = let h = header_of_sound bytes is in no_run h.0 h.1 (inr (few, sym is))
+          by None is = let h = header_of_sound usual_limits bytes is in no_run h.0 h.1 (inr (few, sym is))
 
 -- Every input has an output of `certify`.
 pub certify_is_defined : (bytes : List ℕ) → IsDefined (IsCertified bytes)

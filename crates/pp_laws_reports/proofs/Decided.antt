@@ -6,6 +6,7 @@ use Rattle.pp_core.specs.declared.status.Status.TheVariants as statuses
 use Rattle.pp_records.specs.Runs.{Lined}
 use Rattle.pp_format_read.specs.declared.header.Header.{Header}
 use Rattle.pp_model.specs.Serial.{committed_tx}
+use Rattle.pp_input.specs.Limits.{usual_limits}
 use Rattle.pp_input_reader.specs.FaultTexts.{fault_text}
 use Rattle.pp_input_reader.specs.declared.cause.Cause.{Cause}
 use Rattle.pp_input_reader.specs.declared.cause.Cause.TheVariants.{NotBoosted}
@@ -29,7 +30,7 @@ header_of_quick bytes sound = by (scan bytes).header refl
   where
     by : (o : Option (Lined Header)) → (scan bytes).header ≡ o → (header : Lined Header) × ((scan bytes).header ≡ Some header)
     by (Some h) is = (h, is)
-    by None is = header_of_sound bytes (subst (λ (o : Option (Lined Header)). style_fault is_boosted NotBoosted o (scan bytes).fault ≡ None) is sound)
+    by None is = header_of_sound usual_limits bytes (subst (λ (o : Option (Lined Header)). style_fault is_boosted NotBoosted o (scan bytes).fault ≡ None) is sound)
 
 -- Every input has an output of `quick`.
 pub quick_is_defined : (bytes : List ℕ) → IsDefined (IsQuick bytes)

@@ -27,7 +27,7 @@ use Rattle.pp_judge.specs.Reports.{IsTold, RunReport, detail_of_start}
 use Rattle.pp_cmd_quick.proofs.Verdicts.{some_verdict}
 use Rattle.pp_cmd_quick.specs.Decisions.{style_fault}
 use Rattle.pp_cmd_judge.proofs.Reporting.{fault_reported, run_reported}
-use Rattle.pp_cmd_judge.specs.Inputs.{judge_scan}
+use Rattle.pp_cmd_judge.specs.Inputs.{judge_limits, judge_scan}
 use Rattle.pp_cmd_judge.specs.Judgements.{IsJudged, is_judged, judge_fault}
 use Rattle.pp_laws_reports.proofs.Scanned.{header_of_sound, rejected_step}
 use Rattle.pp_laws_reports.specs.Defined.{IsDefined}
@@ -70,7 +70,7 @@ header_of_judged bytes sound = by (judge_scan bytes).header refl
   where
     by : (o : Option (Lined Header)) → (judge_scan bytes).header ≡ o → (header : Lined Header) × ((judge_scan bytes).header ≡ Some header)
     by (Some h) is = (h, is)
-    by None is = header_of_sound bytes (subst (λ (o : Option (Lined Header)). style_fault is_judged StyleNotJudged o (judge_scan bytes).fault ≡ None) is sound)
+    by None is = header_of_sound judge_limits bytes (subst (λ (o : Option (Lined Header)). style_fault is_judged StyleNotJudged o (judge_scan bytes).fault ≡ None) is sound)
 
 -- the records of an input have this status and text
 abbrev Told : List ℕ → Status → List ℕ → Option (Lined Header) → Type 0

@@ -4,7 +4,7 @@ use Rattle.std.specs.Option.{option_or}
 use Rattle.std.proofs.Common.{refl, subst, arith}
 use mathlib.Core.Logic.{inl, inr}
 use Rattle.pp_records.specs.Runs.{Lined, LinedSteps, bare}
-use Rattle.pp_input.specs.Limits.{usual_limits}
+use Rattle.pp_input.specs.declared.limits.Limits.{Limits}
 use Rattle.pp_input.specs.Overruns.{overrun, scanned_lines}
 use Rattle.pp_format_read.specs.declared.header.Header.{Header}
 use Rattle.pp_model.specs.Config.{Config, Start, Step, then}
@@ -12,12 +12,12 @@ use Rattle.pp_model.specs.Object.{Object}
 use Rattle.pp_model.specs.Rules.{Accepted, IsVerdict, IsVerdictFrom, Rejected}
 use Rattle.pp_input_reader.specs.declared.cause.Cause.{Cause}
 use Rattle.pp_input_reader.specs.Limits.{limit_fault}
-use Rattle.pp_judge.specs.Inputs.{no_header, scan}
+use Rattle.pp_judge.specs.Inputs.{no_header, scan_within}
 use Rattle.pp_judge.specs.Scans.{scan_lines}
 
 -- an input without a fault has a header
-pub header_of_sound : (bytes : List ℕ) → (scan bytes).fault ≡ None → (header : Lined Header) × ((scan bytes).header ≡ Some header)
-header_of_sound bytes sound = by (scan_lines usual_limits.transactions (scanned_lines usual_limits bytes)).fault (limit_fault (overrun usual_limits bytes)) (scan_lines usual_limits.transactions (scanned_lines usual_limits bytes)).header sound
+pub header_of_sound : (limits : Limits) (bytes : List ℕ) → (scan_within limits bytes).fault ≡ None → (header : Lined Header) × ((scan_within limits bytes).header ≡ Some header)
+header_of_sound limits bytes sound = by (scan_lines limits.transactions (scanned_lines limits bytes)).fault (limit_fault (overrun limits bytes)) (scan_lines limits.transactions (scanned_lines limits bytes)).header sound
   where
     by : (read limit : Option (ℕ × Cause)) (o : Option (Lined Header)) → option_or read (option_or limit (no_header bytes o)) ≡ None → (header : Lined Header) × (o ≡ Some header)
     by (Some f) limit o e = absurd (let no : Some f ≡ None = e in cc)
