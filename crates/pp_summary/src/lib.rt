@@ -22,9 +22,10 @@ pub use laws::{
     boosted_law, brief_law, decided_law, failure_law, front_law, leave_law, placed_law, reader_law,
     sum_law,
 };
+pub use open_tx::given_back;
 pub use own::Own;
 pub use parts::{Commits, OpenTx, Parts};
 pub use pp_records::RunRecord;
 pub use quick::Quick;
 pub use seen::Seen;
-pub use slots::{Slots, find_open};
+pub use slots::{Slots, find_open, put_back, put_new, take_out};

@@ -55,7 +55,7 @@ pub fn add_operation<S: Parted>(
 }
 
 /// The walk with this many calls given back.
-fn given_back<S: Placed>(walk: Walk, own: &[Item<S::Op>]) -> Walk
+pub fn given_back<S: Placed>(walk: Walk, own: &[Item<S::Op>]) -> Walk
     requires { HasTaken walk (calls_of S.object own.now) }
     ensures body { result.body ≡ walk.body }
     ensures taken { HasTaken result [] }

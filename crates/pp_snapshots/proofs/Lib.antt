@@ -1,0 +1,14 @@
+pub mod Kept
+pub mod Pasts
+pub mod Manies
+pub mod Filled
+pub mod Asking
+pub mod Views
+pub mod Moving
+pub mod OnOp
+pub mod OnBegin
+pub mod OnClosing
+pub mod OnRefresh
+pub mod OnStart
+pub mod Takens
+pub mod Costs

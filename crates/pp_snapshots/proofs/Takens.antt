@@ -1,0 +1,68 @@
+-- Proof machinery: what contracts see, and the summary that is shown.
+use Rattle.std.proofs.Common.{◌≡◌, ℕ, Bool, true, false, List, [], ◌∷◌, map, None, Some, refl, sym, ap, subst, ◌∙◌}
+use Rattle.pp_core.specs.declared.call.Kind.{Kind}
+use Rattle.pp_core.specs.declared.call.Style.TheVariants.{Optimistic}
+use Rattle.pp_model.specs.Sound.{serial_items, serial_ops}
+use Rattle.pp_kind.specs.Object.{IsAllowed, IsLawful, IsPlaced, Object, rules_of, state_after}
+use Rattle.pp_kind.proofs.Places.{reached_shape}
+use Rattle.pp_records.specs.Fronts.{Front}
+use Rattle.pp_records.specs.Records.{RunRecord}
+use Rattle.pp_records.specs.Runs.{Standing}
+use Rattle.pp_laws_summary.specs.Places.{ops_at}
+use Rattle.pp_laws_summary.specs.Summary.{OpenSummary, Summary, SummaryGood, next_summary}
+use Rattle.pp_laws_summary.proofs.Placed.{parts_of}
+use Rattle.pp_summary.specs.Shown.{filled}
+use Rattle.pp_snapshots.specs.Held.{IsTakenOf, Takes, open_of, summary_taken}
+use Rattle.pp_snapshots.specs.Moving.{Answers, as_taken, tx_taken}
+use Rattle.pp_snapshots.specs.Shown.{Keeps, Kept, SlotList, done_ops, shown, shown_tx}
+use Rattle.pp_snapshots.proofs.Pasts.{allowed_there, same_run, same_there, shape_is}
+use Rattle.pp_snapshots.proofs.Views.{ops_items}
+
+opened_is : {Op : Type 0} (es : SlotList Op) → map open_of (filled tx_taken es) ≡ filled shown_tx es
+opened_is [] = refl
+opened_is ((n, None) ∷ es) = opened_is es
+opened_is {Op} ((n, Some x) ∷ es) = ap (λ (l : List (OpenSummary Op)). shown_tx n x ∷ l) (opened_is es)
+
+pub summary_is : {Shape State Op Undo : Type 0} (ks : List Kind) (v : Kept Shape State Op Undo) → summary_taken ks (as_taken v) ≡ shown ks v
+summary_is {Op = Op} ks v = ap (λ (l : List (OpenSummary Op)). record (shown ks v) { opened = l }) (opened_is v.slots.entries)
+
+module _ {Shape State Op Undo : Type 0} (o : Object Shape State Op Undo) (place : Op → ℕ) where
+  pub held_is : (v : Kept Shape State Op Undo) → Keeps o place v → (p : Standing Front Op) × IsTakenOf o place (as_taken v) p
+  held_is v h = (h.is_held.0, record { summable = h.is_held.1.summable; is = h.is_held.1.is ∙ sym (summary_is h.is_held.0.front.kinds v) })
+
+  -- what is answered, in the words of contracts
+  pub takes_is : (v w : Kept Shape State Op Undo) (r : RunRecord Op) (good : Bool) → Answers o place v r good w → Takes o place (as_taken v) r good (as_taken w)
+  takes_is v w r true a = (
+    (λ ks. subst (λ (B : Summary Op). SummaryGood Optimistic (rules_of o v.shape) place B r) (sym (summary_is ks v)) (a.0 ks)),
+    record {
+      shape = a.1.shape;
+      summary = λ ks. summary_is ks w ∙ a.1.shown ks ∙ ap (λ (B : Summary Op). next_summary place Optimistic B r) (sym (summary_is ks v));
+      count = a.1.count;
+    },
+  )
+  takes_is v w r false a = (
+    (λ ks k. a.0 ks (subst (λ (B : Summary Op). SummaryGood Optimistic (rules_of o v.shape) place B r) (summary_is ks v) k)),
+    record {
+      shape = a.1.shape;
+      summary = λ ks. summary_is ks w ∙ a.1.shown ks ∙ sym (summary_is ks v);
+      count = a.1.count;
+    },
+  )
+
+  pub keeps_then : (v w : Kept Shape State Op Undo) (r : RunRecord Op) (good : Bool) → Answers o place v r good w → Keeps o place w
+  keeps_then v w r true a = a.1.keeps
+  keeps_then v w r false a = a.1.keeps
+
+  -- the state that is kept is that of the serial run
+  module _ (SameAt : ℕ → State → State → Type 0) (laws : IsLawful o) (places : IsPlaced o place SameAt) where
+    pub state_is : (v : Kept Shape State Op Undo) → Keeps o place v → v.past.state ≡ state_after o v.shape (serial_ops v.committed)
+    state_is v h =
+        let D = v.committed in
+        let s = state_after o v.shape (serial_ops D) in
+        let at : (q : ℕ) → ops_at place q (serial_ops D) ≡ done_ops o place D q = λ q. ops_items place q (serial_items D) in
+        let allowed : IsAllowed o v.shape (serial_ops D) = ((parts_of o place SameAt laws places v.shape).parts (serial_ops D)).1 (λ q. subst (IsAllowed o v.shape) (sym (at q)) (allowed_there o place SameAt laws places v.shape v.past (done_ops o place D) h.past q)) in
+        places.everywhere v.past.state s (shape_is o place SameAt laws places v.shape v.past (done_ops o place D) h.past ∙ sym (reached_shape o laws v.shape (serial_ops D) allowed))
+        (λ q.
+        let t = state_after o v.shape (done_ops o place D q) in
+        let there : SameAt q s t = subst (λ (l : List Op). SameAt q s (state_after o v.shape l)) (at q) (same_run o place SameAt laws places q (o.start v.shape) (o.start v.shape) (serial_ops D) (places.same q (o.start v.shape))) in
+        places.joined q v.past.state t s (same_there o place SameAt laws places v.shape v.past (done_ops o place D) h.past q) (places.turned q s t there))

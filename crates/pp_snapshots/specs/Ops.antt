@@ -1,0 +1,129 @@
+-- Proof machinery: an op record, by what is kept.
+use Rattle.std.specs.Prelude.{◌≡◌, ◌==◌, ◌&&◌, ◌+◌, ◌-◌, ◌*◌, ◌<◌, ◌^◌, ℕ, zero, cond, nat_eq, false, List, []}
+use Rattle.std.specs.Prelude.{◌∷◌, ◌++◌, length, take, Option, None, Some}
+use Rattle.std.specs.List.{list_any}
+use Rattle.std.specs.Map.{lookup, set_value}
+use Rattle.pp_body.specs.Walks.{HasTakenOneMore, MayTake}
+use Rattle.pp_core.specs.declared.entry.Item.{Item}
+use Rattle.pp_kind.specs.Object.{IsAllowed, Object}
+use Rattle.pp_model.specs.Body.{Begins}
+use Rattle.pp_model.specs.Names.{Name, ◌=ⁿ◌}
+use Rattle.pp_model.specs.Object.{ops}
+use Rattle.pp_records.specs.Records.{RunRecord}
+use Rattle.pp_records.specs.Records as records
+use Rattle.pp_laws_summary.specs.Places.{ops_at}
+use Rattle.pp_summary.specs.Shown.{calls_of, open_in}
+use Rattle.pp_summary.specs.declared.parts.OpenTx.{OpenTx}
+use Rattle.pp_snapshots.specs.declared.past.Past.{Past}
+use Rattle.pp_snapshots.specs.Past.{IsPast, made_at}
+use Rattle.pp_snapshots.specs.Shown.{Kept, seen_in}
+
+-- Behind how many commits at a place an operation is asked: behind those of the snapshot, and behind
+-- all where the transaction has nothing of the place.
+abbrev pub snapshot_at : {A : Type 0} → ℕ → List A → ℕ → ℕ
+snapshot_at seen own all = cond (nat_eq seen zero && nat_eq (length own) zero) all seen
+
+module _ {Shape State Op Undo : Type 0} (o : Object Shape State Op Undo) (place : Op → ℕ) where
+  -- so it is for an operation of an open transaction
+  abbrev pub snapshot_of : (ℕ → List Op) → Op → OpenTx (List (Item Op)) → ℕ
+  snapshot_of h op x =
+      snapshot_at (seen_in x.seen.entries (place op)) (ops_at place (place op) (ops x.own))
+      (length (h (place op)))
+
+  -- The operation of an open transaction is good.
+  pub record OpIsGood (shape : Shape) (h : ℕ → List Op) (ids : List ℕ) (id : ℕ) (op : Op)
+      (x : OpenTx (List (Item Op))) : Type 0 where
+    pub new : list_any (λ i. id == i) ids ≡ false
+    pub begins : Begins x.walk.body (calls_of o x.own ++ o.call op ∷ [])
+    pub allowed : IsAllowed o shape
+        (take (snapshot_of h op x) (h (place op))
+        ++ (ops_at place (place op) (ops x.own) ++ op ∷ []))
+
+  -- What is answered: the snapshot if it is good. All that was applied still is.
+  abbrev pub OpTold : Shape → (ℕ → List Op) → List ℕ → ℕ → Op → OpenTx (List (Item Op)) →
+      Option ℕ → Type 0
+  OpTold shape h ids id op x None = OpIsGood shape h ids id op x → ⊥
+  OpTold shape h ids id op x (Some n) = OpIsGood shape h ids id op x × (n ≡ snapshot_of h op x)
+
+  abbrev pub TellsOp : Past State Op Undo → List ℕ → ℕ → Op → OpenTx (List (Item Op)) →
+      Option ℕ → Past State Op Undo → Type 0
+  TellsOp v ids id op x found w =
+      (shape : Shape) (h : ℕ → List Op) → IsPast o place shape v h →
+      OpTold shape h ids id op x found × IsPast o place shape w h
+
+  -- the transaction with one more own operation, and this snapshot of its place
+  pub record IsGrown (x : OpenTx (List (Item Op))) (n : ℕ) (p : Item Op)
+      (y : OpenTx (List (Item Op))) : Type 0 where
+    pub thread : y.thread ≡ x.thread
+    pub body : y.walk.body ≡ x.walk.body
+    pub taken : HasTakenOneMore x.walk (o.call p.op) y.walk
+    pub own : y.own ≡ x.own ++ p ∷ []
+    pub seen : (q : ℕ) → lookup (nat_eq q) y.seen.entries
+        ≡ cond (nat_eq (place p.op) q) (Some n) (lookup (nat_eq q) x.seen.entries)
+
+module _ {Shape State Op Undo : Type 0} (o : Object Shape State Op Undo) where
+  -- The operation may be added: the transaction is open, its walk may go on, and the id is new.
+  pub record MayAddOp (v : Kept Shape State Op Undo) (t : Name) (p : Item Op) : Type 0 where
+    pub it : OpenTx (List (Item Op))
+    pub found : open_in t v.slots.entries ≡ Some it
+    pub may : MayTake it.walk (o.call p.op)
+    pub new : list_any (λ i. p.id == i) v.ids ≡ false
+    pub few : v.count < 2 ^ 32
+
+  -- what it is to add it
+  pub record AddsOp (place : Op → ℕ) (v : Kept Shape State Op Undo) (t : Name) (n : ℕ) (p : Item Op)
+      (w : Kept Shape State Op Undo) : Type 0 where
+    pub it : OpenTx (List (Item Op))
+    pub found : open_in t v.slots.entries ≡ Some it
+    pub grown : OpenTx (List (Item Op))
+    pub grows : IsGrown o place it n p grown
+    pub slots : w.slots.entries ≡ set_value (λ m. t =ⁿ m) v.slots.entries (Some grown)
+    pub ids : w.ids ≡ v.ids ++ p.id ∷ []
+    pub shape : w.shape ≡ v.shape
+    pub threads : w.threads.keys ≡ v.threads.keys
+    pub past : w.past ≡ v.past
+    pub committed : w.committed ≡ v.committed
+    pub count : w.count ≡ v.count + 1
+
+-- What an operation costs at most: it, the own ones at its place and the later commits there are each
+-- applied and taken back once.
+abbrev pub op_most : {State Op Undo : Type 0} → (Op → ℕ) → Past State Op Undo →
+    OpenTx (List (Item Op)) → Op → ℕ
+op_most place v x op =
+    2 * ((length (made_at (place op) v.places.items)
+    - snapshot_at (seen_in x.seen.entries (place op)) (ops_at place (place op) (ops x.own))
+    (length (made_at (place op) v.places.items)))
+    + (length (ops_at place (place op) (ops x.own)) + 1))
+
+-- What a refresh costs at most: the later commits there twice as much.
+abbrev pub refresh_most : {State Op Undo : Type 0} → (Op → ℕ) → Past State Op Undo →
+    OpenTx (List (Item Op)) → ℕ → ℕ
+refresh_most place v x q =
+    2 * ((length (made_at q v.places.items) - seen_in x.seen.entries q)
+    + (length (ops_at place q (ops x.own))
+    + (length (made_at q v.places.items) - seen_in x.seen.entries q)))
+
+-- nothing of a transaction that is not open
+abbrev pub or_nothing : {A : Type 0} → Option A → (A → ℕ) → ℕ
+or_nothing None most = 0
+or_nothing (Some x) most = most x
+
+abbrev pub open_most : {Shape State Op Undo : Type 0} → Name → Kept Shape State Op Undo →
+    (OpenTx (List (Item Op)) → ℕ) → ℕ
+open_most t v most = or_nothing (open_in t v.slots.entries) most
+
+-- what a record costs at most, whatever is answered
+abbrev pub kept_most : {Shape State Op Undo : Type 0} → (Op → ℕ) → Kept Shape State Op Undo →
+    RunRecord Op → ℕ
+kept_most place v (records.Plain step) = 0
+kept_most place v (records.Op t id op) = open_most t v (λ x. op_most place v.past x op)
+kept_most place v (records.Commit t) = open_most t v (λ x. 2 * length x.own)
+kept_most place v (records.Abort t) = 0
+kept_most place v (records.Retry t) = 0
+kept_most place v (records.Refresh t q) = open_most t v (λ x. refresh_most place v.past x q)
+kept_most place v (records.XBegin t) = 0
+kept_most place v (records.XEnd t) = 0
+kept_most place v (records.XAbort t) = 0
+kept_most place v (records.Depend t source) = 0
+kept_most place v (records.Publish t) = 0
+kept_most place v (records.DropSource t source) = 0

@@ -1,0 +1,174 @@
+//! An op record.
+ghost use Rattle.std.specs.Prelude.{◌≡◌, ◌+◌, ◌*◌, ◌<◌, ◌≤◌, IfOk, IsTrue, OnOk, length};
+ghost use Rattle.pp_body.specs.Walks.{HasTaken, MayTake};
+ghost use Rattle.pp_laws_summary.specs.Places.{ops_at};
+ghost use Rattle.pp_model.specs.Object.{ops};
+ghost use Rattle.pp_summary.specs.Held.{IsOpAsked};
+ghost use Rattle.pp_summary.specs.Shown.{calls_of};
+ghost use Rattle.pp_records.specs.Records.{Op};
+ghost use Rattle.pp_snapshots.specs.Many.{AreAsked};
+ghost use Rattle.pp_snapshots.specs.Moving.{Answers};
+ghost use Rattle.pp_snapshots.specs.Ops.{AddsOp, IsGrown, MayAddOp, op_most, open_most, TellsOp, snapshot_at};
+ghost use Rattle.pp_snapshots.specs.Past.{IsSomePast, made_at};
+ghost use Rattle.pp_snapshots.specs.Shown.{Keeps, seen_in};
+
+use crate::many::may_follow;
+use crate::parts::Parts;
+use crate::past::{Done, Past};
+use pp_core::{IdSet, Item, Items, Name, OutOfMemory, Ticks};
+use pp_kind::Placed;
+use pp_summary::{OpenTx, Seen, find_open, put_back, take_out};
+use std::alloc::Global;
+use std::sync::ledger::Ledger;
+
+/// The own operations at a place, in order. The only error is that memory was refused.
+pub fn own_at<S: Placed>(
+    alloc: Global,
+    own: &[Item<S::Op>],
+    place: u16,
+) -> Result<Vec<S::Op>, OutOfMemory>
+    ensures { IfOk result (λ l. l.items ≡ ops_at S.place_of place (ops own.now)) }
+{
+    let mut there = Vec::new(alloc);
+    for item in own {
+        if S::place(&item.op) == place {
+            there.push(item.op)?;
+        }
+    }
+    Ok(there)
+}
+
+/// How many commits there were at a place.
+pub fn count_at<O: Copy, U: Drop>(places: &Vec<Done<O, U>>, place: u16) -> usize
+    ensures { result ≡ length (made_at place places.now.items) }
+{
+    match places.get(usize::from(place)) {
+        None => 0,
+        Some(done) => done.made.len(),
+    }
+}
+
+/// How many commits at a place were seen: none where the place is not there.
+pub fn seen_at(seen: &Seen, place: u16) -> usize
+    ensures { result ≡ seen_in seen.now.entries place }
+{
+    match seen.get(place) {
+        None => 0,
+        Some(n) => n,
+    }
+}
+
+/// Behind how many commits at its place an operation is asked: behind those of the snapshot, and
+/// behind all where the transaction has nothing of the place.
+fn snapshot<O: Copy>(seen: usize, own: &[O], all: usize) -> usize
+    ensures { result ≡ snapshot_at seen own.now all }
+{
+    if seen == 0 && own.len() == 0 {
+        all
+    } else {
+        seen
+    }
+}
+
+/// The snapshot behind which the operation of an open transaction is asked, if it is good. The only
+/// error is that memory was refused.
+pub fn may_op<S: Placed, L: Ledger>(
+    it: &OpenTx<Items<S::Op>>,
+    ids: &IdSet,
+    past: &mut Past<S::State, S::Op, S::Undo>,
+    id: u32,
+    op: &S::Op,
+    ticks: &mut Ticks<L>,
+) -> Result<Option<usize>, OutOfMemory>
+    requires some { IsSomePast S.object S.place_of past.old }
+    requires taken { HasTaken it.now.walk (calls_of S.object it.now.own) }
+    requires own { AreAsked S.object past.old (ops it.now.own) }
+    requires asked { IsOpAsked S.object (S.object.shape past.old.state) op.now }
+    requires few { past.old.size + length it.now.own < 1_000_000 }
+    ensures tells { IfOk result (λ found. TellsOp S.object S.place_of past.old ids.now id op.now
+        it.now found past.new) }
+    ensures size { OnOk result (past.new.size ≡ past.old.size) }
+    ensures rises { ticks.old ≤ ticks.new }
+    ensures bound { ticks.new ≤ ticks.old + op_most S.place_of past.old it.now op.now }
+{
+    if ids.contains(id) {
+        return Ok(None);
+    }
+    if !it.walk.can(&S::call(op)) {
+        return Ok(None);
+    }
+    let place = S::place(op);
+    let mut asked = own_at::<S>(past.alloc, it.own.as_slice(), place)?;
+    let all = count_at(&past.places, place);
+    let seen = snapshot(seen_at(&it.seen, place), &asked, all);
+    asked.push(*op)?;
+    if !may_follow::<S, L>(past, place, seen, &asked, ticks)? {
+        return Ok(None);
+    }
+    Ok(Some(seen))
+}
+
+/// Adds an operation to the own ones, with this snapshot of its place. The only error is that memory
+/// was refused.
+pub fn grow<S: Placed>(
+    it: &mut OpenTx<Items<S::Op>>,
+    seen: usize,
+    item: Item<S::Op>,
+) -> Result<(), OutOfMemory>
+    requires { MayTake it.old.walk (S.object.call item.op) }
+    ensures { OnOk result (IsGrown S.object S.place_of it.old seen item it.new) }
+{
+    it.walk.follow(&S::call(&item.op))?;
+    it.own.push(item)?;
+    it.seen.insert(S::place(&item.op), seen)?;
+    Ok(())
+}
+
+/// Lets a good operation take effect. The only error is that memory was refused.
+fn add_op<S: Placed>(
+    parts: &mut Parts<S::Shape, S::State, S::Op, S::Undo>,
+    tx: &Name,
+    seen: usize,
+    item: Item<S::Op>,
+) -> Result<(), OutOfMemory>
+    requires { MayAddOp S.object parts.old tx.now item }
+    ensures { OnOk result (AddsOp S.object S.place_of parts.old tx.now seen item parts.new) }
+{
+    let Some(mut it) = take_out(&mut parts.slots, tx) else {
+        unreachable!()
+    };
+    grow::<S>(&mut it, seen, item)?;
+    put_back(&mut parts.slots, tx, it);
+    parts.ids.insert(item.id)?;
+    parts.count += 1;
+    Ok(())
+}
+
+/// Takes an op record where it is good: the operation is the last own one of the open transaction.
+/// The only error is that memory was refused.
+pub fn do_op<S: Placed, L: Ledger>(
+    parts: &mut Parts<S::Shape, S::State, S::Op, S::Undo>,
+    tx: &Name,
+    id: u32,
+    op: &S::Op,
+    ticks: &mut Ticks<L>,
+) -> Result<bool, OutOfMemory>
+    requires keeps { Keeps S.object S.place_of parts.old }
+    requires asked { IsOpAsked S.object parts.old.shape op.now }
+    requires few { parts.old.count < 999_000 }
+    ensures answers { IfOk result (λ good. Answers S.object S.place_of parts.old
+        (Op tx.now id op.now) good parts.new) }
+    ensures rises { ticks.old ≤ ticks.new }
+    ensures bound { ticks.new ≤ ticks.old
+        + open_most tx.now parts.old (λ x. op_most S.place_of parts.old.past x op.now) }
+{
+    let Some(it) = find_open(&parts.slots, tx) else {
+        return Ok(false);
+    };
+    let found = may_op::<S, L>(it, &parts.ids, &mut parts.past, id, op, ticks)?;
+    let Some(seen) = found else {
+        return Ok(false);
+    };
+    add_op::<S>(parts, tx, seen, Item { id, op: *op })?;
+    Ok(true)
+}

@@ -1,0 +1,132 @@
+//! A refresh record.
+ghost use Rattle.std.specs.Prelude.{◌≡◌, ◌+◌, ◌++◌, ◌<◌, ◌≤◌, false, IfOk, IsTrue, OnOk, length};
+ghost use Rattle.pp_model.specs.Object.{ops};
+ghost use Rattle.pp_records.specs.Records.{Refresh};
+ghost use Rattle.pp_snapshots.specs.Many.{AreAsked};
+ghost use Rattle.pp_snapshots.specs.Moving.{Answers};
+ghost use Rattle.pp_snapshots.specs.Ops.{open_most, refresh_most};
+ghost use Rattle.pp_snapshots.specs.Past.{IsSomePast};
+ghost use Rattle.pp_snapshots.specs.Refreshing.{AllSwap, MaySee, OneStays, SeesAll, StaysOf, SwapsAll, TellsRefresh};
+ghost use Rattle.pp_snapshots.specs.Shown.{Keeps};
+
+use crate::many::{may_follow, ops_from};
+use crate::op::{count_at, own_at, seen_at};
+use crate::parts::Parts;
+use crate::past::Past;
+use pp_core::{Items, Name, OutOfMemory, Ticks};
+use pp_kind::Placed;
+use pp_summary::{OpenTx, find_open, put_back, take_out};
+use std::sync::ledger::Ledger;
+
+/// Whether each of these operations lets another one pass.
+fn each_swaps<S: Placed>(own: &[S::Op], op: &S::Op) -> bool
+    ensures yes { IsTrue result → SwapsAll S.object own.now op.now }
+    ensures no { result ≡ false → StaysOf S.object own.now op.now }
+{
+    for a in own {
+        if !S::swaps(a, op) {
+            return false;
+        }
+    }
+    true
+}
+
+/// Whether each of the own operations lets each of the later ones pass.
+fn all_swap<S: Placed>(own: &[S::Op], later: &[S::Op]) -> bool
+    ensures yes { IsTrue result → AllSwap S.object own.now later.now }
+    ensures no { result ≡ false → OneStays S.object own.now later.now }
+{
+    for op in later {
+        if !each_swaps::<S>(own, op) {
+            return false;
+        }
+    }
+    true
+}
+
+/// Adds these operations at the end. The only error is that memory was refused.
+fn append<O: Copy>(list: &mut Vec<O>, more: &[O]) -> Result<(), OutOfMemory>
+    ensures { OnOk result (list.new.items ≡ list.old.items ++ more.now) }
+{
+    for op in more {
+        list.push(*op)?;
+    }
+    Ok(())
+}
+
+/// Whether an open transaction may take a new snapshot of a place: its own operations there swap with
+/// what it has missed, and all of it is allowed behind them. The only error is that memory was
+/// refused.
+fn may_refresh<S: Placed, L: Ledger>(
+    it: &OpenTx<Items<S::Op>>,
+    past: &mut Past<S::State, S::Op, S::Undo>,
+    place: u16,
+    ticks: &mut Ticks<L>,
+) -> Result<bool, OutOfMemory>
+    requires some { IsSomePast S.object S.place_of past.old }
+    requires own { AreAsked S.object past.old (ops it.now.own) }
+    requires few { past.old.size + length it.now.own < 1_000_000 }
+    ensures tells { IfOk result (λ good.
+        TellsRefresh S.object S.place_of past.old place it.now good past.new) }
+    ensures size { OnOk result (past.new.size ≡ past.old.size) }
+    ensures rises { ticks.old ≤ ticks.new }
+    ensures bound { ticks.new ≤ ticks.old + refresh_most S.place_of past.old it.now place }
+{
+    let own = own_at::<S>(past.alloc, it.own.as_slice(), place)?;
+    let seen = seen_at(&it.seen, place);
+    let later = ops_from(past.alloc, &past.places, usize::from(place), seen)?;
+    if !all_swap::<S>(&own, &later) {
+        return Ok(false);
+    }
+    let mut asked = own;
+    append(&mut asked, &later)?;
+    if !may_follow::<S, L>(past, place, seen, &asked, ticks)? {
+        return Ok(false);
+    }
+    Ok(true)
+}
+
+/// The open transaction has seen all commits at the place. The only error is that memory was refused.
+fn see_all<S: Placed>(
+    parts: &mut Parts<S::Shape, S::State, S::Op, S::Undo>,
+    tx: &Name,
+    place: u16,
+) -> Result<(), OutOfMemory>
+    requires { MaySee parts.old tx.now }
+    ensures { OnOk result (SeesAll parts.old tx.now place parts.new) }
+{
+    let all = count_at(&parts.past.places, place);
+    let Some(mut it) = take_out(&mut parts.slots, tx) else {
+        unreachable!()
+    };
+    it.seen.insert(place, all)?;
+    put_back(&mut parts.slots, tx, it);
+    parts.count += 1;
+    Ok(())
+}
+
+/// Takes a refresh record where it is good: the open transaction has a new snapshot of the place. The
+/// only error is that memory was refused.
+pub fn refresh<S: Placed, L: Ledger>(
+    parts: &mut Parts<S::Shape, S::State, S::Op, S::Undo>,
+    tx: &Name,
+    place: u16,
+    ticks: &mut Ticks<L>,
+) -> Result<bool, OutOfMemory>
+    requires keeps { Keeps S.object S.place_of parts.old }
+    requires few { parts.old.count < 999_000 }
+    ensures answers { IfOk result (λ good. Answers S.object S.place_of parts.old
+        (Refresh tx.now place) good parts.new) }
+    ensures rises { ticks.old ≤ ticks.new }
+    ensures bound { ticks.new ≤ ticks.old
+        + open_most tx.now parts.old (λ x. refresh_most S.place_of parts.old.past x place) }
+{
+    let Some(it) = find_open(&parts.slots, tx) else {
+        return Ok(false);
+    };
+    if !may_refresh::<S, L>(it, &mut parts.past, place, ticks)? {
+        return Ok(false);
+    }
+    see_all::<S>(parts, tx, place)?;
+    Ok(true)
+}
