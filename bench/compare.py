@@ -3,8 +3,8 @@
 
     python3 bench/compare.py './pp_cli certify' definition FOLDER
 
-A program is a command that reads a run on its standard input, or the word `definition` or `definition-no-limits`, which
-means `bench/definition.py`. The first file on which they differ is shown. A table has the number of files with each
+A program is a command that reads a run on its standard input, or a word that means `bench/definition.py`: `definition`,
+`definition-no-limits`, or `definition-judge`, which has the limits of the command `judge`. The first file on which they differ is shown. A table has the number of files with each
 verdict of the first program. The status is 1 if they differ on a file, and else 0.
 """
 import argparse
@@ -16,9 +16,9 @@ import subprocess
 import sys
 
 from definition import verdict
-from definition_input import NO_LIMITS, Limits
+from definition_input import JUDGE_LIMITS, NO_LIMITS, Limits
 
-LIMITS = {"definition": Limits(), "definition-no-limits": NO_LIMITS}
+LIMITS = {"definition": Limits(), "definition-no-limits": NO_LIMITS, "definition-judge": JUDGE_LIMITS}
 SHOWN_LINES = 40
 
 

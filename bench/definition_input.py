@@ -40,6 +40,7 @@ class Limits(NamedTuple):
 
 
 NO_LIMITS = Limits(*[math.inf] * 5)
+JUDGE_LIMITS = NO_LIMITS._replace(lines=2_147_483_647, line=Limits().line)
 
 
 class Fault(Exception):

@@ -3,9 +3,12 @@
 
     python3 bench/judge.py PROGRAM [--count N] [--long N] [--seed S] [--jobs J]
 
-`--count` is the number of short runs and `--long` that of runs of more than 200,000 steps, which the definition takes
-some seconds for. `judge` has to print what `definition.py --no-limits` prints, and what `certify` prints unless that is
-TooManySteps. The first run on which it does not is shown. The status is then 1, and else 0.
+`--count` is the number of short runs and `--long` that of long ones, of which most have more than 200,000 steps. The
+definition takes some seconds for a long run. `judge` has to print what the definition prints within the limits of
+`judge`, and what `certify` prints unless that is TooManySteps. The first run on which it does not is shown.
+
+The status is 1 if there is such a run. It is 1 too if `certify` printed TooManySteps for none of the long runs, or if no
+run violates one of the criteria below first, with as many short runs as usual. Else it is 0.
 """
 import argparse
 import collections
@@ -19,6 +22,10 @@ from random_lines import text_of
 from random_runs import LINES, Run
 
 FAULTS = .05
+SHORT_RUNS, LONG_RUNS = 2000, 6
+# The criteria that random runs of style `boosted` violate first.
+CRITERIA = ("START 1", "START 2", "BEGIN 1", "BEGIN 2", "APP 1", "APP 2", "APP 3", "APP 4", "PUSH 4", "PUSH 5", "PULL 5",
+            "CMT 1", "CMT 2", "QUIT 1", "NOTE 1")
 
 
 def write_runs(folder, seed, count, long):
@@ -28,22 +35,33 @@ def write_runs(folder, seed, count, long):
         (folder / f"{'long' if long else 'short'}_{number:06}.jsonl").write_bytes(text_of(run.lines, run.chance, FAULTS))
 
 
+def has_too_many(certified):
+    return certified[0].endswith(" TooManySteps\n")
+
+
 def is_same(judged, certified, defined):
     """Whether `judge` prints what it has to print."""
-    too_many = certified[0].endswith(" TooManySteps\n")
-    return judged == defined and (too_many or judged == certified)
+    return judged == defined and (has_too_many(certified) or judged == certified)
+
+
+def gaps(counts, too_many, given):
+    """What the runs were to show and did not."""
+    if given.count >= SHORT_RUNS:
+        yield from (f"no run violates {criterion} first" for criterion in CRITERIA if not counts[criterion])
+    if given.long and not too_many:
+        yield "certify printed TooManySteps for no run"
 
 
 def main():
     parser = argparse.ArgumentParser(description="Compares judge with certify and with the plain definition.")
     parser.add_argument("program", metavar="PROGRAM")
-    parser.add_argument("--count", type=int, default=2000, help="how many short runs")
-    parser.add_argument("--long", type=int, default=0, help="how many runs of more than 200,000 steps")
+    parser.add_argument("--count", type=int, default=SHORT_RUNS, help="how many short runs")
+    parser.add_argument("--long", type=int, default=LONG_RUNS, help="how many long runs")
     parser.add_argument("--seed", type=int, default=1)
     parser.add_argument("--jobs", type=int, default=2, help="how many files at a time")
     given = parser.parse_args()
-    programs = (f"{given.program} judge", f"{given.program} certify", "definition-no-limits")
-    counts, different = collections.Counter(), 0
+    programs = (f"{given.program} judge", f"{given.program} certify", "definition-judge")
+    counts, different, too_many = collections.Counter(), 0, 0
     with tempfile.TemporaryDirectory() as name:
         folder = pathlib.Path(name)
         write_runs(folder, given.seed, given.count, False)
@@ -51,14 +69,17 @@ def main():
         files = sorted(folder.iterdir())
         for file, outputs in compare(programs, files, given.jobs):
             counts[verdict_named(outputs[0][0])] += 1
+            too_many += has_too_many(outputs[1])
             if not is_same(*outputs):
                 if not different:
                     show(file, programs, outputs)
                     print(file.read_text(errors="replace")[:4000])
                 different += 1
     print_table(counts)
-    print(f"{len(files)} runs: {len(files) - different} agree, {different} differ")
-    return int(bool(different))
+    print(f"{len(files)} runs: {len(files) - different} agree, {different} differ, {too_many} have too many steps for certify")
+    missing = list(gaps(counts, too_many, given))
+    print(*missing, sep="\n", end="\n" * bool(missing))
+    return int(bool(different or missing))
 
 
 if __name__ == "__main__":

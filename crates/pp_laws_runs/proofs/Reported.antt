@@ -20,8 +20,9 @@ use Rattle.pp_model.proofs.Lists.{not_empty}
 use Rattle.pp_objects.specs.declared.act.Op.{Op}
 use Rattle.pp_objects.specs.laws.Objects.{objects_placed}
 use Rattle.pp_objects.specs.Objects.{kinds_of, place_of}
+use Rattle.pp_input.specs.declared.limits.Limits.{Limits}
 use Rattle.pp_input_reader.specs.declared.cause.Cause.{Cause}
-use Rattle.pp_judge.specs.Inputs.{scan}
+use Rattle.pp_judge.specs.Inputs.{scan_within}
 use Rattle.pp_judge.specs.Objects.{object_of, setting_of, start_of, translation_of}
 use Rattle.pp_judge.specs.Reports.{RunReport}
 use Rattle.pp_laws_runs.specs.Breakable.{breakable}
@@ -92,12 +93,12 @@ not_zero k e = omega (arith, e)
 less_one : (i k : ℕ) → suc i ≡ 1 + k → k ≡ i
 less_one i k e = omega (arith, e)
 
-module _ (bytes : List ℕ) (h : Lined Header) (there : (scan bytes).header ≡ Some h) (recorded : IsRecorded h.what.style) where
+module _ (limits : Limits) (bytes : List ℕ) (h : Lined Header) (there : (scan_within limits bytes).header ≡ Some h) (recorded : IsRecorded h.what.style) where
   start_listed : (o : Option (Start Op)) (n : ℕ) → StartBreaks (object_of h.what) o (suc n) → In (suc n) (breakable rules.Start h.what.style)
   start_listed None n b = absurd (of_none n b)
   start_listed (Some z) n b = in_start_row h.what.style (λ e. subst IsRecorded e recorded) (suc n) (in_two n (of_two _ _ n b))
 
-  module _ (run : LinedSteps Op) (is : IsRun (object_of h.what) (translation_of h.what) (start_of h.what) (scan bytes).records run) where
+  module _ (run : LinedSteps Op) (is : IsRun (object_of h.what) (translation_of h.what) (start_of h.what) (scan_within limits bytes).records run) where
     -- the start
     start_named : (n : ℕ) → IsVerdict (object_of h.what) (start_of h.what) (bare run) (Rejected 0 n) → In n (breakable rules.Start h.what.style)
     start_named n (inl v) = subst (λ (k : ℕ). In k (breakable rules.Start h.what.style)) (sym (same_number 0 0 n (suc v.0) v.2)) (start_listed (start_of h.what) v.0 v.1)
@@ -115,14 +116,14 @@ module _ (bytes : List ℕ) (h : Lined Header) (there : (scan bytes).header ≡ 
         same = same_Some f.step l
             (sym (get_after f.past f.rest f.step) ∙ ap (λ (w : LinedSteps Op). slice_get w (length f.past)) (sym f.parts) ∙ ap (λ (k : ℕ). slice_get run k) (less_one i (length f.past) f.place) ∙ got)
 
-        by : IsRun (object_of h.what) (translation_of h.what) (start_of h.what) (scan bytes).records run → In n (breakable (rule_of l.what) h.what.style)
+        by : IsRun (object_of h.what) (translation_of h.what) (start_of h.what) (scan_within limits bytes).records run → In n (breakable (rule_of l.what) h.what.style)
         by (inl r) = absurd (not_empty f.past f.rest f.step (sym r.2 ∙ f.parts))
         by (inr r) =
             let T = translation_of h.what in
-            let front = run_front (object_of h.what) (first (start_of h.what)) (joined_steps T (outset T (start_of h.what)) (scan bytes).records) run r.1 in
+            let front = run_front (object_of h.what) (first (start_of h.what)) (joined_steps T (outset T (start_of h.what)) (scan_within limits bytes).records) run r.1 in
             let parts = front.1 ∙ ap (λ (w : LinedSteps Op). w ++ front.0) f.parts ∙ append_assoc f.past (f.step ∷ f.rest) front.0 in
-            let listed = breakable_law (object_of h.what) place_of (λ a b apart. objects_placed.apart a b apart (kinds_of h.what.catalog)) h.what.style (kinds_of h.what.catalog) (start_of h.what) (scan bytes).records
-            f.past (f.rest ++ front.0) f.step f.criterion recorded (scan_styled bytes h there) v.0 parts f.hold f.breaks in
+            let listed = breakable_law (object_of h.what) place_of (λ a b apart. objects_placed.apart a b apart (kinds_of h.what.catalog)) h.what.style (kinds_of h.what.catalog) (start_of h.what) (scan_within limits bytes).records
+            f.past (f.rest ++ front.0) f.step f.criterion recorded (scan_styled limits bytes h there) v.0 parts f.hold f.breaks in
             subst (λ (k : ℕ). In k (breakable (rule_of l.what) h.what.style)) (sym f.number)
             (subst (λ (w : Lined (Step Op)). In (suc f.criterion) (breakable (rule_of w.what) h.what.style)) same listed)
 
@@ -132,10 +133,10 @@ module _ (bytes : List ℕ) (h : Lined Header) (there : (scan bytes).header ≡ 
     run_named (Rejected (suc i) n) report verdict e = subst (λ (r : RunReport). NamesBreakable h.what.style r) (sym e.2) (step_named i n e.0 verdict e.1)
 
 pub reported_law : ReportedLaw
-reported_law bytes header report there recorded (fault, is, behind) = by fault behind
+reported_law limits bytes fault header report there recorded behind = by fault behind
   where
-    by : (o : Option (ℕ × Cause)) → IsReportBehind setting_of o (scan bytes) report → NamesBreakable header.what.style report
+    by : (o : Option (ℕ × Cause)) → IsReportBehind setting_of o (scan_within limits bytes) report → NamesBreakable header.what.style report
     by (Some f) e = subst (λ (r : RunReport). NamesBreakable header.what.style r) (sym e) tt
     by None run =
-        let told = subst (λ (o : Option (Lined Header)). IsRunReport setting_of o (scan bytes).records report) there run in
-        run_named bytes header there recorded told.0 told.2 told.1 report told.3 told.4
+        let told = subst (λ (o : Option (Lined Header)). IsRunReport setting_of o (scan_within limits bytes).records report) there run in
+        run_named limits bytes header there recorded told.0 told.2 told.1 report told.3 told.4

@@ -75,24 +75,24 @@ adds_no_header : (sc : InputScan) (line : ℕ) (r : Result Header RecordFault) �
 adds_no_header sc line (Ok header) = inl refl
 adds_no_header sc line (Err fault) = adds_no_fault sc line (cause_of fault)
 
-adds_record : (sc : InputScan) (line : ℕ) (r : Result (RunRecord Op) RecordFault) → AddsAtMost sc line (with_record usual_limits.transactions sc line r)
-adds_record sc line (Err fault) = adds_no_fault sc line (cause_of fault)
-adds_record sc line (Ok r) = by (is_begin_record r && begins sc.records == usual_limits.transactions)
+adds_record : (most : ℕ) (sc : InputScan) (line : ℕ) (r : Result (RunRecord Op) RecordFault) → AddsAtMost sc line (with_record most sc line r)
+adds_record most sc line (Err fault) = adds_no_fault sc line (cause_of fault)
+adds_record most sc line (Ok r) = by (is_begin_record r && begins sc.records == most)
   where
     by : (b : Bool) → AddsAtMost sc line (cond b (with_fault sc line (Ok TooManyTransactions)) (with_next sc line r))
     by true = adds_no_fault sc line (Ok TooManyTransactions)
     by false = inr (record { line = line; what = r }, refl, refl)
 
-adds_read : (sc : InputScan) (o : Option (Lined Header)) (line : NumberedLine) → AddsAtMost sc line.0 (read_line usual_limits.transactions sc o line)
-adds_read sc None line = adds_no_header sc line.0 (header_of line.1)
-adds_read sc (Some header) line = adds_record sc line.0 (record_of header.what line.1)
+adds_read : (most : ℕ) (sc : InputScan) (o : Option (Lined Header)) (line : NumberedLine) → AddsAtMost sc line.0 (read_line most sc o line)
+adds_read most sc None line = adds_no_header sc line.0 (header_of line.1)
+adds_read most sc (Some header) line = adds_record most sc line.0 (record_of header.what line.1)
 
-adds_line : (sc : InputScan) (line : NumberedLine) → AddsAtMost sc line.0 (scan_line usual_limits.transactions sc line)
-adds_line sc line = by (is_some sc.fault || blank line.1)
+adds_line : (most : ℕ) (sc : InputScan) (line : NumberedLine) → AddsAtMost sc line.0 (scan_line most sc line)
+adds_line most sc line = by (is_some sc.fault || blank line.1)
   where
-    by : (b : Bool) → AddsAtMost sc line.0 (cond b sc (read_line usual_limits.transactions sc sc.header line))
+    by : (b : Bool) → AddsAtMost sc line.0 (cond b sc (read_line most sc sc.header line))
     by true = inl refl
-    by false = adds_read sc sc.header line
+    by false = adds_read most sc sc.header line
 
 -- each record is on a line before these
 abbrev AreBefore : Records (RunRecord Op) → List NumberedLine → Type 0
@@ -113,16 +113,16 @@ one_more_rises rs r rise less x y b = elim (before_cases x y rs (r ∷ []) b) [
     last i (inl e) = less_at x.line y.line r.line (ap (λ (w : Lined (RunRecord Op)). w.line) e) (less x i)
     last i (inr j) = absurd j
 
-module _ (sc : InputScan) (line : NumberedLine) (lines : List NumberedLine) (rise : LinesRise sc.records) (before : AreBefore sc.records (line ∷ lines)) (numbers : NumbersRise (line ∷ lines)) where
-  next_rises : LinesRise (scan_line usual_limits.transactions sc line).records
-  next_rises = elim (adds_line sc line) [
+module _ (most : ℕ) (sc : InputScan) (line : NumberedLine) (lines : List NumberedLine) (rise : LinesRise sc.records) (before : AreBefore sc.records (line ∷ lines)) (numbers : NumbersRise (line ∷ lines)) where
+  next_rises : LinesRise (scan_line most sc line).records
+  next_rises = elim (adds_line most sc line) [
     | inl e ↦ subst (λ (w : Records (RunRecord Op)). LinesRise w) (sym e) rise
     | inr r ↦ subst (λ (w : Records (RunRecord Op)). LinesRise w) (sym r.1)
         (one_more_rises sc.records r.0 rise (λ x i. less_at x.line r.0.line line.0 r.2 (before x line i (inl refl))))
   ]
 
-  next_before : AreBefore (scan_line usual_limits.transactions sc line).records lines
-  next_before x l i j = elim (adds_line sc line) [
+  next_before : AreBefore (scan_line most sc line).records lines
+  next_before x l i j = elim (adds_line most sc line) [
     | inl e ↦ before x l (subst (λ (w : Records (RunRecord Op)). In x w) e i) (inr j)
     | inr r ↦ by r.0 r.2 (in_cases x sc.records (r.0 ∷ []) (subst (λ (w : Records (RunRecord Op)). In x w) r.1 i))
   ]
@@ -135,11 +135,11 @@ module _ (sc : InputScan) (line : NumberedLine) (lines : List NumberedLine) (ris
       by r is (inr (inl e)) = at x.line line.0 l.0 (ap (λ (w : Lined (RunRecord Op)). w.line) e ∙ is) (numbers line l (inl (refl, j)))
       by r is (inr (inr k)) = absurd k
 
-scan_rises : (sc : InputScan) (lines : List NumberedLine) → LinesRise sc.records → AreBefore sc.records lines → NumbersRise lines → LinesRise (fold (scan_line usual_limits.transactions) sc lines).records
-scan_rises sc [] rise before numbers = rise
-scan_rises sc (line ∷ lines) rise before numbers =
-    scan_rises (scan_line usual_limits.transactions sc line) lines (next_rises sc line lines rise before numbers) (next_before sc line lines rise before numbers) (λ a b h. numbers a b (inr h))
+scan_rises : (most : ℕ) (sc : InputScan) (lines : List NumberedLine) → LinesRise sc.records → AreBefore sc.records lines → NumbersRise lines → LinesRise (fold (scan_line most) sc lines).records
+scan_rises most sc [] rise before numbers = rise
+scan_rises most sc (line ∷ lines) rise before numbers =
+    scan_rises most (scan_line most sc line) lines (next_rises most sc line lines rise before numbers) (next_before most sc line lines rise before numbers) (λ a b h. numbers a b (inr h))
 
 -- The records of an input are on lines that rise.
 pub rising_law : RisingLaw
-rising_law limits bytes = scan_rises nothing (scanned_lines limits bytes) (λ x y b. absurd b) (λ r l i j. absurd i) (scanned_rise limits bytes)
+rising_law limits bytes = scan_rises limits.transactions nothing (scanned_lines limits bytes) (λ x y b. absurd b) (λ r l i j. absurd i) (scanned_rise limits bytes)

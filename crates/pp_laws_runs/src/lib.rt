@@ -52,8 +52,8 @@ pub fn breakable_law<S: Placed>()
     ensures { (shape : S.Shape) → BreakableLaw (rules_of S.object shape) S.place_of }
 {}
 
-/// If `certify` rejects an input of one of the four recorded styles, then `breakable` lists the
-/// criterion that it reports. This is a law of the definitions: the body is empty.
+/// If `certify` or `judge` rejects an input of one of the four recorded styles, then `breakable`
+/// lists the criterion that it reports. This is a law of the definitions: the body is empty.
 pub fn rejections_are_listed()
     ensures { ReportedLaw }
 {}

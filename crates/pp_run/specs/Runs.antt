@@ -41,4 +41,5 @@ pub record RunLaws : Type 0 where
   -- the same committed transactions. A report has no bodies and no threads.
   pub readable : ReportLaw × CertifyLaw × QuickLaw
   -- In the four recorded styles only the criteria that `breakable` lists can be the first violated.
+  -- This holds under `certify` and under `judge`, however many steps come before.
   pub styles_fail_only : ReportedLaw
