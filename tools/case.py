@@ -1,29 +1,26 @@
 """A rejection, with all that `why` needs to explain it."""
 from recorded_run import ENTRY_STEPS
-from replay import logs_before
 
 
 class Case:
     """A rejected run, before the step that the program rejects.
 
-    It is made of the run, the report on it, its steps up to and with the rejected one, and the calls of its start. If
-    `is_cut`, the report and the steps are those of a shorter run, and its logs do not have all entries.
+    It is made of the run and the report on it.
     `step` is that step as a record of style rules, or None for the start. `transaction` is who takes it.
-    `logs` are the local logs and the shared log there.
+    `logs` are the shared log there and at least the local log of this transaction.
     `call` is the call that the step makes, takes back, publishes, withdraws, takes over or gives up, or None.
     `entry` is the call that the evidence names, or None.
     """
 
-    def __init__(self, run, report, steps, first, is_cut=False):
+    def __init__(self, run, report, step, logs):
         self.run = run
-        self.is_cut = is_cut
         self.report = report
         self.line = report.line
         self.criterion = report.rule, report.criterion
         self.evidence = report.evidence
-        self.step = steps[-1] if steps else None
-        self.logs = logs_before(run, first, steps[:-1])
-        self.transaction = self.step["tx"] if steps else run.start.name
+        self.step = step
+        self.logs = logs
+        self.transaction = run.start.name if step is None else step["tx"]
         self.call = self.find_call()
         self.entry = None if self.evidence is None else self.find_entry(self.evidence.entry)
 

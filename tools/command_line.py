@@ -152,6 +152,10 @@ def shown_report(options, report, name):
     return report.answer.output
 
 
+def report_fields(report):
+    return fields_of(report.answer.command, report)
+
+
 def run_program_command(options, program, source):
     with source.open() as file:
         report = read_report(ask(program, [options.command], file))
@@ -172,7 +176,7 @@ def run_why(options, program, source):
     explained = why(program, source.data())
     status = explained.report.answer.status
     if options.json:
-        fields = {"file": source.name, **fields_of("certify", explained.report), "command": "why", **explained.fields()}
+        fields = {"file": source.name, **report_fields(explained.report), "command": "why", **explained.fields()}
         return Result(json_line(fields), status)
     return Result(explained.text().encode(), status)
 
@@ -187,9 +191,9 @@ def run_order(options, program, source):
 
 
 def order_fields(source, ordered):
-    fields = {"file": source.name, "command": "order", "recorded": fields_of("certify", ordered.recorded)}
+    fields = {"file": source.name, "command": "order", "recorded": report_fields(ordered.recorded)}
     if ordered.reordered is not None:
-        fields["reordered"] = fields_of("certify", ordered.reordered)
+        fields["reordered"] = report_fields(ordered.reordered)
     return {**fields, **ordered.fields()}
 
 

@@ -9,7 +9,7 @@ import json
 
 from dependencies import ORDER_KINDS, Dependencies, call_of_other_kind
 from recorded_run import read_run
-from verified_program import ask, read_report
+from verified_program import decide
 
 # A search ends after so many tries, and earlier if these have that many reads together.
 MOST_TRIES = 200
@@ -213,7 +213,7 @@ def shown_lines(report):
 
 def order(program, data):
     """Another serial order of a run, given as bytes. Raises NotTaken, and UnreadableRun."""
-    recorded = read_report(ask(program, ["certify"], data))
+    recorded = decide(program, data)
     if recorded.verdict == "fault" and recorded.cause != "TooManySteps":
         return Order(recorded)
     run = read_run(data)
@@ -225,7 +225,4 @@ def order(program, data):
     if found.order is None:
         return Order(recorded, found)
     text = serial_run(run, found.order)
-    reordered = read_report(ask(program, ["certify"], text))
-    if reordered.cause == "TooManySteps":
-        reordered = read_report(ask(program, ["quick"], text))
-    return Order(recorded, found, text, reordered)
+    return Order(recorded, found, text, decide(program, text))

@@ -32,19 +32,14 @@ def write_page(run, why, out, title="run"):
     parts = {
         "policy": policy(style, scripts),
         "title": html.escape(title),
-        "verdict": html.escape(verdict_report(why).verdict_line),
-        "state": verdict_report(why).verdict or "other",
+        "verdict": html.escape(why.report.verdict_line),
+        "state": why.report.verdict or "other",
         "style_name": html.escape(run.style),
         "style": style,
         "data": script_text(data),
         "scripts": "\n".join(f"<script>{script}</script>" for script in scripts),
     }
     out.write(re.sub(r"{{(\w+)}}", lambda slot: parts[slot[1]], part("page.html")))
-
-
-def verdict_report(why):
-    """The report whose verdict the page shows: that of `quick` if the run is too long for `certify`."""
-    return why.quick or why.report
 
 
 def part(name):
@@ -69,7 +64,7 @@ def script_text(data):
 
 def page_data(run, why, title):
     """All that the page's code reads, as a value for JSON."""
-    report = verdict_report(why)
+    report = why.report
     is_rejected = report.verdict == "rejected"
     marks = Marks(run, report.line if is_rejected else None)
     return {
@@ -93,12 +88,10 @@ def page_data(run, why, title):
 
 def failure(run, why, marks):
     """The rejected step, what explains it, and the marks of the calls that the explanation is about."""
-    report, case, explained = verdict_report(why), why.case, why.explanation
+    report, case, explained = why.report, why.case, why.explanation
     shown = {"line": report.line, "mark": marks.mark_of_line.get(report.line, -1), "criterion": "", "gives": "",
              "call": -1, "entry": -1, "recorded": -1, "right": -1, "words": why.words,
              "rows": [{"text": line, "mark": -1} for line in why.lines]}
-    if case is None:
-        return shown
     shown.update(call=marks.of_call(case.call), entry=marks.of_call(case.entry),
                  recorded=marks.of_call(explained.recorded_by), right=marks.of_call(explained.right_by))
     shown["criterion"] = " ".join(map(str, case.criterion))

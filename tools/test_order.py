@@ -140,7 +140,7 @@ class Certified(unittest.TestCase):
             records += [f"begin t{number} p", f"op t{number} {number} m.write(0,{number})=none", f"commit t{number}"]
         found = order(PROGRAM, run_bytes("optimistic", "m:mem", records))
         self.assertEqual(found.recorded.cause, "TooManySteps")
-        self.assertEqual(found.reordered.verdict_line, "quick accepted records 2100 committed 700")
+        self.assertEqual(found.reordered.verdict_line, "accepted steps 247450 committed 700")
 
     def test_random_snapshots(self):
         """What is found is a serial run: by the program, and by running the transactions in this order."""

@@ -137,7 +137,13 @@ class PageText(unittest.TestCase):
         records = [text for number in range(650)
                    for text in (f"begin t{number} p1", f"op t{number} {number} c.add(1)=none", f"commit t{number}")]
         page = page_of(run_bytes("boosted", "c:counter", records))
-        self.assertIn('<h1 id="verdict">quick accepted records 1950 committed 650</h1>', page)
+        self.assertIn('<h1 id="verdict">accepted steps 213525 committed 650</h1>', page)
+        page = page_of(run_bytes("boosted", "c:counter", [*records, "begin last p1", "op last 650 c.get()=3"]))
+        self.assertIn('<h1 id="verdict">rejected step 214177 line 1953 APP 4</h1>', page)
+        failure = data_in(page)["failure"]
+        self.assertEqual((failure["gives"], failure["criterion"]), ("650", "APP 4"))
+        marks = data_in(page)["marks"]["line"]
+        self.assertEqual([marks[failure[name]] for name in ("entry", "right")], [1953, 1950])
         page = page_of(run_bytes("optimistic", "c:counter", records))
         self.assertRegex(page, r'<header class="fault">\s*<span[^>]*></span>\s*<h1 id="verdict">fault line \d+ TooManySteps</h1>')
         self.assertIn("TooManySteps", data_in(page)["words"][0])

@@ -5,7 +5,8 @@ import tempfile
 import unittest
 
 from for_tests import PROGRAM, example, needs_program
-from verified_program import (Answer, NoProgram, ProgramFailed, ask, find_program, operation_members, read_report)
+from verified_program import (LIMITS_OF_CERTIFY, Answer, NoProgram, ProgramFailed, ask, decide, find_program,
+                              operation_members, read_report)
 
 
 def script(folder, text):
@@ -47,6 +48,25 @@ class Asking(unittest.TestCase):
                      "echo rejected step 1 line 2 APP 4; exit 0", "exit 77", "echo {}; exit 0"):
             with self.subTest(text), self.assertRaisesRegex(ProgramFailed, "it is not the program"):
                 self.answer(text)
+
+    def decided(self, certified, judged):
+        """What is decided if `certify` and `judge` print these lines, each with its status before it."""
+        arms = "".join(f"{command}) echo {line[2:]}; exit {line[0]};; "
+                       for command, line in (("certify", certified), ("judge", judged)))
+        with tempfile.TemporaryDirectory() as folder:
+            report = decide(script(folder, f"case $1 in {arms} esac"), b"")
+            return report.verdict_line, report.is_of_judge
+
+    def test_judge_decides_what_is_too_large_for_certify(self):
+        accepted, rejected = "0 accepted steps 9 committed 1", "1 rejected step 1 line 2 APP 4"
+        for cause in LIMITS_OF_CERTIFY:
+            fault = f"3 fault line 7 {cause}"
+            for judged in (accepted, rejected, "3 fault line 9 NotJson"):
+                self.assertEqual(self.decided(fault, judged), (judged[2:], True))
+            for judged in ("3 fault line 1 StyleNotJudged", "3 fault line 9 NoHeader", fault):
+                self.assertEqual(self.decided(fault, judged), (fault[2:], False))
+        for certified in (accepted, rejected, "3 fault line 7 NotJson"):
+            self.assertEqual(self.decided(certified, "6 none"), (certified[2:], False))
 
     def test_statuses_that_are_no_answer(self):
         for status in (2, 4, 5, 6, 8):

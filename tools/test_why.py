@@ -10,7 +10,7 @@ from random_runs import random_run
 from recorded_run import STYLES
 from rule_words import CRITERIA, FAULTS, fault_words
 from sequential import new_place
-from why import why
+from why import JUDGED, why
 
 # The transactions that `why` names for each rejected example.
 GUILTY = {
@@ -266,7 +266,7 @@ class Explanations(unittest.TestCase):
 
 @needs_program
 class LongRuns(unittest.TestCase):
-    def run_of(self, kind, count, last):
+    def run_of(self, kind, count, last, *more):
         """A boosted run of many transactions that has more steps than `certify` takes."""
         records = []
         for number in range(count):
@@ -274,21 +274,47 @@ class LongRuns(unittest.TestCase):
             calls = {"map": f"o.put({number % 2},{number})={before}", "counter": "o.add(1)=none",
                      "queue": f"o.enq({number})=none"}
             records += [f"begin t{number} p", f"op t{number} {number} {calls[kind]}", f"commit t{number}"]
-        return run_bytes("boosted", f"o:{kind}", [*records, "begin last p", f"op last {count} {last}"])
+        return run_bytes("boosted", f"o:{kind}", [*records, "begin last p", f"op last {count} {last}", *more])
 
     def test_rejected_on_one_key(self):
         found = why(PROGRAM, self.run_of("map", 1300, "o.get(1)=5"))
-        self.assertEqual(found.report.cause, "TooManySteps")
+        self.assertEqual(found.report.lines, ["rejected step 850852 line 3903 APP 4", "entry 1300 gives 1299"])
+        self.assertEqual(found.lines[0], JUDGED)
         text = "\n".join(found.lines)
-        self.assertIn("  quick rejected line 3903", text)
-        self.assertIn("entry 1300 gives 1299", text)
         self.assertIn("5 (recorded) was written by t5 on line 18, which committed on line 19\n", text)
         self.assertIn("1299 (right) was written by t1299 on line 3900, which committed on line 3901", text)
         self.assertEqual(found.timeline.columns(), ["t5", "t1299", "last"])
 
-    def test_rejected_on_a_queue_that_is_too_long_for_a_start(self):
-        text = "\n".join(why(PROGRAM, self.run_of("queue", 700, "o.deq()=3")).lines)
-        self.assertIn("  quick rejected line 2103", text)
+    def test_rejected_on_a_queue(self):
+        found = why(PROGRAM, self.run_of("queue", 700, "o.deq()=3"))
+        self.assertEqual(found.report.verdict_line, "rejected step 248152 line 2103 APP 4")
+        self.assertIn("0 (right) was put in by t0 on line 3, which committed on line 4", found.lines)
+
+    def test_rejected_for_an_id_and_for_a_body(self):
+        data = self.run_of("counter", 700, "o.get()=700")
+        for old, new, criterion, sentence in (
+                (b'"id": 700', b'"id": 3', ("APP", 2), "the id 3 is that of o.add(1)=none of t3 (line 12)"),
+                (b'"tx": "last", "thread": "p"', b'"tx": "last", "thread": "p", "body": {"skip": true}', ("APP", 3),
+                 'its body is {"skip":true}')):
+            found = why(PROGRAM, data.replace(old, new))
+            self.assertEqual((found.report.line, found.case.criterion), (2103, criterion))
+            self.assertIn(sentence, found.lines)
+
+    def test_rejected_at_a_call_that_may_not_move(self):
+        records = ["begin open q", "op open 9000 o.get()=701"]
+        found = why(PROGRAM, self.run_of("counter", 701, "o.get()=701", *records, "op last 9001 o.add(1)=none"))
+        self.assertEqual(found.case.criterion, ("PUSH", 4))
+        self.assertIn("entry 9000 is o.get()=701 of open (line 2108), which was still open, and never ends", found.lines)
+
+    def test_accepted(self):
+        text = why(PROGRAM, self.run_of("counter", 700, "o.get()=700")).text()
+        self.assertEqual(text.splitlines()[0], "accepted steps 248153 committed 700")
+        self.assertIn(JUDGED, text)
+
+    def test_fault_on_a_later_line(self):
+        found = why(PROGRAM, self.run_of("counter", 700, "o.get()=700") + b"{}\n")
+        self.assertEqual(found.report.verdict_line, "fault line 2104 Missing(step)")
+        self.assertEqual(found.lines, [JUDGED, "line 2104 is {}"])
 
     def test_other_style(self):
         found = why(PROGRAM, self.run_of("counter", 700, "o.get()=1").replace(b"boosted", b"optimistic"))

@@ -50,6 +50,10 @@ VERDICT_LINES = (
     ("accepted", ACCEPTED), ("accepted", QUICK_ACCEPTED), ("rejected", REJECTED), ("rejected", QUICK_REJECTED),
     ("fault", FAULT), ("holds", HOLDS), ("refused", REFUSED), ("toolarge", TOO_LARGE),
 )
+# The faults of `certify` by limits that `judge` does not have, or has only for a larger run.
+LIMITS_OF_CERTIFY = ("TooManySteps", "TooManyLines", "TooManyTransactions", "TooLong")
+# The faults of `judge` on an input that is no run of style boosted.
+NO_BOOSTED_RUN = ("StyleNotJudged", "NoHeader")
 # The status that the program ends with, by its verdict.
 STATUSES = {"accepted": (0,), "rejected": (1,), "fault": (3,), "holds": (0,), "refused": (1,), "toolarge": (7,)}
 # The statuses of the commands that print lines of JSON and no verdict.
@@ -106,6 +110,7 @@ class Report:
     """An answer, line by line, and the fields of its verdict line.
 
     `verdict_line` is the first line, or after `drill N` the second.
+    `is_of_judge` says whether `judge` made it.
     `verdict` is accepted, rejected, fault, holds, refused, toolarge, or None if that line is none of these.
     `line`, `step`, `rule`, `criterion` and `cause` are None if that line does not have them.
     `fields` has all fields of that line, numbers as int.
@@ -113,6 +118,7 @@ class Report:
 
     def __init__(self, answer):
         self.answer = answer
+        self.is_of_judge = answer.command == "judge"
         self.lines = answer.text.splitlines()
         place = 1 if self.lines and DRILL.fullmatch(self.lines[0]) else 0
         self.verdict_line = self.lines[place] if place < len(self.lines) else ""
@@ -153,6 +159,17 @@ def read_report(answer):
     if answer.status not in (STATUSES[report.verdict] if report.verdict else statuses_of_lines(report)):
         raise ProgramFailed("what was run printed no verdict: it is not the program")
     return report
+
+
+def decide(program, data):
+    """The report of `certify` on a run, given as bytes. If the run is too large for it and of style boosted, that of `judge`.
+    """
+    report = read_report(ask(program, ["certify"], data))
+    if report.cause not in LIMITS_OF_CERTIFY:
+        return report
+    judged = read_report(ask(program, ["judge"], data))
+    is_no_better = judged.cause in NO_BOOSTED_RUN or judged.verdict_line == report.verdict_line
+    return report if is_no_better else judged
 
 
 def statuses_of_lines(report):

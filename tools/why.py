@@ -3,14 +3,14 @@
 The verdict and its evidence are the program's own, printed word for word before the explanation. The explanation is
 made by this script, and nothing of it is proved.
 """
+from boosted_replay import rejected_step
 from case import Case, first_calls
-from cut_run import cuts
 from explanation import attempt_at
 from recorded_run import read_run
-from replay import expanded_steps
+from replay import Logs, expanded_steps, logs_before
 from rule_words import criterion_words, fault_words
 from timeline import Timeline
-from verified_program import ask, read_report
+from verified_program import ask, decide
 from why_pairs import Pair
 from why_results import wrong_result
 from why_steps import EXPLAINED
@@ -20,21 +20,22 @@ PAIR_CRITERIA = (("PUSH", 3), ("PUSH", 4), ("UNPUSH", 3), ("PULL", 5))
 # The criteria whose timeline shows all calls, since no place is at fault.
 WHOLE_CRITERIA = (("APP", 3), ("CMT", 2))
 SHOWN_OF_A_LINE = 160
+JUDGED = "this is the report of `judge`, since the run is too large for `certify`"
 
 
 class Why:
     """What `why` says of a run. `report` is the program's, `words` the rule or the fault in words.
 
-    `case` and `explanation` are those of a rejection, and else None. `quick` is the report of `quick` if the run is too
-    long for `certify`, and else None.
+    `case` and `explanation` are those of a rejection, and else None. `lines` begins with `JUDGED` if the report is that of
+    `judge`.
     """
 
     def __init__(self, report, words, lines, timeline=None):
         self.report = report
         self.words = words
-        self.lines = lines
+        self.lines = [JUDGED, *lines] if report.is_of_judge else lines
         self.timeline = timeline
-        self.case = self.explanation = self.quick = None
+        self.case = self.explanation = None
 
     def text(self):
         shown = [*self.report.lines[:1 if self.report.verdict == "accepted" else None], "", self.words]
@@ -51,55 +52,25 @@ class Why:
 
 def why(program, data):
     """Why the program says of a run, given as bytes, what it says. Raises UnreadableRun if it cannot be read."""
-    report = read_report(ask(program, ["certify"], data))
+    report = decide(program, data)
     if report.verdict == "accepted":
         return Why(report, "The program accepts this run, so there is nothing to explain.", [])
     if report.verdict == "fault":
-        return explain_fault(program, data, report)
+        return explain_fault(data, report)
     return explain_rejection(program, data, report)
 
 
-def explain_fault(program, data, report):
+def explain_fault(data, report):
     """Why the program takes the input for no run, or for one that is too long."""
     words = f"FAULT on line {report.line}, {report.cause}: {fault_words(report.cause)}"
     if report.cause == "TooManySteps":
-        return explain_long_run(program, data, report, words)
+        return Why(report, words, ["cut the run where no transaction is open, and give what is there as a start"])
     line, lines = line_of(data, report.line), []
     if line:
         lines.append(f"line {report.line} is {shown_line(line)}")
     if report.cause == "Missing(run)" and b'"certificate"' in line:
         lines.append("a certificate is read by `pozhiqas recheck`")
     return Why(report, words, lines)
-
-
-def explain_long_run(program, data, report, words):
-    """Why a run of style boosted is rejected that has more steps than `certify` takes."""
-    run = read_run(data)
-    if run.style != "boosted":
-        return Why(report, words, ["cut the run where no transaction is open, and give what is there as a start"])
-    quick = read_report(ask(program, ["quick"], data))
-    lines = ["`quick` decides runs of style boosted of any number of steps, and prints:", "  " + quick.verdict_line]
-    explained = explain_cut(program, data, run, quick.line) if quick.verdict == "rejected" else None
-    if explained is None:
-        if quick.verdict == "rejected":
-            lines.append(f"line {quick.line} is {shown_line(line_of(data, quick.line))}")
-        explained = Why(report, words, [])
-    explained.report, explained.words, explained.quick = report, words, quick
-    explained.lines = [*lines, *explained.lines]
-    return explained
-
-
-def explain_cut(program, data, run, line):
-    """Why a line is rejected of a run that is cut to what the line depends on, or None if no cut run is rejected there."""
-    for cut in cuts(data, run, line):
-        report = read_report(ask(program, ["certify"], cut.text))
-        if report.verdict == "rejected" and report.line == line:
-            case = Case(run, report, steps_of(program, cut.text), cut.first_calls, is_cut=True)
-            explained = explain_case(case)
-            printed = [f"of {cut.words} `certify` prints:", *("  " + shown for shown in report.lines)]
-            explained.lines = [*printed, explained.words, *explained.lines]
-            return explained
-    return None
 
 
 def line_of(data, number):
@@ -123,16 +94,19 @@ def shown_line(line):
 def explain_rejection(program, data, report):
     run = read_run(data)
     if report.step == 0:
-        steps = []
-    elif run.style == "rules":
-        steps = [record.members for record in run.records[:report.step]]
+        step, logs = None, Logs(run, first_calls(run))
+    elif report.is_of_judge:
+        step, logs = rejected_step(run, report)
     else:
-        steps = steps_of(program, data)
-    return explain_case(Case(run, report, steps, first_calls(run)))
+        *before, step = steps_of(program, data, run, report)
+        logs = logs_before(run, first_calls(run), before)
+    return explain_case(Case(run, report, step, logs))
 
 
-def steps_of(program, data):
+def steps_of(program, data, run, report):
     """The steps that the records of a run stand for, up to and with the rejected one."""
+    if run.style == "rules":
+        return [record.members for record in run.records[:report.step]]
     return expanded_steps(ask(program, ["expand"], data).text.splitlines())
 
 

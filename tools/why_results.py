@@ -23,7 +23,6 @@ class WrongResult(Explanation):
         self.removed = removed
         self.in_log = {call.id for call in whole_log if call is not removed}
         self.log = [call for call in up_to(whole_log, self.call) if call.place == self.call.place and call is not removed]
-        self.is_cut = case.is_cut
         self.place = new_place(self.call.kind)
         for call in self.log:
             self.place.perform(call)
@@ -45,7 +44,7 @@ class WrongResult(Explanation):
 
     def say(self, what, call):
         """Adds a sentence that ends with a call and what became of it, and says if the log does not have it."""
-        is_outside = call.id not in self.in_log and call is not self.removed and not self.is_cut
+        is_outside = call.id not in self.in_log and call is not self.removed
         outside = f" (it is not in {self.log_words})" if is_outside else ""
         is_own = call.attempt is self.call.attempt and call.taken_back_line is None
         self.add((what if is_own else with_fate(what, call, self.line)) + outside, call)
