@@ -5,7 +5,7 @@
 
 `--count` is the number of short runs and `--long` that of long ones, of which most have more than 200,000 steps. The
 definition takes some seconds for a long run. `judge` has to print what the definition prints within the limits of
-`judge`, and what `certify` prints unless that is TooManySteps. The first run on which it does not is shown.
+`judge`, and what `certify` prints unless that is a limit that `judge` raises. The first run on which it does not is shown.
 
 The status is 1 if there is such a run. It is 1 too if `certify` printed TooManySteps for none of the long runs, or if no
 run violates one of the criteria below first, with as many short runs as usual. Else it is 0.
@@ -27,6 +27,9 @@ SHORT_RUNS, LONG_RUNS = 2000, 6
 CRITERIA = ("START 1", "START 2", "BEGIN 1", "BEGIN 2", "APP 1", "APP 2", "APP 3", "APP 4", "PUSH 4", "PUSH 5", "PULL 5",
             "CMT 1", "CMT 2", "QUIT 1", "NOTE 1")
 
+# The limits of `certify` that `judge` raises.
+RAISED = "TooManySteps", "TooManyTransactions", "TooManyLines", "TooLong"
+
 
 def write_runs(folder, seed, count, long):
     """Writes random boosted runs to a folder."""
@@ -41,7 +44,8 @@ def has_too_many(certified):
 
 def is_same(judged, certified, defined):
     """Whether `judge` prints what it has to print."""
-    return judged == defined and (has_too_many(certified) or judged == certified)
+    raised = any(certified[0].endswith(f" {cause}\n") for cause in RAISED)
+    return judged == defined and (raised or judged == certified)
 
 
 def gaps(counts, too_many, given):

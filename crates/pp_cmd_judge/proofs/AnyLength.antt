@@ -6,7 +6,6 @@ use Rattle.std.proofs.Common.{refl, ap, arith, lit≤}
 use Rattle.std.proofs.lemmas.Bool.{leb-false, leb-true}
 use Rattle.std.proofs.lemmas.Option.{same_Some}
 use Rattle.pp_core.specs.declared.answer.OutOfMemory.{OutOfMemory}
-use Rattle.pp_core.specs.declared.limits.TheConstants.{MOST_TRANSACTIONS}
 use Rattle.pp_records.specs.Records.{RunRecord}
 use Rattle.pp_records.specs.Runs.{Lined}
 use Rattle.pp_objects.specs.declared.act.Op.{Op}
@@ -148,28 +147,28 @@ header_any : (sc : InputScan) (line : ℕ) (r : Result Header RecordFault) → A
 header_any sc line (Ok header) any = any
 header_any sc line (Err fault) any = fault_any sc line (cause_of fault) any (cause_any fault)
 
-record_any : (sc : InputScan) (line : ℕ) (r : Result (RunRecord Op) RecordFault) → AnyLength sc.fault → AnyLength (with_record MOST_TRANSACTIONS sc line r).fault
+record_any : (sc : InputScan) (line : ℕ) (r : Result (RunRecord Op) RecordFault) → AnyLength sc.fault → AnyLength (with_record judge_limits.transactions sc line r).fault
 record_any sc line (Err fault) any = fault_any sc line (cause_of fault) any (cause_any fault)
-record_any sc line (Ok r) any = by (is_begin_record r && begins sc.records == MOST_TRANSACTIONS)
+record_any sc line (Ok r) any = by (is_begin_record r && begins sc.records == judge_limits.transactions)
   where
     by : (b : Bool) → AnyLength (cond b (with_fault sc line (Ok causes.TooManyTransactions)) (with_next sc line r)).fault
     by true = fault_any sc line (Ok causes.TooManyTransactions) any (λ h. absurd (cc))
     by false = any
 
-read_any : (sc : InputScan) (o : Option (Lined Header)) (line : NumberedLine) → AnyLength sc.fault → AnyLength (read_line MOST_TRANSACTIONS sc o line).fault
+read_any : (sc : InputScan) (o : Option (Lined Header)) (line : NumberedLine) → AnyLength sc.fault → AnyLength (read_line judge_limits.transactions sc o line).fault
 read_any sc None line any = header_any sc line.0 (header_of line.1) any
 read_any sc (Some header) line any = record_any sc line.0 (record_of header.what line.1) any
 
-line_any : (sc : InputScan) (line : NumberedLine) → AnyLength sc.fault → AnyLength (scan_line MOST_TRANSACTIONS sc line).fault
+line_any : (sc : InputScan) (line : NumberedLine) → AnyLength sc.fault → AnyLength (scan_line judge_limits.transactions sc line).fault
 line_any sc line any = by (is_some sc.fault || blank line.1)
   where
-    by : (b : Bool) → AnyLength (cond b sc (read_line MOST_TRANSACTIONS sc sc.header line)).fault
+    by : (b : Bool) → AnyLength (cond b sc (read_line judge_limits.transactions sc sc.header line)).fault
     by true = any
     by false = read_any sc sc.header line any
 
-lines_any : (sc : InputScan) (lines : List NumberedLine) → AnyLength sc.fault → AnyLength (fold (scan_line MOST_TRANSACTIONS) sc lines).fault
+lines_any : (sc : InputScan) (lines : List NumberedLine) → AnyLength sc.fault → AnyLength (fold (scan_line judge_limits.transactions) sc lines).fault
 lines_any sc [] any = any
-lines_any sc (line ∷ lines) any = lines_any (scan_line MOST_TRANSACTIONS sc line) lines (line_any sc line any)
+lines_any sc (line ∷ lines) any = lines_any (scan_line judge_limits.transactions sc line) lines (line_any sc line any)
 
 -- ---- the input
 
@@ -192,7 +191,7 @@ style_any (Some header) fault any = by (is_judged header.what.style)
 -- the fault of an input is never that it has too many bytes
 pub any_length : (bytes : List ℕ) (line : ℕ) → judge_fault (judge_scan bytes) ≡ Some (line, causes.TooLong) → ⊥
 any_length bytes =
-    let sc : InputScan = scan_lines MOST_TRANSACTIONS (scanned_lines judge_limits bytes) in
+    let sc : InputScan = scan_lines judge_limits.transactions (scanned_lines judge_limits bytes) in
     style_any (judge_scan bytes).header (judge_scan bytes).fault
     (or_any sc.fault (option_or (limit_fault (overrun judge_limits bytes)) (no_header bytes sc.header)) (lines_any nothing (scanned_lines judge_limits bytes) none_long)
     (or_any (limit_fault (overrun judge_limits bytes)) (no_header bytes sc.header) (limit_fault_any (overrun judge_limits bytes) (limit_any bytes)) (no_header_any bytes sc.header)))

@@ -72,7 +72,7 @@ judged_is styles.Optimistic h = absurd (cc)
 judged_is styles.Hardware h = absurd (cc)
 judged_is styles.Dependent h = absurd (cc)
 
-nothing_yet : (n : ℕ) → 0 ≤ 1_000_000 * n
+nothing_yet : (n : ℕ) → 0 ≤ 6_442_451_713 * n
 nothing_yet n = omega arith
 
 module _ (line : ℕ) (h : Header) (judged : is_judged h.style ≡ true) where
@@ -124,8 +124,8 @@ start_rejected line (suc n) h detail machine s = record {
 -- ---- a record
 
 -- a run may have one record more
-pub below_most : (h : Header) (judge : Counted) → MayTake counted_judging h judge → judge.quick.count < 200_000
-below_most h judge may = let room : length may.1 + 1 < 200_001 = may.3 in omega (arith, may.2.good.read.count, room)
+pub below_most : (h : Header) (judge : Counted) → MayTake counted_judging h judge → judge.quick.count < 2_147_483_646
+below_most h judge may = let room : length may.1 + 1 < 2_147_483_647 = may.3 in omega (arith, may.2.good.read.count, room)
 
 -- the rejection of a step of a record on this line, after so many steps
 abbrev pub rejection_by : (steps line : ℕ) → Violation Op → Rejection
@@ -293,11 +293,11 @@ module _ (h : Header) (judge : Counted) (r : RunRecord Op) (line now new : ℕ) 
       )
 
   -- a good record
-  pub counts_good : (next : Held (List Kind) Op) (more : ℕ) → judge.quick.count < 200_000 → IsBoosted r → Takes objects place_of judge.quick r true next → next.shape ≡ judge.quick.shape
-      → TakeCosts judge.quick.brief r true now new → HasSteps objects place_of judge.quick r more → more ≤ 1_000_000
+  pub counts_good : (next : Held (List Kind) Op) (more : ℕ) → judge.quick.count < 2_147_483_646 → IsBoosted r → Takes objects place_of judge.quick r true next → next.shape ≡ judge.quick.shape
+      → TakeCosts judge.quick.brief r true now new → HasSteps objects place_of judge.quick r more → more ≤ 6_442_451_713
       → Judges counted_judging h judge r line (Good (record { quick = next; steps = judge.steps + more })) now new
   counts_good next more below boosted takes shape cost has few =
-      let q = judges_good h (record { quick = judge.quick }) r line now new next below boosted takes shape cost in
+      let q = judges_good h (record { quick = judge.quick }) r line now new next (fewer judge.quick.count below) boosted takes shape cost in
       record {
         is = λ at rs c.
             let it : Lined (RunRecord Op) = record { line = line; what = r } in
@@ -315,7 +315,10 @@ module _ (h : Header) (judge : Counted) (r : RunRecord Op) (line now new : ℕ) 
       added : (steps more all own both : ℕ) → steps ≡ all → more ≡ own → both ≡ all + own → steps + more ≡ both
       added steps more all own both x y z = omega (arith, x, y, z)
 
-      more_room : (steps more count next : ℕ) → steps ≤ 1_000_000 * count → more ≤ 1_000_000 → next ≡ count + 1 → steps + more ≤ 1_000_000 * next
+      fewer : (n : ℕ) → n < 2_147_483_646 → n < 4_294_967_294
+      fewer n x = omega (arith, x)
+
+      more_room : (steps more count next : ℕ) → steps ≤ 6_442_451_713 * count → more ≤ 6_442_451_713 → next ≡ count + 1 → steps + more ≤ 6_442_451_713 * next
       more_room steps more count next x y z = omega (arith, x, y, z)
 
   -- one that is not
@@ -336,15 +339,18 @@ module _ (h : Header) (judge : Counted) (r : RunRecord Op) (line now new : ℕ) 
   refused next may takes =
       subst (λ (v : Held (List Kind) Op). IsRefused objects place_of v r) (sym (unchanged h may.1 judge may.2 r next takes)) (λ f c held. (takes f c held).0)
 
-  pub still_below : (next : Held (List Kind) Op) → MayTake counted_judging h judge → Takes objects place_of judge.quick r false next → next.count < 200_000
+  pub still_below : (next : Held (List Kind) Op) → MayTake counted_judging h judge → Takes objects place_of judge.quick r false next → next.count < 4_294_967_295
   still_below next may takes =
-      subst (λ (v : Held (List Kind) Op). v.count < 200_000) (sym (unchanged h may.1 judge may.2 r next takes)) (below_most h judge may)
+      subst (λ (v : Held (List Kind) Op). v.count < 4_294_967_295) (sym (unchanged h may.1 judge may.2 r next takes)) (fewer judge.quick.count (below_most h judge may))
+    where
+      fewer : (n : ℕ) → n < 2_147_483_646 → n < 4_294_967_295
+      fewer n x = omega (arith, x)
 
   -- the number of steps so far fits
-  pub steps_fit : MayTake counted_judging h judge → judge.steps ≤ 200_000_000_000
+  pub steps_fit : MayTake counted_judging h judge → judge.steps ≤ 13_835_059_693_812_185_598
   steps_fit may = few judge.steps judge.quick.count may.2.few (below_most h judge may)
     where
-      few : (steps count : ℕ) → steps ≤ 1_000_000 * count → count < 200_000 → steps ≤ 200_000_000_000
+      few : (steps count : ℕ) → steps ≤ 6_442_451_713 * count → count < 2_147_483_646 → steps ≤ 13_835_059_693_812_185_598
       few steps count x y = omega (arith, x, y)
 
   -- the number of the step fits

@@ -17,7 +17,7 @@ use Rattle.pp_model.proofs.Verdict.{one_verdict}
 use Rattle.pp_objects.specs.declared.act.Op.{Op}
 use Rattle.pp_input.specs.Limits.{usual_limits}
 use Rattle.pp_input_reader.specs.declared.cause.Cause.{Cause}
-use Rattle.pp_input_reader.specs.declared.cause.Cause.TheVariants.{StyleNotJudged, TooManySteps}
+use Rattle.pp_input_reader.specs.declared.cause.Cause.TheVariants.{StyleNotJudged, TooManySteps, TooManyTransactions}
 use Rattle.pp_judge.proofs.Concluding.{told_once}
 use Rattle.pp_judge.proofs.Exact.{behind_meets, meets_run_report}
 use Rattle.pp_judge.proofs.WiderLimits.{same_under_wider}
@@ -29,6 +29,7 @@ use Rattle.pp_judge.specs.Scans.{InputScan}
 use Rattle.pp_judge.specs.WiderLimits.{AreWider, HasAllowedSize}
 use Rattle.pp_cmd_quick.specs.DeciderLaws.{taken_fault}
 use Rattle.pp_cmd_quick.specs.Decisions.{steps_behind, style_fault}
+use Rattle.pp_cmd_judge.proofs.AnyBegins.{any_begins}
 use Rattle.pp_cmd_judge.proofs.AnyLength.{any_length}
 use Rattle.pp_cmd_judge.specs.Inputs.{judge_limits, judge_scan}
 use Rattle.pp_cmd_judge.specs.Judgements.{HasJudgedStyle, IsJudged, IsJudgedExactly, IsJudgement}
@@ -103,11 +104,15 @@ judge_allows_more = record { bytes = lit≤ tt; lines = lit≤ tt; line_bytes = 
 
 -- the fault is no limit on the lines or the bytes, since `certify` reports the fault of the scan
 allowed_size : (sc : InputScan) → IsWithinCertify sc → HasAllowedSize sc
-allowed_size sc fits line cause size faulty = fits line cause (inr size) (Some (line, cause), inr (few_overruns sc fits, sym faulty), refl)
+allowed_size sc fits line cause size faulty = fits line cause (inr (inr size)) (Some (line, cause), inr (few_overruns sc fits, sym faulty), refl)
+
+-- nor is it the limit on the transactions
+allowed_begins : (sc : InputScan) → IsWithinCertify sc → (line : ℕ) → sc.fault ≡ Some (line, TooManyTransactions) → ⊥
+allowed_begins sc fits line faulty = fits line TooManyTransactions (inr (inl refl)) (Some (line, TooManyTransactions), inr (few_overruns sc fits, sym faulty), refl)
 
 -- an input that is within the limits of `certify` is the same within those of `judge`
 pub same_input : (bytes : List ℕ) → IsWithinCertify (scan bytes) → judge_scan bytes ≡ scan bytes
-same_input bytes fits = same_under_wider usual_limits judge_limits bytes judge_allows_more (allowed_size (scan bytes) fits) (inl refl)
+same_input bytes fits = same_under_wider usual_limits judge_limits bytes judge_allows_more (allowed_size (scan bytes) fits) (inr (allowed_begins (scan bytes) fits))
 
 -- `judge` and `certify` print the same, unless `certify` reports a limit that `judge` raises
 pub same_judged : (bytes : List ℕ) (s : Status) (t : List ℕ) → HasJudgedStyle (scan bytes).header → IsWithinCertify (scan bytes) → IsJudged bytes s t ↔ IsCertified bytes s t
@@ -140,4 +145,4 @@ judged_exact bytes status text r = (
 )
 
 pub judgements : JudgementLaw
-judgements = record { any_length = any_length; one = one_judged; same = same_judged }
+judgements = record { any_length = any_length; any_begins = any_begins; one = one_judged; same = same_judged }

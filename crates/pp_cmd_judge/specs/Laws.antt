@@ -4,6 +4,7 @@ use Rattle.pp_core.specs.declared.status.Status.{Status}
 use Rattle.pp_records.specs.Inputs.{Faulty, IsReport}
 use Rattle.pp_input_reader.specs.declared.cause.Cause.{Cause}
 use Rattle.pp_input_reader.specs.declared.cause.Cause.TheVariants.{TooLong, TooManySteps}
+use Rattle.pp_input_reader.specs.declared.cause.Cause.TheVariants.{TooManyTransactions}
 use Rattle.pp_judge.specs.Inputs.{scan}
 use Rattle.pp_judge.specs.Objects.{setting_of}
 use Rattle.pp_judge.specs.Reports.{IsCertified}
@@ -12,9 +13,10 @@ use Rattle.pp_judge.specs.WiderLimits.{IsSizeLimit}
 use Rattle.pp_cmd_judge.specs.Inputs.{judge_scan}
 use Rattle.pp_cmd_judge.specs.Judgements.{HasJudgedStyle, IsJudged, judge_fault}
 
--- `judge` allows more than this limit of `certify`: on steps, lines or bytes
+-- `judge` allows more than this limit of `certify`: on steps, transactions, lines or bytes
 abbrev pub IsRaisedLimit : Cause → Type 0
-IsRaisedLimit cause = (cause ≡ TooManySteps) ⊎ IsSizeLimit cause
+IsRaisedLimit cause =
+    (cause ≡ TooManySteps) ⊎ ((cause ≡ TooManyTransactions) ⊎ IsSizeLimit cause)
 
 -- `certify` reports no such limit
 abbrev pub IsWithinCertify : InputScan → Type 0
@@ -25,10 +27,13 @@ pub record JudgementLaw : Type 0 where
   -- no input has too many bytes
   pub any_length : (bytes : List ℕ) (line : ℕ) → judge_fault (judge_scan bytes)
       ≡ Some (line, TooLong) → ⊥
+  -- no input has too many transactions
+  pub any_begins : (bytes : List ℕ) (line : ℕ) → judge_fault (judge_scan bytes)
+      ≡ Some (line, TooManyTransactions) → ⊥
   -- an input has one status and one text at most
   pub one : (bytes : List ℕ) (s s' : Status) (t t' : List ℕ) → IsJudged bytes s t →
       IsJudged bytes s' t' → (s ≡ s') × (t ≡ t')
   -- For an input of a style that is judged, these are those of `certify`, unless `certify` reports
-  -- TooManySteps, TooManyLines or TooLong.
+  -- TooManySteps, TooManyTransactions, TooManyLines or TooLong.
   pub same : (bytes : List ℕ) (s : Status) (t : List ℕ) → HasJudgedStyle (scan bytes).header →
       IsWithinCertify (scan bytes) → IsJudged bytes s t ↔ IsCertified bytes s t

@@ -29,7 +29,7 @@ pub record AreCountedBehind (header : Header) (records : Records (RunRecord Op))
     (judge : Counted) : Type 0 where
   pub good : AreGoodBehind header records judge.quick
   pub steps : judge.steps ≡ length (steps_behind header records)
-  pub few : judge.steps ≤ 1_000_000 * judge.quick.count
+  pub few : judge.steps ≤ 6_442_451_713 * judge.quick.count
 
 -- The run of these records, and of these with any more after them, ends with the step that is
 -- rejected so.

@@ -10,7 +10,7 @@ ghost use Rattle.pp_cmd_judge.specs.Judgements.{is_judged};
 ghost use Rattle.pp_cmd_judge.specs.Taking.{IsRejectedBehind};
 
 use pp_cmd_quick::start_quick;
-use pp_core::{LONGEST_LINE, MOST_LINES, MOST_TRANSACTIONS, OutOfMemory, Rule, Style, Ticks};
+use pp_core::{LONGEST_LINE, OutOfMemory, Rule, Style, Ticks};
 use pp_format_read::Header;
 use pp_input::Limits;
 use pp_input_reader::{Cause, Stop};
@@ -30,15 +30,16 @@ pub(crate) struct Counted {
     pub(crate) steps: u64,
 }
 
-/// The limits of an input that is judged. It may have any number of bytes.
+/// The limits of an input that is judged. It may have any number of bytes and of transactions.
+/// The number of lines is the greatest that keeps the numbers of all steps in 64 bits.
 fn judge_limits() -> Limits
     ensures { result ≡ judge_limits }
 {
     Limits {
         bytes: u64::MAX,
-        lines: MOST_LINES,
+        lines: 2_147_483_647,
         line_bytes: LONGEST_LINE,
-        transactions: MOST_TRANSACTIONS,
+        transactions: u32::MAX,
     }
 }
 

@@ -40,7 +40,7 @@ use Rattle.pp_cmd_quick.specs.declared.decider.RejectedLine.{RejectedLine}
 use Rattle.pp_cmd_quick.specs.DeciderLaws.{all_hold, boosted_fault}
 use Rattle.pp_cmd_quick.proofs.Readers.{committed_are}
 
-pub few_serial : (a b k : ℕ) → a ≡ b → b ≤ k + 256 → k ≤ 200_000 → a < 1_000_000
+pub few_serial : (a b k : ℕ) → a ≡ b → b ≤ k + 256 → k ≤ 4_294_967_294 → a < 4_294_967_552
 few_serial a b k x y z = omega (arith, x, y, z)
 
 -- ---- what the summary as a judge says

@@ -120,7 +120,7 @@ failed_least header rs it old now new least rises r f =
     fewer_ops old now new (count_ops (bare rs)) (count_ops (bare f.before)) least rises (ops_before rs f.before f.behind it r f.parts)
 
 -- a run may have one record more
-pub below_most : (h : Header) (judge : Decider) → MayTake quick_judging h judge → judge.quick.count < 200_000
+pub below_most : (h : Header) (judge : Decider) → MayTake quick_judging h judge → judge.quick.count < 4_294_967_294
 below_most h judge may = let room : length may.1 + 1 < 200_001 = may.3 in omega (arith, may.2.read.count, room)
 
 module _ (h : Header) (judge : Decider) (r : RunRecord Op) (line now new : ℕ) where
@@ -135,7 +135,7 @@ module _ (h : Header) (judge : Decider) (r : RunRecord Op) (line now new : ℕ) 
       tried_next old now new (start_at_most (start_of h)) (records_most place_of B (bare rs)) (take_most judge.quick.brief r) (take_most (brief_after place_of B (bare rs)) r) (records_most place_of B tried) here law same cost
 
   -- a good one
-  pub judges_good : (next : Held (List Kind) Op) → judge.quick.count < 200_000 → IsBoosted r → Takes objects place_of judge.quick r true next → next.shape ≡ judge.quick.shape → TakeCosts judge.quick.brief r true now new
+  pub judges_good : (next : Held (List Kind) Op) → judge.quick.count < 4_294_967_294 → IsBoosted r → Takes objects place_of judge.quick r true next → next.shape ≡ judge.quick.shape → TakeCosts judge.quick.brief r true now new
       → Judges quick_judging h judge r line (Good (record { quick = next })) now new
   judges_good next below boosted takes shape cost = record {
     is = λ at rs c.

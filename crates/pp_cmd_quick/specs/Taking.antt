@@ -27,7 +27,7 @@ pub record AreGoodBehind (header : Header) (records : Records (RunRecord Op))
     (quick : Held (List Kind) Op) : Type 0 where
   pub style : header.style ≡ Boosted
   pub shape : quick.shape ≡ kinds_of header.catalog
-  pub few : quick.count ≤ 200_000
+  pub few : quick.count ≤ 4_294_967_294
   pub read : HasRead objects place_of (kinds_of header.catalog) (start_of header) records quick
 
 -- The limits are the usual ones. A record is good if all its steps meet their criteria. A rejection

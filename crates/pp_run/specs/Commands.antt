@@ -85,8 +85,9 @@ pub record JudgePromise (o : Outcome) : Type 0 where
   -- Accepted is printed exactly if the input has no fault, and its start and each step meet their
   -- criteria.
   pub exact : IsPrinted o.status → OfItsInput o λ bytes. IsJudgedExactly bytes o.status
-  -- If the style is judged, and `certify` reports none of TooManySteps, TooManyLines and TooLong,
-  -- then the status and the text are the only output of `certify` for the input.
+  -- If the style is judged, and `certify` reports none of TooManySteps, TooManyTransactions,
+  -- TooManyLines and TooLong, then the status and the text are the only output of `certify` for the
+  -- input.
   pub same : IsPrinted o.status → OfItsInput o λ bytes. HasJudgedStyle (scan bytes).header →
       IsWithinCertify (scan bytes) → IsTheOutput IsCertified bytes o
   -- An accepted run is serializable, also if it has too many steps for `certify`.

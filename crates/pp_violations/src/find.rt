@@ -29,7 +29,7 @@ fn search_record<S: Parted, L: Ledger>(
     requires keeps { KeepsQuick S.object S.place_of parts.now }
     requires style { IsBoosted (record_meaning recorded.now) }
     requires asked { IsRecordAsked S.object parts.now.shape (record_meaning recorded.now) }
-    requires few { parts.now.count < 200_000 }
+    requires few { parts.now.count < 4_294_967_295 }
     ensures searches { IfOk result (SearchesRecord S.object S.place_of parts.now.shape parts.now
         (record_meaning recorded.now)) }
     ensures rises { ticks.old ≤ ticks.new }
@@ -62,7 +62,7 @@ pub fn find_violation<S: Parted, L: Ledger>(
 ) -> Result<Violation<S::Op>, OutOfMemory>
     requires style { IsBoosted (record_meaning recorded.now) }
     requires asked { IsRecordAsked S.object quick.now.shape (record_meaning recorded.now) }
-    requires few { quick.now.count < 200_000 }
+    requires few { quick.now.count < 4_294_967_295 }
     requires refused { IsRefused S.object S.place_of quick.now (record_meaning recorded.now) }
     ensures found { IfOk result
         (IsViolation S.object S.place_of quick.now (record_meaning recorded.now)) }

@@ -96,7 +96,7 @@ pub(crate) fn search_op<S: Parted, L: Ledger>(
 ) -> Result<Option<Violation<S::Op>>, OutOfMemory>
     requires keeps { KeepsQuick S.object S.place_of parts.now }
     requires asked { IsOpAsked S.object parts.now.shape op.now }
-    requires few { parts.now.count < 200_000 }
+    requires few { parts.now.count < 4_294_967_295 }
     ensures searches { IfOk result (SearchesRecord S.object S.place_of parts.now.shape parts.now
         (Op tx.now id op.now)) }
     ensures rises { ticks.old ≤ ticks.new }

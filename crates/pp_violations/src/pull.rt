@@ -3,6 +3,7 @@ ghost use Rattle.std.specs.Prelude.{◌≡◌, ◌≤◌, ◌<◌, ◌+◌, IfOk
 ghost use Rattle.pp_model.specs.Lists.{In};
 ghost use Rattle.pp_core.specs.declared.entry.Item.{Item as ItemOf};
 ghost use Rattle.pp_kind.specs.Object.{AllRanged, IsAllowed};
+ghost use Rattle.pp_kind.specs.declared.range.TheConstants.{MOST_OPERATIONS};
 ghost use Rattle.pp_model.specs.Object.{ops};
 ghost use Rattle.pp_summary.specs.Held.{IsOpAsked};
 ghost use Rattle.pp_violations.specs.Searches.{AreEntriesAsked, AreItemsAsked, IsStateOf};
@@ -47,7 +48,7 @@ fn judge_pull<S: Parted, L: Ledger>(
     requires asked { IsOpAsked S.object (S.object.shape state.old) entry.now.op }
     requires state { (before : List S.Op)
         × IsStateOf S.object S.place_of (S.object.shape state.old) state.old before
-        × (length before < 1_000_000) }
+        × (length before < MOST_OPERATIONS) }
     ensures judges { IfOk result (λ r. (before : List S.Op) →
         IsStateOf S.object S.place_of (S.object.shape state.old) state.old before →
         JudgesPull S.object S.place_of (S.object.shape state.old) before own.now entry.now
@@ -88,7 +89,7 @@ pub(crate) fn search_pulls<S: Parted, L: Ledger>(
     requires asked { AreEntriesAsked S.object shape.now entries.now }
     requires allowed { IsAllowed S.object shape.now (ops view.now) }
     requires ranged { AllRanged S.object (ops view.now) }
-    requires few { length view.now + length entries.now < 1_000_000 }
+    requires few { length view.now + length entries.now < MOST_OPERATIONS }
     ensures searches { IfOk result (SearchesPulls S.object S.place_of shape.now (ops view.now)
         own.now entries.now) }
     ensures rises { ticks.old ≤ ticks.new }

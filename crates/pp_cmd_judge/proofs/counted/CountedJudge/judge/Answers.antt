@@ -89,7 +89,7 @@ returns-then-good-clause-judged g c =
     let cost = subst (λ b. TakeCosts judge.quick.brief r b now new) c.if-good.true c.in_ok-quick.ensures.cost in
     let boosted = subst (λ s. IsOfStyle s r) c.requires.good.2.good.style c.requires.styled in
     let below = below_most header judge c.requires.good in
-    let few : more ≤ 1_000_000 = omega (arith, below, c.steps-more.ensures.bound) in
+    let few : more ≤ 6_442_451_713 = omega (arith, below, c.steps-more.ensures.bound) in
     counts_good header judge r c.args.line now new next more below boosted takes c.in_ok-quick.ensures.shape cost c.steps-more.ensures.count few
 
 pub returns-in_ok-violation-clause-judged : goal.returns-in_ok-violation-clause-judged
