@@ -158,7 +158,7 @@ module _ {Shape State Op Undo : Type 0} (o : Object Shape State Op Undo) (place 
           places.gives_there v.state t a (same_there (place a)) ∙ l.1,
         )
 
-    pub reached : v.size < 1_000_000 → IsReached o v.state
+    pub reached : v.size < 4_294_967_552 → IsReached o v.state
     reached few =
         let sh = shape_is in
         record {
@@ -168,7 +168,7 @@ module _ {Shape State Op Undo : Type 0} (o : Object Shape State Op Undo) (place 
             is = past.is ∙ ap (λ (s : Shape). state_after o s past.log) (sym sh);
             ranged = past.ranged;
           };
-          few = subst (λ (n : ℕ). n < 1_000_000) past.size few;
+          few = subst (λ (n : ℕ). n < 4_294_967_552) past.size few;
         }
 
     -- One operation more.
@@ -254,7 +254,7 @@ module _ {Shape State Op Undo : Type 0} (o : Object Shape State Op Undo) (place 
       both_shape = reached_shape o laws shape both both_allowed
 
       -- It was applied to a state that was reached.
-      pub was_applied : v.size ≤ 1_000_000 → WasApplied o a (o.upkeep.kept (state_after o shape x) a) v.state
+      pub was_applied : v.size ≤ 4_294_967_552 → WasApplied o a (o.upkeep.kept (state_after o shape x) a) v.state
       was_applied few = (
         state_after o shape both,
         record {

@@ -47,7 +47,7 @@ pub fn begin<S: Placed>(
 ) -> Result<bool, OutOfMemory>
     requires keeps { Keeps S.object S.place_of parts.old }
     requires within { IsWithinLimits (option_map tree body.now) }
-    requires few { parts.old.count < 999_000 }
+    requires few { parts.old.count < 4_294_967_295 }
     ensures { IfOk result (λ answer. Answers S.object S.place_of parts.old
         (Plain (Begin tx.now thread.now (option_map tree body.now))) answer parts.new) }
 {

@@ -62,7 +62,7 @@ pub fn commit<S: Placed, L: Ledger>(
     ticks: &mut Ticks<L>,
 ) -> Result<bool, OutOfMemory>
     requires keeps { Keeps S.object S.place_of parts.old }
-    requires few { parts.old.count < 999_000 }
+    requires few { parts.old.count < 4_294_967_295 }
     ensures answers { IfOk result (λ good.
         Answers S.object S.place_of parts.old (Commit tx.now) good parts.new) }
     ensures rises { ticks.old ≤ ticks.new }

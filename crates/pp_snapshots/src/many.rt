@@ -2,6 +2,7 @@
 ghost use Rattle.std.specs.Prelude.{◌≡◌, ◌+◌, ◌-◌, ◌*◌, ◌≤◌, ℕ, IfOk, OnOk, cond, drop, length};
 ghost use Rattle.pp_snapshots.specs.Past.{IsSomePast, made_at};
 ghost use Rattle.pp_snapshots.specs.Many.{AllFollow, AllGoBack, AreAsked, AreThere, CanAllGoBack};
+ghost use Rattle.pp_kind.specs.declared.range.TheConstants.{MOST_OPERATIONS};
 ghost use Rattle.pp_snapshots.specs.Many.{AllAreDone, CanFollow, FollowsSome, TellsBehind, ops_made};
 
 use crate::past::{Done, Past, apply, take_back};
@@ -18,7 +19,7 @@ pub fn take_all_back<S: Placed, L: Ledger>(
     ticks: &mut Ticks<L>,
 ) -> Result<(), OutOfMemory>
     requires can { CanAllGoBack S.object S.place_of past.old ops.now }
-    requires few { past.old.size ≤ 1_000_000 }
+    requires few { past.old.size ≤ MOST_OPERATIONS }
     ensures back { OnOk result (AllGoBack S.object S.place_of past.old ops.now past.new) }
     ensures size { OnOk result (past.new.size + length ops.now ≡ past.old.size) }
     ensures rises { ticks.old ≤ ticks.new }
@@ -41,7 +42,7 @@ pub fn apply_all<S: Placed, L: Ledger>(
 ) -> Result<bool, OutOfMemory>
     requires some { IsSomePast S.object S.place_of past.old }
     requires asked { AreAsked S.object past.old ops.now }
-    requires few { past.old.size + length ops.now ≤ 1_000_000 }
+    requires few { past.old.size + length ops.now ≤ MOST_OPERATIONS }
     ensures follow { IfOk result (λ good.
         AllFollow S.object S.place_of past.old ops.now good past.new) }
     ensures size { IfOk result (λ good.
@@ -69,7 +70,7 @@ fn can_follow<S: Placed, L: Ledger>(
 ) -> Result<bool, OutOfMemory>
     requires some { IsSomePast S.object S.place_of past.old }
     requires asked { AreAsked S.object past.old ops.now }
-    requires few { past.old.size + length ops.now ≤ 1_000_000 }
+    requires few { past.old.size + length ops.now ≤ MOST_OPERATIONS }
     ensures tells { IfOk result (λ good.
         CanFollow S.object S.place_of past.old ops.now good past.new) }
     ensures size { OnOk result (past.new.size ≡ past.old.size) }
@@ -91,7 +92,7 @@ fn put_again<S: Placed, L: Ledger>(
 ) -> Result<(), OutOfMemory>
     requires may { FollowsSome S.object S.place_of past.old ops.now }
     requires asked { AreAsked S.object past.old ops.now }
-    requires few { past.old.size + length ops.now ≤ 1_000_000 }
+    requires few { past.old.size + length ops.now ≤ MOST_OPERATIONS }
     ensures done { OnOk result (AllAreDone S.object S.place_of past.old ops.now past.new) }
     ensures size { OnOk result (past.new.size ≡ past.old.size + length ops.now) }
     ensures rises { ticks.old ≤ ticks.new }
@@ -139,9 +140,9 @@ pub fn may_follow<S: Placed, L: Ledger>(
     requires some { IsSomePast S.object S.place_of past.old }
     requires asked { AreAsked S.object past.old ops.now }
     requires there { AreThere S.place_of place ops.now }
-    requires few { past.old.size ≤ 1_000_000 }
+    requires few { past.old.size ≤ MOST_OPERATIONS }
     requires room { past.old.size + length ops.now
-        ≤ 1_000_000 + (length (made_at place past.old.places.items) - seen) }
+        ≤ MOST_OPERATIONS + (length (made_at place past.old.places.items) - seen) }
     ensures tells { IfOk result (λ good.
         TellsBehind S.object S.place_of past.old place seen ops.now good past.new) }
     ensures size { OnOk result (past.new.size ≡ past.old.size) }

@@ -10,6 +10,7 @@ ghost use Rattle.pp_snapshots.specs.Many.{AreAsked};
 ghost use Rattle.pp_snapshots.specs.Moving.{Answers};
 ghost use Rattle.pp_snapshots.specs.Ops.{AddsOp, IsGrown, MayAddOp, op_most, open_most, TellsOp, snapshot_at};
 ghost use Rattle.pp_snapshots.specs.Past.{IsSomePast, made_at};
+ghost use Rattle.pp_kind.specs.declared.range.TheConstants.{MOST_OPERATIONS};
 ghost use Rattle.pp_snapshots.specs.Shown.{Keeps, seen_in};
 
 use crate::many::may_follow;
@@ -84,7 +85,7 @@ pub fn may_op<S: Placed, L: Ledger>(
     requires taken { HasTaken it.now.walk (calls_of S.object it.now.own) }
     requires own { AreAsked S.object past.old (ops it.now.own) }
     requires asked { IsOpAsked S.object (S.object.shape past.old.state) op.now }
-    requires few { past.old.size + length it.now.own < 1_000_000 }
+    requires few { past.old.size + length it.now.own < MOST_OPERATIONS }
     ensures tells { IfOk result (λ found. TellsOp S.object S.place_of past.old ids.now id op.now
         it.now found past.new) }
     ensures size { OnOk result (past.new.size ≡ past.old.size) }
@@ -155,7 +156,7 @@ pub fn do_op<S: Placed, L: Ledger>(
 ) -> Result<bool, OutOfMemory>
     requires keeps { Keeps S.object S.place_of parts.old }
     requires asked { IsOpAsked S.object parts.old.shape op.now }
-    requires few { parts.old.count < 999_000 }
+    requires few { parts.old.count < 4_294_967_295 }
     ensures answers { IfOk result (λ good. Answers S.object S.place_of parts.old
         (Op tx.now id op.now) good parts.new) }
     ensures rises { ticks.old ≤ ticks.new }

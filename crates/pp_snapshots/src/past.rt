@@ -1,5 +1,6 @@
 //! Operations that were applied, place by place, so that the last ones at a place can be taken back.
 ghost use Rattle.std.specs.Prelude.{◌≡◌, ◌+◌, ◌<◌, ◌≤◌, ℕ, [], IfOk, IsTrue, OnOk, length};
+ghost use Rattle.pp_kind.specs.declared.range.TheConstants.{MOST_OPERATIONS};
 ghost use Rattle.pp_snapshots.specs.Past.{EndsWith, Follows, GoesBack, IsPast, IsSomePast, made_at};
 
 use pp_core::{OutOfMemory, Ticks};
@@ -77,7 +78,7 @@ pub fn apply<S: Placed, L: Ledger>(
     requires some { IsSomePast S.object S.place_of past.old }
     requires fits { IsTrue (S.object.fits (S.object.shape past.old.state) op.now) }
     requires ranged { IsTrue (S.object.ranged op.now) }
-    requires few { past.old.size < 1_000_000 }
+    requires few { past.old.size < MOST_OPERATIONS }
     ensures follows { IfOk result (λ good.
         Follows S.object S.place_of past.old op.now good past.new) }
     ensures cost { ticks.new ≡ ticks.old + 1 }
@@ -101,7 +102,7 @@ pub fn take_back<S: Placed, L: Ledger>(
     ticks: &mut Ticks<L>,
 ) -> Result<(), OutOfMemory>
     requires ends { EndsWith S.object S.place_of past.old place }
-    requires few { past.old.size ≤ 1_000_000 }
+    requires few { past.old.size ≤ MOST_OPERATIONS }
     ensures back { OnOk result (GoesBack S.object S.place_of past.old place past.new) }
     ensures size { OnOk result (past.new.size + 1 ≡ past.old.size) }
     ensures cost { ticks.new ≡ ticks.old + 1 }

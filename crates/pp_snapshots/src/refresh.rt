@@ -7,6 +7,7 @@ ghost use Rattle.pp_snapshots.specs.Moving.{Answers};
 ghost use Rattle.pp_snapshots.specs.Ops.{open_most, refresh_most};
 ghost use Rattle.pp_snapshots.specs.Past.{IsSomePast};
 ghost use Rattle.pp_snapshots.specs.Refreshing.{AllSwap, MaySee, OneStays, SeesAll, StaysOf, SwapsAll, TellsRefresh};
+ghost use Rattle.pp_kind.specs.declared.range.TheConstants.{MOST_OPERATIONS};
 ghost use Rattle.pp_snapshots.specs.Shown.{Keeps};
 
 use crate::many::{may_follow, ops_from};
@@ -65,7 +66,7 @@ fn may_refresh<S: Placed, L: Ledger>(
 ) -> Result<bool, OutOfMemory>
     requires some { IsSomePast S.object S.place_of past.old }
     requires own { AreAsked S.object past.old (ops it.now.own) }
-    requires few { past.old.size + length it.now.own < 1_000_000 }
+    requires few { past.old.size + length it.now.own < MOST_OPERATIONS }
     ensures tells { IfOk result (λ good.
         TellsRefresh S.object S.place_of past.old place it.now good past.new) }
     ensures size { OnOk result (past.new.size ≡ past.old.size) }
@@ -114,7 +115,7 @@ pub fn refresh<S: Placed, L: Ledger>(
     ticks: &mut Ticks<L>,
 ) -> Result<bool, OutOfMemory>
     requires keeps { Keeps S.object S.place_of parts.old }
-    requires few { parts.old.count < 999_000 }
+    requires few { parts.old.count < 4_294_967_295 }
     ensures answers { IfOk result (λ good. Answers S.object S.place_of parts.old
         (Refresh tx.now place) good parts.new) }
     ensures rises { ticks.old ≤ ticks.new }

@@ -88,7 +88,7 @@ impl<S: Placed> Snapshots<S> {
     ) -> Result<(Self, bool), OutOfMemory>
         requires style { IsOfStyle Optimistic (record_meaning recorded.now) }
         requires asked { IsRecordAsked S.object self.shape (record_meaning recorded.now) }
-        requires few { self.count < 999_000 }
+        requires few { self.count < 4_294_967_295 }
         ensures takes { IfOk result (λ r.
             Takes S.object S.place_of self (record_meaning recorded.now) r.1 r.0) }
         ensures rises { ticks.old ≤ ticks.new }

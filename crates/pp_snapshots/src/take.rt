@@ -28,7 +28,7 @@ fn take_step<S: Placed>(
 ) -> Result<bool, OutOfMemory>
     requires keeps { Keeps S.object S.place_of parts.old }
     requires asked { IsStepAsked (meaning step.now) }
-    requires few { parts.old.count < 999_000 }
+    requires few { parts.old.count < 4_294_967_295 }
     ensures { IfOk result (λ good. Answers S.object S.place_of parts.old
         (Plain (meaning step.now)) good parts.new) }
 {
@@ -56,7 +56,7 @@ pub fn take<S: Placed, L: Ledger>(
     requires keeps { Keeps S.object S.place_of parts.old }
     requires style { IsOfStyle Optimistic (record_meaning recorded.now) }
     requires asked { IsRecordAsked S.object parts.old.shape (record_meaning recorded.now) }
-    requires few { parts.old.count < 999_000 }
+    requires few { parts.old.count < 4_294_967_295 }
     ensures answers { IfOk result (λ good.
         Answers S.object S.place_of parts.old (record_meaning recorded.now) good parts.new) }
     ensures rises { ticks.old ≤ ticks.new }

@@ -39,7 +39,7 @@ fn anew<S: Placed>(alloc: Global, it: OpenTx<Items<S::Op>>) -> OpenTx<Items<S::O
 /// Takes an abort record where it is good: the open transaction gives up.
 pub fn abort<S: Placed>(parts: &mut Parts<S::Shape, S::State, S::Op, S::Undo>, tx: &Name) -> bool
     requires keeps { Keeps S.object S.place_of parts.old }
-    requires few { parts.old.count < 999_000 }
+    requires few { parts.old.count < 4_294_967_295 }
     ensures { Answers S.object S.place_of parts.old (Abort tx.now) result parts.new }
 {
     let Some(it) = take_out(&mut parts.slots, tx) else {
@@ -53,7 +53,7 @@ pub fn abort<S: Placed>(parts: &mut Parts<S::Shape, S::State, S::Op, S::Undo>, t
 /// Takes a retry record where it is good: the open transaction begins anew.
 pub fn retry<S: Placed>(parts: &mut Parts<S::Shape, S::State, S::Op, S::Undo>, tx: &Name) -> bool
     requires keeps { Keeps S.object S.place_of parts.old }
-    requires few { parts.old.count < 999_000 }
+    requires few { parts.old.count < 4_294_967_295 }
     ensures { Answers S.object S.place_of parts.old (Retry tx.now) result parts.new }
 {
     let Some(it) = take_out(&mut parts.slots, tx) else {

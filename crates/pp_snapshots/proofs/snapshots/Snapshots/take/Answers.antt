@@ -17,7 +17,7 @@ take-requires-clause-asked g c =
     subst (λ z. IsRecordAsked g.S.Spec.object z.shape (record_meaning c.args.recorded.now)) (sym (ap as_taken c.deref_mut.ensures.value ∙ c.self.view_is)) c.requires.asked
 
 pub take-requires-clause-few : goal.take-requires-clause-few
-take-requires-clause-few g c = subst (λ z. z.count < 999000) (sym (ap as_taken c.deref_mut.ensures.value ∙ c.self.view_is)) c.requires.few
+take-requires-clause-few g c = subst (λ z. z.count < 4294967295) (sym (ap as_taken c.deref_mut.ensures.value ∙ c.self.view_is)) c.requires.few
 
 pub invariant_of-result : goal.invariant_of-result
 invariant_of-result g c = keeps_then g.S.Spec.object g.S.Placed.place_of c.deref_mut.result.now c.take.new.parts (record_meaning c.args.recorded.now) c.in_ok-good.good c.in_ok-good.ensures.answers
