@@ -31,7 +31,7 @@ pub(crate) struct Counted {
 }
 
 /// The limits of an input that is judged. It may have any number of bytes and of transactions.
-/// The number of lines is the greatest that keeps the numbers of all steps in 64 bits.
+/// So many lines keep the number of each step in 64 bits.
 fn judge_limits() -> Limits
     ensures { result ≡ judge_limits }
 {

@@ -13,7 +13,7 @@ pub(crate) enum Command {
     Certify,
     /// Print the steps that the records of the input mean.
     Expand,
-    /// Report the same without a limit on steps, if the style is one that is judged so.
+    /// Report what `certify` reports, without a limit on steps, for the styles that `judge` takes.
     Judge,
     /// Report whether the input is a boosted run of the machine, without local logs.
     Quick,
