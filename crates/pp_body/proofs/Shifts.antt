@@ -55,7 +55,7 @@ abbrev pub Along : ℕ → ℕ → ℕ → ℕ → Type 0
 Along from until s t = (i : ℕ) → from ≤ i → i < until → has s i ≡ true → has t i ≡ true
 
 mutual
-  -- Words that follow from a set follow from each set with the same places in the body.
+  -- Words that follow from a set follow from each set that has at least its places in the body.
   pub along : (b : Tree) (at s t : ℕ) (v : List Call) → Along at (at + nodes b) s t → Rest b at s v → Rest b at t v
   along Skip at s t v f r = r
   along (One p) at s t v f r = (f at (omega arith) (omega arith) r.0, r.1)
@@ -63,13 +63,13 @@ mutual
   along (Alt bs) at s t v f r = along_some bs at s t v (λ i a l. f i a (omega arith)) r
   along (Star b) at s t v f r = (r.0, r.1, r.2, along b at s t r.0 (λ i a l. f i a (omega arith)) r.3, r.4)
 
-  -- Words that follow in turn from a set follow from each set with the same places in the parts.
+  -- Words that follow in turn from a set follow from each set that has at least its places in the parts.
   pub along_turn : (bs : Trees) (at s t : ℕ) (v : List Call) → Along at (at + nodes_of_all bs) s t → RestInTurn bs at s v → RestInTurn bs at t v
   along_turn NoPart at s t v f r = r
   along_turn (Part b bs) at s t v f (inl r) = inl (r.0, r.1, r.2, along b at s t r.0 (λ i a l. f i a (omega arith)) r.3, r.4)
   along_turn (Part b bs) at s t v f (inr r) = inr (along_turn bs (at + nodes b) s t v (λ i a l. f i (omega arith) (omega arith)) r)
 
-  -- Words that follow in one of some parts do so from each set with the same places in them.
+  -- Words that follow in one of some parts do so from each set that has at least its places there.
   pub along_some : (bs : Trees) (at s t : ℕ) (v : List Call) → Along at (at + nodes_of_all bs) s t → RestOfSome bs at s v → RestOfSome bs at t v
   along_some NoPart at s t v f r = r
   along_some (Part b bs) at s t v f (inl r) = inl (along b at s t v (λ i a l. f i a (omega arith)) r)

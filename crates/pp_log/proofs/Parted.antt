@@ -53,7 +53,7 @@ module _ {Op : Type 0} (place : Op → ℕ) where
     | inr h ↦ elsewhere_off p e (x ++ y) h ∙ ap (λ (z : List (Item Op)). e ∷ z) (elsewhere-append p x y) ∙ ap (λ (z : List (Item Op)). z ++ elsewhere place p y) (sym (elsewhere_off p e x h))
   ]
 
-  -- All items of a place have the place.
+  -- To take the items of a place twice takes the same.
   pub there_twice : (p : ℕ) (x : List (Item Op)) → there place p (there place p x) ≡ there place p x
   there_twice p [] = refl
   there_twice p (e ∷ x) = elim (is_at e p) [

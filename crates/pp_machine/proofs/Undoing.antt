@@ -179,24 +179,24 @@ module _ {Shape State Op Undo : Type 0} (o : Object Shape State Op Undo) (shape 
               ∙ ap (λ (s : Shape). first_differing o item (o.start s) (remove (k.log).1 i)) ((k.has).fine).same_shape ∙ ap (first_differing o item (o.start shape)) without),
         )
 
-    -- An UNPULL that is done costs at most two ticks for each operation of the place, less one.
+    -- An UNPULL that is done costs at most two ticks for each operation of the place from the entry on, less one.
     pub unpull_cost_done : (place : Op → ℕ) (removed : Removed) (a b : ℕ) → removed ≡ Done → CostsAt {E = ℕ} place v t i (Ok removed) a b → (a ≤ b) × (b ≤ a + (2 * from_id place id (log_items (tx t w.config.opened)) - 1))
     unpull_cost_done place removed a b e c =
         cost_done removed (from_id place id (log_items (tx t w.config.opened))) a b e (from_id_some place id (log_items (tx t w.config.opened)))
         (subst (λ (z : ℕ). removal_ticks removed z a b) (unpull_behind place) (c (open_of t (k.has).thread (k.has).body k.log) (k.has).at))
 
-    -- An UNPULL that is done costs at most four ticks for each operation of the place, less three.
+    -- An UNPULL that is done costs at most four ticks for each operation of the place from the entry on, less three.
     pub unpull_cost_more : (place : Op → ℕ) (removed : Removed) (a b : ℕ) → removed ≡ Done → CostsAt {E = ℕ} place v t i (Ok removed) a b → b ≤ a + (4 * from_id place id (log_items (tx t w.config.opened)) - 3)
     unpull_cost_more place removed a b e c =
         cost_more (from_id place id (log_items (tx t w.config.opened))) a b (from_id_some place id (log_items (tx t w.config.opened))) (unpull_cost_done place removed a b e c)
 
-    -- An UNPULL that differs costs at most four ticks for each operation of the place, less three.
+    -- An UNPULL that differs costs at most four ticks for each operation of the place from the entry on, less three.
     pub unpull_cost_differs : (place : Op → ℕ) (removed : Removed) (x : ℕ) (y : Answer) (a b : ℕ) → removed ≡ Differs x y → CostsAt {E = ℕ} place v t i (Ok removed) a b → (a ≤ b) × (b ≤ a + (4 * from_id place id (log_items (tx t w.config.opened)) - 3))
     unpull_cost_differs place removed x y a b e c =
         cost_differs removed x y (from_id place id (log_items (tx t w.config.opened))) a b e (from_id_some place id (log_items (tx t w.config.opened)))
         (subst (λ (z : ℕ). removal_ticks removed z a b) (unpull_behind place) (c (open_of t (k.has).thread (k.has).body k.log) (k.has).at))
 
-    -- An UNPULL out of memory costs at most four ticks for each operation of the place, less three.
+    -- An UNPULL out of memory costs at most four ticks for each operation of the place from the entry on, less three.
     pub unpull_cost_err : (place : Op → ℕ) (a b : ℕ) → CostsAt {E = ℕ} place v t i (Err 0) a b → b ≤ a + (4 * from_id place id (log_items (tx t w.config.opened)) - 3)
     unpull_cost_err place a b c =
         cost_err (from_id place id (log_items (tx t w.config.opened))) a b (from_id_some place id (log_items (tx t w.config.opened)))
