@@ -36,6 +36,7 @@ AnyName t = Unit {0}
 abbrev pub AnyId : ℕ → Type 0
 AnyId id = Unit {0}
 
+-- In every configuration, each id in the logs meets the condition that every id meets.
 pub logs_carry : (c : Config Op) → LogsCarry AnyId c
 logs_carry c = (each_from _ c.shared (λ g i. tt), each_from _ c.opened (λ x i. each_from _ x.local (λ e j. tt)))
 

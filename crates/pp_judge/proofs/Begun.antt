@@ -37,6 +37,7 @@ abbrev pub how_many : List (Step Op) → ℕ
 how_many [] = 0
 how_many (s ∷ ss) = cond (is_begin s) (1 + how_many ss) (how_many ss)
 
+-- The two counts of the steps that begin a transaction are equal.
 pub how_many_are : (steps : List (Step Op)) → how_many steps ≡ count_by is_begin steps
 how_many_are steps = is_count_by how_many is_begin refl (λ s ss. refl) steps
 
@@ -127,6 +128,7 @@ begun_joined style ks p (r ∷ rs) =
 begun_front : (xs ys : LinedSteps Op) → how_many (bare xs) ≤ how_many (bare (xs ++ ys))
 begun_front xs ys = omega (arith, ap how_many (bare_append xs ys) ∙ how_many_append (bare xs) (bare ys))
 
+-- The run of some records begins at most as many transactions as the records.
 pub begun_run : (header : Header) (rs : Records (RunRecord Op)) (run : LinedSteps Op) → IsRun (object_of header) (translation_of header) (start_of header) rs run → how_many (bare run) ≤ begins rs
 begun_run header rs run (inl none) = subst (λ (w : LinedSteps Op). how_many (bare w) ≤ begins rs) (sym none.2) (least (begins rs))
   where
@@ -167,6 +169,7 @@ few_ran O (suc m) c (s ∷ ss) run (inr e) none =
     more : (k m : ℕ) → k ≤ m → suc k ≤ suc m
     more k m h = omega (arith, h)
 
+-- A run has at most 200,000 steps if its records do not have too many steps.
 pub few_run : (header : Header) (rs : Records (RunRecord Op)) (run : LinedSteps Op) → IsRun (object_of header) (translation_of header) (start_of header) rs run
     → ((line : ℕ) → HasTooManySteps (object_of header) (translation_of header) (start_of header) rs line → ⊥) → length run ≤ 200_000
 few_run header rs run (inl start) none = subst (λ (w : LinedSteps Op). length w ≤ 200_000) (sym start.2) (least 200_000)

@@ -56,6 +56,7 @@ entries_of : (as' : List (Attempt Op)) → map (λ d. d.entries) (map committed_
 entries_of [] = refl
 entries_of (a ∷ as') = ap (λ l. a.items ∷ l) (entries_of as')
 
+-- The operations of the attempts' committed transactions, one after another, are the serial run of the attempts.
 pub serial_is : (as' : List (Attempt Op)) → serial_ops (map committed_tx as') ≡ serial as'
 serial_is as' = ap (λ (ls : List (List (Item Op))). ops (joined ls)) (entries_of as')
 
@@ -63,6 +64,7 @@ serial_is as' = ap (λ (ls : List (List (Item Op))). ops (joined ls)) (entries_o
 abbrev pub Reports : InputScan → Option (Lined Header) → (Option (Lined Header) → RunReport → Type 0) → Type 0
 Reports sc o P = (report : RunReport) × IsRunReport setting_of o sc.records report × P o report
 
+-- A report for a header that equals the header of the scan is a report for the latter.
 pub reported : (sc : InputScan) (o : Option (Lined Header)) (P : Option (Lined Header) → RunReport → Type 0) → sc.header ≡ o → Reports sc o P → Reports sc sc.header P
 reported sc o P is r = subst (λ (w : Option (Lined Header)). Reports sc w P) (sym is) r
 
@@ -71,6 +73,7 @@ module _ (sc : InputScan) (tally : Tally) (machine : Seen (List Kind) Op) (r : I
   abbrev run : LinedSteps Op
   run = joined_steps (translation_of tally.header) (outset (translation_of tally.header) (start_of tally.header)) sc.records
 
+  -- The committed transactions of the machine are the attempts of the run.
   pub committed_are : machine.config.done ≡ map committed_tx (attempts (start_of tally.header) (bare run))
   committed_are = ap (λ c. c.done) (config_is sc tally machine r) ∙ finished_are (object_of tally.header) (start_of tally.header) (bare run) r.stands.begun r.stands.hold
 
@@ -78,6 +81,7 @@ module _ (sc : InputScan) (tally : Tally) (machine : Seen (List Kind) Op) (r : I
   abbrev AcceptedBy : ℕ → List (CommittedTx Op) → List ObjectState → Option (Lined Header) → Type 0
   AcceptedBy count D states o = (as' : List (Attempt Op)) × (let w : RunReport = Accepts count as' states in IsRunReport setting_of o sc.records w) × (D ≡ map committed_tx as')
 
+  -- The machine's count, committed transactions and final states are those of a report that accepts the run.
   pub accepted_reported : (count : ℕ) (D : List (CommittedTx Op)) (states : List ObjectState) → count ≡ machine.count → D ≡ machine.config.done
       → states ≡ state_after objects (kinds_of tally.header.catalog) (serial_ops D) → AcceptedBy count D states sc.header
   accepted_reported count D states count_is D_is state_is =
@@ -92,6 +96,7 @@ module _ (sc : InputScan) (tally : Tally) (machine : Seen (List Kind) Op) (r : I
       ap (λ k. let w : RunReport = Accepts k as' states in w) (count_is ∙ r.stands.number) ∙ ap (λ k. let w : RunReport = Accepts (length run) as' k in w) same in
       subst (λ (o : Option (Lined Header)). AcceptedBy count D states o) (sym r.follows.header) (as', (run, Accepted, end.0, end.1, report), committed)
 
+  -- The text of the machine's count, committed transactions and final states reports the run as accepted.
   pub accepted_told : (count : ℕ) (D : List (CommittedTx Op)) (states : List ObjectState) (text : List ℕ) → count ≡ machine.count → D ≡ machine.config.done
       → states ≡ state_after objects (kinds_of tally.header.catalog) (serial_ops D) → text ≡ accepted_text tally.header.catalog count D states → IsRunTold sc statuses.Accepted text
   accepted_told count D states text count_is D_is state_is text_is =
@@ -142,6 +147,7 @@ module _ (sc : InputScan) (tally : Tally) (rejection : Rejection) (r : IsRejecte
       subst (λ (w : Records (RunRecord Op)). IsRejectedAt (object_of h) (translation_of h) (start_of h) w e.run e.number e.criterion) (append-nil sc.records) (e.stays []) in
       reported sc (Some head) (RejectedTold h rejection) r.follows.header (rejection_reported head sc.records rejection e.run e.number e.criterion e.is here.run_is here.verdict)
 
+  -- The text of the rejection reports the run as rejected.
   pub rejected_told : (text : List ℕ) → text ≡ rejected_text tally.header.catalog rejection.step rejection.line rejection.rule rejection.criterion rejection.detail → IsRunTold sc statuses.Rejected text
   rejected_told text is = let k = rejected_report in (k.0, k.1, k.2.0 text is)
 
@@ -157,6 +163,7 @@ pub told_fault : (o : Option (Lined Header)) (line : ℕ) (cause : Cause) (text 
 told_fault None line cause text is = (refl, is)
 told_fault (Some header) line cause text is = (refl, is)
 
+-- If the scan of an input has a fault, the text of the fault certifies the input, with status input fault.
 pub fault_report : (bytes : List ℕ) (line : ℕ) (cause : Cause) (text : List ℕ) → IsFaultOf (scan bytes) (Some (line, cause)) → text ≡ fault_text line cause → IsCertified bytes statuses.InputFault text
 fault_report bytes line cause text faulty is = (Faulty line cause, (Some (line, cause), faulty, refl), told_fault (scan bytes).header line cause text is)
 
@@ -185,6 +192,7 @@ accepted_by (Some h) records report text (run, Rejected zero n, is, v, r) t =
 accepted_by (Some h) records report text (run, Rejected (suc i) n, is, v, r) t =
     absurd (let told = subst (λ (w : RunReport). IsTold (Some h) w statuses.Accepted text) r.2 t in let e : statuses.Accepted ≡ statuses.Rejected = told.0 in cc)
 
+-- The status of the report of a fault is not accepted.
 pub faulty_by : (o : Option (Lined Header)) (line : ℕ) (cause : Cause) (text : List ℕ) → IsTold o (Faulty line cause) statuses.Accepted text → ⊥
 faulty_by None line cause text t = let e : statuses.Accepted ≡ statuses.InputFault = t.0 in cc
 faulty_by (Some h) line cause text t = let e : statuses.Accepted ≡ statuses.InputFault = t.0 in cc
@@ -193,6 +201,7 @@ accepted_behind : (fault : Option (ℕ × Cause)) (sc : InputScan) (report : Run
 accepted_behind (Some f) sc report text r t = absurd (faulty_by sc.header f.0 f.1 text (subst (λ (w : RunReport). IsTold sc.header w statuses.Accepted text) r t))
 accepted_behind None sc report text r t = accepted_by sc.header sc.records report text r t
 
+-- If an input is certified as accepted, its start and each step of its run meet their criteria.
 pub accepted_run : (bytes : List ℕ) (text : List ℕ) → IsCertified bytes statuses.Accepted text → AcceptedRun (scan bytes).header (scan bytes).records
 accepted_run bytes text r = accepted_behind r.1.0 (scan bytes) r.0 text r.1.2 r.2
 
@@ -217,6 +226,7 @@ run_simulated sc a =
           (simulated (object_of h) (start_of h) (bare a.run) a.begun a.hold (tells_states objects objects_lawful (kinds_of h.catalog))),
     )
 
+-- If each step of a run meets its criteria, the committed transactions run alone too.
 pub run_alone : (sc : InputScan) → AcceptedRun sc.header sc.records → IsAloneAccepted sc
 run_alone sc a =
     let h = a.header.what in
@@ -226,9 +236,11 @@ run_alone sc a =
           (alone_law (object_of h) (start_of h) (bare a.run) a.begun a.hold, alone_attempts (object_of h) (start_of h) (bare a.run) a.begun a.hold),
     )
 
+-- If an input is certified as accepted, its committed transactions in commit order simulate its run.
 pub accepted_simulated : (bytes : List ℕ) (text : List ℕ) → IsCertified bytes statuses.Accepted text → IsSimulated (scan bytes)
 accepted_simulated bytes text r = run_simulated (scan bytes) (accepted_run bytes text r)
 
+-- If an input is certified as accepted, its committed transactions run alone too.
 pub accepted_alone : (bytes : List ℕ) (text : List ℕ) → IsCertified bytes statuses.Accepted text → IsAloneAccepted (scan bytes)
 accepted_alone bytes text r = run_alone (scan bytes) (accepted_run bytes text r)
 
@@ -245,6 +257,7 @@ told_once (Some h) (StartRejected line n) s s' t t' a b = (a.0 ∙ sym b.0, a.1 
 told_once None (StepRejected i line n before step) s s' t t' a b = absurd a
 told_once (Some h) (StepRejected i line n before step) s s' t t' a b = (a.0 ∙ sym b.0, a.1 ∙ sym b.1)
 
+-- An input is certified with one status and one text at most.
 pub one_certified : (bytes : List ℕ) (s s' : Status) (t t' : List ℕ) → IsCertified bytes s t → IsCertified bytes s' t' → (s ≡ s') × (t ≡ t')
 one_certified bytes s s' t t' a b =
     let same : a.0 ≡ b.0 = (input_law setting_of TooManySteps).one_report (scan bytes) a.0 b.0 a.1 b.1 in

@@ -86,6 +86,7 @@ first_meanings (suc n) (step ∷ steps) = ap (λ (w : List (Step Op)). meaning s
 pub told_meant : (n : ℕ) (first list : List (StepOf Op)) → first ≡ take n list → meanings first ≡ take n (meanings list)
 told_meant n first list is = ap (λ (l : List (StepOf Op)). meanings l) is ∙ first_meanings n list
 
+-- If each meaning of a list has a property, so has each meaning of its first n elements.
 pub each_told : (P : Step Op → Type 0) (n : ℕ) (first list : List (StepOf Op)) → first ≡ take n list → Each P (meanings list) → Each P (meanings first)
 each_told P n first list is h = subst (Each P) (sym (told_meant n first list is)) (each_take P n (meanings list) h)
 
@@ -95,20 +96,24 @@ plus_none : (old new : ℕ) → old ≤ new → old + 0 ≤ new
 plus_none old new h = omega (arith, h)
 
 module _ (line : ℕ) (h : Header) (old new : ℕ) where
+  -- A counter that rises by at most the length of the start is within the upper bound of a header without records.
   pub begun_most : new ≤ old + start_length (start_of h) → StepsCostAtMost (scan_of (headed line h) []) old new
   begun_most cost run is =
       subst (λ (w : LinedSteps Op). new ≤ old + steps_at_most (start_of h) (bare w)) (sym (empty_run h run is))
       (subst (λ (k : ℕ). new ≤ old + k) (sym (no_steps (start_of h))) (start_twice old new (start_of h) cost))
 
+  -- A counter that does not rise is within the upper bound of a header without records.
   pub begun_still : StepsCostAtMost (scan_of (headed line h) []) old old
   begun_still run is = still old (steps_at_most (start_of h) (bare run))
     where
       still : (n k : ℕ) → n ≤ n + k
       still n k = omega arith
 
+  -- A counter that does not fall meets the lower bound of an accepted header without records.
   pub begun_good_least : old ≤ new → StepsCostAtLeast statuses.Accepted (scan_of (headed line h) []) old new
   begun_good_least rises run is = subst (λ (w : LinedSteps Op). old + singles (bare w) ≤ new) (sym (empty_run h run is)) (plus_none old new rises)
 
+  -- A counter that does not fall meets the lower bound of a rejected header without records.
   pub begun_bad_least : old ≤ new → StepsCostAtLeast statuses.Rejected (scan_of (headed line h) []) old new
   begun_bad_least rises run is = subst (λ (w : LinedSteps Op). old + singles (but_last (bare w)) ≤ new) (sym (empty_run h run is)) (plus_none old new rises)
 
@@ -116,6 +121,7 @@ module _ {W : Type 0} (HasSeen : Header → List (Step Op) → W → Type 0) whe
   seen_nothing : (h : Header) (w : W) → HasSeen h [] w → HasSeenRun HasSeen h [] w
   seen_nothing h w seen run is = subst (λ (ss : LinedSteps Op). HasSeen h (bare ss) w) (sym (empty_run h run is)) seen
 
+  -- A header without records is good if its start is done, the front is the first one, and the observer has seen no step.
   pub begun_good : (line : ℕ) (h : Header) (front : AnyFront) (machine : Seen (List Kind) Op) (w : W) → IsFirstFront h front → HasStarted h Done machine → HasSeen h [] w
       → (driven_judging HasSeen).IsGood (headed line h) [] (record { front = front; machine = machine; observer = w })
   begun_good line h front machine w first_one started seen =
@@ -139,6 +145,7 @@ module _ {W : Type 0} (HasSeen : Header → List (Step Op) → W → Type 0) whe
     stays = λ more. (reading_law (object_of h) (translation_of h)).unbegun (start_of h) more n s.0;
   }
 
+  -- A header without records is rejected at the first criterion that its start fails, if the observer has seen no step.
   pub begun_bad : (line n : ℕ) (h : Header) (detail : Detail Op) (machine : Seen (List Kind) Op) (w : W) → HasStarted h (False n detail) machine → HasSeen h [] w
       → (driven_judging HasSeen).IsRejectedBy (headed line h) [] (record { rejection = record { step = 0; line = line; rule = rules.Start; criterion = n; detail = detail }; observer = w })
   begun_bad line n h detail machine w started seen = (begun_ends line n h detail machine started, seen_nothing h w seen)
@@ -210,6 +217,7 @@ module _ {W : Type 0} (HasSeen : Header → List (Step Op) → W → Type 0) whe
           taken_bad (record { step = machine.count + 1; line = line; rule = rule; criterion = n; detail = detail }) e
           (first ∙ ap (λ (l : List (Step Op)). take (done + 1) l) e.done.parts ∙ take_to (done + 1) e.done.before e.step e.behind (omega (arith, many)))
 
+      -- A record whose steps drive the machine is judged by how they end: it is good with the new machine, or it is rejected.
       pub judges : (halt : Option (Halt Op)) (rejection : Option Rejection) → Drives objects judge.machine here now halt machine new → rejection_on line machine.count halt ≡ Ok rejection
           → TakenSo (judged_of front machine next rejection)
       judges None rejection d is =
@@ -221,6 +229,7 @@ module _ {W : Type 0} (HasSeen : Header → List (Step Op) → W → Type 0) whe
           subst (λ (o : Option Rejection). TakenSo (judged_of front machine next o)) same (judges_failed rule n detail d)
 
   module _ (h : Header) (judge : Driven W) (r : RunRecord Op) (line now new : ℕ) where
+    -- If the counter is within the upper bound of a record's steps, it is within that of the record.
     pub judges_most : CostAtMost objects place_of judge.machine (steps_here h judge.front judge.machine r) now new → CostsAtMostThere (driven_judging HasSeen) h judge r line now new
     judges_most cost at before good old most = most_record h before judge.front judge.machine good.0 line r at old now new most cost
 

@@ -97,6 +97,7 @@ module _ (machine new : Seen (List Kind) Op) (steps : List (Step Op)) (from to :
   pub too_many : Drives objects machine steps from (Some TooMany) new to → Overruns machine steps from to
   too_many d = record { step = d.0; behind = d.1; at = new; done = d.2; full = d.3 }
 
+  -- A machine that is driven through steps has counted at most 200,000 steps.
   pub few_there : (halt : Option (Halt Op)) → Drives objects machine steps from halt new to → new.count ≤ 200_000
   few_there None d = d.few
   few_there (Some halt) d = d.2.few

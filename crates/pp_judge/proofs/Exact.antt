@@ -115,8 +115,10 @@ meets_run sc m =
       hold = m.steps;
     }
 
+-- If each step meets its criteria, the committed transactions in commit order simulate the run.
 pub meets_simulated : (sc : InputScan) → EachStepMeets sc → IsSimulated sc
 meets_simulated sc m = run_simulated sc (meets_run sc m)
 
+-- If each step meets its criteria, the committed transactions run alone too.
 pub meets_alone : (sc : InputScan) → EachStepMeets sc → IsAloneAccepted sc
 meets_alone sc m = run_alone sc (meets_run sc m)

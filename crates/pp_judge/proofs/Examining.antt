@@ -33,9 +33,11 @@ use Rattle.pp_judge.proofs.Widening.{widens_fault, widens_lines}
 -- ---- line by line
 
 module _ {J R : Type 0} (M : Judging J R) where
+  -- Before the first line, no lines lead to waiting after 0 lines, and the counter did not rise.
   pub leads_nothing : (old : ℕ) → Leads M [] (Waiting 0) old old
   leads_nothing old = record { covers = (refl, refl); count = refl; next = lit≤ tt }
 
+  -- A line that is next in the reading is the next line of the judging.
   pub next_line : (first now : ℕ) (from : Progress J R) (line : NumberedLine) → IsNext (judged_reading M first) (from, now) line → IsNextLine M from line now
   next_line first now from line is = record {
     sc = scan_lines M.limits.transactions is.0;
@@ -46,6 +48,7 @@ module _ {J R : Type 0} (M : Judging J R) where
     next = is.4;
   }
 
+  -- If lines led to here and the next line leads from here to there, all of them lead to there.
   pub leads_on : (from : Progress J R) (line : NumberedLine) (now : ℕ) (to : Progress J R) (new : ℕ) → IsNextLine M from line now → LeadsTo M from line now to new → (first : ℕ) → LeadsOn (judged_reading M first) (from, now) line (to, new)
   leads_on from line now to new next to' first lines leads = record {
     covers = subst (λ (s : InputScan). Covers M s to first new) (sym (scan_more M.limits.transactions lines line)) (to'.covers (scan_lines M.limits.transactions lines) first leads.covers);
@@ -53,6 +56,7 @@ module _ {J R : Type 0} (M : Judging J R) where
     next = subst HasNext (next.number ∙ sym to'.lines) next.next;
   }
 
+  -- If the counter is within the upper bound of the next line, the reading may stop at this line with it.
   pub stops_with : (from : Progress J R) (line : NumberedLine) (now new : ℕ) → CostsOn M from line now new → (first : ℕ) → StopsWith (judged_reading M first) (from, now) line new
   stops_with from line now new costs first lines leads =
       subst (λ (s : InputScan). M.AtMost s first new) (sym (scan_more M.limits.transactions lines line)) (costs (scan_lines M.limits.transactions lines) first leads.covers)
@@ -63,6 +67,7 @@ module _ {J R : Type 0} (M : Judging J R) where
   takes_on from line now new (Ok p) next leads = λ first. leads_on from line now p new next leads first
   takes_on from line now new (Err stop) next leads = tt
 
+  -- If a line is not taken and the counter is within the line's upper bound, the reading may stop at it with this counter.
   pub costs_on : (from : Progress J R) (line : NumberedLine) (now new : ℕ) (to : Result (Progress J R) (Stop Cause)) → CostsOn M from line now new → OnErr to ((first : ℕ) → StopsWith (judged_reading M first) (from, now) line new)
   costs_on from line now new (Ok p) costs = tt
   costs_on from line now new (Err stop) costs = λ first. stops_with from line now new costs first
@@ -100,6 +105,7 @@ module _ {J R : Type 0} (M : Judging J R) where
         let behind : Option (ℕ × Cause) = option_or (limit_fault (overrun M.limits bytes)) (no_header bytes sc.header) in
         subst (λ (w : Option (ℕ × Cause)). M.IsFault (scan_within M.limits bytes) w) is (or_covers sc p first now behind leads.covers)
 
+    -- A fault that the reading of an input finds is the fault of its scan.
     pub input_fault : (first : ℕ) (bytes : List ℕ) (at : ℕ) (cause : Cause) → HasInputFault (judged_reading M first) bytes at cause → M.IsFault (scan_within M.limits bytes) (Some (at, cause))
     input_fault first bytes at cause (inl line) =
         let sc : InputScan = scan_lines M.limits.transactions (scanned_lines M.limits bytes) in

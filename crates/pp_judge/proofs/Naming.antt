@@ -42,11 +42,13 @@ joined_named catalog (tx ∷ committed) all =
     let split = subst (Each (IsNamed catalog)) (map-append (λ (p : Item Op). p.op) tx.entries (serial_items committed)) all in
     (items_named catalog tx.entries (front_of (IsNamed catalog) (ops tx.entries) (serial_ops committed) split), joined_named catalog committed (back_of (IsNamed catalog) (ops tx.entries) (serial_ops committed) split))
 
+-- If the serial run of committed transactions is allowed, their operations are on objects of the catalog.
 pub committed_named : (catalog : Objects) (committed : List (CommittedTx Op)) → IsAllowed objects (kinds_of catalog) (serial_ops committed) → AreNamed catalog committed
 committed_named catalog committed allowed =
     let fit = all_fit (objects.start (kinds_of catalog)) (serial_ops committed) allowed in
     joined_named catalog committed (subst (λ kinds. Each (λ op. IsTrue (objects.fits kinds op)) (serial_ops committed)) (objects_lawful.start_shape (kinds_of catalog)) fit)
 
+-- The states after an allowed serial run are those of the objects of the catalog.
 pub states_named : (catalog : Objects) (committed : List (CommittedTx Op)) (states : List ObjectState) → IsAllowed objects (kinds_of catalog) (serial_ops committed) → states ≡ state_after objects (kinds_of catalog) (serial_ops committed) → AreStatesOf catalog states
 states_named catalog committed states allowed is = subst (AreStatesOf catalog) (sym is) (reached_shape objects objects_lawful (kinds_of catalog) (serial_ops committed) allowed)
 

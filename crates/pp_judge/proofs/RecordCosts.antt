@@ -133,9 +133,11 @@ module _ (h : Header) (rs : Records (RunRecord Op)) (front : AnyFront) (machine 
         ap (λ (w : LinedSteps Op). bare w) k.2 ∙ bare_append so_far k.0,
       )
 
+  -- The run so far has as many steps as the machine has counted.
   pub size : length (bare so_far) ≡ machine.count
   size = length_bare so_far ∙ sym c.stands.number
 
+  -- Within the upper bounds of the steps before a record and of its own, the counter is within the bound of both.
   pub most_record : (at old now new : ℕ) → StepsCostAtMost (scan_of (headed at h) rs) old now → CostAtMost objects place_of machine (steps_here h front machine r) now new → StepsCostAtMost (scan_of (headed at h) (one_more rs line r)) old new
   most_record at old now new most b = λ run is.
       let s = start_of h in
@@ -195,10 +197,12 @@ module _ (h : Header) (rs : Records (RunRecord Op)) (front : AnyFront) (machine 
     here_least : old + singles (bare so_far) ≤ now
     here_least = least so_far (run_there h rs front machine c)
 
+    -- If all steps of the record are done, the lower bound of the steps before it becomes one of the steps with it.
     pub least_done : (v : Seen (List Kind) Op) → HasDone objects machine (steps_here h front machine r) [] v now new → StepsCostAtLeast statuses.Accepted (scan_of (headed at h) (one_more rs line r)) old new
     least_done v done run is =
         subst (λ (w : List (Step Op)). old + singles w ≤ new) (sym (done_run now new v done run is)) (least_more old now new done.before here_least done.least)
 
+    -- If a step of the record fails, the lower bound of the steps before it becomes one of the rejected run.
     pub least_failed : (rejection : Rejection) → FailsWithin machine (steps_here h front machine r) line now new rejection → StepsCostAtLeast statuses.Rejected (scan_of (headed at h) (one_more rs line r)) old new
     least_failed rejection e run is =
         let done : List (Step Op) = bare so_far ++ e.done.before in

@@ -46,6 +46,7 @@ get_last {A} xs x n is =
     let within : length xs < length (xs ++ x ∷ []) = omega (arith, length-append xs (x ∷ [])) in
     ap (λ (k : ℕ). slice_get (xs ++ x ∷ []) k) is ∙ slice_get-get_or (xs ++ x ∷ []) (length xs) x within ∙ ap (λ y. Some y) (get_or-append_seam xs x [] x)
 
+-- Putting an appended list on a line appends what is put on the line.
 pub on_line_append : {A : Type 0} (line : ℕ) (xs ys : List A) → on_line line (xs ++ ys) ≡ on_line line xs ++ on_line line ys
 on_line_append {A} line xs ys = map-append (λ (s : A). let z : Lined A = record { line = line; what = s } in z) xs ys
 
@@ -54,6 +55,7 @@ module _ (h : Header) (rs : Records (RunRecord Op)) (front : AnyFront) (machine 
   abbrev pub steps_there : List (Step Op)
   steps_there = steps_at (translation_of h) (standing_of c.state machine) r
 
+  -- The steps that the machine takes for a record are those that the record means.
   pub same_steps : steps_here h front machine r ≡ steps_there
   same_steps =
       ap (λ (s : Style). expand place_of s (any_state (kinds_of h.catalog) front) machine.config r) c.style
@@ -72,6 +74,7 @@ module _ (h : Header) (rs : Records (RunRecord Op)) (front : AnyFront) (machine 
 
   -- ---- each of them is done
 
+  -- If the steps of one more record are all done, the run goes on with the new machine and front.
   pub goes_on : (line : ℕ) (next : AnyFront) (new : Seen (List Kind) Op) (from to : ℕ) → any_style next ≡ any_style front → any_state (kinds_of h.catalog) next ≡ front_after (any_state (kinds_of h.catalog) front) machine.config r
       → HasDone objects machine (steps_here h front machine r) [] new from to → GoesOn h (one_more rs line r) next new
   goes_on line next new from to style kept done =
@@ -164,6 +167,7 @@ module _ (h : Header) (rs : Records (RunRecord Op)) (front : AnyFront) (machine 
     too_many_here at full =
         (reading_law (object_of h) (translation_of h)).too_many (start_of h) rs [] (standing_of c.state machine) machine.count (on_record line r) before behind step c.stands parts_there (hold_there before hold) full
 
+  -- If a step of one more record fails, the run ends with its rejection.
   pub ends_there : (at line from to : ℕ) (rejection : Rejection) → FailsWithin machine (steps_here h front machine r) line from to rejection → EndsAt h at (one_more rs line r) rejection
   ends_there at line from to rejection e = go e.at e.criterion e.done.is e.few e.some e.breaks e.is e.fits e.evident
     where
@@ -181,6 +185,7 @@ module _ (h : Header) (rs : Records (RunRecord Op)) (front : AnyFront) (machine 
       go v (suc n) is few some breaks told fits evident =
           subst (λ (w : Rejection). EndsAt h at (one_more rs line r) w) (sym told) (shown v n is few breaks fits evident)
 
+  -- If the steps of one more record are too many, the input has that fault on the record's line.
   pub overruns_there : (at line from to : ℕ) → Overruns machine (steps_here h front machine r) from to → IsFaultOf (scan_of (headed at h) (one_more rs line r)) (Some (line, TooManySteps))
   overruns_there at line from to e =
       let full : machine.count + length e.done.before ≡ 200_000 = subst (λ (v : Seen (List Kind) Op). v.count ≡ 200_000) e.done.is e.full in

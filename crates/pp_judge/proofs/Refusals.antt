@@ -11,6 +11,7 @@ use Rattle.pp_judge.specs.Causes.{cause_of}
 not_refused : (cause : Cause) (refused : OutOfMemory) → ◌≡◌ {A = Result Cause OutOfMemory} (Ok cause) (Err refused) → ⊥
 not_refused cause refused e = cc
 
+-- Out of memory is the only fault of a record that has no cause.
 pub refused_alone : (fault : RecordFault) (refused : OutOfMemory) → cause_of fault ≡ Err refused → fault ≡ faults.OutOfMemory
 refused_alone faults.NotJson refused e = absurd (not_refused causes.NotJson refused e)
 refused_alone faults.NotObject refused e = absurd (not_refused causes.NotObject refused e)

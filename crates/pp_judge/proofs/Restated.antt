@@ -137,6 +137,7 @@ module _ (catalog : Objects) (start : Option Start) (ss : List (Step Op)) (h : I
   abbrev behind : InputScan → Option LineFault → InputScan
   behind sc o = or_fault sc (option_or (limit_fault o) (no_header text sc.header))
 
+  -- The scan of the text of a run has the header of the run and its steps as records, and no fault.
   pub text_scan : scan text ≡ so_far catalog start h.over (plain (numbered 1 ss))
   text_scan =
       ap (λ (sc : InputScan). behind sc (overrun usual_limits text)) text_lines ∙ ap (λ (o : Option LineFault). behind (so_far catalog start h.over (plain (numbered 1 ss))) o) passes
@@ -233,6 +234,7 @@ module _ (bytes : List ℕ) (header : Lined Header) (run : LinedSteps Op) (h : I
         subst (λ (sc : InputScan). IsTold sc.header (relined 1 r) statuses.Accepted told) (sym scanned_again) (told_again r told here),
       )
 
+  -- The text of the run of an input is an input again, with the same steps and the same report but for the lines.
   pub is_restated : IsRestated bytes header.what run
   is_restated =
       let catalog = header.what.catalog in
@@ -271,6 +273,7 @@ printed_run sc statuses.WriteFault report printed decided is = absurd decided
 printed_run sc statuses.OutOfMemory report printed decided is = absurd decided
 printed_run sc statuses.TooLarge report printed decided is = absurd decided
 
+-- The text that expands an accepted or rejected input is the text of its run, and an input again.
 pub prints_again : (bytes : List ℕ) (status : Status) (printed : List ℕ) (old new : Option (List ℕ)) → IsDecided status → IsExpanded bytes status printed → Appends old new printed → PrintsAgain bytes old new
 prints_again bytes status printed old new decided (report, certified, expanded) appends =
     let sc : InputScan = scan bytes in

@@ -34,10 +34,12 @@ abbrev pub all_so_far : Header → Records (RunRecord Op) → LinedSteps Op
 all_so_far h rs = joined_steps (translation_of h) (outset (translation_of h) (start_of h)) rs
 
 module _ (h : Header) (rs : Records (RunRecord Op)) (front : AnyFront) (machine : Seen (List Kind) Op) (c : GoesOn h rs front machine) where
+  -- The configuration of the machine is the one after the run so far.
   pub config_there : machine.config ≡ after (start_of h) (bare (all_so_far h rs))
   config_there =
       ap (λ (p : Standing Front Op). p.config) c.stands.place ∙ (extends_law (object_of h) (translation_of h)).config (outset (translation_of h) (start_of h)) rs
 
+  -- The run so far is the run of the records.
   pub run_there : IsRun (object_of h) (translation_of h) (start_of h) rs (all_so_far h rs)
   run_there = ((reading_law (object_of h) (translation_of h)).end (start_of h) rs (standing_of c.state machine) machine.count c.stands).0
 
@@ -47,6 +49,7 @@ module _ (sc : InputScan) (tally : Tally) (machine : Seen (List Kind) Op) (r : I
   abbrev pub run_so_far : LinedSteps Op
   run_so_far = all_so_far tally.header sc.records
 
+  -- The run so far is the run of the records of the scan.
   pub is_run_so_far : IsRun (object_of tally.header) (translation_of tally.header) (start_of tally.header) sc.records run_so_far
   is_run_so_far = ((reading_law (object_of tally.header) (translation_of tally.header)).end (start_of tally.header) sc.records (standing_of r.state machine) machine.count r.stands).0
 
@@ -67,6 +70,7 @@ module _ (sc : InputScan) (tally : Tally) (machine : Seen (List Kind) Op) (r : I
         sym r.follows.sound,
       )
 
+-- A rejected run has no fault.
 pub rejected_sound : (sc : InputScan) (tally : Tally) (rejection : Rejection) → IsRejected sc tally rejection → IsFaultOf sc None
 rejected_sound sc tally rejection r =
     inr (
@@ -77,8 +81,10 @@ rejected_sound sc tally rejection r =
 -- ---- what the machine as a judge says
 
 module _ {W : Type 0} (HasSeen : Header → List (Step Op) → W → Type 0) where
+  -- If a judge found the records good, each step meets its criteria and the machine is where they lead.
   pub running_of : (sc : InputScan) (tally : Tally) (judge : Driven W) → AreGood (driven_judging HasSeen) sc tally judge → IsRunning sc tally judge.machine
   running_of sc tally judge g = record { follows = g.follows; shape = g.good.0.shape; state = g.good.0.state; stands = g.good.0.stands }
 
+  -- If a judge rejected the records, the run is rejected by the same rejection.
   pub rejected_of : (sc : InputScan) (tally : Tally) (refused : ObservedRejection W) → AreRejected (driven_judging HasSeen) sc tally refused → IsRejected sc tally refused.rejection
   rejected_of sc tally refused b = record { follows = b.follows; ends = b.bad.0 }

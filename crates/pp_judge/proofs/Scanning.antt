@@ -19,9 +19,11 @@ fold_append : {A B : Type 0} (f : B → A → B) (b : B) (xs ys : List A) → fo
 fold_append f b [] ys = refl
 fold_append f b (x ∷ xs) ys = fold_append f (f b x) xs ys
 
+-- Scanning lines and then more lines is scanning the first and going on with the others.
 pub scan_append : (most : ℕ) (lines more : List NumberedLine) → scan_lines most (lines ++ more) ≡ fold (scan_line most) (scan_lines most lines) more
 scan_append most lines more = fold_append (scan_line most) nothing lines more
 
+-- Scanning one line more is scanning the others and then this line.
 pub scan_more : (most : ℕ) (lines : List NumberedLine) (line : NumberedLine) → scan_lines most (lines ++ line ∷ []) ≡ scan_line most (scan_lines most lines) line
 scan_more most lines line = scan_append most lines (line ∷ [])
 
@@ -45,6 +47,7 @@ scan_header most sc line r sound none is read = scan_other most sc line sound is
 pub scan_record : (most : ℕ) (sc : InputScan) (header : Lined Header) (line : NumberedLine) (r : Result (RunRecord Op) RecordFault) → sc.fault ≡ None → sc.header ≡ Some header → blank line.1 ≡ false → record_of header.what line.1 ≡ r → scan_line most sc line ≡ with_record most sc line.0 r
 scan_record most sc header line r sound there is read = scan_other most sc line sound is ∙ rw (there, read) refl
 
+-- A record is added to the records unless it begins a transaction and as many as allowed were begun.
 pub next_taken : (most : ℕ) (sc : InputScan) (line : ℕ) (r : RunRecord Op) → (is_begin_record r && begins sc.records == most) ≡ false → with_record most sc line (Ok r) ≡ with_next sc line r
 next_taken most sc line r few = rw few refl
 
@@ -52,5 +55,6 @@ next_taken most sc line r few = rw few refl
 abbrev pub faulty_at : InputScan → ℕ × Cause → InputScan
 faulty_at sc x = record sc { fault = Some x }
 
+-- A record that begins a transaction when as many as allowed were begun is a fault of its line: too many transactions.
 pub too_many : (most : ℕ) (sc : InputScan) (line : ℕ) (r : RunRecord Op) → (is_begin_record r && begins sc.records == most) ≡ true → with_record most sc line (Ok r) ≡ faulty_at sc (line, TooManyTransactions)
 too_many most sc line r many = rw many refl

@@ -53,9 +53,11 @@ module _ (header : Header) (machine : Seen (List Kind) Op) (new : machine ≡ ma
   shape_is : machine.shape ≡ kinds_of header.catalog
   shape_is = ap (λ (m : Seen (List Kind) Op). m.shape) new
 
+  -- A new machine has the first configuration without a start.
   pub empty : machine.config ≡ first None
   empty = ap (λ (m : Seen (List Kind) Op). m.config) new
 
+  -- A new machine has counted 0 steps.
   pub uncounted : machine.count ≡ 0
   uncounted = ap (λ (m : Seen (List Kind) Op). m.count) new
 

@@ -39,12 +39,14 @@ use Rattle.pp_judge.specs.Scans.{InputScan, begins, is_begin_record, nothing, re
 use Rattle.pp_judge.specs.Scans.{with_fault, with_header, with_next, with_record}
 use Rattle.pp_judge.proofs.Tallying.{test_begin}
 
+-- If each element of two lists has a property, so has each element of the first with the second appended.
 pub each_append : {A : Type 0} (P : A → Type 0) (xs ys : List A) → Each P xs → Each P ys → Each P (xs ++ ys)
 each_append P [] ys h k = k
 each_append P (x ∷ xs) ys h k = (h.0, each_append P xs ys h.1 k)
 
 -- ---- how many of the records begin a transaction
 
+-- The records that begin a transaction in an appended list are counted by the sum of the counts of both lists.
 pub begins_append : (rs more : Records (RunRecord Op)) → begins (rs ++ more) ≡ begins rs + begins more
 begins_append rs more =
     ap (λ (l : Records (RunRecord Op)). length l) (filter-append test_begin rs more) ∙ length-append (filter test_begin rs) (filter test_begin more)
@@ -117,6 +119,7 @@ stated_lines : (sc : InputScan) (lines : List NumberedLine) → IsStated sc → 
 stated_lines sc [] h = h
 stated_lines sc (line ∷ lines) h = stated_lines (scan_line MOST_TRANSACTIONS sc line) lines (stated_line sc line h)
 
+-- The header and the records of every input can be stated, and at most 20,000 of the records begin a transaction.
 pub stated_scan : (bytes : List ℕ) → IsStated (scan bytes)
 stated_scan bytes =
     let h = stated_lines nothing (scanned_lines usual_limits bytes) stated_nothing in
@@ -129,6 +132,7 @@ start_carries : (catalog : Objects) (o : Option Start) → CanStart catalog o
 start_carries catalog None h = tt
 start_carries catalog (Some z) h = (h.named, h.each)
 
+-- If a start and records can be stated, so can each step of their run.
 pub steps_stated : (header : Header) (rs : Records (RunRecord Op)) (run : LinedSteps Op) → CanStart header.catalog header.start → Each (IsStatableRecord header.catalog) (bare rs)
     → IsRun (object_of header) (translation_of header) (start_of header) rs run → Each (IsStatable header.catalog) (bare run)
 steps_stated header rs run start each is =

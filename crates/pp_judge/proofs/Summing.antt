@@ -50,10 +50,12 @@ serial_count sc tally machine r =
     subst (λ (w : LinedSteps Op). length (serial_ops machine.config.done) ≡ serial_length (start_of h) (bare w)) same here)
 
 module _ (sc : InputScan) (tally : Tally) (machine : Seen (List Kind) Op) (r : IsRunning sc tally machine) (old now new : ℕ) where
+  -- If the serial run raises the counter by at most its length after the steps, certifying costs at most the new count.
   pub serial_most : StepsCostAtMost sc old now → new ≤ now + length (serial_ops machine.config.done) → CostsAtMost sc old new
   serial_most most cost run is =
       both_most old now new (steps_at_most (start_behind sc.header) (bare run)) (serial_length (start_behind sc.header) (bare run)) (length (serial_ops machine.config.done)) (most run is) cost (serial_count sc tally machine r run is)
 
+  -- If the serial run raises the counter by its length after the steps, certifying costs at least the new count.
   pub serial_least : StepsCostAtLeast statuses.Accepted sc old now → new ≡ now + length (serial_ops machine.config.done) → CostsAtLeast statuses.Accepted sc old new
   serial_least least cost run is =
       both_least old now new (singles (bare run)) (serial_length (start_behind sc.header) (bare run)) (length (serial_ops machine.config.done)) (least run is) cost (serial_count sc tally machine r run is)

@@ -31,6 +31,7 @@ use Rattle.pp_judge.proofs.Tallying.{record_fault, scan_next, tallied_next, tall
 use Rattle.pp_judge.proofs.Widening.{widens_line}
 
 module _ {J R : Type 0} (M : Judging J R) where
+  -- A scan that lines lead to here has no fault.
   pub covers_sound : (sc : InputScan) (p : Progress J R) (old now : ℕ) → Covers M sc p old now → sc.fault ≡ None
   covers_sound sc (Waiting lines) old now c = ap (λ (s : InputScan). s.fault) c.0
   covers_sound sc (Running tally judge) old now c = c.follows.sound
@@ -49,6 +50,7 @@ module _ {J R : Type 0} (M : Judging J R) where
   blank_lines (Running tally judge) = refl
   blank_lines (Rejected tally rejection) = refl
 
+  -- A blank line raises the count of lines by one and changes nothing else.
   pub blank_on : (p : Progress J R) (line : NumberedLine) (now : ℕ) → blank line.1 ≡ true → LeadsTo M p line now (with_blank p) now
   blank_on p line now is = record {
     covers = λ sc old c. subst (λ (s : InputScan). Covers M s (with_blank p) old now) (sym (scan_blank M.limits.transactions sc line (covers_sound sc p old now c) is)) (skip_covers sc p old now c);
@@ -68,6 +70,7 @@ module _ {J R : Type 0} (M : Judging J R) where
     begun (Good judge) good least = record { follows = follows_first line.0 header positive; good = good; most = most; least = least }
     begun (judged.Rejected rejection) bad least = record { follows = follows_first line.0 header positive; bad = bad; most = most; least = least }
 
+    -- If a first line is read as a header and judged, the progress of that judgement covers its scan.
     pub header_covers : blank line.1 ≡ false → header_of line.1 ≡ Ok header → (judged : Judged J R) → IsJudged M (headed line.0 header) [] judged → JudgedAtLeast M (scan_of (headed line.0 header) []) judged now new
         → Covers M (scan_line M.limits.transactions nothing line) (progress_of (first_tally line.0 header) judged) now new
     header_covers other read judged is least =
@@ -77,6 +80,7 @@ module _ {J R : Type 0} (M : Judging J R) where
   pub header_on : (P : InputScan → ℕ → Type 0) (lines : ℕ) (line : NumberedLine) (now : ℕ) → P (scan_line M.limits.transactions nothing line) now → (sc : InputScan) (old : ℕ) → Covers M sc (Waiting lines) old now → P (scan_line M.limits.transactions sc line) old
   header_on P lines line now is sc old c = subst (λ (s : InputScan). P (scan_line M.limits.transactions s line) old) (sym c.0) (subst (λ (n : ℕ). P (scan_line M.limits.transactions nothing line) n) c.1 is)
 
+  -- If the progress covers the scan of the next line alone, this line leads there from waiting.
   pub header_leads : (lines : ℕ) (line : NumberedLine) (now : ℕ) (to : Progress J R) (new : ℕ) → IsNextLine M (Waiting lines) line now → Covers M (scan_line M.limits.transactions nothing line) to now new → lines_of to ≡ line.0 → LeadsTo M (Waiting lines) line now to new
   header_leads lines line now to new next covers count = record {
     covers = header_on (λ (s : InputScan) (n : ℕ). Covers M s to n new) lines line now covers;
@@ -89,6 +93,7 @@ module _ {J R : Type 0} (M : Judging J R) where
 
   -- ---- what a judge may take
 
+  -- A judge that runs may take the record of the next line.
   pub few_more : (tally : Tally) (judge : J) (line : NumberedLine) (now : ℕ) → IsNextLine M (Running tally judge) line now → MayTake M tally.header judge
   few_more tally judge line now n =
       let c : GoodAt M n.sc tally judge n.old now = n.covers in
@@ -124,6 +129,7 @@ module _ {J R : Type 0} (M : Judging J R) where
     }
 
   module _ (tally : Tally) (judge : J) (line : NumberedLine) (r : RunRecord Op) (now new : ℕ) (other : blank line.1 ≡ false) (read : record_of tally.header line.1 ≡ Ok r) (few : is_too_many M.limits.transactions tally r ≡ false) where
+    -- If a record that may be taken is judged, its line leads to the progress of that judgement.
     pub record_on : (judged : Judged J R) → Judges M tally.header judge r line.0 judged now new → CostsAtMostThere M tally.header judge r line.0 now new → LeadsTo M (Running tally judge) line now (progress_of (with_record tally r) judged) new
     record_on judged judges most = record {
       covers = λ sc old c.
@@ -132,10 +138,12 @@ module _ {J R : Type 0} (M : Judging J R) where
       lines = progress_lines (with_record tally r) judged;
     }
 
+    -- If the counter is within the upper bound of a record that may be taken, it is within that of its line.
     pub record_cost : CostsAtMostThere M tally.header judge r line.0 now new → CostsOn M (Running tally judge) line now new
     record_cost most sc old c =
         subst (λ (s : InputScan). M.AtMost s old new) (sym (scan_next M.limits.transactions sc tally c.follows line other r read few)) (most_next sc tally judge line r old now new c most)
 
+    -- If the input has a fault with the record, its line has the fault.
     pub record_faulty : (cause : Cause) → HasFaultThere M tally.header judge r line.0 cause → HasFaultOn M (Running tally judge) line now cause
     record_faulty cause faulty sc old c =
         subst (λ (s : InputScan). M.IsFault s (Some (line.0, cause))) (sym (scan_next M.limits.transactions sc tally c.follows line other r read few ∙ tallied_next sc tally c.follows line.0 r))
@@ -152,6 +160,7 @@ module _ {J R : Type 0} (M : Judging J R) where
         subst (λ (s : InputScan). M.IsFault (record s { fault = fault }) fault) (sym (tallied_scan sc tally c.follows))
         (laws.rejected_fault (headed c.follows.at tally.header) sc.records rejection fault c.bad)
 
+    -- If lines led to here, the counter is within their upper bound.
     pub covers_most : (sc : InputScan) (p : Progress J R) (old now : ℕ) → Covers M sc p old now → M.AtMost sc old now
     covers_most sc (Waiting lines) old now c = subst (λ (s : InputScan). M.AtMost s old now) (sym c.0) (subst (λ (n : ℕ). M.AtMost nothing old n) (sym c.1) (laws.first_most old))
     covers_most sc (Running tally judge) old now c = c.most
@@ -161,17 +170,20 @@ module _ {J R : Type 0} (M : Judging J R) where
     pub still_cost : (p : Progress J R) (line : NumberedLine) (now : ℕ) → CostsOn M p line now now
     still_cost p line now sc old c = laws.most_widens sc (scan_line M.limits.transactions sc line) old now (widens_line M.limits.transactions sc line) (covers_most sc p old now c)
 
+    -- A counter that does not rise is within the upper bound of a scan of one line.
     pub still_nothing : (line : NumberedLine) (now : ℕ) → M.AtMost (scan_line M.limits.transactions nothing line) now now
     still_nothing line now = laws.most_widens nothing (scan_line M.limits.transactions nothing line) now now (widens_line M.limits.transactions nothing line) (laws.first_most now)
 
     -- ---- a line that can not be read
 
+    -- A line that can not be read as the header is the fault of the input, with the cause of its reading.
     pub header_faulty : (line : NumberedLine) (fault : RecordFault) (cause : Cause) → blank line.1 ≡ false → header_of line.1 ≡ Err fault → cause_of fault ≡ Ok cause → M.IsFault (scan_line M.limits.transactions nothing line) (Some (line.0, cause))
     header_faulty line fault cause other read caused =
         let is : scan_line M.limits.transactions nothing line ≡ faulty_at nothing (line.0, cause) =
         scan_header M.limits.transactions nothing line (Err fault) refl refl other read ∙ ap (λ (r : Result Cause OutOfMemory). with_fault nothing line.0 r) caused in
         subst (λ (s : InputScan). M.IsFault s (Some (line.0, cause))) (sym is) (laws.first_fault (Some (line.0, cause)))
 
+    -- A record that is not taken is the fault of its line, with the cause of its refusal.
     pub refused_faulty : (tally : Tally) (p : Progress J R) (line : NumberedLine) (now : ℕ) (cause : Cause) → ((sc : InputScan) (old : ℕ) → Covers M sc p old now → IsTallied sc tally) → blank line.1 ≡ false
         → IsRecordFault M.limits.transactions tally (record_of tally.header line.1) cause → HasFaultOn M p line now cause
     refused_faulty tally p line now cause follows other refused sc old c =
@@ -193,6 +205,7 @@ module _ {J R : Type 0} (M : Judging J R) where
               (laws.rejected_least_stays h sc.records (on_record line.0 r ∷ []) rejection old now c.bad (subst (λ (s : InputScan). M.RejectedAtLeast s old now) (tallied_scan sc tally c.follows) c.least));
         }
 
+    -- After a rejection, the line of a record that may be taken leads to the same rejection at no cost.
     pub passed_on : (tally : Tally) (rejection : R) (line : NumberedLine) (r : RunRecord Op) (now : ℕ) → blank line.1 ≡ false → record_of tally.header line.1 ≡ Ok r → is_too_many M.limits.transactions tally r ≡ false
         → LeadsTo M (Rejected tally rejection) line now (Rejected (with_record tally r) rejection) now
     passed_on tally rejection line r now other read few = record {

@@ -29,6 +29,7 @@ length_filter test (x ∷ xs) =
 abbrev pub test_begin : Lined (RunRecord Op) → Bool
 test_begin r = is_begin_record r.what
 
+-- A tally counts fewer records that begin a transaction than lines.
 pub few_begins : (sc : InputScan) (tally : Tally) → IsTallied sc tally → tally.begins < tally.lines
 few_begins sc tally f = omega (arith, f.begun, f.fewer, length_filter test_begin sc.records)
 
@@ -54,9 +55,11 @@ module _ (most : ℕ) (sc : InputScan) (tally : Tally) (f : IsTallied sc tally) 
   test_same : (r : RunRecord Op) (b : Bool) → is_too_many most tally r ≡ b → (is_begin_record r && begins sc.records == most) ≡ b
   test_same r b test = ap (λ (n : ℕ). is_begin_record r && n == most) (sym f.begun) ∙ test
 
+  -- The scan takes a record that is read and begins no transaction too many.
   pub scan_next : (r : RunRecord Op) → record_of tally.header line.1 ≡ Ok r → is_too_many most tally r ≡ false → scan_line most sc line ≡ with_next sc line.0 r
   scan_next r read few = scan_record most sc (record { line = f.at; what = tally.header }) line (Ok r) f.sound f.header other read ∙ next_taken most sc line.0 r (test_same r false few)
 
+  -- If a record is not taken for a cause, the scan is faulty at its line with this cause.
   pub record_fault : (r : Result (RunRecord Op) RecordFault) (cause : Cause) → record_of tally.header line.1 ≡ r → IsRecordFault most tally r cause → scan_line most sc line ≡ faulty_at sc (line.0, cause)
   record_fault (Ok r) cause read refused =
       scan_record most sc (record { line = f.at; what = tally.header }) line (Ok r) f.sound f.header other read
@@ -66,6 +69,7 @@ module _ (most : ℕ) (sc : InputScan) (tally : Tally) (f : IsTallied sc tally) 
 abbrev pub on_record : ℕ → RunRecord Op → Lined (RunRecord Op)
 on_record line r = record { line = line; what = r }
 
+-- With one record more, the tally counts the records that begin a transaction as the scan does.
 pub begun_more : (sc : InputScan) (tally : Tally) (f : IsTallied sc tally) (line : ℕ) (r : RunRecord Op) → (with_record tally r).begins ≡ begins (with_next sc line r).records
 begun_more sc tally f line r =
     let it : Lined (RunRecord Op) = on_record line r in

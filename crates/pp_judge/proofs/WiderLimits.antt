@@ -127,6 +127,7 @@ module _ (narrow wide : Limits) (w : AreWider narrow wide) where
       ])
       (passed_from wide n l c (x ∷ xs))
 
+  -- Under wider limits an input first passes the same limit, or none before the line where it passed that of its lines or bytes.
   pub overrun_compares : (bytes : List ℕ) → Compares (overrun narrow bytes) (overrun wide bytes)
   overrun_compares bytes = rw (← start_overrun narrow bytes, ← start_overrun wide bytes) (overruns_compare 0 0 0 bytes)
 
@@ -224,5 +225,6 @@ same_under_wider narrow wide bytes w allowed few = same_limits narrow wide (whol
 pub early_same_under_wider : (narrow wide : Limits) (bytes : List ℕ) → AreWider narrow wide → HasAllowedSize (early_scan_within narrow bytes) → HasAllowedBegins narrow wide (early_scan_within narrow bytes) → early_scan_within wide bytes ≡ early_scan_within narrow bytes
 early_same_under_wider narrow wide bytes w allowed few = same_limits narrow wide early_end (ended_lines bytes) (overrun narrow bytes) (overrun wide bytes) early_ends w (overrun_compares narrow wide w bytes) allowed few
 
+-- Inputs that have not too many lines, bytes or transactions are the same under wider limits.
 pub wider_limits : WiderLimitsLaw
 wider_limits = record { scan = same_under_wider; early = early_same_under_wider }

@@ -105,6 +105,7 @@ items_written : (catalog : Objects) (items : List (Item Op)) → Each (λ p. IsI
 items_written catalog [] h = tt
 items_written catalog (p ∷ items) h = (h.0.1, items_written catalog items h.1)
 
+-- A start that the catalog can have can be written.
 pub start_written : (catalog : Objects) (start : Option HeaderStart) → CanStart catalog start → IsWritableStart catalog start
 start_written catalog None h = tt
 start_written catalog (Some start) h = items_written catalog start.ops h.each
