@@ -29,6 +29,7 @@ known : (catalog : Objects) (p : Pattern) → IsStatablePattern catalog p → Is
 known catalog p h = (h.0, h.1.call)
 
 mutual
+  -- If each call of a body can be stated, each is a call of its object's kind.
   pub each_known : (catalog : Objects) (b : Tree) → EachCall (IsStatablePattern catalog) b → EachCall (IsKnown catalog) b
   each_known catalog Skip h = tt
   each_known catalog (One p) h = known catalog p h
@@ -83,9 +84,11 @@ module _ (P : Num → Type 0) (catalog : Objects) (Q : Pattern → Type 0) (each
     parts_tidy NoPart h = tt
     parts_tidy (Part b bs) h = (body_tidy b h.0, parts_tidy bs h.1)
 
+-- If all objects have names and each call of a body is known, the value of the body is tidy, with whole numbers.
 pub whole_body : (catalog : Objects) (b : Tree) → HasNames catalog → EachCall (IsKnown catalog) b → IsTidy IsWhole (body_value catalog b)
 whole_body catalog b names h = body_tidy IsWhole catalog (IsKnown catalog) (whole_pattern catalog names) b h
 
+-- If all objects have names and each call of a body can be stated, the value of the body is tidy, with numbers within 10^18.
 pub near_body : (catalog : Objects) (b : Tree) → HasNames catalog → EachCall (IsStatablePattern catalog) b → IsTidy IsNear (body_value catalog b)
 near_body catalog b names h = body_tidy IsNear catalog (IsStatablePattern catalog) (near_pattern catalog names) b h
 
@@ -99,10 +102,12 @@ first_flat zero ns = refl
 first_flat (suc arity) [] = refl
 first_flat (suc arity) (n ∷ ns) = rw (flat n, first_flat arity ns) refl
 
+-- The value of the arguments of a call has depth 1.
 pub arguments_flat : (arity : ℕ) (x y z : Option ℤ) → data_depth (arguments_value arity x y z) ≡ 1
 arguments_flat arity x y z = ap suc (first_flat arity (x ∷ y ∷ z ∷ []))
 
 mutual
+  -- The value of a body is at most twice as deep as the body.
   pub body_depth : (catalog : Objects) (b : Tree) → data_depth (body_value catalog b) ≤ 2 * depth b
   body_depth catalog Skip = omega arith
   body_depth catalog (One p) = let one = arguments_flat (pattern_arity catalog p) p.first p.second p.third in omega arith
@@ -123,6 +128,7 @@ first_wide zero ns = omega arith
 first_wide (suc arity) [] = omega arith
 first_wide (suc arity) (n ∷ ns) = omega (arith, wide n, first_wide arity ns)
 
+-- The value of n arguments has a width of at most 21 n + 2.
 pub arguments_wide : (arity : ℕ) (x y z : Option ℤ) → width (arguments_value arity x y z) ≤ 21 * arity + 2
 arguments_wide arity x y z = omega (arith, first_wide arity (x ∷ y ∷ z ∷ []))
 
@@ -166,5 +172,6 @@ module _ (catalog : Objects) (names : HasNames catalog) where
     parts_wide NoPart h = omega arith
     parts_wide (Part b bs) h = omega (arith, body_wide b h.0, parts_wide bs h.1)
 
+-- If all objects have names, the value of a body of known calls, at most 64 nodes, has a width of at most 7,743.
 pub body_short : (catalog : Objects) (b : Tree) → HasNames catalog → EachCall (IsKnown catalog) b → nodes b ≤ 64 → width (body_value catalog b) ≤ 7_743
 body_short catalog b names h small = omega (arith, body_wide catalog names b h)

@@ -88,6 +88,7 @@ module _ (catalog : Objects) (cat : IsCatalog catalog) where
   unfolding is_within
   within b h = and_from _ _ (le-leb (nodes b) 64 h.0) (le-leb (depth b) 16 h.1)
 
+  -- The value of a body that can be stated is read as this body.
   pub body_back : (b : Tree) → IsStatableBody catalog b → body_given catalog (Some (body_value catalog b)) ≡ Ok (Some b)
   unfolding small_body_of
   body_back b h = rw (body_is b h.calls h.choices, within b h.small) refl

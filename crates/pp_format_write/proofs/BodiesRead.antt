@@ -239,6 +239,7 @@ module _ (catalog : Objects) where
   given (Some (array ds)) = small (array ds)
   given (Some (object ms)) = small (object ms)
 
+  -- If the body of a begin record is read, and there is one, it can be stated.
   pub body_read : (value : Data) → IfOk (body_of_begin catalog value) (IfGiven (IsStatableBody catalog))
   unfolding body_of_begin
   body_read value = given (get (codes "body") value)

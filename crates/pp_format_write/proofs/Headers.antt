@@ -31,6 +31,7 @@ use Rattle.pp_format_write.proofs.Operations.{there, op_tidy, whole_numbers, nea
 use Rattle.pp_format_write.proofs.Bodies.{arguments_flat, arguments_wide, call_wide}
 use Rattle.pp_format_write.proofs.Steps.{answer_flat, answer_wide}
 
+-- The word of each kind has only bytes that a name may have.
 pub kind_is_word : (kind : Kind) → IsWord (kind_word kind)
 kind_is_word kinds.Memory = refl
 kind_is_word kinds.KeySet = refl
@@ -40,6 +41,7 @@ kind_is_word kinds.Queue = refl
 kind_is_word kinds.Stack = refl
 kind_is_word kinds.PriorityQueue = refl
 
+-- If all objects have names, their values are tidy for any property of numbers.
 pub objects_tidy : (P : Num → Type 0) (catalog : Objects) → HasNames catalog → AreTidy P (items_of (map object_value catalog))
 objects_tidy P [] h = tt
 objects_tidy P (e ∷ es) h = ((refl, (refl, kind_is_word e.1, (refl, h.0.bytes, tt))), objects_tidy P es h.1)
@@ -47,12 +49,15 @@ objects_tidy P (e ∷ es) h = ((refl, (refl, kind_is_word e.1, (refl, h.0.bytes,
 header_tidy : (P : Num → Type 0) (catalog : Objects) → HasNames catalog → P (unsigned 1) → IsTidy P (header_value catalog)
 header_tidy P catalog h p = (refl, (refl, objects_tidy P catalog h, (refl, p, (refl, refl, tt))))
 
+-- If all objects have names, the value of a header without a start has no floating-point number.
 pub no_float : (catalog : Objects) → HasNames catalog → has_float (header_value catalog) ≡ false
 no_float catalog h = texts.no_float (header_value catalog) (header_tidy IsWhole catalog h tt)
 
+-- If all objects have names, the line of a header without a start has no byte below 32.
 pub one_line : (catalog : Objects) → HasNames catalog → IsOneLine (header_bytes catalog)
 one_line catalog h = one_line_text (header_value catalog) (header_tidy IsWhole catalog h tt)
 
+-- If all objects have names, the value of a header without a start is tidy, with numbers within 10^18.
 pub near_header : (catalog : Objects) → HasNames catalog → IsTidy IsNear (header_value catalog)
 near_header catalog h = header_tidy IsNear catalog h (omega arith)
 
@@ -62,6 +67,7 @@ one_more [] i d at = absurd (cc)
 one_more (e ∷ es) zero d at = ap (λ (x : Data). x ∷ []) (cc)
 one_more (e ∷ es) (suc i) d at = ap (λ (l : List Data). object_value e ∷ l) (one_more es i d at)
 
+-- If values are those of the first i objects and v is that of object i, with v they are those of the first i + 1.
 pub goes_on : (catalog : Objects) (values : List Value) (i : ℕ) (v : Value) → map view values ≡ map object_value (take i catalog)
     → option_map object_value (slice_get catalog i) ≡ Some (view v) → map view (values ++ v ∷ []) ≡ map object_value (take (i + 1) catalog)
 goes_on catalog values i v so_far at =
@@ -73,6 +79,7 @@ pub objects_flat : (catalog : Objects) → items_depth (items_of (map object_val
 objects_flat [] = omega arith
 objects_flat (e ∷ es) = omega (arith, objects_flat es)
 
+-- The value of a header without a start is at most as deep as JSON may be.
 pub shallow : (catalog : Objects) → depth (header_value catalog) ≤ max_depth
 shallow catalog = omega (arith, objects_flat catalog)
 
@@ -85,6 +92,7 @@ kind_wide kinds.Queue = omega arith
 kind_wide kinds.Stack = omega arith
 kind_wide kinds.PriorityQueue = omega arith
 
+-- The values of n objects with names have a width of at most 54 n + 1.
 pub objects_wide : (catalog : Objects) → HasNames catalog → items_width (items_of (map object_value catalog)) ≤ 54 * length catalog + 1
 objects_wide [] h = omega arith
 objects_wide (e ∷ es) h = let few = h.0.few in omega (arith, kind_wide e.1, objects_wide es h.1)
@@ -114,13 +122,16 @@ near_item catalog names p h =
 whole_header_2 : (catalog : Objects) (tx : List ℕ) (ops : List (Item Op)) → HasNames catalog → IsName tx → AreWritable catalog ops → IsTidy IsWhole (header_value_2 catalog tx ops)
 whole_header_2 catalog tx ops names name h = header_tidy_2 IsWhole catalog tx ops names name tt (ops_tidy IsWhole catalog (λ p. IsOpOn catalog p.op) (whole_item catalog names) ops h)
 
+-- If all objects have names and a start can be stated, the value of the header with it is tidy, with numbers within 10^18.
 pub near_header_2 : (catalog : Objects) (start : Start) → HasNames catalog → IsStatableStart catalog start → IsTidy IsNear (header_value_2 catalog start.tx start.ops)
 near_header_2 catalog start names h =
     header_tidy_2 IsNear catalog start.tx start.ops names h.named (omega arith) (ops_tidy IsNear catalog (λ p. IsId p.id × IsOpOn catalog p.op) (near_item catalog names) start.ops h.each)
 
+-- With names and operations on its objects, the value of a header with a start has no floating-point number.
 pub no_float_2 : (catalog : Objects) (tx : List ℕ) (ops : List (Item Op)) → HasNames catalog → IsName tx → AreWritable catalog ops → has_float (header_value_2 catalog tx ops) ≡ false
 no_float_2 catalog tx ops names name h = texts.no_float (header_value_2 catalog tx ops) (whole_header_2 catalog tx ops names name h)
 
+-- With names and operations on its objects, the line of a header with a start has no byte below 32.
 pub one_line_2 : (catalog : Objects) (tx : List ℕ) (ops : List (Item Op)) → HasNames catalog → IsName tx → AreWritable catalog ops → IsOneLine (header_bytes_2 catalog tx ops)
 one_line_2 catalog tx ops names name h = one_line_text (header_value_2 catalog tx ops) (whole_header_2 catalog tx ops names name h)
 
@@ -133,9 +144,11 @@ ops_depth : (catalog : Objects) (ops : List (Item Op)) → items_depth (items_of
 ops_depth catalog [] = omega arith
 ops_depth catalog (p ∷ ps) = omega (arith, item_depth catalog p, ops_depth catalog ps)
 
+-- The value of a header with a start is at most as deep as JSON may be.
 pub shallow_2 : (catalog : Objects) (tx : List ℕ) (ops : List (Item Op)) → depth (header_value_2 catalog tx ops) ≤ max_depth
 shallow_2 catalog tx ops = omega (arith, objects_flat catalog, ops_depth catalog ops)
 
+-- If all objects have names, the value of an operation of a start on one of them has a width of at most 176.
 pub item_wide : (catalog : Objects) (p : Item Op) → HasNames catalog → IsOpOn catalog p.op → width (item_value catalog p) ≤ 176
 item_wide catalog p names h =
     let name = named_at catalog p.op.object names (there catalog p.op h) in
@@ -153,6 +166,7 @@ short_2 catalog start cat h =
     let few = cat.few in let also = h.few in let name = h.named.few in
     omega (arith, short_text (header_value_2 catalog start.tx start.ops) (near_header_2 catalog start cat.named h), objects_wide catalog cat.named, ops_wide catalog start.ops cat.named h.each)
 
+-- The line of a header that can be stated has fewer than 60,000 bytes.
 pub short : (catalog : Objects) (start : Option Start) → IsCatalog catalog → CanStart catalog start → length (printed_header catalog start) < 60_000
 short catalog None cat h = short_1 catalog cat
 short catalog (Some start) cat h = short_2 catalog start cat h

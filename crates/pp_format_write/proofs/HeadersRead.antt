@@ -138,8 +138,10 @@ header_read line =
     behind (catalog_of value) _ IsCatalog _ (catalog_read value) (λ catalog h.
     behind (versioned_start version catalog value) _ (CanStart catalog) _ (in_either_version (CanStart catalog) version catalog value tt (start_read catalog value)) (λ start k. (h, k)))))))
 
+-- If a header is read, it has at most 256 objects, each with a name that no other has.
 pub is_catalog : (line : List ℕ) (header : Header) → header_of line ≡ Ok header → IsCatalog header.catalog
 is_catalog line header read = (IfOk-at_ok (λ h. IsCatalog h.catalog × CanStart h.catalog h.start) read (header_read line)).0
 
+-- If a header is read and has a start, the start can be stated.
 pub can_start : (line : List ℕ) (header : Header) → header_of line ≡ Ok header → CanStart header.catalog header.start
 can_start line header read = (IfOk-at_ok (λ h. IsCatalog h.catalog × CanStart h.catalog h.start) read (header_read line)).1

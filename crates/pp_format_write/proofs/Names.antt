@@ -5,6 +5,7 @@ use Rattle.pp_core.specs.Catalogs.{Objects, HasNames}
 use Rattle.pp_core.specs.Names.{IsName}
 use Rattle.pp_text.specs.Texts.{name_at}
 
+-- If all objects have names, the name at an index below their number is a name.
 pub named_at : (catalog : Objects) (i : ℕ) → HasNames catalog → i < length catalog → IsName (name_at catalog i)
 named_at [] i h lt = absurd (omega arith)
 named_at (e ∷ es) zero h lt = h.0

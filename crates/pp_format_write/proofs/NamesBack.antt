@@ -20,6 +20,7 @@ use Rattle.pp_format_write.specs.Statable.{IsCatalog}
 use Rattle.pp_format_write.proofs.Names.{named_at}
 use Rattle.pp_format_write.proofs.Operations.{below}
 
+-- A name is read as itself.
 pub name_back : (text : List ℕ) → IsName text → name_from text ≡ Some text
 name_back text h = sym (name_is text (Some text) refl ((λ some. h), (λ name. refl)))
 
@@ -42,6 +43,7 @@ pub record IsFound (names : List (List ℕ)) (name : List ℕ) (j : ℕ) : Type 
   pub first : position (bytes_eq name) names ≡ Some j
   pub at : slice_get names j ≡ Some name
 
+-- If a name is in a list, the first position of an equal name is found, and the name is there.
 pub found : (names : List (List ℕ)) (i : ℕ) (name : List ℕ) → slice_get names i ≡ Some name → (j : ℕ) × IsFound names name j
 found names i name at =
     let j = position_or_len (bytes_eq name) names in
@@ -67,6 +69,7 @@ entry_at [] i kind is = absurd (cc)
 entry_at (e ∷ es) zero kind is = (e, record { at = refl; kind_is = cc; name = refl })
 entry_at (e ∷ es) (suc i) kind is = let f = entry_at es i kind is in (f.0, record { at = f.1.at; kind_is = f.1.kind_is; name = f.1.name })
 
+-- An object of a catalog is found by its name, with its kind.
 pub object_back : (catalog : Objects) (i : ℕ) (kind : Kind) → IsCatalog catalog → slice_get (kinds_of catalog) i ≡ Some kind → object_named catalog (name_at catalog i) ≡ Some (i, kind)
 unfolding object_named
 object_back catalog i kind h is =

@@ -35,9 +35,11 @@ use Rattle.pp_format_write.specs.Statable.{IsOpOn}
 use Rattle.pp_format_write.proofs.Words.{IsWord}
 use Rattle.pp_format_write.proofs.Texts.{IsTidy, AreTidy, HasTidy, IsWhole, IsNear}
 
+-- A method has at most three arguments.
 pub arguments_few : (kind : Kind) (m : Method) → arity_of kind m ≤ 3
 arguments_few kind m = arguments.few kind m
 
+-- The call of an act has at most three arguments.
 pub few : (act : Act) → arity_in act ≤ 3
 few act = arguments.few (kind_for act) (call_of act).method
 
@@ -56,6 +58,7 @@ kind_found : (o : Option Kind) (a : Act) → IsTrue (fits_in one o a) → o ≡ 
 kind_found None a h = absurd (cc)
 kind_found (Some kind) a h = ap Some (kind_is kind a h)
 
+-- If an operation is on an object of the catalog, this object has the kind of its act.
 pub kind_there : (catalog : Objects) (op : Op) → IsOpOn catalog op → slice_get (kinds_of catalog) op.object ≡ Some (kind_for op.act)
 kind_there catalog op h = kind_found (slice_get (kinds_of catalog) op.object) op.act h.0
 
@@ -65,6 +68,7 @@ below [] i kind is = absurd (cc)
 below (e ∷ es) zero kind is = omega arith
 below (e ∷ es) (suc i) kind is = let lt = below es i kind is in omega arith
 
+-- If an operation is on an object of the catalog, the index of the object is below the number of objects.
 pub there : (catalog : Objects) (op : Op) → IsOpOn catalog op → op.object < length catalog
 there catalog op h = below catalog op.object (kind_for op.act) (kind_there catalog op h)
 
@@ -72,6 +76,7 @@ there catalog op h = below catalog op.object (kind_for op.act) (kind_there catal
 parts : (a : Act) → IsTrue (is_ranged a) → IsTrue (has_ranged_arguments (call_of a)) × IsTrue (is_ranged_answer (recorded_by a))
 parts a h = and_parts (has_ranged_arguments (call_of a)) (is_ranged_answer (recorded_by a)) (sym (one_lawful.ranged_numbers a) ∙ h)
 
+-- The result of an operation on an object of the catalog is in the range of records.
 pub answer_ranged : (catalog : Objects) (op : Op) → IsOpOn catalog op → IsTrue (is_ranged_answer (recorded_by op.act))
 answer_ranged catalog op h = (parts op.act h.1).1
 
@@ -80,6 +85,7 @@ pub record AreRanged (c : Call) : Type 0 where
   pub second : IsTrue (in_range c.second)
   pub third : IsTrue (in_range c.third)
 
+-- If an act is in the range of records, so are the arguments of its call.
 pub arguments_ranged : (a : Act) → IsTrue (is_ranged a) → AreRanged (call_of a)
 arguments_ranged a h =
     let c = call_of a in
@@ -106,6 +112,7 @@ method_is_word methods.Insert = refl
 method_is_word methods.Take = refl
 method_is_word methods.Least = refl
 
+-- The number of an integer is whole.
 pub whole_integer : (z : ℤ) → IsWhole (of_integer z)
 whole_integer (pos n) = tt
 whole_integer (negsuc n) = tt
@@ -116,6 +123,7 @@ least = negsuc 999_999_999_999_999_999
 abbrev most : ℤ
 most = pos 1_000_000_000_000_000_000
 
+-- The number of an integer in the range of records is within 10^18.
 pub near_integer : (z : ℤ) → IsTrue (in_range z) → IsNear (of_integer z)
 near_integer (pos n) h =
     let ends = and_parts (int_le least (pos n)) (int_le (pos n) most) h in grind (arith, ints)
@@ -136,6 +144,7 @@ first_tidy P zero ns h = tt
 first_tidy P (suc arity) [] h = tt
 first_tidy P (suc arity) (n ∷ ns) h = (wanted_tidy P n h.0, first_tidy P arity ns h.1)
 
+-- If the numbers among three arguments have a property, the value of the arguments is tidy for it.
 pub arguments_tidy : (P : Num → Type 0) (arity : ℕ) (x y z : Option ℤ) → IfNumber P x → IfNumber P y → IfNumber P z → IsTidy P (arguments_value arity x y z)
 arguments_tidy P arity x y z h k l = first_tidy P arity (x ∷ y ∷ z ∷ []) (h, (k, (l, tt)))
 
@@ -158,6 +167,7 @@ pub record HasNumbers (P : Num → Type 0) (id : ℕ) (c : Call) (r : Answer) : 
   pub third : P (of_integer c.third)
   pub answer : IfNumberOf P r
 
+-- If the object has a name, the numbers have a property, and the other members are tidy for it, so are the members of an operation.
 pub op_tidy : (P : Num → Type 0) (catalog : Objects) (id : ℕ) (op : Op) (others : Members) → IsName (name_at catalog op.object)
     → HasNumbers P id (call_of op.act) (recorded_by op.act) → HasTidy P others → HasTidy P (op_members catalog id op others)
 op_tidy P catalog id op others name numbers rest =
@@ -174,9 +184,11 @@ near_answer answers.None h = tt
 near_answer (answers.Number n) h = near_integer n h
 near_answer (answers.Truth t) h = tt
 
+-- The id, the arguments and the result of an operation are whole numbers.
 pub whole_numbers : (id : ℕ) (c : Call) (r : Answer) → HasNumbers IsWhole id c r
 whole_numbers id c r = record { id_has = tt; first = whole_integer c.first; second = whole_integer c.second; third = whole_integer c.third; answer = whole_answer r }
 
+-- The id, the arguments and the result of an operation in range are numbers within 10^18.
 pub near_numbers : (id : ℕ) (a : Act) → id ≤ 999_999_999 → IsTrue (is_ranged a) → HasNumbers IsNear id (call_of a) (recorded_by a)
 near_numbers id a small h =
     let c = arguments_ranged a h in record {

@@ -198,6 +198,7 @@ module _ (catalog : Objects) (id : ℕ) (op : Op) (others : Members) (h : IsOpOn
       let b = back (arity_in op.act) c.first c.second c.third (few op.act) near.first near.second near.third in
       rw (method_is, arguments_are, b.first, b.second, b.third) (ap (λ (x : Call). Ok x) (used_again op.object op.act))
 
+  -- The value of an operation on an object of a catalog is read as this operation.
   pub op_back : IsCatalog catalog → op_of catalog value ≡ Ok op
   unfolding op_of member_of
   op_back cat =

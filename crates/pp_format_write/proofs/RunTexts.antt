@@ -39,10 +39,12 @@ taken_more [] i step lt is = absurd (omega arith)
 taken_more (s ∷ ss) zero step lt is = ap (λ (x : StepOf Op). meaning x ∷ []) (sym is)
 taken_more (s ∷ ss) (suc i) step lt is = ap (λ (l : List (Step Op)). meaning s ∷ l) (taken_more ss i step (omega arith) is)
 
+-- The text of lines and more lines is the text of the first followed by the text of the others.
 pub joined_both : (lines more : List (List ℕ)) → joined_lines (lines ++ more) ≡ joined_lines lines ++ joined_lines more
 joined_both [] more = refl
 joined_both (l ∷ ls) more = ap (λ (text : List ℕ). l ++ 10 ∷ text) (joined_both ls more) ∙ sym (append_assoc l (10 ∷ joined_lines ls) (joined_lines more))
 
+-- The text of a run with more steps is the text of the run followed by the lines of these steps.
 pub text_behind : (catalog : Objects) (start : Option Start) (before steps : List (Step Op)) → run_text catalog start (before ++ steps) ≡ run_text catalog start before ++ joined_lines (map (step_bytes catalog) steps)
 text_behind catalog start before steps =
     ap (λ (ls : List (List ℕ)). joined_lines (printed_header catalog start ∷ ls)) (map-append (step_bytes catalog) before steps)
@@ -54,6 +56,7 @@ lines_of catalog steps = joined_lines (map (step_bytes catalog) steps)
 lines_behind : (catalog : Objects) (steps : List (Step Op)) (step : Step Op) → lines_of catalog (steps ++ step ∷ []) ≡ lines_of catalog steps ++ (step_bytes catalog step ++ 10 ∷ [])
 lines_behind catalog steps step = ap joined_lines (map-append (step_bytes catalog) steps (step ∷ [])) ∙ joined_both (map (step_bytes catalog) steps) (step_bytes catalog step ∷ [])
 
+-- If a text ends with the lines of the first i steps, with the line of step i it ends with those of the first i + 1.
 pub one_more : (catalog : Objects) (steps : List (StepOf Op)) (i : ℕ) (step : StepOf Op) (old text longer : List ℕ)
     → text ≡ old ++ lines_of catalog (map meaning (take i steps)) → longer ≡ text ++ step_bytes catalog (meaning step) ++ 10 ∷ [] → i < length steps → step ≡ get_or steps i step
     → longer ≡ old ++ lines_of catalog (map meaning (take (i + 1) steps))
@@ -81,6 +84,7 @@ no_return [] i h = refl
 no_return (b ∷ bs) zero h = kept_byte b h.0
 no_return (b ∷ bs) (suc i) h = no_return bs i h.1
 
+-- Bytes of which none is below 32 can be a line.
 pub is_line : (line : List ℕ) → IsOneLine line → IsLine line
 is_line line h = record { unbroken = unbroken line h; kept = rw (no_return line (length line - 1) h) refl }
 
@@ -143,6 +147,7 @@ module _ (catalog : Objects) (start : Option Start) (steps : List (Step Op)) (h 
   lines : AreLines (run_lines catalog start steps)
   lines = (is_line (printed_header catalog start) (header_one_line catalog start h.over h.begun), step_lines catalog h.over steps h.each)
 
+  -- The text of a run that can be stated has fewer than 200,000,000 bytes.
   pub text_short : length (run_text catalog start steps) < 200_000_000
   text_short =
       let few = h.few in let begun = h.begins in
@@ -161,9 +166,11 @@ module _ (catalog : Objects) (start : Option Start) (steps : List (Step Op)) (h 
     bytes = omega (arith, text_short);
   }
 
+  -- The text of a run that can be stated passes no limit.
   pub text_passes : overrun usual_limits (run_text catalog start steps) ≡ None
   text_passes = joined.allowed usual_limits (run_lines catalog start steps) lines text_allowed
 
+  -- The lines read from the text of a run that can be stated are those written, numbered from 1.
   pub text_scanned : scanned_lines usual_limits (run_text catalog start steps) ≡ numbered_from 1 (run_lines catalog start steps)
   text_scanned = joined.scanned usual_limits (run_lines catalog start steps) lines text_allowed
 
@@ -188,5 +195,6 @@ steps_show : (catalog : Objects) (steps : List (Step Op)) → Each (λ line. bla
 steps_show catalog [] = tt
 steps_show catalog (s ∷ ss) = (step_shows catalog s, steps_show catalog ss)
 
+-- No line of a run is blank.
 pub all_show : (catalog : Objects) (start : Option Start) (steps : List (Step Op)) → Each (λ line. blank line ≡ false) (run_lines catalog start steps)
 all_show catalog start steps = (header_shows catalog start, steps_show catalog steps)

@@ -35,6 +35,7 @@ module _ (P : Num → Type 0) (tx : List ℕ) (name : IsName tx) where
   begin_tidy : (thread : List ℕ) → IsName thread → HasTidy P (begin_members [] tx thread None)
   begin_tidy thread h = (refl, refl, (refl, h.bytes, (refl, name.bytes, tt)))
 
+-- The value of a step that has names and can be written is tidy, with whole numbers, if all objects have names.
 pub whole_step : (catalog : Objects) (step : Step Op) → HasNames catalog → IsNamed step → IsWritable catalog step → IsTidy IsWhole (step_value catalog step)
 whole_step catalog (Begin tx thread None) names n h = (refl, begin_tidy IsWhole tx n.0 thread n.1)
 whole_step catalog (Begin tx thread (Some b)) names n h = (refl, (refl, whole_body catalog b names h, begin_tidy IsWhole tx n.0 thread n.1))
@@ -53,6 +54,7 @@ whole_step catalog (Note tx) names n h = tx_tidy IsWhole tx n (codes "note") ref
 near_id : (id : ℕ) → id ≤ 999_999_999 → IsNear (unsigned id)
 near_id id h = omega arith
 
+-- The value of a step that can be stated is tidy, with numbers within 10^18, if all objects have names.
 pub near_step : (catalog : Objects) (step : Step Op) → HasNames catalog → IsStatable catalog step → IsTidy IsNear (step_value catalog step)
 near_step catalog (Begin tx thread None) names h = (refl, begin_tidy IsNear tx h.0 thread h.1)
 near_step catalog (Begin tx thread (Some b)) names h = (refl, (refl, near_body catalog b names h.2.calls, begin_tidy IsNear tx h.0 thread h.1))
@@ -68,9 +70,11 @@ near_step catalog (Cmt tx) names h = tx_tidy IsNear tx h (codes "cmt") refl
 near_step catalog (Quit tx) names h = tx_tidy IsNear tx h (codes "quit") refl
 near_step catalog (Note tx) names h = tx_tidy IsNear tx h (codes "note") refl
 
+-- If the objects and the step have names, the value of a step that can be written has no floating-point number.
 pub no_float : (catalog : Objects) (step : Step Op) → HasNames catalog → IsNamed step → IsWritable catalog step → has_float (step_value catalog step) ≡ false
 no_float catalog step names n h = texts.no_float (step_value catalog step) (whole_step catalog step names n h)
 
+-- If the objects and the step have names, the line of a step that can be written has no byte below 32.
 pub one_line : (catalog : Objects) (step : Step Op) → HasNames catalog → IsNamed step → IsWritable catalog step → IsOneLine (step_bytes catalog step)
 one_line catalog step names n h = one_line_text (step_value catalog step) (whole_step catalog step names n h)
 
@@ -80,6 +84,7 @@ answer_flat answers.None = refl
 answer_flat (answers.Number n) = refl
 answer_flat (answers.Truth t) = refl
 
+-- The value of a step that can be stated is at most as deep as JSON may be.
 pub shallow : (catalog : Objects) (step : Step Op) → IsStatable catalog step → depth (step_value catalog step) ≤ max_depth
 shallow catalog (Begin tx thread None) h = omega arith
 shallow catalog (Begin tx thread (Some b)) h = let small = h.2.small.1 in omega (arith, body_depth catalog b)
@@ -97,6 +102,7 @@ shallow catalog (Cmt tx) h = omega arith
 shallow catalog (Quit tx) h = omega arith
 shallow catalog (Note tx) h = omega arith
 
+-- The value of a result has a width of at most 20.
 pub answer_wide : (r : Answer) → width (answer_value r) ≤ 20
 answer_wide answers.None = omega arith
 answer_wide (answers.Number n) = omega arith
@@ -124,5 +130,6 @@ wide_step catalog (Note tx) names h = let few = h.few in omega arith
 short : (catalog : Objects) (step : Step Op) → HasNames catalog → IsStatable catalog step → length (step_bytes catalog step) ≤ most_bytes step
 short catalog step names h = omega (arith, short_text (step_value catalog step) (near_step catalog step names h), wide_step catalog step names h)
 
+-- The line of a step that can be stated is at most as long as `most_bytes` says.
 pub statable_short : (catalog : Objects) (step : Step Op) → IsCatalog catalog → IsStatable catalog step → length (step_bytes catalog step) ≤ most_bytes step
 statable_short catalog step cat h = short catalog step cat.named h

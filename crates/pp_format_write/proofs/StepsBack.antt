@@ -24,6 +24,7 @@ use Rattle.pp_format_write.proofs.NamesBack.{name_back}
 use Rattle.pp_format_write.proofs.OperationsBack.{op_back}
 use Rattle.pp_format_write.proofs.BodiesBack.{body_back}
 
+-- An id of a record is read as itself.
 pub id_back : (id : ℕ) → IsId id → id_from (pos id) ≡ Some id
 unfolding id_from
 id_back id h = ap (λ b. cond b (Some id) None) (le-leb id 999_999_999 h)
@@ -125,12 +126,14 @@ module _ (header : Header) (rules : header.style ≡ Rules) where
   read cat line (Quit tx) h is = record_is line _ (codes "quit") _ is (said (codes "quit") tx) (ended header.catalog tx h)
   read cat line (Note tx) h is = record_is line _ (codes "note") _ is (said (codes "note") tx) (noted header.catalog tx h)
 
+-- Under a header of style rules, the line of a step that can be stated is read as this step.
 pub reads_back : (header : Header) (step : Step Op) → header.style ≡ Rules → IsCatalog header.catalog → IsStatable header.catalog step
     → record_of header (step_bytes header.catalog step) ≡ Ok (Plain step)
 reads_back header step rules cat h =
     let line = step_bytes header.catalog step in
     read header rules cat line step h (value_back (step_value header.catalog step) (near_step header.catalog step cat.named h) (shallow header.catalog step h))
 
+-- Under a header of style rules, a text that is the line of a statable step is read as this step.
 pub text_back : (catalog : Objects) (step : Step Op) (text : List ℕ) → IsCatalog catalog → text ≡ step_bytes catalog step → (header : Header) → header.style ≡ Rules → header.catalog ≡ catalog → IsStatable catalog step
     → record_of header text ≡ Ok (Plain step)
 text_back catalog step text cat is header rules same h =

@@ -40,6 +40,7 @@ named text = by (is_name text) refl
     by true e = is_name_fact text e
     by false e = tt
 
+-- If a member's value is read as a name, it is a name.
 pub name_read : (m : Member) (value : Data) → IfOk (name_of m value) IsName
 unfolding name_of
 name_read m value = behind_any (text_of m value) _ _ (λ text. found (name_from text) (BadName m) _ (named text))
@@ -154,5 +155,6 @@ record_read header line =
     behind_any (object_of line) _ _ (λ value. behind_any (text_of members.Step value) _ _ (λ word.
     named_read header.catalog value header.style word))
 
+-- If a line is read as a record, the record can be stated.
 pub is_statable : (header : Header) (line : List ℕ) (r : RunRecord Op) → record_of header line ≡ Ok r → IsStatableRecord header.catalog r
 is_statable header line r read = IfOk-at_ok (λ x. IsStatableRecord header.catalog x) read (record_read header line)

@@ -39,6 +39,7 @@ keys_rise (member k d ms) = is_before k ms && keys_rise ms
 
 -- texts and keys are words, keys stand in order, and each number has this property
 abbrev mutual
+  -- Texts and keys of a value are words, keys are in order, and each number has a property.
   pub IsTidy : (Num → Type 0) → Data → Type 0
   IsTidy P null = Unit {0}
   IsTidy P (boolean b) = Unit {0}
@@ -47,10 +48,12 @@ abbrev mutual
   IsTidy P (array ds) = AreTidy P ds
   IsTidy P (object ms) = IsTrue (keys_rise ms) × HasTidy P ms
 
+  -- Each of the items is tidy for this property.
   pub AreTidy : (Num → Type 0) → Items → Type 0
   AreTidy P no_items = Unit {0}
   AreTidy P (item d ds) = IsTidy P d × AreTidy P ds
 
+  -- Each key is a word, and the value of each member is tidy for this property.
   pub HasTidy : (Num → Type 0) → Members → Type 0
   HasTidy P no_members = Unit {0}
   HasTidy P (member k d ms) = IsWord k × IsTidy P d × HasTidy P ms
@@ -74,6 +77,7 @@ near_is_whole (negative z) h = tt
 near_is_whole (float x) h = h
 
 mutual
+  -- A value that is tidy with numbers within 10^18 is tidy with whole numbers.
   pub whole_tidy : (d : Data) → IsTidy IsNear d → IsTidy IsWhole d
   whole_tidy null h = tt
   whole_tidy (boolean b) h = tt
@@ -97,6 +101,7 @@ whole_number (negative z) h = refl
 whole_number (float x) h = absurd h
 
 mutual
+  -- A value that is tidy with whole numbers has no floating-point number.
   pub no_float : (d : Data) → IsTidy IsWhole d → has_float d ≡ false
   no_float null h = refl
   no_float (boolean b) h = refl
@@ -142,6 +147,7 @@ clean_comma true = (omega arith, omega arith, tt)
 clean_comma false = tt
 
 mutual
+  -- The text of a tidy value has only ASCII bytes and no control byte.
   pub clean : (P : Num → Type 0) (d : Data) → IsTidy P d → IsClean (compact_text d)
   clean P null h = clean_word (codes "null") refl
   clean P (boolean true) h = clean_word (codes "true") refl
@@ -162,6 +168,7 @@ mutual
       (clean_append (quoted k) _ (clean_quoted k h.0)
       (omega arith, omega arith, clean_append (compact_text d) (members_text true ms) (clean P d h.1) (clean_members P true ms h.2)))
 
+-- The text of a value that is tidy with whole numbers has no byte below 32.
 pub one_line_text : (d : Data) → IsTidy IsWhole d → IsOneLine (compact_text d)
 one_line_text d h = one_line (compact_text d) (clean IsWhole d h)
 
@@ -280,11 +287,13 @@ text_read d h few =
     let shallow : tree.depth (outline d) ≤ max_depth = rw (same_depth d) few in
     ap data_of (ap (json.value max_depth) (printed ∙ sym (append-nil _)) ∙ value-json_tokens (outline d) max_depth [] shallow) ∙ json_back d h
 
+-- The text of a tidy value with numbers within 10^18, and no deeper than JSON may be, is read as this value.
 pub value_back : (d : Data) → IsTidy IsNear d → depth d ≤ max_depth → value_of (compact_text d) ≡ Ok d
 value_back d h few = value_is (compact_text d) d (utf8 (compact_text d) (clean IsNear d h)) (text_read d h few)
 
 -- ---- how long it is, with a comma behind each element and each member
 abbrev mutual
+  -- The most bytes of the text of a tidy value with numbers within 10^18, with a comma after each element and each member.
   pub width : Data → ℕ
   width null = 4
   width (boolean b) = 5
@@ -293,10 +302,12 @@ abbrev mutual
   width (array ds) = 1 + items_width ds
   width (object ms) = 1 + members_width ms
 
+  -- The same for items and the closing bracket.
   pub items_width : Items → ℕ
   items_width no_items = 1
   items_width (item d ds) = width d + 1 + items_width ds
 
+  -- The same for members and the closing brace.
   pub members_width : Members → ℕ
   members_width no_members = 1
   members_width (member k d ms) = length k + 4 + width d + members_width ms
@@ -315,6 +326,7 @@ comma_length true = omega arith
 comma_length false = omega arith
 
 mutual
+  -- The text of a tidy value with numbers within 10^18 is at most as long as its width.
   pub short_text : (d : Data) → IsTidy IsNear d → length (compact_text d) ≤ width d
   short_text null h = omega arith
   short_text (boolean true) h = omega arith
