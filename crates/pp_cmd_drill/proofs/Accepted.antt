@@ -41,6 +41,7 @@ same_items : (l : List (Attempt Op)) → serial_items (map committed_tx l) ≡ j
 same_items [] = refl
 same_items (a ∷ l) = ap (λ (w : List (Item Op)). a.items ++ w) (same_items l)
 
+-- For n from 1 to 20,000, the run of n transactions is accepted, and leaves what `DrillFacts` says.
 pub drill_accepted : (n : ℕ) → 1 ≤ n → n ≤ 20000 → DrillFacts n
 drill_accepted n low high =
     let q = n / 2 in

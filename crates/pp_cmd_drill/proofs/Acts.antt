@@ -37,15 +37,19 @@ of_both p a b = read p ∷ add b ∷ write (suc p) ∷ ask b ∷ add a ∷ ask a
 abbrev pub in_order : ℕ → ℕ → ℕ → List Op
 in_order p a b = add b ∷ ask b ∷ read p ∷ write (suc p) ∷ add a ∷ ask a ∷ []
 
+-- The operations of the first are allowed if m has p at 0.
 pub first_allowed : (m : FinMap int_cmp ℤ) (x : ℤ) (p a : ℕ) → value_at m (pos 0) ≡ pos p → AllowedFrom drill_objects (three m x) (of_first p a)
 first_allowed m x p a h = ((refl, ap Number h), ((refl, refl), ((refl, refl), ((refl, ap Truth (bits.empty_at (pos a))), tt))))
 
+-- The operations of the second are allowed with any memory and counter and the empty s.
 pub second_allowed : (m : FinMap int_cmp ℤ) (x : ℤ) (b : ℕ) → AllowedFrom drill_objects (three m x) (of_second b)
 second_allowed m x b = ((refl, refl), ((refl, ap Truth (bits.empty_at (pos b))), tt))
 
+-- The operations of both, in the order of the pushes, are allowed if m has p at 0.
 pub both_allowed : (m : FinMap int_cmp ℤ) (x : ℤ) (p a b : ℕ) → value_at m (pos 0) ≡ pos p → AllowedFrom drill_objects (three m x) (of_both p a b)
 both_allowed m x p a b h = ((refl, ap Number h), ((refl, refl), ((refl, refl), ((refl, ap Truth (bits.empty_at (pos b))), ((refl, refl), ((refl, ap Truth (bits.empty_at (pos a))), tt))))))
 
+-- The operations of both, in the order of the commits, are allowed if m has p at 0.
 pub in_order_allowed : (m : FinMap int_cmp ℤ) (x : ℤ) (p a b : ℕ) → value_at m (pos 0) ≡ pos p → AllowedFrom drill_objects (three m x) (in_order p a b)
 in_order_allowed m x p a b h = ((refl, refl), ((refl, ap Truth (bits.empty_at (pos b))), ((refl, ap Number h), ((refl, refl), ((refl, refl), ((refl, ap Truth (bits.empty_at (pos a))), tt))))))
 
@@ -57,6 +61,7 @@ covered : (here : Bool) (v w o : ℤ) → cond here w (cond here v o) ≡ cond h
 covered true v w o = refl
 covered false v w o = refl
 
+-- Writing v and then w at 0 of the empty memory is writing w alone.
 pub written_again : (v w : ℤ) → written (written empty (pos 0) v) (pos 0) w ≡ written empty (pos 0) w
 written_again v w =
     one_memory (written (written empty (pos 0) v) (pos 0) w) (written empty (pos 0) w)
@@ -72,6 +77,7 @@ same_zero : (here : Bool) (o : ℤ) → o ≡ pos 0 → cond here (pos 0) o ≡ 
 same_zero true o e = sym e
 same_zero false o e = refl
 
+-- With 0 at 0 in m and c at 0, the objects are at their start.
 pub at_start : states_at 0 0 ≡ drill_objects.start
 at_start =
     ap (λ (m : FinMap int_cmp ℤ). three m (pos 0))
@@ -82,14 +88,17 @@ at_start =
 pub sum_next : (x a : ℕ) → a ≡ suc x → sum_to a ≡ sum_to x + a % 7
 sum_next x a e = ap sum_to e ∙ ap (λ (k : ℕ). sum_to x + k % 7) (sym e)
 
+-- From p pairs and the sum to x, the operations of x + 1 and x + 2 in the order of the pushes lead to one more pair and the sum to x + 2.
 pub after_both : (p x a b : ℕ) → a ≡ suc x → b ≡ suc a → state_from drill_objects (states_at p (sum_to x)) (of_both p a b) ≡ states_at (suc p) (sum_to b)
 after_both p x a b e f =
     let s : sum_to x + b % 7 + a % 7 ≡ sum_to b = let g = sum_next x a e in let h = sum_next a b f in omega arith in
     ap (λ (m : FinMap int_cmp ℤ). three m (pos (sum_to x + b % 7 + a % 7))) (written_again (pos p) (pos (suc p))) ∙ ap (λ (k : ℕ). states_at (suc p) k) s
 
+-- From p pairs and the sum to x, the operations of x + 1 and x + 2 in the order of the commits lead to one more pair and the sum to x + 2.
 pub after_order : (p x a b : ℕ) → a ≡ suc x → b ≡ suc a → state_from drill_objects (states_at p (sum_to x)) (in_order p a b) ≡ states_at (suc p) (sum_to b)
 after_order p x a b e f = after_both p x a b e f
 
+-- From p pairs and the sum to x, the operations of x + 1 alone lead to one more pair and the sum to x + 1.
 pub after_first : (p x a : ℕ) → a ≡ suc x → state_from drill_objects (states_at p (sum_to x)) (of_first p a) ≡ states_at (suc p) (sum_to a)
 after_first p x a e =
     ap (λ (m : FinMap int_cmp ℤ). three m (pos (sum_to x + a % 7))) (written_again (pos p) (pos (suc p))) ∙ ap (λ (k : ℕ). states_at (suc p) k) (sym (sum_next x a e))
@@ -102,26 +111,33 @@ either : (c : Bool) → (if c then true else true) ≡ true
 either true = refl
 either false = refl
 
+-- A query of s may move left past another query of s.
 pub asks_swap : (a b : ℕ) → Swaps drill_objects (ask a) (ask b)
 asks_swap a b =
     let x : SetOp = Contains (pos a) false in
     let y : SetOp = Contains (pos b) false in
     (objects_lawful.unrefuted (ask a) (ask b)).0 (ap (λ (z : Bool). both_as (act_at 2) (both_as KeySet (if z then None else Some (lists_round x y)))) (either (int_eq (pos a) (pos b)))) drill_kinds
 
+-- An addition to c may move left past a read of m.
 pub read_add_swap : (p b : ℕ) → Swaps drill_objects (read p) (add b)
 read_add_swap p b = (objects_lawful.unrefuted (read p) (add b)).0 refl drill_kinds
 
+-- A write of m may move left past an addition to c.
 pub add_write_swap : (p b : ℕ) → Swaps drill_objects (add b) (write p)
 add_write_swap p b = (objects_lawful.unrefuted (add b) (write p)).0 refl drill_kinds
 
+-- A query of s may move left past a read of m.
 pub read_ask_swap : (p b : ℕ) → Swaps drill_objects (read p) (ask b)
 read_ask_swap p b = (objects_lawful.unrefuted (read p) (ask b)).0 refl drill_kinds
 
+-- A query of s may move left past a write of m.
 pub write_ask_swap : (p b : ℕ) → Swaps drill_objects (write p) (ask b)
 write_ask_swap p b = (objects_lawful.unrefuted (write p) (ask b)).0 refl drill_kinds
 
+-- An addition to c may move left past a query of s.
 pub ask_add_swap : (a b : ℕ) → Swaps drill_objects (ask b) (add a)
 ask_add_swap a b = (objects_lawful.unrefuted (ask b) (add a)).0 refl drill_kinds
 
+-- A query of s may move left past an addition to c.
 pub add_ask_swap : (a b : ℕ) → Swaps drill_objects (add b) (ask a)
 add_ask_swap a b = (objects_lawful.unrefuted (add b) (ask a)).0 refl drill_kinds

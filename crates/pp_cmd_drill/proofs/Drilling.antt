@@ -52,6 +52,7 @@ printed_of n (Accepts steps committed final) = drill_report n steps (length comm
 printed_of n (StartRejected at_line criterion) = []
 printed_of n (StepRejected number at_line criterion before step) = []
 
+-- At most one status and one text are those of the run of n transactions.
 pub one_drilled : (n : ℕ) (s s' : Status) (t t' : List ℕ) → IsDrilled n s t → IsDrilled n s' t' → (s ≡ s') × (t ≡ t')
 one_drilled n s s' t t' (steps, committed, final, is, status, text) (steps', committed', final', is', status', text') =
     let one : RunReport = Accepts steps committed final in
@@ -100,11 +101,13 @@ module _ (n : ℕ) (low : 1 ≤ n) (high : n ≤ 20_000) where
   -- ---- what is printed
 
   module _ (tally : Tally) (machine : Seen (List Kind) Op) (r : IsRunning (drill_scan n) tally machine) where
+    -- The header of the tally has the objects m, c and s.
     pub catalog_is : tally.header.catalog ≡ drill_catalog
     catalog_is =
         let heads : Some (record { line = r.follows.at; what = tally.header }) ≡ Some head = sym r.follows.header ∙ ap (λ (sc : InputScan). sc.header) (scan_is n low high) in
         ap (λ (h : Lined Header). h.what.catalog) (same_Some (record { line = r.follows.at; what = tally.header }) head heads)
 
+    -- The text of the machine's count, the number of its committed transactions and the final states is the output for n.
     pub drilled_by : (count : ℕ) (D : List (CommittedTx Op)) (states : List ObjectState) (text : List ℕ) → count ≡ machine.count → D ≡ machine.config.done
         → states ≡ state_after objects (kinds_of tally.header.catalog) (serial_ops D) → text ≡ drill_report n count (length D) states → IsDrilled n statuses.Accepted text
     drilled_by count D states text count_is D_is state_is text_is =
@@ -138,6 +141,7 @@ module _ (n : ℕ) (low : 1 ≤ n) (high : n ≤ 20_000) where
   certified : IsCertified (drill_text n) statuses.Accepted (certified_text n)
   certified = (report, report_is, subst (λ (sc : InputScan). IsTold sc.header report statuses.Accepted (certified_text n)) (sym (scan_is n low high)) (refl, certified_are))
 
+  -- For n from 1 to 20,000, the output is the lines of the definition, and nothing else.
   pub prints_lines : PrintsLines n
   prints_lines =
       record {

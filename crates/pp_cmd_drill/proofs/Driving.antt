@@ -64,6 +64,7 @@ step_asked (Note t) h = tt
 abbrev pub unmoved : Seen (List Kind) Op
 unmoved = record { shape = drill_kinds; config = first None; count = 0 }
 
+-- For n up to 20,000, each step of the run may be asked of a machine before its first step.
 pub asked : (n : ℕ) (steps : List (Step Op)) (machine : Seen (List Kind) Op) → n ≤ 20_000 → steps ≡ drill_steps n → machine ≡ unmoved → (step : Step Op) → In step steps → IsAsked objects machine.shape step
 asked n steps machine high is new step there =
     subst (λ (m : Seen (List Kind) Op). IsAsked objects m.shape step) (sym new)
@@ -110,6 +111,7 @@ module _ (n : ℕ) (low : 1 ≤ n) (high : n ≤ 20_000) where
         over new.count (length done.before) (length behind) (length steps) (ap (λ (v : Seen (List Kind) Op). v.count) done.is)
         (ap (λ (w : List (Step Op)). length w) done.parts ∙ length-append done.before (step ∷ behind)) (few n low high) full
 
+  -- A machine that is driven through the steps of the run is halted by none: all are done.
   pub all_done : (from to : ℕ) (new : Seen (List Kind) Op) (halt : Option (Halt Op)) → Drives objects unmoved steps from halt new to → HasDone objects unmoved steps [] new from to
   all_done from to new None d = d
   all_done from to new (Some halt) d = absurd (no_halt from to new d.0 d.1 d.2 halt d.3)
@@ -186,6 +188,7 @@ module _ (n : ℕ) (low : 1 ≤ n) (high : n ≤ 20_000) where
     new_is : new ≡ moved
     new_is = done.is ∙ ap (λ (w : List (Step Op)). after_steps unmoved w) all
 
+    -- With the tally of all lines, the machine that was driven through the run is where its records lead.
     pub is_running : (catalog : Objects) (lines : ℕ) → catalog ≡ drill_catalog → lines ≡ new.count + 1 → IsRunning (drill_scan n) (record { header = rules_header catalog None; lines = lines; begins = n }) new
     is_running catalog lines over_is lines_are =
         let tally : Tally = record { header = rules_header catalog None; lines = lines; begins = n } in
@@ -193,11 +196,13 @@ module _ (n : ℕ) (low : 1 ≤ n) (high : n ≤ 20_000) where
         running tally (ap (λ (c : Objects). rules_header c None) over_is) (lines_are ∙ ap (λ (m : Seen (List Kind) Op). m.count + 1) new_is) refl in
         subst (λ (sc : InputScan). IsRunning sc tally new) (sym (scan_is n low high)) (subst (λ (m : Seen (List Kind) Op). IsRunning (scanned n) tally m) (sym new_is) there)
 
+    -- The counter rose at least by what the steps of the run cost at least.
     pub counted_least : OfRun (drill_scan n).header (drill_scan n).records (λ start ss. from + singles ss ≤ to)
     counted_least = of_run n low high (λ start ss. from + singles ss ≤ to) (subst (λ (w : List (Step Op)). from + singles w ≤ to) all done.least)
 
   -- ---- what it costs
 
+  -- If the counter rose within the upper bound of the machine's steps, it is within that of the input.
   pub counted_most : (from to : ℕ) (machine : Seen (List Kind) Op) (list : List (Step Op)) → list ≡ steps → machine ≡ unmoved → CostAtMost objects place_of machine list from to → StepsCostAtMost (drill_scan n) from to
   counted_most from to machine list list_is machine_is cost =
       let b = subst (λ (m : Seen (List Kind) Op). CostAtMost objects place_of m steps from to) machine_is (subst (λ (w : List (Step Op)). CostAtMost objects place_of machine w from to) list_is cost) in

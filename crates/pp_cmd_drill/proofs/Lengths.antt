@@ -33,5 +33,6 @@ length_at (suc p) zero h low =
     let f = pairs_length p in omega arith
 length_at q (suc r) h low = let e = odd_length q (2 * q + 1) in omega arith
 
+-- The run of n transactions has 17 steps for each pair and 11 for a transaction that is left over, less 1.
 pub drill_length : (n : ℕ) → 1 ≤ n → length (drill_steps n) ≡ 17 * (n / 2) + 11 * (n % 2) - 1
 drill_length n low = length_at (n / 2) (n % 2) (omega arith) (omega arith)

@@ -18,6 +18,7 @@ pulls_at : (p a : ℕ) → 1 ≤ p → Pull (name_of a) (id_of (2 * p - 1) 2) �
 pulls_at zero a h = absurd (omega arith)
 pulls_at (suc q) a h = let e : 2 * suc q - 1 ≡ 2 * q + 1 = omega arith in ap (λ (k : ℕ). Pull (name_of a) (id_of k 2) ∷ []) e
 
+-- After at least one pair, appending a's pull of the last write appends all pulls of a.
 pub one_pull : (p a : ℕ) (old new : List (StepOf Op)) (step : Step Op) → 1 ≤ p → step ≡ Pull (name_of a) (id_of (2 * p - 1) 2) → Adds old new (step ∷ []) → Adds old new (pulls p a)
 one_pull p a old new step h is adds = adds_as old new (step ∷ []) (pulls p a) adds (ap (λ (s : Step Op). s ∷ []) is ∙ pulls_at p a h)
 
@@ -25,6 +26,7 @@ one_pull p a old new step h is adds = adds_as old new (step ∷ []) (pulls p a) 
 pub one_more_pair : (old new : List (StepOf Op)) (p : ℕ) → meanings old ≡ pairs p → Adds old new (pair p (2 * p + 1) (2 * p + 2)) → meanings new ≡ pairs (p + 1)
 one_more_pair old new p so_far next = next ∙ ap (λ (ss : List (Step Op)). ss ++ pair p (2 * p + 1) (2 * p + 2)) so_far ∙ ap pairs (sym (add-one p))
 
+-- Appending the parts of a pair in turn appends the steps of the pair.
 pub pair_added : (p a b : ℕ) (old l1 l2 l3 l4 new : List (StepOf Op)) (x y : Step Op) (s3 s4 s5 : List (Step Op)) → a ≡ 2 * p + 1 → b ≡ 2 * p + 2
     → x ≡ Begin (name_of a) first_thread None → y ≡ Begin (name_of b) second_thread None → s3 ≡ first_apps p a → s4 ≡ second_apps b → s5 ≡ endings a b
     → Adds old l1 (x ∷ y ∷ []) → Adds l1 l2 (pulls p a) → Adds l2 l3 s3 → Adds l3 l4 s4 → Adds l4 new s5

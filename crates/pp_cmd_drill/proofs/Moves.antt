@@ -16,11 +16,13 @@ pub each_join : {A : Type 0} (P : A → Type 0) (xs ys : List A) → Each P xs �
 each_join P [] ys h k = k
 each_join P (x ∷ xs) ys h k = (h.0, each_join P xs ys h.1 k)
 
+-- If each element of a list has a property, an element that is in the list has it.
 pub each_in : {A : Type 0} (P : A → Type 0) (xs : List A) (x : A) → Each P xs → In x xs → P x
 each_in P [] x h i = absurd i
 each_in P (y ∷ ys) x h (inl e) = subst P (sym e) h.0
 each_in P (y ∷ ys) x h (inr i) = each_in P ys x h.1 i
 
+-- If the first property implies the second, and each element of a list has the first, each has the second.
 pub each_as : {A : Type 0} (P Q : A → Type 0) (xs : List A) → ((x : A) → P x → Q x) → Each P xs → Each Q xs
 each_as P Q [] f h = tt
 each_as P Q (x ∷ xs) f h = (f x h.0, each_as P Q xs f h.1)
@@ -64,9 +66,11 @@ abbrev pub MayCommit : {Op : Type 0} → List (SharedEntry Op) → LocalEntry Op
 MayCommit {Op} G e = (is_own e.mark ≡ true → e.mark ≡ Pushed) × (e.mark ≡ Pulled → (g : SharedEntry Op) × In g G × (g.id ≡ e.id) × (g.committed ≡ true))
 
 module _ {Op State : Type 0} (O : Object Op State) where
+  -- No steps lead from a configuration to itself.
   pub nothing_more : (c : Config Op) → LeadsTo O c [] c
   nothing_more c = record { runs = tt; ends = refl }
 
+  -- If a step meets its criteria in c and leads to d, and further steps lead from d to e, all lead from c to e.
   pub one_more : (c d e : Config Op) (s : Step Op) (ss : List (Step Op)) → Meets O c s → then c s ≡ d → LeadsTo O d ss e → LeadsTo O c (s ∷ ss) e
   one_more c d e s ss f t l =
       record {
@@ -74,6 +78,7 @@ module _ {Op State : Type 0} (O : Object Op State) where
         ends = ap (λ (z : Config Op). after_from z ss) t ∙ l.ends;
       }
 
+  -- If some steps lead from c to d and others from d to e, the first and then the others lead from c to e.
   pub in_turn : (c d e : Config Op) (ss ts : List (Step Op)) → LeadsTo O c ss d → LeadsTo O d ts e → LeadsTo O c (ss ++ ts) e
   in_turn c d e [] ts l m =
       record {
@@ -92,6 +97,7 @@ module _ {Op State : Type 0} (O : Object Op State) where
   allowed_both s [] k h j = j
   allowed_both s (x ∷ l) k h j = (h.0, allowed_both (O.next s x) l k h.1 j)
 
+  -- If a list leads to a state and further operations are allowed from it, both in turn are allowed and lead on from it.
   pub longer : (l k : List Op) (s : State) → Log O l s → AllowedFrom O s k → Log O (l ++ k) (state_from O s k)
   longer l k s h a =
       record {
@@ -154,6 +160,7 @@ module _ {Op State : Type 0} (O : Object Op State) where
 
 -- a step of t, which is open among others
 module _ {Op State : Type 0} (O : Object Op State) (ns : List Name) (is : List ℕ) (t p : Name) (l r : List (Tx Op)) (D : List (CommittedTx Op)) (first : Others t l) (last : Others t r) where
+  -- An APP of a fresh id adds an unpushed entry to the local log of t, if the operation is allowed in the view of t.
   pub app_step : (seen L : List (LocalEntry Op)) (G : List (SharedEntry Op)) (i : ℕ) (op : Op) (s : State) (ss : List (Step Op)) (e : Config Op) → (In i is → ⊥) → Log O (local_ops seen) s → AllowedFrom O s (local_ops L ++ op ∷ []) →
       LeadsTo O (conf ns (i ∷ is) (l ++ open_tx t p (seen ++ (L ++ own_entry t Unpushed i op ∷ [])) ∷ r) G D) ss e →
       LeadsTo O (conf ns is (l ++ open_tx t p (seen ++ L) ∷ r) G D) (App t i op ∷ ss) e
@@ -166,6 +173,7 @@ module _ {Op State : Type 0} (O : Object Op State) (ns : List Name) (is : List �
       (on_at O t p (λ k. k ++ own_entry t Unpushed i op ∷ []) (seen ++ L) l r first last ∙ ap (λ (w : List (LocalEntry Op)). l ++ open_tx t p w ∷ r) (append_assoc seen L (own_entry t Unpushed i op ∷ []))))
       h
 
+  -- A PUSH marks an entry of t pushed and adds it to the shared log, if it is allowed and may move left past others' uncommitted ones.
   pub push_step : (seen done rest : List (LocalEntry Op)) (G new : List (SharedEntry Op)) (i : ℕ) (op : Op) (s : State) (ss : List (Step Op)) (e : Config Op) →
       Apart i seen → Apart i done → Apart i rest → Settled seen → Settled done → Each (λ g. g.committed ≡ true) G → Each (λ u. u.owner ≢ t → Swaps O u.op op) new →
       Log O (shared_ops G) s → AllowedFrom O s (shared_ops new ++ op ∷ []) →
@@ -198,6 +206,7 @@ module _ {Op State : Type 0} (O : Object Op State) (ns : List Name) (is : List �
       ∙ ap (λ (w : List (SharedEntry Op)). conf ns is (l ++ open_tx t p (seen ++ (done ++ own_entry t Pushed i op ∷ rest)) ∷ r) w D) (append_assoc G new (shared_entry t false i op ∷ [])))
       h
 
+  -- A PULL by t, with an empty local log, of another's entry whose operation is allowed adds it to the local log.
   pub pull_step : (G : List (SharedEntry Op)) (g : SharedEntry Op) (ss : List (Step Op)) (e : Config Op) → of_other t g.id G ≡ Some g → Allowed O (g.op ∷ []) →
       LeadsTo O (conf ns is (l ++ open_tx t p (as_pulled g ∷ []) ∷ r) G D) ss e → LeadsTo O (conf ns is (l ++ open_tx t p [] ∷ r) G D) (Pull t g.id ∷ ss) e
   pull_step G g ss e found a h =
@@ -208,6 +217,7 @@ module _ {Op State : Type 0} (O : Object Op State) (ns : List Name) (is : List �
       ∙ ap (λ (xs : List (Tx Op)). conf ns is xs G D) (on_at O t p (λ k. k ++ as_pulled g ∷ []) [] l r first last))
       h
 
+  -- A CMT of t commits its operations and closes it, if each entry of its local log may be committed.
   pub cmt_step : (L : List (LocalEntry Op)) (items : List (Item Op)) (G H : List (SharedEntry Op)) (ss : List (Step Op)) (e : Config Op) → Each (MayCommit G) L → own_items L ≡ items → commit_all t G ≡ H →
       LeadsTo O (conf ns is (l ++ r) H (D ++ record { name = t; entries = items } ∷ [])) ss e → LeadsTo O (conf ns is (l ++ open_tx t p L ∷ r) G D) (Cmt t ∷ ss) e
   cmt_step L items G H ss e may own all h =
@@ -221,6 +231,7 @@ module _ {Op State : Type 0} (O : Object Op State) (ns : List Name) (is : List �
       ∙ ap (λ (w : List (Item Op)). conf ns is (l ++ r) H (D ++ record { name = t; entries = w } ∷ [])) own)
       h
 
+-- A BEGIN of a new name on a free thread opens a transaction with an empty local log.
 pub begin_step : {Op State : Type 0} (O : Object Op State) (ns : List Name) (is : List ℕ) (xs : List (Tx Op)) (G : List (SharedEntry Op)) (D : List (CommittedTx Op)) (t p : Name) (ss : List (Step Op)) (e : Config Op) →
     (In t ns → ⊥) → ((x : Tx Op) → In x xs → x.thread ≢ p) →
     LeadsTo O (conf (t ∷ ns) is (xs ++ open_tx t p [] ∷ []) G D) ss e → LeadsTo O (conf ns is xs G D) (Begin t p None ∷ ss) e

@@ -22,15 +22,19 @@ use Rattle.pp_cmd_drill.proofs.Acts.{first_allowed, both_allowed, value_is, adds
 abbrev pub Under : ℕ → List ℕ → Type 0
 Under n is = Each (λ i. i < n) is
 
+-- If all ids are below n, then n is none of them.
 pub fresh : (n : ℕ) (is : List ℕ) → Under n is → In n is → ⊥
 fresh n is h j = let k = each_in (λ (i : ℕ). i < n) is n h j in omega arith
 
+-- If all ids are below n and n is below m, n and all of them are below m.
 pub under_next : (n m : ℕ) (is : List ℕ) → Under n is → n < m → Under m (n ∷ is)
 under_next n m is h k = (k, each_as (λ i. i < n) (λ i. i < m) is (λ i j. omega arith) h)
 
+-- Numbers that differ are not equal for the test.
 pub not_eqb : (i j : ℕ) → i ≢ j → eqb i j ≡ false
 not_eqb i j h = elim (eqb_tells i j) [ inl r ↦ absurd (h r.1) | inr r ↦ r.0 ]
 
+-- Names that differ are not equal for the test.
 pub not_name : (t u : Name) → t ≢ u → (t =ⁿ u) ≡ false
 not_name t u h = elim (names_tell t u) [ inl r ↦ absurd (h r.1) | inr r ↦ r.0 ]
 
@@ -49,6 +53,7 @@ pub record View (a p : ℕ) (G : List (SharedEntry Op)) (seen : List (LocalEntry
   pub may : Each (MayCommit G) seen
   pub none : own_items seen ≡ []
 
+-- If all entries of a shared log are committed, committing those of a transaction changes nothing.
 pub still : (t : Name) (G : List (SharedEntry Op)) → AllCommitted G → commit_all t G ≡ G
 still t [] h = refl
 still t (g ∷ G) h =
@@ -59,6 +64,7 @@ still t (g ∷ G) h =
     same true e = e
     same false e = refl
 
+-- If each entry may be committed with a shared log, each may be with a longer one.
 pub may_still : (G H : List (SharedEntry Op)) (l : List (LocalEntry Op)) → Each (MayCommit G) l → Each (MayCommit (G ++ H)) l
 may_still G H l h = each_as (MayCommit G) (MayCommit (G ++ H)) l (λ e k. (k.0, λ m. let r = k.1 m in (r.0, in_left r.0 G H r.1, r.2, r.3))) h
 
@@ -156,6 +162,7 @@ module _ (p x a b : ℕ) (ns : List Name) (is : List ℕ) (G : List (SharedEntry
       push_step drill_objects ns is (name_of b) second_thread (open_tx (name_of a) first_thread (seen ++ A) ∷ []) [] D (not_a, tt) tt [] done rest G new (id_of b i) op (states_at p x) ss e
       tt f g tt k all swap log allowed l
 
+  -- The six pushes of a pair lead from two transactions with nothing pushed to the same with all pushed; more steps lead on.
   pub pushes_lead : (ss : List (Step Op)) (e : Config Op) →
       LeadsTo drill_objects (both_open (own_first p a Pushed Pushed Pushed Pushed) (own_second b Pushed Pushed) (shared_both p a b false false)) ss e →
       LeadsTo drill_objects (both_open (own_first p a Unpushed Unpushed Unpushed Unpushed) (own_second b Unpushed Unpushed) []) (push a 1 ∷ push b 1 ∷ push a 2 ∷ push b 2 ∷ push a 3 ∷ push a 4 ∷ ss) e
@@ -192,6 +199,7 @@ module _ (p x a b : ℕ) (ns : List Name) (is : List ℕ) (G : List (SharedEntry
   first_commits : commit_all (name_of a) (G ++ shared_both p a b false true) ≡ G ++ shared_both p a b true true
   first_commits = map-append _ G (shared_both p a b false true) ∙ ap (λ (w : List (SharedEntry Op)). w ++ commit_all (name_of a) (shared_both p a b false true)) (still (name_of a) G all) ∙ rw (not_b, eq-names (name_of a) (name_of a) refl) refl
 
+  -- The two commits of a pair, both pushed, lead to no open transaction and all its entries committed; more steps lead on.
   pub commits_lead : (ss : List (Step Op)) (e : Config Op) →
       LeadsTo drill_objects (conf ns is [] (G ++ shared_both p a b true true) ((D ++ done_second b ∷ []) ++ done_first p a ∷ [])) ss e →
       LeadsTo drill_objects (both_open (own_first p a Pushed Pushed Pushed Pushed) (own_second b Pushed Pushed) (shared_both p a b false false)) (Cmt (name_of b) ∷ Cmt (name_of a) ∷ ss) e
@@ -224,6 +232,7 @@ module _ (p x a : ℕ) (ns : List Name) (is : List ℕ) (G : List (SharedEntry O
       push_step drill_objects ns is (name_of a) first_thread [] [] D tt tt seen done rest G new (id_of a i) op (states_at p x) ss e
       (view.apart i h) f g view.settled k all swap log allowed l
 
+  -- The four pushes of a transaction alone lead from nothing pushed to all pushed; more steps lead on.
   pub unpaired_pushes_lead : (ss : List (Step Op)) (e : Config Op) →
       LeadsTo drill_objects (one_open (own_first p a Pushed Pushed Pushed Pushed) (shared_first p a false)) ss e →
       LeadsTo drill_objects (one_open (own_first p a Unpushed Unpushed Unpushed Unpushed) []) (push a 1 ∷ push a 2 ∷ push a 3 ∷ push a 4 ∷ ss) e
@@ -248,6 +257,7 @@ module _ (p x a : ℕ) (ns : List Name) (is : List ℕ) (G : List (SharedEntry O
   alone_commits : commit_all (name_of a) (G ++ shared_first p a false) ≡ G ++ shared_first p a true
   alone_commits = map-append _ G (shared_first p a false) ∙ ap (λ (w : List (SharedEntry Op)). w ++ commit_all (name_of a) (shared_first p a false)) (still (name_of a) G all) ∙ rw (eq-names (name_of a) (name_of a) refl) refl
 
+  -- The commit of a transaction alone, all pushed, leads to no open transaction and its entries committed; more steps lead on.
   pub unpaired_commit_leads : (ss : List (Step Op)) (e : Config Op) →
       LeadsTo drill_objects (conf ns is [] (G ++ shared_first p a true) (D ++ done_first p a ∷ [])) ss e →
       LeadsTo drill_objects (one_open (own_first p a Pushed Pushed Pushed Pushed) (shared_first p a false)) (Cmt (name_of a) ∷ ss) e

@@ -97,6 +97,7 @@ joined-append (d ∷ D) E = ap (λ (w : List (Item Op)). d.entries ++ w) (joined
 serial_more : (D E : List (CommittedTx Op)) → serial_ops D ++ serial_ops E ≡ serial_ops (D ++ E)
 serial_more D E = sym (map-append (λ (p : Item Op). p.op) (serial_items D) (serial_items E)) ∙ ap (λ (w : List (Item Op)). ops w) (sym (joined-append D E))
 
+-- The committed transactions of p pairs, one after another, lead to p in m, the sum to 2 p in c, and the empty s.
 pub serial_after : (p : ℕ) → Log drill_objects (serial_ops (done_after p)) (states_at p (sum_to (2 * p)))
 serial_after zero = record { allowed = tt; is = sym at_start }
 serial_after (suc p) =
@@ -111,6 +112,7 @@ serial_after (suc p) =
     let s = after_order p (2 * p) a b a_is b_is ∙ ap (λ (n : ℕ). states_at (suc p) (sum_to n)) (let f : b ≡ 2 * suc p = omega arith in f) in
     subst (λ z. Log drill_objects z (states_at (suc p) (sum_to (2 * suc p)))) e (record { allowed = l.allowed; is = l.is ∙ s })
 
+-- After p pairs, 2 p transactions are committed.
 pub count_after : (p : ℕ) → length (done_after p) ≡ 2 * p
 count_after zero = refl
 count_after (suc p) =
@@ -215,6 +217,7 @@ pair_leads p n =
     (commits_lead p (sum_to (2 * p)) a b names ids G D s.seen s.view (all_after p) (log_after p) apart [] e
     (nothing_more drill_objects e)))))))))
 
+-- Up to 20,000 transactions, the steps of p pairs lead from the first configuration to that after p pairs.
 pub pairs_lead : (p : ℕ) → 2 * p ≤ 20000 → LeadsTo drill_objects (first None) (pairs p) (after_pairs p)
 pairs_lead zero h = nothing_more drill_objects (first None)
 pairs_lead (suc p) h = in_turn drill_objects (first None) (after_pairs p) (after_pairs (suc p)) (pairs p) (pair p (2 * p + 1) (2 * p + 2)) (pairs_lead p (omega arith)) (pair_leads p (omega arith))
@@ -224,6 +227,7 @@ abbrev pub after_unpaired : ℕ → Config Op
 after_unpaired p =
     conf (name_of (2 * p + 1) ∷ names_after p) (ids_first (2 * p + 1) (ids_after p)) [] (shared_after p ++ shared_first p (2 * p + 1) true) (done_after p ++ done_first p (2 * p + 1) ∷ [])
 
+-- Up to 20,000 transactions, the steps of one alone lead on from the configuration after p pairs.
 pub unpaired_leads : (p : ℕ) → 2 * p + 1 ≤ 20000 → LeadsTo drill_objects (after_pairs p) (unpaired p (2 * p + 1)) (after_unpaired p)
 unpaired_leads p n =
     let a = 2 * p + 1 in
@@ -246,6 +250,7 @@ unpaired_leads p n =
     (unpaired_commit_leads p (sum_to (2 * p)) a names ids G D s.seen s.view (all_after p) (log_after p) [] e
     (nothing_more drill_objects e))))))
 
+-- The committed transactions of p pairs and one alone lead to p + 1 in m, the sum to 2 p + 1 in c, and the empty s.
 pub serial_unpaired : (p : ℕ) → Log drill_objects (serial_ops (done_after p ++ done_first p (2 * p + 1) ∷ [])) (states_at (suc p) (sum_to (2 * p + 1)))
 serial_unpaired p =
     let a = 2 * p + 1 in

@@ -37,9 +37,11 @@ lined n = numbered 1 (drill_steps n)
 abbrev pub scanned : ℕ → InputScan
 scanned n = record { header = Some head; records = plain (lined n); fault = None }
 
+-- The numbered steps of the run, without their lines, are its steps.
 pub same_steps : (n : ℕ) → bare (lined n) ≡ drill_steps n
 same_steps n = bare_numbered 1 (drill_steps n)
 
+-- The run has as many numbered steps as steps.
 pub same_length : (n : ℕ) → length (lined n) ≡ length (drill_steps n)
 same_length n = sym (length_bare (lined n)) ∙ ap (λ (w : List (Step Op)). length w) (same_steps n)
 
@@ -55,12 +57,15 @@ begun_plain i (s ∷ ss) =
     begun_by (is_begin s) (record { line = suc i; what = Plain s }) (filter (λ (r : Lined (RunRecord Op)). is_begin_record r.what) rest) (begins ss) (begun_plain (suc i) ss)
 
 module _ (n : ℕ) (low : 1 ≤ n) (high : n ≤ 20_000) where
+  -- For n from 1 to 20,000, the scan of the text has the header, the steps as records, and no fault.
   pub scan_is : drill_scan n ≡ scanned n
   scan_is = text_scan drill_catalog None (drill_steps n) (drill_reads n low high).statable
 
+  -- For n from 1 to 20,000, n of the records begin a transaction.
   pub begun : scans.begins (plain (lined n)) ≡ n
   begun = begun_plain 1 (drill_steps n) ∙ begins_are (drill_steps n) ∙ (drill_reads n low high).begun
 
+  -- For n up to 20,000, the run has at most 200,000 steps.
   pub few : length (drill_steps n) ≤ 200_000
   few = (drill_reads n low high).statable.few
 
@@ -71,6 +76,7 @@ module _ (n : ℕ) (low : 1 ≤ n) (high : n ≤ 20_000) where
   run_is : IsRun drill_objects (translation_of drill_header) None (plain (lined n)) (lined n)
   run_is = ((rules_law drill_objects).run place_of drill_kinds None (lined n) (lined n) refl).1 (ends_whole drill_objects (first None) (lined n) hold)
 
+  -- What is so without a start and for the steps of the run is so for every run of the input.
   pub of_run : (P : Option (Start Op) → List (Step Op) → Type 0) → P None (drill_steps n) → OfRun (drill_scan n).header (drill_scan n).records P
   of_run P p =
       subst (λ (sc : InputScan). OfRun sc.header sc.records P) (sym scan_is) (λ run is.
@@ -78,5 +84,6 @@ module _ (n : ℕ) (low : 1 ≤ n) (high : n ≤ 20_000) where
       let steps : drill_steps n ≡ bare run = sym (same_steps n) ∙ ap (λ (w : LinedSteps Op). bare w) same in
       subst (λ (w : List (Step Op)). P None w) steps p)
 
+  -- Every run of the input has the steps of the definition.
   pub run_of : (r : HasRun (drill_scan n)) → bare r.run ≡ drill_steps n
   run_of r = of_run (λ start steps. steps ≡ drill_steps n) refl r.run (subst (λ (o : Option (Lined Header)). IsRunBehind o (drill_scan n).records r.run) (sym r.first_line) r.steps)

@@ -31,6 +31,7 @@ one_entry v h =
     ∙ entries-insert int_cmp_total start (pos 0) (pos v)
     ∙ ap (λ (l : List (ℤ × ℤ)). put int_cmp (pos 0) (pos v) l) no_entries
 
+-- With v at 0 in m, c at x and an empty s, the state lines show v, x and nothing, if v is at least 1.
 pub shows_at : (v x : ℕ) → 1 ≤ v → Shows (states_at v x) v x
 shows_at v x h =
     record {

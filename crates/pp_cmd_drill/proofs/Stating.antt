@@ -41,6 +41,7 @@ digit_bytes k h =
     (λ n ds j e. list_all-append is_name_byte ds ((48 + n % 10) ∷ []) ∙ ap (λ (b : Bool). b && (is_name_byte (48 + n % 10) && true)) e ∙ ap (λ (b : Bool). b && true) (digit_byte (n % 10) (omega arith)))
     k h
 
+-- The names of the transactions up to 20,000 are names.
 pub is_name : (k : ℕ) → k ≤ 20000 → IsName (name_of k)
 is_name k h =
     record {
@@ -95,9 +96,11 @@ ending_stated a h =
     let i : (j : ℕ) → j ≤ 4 → IsId (id_of a j) = λ j. is_id a j h in
     ((n, i 1 (omega arith)), ((n, i 2 (omega arith)), ((n, i 3 (omega arith)), ((n, i 4 (omega arith)), (n, tt)))))
 
+-- The name of the first thread is a name.
 pub first_is_name : IsName first_thread
 first_is_name = record { some = omega arith; few = omega arith; bytes = refl }
 
+-- The name of the second thread is a name.
 pub second_is_name : IsName second_thread
 second_is_name = record { some = omega arith; few = omega arith; bytes = refl }
 
@@ -129,6 +132,7 @@ left_stated : (r p : ℕ) → 2 * p + r ≤ 20000 → AreStatable (left_over r p
 left_stated zero p h = tt
 left_stated (suc r) p h = unpaired_stated p (2 * p + 1) refl (omega arith)
 
+-- For n up to 20,000, each step of the run can be stated.
 pub steps_stated : (n : ℕ) → n ≤ 20000 → AreStatable (drill_steps n)
 steps_stated n high =
     let q = n / 2 in
@@ -140,6 +144,7 @@ abbrev pub begins : List (Step Op) → ℕ
 begins [] = 0
 begins (s ∷ ss) = cond (is_begin s) (1 + begins ss) (begins ss)
 
+-- The two counts of the steps that begin a transaction are equal.
 pub begins_are : (ss : List (Step Op)) → begins ss ≡ count_by is_begin ss
 begins_are ss = is_count_by begins is_begin refl (λ s ss. refl) ss
 
@@ -193,12 +198,15 @@ distinct name i j e f = let g : Some i ≡ Some j = sym (found_at i name e) ∙ 
 short_name : (b : ℕ) → is_name_byte b ≡ true → IsName (b ∷ [])
 short_name b h = record { some = omega arith; few = omega arith; bytes = ap (λ (x : Bool). x && true) h }
 
+-- The name m is a name.
 pub m_is_name : IsName (codes "m")
 m_is_name = short_name 109 refl
 
+-- The name c is a name.
 pub c_is_name : IsName (codes "c")
 c_is_name = short_name 99 refl
 
+-- The name s is a name.
 pub s_is_name : IsName (codes "s")
 s_is_name = short_name 115 refl
 
@@ -222,6 +230,7 @@ read_in_turn (s ∷ ss) h =
     ap (λ (r : Result (RunRecord Op) RecordFault). r ∷ map (record_of drill_header) (map (step_bytes drill_catalog) ss)) (steps.reads_back drill_header s refl is_catalog h.0)
     ∙ ap (λ (rs : List (Result (RunRecord Op) RecordFault)). Ok (Plain s) ∷ rs) (read_in_turn ss h.1)
 
+-- For n from 1 to 20,000, the text is read back as the steps of the run, within all limits.
 pub drill_reads : (n : ℕ) → 1 ≤ n → n ≤ 20000 → IsReadBack n
 drill_reads n low high =
     let h = drill_statable n low high in

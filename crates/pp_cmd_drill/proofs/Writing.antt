@@ -29,9 +29,11 @@ written (Cmt t ∷ ss) h = (tt, written ss h.1)
 written (Quit t ∷ ss) h = (tt, written ss h.1)
 written (Note t ∷ ss) h = (tt, written ss h.1)
 
+-- For n up to 20,000, each step of the run can be written with its catalog.
 pub writable : (n : ℕ) (catalog : Objects) (steps : List (Step Op)) → n ≤ 20000 → catalog ≡ drill_catalog → steps ≡ drill_steps n → Each (IsWritable catalog) steps
 writable n catalog steps few over is = subst (λ (c : Objects). Each (IsWritable c) steps) (sym over) (written steps (subst AreStatable (sym is) (steps_stated n few)))
 
+-- The header's text and then the lines of the steps are the text of the run.
 pub whole : (n : ℕ) (catalog : Objects) (steps : List (Step Op)) (header text : List ℕ) → catalog ≡ drill_catalog → steps ≡ drill_steps n → header ≡ run_text catalog None []
     → text ≡ header ++ joined_lines (map (step_bytes catalog) steps) → text ≡ drill_text n
 whole n catalog steps header text over is first lines =
