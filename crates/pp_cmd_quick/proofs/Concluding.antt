@@ -40,19 +40,23 @@ use Rattle.pp_cmd_quick.specs.declared.decider.RejectedLine.{RejectedLine}
 use Rattle.pp_cmd_quick.specs.DeciderLaws.{all_hold, boosted_fault}
 use Rattle.pp_cmd_quick.proofs.Readers.{committed_are}
 
+-- A number that is at most 256 above one of at most 4,294,967,294 is below 4,294,967,552.
 pub few_serial : (a b k : ℕ) → a ≡ b → b ≤ k + 256 → k ≤ 4_294_967_294 → a < 4_294_967_552
 few_serial a b k x y z = omega (arith, x, y, z)
 
 -- ---- what the summary as a judge says
 
+-- If the summary as a judge found the start and the records good, they are good with this Quick.
 pub good_of : (sc : InputScan) (tally : Tally) (judge : Decider) → findings.AreGood quick_judging sc tally judge → AreGood sc tally judge.quick
 good_of sc tally judge g = record { follows = g.follows; good = g.good }
 
+-- If the summary as a judge rejected the records, the start or a record fails on this line.
 pub failed_of : (sc : InputScan) (tally : Tally) (failed : RejectedLine) → findings.AreRejected quick_judging sc tally failed → HasFailed sc tally failed.line
 failed_of sc tally failed b = record { follows = b.follows; style = b.bad.0; fails = b.bad.1 }
 
 -- ---- what is told
 
+-- The text of the fault of an input is its output, with status input fault.
 pub faulty_told : (bytes : List ℕ) (line : ℕ) (cause : Cause) (text : List ℕ) → quick_fault (scan bytes) ≡ Some (line, cause) → text ≡ fault_text line cause → IsQuick bytes statuses.InputFault text
 faulty_told bytes line cause text is text_is = (
   Faulty line cause,
@@ -64,12 +68,14 @@ faulty_told bytes line cause text is text_is = (
 behind_none : (sc : InputScan) (header : Lined Header) (decision : Decision) → quick_fault sc ≡ None → sc.header ≡ Some header → IsDecisionOf header sc.records decision → IsDecision sc decision
 behind_none sc header decision none there is = subst (λ (o : Option (ℕ × Cause)). IsDecisionBehind o sc decision) (sym none) (header, there, is)
 
+-- If the start or a record fails on a line, the text that rejects this line is the output.
 pub rejected_told : (bytes : List ℕ) (tally : Tally) (line : ℕ) (text : List ℕ) → HasFailed (scan bytes) tally line → text ≡ quick_rejected_text line → IsQuick bytes statuses.Rejected text
 rejected_told bytes tally line text c text_is =
     let sc : InputScan = scan bytes in
     let none : quick_fault sc ≡ None = boosted_fault sc (headed c.follows.at tally.header) c.follows.header c.style ∙ c.follows.sound in
     (Rejects line, behind_none sc (headed c.follows.at tally.header) (Rejects line) none c.follows.header (inr (line, c.fails, refl)), (refl, text_is))
 
+-- If the start and the records are good, a text that accepts them is the output.
 pub accepted_told : (bytes : List ℕ) (tally : Tally) (quick : Held (List Kind) Op) (text : List ℕ) → AreGood (scan bytes) tally quick
     → IsDecisionTold (scan bytes).header (acceptance tally.header (scan bytes).records) statuses.Accepted text → IsQuick bytes statuses.Accepted text
 accepted_told bytes tally quick text c told =
@@ -137,9 +143,11 @@ module _ (sc : InputScan) (tally : Tally) (quick : Held (List Kind) Op) (c : Are
   most_of old now new (Some header) rs most cost count = λ tried k run is.
       both_most old now new (tried_most header.what tried) (serial_length (start_of header.what) (bare run)) (length (serial_ops quick.brief.done)) (most tried k) cost (count run is)
 
+  -- Within the upper bound of the records, and up by at most the length of the serial run, the counter is within that of `quick`.
   pub serial_most : (old now new : ℕ) → RecordsCostAtMost sc old now → new ≤ now + length (serial_ops quick.brief.done) → QuickCostsAtMost sc old new
   serial_most old now new most cost = most_of old now new sc.header sc.records most cost serial_count
 
+  -- If the counter rose by one for each operation and by the length of the serial run, it meets the lower bound of an accepted run.
   pub serial_least : (old now new : ℕ) → old + count_ops (bare sc.records) ≤ now → new ≡ now + length (serial_ops quick.brief.done) → QuickCostsAtLeast statuses.Accepted sc old new
   serial_least old now new least cost run is =
       both_least old now new (count_ops (bare sc.records)) (serial_length (start_behind sc.header) (bare run)) (length (serial_ops quick.brief.done)) least cost (serial_count run is)
@@ -152,5 +160,6 @@ no_serial_of : (old new : ℕ) (o : Option (Lined Header)) (rs : Records (RunRec
 no_serial_of old new None rs most = λ run is. more_room old new 0 (serial_length None (bare run)) most
 no_serial_of old new (Some header) rs most = λ tried k run is. more_room old new (tried_most header.what tried) (serial_length (start_of header.what) (bare run)) (most tried k)
 
+-- If the counter is within the upper bound of the records, it is within that of `quick`.
 pub no_serial : (sc : InputScan) (old new : ℕ) → RecordsCostAtMost sc old new → QuickCostsAtMost sc old new
 no_serial sc old new most = no_serial_of old new sc.header sc.records most

@@ -105,6 +105,7 @@ one_told header (Accepts records committed final) s s' t t' a b =
     (a.0 ∙ sym b.0, a.1.2 ∙ ap (λ (h : Lined Header). quick_accepted_text h.what.catalog records (map committed_tx committed) final) same ∙ sym b.1.2)
 one_told header (Rejects line) s s' t t' a b = (a.0 ∙ sym b.0, a.1 ∙ sym b.1)
 
+-- An input has one status and one text at most.
 pub one_quick : (bytes : List ℕ) (s s' : Status) (t t' : List ℕ) → IsQuick bytes s t → IsQuick bytes s' t' → (s ≡ s') × (t ≡ t')
 one_quick bytes s s' t t' x y =
     let same : x.0 ≡ y.0 = one_decision (scan bytes) x.0 y.0 x.1 y.1 in
@@ -134,6 +135,7 @@ agrees sc header report d there style (fault, is, told) decision = by fault is t
     by None (inl k) t = absurd (let e : None ≡ Some (k.0, TooManySteps) = k.2 in cc)
     by None (inr k) t = without (sym k.1) t
 
+-- An input has one output at most, and its decision is the verdict of all its steps; of a boosted run it is what `certify` reports.
 pub decided : DecisionLaw
 decided =
     record {

@@ -57,10 +57,12 @@ no_parts [] z x e = absurd (cc)
 no_parts (y ∷ b) z x e = absurd (cc)
 
 module _ (line : ℕ) (h : Header) where
+  -- If the header is not boosted, that is the fault of its line.
   pub not_boosted : is_boosted h.style ≡ false → quick_fault (scan_of (headed line h) []) ≡ Some (line, NotBoosted)
   not_boosted is = ap (λ (b : Bool). let o : Option (ℕ × Cause) = cond b None (Some (line, NotBoosted)) in o) is
 
   module _ (boosted : is_boosted h.style ≡ true) where
+    -- A boosted header without records is good if its start meets its criteria.
     pub begun_good : (quick : Held (List Kind) Op) → StartsQuick h true quick → quick_judging.IsGood (headed line h) [] (record { quick = quick })
     begun_good quick s =
         let kinds : List Kind = kinds_of h.catalog in
@@ -72,18 +74,23 @@ module _ (line : ℕ) (h : Header) where
         } in
         subst (λ (q : Held (List Kind) Op). AreGoodBehind h [] q) (sym s.1) good
 
+    -- A boosted header without records is rejected on its line if its start does not meet its criteria.
     pub begun_bad : (quick : Held (List Kind) Op) → StartsQuick h false quick → quick_judging.IsRejectedBy (headed line h) [] (record { line = line })
     begun_bad quick s = (boosted_is h.style boosted, inl (s, refl))
 
+  -- A counter that rises by at most what the start costs at most is within the upper bound of a header without records.
   pub begun_twice : (old new : ℕ) → new ≤ old + start_at_most (start_of h) → RecordsCostAtMost (scan_of (headed line h) []) old new
   begun_twice old new cost tried k = subst (λ (l : List (RunRecord Op)). new ≤ old + tried_most h l) (sym k) (with_none old new (start_at_most (start_of h)) cost)
 
+  -- A counter that rises by at most the length of the start is within the upper bound of a header without records.
   pub begun_most : (old new : ℕ) → new ≤ old + start_length (start_of h) → RecordsCostAtMost (scan_of (headed line h) []) old new
   begun_most old new cost = begun_twice old new (start_twice old new (start_of h) cost)
 
+  -- A counter that does not fall meets the lower bound of an accepted header without records.
   pub begun_good_least : (old new : ℕ) → old ≤ new → quick_judging.GoodAtLeast (scan_of (headed line h) []) old new
   begun_good_least old new rises = no_ops old new rises
 
+  -- Any counter meets the lower bound of a rejected header without records.
   pub begun_bad_least : (old new : ℕ) → TakenCostAtLeast (scan_of (headed line h) []) old new
   begun_bad_least old new r f = absurd (no_parts f.before f.behind r f.parts)
 
@@ -124,6 +131,7 @@ pub below_most : (h : Header) (judge : Decider) → MayTake quick_judging h judg
 below_most h judge may = let room : length may.1 + 1 < 200_001 = may.3 in omega (arith, may.2.read.count, room)
 
 module _ (h : Header) (judge : Decider) (r : RunRecord Op) (line now new : ℕ) where
+  -- If the counter rises by at most what taking a record costs at most, it is within the upper bound of the record.
   pub judges_most : new ≤ now + take_most judge.quick.brief r → CostsAtMostThere quick_judging h judge r line now new
   judges_most cost at rs c old most tried k =
       let B = first_brief h in

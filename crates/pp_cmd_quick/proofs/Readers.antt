@@ -30,6 +30,7 @@ use Rattle.pp_cmd_quick.specs.Costs.{first_brief}
 use Rattle.pp_cmd_quick.specs.Decisions.{steps_behind}
 use Rattle.pp_cmd_quick.specs.Taking.{AreGoodBehind}
 
+-- A Quick over any objects, with any start, reads records as `IsReader` says.
 pub reads : (ks : List Kind) (h : Option (Start Op)) → IsReader objects place_of ks h
 reads ks h = reader objects place_of (apart_of objects place_of SameAt objects_placed) ks h
 
@@ -37,9 +38,11 @@ reads ks h = reader objects place_of (apart_of objects place_of SameAt objects_p
 pub keeps_boosted : (header : Header) → KeepsBoosted (object_of header) place_of
 keeps_boosted header = boosted_law (object_of header) place_of (apart_of objects place_of SameAt objects_placed (kinds_of header.catalog))
 
+-- Over the objects of a header, the brief decides whether a record is good and where it leads.
 pub is_briefed : (header : Header) → IsBriefed (object_of header) place_of
 is_briefed header = briefed (object_of header) place_of (apart_of objects place_of SameAt objects_placed (kinds_of header.catalog))
 
+-- Over the objects of a header, the briefs decide a run of records.
 pub briefs_decide : (header : Header) → BriefsDecide (object_of header) place_of
 briefs_decide header = decided (object_of header) place_of (apart_of objects place_of SameAt objects_placed (kinds_of header.catalog))
 
@@ -53,12 +56,15 @@ module _ (h : Header) (rs : Records (RunRecord Op)) (quick : Held (List Kind) Op
       subst (λ (s : Style). quick.brief.done ≡ map committed_tx (attempts (start_of h) (bare (all_steps (translation place_of s ks) (start_of h) rs)))) (sym c.style)
       ((reads ks (start_of h)).committed rs quick c.read)
 
+  -- Each of the records that are good is good in the brief of those before it.
   pub good_runs : BriefRuns (object_of h) place_of (first_brief h) (bare rs)
   good_runs = subst (λ (k : List Kind). BriefRuns (rules_of objects k) place_of (first_brief h) (bare rs)) c.shape ((reads ks (start_of h)).good rs quick c.read)
 
+  -- The brief of the Quick is the one after the records.
   pub brief_is : quick.brief ≡ brief_after place_of (first_brief h) (bare rs)
   brief_is = (reads ks (start_of h)).leads rs quick c.read
 
+  -- All records that are good are tried.
   pub all_tried : AreTried (object_of h) place_of (first_brief h) (bare rs) (bare rs)
   all_tried = subst (λ (k : List Kind). AreTried (rules_of objects k) place_of (first_brief h) (bare rs) (bare rs)) c.shape ((reads ks (start_of h)).all_tried rs quick c.read)
 

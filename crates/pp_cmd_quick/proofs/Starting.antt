@@ -54,6 +54,7 @@ asked catalog (records.Depend t source) h = tt
 asked catalog (records.Publish t) h = tt
 asked catalog (records.DropSource t source) h = tt
 
+-- A record that was read may be asked of objects of the catalog's kinds.
 pub asked_record : (catalog : Objects) (shape : List Kind) (r : RunRecord Op) → shape ≡ kinds_of catalog → IsReadable catalog r → IsRecordAsked objects shape r
 asked_record catalog shape r is h = subst (λ (k : List Kind). IsRecordAsked objects k r) (sym is) (asked catalog r h)
 
@@ -70,6 +71,7 @@ module _ (header : Header) (quick : Held (List Kind) Op) (new : quick ≡ held_f
   pub is_first : quick ≡ held_first objects place_of quick.shape None
   is_first = new ∙ ap (λ (k : List Kind). held_first objects place_of k None) (sym shape_is)
 
+  -- Operations of a start that were read may be asked of a new Quick.
   pub items_asked : (items : List (Item Op)) → All (IsReadableItem header.catalog) items → All (IsItemAsked objects quick.shape) items
   items_asked items all =
       subst (λ (k : List Kind). All (IsItemAsked objects k) items) (sym shape_is)

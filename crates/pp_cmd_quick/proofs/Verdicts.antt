@@ -16,6 +16,7 @@ module _ {Op State : Type 0} (O : Object Op State) where
       judged behind zero meets = behind (λ v is. nowhere v (inr (meets, is)))
       judged behind (suc n) breaks = nowhere (Rejected i (suc n)) (inl (n, breaks, refl))
 
+  -- Steps can not be without a verdict.
   pub some_verdict : (h : Option (Start Op)) (ss : List (Step Op)) → ((v : Verdict) → IsVerdict O h ss v → ⊥) → ⊥
   some_verdict h ss nowhere = some_number (start_criteria O h) judged
     where
