@@ -6,6 +6,7 @@ use Rattle.std.proofs.lemmas.List.{append-nil, take-append-le, length-take}
 use Rattle.std.proofs.lemmas.Bool.{false_from_ne_true}
 use Rattle.pp_input.specs.Lines.{ended_behind, rest_behind, without_return}
 
+-- If the first byte 10 is at k, the bytes before it are the first line, and the other lines are those after it.
 pub ended_at : (front bytes : List ℕ) (k : ℕ) → k < length bytes → (slice_index bytes k == 10) ≡ true → ((j : ℕ) → 0 ≤ j → j < k → (slice_index bytes j == 10) ≡ true → ⊥)
     → ended_behind front bytes ≡ (front ++ take k bytes) ∷ ended_behind [] (drop (suc k) bytes)
 ended_at front [] k lt at none = absurd (omega arith)
@@ -15,6 +16,7 @@ ended_at front (b ∷ bs) (suc k) lt at none =
     let go : ended_behind (front ++ b ∷ []) bs ≡ ((front ++ b ∷ []) ++ take k bs) ∷ ended_behind [] (drop (suc k) bs) = ended_at (front ++ b ∷ []) bs k (omega arith) at (λ j l h. none (suc j) (omega arith) (omega arith)) in
     rw no (go ∙ rw append_assoc refl)
 
+-- If the first byte 10 is at k, what follows the last byte 10 is that of the bytes after k.
 pub rest_at : (front bytes : List ℕ) (k : ℕ) → k < length bytes → (slice_index bytes k == 10) ≡ true → ((j : ℕ) → 0 ≤ j → j < k → (slice_index bytes j == 10) ≡ true → ⊥)
     → rest_behind front bytes ≡ rest_behind [] (drop (suc k) bytes)
 rest_at front [] k lt at none = absurd (omega arith)
@@ -29,6 +31,7 @@ none_ended front (b ∷ bs) none =
     let no : (b == 10) ≡ false = false_from_ne_true _ (none 0 (omega arith) (omega arith)) in
     rw no (none_ended (front ++ b ∷ []) bs (λ j l h. none (suc j) (omega arith) (omega arith)))
 
+-- Without a byte 10, all bytes follow the last byte 10.
 pub all_rest : (front bytes : List ℕ) → ((j : ℕ) → 0 ≤ j → j < length bytes → (slice_index bytes j == 10) ≡ true → ⊥) → rest_behind front bytes ≡ front ++ bytes
 all_rest front [] none = sym (append-nil front)
 all_rest front (b ∷ bs) none =
@@ -40,6 +43,7 @@ pub cut_more : (whole : List (List ℕ)) (front left : List ℕ) (k : ℕ) (all 
     → whole ++ map without_return (ended_behind front left) ≡ all → (whole ++ without_return (front ++ take k left) ∷ []) ++ map without_return (ended_behind [] (drop (suc k) left)) ≡ all
 cut_more whole front left k all lt at none so_far = rw append_assoc (ap (λ ls. whole ++ map without_return ls) (sym (ended_at front left k lt at none)) ∙ so_far)
 
+-- If what is left has no byte 10, the whole lines are all lines.
 pub nothing_more : (whole : List (List ℕ)) (front left : List ℕ) (all : List (List ℕ)) → ((j : ℕ) → 0 ≤ j → j < length left → (slice_index left j == 10) ≡ true → ⊥) → whole ++ map without_return (ended_behind front left) ≡ all → whole ≡ all
 nothing_more whole front left all none so_far = sym (append-nil whole) ∙ ap (λ ls. whole ++ map without_return ls) (sym (none_ended front left none)) ∙ so_far
 

@@ -4,6 +4,7 @@ use Rattle.std.proofs.Common.{arith}
 use Rattle.std.proofs.lemmas.List.{drop-drop, take-append-drop}
 use Rattle.pp_input.specs.Memory.{most_of}
 
+-- If n bytes are taken at a position, what is left there is these bytes followed by what is left after them.
 pub given : (bytes gave : List ℕ) (at n : ℕ) → gave ≡ take n (drop at bytes) → drop at bytes ≡ gave ++ drop (at + n) bytes
 given bytes gave at n h = rw (h, ← drop-drop n at bytes) (sym (take-append-drop n (drop at bytes)))
 

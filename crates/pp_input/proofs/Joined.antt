@@ -53,6 +53,7 @@ all_kept : (lines : List (List ℕ)) → AreLines lines → map without_return l
 all_kept [] h = refl
 all_kept (l ∷ ls) h = ap (λ (line : List ℕ). line ∷ map without_return ls) h.0.kept ∙ ap (λ (rest : List (List ℕ)). l ∷ rest) (all_kept ls h.1)
 
+-- The lines of joined lines are these lines, numbered from 1.
 pub split : (lines : List (List ℕ)) → AreLines lines → numbered_lines (joined_lines lines) ≡ numbered_from 1 lines
 split lines h =
     ap (λ (ls : List (List ℕ)). numbered_from 1 (map without_return (ls ++ unended (rest (joined_lines lines))))) (all_ended lines h)
@@ -81,10 +82,12 @@ all_allowed at (l ∷ ls) h short column few bytes =
     line_allowed at to l (joined_lines ls) h.0.unbroken (omega arith) (omega arith) (omega arith) refl refl refl refl
     ∙ all_allowed to ls h.1 short.1 refl (omega arith) (omega arith)
 
+-- If lines keep to the limits, joined they pass none.
 pub allowed : (L : Limits) (lines : List (List ℕ)) → AreLines lines → AreAllowed L lines → overrun L (joined_lines lines) ≡ None
 allowed L lines h w =
     let few = w.few in let bytes = w.bytes in
     sym (start_overrun L (joined_lines lines)) ∙ all_allowed (start L) lines h w.short refl (omega arith) (omega arith)
 
+-- If lines keep to the limits, those of them that are examined when joined are all, numbered from 1.
 pub scanned : (L : Limits) (lines : List (List ℕ)) → AreLines lines → AreAllowed L lines → scanned_lines L (joined_lines lines) ≡ numbered_from 1 lines
 scanned L lines h w = ap (λ o. lines_before o (numbered_lines (joined_lines lines))) (allowed L lines h w) ∙ split lines h

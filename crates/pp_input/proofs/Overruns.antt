@@ -14,6 +14,7 @@ use Rattle.pp_input.specs.Lines.{ended, rest, ended_behind, rest_behind}
 use Rattle.pp_input.specs.Reaches.{passed, past, overrun_from, within_from, reach_from, start}
 use Rattle.pp_input.specs.Overruns.{reach_of, overrun_behind, overrun, within, line_of}
 
+-- The ended lines of two pieces are those of the first and those of the second after what the first leaves.
 pub ended_append : (front a b : List ℕ) → ended_behind front (a ++ b) ≡ ended_behind front a ++ ended_behind (rest_behind front a) b
 ended_append front [] b = refl
 ended_append front (x ∷ xs) b =
@@ -22,6 +23,7 @@ ended_append front (x ∷ xs) b =
       | false ↦ ended_append (front ++ x ∷ []) xs b
     ]
 
+-- What follows the last byte 10 of two pieces is that of the second after what the first leaves.
 pub rest_append : (front a b : List ℕ) → rest_behind front (a ++ b) ≡ rest_behind (rest_behind front a) b
 rest_append front [] b = refl
 rest_append front (x ∷ xs) b =
@@ -51,6 +53,7 @@ pub overrun_is : (L : Limits) (front bytes : List ℕ) → overrun_from (reach_o
 overrun_is L front [] = refl
 overrun_is L front (b ∷ bs) = ap (λ at. option_or (passed (reach_of L front) b) (overrun_from at bs)) (past_push L front b) ∙ ap (option_or (passed (reach_of L front) b)) (overrun_is L (front ++ b ∷ []) bs)
 
+-- From where the first bytes reach, more bytes reach to where both reach, up to the byte that passes a limit.
 pub reach_is : (L : Limits) (front bytes : List ℕ) → reach_from (reach_of L front) bytes ≡ reach_of L (front ++ within_from (reach_of L front) bytes)
 reach_is L front [] = ap (reach_of L) (sym (append-nil front))
 reach_is L front (b ∷ bs) =
@@ -63,6 +66,7 @@ none_first : {A : Type 0} (o p : Option A) → option_or o p ≡ None → (o ≡
 none_first None p h = (refl, h)
 none_first (Some x) p h = absurd (cc)
 
+-- If the first bytes pass no limit, the limit that both pass is that of the second after the first.
 pub overrun_on : (L : Limits) (front a b : List ℕ) → overrun_behind L front a ≡ None → overrun_behind L front (a ++ b) ≡ overrun_behind L (front ++ a) b
 overrun_on L front [] b none = ap (λ f. overrun_behind L f b) (sym (append-nil front))
 overrun_on L front (x ∷ xs) b none =
@@ -73,16 +77,19 @@ or_same : (o p q : Option LineFault) (x : LineFault) → (p ≡ Some x → q ≡
 or_same None p q x f h = f h
 or_same (Some y) p q x f h = h
 
+-- If the first bytes pass a limit, more bytes after them pass the same.
 pub overrun_stays : (L : Limits) (front a b : List ℕ) (fault : LineFault) → overrun_behind L front a ≡ Some fault → overrun_behind L front (a ++ b) ≡ Some fault
 overrun_stays L front [] b fault h = absurd (cc)
 overrun_stays L front (x ∷ xs) b fault h = or_same (passed (reach_of L front) x) _ _ fault (overrun_stays L (front ++ x ∷ []) xs b fault) h
 
+-- If the first bytes pass no limit, those within the limits are the first and then those of the second.
 pub within_on : (at : Reach) (a b : List ℕ) → overrun_from at a ≡ None → within_from at (a ++ b) ≡ a ++ within_from (reach_from at a) b
 within_on at [] b none = refl
 within_on at (x ∷ xs) b none =
     let first = none_first (passed at x) (overrun_from (past at x) xs) none in
     rw first.0 (ap (λ ls. x ∷ ls) (within_on (past at x) xs b first.1))
 
+-- If the first bytes pass a limit, more bytes do not change those within the limits.
 pub within_stays : (at : Reach) (a b : List ℕ) (fault : LineFault) → overrun_from at a ≡ Some fault → within_from at (a ++ b) ≡ within_from at a
 within_stays at [] b fault h = absurd (cc)
 within_stays at (x ∷ xs) b fault h =
@@ -120,15 +127,19 @@ line_is at (x ∷ xs) fault h =
 pub start_overrun : (L : Limits) (bytes : List ℕ) → overrun_from (start L) bytes ≡ overrun L bytes
 start_overrun L bytes = overrun_is L [] bytes
 
+-- From the start an input reaches to where its bytes within the limits reach.
 pub start_reach : (L : Limits) (bytes : List ℕ) → reach_from (start L) bytes ≡ reach_of L (within L bytes)
 start_reach L bytes = reach_is L [] bytes
 
+-- If an input passes no limit, all its bytes are within the limits.
 pub within_all : (L : Limits) (bytes : List ℕ) → overrun L bytes ≡ None → within L bytes ≡ bytes
 within_all L bytes none = ap (within_from (start L)) (sym (append-nil bytes)) ∙ within_on (start L) bytes [] (start_overrun L bytes ∙ none) ∙ append-nil bytes
 
+-- If an input passes no limit, from the start it reaches to where its bytes reach.
 pub start_reach_all : (L : Limits) (bytes : List ℕ) → overrun L bytes ≡ None → reach_from (start L) bytes ≡ reach_of L bytes
 start_reach_all L bytes none = start_reach L bytes ∙ ap (reach_of L) (within_all L bytes none)
 
+-- If the first bytes pass no limit, those within it are the first and those of a piece after them.
 pub within_more : (L : Limits) (bytes piece : List ℕ) → overrun L bytes ≡ None → within L (bytes ++ piece) ≡ bytes ++ within_from (reach_of L bytes) piece
 within_more L bytes piece none = within_on (start L) bytes piece (start_overrun L bytes ∙ none) ∙ ap (λ at. bytes ++ within_from at piece) (start_reach_all L bytes none)
 

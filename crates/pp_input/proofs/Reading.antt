@@ -67,6 +67,7 @@ early_at_fault L bytes fault h = ap (λ ls. lines_before (overrun L bytes) (numb
 pub scanned_all : (L : Limits) (bytes : List ℕ) → overrun L bytes ≡ None → scanned_lines L bytes ≡ numbered_lines bytes
 scanned_all L bytes none = ap (λ o. lines_before o (numbered_lines bytes)) none
 
+-- The lines that no further byte can change are those ended before the byte that passes a limit.
 pub early_is : (L : Limits) (bytes : List ℕ) → early_lines L bytes ≡ ended_lines (within L bytes)
 early_is L bytes =
     elim (overrun L bytes) as (λ o. overrun L bytes ≡ o → early_lines L bytes ≡ ended_lines (within L bytes)) [
@@ -78,6 +79,7 @@ early_is L bytes =
 pub overrun_kept : (L : Limits) (bytes left : List ℕ) (fault : LineFault) → overrun L bytes ≡ Some fault → overrun L (bytes ++ left) ≡ Some fault
 overrun_kept L bytes left fault h = overrun_stays L [] bytes left fault h
 
+-- If an input passes a limit, with more bytes the lines that are examined are those that no byte could change.
 pub scanned_kept : (L : Limits) (bytes left : List ℕ) (fault : LineFault) → overrun L bytes ≡ Some fault → scanned_lines L (bytes ++ left) ≡ early_lines L bytes
 scanned_kept L bytes left fault h =
     scanned_at_fault L (bytes ++ left) fault (overrun_kept L bytes left fault h) ∙ ap ended_lines (within_stays (start L) bytes left fault (start_overrun L bytes ∙ h)) ∙ sym (early_is L bytes)
@@ -190,9 +192,11 @@ hands_front lines out line held is h =
 
 -- ---- the same, for what stands after a call
 
+-- Without a fault, after a further piece was fed, the same lines are handed out of the longer input.
 pub took_after : (L : Limits) (bytes piece : List ℕ) (out : List (ℕ × List ℕ)) (old new : Held) → Took L bytes out old → old.fault ≡ None → new ≡ fed old piece → Took L (bytes ++ piece) out new
 took_after L bytes piece out old new is sound after = subst (λ held. Took L (bytes ++ piece) out held) (sym after) (took_fed L bytes piece out old is sound)
 
+-- Without a fault, after the end of the input the lines handed out and those that are held are all.
 pub hands_after : (L : Limits) (bytes : List ℕ) (out : List (ℕ × List ℕ)) (old new : Held) → Took L bytes out old → old.fault ≡ None → new ≡ finished old → Hands (numbered_lines bytes) out new
 hands_after L bytes out old new is sound after =
     let hands : Hands (numbered_lines bytes) out (finished old) = subst (λ ls. Hands ls out (finished old)) (scanned_all L bytes (sym is.fault ∙ sound)) (hands_finished L bytes out old is sound) in

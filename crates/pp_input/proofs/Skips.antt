@@ -8,6 +8,7 @@ use Rattle.std.proofs.lemmas.Bool.{false_from_ne_true, lt-leb}
 use Rattle.pp_input.specs.declared.reach.Reach.{Reach}
 use Rattle.pp_input.specs.Reaches.{passed, past, overrun_from, within_from, reach_from, IsSkipped}
 
+-- Two places with the same limits, bytes, lines and column are equal.
 pub reach_same : (a b : Reach) → a.limits ≡ b.limits → a.bytes ≡ b.bytes → a.lines ≡ b.lines → a.column ≡ b.column → a ≡ b
 reach_same a b l p q r =
     ap (λ x. let at : Reach = record { limits = x; bytes = a.bytes; lines = a.lines; column = a.column } in at) l
@@ -15,9 +16,11 @@ reach_same a b l p q r =
     ∙ ap (λ x. let at : Reach = record { limits = b.limits; bytes = b.bytes; lines = x; column = a.column } in at) q
     ∙ ap (λ x. let at : Reach = record { limits = b.limits; bytes = b.bytes; lines = b.lines; column = x } in at) r
 
+-- A byte 10 passes no limit if the bytes and the lines are below theirs.
 pub passed_end : (at : Reach) (b : ℕ) → (b == 10) ≡ true → at.bytes < at.limits.bytes → at.lines < at.limits.lines → passed at b ≡ None
 passed_end at b end bytes lines = rw (lt-leb at.limits.bytes at.bytes bytes, lt-leb at.limits.lines at.lines lines, end) refl
 
+-- Another byte than 10 passes no limit if the bytes, the lines and the column are below theirs.
 pub passed_byte : (at : Reach) (b : ℕ) → (b == 10) ≡ false → at.bytes < at.limits.bytes → at.lines < at.limits.lines → at.column < at.limits.line_bytes → passed at b ≡ None
 passed_byte at b inner bytes lines column = rw (lt-leb at.limits.bytes at.bytes bytes, lt-leb at.limits.lines at.lines lines, inner, lt-leb at.limits.line_bytes at.column column) refl
 
@@ -32,6 +35,7 @@ skip_one at to b bs n none more = record {
 skip_none : (at to : Reach) (bs : List ℕ) → at ≡ to → IsSkipped at bs 0 to
 skip_none at to bs same = record { within = ap (λ r. within_from r bs) same; reach = ap (λ r. reach_from r bs) same; overrun = ap (λ r. overrun_from r bs) same }
 
+-- Within the limits, a line and its end are passed at once, and reach the start of the next line.
 pub line_skipped : (at to : Reach) (bytes : List ℕ) (k : ℕ) → k < length bytes → (slice_index bytes k == 10) ≡ true → ((j : ℕ) → 0 ≤ j → j < k → (slice_index bytes j == 10) ≡ true → ⊥)
     → at.bytes + k < at.limits.bytes → at.lines < at.limits.lines → at.column + k ≤ at.limits.line_bytes → to.limits ≡ at.limits → to.bytes ≡ at.bytes + k + 1 → to.lines ≡ at.lines + 1 → to.column ≡ 0
     → IsSkipped at bytes (suc k) to
