@@ -46,6 +46,7 @@ module _ (f : List ℕ → List ℕ) (is : List ℕ) (at : ℕ) (text longer who
 abbrev J : List (List ℕ) → List ℕ
 J lines = joined_lines lines
 
+-- Texts that are added in turn to an empty one are the joined lines of head, entries, cut and last.
 pub all_joined : (head last : List ℕ) (entries cut : List (List ℕ)) (none text more longer whole : List ℕ) → none ≡ [] → text ≡ none ++ joined_lines (head ∷ [])
     → more ≡ text ++ joined_lines entries → longer ≡ more ++ joined_lines cut → whole ≡ longer ++ joined_lines (last ∷ []) → whole ≡ joined_lines (head ∷ (entries ++ (cut ++ last ∷ [])))
 all_joined head last entries cut none text more longer whole empty a b c d =
@@ -60,5 +61,6 @@ all_joined head last entries cut none text more longer whole empty a b c d =
 pub row_at : (is : List ℕ) (at : ℕ) → take (at + 1000 - at) (drop at is) ≡ take 1000 (drop at is)
 row_at is at = let e : at + 1000 - at ≡ 1000 = omega arith in ap (λ (n : ℕ). take n (drop at is)) e
 
+-- The rest of a list from a position has as many elements as are left.
 pub rest_at : (is : List ℕ) (at : ℕ) → take (length is - at) (drop at is) ≡ drop at is
 rest_at is at = take_all (length is - at) (drop at is) (omega (arith, length-drop at is))

@@ -112,6 +112,7 @@ module _ (catalog : Objects) (cat : IsCatalog catalog) (log : List (Item Op)) (i
   row_bound : (row : List ℕ) → IsRow row → length (row_bytes row) ≤ 21_100
   row_bound row h = row_short row h.0.1 h.1
 
+  -- If its operations can be stated and its numbers are ids, the lines of a certificate can be lines.
   pub certificate_lines : AreLines (certificate (line_bytes catalog) (kinds_of catalog) log is n)
   certificate_lines = (
     is_line (head_bytes catalog) (head_one_line catalog cat.named),
@@ -144,6 +145,7 @@ module _ (catalog : Objects) (cat : IsCatalog catalog) (log : List (Item Op)) (i
         serial_short n number,
       )
 
+  -- With at most 150,000 operations and 1,000,000 swaps, a certificate keeps to the usual limits.
   pub certificate_allowed : length log ≤ 150_000 → length is ≤ 1_000_000 → AreAllowed usual_limits (certificate (line_bytes catalog) (kinds_of catalog) log is n)
   certificate_allowed few short = record {
     few =

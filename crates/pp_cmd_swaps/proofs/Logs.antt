@@ -152,6 +152,7 @@ module _ {Op : Type 0} (plain : Item Op → Bool) where
     λ x i. absurd i,
   )
 
+  -- If the start's operations and those that the steps apply pass a test, so do the entries of the shared log.
   pub applied : (h : Option (Start Op)) (ss : List (Step Op)) → ArePlain plain (start_items h) → Each (AppliesOnly plain) ss → Each (λ g. IsTrue (plain (shared_item g))) (after h ss).shared
   applied h ss q k = each_from (λ (g : SharedEntry Op). IsTrue (plain (shared_item g))) (after h ss).shared (steps_of ss (first h) k (first_of h q)).0
 
@@ -243,10 +244,12 @@ module _ {Op State : Type 0} (O : Object Op State) (c : Config Op) (sound : Soun
   fewer_than_ids : length c.shared ≤ length c.ids
   fewer_than_ids = omega (arith, no_longer (map id_of c.shared) c.ids apart used, length-map c.shared id_of)
 
+-- Of an accepted run, twice the length of the shared log is at most twice the start's length plus the number of steps.
 pub half : {Op State : Type 0} (O : Object Op State) (h : Option (Start Op)) (ss : List (Step Op)) → StartMeets O h → RunsFrom O (first h) ss → 2 * length (after h ss).shared ≤ 2 * length (start_items h) + length ss
 half O h ss begun runs =
     let sound = run_keeps O ss (first h) (start_sound O h begun) runs in
     omega (arith, fewer_than_ids O (after h ss) sound, steps_long ss (first h), first_long h)
 
+-- Entries of the shared log pass tests that the start's and the applied ones pass; of an accepted run they are few.
 pub log_law : {Op State : Type 0} (O : Object Op State) → LogLaw O
 log_law O = record { applied = applied; half = half O }

@@ -250,6 +250,7 @@ small_of : (catalog : Objects) (c : Config Op) (text : List ℕ) → IsTold cata
 small_of catalog c text (inl small) = (small.0, small.2)
 small_of catalog c text (inr large) = absurd (let e : statuses.Accepted ≡ statuses.TooLarge = large.1 in cc)
 
+-- The text that `swaps` writes of an accepted input is its certificate, which `recheck` accepts with the same operations and states.
 pub certified : (bytes text : List ℕ) → IsSwaps bytes statuses.Accepted text → IsCertificateOf bytes text
 certified bytes text (how, report, is, swaps) =
     let told = told_of (scan bytes) how report text swaps in
@@ -269,5 +270,6 @@ certified bytes text (how, report, is, swaps) =
       same_ops = lines_of_txs (op_line own.header.what.catalog) (config_of own).done;
     }
 
+-- What `swaps` prints of an accepted input is its certificate.
 pub prints_certificate : (bytes text : List ℕ) (old new : Option (List ℕ)) → IsSwaps bytes statuses.Accepted text → Appends old new text → PrintsCertificate bytes old new
 prints_certificate bytes text old new is written = (text, written, certified bytes text is)

@@ -29,6 +29,7 @@ one_of sc statuses.WriteFault r q s s' t t' same a b = absurd a
 one_of sc statuses.OutOfMemory r q s s' t t' same a b = absurd a
 one_of sc statuses.TooLarge r q s s' t t' same a b = absurd a
 
+-- An input has one status and one text at most.
 pub one_swaps : (bytes : List ℕ) (s s' : Status) (t t' : List ℕ) → IsSwaps bytes s t → IsSwaps bytes s' t' → (s ≡ s') × (t ≡ t')
 one_swaps bytes s s' t t' a b =
     let one = one_certified bytes a.0 b.0 a.1 b.1 a.2 b.2 in

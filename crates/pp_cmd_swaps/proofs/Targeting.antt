@@ -10,10 +10,12 @@ use Rattle.pp_certificate_exchanges.specs.Laws.{InvertedSwap, log_of, target_of}
 use Rattle.pp_certificate_exchanges.proofs.Targets.{log_fits, targets}
 
 module _ {Shape State Op Undo : Type 0} (o : Object Shape State Op Undo) (laws : IsLawful o) (shape : Shape) (c : Config Op) (sound : Sound (rules_of o shape) c) where
+  -- The target of a sound configuration is a permutation of its shared log.
   pub permutes : (log target : List (Item Op)) → log ≡ log_of c → target ≡ target_of c → Permutes log target
   permutes log target log_is target_is =
       subst (λ (l : List (Item Op)). Permutes l target) (sym log_is) (subst (λ (l : List (Item Op)). Permutes (log_of c) l) (sym target_is) ((targets o laws).permutes shape c sound))
 
+  -- Each pair that the log and the target of a sound configuration order differently swaps, in every shape.
   pub swap : (log target : List (Item Op)) → log ≡ log_of c → target ≡ target_of c → InvertedSwap o log target
   swap log target log_is target_is =
       subst (λ (l : List (Item Op)). InvertedSwap o l target) (sym log_is) (subst (λ (l : List (Item Op)). InvertedSwap o (log_of c) l) (sym target_is) ((targets o laws).swaps shape c sound))

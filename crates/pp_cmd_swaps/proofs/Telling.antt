@@ -49,13 +49,16 @@ module _ (c : Config Op) (shape : List Kind) (pair : List Kind × List (SharedEn
   entries_are : entries ≡ c.shared
   entries_are = all ∙ ap (λ (p : List Kind × List (SharedEntry Op)). p.1) shared
 
+  -- The operations of the machine's shared log are those of the configuration's.
   pub log_is : (log : List (Item Op)) → log ≡ map shared_item entries → log ≡ log_of c
   log_is log is = is ∙ ap (λ (G : List (SharedEntry Op)). map shared_item G) entries_are
 
+  -- The serial run and then the uncommitted operations are the target of the configuration.
   pub target_is : (front target : List (Item Op)) → front ≡ serial_items c.done → target ≡ front ++ map shared_item (uncommitted entries) → target ≡ target_of c
   target_is front target done is =
       is ∙ ap (λ (l : List (Item Op)). l ++ map shared_item (uncommitted entries)) done ∙ ap (λ (G : List (SharedEntry Op)). serial_items c.done ++ map shared_item (uncommitted G)) entries_are
 
+-- The operations of the committed transactions are those of the configuration's serial run.
 pub done_is : (c : Config Op) (committed slice : List (CommittedTx Op)) (front : List (Item Op)) → committed ≡ c.done → slice ≡ committed → front ≡ serial_items slice → front ≡ serial_items c.done
 done_is c committed slice front done same is = is ∙ ap (λ (D : List (CommittedTx Op)). serial_items D) (same ∙ done)
 
@@ -63,6 +66,7 @@ done_is c committed slice front done same is = is ∙ ap (λ (D : List (Committe
 pub few_entries : (c : Config Op) (count : ℕ) (log : List (Item Op)) → length c.shared ≤ count + 256 → count ≤ 200_000 → log ≡ log_of c → length log ≤ 200_256
 few_entries c count log short few is = omega (arith, short, few, ap (λ (l : List (Item Op)). length l) is, length-map c.shared (shared_item {Op = Op}))
 
+-- With at most 200,000 steps, the serial run of a sound configuration has at most 200,256 operations.
 pub few_serial : (c : Config Op) (shape : List Kind) (count : ℕ) (front : List (Item Op)) → Sound (rules_of objects shape) c → length c.shared ≤ count + 256 → count ≤ 200_000 → front ≡ serial_items c.done → length front ≤ 200_256
 few_serial c shape count front sound short few is =
     omega (arith, short, few, ap (λ (l : List (Item Op)). length l) is, serial_fits (rules_of objects shape) c sound, length-map (serial_items c.done) (λ (p : Item Op). p.op))
@@ -85,6 +89,7 @@ module _ (catalog : Objects) (c : Config Op) (log target : List (Item Op)) (log_
   abbrev written : List (Item Op) → List ℕ → ℕ → List ℕ
   written l is n = joined_lines (certificate (line_bytes catalog) (kinds_of catalog) l is n)
 
+  -- If the exchanges are not too many, the certificate of the log and its route is the text, with status accepted.
   pub small_told : (entries : List (Item Op)) (positions : List ℕ) (n : ℕ) (text : List ℕ) → inverted log target ≤ MOST_SWAPS → entries ≡ log → positions ≡ route log target → n ≡ length (serial_items c.done)
       → text ≡ joined_lines (certificate (line_bytes catalog) (kinds_of catalog) entries positions n) → IsTold catalog c statuses.Accepted text
   small_told entries positions n text few entries_as positions_as n_is text_is = inl (
@@ -94,6 +99,7 @@ module _ (catalog : Objects) (c : Config Op) (log target : List (Item Op)) (log_
         ∙ ap (λ (m : ℕ). written (log_of c) (route (log_of c) (target_of c)) m) n_is,
   )
 
+  -- If the exchanges are too many, the line that reports their number is the text, with status too large.
   pub large_told : (count : ℕ) (text : List ℕ) → count ≡ inverted log target → MOST_SWAPS < inverted log target → text ≡ too_large_text count → IsTold catalog c statuses.TooLarge text
   large_told count text is many text_is = inr (
     subst (λ (m : ℕ). MOST_SWAPS < m) count_is many,
@@ -103,12 +109,15 @@ module _ (catalog : Objects) (c : Config Op) (log target : List (Item Op)) (log_
 
 -- ---- an input
 
+-- The text of the fault of an input is its output, with status input fault.
 pub fault_swaps : (bytes : List ℕ) (line : ℕ) (cause : Cause) (text : List ℕ) → IsFaultOf (scan bytes) (Some (line, cause)) → text ≡ fault_text line cause → IsSwaps bytes statuses.InputFault text
 fault_swaps bytes line cause text faulty is = (statuses.InputFault, text, fault_report bytes line cause text faulty is, (refl, refl))
 
+-- The text of a rejection is the output of a rejected input, with status rejected.
 pub rejected_swaps : (bytes : List ℕ) (tally : Tally) (rejection : Rejection) (text : List ℕ) → IsRejected (scan bytes) tally rejection → IsRunTold (scan bytes) statuses.Rejected text → IsSwaps bytes statuses.Rejected text
 rejected_swaps bytes tally rejection text r told = (statuses.Rejected, text, run_report bytes statuses.Rejected text (rejected_sound (scan bytes) tally rejection r) told, (refl, refl))
 
+-- The status and the text of the configuration of an accepted run are the output of the input.
 pub accepted_swaps : (bytes : List ℕ) (tally : Tally) (machine : Seen (List Kind) Op) (status : Status) (text : List ℕ) → IsRunning (scan bytes) tally machine → IsTold tally.header.catalog machine.config status text → IsSwaps bytes status text
 accepted_swaps bytes tally machine status text r told =
     let sc : InputScan = scan bytes in
