@@ -73,6 +73,7 @@ starts_short : (h : Option (Start Op)) → length (start_attempts h) ≤ 1
 starts_short None = omega arith
 starts_short (Some z) = omega arith
 
+-- A run has at most one committed transaction more than it has steps.
 pub attempts_short : (h : Option (Start Op)) (ss : List (Step Op)) → length (map committed_tx (attempts h ss)) ≤ length ss + 1
 attempts_short h ss =
     let all = length-map (attempts h ss) committed_tx in
@@ -135,18 +136,23 @@ module _ (sc : InputScan) (tally : Tally) (machine : Seen (List Kind) Op) (steps
   holds : RunsFrom (object_of header) (first (start_of header)) steps
   holds = subst (λ (w : List (Step Op)). RunsFrom (object_of header) (first (start_of header)) w) (sym steps_are) h.running.stands.hold
 
+  -- The committed transactions of the machine are the attempts of the steps.
   pub committed : machine.config.done ≡ map committed_tx (attempts (start_of header) steps)
   committed = committed_are sc tally machine h.running ∙ ap (λ (w : List (Step Op)). map committed_tx (attempts (start_of header) w)) (sym steps_are)
 
+  -- The machine has counted as many steps as there are.
   pub count : machine.count ≡ length steps
   count = h.running.stands.number ∙ sym (length_bare run) ∙ ap (λ (w : List (Step Op)). length w) (sym steps_are)
 
+  -- There are at most 200,000 steps.
   pub few_steps : length steps ≤ 200_000
   few_steps = let few = h.running.stands.few in omega (arith, few, count)
 
+  -- The steps are orderly.
   pub orderly_steps : IsOrderly steps
   orderly_steps = orderly (object_of header) (start_of header) met steps holds
 
+  -- There are at most 200,001 committed transactions.
   pub few_committed : length machine.config.done ≤ 200_001
   few_committed = let same = ap (λ (D : List (CommittedTx Op)). length D) committed in omega (arith, same, few_steps, attempts_short (start_of header) steps)
 
@@ -162,6 +168,7 @@ module _ (sc : InputScan) (tally : Tally) (machine : Seen (List Kind) Op) (steps
 
   -- ---- what is told
 
+  -- If the peaks are not too large, the text of their views is that of the run, with status accepted.
   pub told_views : (vs : List View) (text : List ℕ) → AreViews (object_of header) machine.config.done (peaks steps) vs → text ≡ views_text machine.count (length machine.config.done) vs
       → operations (peaks steps) ≤ MOST_VIEWED → IsRunTold sc statuses.Accepted text
   told_views vs text are is few =
@@ -179,6 +186,7 @@ module _ (sc : InputScan) (tally : Tally) (machine : Seen (List Kind) Op) (steps
             )),
       )
 
+  -- If the peaks are too large, the line that reports their number of operations is the text, with status too large.
   pub told_too_large : (n : ℕ) (text : List ℕ) → n ≡ operations (peaks steps) → MOST_VIEWED < operations (peaks steps) → text ≡ too_large_text n → IsRunTold sc statuses.TooLarge text
   told_too_large n text same many is = (
     own_run,
@@ -187,6 +195,7 @@ module _ (sc : InputScan) (tally : Tally) (machine : Seen (List Kind) Op) (steps
 
   -- ---- what it costs
 
+  -- Within the bound of the steps, and up by at most what looking for the views costs at most, the counter is within that of `views`.
   pub viewed_most : (old now new : ℕ) → StepsCostAtMost sc old now → new ≤ now + viewing_at_most machine.config.done steps → ViewsCostAtMost sc old new
   viewed_most old now new most cost other is =
       let most_here = most other is in
@@ -233,13 +242,16 @@ few_cost D steps few = by (nat_lt MOST_VIEWED (operations (peaks steps))) (not_m
 
 -- ---- the output of an input
 
+-- The text of the fault of an input is its output, with status input fault.
 pub fault_views : (bytes : List ℕ) (line : ℕ) (cause : Cause) (text : List ℕ) → IsFaultOf (scan bytes) (Some (line, cause)) → text ≡ fault_text line cause → IsViews bytes statuses.InputFault text
 fault_views bytes line cause text faulty is = (statuses.InputFault, text, fault_report bytes line cause text faulty is, (refl, refl))
 
+-- The text of the rejection of a rejected input is its output, with status rejected.
 pub rejected_views : (bytes : List ℕ) (tally : Tally) (rejection : Rejection) (text : List ℕ) → IsRejected (scan bytes) tally rejection → IsReportTold (scan bytes) statuses.Rejected text → IsViews bytes statuses.Rejected text
 rejected_views bytes tally rejection text r told =
     (statuses.Rejected, text, run_report bytes statuses.Rejected text (rejected_sound (scan bytes) tally rejection r) told, (refl, refl))
 
+-- The status and the text of an accepted run are the output of the input.
 pub accepted_views : (bytes : List ℕ) (tally : Tally) (machine : Seen (List Kind) Op) (steps : List (Step Op)) (status : Status) (text : List ℕ) → HasSteps (scan bytes) tally machine steps
     → IsRunTold (scan bytes) status text → IsViews bytes status text
 accepted_views bytes tally machine steps status text h told =

@@ -79,6 +79,7 @@ one_output sc statuses.WriteFault r q s s' t t' same a b = absurd a
 one_output sc statuses.OutOfMemory r q s s' t t' same a b = absurd a
 one_output sc statuses.TooLarge r q s s' t t' same a b = absurd a
 
+-- An input has one status and one text at most.
 pub one_views : (bytes : List ℕ) (s s' : Status) (t t' : List ℕ) → IsViews bytes s t → IsViews bytes s' t' → (s ≡ s') × (t ≡ t')
 one_views bytes s s' t t' (how, report, certified, is) (how', report', certified', is') =
     let one = one_certified bytes how how' report report' certified certified' in
@@ -113,6 +114,7 @@ meets_behind sc None report text r t = meets_by sc sc.header refl report text r 
 meets_all : (bytes text : List ℕ) → IsCertified bytes statuses.Accepted text → MeetsAll (scan bytes)
 meets_all bytes text r = meets_behind (scan bytes) r.1.0 r.0 text r.1.2 r.2
 
+-- In an accepted run, the last peak of a transaction that undid nothing after it has a number, at most its place in commit order.
 pub kept_views : KeptViewLaw
 kept_views bytes report certified r =
     let sc : InputScan = scan bytes in
