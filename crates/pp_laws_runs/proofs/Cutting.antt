@@ -33,6 +33,7 @@ no_memory_from at (b ∷ bs) h =
       | Some fault ↦ λ first k. first k
     ] (no_memory_in _ _ _ (at.lines + 1)) h
 
+-- Out of memory is no limit that an input passes.
 pub no_memory : (bytes : List ℕ) → overrun usual_limits bytes ≡ Some OutOfMemory → ⊥
 no_memory bytes h = no_memory_from (start usual_limits) bytes (start_overrun usual_limits bytes ∙ h)
 

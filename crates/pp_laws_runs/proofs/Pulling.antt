@@ -35,6 +35,7 @@ or_true : (a : Bool) → (a || true) ≡ true
 or_true true = refl
 or_true false = refl
 
+-- An entry of a local log with an id is found in it by this id.
 pub stands : {Op : Type 0} (l : List (LocalEntry Op)) (id : ℕ) (e : LocalEntry Op) → In e l → e.id ≡ id → stands_in l id ≡ true
 stands [] id e i k = absurd i
 stands {Op} (z ∷ l) id e (inl i) k = ap (λ (b : Bool). b || stands_in l id) (eq-eqb z.id id (ap (λ (w : LocalEntry Op). w.id) (sym i) ∙ k))
@@ -88,6 +89,7 @@ module _ {Op State : Type 0} (O : Object Op State) (style : Style) (recorded : s
       ]) in
       (pull_breaks c t g.id x g h (found g (inl refl)) (apart g (inl refl)), λ m. subst (λ (w : Config Op). OnlyBreaks O style w (map (λ g. Pull t g.id) gs)) (sym to) next)
 
+  -- The pulls of the wanted entries that an open transaction lacks break only breakable criteria.
   pub pulls_only : (c : Config Op) (t : Name) (x : Tx Op) (wanted : SharedEntry Op → Bool) → Sound O c → tx t c.opened ≡ Some x → OnlyBreaks O style c (pulls t wanted c.shared x.local)
   pulls_only c t x wanted s h =
       let test = λ (g : SharedEntry Op). wanted g && not (stands_in x.local g.id) in
@@ -107,6 +109,7 @@ module _ {Op State : Type 0} (O : Object Op State) (style : Style) (recorded : s
   unless_only place c t x o s h true = tt
   unless_only place c t x o s h false = pulls_only c t x _ s h
 
+  -- An operation that waits for its push, after a refresh of its object if it is not seen, breaks only breakable criteria.
   pub later_only : (place : Op → ℕ) (seen : List (LocalEntry Op)) (c : Config Op) (t : Name) (x : Tx Op) (id : ℕ) (op : Op) → Sound O c → tx t c.opened ≡ Some x → OnlyBreaks O style c (op_later place seen c.shared x.local t id op)
   later_only place seen c t x id op s h =
       only_append O style c (refresh_unless place t (place op) seen c.shared x.local) (App t id op ∷ [])
@@ -133,6 +136,7 @@ module _ {Op State : Type 0} (O : Object Op State) (style : Style) (recorded : s
       let k = after_there (at_mark e.id Unpushed x.local) _ e a.0 at a.2 in
       (a.0, k.0, a.1, k.1, (λ d i m. swap d (before_it p q e ids d (subst (λ (l : List (LocalEntry Op)). Before d e l) w i)) m), k.2)
 
+  -- A PUSH of an unpushed entry that unpushed ones before it may move left past breaks only criterion 4 or 5.
   pub push_breaks : (c : Config Op) (t : Name) (x : Tx Op) (p q : List (LocalEntry Op)) (e : LocalEntry Op) → Sound O c → tx t c.opened ≡ Some x → x.local ≡ p ++ e ∷ q → e.mark ≡ Unpushed →
       ((a : LocalEntry Op) → In a p → a.mark ≡ Unpushed → Swaps O e.op a.op) → (n : ℕ) → Breaks O c (Push t e.id) (suc n) → In (suc n) (4 ∷ 5 ∷ [])
   push_breaks c t x p q e s h w mark swap n b =
@@ -149,6 +153,7 @@ module _ {Op State : Type 0} (O : Object Op State) (style : Style) (recorded : s
 
   -- ---- an operation that is published at once
 
+  -- An operation published at once breaks only breakable criteria, if 4 and 5 of PUSH are and unpushed entries may move left past it.
   pub at_once_only : ((n : ℕ) → In n (4 ∷ 5 ∷ []) → In n (breakable rules.Push style)) → (place : Op → ℕ) (c : Config Op) (t : Name) (x : Tx Op) (id : ℕ) (op : Op) → Sound O c → tx t c.opened ≡ Some x →
       ((a : LocalEntry Op) → In a x.local → a.mark ≡ Unpushed → Swaps O op a.op) → OnlyBreaks O style c (op_at_once place c.shared x.local t id op)
   at_once_only listed place c t x id op s h swap =

@@ -132,6 +132,7 @@ module _ (limits : Limits) (bytes : List ℕ) (h : Lined Header) (there : (scan_
     run_named (Rejected zero n) report verdict e = subst (λ (r : RunReport). NamesBreakable h.what.style r) (sym e) (start_named n verdict)
     run_named (Rejected (suc i) n) report verdict e = subst (λ (r : RunReport). NamesBreakable h.what.style r) (sym e.2) (step_named i n e.0 verdict e.1)
 
+-- The report of every input in a recorded style names a breakable criterion if it rejects.
 pub reported_law : ReportedLaw
 reported_law limits bytes fault header report there recorded behind = by fault behind
   where
