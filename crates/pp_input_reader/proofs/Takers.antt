@@ -59,6 +59,7 @@ module _ {T F : Type 0} (R : Reading T F) (all : List NumberedLine) (held : Held
   pub follows_all : next_line held ≡ None → f.0 ≡ all
   follows_all none = hands_all all f.0 held f.1 none
 
+  -- If no line is held, all lines led to here.
   pub follows_done : next_line held ≡ None → R.Leads all taker
   follows_done none = subst (λ ls. R.Leads ls taker) (follows_all none) f.2
 
@@ -78,6 +79,7 @@ module _ {T F : Type 0} (R : Reading (T × ℕ) F) where
   counts_more : (lines more : List NumberedLine) (new : ℕ) → CountsTo R lines new → CountsTo R (lines ++ more) new
   counts_more lines more new c = (c.0, c.1 ++ more, ap (λ (ls : List NumberedLine). ls ++ more) c.2 ∙ append_assoc c.0 c.1 more, c.3)
 
+  -- A count after lines that no further byte can change is one of the input, whatever bytes follow.
   pub counts_early : (bytes : List ℕ) (new : ℕ) → CountsTo R (early_lines R.limits bytes) new → CountsEarly R bytes new
   counts_early bytes new c left =
       let front = scanned_front R.limits bytes left in
@@ -89,6 +91,7 @@ module _ {T F : Type 0} (R : Reading (T × ℕ) F) where
 
 -- ---- what was taken
 
+-- If a source yields some bytes and then others, it yields both in turn.
 pub consumes_more : (a b c : Option (List ℕ)) (x y : List ℕ) → Consumes a b x → Consumes b c y → Consumes a c (x ++ y)
 consumes_more None b c x y h k = tt
 consumes_more (Some a) None c x y h k = absurd h
@@ -179,9 +182,11 @@ module _ {T F : Type 0} (R : Reading T F) where
 
   -- ---- the end
 
+  -- At the end of the input, the limits are those of the reading.
   pub rest_limits : (bytes : List ℕ) (held : Held) (taker : T) → IsAt R bytes held taker → (finished held).reach.limits ≡ R.limits
   rest_limits bytes held taker at = ap (λ (r : Reach). r.limits) at.took.reach
 
+  -- At the end of the input, the lines that were taken and those that are held are the lines that are examined.
   pub rest_follows : (bytes : List ℕ) (held : Held) (taker : T) → IsAt R bytes held taker → Follows R (scanned_lines R.limits bytes) (finished held) taker
   rest_follows bytes held taker at = (early_lines R.limits bytes, hands_finished R.limits bytes (early_lines R.limits bytes) held at.took at.sound, at.leads)
 
@@ -202,6 +207,7 @@ kept_by : (held : Held) (whole : List (List ℕ)) → ((after_first held whole).
 kept_by held [] = (refl, refl, refl, refl)
 kept_by held (line ∷ lines) = (refl, refl, refl, refl)
 
+-- Handing out the next line changes neither the rest, the reach, the fault nor whether the input is at its end.
 pub next_keeps : (held : Held) → ((after_next held).rest ≡ held.rest) × ((after_next held).reach ≡ held.reach) × ((after_next held).fault ≡ held.fault) × ((after_next held).closed ≡ held.closed)
 next_keeps held = kept_by held held.whole
 
@@ -209,6 +215,7 @@ none_by : (held : Held) (whole : List (List ℕ)) → first_of held.handed whole
 none_by held [] h = refl
 none_by held (line ∷ lines) h = absurd (cc)
 
+-- If no line is held, handing out the next one changes nothing.
 pub none_left : (held : Held) → next_line held ≡ None → after_next held ≡ held
 none_left held h = none_by held held.whole h
 
@@ -241,6 +248,7 @@ one_rest_line L bytes held took =
 
 -- ---- stops
 
+-- If every fault of which P is true is one of which Q is true, a stop with P is one with Q.
 pub if_fault : {F : Type 0} (stop : Stop F) (P Q : ℕ → F → Type 0) → ((at : ℕ) (fault : F) → P at fault → Q at fault) → IfFault stop P → IfFault stop Q
 if_fault (stops.Fault at fault) P Q f h = f at fault h
 if_fault (stops.Failure failure) P Q f h = h
@@ -250,10 +258,12 @@ pub if_input_fault : {F : Type 0} (stop : Stop F) (P Q : ℕ → F → Type 0) �
 if_input_fault (stops.Fault at fault) P Q f h = f at fault h
 if_input_fault (stops.Failure failure) P Q f h = tt
 
+-- A result that stops at a fault or out of memory does not stop at a read fault.
 pub no_read_fault : {T F : Type 0} (stop : Stop F) (P : ℕ → F → Type 0) → IfFault stop P → (r : Result T (Stop F)) → r ≡ Err stop → IsErrOf r (stops.Failure failures.ReadFault) → ⊥
 no_read_fault (stops.Fault at fault) P h r is told = let same : r ≡ Err (stops.Failure failures.ReadFault) = told in cc
 no_read_fault (stops.Failure failure) P h r is told = let refused : failure ≡ failures.OutOfMemory = h in let same : r ≡ Err (stops.Failure failures.ReadFault) = told in cc
 
+-- If P of a value and Q imply R of it, then from P of an Ok value, and Q for an Ok result, follows R of the value.
 pub if_ok_and : {T E : Type 0} (r : Result T E) (P : T → Type 0) (Q : Type 0) (R : T → Type 0) → ((x : T) → P x → Q → R x) → IfOk r P → OnOk r Q → IfOk r R
 if_ok_and (Ok x) P Q R f p q = f x p q
 if_ok_and (Err e) P Q R f p q = tt
@@ -263,14 +273,17 @@ pub if_ok_two : {T E : Type 0} (r : Result T E) (P Q R : T → Type 0) → ((x :
 if_ok_two (Ok x) P Q R f p q = f x p q
 if_ok_two (Err e) P Q R f p q = tt
 
+-- If P is true of every value, it is true of an Ok value.
 pub if_ok_all : {T E : Type 0} (r : Result T E) (P : T → Type 0) → ((x : T) → P x) → IfOk r P
 if_ok_all (Ok x) P f = f x
 if_ok_all (Err e) P f = tt
 
+-- What is true is also true for an Ok result.
 pub on_ok : {T E : Type 0} (r : Result T E) (P : Type 0) → P → OnOk r P
 on_ok (Ok x) P p = p
 on_ok (Err e) P p = tt
 
+-- What is true is also true for an error.
 pub on_err : {T E : Type 0} (r : Result T E) (P : Type 0) → P → OnErr r P
 on_err (Ok x) P p = tt
 on_err (Err e) P p = p
