@@ -96,6 +96,7 @@ fault_is first bytes at fault (inr (taker, leads, (cause, is, same))) =
           (sym is),
     )
 
+-- If the reading of an input finds a fault on a line, the check of the input finds it too.
 pub fault_found : (first : ℕ) (old : Option (List ℕ)) (at : ℕ) (fault : CheckFault)
     → ((bytes : List ℕ) → old ≡ Some bytes → HasInputFault (check_reading first) bytes at fault)
     → (bytes : List ℕ) → old ≡ Some bytes → IsChecked bytes (faulty_at at fault)
@@ -122,6 +123,7 @@ module _ (first now : ℕ) (old new : Option (List ℕ)) (checking : Checking)
   same_bytes : (bytes : List ℕ) → old ≡ Some bytes → all.0 ≡ bytes
   same_bytes bytes is = taken_all old new all.0 bytes all.1 end is
 
+  -- If all lines were taken, what they are found to be is what the input is found to be.
   pub all_found : (input : CheckedInput)
       → ((lines : List (List ℕ)) → Covers lines checking → ChecksLines lines input)
       → ChecksInput old new input
@@ -177,6 +179,7 @@ covered_leads lines (Within catalog v) cov = (
       (sym (named_here lines catalog v cov)) cov.leads,
 )
 
+-- If what was read leads somewhere within the limits, it has no fault that no further byte can change.
 pub reads_no_fault : (first : ℕ) (old new : Option (List ℕ))
     → ReadsSoFar (check_reading first) old new → RecheckReadsNoFault old new
 reads_no_fault first old new (bytes, read, none, (taker, leads)) =

@@ -97,6 +97,7 @@ shown_holds (Some limit) count (Holds k) h e = absurd (not_fault h limit.0 limit
 shown_holds (Some limit) count (Refused n why) h e =
     absurd (not_either h (nat_lt count n) limit n why e)
 
+-- What a certificate shows that holds is sound.
 pub shows_sound : (bytes : List ℕ) (h : Shown (List Kind) (List ObjectState) Op)
     → IsChecked bytes (Shows h) → IsSoundOf bytes h
 shows_sound bytes h a =

@@ -27,6 +27,7 @@ checked_status catalog (Faulty n cause) s t h = inr (inr h.0)
 checked_status catalog (Refuses n why) s t h = inr (inl h.0)
 checked_status catalog (Shows shown) s t h = inl h.0
 
+-- The status of a checked input is accepted, rejected or input fault.
 pub told_status : (input : CheckedInput) (s : Status) (t : List ℕ) → IsCheckedInputTold input s t
     → IsAnswer s
 told_status (inputs.Fault at fault) s t h = checked_status [] (faulty_at at fault) s t (h [])
@@ -51,10 +52,12 @@ not_accepted at (faults.Cause cause) s t h e = not_faulty s (h []).0 e
 not_accepted at (faults.Refusal why) s t h e = refusal_not_accepted at why s t (h []) e
 
 module _ (old new : Option (List ℕ)) where
+  -- If an input is found to show something, its operations and states are those of its objects.
   pub can_report : (input : CheckedInput) → ChecksInput old new input → CanReport input
   can_report (inputs.Fault at fault) h = tt
   can_report (inputs.Shows catalog shown) h = h.1
 
+  -- The status and the text of what an input is found to be are its output.
   pub told_output : (input : CheckedInput) (s : Status) (t : List ℕ) → ChecksInput old new input
       → IsCheckedInputTold input s t → (bytes : List ℕ) → old ≡ Some bytes → IsRecheck bytes s t
   told_output (inputs.Fault at fault) s t h told bytes is =
@@ -66,11 +69,13 @@ module _ (old new : Option (List ℕ)) where
         subst (λ (os : Objects). IsCheckedTold os (Shows shown) s t) (sym k.1) told,
       )
 
+  -- If the status is accepted, the input is at its end.
   pub told_end : (input : CheckedInput) (s : Status) (t : List ℕ) → ChecksInput old new input
       → IsCheckedInputTold input s t → s ≡ statuses.Accepted → IsAtEnd new
   told_end (inputs.Fault at fault) s t h told e = absurd (not_accepted at fault s t told e)
   told_end (inputs.Shows catalog shown) s t h told e = h.0
 
+  -- If the status is accepted, what the input shows is sound.
   pub told_sound : (input : CheckedInput) (s : Status) (t : List ℕ) → ChecksInput old new input
       → IsCheckedInputTold input s t → s ≡ statuses.Accepted → (bytes : List ℕ)
       → old ≡ Some bytes → IsCheckedSound bytes
@@ -79,6 +84,7 @@ module _ (old new : Option (List ℕ)) where
   told_sound (inputs.Shows catalog shown) s t h told e bytes is =
       let k = h.2 bytes is in (shown, k.0, shows_sound bytes shown k.0)
 
+  -- If the status is accepted, the counter meets the lower bound of the input.
   pub told_least : (input : CheckedInput) (s : Status) (t : List ℕ) → ChecksInput old new input
       → IsCheckedInputTold input s t → (first now : ℕ) → ShownCounted input first now
       → s ≡ statuses.Accepted → (bytes : List ℕ) → old ≡ Some bytes
