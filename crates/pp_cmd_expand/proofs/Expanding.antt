@@ -31,6 +31,7 @@ use Rattle.pp_judge.proofs.Running.{is_run_so_far, rejected_sound, run_so_far, r
 
 -- ---- the text
 
+-- The text of the fault of an input expands it, with status input fault.
 pub fault_expanded : (bytes : List ℕ) (line : ℕ) (cause : Cause) (text : List ℕ) → IsFaultOf (scan bytes) (Some (line, cause)) → text ≡ fault_text line cause → IsExpanded bytes statuses.InputFault text
 fault_expanded bytes line cause text faulty is = (text, fault_report bytes line cause text faulty is, refl)
 
@@ -38,6 +39,7 @@ fault_expanded bytes line cause text faulty is = (text, fault_report bytes line 
 abbrev WritesRun : Header → Records (RunRecord Op) → List ℕ → Type 0
 WritesRun h rs text = (run : LinedSteps Op) → IsRun (object_of h) (translation_of h) (start_of h) rs run → text ≡ run_text h.catalog h.start (bare run)
 
+-- The text of the run of an accepted input expands it, with status accepted.
 pub accepted_expanded : (bytes : List ℕ) (tally : Tally) (machine : Seen (List Kind) Op) (text : List ℕ) → IsRunning (scan bytes) tally machine → WritesRun tally.header (scan bytes).records text → IsExpanded bytes statuses.Accepted text
 accepted_expanded bytes tally machine text r writes =
     let sc : InputScan = scan bytes in
@@ -50,6 +52,7 @@ accepted_expanded bytes tally machine text r writes =
     let told = accepted_told sc tally machine r machine.count machine.config.done states report refl refl refl refl in
     (report, run_report bytes statuses.Accepted report (running_sound sc tally machine r) told, (own, writes run (is_run_so_far sc tally machine r)))
 
+-- The text of the run of a rejected input expands it, with status rejected.
 pub rejected_expanded : (bytes : List ℕ) (tally : Tally) (rejection : Rejection) (text : List ℕ) → IsRejected (scan bytes) tally rejection → WritesRun tally.header (scan bytes).records text → IsExpanded bytes statuses.Rejected text
 rejected_expanded bytes tally rejection text r writes =
     let sc : InputScan = scan bytes in
@@ -78,6 +81,7 @@ one_expansion sc statuses.WriteFault r q t u same a b = absurd a
 one_expansion sc statuses.OutOfMemory r q t u same a b = absurd a
 one_expansion sc statuses.TooLarge r q t u same a b = absurd a
 
+-- An input is expanded with one status and one text at most.
 pub one_expanded : (bytes : List ℕ) (s s' : Status) (t t' : List ℕ) → IsExpanded bytes s t → IsExpanded bytes s' t' → (s ≡ s') × (t ≡ t')
 one_expanded bytes s s' t t' a b =
     let one = one_certified bytes s s' a.0 b.0 a.1 b.1 in
