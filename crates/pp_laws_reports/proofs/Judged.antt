@@ -76,6 +76,7 @@ header_of_judged bytes sound = by (judge_scan bytes).header refl
 abbrev Told : List ℕ → Status → List ℕ → Option (Lined Header) → Type 0
 Told bytes status text o = (report : RunReport) × IsRunReport setting_of o (judge_scan bytes).records report × IsTold o report status text
 
+-- It is impossible that `judge` has no status and no text for an input.
 pub judge_is_defined : (bytes : List ℕ) → IsDefined (IsJudged bytes)
 judge_is_defined bytes none = by (judge_fault (judge_scan bytes)) refl
   where

@@ -233,12 +233,14 @@ module _ {Op State : Type 0} (O : Object Op State) (place : Op → ℕ) (c : Con
       | inr (inr j) ↦ apart p q j.0 j.1 e
     ]
 
+    -- Each operation of the snapshot, or missed by it, is in the serial run of the object.
     pub now_into : (p : Item Op) → In p (A ++ map shared_item M) → In p (serial_at place o c.done)
     now_into p i = elim (in_cases p A (map shared_item M) i) [
       | inl j ↦ subst (λ (w : List (Item Op)). In p w) whole (in_left p T D (h.into p j))
       | inr j ↦ base.into p (M_in p j)
     ]
 
+    -- Each operation of the serial run of the object is in the snapshot, or missed by it.
     pub now_back : (p : Item Op) → In p (serial_at place o c.done) → In p (A ++ map shared_item M)
     now_back q i = elim (back_to q i) [ inl j ↦ in_left q A (map shared_item M) j | inr j ↦ in_right q A (map shared_item M) j ]
 
