@@ -59,7 +59,7 @@ pub length-tops : {Op : Type 0} (ss : List (Step Op)) → length (tops ss) ≡ l
 length-tops [] = refl
 length-tops (s ∷ ss) = ap suc (length-tops ss)
 
--- whether a peak stands at the step that a loop is at
+-- whether there is a peak at the step that a loop is at
 pub tops_at : {Op : Type 0} (ss rest : List (Step Op)) (s : Step Op) (i : ℕ) (d : Bool) → drop i ss ≡ s ∷ rest → get_or (tops ss) i d ≡ is_top s rest
 tops_at [] rest s zero d h = absurd (cc)
 tops_at [] rest s (suc i) d h = absurd (cc)

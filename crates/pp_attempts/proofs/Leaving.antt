@@ -22,7 +22,7 @@ use Rattle.pp_attempts.proofs.Fronts.{in_default}
 use Rattle.pp_attempts.proofs.LiningUp.{apart_more, in_last, length_there, nobody, some_stands, stand_same}
 use Rattle.pp_attempts.proofs.Viewing.{below_next, explains_there, pairwise_as, pairwise_long}
 
--- ---- what stands at a position
+-- ---- what is at a position
 
 -- An element that is written at a position is there.
 pub stand_written : {A : Type 0} (xs : List A) (i : ℕ) (x : A) → i < length xs → StandsAt (set xs i x) i x
@@ -95,7 +95,7 @@ still_least : (n : ℕ) (P : ℕ → Type 0) (a : Option ℕ) → (a ≡ None �
 still_least n P a some h = wider n (n + 1) P a (omega arith) some h
 
 module _ {Shape State Op Undo : Type 0} (o : Object Shape State Op Undo) (ps : List (Peak Op)) where
-  -- where each view has a number, they are the views up to any number of committed transactions
+  -- if each view has a number, they are the views up to any number of committed transactions
   pub all_numbered : (shape : Shape) (D : List (CommittedTx Op)) (n m : ℕ) (vs : List View) (candidates : Candidates Op) → length candidates.list.items ≡ 0 → n ≤ m → AreCandidates ps vs candidates
       → Pairwise (IsViewBelow n (rules_of o shape) D) ps vs → Pairwise (IsViewBelow m (rules_of o shape) D) ps vs
   all_numbered shape D n m vs candidates empty le h views = pairwise_from (IsViewBelow m O D) ps vs (pairwise_long (IsViewBelow n O D) ps vs views) (λ i p v s t.
@@ -332,7 +332,7 @@ module _ {Op : Type 0} (ps : List (Peak Op)) (views : List View) (still rest : L
 
 -- ---- what a round costs
 
--- At most twice the operations of the peaks before those at `rest` were spent, less what stands
+-- At most twice the operations of the peaks before those at `rest` were spent, less what is
 -- applied and is still to be taken back.
 pub record IsSpent {Op : Type 0} (ps : List (Peak Op)) (rest : List ℕ) (applied old new : ℕ) : Type 0 where
   pub rises : old ≤ new
@@ -342,7 +342,7 @@ pub record IsSpent {Op : Type 0} (ps : List (Peak Op)) (rest : List ℕ) (applie
 pub nothing_spent : {Op : Type 0} (ps : List (Peak Op)) (rest : List ℕ) (applied old : ℕ) → applied ≡ 0 → sum_by (length_at ps) rest ≤ operations ps → IsSpent ps rest applied old old
 nothing_spent ps rest applied old none few = record { rises = omega arith; most = omega (arith, none, few) }
 
--- one peak: of what stood applied some is taken back, and then its own is applied
+-- one peak: of what was applied some is taken back, and then its own is applied
 module _ {Op : Type 0} (ps : List (Peak Op)) (j : ℕ) (rest : List ℕ) (old now mid new was shared : ℕ) (p : Peak Op) (here : StandsAt ps j p)
     (spent : IsSpent ps (j ∷ rest) was old now) (back : now ≤ mid) (cost : mid + shared ≡ now + was) (rises : mid ≤ new) (bound : new + shared ≤ mid + length p.ops) where
   next : sum_by (length_at ps) (j ∷ rest) ≡ length p.ops + sum_by (length_at ps) rest

@@ -127,7 +127,7 @@ positions_permuted ps n is js p h = record {
 
 -- ---- each begins as the one before it
 
--- what stands nowhere
+-- what is at no position
 abbrev pub nobody : Candidate
 nobody = record { position = 0; shared = 0; from = 0; to = 0 }
 

@@ -16,7 +16,7 @@ use Rattle.pp_model.proofs.Trace.{own_app, own_unapp, own_quiet, quiet_applied, 
 use Rattle.pp_attempts.specs.Lists.{own_after}
 use Rattle.pp_attempts.specs.Peaks.{IsOrderly}
 
--- t's UNAPP of this id stands among the steps
+-- t's UNAPP of this id is among the steps
 abbrev IsUnapplied : {Op : Type 0} → Name → ℕ → List (Step Op) → Type 0
 IsUnapplied {Op} t i ss = (past rest : List (Step Op)) × (ss ≡ past ++ Unapp t i ∷ rest)
 
@@ -86,7 +86,7 @@ module _ {Op : Type 0} (past rest : List (Step Op)) (s : Step Op) (orderly : IsO
       in_last q [] = inl refl
       in_last q (x ∷ l) = inr (in_last q l)
 
-  -- what is undone is the last that stands, and its id stands there once
+  -- what is undone is the last that is there, and its id is there once
   undone_once : (t : Name) (id : ℕ) → s ≡ Unapp t id → (p : Item Op) × (last (own_of t past) ≡ Some p) × (p.id ≡ id)
       × ((q : Item Op) → In q (but_last (own_of t past)) → q.id ≢ id)
   undone_once t id is =

@@ -99,7 +99,7 @@ module _ {Shape State Op Undo : Type 0} (o : Object Shape State Op Undo) where
     log_is_state s b h = subst (λ (w : State). o.upkeep.IsState w) (sym h.is)
         (allowed_is_state o (o.start (o.shape s)) b laws.next_is_state (laws.start_is_state (o.shape s)) h.allowed)
 
-    -- where the first of operations that may follow led to a state
+    -- if the first of operations that may follow led to a state
     module _ (s t : State) (x y : List Op) (us : List Undo) (may : MayFollow o s (x ++ y)) (trail : IsTrail o s x us t) where
       log_there : IsLog o t (may.before ++ x)
       log_there = subst (λ (w : State). IsLog o w (may.before ++ x)) (sym trail.leads)

@@ -21,7 +21,7 @@ pub record IsKeptPeak {Op : Type 0} (ss past rest : List (Step Op)) (t : Name) (
 abbrev pub peak_behind : {Op : Type 0} → Name → List (Step Op) → Peak Op
 peak_behind t past = record { tx = t; ops = own_of t past }
 
--- The peak stands among these, and behind it there is none of its transaction.
+-- The peak is among these, and after it there is none of its transaction.
 pub record IsLastOfItsTx {Op : Type 0} (p : Peak Op) (ps : List (Peak Op)) : Type 0 where
   pub before : List (Peak Op)
   pub behind : List (Peak Op)
@@ -35,7 +35,7 @@ AppliedLaw Op =
     → In (App p.tx i.id i.op) ss
 
 module _ {Op State : Type 0} (O : Object Op State) where
-  -- The steps of an accepted run have what is asked where their peaks are looked for.
+  -- The steps of an accepted run meet the condition for looking for their peaks.
   abbrev pub OrderlyLaw : Type 0
   OrderlyLaw =
       (h : Option (Start Op)) (ss : List (Step Op)) → StartMeets O h → RunsFrom O (first h) ss

@@ -18,7 +18,7 @@ kept (Some list) = list.items
 abbrev pub list_of : {A : Type 0} → Name → List (Name × Vec A) → List A
 list_of t lists = kept (lookup (bytes_eq t) lists)
 
--- t's own list after the step, where it was this one
+-- t's own list after the step, if it was this one
 abbrev pub own_after : {Op : Type 0} → Name → Step Op → List (Item Op) → List (Item Op)
 own_after t (App u id op) own = cond (u =ⁿ t) (own ++ record { id = id; op = op } ∷ []) own
 own_after t (Unapp u id) own = cond (u =ⁿ t) (take (length own - 1) own) own
@@ -31,7 +31,7 @@ own_after t (Cmt u) own = own
 own_after t (Quit u) own = own
 own_after t (Note u) own = own
 
--- the peak right behind the step, if one is there, where t's own list is `own t`
+-- the peak right behind the step, if there is one and t's own list is `own t`
 abbrev pub peak_at : {Op : Type 0} → Bool → Step Op → (Name → List (Item Op)) → List (Peak Op)
 peak_at top (App t id op) own = cond top (record { tx = t; ops = own t } ∷ []) []
 peak_at top (Begin u p b) own = []

@@ -13,7 +13,7 @@ pub use Rattle.pp_attempts.specs.declared.peak.Peak.{Peak}
 use Rattle.pp_attempts.specs.declared.peak.PeakFault.{PeakFault}
 use Rattle.pp_attempts.specs.declared.peak.PeakFault.TheVariants.{TooMany, OutOfMemory}
 
--- the steps that written ones stand for
+-- the steps that written ones mean
 abbrev pub meanings : {Op : Type 0} → List (StepOf Op) → List (Step Op)
 meanings list = map meaning list
 
@@ -57,8 +57,8 @@ peaks ss = peaks_behind [] ss
 abbrev pub operations : {Op : Type 0} → List (Peak Op) → ℕ
 operations ps = sum (map (λ p. length p.ops) ps)
 
--- Too many are told only where all together have more than asked for, and how many; since the peaks
--- are told only where they have not, exactly there.
+-- Too many are reported only if all together have more than asked for, and how many; since the
+-- peaks are reported only if they have not, exactly then.
 abbrev pub IsFaultOf : ℕ → ℕ → PeakFault → Type 0
 IsFaultOf n most (TooMany count) = (count ≡ n) × (most < n)
 IsFaultOf n most OutOfMemory = Unit {0}
@@ -71,7 +71,7 @@ IdsTell {Op} ps =
 
 -- What the steps of an accepted run have.
 pub record IsOrderly {Op : Type 0} (ss : List (Step Op)) : Type 0 where
-  -- no id stands in two APP steps
+  -- no id is in two APP steps
   pub once : (t u : Name) (id : ℕ) (a b : Op) → Before (App t id a) (App u id b) ss → ⊥
   -- each UNAPP step has the id of the last entry of its transaction's own list before it
   pub last_first : (past rest : List (Step Op)) (t : Name) (id : ℕ) → ss ≡ past ++ Unapp t id ∷ rest

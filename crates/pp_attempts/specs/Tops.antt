@@ -1,4 +1,4 @@
--- Proof machinery: at which steps a peak stands.
+-- Proof machinery: at which steps there is a peak.
 use Rattle.std.specs.Prelude.{◌≡◌, Bool, false, not, List, [], ◌∷◌}
 use Rattle.pp_core.specs.Steps.{Step, Begin, App, Unapp, Push, Unpush, Pull, Unpull, Cmt, Quit}
 use Rattle.pp_core.specs.Steps.{Note}
@@ -7,7 +7,7 @@ use Rattle.std.specs.Str.{bytes_eq}
 use Rattle.pp_model.specs.Names.{Name}
 use Rattle.pp_attempts.specs.Peaks.{goes_on}
 
--- a peak stands right behind this step, which these follow
+-- there is a peak right after this step, which these follow
 abbrev pub is_top : {Op : Type 0} → Step Op → List (Step Op) → Bool
 is_top (App t id op) ss = not (goes_on t ss)
 is_top (Begin u p b) ss = false

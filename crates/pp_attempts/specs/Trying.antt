@@ -18,7 +18,7 @@ pub record IsUntried {Op : Type 0} (p : Peak Op) (v : View) : Type 0 where
   pub ops : v.ops ≡ length p.ops
   pub after : v.after ≡ None
 
--- no position stands twice among these
+-- no position is twice among these
 abbrev pub AreApart : List ℕ → Type 0
 AreApart [] = Unit {0}
 AreApart (i ∷ is) = (In i is → ⊥) × AreApart is
@@ -36,7 +36,7 @@ pub record ArePositions {Op : Type 0} (ps : List (Peak Op)) (n : ℕ) (is : List
   pub all : (i : ℕ) → i < n → In i is
   pub cost : sum_by (length_at ps) is ≡ operations (take n ps)
 
--- x stands at this position
+-- x is at this position
 abbrev pub StandsAt : {A : Type 0} → List A → ℕ → A → Type 0
 StandsAt xs i x = (i < length xs) × (x ≡ get_or xs i x)
 
@@ -45,7 +45,7 @@ abbrev pub Share : {A : Type 0} → ℕ → List A → List A → Type 0
 Share n xs ys = take n xs ≡ take n ys
 
 -- Each candidate's peak shares what the candidate says with the peak of the one before it, the
--- first with `before`; and the last, or `before` where there is none, shares n with `behind`.
+-- first with `before`; and the last, or `before` if there is none, shares n with `behind`.
 abbrev pub AreAlikeTo : {Op : Type 0} → List (Peak Op) → List (Item Op) → List Candidate → ℕ
     → List (Item Op) → Type 0
 AreAlikeTo ps before [] n behind = Share n before behind
@@ -57,7 +57,7 @@ AreAlikeTo {Op} ps before (c ∷ cs) n behind =
 abbrev pub AreAlike : {Op : Type 0} → List (Peak Op) → List (Item Op) → List Candidate → Type 0
 AreAlike ps before cs = AreAlikeTo ps before cs 0 []
 
--- The operations of these items that the candidate does not share stand where it says among those
+-- The operations of these items that the candidate does not share are where it says among those
 -- of the candidates.
 pub record HasRest {Op : Type 0} (l : List Op) (c : Candidate) (items : List (Item Op)) : Type 0
   where

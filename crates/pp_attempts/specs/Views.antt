@@ -10,7 +10,7 @@ use Rattle.pp_kind.specs.Object.{Object, AllRanged}
 use Rattle.pp_attempts.specs.Peaks.{Peak}
 pub use Rattle.pp_attempts.specs.declared.view.View.{View}
 
--- It is the least of the numbers below m of which P holds, and none where P holds of none of them.
+-- It is the least of the numbers below m of which P is true, and none if P is true of none of them.
 abbrev pub IsLeastBelow : ℕ → (ℕ → Type 0) → Option ℕ → Type 0
 IsLeastBelow m P None = (n : ℕ) → n < m → P n → ⊥
 IsLeastBelow m P (Some n) = (n < m) × P n × ((k : ℕ) → k < n → P k → ⊥)

@@ -11,7 +11,7 @@ use std::alloc::Global;
 /// A peak that is tried.
 #[derive(Clone, Copy)]
 pub(crate) struct Candidate {
-    /// Where the peak stands among all.
+    /// Where the peak is among all.
     pub(crate) position: usize,
     /// How many operations, from the first on, it has in common with the candidate before it. They
     /// may have more.

@@ -47,7 +47,7 @@ fn add<O: Copy>(
     })
 }
 
-/// Takes a step, behind which a peak stands or not.
+/// Takes a step, after which there is a peak or not.
 fn take<O: Copy>(
     alloc: Global,
     lists: &mut Lists<O>,
@@ -89,7 +89,7 @@ fn take<O: Copy>(
     }
 }
 
-/// The peaks of the steps, behind each of which one stands or not.
+/// The peaks of the steps, after each of which there is one or not.
 pub(crate) fn collect<O: Copy>(
     alloc: Global,
     steps: &[Step<O>],

@@ -1,4 +1,4 @@
-//! In which order peaks are tried: those that begin alike stand together.
+//! In which order peaks are tried: those that begin alike are together.
 ghost use Rattle.std.specs.Prelude.{◌≡◌, ◌≤◌, [], IfOk, length, map};
 ghost use Rattle.pp_core.specs.declared.entry.Item.{Item as ItemOf};
 ghost use Rattle.pp_model.specs.Lists.{In};
@@ -24,7 +24,7 @@ fn common<O: Copy>(a: &[Item<O>], b: &[Item<O>]) -> usize
 }
 
 /// The positions of the peaks, each behind the id of its first operation, in the order of these ids,
-/// and of the positions where these are the same. Of a peak without operations the id is taken as 0.
+/// and of the positions if these are the same. Of a peak without operations the id is taken as 0.
 fn by_first_id<O: Copy>(alloc: Global, peaks: &[Peak<O>]) -> Result<Vec<(u32, usize)>, OutOfMemory>
     ensures { IfOk result (λ order. ArePositions peaks.now (length peaks.now)
         (map (λ o. o.1) order.items)) }
@@ -38,7 +38,7 @@ fn by_first_id<O: Copy>(alloc: Global, peaks: &[Peak<O>]) -> Result<Vec<(u32, us
     Ok(order)
 }
 
-/// All peaks as candidates. Those with the same first operation stand together, in their own order:
+/// All peaks as candidates. Those with the same first operation are together, in their own order:
 /// so each begins as the one before it, as far as its transaction did not take that back.
 pub(crate) fn line_up<O: Copy>(
     alloc: Global,

@@ -31,7 +31,7 @@ pub(crate) fn apply<O: Copy>(
     Ok(())
 }
 
-/// The list of the name, which is empty where nothing is kept of it.
+/// The list of the name, which is empty if nothing is kept of it.
 pub(crate) fn own<'a, O: Copy>(lists: &'a Lists<O>, tx: &Name) -> &'a [Item<O>]
     ensures { result.now ≡ list_of tx.now lists.now.entries }
 {

@@ -1,4 +1,4 @@
-//! At which steps of a run a peak stands.
+//! At which steps of a run there is a peak.
 ghost use Rattle.std.specs.Prelude.{◌≡◌, ◌∷◌, List, IfOk, OnOk, reverse};
 ghost use Rattle.pp_core.specs.Steps.{Step as StepOf, meaning};
 ghost use Rattle.pp_attempts.specs.Peaks.{meanings};
@@ -8,7 +8,7 @@ use indexmap::IndexSet;
 use pp_core::{Name, OutOfMemory, Step};
 use std::alloc::Global;
 
-/// Whether a peak stands right behind the step. The names are those that go on behind it, and then
+/// Whether there is a peak right after the step. The names are those that go on after it, and then
 /// those that go on from it on.
 fn take<O>(names: &mut IndexSet<Name>, step: &Step<O>) -> Result<bool, OutOfMemory>
     ensures top { IfOk result (λ top. (rest : List (StepOf O)) → KeepsGoing names.old rest
@@ -33,7 +33,7 @@ fn take<O>(names: &mut IndexSet<Name>, step: &Step<O>) -> Result<bool, OutOfMemo
     }
 }
 
-/// Whether a peak stands right behind each step, the last step first.
+/// Whether there is a peak right after each step, the last step first.
 pub(crate) fn tops<O>(alloc: Global, steps: &[Step<O>]) -> Result<Vec<bool>, OutOfMemory>
     ensures { IfOk result (λ v. v.items ≡ reverse (tops (meanings steps.now))) }
 {

@@ -73,7 +73,7 @@ fn apply_committed<S: Spec, L: Ledger>(
 /// Tries the candidates after so many committed transactions, one after another: a peak whose
 /// operations all give their results, and that has no number, gets the number of these, and a peak
 /// that has one keeps it. It answers whether any peak got one. Of what was applied for a candidate, as much stays as the next one shares.
-/// Where the operation that failed is one that the next one shares, that one fails too, and is
+/// If the operation that failed is one that the next one shares, that one fails too, and is
 /// passed over. In the end all is taken back.
 fn try_all<S: Spec, L: Ledger>(
     state: &mut S::State,
@@ -167,7 +167,7 @@ fn try_behind<S: Spec, L: Ledger>(
 }
 
 /// Tries the peaks before any committed transaction and after each of them, until each has a
-/// number. Those that have one are left out where some have got one since the last time, and as many
+/// number. Those that have one are left out if some have got one since the last time, and as many
 /// transactions have passed as had by then. So the candidates are made anew a few times, and a peak
 /// with the number n is a candidate for numbers up to 2n at most.
 fn number_all<S: Spec, L: Ledger>(

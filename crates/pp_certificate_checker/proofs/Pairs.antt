@@ -27,7 +27,7 @@ module _ {A : Type 0} where
   at_pair_within P (a ∷ b ∷ l) zero h = omega arith
   at_pair_within P (a ∷ b ∷ l) (suc i) h = omega (arith, at_pair_within P (b ∷ l) i h)
 
-  -- where each pair has the one or the other, so has the pair at a position, if there is one
+  -- if each pair has the one or the other, so has the pair at a position, if there is one
   pub at_pair_decided : (P Q : A → A → Type 0) → ((a b : A) → P a b ⊎ Q a b) → (l : List A) (i : ℕ)
       → AtPair P l i ⊎ AtPair Q l i ⊎ (length l ≤ i + 1)
   at_pair_decided P Q f [] i = inr (inr (omega arith))

@@ -58,7 +58,7 @@ module _ {Shape State Op Undo : Type 0} (o : Object Shape State Op Undo) where
   abbrev pub given : Shape → List (Item Op) → Op → Answer
   given shape list op = o.gives (state_after o shape (ops list)) op
 
-  -- An entry is taken where the object gives its result behind the entries before it.
+  -- An entry is taken if the object returns its result after the entries before it.
   abbrev pub IsEntered : Shape → List (Item Op) → Item Op → Step Shape Op → Type 0
   IsEntered shape list p r =
       ((given shape list p.op ≡ o.recorded p.op) × (r ≡ Ok (Entered shape (list ++ p ∷ []))))
@@ -104,7 +104,7 @@ module _ {Shape State Op Undo : Type 0} (o : Object Shape State Op Undo) where
   IsSerialTaken (Exchanged shape list count) n r = IsEnded shape list count n r
   IsSerialTaken (Ended shape list count m) n r = r ≡ Err NotCertificate
 
-  -- What one line does. A blank line does nothing, wherever it stands.
+  -- What one line does. A blank line does nothing, wherever it is.
   abbrev pub IsTaken : Stage Shape Op → Line Shape Op → Step Shape Op → Type 0
   IsTaken s Blank r = r ≡ Ok s
   IsTaken s (Head shape) r = IsHeadTaken s shape r

@@ -12,7 +12,7 @@ pub record ReadSoFar (Shape Op : Type 0) : Type 0 where
   pub stage : Stage Shape Op
   pub lines : ℕ
 
--- the serial number, or 0 where none was read
+-- the serial number, or 0 if none was read
 abbrev pub serial_in : {Shape Op : Type 0} → Stage Shape Op → ℕ
 serial_in Fresh = 0
 serial_in (Entered shape list) = 0

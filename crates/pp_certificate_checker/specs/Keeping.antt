@@ -10,7 +10,7 @@ use Rattle.pp_certificate_checker.specs.declared.held.Turned.{Turned}
 use Rattle.pp_certificate_checker.specs.declared.held.Held.{Held}
 use Rattle.pp_certificate_checker.specs.declared.held.Held.TheVariants as held
 
--- the stage t where nothing was refused, and else why
+-- the stage t if nothing was refused, and else why
 abbrev pub step : {A Shape Op : Type 0} → Stage Shape Op → Result A Refusal → Step Shape Op
 step t (Ok a) = Ok t
 step t (Err why) = Err why

@@ -20,7 +20,7 @@ abbrev pub ShowsAllowed : {Shape State Op Undo : Type 0} → Object Shape State 
 ShowsAllowed o h =
     IsAllowed o h.shape (ops h.serial) × (h.state ≡ state_after o h.shape (ops h.serial))
 
--- Whatever the lines are, they have one verdict. Where it accepts, what is shown is allowed, and is
+-- Whatever the lines are, they have one verdict. If it accepts, what is shown is allowed, and is
 -- what the lines say.
 pub record CheckedLaw {Shape State Op Undo : Type 0} (o : Object Shape State Op Undo)
     (L : Type 0) : Type 0 where

@@ -107,7 +107,7 @@ impl<S: Spec> Checker<S> {
         self.lines
     }
 
-    /// Takes a line, or says why it is refused. The only error is that memory was refused.
+    /// Takes a line, or says why it is refused. The only error is out of memory.
     pub fn take<L: Ledger>(
         self,
         line: Line<S::Shape, S::Op>,

@@ -13,7 +13,7 @@ use pp_core::{Item, OutOfMemory, Ticks};
 use pp_kind::{Applied, Spec};
 use std::sync::ledger::Ledger;
 
-/// Adds an entry to the list where the object gives its result. The only error is that memory was
+/// Adds an entry to the list if the object returns its result. The only error is that memory was
 /// refused.
 fn try_entry<S: Spec, L: Ledger>(
     state: &mut S::State,
@@ -46,7 +46,7 @@ fn try_entry<S: Spec, L: Ledger>(
     }
 }
 
-/// Takes an entry. The only error is that memory was refused.
+/// Takes an entry. The only error is out of memory.
 pub(crate) fn enter<S: Spec, L: Ledger>(
     held: Held<S::Shape, S::State, S::Op>,
     item: Item<S::Op>,

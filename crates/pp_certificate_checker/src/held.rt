@@ -27,7 +27,7 @@ pub(crate) enum Held<H: Drop, T: Drop, O: Copy> {
     All(Turned<H, O>, u32),
 }
 
-/// The entries, where exchanges and the serial number may come.
+/// The entries, if exchanges and the serial number may come.
 pub(crate) fn going_on<S: Spec>(
     held: Held<S::Shape, S::State, S::Op>,
     lines: u32,

@@ -27,7 +27,7 @@ pub struct Shown<H: Drop, T: Drop, O: Copy> {
 }
 
 /// What the first entries of the list show, as many as the serial number says. The only error is
-/// that memory was refused.
+/// out of memory.
 pub(crate) fn show<S: Spec, L: Ledger>(
     alloc: Global,
     turned: Turned<S::Shape, S::Op>,

@@ -38,7 +38,7 @@ module _ {Op : Type 0} (log : List (Item Op)) (d : HasDistinctIds log) (i : ℕ)
         | inr (inr k) ↦ elim k [ ]
       ]
 
-  -- where f knows the positions of the front, and g is f with this position
+  -- if f knows the positions of the front, and g is f with this position
   pub known_more : (f g : ℕ → Option ℕ) → ((q : Item Op) → In q (take i log) →
       f q.id ≡ Some (position q.id log)) →
       g e.id ≡ Some i → ((k : ℕ) → (e.id ≡ k → ⊥) → g k ≡ f k) → (q : Item Op) →

@@ -1,4 +1,4 @@
--- Proof machinery: positions by ids, and what stands ahead.
+-- Proof machinery: positions by ids, and what is ahead.
 use Rattle.std.proofs.Common.{◌≡◌, ℕ, suc, ◌+◌, nat_lt, Bool, true, false, cond, count_by, List, []}
 use Rattle.std.proofs.Common.{◌∷◌, ◌++◌, length, refl, sym, ap, ◌∙◌, arith, eq-eqb, ne_eqb, suc-add}
 use Rattle.std.proofs.Common.{zero-add, inl, inr}
@@ -37,7 +37,7 @@ module _ {Op : Type 0} where
   position_between e p s a = position_behind e.id p (e ∷ s) a
       ∙ ap (λ n. length p + n) (position_here e s) ∙ omega arith
 
-  -- whether q stands before the entry with the id i in y
+  -- whether q is before the entry with the id i in y
   abbrev pub is_ahead : ℕ → List (Item Op) → Item Op → Bool
   is_ahead i y q = nat_lt (position q.id y) (position i y)
 
@@ -54,7 +54,7 @@ module _ {Op : Type 0} where
       ahead_cons i y q x ∙ ap (λ n. cond (is_ahead i y q) 1 0 + n) h
       ∙ ap (λ (b : Bool). cond b 1 0 + ahead k z w) e ∙ sym (ahead_cons k z q w)
 
-  -- nothing stands ahead of the first entry
+  -- nothing is ahead of the first entry
   is_ahead_of_first : (e : Item Op) (y : List (Item Op)) (q : Item Op) →
       is_ahead e.id (e ∷ y) q ≡ false
   is_ahead_of_first e y q = ap (λ n. nat_lt (position q.id (e ∷ y)) n) (position_here e y)
@@ -67,7 +67,7 @@ module _ {Op : Type 0} where
       ahead_cons e.id (e ∷ y) q x ∙ ap (λ (b : Bool). cond b 1 0 + ahead e.id (e ∷ y) x)
       (is_ahead_of_first e y q) ∙ zero-add (ahead e.id (e ∷ y) x) ∙ ahead_of_first e y x
 
-  -- an entry put at the front stands ahead of every other
+  -- an entry put at the front is ahead of every other
   first_is_ahead : (i : ℕ) (e : Item Op) (y : List (Item Op)) → (e.id ≡ i → ⊥) →
       is_ahead i (e ∷ y) e ≡ true
   first_is_ahead i e y h =

@@ -96,7 +96,7 @@ module _ {Op : Type 0} where
   none_left [] h = refl
   none_left (e ∷ x) h = absurd (h.into e (inl refl))
 
-  -- Behind the entries d that stand already, the route from x to y.
+  -- After the entries d that are there already, the route from x to y.
   pub record Leads (R : Item Op → Item Op → Type 0) (j : ℕ) (d x y : List (Item Op)) : Type 0 where
     pub ends : after_exchanges (d ++ x) (route_from j (d ++ x) y) ≡ d ++ y
     pub turns : EachExchange R (d ++ x) (route_from j (d ++ x) y)

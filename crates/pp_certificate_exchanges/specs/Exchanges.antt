@@ -11,7 +11,7 @@ pub record Permutes {Op : Type 0} (x y : List (Item Op)) : Type 0 where
   pub into : (p : Item Op) → In p x → In p y
   pub back : (p : Item Op) → In p y → In p x
 
--- p stands before q in x, and q before p in y.
+-- p is before q in x, and q before p in y.
 abbrev pub Inverted : {Op : Type 0} → List (Item Op) → List (Item Op) → Item Op → Item Op → Type 0
 Inverted x y p q = Before p q x × Before q p y
 

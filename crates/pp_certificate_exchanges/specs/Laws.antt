@@ -18,7 +18,7 @@ pub record RouteLaw (Op : Type 0) : Type 0 where
 abbrev pub ItemsSwap : {Op State : Type 0} → model.Object Op State → Item Op → Item Op → Type 0
 ItemsSwap O p q = model.Swaps O p.op q.op
 
--- Where each exchange swaps, what is allowed after the first list is allowed after the last.
+-- If each exchange swaps, what is allowed after the first list is allowed after the last.
 abbrev pub ExchangeLaw : {Op State : Type 0} → model.Object Op State → Type 0
 ExchangeLaw {Op} O =
     (x : List (Item Op)) (is : List ℕ) (k : List Op) → EachExchange (ItemsSwap O) x is

@@ -80,7 +80,7 @@ fn total(counts: &[u32]) -> u64
 }
 
 /// The exchanges that turn the log into the target, unless they are more than `most`. For n entries
-/// the time grows with n log n, and with the number of exchanges. Where these are too many, they
+/// the time grows with n log n, and with the number of exchanges. If these are too many, they
 /// are only counted.
 pub fn exchanges<S: Spec>(
     alloc: Global,

@@ -10,7 +10,7 @@ pub fn route_law<O>()
     ensures { RouteLaw O }
 {}
 
-/// Where each exchange swaps, what is allowed after the first list is allowed after the last.
+/// If each exchange swaps, what is allowed after the first list is allowed after the last.
 pub fn exchange_law<S: Spec>()
     ensures { (shape : S.Shape) → ExchangeLaw (rules_of S.object shape) }
 {}

@@ -12,7 +12,7 @@ use Rattle.pp_format_read.proofs.Objects.{item_at}
 use Rattle.pp_certificate_lines.specs.Found.{Finds}
 use Rattle.pp_certificate_lines.specs.Reading.{◌>>=◌, found, number_of, numbers_of}
 
--- ---- what was read, where there was no fault
+-- ---- what was read, if there was no fault
 pub found_is : {X Y : Type 0} (f : X → Y) (read : Result X RecordFault) (given : Result Y RecordFault)
     (r : Result (Option X) OutOfMemory) → Gives f read given → Finds read r
     → IfOk r (λ o. option_map f o ≡ found given)

@@ -80,7 +80,7 @@ abbrev pub IsShownOf : Objects → Shown (List Kind) (List ObjectState) Op → T
 IsShownOf catalog h =
     EachNamed catalog h.serial × AreStatesOf catalog h.state
 
--- What lines show that are all taken, with their objects. Where there is no serial number they end
+-- What lines show that are all taken, with their objects. If there is no serial number they end
 -- too early.
 abbrev pub Closes : List (List ℕ)
     → Option (Objects × Shown (List Kind) (List ObjectState) Op) → Type 0

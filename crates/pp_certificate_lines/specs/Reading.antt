@@ -18,7 +18,7 @@ use Rattle.pp_certificate_checker.specs.declared.line.Line.TheVariants.{Blank, H
 use Rattle.pp_certificate_checker.specs.declared.line.Line.TheVariants.{Serial, Other}
 use Rattle.pp_certificate_checker.specs.Certificates.{Stage, Fresh, Entered, Exchanged, Ended, Reader}
 
--- what was read, where there was no fault
+-- what was read, if there was no fault
 abbrev pub found : {X : Type 0} → Result X RecordFault → Option X
 found (Ok x) = Some x
 found (Err fault) = None

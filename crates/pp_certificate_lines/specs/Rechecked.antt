@@ -52,7 +52,7 @@ refused_at n Position = Refuses n Position
 refused_at n (Pair first second) = Refuses n (Pair first second)
 
 -- What an input is, by the limit that it passes and the verdict on so many lines before it. The
--- first line that is refused or at fault decides: the limit, where only the end is missing.
+-- first line that is refused or at fault decides: the limit, if only the end is missing.
 abbrev pub checked : Option (ℕ × Cause) → ℕ → Verdict (List Kind) (List ObjectState) Op → Checked
 checked None count (Holds h) = Shows h
 checked None count (Refused n why) = refused_at n why

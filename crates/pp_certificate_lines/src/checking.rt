@@ -158,7 +158,7 @@ impl Checking {
         }
     }
 
-    /// Takes a line, or says why it is refused. The only error is that memory was refused.
+    /// Takes a line, or says why it is refused. The only error is out of memory.
     pub fn take_text<L: Ledger>(
         self,
         alloc: Global,
@@ -178,7 +178,7 @@ impl Checking {
     }
 
     /// What the lines show, with their objects, if a serial number is among them. The only error is
-    /// that memory was refused.
+    /// out of memory.
     pub fn close<L: Ledger>(
         self,
         ticks: &mut Ticks<L>,

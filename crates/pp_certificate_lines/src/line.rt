@@ -53,7 +53,7 @@ pub fn entry_line(alloc: Global, catalog: &Catalog, item: &Item<Op>) -> Result<T
     ensures text { IfOk result (λ text. text ≡ entry_bytes catalog.now item.now) }
     ensures one_line { IfOk result IsOneLine }
 {
-    // It stands here for what its clauses say of each catalog.
+    // It is here for what its clauses say of each catalog.
     let _named = catalog.len();
     let value = item_value(alloc, catalog, item)?;
     line_of(alloc, &value)

@@ -22,7 +22,7 @@ use std::alloc::Global;
 /// The most positions of a line.
 const MOST_POSITIONS: usize = 1000;
 
-/// What was read, or nothing where there was a fault. The only error is that memory was refused.
+/// What was read, or nothing if there was a fault. The only error is out of memory.
 fn found<X: Drop>(read: Result<X, RecordFault>) -> Result<Option<X>, OutOfMemory>
     ensures { Finds read result }
 {
@@ -50,7 +50,7 @@ fn found<X: Drop>(read: Result<X, RecordFault>) -> Result<Option<X>, OutOfMemory
     }
 }
 
-/// The object that the line is, or nothing where it is none.
+/// The object that the line is, or nothing if it is none.
 #[tactic(auto, using(crate::proofs::Parsed::found_is))]
 fn object_found(alloc: Global, line: &[u8]) -> Result<Option<Value>, OutOfMemory>
     ensures { IfOk result (λ value. option_map view value ≡ found (object_of line.now)) }
@@ -58,7 +58,7 @@ fn object_found(alloc: Global, line: &[u8]) -> Result<Option<Value>, OutOfMemory
     found(object_on(alloc, line))
 }
 
-/// The objects that the value names, or nothing where they are not of their form.
+/// The objects that the value names, or nothing if they are not of their form.
 #[tactic(auto, using(crate::proofs::Parsed::same_found))]
 fn objects_found(alloc: Global, value: &Value) -> Result<Option<Catalog>, OutOfMemory>
     ensures { IfOk result (λ catalog. catalog ≡ found (catalog_of (view value.now))) }
@@ -66,7 +66,7 @@ fn objects_found(alloc: Global, value: &Value) -> Result<Option<Catalog>, OutOfM
     found(catalog_in(alloc, value))
 }
 
-/// The operation with its id that the value is, or nothing where it is none.
+/// The operation with its id that the value is, or nothing if it is none.
 #[tactic(auto, using(crate::proofs::Parsed::same_found))]
 fn item_found(catalog: &Catalog, value: &Value) -> Result<Option<Item<Op>>, OutOfMemory>
     ensures item { IfOk result (λ item. item ≡ found (item_of catalog.now (view value.now))) }
@@ -85,7 +85,7 @@ fn number_in(value: &Value) -> Option<u32>
 }
 
 /// The objects that the first line of a certificate names, if it is of this form. The only error is
-/// that memory was refused.
+/// out of memory.
 #[tactic(auto, unfolding(crate::specs::Reading::objects_on))]
 pub fn read_objects(alloc: Global, line: &[u8]) -> Result<Option<Catalog>, OutOfMemory>
     ensures { IfOk result (λ catalog. catalog ≡ objects_on line.now) }
@@ -102,7 +102,7 @@ pub fn read_objects(alloc: Global, line: &[u8]) -> Result<Option<Catalog>, OutOf
     }
 }
 
-/// These values as whole numbers from 0 to 999,999,999, or nothing where one is none.
+/// These values as whole numbers from 0 to 999,999,999, or nothing if one is none.
 #[tactic(auto, using(crate::proofs::Parsed::walk))]
 fn numbers_among(alloc: Global, values: &[Value]) -> Result<Option<Positions>, OutOfMemory>
     ensures numbers { IfOk result (λ list. list ≡ numbers_of (items_view values.now)) }
@@ -118,7 +118,7 @@ fn numbers_among(alloc: Global, values: &[Value]) -> Result<Option<Positions>, O
     Ok(Some(list))
 }
 
-/// The row of 1 to 1000 positions that the value is, or nothing where it is none.
+/// The row of 1 to 1000 positions that the value is, or nothing if it is none.
 #[tactic(auto, unfolding(crate::specs::Reading::row_of), using(pp_format_read::proofs::Objects::count_view))]
 fn row_in(alloc: Global, value: &Value) -> Result<Option<Positions>, OutOfMemory>
     ensures row { IfOk result (λ row. row ≡ row_of (view value.now)) }
@@ -168,7 +168,7 @@ fn item_said(catalog: &Catalog, value: &Value) -> Result<Line<Kinds, Op>, OutOfM
 }
 
 /// Reads a line behind the first one, which is not blank, over the objects that the first one
-/// names. The only error is that memory was refused.
+/// names. The only error is out of memory.
 pub fn read_line(
     alloc: Global,
     catalog: &Catalog,

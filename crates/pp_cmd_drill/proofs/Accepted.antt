@@ -18,7 +18,7 @@ use Rattle.pp_cmd_drill.proofs.Pair.{done_first}
 use Rattle.pp_cmd_drill.proofs.Run.{after_pairs, after_unpaired, pairs_lead, unpaired_leads, serial_after, serial_unpaired, count_after, done_after}
 use Rattle.pp_cmd_drill.proofs.Shown.{shows_at}
 
--- after q pairs, and a transaction alone where one is left
+-- after q pairs, and a transaction alone if one is left
 abbrev after_all : ℕ → ℕ → Config Op
 after_all zero q = after_pairs q
 after_all (suc r) q = after_unpaired q

@@ -1,4 +1,4 @@
--- A machine that is driven through the steps of the run stands where its lines lead.
+-- A machine that is driven through the steps of the run is where its lines lead.
 use Rattle.std.specs.Prelude.{◌≡◌, ◌≤◌, ◌<◌, ◌+◌, ℕ, zero, suc, List, [], ◌∷◌, ◌++◌, length, Option, None, Some}
 use Rattle.std.proofs.Common.{refl, sym, ap, ◌∙◌, subst, arith, length-append}
 use Rattle.std.proofs.lemmas.List.{append-nil}
@@ -116,7 +116,7 @@ module _ (n : ℕ) (low : 1 ≤ n) (high : n ≤ 20_000) where
   all_done from to new None d = d
   all_done from to new (Some halt) d = absurd (no_halt from to new d.0 d.1 d.2 halt d.3)
 
-  -- ---- where it stands
+  -- ---- where it is
 
   abbrev T : Translation Front (RunRecord Op) Op
   T = translation_of drill_header

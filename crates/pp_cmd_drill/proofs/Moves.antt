@@ -61,7 +61,7 @@ Apart i l = Each (λ e. (e.id == i) ≡ false) l
 abbrev pub Settled : {Op : Type 0} → List (LocalEntry Op) → Type 0
 Settled l = Each (λ e. is_mark e.mark Unpushed ≡ false) l
 
--- An entry of a transaction that may commit: an own one is pushed, and a pulled one stands committed.
+-- An entry of a transaction that may commit: an own one is pushed, and a pulled one is committed.
 abbrev pub MayCommit : {Op : Type 0} → List (SharedEntry Op) → LocalEntry Op → Type 0
 MayCommit {Op} G e = (is_own e.mark ≡ true → e.mark ≡ Pushed) × (e.mark ≡ Pulled → (g : SharedEntry Op) × In g G × (g.id ≡ e.id) × (g.committed ≡ true))
 
@@ -145,7 +145,7 @@ module _ {Op State : Type 0} (O : Object Op State) where
   marked_here : (t : Name) (i : ℕ) (op : Op) (l : List (LocalEntry Op)) → Apart i l → set_mark i Pushed (own_entry t Unpushed i op ∷ l) ≡ own_entry t Pushed i op ∷ l
   marked_here t i op l h = ap (λ (b : Bool). cond b (own_entry t Pushed i op) (own_entry t Unpushed i op) ∷ set_mark i Pushed l) (eq-eqb i i refl) ∙ ap (λ (w : List (LocalEntry Op)). own_entry t Pushed i op ∷ w) (marked_apart i Pushed l h)
 
-  -- nothing that waits to be pushed stands before it
+  -- nothing that waits to be pushed is before it
   apart_in : (i : ℕ) (l : List (LocalEntry Op)) (e : LocalEntry Op) → Apart i l → In e l → e.id ≡ i → ⊥
   apart_in i l e h j k = let f = each_in (λ (x : LocalEntry Op). (x.id == i) ≡ false) l e h j in let g = eq-eqb e.id i k in cc
 

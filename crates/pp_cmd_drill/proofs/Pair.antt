@@ -1,4 +1,4 @@
--- The steps of a pair, and of a transaction alone, from a configuration in which all that stands is committed.
+-- The steps of a pair, and of a transaction alone, from one in which all of the shared log is committed.
 use Rattle.std.proofs.Common.{◌≡◌, ◌≢◌, ℕ, suc, ◌<◌, eqb, Bool, true, false, cond, List, [], ◌∷◌, ◌++◌, refl, sym, ap, ◌∙◌, inl, inr, pos, arith}
 use Rattle.std.proofs.lemmas.Bool.{eq-eqb}
 use Rattle.std.proofs.lemmas.Bool.Decides.{eqb_tells}
@@ -89,7 +89,7 @@ done_first p a = record { name = name_of a; entries = items_first p a }
 abbrev pub done_second : ℕ → CommittedTx Op
 done_second b = record { name = name_of b; entries = items_second b }
 
--- what they leave in the shared log: a alone, and both, where the two tell whether a's and b's are committed
+-- what they leave in the shared log: a alone, and both, where the two say whether a's and b's are committed
 abbrev pub shared_first : ℕ → ℕ → Bool → List (SharedEntry Op)
 shared_first p a x = shared_entry (name_of a) x (id_of a 1) (read p) ∷ shared_entry (name_of a) x (id_of a 2) (write (suc p)) ∷ shared_entry (name_of a) x (id_of a 3) (add a) ∷ shared_entry (name_of a) x (id_of a 4) (ask a) ∷ []
 
@@ -134,7 +134,7 @@ apps_lead p a ns is r G D seen ss e others under log h =
     (fresh (id_of a 4) (id_of a 3 ∷ id_of a 2 ∷ id_of a 1 ∷ is) u4) log (k.0, (k.1.0, (k.1.1.0, (k.1.1.1.0, tt))))
     h)))
 
--- a's and b's steps where both are open, from here: the own entries A of a and B of b, and what the pair has pushed
+-- a's and b's steps while both are open, from here: the own entries A of a and B of b, and what the pair has pushed
 module _ (p x a b : ℕ) (ns : List Name) (is : List ℕ) (G : List (SharedEntry Op)) (D : List (CommittedTx Op)) (seen : List (LocalEntry Op))
     (view : View a p G seen) (all : AllCommitted G) (log : Log drill_objects (shared_ops G) (states_at p x)) (apart : name_of a ≢ name_of b) where
   abbrev both_open : (A B : List (LocalEntry Op)) → List (SharedEntry Op) → Config Op

@@ -120,7 +120,7 @@ count_after (suc p) =
     let f = length-append (done_after p) (done_second (2 * p + 2) ∷ []) in
     let g = count_after p in omega arith
 
--- The write of the pair before stands in the shared log.
+-- The write of the pair before is in the shared log.
 other_behind : (t : Name) (i : ℕ) (k l : List (SharedEntry Op)) → Each (λ g. eqb g.id i ≡ false) k → of_other t i (k ++ l) ≡ of_other t i l
 other_behind t i [] l h = refl
 other_behind t i (g ∷ k) l h = ap (λ (b : Bool). cond (b && not (g.owner =ⁿ t)) (Some g) (of_other t i (k ++ l))) h.0 ∙ other_behind t i k l h.1

@@ -12,6 +12,6 @@ pub record IsNumbered (t : Transaction) : Type 0 where
   pub named : t.name ≡ name_of t.number
   pub few : t.number ≤ 20_000
 
--- further steps stand behind those of the old list
+-- further steps are after those of the old list
 abbrev pub Adds : (old new : List (StepOf Op)) → List (Step Op) → Type 0
 Adds old new more = meanings new ≡ meanings old ++ more

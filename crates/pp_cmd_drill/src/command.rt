@@ -97,7 +97,7 @@ fn text_of_run<L: Ledger>(
 }
 
 /// The status and the output of `drill` for n transactions: their run is certified as its text
-/// would be, which is not made. The only error is that memory was refused.
+/// would be, which is not made. The only error is out of memory.
 pub fn drill<L: Ledger>(
     alloc: Global,
     n: u32,

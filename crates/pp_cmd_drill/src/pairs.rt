@@ -24,7 +24,7 @@ fn add_all<const N: usize>(
     Ok(())
 }
 
-/// Adds the pull of a first transaction, where pairs stand before it.
+/// Adds the pull of a first transaction, if there are pairs before it.
 fn add_pull(steps: &mut Vec<Step<Op>>, before: u32, a: &Transaction) -> Result<(), OutOfMemory>
     requires numbered { IsNumbered a.now }
     requires number { a.now.number ≡ 2 * before + 1 }
@@ -88,7 +88,7 @@ fn pairs_of(alloc: Global, count: u32) -> Result<Vec<Step<Op>>, OutOfMemory>
     Ok(steps)
 }
 
-/// The steps of the run of n transactions. The only error is that memory was refused.
+/// The steps of the run of n transactions. The only error is out of memory.
 #[tactic(auto, using(crate::proofs::Listing::whole))]
 pub(crate) fn drill_steps(alloc: Global, n: u32) -> Result<Vec<Step<Op>>, OutOfMemory>
     requires { n ≤ 20_000 }

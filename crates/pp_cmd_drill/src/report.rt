@@ -10,7 +10,7 @@ use pp_report::write_first_line;
 use pp_text::{write_number, write_state_lines};
 use std::alloc::Global;
 
-/// The text of the command for n transactions. The only error is that memory was refused.
+/// The text of the command for n transactions. The only error is out of memory.
 pub(crate) fn drill_report(
     alloc: Global,
     n: u32,

@@ -109,7 +109,7 @@ pub(crate) fn begin_second(b: &Transaction) -> Step<Op>
     }
 }
 
-/// The first transaction pulls the write of the pair before its own, where `before` pairs stand
+/// The first transaction pulls the write of the pair before its own, if there are `before` pairs
 /// before it.
 pub(crate) fn pull(before: u32, a: &Transaction) -> Step<Op>
     requires numbered { IsNumbered a.now }

@@ -8,7 +8,7 @@ use pp_core::{OutOfMemory, Text};
 use pp_format_write::{add_steps, header_text};
 use std::alloc::Global;
 
-/// The text of the run of n transactions, as an input. The only error is that memory was refused.
+/// The text of the run of n transactions, as an input. The only error is out of memory.
 #[tactic(auto, using(crate::proofs::Writing::whole))]
 pub fn drill_run(alloc: Global, n: u32) -> Result<Text, OutOfMemory>
     requires { n ≤ 20_000 }

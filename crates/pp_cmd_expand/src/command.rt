@@ -1,4 +1,4 @@
-//! The command: the status of an input, and the run of rule steps that it stands for.
+//! The command: the status of an input, and the run of rule steps that it means.
 ghost use Rattle.std.specs.Prelude.{◌≡◌, ◌≤◌, ℕ, List, Some, IfOk, IsErrOf, ◌⊎◌};
 ghost use Rattle.std.specs.Io.KnownBytes.{IsAtEnd};
 ghost use Rattle.pp_core.specs.declared.status.Status.TheVariants as statuses;

@@ -25,7 +25,7 @@ tried_most header tried =
     start_at_most (start_of header) + records_most place_of (first_brief header) tried
 
 -- tried are the records behind a header up to and with the first that is not good, and all of them
--- where each is
+-- if each is
 abbrev pub AreTriedBehind : Header → Records (RunRecord Op) → List (RunRecord Op) → Type 0
 AreTriedBehind header records tried =
     AreTried (object_of header) place_of (first_brief header) (bare records) tried

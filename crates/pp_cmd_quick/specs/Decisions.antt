@@ -74,7 +74,7 @@ abbrev pub AllHold : Header → Records (RunRecord Op) → Type 0
 AllHold header rs = StartMeets (object_of header) (start_of header)
     × RunsFrom (object_of header) (first (start_of header)) (bare (steps_behind header rs))
 
--- On this line the start fails, whose header stands there, or the record whose step is the first
+-- On this line the start fails, whose header is there, or the record whose step is the first
 -- that fails.
 abbrev pub FailsOn : Lined Header → Records (RunRecord Op) → ℕ → Type 0
 FailsOn header rs line =
@@ -100,7 +100,7 @@ IsDecisionBehind (Some fault) sc decision = decision ≡ Faulty fault.0 fault.1
 IsDecisionBehind None sc decision = (header : Lined Header) × (sc.header ≡ Some header)
     × IsDecisionOf header sc.records decision
 
--- the decision of an input: its fault, where it has one, and else that of its records
+-- the decision of an input: its fault, if it has one, and else that of its records
 abbrev pub IsDecision : InputScan → Decision → Type 0
 IsDecision sc decision = IsDecisionBehind (quick_fault sc) sc decision
 

@@ -26,7 +26,7 @@ TellsVerdict header rs (Rejected (suc i) criterion) decision = (step : Lined (St
     × (slice_get (steps_behind header.what rs) i ≡ Some step) × (decision ≡ Rejects step.line)
 
 -- the decision is that of this report of `certify`: the same fault on the same line, but that
--- nothing is said where it is TooManySteps, or the same serial run, or a rejection on the same line
+-- nothing is said if it is TooManySteps, or the same serial run, or a rejection on the same line
 abbrev pub IsSameDecision : RunReport → Decision → Type 0
 IsSameDecision (reports.Faulty line cause) decision =
     cause ≢ TooManySteps → decision ≡ Faulty line cause

@@ -26,7 +26,7 @@ use pp_summary::Quick;
 use std::alloc::Global;
 use std::sync::ledger::Ledger;
 
-/// The text of a run whose start and records are good. The only error is that memory was refused.
+/// The text of a run whose start and records are good. The only error is out of memory.
 fn report_accepted<L: Ledger>(
     alloc: Global,
     tally: &Tally,

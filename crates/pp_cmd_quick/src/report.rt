@@ -23,7 +23,7 @@ fn write_quick_line(text: &mut Text, records: u32, committed: usize) -> Result<(
 }
 
 /// The text of an accepted run of this many records, with the states of the objects after its
-/// committed operations. The only error is that memory was refused.
+/// committed operations. The only error is out of memory.
 pub(crate) fn quick_accepted(
     alloc: Global,
     catalog: &Catalog,
@@ -43,7 +43,7 @@ pub(crate) fn quick_accepted(
     Ok(text)
 }
 
-/// The text of a run that is rejected on this line. The only error is that memory was refused.
+/// The text of a run that is rejected on this line. The only error is out of memory.
 pub(crate) fn quick_rejected(alloc: Global, line: u32) -> Result<Text, OutOfMemory>
     ensures { IfOk result (λ text. text ≡ quick_rejected_text line) }
 {

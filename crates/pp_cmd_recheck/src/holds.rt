@@ -35,7 +35,7 @@ fn first_line(
     Ok(text)
 }
 
-/// The report of a certificate that holds. The only error is that memory was refused.
+/// The report of a certificate that holds. The only error is out of memory.
 pub(crate) fn holds(
     alloc: Global,
     catalog: &Catalog,

@@ -21,7 +21,7 @@ use Rattle.pp_model.proofs.Lists.{in_left, in_right, split_at}
 use Rattle.pp_model.proofs.Logs.{found_mark, found_other, found_tx}
 use Rattle.pp_cmd_swaps.specs.Logs.{AppliesOnly, ArePlain, LogLaw, start_items}
 
--- ---- what stands in the logs
+-- ---- what is in the logs
 
 but_last_in : {A : Type 0} (l : List A) (e : A) → In e (but_last l) → In e l
 but_last_in [] e i = i
@@ -166,7 +166,7 @@ filter_short {A} test (x ∷ xs) = at (test x) (filter_short test xs)
     at true h = omega arith
     at false h = omega arith
 
--- how many ids were used and how many entries stand in the shared log, together
+-- how many ids were used and how many entries are in the shared log, together
 abbrev both : {Op : Type 0} → Config Op → ℕ
 both c = length c.ids + length c.shared
 
@@ -203,7 +203,7 @@ first_long : {Op : Type 0} (h : Option (Start Op)) → both (first h) ≡ 2 * le
 first_long None = refl
 first_long {Op} (Some z) = omega (arith, length-map z.items (λ (p : Item Op). p.id), length-map z.items (as_shared z.tx true))
 
--- a list without repetitions, all of which stand in another, is no longer than that
+-- a list without repetitions, all of which are in another, is no longer than that
 no_longer : (xs ys : List ℕ) → ((i j : ℕ) → Before i j xs → i ≢ j) → ((i : ℕ) → In i xs → In i ys) → length xs ≤ length ys
 no_longer [] ys distinct within = omega arith
 no_longer (x ∷ xs) ys distinct within =

@@ -232,7 +232,7 @@ module _ (bytes report : List ℕ) (sound : IsFaultOf (scan bytes) None) (own : 
       run.text_is ∙ ap (λ (D : List (CommittedTx Op)). accepted_text catalog (length own.run) D (state (object_of header) (serial as'))) (sym done_are)
       ∙ ap (λ (s : List ObjectState). accepted_text catalog (length own.run) c.done s) (sym final)
 
--- ---- what `swaps` writes where it accepts
+-- ---- what `swaps` writes if it accepts
 
 -- it is certified as accepted, and this is the certificate of every run of the input
 told_of : (sc : InputScan) (how : Status) (report text : List ℕ) → IsSwapsOf sc how report statuses.Accepted text

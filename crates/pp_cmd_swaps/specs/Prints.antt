@@ -47,7 +47,7 @@ abbrev pub PrintsCertificate : List ℕ → Option (List ℕ) → Option (List �
 PrintsCertificate bytes old new =
     (text : List ℕ) × Appends old new text × IsCertificateOf bytes text
 
--- Where `swaps` accepts an input, what it writes is such a certificate.
+-- If `swaps` accepts an input, what it writes is such a certificate.
 abbrev pub CertifiedLaw : Type 0
 CertifiedLaw =
     (bytes text : List ℕ) → IsSwaps bytes statuses.Accepted text → IsCertificateOf bytes text

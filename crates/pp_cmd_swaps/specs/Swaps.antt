@@ -41,7 +41,7 @@ abbrev pub IsSmallTold : Objects → Config Op → Status → List ℕ → Type 
 IsSmallTold catalog c status text = (inverted_in c ≤ MOST_SWAPS)
     × (status ≡ statuses.Accepted) × (text ≡ certificate_text catalog c)
 
--- where it would have more, only their number is told
+-- if it would have more, only their number is reported
 abbrev pub IsLargeTold : Config Op → Status → List ℕ → Type 0
 IsLargeTold c status text = (MOST_SWAPS < inverted_in c)
     × (status ≡ statuses.TooLarge) × (text ≡ too_large_text (inverted_in c))

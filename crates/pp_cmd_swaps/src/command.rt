@@ -26,7 +26,7 @@ use std::alloc::Global;
 use std::sync::ledger::Ledger;
 
 /// What is told of the configuration of a machine: its certificate, unless that would have too many
-/// exchanges. The only error is that memory was refused.
+/// exchanges. The only error is out of memory.
 fn told(
     alloc: Global,
     catalog: &Catalog,
@@ -38,7 +38,7 @@ fn told(
 {
     let shared = machine.shared();
     let entries = shared.entries();
-    // They stand here for what their clauses say of each machine and of each shared log.
+    // They are here for what their clauses say of each machine and of each shared log.
     let _steps = machine.count();
     let _length = shared.len();
     let committed = machine.committed();
@@ -64,7 +64,7 @@ fn told(
 }
 
 /// The status and the text of the input of a source: of an accepted run the certificate, or how
-/// many exchanges this would have where they are too many, and else what `certify` answers. A
+/// many exchanges this would have if they are too many, and else what `certify` answers. A
 /// verdict is found on the whole of the input.
 pub fn swaps<S: Source, L: Ledger>(
     alloc: Global,

@@ -6,7 +6,7 @@ ghost use Rattle.pp_kind.specs.Object.{rules_of};
 
 use pp_kind::Spec;
 
-/// Of the shared log of a run: what stands in it, and how long it gets.
+/// The shared log of a run: what is in it, and how long it gets.
 pub fn log_law<S: Spec>()
     ensures { (shape : S.Shape) → LogLaw (rules_of S.object shape) }
 {}
@@ -16,7 +16,7 @@ pub fn one_answer_law()
     ensures { OneAnswerLaw }
 {}
 
-/// Where the command accepts an input, its text is a certificate that is accepted in turn, and that
+/// If the command accepts an input, its text is a certificate that is accepted in turn, and that
 /// shows the operations and the states of the report of the input.
 pub fn certified_law()
     ensures { CertifiedLaw }

@@ -83,8 +83,8 @@ fn add_rows(alloc: Global, positions: &[u32], text: &mut Text) -> Result<(), Out
 }
 
 /// The text of a certificate: the objects of the catalog, the entries of a log, the positions of
-/// exchanges, and how many of the entries are the serial run then. The only error is that memory
-/// was refused.
+/// exchanges, and how many of the entries are the serial run then. The only error is out
+/// of memory.
 pub(crate) fn certificate_text(
     alloc: Global,
     catalog: &Catalog,
@@ -107,8 +107,8 @@ pub(crate) fn certificate_text(
     Ok(text)
 }
 
-/// What is told of a certificate that would have this many exchanges. The only error is that
-/// memory was refused.
+/// What is told of a certificate that would have this many exchanges. The only error is
+/// out of memory.
 pub(crate) fn too_large_text(alloc: Global, count: u64) -> Result<Text, OutOfMemory>
     ensures { IfOk result (λ text. text ≡ too_large_text count) }
 {

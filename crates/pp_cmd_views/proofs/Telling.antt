@@ -83,7 +83,7 @@ attempts_short h ss =
 
 -- ---- what is asked of a peak's operations
 
--- of operations on the objects of a run, what is asked where they are tried
+-- of operations on the objects of a run, what is required if they are tried
 on_objects : (catalog : Objects) (items : List (Item Op)) → ((i : Item Op) → In i items → IsOpOn catalog i.op)
     → Each (λ op. IsTrue (objects.fits (kinds_of catalog) op)) (ops items) × AllRanged objects (ops items)
 on_objects catalog [] all = (tt, tt)
@@ -228,7 +228,7 @@ viewed_least sc status old now new (inl accepted) decided least rises =
     more old now new a x y = omega (arith, x, y)
 viewed_least sc status old now new (inr large) decided least rises = absurd (subst IsDecided large decided)
 
--- where the peaks are not too many, this is the cost of looking for their views
+-- if the peaks are not too many, this is the cost of looking for their views
 pub few_cost : (D : List (CommittedTx Op)) (steps : List (Step Op)) → operations (peaks steps) ≤ MOST_VIEWED
     → viewing_at_most D steps ≡ length (serial_ops D) + 2 * ((length D + 1) * operations (peaks steps))
 few_cost D steps few = by (nat_lt MOST_VIEWED (operations (peaks steps))) (not_more (operations (peaks steps)) few)

@@ -16,7 +16,7 @@ OneOutputLaw =
     (bytes : List ℕ) (status other : Status) (text more : List ℕ) → IsViews bytes status text
     → IsViews bytes other more → (status ≡ other) × (text ≡ more)
 
--- In the run of an accepted input, where a committed transaction undid nothing behind its last
+-- In the run of an accepted input, if a committed transaction undid nothing behind its last
 -- peak, this has a number, which is at most the place of the transaction among the committed ones.
 abbrev pub KeptViewLaw : Type 0
 KeptViewLaw =

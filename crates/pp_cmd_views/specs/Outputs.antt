@@ -26,7 +26,7 @@ IsViewsText header steps text =
     × AreViews (object_of header) committed (peaks steps) vs
     × (text ≡ views_text (length steps) (length committed) vs)
 
--- Its status and its text: where the peaks have more than 2,000,000 operations, only how many.
+-- Its status and its text: if the peaks have more than 2,000,000 operations, only how many.
 abbrev pub IsStepsTold : Header → List (Step Op) → Status → List ℕ → Type 0
 IsStepsTold header steps status text =
     let count = operations (peaks steps) in

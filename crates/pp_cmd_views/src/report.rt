@@ -40,7 +40,7 @@ fn run_views<L: Ledger>(
         + 2 * ((length machine.now.config.done + 1) * operations found.now) }
 {
     let kinds = tally.header.catalog.kinds(alloc)?;
-    // It stands here for what its clauses say of the machine.
+    // It is here for what its clauses say of the machine.
     let _count = machine.count();
     explain::<Objects, L>(alloc, &kinds, machine.committed(), found, ticks)
 }

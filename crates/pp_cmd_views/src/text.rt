@@ -51,7 +51,7 @@ fn write_views(text: &mut Text, views: &[View]) -> Result<(), OutOfMemory>
 }
 
 /// The text of an accepted run of so many steps and committed transactions, with these views. The
-/// only error is that memory was refused.
+/// only error is out of memory.
 pub(crate) fn views_text(
     alloc: Global,
     steps: u32,
@@ -67,7 +67,7 @@ pub(crate) fn views_text(
 }
 
 /// The text of a run whose peaks have so many operations that their views are not looked for. The
-/// only error is that memory was refused.
+/// only error is out of memory.
 pub(crate) fn too_large_text(alloc: Global, count: u64) -> Result<Text, OutOfMemory>
     ensures { IfOk result (λ text. text ≡ too_large_text count) }
 {

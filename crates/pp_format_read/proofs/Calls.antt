@@ -34,7 +34,7 @@ is_call kind c answer method form near ranged =
     let third = used_ranged (nat_lt 2 used) c.third three.1 in
     record { method = method; form = form; arguments = and_from _ _ (and_from _ _ first second) third; ranged = ranged }
 
--- The operation of a call on the object that stands at its place fits there.
+-- The operation of a call on the object at its place fits there.
 pub fits_there : (kinds : List Kind) (kind : Kind) (c : Call) (answer : Answer) (op : Op)
     → slice_get kinds c.object ≡ Some kind → IsOpOf kind c answer op → IsTrue (objects.fits kinds op)
 fits_there kinds kind c answer op there call =

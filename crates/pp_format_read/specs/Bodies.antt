@@ -29,7 +29,7 @@ skip_in (Some true) = Ok Skip
 skip_in (Some false) = Err BodyBad
 skip_in None = Err BodyBad
 
--- a skip where that member is there, else a pattern
+-- a skip if that member is there, else a pattern
 abbrev pub leaf_in : Objects → Data → Option Data → Result Tree RecordFault
 leaf_in objects value (Some skip) = skip_in (as_bool skip)
 leaf_in objects value None = pattern_of objects value >>= λ p. Ok (One p)
@@ -113,7 +113,7 @@ small_body_of objects value = do
   few ← fault_if (not (is_within body)) BodyTooLarge
   Ok body
 
--- no body where it is missing or null
+-- no body if it is missing or null
 abbrev pub body_given : Objects → Option Data → Result (Option Tree) RecordFault
 body_given objects None = Ok None
 body_given objects (Some null) = Ok None

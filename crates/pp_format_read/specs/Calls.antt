@@ -23,7 +23,7 @@ use Rattle.pp_format_read.specs.declared.fault.RecordFault.TheVariants.{UnknownO
 use Rattle.pp_format_read.specs.Reading.{◌>>=◌, fault_if}
 use Rattle.pp_format_read.specs.Members.{member_of, text_of, name_from, whole, count}
 
--- the number, where it lies in -10^18 to 10^18
+-- the number, if it is in -10^18 to 10^18
 unfoldable pub number_from : ℤ → Option ℤ
 number_from n = if in_range n then Some n else None
 

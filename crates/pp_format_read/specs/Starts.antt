@@ -52,7 +52,7 @@ start_from catalog value = do
   ops ← ops_of catalog value
   Ok (record { tx = tx; ops = ops })
 
--- no start where it is missing or null
+-- no start if it is missing or null
 abbrev pub start_given : Objects → Option Data → Result (Option Start) RecordFault
 start_given catalog None = Ok None
 start_given catalog (Some null) = Ok None

@@ -117,7 +117,7 @@ fn small_body_in(alloc: Global, catalog: &Catalog, value: &Value) -> Result<Body
     Ok(body)
 }
 
-/// The body of a begin record, or None where it gives none.
+/// The body of a begin record, or None if it has none.
 #[tactic(auto, unfolding(crate::specs::Bodies::body_of_begin))]
 pub(crate) fn begin_body(
     alloc: Global,

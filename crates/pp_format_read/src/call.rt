@@ -18,7 +18,7 @@ use pp_kind::in_range;
 use pp_objects::{Form, Op, answer_form, arity, make_op, method_of};
 use serde_json::Value;
 
-/// The number, where it may stand in a record.
+/// The number, if a record may have it.
 #[tactic(auto, unfolding(crate::specs::Calls::number_from))]
 pub(crate) fn number_from(n: i128) -> Option<i64>
     ensures value { result ≡ number_from n }

@@ -15,7 +15,7 @@ use pp_core::{Catalog, Kind, MOST_OBJECTS, Member, Name, Style};
 use serde_json::Value;
 use std::alloc::Global;
 
-/// What the first line of a run says: how the run was recorded, over which objects, and what stands
+/// What the first line of a run says: how the run was recorded, over which objects, and what is
 /// committed before the first step.
 #[derive(Drop)]
 pub struct Header {

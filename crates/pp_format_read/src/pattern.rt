@@ -1,4 +1,4 @@
-//! Patterns of calls, as they stand in a body.
+//! Patterns of calls, as they are in a body.
 ghost use Rattle.std.specs.Prelude.{◌≡◌, IfOk};
 ghost use Rattle.serde_json.specs.View.{view};
 ghost use Rattle.pp_objects.specs.Calls.{HasMethod};

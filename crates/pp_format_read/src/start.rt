@@ -13,7 +13,7 @@ use pp_objects::Op;
 use serde_json::Value;
 use std::alloc::Global;
 
-/// The operations that stand committed before the first step of a run, and the name of the
+/// The operations that are committed before the first step of a run, and the name of the
 /// transaction to which they belong.
 #[derive(Drop)]
 pub struct Start {

@@ -38,7 +38,7 @@ kind_back kind.Queue = refl
 kind_back kind.Stack = refl
 kind_back kind.PriorityQueue = refl
 
--- ---- a name that stands later does not stand before
+-- ---- a name that is later is not before
 first_part : (before rest : Objects) (i : ℕ) (name : List ℕ) → slice_get (keys_of before) i ≡ Some name → slice_get (keys_of (before ++ rest)) i ≡ Some name
 first_part [] rest i name at = absurd (cc)
 first_part (e ∷ es) rest zero name at = at

@@ -38,7 +38,7 @@ within p [] i x at h = absurd (cc)
 within p (y ∷ ys) zero x at h = let same : p y ≡ true = cc in passed (p y) (position_or_len p ys) (length ys) same
 within p (y ∷ ys) (suc i) x at h = begins (p y) (position_or_len p ys) (length ys) (within p ys i x at h)
 
--- a place with such a name, where there is one
+-- a place with such a name, if there is one
 pub record IsFound (names : List (List ℕ)) (name : List ℕ) (j : ℕ) : Type 0 where
   pub first : position (bytes_eq name) names ≡ Some j
   pub at : slice_get names j ≡ Some name
@@ -78,7 +78,7 @@ object_back catalog i kind h is =
     let place : place_of (name_at catalog i) catalog ≡ Some i = rw name (place_back catalog i e.0.0 h.distinct e.1.name) in
     rw (name_back (name_at catalog i) (named_at catalog i h.named (below catalog i kind is)), place, e.1.at, e.1.kind_is) refl
 
--- where a name is found it stands
+-- a name that is found at a place is there
 pub named_place : (catalog : Objects) (name : List ℕ) (i : ℕ) → place_of name catalog ≡ Some i → slice_get (keys_of catalog) i ≡ Some name
 named_place catalog name i is =
     let names = keys_of catalog in

@@ -1,4 +1,4 @@
--- The text of a value whose texts are words, whose numbers are whole, and whose members stand in
+-- The text of a value whose texts are words, whose numbers are whole, and whose members are in
 -- order: it is one line, and it is read back as the value.
 use Rattle.std.proofs.Common.{◌≡◌, ◌≤◌, ◌<◌, ◌+◌, ◌/◌, ◌%◌, ◌==◌, ◌&&◌, ℕ, zero, suc, pos, negsuc, List, [], ◌∷◌, ◌++◌}
 use Rattle.std.proofs.Common.{Bool, true, false, cond, IsTrue, length, codes, Option, Some, Ok, option_map, option_and_then, decimal, refl, sym, ap, ◌∙◌, arith, append-nil, length-append}
@@ -28,7 +28,7 @@ use Rattle.pp_format_read.proofs.Values.{value_is}
 use Rattle.pp_format_write.specs.Lines.{IsOneLine}
 use Rattle.pp_format_write.proofs.Words.{IsWord, IsClean, clean_append, clean_word, clean_quoted, escape_word, one_line, utf8}
 
--- the key stands before each of these
+-- the key is before each of these
 abbrev pub is_before : List ℕ → Members → Bool
 is_before k no_members = true
 is_before k (member l d ms) = match_ordering (slice_cmp nat_cmp l k) false false true && is_before k ms
@@ -37,7 +37,7 @@ abbrev pub keys_rise : Members → Bool
 keys_rise no_members = true
 keys_rise (member k d ms) = is_before k ms && keys_rise ms
 
--- texts and keys are words, keys stand in order, and each number has this property
+-- texts and keys are words, keys are in order, and each number has this property
 abbrev mutual
   -- Texts and keys of a value are words, keys are in order, and each number has a property.
   pub IsTidy : (Num → Type 0) → Data → Type 0
@@ -192,7 +192,7 @@ behind_one : (fs : Members) (k : List ℕ) (d : Data) (ms : Members) → behind 
 behind_one no_members k d ms = refl
 behind_one (member l e fs) k d ms = ap (member l e) (behind_one fs k d ms)
 
--- each of these keys stands before each of those
+-- each of these keys is before each of those
 abbrev AreBefore : Members → Members → Type 0
 AreBefore no_members ms = Unit {0}
 AreBefore (member k d fs) ms = IsTrue (is_before k ms) × AreBefore fs ms
@@ -277,7 +277,7 @@ mutual
   same_members_depth no_members = refl
   same_members_depth (member k d ms) = rw (same_depth d, same_members_depth ms) refl
 
--- the data of the value that tokens begin with, where it is all
+-- the data of the value that tokens begin with, if it is all
 abbrev data_of : Option (json.Json × List Token) → Option Data
 data_of o = option_and_then of_json (option_and_then (λ p. json.if_last p.0 p.1) o)
 

@@ -10,7 +10,7 @@ use Rattle.json.proofs.Printed.Utf8.{are_ascii, IsUtf8-are_ascii}
 use Rattle.pp_core.specs.Names.{IsName, is_name_byte}
 use Rattle.pp_format_write.specs.Lines.{IsOneLine}
 
--- Each byte may stand in a name.
+-- Each byte may be in a name.
 abbrev pub IsWord : List ℕ → Type 0
 IsWord s = IsTrue (list_all is_name_byte s)
 

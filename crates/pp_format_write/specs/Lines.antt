@@ -3,7 +3,7 @@ use Rattle.std.specs.Prelude.{◌≤◌, ℕ, List, [], ◌∷◌, None, Some}
 use Rattle.pp_core.specs.Steps.{Step, Begin, App, Unapp, Push, Unpush, Pull, Unpull, Cmt, Quit}
 use Rattle.pp_core.specs.Steps.{Note}
 
--- No byte is below 32, so no line end stands among them.
+-- No byte is below 32, so no line end is among them.
 abbrev pub IsOneLine : List ℕ → Type 0
 IsOneLine [] = Unit {0}
 IsOneLine (b ∷ bs) = (32 ≤ b) × IsOneLine bs

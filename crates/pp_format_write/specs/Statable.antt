@@ -52,11 +52,11 @@ pub record IsCallOn (catalog : Objects) (p : Pattern) (kind : Kind) : Type 0 whe
 abbrev pub IsKnown : Objects → Pattern → Type 0
 IsKnown catalog p = (kind : Kind) × IsCallOn catalog p kind
 
--- an argument where it is used, and else 0
+-- an argument if it is used, and else 0
 abbrev pub if_wanted : ℕ → ℕ → Option ℤ → Option ℤ
 if_wanted i arity n = if nat_lt i arity then n else Some (pos 0)
 
--- An argument can be stated: it is any number or one in the range of records, and 0 where it is not
+-- An argument can be stated: it is any number or one in the range of records, and 0 if it is not
 -- used.
 pub record IsWanted (i arity : ℕ) (n : Option ℤ) : Type 0 where
   pub ranged : IsTrue (is_ranged_found n)
@@ -93,7 +93,7 @@ pub record IsStatableBody (catalog : Objects) (b : Tree) : Type 0 where
   pub choices : HasChoices b
   pub small : IsWithin b
 
--- a property of the body, where one was given
+-- a property of the body, if one was given
 abbrev pub IfGiven : (Tree → Type 0) → Option Tree → Type 0
 IfGiven P None = Unit {0}
 IfGiven P (Some b) = P b
@@ -144,7 +144,7 @@ IsStatableRecord catalog r =
 abbrev pub AreWritable : Objects → List (Item Op) → Type 0
 AreWritable catalog ops = Each (λ p. IsOpOn catalog p.op) ops
 
--- the same of the operations of a start, where there is one
+-- the same of the operations of a start, if there is one
 abbrev pub IsWritableStart : Objects → Option Start → Type 0
 IsWritableStart catalog None = Unit {0}
 IsWritableStart catalog (Some start) = AreWritable catalog start.ops
@@ -156,7 +156,7 @@ pub record IsStatableStart (catalog : Objects) (start : Start) : Type 0 where
   pub few : length start.ops ≤ MOST_START
   pub each : Each (λ p. IsId p.id × IsOpOn catalog p.op) start.ops
 
--- the same, where there is a start
+-- the same, if there is a start
 abbrev pub CanStart : Objects → Option Start → Type 0
 CanStart catalog None = Unit {0}
 CanStart catalog (Some start) = IsStatableStart catalog start

@@ -121,7 +121,7 @@ fn header_value_2(
 }
 
 /// The line of the header of a run of style rules over these objects, in version 1 of the format,
-/// without a line end. It reads back as that header. The only error is that memory was refused.
+/// without a line end. It reads back as that header. The only error is out of memory.
 #[tactic(auto, using(crate::proofs::Headers::no_float, crate::proofs::Headers::one_line))]
 pub fn header_line(alloc: Global, catalog: &Catalog) -> Result<Text, OutOfMemory>
     ensures text { IfOk result (λ text. text ≡ header_bytes catalog.now) }
@@ -135,7 +135,7 @@ pub fn header_line(alloc: Global, catalog: &Catalog) -> Result<Text, OutOfMemory
 
 /// The line of the header of a run of style rules over these objects that begins with these
 /// operations of this transaction, in version 2 of the format, without a line end. It reads back as
-/// that header where a header may have this start. The only error is that memory was refused.
+/// that header if a header may have this start. The only error is out of memory.
 #[tactic(auto, using(crate::proofs::Headers::no_float_2, crate::proofs::Headers::one_line_2))]
 pub fn header_line_2(
     alloc: Global,

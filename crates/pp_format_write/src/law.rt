@@ -61,7 +61,7 @@ pub fn length_law()
         → IsStatable catalog step → length (step_bytes catalog step) ≤ most_bytes step }
 {}
 
-/// Where a run can be stated, its text is an input of which each line is examined: the line of its
+/// If a run can be stated, its text is an input of which each line is examined: the line of its
 /// header, numbered 1, and the line of its step i, numbered i + 1. None of these lines is blank,
 /// and the input passes no usual limit and has less than 200,000,000 bytes. The text of a run
 /// with steps behind it is that of the run with their lines behind it.

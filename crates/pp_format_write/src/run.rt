@@ -46,8 +46,8 @@ fn add_step(
 }
 
 /// The text of a run of style rules over these objects of which no step is written yet, with this
-/// start if there is one: the line of its header with a byte 10 behind it. The only error is that
-/// memory was refused.
+/// start if there is one: the line of its header with a byte 10 behind it. The only error is
+/// out of memory.
 pub fn header_text(
     alloc: Global,
     catalog: &Catalog,
@@ -62,7 +62,7 @@ pub fn header_text(
 }
 
 /// Writes further steps behind the text of a run: a line for each, with a byte 10 behind it. The
-/// only error is that memory was refused, and the text is then of no more use.
+/// only error is out of memory, and the text is then of no more use.
 pub fn add_steps(
     alloc: Global,
     catalog: &Catalog,

@@ -8,7 +8,7 @@ use Rattle.pp_input.specs.Memory.{most_of}
 pub given : (bytes gave : List ℕ) (at n : ℕ) → gave ≡ take n (drop at bytes) → drop at bytes ≡ gave ++ drop (at + n) bytes
 given bytes gave at n h = rw (h, ← drop-drop n at bytes) (sym (take-append-drop n (drop at bytes)))
 
--- a call gives one byte at least, where there is room
+-- a call returns one byte at least, if there is room
 pub some_given : (most : Option ℕ) (room : ℕ) → 0 < room → 0 < most_of most room
 some_given None room some = some
 some_given (Some most) room some = omega arith

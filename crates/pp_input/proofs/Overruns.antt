@@ -98,7 +98,7 @@ within_stays at (x ∷ xs) b fault h =
       | Some f ↦ λ k. refl
     ] h
 
--- the bytes before the one that passes a limit stand at the front
+-- the bytes before the one that passes a limit are at the front
 pub within_front : (at : Reach) (bytes : List ℕ) → (more : List ℕ) × (bytes ≡ within_from at bytes ++ more)
 within_front at [] = ([], refl)
 within_front at (x ∷ xs) =

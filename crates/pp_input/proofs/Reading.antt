@@ -56,14 +56,14 @@ before_fault L bytes fault more h =
     = ap (λ ls. numbered (ls ++ more)) front.1 ∙ ap numbered (append_assoc (ended (within L bytes)) front.0 more) ∙ numbered_front (ended (within L bytes)) (front.0 ++ more) in
     rw (h, all, fault_line L bytes fault h) (take-append_seam (ended_lines (within L bytes)) _)
 
--- where a limit is passed, the lines before that line are what ended before that byte
+-- if a limit is passed, the lines before that line are what ended before that byte
 pub scanned_at_fault : (L : Limits) (bytes : List ℕ) (fault : LineFault) → overrun L bytes ≡ Some fault → scanned_lines L bytes ≡ ended_lines (within L bytes)
 scanned_at_fault L bytes fault h = before_fault L bytes fault (unended (rest bytes)) h
 
 early_at_fault : (L : Limits) (bytes : List ℕ) (fault : LineFault) → overrun L bytes ≡ Some fault → early_lines L bytes ≡ ended_lines (within L bytes)
 early_at_fault L bytes fault h = ap (λ ls. lines_before (overrun L bytes) (numbered ls)) (sym (append-nil (ended bytes))) ∙ before_fault L bytes fault [] h
 
--- where none is passed, all lines are examined
+-- if none is passed, all lines are examined
 pub scanned_all : (L : Limits) (bytes : List ℕ) → overrun L bytes ≡ None → scanned_lines L bytes ≡ numbered_lines bytes
 scanned_all L bytes none = ap (λ o. lines_before o (numbered_lines bytes)) none
 
@@ -190,7 +190,7 @@ hands_front lines out line held is h =
     let more = numbered_from ((after_next held).handed + 1) (after_next held).whole in
     (more, sym next.order ∙ append_assoc out (line ∷ []) more)
 
--- ---- the same, for what stands after a call
+-- ---- the same, for what is held after a call
 
 -- Without a fault, after a further piece was fed, the same lines are handed out of the longer input.
 pub took_after : (L : Limits) (bytes piece : List ℕ) (out : List (ℕ × List ℕ)) (old new : Held) → Took L bytes out old → old.fault ≡ None → new ≡ fed old piece → Took L (bytes ++ piece) out new

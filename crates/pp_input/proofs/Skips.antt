@@ -59,7 +59,7 @@ skipped_more from at to bytes n k first next = record {
   overrun = first.overrun ∙ next.overrun ∙ ap (overrun_from to) (drop-drop k n bytes);
 }
 
--- and one more line, where these bytes are left
+-- and one more line, if these bytes are left
 pub line_more : (from at to : Reach) (bytes left : List ℕ) (n k : ℕ) → IsSkipped from bytes n at → left ≡ drop n bytes
     → k < length left → (slice_index left k == 10) ≡ true → ((j : ℕ) → 0 ≤ j → j < k → (slice_index left j == 10) ≡ true → ⊥)
     → at.bytes + k < at.limits.bytes → at.lines < at.limits.lines → at.column + k ≤ at.limits.line_bytes → to.limits ≡ at.limits → to.bytes ≡ at.bytes + k + 1 → to.lines ≡ at.lines + 1 → to.column ≡ 0

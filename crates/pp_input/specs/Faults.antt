@@ -1,7 +1,7 @@
 -- Meaning: how a count of faults or of refusals rises.
 use Rattle.std.specs.Prelude.{◌≡◌, ℕ, List, length, ◌+◌, ◌^◌, ◌<◌, ◌-◌, min}
 
--- a count that stands at the end of 64 bits counts as risen
+-- a count that is at the end of 64 bits counts as risen
 abbrev pub HasRisen : ℕ → ℕ → Type 0
 HasRisen old new = old < 2 ^ 64 - 1 → old < new
 

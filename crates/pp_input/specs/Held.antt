@@ -46,11 +46,11 @@ abbrev pub TakesPiece : Held → Held → List ℕ → Option LineFault → Type
 TakesPiece old new piece limit =
     (new ≡ fed old piece) × (overrun_from old.reach piece ≡ limit)
 
--- after want of memory
+-- after out of memory
 abbrev pub refused : Held → Held
 refused held = record held { rest = []; fault = Some OutOfMemory }
 
--- at the end of the input: what follows the last line end counts as a line where it is not empty
+-- at the end of the input: what follows the last line end counts as a line if it is not empty
 abbrev pub finished : Held → Held
 finished held = record held {
   whole = held.whole ++ map without_return (unended held.rest);
@@ -58,7 +58,7 @@ finished held = record held {
   closed = true;
 }
 
--- the first of the whole lines, where so many were handed out
+-- the first of the whole lines, if so many were handed out
 abbrev pub first_of : ℕ → List (List ℕ) → Option NumberedLine
 first_of handed [] = None
 first_of handed (line ∷ lines) = Some (handed + 1, line)

@@ -3,13 +3,13 @@ use Rattle.std.specs.Prelude.{ℕ, ◌+◌, ◌-◌, Bool, ◌==◌, ◌||◌, L
 use Rattle.std.specs.Prelude.{slice_index, if◌then◌else◌}
 use Rattle.std.specs.List.{list_all}
 
--- the pieces that a byte 10 ends, where front stands before the bytes
+-- the pieces that a byte 10 ends, if front is before the bytes
 abbrev pub ended_behind : List ℕ → List ℕ → List (List ℕ)
 ended_behind front [] = []
 ended_behind front (byte ∷ bytes) =
     if byte == 10 then front ∷ ended_behind [] bytes else ended_behind (front ++ byte ∷ []) bytes
 
--- what follows the last byte 10, where front stands before the bytes
+-- what follows the last byte 10, if front is before the bytes
 abbrev pub rest_behind : List ℕ → List ℕ → List ℕ
 rest_behind front [] = front
 rest_behind front (byte ∷ bytes) =

@@ -21,7 +21,7 @@ fresh_source bytes pieces failing =
 abbrev pub ReadFails : SourceInMemory → Type 0
 ReadFails source = Contains source.failing source.calls
 
--- the most bytes of a piece, one at least; where there is none, as many as fit
+-- the most bytes of a piece, one at least; if there is none, as many as fit
 abbrev pub most_of : Option ℕ → ℕ → ℕ
 most_of None room = room
 most_of (Some most) room = max most 1
@@ -53,7 +53,7 @@ pub record SinkInMemory : Type 0 where
   pub faults : ℕ
   pub refusals : ℕ
 
--- before the first call, where a call takes so many bytes at most, and one at least
+-- before the first call, if a call takes so many bytes at most, and one at least
 abbrev pub fresh_sink : ℕ → List ℕ → SinkInMemory
 fresh_sink most failing = record {
   held = [];

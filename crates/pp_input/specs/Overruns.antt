@@ -20,7 +20,7 @@ reach_of limits bytes = record {
   column = length (rest bytes);
 }
 
--- the limit that the first of the bytes to pass one passes, where front stands before the bytes
+-- the limit that the first of the bytes to pass one passes, if front is before the bytes
 abbrev pub overrun_behind : Limits → List ℕ → List ℕ → Option LineFault
 overrun_behind limits front [] = None
 overrun_behind limits front (byte ∷ bytes) = option_or (passed (reach_of limits front) byte)
@@ -34,7 +34,7 @@ overrun limits bytes = overrun_behind limits [] bytes
 abbrev pub within : Limits → List ℕ → List ℕ
 within limits bytes = within_from (start limits) bytes
 
--- the line of a fault; want of memory has none
+-- the line of a fault; out of memory has none
 abbrev pub line_of : LineFault → ℕ
 line_of (TooLong line) = line
 line_of (TooManyLines line) = line
@@ -54,7 +54,7 @@ scanned_lines limits bytes = lines_before (overrun limits bytes) (numbered_lines
 abbrev pub early_lines : Limits → List ℕ → List NumberedLine
 early_lines limits bytes = lines_before (overrun limits bytes) (ended_lines bytes)
 
--- what a feed answers, where this is the limit that was passed
+-- what a feed returns, if this is the limit that was passed
 abbrev pub answer_of : Option LineFault → Result Unit LineFault
 answer_of None = Ok tt
 answer_of (Some fault) = Err fault

@@ -8,7 +8,7 @@ use Rattle.pp_input.specs.declared.fault.LineFault.{LineFault}
 use Rattle.pp_input.specs.declared.fault.LineFault.TheVariants.{TooLong, TooManyLines, LineTooLong}
 use Rattle.pp_input.specs.Limits.{CanCount}
 
--- the limit that a byte passes, where the bytes before it reach to here: that of the bytes, of the
+-- the limit that a byte passes, if the bytes before it reach to here: that of the bytes, of the
 -- lines, or of a line's bytes, the first of them if it passes several
 abbrev pub passed : Reach → ℕ → Option LineFault
 passed at byte =

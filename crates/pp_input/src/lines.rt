@@ -120,7 +120,7 @@ impl Lines {
         }
     }
 
-    /// The input is at its end: what follows the last line end counts as a line where it is not
+    /// The input is at its end: what follows the last line end counts as a line if it is not
     /// empty.
     pub fn finish(&mut self)
         requires sound { self.old.fault ≡ None }

@@ -16,10 +16,10 @@ pub enum SinkFault {
 
 /// Where bytes go to.
 pub trait Sink {
-    /// The bytes taken so far, where it tells.
+    /// The bytes taken so far, if it reports them.
     ghost held: { Self → Option (List ℕ) };
 
-    /// The bytes that were sent on, where it tells.
+    /// The bytes that were sent on, if it reports them.
     ghost sent: { Self → Option (List ℕ) };
 
     /// How often it was asked to send on what it took, up to the end of 64 bits.
@@ -28,7 +28,7 @@ pub trait Sink {
     /// How often it has failed, up to the end of 64 bits.
     ghost faults: { Self → ℕ };
 
-    /// How often it answered that memory was refused, up to the end of 64 bits.
+    /// How often it returned out of memory, up to the end of 64 bits.
     ghost refusals: { Self → ℕ };
 
     /// Takes bytes from the front of a piece, and answers how many. None of a piece that is not

@@ -9,7 +9,7 @@ pub struct Failed;
 
 /// Where bytes come from.
 pub trait Source {
-    /// The bytes still to come, where it tells.
+    /// The bytes still to come, if it reports them.
     ghost left: { Self → Option (List ℕ) };
 
     /// How often it has failed, up to the end of 64 bits.

@@ -58,7 +58,7 @@ impl Source for SteadySource {
 }
 
 /// Keeps what it takes, and never fails. Contracts see the bytes that were taken, those of them
-/// that were sent on, how often it was asked to send on, and how often memory was refused.
+/// that were sent on, how often it was asked to send on, and how often it was out of memory.
 #[derive(Drop)]
 pub struct SteadySink {
     held: Vec<u8>,

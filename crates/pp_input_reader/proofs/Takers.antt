@@ -98,7 +98,7 @@ consumes_more (Some a) None c x y h k = absurd h
 consumes_more (Some a) (Some b) None x y h k = absurd k
 consumes_more (Some a) (Some b) (Some c) x y h k = h ∙ ap (λ zs. x ++ zs) k ∙ sym (append_assoc x y c)
 
--- what was taken stands at the front of what was left
+-- what was taken is at the front of what was left
 pub consumed_front : (a b : Option (List ℕ)) (taken bytes : List ℕ) → Consumes a b taken → a ≡ Some bytes → (left : List ℕ) × (bytes ≡ taken ++ left)
 consumed_front None b taken bytes h is = absurd (cc)
 consumed_front (Some a) None taken bytes h is = absurd h

@@ -6,7 +6,7 @@ use Rattle.pp_input.specs.Overruns.{line_of}
 use Rattle.pp_input_reader.specs.declared.cause.Cause.{Cause}
 use Rattle.pp_input_reader.specs.declared.cause.Cause.TheVariants.{LineTooLong, TooLong, TooManyLines}
 
--- the cause of a limit that is passed; want of memory is none
+-- the cause of a limit that is passed; out of memory is none
 abbrev pub cause_of_limit : LineFault → Option Cause
 cause_of_limit (limits.TooLong line) = Some TooLong
 cause_of_limit (limits.TooManyLines line) = Some TooManyLines

@@ -29,7 +29,7 @@ pub record Reading (T F : Type 0) : Type 1 where
   -- the fault of an input that passes a limit, by its cause
   pub at_limit : Cause → F
 
--- a fault of which this holds; the only other stop is that memory was refused
+-- a fault of which this holds; the only other stop is out of memory
 abbrev pub IfFault : {F : Type 0} → Stop F → (ℕ → F → Type 0) → Type 0
 IfFault (stops.Fault line fault) P = P line fault
 IfFault (stops.Failure failure) P = failure ≡ failures.OutOfMemory
@@ -55,7 +55,7 @@ LeadsOn R from line to =
 abbrev pub HasFaultBehind : {T F : Type 0} → Reading T F → List NumberedLine → ℕ → F → Type 0
 HasFaultBehind R lines at fault = (more : List NumberedLine) → R.HasFault (lines ++ more) at fault
 
--- it is not taken: it has a fault, or memory was refused
+-- it is not taken: it has a fault, or it stops out of memory
 abbrev pub StopsAt : {T F : Type 0} → Reading T F → T → NumberedLine → Stop F → Type 0
 StopsAt R from line stop = IfFault stop (λ at fault. (lines : List NumberedLine) →
     R.Leads lines from → HasFaultBehind R (lines ++ line ∷ []) at fault)
@@ -65,7 +65,7 @@ abbrev pub StopsWith : {T F : Type 0} → Reading T F → T → NumberedLine →
 StopsWith R from line new =
     (lines : List NumberedLine) → R.Leads lines from → R.Stops (lines ++ line ∷ []) new
 
--- what the counter shows where some of these lines were taken, from the first on
+-- what the counter shows if some of these lines were taken, from the first on
 abbrev pub CountsTo : {T F : Type 0} → Reading (T × ℕ) F → List NumberedLine → ℕ → Type 0
 CountsTo {T} {F} R lines new = (front : List NumberedLine) × (back : List NumberedLine)
     × (lines ≡ front ++ back) × (((taker : T) × R.Leads front (taker, new)) ⊎ R.Stops front new)
@@ -104,7 +104,7 @@ abbrev pub HasEarlyFault : {T F : Type 0} → Reading T F → List ℕ → ℕ �
 HasEarlyFault R bytes at fault = HasFaultBehind R (early_lines R.limits bytes) at fault
     ⊎ PassesLimit R (early_lines R.limits bytes) (overrun R.limits bytes) at fault
 
--- what the counter shows where these bytes were read, whatever bytes come behind them
+-- what the counter shows if these bytes were read, whatever bytes come after them
 abbrev pub CountsEarly : {T F : Type 0} → Reading (T × ℕ) F → List ℕ → ℕ → Type 0
 CountsEarly R bytes new =
     (left : List ℕ) → CountsTo R (scanned_lines R.limits (bytes ++ left)) new

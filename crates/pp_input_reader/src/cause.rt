@@ -46,7 +46,7 @@ pub enum Cause {
     NoHeader,
     /// More than 20,000 records begin a transaction.
     TooManyTransactions,
-    /// The records stand for more than 200,000 steps.
+    /// The records mean more than 200,000 steps.
     TooManySteps,
     /// The run is not of the style that `quick` decides.
     NotBoosted,

@@ -29,8 +29,8 @@ pub trait TakesLines: Drop {
     fn at_limit(cause: Cause) -> Self::Fault
         ensures { (first : ℕ) → result ≡ (reading first).at_limit cause };
 
-    /// Takes the next line. It stops at a fault, which no line behind it changes, or where memory
-    /// is refused.
+    /// Takes the next line. It stops at a fault, which no line after it changes, or out of
+    /// memory.
     fn take<L: Ledger>(
         self,
         alloc: Global,

@@ -106,7 +106,7 @@ module _ (sc : InputScan) (tally : Tally) (machine : Seen (List Kind) Op) (r : I
       (refl, text_is ∙ ap (λ E. accepted_text tally.header.catalog count E states) k.2) in
       (Accepts count k.0 states, k.1, told)
 
--- where the fact of a criterion holds, the criterion is false
+-- if the fact of a criterion is true, the criterion is false
 start_refuting : (kinds : List Kind) (h : Option (Start Op)) (n : ℕ) → IsStartEvident kinds h (suc n) → StartFactRefutes kinds h (suc n)
 start_refuting kinds None n h = h
 start_refuting kinds (Some z) n h = (start_evidence_law objects objects_lawful kinds).refutes z n

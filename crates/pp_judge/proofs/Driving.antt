@@ -28,7 +28,7 @@ use Rattle.pp_judge.specs.declared.driven.Rejection.{Rejection}
 
 -- ---- where a record leads
 
--- the steps of a record, where the front and the machine stand
+-- the steps of a record, from where the front and the machine are
 abbrev pub steps_here : Header → AnyFront → Seen (List Kind) Op → RunRecord Op → List (Step Op)
 steps_here header front machine r =
     expand place_of (any_style front) (any_state (kinds_of header.catalog) front) machine.config r
@@ -112,7 +112,7 @@ module _ (machine new : Seen (List Kind) Op) (steps : List (Step Op)) (from to :
   no_fewer_there None d = more_there [] d
   no_fewer_there (Some halt) d = more_there (d.0 ∷ d.1) d.2
 
--- where no step is tried
+-- if no step is tried
 pub untried : (machine : Seen (List Kind) Op) (steps : List (Step Op)) (from : ℕ) → machine.count ≤ MOST_STEPS → CostAtMost objects place_of machine steps from from
 untried machine steps from few =
     record {

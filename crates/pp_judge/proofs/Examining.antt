@@ -83,7 +83,7 @@ module _ {J R : Type 0} (M : Judging J R) where
         (laws.fault_stays (scan_lines M.limits.transactions (lines ++ line ∷ [])) (scan_lines M.limits.transactions ((lines ++ line ∷ []) ++ more)) (line.0, cause) (widens_lines M.limits.transactions (lines ++ line ∷ []) more) here))
         stops
 
-    -- and where this is its fault
+    -- and if this is its fault
     pub stops_on : (from : Progress J R) (line : NumberedLine) (now : ℕ) (to : Result (Progress J R) (Stop Cause)) → IfErr to (λ stop. IfFault stop (λ at cause. (at ≡ line.0) × HasFaultOn M from line now cause))
         → IfErr to (λ stop. (first : ℕ) → StopsAt (judged_reading M first) (from, now) line stop)
     stops_on from line now (Ok p) stops = tt
@@ -171,7 +171,7 @@ module _ {J R : Type 0} (M : Judging J R) where
         subst (λ (ls : List NumberedLine). M.AtMost (scan_lines M.limits.transactions ls) first new) (sym is) (laws.most_widens (scan_lines M.limits.transactions front) (scan_lines M.limits.transactions (front ++ back)) first new (widens_lines M.limits.transactions front back) here) in
         laws.most_widens sc (scan_within M.limits bytes) first new (widens_fault sc (option_or (limit_fault (overrun M.limits bytes)) (no_header bytes sc.header))) all
 
-    -- where all lines were taken
+    -- if all lines were taken
     pub finding_counted : (first now : ℕ) (old new : Option (List ℕ)) (bytes : List ℕ) (p : Progress J R) → IsAtEnd new → old ≡ Some bytes → ReadsAll (judged_reading M first) old new (p, now) → RisesAtLeast M (scan_within M.limits bytes) (finding_of p) first now
     finding_counted first now old new bytes (Waiting lines) end is reads = tt
     finding_counted first now old new bytes (Running tally judge) end is (taken, read, none, leads) =

@@ -1,4 +1,4 @@
--- Lines that do not begin too many transactions are scanned the same where more are allowed.
+-- Lines that do not begin too many transactions are scanned the same if more are allowed.
 use Rattle.std.specs.Prelude.{◌≡◌, ◌≤◌, ◌⊎◌, ◌+◌, ◌==◌, ◌&&◌, ◌||◌, ℕ, Bool, true, false, List, []}
 use Rattle.std.specs.Prelude.{◌∷◌, ◌++◌, cond, fold, is_some, length, Option, None, Some, Result, Ok, Err}
 use Rattle.std.proofs.Common.{refl, sym, ap, subst, ◌∙◌, arith}
@@ -30,7 +30,7 @@ HasTooMany sc = (line : ℕ) × (sc.fault ≡ Some (line, TooManyTransactions))
 abbrev pub BeginsAtMost : ℕ → InputScan → Type 0
 BeginsAtMost most sc = begins sc.records ≤ most
 
--- too many begin, or where more are allowed it is the same, and no more begin
+-- too many begin, or if more are allowed it is the same, and no more begin
 abbrev Agrees : ℕ → InputScan → InputScan → Type 0
 Agrees narrow slim fat = HasTooMany slim ⊎ ((fat ≡ slim) × BeginsAtMost narrow slim)
 
@@ -94,7 +94,7 @@ module _ (narrow wide : ℕ) (le : narrow ≤ wide) where
   too_many_stays : (sc : InputScan) (lines : List NumberedLine) → HasTooMany sc → HasTooMany (fold (scan_line narrow) sc lines)
   too_many_stays sc lines (line, is) = (line, ap (λ (s : InputScan). s.fault) (stays narrow sc (line, TooManyTransactions) lines is) ∙ is)
 
-  -- lines of which too many begin a transaction, or which are scanned the same where more may
+  -- lines of which too many begin a transaction, or which are scanned the same if more may
   pub lines_agree : (sc : InputScan) (lines : List NumberedLine) → BeginsAtMost narrow sc
       → HasTooMany (fold (scan_line narrow) sc lines) ⊎ (fold (scan_line wide) sc lines ≡ fold (scan_line narrow) sc lines)
   lines_agree sc [] few = inr refl

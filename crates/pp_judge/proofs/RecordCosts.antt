@@ -62,7 +62,7 @@ but_last_end (y ∷ []) x = refl
 but_last_end (y ∷ z ∷ ys) x = ap (λ (l : List (Step Op)). y ∷ l) (but_last_end (z ∷ ys) x)
 
 module _ {State : Type 0} (O : Object Op State) (line : ℕ) where
-  -- steps that hold stand first in the run of them and of others
+  -- steps that hold are first in the run of them and of others
   stand_first : (c : Config Op) (before rest : List (Step Op)) (run : LinedSteps Op) → RunsFrom O c before → EndsAtFailure O c (on_line line (before ++ rest) ++ []) run
       → (more : LinedSteps Op) × EndsAtFailure O (after_from c before) (on_line line rest ++ []) more × (bare run ≡ before ++ bare more)
   stand_first c before rest run hold ends =
@@ -80,7 +80,7 @@ module _ {State : Type 0} (O : Object Op State) (line : ℕ) where
   one_first c s behind run (inl e) = ([], ap (λ (w : LinedSteps Op). bare w) e.2)
   one_first c s behind run (inr e) = (bare e.1.0, ap (λ (w : LinedSteps Op). bare w) e.1.2)
 
-  -- those that were tried stand first
+  -- those that were tried are first
   tried_first : (c : Config Op) (before tried behind : List (Step Op)) (run : LinedSteps Op) → RunsFrom O c before → (tried ≡ before) ⊎ ((step : Step Op) × (tried ≡ before ++ step ∷ []))
       → EndsAtFailure O c (on_line line (tried ++ behind) ++ []) run → (more : List (Step Op)) × (bare run ≡ tried ++ more)
   tried_first c before tried behind run hold (inl e) ends =
@@ -95,14 +95,14 @@ module _ {State : Type 0} (O : Object Op State) (line : ℕ) where
         k.2 ∙ ap (λ (w : List (Step Op)). before ++ w) last.1 ∙ sym (append_assoc before (s ∷ []) last.0) ∙ ap (λ (w : List (Step Op)). w ++ last.0) (sym one.1),
       )
 
-  -- where all hold, they are the run
+  -- if all hold, they are the run
   whole_run : (c : Config Op) (steps before : List (Step Op)) (run : LinedSteps Op) → RunsFrom O c before → steps ≡ before ++ [] → EndsAtFailure O c (on_line line steps ++ []) run → bare run ≡ before
   whole_run c steps before run hold parts ends =
       let k = stand_first c before [] run hold (subst (λ (w : List (Step Op)). EndsAtFailure O c (on_line line w ++ []) run) parts ends) in
       let none : k.0 ≡ [] = k.1 in
       k.2 ∙ ap (λ (w : LinedSteps Op). before ++ bare w) none ∙ append-nil before
 
-  -- where one fails behind those that hold, the run ends with it
+  -- if one fails after those that hold, the run ends with it
   failed_run : (c : Config Op) (steps before behind : List (Step Op)) (s : Step Op) (n : ℕ) (run : LinedSteps Op) → RunsFrom O c before → steps ≡ before ++ s ∷ behind → Breaks O (after_from c before) s (suc n)
       → EndsAtFailure O c (on_line line steps ++ []) run → bare run ≡ before ++ s ∷ []
   failed_run c steps before behind s n run hold parts breaks ends =
@@ -170,7 +170,7 @@ module _ (h : Header) (rs : Records (RunRecord Op)) (front : AnyFront) (machine 
       let xs : List (Step Op) = bare so_far in
       more_least old now new (singles xs) (singles before) (singles (xs ++ before)) here cost (singles_append xs before)
 
-  -- the run with this record: where each of its steps is done
+  -- the run with this record, if each of its steps is done
   pub done_run : (now new : ℕ) (v : Seen (List Kind) Op) (done : HasDone objects machine (steps_here h front machine r) [] v now new) (run : LinedSteps Op)
       → IsRun (object_of h) (translation_of h) (start_of h) (rs ++ on_record line r ∷ []) run → bare run ≡ bare so_far ++ done.before
   done_run now new v done run is =
@@ -178,7 +178,7 @@ module _ (h : Header) (rs : Records (RunRecord Op)) (front : AnyFront) (machine 
       let there : bare k.0 ≡ done.before = whole_run (object_of h) line machine.config (steps_here h front machine r) done.before k.0 (hold_there h rs front machine c r done.before done.hold) done.parts k.1 in
       k.2 ∙ ap (λ (w : List (Step Op)). bare so_far ++ w) there
 
-  -- and where one fails
+  -- and if one fails
   pub run_to_failed : (now new : ℕ) (rejection : Rejection) (e : FailsWithin machine (steps_here h front machine r) line now new rejection) (run : LinedSteps Op)
       → IsRun (object_of h) (translation_of h) (start_of h) (rs ++ on_record line r ∷ []) run → bare run ≡ (bare so_far ++ e.done.before) ++ e.step ∷ []
   run_to_failed now new rejection e run is = go e.criterion e.some e.breaks

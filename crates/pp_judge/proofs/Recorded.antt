@@ -61,7 +61,7 @@ module _ (h : Header) (rs : Records (RunRecord Op)) (front : AnyFront) (machine 
       ap (λ (s : Style). expand place_of s (any_state (kinds_of h.catalog) front) machine.config r) c.style
       ∙ ap (λ (f : Front). expand place_of h.style f machine.config r) c.kept
 
-  -- they hold over the objects of the header where they hold over those of the machine
+  -- they hold over the objects of the header if they hold over those of the machine
   pub hold_there : (before : List (Step Op)) → RunsFrom (rules_of objects machine.shape) machine.config before → RunsFrom (object_of h) machine.config before
   hold_there before hold = subst (λ (k : List Kind). RunsFrom (rules_of objects k) machine.config before) c.shape hold
 

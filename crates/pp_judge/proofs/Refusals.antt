@@ -1,4 +1,4 @@
--- Want of memory alone has no cause.
+-- Out of memory alone has no cause.
 use Rattle.std.specs.Prelude.{◌≡◌, Result, Ok, Err}
 use Rattle.std.proofs.Common.{refl}
 use Rattle.pp_core.specs.declared.answer.OutOfMemory.{OutOfMemory}

@@ -29,7 +29,7 @@ use Rattle.pp_judge.specs.laws.Driven.{bad_few}
 
 -- ---- after a header and some records
 
--- all steps that these records stand for
+-- all steps that these records mean
 abbrev pub all_so_far : Header → Records (RunRecord Op) → LinedSteps Op
 all_so_far h rs = joined_steps (translation_of h) (outset (translation_of h) (start_of h)) rs
 
@@ -53,7 +53,7 @@ module _ (sc : InputScan) (tally : Tally) (machine : Seen (List Kind) Op) (r : I
   pub is_run_so_far : IsRun (object_of tally.header) (translation_of tally.header) (start_of tally.header) sc.records run_so_far
   is_run_so_far = ((reading_law (object_of tally.header) (translation_of tally.header)).end (start_of tally.header) sc.records (standing_of r.state machine) machine.count r.stands).0
 
-  -- the machine stands where the steps so far lead
+  -- the machine is where the steps so far lead
   pub config_is : machine.config ≡ after (start_of tally.header) (bare run_so_far)
   config_is =
       let h = tally.header in

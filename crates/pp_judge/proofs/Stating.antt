@@ -75,7 +75,7 @@ stated_header sc line (Ok header) read none h =
     record { stated = (is_catalog line.1 header read, can_start line.1 header read, each); begun = h.begun }
 stated_header sc line (Err fault) read none h = stated_fault sc line.0 (cause_of fault) h
 
--- one more is begun, where they are not too many
+-- one more is begun, if they are not too many
 one_begun : (b : Bool) (k : ℕ) (r : Lined (RunRecord Op)) → k ≤ 20_000 → (b && k == MOST_TRANSACTIONS) ≡ false → k + length (cond b (r ∷ []) []) ≤ 20_000
 one_begun true k r few test = less k few test
   where

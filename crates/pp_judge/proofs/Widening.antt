@@ -109,7 +109,7 @@ widens_lines most lines more =
       fault = λ f faulty. stays most (scan_lines most lines) f more faulty;
     })
 
--- a fault where no line has one
+-- a fault if no line has one
 pub widens_fault : (sc : InputScan) (o : Option (ℕ × Cause)) → Widens sc (or_fault sc o)
 widens_fault sc o =
     record {

@@ -199,7 +199,7 @@ whole_ends bytes (limits.TooManyLines line) sc h = (line, TooManyLines, inl refl
 whole_ends bytes (limits.LineTooLong line) sc h = absurd h
 whole_ends bytes limits.OutOfMemory sc h = absurd h
 
--- where more transactions are allowed, a scan that does not begin too many is the same
+-- if more transactions are allowed, a scan that does not begin too many is the same
 same_begins : (narrow wide : Limits) (end : Option LineFault → InputScan → Option (ℕ × Cause)) (lines : List NumberedLine) (o : Option LineFault) → narrow.transactions ≤ wide.transactions
     → HasAllowedBegins narrow wide (scan_of_limit narrow.transactions end lines o) → scan_of_limit wide.transactions end lines o ≡ scan_of_limit narrow.transactions end lines o
 same_begins narrow wide end lines o le (inl same) = ap (λ (most : ℕ). scan_of_limit most end lines o) (sym same)

@@ -6,7 +6,7 @@ use Rattle.pp_format_read.specs.declared.fault.RecordFault.TheVariants as faults
 use Rattle.pp_input_reader.specs.declared.cause.Cause.{Cause}
 use Rattle.pp_input_reader.specs.declared.cause.Cause.TheVariants as causes
 
--- the cause of the same name, unless memory was refused
+-- the cause of the same name, unless the fault is out of memory
 abbrev pub cause_of : RecordFault → Result Cause OutOfMemory
 cause_of faults.NotJson = Ok causes.NotJson
 cause_of faults.NotObject = Ok causes.NotObject

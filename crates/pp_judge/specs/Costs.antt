@@ -17,7 +17,7 @@ use Rattle.pp_judge.specs.Scans.{InputScan}
 
 -- ---- the run of an input
 
--- the start that an input has, where its header gives one
+-- the start that an input has, if its header has one
 abbrev pub start_behind : Option (Lined Header) → Option (Start Op)
 start_behind None = None
 start_behind (Some header) = start_of header.what

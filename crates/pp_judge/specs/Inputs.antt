@@ -20,11 +20,11 @@ abbrev pub no_header : List ℕ → Option (Lined Header) → Option (ℕ × Cau
 no_header bytes (Some header) = None
 no_header bytes None = Some (length (numbered_lines bytes) + 1, NoHeader)
 
--- where no line has a fault, this is the fault
+-- if no line has a fault, this is the fault
 abbrev pub or_fault : InputScan → Option (ℕ × Cause) → InputScan
 or_fault sc fault = record sc { fault = option_or sc.fault fault }
 
--- What an input with these limits is: the lines before the line that passes a limit, in turn. Where
+-- What an input with these limits is: the lines before the line that passes a limit, in turn. If
 -- no line has a fault, the passed limit is the fault, and else that there is no header.
 abbrev pub scan_within : Limits → List ℕ → InputScan
 scan_within limits bytes =

@@ -17,7 +17,7 @@ use Rattle.pp_kind.specs.Object.{rules_of}
 abbrev pub object_of : Header → Object Op (List ObjectState)
 object_of header = rules_of objects (kinds_of header.catalog)
 
--- the transaction that stands committed before the first step, where the header gives one
+-- the transaction that is committed before the first step, if the header has one
 abbrev pub start_of : Header → Option (Start Op)
 start_of header = option_map (λ z. start_with z.tx z.ops) header.start
 

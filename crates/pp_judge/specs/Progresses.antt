@@ -1,4 +1,4 @@
--- Proof machinery: where the judging of a run stands after some of its lines.
+-- Proof machinery: where the judging of a run is after some of its lines.
 use Rattle.std.specs.Prelude.{◌≡◌, ℕ, ◌+◌, ◌≤◌, List, length, Some}
 use Rattle.pp_input.specs.Limits.{HasNext}
 use Rattle.pp_input.specs.Lines.{NumberedLine}

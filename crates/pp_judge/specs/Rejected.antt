@@ -36,14 +36,14 @@ IsStepEvident kinds before step criterion =
     × HoldsAtNumber objects (facts objects kinds before step) criterion
     (evidence objects kinds before step criterion)
 
--- Where the fact of a criterion of a start holds of any detail, the criterion is false.
+-- If the fact of a criterion of a start is true of any detail, the criterion is false.
 abbrev pub StartFactRefutes : List Kind → Option (Start Op) → ℕ → Type 0
 StartFactRefutes kinds None criterion = ⊥
 StartFactRefutes kinds (Some z) criterion = (detail : Detail Op) →
     HoldsAtNumber objects (start_facts objects kinds z) criterion detail
     → FailsAt (start_criteria (rules_of objects kinds) (Some z)) criterion
 
--- The same of a criterion of a step, where the detail tells something.
+-- The same of a criterion of a step, if the detail says something.
 abbrev pub StepFactRefutes : List Kind → Config Op → Step Op → ℕ → Type 0
 StepFactRefutes kinds before step criterion = (detail : Detail Op) →
     HoldsAtNumber objects (facts objects kinds before step) criterion detail → detail ≢ Nothing

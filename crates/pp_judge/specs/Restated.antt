@@ -48,7 +48,7 @@ abbrev pub restated_text : Header → LinedSteps Op → List ℕ
 restated_text header run = run_text header.catalog header.start (bare run)
 
 -- The run can be stated. Its text is an input within all limits, whose records are the steps of the
--- run. So it has the same steps as its run, and the same report but for the lines; where it is
+-- run. So it has the same steps as its run, and the same report but for the lines; if it is
 -- accepted, the same text is printed of it.
 pub record IsRestated (bytes : List ℕ) (header : Header) (run : LinedSteps Op) : Type 0 where
   pub statable : IsStatableRun header.catalog header.start (bare run)

@@ -1,4 +1,4 @@
--- Proof machinery: where a machine stands that takes the steps of the records.
+-- Proof machinery: where a machine is that takes the steps of the records.
 use Rattle.std.specs.Prelude.{◌≡◌, ℕ, zero, suc, ◌+◌, ◌<◌, List, [], ◌∷◌, ◌++◌, slice_get, take}
 use Rattle.std.specs.Prelude.{Option, None, Some, Result, Ok, Err}
 use Rattle.pp_core.specs.declared.call.Kind.{Kind}
@@ -37,7 +37,7 @@ use Rattle.pp_judge.specs.Reports.{detail_of_start}
 use Rattle.pp_judge.specs.Scans.{InputScan}
 use Rattle.pp_judge.specs.Tallies.{IsTallied}
 
--- where the run stands: a state of its front, and the configuration of the machine
+-- where the run is: a state of its front, and the configuration of the machine
 abbrev pub standing_of : Front → Seen (List Kind) Op → Standing Front Op
 standing_of state machine = record { front = state; config = machine.config }
 
@@ -50,7 +50,7 @@ pub record IsRunning (sc : InputScan) (tally : Tally) (machine : Seen (List Kind
   pub stands : StandsAt (object_of tally.header) (translation_of tally.header)
       (start_of tally.header) sc.records (standing_of state machine) machine.count
 
--- Each step that the records after a header stand for meets its criteria, the machine is where
+-- Each step that the records after a header mean meets its criteria, the machine is where
 -- they lead, and the front is of the style, and keeps what the records leave.
 pub record GoesOn (header : Header) (records : Records (RunRecord Op)) (front : AnyFront)
     (machine : Seen (List Kind) Op) : Type 0 where
@@ -73,7 +73,7 @@ start_rejection header line n = record {
 }
 
 -- the rejection of the step of this number, of which this is the first false criterion; 0 is the
--- start of the header, which stands on this line
+-- start of the header, which is on this line
 abbrev pub IsRejectionOf : Header → ℕ → LinedSteps Op → ℕ → ℕ → Rejection → Type 0
 IsRejectionOf header at run zero n rejection =
     (rejection ≡ start_rejection header at n)

@@ -44,7 +44,7 @@ pub record IsTallied (sc : InputScan) (tally : Tally) : Type 0 where
   pub begun : tally.begins ≡ begins sc.records
   pub fewer : length sc.records < tally.lines
 
--- a record that may not begin another transaction, where at most so many may
+-- a record that may not begin another transaction, if at most so many may
 abbrev pub is_too_many : ℕ → Tally → RunRecord Op → Bool
 is_too_many most tally r = is_begin_record r && tally.begins == most
 

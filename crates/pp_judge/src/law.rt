@@ -17,7 +17,7 @@ ghost use Rattle.pp_judge.specs.Objects.{object_of, setting_of, translation_of};
 ghost use Rattle.pp_judge.specs.WiderLimits.{WiderLimitsLaw};
 
 /// The records behind a header can not be without a run, and have one at most. Records that are
-/// steps, as all of style rules are, stand for themselves: of at most 200,000 of them the fault is
+/// steps, as all of style rules are, mean themselves: of at most 200,000 of them the fault is
 /// that of the scan, and else their report is that of the verdict of these steps. It is a law of
 /// the definitions, and does nothing.
 pub fn records_are_steps()

@@ -1,4 +1,4 @@
-//! Where the judging of a run stands after some of its lines.
+//! Where the judging of a run is after some of its lines.
 ghost use Rattle.std.specs.Prelude.{◌≡◌, ◌<◌};
 ghost use Rattle.pp_records.specs.Records.{record_meaning};
 ghost use Rattle.pp_core.specs.Steps.{meaning};

@@ -72,7 +72,7 @@ fn take_header<J: Judge, L: Ledger>(
     Ok(progress_of(tally, judged))
 }
 
-/// The record of a line after the header, where at most so many may begin a transaction.
+/// The record of a line after the header, if at most so many may begin a transaction.
 fn read_next(
     alloc: Global,
     tally: &Tally,

@@ -90,7 +90,7 @@ module _ {Op State : Type 0} (style : Style) (has : HasSummary style) (O : Objec
   abbrev Fails : Standing Front Op → Records (RunRecord Op) → Type 0
   Fails p rs = FailsFrom O p.config (joined_steps (translation place style ks) p rs) line s n
 
-  -- where the run on the object stands after a record
+  -- where the run on the object is after a record
   abbrev stand_after : Standing Front Op → Option (RunRecord Op) → Standing Front Op
   stand_after q None = q
   stand_after q (Some r) = after_record (translation place style ks) q r

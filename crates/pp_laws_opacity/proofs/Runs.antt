@@ -105,7 +105,7 @@ module _ {Op State : Type 0} (O : Object Op State) where
         ∙ ap (λ (w : List (Attempt Op)). start_attempts h ++ (w ++ map new (commits (s ∷ [])))) old
         ∙ sym (append_assoc (start_attempts h) (map (attempt_of past) (commits past)) (map new (commits (s ∷ []))))
 
-    -- the attempts that are committed stand first later
+    -- the attempts that are committed are first later
     pub attempts_more : (past ss : List (Step Op)) → RunsFrom O (first h) (past ++ ss) → (more : List (Attempt Op)) × (attempts h (past ++ ss) ≡ attempts h past ++ more)
     attempts_more past ss r = along_from (λ w. (more : List (Attempt Op)) × (attempts h w ≡ attempts h past ++ more))
         (λ p s q k.

@@ -18,7 +18,7 @@ use Rattle.pp_laws_runs.specs.Prefixes.{EndsLine}
 
 -- ---- limits
 
--- want of memory is no limit
+-- out of memory is no limit
 no_memory_in : (a b c : Bool) (n : ℕ) → cond a (Some (TooLong n)) (cond b (Some (TooManyLines n)) (cond c (Some (LineTooLong n)) None)) ≡ Some OutOfMemory → ⊥
 no_memory_in true b c n h = cc
 no_memory_in false true c n h = cc

@@ -61,7 +61,7 @@ below n k h = omega (arith, h)
 at_least : (n k : ℕ) → k ≡ n → n ≤ k
 at_least n k h = omega (arith, h)
 
--- where these lines have no header, it is on a line behind them
+-- if these lines have no header, it is on a line behind them
 header_behind : (before : List NumberedLine) (n : ℕ) (lines : List (List ℕ)) (h : Lined Header) → (scan_lines usual_limits.transactions before).header ≡ None → (scan_lines usual_limits.transactions (before ++ numbered_from n lines)).header ≡ Some h → n ≤ h.line
 header_behind before n [] h none is =
     absurd (let e : None ≡ Some h = sym none ∙ ap (λ (ls : List NumberedLine). (scan_lines usual_limits.transactions ls).header) (sym (append-nil before)) ∙ is in cc)

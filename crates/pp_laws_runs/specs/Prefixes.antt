@@ -37,7 +37,7 @@ IsAccepted bytes steps committed = (final : List ObjectState)
 
 -- This prefix of an accepted input has its header and no fault, and is accepted too: its run and
 -- its committed transactions, each with its own operations, are the first of those of the whole.
--- (Of the transactions the bodies are not compared; they stand in the steps of the runs.)
+-- (Of the transactions the bodies are not compared; they are in the steps of the runs.)
 pub record IsAcceptedPrefix (front back : List ℕ) (committed : List (Attempt Op)) : Type 0 where
   pub header : (scan front).header ≡ (scan (front ++ back)).header
   pub no_fault : IsFaultOf (scan front) None
@@ -48,20 +48,20 @@ pub record IsAcceptedPrefix (front back : List ℕ) (committed : List (Attempt O
   pub run_begins : (run : HasRun (scan front)) (whole : HasRun (scan (front ++ back))) →
       Begins run.run whole.run
 
--- Where an input is accepted, of style rules or of any other, each of its prefixes that holds the
+-- If an input is accepted, of style rules or of any other, each of its prefixes that holds the
 -- header's line whole and ends behind a byte 10 has no fault and is accepted.
 abbrev pub PrefixLaw : Type 0
 PrefixLaw = (front back : List ℕ) (steps : ℕ) (committed : List (Attempt Op)) →
     IsPrefixOfLines front back → IsAccepted (front ++ back) steps committed →
     IsAcceptedPrefix front back committed
 
--- Where the output that certifies an input says that it is accepted, so does that of the prefix.
+-- If the output that certifies an input says that it is accepted, so does that of the prefix.
 abbrev pub CertifiedPrefixLaw : Type 0
 CertifiedPrefixLaw = (front back text : List ℕ) → IsPrefixOfLines front back →
     IsCertified (front ++ back) statuses.Accepted text →
     (shorter : List ℕ) × IsCertified front statuses.Accepted shorter
 
--- Where the header stands on line 1, each prefix that ends behind a byte 10 is such a prefix.
+-- If the header is on line 1, each prefix that ends after a byte 10 is such a prefix.
 abbrev pub FirstLineLaw : Type 0
 FirstLineLaw = (front back : List ℕ) (header : Lined Header) → EndsLine front →
     (scan (front ++ back)).header ≡ Some header → header.line ≡ 1 → IsPrefixOfLines front back

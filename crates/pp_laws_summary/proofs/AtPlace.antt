@@ -50,7 +50,7 @@ filter_twice {A} p q (x ∷ l) = by (q x) (filter_twice p q l)
     by true h = ap (λ (w : List A). cond (p x) (x ∷ w) w) h
     by false h = h
 
--- the committed entries at a place, where all are committed
+-- the committed entries at a place, if all are committed
 pub ops_done : {Op : Type 0} (place : Op → ℕ) (o : ℕ) (G : List (SharedEntry Op)) → ((g : SharedEntry Op) → In g G → g.committed ≡ true) → shared_ops (done_at place o G) ≡ ops_at place o (shared_ops G)
 ops_done place o [] h = refl
 ops_done {Op} place o (g ∷ G) h =

@@ -157,7 +157,7 @@ not_open {A} o F e h = (subst (λ (w : Option A). FirstFalse (there w F) 0) e h)
 
 module _ {Op State : Type 0} (style : Style) (has : HasSummary style) (O : Object Op State) (place : Op → ℕ) (part : PlacesPart O place) where
   module _ (f : Front) (c : Config Op) (b : Summable O place f c) where
-    -- where t is open, these steps
+    -- if t is open, these steps
     abbrev Opened : Name → Step Op → (List (LocalEntry Op) → List (Step Op)) → List (Step Op)
     Opened t alone ss = steps_of_open (tx t c.opened) alone ss
 

@@ -27,7 +27,7 @@ module _ {Shape State Op Undo : Type 0} (o : Object Shape State Op Undo) (place 
   legal_at p s t a e h k l =
       (subst (λ (sh : Shape). IsTrue (o.fits sh a)) k l.0, sym (subst (λ (q : ℕ). SameAt q s t → o.gives s a ≡ o.gives t a) e (places.gives_there s t a) h) ∙ l.1)
 
-  -- the operations of a place are allowed where the whole list is, from a state that is the same there
+  -- the operations of a place are allowed if the whole list is, from a state that is the same there
   part : (p : ℕ) (s t : State) (x : List Op) → SameAt p s t → o.shape s ≡ o.shape t → AllowedFrom o s x → AllowedFrom o t (ops_at place p x)
   part p s t [] h k l = tt
   part p s t (a ∷ x) h k l =
@@ -52,7 +52,7 @@ module _ {Shape State Op Undo : Type 0} (o : Object Shape State Op Undo) (place 
     | inr n ↦ subst (λ (w : List Op). AllowedFrom o t w) (sym (elsewhere p a x n)) (moved p s t x h k (subst (λ (w : List Op). AllowedFrom o s w) (elsewhere p a x n) l))
   ]
 
-  -- a list is allowed where the operations of each place are
+  -- a list is allowed if the operations of each place are
   whole : (s : State) (x : List Op) → ((p : ℕ) → AllowedFrom o s (ops_at place p x)) → AllowedFrom o s x
   whole s [] h = tt
   whole s (a ∷ x) h =

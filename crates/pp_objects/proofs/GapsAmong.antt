@@ -73,7 +73,7 @@ apart_there x u g leaves ss is h kept bears =
           (bears (one.next t.0 x.act) there),
     )
 
--- Where an operation crosses a gap, the object there and the one that differs from it.
+-- If an operation crosses a gap, the object there and the one that differs from it.
 pub record IsBeside (g : ActGap) (x : Op) (ss ts : List ObjectState) (s : ObjectState) : Type 0 where
   pub other : ObjectState
   pub is : ts ≡ set ss x.object other

@@ -13,7 +13,7 @@ use Rattle.pp_objects.specs.laws.Acts.{swaps_in}
 use Rattle.pp_objects.specs.laws.One.{reached_shape, others_swap}
 
 module _ (form : ℕ) (gate : Gate) (k : Kind) (b : Ops k) where
-  -- where it is of the form and its number passes, it swaps
+  -- if it is of the form and its number passes, it swaps
   abbrev Swaps_by : Act → Type 0
   Swaps_by a = (act_label a).form ≡ form → IsTrue (passes gate (act_label a).number)
       → Swaps one a (act_of k b)

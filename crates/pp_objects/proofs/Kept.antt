@@ -118,7 +118,7 @@ module _ (k : Kind) where
       let b = beside x y a e s h g in
       pair_kept false x y a b.0 e b.1 (kept t b.0) swaps s is h g l
 
--- Where the same is kept of an act in each state, it keeps in turn with none.
+-- If the same is kept of an act in each state, it keeps in turn with none.
 nothing_kept : (k : Kind) (x : Act) (a : Ops k) → x ≡ act_of k a
     → ((s t : States k) (b : Ops k)
     → (object_of k).upkeep.kept s b ≡ (object_of k).upkeep.kept t b)

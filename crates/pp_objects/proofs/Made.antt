@@ -274,7 +274,7 @@ act_some kinds.Queue c answer h form = queue_some c.method c answer h form
 act_some kinds.Stack c answer h form = stack_some c.method c answer h form
 act_some kinds.PriorityQueue c answer h form = prio_some c.method c answer h form
 
--- An act is ranged exactly where its call and its result are.
+-- An act is ranged exactly if its call and its result are.
 module _ (kind : Kind) (c : Call) (answer : Answer) (a : Act) (made : act_made kind c answer ≡ Some a) where
   its_call : has_ranged_arguments (call_of a) ≡ has_ranged_arguments (with_used kind c)
   unfolding IsActOf

@@ -36,7 +36,7 @@ applies_there ss x s t (Ok Differs) e h = (
 applies_there ss x s t (Err refused) e h = ap (λ (v : ObjectState). set ss x.object v) h
     ∙ set_own ss x.object s e
 
--- operations of one place swap where their acts do
+-- operations of one place swap if their acts do
 pub same_place_swaps : (a b : Op) (t : Bool) → a.object ≡ b.object
     → (IsTrue t → Swaps one a.act b.act) → (Swaps one a.act b.act → IsTrue t) → IsTrue t
     ↔ Swaps objects a b

@@ -127,7 +127,7 @@ has_form forms.Found answers.None = true
 has_form forms.Found (answers.Number n) = true
 has_form forms.Found (answers.Truth t) = false
 
--- an argument where it is used, and else 0
+-- an argument if it is used, and else 0
 abbrev pub if_used : Bool → ℤ → ℤ
 if_used used n = if used then n else pos 0
 

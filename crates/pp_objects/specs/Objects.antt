@@ -19,7 +19,7 @@ use Rattle.pp_objects.specs.One.{one, both_as}
 abbrev pub act_at : ℕ → Act → Op
 act_at p a = record { object = p; act = a }
 
--- the list with this at a place, where there is one
+-- the list with this at a place, if there is one
 abbrev pub put : {X : Type 0} → List X → ℕ → Option X → List X
 put xs p None = xs
 put xs p (Some x) = slice_set xs p x

@@ -1,4 +1,4 @@
--- Meaning: what the operations of a run are about: an object, and a key where its kind has keys.
+-- Meaning: what the operations of a run are about: an object, and a key if its kind has keys.
 use Rattle.std.specs.Prelude.{ℤ, pos, Bool, false, not}
 use Rattle.std.specs.Ordering.{int_eq}
 use Rattle.pp_kind.specs.declared.label.Label.{Label}
@@ -19,7 +19,7 @@ use Rattle.pp_objects.specs.declared.act.Act.TheVariants.{Memory, KeySet, KeyMap
 use Rattle.pp_objects.specs.declared.act.Act.TheVariants.{Stack, PriorityQueue}
 use Rattle.pp_objects.specs.declared.act.Op.{Op}
 
--- the key that an act is on, or 0 where its kind has none
+-- the key that an act is on, or 0 if its kind has none
 abbrev pub key_of : Act → ℤ
 key_of (Memory a) = memories.address_of a
 key_of (KeySet a) = sets.key_of a

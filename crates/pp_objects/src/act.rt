@@ -50,7 +50,7 @@ impl Act {
         }
     }
 
-    /// The key that it is on, or 0 where its kind has none.
+    /// The key that it is on, or 0 if its kind has none.
     #[inline]
     pub fn key(&self) -> i64
         ensures { result ≡ key_of self.now }
@@ -74,7 +74,7 @@ impl Act {
         arity(self.kind(), self.call().method)
     }
 
-    /// Whether all its numbers may stand in a record.
+    /// Whether a record may have all its numbers.
     pub fn ranged(&self) -> bool
         ensures { result ≡ is_ranged self.now }
     {

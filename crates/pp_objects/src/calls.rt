@@ -71,7 +71,7 @@ pub fn arity(kind: Kind, method: Method) -> usize
     }
 }
 
-/// Whether its number, if it is one, may stand in a record.
+/// Whether a record may have its number, if it is one.
 fn answer_ranged(answer: &Answer) -> bool
     ensures { result ≡ is_ranged_answer answer.now }
 {

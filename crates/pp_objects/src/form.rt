@@ -13,7 +13,7 @@ pub enum Form {
     Number,
     /// True or false.
     Truth,
-    /// A number, or nothing where nothing was found.
+    /// A number, or nothing if nothing was found.
     Found,
 }
 

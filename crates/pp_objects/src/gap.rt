@@ -131,7 +131,7 @@ pub fn left_as<G: KindGap>(left: Left<G>) -> Left<ActGap>
     }
 }
 
-/// What a kind's operation makes of a gap, as what an act does, where the kind keeps nothing.
+/// What a kind's operation makes of a gap, as what an act does, if the kind keeps nothing.
 #[inline(always)]
 pub fn crossed_as<G: KindGap>(crossed: Crossed<G, ()>) -> Crossed<ActGap, Undo>
     ensures { result ≡ crossed_as G.as_act nothing_for crossed }

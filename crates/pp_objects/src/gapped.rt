@@ -74,7 +74,7 @@ impl OneObject {
         }
     }
 
-    /// Makes the first state the second. The only error is that memory was refused.
+    /// Makes the first state the second. The only error is out of memory.
     pub fn close<L: Ledger>(
         state: &mut ObjectState,
         gap: &ActGap,

@@ -35,7 +35,7 @@ fn keeping_nothing(applied: Result<Applied<()>, OutOfMemory>) -> Result<Applied<
 }
 
 impl OneObject {
-    /// The object of a kind before any act. The only error is that memory was refused.
+    /// The object of a kind before any act. The only error is out of memory.
     pub fn empty(alloc: Global, kind: &Kind) -> Result<ObjectState, OutOfMemory>
         ensures { IfOk result (λ s. s ≡ one.start kind.now) }
     {
@@ -65,7 +65,7 @@ impl OneObject {
         }
     }
 
-    /// Lets an act take effect where it is legal. The only error is that memory was refused.
+    /// Lets an act take effect if it is legal. The only error is out of memory.
     #[inline(always)]
     pub fn apply<L: Ledger>(
         state: &mut ObjectState,
@@ -105,7 +105,7 @@ impl OneObject {
         }
     }
 
-    /// Takes the act back that left this state. The only error is that memory was refused.
+    /// Takes the act back that left this state. The only error is out of memory.
     #[inline(always)]
     pub fn undo<L: Ledger>(
         state: &mut ObjectState,
@@ -179,8 +179,8 @@ impl OneObject {
         }
     }
 
-    /// Acts that show that the pair does not swap, or `None` where it does. The only error is that
-    /// memory was refused.
+    /// Acts that show that the pair does not swap, or `None` if it does. The only error is
+    /// out of memory.
     pub fn context(alloc: Global, a: &Act, b: &Act) -> Result<Option<Context<Act>>, OutOfMemory>
         requires first { IsTrue (one.ranged a.now) }
         requires second { IsTrue (one.ranged b.now) }

@@ -8,7 +8,7 @@ use pp_kind_queue::Queue;
 use pp_kind_stack::Pile;
 use std::alloc::Global;
 
-/// What is shown of an object: a number, and its key where it stands at one.
+/// What is shown of an object: a number, and its key if it is at one.
 #[derive(Clone, Copy, Debug, PartialEq, Eq)]
 pub struct Piece {
     pub key: Option<i64>,
@@ -99,7 +99,7 @@ fn show_state(alloc: Global, state: &ObjectState) -> Result<Pieces, OutOfMemory>
     }
 }
 
-/// What the state of an object shows. The only error is that memory was refused.
+/// What the state of an object shows. The only error is out of memory.
 pub fn show(alloc: Global, states: &ObjectStates, object: u16) -> Result<Pieces, OutOfMemory>
     requires { object < length states.now }
     ensures { IfOk result (λ pieces. pieces ≡ pieces_at states.now object) }

@@ -40,7 +40,7 @@ accepted_text catalog steps committed states =
     accepted_line steps (length committed) ++ all_tx_lines catalog committed
     ++ state_lines catalog states
 
--- where the failed step stands: its number, and the line of its record
+-- where the failed step is: its number, and the line of its record
 abbrev pub rejected_place : ℕ → ℕ → List ℕ
 rejected_place step at_line =
     codes "rejected step " ++ decimal step ++ codes " line " ++ decimal at_line

@@ -52,7 +52,7 @@ pub fn write_transactions(
 }
 
 /// The report of an accepted run of this many steps, with the states of the objects after its
-/// committed operations. The only error is that memory was refused.
+/// committed operations. The only error is out of memory.
 pub fn accepted(
     alloc: Global,
     catalog: &Catalog,

@@ -10,7 +10,7 @@ use pp_objects::Op;
 use pp_text::write_number;
 use std::alloc::Global;
 
-/// Adds where the failed step stands.
+/// Adds where the failed step is.
 fn write_place(text: &mut Text, step: u64, line: u32) -> Result<(), OutOfMemory>
     ensures { OnOk result (text.new ≡ text.old ++ rejected_place step line) }
 {
@@ -31,7 +31,7 @@ fn write_rule(text: &mut Text, rule: Rule, criterion: u8) -> Result<(), OutOfMem
 }
 
 /// The report of a rejected run: the criterion of this number of the rule fails at a step, which
-/// the record of a line gave, and this is the evidence. The only error is that memory was refused.
+/// the record of a line gave, and this is the evidence. The only error is out of memory.
 pub fn rejected(
     alloc: Global,
     catalog: &Catalog,

@@ -233,7 +233,7 @@ module _ (SameSource SameSink : Type 0) (input rest held holds : Option (List �
         (λ e. absurd (let no : statuses.ReadFault ≡ statuses.WriteFault = e in cc)) (λ e. absurd (let no : statuses.ReadFault ≡ statuses.WriteFault = e in cc))
         (λ e. absurd (let no : statuses.ReadFault ≡ statuses.OutOfMemory = e in cc)) (λ unwritten. absurd unwritten) (λ none writes. absurd (none risen)) (λ none writes. absurd (none reads))
 
-    -- memory was refused before the output was whole
+    -- out of memory before the output was whole
     pub out_of_memory : SameSink → holds ≡ held → n.failed_writes ≡ n.failed_writes_before → n.flushes ≡ n.flushes_before → Promises (Some k) statuses.OutOfMemory
     out_of_memory sink same writes flushes =
         unprinted statuses.OutOfMemory (λ printed. printed) (inl flushes) (omega (arith, writes))

@@ -87,7 +87,7 @@ from_parts place L g p =
     and_true g.committed (any_at place (place g.op) (own_items L) && not (stands_in L g.id)) p.0
     (and_true (any_at place (place g.op) (own_items L)) (not (stands_in L g.id)) p.1 (ap not p.2))
 
--- its id is among the missed ones exactly where an entry is missed
+-- its id is among the missed ones exactly if an entry is missed
 has_missed : {Op : Type 0} (place : Op → ℕ) (G : List (SharedEntry Op)) (L : List (LocalEntry Op)) → ((g h : SharedEntry Op) → Before g h G → g.id ≢ h.id) → (g : SharedEntry Op) → In g G →
     has_id g.id (missed place G L) ≡ is_missed place L g
 has_missed {Op} place G L d g i = same_bool (has_id g.id (missed place G L)) (is_missed place L g)

@@ -48,7 +48,7 @@ own_places_more place count entries none own =
       | inr (inr (i, inr h)) ↦ absurd h
     ])
 
--- where no entry of the front is found, the rest decides
+-- if no entry of the front is found, the rest decides
 pub lookup_behind : (test : ℕ → Bool) (front rest : List (ℕ × ℕ)) → lookup test front ≡ None → lookup test (front ++ rest) ≡ lookup test rest
 lookup_behind test [] rest none = refl
 lookup_behind test (e ∷ front) rest none = by (test e.0) none (λ h. lookup_behind test front rest h)
@@ -104,7 +104,7 @@ own_places_set place count entries k first own =
     let is = first_is place count entries k first.count first.here first.before in
     subst (λ (l : List ℕ). (p q : ℕ) → Before p q l → p ≢ q) (sym (ap (λ (l : List (ℕ × ℕ)). keys_of l) is.1 ∙ keys_set place count entries)) own
 
--- the count that is read where a place stands first is that of the place
+-- the count that is read where a place is first is that of the place
 pub lookup_read : (place : ℕ) (entries : List (ℕ × ℕ)) (k : ℕ) (e : ℕ × ℕ) → IsFirst place entries k → e ≡ get_or entries k e → Some e.1 ≡ lookup (nat_eq place) entries
 lookup_read place entries k e first is =
     ap (λ (p : ℕ × ℕ). Some p.1) (is ∙ get_or_from_slice_get entries k (place, first.count) e first.here)

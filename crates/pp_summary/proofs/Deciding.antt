@@ -1,4 +1,4 @@
--- A boosted record is good exactly where every step of its expansion holds, and keeps a configuration boosted.
+-- A boosted record is good exactly if every step of its expansion holds, and keeps a configuration boosted.
 use Rattle.std.specs.Prelude.{◌≡◌, ◌≢◌, ◌⊎◌, ℕ, true, not, List, [], ◌∷◌, ◌++◌, Option, Some, None}
 use Rattle.std.proofs.Common.{refl, sym, subst, ◌∙◌}
 use mathlib.Core.Logic.{inl, inr}

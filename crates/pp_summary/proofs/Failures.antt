@@ -75,7 +75,7 @@ module _ {F R Op State : Type 0} (O : Object Op State) (T : Translation F R Op) 
     config_is : d.config ≡ after_from (first h) xs
     config_is = led_config O T (outset T h) rs
 
-    -- where each step holds, its own do
+    -- if each step holds, its own do
     own_hold : RunsFrom O (first h) (bare (all_steps T h (rs ++ r ∷ more))) → RunsFrom O d.config e
     own_hold k =
         subst (λ (c : Config Op). RunsFrom O c e) (sym config_is)

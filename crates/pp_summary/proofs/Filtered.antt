@@ -23,6 +23,6 @@ none_true (suc n) zero = refl
 none_true (suc n) (suc k) = none_true n k
 
 module _ {Shape State Op Undo : Type 0} (o : Object Shape State Op Undo) (part_of : Op → Part) where
-  -- operations let another pass where none of them has a key with its remainder
+  -- operations let another pass if none of them has a key with its remainder
   pub none_alike : PartsSwap o part_of → (place : Op → ℕ) (op : Op) (own : List (Item Op)) (m : PartFilter) → MayHaveAll part_of m own → (MayHave m (part_of op) → ⊥) → LetPass o place own op
   none_alike apart place op own m has none a i at = apart a.op op (λ same. none (subst (λ (p : Part). MayHave m p) same (has a i)))

@@ -17,7 +17,7 @@ use Rattle.pp_summary.proofs.Entries.{same_or_not}
 
 module _ {Op State : Type 0} (O : Object Op State) (place : Op → ℕ) (apart : PlacesSwap O place)
     (c : Config Op) (s : Sound O c) (x : Tx Op) (ix : In x c.opened) (f : Follows O place c.shared x.local) where
-  -- each entry of the log stands in G
+  -- each entry of the log is in G
   pub stands : (e : LocalEntry Op) → In e x.local → (n : Name) × (b : Bool) × In (as_shared n b (item e)) c.shared
   stands e i = elim (s.marks x ix e i) [
     | inl o ↦ (x.name, false, s.pushed_stand x ix e i (f.own_pushed e i o.0))
@@ -65,7 +65,7 @@ module _ {Op State : Type 0} (O : Object Op State) (place : Op → ℕ) (apart :
                 (subst (λ (w : SharedEntry Op). Before w g c.shared) k0 (subst (λ (w : SharedEntry Op). Before k.0 w c.shared) k1 k.2))
           ]
 
-  -- an entry that stands in G before one of the log, and not before it in the log, swaps with it
+  -- an entry that is in G before one of the log, and not before it in the log, swaps with it
   pub turn : (g h : SharedEntry Op) → Before g h c.shared → (b : LocalEntry Op) → In b x.local → h.id ≡ b.id →
       (ComesBefore g.id b.id x.local → ⊥) → Swaps O g.op h.op
   turn g h i b ib e un = by g.committed refl

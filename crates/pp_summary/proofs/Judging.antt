@@ -80,7 +80,7 @@ module _ {Shape State Op Undo : Type 0} (o : Object Shape State Op Undo) (place 
   pub own_ids : HaveOwnIds G
   own_ids = distinct o place apart (as_held place v) h.is_held
 
-  -- what was committed at a place stands in the shared log
+  -- what was committed at a place is in the shared log
   pub have_entries : (q : ℕ) → HaveEntries G (at q commits)
   have_entries q id i =
       let k = committed_there o place apart v h q id i in

@@ -42,7 +42,7 @@ module _ {Shape State Op Undo : Type 0} (o : Object Shape State Op Undo) (part_o
     | inr j ↦ elim j [ inl e ↦ subst (λ (z : Item Op). Knows o part_of new z.op) (sym e) more | inr z ↦ absurd z ]
   ]
 
-  -- operations let another pass where those of its part do
+  -- operations let another pass if those of its part do
   module _ (apart : PartsSwap o part_of) (place : Op → ℕ) (op : Op) (slots : List (Part × SampleList Op)) (own : List (Item Op)) (known : KnowsAll o part_of slots own) where
     of_part : ((b : Op) → CoversOf o (lookup (same_part (part_of op)) slots) b → Swaps o b op) → (b : Op) (t : Bool) → same_part (part_of b) (part_of op) ≡ t →
         Knows o part_of slots b → Swaps o b op

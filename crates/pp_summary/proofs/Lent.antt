@@ -1,4 +1,4 @@
--- A slot that is lent by its name, and what stands in it then.
+-- A slot that is lent by its name, and what is in it then.
 use Rattle.std.specs.Prelude.{◌≡◌, Bool, true, false, cond, List, [], ◌∷◌, Option, None, Some, IfNone}
 use Rattle.std.specs.Map.{lookup, set_value}
 use Rattle.std.proofs.Common.{refl, sym, ap, ◌∙◌}
@@ -25,7 +25,7 @@ same_map {K} {X} {S} m n p q r =
 pub given_back : {K X S : Type 0} (eq : K → K → Bool) (test : K → Bool) (m n : IndexMap K X S) (x : X) → lookup test m.entries ≡ Some x → WritesThrough eq test m x n → n ≡ m
 given_back eq test m n x there w = same_map m n (w.0 ∙ set_same test m.entries x there) w.5 w.6
 
--- a slot that is emptied, where it was empty
+-- a slot that is emptied, if it was empty
 pub empty_before : {K X S : Type 0} (eq : K → K → Bool) (test : K → Bool) (m n : IndexMap K (Option X) S) (slot left taken : Option X) → lookup test m.entries ≡ Some slot → taken ≡ slot → left ≡ None →
     WritesThrough eq test m left n → IfNone taken (n ≡ m)
 empty_before eq test m n slot left (Some x) there was is w = tt

@@ -52,7 +52,7 @@ open_before_done {Op} O c s g h i u v =
     let r = s.uncommitted_from g (before_in_first g h c.shared i) u in
     s.uncommitted_swap g h i (λ e. done_by_other O c s r.0 r.1 h (before_in_second g h c.shared i) v (sym e ∙ ap (λ (w : SharedEntry Op). w.owner) r.5)) u
 
--- what stands before g stands in the part of the list before g
+-- what is before g is in the part of the list before g
 pub in_first_part : {Op : Type 0} (K H : List (SharedEntry Op)) (g r : SharedEntry Op) → ((a b : SharedEntry Op) → Before a b (K ++ g ∷ H) → a.id ≢ b.id) → Before r g (K ++ g ∷ H) → In r K
 in_first_part {Op} K H g r d i = elim (before_cases r g K (g ∷ H) i) [
   | inl j ↦ before_in_first r g K j

@@ -112,7 +112,7 @@ module _ {Shape State Op Undo : Type 0} (o : Object Shape State Op Undo) (place 
   slot_there : (t : Name) (x : OpenTx (List (Item Op))) → open_in t es ≡ Some x → lookup (λ n. t =ⁿ n) es ≡ Some (Some x)
   slot_there t x e = slot_is (lookup (λ n. t =ⁿ n) es) x e
 
-  -- an open transaction stands in its slot
+  -- an open transaction is in its slot
   in_slot_of : (t : Name) (fs : List (Name × Option (OpenTx (List (Item Op))))) (x : OpenTx (List (Item Op))) → lookup (λ n. t =ⁿ n) fs ≡ Some (Some x) → In (t, Some x) fs
   in_slot_of t [] x e = absurd (cc)
   in_slot_of t ((n, s) ∷ fs) x e = elim (names_tell t n) [

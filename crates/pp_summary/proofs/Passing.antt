@@ -24,7 +24,7 @@ pub unseen_is : (q : ℕ) (commits : List (List ℕ)) (seen : List (ℕ × ℕ))
 unseen_is q commits seen k l h e =
     ap (λ m. ids_behind m (at q commits)) h ∙ ap (λ m. drop k (ids_or_none m)) e
 
--- the entry that is found by its id, where there is one
+-- the entry that is found by its id, if there is one
 pub none_with_id : {Op : Type 0} (G : List (SharedEntry Op)) (id : ℕ) → position (λ e. e.id == id) G ≡ None → (g : SharedEntry Op) → In g G → g.id ≡ id → ⊥
 none_with_id {Op} G id h g i n =
     let k = find_nowhere (λ (e : SharedEntry Op). e.id == id) G (place_none (λ (e : SharedEntry Op). e.id == id) G h) g i in

@@ -61,7 +61,7 @@ module _ {Op State : Type 0} (O : Object Op State) (place : Op → ℕ) (apart :
           let z : true ≡ false = sym (seen q (in_K q before, v, p)) ∙ out_q in
           absurd (cc)
 
-  -- it holds where PULL 5 does
+  -- it holds if PULL 5 does
   pub pull_holds : ((a : LocalEntry Op) → In a x.local → is_own a.mark ≡ true → Swaps O a.op g.op) → Meets O c (Pull t g.id)
   pull_holds sw = there_is (tx t c.opened) _ x lookup (there_is (of_other t g.id c.shared) _ g found (
     fresh,

@@ -1,4 +1,4 @@
--- How many steps a record stands for, from what a Quick keeps.
+-- How many steps a record means, from what a Quick keeps.
 use Rattle.std.specs.Prelude.{◌≡◌, ◌≢◌, ◌==◌, ◌≤◌, ◌+◌, ◌*◌, ℕ, suc, nat_eq, Bool, true, false, cond, not, ◌&&◌, List, [], ◌∷◌, ◌++◌, drop, filter, is_some, length, map, option_map, take, Option, None, Some}
 use Rattle.std.specs.Map.{lookup}
 use Rattle.std.proofs.Common.{refl, sym, ap, subst, ◌∙◌, arith, length-append}
@@ -361,7 +361,7 @@ module _ {Shape State Op Undo : Type 0} (o : Object Shape State Op Undo) (place 
           let d : length (own_items l) ≡ length x.own = ap (λ (w : List (Item Op)). length w) same_own in
           omega arith
 
-      -- How many steps an operation stands for.
+      -- How many steps an operation means.
       pub op_length : (f : Front) (id : ℕ) (op : Op) → length (expand place styles.Boosted f c (records.Op t id op)) ≡ count_behind (lookup (nat_eq (place op)) x.seen.entries) (at (place op) commits) + 2
       op_length f id op =
           ap (λ (w : Option (Tx Op)). length (steps_of_open w (App t id op) (λ k. refresh place t (place op) c.shared k ++ App t id op ∷ Push t id ∷ []))) opened.1

@@ -21,7 +21,7 @@ undo_most B ways.Abort t = refl
 undo_most B ways.Retry t = refl
 
 module _ {Shape State Op Undo : Type 0} (o : Object Shape State Op Undo) (place : Op → ℕ) (apart : (shape : Shape) → PlacesSwap (rules_of o shape) place) (v : Kept Shape Op) (h : KeepsQuick o place v) (t : Name) where
-  -- where the transaction is open it is good
+  -- if the transaction is open it is good
   pub undoes : (how : Undoing) (x : OpenTx (List (Item Op))) → open_in t v.slots.entries ≡ Some x → IsGood o place v (undo_record how t)
   undoes ways.Abort x found = it_is o place apart v h t x found (λ y. Unit {0}) tt
   undoes ways.Retry x found = it_is o place apart v h t x found (λ y. Unit {0}) tt

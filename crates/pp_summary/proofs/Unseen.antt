@@ -32,7 +32,7 @@ or_none true = refl
 or_none false = refl
 
 module _ {Op : Type 0} (place : Op → ℕ) where
-  -- its id is among the unseen ones exactly where an entry is unseen
+  -- its id is among the unseen ones exactly if an entry is unseen
   pub has_unseen : (G : List (SharedEntry Op)) (commits : List (List ℕ)) (seen : List (ℕ × ℕ)) → ((g h : SharedEntry Op) → Before g h G → g.id ≡ h.id → ⊥) → (g : SharedEntry Op) → In g G →
       has_id g.id (unseen place G commits seen) ≡ is_unseen place commits seen g
   has_unseen G commits seen d g i = same_bool (has_id g.id (unseen place G commits seen)) (is_unseen place commits seen g)
@@ -42,7 +42,7 @@ module _ {Op : Type 0} (place : Op → ℕ) where
       subst (λ (w : SharedEntry Op). is_unseen place commits seen w ≡ true) (by_key (λ (w : SharedEntry Op). w.id) G d m.0 g f.0 i (sym m.2)) f.1)
       (λ h. in_has g.id (unseen place G commits seen) (in_map (λ (w : SharedEntry Op). w.id) g (filter (is_unseen place commits seen) G) (in_filter (is_unseen place commits seen) g G i h)))
 
-  -- nothing is seen where there is no own operation
+  -- nothing is seen if there is no own operation
   pub unseen_none : (G : List (SharedEntry Op)) (commits : List (List ℕ)) → unseen place G commits [] ≡ []
   unseen_none G commits = ap (λ (w : List (SharedEntry Op)). shared_ids w) (filter_none (is_unseen place commits []) G (λ g i. and_false g.committed))
 

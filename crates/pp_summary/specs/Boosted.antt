@@ -62,18 +62,18 @@ Good O place c (records.Depend t source) = ⊥
 Good O place c (records.Publish t) = ⊥
 Good O place c (records.DropSource t source) = ⊥
 
--- in L the entry of the first id stands before that of the second
+-- in L the entry of the first id is before that of the second
 abbrev pub ComesBefore : {Op : Type 0} → ℕ → ℕ → List (LocalEntry Op) → Type 0
 ComesBefore {Op} i j l = (a b : LocalEntry Op) × Before a b l × (a.id ≡ i) × (b.id ≡ j)
 
 -- The local log L follows G.
 pub record Follows {Op State : Type 0} (O : Object Op State) (place : Op → ℕ)
     (G : List (SharedEntry Op)) (L : List (LocalEntry Op)) : Type 0 where
-  -- every own entry is pushed, and they stand in G in the order of L
+  -- every own entry is pushed, and they are in G in the order of L
   pub own_pushed : (a : LocalEntry Op) → In a L → is_own a.mark ≡ true → a.mark ≡ Pushed
   pub own_order : (a b : LocalEntry Op) → Before a b L → is_own a.mark ≡ true →
       is_own b.mark ≡ true → StandsBefore a.id b.id G
-  -- every pulled entry stands in G committed
+  -- every pulled entry is in G, committed
   pub pulled_stand : (p : LocalEntry Op) → In p L → p.mark ≡ Pulled →
       In (as_shared p.owner true (item p)) G
   -- a committed entry before l in G, at its place, and not before l in L, swaps with l

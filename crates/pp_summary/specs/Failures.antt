@@ -30,7 +30,7 @@ pub record FailsIn {F R Op State : Type 0} (O : Object Op State) (T : Translatio
       (steps_at T (standing_after T h before) r.what) →
       ⊥
 
--- the verdict is a rejection of one of these steps by one of its criteria, and it stands on this
+-- the verdict is a rejection of one of these steps by one of its criteria, and it is on this
 -- line
 abbrev pub IsRejectedOn : {Op : Type 0} → LinedSteps Op → ℕ → Verdict → Type 0
 IsRejectedOn {Op} ss line v =
@@ -39,8 +39,8 @@ IsRejectedOn {Op} ss line v =
 
 pub record FailureLaw {F R Op State : Type 0} (O : Object Op State) (T : Translation F R Op) :
     Type 0 where
-  -- One record fails at most, at one position; none where each step holds, and, where the start
-  -- holds, one where not. (That there is one is said by what can not be, since which it is can not
+  -- One record fails at most, at one position; none if each step holds, and, if the start
+  -- holds, one if not. (That there is one is said by what can not be, since which it is can not
   -- be computed.)
   pub one : (h : Option (Start Op)) (rs : Records R) (r q : Lined R) (a : FailsIn O T h rs r)
       (b : FailsIn O T h rs q) → (r ≡ q) × (a.before ≡ b.before)
@@ -52,7 +52,7 @@ pub record FailureLaw {F R Op State : Type 0} (O : Object Op State) (T : Transla
   -- records behind it change nothing
   pub stays : (h : Option (Start Op)) (rs more : Records R) (r : Lined R) → FailsIn O T h rs r →
       FailsIn O T h (rs ++ more) r
-  -- Where the start fails, the verdict of the steps is the rejection of it.
+  -- If the start fails, the verdict of the steps is the rejection of it.
   pub unbegun : (h : Option (Start Op)) (rs : Records R) (v : Verdict) → (StartMeets O h → ⊥) →
       IsVerdict O h (bare (all_steps T h rs)) v → (n : ℕ) × (v ≡ Rejected 0 (suc n))
   -- The verdict of the steps (there is one at most) is a rejection, of a step on its line.

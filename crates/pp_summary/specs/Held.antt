@@ -71,7 +71,7 @@ module _ {Shape State Op Undo : Type 0} (o : Object Shape State Op Undo) (place 
   held_next v c = record { shape = v.shape; brief = brief place c; count = v.count + 1 }
 
   -- What it is to take a record. For each boosted configuration of which it is the brief: true says
-  -- that every step that the record stands for holds there, and the Quick is then the brief of the
+  -- that every step that the record means holds there, and the Quick is then the brief of the
   -- configuration that they leave. False says that one of them fails, and the Quick is as it was.
   abbrev pub TakesIn : Held Shape Op → RunRecord Op → Bool → Held Shape Op → Front → Config Op →
       Type 0
@@ -94,7 +94,7 @@ module _ {Shape State Op Undo : Type 0} (o : Object Shape State Op Undo) (place 
       StartMeets (rules_of o v.shape) (Some z) × (w ≡ held_first v.shape (Some z))
   Starts v z false w = (StartMeets (rules_of o v.shape) (Some z) → ⊥) × (w ≡ v)
 
--- The record stands for so many steps, in each boosted configuration of which this is the brief.
+-- The record means so many steps, in each boosted configuration of which this is the brief.
 abbrev pub HasSteps : {Shape State Op Undo : Type 0} → Object Shape State Op Undo → (Op → ℕ) →
     Held Shape Op → RunRecord Op → ℕ → Type 0
 HasSteps {Op = Op} o place v r n =
@@ -125,7 +125,7 @@ take_most B (records.DropSource t source) = 0
 abbrev pub GoodCosts : {Op : Type 0} → Brief Op → RunRecord Op → ℕ → ℕ → Type 0
 GoodCosts B r old new = new ≡ old + take_most B r
 
--- What it costs by the answer: nothing where the record is not good.
+-- What it costs by the answer: nothing if the record is not good.
 abbrev pub TakeCosts : {Op : Type 0} → Brief Op → RunRecord Op → Bool → ℕ → ℕ → Type 0
 TakeCosts B r true old new = GoodCosts B r old new
 TakeCosts B r false old new = new ≡ old

@@ -24,6 +24,6 @@ module _ {Shape State Op Undo : Type 0} (o : Object Shape State Op Undo) (part_o
   abbrev pub KnowsAll : List (Part × SampleList Op) → List (Item Op) → Type 0
   KnowsAll slots items = (p : Item Op) → In p items → Knows slots p.op
 
-  -- They do where the items are more than few.
+  -- They do if the items are more than few.
   abbrev pub KnowsMany : List (Part × SampleList Op) → List (Item Op) → Type 0
   KnowsMany slots items = FEW_OPERATIONS < length items → KnowsAll slots items

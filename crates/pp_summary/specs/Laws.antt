@@ -27,11 +27,11 @@ FrontLaw {Op} O =
     Reorders O (map shared_item c.shared)
     (map item x.local ++ map shared_item (rest x.local c.shared))
 
--- Where the start holds, the first configuration is boosted, and good records keep it so.
+-- If the start holds, the first configuration is boosted, and good records keep it so.
 pub record KeepsBoosted {Op State : Type 0} (O : Object Op State) (place : Op → ℕ) : Type 0 where
-  -- where the start holds, the first configuration is boosted
+  -- if the start holds, the first configuration is boosted
   pub start : (h : Option (Start Op)) → StartMeets O h → Boosted O place (first h)
-  -- a record is good exactly where every step that it stands for holds
+  -- a record is good exactly if every step that it means holds
   pub good : (f : Front) (c : Config Op) (r : RunRecord Op) → IsBoosted r → Boosted O place c →
       Good O place c r ↔ RunsFrom O c (expand place styles.Boosted f c r)
   -- a good record leads to a boosted configuration
@@ -53,7 +53,8 @@ pub record IsBriefed {Op State : Type 0} (O : Object Op State) (place : Op → �
 abbrev pub BriefLaw : {Op State : Type 0} → Object Op State → Type 0
 BriefLaw {Op} O = (place : Op → ℕ) → PlacesSwap O place → IsBriefed O place
 
--- The briefs decide a run of records: where it is accepted, and whose step is the first that fails.
+-- The briefs decide a run of records: whether it is accepted, and whose step is the first that
+-- fails.
 pub record BriefsDecide {Op State : Type 0} (O : Object Op State) (place : Op → ℕ) : Type 0 where
   pub accepted :
       (ks : List Kind) (p : Standing Front Op) (rs : Records (RunRecord Op)) → AreBoosted rs →
@@ -86,7 +87,7 @@ pub record BriefsDecide {Op State : Type 0} (O : Object Op State) (place : Op �
       (step n : ℕ) × (v ≡ Rejected step (suc n))
       × (i + length (joined_steps (boosting place ks) p rs) ≤ step)
       × (step < i + length (joined_steps (boosting place ks) p (rs ++ r ∷ [])))
-  -- and these steps stand on its line
+  -- and these steps are on its line
   pub lined :
       (ks : List Kind) (p : Standing Front Op) (rs more : Records (RunRecord Op))
       (r : Lined (RunRecord Op)) (k : ℕ) (s : Lined (Step Op)) →

@@ -52,7 +52,7 @@ module _ {Shape State Op Undo : Type 0} (o : Object Shape State Op Undo) (place 
         BriefRuns (rules_of o v.shape) place (brief place (first h)) (bare rs)
     pub leads : (rs : Records (RunRecord Op)) (v : Held Shape Op) → HasRead rs v →
         v.brief ≡ brief_after place (brief place (first h)) (bare rs)
-    -- Tried are the records up to and with the one that fails, and all of them where each is taken.
+    -- Tried are the records up to and with the one that fails, and all of them if each is taken.
     pub tried :
         (shape : Shape) (rs : Records (RunRecord Op)) (r : Lined (RunRecord Op)) → AreBoosted rs →
         (f : FailsIn (rules_of o shape) (boosting place ks) h rs r) →

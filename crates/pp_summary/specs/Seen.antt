@@ -7,7 +7,7 @@ use Rattle.pp_model.specs.Lists.{Before}
 pub record SeenCounts : Type 0 where
   pub entries : List (ℕ × ℕ)
 
--- The place stands at the k-th of the entries, and at none before it.
+-- The place is at the k-th of the entries, and at none before it.
 pub record IsFirst (place : ℕ) (entries : List (ℕ × ℕ)) (k : ℕ) : Type 0 where
   pub count : ℕ
   pub here : slice_get entries k ≡ Some (place, count)

@@ -19,7 +19,7 @@ use Rattle.pp_summary.specs.Held.{Held, IsHeldOf}
 use Rattle.pp_summary.specs.declared.parts.OpenTx.{OpenTx}
 use Rattle.pp_summary.specs.declared.parts.Parts.{Parts}
 
--- what is in a slot, where there is one and it is not empty
+-- what is in a slot, if there is one and it is not empty
 abbrev pub in_slot : {A : Type 0} → Option (Option A) → Option A
 in_slot None = None
 in_slot (Some slot) = slot

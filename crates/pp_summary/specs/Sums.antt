@@ -13,7 +13,7 @@ abbrev pub records_most : {Op : Type 0} → (Op → ℕ) → Brief Op → List (
 records_most place B [] = 0
 records_most place B (r ∷ rs) = take_most B r + records_most place (brief_then place B r) rs
 
--- tried are the records up to and with the first that is not good, and all of them where each is
+-- tried are the records up to and with the first that is not good, and all of them if each is
 abbrev pub AreTried : {Op State : Type 0} → Object Op State → (Op → ℕ) → Brief Op →
     List (RunRecord Op) → List (RunRecord Op) → Type 0
 AreTried O place B [] tried = tried ≡ []
@@ -47,7 +47,7 @@ pub record SumLaw {Op State : Type 0} (O : Object Op State) (place : Op → ℕ)
       AreTried O place B rs b → a ≡ b
   pub some : (B : Brief Op) (rs : List (RunRecord Op)) →
       ((tried : List (RunRecord Op)) → AreTried O place B rs tried → ⊥) → ⊥
-  -- where the first records are good, they are tried, and so is the next one
+  -- if the first records are good, they are tried, and so is the next one
   pub so_far : (B : Brief Op) (rs more tried : List (RunRecord Op)) → BriefRuns O place B rs →
       AreTried O place B (rs ++ more) tried →
       records_most place B rs ≤ records_most place B tried
@@ -60,7 +60,7 @@ pub record SumLaw {Op State : Type 0} (O : Object Op State) (place : Op → ℕ)
   pub most : (B : Brief Op) (rs : List (RunRecord Op)) (r : RunRecord Op) →
       records_most place B (rs ++ r ∷ [])
       ≡ records_most place B rs + take_most (brief_after place B rs) r
-  -- one record more is at most so many operations more as it takes ticks where it is good, in any
+  -- one record more is at most so many operations more as it takes ticks if it is good, in any
   -- brief
   pub least : (B : Brief Op) (rs : List (RunRecord Op)) (r : RunRecord Op) (old new : ℕ) →
       GoodCosts B r old new → old + count_ops (rs ++ r ∷ []) ≤ new + count_ops rs

@@ -21,8 +21,8 @@ pub fn count_at(commits: &Commits, place: u16) -> usize
     }
 }
 
-/// Makes an empty list for each place up to this one that has none. The only error is that memory
-/// was refused.
+/// Makes an empty list for each place up to this one that has none. The only error is out
+/// of memory.
 fn make_lists(alloc: Global, commits: &mut Commits, place: usize) -> Result<(), OutOfMemory>
     ensures same { (q : ℕ) → at q commits.new.items ≡ at q commits.old.items }
     ensures there { OnOk result (place < length commits.new.items) }
@@ -33,7 +33,7 @@ fn make_lists(alloc: Global, commits: &mut Commits, place: usize) -> Result<(), 
     Ok(())
 }
 
-/// One more commit. The only error is that memory was refused.
+/// One more commit. The only error is out of memory.
 fn add_commit<S: Placed>(
     alloc: Global,
     commits: &mut Commits,
@@ -47,7 +47,7 @@ fn add_commit<S: Placed>(
     commits[place].push(item.id)
 }
 
-/// Commits of all these items. The only error is that memory was refused.
+/// Commits of all these items. The only error is out of memory.
 pub fn add_commits<S: Placed>(
     alloc: Global,
     commits: &mut Commits,

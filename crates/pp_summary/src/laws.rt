@@ -13,7 +13,7 @@ pub fn front_law<S: Spec>()
     ensures { (shape : S.Shape) → FrontLaw (rules_of S.object shape) }
 {}
 
-/// A boosted record is good exactly where every step that it stands for holds, and then the next
+/// A boosted record is good exactly if every step that it means holds, and then the next
 /// configuration is boosted too.
 pub fn boosted_law<S: Spec>()
     ensures { (shape : S.Shape) → BoostedLaw (rules_of S.object shape) }
@@ -25,7 +25,7 @@ pub fn brief_law<S: Spec>()
     ensures { (shape : S.Shape) → BriefLaw (rules_of S.object shape) }
 {}
 
-/// Briefs decide a boosted run: where it is accepted, and whose step is the first that fails.
+/// Briefs decide a boosted run: whether it is accepted, and whose step is the first that fails.
 pub fn decided_law<S: Spec>()
     ensures { (shape : S.Shape) → DecidedLaw (rules_of S.object shape) }
 {}
@@ -40,9 +40,9 @@ pub fn placed_law<S: Placed>()
     ensures { (shape : S.Shape) → PlacesSwap (rules_of S.object shape) S.place_of }
 {}
 
-/// Of the records of a boosted run one fails at most, none where each step holds, and, where the
-/// start holds, one where not. Where one fails, each verdict of the steps is a rejection of a step
-/// on its line, and where the start fails, of the start.
+/// Of the records of a boosted run one fails at most, none if each step holds, and, if the
+/// start holds, one if not. If one fails, each verdict of the steps is a rejection of a step
+/// on its line, and if the start fails, of the start.
 pub fn failure_law<S: Spec>()
     ensures { (shape : S.Shape) → BoostedFailureLaw (rules_of S.object shape) }
 {}
@@ -54,7 +54,7 @@ pub fn reader_law<S: Placed>()
 {}
 
 /// What the records cost at most that are tried of a run, one after another, and that a good record
-/// takes at least one tick where it is an operation.
+/// takes at least one tick if it is an operation.
 pub fn sum_law<S: Spec>()
     ensures { (shape : S.Shape) → SumsLaw (rules_of S.object shape) }
 {}

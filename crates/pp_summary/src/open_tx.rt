@@ -14,7 +14,7 @@ use pp_core::{Body, Item, Name, OutOfMemory};
 use pp_kind::{Parted, Placed};
 use std::alloc::Global;
 
-/// A transaction that begins. The only error is that memory was refused.
+/// A transaction that begins. The only error is out of memory.
 pub fn fresh<S: Parted>(
     alloc: Global,
     thread: &Name,
@@ -38,7 +38,7 @@ pub fn fresh<S: Parted>(
 }
 
 /// Adds an operation to the own ones, behind which the transaction has seen the commits at its
-/// place. The only error is that memory was refused.
+/// place. The only error is out of memory.
 pub fn add_operation<S: Parted>(
     it: &mut OpenTx<Own<S>>,
     commits: &Commits,

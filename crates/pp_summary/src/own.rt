@@ -42,7 +42,7 @@ fn each_lets_pass<S: Parted>(own: &[Item<S::Op>], op: &S::Op) -> bool
     true
 }
 
-/// One more operation is known. The only error is that memory was refused, and what was known is
+/// One more operation is known. The only error is out of memory, and what was known is
 /// still known.
 fn know<S: Parted>(
     alloc: Global,
@@ -64,7 +64,7 @@ fn know<S: Parted>(
     Ok(())
 }
 
-/// All these operations are known. The only error is that memory was refused.
+/// All these operations are known. The only error is out of memory.
 fn know_all<S: Parted>(
     alloc: Global,
     samples: &mut IndexMap<Part, Samples<S>>,
@@ -78,8 +78,8 @@ fn know_all<S: Parted>(
     Ok(())
 }
 
-/// Where the operations are more than few with this one behind them, all are known. The only error
-/// is that memory was refused, and what was known is still known.
+/// If the operations are more than few with this one behind them, all are known. The only error
+/// is out of memory, and what was known is still known.
 fn know_next<S: Parted>(
     alloc: Global,
     samples: &mut IndexMap<Part, Samples<S>>,
@@ -100,7 +100,7 @@ fn know_next<S: Parted>(
     know::<S>(alloc, samples, &item.op)
 }
 
-/// The own operations of an open transaction, in order, with a filter of their parts, and, where
+/// The own operations of an open transaction, in order, with a filter of their parts, and, if
 /// they are more than few, for each part of them operations that stand for those there. Contracts
 /// see the operations.
 #[derive(Drop)]
@@ -133,7 +133,7 @@ impl<S: Parted> Own<S> {
         }
     }
 
-    /// Adds an operation. The only error is that memory was refused.
+    /// Adds an operation. The only error is out of memory.
     pub fn add(&mut self, item: Item<S::Op>) -> Result<(), OutOfMemory>
         ensures { OnOk result (self.new ≡ self.old ++ item ∷ []) }
     {
@@ -156,7 +156,7 @@ impl<S: Parted> Own<S> {
         self.items
     }
 
-    /// Whether each operation at the place of another is known to let it pass, as where none is of
+    /// Whether each operation at the place of another is known to let it pass, as when none is of
     /// its part. False says nothing, and of few operations no more is known.
     fn is_known_to_let(&self, op: &S::Op) -> bool
         ensures { IsTrue result → LetPass S.object S.place_of self.now op.now }
@@ -174,7 +174,7 @@ impl<S: Parted> Own<S> {
         }
     }
 
-    /// Whether each operation at the place of another lets it pass. It walks over them only where
+    /// Whether each operation at the place of another lets it pass. It walks over them only if
     /// they are few, or what is known of those of its part leaves the answer open.
     pub fn let_pass(&self, op: &S::Op) -> bool
         ensures yes { IsTrue result → LetPass S.object S.place_of self.now op.now }

@@ -17,7 +17,7 @@ pub struct OpenTx<W> {
 }
 
 /// The ids of what was committed: at the position of each place, those there in commit order. The
-/// operations themselves stand in the shared log, which finds each by its id.
+/// operations themselves are in the shared log, which finds each by its id.
 pub type Commits = Vec<Sequence<u32>>;
 
 /// All that a `Quick` keeps. The shared log is of the type `T`, own operations are of the type `W`.

@@ -49,7 +49,7 @@ impl<S: Parted> Model for Quick<S> {
 }
 
 impl<S: Parted> Quick<S> {
-    /// A run with no transaction. The only error is that memory was refused.
+    /// A run with no transaction. The only error is out of memory.
     pub fn new(alloc: Global, shape: S::Shape) -> Result<Self, OutOfMemory>
         ensures { IfOk result (λ q. q ≡ held_first S.object S.place_of shape None) }
     {
@@ -69,10 +69,10 @@ impl<S: Parted> Quick<S> {
         Ok(Quick { parts })
     }
 
-    /// Lets operations stand committed before the first record, in a Quick that is as `new` made
-    /// it, where no id stands twice and they are allowed; else it gives the Quick back as it was,
-    /// with false. The transaction has the name and the operations, and is the first one that is
-    /// committed. The only error is that memory was refused, and the Quick is then lost.
+    /// Commits operations before the first record, in a Quick that is as `new` made it, if no id is
+    /// twice among them and they are allowed; else it gives the Quick back as it was, with false.
+    /// The transaction has the name and the operations, and is the first one that is
+    /// committed. The only error is out of memory, and the Quick is then lost.
     pub fn start<L: Ledger>(
         self,
         tx: Name,
@@ -103,7 +103,7 @@ impl<S: Parted> Quick<S> {
         &*self.parts
     }
 
-    /// How many steps the record stands for, good or not.
+    /// How many steps the record means, good or not.
     pub fn steps(&self, recorded: &RunRecord<S::Op>) -> u64
         requires style { IsBoosted (record_meaning recorded.now) }
         requires few { self.now.count < 4_294_967_295 }
@@ -134,8 +134,8 @@ impl<S: Parted> Quick<S> {
 }
 
 impl<S: Parted + TakesBack> Quick<S> {
-    /// Takes a record where it is good, and else gives the Quick back as it was, with false. The
-    /// only error is that memory was refused, and the Quick is then lost.
+    /// Takes a record if it is good, and else gives the Quick back as it was, with false. The
+    /// only error is out of memory, and the Quick is then lost.
     pub fn take<L: Ledger>(
         self,
         recorded: &RunRecord<S::Op>,

@@ -82,7 +82,7 @@ impl Seen {
         Some(self.entries[k].1)
     }
 
-    /// The place has this count from now on. The only error is that memory was refused.
+    /// The place has this count from now on. The only error is out of memory.
     pub fn insert(&mut self, place: u16, count: usize) -> Result<(), OutOfMemory>
         ensures { OnOk result ((q : ℕ) → lookup (nat_eq q) self.new.entries
             ≡ cond (nat_eq place q) (Some count) (lookup (nat_eq q) self.old.entries)) }

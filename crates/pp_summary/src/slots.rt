@@ -41,7 +41,7 @@ pub fn put_back<T: Drop>(slots: &mut Slots<T>, tx: &Name, it: T)
     *slot = Some(it);
 }
 
-/// A slot for a name that has none. The only error is that memory was refused.
+/// A slot for a name that has none. The only error is out of memory.
 pub fn put_new<T: Drop>(slots: &mut Slots<T>, tx: &Name, slot: Option<T>) -> Result<(), OutOfMemory>
     requires { lookup (bytes_eq tx.now) slots.old.entries ≡ None }
     ensures { OnOk result (slots.new.entries ≡ slots.old.entries ++ (tx.now, slot) ∷ []) }

@@ -1,4 +1,4 @@
-//! The start of a run: operations that stand committed before the first record.
+//! The start of a run: operations that are committed before the first record.
 ghost use Rattle.std.specs.Prelude.{◌≡◌, ◌≤◌, ◌+◌, length, map, reverse, IfOk, OnOk};
 ghost use Rattle.std.specs.Prelude.{IfNone, IfSome, Some, IsTrue};
 ghost use Rattle.std.specs.List.{All};
@@ -21,8 +21,8 @@ use pp_log_shared::Shared;
 use std::alloc::Global;
 use std::sync::ledger::Ledger;
 
-/// The ids of the items, the last first, unless one of them stands twice. The only error is that
-/// memory was refused.
+/// The ids of the items, the last first, unless one of them is there twice. The only error is
+/// out of memory.
 fn distinct_ids<O: Copy>(alloc: Global, items: &[Item<O>]) -> Result<Option<IdSet>, OutOfMemory>
     ensures ids { IfOk result (λ r. IfSome r (λ ids.
         reverse ids ≡ map (λ p. p.id) items.now)) }
@@ -43,7 +43,7 @@ fn distinct_ids<O: Copy>(alloc: Global, items: &[Item<O>]) -> Result<Option<IdSe
 }
 
 /// The log with the items as uncommitted entries of the transaction, unless they are not allowed.
-/// The only error is that memory was refused.
+/// The only error is out of memory.
 fn make_log<S: Parted, L: Ledger>(
     alloc: Global,
     shape: &S::Shape,
@@ -76,9 +76,9 @@ fn make_log<S: Parted, L: Ledger>(
     Ok(Some(shared))
 }
 
-/// The operations stand committed, as those of a transaction of this name that has begun and
+/// The operations are committed, as those of a transaction of this name that has begun and
 /// ended, in the log that they make. No transaction can miss them, since none is open. The only
-/// error is that memory was refused.
+/// error is out of memory.
 fn put_start<S: Parted>(
     parts: &mut Parts<S::Shape, S::Op, Shared<S>, Own<S>>,
     tx: &Name,
@@ -108,8 +108,8 @@ fn put_start<S: Parted>(
     Ok(())
 }
 
-/// Lets operations stand committed, where their ids differ and they are allowed, and else says
-/// false, and nothing has changed but the ticks. The only error is that memory was refused.
+/// Commits operations, if their ids differ and they are allowed, and else says
+/// false, and nothing has changed but the ticks. The only error is out of memory.
 pub fn start<S: Parted, L: Ledger>(
     parts: &mut Parts<S::Shape, S::Op, Shared<S>, Own<S>>,
     tx: &Name,

@@ -1,4 +1,4 @@
-//! How many steps a record stands for.
+//! How many steps a record means.
 ghost use Rattle.std.specs.Prelude.{◌≡◌, ◌≤◌, ◌<◌, ◌+◌, ◌*◌, ℕ, nat_eq, length, Some};
 ghost use Rattle.std.specs.Map.{lookup};
 ghost use Rattle.pp_records.specs.Records.{Abort, Op, Retry, record_meaning};
@@ -30,7 +30,7 @@ fn count_unseen<S: Parted>(it: &OpenTx<Own<S>>, commits: &Commits, place: u16) -
     }
 }
 
-/// How many steps an operation stands for: a PULL of each commit at its place that the transaction
+/// How many steps an operation means: a PULL of each commit at its place that the transaction
 /// has not seen, an APP and a PUSH.
 fn op_steps<S: Parted>(
     parts: &Parts<S::Shape, S::Op, Shared<S>, Own<S>>,
@@ -70,7 +70,7 @@ fn back_steps<S: Parted>(parts: &Parts<S::Shape, S::Op, Shared<S>, Own<S>>, tx: 
     seen as u64 + 2 * own as u64 + 1
 }
 
-/// How many steps a record stands for, good or not.
+/// How many steps a record means, good or not.
 pub fn steps<S: Parted>(
     parts: &Parts<S::Shape, S::Op, Shared<S>, Own<S>>,
     recorded: &RunRecord<S::Op>,

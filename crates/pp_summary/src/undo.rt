@@ -23,8 +23,8 @@ pub enum Undoing {
     Retry,
 }
 
-/// Takes an abort or a retry record where the transaction is open. The only error is that memory
-/// was refused.
+/// Takes an abort or a retry record if the transaction is open. The only error is out
+/// of memory.
 fn undo_parts<S: Parted + TakesBack, L: Ledger>(
     parts: Parts<S::Shape, S::Op, Shared<S>, Own<S>>,
     how: Undoing,
@@ -58,7 +58,7 @@ fn undo_parts<S: Parted + TakesBack, L: Ledger>(
     Ok((parts, true))
 }
 
-/// Puts what was taken out of its box into one again. The only error is that memory was refused.
+/// Puts what was taken out of its box into one again. The only error is out of memory.
 fn in_box<S: Parted>(
     parts: Parts<S::Shape, S::Op, Shared<S>, Own<S>>,
 ) -> Result<Box<Parts<S::Shape, S::Op, Shared<S>, Own<S>>>, OutOfMemory>
@@ -68,10 +68,10 @@ fn in_box<S: Parted>(
     Ok(Box::new(alloc, parts)?)
 }
 
-/// Takes an abort or a retry record where it is good: the entries of the open transaction leave the
+/// Takes an abort or a retry record if it is good: the entries of the open transaction leave the
 /// shared log, and it gives up or begins anew. `take_back` consumes the shared log, so the parts
 /// leave their box meanwhile, in a function of its own, so that `take` has no room for them on its
-/// stack. The only error is that memory was refused.
+/// stack. The only error is out of memory.
 pub fn undo<S: Parted + TakesBack, L: Ledger>(
     parts: Box<Parts<S::Shape, S::Op, Shared<S>, Own<S>>>,
     how: Undoing,

@@ -13,7 +13,7 @@ kind_at [] place below = absurd (omega arith)
 kind_at (entry ∷ entries) zero below = (entry.1, refl)
 kind_at (entry ∷ entries) (suc place) below = kind_at entries place (omega arith)
 
--- where the states are those of the catalog, each object has a state of its kind
+-- if the states are those of the catalog, each object has a state of its kind
 pub is_object : (catalog : Objects) (states : List ObjectState) (place : ℕ) → AreStatesOf catalog states → place < length catalog
     → IsObjectOf catalog states place
 is_object catalog states place same below =

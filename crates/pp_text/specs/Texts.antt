@@ -73,7 +73,7 @@ op_bytes catalog op =
     name_at catalog op.object ++ codes "." ++ call_bytes op.act ++ codes "="
     ++ answer_bytes (recorded_by op.act)
 
--- the key of a number that is shown, as `0=`, where it has one
+-- the key of a number that is shown, as `0=`, if it has one
 abbrev pub key_bytes : Option ℤ → List ℕ
 key_bytes None = []
 key_bytes (Some key) = signed_decimal key ++ codes "="

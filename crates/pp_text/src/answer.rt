@@ -18,7 +18,7 @@ pub fn write_answer(text: &mut Text, answer: &Answer) -> Result<(), OutOfMemory>
     }
 }
 
-/// A result, as `none`, `true` or `-5`. The only error is that memory was refused.
+/// A result, as `none`, `true` or `-5`. The only error is out of memory.
 pub fn answer_text(alloc: Global, answer: &Answer) -> Result<Text, OutOfMemory>
     ensures { IfOk result (λ text. text ≡ answer_bytes answer.now) }
 {

@@ -77,7 +77,7 @@ pub fn write_op(text: &mut Text, catalog: &Catalog, op: &Op) -> Result<(), OutOf
     write_answer(text, &op.act.recorded())
 }
 
-/// An operation with its result, as `c.fetch_add(2)=5`. The only error is that memory was refused.
+/// An operation with its result, as `c.fetch_add(2)=5`. The only error is out of memory.
 pub fn op_text(alloc: Global, catalog: &Catalog, op: &Op) -> Result<Text, OutOfMemory>
     requires { IsNamed catalog.now op.now }
     ensures { IfOk result (λ text. text ≡ op_bytes catalog.now op.now) }

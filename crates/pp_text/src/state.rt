@@ -9,7 +9,7 @@ use pp_core::{Catalog, OutOfMemory, Text};
 use pp_objects::{ObjectStates, Piece, show};
 use std::alloc::Global;
 
-/// Adds the key of a number that an object shows, where it has one.
+/// Adds the key of a number that an object shows, if it has one.
 fn write_key(text: &mut Text, key: Option<i64>) -> Result<(), OutOfMemory>
     ensures { OnOk result (text.new ≡ text.old ++ key_bytes key) }
 {
@@ -58,8 +58,8 @@ pub fn write_state(
     write_pieces(text, pieces.as_slice())
 }
 
-/// The state of an object, as `state m 0=5 3=-1`, without a line end. The only error is that memory
-/// was refused.
+/// The state of an object, as `state m 0=5 3=-1`, without a line end. The only error is out
+/// of memory.
 pub fn state_line(
     alloc: Global,
     catalog: &Catalog,

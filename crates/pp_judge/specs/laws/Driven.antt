@@ -52,7 +52,7 @@ up_more old new a b x y = omega (arith, x, y)
 
 -- ---- steps
 
--- where the steps are not too many, all of them cost
+-- if the steps are not too many, all of them cost
 pub few_steps : (start : Option (Start Op)) (xs : List (Step Op)) → length xs ≤ 200_000 →
     steps_at_most start xs ≡ start_at_most start + most_ticks place_of (first start) xs
 few_steps start xs few = ap (λ (l : List (Step Op)). start_at_most start + most_ticks place_of

@@ -85,7 +85,7 @@ module _ (k : Kind) where
             ∙ ap (λ (z : List Act). state_from one (state_of k s) z) m.1 ∙ state_in s m.0,
       )
 
-  -- a pair of the kind may be turned where it may be turned by itself
+  -- a pair of the kind may be turned if it may be turned by itself
   pub turned_in : (t : States k) (a b : Ops k) → MayTurn (object_of k) t a b
       → MayTurn one (state_of k t) (act_of k a) (act_of k b)
   turned_in t a b turned l h =

@@ -226,7 +226,7 @@ pub one_undo : (k : Kind) (u : Undos k) → undo_from k (undo_as k u) ≡ u
 one_undo kinds.Memory u = refl
 one_undo k u = refl
 
--- A state of the kind is that of a run where it is so by itself.
+-- A state of the kind is that of a run if it is so by itself.
 pub into_state : (k : Kind) (s : States k) → (object_of k).upkeep.IsState s
     → one.upkeep.IsState (state_of k s)
 into_state kinds.Memory s h = h

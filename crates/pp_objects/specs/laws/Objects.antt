@@ -139,7 +139,7 @@ module _ (o : Object Kind ObjectState Act Undo) (laws : IsLawful o)
         ranged_after = λ f g. ranged_at p lists.1 (h.ranged_after f g);
       }
 
-  -- there are lists for a pair exactly where it does not swap, and they refute it
+  -- there are lists for a pair exactly if it does not swap, and they refute it
   IsExact : Op → Op → Option (List Op × List Op) → Type 0
   IsExact a b lists = ((lists ≡ None) ↔ Swaps (many o) a b) × IsRefutedBy (many o) a b lists
 

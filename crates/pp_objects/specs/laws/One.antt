@@ -21,7 +21,7 @@ use Rattle.pp_objects.specs.laws.Kinds.{refuting_is, start_is, state_of, undo_as
 use Rattle.pp_objects.specs.laws.Acts.{legal_out, legal_act, allowed_in, allowed_out, swaps_in}
 use Rattle.pp_objects.specs.laws.Acts.{swaps_out, ranged_in}
 
--- What holds where an operation of a kind is legal by itself holds where an act is legal.
+-- What is true if an operation of a kind is legal by itself is true if an act is legal.
 pub each_legal : (P : ObjectState → Act → Type 0)
     → ((k : Kind) (t : States k) (a : Ops k) → IsLegal (object_of k) t a
     → P (state_of k t) (act_of k a)) → (s : ObjectState) (a : Act) → IsLegal one s a → P s a
@@ -169,7 +169,7 @@ refuted_in k a b (Some lists) h =
           (h.ranged_after (subst IsTrue (ranged_is k a) r) (subst IsTrue (ranged_is k b) q));
     }
 
--- There are lists for a pair exactly where it does not swap, and they refute it.
+-- There are lists for a pair exactly if it does not swap, and they refute it.
 IsExact : Act → Act → Type 0
 IsExact a b = ((one.refuting a b ≡ None) ↔ Swaps one a b) × IsRefutedBy one a b (one.refuting a b)
 

@@ -20,7 +20,7 @@ use Rattle.pp_objects.specs.laws.Elements.{same_place, same_some, get_set, get_o
 use Rattle.pp_objects.specs.laws.Elements.{get_replicate}
 
 module _ (o : Object Kind ObjectState Act Undo) (laws : IsLawful o) where
-  -- an operation is legal where its act is legal at its place
+  -- an operation is legal if its act is legal at its place
   legal_by : (t : Option ObjectState) (a : Act) → IsTrue (fits_in o (option_map o.shape t) a)
       → gives_in o t a ≡ o.recorded a → (s : ObjectState) × (t ≡ Some s) × IsLegal o s a
   legal_by None a f g = absurd (cc)
@@ -107,7 +107,7 @@ module _ (o : Object Kind ObjectState Act Undo) (laws : IsLawful o) where
       ∙ get_other ss x.object p (o.next s x.act) other
 
   -- a list that is allowed has acts at a place that are allowed there, and lead there to what
-  -- stands there behind it
+  -- is there after it
   pub record IsSeenAt (ss : List ObjectState) (p : ℕ) (s : ObjectState) (l : List Op)
       (m : List Act) : Type 0 where
     pub allowed : AllowedFrom o s m
@@ -166,7 +166,7 @@ module _ (o : Object Kind ObjectState Act Undo) (laws : IsLawful o) where
   seen_at p (x ∷ l) ss s e h = seen_by p l ss x s (same_place p x.object) e h.0
       (λ t f. seen_at p l ((many o).next ss x) t f h.1)
 
-  -- what stands at a place at the start, by what stands there later
+  -- what is at a place at the start, by what is there later
   pub start_at : (kinds : List Kind) (p : ℕ) (q : Kind) → slice_get kinds p ≡ Some q
       → slice_get (map o.start kinds) p ≡ Some (o.start q)
   start_at kinds p q e = slice_get-map o.start kinds p
@@ -240,8 +240,8 @@ module _ (o : Object Kind ObjectState Act Undo) (laws : IsLawful o) where
   pub others_swap : (a b : Op) → (a.object ≡ b.object → ⊥) → Swaps (many o) a b
   others_swap a b apart = commuting_swap (many o) a b (others_commute a b apart)
 
-  -- where all that is allowed behind s is allowed behind t, all that is allowed where s stands is
-  -- allowed where t stands
+  -- if all that is allowed after s is allowed after t, all that is allowed where s is at a place is
+  -- allowed where t is
   carried_by : (p : ℕ) (l : List Op) (ss : List ObjectState) (x : Op) (s t : ObjectState)
       → (p ≡ x.object) ⊎ (p ≡ x.object → ⊥) → slice_get ss p ≡ Some s → o.shape s ≡ o.shape t
       → AllowsAllOf o s t
@@ -293,7 +293,7 @@ module _ (o : Object Kind ObjectState Act Undo) (laws : IsLawful o) where
       carried_by p l ss x s t (same_place p x.object) e same behind
       (λ ts u v f g k. carried p l ts u v f g k) h
 
-  -- acts of one place may be turned where they may be turned by themselves
+  -- acts of one place may be turned if they may be turned by themselves
   turned_at : (p : ℕ) (a b : Act) (ss : List ObjectState) (s : ObjectState)
       → slice_get ss p ≡ Some s → MayTurn o s a b → MayTurn (many o) ss (act_at p a) (act_at p b)
   turned_at p a b ss s e turned l h =
@@ -338,7 +338,7 @@ module _ (o : Object Kind ObjectState Act Undo) (laws : IsLawful o) where
       turned_at p a b ss (state_after o q m.0) m.1.leads
       (turned_there o a b swaps q m.0 m.1.allowed) l h)
 
-  -- so a pair swaps that swaps by itself where it is on one object
+  -- so a pair swaps that swaps by itself if it is on one object
   pub swap_by : (a b : Op) → (a.object ≡ b.object → Swaps o a.act b.act) → Swaps (many o) a b
   swap_by a b swaps = elim (same_place a.object b.object) [
     | inl e ↦ subst (λ (p : ℕ). Swaps (many o) a (act_at p b.act)) e

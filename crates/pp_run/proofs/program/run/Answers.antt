@@ -146,7 +146,7 @@ returns-in-Err-ReadFault-clause-promise g c =
     subst (λ (o : Option Command). RunPromise (source' ≡ source) (sink' ≡ sink) o (outcome left left' held held' statuses.ReadFault ticks ticks') n) (sym command)
     (read_failed (source' ≡ source) (sink' ≡ sink) left left' held held' ticks ticks' n k performs refl (made.reading (search rules)) told.0 told.1 refl refl)
 
--- memory was refused before the output was whole
+-- out of memory before the output was whole
 pub returns-in-Err-OutOfMemory-clause-promise : goal.returns-in-Err-OutOfMemory-clause-promise
 returns-in-Err-OutOfMemory-clause-promise g c =
     let source = c.args.source.now in
