@@ -250,6 +250,6 @@ half O h ss begun runs =
     let sound = run_keeps O ss (first h) (start_sound O h begun) runs in
     omega (arith, fewer_than_ids O (after h ss) sound, steps_long ss (first h), first_long h)
 
--- Entries of the shared log pass tests that the start's and the applied ones pass; of an accepted run they are few.
+-- Shared entries pass each test that the start's and applied ones pass; beyond the start's, an accepted run has at most half as many as steps.
 pub log_law : {Op State : Type 0} (O : Object Op State) → LogLaw O
 log_law O = record { applied = applied; half = half O }

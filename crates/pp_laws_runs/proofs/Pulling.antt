@@ -109,7 +109,7 @@ module _ {Op State : Type 0} (O : Object Op State) (style : Style) (recorded : s
   unless_only place c t x o s h true = tt
   unless_only place c t x o s h false = pulls_only c t x _ s h
 
-  -- An operation that waits for its push, after a refresh of its object if it is not seen, breaks only breakable criteria.
+  -- An operation that waits for its push, after a refresh if no seen entry is on its object, breaks only breakable criteria.
   pub later_only : (place : Op → ℕ) (seen : List (LocalEntry Op)) (c : Config Op) (t : Name) (x : Tx Op) (id : ℕ) (op : Op) → Sound O c → tx t c.opened ≡ Some x → OnlyBreaks O style c (op_later place seen c.shared x.local t id op)
   later_only place seen c t x id op s h =
       only_append O style c (refresh_unless place t (place op) seen c.shared x.local) (App t id op ∷ [])
