@@ -56,7 +56,7 @@ few_first n a b most x y = omega (arith, x, y)
 
 -- ---- steps
 
-but_last_end : (xs : List (Step Op)) (x : Step Op) → but_last (xs ++ x ∷ []) ≡ xs
+pub but_last_end : (xs : List (Step Op)) (x : Step Op) → but_last (xs ++ x ∷ []) ≡ xs
 but_last_end [] x = refl
 but_last_end (y ∷ []) x = refl
 but_last_end (y ∷ z ∷ ys) x = ap (λ (l : List (Step Op)). y ∷ l) (but_last_end (z ∷ ys) x)

@@ -83,7 +83,7 @@ module _ {S Shape State Op Undo Gap : Type 0} (o : Object Shape State Op Undo) (
       new_id = id_unused o q.shape q.transactions q.ids q.shared q.committed q.count w same h t id op m
 
       -- The local log takes the entry of an APP that meets its criteria, and the body its call.
-      pub takes_entry : IsTrue (o.ranged op) → w.count < 200_000 → Takes o k.local entry × FollowsIfOwn o k.body k.local.1 entry
+      pub takes_entry : IsTrue (o.ranged op) → w.count < 4_294_967_295 → Takes o k.local entry × FollowsIfOwn o k.body k.local.1 entry
       takes_entry r few =
           let y = takes_app o q.shape q.transactions q.ids q.shared q.committed q.count w same h t id op m r few in
           let is = of_course o q.shape q.transactions q.ids q.shared q.committed q.count w same h t k course y.0 y.1 in

@@ -222,7 +222,7 @@ module _ {Shape State Op Undo : Type 0} (o : Object Shape State Op Undo) (shape 
   }
 
   -- the local log takes an entry
-  takes : (t : Name) (x : Tx Op) (e : LocalEntry Op) → tx t (map tx_of v.opened) ≡ Some x → IsAllowed o shape (local_ops x.local ++ e.op ∷ []) → IsTrue (o.ranged e.op) → ((a : LocalEntry Op) → In a x.local → a.id ≢ e.id) → n < 200_000 →
+  takes : (t : Name) (x : Tx Op) (e : LocalEntry Op) → tx t (map tx_of v.opened) ≡ Some x → IsAllowed o shape (local_ops x.local ++ e.op ∷ []) → IsTrue (o.ranged e.op) → ((a : LocalEntry Op) → In a x.local → a.id ≢ e.id) → n < 4_294_967_295 →
       FollowsIfOwn o x.body x.local e → (y : Open Shape Op) × (open_at t v.opened ≡ Some y) × Takes o y.local e × FollowsIfOwn o y.body y.local.1 e
   takes t x e q a r d few follows =
       let y = opened o shape v ids G F n h t x q in
@@ -240,12 +240,12 @@ module _ {Shape State Op Undo : Type 0} (o : Object Shape State Op Undo) (shape 
       )
 
   -- The local log takes the entry of an APP that meets its criteria, and the body its call.
-  pub takes_app : (t : Name) (id : ℕ) (op : Op) → Meets (rules_of o w.shape) w.config (App t id op) → IsTrue (o.ranged op) → w.count < 200_000 →
+  pub takes_app : (t : Name) (id : ℕ) (op : Op) → Meets (rules_of o w.shape) w.config (App t id op) → IsTrue (o.ranged op) → w.count < 4_294_967_295 →
       (y : Open Shape Op) × (open_at t v.opened ≡ Some y) × Takes o y.local (record { id = id; owner = t; mark = Unpushed; op = op }) × FollowsIfOwn o y.body y.local.1 (record { id = id; owner = t; mark = Unpushed; op = op })
   takes_app t id op f r few =
       let k = there_holds (tx t (map tx_of v.opened)) _ (lower (App t id op) 0 f) in
       let i = (found_tx t (map tx_of v.opened) k.0 k.1).0 in
-      takes t k.0 (record { id = id; owner = t; mark = Unpushed; op = op }) k.1 k.2.1.1.0 r (λ a j e. k.2.0 (subst (λ (z : ℕ). In z (config_of v ids G.1 F).ids) e (h.sound.local_used k.0 i a j))) (subst (λ (z : ℕ). z < 200_000) (sym (ap (λ (z : Seen Shape Op). z.count) same)) few) (λ own. k.2.1.0)
+      takes t k.0 (record { id = id; owner = t; mark = Unpushed; op = op }) k.1 k.2.1.1.0 r (λ a j e. k.2.0 (subst (λ (z : ℕ). In z (config_of v ids G.1 F).ids) e (h.sound.local_used k.0 i a j))) (subst (λ (z : ℕ). z < 4_294_967_295) (sym (ap (λ (z : Seen Shape Op). z.count) same)) few) (λ own. k.2.1.0)
 
   -- PULL
   pull_is : (t : Name) (id : ℕ) (g : SharedEntry Op) (u : Txs Shape Op) → of_other t id G.1 ≡ Some g → u ≡ with_log t (λ l. l ++ record { id = g.id; owner = g.owner; mark = Pulled; op = g.op } ∷ []) v → config_of u ids G.1 F ≡ then (config_of v ids G.1 F) (Pull t id)
@@ -268,7 +268,7 @@ module _ {Shape State Op Undo : Type 0} (o : Object Shape State Op Undo) (shape 
   }
 
   -- The local log takes the entry of a PULL that meets its criteria.
-  pub takes_pull : (t : Name) (id : ℕ) (g : SharedEntry Op) → Meets (rules_of o w.shape) w.config (Pull t id) → of_other t id G.1 ≡ Some g → w.count < 200_000 →
+  pub takes_pull : (t : Name) (id : ℕ) (g : SharedEntry Op) → Meets (rules_of o w.shape) w.config (Pull t id) → of_other t id G.1 ≡ Some g → w.count < 4_294_967_295 →
       (y : Open Shape Op) × (open_at t v.opened ≡ Some y) × Takes o y.local (record { id = g.id; owner = g.owner; mark = Pulled; op = g.op }) × FollowsIfOwn o y.body y.local.1 (record { id = g.id; owner = g.owner; mark = Pulled; op = g.op })
   takes_pull t id g f q few =
       let k = there_holds (tx t (map tx_of v.opened)) _ (lower (Pull t id) 0 f) in
@@ -276,7 +276,7 @@ module _ {Shape State Op Undo : Type 0} (o : Object Shape State Op Undo) (shape 
       let e = same_Some m.0 g (sym m.1 ∙ q) in
       let i = found_other t id G.1 g q in
       takes t k.0 (record { id = g.id; owner = g.owner; mark = Pulled; op = g.op }) k.1 (subst (λ (z : SharedEntry Op). IsAllowed o shape (local_ops (k.0).local ++ z.op ∷ [])) e m.2.1.0) (ranged_shared o shape v ids G F n h g i.0) (λ a j d. m.2.0 a j (d ∙ i.1))
-      (subst (λ (z : ℕ). z < 200_000) (sym (ap (λ (z : Seen Shape Op). z.count) same)) few) (λ own. absurd (cc))
+      (subst (λ (z : ℕ). z < 4_294_967_295) (sym (ap (λ (z : Seen Shape Op). z.count) same)) few) (λ own. absurd (cc))
 
   -- PUSH
   pub push_allowed : (t : Name) (id : ℕ) → Meets (rules_of o w.shape) w.config (Push t id) → (l : Shape × List (LocalEntry Op)) → HasLog o shape v ids G F n h t l → (p : LocalEntry Op) → at_mark id Unpushed l.1 ≡ Some p →

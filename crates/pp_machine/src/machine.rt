@@ -163,7 +163,7 @@ impl<S: Parted> Machine<S> {
         ticks: &mut Ticks<L>,
     ) -> Result<(Self, Outcome<S::Op>), OutOfMemory>
         requires asked { IsAsked S.object self.shape (meaning step.now) }
-        requires few { self.count < 200_000 }
+        requires few { self.count < 4_294_967_295 }
         ensures effect { IfOk result (λ r. Stepped S.object self (meaning step.now) r.1 r.0) }
         ensures shown { IfOk result (λ r. IsShown S.object self (meaning step.now) r.1) }
         ensures one_more { IfOk result (λ r. r.0.count ≤ self.count + 1) }

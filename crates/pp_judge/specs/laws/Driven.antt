@@ -84,7 +84,7 @@ ends_front {A} O c (x ∷ xs) ys run (inr e) =
     let k = ends_front O (then c x.what) xs ys e.1.0 e.1.1 in
     (x ∷ k.0, k.1, inr (e.0, (k.0, k.2, refl)), e.1.2 ∙ ap (λ (w : LinedSteps A). x ∷ w) k.3)
 
-run_front : (h : Header) (records more : Records (RunRecord Op)) (run : LinedSteps Op) →
+pub run_front : (h : Header) (records more : Records (RunRecord Op)) (run : LinedSteps Op) →
     IsRun (object_of h) (translation_of h) (start_of h) (records ++ more) run
     → (front : LinedSteps Op) × (rest : LinedSteps Op) × IsRun (object_of h) (translation_of h)
     (start_of h) records front × (run ≡ front ++ rest)

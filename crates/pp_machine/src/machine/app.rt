@@ -21,7 +21,7 @@ impl<S: Parted> Machine<S> {
     ) -> Result<(Self, Outcome<S::Op>), OutOfMemory>
         requires fits { IsTrue (S.object.fits self.shape op.now) }
         requires ranged { IsTrue (S.object.ranged op.now) }
-        requires few { self.count < 200_000 }
+        requires few { self.count < 4_294_967_295 }
         ensures effect { Does S.object self (App tx.now id op.now) result }
         ensures cost { Costs S.place_of self (App tx.now id op.now) result ticks.old ticks.new }
         ensures bound { ticks.new ≤ ticks.old + 1 }

@@ -32,7 +32,7 @@ impl<S: Parted> Machine<S> {
         body: &Option<Body>,
     ) -> Result<(Self, Outcome<S::Op>), OutOfMemory>
         requires within { IsWithinLimits (option_map tree body.now) }
-        requires few { self.count < 200_000 }
+        requires few { self.count < 4_294_967_295 }
         ensures { Does S.object self (begin_of tx.now thread.now body.now) result }
     {
         if let Err(refusal) = self.judge_begin(tx, thread) {

@@ -37,7 +37,7 @@ fn judge_cmt<S: Parted>(course: &Course<S>, shared: &Shared<S>) -> Result<(), Re
 impl<S: Parted> Machine<S> {
     /// Does CMT where its criteria hold.
     pub(super) fn commit(mut self, tx: &Name) -> Result<(Self, Outcome<S::Op>), OutOfMemory>
-        requires few { self.count < 200_000 }
+        requires few { self.count < 4_294_967_295 }
         ensures { Does S.object self (Cmt tx.now) result }
     {
         let parts = &mut *self.parts;

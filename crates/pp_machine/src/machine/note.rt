@@ -22,7 +22,7 @@ impl<S: Parted> Machine<S> {
 
     /// Does NOTE where its criterion holds. It takes no memory.
     pub(super) fn note(mut self, tx: &Name) -> (Self, Outcome<S::Op>)
-        requires { self.count < 200_000 }
+        requires { self.count < 4_294_967_295 }
         ensures { Stepped S.object self (Note tx.now) result.1 result.0 }
     {
         if let Err(refusal) = self.judge_note(tx) {

@@ -59,7 +59,7 @@ impl<S: Parted> Machine<S> {
         id: u32,
         ticks: &mut Ticks<L>,
     ) -> Result<(Self, Outcome<S::Op>), OutOfMemory>
-        requires few { self.count < 200_000 }
+        requires few { self.count < 4_294_967_295 }
         ensures effect { Does S.object self (Pull tx.now id) result }
         ensures cost { Costs S.place_of self (Pull tx.now id) result ticks.old ticks.new }
         ensures bound { ticks.new ≤ ticks.old + 1 }

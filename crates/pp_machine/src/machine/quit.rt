@@ -26,7 +26,7 @@ fn judge_quit<S: Parted>(local: &Local<S>) -> Result<(), Refusal<S::Op>>
 impl<S: Parted> Machine<S> {
     /// Does QUIT where its criteria hold. It takes no memory.
     pub(super) fn quit(mut self, tx: &Name) -> (Self, Outcome<S::Op>)
-        requires { self.count < 200_000 }
+        requires { self.count < 4_294_967_295 }
         ensures { Stepped S.object self (Quit tx.now) result.1 result.0 }
     {
         let parts = &mut *self.parts;

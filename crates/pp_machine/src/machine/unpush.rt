@@ -58,7 +58,7 @@ impl<S: Parted> Machine<S> {
         posted: usize,
         ticks: &mut Ticks<L>,
     ) -> Result<(Self, Outcome<S::Op>), OutOfMemory>
-        requires few { self.count < 200_000 }
+        requires few { self.count < 4_294_967_295 }
         requires found { FindsPushed S.object self tx.now id i posted }
         ensures effect { Does S.object self (Unpush tx.now id) result }
         ensures cost { Costs S.place_of self (Unpush tx.now id) result ticks.old ticks.new }
@@ -94,7 +94,7 @@ impl<S: Parted> Machine<S> {
         id: u32,
         ticks: &mut Ticks<L>,
     ) -> Result<(Self, Outcome<S::Op>), OutOfMemory>
-        requires few { self.count < 200_000 }
+        requires few { self.count < 4_294_967_295 }
         ensures effect { Does S.object self (Unpush tx.now id) result }
         ensures cost { Costs S.place_of self (Unpush tx.now id) result ticks.old ticks.new }
         ensures bound { ticks.new ≤ ticks.old + at_most S.place_of self.config (Unpush tx.now id) }
