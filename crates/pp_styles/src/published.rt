@@ -26,6 +26,10 @@ type Owners = IndexMap<Name, Sequence<u32>>;
 /// The same for each object.
 type Lists = IndexMap<u16, Owners>;
 
+/// So many ids may be in the lists beside the entries of the shared log before the lists are made
+/// anew.
+const FEW_IDS: usize = 64;
+
 /// Lists of what each transaction pushed, and for each open transaction how much of them it is
 /// known to have. No list is kept until one is wanted.
 #[derive(Drop)]
@@ -36,6 +40,8 @@ pub struct Published {
     /// An id that left the shared log stays in its list, and is added again if it is pushed again.
     lists: Lists,
     places: Places,
+    /// How many ids are in the lists.
+    listed: usize,
     /// For an open transaction, an owner and an object: so many ids of their list, from the first
     /// on, are passed. The other ids are those of all entries that are not in the local log.
     passed: IndexMap<Name, TakenFrom>,
@@ -322,6 +328,7 @@ impl Published {
             kept: false,
             lists: IndexMap::new(alloc),
             places: Places::new(alloc),
+            listed: 0,
             passed: IndexMap::new(alloc),
         }
     }
@@ -348,6 +355,7 @@ impl Published {
         let Some(last) = shared.entry(at) else {
             return Ok(());
         };
+        self.listed = self.listed.saturating_add(1);
         add_on(
             self.alloc,
             &mut self.lists,
@@ -358,19 +366,39 @@ impl Published {
         )
     }
 
-    /// Begins to keep lists, unless they are kept: of all entries of the shared log.
+    /// Whether more than half of the ids in the lists left the shared log. A few do not count.
+    fn is_outgrown(&self, entries: usize) -> bool {
+        self.listed > entries.saturating_mul(2).saturating_add(FEW_IDS)
+    }
+
+    /// Lists all entries of the shared log, and nothing else. Nothing is passed then.
+    fn list_anew<S: Parted>(&mut self, shared: &Shared<S>) -> Result<(), OutOfMemory>
+        ensures kept { OnOk result ((publications self.new).kept ≡ true) }
+        ensures lists { Keeps S.place_of shared.now.1 (publications self.old)
+            (publications self.new) }
+    {
+        self.kept = false;
+        self.lists = IndexMap::new(self.alloc);
+        self.places = Places::new(self.alloc);
+        list_all(self.alloc, &mut self.lists, &mut self.places, shared)?;
+        self.listed = shared.len();
+        self.passed = none_passed(self.alloc);
+        self.kept = true;
+        Ok(())
+    }
+
+    /// Begins to keep lists, of all entries of the shared log. If they are kept, it makes them anew
+    /// once more than half of their ids left the shared log. So many ids were added since the lists
+    /// were made last that each of them pays for an entry.
     pub fn keep<S: Parted>(&mut self, shared: &Shared<S>) -> Result<(), OutOfMemory>
         ensures kept { OnOk result ((publications self.new).kept ≡ true) }
         ensures lists { Keeps S.place_of shared.now.1 (publications self.old)
             (publications self.new) }
     {
-        if self.kept {
+        if self.kept && !self.is_outgrown(shared.len()) {
             return Ok(());
         }
-        list_all(self.alloc, &mut self.lists, &mut self.places, shared)?;
-        self.passed = none_passed(self.alloc);
-        self.kept = true;
-        Ok(())
+        self.list_anew(shared)
     }
 
     /// Forgets what is known of an open transaction.
