@@ -125,6 +125,22 @@ def dropped_alone(count):
     return records + [named("commit", tx)], 1 + count + count + 7 * count + count + 7 * count + 1, 1
 
 
+def withdrawn(count):
+    """The source of a reader publishes an addition and withdraws it, and so on. Then many other readers call once each."""
+    (source, *readers), records = opened(1 + count)
+    numbers = itertools.count()
+
+    def calls(reader):
+        return [named("depend", reader, source=source), op(reader, next(numbers), "add", [1])]
+
+    records += calls(readers[0])
+    for _ in range(count):
+        records += [op(source, next(numbers), "add", [1]), named("publish", source), named("retry", source)]
+    for reader in readers[1:]:
+        records += calls(reader)
+    return records + [named("commit", readers[0])], 1 + count + 6 * count + 2 * count + 2, 1
+
+
 def followed(calls):
     """A transaction publishes additions one by one. Another, whose source it is, adds after each of them."""
     (source, tx), records = opened(2)
@@ -189,6 +205,7 @@ RUNS = (
     ("a source dropped and retried", header("dependent", "counter"), dropped_and_retried, 7_500),
     ("a small source dropped beside a large one", header("dependent", "counter"), retaken, 5_000),
     ("sources dropped by a long transaction", header("dependent", "mem"), dropped_alone, 11_000),
+    ("additions published and withdrawn", header("dependent", "counter"), withdrawn, 17_900),
     ("additions of a source, a reader after each", header("dependent", "counter"), followed, 20_000),
     ("rounds of 6,000 calls, each undone", header("boosted", "map"), undone, 8),
     ("hardware sections that read and abort", header("hardware", "mem"), aborted, 10_000),

@@ -26,8 +26,7 @@ type Owners = IndexMap<Name, Sequence<u32>>;
 /// The same for each object.
 type Lists = IndexMap<u16, Owners>;
 
-/// So many ids may be in the lists beside the entries of the shared log before the lists are made
-/// anew.
+/// By so many the ids that left the shared log may outnumber its entries.
 const FEW_IDS: usize = 64;
 
 /// Lists of what each transaction pushed, and for each open transaction how much of them it is
@@ -366,7 +365,7 @@ impl Published {
         )
     }
 
-    /// Whether more than half of the ids in the lists left the shared log. A few do not count.
+    /// Whether the ids that left the shared log outnumber its entries by more than a few.
     fn is_outgrown(&self, entries: usize) -> bool {
         self.listed > entries.saturating_mul(2).saturating_add(FEW_IDS)
     }
@@ -388,8 +387,8 @@ impl Published {
     }
 
     /// Begins to keep lists, of all entries of the shared log. If they are kept, it makes them anew
-    /// once more than half of their ids left the shared log. So many ids were added since the lists
-    /// were made last that each of them pays for an entry.
+    /// once the ids that left outnumber the entries. So more ids left since the lists were made last
+    /// than are listed now.
     pub fn keep<S: Parted>(&mut self, shared: &Shared<S>) -> Result<(), OutOfMemory>
         ensures kept { OnOk result ((publications self.new).kept ≡ true) }
         ensures lists { Keeps S.place_of shared.now.1 (publications self.old)
