@@ -121,7 +121,7 @@ def dropped_alone(count):
     (tx, *sources), records = opened(1 + count)
     records += [named("depend", tx, source=source) for source in sources]
     records += [op(tx, number, "read", [0], 0) for number in range(7 * count)]
-    records += [named("drop", tx, source=source) for source in reversed(sources)]
+    records += [named("drop", tx, source=source) for source in sources]
     return records + [named("commit", tx)], 1 + count + count + 7 * count + count + 7 * count + 1, 1
 
 

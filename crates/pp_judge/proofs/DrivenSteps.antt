@@ -28,9 +28,11 @@ use Rattle.pp_styles.specs.AnyFronts.{any_state, any_style}
 use Rattle.pp_styles.specs.Costs.{singles}
 use Rattle.pp_styles.specs.Driving.{CostAtMost, Drives, HasDone}
 use Rattle.pp_styles.specs.Meanings.{meanings}
+use Rattle.pp_styles.specs.SameFronts.{SameFront}
 use Rattle.pp_styles.specs.declared.any_front.AnyFront.{AnyFront}
 use Rattle.pp_styles.specs.declared.drive.Halt.{Halt}
 use Rattle.pp_styles.specs.declared.drive.Halt.TheVariants.{Failed, TooMany}
+use Rattle.pp_styles.proofs.SameFronts.{same_front}
 use Rattle.pp_input_reader.specs.Takers.{IfFault}
 use Rattle.pp_input_reader.specs.declared.cause.Cause.{Cause}
 use Rattle.pp_input_reader.specs.declared.cause.Cause.TheVariants.{TooManySteps}
@@ -130,7 +132,7 @@ module _ {W : Type 0} (HasSeen : Header → List (Step Op) → W → Type 0) whe
         state = new_front (kinds_of h.catalog);
         stands = (reading_law (object_of h) (translation_of h)).nothing (start_of h) started.0;
         style = first_one.0;
-        kept = first_one.1;
+        kept = same_front _ _ first_one.1;
       } in
       (subst (λ (m : Seen (List Kind) Op). GoesOn h [] front m) (sym started.1) there, seen_nothing h w seen)
 
@@ -166,7 +168,7 @@ module _ {W : Type 0} (HasSeen : Header → List (Step Op) → W → Type 0) whe
     TakenSo judged = Judges (driven_judging HasSeen) h judge r line judged now new
 
     taken_good : (front : AnyFront) (machine : Seen (List Kind) Op) → any_style front ≡ any_style judge.front
-        → any_state (kinds_of h.catalog) front ≡ front_after (any_state (kinds_of h.catalog) judge.front) judge.machine.config r → (done : HasDone objects judge.machine here [] machine now new)
+        → SameFront (any_state (kinds_of h.catalog) front) (front_after (any_state (kinds_of h.catalog) judge.front) judge.machine.config r) → (done : HasDone objects judge.machine here [] machine now new)
         → told ≡ done.before → TakenSo (Good (record { front = front; machine = machine; observer = next }))
     taken_good front machine style kept done first = record {
       is = λ at before good.
@@ -193,7 +195,7 @@ module _ {W : Type 0} (HasSeen : Header → List (Step Op) → W → Type 0) whe
     }
 
     module _ (front : AnyFront) (machine : Seen (List Kind) Op) (style : any_style front ≡ any_style judge.front)
-        (kept : any_state (kinds_of h.catalog) front ≡ front_after (any_state (kinds_of h.catalog) judge.front) judge.machine.config r) (sound : Sound (rules_of objects machine.shape) machine.config)
+        (kept : SameFront (any_state (kinds_of h.catalog) front) (front_after (any_state (kinds_of h.catalog) judge.front) judge.machine.config r)) (sound : Sound (rules_of objects machine.shape) machine.config)
         (done : ℕ) (first : told ≡ take (done + 1) here) (count : done + judge.machine.count ≡ machine.count) where
       -- so many steps are done
       as_many : (rest : List (Step Op)) (d : HasDone objects judge.machine here rest machine now new) → done ≡ length d.before

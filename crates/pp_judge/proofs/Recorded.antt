@@ -10,7 +10,6 @@ use Rattle.pp_core.specs.Steps.{Step, rule_of}
 use Rattle.pp_core.specs.declared.call.Kind.{Kind}
 use Rattle.pp_core.specs.declared.call.Style.{Style}
 use Rattle.pp_records.specs.Expansions.{expand, front_after}
-use Rattle.pp_records.specs.Fronts.{Front}
 use Rattle.pp_records.specs.Inputs.{OverrunsAt}
 use Rattle.pp_records.specs.Laws.{IsRejectedAt}
 use Rattle.pp_records.specs.Records.{RunRecord}
@@ -29,7 +28,9 @@ use Rattle.pp_machine.specs.declared.detail.Detail.{Detail}
 use Rattle.pp_kind.specs.Object.{rules_of}
 use Rattle.pp_styles.specs.AnyFronts.{any_state, any_style}
 use Rattle.pp_styles.specs.Driving.{HasDone, after_steps}
+use Rattle.pp_styles.specs.SameFronts.{SameFront}
 use Rattle.pp_styles.specs.declared.any_front.AnyFront.{AnyFront}
+use Rattle.pp_styles.proofs.SameFronts.{after_same, expand_same, same_as_third}
 use Rattle.pp_input_reader.specs.declared.cause.Cause.TheVariants.{TooManySteps}
 use Rattle.pp_judge.specs.Inputs.{IsFaultOf}
 use Rattle.pp_judge.specs.Objects.{object_of, setting_of, start_of, translation_of}
@@ -59,7 +60,7 @@ module _ (h : Header) (rs : Records (RunRecord Op)) (front : AnyFront) (machine 
   pub same_steps : steps_here h front machine r ≡ steps_there
   same_steps =
       ap (λ (s : Style). expand place_of s (any_state (kinds_of h.catalog) front) machine.config r) c.style
-      ∙ ap (λ (f : Front). expand place_of h.style f machine.config r) c.kept
+      ∙ expand_same (any_state (kinds_of h.catalog) front) c.state c.kept machine.config place_of h.style r
 
   -- they hold over the objects of the header if they hold over those of the machine
   pub hold_there : (before : List (Step Op)) → RunsFrom (rules_of objects machine.shape) machine.config before → RunsFrom (object_of h) machine.config before
@@ -75,7 +76,7 @@ module _ (h : Header) (rs : Records (RunRecord Op)) (front : AnyFront) (machine 
   -- ---- each of them is done
 
   -- If the steps of one more record are all done, the run goes on with the new machine and front.
-  pub goes_on : (line : ℕ) (next : AnyFront) (new : Seen (List Kind) Op) (from to : ℕ) → any_style next ≡ any_style front → any_state (kinds_of h.catalog) next ≡ front_after (any_state (kinds_of h.catalog) front) machine.config r
+  pub goes_on : (line : ℕ) (next : AnyFront) (new : Seen (List Kind) Op) (from to : ℕ) → any_style next ≡ any_style front → SameFront (any_state (kinds_of h.catalog) next) (front_after (any_state (kinds_of h.catalog) front) machine.config r)
       → HasDone objects machine (steps_here h front machine r) [] new from to → GoesOn h (one_more rs line r) next new
   goes_on line next new from to style kept done =
       let all : done.before ≡ steps_there = sym (sym same_steps ∙ done.parts ∙ append-nil done.before) in
@@ -87,7 +88,7 @@ module _ (h : Header) (rs : Records (RunRecord Op)) (front : AnyFront) (machine 
         state = front_after c.state machine.config r;
         stands = (reading_law (object_of h) (translation_of h)).more (start_of h) rs (standing_of c.state machine) machine.count (on_record line r) c.stands hold few;
         style = style ∙ c.style;
-        kept = kept ∙ ap (λ (f : Front). front_after f machine.config r) c.kept;
+        kept = same_as_third _ _ _ kept (after_same (any_state (kinds_of h.catalog) front) c.state c.kept machine.config r);
       } in
       subst (λ (v : Seen (List Kind) Op). GoesOn h (one_more rs line r) next v) (sym is) there
 

@@ -22,6 +22,7 @@ use Rattle.pp_machine.specs.declared.machine.Outcome.{Outcome}
 use Rattle.pp_machine.specs.declared.machine.Outcome.TheVariants.{Done, False}
 use Rattle.pp_styles.specs.AnyFronts.{any_state, any_style}
 use Rattle.pp_styles.specs.Meanings.{meanings}
+use Rattle.pp_styles.specs.SameFronts.{SameFront}
 use Rattle.pp_styles.specs.declared.any_front.AnyFront.{AnyFront}
 use Rattle.pp_styles.specs.declared.drive.Halt.{Halt}
 use Rattle.pp_styles.specs.declared.drive.Halt.TheVariants.{Failed, TooMany}
@@ -51,7 +52,8 @@ pub record IsRunning (sc : InputScan) (tally : Tally) (machine : Seen (List Kind
       (start_of tally.header) sc.records (standing_of state machine) machine.count
 
 -- Each step that the records after a header mean meets its criteria, the machine is where
--- they lead, and the front is of the style, and keeps what the records leave.
+-- they lead, and the front is of the style, and keeps what the records leave. The order of the
+-- sources that it keeps may be another.
 pub record GoesOn (header : Header) (records : Records (RunRecord Op)) (front : AnyFront)
     (machine : Seen (List Kind) Op) : Type 0 where
   pub shape : machine.shape ≡ kinds_of header.catalog
@@ -60,7 +62,7 @@ pub record GoesOn (header : Header) (records : Records (RunRecord Op)) (front : 
   pub stands : StandsAt (object_of header) (translation_of header) (start_of header) records
       (standing_of state machine) machine.count
   pub style : any_style front ≡ header.style
-  pub kept : any_state (kinds_of header.catalog) front ≡ state
+  pub kept : SameFront (any_state (kinds_of header.catalog) front) state
 
 -- the rejection of a start, of which this is the first false criterion
 abbrev pub start_rejection : Header → ℕ → ℕ → Rejection

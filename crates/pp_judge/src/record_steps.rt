@@ -6,6 +6,7 @@ ghost use Rattle.pp_records.specs.Expansions.{IsOfStyle, expand, front_after};
 ghost use Rattle.pp_records.specs.Records.{record_meaning};
 ghost use Rattle.pp_styles.specs.AnyFronts.{any_state, any_style};
 ghost use Rattle.pp_styles.specs.Meanings.{meanings};
+ghost use Rattle.pp_styles.specs.SameFronts.{SameFront};
 ghost use Rattle.pp_judge.specs.Running.{steps_given};
 
 use pp_core::{OutOfMemory, Step};
@@ -25,9 +26,9 @@ pub(crate) fn make_steps(
         steps_given (record_meaning recorded.now) made
         ≡ expand place_of (any_style front.old) (any_state kinds front.old) machine.old.config
         (record_meaning recorded.now)) }
-    ensures kept { (kinds : List Kind) → OnOk result (any_state kinds front.new
-        ≡ front_after (any_state kinds front.old) machine.old.config
-        (record_meaning recorded.now)) }
+    ensures kept { (kinds : List Kind) → OnOk result (SameFront (any_state kinds front.new)
+        (front_after (any_state kinds front.old) machine.old.config
+        (record_meaning recorded.now))) }
     ensures same { any_style front.new ≡ any_style front.old }
     ensures machine { machine.new ≡ machine.old }
 {

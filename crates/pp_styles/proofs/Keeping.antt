@@ -1,14 +1,15 @@
 -- What the front of style dependent keeps behind a record.
 use Rattle.std.proofs.Common.{◌≡◌, ℕ, Bool, true, false, List, [], if◌then◌else◌, Option, None, Some}
-use Rattle.std.proofs.Common.{Result, Ok, Err, OnOk, refl, sym, ap, ◌∙◌}
+use Rattle.std.proofs.Common.{Result, Ok, Err, OnOk, is_some, refl, sym, ap, subst, ◌∙◌}
 use Rattle.pp_core.specs.declared.call.Kind.{Kind}
 use Rattle.pp_model.specs.Config.{Config, Tx}
 use Rattle.pp_model.specs.Names.{Name, ◌=ⁿ◌}
 use Rattle.pp_records.specs.Expansions.{front_after, front_of_open}
-use Rattle.pp_records.specs.Fronts.{Front, with_section, with_sources}
+use Rattle.pp_records.specs.Fronts.{Front, at_name, has_name, with_section, with_sources, without_source}
 use Rattle.pp_records.specs.Records.{record_meaning}
 use Rattle.pp_records.specs.declared.run_record.RunRecord.{RunRecord as RecordOf}
 use Rattle.pp_styles.specs.declared.dependent.Dependent.{Dependent}
+use Rattle.pp_styles.specs.SameFronts.{SameFront}
 use Rattle.pp_styles.specs.Sources.{sources_in}
 use Rattle.pp_styles.specs.States.{dependent_state}
 
@@ -17,9 +18,9 @@ pub whenever : {A E : Type 0} {P : Type 0} (r : Result A E) → P → OnOk r P
 whenever (Ok x) p = p
 whenever (Err e) p = tt
 
--- The front after a record is that after an equal record.
-pub at_record : {Op : Type 0} (f : Front) (c : Config Op) (g : Front) (rec r : RecordOf Op) → rec ≡ r → g ≡ front_after f c (record_meaning r) → g ≡ front_after f c (record_meaning rec)
-at_record {Op} f c g rec r is kept = kept ∙ ap (λ (w : RecordOf Op). front_after f c (record_meaning w)) (sym is)
+-- A front that is the same as that after a record is the same as that after an equal record.
+pub at_record : {Op : Type 0} (f : Front) (c : Config Op) (g : Front) (rec r : RecordOf Op) → rec ≡ r → SameFront g (front_after f c (record_meaning r)) → SameFront g (front_after f c (record_meaning rec))
+at_record {Op} f c g rec r is kept = subst (λ (w : RecordOf Op). SameFront g (front_after f c (record_meaning w))) (sym is) kept
 
 either : {A : Type 0} (b : Bool) (x : A) → (if b then x else x) ≡ x
 either true x = refl
@@ -39,3 +40,10 @@ pub forgotten : {Op : Type 0} (ks : List Kind) (f : Dependent) (t : Name) (x : O
     ≡ front_of_open x (dependent_state ks f) (λ l. with_sources (with_section (dependent_state ks f) t None) t [])
 forgotten ks f t None = refl
 forgotten ks f t (Some x) = ap (λ (w : Front). with_sources w t []) (sym (unsectioned ks f t))
+
+-- If an open transaction keeps its sources but one, and each other keeps its own, the state is that after the drop, but for the order of the sources.
+pub given_up : {Op : Type 0} (ks : List Kind) (old new : Dependent) (t source : Name) (x : Option (Tx Op)) → is_some x ≡ true
+    → ((u v : Name) → has_name v (sources_in u new.sources.entries) ≡ has_name v (at_name t (without_source source (sources_in t old.sources.entries)) (λ w. sources_in w old.sources.entries) u))
+    → SameFront (dependent_state ks new) (front_of_open x (dependent_state ks old) (λ l. with_sources (dependent_state ks old) t (without_source source ((dependent_state ks old).sources t))))
+given_up ks old new t source None open_there same = cc
+given_up ks old new t source (Some x) open_there same = record { kinds = refl; section = λ u. refl; sources = same }

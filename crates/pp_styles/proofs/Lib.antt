@@ -2,6 +2,7 @@ pub mod Growing
 pub mod Nearing
 pub mod Pulling
 pub mod Outs
+pub mod SameFronts
 pub mod Sections
 pub mod Standing
 pub mod Named

@@ -8,6 +8,7 @@ pub mod Meanings
 pub mod Noting
 pub mod Publishing
 pub mod Pulling
+pub mod SameFronts
 pub mod Sources
 pub mod States
 pub mod Walking

@@ -6,12 +6,13 @@ ghost use Rattle.pp_core.specs.declared.call.Kind.{Kind};
 ghost use Rattle.pp_core.specs.declared.call.Style.TheVariants as styles;
 ghost use Rattle.pp_records.specs.Expansions.{changed_where_open, dependent_op, follow, unpulls};
 ghost use Rattle.pp_records.specs.Expansions.{where_open};
-ghost use Rattle.pp_records.specs.Fronts.{at_name, new_front, with_source, with_sources};
+ghost use Rattle.pp_records.specs.Fronts.{at_name, has_name, new_front, with_source, with_sources};
 ghost use Rattle.pp_records.specs.Fronts.{without_source};
 ghost use Rattle.pp_model.specs.Names.{Name as NameOf};
 ghost use Rattle.pp_styles.specs.Meanings.{meanings};
 ghost use Rattle.pp_styles.specs.Dropping.{IsPulledBut};
 ghost use Rattle.pp_styles.specs.Knowing.{IsFollowedBut};
+ghost use Rattle.pp_styles.specs.SameFronts.{SameFront};
 ghost use Rattle.pp_styles.specs.Sources.{kept_sources, sources_in};
 
 use crate::drops::unpull_ids;
@@ -57,9 +58,10 @@ fn depend(alloc: Global, sources: &mut Sources, tx: &Name, source: &Name) -> Res
 
 /// Takes one source from a transaction.
 fn give_up(sources: &mut Sources, tx: &Name, source: &Name) -> Result<(), OutOfMemory>
-    ensures { OnOk result ((u : NameOf) → sources_in u sources.new.entries
-        ≡ at_name tx.now (without_source source.now (sources_in tx.now sources.old.entries))
-        (λ v. sources_in v sources.old.entries) u) }
+    ensures { OnOk result ((u v : NameOf) → has_name v (sources_in u sources.new.entries)
+        ≡ has_name v (at_name tx.now
+        (without_source source.now (sources_in tx.now sources.old.entries))
+        (λ w. sources_in w sources.old.entries) u)) }
 {
     let Some(mut kept) = sources.swap_remove(tx) else {
         return Ok(());
@@ -237,10 +239,10 @@ impl Dependent {
         tx: &Name,
         source: &Name,
     ) -> Result<(), OutOfMemory>
-        ensures { (kinds : List Kind) → OnOk result (dependent_state kinds self.new
-            ≡ changed_where_open machine.now.config tx.now (dependent_state kinds self.old)
+        ensures { (kinds : List Kind) → OnOk result (SameFront (dependent_state kinds self.new)
+            (changed_where_open machine.now.config tx.now (dependent_state kinds self.old)
             (λ l. with_sources (dependent_state kinds self.old) tx.now
-            (without_source source.now ((dependent_state kinds self.old).sources tx.now)))) }
+            (without_source source.now ((dependent_state kinds self.old).sources tx.now))))) }
     {
         if machine.is_open(tx) {
             give_up(&mut self.sources, tx, source)?;

@@ -1,14 +1,15 @@
 //! The sources of a transaction, each of them once.
 ghost use Rattle.std.specs.Prelude.{◌≡◌, OnOk};
 ghost use Rattle.std.specs.Option.{option_copied};
+ghost use Rattle.pp_model.specs.Names.{Name as NameOf};
 ghost use Rattle.pp_records.specs.Fronts.{has_name, with_source, without_source};
 ghost use Rattle.pp_styles.specs.Sources.{kept_sources};
 
 use indexmap::IndexSet;
 use pp_core::{Name, OutOfMemory};
 
-/// The transactions whose published entries a transaction reads, in the order of their records. A
-/// name is found among them without a walk.
+/// The transactions whose published entries a transaction reads, in any order. A name is found among
+/// them without a walk.
 pub type SourceSet = IndexSet<Name>;
 
 /// Whether a name is one of the sources, where any are kept.
@@ -31,12 +32,11 @@ pub fn add_source(sources: &mut SourceSet, source: &Name) -> Result<(), OutOfMem
     Ok(())
 }
 
-/// Takes a source out, if it is there. The others keep their order.
+/// Removes a source, if it is there. The last one takes its place in the order.
 #[tactic(auto, using(crate::proofs::Named::without_removed))]
 pub fn remove_source(sources: &mut SourceSet, source: &Name)
-    ensures { sources.new.keys ≡ without_source source.now sources.old.keys }
+    ensures { (v : NameOf) → has_name v sources.new.keys
+        ≡ has_name v (without_source source.now sources.old.keys) }
 {
-    // The call of len is here for its clause alone: that no name stands twice.
-    let _len = sources.len();
-    sources.shift_remove(source);
+    sources.swap_remove(source);
 }
