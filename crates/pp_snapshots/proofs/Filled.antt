@@ -135,6 +135,7 @@ module _ {A Op : Type 0} (t : Name) (f h : Name → A → OpenSummary Op) (named
         | inr r ↦ ap (λ (b : Bool). cond b (Some (f n x)) (open_named t (filled f es))) r.0 ∙ s
       ]
 
+  -- A transaction in a new slot at the end comes last.
   pub filled_more : (es : List (Name × Option A)) (n : Name) (x : A) → filled f (es ++ (n, Some x) ∷ []) ≡ filled f es ++ f n x ∷ []
   filled_more [] n x = refl
   filled_more ((m, None) ∷ es) n x = filled_more es n x

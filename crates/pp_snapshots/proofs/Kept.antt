@@ -9,12 +9,15 @@ use Rattle.pp_snapshots.specs.declared.past.Done.{Done}
 use Rattle.pp_snapshots.specs.declared.past.Made.{Made}
 use Rattle.pp_snapshots.specs.Past.{made_at, made_in}
 
+-- Lists that are equal have the same first element.
 pub head_is : {A : Type 0} {a b : A} {x y : List A} → a ∷ x ≡ b ∷ y → a ≡ b
 head_is h = cc
 
+-- Lists that are equal have the same elements after the first.
 pub tail_is : {A : Type 0} {a b : A} {x y : List A} → a ∷ x ≡ b ∷ y → x ≡ y
 tail_is h = cc
 
+-- A list with one element more is not empty.
 pub some_not_none : {A : Type 0} (x : List A) (a : A) → x ++ a ∷ [] ≡ [] → ⊥
 some_not_none [] a h = absurd (cc)
 some_not_none (b ∷ x) a h = absurd (cc)
@@ -33,9 +36,11 @@ module _ {Op Undo : Type 0} where
   pub made_here : (ps : List (Done Op Undo)) (p : ℕ) (d : Done Op Undo) → p < length ps → d ≡ get_or ps p d → made_at p ps ≡ d.made.items
   made_here ps p d h e = ap (λ (x : Option (Done Op Undo)). made_in x) (slice_get-get_or ps p d h ∙ ap Some (sym e))
 
+  -- What is kept of a place is what was set there.
   pub made_set : (ps : List (Done Op Undo)) (p : ℕ) (d : Done Op Undo) → p < length ps → made_at p (slice_set ps p d) ≡ d.made.items
   made_set ps p d h = ap (λ (x : Option (Done Op Undo)). made_in x) (set_same ps p d h)
 
+  -- Setting one place leaves what is kept of the others.
   pub made_others : (ps : List (Done Op Undo)) (p q : ℕ) (d : Done Op Undo) → p ≢ q → made_at q (slice_set ps p d) ≡ made_at q ps
   made_others ps p q d n = ap (λ (x : Option (Done Op Undo)). made_in x) (set_other ps p q d n)
 
@@ -62,6 +67,7 @@ module _ {Op Undo : Type 0} where
       let at = subst (λ (j : ℕ). d ≡ get_or ps j d) same value in
       last_of y x m n (sym items ∙ sym (made_here ps p d there at) ∙ made)
 
+  -- If a place keeps a list and one more, it keeps one more than the list has.
   pub some_length : (ps : List (Done Op Undo)) (p i : ℕ) (d : Done Op Undo) (x : List (Made Op Undo)) (n : Made Op Undo) → i ≡ p → d ≡ get_or ps i d
       → made_at p ps ≡ x ++ n ∷ [] → length d.made.items ≡ length x + 1
   some_length ps p i d x n same value made =

@@ -12,3 +12,7 @@ pub mod OnRefresh
 pub mod OnStart
 pub mod Takens
 pub mod Costs
+pub mod Starting
+pub mod StepCounts
+pub mod Sums
+pub mod Runs

@@ -29,9 +29,11 @@ cut_at {A} l k a lt is =
     ∙ ap (λ (w : List A). w ++ drop (k + 1) l) (take_more l k a lt ∙ ap (λ (b : A). take k l ++ b ∷ []) (sym is))
     ∙ append_assoc (take k l) (a ∷ []) (drop (k + 1) l)
 
+-- What is in a list without its first elements is in the list.
 pub in_dropped : {A : Type 0} (l : List A) (n : ℕ) (a : A) → In a (drop n l) → In a l
 in_dropped {A} l n a i = subst (λ (w : List A). In a w) (take-append-drop n l) (in_right a (take n l) (drop n l) i)
 
+-- The first n elements of a list, without its first n, are none.
 pub drop_take_none : {A : Type 0} (l : List A) (n : ℕ) → drop n (take n l) ≡ []
 drop_take_none [] n = ap (drop n) (take_none n) ∙ drop_none n
   where
@@ -45,11 +47,13 @@ drop_take_none (a ∷ l) zero = refl
 drop_take_none (a ∷ l) (suc n) = drop_take_none l n
 
 module _ {Op : Type 0} (place : Op → ℕ) where
+  -- Operations added one list after another are those of both lists together.
   pub with_more : (h : ℕ → List Op) (x y : List Op) (q : ℕ) → with_ops place (with_ops place h x) y q ≡ with_ops place h (x ++ y) q
   with_more h x y q =
       append_assoc (h q) (ops_at place q x) (ops_at place q y)
       ∙ ap (λ (w : List Op). h q ++ w) (sym (at-append place q x y))
 
+  -- With no operation added, each place has what it had.
   pub with_none : (h : ℕ → List Op) (q : ℕ) → h q ≡ with_ops place h [] q
   with_none h q = sym (append-nil (h q))
 
@@ -76,6 +80,7 @@ module _ {Op : Type 0} (place : Op → ℕ) where
   pub with_there : (h : ℕ → List Op) (p : ℕ) (l : List Op) → AreThere place p l → with_ops place h l p ≡ h p ++ l
   with_there h p l t = ap (λ (w : List Op). h p ++ w) (at_all place p l t)
 
+  -- Operations of one place leave the other places as they were.
   pub with_elsewhere : (h : ℕ → List Op) (p q : ℕ) (l : List Op) → AreThere place p l → p ≢ q → with_ops place h l q ≡ h q
   with_elsewhere h p q l t n =
       ap (λ (w : List Op). h q ++ w) (at_none place q l (λ a i e. n (sym (t a i) ∙ e)))
@@ -107,6 +112,7 @@ module _ {Shape State Op Undo : Type 0} (o : Object Shape State Op Undo) (place 
         made = λ q. past.made q ∙ ap (made_along o (o.start shape)) (same q);
       }
 
+  -- After a list that ends with an operation, the place of this operation ends with it.
   pub ends_with : (shape : Shape) (v : Past State Op Undo) (h : ℕ → List Op) (x : List Op) (a : Op) → IsPast o place shape v (with_ops place h (x ++ a ∷ [])) → EndsWith o place v (place a)
   ends_with shape v h x a past =
       record {
@@ -118,6 +124,7 @@ module _ {Shape State Op Undo : Type 0} (o : Object Shape State Op Undo) (place 
         is = end_is place h x a;
       }
 
+  -- The operations that are kept of a list are the list.
   pub ops_along : (s : State) (x : List Op) → ops_made (made_along o s x) ≡ x
   ops_along s [] = refl
   ops_along s (a ∷ x) = ap (λ (w : List Op). a ∷ w) (ops_along (o.next s a) x)
@@ -145,11 +152,13 @@ module _ {Shape State Op Undo : Type 0} (o : Object Shape State Op Undo) (place 
         let f = from_filter (λ (b : Op). place b == q) a past.log (subst (λ (w : List Op). In a w) (sym (past.at_places q)) i) in
         (fits_in o laws shape past.log past.allowed a f.0, ranged_in o past.log past.ranged a f.0)
 
+    -- The operations that were applied at a place are all at that place.
     pub place_there : (shape : Shape) (v : Past State Op Undo) (h : ℕ → List Op) → IsPast o place shape v h → (q : ℕ) → AreThere place q (h q)
     place_there shape v h past q a i =
         let f = from_filter (λ (b : Op). place b == q) a past.log (subst (λ (w : List Op). In a w) (sym (past.at_places q)) i) in
         eqb-true (place a) q f.1
 
+    -- Operations that were applied after others may follow these.
     pub follows : (shape : Shape) (w : Past State Op Undo) (h : ℕ → List Op) (l : List Op) → IsPast o place shape w (with_ops place h l) → MayFollow o place shape h l
     follows shape w h l past q = allowed_there o place SameAt laws places shape w (with_ops place h l) past q
 
@@ -164,6 +173,7 @@ module _ {Shape State Op Undo : Type 0} (o : Object Shape State Op Undo) (place 
     pub again : (shape : Shape) (v : Past State Op Undo) (h : ℕ → List Op) (p n : ℕ) → IsPast o place shape v h → (q : ℕ) → h q ≡ with_ops place (at_place p (take n (h p)) h) (drop n (h p)) q
     again shape v h p n past = cut_there place h p n (λ a i. place_there shape v h past p a (in_dropped (h p) n a i))
 
+    -- The later operations of a place may follow the first ones there.
     pub may_again : (shape : Shape) (v : Past State Op Undo) (h : ℕ → List Op) (p n : ℕ) → IsPast o place shape v h → MayFollow o place shape (at_place p (take n (h p)) h) (drop n (h p))
     may_again shape v h p n past q = subst (IsAllowed o shape) (again shape v h p n past q) (allowed_there o place SameAt laws places shape v h past q)
 

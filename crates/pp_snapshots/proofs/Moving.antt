@@ -55,6 +55,7 @@ same_summary {Op} ks a b c d e f g h i j p q r s t =
     ∙ ap (λ (z : List (SharedEntry Op)). record { names = b; ids = d; opened = f; shared = z; done = i; kinds = ks }) s
     ∙ ap (λ (z : List (CommittedTx Op)). record { names = b; ids = d; opened = f; shared = h; done = z; kinds = ks }) t
 
+-- Summaries of open transactions with equal parts are equal.
 pub same_open : {Op : Type 0} (n : Name) (a b : Name) (c d : Option Tree) (e f : List (LocalEntry Op)) (g h : ℕ → ℕ) → a ≡ b → c ≡ d → e ≡ f → g ≡ h
     → ◌≡◌ {A = OpenSummary Op} (record { name = n; thread = a; body = c; own = e; seen = g; held = None }) (record { name = n; thread = b; body = d; own = f; seen = h; held = None })
 same_open {Op} n a b c d e f g h p q r s =
@@ -94,10 +95,12 @@ module _ {Op : Type 0} where
   own_size None = zero
   own_size (Some x) = length x.own
 
+  -- The own operations of slots are those of the first slot and those of the others.
   pub total_first : (n : Name) (s : Option (OpenTx (List (Item Op)))) (es : SlotList Op) → own_total ((n, s) ∷ es) ≡ own_size s + own_total es
   total_first n None es = omega arith
   total_first n (Some x) es = refl
 
+  -- If a slot changes, all own operations change by those of this slot.
   pub total_set : (t : Name) (es : SlotList Op) (x : OpenTx (List (Item Op))) (s : Option (OpenTx (List (Item Op)))) → lookup (λ n. t =ⁿ n) es ≡ Some (Some x) →
       own_total (set_value (λ n. t =ⁿ n) es s) + length x.own ≡ own_total es + own_size s
   total_set t [] x s e = absurd (cc)
@@ -115,6 +118,7 @@ module _ {Op : Type 0} where
         omega (arith, rest, old, new)
   ]
 
+  -- A new slot adds its own operations to all of them.
   pub total_more : (es : SlotList Op) (n : Name) (x : OpenTx (List (Item Op))) → own_total (es ++ (n, Some x) ∷ []) ≡ own_total es + length x.own
   total_more [] n x = omega arith
   total_more ((m, s) ∷ es) n x =
@@ -130,6 +134,7 @@ module _ {Op : Type 0} where
   shown_in ((n, Some x) ∷ es) y (inl e) = inl (ap (λ (z : OpenSummary Op). z.name) e)
   shown_in ((n, Some x) ∷ es) y (inr h) = inr (shown_in es y h)
 
+  -- Open transactions in different slots have different names.
   pub shown_apart : (es : SlotList Op) → Apart es → (y z : OpenSummary Op) → Before y z (filled shown_tx es) → y.name ≢ z.name
   shown_apart [] d y z b = absurd b
   shown_apart ((n, None) ∷ es) d y z b = shown_apart es (λ s t k. d s t (inr k)) y z b
@@ -150,6 +155,7 @@ module _ {Op : Type 0} where
     | inr r ↦ ap (λ (b : Bool). cond (not b) (z ∷ without_open t m) (without_open t m)) r.0 ∙ ap (λ (w : List (OpenSummary Op)). z ∷ w) (stay t m (λ u i. k u (inr i)))
   ]
 
+  -- The open transaction of a name is among all, and the others are those before and after it.
   pub among : (t : Name) (l : List (OpenSummary Op)) (x : OpenSummary Op) → ((y z : OpenSummary Op) → Before y z l → y.name ≢ z.name) → open_named t l ≡ Some x → IsAmong t l x
   among t [] x d h = absurd (cc)
   among t (y ∷ l) x d h = elim (names_tell y.name t) [
@@ -183,8 +189,8 @@ begun_kinds B (Cmt t) = refl
 begun_kinds B (Quit t) = refl
 begun_kinds B (Note t) = refl
 
--- a good record keeps the kinds
-kinds_stay : {Op : Type 0} (place : Op → ℕ) (B : Summary Op) (r : RunRecord Op) → IsOfStyle Optimistic r → (next_summary place Optimistic B r).kinds ≡ B.kinds
+-- The summary after a record has the same kinds.
+pub kinds_stay : {Op : Type 0} (place : Op → ℕ) (B : Summary Op) (r : RunRecord Op) → IsOfStyle Optimistic r → (next_summary place Optimistic B r).kinds ≡ B.kinds
 kinds_stay place B (records.Plain step) s = begun_kinds B step
 kinds_stay place B (records.Op t id op) s = refl
 kinds_stay place B (records.Commit t) s = refl
@@ -229,18 +235,23 @@ module _ {Shape State Op Undo : Type 0} (o : Object Shape State Op Undo) (place 
     pub open_is : (t : Name) → open_named t (filled shown_tx es) ≡ option_map (shown_tx t) (open_in t es)
     open_is t = found_is t shown_tx shown_tx named es h.names
 
+    -- A transaction that is open in the slots is open in the summary.
     pub open_there : (t : Name) (x : OpenTx (List (Item Op))) → open_in t es ≡ Some x → open_named t (filled shown_tx es) ≡ Some (shown_tx t x)
     open_there t x e = open_is t ∙ ap (option_map (shown_tx t)) e
 
+    -- An open transaction has a slot, which is filled.
     pub slot_there : (t : Name) (x : OpenTx (List (Item Op))) → open_in t es ≡ Some x → lookup (λ n. t =ⁿ n) es ≡ Some (Some x)
     slot_there t x e = slot_is (lookup (λ n. t =ⁿ n) es) x e
 
+    -- What is kept of an open transaction is fine.
     pub fine_of : (t : Name) (x : OpenTx (List (Item Op))) → open_in t es ≡ Some x → IsFine o place v.shape x
     fine_of t x e = h.fine t x (in_slot_of t es x (slot_there t x e))
 
+    -- An open transaction has at most all own operations of the slots.
     pub own_within : (t : Name) (x : OpenTx (List (Item Op))) → open_in t es ≡ Some x → length x.own ≤ own_total es
     own_within t x e = let k = total_set t es x None (slot_there t x e) in omega (arith, k)
 
+    -- A good record leads to the next summary, if its parts are kept well.
     pub moves : (r : RunRecord Op) (w : Kept Shape State Op Undo) → IsOfStyle Optimistic r → ((ks : List Kind) → IsGood o place ks v r) → w.shape ≡ v.shape → w.count ≡ v.count + 1
         → ((ks : List Kind) → shown ks w ≡ next_summary place Optimistic (shown ks v) r) → Apart w.slots.entries
         → AreThreads w.threads.keys (threads_of (filled shown_tx w.slots.entries)) → ((n : Name) (x : OpenTx (List (Item Op))) → In (n, Some x) w.slots.entries → IsFine o place v.shape x)
@@ -270,6 +281,7 @@ module _ {Shape State Op Undo : Type 0} (o : Object Shape State Op Undo) (place 
         by y true = e y
         by y false = refl
 
+    -- Without a transaction the busy threads are those of the other open ones.
     pub threads_gone : (t : Name) (x : OpenTx (List (Item Op))) (us : List Name) → open_in t es ≡ Some x → ((q : Name) → list_any (λ z. q =ⁿ z) us ≡ cond (x.thread =ⁿ q) false (list_any (λ z. q =ⁿ z) v.threads.keys)) →
         AreThreads us (threads_of (without_open t (filled shown_tx es)))
     threads_gone t x us e u =
@@ -278,9 +290,11 @@ module _ {Shape State Op Undo : Type 0} (o : Object Shape State Op Undo) (place 
         subst (λ (l : List Name). AreThreads us l) (sym (ap (λ (l : List (OpenSummary Op)). threads_of l) a.without ∙ map-append (λ (y : OpenSummary Op). y.thread) a.before a.after))
         (threads_less v.threads.keys us (threads_of a.before) (threads_of a.after) x.thread (subst (λ (l : List Name). AreThreads v.threads.keys l) cut h.threads) u)
 
+    -- Setting a slot leaves the names of the slots distinct.
     pub names_set : (t : Name) (s : Option (OpenTx (List (Item Op)))) (fs : SlotList Op) → fs ≡ set_value (λ n. t =ⁿ n) es s → Apart fs
     names_set t s fs e = subst (λ (l : List Name). (a b : Name) → Before a b l → a ≢ b) (sym (ap (λ (z : SlotList Op). keys_of z) e ∙ keys_stay t es s)) h.names
 
+    -- Setting a slot leaves the names of the slots.
     pub keys_set : (t : Name) (s : Option (OpenTx (List (Item Op)))) (fs : SlotList Op) → fs ≡ set_value (λ n. t =ⁿ n) es s → reverse (keys_of fs) ≡ reverse (keys_of es)
     keys_set t s fs e = ap (λ (z : SlotList Op). reverse (keys_of z)) e ∙ ap (λ (z : List Name). reverse z) (keys_stay t es s)
 
@@ -324,6 +338,7 @@ module _ {Shape State Op Undo : Type 0} (o : Object Shape State Op Undo) (place 
               };
         }
 
+    -- What is kept shows the same as itself.
     pub stays_same : Stays o place v v
     stays_same = record { shape = refl; count = refl; shown = λ ks. refl; keeps = h }
 
@@ -335,9 +350,11 @@ module _ {Shape State Op Undo : Type 0} (o : Object Shape State Op Undo) (place 
         let fit = subst (λ (sh : Shape). IsTrue (o.fits sh m.0.op)) (sym (shape_is o place SameAt laws places v.shape v.past (done_ops o place v.committed) h.past)) asked.0 in
         subst (λ (b : Op). IsTrue (o.fits (o.shape v.past.state) b) × IsTrue (o.ranged b)) (sym m.2) (fit, asked.1)
 
+    -- An operation that fits the shape fits the shape of the state.
     pub asked_here : (op : Op) → IsOpAsked o v.shape op → IsOpAsked o (o.shape v.past.state) op
     asked_here op asked =
         (subst (λ (sh : Shape). IsTrue (o.fits sh op)) (sym (shape_is o place SameAt laws places v.shape v.past (done_ops o place v.committed) h.past)) asked.0, asked.1)
 
+    -- Some operations were applied to what is kept.
     pub some_past : IsSomePast o place v.past
     some_past = (v.shape, (done_ops o place v.committed, h.past))

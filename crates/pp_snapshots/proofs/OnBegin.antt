@@ -51,22 +51,26 @@ module _ {Shape State Op Undo : Type 0} (o : Object Shape State Op Undo) (place 
       let r = any_in (λ (n : Name). n =ⁿ t) (keys_of v.slots.entries) (sym (begun_is v.slots.entries t) ∙ e) in
       in_reverse t (keys_of v.slots.entries) (subst (λ (n : Name). In n (keys_of v.slots.entries)) (names-true r.0 t r.2) r.1)
 
+  -- A name that has no slot is not among the names.
   pub fresh_name : (t : Name) → is_some (lookup (λ n. t =ⁿ n) v.slots.entries) ≡ false → In t (reverse (keys_of v.slots.entries)) → ⊥
   fresh_name t e i =
       let k = none_in (λ (n : Name). n =ⁿ t) (keys_of v.slots.entries) (sym (begun_is v.slots.entries t) ∙ e) t (from_reverse t (keys_of v.slots.entries) i) in
       let z : true ≡ false = sym (eq-names t t refl) ∙ k in cc
 
+  -- If a thread is in the list, not every open transaction has another one.
   pub busy_thread : (p : Name) → list_any (λ q. p =ⁿ q) v.threads.keys ≡ true → ((x : OpenSummary Op) → In x (filled shown_tx v.slots.entries) → x.thread ≢ p) → ⊥
   busy_thread p e n =
       let r = any_in (λ (q : Name). q =ⁿ p) (threads_of (filled shown_tx v.slots.entries)) (sym (h.threads.are p) ∙ e) in
       let m = from_map (λ (x : OpenSummary Op). x.thread) r.0 (filled shown_tx v.slots.entries) r.1 in
       n m.0 m.1 (sym m.2 ∙ names-true r.0 p r.2)
 
+  -- If a thread is not in the list, no open transaction has it.
   pub idle_thread : (p : Name) → list_any (λ q. p =ⁿ q) v.threads.keys ≡ false → (x : OpenSummary Op) → In x (filled shown_tx v.slots.entries) → x.thread ≢ p
   idle_thread p e x i q =
       let k = none_in (λ (z : Name). z =ⁿ p) (threads_of (filled shown_tx v.slots.entries)) (sym (h.threads.are p) ∙ e) x.thread (in_map (λ (y : OpenSummary Op). y.thread) x (filled shown_tx v.slots.entries) i) in
       let z : true ≡ false = sym (eq-names x.thread p q) ∙ k in cc
 
+  -- A begin with a new name and an idle thread is good.
   pub begun_good : (t p : Name) (b : Option Tree) → is_some (lookup (λ n. t =ⁿ n) v.slots.entries) ≡ false → list_any (λ q. p =ⁿ q) v.threads.keys ≡ false
       → (ks : List Kind) → IsGood o place ks v (records.Plain (Begin t p b))
   begun_good t p b new free ks = (fresh_name t new, idle_thread p free)
@@ -90,6 +94,7 @@ module _ {Shape State Op Undo : Type 0} (o : Object Shape State Op Undo) (place 
     not_in : In t (keys_of v.slots.entries) → ⊥
     not_in i = fresh_name t new (in_reverse t (keys_of v.slots.entries) i)
 
+    -- A begin leads to the next summary.
     pub begun_moves : Moves o place v (records.Plain (Begin t p b)) w
     begun_moves = moves o place SameAt laws places v h (records.Plain (Begin t p b)) w tt (begun_good t p b new free) shape count
         (λ ks. same_summary ks _ _ _ _ _ _ _ _ _ _

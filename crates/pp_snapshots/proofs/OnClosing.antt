@@ -42,9 +42,11 @@ module _ {Shape State Op Undo : Type 0} (o : Object Shape State Op Undo) (place 
     abbrev Commits : List Kind → OpenSummary Op → Type 0
     Commits ks = SummaryCommit Optimistic (rules_of o v.shape) place (shown ks v)
 
+    -- What the walk says of its end is whether the own calls are a word of the body.
     pub word_is : (answer : Bool) → TellsWord x.walk answer → IsTrue answer ↔ IsWord x.walk.body (calls (rules_of o v.shape) x.own)
     word_is answer w = w (calls_of o x.own) (fine_of o place SameAt laws places v h t x found).taken
 
+    -- If a commit is good, the own calls are a word of the body.
     pub word_of : (ks : List Kind) → IsGood o place ks v (records.Commit t) → IsWord x.walk.body (calls (rules_of o v.shape) x.own)
     word_of ks g =
         subst (λ (l : List (Item Op)). IsWord x.walk.body (calls (rules_of o v.shape) l)) (items_local t x.own)
@@ -61,11 +63,13 @@ module _ {Shape State Op Undo : Type 0} (o : Object Shape State Op Undo) (place 
         at-append place q (serial_ops v.committed) (ops x.own)
         ∙ ap (λ (l : List Op). l ++ ops_at place q (ops x.own)) (ops_items place q (serial_items v.committed))
 
+    -- If a commit is good, the own operations may follow the committed ones.
     pub may_of : (ks : List Kind) → IsGood o place ks v (records.Commit t) → MayFollow o place v.shape (done_ops o place v.committed) (ops x.own)
     may_of ks g q =
         let allowed = (of_it o place SameAt laws places v h t x found (Commits ks) g).pushed.allowed in
         subst (IsAllowed o v.shape) (there_is q) (((parts_of o place SameAt laws places v.shape).parts (serial_ops v.committed ++ ops x.own)).0 (subst (IsAllowed o v.shape) pushed_is allowed) q)
 
+    -- A commit is good if the own calls are a word of the body and the own operations may follow the committed ones.
     pub commit_good : IsWord x.walk.body (calls (rules_of o v.shape) x.own) → MayFollow o place v.shape (done_ops o place v.committed) (ops x.own) → (ks : List Kind) → IsGood o place ks v (records.Commit t)
     commit_good word may ks = it_is o place SameAt laws places v h t x found (Commits ks) (record {
       word = subst (λ (l : List (Item Op)). IsWord x.walk.body (calls (rules_of o v.shape) l)) (sym (items_local t x.own)) word;
@@ -98,6 +102,7 @@ module _ {Shape State Op Undo : Type 0} (o : Object Shape State Op Undo) (place 
           let same : own_total w.slots.entries ≡ own_total (set_value (λ m. t =ⁿ m) v.slots.entries None) = ap (λ (z : SlotList Op). own_total z) slots in
           omega (arith, k, same)
 
+      -- A good commit leads to the next summary.
       pub committed_moves : ((ks : List Kind) → IsGood o place ks v (records.Commit t)) → IsPast o place v.shape w.past (with_ops place (done_ops o place v.committed) (ops x.own)) → w.past.size ≡ v.past.size + length (ops x.own)
           → w.committed ≡ v.committed ++ record { name = t; entries = x.own } ∷ [] → Moves o place v (records.Commit t) w
       committed_moves good past size committed =
@@ -117,6 +122,7 @@ module _ {Shape State Op Undo : Type 0} (o : Object Shape State Op Undo) (place 
           (λ q. sym (done_more place v.committed (record { name = t; entries = x.own }) q) ∙ ap (λ (D : List (CommittedTx Op)). done_ops o place D q) (sym committed)) past)
           (let len = length-map x.own (λ (p : Item Op). p.op) in let few = h.few in let sum = total in omega (arith, sum, size, len, few))
 
+      -- An abort leads to the next summary.
       pub aborted_moves : w.past ≡ v.past → w.committed ≡ v.committed → Moves o place v (records.Abort t) w
       aborted_moves past committed =
           moves o place SameAt laws places v h (records.Abort t) w tt abort_good shape count
@@ -137,6 +143,7 @@ module _ {Shape State Op Undo : Type 0} (o : Object Shape State Op Undo) (place 
     pub retry_good : (ks : List Kind) → IsGood o place ks v (records.Retry t)
     retry_good ks = it_is o place SameAt laws places v h t x found (λ y. Unit {0}) tt
 
+    -- A retry leads to the next summary.
     pub retried_moves : (y : OpenTx (List (Item Op))) (w : Kept Shape State Op Undo) → w.slots.entries ≡ set_value (λ m. t =ⁿ m) v.slots.entries (Some y)
         → y.thread ≡ x.thread → y.walk.body ≡ x.walk.body → HasTaken y.walk [] → y.own ≡ [] → y.seen.entries ≡ [] → w.threads.keys ≡ v.threads.keys
         → w.shape ≡ v.shape → w.ids ≡ v.ids → w.past ≡ v.past → w.committed ≡ v.committed → w.count ≡ v.count + 1 → Moves o place v (records.Retry t) w

@@ -61,6 +61,7 @@ module _ {Op : Type 0} (place : Op → ℕ) where
   either true b = refl
   either false b = refl
 
+  -- A transaction has touched a place exactly if it has something there.
   pub touched_is : (n : Name) (q : ℕ) (x : OpenTx (List (Item Op))) → touched_since place q h0 (shown_tx n x) ≡ not (has_nothing place q x)
   touched_is n q x =
       ap (λ (b : Bool). not (seen_in x.seen.entries q == zero) || b) (any_own n q x.own)
@@ -114,12 +115,15 @@ module _ {Shape State Op Undo : Type 0} (o : Object Shape State Op Undo) (place 
     abbrev pub X : OpenSummary Op
     X = shown_tx t x
 
+    -- The transaction is open in the summary.
     pub here : open_named t (filled shown_tx v.slots.entries) ≡ Some (shown_tx t x)
     here = open_there o place SameAt laws places v h t x found
 
+    -- What is true of the open transaction of this name is true of this one.
     pub of_it : (P : OpenSummary Op → Type 0) → (Y : OpenSummary Op) × (open_named t (filled shown_tx v.slots.entries) ≡ Some Y) × P Y → P (shown_tx t x)
     of_it P g = subst P (same_Some g.0 (shown_tx t x) (sym g.1 ∙ here)) g.2
 
+    -- What is true of this one is true of the open transaction of its name.
     pub it_is : (P : OpenSummary Op → Type 0) → P (shown_tx t x) → (Y : OpenSummary Op) × (open_named t (filled shown_tx v.slots.entries) ≡ Some Y) × P Y
     it_is P p = (shown_tx t x, here, p)
 
@@ -128,6 +132,7 @@ module _ {Shape State Op Undo : Type 0} (o : Object Shape State Op Undo) (place 
           ≡ take (snapshot_of o place (done_ops o place v.committed) op x) (done_ops o place v.committed (place op)) ++ (ops_at place (place op) (ops x.own) ++ k)
       view ks k = view_is place ks v.committed (shown ks v) t x (place op) k refl refl (has_nothing place (place op) x) refl
 
+      -- If an operation is good by the summary, it is good by what is kept.
       pub from_good : (ks : List Kind) → IsGood o place ks v (records.Op t id op) → OpIsGood o place v.shape (done_ops o place v.committed) v.ids id op x
       from_good ks g =
           let s = of_it (SummaryOp (rules_of o v.shape) place Optimistic (shown ks v) id op) g in
@@ -141,6 +146,7 @@ module _ {Shape State Op Undo : Type 0} (o : Object Shape State Op Undo) (place 
           by false e n = e
           by true e n = absurd (n (in_reverse id v.ids (used_in v.ids id e)))
 
+      -- If an operation is good by what is kept, it is good by the summary.
       pub to_good : OpIsGood o place v.shape (done_ops o place v.committed) v.ids id op x → (ks : List Kind) → IsGood o place ks v (records.Op t id op)
       to_good g ks = it_is (SummaryOp (rules_of o v.shape) place Optimistic (shown ks v) id op) (record {
         new = λ i. not_used v.ids id g.new (from_reverse id v.ids i);
@@ -189,6 +195,7 @@ module _ {Shape State Op Undo : Type 0} (o : Object Shape State Op Undo) (place 
         own_then : map (as_local t) y.own ≡ map (as_local t) x.own ++ as_local t (record { id = id; op = op }) ∷ []
         own_then = ap (λ (l : List (Item Op)). map (as_local t) l) grows.own ∙ local_more t x.own (record { id = id; op = op })
 
+        -- The summary of the transaction with one more operation is the one after the operation.
         pub after_is : (ks : List Kind) → shown_tx t y ≡ after_op place Optimistic (shown ks v) t id op (shown_tx t x)
         after_is ks = by (has_nothing place (place op) x) refl
           where
@@ -220,6 +227,7 @@ module _ {Shape State Op Undo : Type 0} (o : Object Shape State Op Undo) (place 
               ];
             }
 
+        -- A good operation leads to the next summary.
         pub grown_moves : (w : Kept Shape State Op Undo) → ((ks : List Kind) → IsGood o place ks v (records.Op t id op)) → IsOpAsked o v.shape op
             → w.slots.entries ≡ set_value (λ m. t =ⁿ m) v.slots.entries (Some y) → w.ids ≡ v.ids ++ id ∷ [] → w.shape ≡ v.shape → w.threads.keys ≡ v.threads.keys
             → IsPast o place v.shape w.past (done_ops o place v.committed) → w.past.size ≡ v.past.size → w.committed ≡ v.committed → w.count ≡ v.count + 1 → Moves o place v (records.Op t id op) w

@@ -48,6 +48,7 @@ each_more {A} P l k a lt is h p b i = elim (in_cases b (take k l) (a ∷ []) (su
   | inr (inr j) ↦ absurd j
 ]
 
+-- The later operations that were applied at a place fit and are in range.
 pub dropped_asked : {Shape State Op Undo : Type 0} (o : Object Shape State Op Undo) (place : Op → ℕ) (SameAt : ℕ → State → State → Type 0) (laws : IsLawful o) (places : IsPlaced o place SameAt)
     (shape : Shape) (v : Past State Op Undo) (h : ℕ → List Op) → IsPast o place shape v h → (p n : ℕ) → AreAsked o v (drop n (h p))
 dropped_asked o place SameAt laws places shape v h past p n a i =
@@ -58,6 +59,7 @@ dropped_asked o place SameAt laws places shape v h past p n a i =
 has_none : (i j : ℕ) (ids : List ℕ) → i ≢ j → has_id j (i ∷ ids) ≡ has_id j ids
 has_none i j ids n = ap (λ (b : Bool). b || has_id j ids) (not_eq i j n)
 
+-- The items without the ids of the first n are those after the first n, if the ids are distinct.
 pub drop_by_ids : {Op : Type 0} (l : List (Item Op)) → HasDistinctIds l → (n : ℕ) → filter (λ p. not (has_id p.id (map (λ q. q.id) (take n l)))) l ≡ drop n l
 drop_by_ids [] d zero = refl
 drop_by_ids [] d (suc n) = refl
@@ -72,7 +74,8 @@ drop_by_ids {Op} (p ∷ l) d (suc n) =
     (λ r i. ap not (has_none p.id r.id (map (λ (q : Item Op). q.id) (take n l)) (d p r (inl (refl, i)))))
     ∙ drop_by_ids l (λ q r b. d q r (inr b)) n
 
-serial_shared : {Op : Type 0} (D : List (CommittedTx Op)) → map shared_item (shared_done D) ≡ serial_items D
+-- The items of the shared log of committed transactions are those of the serial run.
+pub serial_shared : {Op : Type 0} (D : List (CommittedTx Op)) → map shared_item (shared_done D) ≡ serial_items D
 serial_shared [] = refl
 serial_shared {Op} (d ∷ D) =
     map-append shared_item (map (as_shared d.name true) d.entries) (shared_done D)
@@ -105,6 +108,7 @@ module _ {Op : Type 0} (place : Op → ℕ) where
       test : Item Op → Bool
       test p = (place p.op == q) && not (has_id p.id (map (λ w. w.id) (take (X.seen q) (serial_at place q D))))
 
+  -- The operation of an own entry at a place is among the own operations there.
   pub own_there : (n : Name) (q : ℕ) (x : OpenTx (List (Item Op))) (a : LocalEntry Op) → In a (map (as_local n) x.own) → place a.op ≡ q → In a.op (ops_at place q (ops x.own))
   own_there n q x a i there =
       let m = from_map (as_local n) a x.own i in
@@ -112,6 +116,7 @@ module _ {Op : Type 0} (place : Op → ℕ) where
       subst (λ (b : Op). In b (ops_at place q (ops x.own))) is
       (in_filter (λ (b : Op). place b == q) m.0.op (ops x.own) (in_map (λ (p : Item Op). p.op) m.0 x.own m.1) (eq-eqb (place m.0.op) q (ap place is ∙ there)))
 
+  -- An own operation at a place is that of an own entry there.
   pub own_from : (n : Name) (q : ℕ) (x : OpenTx (List (Item Op))) (b : Op) → In b (ops_at place q (ops x.own)) → (a : LocalEntry Op) × In a (map (as_local n) x.own) × (place a.op ≡ q) × (a.op ≡ b)
   own_from n q x b i =
       let f = from_filter (λ (c : Op). place c == q) b (ops x.own) i in
@@ -119,7 +124,8 @@ module _ {Op : Type 0} (place : Op → ℕ) where
       (as_local n m.0, in_map (as_local n) m.0 x.own m.1, ap place (sym m.2) ∙ eqb-true (place b) q f.1, sym m.2)
 
 module _ {Shape State Op Undo : Type 0} (o : Object Shape State Op Undo) (place : Op → ℕ) (SameAt : ℕ → State → State → Type 0) (laws : IsLawful o) (places : IsPlaced o place SameAt) (v : Kept Shape State Op Undo) (h : Keeps o place v) where
-  distinct : HasDistinctIds (serial_items v.committed)
+  -- The ids of the committed operations are distinct.
+  pub distinct : HasDistinctIds (serial_items v.committed)
   distinct p q b e =
       let s = h.is_held.1 in
       let c = h.is_held.0.config in
@@ -143,6 +149,7 @@ module _ {Shape State Op Undo : Type 0} (o : Object Shape State Op Undo) (place 
         ∙ ap (λ (w : List Op). w ++ (ops_at place q (local_ops (map (as_local t) x.own)) ++ later_at o place (done_ops o place v.committed) q x)) (sym (take-map (λ (p : Item Op). p.op) (seen_in x.seen.entries q) (serial_at place q v.committed)))
         ∙ ap (λ (w : List Op). take (seen_in x.seen.entries q) (done_ops o place v.committed q) ++ (ops_at place q w ++ later_at o place (done_ops o place v.committed) q x)) (ops_local t x.own)
 
+    -- A refresh is good by the summary if the transaction may take a new snapshot.
     pub refresh_good : MayRefresh o place v.shape (done_ops o place v.committed) q x → (ks : List Kind) → IsGood o place ks v (records.Refresh t q)
     refresh_good may ks = it_is o place SameAt laws places v h t x found (Refreshes ks) (record {
       swaps = λ a g i there j.
@@ -151,6 +158,7 @@ module _ {Shape State Op Undo : Type 0} (o : Object Shape State Op Undo) (place 
       allowed = subst (IsAllowed o v.shape) (sym (view ks)) may.allowed;
     })
 
+    -- A refresh is not good by the summary if the transaction may not take a new snapshot.
     pub refresh_not : MayNot o place v.shape (done_ops o place v.committed) q x → (ks : List Kind) → IsGood o place ks v (records.Refresh t q) → ⊥
     refresh_not may ks g = elim (may.never) [
       | inl s ↦
@@ -167,6 +175,7 @@ module _ {Shape State Op Undo : Type 0} (o : Object Shape State Op Undo) (place 
       | inr never ↦ never (subst (IsAllowed o v.shape) (view ks) (of_it o place SameAt laws places v h t x found (Refreshes ks) g).allowed)
     ]
 
+    -- A good refresh leads to the next summary.
     pub refreshed_moves : (w : Kept Shape State Op Undo) → ((ks : List Kind) → IsGood o place ks v (records.Refresh t q)) → (y : OpenTx (List (Item Op))) → y.thread ≡ x.thread → y.walk ≡ x.walk → y.own ≡ x.own
         → (n : ℕ) → n ≡ length (done_ops o place v.committed q) → ((p : ℕ) → lookup (nat_eq p) y.seen.entries ≡ cond (nat_eq q p) (Some n) (lookup (nat_eq p) x.seen.entries))
         → w.slots.entries ≡ set_value (λ m. t =ⁿ m) v.slots.entries (Some y) → w.threads.keys ≡ v.threads.keys → w.ids ≡ v.ids → w.shape ≡ v.shape

@@ -15,7 +15,7 @@ use Rattle.pp_laws_summary.proofs.LocalRecords.{keeps}
 use Rattle.pp_laws_summary.proofs.Placed.{parts_of}
 use Rattle.pp_summary.specs.Shown.{AreThreads, filled}
 use Rattle.pp_summary.specs.declared.parts.OpenTx.{OpenTx}
-use Rattle.pp_snapshots.specs.Held.{Taken, none_taken}
+use Rattle.pp_snapshots.specs.Held.{Taken, first_taken}
 use Rattle.pp_snapshots.specs.Moving.{IsNew, as_taken, tx_taken}
 use Rattle.pp_snapshots.specs.Past.{IsPast}
 use Rattle.pp_snapshots.specs.Shown.{IsFine, Keeps, Kept, SlotList, done_ops, own_total, shared_done, shown, shown_tx, threads_of}
@@ -31,9 +31,11 @@ module _ {Shape State Op Undo : Type 0} (o : Object Shape State Op Undo) (place 
       (ap shared_done committed)
       committed
 
+  -- With nothing kept, what is shown is the summary before the first record.
   pub new_is : IsNew place v
   new_is = record { shown = is_shown; count = count }
 
+  -- With nothing kept, what is kept of a run is as it should be.
   pub new_keeps : Keeps o place v
   new_keeps =
       record {
@@ -53,7 +55,8 @@ module _ {Shape State Op Undo : Type 0} (o : Object Shape State Op Undo) (place 
         few = (let none : own_total v.slots.entries ≡ 0 = ap (λ (z : SlotList Op). own_total z) slots in omega (arith, none, size));
       }
 
-  pub taken_none : as_taken v ≡ none_taken v.shape
+  -- With nothing kept, contracts see a run before its first record.
+  pub taken_none : as_taken v ≡ first_taken v.shape None
   taken_none =
       ap {B = Taken Shape Op} (λ (z : SlotList Op). record (as_taken v) { names = reverse (keys_of z); opened = filled tx_taken z }) slots
       ∙ ap {B = Taken Shape Op} (λ (l : List ℕ). record { shape = v.shape; names = []; ids = reverse l; opened = []; done = v.committed; count = v.count }) ids

@@ -17,9 +17,11 @@ use Rattle.pp_snapshots.proofs.Kept.{head_is, tail_is}
 use Rattle.pp_snapshots.specs.Past.{IsPast, at_place, made_along, made_at, with_ops}
 
 module _ {Op : Type 0} (place : Op → ℕ) where
+  -- An operation at a place comes first among the operations there.
   pub here : (p : ℕ) (a : Op) (x : List Op) → place a ≡ p → ops_at place p (a ∷ x) ≡ a ∷ ops_at place p x
   here p a x e = ap (λ (b : Bool). cond b (a ∷ ops_at place p x) (ops_at place p x)) (eq-eqb (place a) p e)
 
+  -- An operation at another place adds none to those at this one.
   pub elsewhere : (p : ℕ) (a : Op) (x : List Op) → place a ≢ p → ops_at place p (a ∷ x) ≡ ops_at place p x
   elsewhere p a x n = ap (λ (b : Bool). cond b (a ∷ ops_at place p x) (ops_at place p x)) (not_eq (place a) p n)
 
@@ -72,6 +74,7 @@ module _ {Op : Type 0} (place : Op → ℕ) where
         others = all_elsewhere p l none;
       }
 
+  -- A list whose operations at a place end with one can be cut at that one.
   pub cut : (p : ℕ) (l x : List Op) (a : Op) → ops_at place p l ≡ x ++ a ∷ [] → IsCut p l x a
   cut p [] [] a e = absurd (cc)
   cut p [] (c ∷ x) a e = absurd (cc)
@@ -110,6 +113,7 @@ module _ {Op : Type 0} (place : Op → ℕ) where
       at (c ∷ x) f i more = more x (tail_is f)
 
 module _ {Shape State Op Undo : Type 0} (o : Object Shape State Op Undo) where
+  -- What is kept of two lists is that of the first, and that of the second from the state after the first.
   pub made-append : (s : State) (x y : List Op) → made_along o s (x ++ y) ≡ made_along o s x ++ made_along o (state_from o s x) y
   made-append s [] y = refl
   made-append s (a ∷ x) y = ap (λ (w : List (Made Op Undo)). record { op = a; undo = o.upkeep.kept s a } ∷ w) (made-append (o.next s a) x y)
@@ -126,15 +130,18 @@ module _ {Shape State Op Undo : Type 0} (o : Object Shape State Op Undo) (place 
       ]
 
   module _ (shape : Shape) (v : Past State Op Undo) (h : ℕ → List Op) (past : IsPast o place shape v h) where
+    -- The shape of the state is the shape of the run.
     pub shape_is : o.shape v.state ≡ shape
     shape_is = ap o.shape past.is ∙ reached_shape o laws shape past.log past.allowed
 
+    -- At each place the state is that after the operations of the place alone.
     pub same_there : (p : ℕ) → SameAt p v.state (state_after o shape (h p))
     same_there p =
         subst (λ (s : State). SameAt p s (state_after o shape (h p))) (sym past.is)
         (subst (λ (x : List Op). SameAt p (state_after o shape past.log) (state_after o shape x)) (past.at_places p)
         (same_run p (o.start shape) (o.start shape) past.log (places.same p (o.start shape))))
 
+    -- The operations of each place are allowed.
     pub allowed_there : (p : ℕ) → IsAllowed o shape (h p)
     allowed_there p = subst (IsAllowed o shape) (past.at_places p) (((parts_of o place SameAt laws places shape).parts past.log).0 past.allowed p)
 
@@ -150,6 +157,7 @@ module _ {Shape State Op Undo : Type 0} (o : Object Shape State Op Undo) (place 
           sym (places.gives_there v.state t a (same_there (place a))) ∙ k.1,
         )
 
+    -- An operation that is allowed after those at its place is legal.
     pub legal_if_allowed : (a : Op) → IsAllowed o shape (h (place a) ++ a ∷ []) → IsLegal o v.state a
     legal_if_allowed a k =
         let t = state_after o shape (h (place a)) in
@@ -158,6 +166,7 @@ module _ {Shape State Op Undo : Type 0} (o : Object Shape State Op Undo) (place 
           places.gives_there v.state t a (same_there (place a)) ∙ l.1,
         )
 
+    -- If fewer operations were applied than a log may have, the state is reached.
     pub reached : v.size < 4_294_967_552 → IsReached o v.state
     reached few =
         let sh = shape_is in
@@ -208,9 +217,11 @@ module _ {Shape State Op Undo : Type 0} (o : Object Shape State Op Undo) (place 
 
     -- The last operation at a place.
     module _ (p : ℕ) (x : List Op) (a : Op) (ends : h p ≡ x ++ a ∷ []) where
+      -- The operations of the log at the place end with this one.
       pub ends_log : ops_at place p past.log ≡ x ++ a ∷ []
       ends_log = past.at_places p ∙ ends
 
+      -- The last operation of the place is at the place.
       pub is_at : place a ≡ p
       is_at = last_is_at place p past.log x a ends_log
 
@@ -223,6 +234,7 @@ module _ {Shape State Op Undo : Type 0} (o : Object Shape State Op Undo) (place 
           (subst (λ (q : ℕ). AllElsewhere place q there.rest) (sym is_at) there.others)
           (subst (IsAllowed o shape) there.is past.allowed)
 
+      -- What takes the operation back is the same in the log as at its place.
       pub kept_there : o.upkeep.kept (state_after o shape there.front) a ≡ o.upkeep.kept (state_after o shape x) a
       kept_there =
           places.kept_there (state_after o shape there.front) (state_after o shape x) a
@@ -230,6 +242,7 @@ module _ {Shape State Op Undo : Type 0} (o : Object Shape State Op Undo) (place 
           (subst (λ (y : List Op). SameAt p (state_after o shape there.front) (state_after o shape y)) there.before
           (same_run p (o.start shape) (o.start shape) there.front (places.same p (o.start shape)))))
 
+      -- What is kept of the place ends with the operation and what takes it back.
       pub last_made : made_at p v.places.items ≡ made_along o (o.start shape) x ++ record { op = a; undo = o.upkeep.kept (state_after o shape x) a } ∷ []
       last_made = past.made p ∙ ap (made_along o (o.start shape)) ends ∙ made-append o (o.start shape) x (a ∷ [])
 
@@ -247,6 +260,7 @@ module _ {Shape State Op Undo : Type 0} (o : Object Shape State Op Undo) (place 
       size_is : length both + 1 ≡ length past.log
       size_is = omega (arith, length-append there.front there.rest, length-append there.front (a ∷ there.rest), ap (λ (l : List Op). length l) there.is)
 
+      -- Some operation was applied.
       pub is_positive : 0 < v.size
       is_positive = omega (arith, past.size, size_is)
 

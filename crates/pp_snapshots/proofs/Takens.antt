@@ -23,10 +23,12 @@ opened_is [] = refl
 opened_is ((n, None) ∷ es) = opened_is es
 opened_is {Op} ((n, Some x) ∷ es) = ap (λ (l : List (OpenSummary Op)). shown_tx n x ∷ l) (opened_is es)
 
+-- The summary that contracts see is the one that is shown.
 pub summary_is : {Shape State Op Undo : Type 0} (ks : List Kind) (v : Kept Shape State Op Undo) → summary_taken ks (as_taken v) ≡ shown ks v
 summary_is {Op = Op} ks v = ap (λ (l : List (OpenSummary Op)). record (shown ks v) { opened = l }) (opened_is v.slots.entries)
 
 module _ {Shape State Op Undo : Type 0} (o : Object Shape State Op Undo) (place : Op → ℕ) where
+  -- What contracts see is the summary of some front and configuration.
   pub held_is : (v : Kept Shape State Op Undo) → Keeps o place v → (p : Standing Front Op) × IsTakenOf o place (as_taken v) p
   held_is v h = (h.is_held.0, record { summable = h.is_held.1.summable; is = h.is_held.1.is ∙ sym (summary_is h.is_held.0.front.kinds v) })
 
@@ -49,18 +51,27 @@ module _ {Shape State Op Undo : Type 0} (o : Object Shape State Op Undo) (place 
     },
   )
 
+  -- What is kept of a run is as it should be after a record is answered.
   pub keeps_then : (v w : Kept Shape State Op Undo) (r : RunRecord Op) (good : Bool) → Answers o place v r good w → Keeps o place w
   keeps_then v w r true a = a.1.keeps
   keeps_then v w r false a = a.1.keeps
 
   -- the state that is kept is that of the serial run
   module _ (SameAt : ℕ → State → State → Type 0) (laws : IsLawful o) (places : IsPlaced o place SameAt) where
+    -- The operations of the serial run are allowed.
+    pub serial_allowed : (v : Kept Shape State Op Undo) → Keeps o place v → IsAllowed o v.shape (serial_ops v.committed)
+    serial_allowed v h =
+        let D = v.committed in
+        ((parts_of o place SameAt laws places v.shape).parts (serial_ops D)).1
+        (λ q. subst (IsAllowed o v.shape) (sym (ops_items place q (serial_items D))) (allowed_there o place SameAt laws places v.shape v.past (done_ops o place D) h.past q))
+
+    -- The state is the one after the serial run.
     pub state_is : (v : Kept Shape State Op Undo) → Keeps o place v → v.past.state ≡ state_after o v.shape (serial_ops v.committed)
     state_is v h =
         let D = v.committed in
         let s = state_after o v.shape (serial_ops D) in
         let at : (q : ℕ) → ops_at place q (serial_ops D) ≡ done_ops o place D q = λ q. ops_items place q (serial_items D) in
-        let allowed : IsAllowed o v.shape (serial_ops D) = ((parts_of o place SameAt laws places v.shape).parts (serial_ops D)).1 (λ q. subst (IsAllowed o v.shape) (sym (at q)) (allowed_there o place SameAt laws places v.shape v.past (done_ops o place D) h.past q)) in
+        let allowed = serial_allowed v h in
         places.everywhere v.past.state s (shape_is o place SameAt laws places v.shape v.past (done_ops o place D) h.past ∙ sym (reached_shape o laws v.shape (serial_ops D) allowed))
         (λ q.
         let t = state_after o v.shape (done_ops o place D q) in

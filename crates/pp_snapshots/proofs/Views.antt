@@ -28,22 +28,27 @@ pub items_local : {Op : Type 0} (n : Name) (l : List (Item Op)) → map item (ma
 items_local n [] = refl
 items_local {Op} n (p ∷ l) = ap (λ (w : List (Item Op)). p ∷ w) (items_local n l)
 
+-- The operations of the own entries are the own operations.
 pub ops_local : {Op : Type 0} (n : Name) (l : List (Item Op)) → local_ops (map (as_local n) l) ≡ ops l
 ops_local n [] = refl
 ops_local {Op} n (p ∷ l) = ap (λ (w : List Op). p.op ∷ w) (ops_local n l)
 
+-- Each own entry is not pushed.
 pub unpushed_local : {Op : Type 0} (n : Name) (l : List (Item Op)) → unpushed (map (as_local n) l) ≡ map (as_local n) l
 unpushed_local n [] = refl
 unpushed_local {Op} n (p ∷ l) = ap (λ (w : List (LocalEntry Op)). as_local n p ∷ w) (unpushed_local n l)
 
+-- No own entry is pushed.
 pub pushed_none : {Op : Type 0} (n : Name) (l : List (Item Op)) → pushed_ids (map (as_local n) l) ≡ []
 pushed_none n [] = refl
 pushed_none n (p ∷ l) = pushed_none n l
 
+-- The own entries, posted, are uncommitted entries of the transaction.
 pub posted_local : {Op : Type 0} (t n : Name) (l : List (Item Op)) → posted t (map (as_local n) l) ≡ map (as_shared t false) l
 posted_local t n [] = refl
 posted_local {Op} t n (p ∷ l) = ap (λ (w : List (SharedEntry Op)). as_shared t false p ∷ w) (posted_local t n l)
 
+-- The own entries with one item more have its entry last.
 pub local_more : {Op : Type 0} (n : Name) (l : List (Item Op)) (p : Item Op) → map (as_local n) (l ++ p ∷ []) ≡ map (as_local n) l ++ as_local n p ∷ []
 local_more n l p = map-append (as_local n) l (p ∷ [])
 
@@ -59,9 +64,11 @@ all_committed (d ∷ D) g h = elim (in_cases g (map (as_shared d.name true) d.en
   | inr i ↦ all_committed D g i
 ]
 
+-- Each entry of the shared log of committed transactions is committed.
 pub committed_all : {Op : Type 0} (D : List (CommittedTx Op)) (g : SharedEntry Op) → In g (shared_done D) → g.committed ≡ true
 committed_all = all_committed
 
+-- The operations of the shared log are those of the serial run.
 pub shared_serial : {Op : Type 0} (D : List (CommittedTx Op)) → shared_ops (shared_done D) ≡ serial_ops D
 shared_serial [] = refl
 shared_serial {Op} (d ∷ D) =
@@ -70,6 +77,7 @@ shared_serial {Op} (d ∷ D) =
     ∙ ap (λ (w : List Op). ops d.entries ++ w) (shared_serial D)
     ∙ sym (map-append (λ (p : Item Op). p.op) d.entries (serial_items D))
 
+-- With one more committed transaction, the shared log has its entries last.
 pub shared_more : {Op : Type 0} (D : List (CommittedTx Op)) (d : CommittedTx Op) → shared_done (D ++ d ∷ []) ≡ shared_done D ++ map (as_shared d.name true) d.entries
 shared_more [] d = append-nil (map (as_shared d.name true) d.entries)
 shared_more {Op} (c ∷ D) d =
@@ -98,6 +106,7 @@ commit_adds {Op} D t l =
     ∙ sym (shared_more D (record { name = t; entries = l }))
 
 module _ {Op : Type 0} (place : Op → ℕ) where
+  -- The operations at a place are those of the items there.
   pub ops_items : (o : ℕ) (l : List (Item Op)) → ops_at place o (ops l) ≡ ops (filter (λ p. place p.op == o) l)
   ops_items o l = filter_map (λ (a : Op). place a == o) (λ (p : Item Op). p.op) l
 

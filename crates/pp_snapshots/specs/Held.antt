@@ -1,18 +1,21 @@
 -- Meaning: what contracts see of Snapshots, and what taking a record does.
-use Rattle.std.specs.Prelude.{◌≡◌, ◌&&◌, ◌+◌, ◌-◌, ◌*◌, ℕ, zero, nat_eq, cond, Bool, true, false}
-use Rattle.std.specs.Prelude.{List, [], find, length, map, Option, None, Some}
+use Rattle.std.specs.Prelude.{◌≡◌, ◌&&◌, ◌+◌, ◌*◌, ℕ, zero, nat_eq, cond, Bool, true, false}
+use Rattle.std.specs.Prelude.{List, [], length, map, Option, None, Some}
 use Rattle.pp_core.specs.declared.call.Kind.{Kind}
 use Rattle.pp_core.specs.declared.call.Style.TheVariants.{Optimistic}
 use Rattle.pp_core.specs.declared.entry.CommittedTx.{CommittedTx}
 use Rattle.pp_core.specs.declared.entry.Item.{Item}
 use Rattle.pp_model.specs.Body.{Tree}
-use Rattle.pp_model.specs.Names.{Name, ◌=ⁿ◌}
-use Rattle.pp_model.specs.Object.{ops}
+use Rattle.pp_model.specs.Config.{Start, first, local_ops}
+use Rattle.pp_model.specs.Names.{Name}
+use Rattle.pp_model.specs.Rules.{StartMeets}
 use Rattle.pp_kind.specs.Object.{Object, rules_of}
-use Rattle.pp_laws_summary.specs.LocalLogs.{Summable, serial_at}
+use Rattle.pp_laws_summary.specs.Counts.{missing_count}
+use Rattle.pp_laws_summary.specs.LocalLogs.{Summable}
 use Rattle.pp_laws_summary.specs.Places.{ops_at}
 use Rattle.pp_laws_summary.specs.Summary.{OpenSummary, Summary, SummaryGood, next_summary}
-use Rattle.pp_laws_summary.specs.Summary.{summary_of}
+use Rattle.pp_laws_summary.specs.Summary.{open_named, summary_of}
+use Rattle.pp_records.specs.Expansions.{expand}
 use Rattle.pp_records.specs.Fronts.{Front}
 use Rattle.pp_records.specs.Records.{RunRecord}
 use Rattle.pp_records.specs.Records as records
@@ -61,10 +64,17 @@ summary_taken ks s =
       kinds = ks;
     }
 
--- nothing was taken so far
-abbrev pub none_taken : {Shape Op : Type 0} → Shape → Taken Shape Op
-none_taken shape =
-    record { shape = shape; names = []; ids = []; opened = []; done = []; count = 0 }
+-- Before the first record: the transaction of the start is committed, if there is one.
+abbrev pub first_taken : {Shape Op : Type 0} → Shape → Option (Start Op) → Taken Shape Op
+first_taken shape h =
+    record {
+      shape = shape;
+      names = (first h).names;
+      ids = (first h).ids;
+      opened = [];
+      done = (first h).done;
+      count = 0;
+    }
 
 module _ {Shape State Op Undo : Type 0} (o : Object Shape State Op Undo) (place : Op → ℕ) where
   -- It is the summary of this front and this configuration.
@@ -92,47 +102,50 @@ module _ {Shape State Op Undo : Type 0} (o : Object Shape State Op Undo) (place 
   Takes s r false w =
       ((ks : List Kind) → IsGoodTaken ks s r → ⊥) × Leads s (λ ks. summary_taken ks s) s.count w
 
--- the open transaction of this name
-abbrev pub taken_named : {Op : Type 0} → Name → List (OpenTaken Op) → Option (OpenTaken Op)
-taken_named t xs = find (λ x. x.name =ⁿ t) xs
+  -- What it is to start. True says that the start meets its criteria, and this is what is before the
+  -- first record then. False says that it does not, and nothing has changed.
+  abbrev pub Starts : Taken Shape Op → Start Op → Bool → Taken Shape Op → Type 0
+  Starts s z true w =
+      StartMeets (rules_of o s.shape) (Some z) × (w ≡ first_taken s.shape (Some z))
+  Starts s z false w = (StartMeets (rules_of o s.shape) (Some z) → ⊥) × (w ≡ s)
 
--- how many commits there were at a place, how many own operations of a transaction are there, and how
--- many commits its snapshot lacks
-abbrev pub all_at : {Shape Op : Type 0} → (Op → ℕ) → Taken Shape Op → ℕ → ℕ
-all_at place s q = length (serial_at place q s.done)
+  -- The record has so many steps, from each front and configuration of which this is the summary.
+  abbrev pub HasStepCount : Taken Shape Op → RunRecord Op → ℕ → Type 0
+  HasStepCount s r n =
+      (p : Standing Front Op) → IsTakenOf s p →
+      n ≡ length (expand place Optimistic p.front p.config r)
 
-abbrev pub own_at : {Op : Type 0} → (Op → ℕ) → OpenTaken Op → ℕ → ℕ
-own_at place x q = length (ops_at place q (ops x.own))
+-- how many own operations of a transaction are at a place
+abbrev pub own_at : {Op : Type 0} → (Op → ℕ) → OpenSummary Op → ℕ → ℕ
+own_at place x q = length (ops_at place q (local_ops x.own))
 
-abbrev pub lacks_at : {Shape Op : Type 0} → (Op → ℕ) → Taken Shape Op → OpenTaken Op → ℕ → ℕ
-lacks_at place s x q = all_at place s q - seen_in x.seen q
+-- how many later commits at a place an operation takes back: none, if it is the first there
+abbrev pub later_at : {Op : Type 0} → (Op → ℕ) → Summary Op → OpenSummary Op → ℕ → ℕ
+later_at place B x q =
+    cond (nat_eq (x.seen q) zero && nat_eq (own_at place x q) zero) 0 (missing_count place q B x)
 
--- those that an operation takes back: none, if it is the first there
-abbrev pub later_at : {Shape Op : Type 0} → (Op → ℕ) → Taken Shape Op → OpenTaken Op → ℕ → ℕ
-later_at place s x q =
-    cond (nat_eq (seen_in x.seen q) zero && nat_eq (own_at place x q) zero) 0 (lacks_at place s x q)
+-- the number, or 0 if the transaction is not open
+abbrev pub of_open : {A : Type 0} → Option A → (A → ℕ) → ℕ
+of_open None most = 0
+of_open (Some x) most = most x
 
-abbrev pub of_taken : {A : Type 0} → Option A → (A → ℕ) → ℕ
-of_taken None most = 0
-of_taken (Some x) most = most x
-
--- What a record costs at most, whatever is answered. An operation, the own ones at its place and the
+-- What a record costs at most, whatever is returned. An operation, the own ones at its place and the
 -- later commits there are each applied and taken back once.
-abbrev pub take_most : {Shape Op : Type 0} → (Op → ℕ) → Taken Shape Op → RunRecord Op → ℕ
-take_most place s (records.Plain step) = 0
-take_most place s (records.Op t id op) =
-    of_taken (taken_named t s.opened)
-    (λ x. 2 * (later_at place s x (place op) + (own_at place x (place op) + 1)))
-take_most place s (records.Commit t) =
-    of_taken (taken_named t s.opened) (λ x. 2 * length x.own)
-take_most place s (records.Abort t) = 0
-take_most place s (records.Retry t) = 0
-take_most place s (records.Refresh t q) =
-    of_taken (taken_named t s.opened)
-    (λ x. 2 * (lacks_at place s x q + (own_at place x q + lacks_at place s x q)))
-take_most place s (records.XBegin t) = 0
-take_most place s (records.XEnd t) = 0
-take_most place s (records.XAbort t) = 0
-take_most place s (records.Depend t source) = 0
-take_most place s (records.Publish t) = 0
-take_most place s (records.DropSource t source) = 0
+abbrev pub take_most : {Op : Type 0} → (Op → ℕ) → Summary Op → RunRecord Op → ℕ
+take_most place B (records.Plain step) = 0
+take_most place B (records.Op t id op) =
+    of_open (open_named t B.opened)
+    (λ x. 2 * (later_at place B x (place op) + (own_at place x (place op) + 1)))
+take_most place B (records.Commit t) =
+    of_open (open_named t B.opened) (λ x. 2 * length x.own)
+take_most place B (records.Abort t) = 0
+take_most place B (records.Retry t) = 0
+take_most place B (records.Refresh t q) =
+    of_open (open_named t B.opened)
+    (λ x. 2 * (missing_count place q B x + (own_at place x q + missing_count place q B x)))
+take_most place B (records.XBegin t) = 0
+take_most place B (records.XEnd t) = 0
+take_most place B (records.XAbort t) = 0
+take_most place B (records.Depend t source) = 0
+take_most place B (records.Publish t) = 0
+take_most place B (records.DropSource t source) = 0

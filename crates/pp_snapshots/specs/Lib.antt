@@ -6,3 +6,7 @@ pub mod Moving
 pub mod Ops
 pub mod Closing
 pub mod Refreshing
+pub mod Starting
+pub mod Sums
+pub mod Runs
+pub mod Steps

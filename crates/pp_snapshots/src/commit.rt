@@ -16,7 +16,7 @@ use std::alloc::Global;
 use std::sync::ledger::Ledger;
 
 /// The operations of the items, in order. The only error is that memory was refused.
-fn ops_of<O: Copy>(alloc: Global, items: &[Item<O>]) -> Result<Vec<O>, OutOfMemory>
+pub fn ops_of<O: Copy>(alloc: Global, items: &[Item<O>]) -> Result<Vec<O>, OutOfMemory>
     ensures { IfOk result (λ l. l.items ≡ ops items.now) }
 {
     let mut all = Vec::new(alloc);

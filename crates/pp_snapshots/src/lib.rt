@@ -3,6 +3,7 @@
 
 mod begin;
 mod commit;
+mod laws;
 mod many;
 mod op;
 mod parts;
@@ -10,7 +11,12 @@ mod past;
 mod refresh;
 mod snapshots;
 mod start;
+mod steps;
 mod take;
 mod undo;
 
+pub use laws::{taken_law, tried_costs_law};
+pub use op::{count_at, own_at, seen_at};
+pub use parts::Parts;
+pub use past::{Done, Made, Past};
 pub use snapshots::Snapshots;

@@ -1,12 +1,12 @@
-use Rattle.std.proofs.Common.{◌∙◌, ◌+◌, ◌<◌, ◌≤◌, ap, subst, sym}
+use Rattle.std.proofs.Common.{◌∙◌, ◌+◌, ◌<◌, ◌≤◌, [], ap, subst, sym}
 use Rattle.pp_records.specs.Records.{record_meaning}
 use Rattle.pp_summary.specs.Held.{IsRecordAsked}
-use Rattle.pp_snapshots.specs.Held.{Takes, take_most}
+use Rattle.pp_snapshots.specs.Held.{Takes, summary_taken, take_most}
 use Rattle.pp_snapshots.specs.Moving.{as_taken}
 use Rattle.pp_snapshots.specs.Ops.{kept_most}
 use Rattle.pp_snapshots.specs.Shown.{Keeps}
 use Rattle.pp_snapshots.proofs.Costs.{most_is}
-use Rattle.pp_snapshots.proofs.Takens.{keeps_then, takes_is}
+use Rattle.pp_snapshots.proofs.Takens.{keeps_then, summary_is, takes_is}
 use Rattle.pp_snapshots.proofs.snapshots.Snapshots.take.Goals as goal
 
 pub take-requires-clause-keeps : goal.take-requires-clause-keeps
@@ -30,11 +30,17 @@ returns-clause-takes g c =
 pub returns-clause-bound : goal.returns-clause-bound
 returns-clause-bound g c =
     let r = record_meaning c.args.recorded.now in
-    let most = ap (λ z. kept_most g.S.Placed.place_of z r) c.deref_mut.ensures.value ∙ most_is g.S.Spec.object g.S.Placed.place_of c.self.inside.parts.value c.self.invariant r ∙ ap (λ z. take_most g.S.Placed.place_of z r) c.self.view_is in
+    let v = c.self.inside.parts.value in
+    let most =
+    ap (λ z. kept_most g.S.Placed.place_of z r) c.deref_mut.ensures.value ∙ most_is g.S.Spec.object g.S.Placed.place_of v c.self.invariant [] r
+    ∙ ap (λ B. take_most g.S.Placed.place_of B r) (sym (summary_is [] v) ∙ ap (λ z. summary_taken [] z) c.self.view_is) in
     subst (λ n. c.take.new.ticks ≤ c.args.ticks.now + n) most c.take.ensures.bound
 
 pub returns-in_err-good-clause-bound : goal.returns-in_err-good-clause-bound
 returns-in_err-good-clause-bound g c =
     let r = record_meaning c.args.recorded.now in
-    let most = ap (λ z. kept_most g.S.Placed.place_of z r) c.deref_mut.ensures.value ∙ most_is g.S.Spec.object g.S.Placed.place_of c.self.inside.parts.value c.self.invariant r ∙ ap (λ z. take_most g.S.Placed.place_of z r) c.self.view_is in
+    let v = c.self.inside.parts.value in
+    let most =
+    ap (λ z. kept_most g.S.Placed.place_of z r) c.deref_mut.ensures.value ∙ most_is g.S.Spec.object g.S.Placed.place_of v c.self.invariant [] r
+    ∙ ap (λ B. take_most g.S.Placed.place_of B r) (sym (summary_is [] v) ∙ ap (λ z. summary_taken [] z) c.self.view_is) in
     subst (λ n. c.take.new.ticks ≤ c.args.ticks.now + n) most c.take.ensures.bound
