@@ -4,7 +4,7 @@ use Rattle.std.proofs.Common.{refl, sym, ap, subst, ◌∙◌, append_assoc, ari
 use Rattle.pp_core.specs.declared.entry.Item.{Item}
 use Rattle.pp_core.specs.declared.step.Rule.TheVariants as rules
 use Rattle.pp_model.specs.Body.{Begins}
-use Rattle.pp_model.specs.Config.{App, LocalEntry, Push, SharedEntry, Unpushed, item, shared_ops}
+use Rattle.pp_model.specs.Config.{App, LocalEntry, Push, Pushed, SharedEntry, Unpushed, item, shared_ops}
 use Rattle.pp_model.specs.Lists.{In}
 use Rattle.pp_model.specs.Names.{Name}
 use Rattle.pp_model.specs.Object as model
@@ -84,10 +84,10 @@ module _ {Shape State Op Undo : Type 0} (o : Object Shape State Op Undo) (place 
           by k =
               record {
                 number = k.breaks.number;
-                is_false = false_left Pulls Last r.offset k.breaks.number (pulls_false o place v.shape B t x q it.own refl [] M r.offset k.breaks.number k.entry M_at k.there k.pulled k.breaks.is_false);
-                rule = rule_left Pulls Last r.offset r.rule (pulls_rule o place v.shape B t x q it.own refl [] M r.offset k.entry r.rule k.rule k.there);
+                is_false = false_left Pulls Last r.offset k.breaks.number (pulls_false o place v.shape B t x q it.own Pushed refl [] M r.offset k.breaks.number k.entry M_at k.there k.pulled k.breaks.is_false);
+                rule = rule_left Pulls Last r.offset r.rule (pulls_rule o place v.shape B t x q it.own Pushed refl [] M r.offset k.entry r.rule k.rule k.there);
                 criterion = k.breaks.criterion;
-                detail = detail_left Shown LastShown r.offset k.breaks.number r.detail (_, pulls_shown o place v.shape B t x q it.own refl [] M r.offset k.entry k.there, k.breaks.detail);
+                detail = detail_left Shown LastShown r.offset k.breaks.number r.detail (_, pulls_shown o place v.shape B t x q it.own Pushed refl [] M r.offset k.entry k.there, k.breaks.detail);
               }
 
       -- the APP, after all PULLs
@@ -120,7 +120,7 @@ module _ {Shape State Op Undo : Type 0} (o : Object Shape State Op Undo) (place 
 
       module _ (missing : List (SharedEntry Op)) (same : missing ≡ M) (pulled : ArePulled o place v.shape (ops (view_items place q v it)) it.own missing (length missing)) where
         all_pulls : AllTrue Pulls
-        all_pulls = pulls_true o place v.shape B t x q it.own refl [] M M_at
+        all_pulls = pulls_true o place v.shape B t x q it.own Pushed refl [] M M_at
             (subst (λ (w : List Op). ArePulled o place v.shape w it.own M (length M)) (view_is t place q v it) (subst (λ (w : List (SharedEntry Op)). ArePulled o place v.shape (ops (view_items place q v it)) it.own w (length w)) same pulled))
 
         -- what is judged of the APP, by the summary
@@ -143,10 +143,10 @@ module _ {Shape State Op Undo : Type 0} (o : Object Shape State Op Undo) (place 
             subst (λ (z : Violation Op). SearchesRecord o place v.shape v (records.Op t id op) (Some z)) (sym is)
             (searched (Some (step_violation n rules.App b)) (record {
               number = c.number;
-              is_false = after_pulls o place v.shape B t x q it.own refl [] M Last 0 c.number n all_pulls e c.is_false;
-              rule = rule_after_pulls o place v.shape B t x q it.own refl [] M Last 0 n rules.App e refl;
+              is_false = after_pulls o place v.shape B t x q it.own Pushed refl [] M Last 0 c.number n all_pulls e c.is_false;
+              rule = rule_after_pulls o place v.shape B t x q it.own Pushed refl [] M Last 0 n rules.App e refl;
               criterion = c.criterion;
-              detail = (details.app_detail o v.shape place B id op x M, shown_after_pulls o place v.shape B t x q it.own refl [] M LastShown 0 n (details.app_detail o v.shape place B id op x M) e refl, c.detail);
+              detail = (details.app_detail o v.shape place B id op x M, shown_after_pulls o place v.shape B t x q it.own Pushed refl [] M LastShown 0 n (details.app_detail o v.shape place B id op x M) e refl, c.detail);
             }))
 
         -- the PUSH, after an APP that is true
@@ -164,10 +164,10 @@ module _ {Shape State Op Undo : Type 0} (o : Object Shape State Op Undo) (place 
               let e : n ≡ length M + 1 = omega (arith, len_is) in
               searched (Some (step_violation n rules.Push b)) (record {
                 number = k.number;
-                is_false = after_pulls o place v.shape B t x q it.own refl [] M Last 1 k.number n all_pulls e (app_true, k.is_false);
-                rule = rule_after_pulls o place v.shape B t x q it.own refl [] M Last 1 n rules.Push e refl;
+                is_false = after_pulls o place v.shape B t x q it.own Pushed refl [] M Last 1 k.number n all_pulls e (app_true, k.is_false);
+                rule = rule_after_pulls o place v.shape B t x q it.own Pushed refl [] M Last 1 n rules.Push e refl;
                 criterion = k.criterion;
-                detail = (details.push_detail o v.shape place B t id op x, shown_after_pulls o place v.shape B t x q it.own refl [] M LastShown 1 n (details.push_detail o v.shape place B t id op x) e refl, k.detail);
+                detail = (details.push_detail o v.shape place B t id op x, shown_after_pulls o place v.shape B t x q it.own Pushed refl [] M LastShown 1 n (details.push_detail o v.shape place B t id op x) e refl, k.detail);
               })
 
           -- The PUSH is false, or no step is.

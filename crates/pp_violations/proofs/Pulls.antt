@@ -7,7 +7,7 @@ use mathlib.Core.Logic.{inl, inr}
 use Rattle.pp_core.specs.declared.entry.Item.{Item}
 use Rattle.pp_core.specs.declared.step.Rule.{Rule}
 use Rattle.pp_core.specs.declared.step.Rule.TheVariants as rules
-use Rattle.pp_model.specs.Config.{LocalEntry, SharedEntry, shared_ops}
+use Rattle.pp_model.specs.Config.{LocalEntry, Mark, SharedEntry, shared_ops}
 use Rattle.pp_model.specs.Lists.{In}
 use Rattle.pp_model.specs.Names.{Name}
 use Rattle.pp_model.specs.Object as model
@@ -24,16 +24,16 @@ use Rattle.pp_laws_summary.specs.Summary.{OpenSummary, Summary, summary_view}
 use Rattle.pp_laws_summary.proofs.Asks.{Alike, alike}
 use Rattle.pp_violations.specs.Asks.{AllTrue, FalseAt, HasRuleAt}
 use Rattle.pp_violations.specs.Searches.{pull_evidence, pull_facts}
-use Rattle.pp_violations.specs.Summarised.{own_entry}
+use Rattle.pp_violations.specs.Summarised.{marked_entry}
 
 -- the first pair that does not swap, of entries
-pub swap_of_own : {Op : Type 0} (t : Name) (refuting : Op → Option (List Op × List Op)) (own : List (Item Op)) →
-    first_swap (λ (a : Item Op). a.id) (λ a. refuting a.op) own ≡ first_swap (λ (a : LocalEntry Op). a.id) (λ a. refuting a.op) (map (own_entry t) own)
-swap_of_own t refuting [] = refl
-swap_of_own {Op} t refuting (a ∷ own) = ap (λ (w : Detail Op). swap_or a.id (refuting a.op) w) (swap_of_own t refuting own)
+pub swap_of_own : {Op : Type 0} (m : Mark) (t : Name) (refuting : Op → Option (List Op × List Op)) (own : List (Item Op)) →
+    first_swap (λ (a : Item Op). a.id) (λ a. refuting a.op) own ≡ first_swap (λ (a : LocalEntry Op). a.id) (λ a. refuting a.op) (map (marked_entry m t) own)
+swap_of_own m t refuting [] = refl
+swap_of_own {Op} m t refuting (a ∷ own) = ap (λ (w : Detail Op). swap_or a.id (refuting a.op) w) (swap_of_own m t refuting own)
 
 module _ {Shape State Op Undo : Type 0} (o : Object Shape State Op Undo) (place : Op → ℕ) (shape : Shape)
-    (B : Summary Op) (t : Name) (x : OpenSummary Op) (q : ℕ) (own : List (Item Op)) (own_is : x.own ≡ map (own_entry t) own) where
+    (B : Summary Op) (t : Name) (x : OpenSummary Op) (q : ℕ) (own : List (Item Op)) (mark : Mark) (own_is : x.own ≡ map (marked_entry mark t) own) where
   abbrev O : model.Object Op State
   O = rules_of o shape
 
@@ -55,17 +55,17 @@ module _ {Shape State Op Undo : Type 0} (o : Object Shape State Op Undo) (place 
       swaps : ((a : Item Op) → In a own → place a.op ≡ place g.op → SwapsIn o shape a.op g.op) ↔ ((a : LocalEntry Op) → In a x.own → place a.op ≡ q → model.Swaps O a.op g.op)
       swaps = (
         (λ h a i e.
-            let m = from_map (own_entry t) a own (subst (λ (w : List (LocalEntry Op)). In a w) own_is i) in
+            let m = from_map (marked_entry mark t) a own (subst (λ (w : List (LocalEntry Op)). In a w) own_is i) in
             let same : a.op ≡ (m.0).op = ap (λ (w : LocalEntry Op). w.op) m.2 in
             subst (λ (w : Op). SwapsIn o shape w g.op) (sym same) (h m.0 m.1 (sym (ap place same) ∙ e ∙ sym at))),
-        (λ h a i e. h (own_entry t a) (subst (λ (w : List (LocalEntry Op)). In (own_entry t a) w) (sym own_is) (in_map (own_entry t) a own i)) (e ∙ at)),
+        (λ h a i e. h (marked_entry mark t a) (subst (λ (w : List (LocalEntry Op)). In (marked_entry mark t a) w) (sym own_is) (in_map (marked_entry mark t) a own i)) (e ∙ at)),
       )
 
   -- their evidence
   pull_shows : (P : List (SharedEntry Op)) (g : SharedEntry Op) → pull_evidence o place shape (view ++ shared_ops P) own g ≡ details.pull_detail o shape place B x q P g
   pull_shows P g =
       ap (λ (w : Detail Op). Nothing ∷ Nothing ∷ Nothing ∷ gives_behind o shape g.id (view ++ shared_ops P) g.op ∷ w ∷ [])
-      (swap_of_own t (λ a. o.refuting a g.op) own ∙ ap (λ (w : List (LocalEntry Op)). first_swap (λ (a : LocalEntry Op). a.id) (λ a. o.refuting a.op g.op) w) (sym own_is))
+      (swap_of_own mark t (λ a. o.refuting a g.op) own ∙ ap (λ (w : List (LocalEntry Op)). first_swap (λ (a : LocalEntry Op). a.id) (λ a. o.refuting a.op g.op) w) (sym own_is))
 
   -- the facts of the PULL of g after those of P and of the first j of M
   abbrev Facts : List (SharedEntry Op) → List (SharedEntry Op) → ℕ → SharedEntry Op → List (Type 0)

@@ -54,7 +54,7 @@ rule_is (Some z) s rule i r = r ∙ ap rule_of i
 
 module _ {Op State : Type 0} (O : model.Object Op State) where
   -- The first step with a false criterion is the first that breaks one.
-  false_step : (ss : List (Step Op)) (qs : List (Asked Op)) (c : Config Op) (k n : ℕ) (rule : Rule) → Matches O c ss qs → FalseAt qs k n → HasRuleAt qs k rule →
+  pub false_step : (ss : List (Step Op)) (qs : List (Asked Op)) (c : Config Op) (k n : ℕ) (rule : Rule) → Matches O c ss qs → FalseAt qs k n → HasRuleAt qs k rule →
       (s : Step Op) × (slice_get ss k ≡ Some s) × RunsFrom O c (take k ss) × Breaks O (after_from c (take k ss)) s (suc n) × (rule ≡ rule_of s)
   false_step [] [] c k n rule m f r = absurd f
   false_step [] (a ∷ qs) c k n rule m f r = absurd m
@@ -66,7 +66,7 @@ module _ {Op State : Type 0} (O : model.Object Op State) where
       (q.0, q.1, (h, q.2), q.3, q.4)
 
   -- If each criterion is true, each step meets its criteria.
-  all_meet : (ss : List (Step Op)) (qs : List (Asked Op)) (c : Config Op) → Matches O c ss qs → AllTrue qs → RunsFrom O c ss
+  pub all_meet : (ss : List (Step Op)) (qs : List (Asked Op)) (c : Config Op) → Matches O c ss qs → AllTrue qs → RunsFrom O c ss
   all_meet [] [] c m a = tt
   all_meet [] (z ∷ qs) c m a = absurd m
   all_meet (s ∷ ss) [] c m a = absurd m

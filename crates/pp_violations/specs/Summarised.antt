@@ -2,7 +2,7 @@
 use Rattle.std.specs.Prelude.{ℕ, zero, nat_eq, List, [], map, reverse, Option, None, Some}
 use Rattle.std.specs.Map.{keys_of, lookup}
 use Rattle.pp_core.specs.declared.entry.Item.{Item}
-use Rattle.pp_model.specs.Config.{LocalEntry, Pushed}
+use Rattle.pp_model.specs.Config.{LocalEntry, Mark, Pushed}
 use Rattle.pp_model.specs.Names.{Name}
 use Rattle.pp_records.specs.Fronts.{Front, new_front}
 use Rattle.pp_laws_summary.specs.Summary.{OpenSummary, Summary}
@@ -22,9 +22,13 @@ number_or_zero (Some n) = n
 abbrev pub seen_of : List (ℕ × ℕ) → ℕ → ℕ
 seen_of entries q = number_or_zero (lookup (nat_eq q) entries)
 
+-- the entry of an operation of t, with this mark
+abbrev pub marked_entry : {Op : Type 0} → Mark → Name → Item Op → LocalEntry Op
+marked_entry m t p = record { id = p.id; owner = t; mark = m; op = p.op }
+
 -- the own entry that an operation of t leaves: it is pushed at once
 abbrev pub own_entry : {Op : Type 0} → Name → Item Op → LocalEntry Op
-own_entry t p = record { id = p.id; owner = t; mark = Pushed; op = p.op }
+own_entry t p = marked_entry Pushed t p
 
 -- the summary of an open transaction
 abbrev pub kept_open : {Op : Type 0} → Name → OpenTx (List (Item Op)) → OpenSummary Op

@@ -10,4 +10,6 @@ mod view;
 mod violation;
 
 pub use find::find_violation;
-pub use violation::Violation;
+pub use pull::search_pulls;
+pub use view::{add_items, committed_at};
+pub use violation::{Broken, Violation, alone, at_step, at_step_if, bare};

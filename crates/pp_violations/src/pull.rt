@@ -77,7 +77,7 @@ fn judge_pull<S: Parted, L: Ledger>(
 }
 
 /// The first of the PULLs that violates a criterion, or else the state after them.
-pub(crate) fn search_pulls<S: Parted, L: Ledger>(
+pub fn search_pulls<S: Parted, L: Ledger>(
     alloc: Global,
     shape: &S::Shape,
     own: &Own<S>,

@@ -16,7 +16,7 @@ use pp_summary::{Commits, OpenTx, Own, Parts, Seen};
 use std::alloc::Global;
 
 /// Adds the operations at a place.
-fn add_items<S: Placed>(
+pub fn add_items<S: Placed>(
     list: &mut Vec<Item<S::Op>>,
     items: &[Item<S::Op>],
     place: u16,
@@ -33,7 +33,7 @@ fn add_items<S: Placed>(
 }
 
 /// The committed operations at a place, in commit order.
-fn committed_at<S: Placed>(
+pub fn committed_at<S: Placed>(
     alloc: Global,
     committed: &Committed<S::Op>,
     place: u16,

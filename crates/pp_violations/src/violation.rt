@@ -19,13 +19,13 @@ pub struct Violation<O> {
 
 /// The first violated criterion of a step, from 1, with its evidence.
 #[derive(Drop)]
-pub(crate) struct Broken<O> {
-    pub(crate) criterion: u8,
-    pub(crate) detail: Detail<O>,
+pub struct Broken<O> {
+    pub criterion: u8,
+    pub detail: Detail<O>,
 }
 
 /// A violated criterion without evidence.
-pub(crate) fn bare<O>(criterion: u8) -> Broken<O>
+pub fn bare<O>(criterion: u8) -> Broken<O>
     ensures { result ≡ record { criterion = criterion; detail = Nothing } }
 {
     Broken {
@@ -35,7 +35,7 @@ pub(crate) fn bare<O>(criterion: u8) -> Broken<O>
 }
 
 /// The step of this number and rule, which violates the criterion.
-pub(crate) fn at_step<O>(offset: u64, rule: Rule, broken: Broken<O>) -> Violation<O>
+pub fn at_step<O>(offset: u64, rule: Rule, broken: Broken<O>) -> Violation<O>
     ensures { result ≡ step_violation offset rule broken }
 {
     Violation {
@@ -47,11 +47,7 @@ pub(crate) fn at_step<O>(offset: u64, rule: Rule, broken: Broken<O>) -> Violatio
 }
 
 /// The step of this number and rule, if it violates a criterion.
-pub(crate) fn at_step_if<O>(
-    offset: u64,
-    rule: Rule,
-    broken: Option<Broken<O>>,
-) -> Option<Violation<O>>
+pub fn at_step_if<O>(offset: u64, rule: Rule, broken: Option<Broken<O>>) -> Option<Violation<O>>
     ensures { result ≡ option_map (step_violation offset rule) broken }
 {
     match broken {
@@ -61,7 +57,7 @@ pub(crate) fn at_step_if<O>(
 }
 
 /// A step of this rule whose transaction is not open.
-pub(crate) fn alone<O>(rule: Rule) -> Violation<O>
+pub fn alone<O>(rule: Rule) -> Violation<O>
     ensures { result ≡ alone_violation rule }
 {
     at_step(0, rule, bare(1))
