@@ -1,7 +1,7 @@
 #!/usr/bin/env python3
-"""Compares `judge` with `certify` and with the plain definition, on random runs of style `boosted`.
+"""Compares `judge` with `certify` and with the plain definition, on random runs of a style that it judges.
 
-    python3 bench/judge.py PROGRAM [--count N] [--long N] [--seed S] [--jobs J]
+    python3 bench/judge.py PROGRAM [--style boosted] [--count N] [--long N] [--seed S] [--jobs J]
 
 `--count` is the number of short runs and `--long` that of long ones, of which most have more than 200,000 steps. The
 definition takes some seconds for a long run. `judge` has to print what the definition prints within the limits of
@@ -23,18 +23,24 @@ from random_runs import LINES, Run
 
 FAULTS = .05
 SHORT_RUNS, LONG_RUNS = 2000, 6
-# The criteria that random runs of style `boosted` violate first.
-CRITERIA = ("START 1", "START 2", "BEGIN 1", "BEGIN 2", "APP 1", "APP 2", "APP 3", "APP 4", "PUSH 4", "PUSH 5", "PULL 5",
-            "CMT 1", "CMT 2", "QUIT 1", "NOTE 1")
+# The criteria that random runs of each style violate first.
+IN_ALL_STYLES = ("START 1", "START 2", "BEGIN 1", "BEGIN 2", "APP 1", "APP 2", "APP 3", "APP 4", "PUSH 5", "PULL 5", "CMT 1",
+                 "CMT 2", "QUIT 1", "NOTE 1")
+IN_RULES = ("UNAPP 1", "UNAPP 2", "PUSH 1", "PUSH 2", "PUSH 3", "PUSH 4", "UNPUSH 1", "UNPUSH 2", "UNPUSH 3", "UNPUSH 4", "PULL 1",
+            "PULL 2", "PULL 3", "PULL 4", "UNPULL 1", "UNPULL 2", "UNPULL 3", "CMT 3", "CMT 4", "QUIT 2")
+CRITERIA = {
+    "rules": (*IN_ALL_STYLES, *IN_RULES),
+    "boosted": (*IN_ALL_STYLES, "PUSH 4"),
+}
 
 # The limits of `certify` that `judge` raises.
 RAISED = "TooManySteps", "TooManyTransactions", "TooManyLines", "TooLong"
 
 
-def write_runs(folder, seed, count, long):
-    """Writes random boosted runs to a folder."""
+def write_runs(folder, style, seed, count, long):
+    """Writes random runs of a style to a folder."""
     for number in range(count):
-        run = Run("boosted", f"judge {seed} {long} {number}", math.inf if long else LINES, long)
+        run = Run(style, f"judge {seed} {long} {number}", math.inf if long else LINES, long)
         (folder / f"{'long' if long else 'short'}_{number:06}.jsonl").write_bytes(text_of(run.lines, run.chance, FAULTS))
 
 
@@ -51,7 +57,7 @@ def is_same(judged, certified, defined):
 def gaps(counts, too_many, given):
     """What the runs were to show and did not."""
     if given.count >= SHORT_RUNS:
-        yield from (f"no run violates {criterion} first" for criterion in CRITERIA if not counts[criterion])
+        yield from (f"no run violates {criterion} first" for criterion in CRITERIA[given.style] if not counts[criterion])
     if given.long and not too_many:
         yield "certify printed TooManySteps for no run"
 
@@ -59,6 +65,7 @@ def gaps(counts, too_many, given):
 def main():
     parser = argparse.ArgumentParser(description="Compares judge with certify and with the plain definition.")
     parser.add_argument("program", metavar="PROGRAM")
+    parser.add_argument("--style", choices=CRITERIA, default="boosted")
     parser.add_argument("--count", type=int, default=SHORT_RUNS, help="how many short runs")
     parser.add_argument("--long", type=int, default=LONG_RUNS, help="how many long runs")
     parser.add_argument("--seed", type=int, default=1)
@@ -68,8 +75,8 @@ def main():
     counts, different, too_many = collections.Counter(), 0, 0
     with tempfile.TemporaryDirectory() as name:
         folder = pathlib.Path(name)
-        write_runs(folder, given.seed, given.count, False)
-        write_runs(folder, given.seed, given.long, True)
+        write_runs(folder, given.style, given.seed, given.count, False)
+        write_runs(folder, given.style, given.seed, given.long, True)
         files = sorted(folder.iterdir())
         for file, outputs in compare(programs, files, given.jobs):
             counts[verdict_named(outputs[0][0])] += 1

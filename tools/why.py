@@ -95,7 +95,7 @@ def explain_rejection(program, data, report):
     run = read_run(data)
     if report.step == 0:
         step, logs = None, Logs(run, first_calls(run))
-    elif report.is_of_judge:
+    elif report.is_of_judge and run.style == "boosted":
         step, logs = rejected_step(run, report)
     else:
         *before, step = steps_of(program, data, run, report)

@@ -31,8 +31,9 @@ use Rattle.pp_cmd_quick.specs.DeciderLaws.{taken_fault}
 use Rattle.pp_cmd_quick.specs.Decisions.{steps_behind, style_fault}
 use Rattle.pp_cmd_judge.proofs.AnyBegins.{any_begins}
 use Rattle.pp_cmd_judge.proofs.AnyLength.{any_length}
+use Rattle.pp_cmd_judge.proofs.AnySteps.{any_steps}
 use Rattle.pp_cmd_judge.specs.Inputs.{judge_limits, judge_scan}
-use Rattle.pp_cmd_judge.specs.Judgements.{HasJudgedStyle, IsJudged, IsJudgedExactly, IsJudgement}
+use Rattle.pp_cmd_judge.specs.Judgements.{HasJudgedStyle, IsJudgeOutput, IsJudgedExactly, IsJudgement}
 use Rattle.pp_cmd_judge.specs.Judgements.{is_judged, judge_fault}
 use Rattle.pp_cmd_judge.specs.Laws.{IsWithinCertify, JudgementLaw}
 
@@ -60,7 +61,7 @@ one_behind None sc r q a b = one_run_report sc.header sc.records r q a b
 pub one_judgement : (sc : InputScan) (r q : RunReport) → IsJudgement sc r → IsJudgement sc q → r ≡ q
 one_judgement sc r q a b = one_behind (judge_fault sc) sc r q a b
 
-pub one_judged : (bytes : List ℕ) (s s' : Status) (t t' : List ℕ) → IsJudged bytes s t → IsJudged bytes s' t' → (s ≡ s') × (t ≡ t')
+pub one_judged : (bytes : List ℕ) (s s' : Status) (t t' : List ℕ) → IsJudgeOutput bytes s t → IsJudgeOutput bytes s' t' → (s ≡ s') × (t ≡ t')
 one_judged bytes s s' t t' a b =
     let same : a.0 ≡ b.0 = one_judgement (judge_scan bytes) a.0 b.0 a.1 b.1 in
     told_once (judge_scan bytes).header b.0 s s' t t' (subst (λ (w : RunReport). IsTold (judge_scan bytes).header w s t) same a.2) b.2
@@ -115,7 +116,7 @@ pub same_input : (bytes : List ℕ) → IsWithinCertify (scan bytes) → judge_s
 same_input bytes fits = same_under_wider usual_limits judge_limits bytes judge_allows_more (allowed_size (scan bytes) fits) (inr (allowed_begins (scan bytes) fits))
 
 -- `judge` and `certify` print the same, unless `certify` reports a limit that `judge` raises
-pub same_judged : (bytes : List ℕ) (s : Status) (t : List ℕ) → HasJudgedStyle (scan bytes).header → IsWithinCertify (scan bytes) → IsJudged bytes s t ↔ IsCertified bytes s t
+pub same_judged : (bytes : List ℕ) (s : Status) (t : List ℕ) → HasJudgedStyle (scan bytes).header → IsWithinCertify (scan bytes) → IsJudgeOutput bytes s t ↔ IsCertified bytes s t
 same_judged bytes s t styled fits =
     let same : judge_scan bytes ≡ scan bytes = same_input bytes fits in (
       λ judged. judged_certified (scan bytes) s t styled fits (subst (λ (sc : InputScan). IsJudgedScan sc s t) same judged),
@@ -124,13 +125,13 @@ same_judged bytes s t styled fits =
 
 -- ---- accepted
 
-accepted_meets : (bytes text : List ℕ) → IsJudged bytes statuses.Accepted text → (judge_fault (judge_scan bytes) ≡ None) × EachStepMeets (judge_scan bytes)
+accepted_meets : (bytes text : List ℕ) → IsJudgeOutput bytes statuses.Accepted text → (judge_fault (judge_scan bytes) ≡ None) × EachStepMeets (judge_scan bytes)
 accepted_meets bytes text r =
     let k = behind_meets (judge_fault (judge_scan bytes)) (judge_scan bytes) r.0 text r.1 r.2 in
     let m = k.1 in
     (k.0, record { header = m.header; first_line = m.first_line; start = m.start; steps = m.steps })
 
-meets_accepted : (bytes : List ℕ) (status : Status) (text : List ℕ) → IsJudged bytes status text → judge_fault (judge_scan bytes) ≡ None → EachStepMeets (judge_scan bytes) → status ≡ statuses.Accepted
+meets_accepted : (bytes : List ℕ) (status : Status) (text : List ℕ) → IsJudgeOutput bytes status text → judge_fault (judge_scan bytes) ≡ None → EachStepMeets (judge_scan bytes) → status ≡ statuses.Accepted
 meets_accepted bytes status text r none m =
     let k = meets_run_report (judge_scan bytes) m in
     let own : IsJudgement (judge_scan bytes) k.0 = subst (λ (o : Option (ℕ × Cause)). IsReportBehind setting_of o (judge_scan bytes) k.0) (sym none) k.1 in
@@ -138,11 +139,11 @@ meets_accepted bytes status text r none m =
     k.2 status text (subst (λ (w : RunReport). IsTold (judge_scan bytes).header w status text) same r.2)
 
 -- an input is judged as accepted exactly if it has no fault and each step meets its criteria
-pub judged_exact : (bytes : List ℕ) (status : Status) (text : List ℕ) → IsJudged bytes status text → IsJudgedExactly bytes status
+pub judged_exact : (bytes : List ℕ) (status : Status) (text : List ℕ) → IsJudgeOutput bytes status text → IsJudgedExactly bytes status
 judged_exact bytes status text r = (
-  λ accepted. accepted_meets bytes text (subst (λ (s : Status). IsJudged bytes s text) accepted r),
+  λ accepted. accepted_meets bytes text (subst (λ (s : Status). IsJudgeOutput bytes s text) accepted r),
   λ both. meets_accepted bytes status text r both.0 both.1,
 )
 
 pub judgements : JudgementLaw
-judgements = record { any_length = any_length; any_begins = any_begins; one = one_judged; same = same_judged }
+judgements = record { any_steps = any_steps; any_length = any_length; any_begins = any_begins; one = one_judged; same = same_judged }

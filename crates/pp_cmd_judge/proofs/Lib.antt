@@ -1,6 +1,11 @@
 pub mod Ending
-pub mod Counting
+pub mod Violating
+pub mod BoostedJudging
+pub mod RuleSteps
+pub mod StyleJudging
 pub mod AnyBegins
+pub mod OtherCauses
 pub mod AnyLength
+pub mod AnySteps
 pub mod Judged
 pub mod Reporting

@@ -1,6 +1,6 @@
--- The report of what the judge says, and what it costs with the serial run.
+-- The report of what the judge says, and what the serial run costs.
 use Rattle.std.specs.Prelude.{◌≡◌, ◌≤◌, ◌+◌, ℕ, List, [], length, map, Option, None, Some}
-use Rattle.std.proofs.Common.{refl, sym, ap, ◌∙◌, subst}
+use Rattle.std.proofs.Common.{refl, sym, ap, ◌∙◌, subst, arith}
 use Rattle.std.proofs.lemmas.List.{append-nil}
 use Rattle.pp_core.specs.declared.entry.CommittedTx.{CommittedTx}
 use Rattle.pp_core.specs.declared.status.Status.{Status}
@@ -10,6 +10,7 @@ use Rattle.pp_records.specs.Records.{RunRecord}
 use Rattle.pp_records.specs.Runs.{IsRun, Lined, LinedSteps, Records, bare}
 use Rattle.pp_records.proofs.Whole.{one_run_law}
 use Rattle.pp_format_read.specs.declared.header.Header.{Header}
+use Rattle.pp_model.specs.Config.{Start, Step}
 use Rattle.pp_model.specs.Object.{state}
 use Rattle.pp_model.specs.Rules.{Accepted, IsVerdict}
 use Rattle.pp_model.specs.Serial.{Attempt, attempts, committed_tx, serial}
@@ -23,7 +24,8 @@ use Rattle.pp_report.specs.Reports.{accepted_text, rejected_text}
 use Rattle.pp_input_reader.specs.declared.cause.Cause.{Cause}
 use Rattle.pp_input_reader.specs.FaultTexts.{fault_text}
 use Rattle.pp_judge.proofs.Concluding.{RejectedTold, Reports, rejection_reported, reported, serial_is, told_fault}
-use Rattle.pp_judge.specs.Findings as findings
+use Rattle.pp_judge.specs.Costs.{OfRun, serial_length, start_behind}
+use Rattle.pp_judge.specs.Findings.{AreGood, AreRejected}
 use Rattle.pp_judge.specs.Objects.{object_of, setting_of, start_of, translation_of}
 use Rattle.pp_judge.specs.Rejected.{TellsEvident}
 use Rattle.pp_judge.specs.Reports.{IsRunTold, IsTold, RunReport}
@@ -31,41 +33,32 @@ use Rattle.pp_judge.specs.Scans.{InputScan}
 use Rattle.pp_judge.specs.Tallies.{headed}
 use Rattle.pp_judge.specs.declared.driven.Rejection.{Rejection}
 use Rattle.pp_judge.specs.declared.progress.Tally.{Tally}
-use Rattle.pp_cmd_quick.proofs.Concluding.{no_serial, serial_most}
-use Rattle.pp_cmd_quick.proofs.Readers.{committed_are}
-use Rattle.pp_cmd_quick.specs.DeciderLaws.{all_hold}
 use Rattle.pp_cmd_quick.specs.Decisions.{steps_behind}
-use Rattle.pp_cmd_quick.specs.Taking as quick
-use Rattle.pp_cmd_judge.specs.Costs.{JudgeCostsAtMost, JudgedCostAtMost, search_most}
-use Rattle.pp_cmd_judge.specs.CountedLaws.{boosted_fault}
+use Rattle.pp_cmd_judge.specs.Acceptances.{IsAcceptedBehind}
+use Rattle.pp_cmd_judge.specs.Costs.{JudgeCostsAtMost, JudgedCostAtMost, SerialCostAtLeast, SerialCostAtMost}
 use Rattle.pp_cmd_judge.specs.Inputs.{judge_scan}
-use Rattle.pp_cmd_judge.specs.Judgements.{IsJudged, IsJudgedEvident, IsJudgement, judge_fault}
-use Rattle.pp_cmd_judge.specs.Taking.{AreCounted, IsRejectedThere, counted_judging}
-use Rattle.pp_cmd_judge.specs.declared.counted.Counted.{Counted}
+use Rattle.pp_cmd_judge.specs.Judgements.{IsJudgeOutput, IsJudgedEvident, IsJudgement, judge_fault}
+use Rattle.pp_cmd_judge.specs.Rejections.{IsRejectedBehind}
+use Rattle.pp_cmd_judge.specs.StyleJudging.{done_of, shape_of, step_count, style_judging}
+use Rattle.pp_cmd_judge.specs.StyleLaws.{good_style, judged_fault, rejected_style}
+use Rattle.pp_cmd_judge.specs.declared.style_judge.StyleJudge.{StyleJudge}
 use Rattle.pp_cmd_judge.proofs.Judged.{one_judgement}
-
--- ---- what the judge says of a scan
-
-pub counted_of : (sc : InputScan) (tally : Tally) (judge : Counted) → findings.AreGood counted_judging sc tally judge → AreCounted sc tally judge
-counted_of sc tally judge g = record { follows = g.follows; counted = g.good }
-
-pub rejected_of : (sc : InputScan) (tally : Tally) (rejection : Rejection) → findings.AreRejected counted_judging sc tally rejection → IsRejectedThere sc tally rejection
-rejected_of sc tally rejection b = record { follows = b.follows; style = b.bad.0; rejected = b.bad.2 }
+use Rattle.pp_cmd_judge.proofs.StyleJudging.{accepted_by, rejected_by, shape_is}
 
 -- ---- a fault
 
-pub fault_reported : (bytes : List ℕ) (line : ℕ) (cause : Cause) (text : List ℕ) → judge_fault (judge_scan bytes) ≡ Some (line, cause) → text ≡ fault_text line cause → IsJudged bytes statuses.InputFault text
+pub fault_reported : (bytes : List ℕ) (line : ℕ) (cause : Cause) (text : List ℕ) → judge_fault (judge_scan bytes) ≡ Some (line, cause) → text ≡ fault_text line cause → IsJudgeOutput bytes statuses.InputFault text
 fault_reported bytes line cause text is text_is =
     let report : RunReport = Faulty line cause in
     (report, subst (λ (o : Option (ℕ × Cause)). IsReportBehind setting_of o (judge_scan bytes) report) (sym is) refl, told_fault (judge_scan bytes).header line cause text text_is)
 
 -- the report of a run without a fault
-pub run_reported : (bytes : List ℕ) (status : Status) (text : List ℕ) → judge_fault (judge_scan bytes) ≡ None → IsRunTold (judge_scan bytes) status text → IsJudged bytes status text
+pub run_reported : (bytes : List ℕ) (status : Status) (text : List ℕ) → judge_fault (judge_scan bytes) ≡ None → IsRunTold (judge_scan bytes) status text → IsJudgeOutput bytes status text
 run_reported bytes status text none told = (told.0, subst (λ (o : Option (ℕ × Cause)). IsReportBehind setting_of o (judge_scan bytes) told.0) (sym none) told.1, told.2)
 
 -- ---- an accepted run
 
-module _ (sc : InputScan) (tally : Tally) (judge : Counted) (c : AreCounted sc tally judge) where
+module _ (sc : InputScan) (tally : Tally) (judge : StyleJudge) (g : AreGood style_judging sc tally judge) where
   abbrev h : Header
   h = tally.header
 
@@ -75,15 +68,18 @@ module _ (sc : InputScan) (tally : Tally) (judge : Counted) (c : AreCounted sc t
   abbrev committed : List (Attempt Op)
   committed = attempts (start_of h) (bare all)
 
-  -- the same in the words of `quick`
-  pub quick_good : quick.AreGood sc tally judge.quick
-  quick_good = record { follows = c.follows; good = c.counted.good }
+  accepted_so : IsAcceptedBehind h sc.records (step_count judge) (done_of judge)
+  accepted_so = accepted_by (headed g.follows.at h) sc.records judge g.good
 
-  pub counted_sound : judge_fault sc ≡ None
-  counted_sound = boosted_fault sc (headed c.follows.at h) c.follows.header c.counted.good.style ∙ c.follows.sound
+  pub shape_so : shape_of judge ≡ kinds_of h.catalog
+  shape_so = shape_is (headed g.follows.at h) sc.records judge g.good
+
+  pub accepted_sound : judge_fault sc ≡ None
+  accepted_sound =
+      judged_fault sc (headed g.follows.at h) g.follows.header (good_style (headed g.follows.at h) sc.records judge g.good) ∙ g.follows.sound
 
   verdict : IsVerdict (object_of h) (start_of h) (bare all) Accepted
-  verdict = (accepted_iff (object_of h) (start_of h) (bare all)).1 (all_hold h sc.records judge.quick c.counted.good)
+  verdict = (accepted_iff (object_of h) (start_of h) (bare all)).1 accepted_so.hold
 
   run_is : IsRun (object_of h) (translation_of h) (start_of h) sc.records all
   run_is = (one_run_law (object_of h) (translation_of h)).told (start_of h) sc.records Accepted verdict
@@ -95,35 +91,62 @@ module _ (sc : InputScan) (tally : Tally) (judge : Counted) (c : AreCounted sc t
   report = Accepts (length all) committed final
 
   accepted_report : IsRunReport setting_of sc.header sc.records report
-  accepted_report = subst (λ (o : Option (Lined Header)). IsRunReport setting_of o sc.records report) (sym c.follows.header) (all, Accepted, run_is, verdict, refl)
+  accepted_report = subst (λ (o : Option (Lined Header)). IsRunReport setting_of o sc.records report) (sym g.follows.header) (all, Accepted, run_is, verdict, refl)
 
   -- the text of what was committed
-  pub accepted_told : (count : ℕ) (D : List (CommittedTx Op)) (states : List ObjectState) (text : List ℕ) → count ≡ judge.steps → D ≡ judge.quick.brief.done
+  pub accepted_told : (count : ℕ) (D : List (CommittedTx Op)) (states : List ObjectState) (text : List ℕ) → count ≡ step_count judge → D ≡ done_of judge
       → states ≡ state_after objects (kinds_of h.catalog) (serial_ops D) → text ≡ accepted_text h.catalog count D states → IsRunTold sc statuses.Accepted text
   accepted_told count D states text count_is D_is state_is text_is =
-      let done : D ≡ map committed_tx committed = D_is ∙ committed_are h sc.records judge.quick c.counted.good in
+      let done : D ≡ map committed_tx committed = D_is ∙ accepted_so.done in
       let same : states ≡ final =
       state_is ∙ ap (λ (E : List (CommittedTx Op)). state_after objects (kinds_of h.catalog) (serial_ops E)) done ∙ ap (λ (l : List Op). state_after objects (kinds_of h.catalog) l) (serial_is committed) in
       let words : text ≡ accepted_text h.catalog (length all) (map committed_tx committed) final =
-      text_is ∙ ap (λ (n : ℕ). accepted_text h.catalog n D states) (count_is ∙ c.counted.steps)
+      text_is ∙ ap (λ (n : ℕ). accepted_text h.catalog n D states) (count_is ∙ accepted_so.steps)
       ∙ ap (λ (E : List (CommittedTx Op)). accepted_text h.catalog (length all) E states) done
       ∙ ap (λ (s : List ObjectState). accepted_text h.catalog (length all) (map committed_tx committed) s) same in
-      (report, accepted_report, subst (λ (o : Option (Lined Header)). IsTold o report statuses.Accepted text) (sym c.follows.header) (refl, words))
+      (report, accepted_report, subst (λ (o : Option (Lined Header)). IsTold o report statuses.Accepted text) (sym g.follows.header) (refl, words))
+
+  -- ---- what its serial run costs
+
+  abbrev Serial : Option (Start Op) → List (Step Op) → Type 0
+  Serial start steps = length (serial_ops (done_of judge)) ≡ serial_length start steps
+
+  serial_count : OfRun sc.header sc.records (λ start steps. Serial start steps)
+  serial_count =
+      let here : Serial (start_of h) (bare all) =
+      ap (λ (D : List (CommittedTx Op)). length (serial_ops D)) accepted_so.done ∙ ap (λ (l : List Op). length l) (serial_is committed) in
+      subst (λ (o : Option (Lined Header)). OfRun o sc.records (λ start steps. Serial start steps)) (sym g.follows.header) (λ run is.
+      let same : all ≡ run = (one_run_law (object_of h) (translation_of h)).run (start_of h) sc.records all run run_is is in
+      subst (λ (w : LinedSteps Op). Serial (start_of h) (bare w)) same here)
+
+  pub serial_most : (now new : ℕ) → new ≤ now + length (serial_ops (done_of judge)) → SerialCostAtMost sc now new
+  serial_most now new cost run is = subst (λ (n : ℕ). new ≤ now + n) (serial_count run is) cost
+
+  pub serial_least : (now new : ℕ) → new ≡ now + length (serial_ops (done_of judge)) → SerialCostAtLeast sc now new
+  serial_least now new cost run is = at_least (cost ∙ ap (λ (n : ℕ). now + n) (serial_count run is))
+    where
+      at_least : {n : ℕ} → new ≡ n → n ≤ new
+      at_least e = omega (arith, e)
 
 -- ---- a rejected run
 
-module _ (sc : InputScan) (tally : Tally) (rejection : Rejection) (c : IsRejectedThere sc tally rejection) where
+module _ (sc : InputScan) (tally : Tally) (rejection : Rejection) (b : AreRejected style_judging sc tally rejection) where
+  pub rejected_so : IsRejectedBehind (headed b.follows.at tally.header) sc.records rejection
+  rejected_so = rejected_by tally.header.style (headed b.follows.at tally.header) sc.records rejection b.bad
+
   pub rejected_sound : judge_fault sc ≡ None
-  rejected_sound = boosted_fault sc (headed c.follows.at tally.header) c.follows.header c.style ∙ c.follows.sound
+  rejected_sound =
+      let h = headed b.follows.at tally.header in
+      judged_fault sc h b.follows.header (rejected_style tally.header.style h sc.records rejection b.bad) ∙ b.follows.sound
 
   rejected_report : Reports sc sc.header (RejectedTold tally.header rejection)
   rejected_report =
       let h : Header = tally.header in
-      let e = c.rejected in
+      let e = rejected_so in
       let here : IsRun (object_of h) (translation_of h) (start_of h) sc.records e.run =
       subst (λ (w : Records (RunRecord Op)). IsRun (object_of h) (translation_of h) (start_of h) w e.run) (append-nil sc.records) (e.stays []) in
-      reported sc (Some (headed c.follows.at h)) (RejectedTold h rejection) c.follows.header
-      (rejection_reported (headed c.follows.at h) sc.records rejection e.run e.number e.criterion e.is here e.verdict)
+      reported sc (Some (headed b.follows.at h)) (RejectedTold h rejection) b.follows.header
+      (rejection_reported (headed b.follows.at h) sc.records rejection e.run e.number e.criterion e.is here e.verdict)
 
   pub rejected_told : (text : List ℕ) → text ≡ rejected_text tally.header.catalog rejection.step rejection.line rejection.rule rejection.criterion rejection.detail → IsRunTold sc statuses.Rejected text
   rejected_told text is = let k = rejected_report in (k.0, k.1, k.2.0 text is)
@@ -135,17 +158,10 @@ module _ (sc : InputScan) (tally : Tally) (rejection : Rejection) (c : IsRejecte
       let own : IsJudgement sc k.0 = subst (λ (o : Option (ℕ × Cause)). IsReportBehind setting_of o sc k.0) (sym rejected_sound) k.1 in
       subst (λ (w : RunReport). TellsEvident sc.header w) (one_judgement sc k.0 report own is) k.2.1
 
--- ---- what it costs with the serial run
+-- ---- what it costs without a serial run
 
-module _ (sc : InputScan) (old now new : ℕ) where
-  -- without a serial run
-  pub no_serial_run : JudgedCostAtMost sc old now → JudgeCostsAtMost sc old now
-  no_serial_run cost = (λ none. no_serial sc old now (cost.0 none), no_serial sc (old + search_most sc.records) now cost.1)
-
-  -- with that of an accepted run
-  pub serial_run : (tally : Tally) (judge : Counted) → AreCounted sc tally judge → JudgedCostAtMost sc old now → new ≤ now + length (serial_ops judge.quick.brief.done) → JudgeCostsAtMost sc old new
-  serial_run tally judge c cost serial =
-      let good = quick_good sc tally judge c in (
-        λ none. serial_most sc tally judge.quick good old now new (cost.0 none) serial,
-        serial_most sc tally judge.quick good (old + search_most sc.records) now new cost.1 serial,
-      )
+pub no_serial_run : (sc : InputScan) (old new : ℕ) → JudgedCostAtMost sc old new → JudgeCostsAtMost sc old new
+no_serial_run sc old new cost = (new, cost, λ run is. room new (serial_length (start_behind sc.header) (bare run)))
+  where
+    room : (n m : ℕ) → n ≤ n + m
+    room n m = omega arith

@@ -20,7 +20,7 @@ use Rattle.pp_cmd_judge.specs.Inputs.{early_judge_scan, judge_scan}
 
 -- the styles of the runs that are judged
 abbrev pub is_judged : Style → Bool
-is_judged styles.Rules = false
+is_judged styles.Rules = true
 is_judged styles.Boosted = true
 is_judged styles.Optimistic = false
 is_judged styles.Hardware = false
@@ -47,8 +47,8 @@ abbrev pub IsJudgement : InputScan → RunReport → Type 0
 IsJudgement sc report = IsReportBehind setting_of (judge_fault sc) sc report
 
 -- the status and the text of the report of an input, which are those of `certify`
-abbrev pub IsJudged : List ℕ → Status → List ℕ → Type 0
-IsJudged bytes status text = (report : RunReport) × IsJudgement (judge_scan bytes) report
+abbrev pub IsJudgeOutput : List ℕ → Status → List ℕ → Type 0
+IsJudgeOutput bytes status text = (report : RunReport) × IsJudgement (judge_scan bytes) report
     × IsTold (judge_scan bytes).header report status text
 
 -- The status is accepted exactly if the input has no fault and each of its steps meets its criteria.

@@ -11,7 +11,7 @@ use Rattle.pp_judge.specs.Reports.{IsCertified}
 use Rattle.pp_judge.specs.Scans.{InputScan}
 use Rattle.pp_judge.specs.WiderLimits.{IsSizeLimit}
 use Rattle.pp_cmd_judge.specs.Inputs.{judge_scan}
-use Rattle.pp_cmd_judge.specs.Judgements.{HasJudgedStyle, IsJudged, judge_fault}
+use Rattle.pp_cmd_judge.specs.Judgements.{HasJudgedStyle, IsJudgeOutput, judge_fault}
 
 -- `judge` allows more than this limit of `certify`: on steps, transactions, lines or bytes
 abbrev pub IsRaisedLimit : Cause → Type 0
@@ -24,6 +24,9 @@ IsWithinCertify sc = (line : ℕ) (cause : Cause) → IsRaisedLimit cause →
     IsReport setting_of TooManySteps sc (Faulty line cause) → ⊥
 
 pub record JudgementLaw : Type 0 where
+  -- no input has too many steps
+  pub any_steps : (bytes : List ℕ) (line : ℕ) → judge_fault (judge_scan bytes)
+      ≡ Some (line, TooManySteps) → ⊥
   -- no input has too many bytes
   pub any_length : (bytes : List ℕ) (line : ℕ) → judge_fault (judge_scan bytes)
       ≡ Some (line, TooLong) → ⊥
@@ -31,9 +34,9 @@ pub record JudgementLaw : Type 0 where
   pub any_begins : (bytes : List ℕ) (line : ℕ) → judge_fault (judge_scan bytes)
       ≡ Some (line, TooManyTransactions) → ⊥
   -- an input has one status and one text at most
-  pub one : (bytes : List ℕ) (s s' : Status) (t t' : List ℕ) → IsJudged bytes s t →
-      IsJudged bytes s' t' → (s ≡ s') × (t ≡ t')
+  pub one : (bytes : List ℕ) (s s' : Status) (t t' : List ℕ) → IsJudgeOutput bytes s t →
+      IsJudgeOutput bytes s' t' → (s ≡ s') × (t ≡ t')
   -- For an input of a style that is judged, these are those of `certify`, unless `certify` reports
   -- TooManySteps, TooManyTransactions, TooManyLines or TooLong.
   pub same : (bytes : List ℕ) (s : Status) (t : List ℕ) → HasJudgedStyle (scan bytes).header →
-      IsWithinCertify (scan bytes) → IsJudged bytes s t ↔ IsCertified bytes s t
+      IsWithinCertify (scan bytes) → IsJudgeOutput bytes s t ↔ IsCertified bytes s t

@@ -1,6 +1,14 @@
 pub mod Inputs
 pub mod Judgements
 pub mod Laws
+pub mod Acceptances
+pub mod Rejections
+pub mod BoostedCosts
+pub mod Boosted
+pub mod BoostedLaws
+pub mod RulesCosts
+pub mod Rules
+pub mod RulesLaws
 pub mod Costs
-pub mod Taking
-pub mod CountedLaws
+pub mod StyleJudging
+pub mod StyleLaws

@@ -8,15 +8,15 @@ ghost use Rattle.pp_input_reader.specs.declared.stop.Failure.TheVariants.{ReadFa
 ghost use Rattle.pp_input_reader.specs.Sources.{WhereTold};
 ghost use Rattle.pp_report.specs.Reports.{IsDetailNamed, rejected_text};
 ghost use Rattle.pp_judge.specs.Certified.{IsDecided};
+ghost use Rattle.pp_judge.specs.Findings.{AreGood};
 ghost use Rattle.pp_judge.specs.Reports.{IsRunTold};
 ghost use Rattle.pp_judge.specs.Scans.{InputScan};
-ghost use Rattle.pp_cmd_quick.specs.Costs.{QuickCostsAtLeast};
-ghost use Rattle.pp_cmd_judge.specs.Costs.{JudgeCostsAtMost};
+ghost use Rattle.pp_cmd_judge.specs.Costs.{JudgeCostsAtLeast, JudgeCostsAtMost};
 ghost use Rattle.pp_cmd_judge.specs.Inputs.{judge_scan};
-ghost use Rattle.pp_cmd_judge.specs.Judgements.{IsJudged, IsJudgedEvident, JudgeReadsNoFault};
-ghost use Rattle.pp_cmd_judge.specs.Taking.{AreCounted};
+ghost use Rattle.pp_cmd_judge.specs.Judgements.{IsJudgeOutput, IsJudgedEvident, JudgeReadsNoFault};
+ghost use Rattle.pp_cmd_judge.specs.StyleJudging.{done_of, style_judging};
 
-use crate::counted::Counted;
+use crate::style_judge::StyleJudge;
 use pp_core::{OutOfMemory, Status, Text, Ticks};
 use pp_input::Source;
 use pp_input_reader::{Failure, fault};
@@ -31,26 +31,20 @@ use std::sync::ledger::Ledger;
 fn report_accepted<L: Ledger>(
     alloc: Global,
     tally: &Tally,
-    judge: &Counted,
+    judge: &StyleJudge,
     ticks: &mut Ticks<L>,
 ) -> Result<Text, OutOfMemory>
-    requires { (sc : InputScan) × AreCounted sc tally.now judge.now }
-    ensures report { IfOk result (λ text. (sc : InputScan) → AreCounted sc tally.now judge.now →
-        IsRunTold sc statuses.Accepted text) }
-    ensures cost { OnOk result
-        (ticks.new ≡ ticks.old + length (serial_ops judge.now.quick.brief.done)) }
-    ensures bound { ticks.new ≤ ticks.old + length (serial_ops judge.now.quick.brief.done) }
+    requires { (sc : InputScan) × AreGood style_judging sc tally.now judge.now }
+    ensures report { IfOk result (λ text. (sc : InputScan) →
+        AreGood style_judging sc tally.now judge.now → IsRunTold sc statuses.Accepted text) }
+    ensures cost { OnOk result (ticks.new ≡ ticks.old + length (serial_ops (done_of judge.now))) }
+    ensures bound { ticks.new ≤ ticks.old + length (serial_ops (done_of judge.now)) }
 {
     let kinds = tally.header.catalog.kinds(alloc)?;
-    let committed = judge.quick.committed();
+    let steps = judge.steps();
+    let committed = judge.committed();
     let states = serial_state::<Objects, L>(alloc, &kinds, committed, ticks)?;
-    accepted(
-        alloc,
-        &tally.header.catalog,
-        judge.steps,
-        committed,
-        &states,
-    )
+    accepted(alloc, &tally.header.catalog, steps, committed, &states)
 }
 
 /// The report of a run of which the start or a step is rejected.
@@ -71,14 +65,15 @@ fn report_rejected(alloc: Global, tally: &Tally, rejection: &Rejection) -> Resul
     )
 }
 
-/// The status and the report of the input of a source, for a boosted run of any number of steps.
+/// The status and the report of the input of a source, for a run of any number of steps in a style
+/// that is judged.
 pub fn judge<S: Source, L: Ledger>(
     alloc: Global,
     source: &mut S,
     ticks: &mut Ticks<L>,
 ) -> Result<(Status, Text), Failure>
     ensures output { IfOk result (λ r. WhereTold (S.left source.old) λ bytes.
-        IsJudged bytes r.0 r.1) }
+        IsJudgeOutput bytes r.0 r.1) }
     ensures status { IfOk result (λ r. IsDecided r.0 ⊎ (r.0 ≡ statuses.InputFault)) }
     ensures end { IfOk result (λ r. IsDecided r.0 → IsAtEnd (S.left source.new)) }
     ensures shown { IfOk result (λ r. r.0 ≡ statuses.Rejected →
@@ -91,9 +86,9 @@ pub fn judge<S: Source, L: Ledger>(
     ensures most { WhereTold (S.left source.old) λ bytes.
         JudgeCostsAtMost (judge_scan bytes) ticks.old ticks.new }
     ensures least { IfOk result (λ r. IsDecided r.0 → WhereTold (S.left source.old) λ bytes.
-        QuickCostsAtLeast r.0 (judge_scan bytes) ticks.old ticks.new) }
+        JudgeCostsAtLeast r.0 (judge_scan bytes) ticks.old ticks.new) }
 {
-    match examine::<S, Counted, L>(alloc, source, ticks)? {
+    match examine::<S, StyleJudge, L>(alloc, source, ticks)? {
         Finding::Fault(line, cause) => {
             let text = fault(alloc, line, &cause)?;
             Ok((Status::InputFault, text))

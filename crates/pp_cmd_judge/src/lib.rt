@@ -1,9 +1,14 @@
-//! The command `judge`: the report of `certify` for a boosted run of any number of steps.
+//! The command `judge`: the report of `certify` for a run of any number of steps, in the styles
+//! that are judged.
 #![tactic(auto)]
 
+mod boosted;
 mod command;
-mod counted;
 mod law;
+mod limits;
+mod rejection;
+mod rules;
+mod style_judge;
 
 pub use command::judge;
 pub use law::judgement_law;

@@ -28,7 +28,7 @@ use Rattle.pp_cmd_quick.proofs.Verdicts.{some_verdict}
 use Rattle.pp_cmd_quick.specs.Decisions.{style_fault}
 use Rattle.pp_cmd_judge.proofs.Reporting.{fault_reported, run_reported}
 use Rattle.pp_cmd_judge.specs.Inputs.{judge_limits, judge_scan}
-use Rattle.pp_cmd_judge.specs.Judgements.{IsJudged, is_judged, judge_fault}
+use Rattle.pp_cmd_judge.specs.Judgements.{IsJudgeOutput, is_judged, judge_fault}
 use Rattle.pp_laws_reports.proofs.Scanned.{header_of_sound, rejected_step}
 use Rattle.pp_laws_reports.specs.Defined.{IsDefined}
 
@@ -77,7 +77,7 @@ abbrev Told : List ℕ → Status → List ℕ → Option (Lined Header) → Typ
 Told bytes status text o = (report : RunReport) × IsRunReport setting_of o (judge_scan bytes).records report × IsTold o report status text
 
 -- It is impossible that `judge` has no status and no text for an input.
-pub judge_is_defined : (bytes : List ℕ) → IsDefined (IsJudged bytes)
+pub judge_is_defined : (bytes : List ℕ) → IsDefined (IsJudgeOutput bytes)
 judge_is_defined bytes none = by (judge_fault (judge_scan bytes)) refl
   where
     by : (fault : Option (ℕ × Cause)) → judge_fault (judge_scan bytes) ≡ fault → ⊥

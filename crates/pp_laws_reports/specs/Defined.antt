@@ -5,7 +5,7 @@ use Rattle.pp_certificate_lines.specs.Rechecked.{IsRecheck}
 use Rattle.pp_judge.specs.Reports.{IsCertified, IsExpanded}
 use Rattle.pp_cmd_views.specs.Outputs.{IsViews}
 use Rattle.pp_cmd_quick.specs.Decisions.{IsQuick}
-use Rattle.pp_cmd_judge.specs.Judgements.{IsJudged}
+use Rattle.pp_cmd_judge.specs.Judgements.{IsJudgeOutput}
 use Rattle.pp_cmd_drill.specs.Reports.{IsDrilled}
 use Rattle.pp_cmd_swaps.specs.Swaps.{IsSwaps}
 
@@ -18,7 +18,7 @@ IsDefined Output = ((status : Status) (text : List ℕ) → Output status text �
 pub record DefinedLaws : Type 0 where
   pub certify : (bytes : List ℕ) → IsDefined (IsCertified bytes)
   pub expand : (bytes : List ℕ) → IsDefined (IsExpanded bytes)
-  pub judge : (bytes : List ℕ) → IsDefined (IsJudged bytes)
+  pub judge : (bytes : List ℕ) → IsDefined (IsJudgeOutput bytes)
   pub quick : (bytes : List ℕ) → IsDefined (IsQuick bytes)
   pub swaps : (bytes : List ℕ) → IsDefined (IsSwaps bytes)
   pub recheck : (bytes : List ℕ) → IsDefined (IsRecheck bytes)

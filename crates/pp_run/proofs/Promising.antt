@@ -16,7 +16,7 @@ use Rattle.pp_cmd_quick.specs.Decisions.{Decision, IsDecisionBehind, IsDecisionO
 use Rattle.pp_cmd_quick.specs.Decisions.{IsDecisionTold, IsQuick, quick_fault}
 use Rattle.pp_cmd_judge.proofs.Judged.{judged_exact, same_judged}
 use Rattle.pp_cmd_judge.specs.Inputs.{judge_limits, judge_scan}
-use Rattle.pp_cmd_judge.specs.Judgements.{IsJudged, IsJudgedEvident}
+use Rattle.pp_cmd_judge.specs.Judgements.{IsJudgeOutput, IsJudgedEvident}
 use Rattle.pp_cmd_drill.specs.Prints.{PrintsLines, certified_text}
 use Rattle.pp_cmd_drill.specs.Text.{drill_text}
 use Rattle.pp_cmd_swaps.proofs.Rechecking.{prints_certificate}
@@ -105,7 +105,7 @@ quick_meets : (bytes text : List ℕ) → IsQuick bytes statuses.Accepted text �
 quick_meets bytes text (decision, is, told) = accepted_behind (quick_fault (scan bytes)) (scan bytes) decision text is told
 
 -- if `judge` accepts an input, its start and steps meet their criteria
-judged_meets : (bytes text : List ℕ) → IsJudged bytes statuses.Accepted text → EachStepMeets (judge_scan bytes)
+judged_meets : (bytes text : List ℕ) → IsJudgeOutput bytes statuses.Accepted text → EachStepMeets (judge_scan bytes)
 judged_meets bytes text r = ((judged_exact bytes statuses.Accepted text r).0 refl).1
 
 -- ---- the promises
@@ -164,7 +164,7 @@ promised (Some Judge) o a =
           };
       accepted = λ e bytes is.
           let out = a.output (printed o statuses.Accepted e tt) bytes is in
-          serializable judge_limits bytes (judged_meets bytes out.0 (subst (λ (s : Status). IsJudged bytes s out.0) e out.1));
+          serializable judge_limits bytes (judged_meets bytes out.0 (subst (λ (s : Status). IsJudgeOutput bytes s out.0) e out.1));
       rejected = a.judged refl;
       most = a.most;
       least = a.least;

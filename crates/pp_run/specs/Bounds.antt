@@ -10,7 +10,7 @@ use Rattle.pp_judge.specs.Costs.{CostsAtLeast, CostsAtMost, StepsCostAtLeast, St
 use Rattle.pp_judge.specs.Inputs.{scan}
 use Rattle.pp_cmd_views.specs.Costs.{ViewsCostAtMost}
 use Rattle.pp_cmd_quick.specs.Costs.{QuickCostsAtLeast, QuickCostsAtMost}
-use Rattle.pp_cmd_judge.specs.Costs.{JudgeCostsAtMost}
+use Rattle.pp_cmd_judge.specs.Costs.{JudgeCostsAtLeast, JudgeCostsAtMost}
 use Rattle.pp_cmd_judge.specs.Inputs.{judge_scan}
 use Rattle.pp_cmd_drill.specs.Reports.{drill_scan}
 use Rattle.pp_cmd_recheck.specs.Costs.{CheckCostsAtLeast, CheckCostsAtMost}
@@ -38,10 +38,10 @@ RisesAtMost (Some Views) left old new =
 RisesAtMost (Some (Drill n)) left old new = CostsAtMost (drill_scan n) old new
 
 -- The least rise of the counter at this status. With a verdict it is one for each step that applies
--- or takes back one operation and meets its criteria. For `judge` and `quick` it is one for each
--- record that is an operation, before the one that fails, if one does. `certify`, `judge`, `quick`
--- and `drill` add the serial run of an accepted run. For `recheck` it is one for each entry and for
--- each serial entry, and only at accepted.
+-- or takes back one operation and meets its criteria. For `quick` it is one for each record that is
+-- an operation, before the one that fails, if one does. For `judge` it is what the judge of the style
+-- costs. `certify`, `judge`, `quick` and `drill` add the serial run of an accepted run. For `recheck`
+-- it is one for each entry and for each serial entry, and only at accepted.
 abbrev pub RisesAtLeast : Option Command → Option (List ℕ) → Status → (old new : ℕ) → Type 0
 RisesAtLeast None left status old new = Unit {0}
 RisesAtLeast (Some Certify) left status old new = IsDecided status →
@@ -49,7 +49,7 @@ RisesAtLeast (Some Certify) left status old new = IsDecided status →
 RisesAtLeast (Some Expand) left status old new = IsDecided status →
     WhereTold left λ bytes. StepsCostAtLeast status (scan bytes) old new
 RisesAtLeast (Some Judge) left status old new = IsDecided status →
-    WhereTold left λ bytes. QuickCostsAtLeast status (judge_scan bytes) old new
+    WhereTold left λ bytes. JudgeCostsAtLeast status (judge_scan bytes) old new
 RisesAtLeast (Some Quick) left status old new = IsDecided status →
     WhereTold left λ bytes. QuickCostsAtLeast status (scan bytes) old new
 RisesAtLeast (Some Swaps) left status old new = IsDecided status →

@@ -14,9 +14,9 @@ use Rattle.pp_cmd_views.specs.Costs.{ViewsCostAtMost}
 use Rattle.pp_cmd_views.specs.Outputs.{IsViews}
 use Rattle.pp_cmd_quick.specs.Costs.{QuickCostsAtLeast, QuickCostsAtMost}
 use Rattle.pp_cmd_quick.specs.Decisions.{IsQuick}
-use Rattle.pp_cmd_judge.specs.Costs.{JudgeCostsAtMost}
+use Rattle.pp_cmd_judge.specs.Costs.{JudgeCostsAtLeast, JudgeCostsAtMost}
 use Rattle.pp_cmd_judge.specs.Inputs.{judge_scan}
-use Rattle.pp_cmd_judge.specs.Judgements.{HasJudgedStyle, IsJudged, IsJudgedEvident}
+use Rattle.pp_cmd_judge.specs.Judgements.{HasJudgedStyle, IsJudgeOutput, IsJudgedEvident}
 use Rattle.pp_cmd_judge.specs.Judgements.{IsJudgedExactly}
 use Rattle.pp_cmd_judge.specs.Laws.{IsWithinCertify}
 use Rattle.pp_cmd_drill.specs.Prints.{PrintsLines}
@@ -78,10 +78,10 @@ pub record ExpandPromise (o : Outcome) : Type 0 where
   pub least : IsDecided o.status → OfItsInput o λ bytes.
       StepsCostAtLeast o.status (scan bytes) o.before o.after
 
--- What `judge` promises. It is `certify` without a limit on steps and bytes, for the styles that it
--- judges. `judge_scan` is what an input is within its limits.
+-- What `judge` promises. It is `certify` without a limit on steps, transactions and bytes, for the
+-- styles that it judges. `judge_scan` is what an input is within its limits.
 pub record JudgePromise (o : Outcome) : Type 0 where
-  pub prints : PrintsJust IsJudged o
+  pub prints : PrintsJust IsJudgeOutput o
   -- Accepted is printed exactly if the input has no fault, and its start and each step meet their
   -- criteria.
   pub exact : IsPrinted o.status → OfItsInput o λ bytes. IsJudgedExactly bytes o.status
@@ -97,11 +97,11 @@ pub record JudgePromise (o : Outcome) : Type 0 where
   -- it proves that the criterion is false.
   pub rejected : o.status ≡ statuses.Rejected → OfItsInput o λ bytes.
       IsJudgedEvident (judge_scan bytes)
-  -- The counter rises at most by what `quick` costs, if no record has a step that violates a
-  -- criterion. In any case it rises at most by that and what the search for the step costs.
+  -- The counter rises at most by what the judge of the style costs and by the serial run. With a
+  -- verdict it rises at least by their least cost.
   pub most : OfItsInput o λ bytes. JudgeCostsAtMost (judge_scan bytes) o.before o.after
   pub least : IsDecided o.status → OfItsInput o λ bytes.
-      QuickCostsAtLeast o.status (judge_scan bytes) o.before o.after
+      JudgeCostsAtLeast o.status (judge_scan bytes) o.before o.after
 
 pub record QuickPromise (o : Outcome) : Type 0 where
   pub prints : PrintsJust IsQuick o

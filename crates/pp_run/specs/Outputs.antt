@@ -10,7 +10,7 @@ use Rattle.pp_judge.specs.Inputs.{ReadsNoFault}
 use Rattle.pp_judge.specs.Reports.{IsCertified, IsExpanded}
 use Rattle.pp_cmd_views.specs.Outputs.{IsViews}
 use Rattle.pp_cmd_quick.specs.Decisions.{IsQuick, QuickReadsNoFault}
-use Rattle.pp_cmd_judge.specs.Judgements.{IsJudged, JudgeReadsNoFault}
+use Rattle.pp_cmd_judge.specs.Judgements.{IsJudgeOutput, JudgeReadsNoFault}
 use Rattle.pp_laws_reports.specs.Defined.{IsDefined}
 use Rattle.pp_cmd_drill.specs.Reports.{IsDrilled}
 use Rattle.pp_cmd_swaps.specs.Swaps.{IsSwaps}
@@ -38,7 +38,7 @@ abbrev pub IsOutput : Option Command → List ℕ → Status → List ℕ → Ty
 IsOutput None bytes status text = (status ≡ statuses.BadWords) × (text ≡ [])
 IsOutput (Some Certify) bytes status text = IsCertified bytes status text
 IsOutput (Some Expand) bytes status text = IsExpanded bytes status text
-IsOutput (Some Judge) bytes status text = IsJudged bytes status text
+IsOutput (Some Judge) bytes status text = IsJudgeOutput bytes status text
 IsOutput (Some Quick) bytes status text = IsQuick bytes status text
 IsOutput (Some Swaps) bytes status text = IsSwaps bytes status text
 IsOutput (Some Recheck) bytes status text = IsRecheck bytes status text

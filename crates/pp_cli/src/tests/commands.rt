@@ -8,7 +8,7 @@ pub(crate) struct CommandRow {
     pub(crate) row: Row,
 }
 
-pub(crate) const COMMANDS: [CommandRow; 16] = [
+pub(crate) const COMMANDS: [CommandRow; 18] = [
     CommandRow {
         command: b"swaps",
         row: Row {
@@ -198,6 +198,33 @@ pub(crate) const COMMANDS: [CommandRow; 16] = [
 {"step":"app","tx":"t1","id":1,"on":"c","call":"add","args":[2],"result":null}
 {"step":"push","tx":"t1","id":1}
 {"step":"cmt","tx":"t1"}
+"#,
+            status: Status::Accepted,
+            report: b"accepted steps 4 committed 1\ntx t1\nop 1 c.add(2)=none\nstate c 2\n",
+        },
+    },
+    CommandRow {
+        command: b"judge",
+        row: Row {
+            what: "a commit that is not published",
+            header: b"",
+            records: br#"{"run":2,"style":"rules","objects":[{"name":"c","kind":"counter"}],"start":{"tx":"t0","ops":[{"id":1,"on":"c","call":"add","args":[5],"result":null}]}}
+{"step":"begin","tx":"t1","thread":"p1"}
+{"step":"app","tx":"t1","id":2,"on":"c","call":"add","args":[2],"result":null}
+
+{"step":"cmt","tx":"t1"}
+"#,
+            status: Status::Rejected,
+            report: b"rejected step 3 line 5 CMT 3\nentry 2\n",
+        },
+    },
+    CommandRow {
+        command: b"judge",
+        row: Row {
+            what: "a run of style dependent",
+            header: b"",
+            records: br#"{"run":1,"style":"dependent","objects":[{"name":"c","kind":"counter"}]}
+{"step":"begin","tx":"t1","thread":"p1"}
 "#,
             status: Status::InputFault,
             report: b"fault line 1 StyleNotJudged\n",

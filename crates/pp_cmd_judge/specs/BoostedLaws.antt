@@ -1,11 +1,11 @@
 -- Proof machinery: what holds of the summary with its number of steps as a judge.
 use Rattle.std.specs.Prelude.{◌≡◌, ◌≤◌, ◌+◌, ℕ, [], ◌++◌, length, Option, None, Some}
-use Rattle.std.proofs.Common.{refl, sym, ap, ◌∙◌, subst, arith, append_assoc, length-append}
+use Rattle.std.proofs.Common.{refl, sym, ap, ◌∙◌, subst, arith, length-append}
 use Rattle.pp_core.specs.declared.call.Style.{Style}
 use Rattle.pp_core.specs.declared.call.Style.TheVariants.{Boosted}
 use Rattle.pp_records.specs.Inputs.{Widens}
 use Rattle.pp_records.specs.Records.{RunRecord}
-use Rattle.pp_records.specs.Runs.{IsRun, Lined, Records}
+use Rattle.pp_records.specs.Runs.{Lined, Records}
 use Rattle.pp_format_read.specs.declared.header.Header.{Header}
 use Rattle.pp_objects.specs.declared.act.Op.{Op}
 use Rattle.pp_summary.proofs.Failures.{failure_law}
@@ -15,33 +15,18 @@ use Rattle.pp_judge.specs.Judging.{JudgingLaws}
 use Rattle.pp_judge.specs.Objects.{object_of, start_of, translation_of}
 use Rattle.pp_judge.specs.Scans.{InputScan, nothing}
 use Rattle.pp_judge.specs.Tallies.{scan_of}
-use Rattle.pp_judge.specs.declared.driven.Rejection.{Rejection}
 use Rattle.pp_cmd_quick.specs.Costs.{OfTried, RecordsCostAtMost, tried_most}
 use Rattle.pp_cmd_quick.specs.DeciderLaws.{quick_laws, style_fault_stays, taken_fault}
-use Rattle.pp_cmd_judge.specs.Costs.{JudgedCostAtMost, NoneFails, search_most}
-use Rattle.pp_cmd_judge.specs.Judgements.{is_judged, judge_fault}
-use Rattle.pp_cmd_judge.specs.Taking.{IsRejectedBehind, counted_judging}
+use Rattle.pp_cmd_quick.specs.Decisions.{is_boosted}
+use Rattle.pp_cmd_judge.specs.Boosted.{boosted_judging, boosted_scan_fault}
+use Rattle.pp_cmd_judge.specs.BoostedCosts.{BoostedCostAtMost, NoneFails, search_most}
+use Rattle.pp_cmd_judge.specs.Rejections.{rejected_stays}
 
 -- of a boosted run the fault is that of the scan
 pub boosted_fault : (sc : InputScan) (h : Lined Header) → sc.header ≡ Some h →
-    h.what.style ≡ Boosted → judge_fault sc ≡ sc.fault
+    h.what.style ≡ Boosted → boosted_scan_fault sc ≡ sc.fault
 boosted_fault sc h there is =
-    taken_fault is_judged StyleNotJudged sc h there (ap (λ (s : Style). is_judged s) is)
-
--- records after the rejected step change nothing
-pub rejected_stays : (h : Lined Header) (rs more : Records (RunRecord Op)) (rejection : Rejection) →
-    IsRejectedBehind h rs rejection → IsRejectedBehind h (rs ++ more) rejection
-rejected_stays h rs more rejection e = record {
-  run = e.run;
-  number = e.number;
-  criterion = e.criterion;
-  is = e.is;
-  named = e.named;
-  verdict = e.verdict;
-  stays = λ others.
-      subst (λ (w : Records (RunRecord Op)). IsRun (object_of h.what) (translation_of h.what)
-      (start_of h.what) w e.run) (sym (append_assoc rs more others)) (e.stays (more ++ others));
-}
+    taken_fault is_boosted StyleNotJudged sc h there (ap (λ (s : Style). is_boosted s) is)
 
 -- ---- the cost
 
@@ -74,7 +59,7 @@ none_stays sc wider w none = by sc.header refl
         sc.records w.records.0 r f))
 
 pub judged_widens : (sc wider : InputScan) (old new : ℕ) → Widens sc wider →
-    JudgedCostAtMost sc old new → JudgedCostAtMost wider old new
+    BoostedCostAtMost sc old new → BoostedCostAtMost wider old new
 judged_widens sc wider old new w cost = (
   λ none. quick_laws.most_widens sc wider old new w (cost.0 (none_stays sc wider w none)),
   cost_from wider (old + search_most sc.records) (old + search_most wider.records) new
@@ -87,7 +72,7 @@ judged_widens sc wider old new w cost = (
     grows : (a b more : ℕ) → b ≡ a + more → old + (a + 256) ≤ old + (b + 256)
     grows a b more e = omega (arith, e)
 
-nothing_judged : (old : ℕ) → JudgedCostAtMost nothing old old
+nothing_judged : (old : ℕ) → BoostedCostAtMost nothing old old
 nothing_judged old = (
   λ none. quick_laws.first_most old,
   cost_from nothing old (old + search_most []) old (from old (search_most []))
@@ -97,8 +82,8 @@ nothing_judged old = (
     from : (n m : ℕ) → n ≤ n + m
     from n m = omega arith
 
-pub counted_laws : JudgingLaws counted_judging
-counted_laws = record {
+pub boosted_laws : JudgingLaws boosted_judging
+boosted_laws = record {
   not_both = λ h rs judge rejection good bad. quick_laws.not_both h rs
       (record { quick = judge.quick }) (record { line = rejection.line }) good.good
       (bad.0, bad.1);
@@ -108,7 +93,7 @@ counted_laws = record {
       refl good.good.style;
   rejected_fault = λ h rs rejection fault bad. boosted_fault
       (record (scan_of h rs) { fault = fault }) h refl bad.0;
-  fault_stays = style_fault_stays is_judged StyleNotJudged;
+  fault_stays = style_fault_stays is_boosted StyleNotJudged;
   rejection_stays = λ h rs more rejection bad.
       let fails = quick_laws.rejection_stays h rs more (record { line = rejection.line })
       (bad.0, bad.1) in

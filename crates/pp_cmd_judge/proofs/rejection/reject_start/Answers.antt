@@ -1,7 +1,7 @@
 use Rattle.std.proofs.Common.{subst}
 use Rattle.pp_judge.specs.Running.{HasStarted}
-use Rattle.pp_cmd_judge.proofs.Counting.{start_rejected}
-use Rattle.pp_cmd_judge.proofs.counted.reject_start.Goals as goal
+use Rattle.pp_cmd_judge.proofs.Violating.{start_rejected}
+use Rattle.pp_cmd_judge.proofs.rejection.reject_start.Goals as goal
 
 pub returns-clause-rejected : goal.returns-clause-rejected
 returns-clause-rejected g c =

@@ -3,8 +3,8 @@ use Rattle.pp_records.specs.Expansions.{IsOfStyle}
 use Rattle.pp_records.specs.Records.{record_meaning}
 use Rattle.pp_objects.specs.Objects.{objects, place_of}
 use Rattle.pp_summary.specs.Held.{TakeCosts, Takes}
-use Rattle.pp_cmd_judge.proofs.Counting.{below_most, counts_bad, counts_good, counts_most, offset_fits, refused, rises_twice, searched_most, steps_fit, still_below}
-use Rattle.pp_cmd_judge.proofs.counted.CountedJudge.judge.Goals as goal
+use Rattle.pp_cmd_judge.proofs.BoostedJudging.{below_most, counts_bad, counts_good, counts_most, offset_fits, refused, rises_twice, searched_most, steps_fit, still_below}
+use Rattle.pp_cmd_judge.proofs.boosted.BoostedJudgeJudge.judge.Goals as goal
 
 -- ---- what is asked
 
