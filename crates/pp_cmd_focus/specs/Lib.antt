@@ -1,0 +1,9 @@
+pub mod Headers
+pub mod Records
+pub mod Known
+pub mod Restrictions
+pub mod Outputs
+pub mod Subjects
+pub mod Located
+pub mod LocatedLaws
+pub mod Taking
