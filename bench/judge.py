@@ -3,12 +3,13 @@
 
     python3 bench/judge.py PROGRAM [--style boosted] [--count N] [--long N] [--seed S] [--jobs J]
 
-`--count` is the number of short runs and `--long` that of long ones, of which most have more than 200,000 steps. The
-definition takes some seconds for a long run. `judge` has to print what the definition prints within the limits of
-`judge`, and what `certify` prints unless that is a limit that `judge` raises. The first run on which it does not is shown.
+`--count` is the number of short runs and `--long` that of long ones. Most long boosted runs have more than 200,000
+steps. The definition takes some seconds for a long run. `judge` has to print what the definition prints within the
+limits of `judge`, and what `certify` prints unless that is a limit that `judge` raises. The first run on which it does
+not is shown.
 
-The status is 1 if there is such a run. It is 1 too if `certify` printed TooManySteps for none of the long runs, or if no
-run violates one of the criteria below first, with as many short runs as usual. Else it is 0.
+The status is 1 if there is such a run. It is 1 too if `certify` printed TooManySteps for none of the long boosted runs,
+or if no run violates one of the criteria below first, with as many short runs as usual. Else it is 0.
 """
 import argparse
 import collections
@@ -58,7 +59,7 @@ def gaps(counts, too_many, given):
     """What the runs were to show and did not."""
     if given.count >= SHORT_RUNS:
         yield from (f"no run violates {criterion} first" for criterion in CRITERIA[given.style] if not counts[criterion])
-    if given.long and not too_many:
+    if given.style == "boosted" and given.long and not too_many:
         yield "certify printed TooManySteps for no run"
 
 
