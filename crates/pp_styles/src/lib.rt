@@ -10,6 +10,7 @@ mod drive;
 mod drops;
 mod front;
 mod hardware;
+mod id_lists;
 mod notes;
 mod optimistic;
 mod places;

@@ -1,30 +1,23 @@
 //! What transactions published, and how much of it others are known to have.
-ghost use Rattle.std.specs.Prelude.{◌≡◌, ◌⊎◌, ◌≤◌, ◌<◌, ◌==◌, ◌++◌, ◌∷◌, [], ℕ, IfOk, OnOk, Some, None};
+ghost use Rattle.std.specs.Prelude.{◌≡◌, ◌⊎◌, ◌≤◌, ◌<◌, ◌==◌, [], ℕ, IfOk, OnOk, Some, None};
 ghost use Rattle.std.specs.Prelude.{drop, false, true, length, position, slice_get};
-ghost use Rattle.std.specs.Prelude.{if◌then◌else◌};
-ghost use Rattle.pp_core.specs.declared.entry.SharedEntry.{SharedEntry as EntryOf};
 ghost use Rattle.pp_records.specs.Expansions.{stands_in};
-ghost use Rattle.pp_records.specs.Fronts.{at_name, has_name};
+ghost use Rattle.pp_records.specs.Fronts.{has_name};
 ghost use Rattle.pp_model.specs.Lists.{In};
 ghost use Rattle.pp_model.specs.Names.{Name as NameOf, ◌=ⁿ◌};
 ghost use Rattle.pp_styles.specs.Noting.{taken_in};
 ghost use Rattle.pp_styles.specs.Publishing.{Adds, PassesAt, ids_by, ids_of, passed_by};
 
+use crate::id_lists::{Lists, Owners, add_on, list_all, listed};
 use crate::places::{Places, place_in};
 use crate::source_set::{SourceSet, is_among};
 use crate::taken_from::TakenFrom;
 use indexmap::IndexMap;
-use pp_core::{Name, OutOfMemory, Sequence};
+use pp_core::{Name, OutOfMemory};
 use pp_kind::Parted;
 use pp_log_local::Local;
 use pp_log_shared::Shared;
 use std::alloc::Global;
-
-/// For each transaction the ids that it pushed on an object, in order.
-type Owners = IndexMap<Name, Sequence<u32>>;
-
-/// The same for each object.
-type Lists = IndexMap<u16, Owners>;
 
 /// By so many the ids that left the shared log may outnumber its entries.
 const FEW_IDS: usize = 64;
@@ -40,7 +33,7 @@ pub struct Published {
     lists: Lists,
     places: Places,
     /// How many ids are in the lists.
-    listed: usize,
+    id_count: usize,
     /// For an open transaction, an owner and an object: so many ids of their list, from the first
     /// on, are passed. The other ids are those of all entries that are not in the local log.
     passed: IndexMap<Name, TakenFrom>,
@@ -72,89 +65,12 @@ fn first_missing<S: Parted>(shared: &Shared<S>, local: &Local<S>, ids: &[u32], f
     ids.len()
 }
 
-/// Adds an id to the list of its owner.
-fn add_to(
-    alloc: Global,
-    owners: &mut Owners,
-    places: &mut Places,
-    owner: &Name,
-    id: u32,
-) -> Result<(), OutOfMemory>
-    ensures { OnOk result ((v : NameOf) → ids_of v owners.new.entries
-        ≡ at_name owner.now (ids_of owner.now owners.old.entries ++ id ∷ [])
-        (λ u. ids_of u owners.old.entries) v) }
-{
-    let mut ids = match owners.swap_remove(owner) {
-        Some(ids) => ids,
-        None => Sequence::new(alloc),
-    };
-    places.insert(id, ids.len())?;
-    ids.push(id)?;
-    owners.insert(*owner, ids)?;
-    Ok(())
-}
-
-/// Adds an id to the list of its owner and its object.
-fn add_on(
-    alloc: Global,
-    lists: &mut Lists,
-    places: &mut Places,
-    owner: &Name,
-    object: u16,
-    id: u32,
-) -> Result<(), OutOfMemory>
-    ensures { OnOk result ((v : NameOf) (o : ℕ) → ids_by v o lists.new.entries ≡ (if o == object
-        then at_name owner.now (ids_by owner.now object lists.old.entries ++ id ∷ [])
-        (λ u. ids_by u object lists.old.entries) v else ids_by v o lists.old.entries)) }
-{
-    let mut owners = match lists.swap_remove(&object) {
-        Some(owners) => owners,
-        None => IndexMap::new(alloc),
-    };
-    add_to(alloc, &mut owners, places, owner, id)?;
-    lists.insert(object, owners)?;
-    Ok(())
-}
-
-/// The ids that an owner pushed, by the lists at an object.
-fn listed<'a>(owners: &'a Owners, owner: &Name) -> &'a [u32]
-    ensures { result.now ≡ ids_of owner.now owners.now.entries }
-{
-    match owners.get(owner) {
-        Some(ids) => ids.as_slice(),
-        None => &[],
-    }
-}
-
 /// The ids from a position on.
 fn last_ids(ids: &[u32], from: usize) -> &[u32]
     requires { from ≤ length ids.now }
     ensures { result.now ≡ drop from ids.now }
 {
     &ids[from..]
-}
-
-/// Adds the id of each entry of the shared log to the list of its owner and its object.
-fn list_all<S: Parted>(
-    alloc: Global,
-    lists: &mut Lists,
-    places: &mut Places,
-    shared: &Shared<S>,
-) -> Result<(), OutOfMemory>
-    ensures { OnOk result ((e : EntryOf S.Op) → In e shared.now.1 →
-        In e.id (ids_by e.owner (S.place_of e.op) lists.new.entries)) }
-{
-    for entry in shared.entries() {
-        add_on(
-            alloc,
-            lists,
-            places,
-            &entry.owner,
-            S::place(&entry.op),
-            entry.id,
-        )?;
-    }
-    Ok(())
 }
 
 /// Nothing is passed.
@@ -327,7 +243,7 @@ impl Published {
             kept: false,
             lists: IndexMap::new(alloc),
             places: Places::new(alloc),
-            listed: 0,
+            id_count: 0,
             passed: IndexMap::new(alloc),
         }
     }
@@ -354,7 +270,7 @@ impl Published {
         let Some(last) = shared.entry(at) else {
             return Ok(());
         };
-        self.listed = self.listed.saturating_add(1);
+        self.id_count = self.id_count.saturating_add(1);
         add_on(
             self.alloc,
             &mut self.lists,
@@ -365,9 +281,9 @@ impl Published {
         )
     }
 
-    /// Whether the ids that left the shared log outnumber its entries by more than a few.
+    /// Whether the ids that left the shared log outnumber its entries by more than `FEW_IDS`.
     fn is_outgrown(&self, entries: usize) -> bool {
-        self.listed > entries.saturating_mul(2).saturating_add(FEW_IDS)
+        self.id_count > entries.saturating_mul(2).saturating_add(FEW_IDS)
     }
 
     /// Lists all entries of the shared log, and nothing else. Nothing is passed then.
@@ -380,15 +296,15 @@ impl Published {
         self.lists = IndexMap::new(self.alloc);
         self.places = Places::new(self.alloc);
         list_all(self.alloc, &mut self.lists, &mut self.places, shared)?;
-        self.listed = shared.len();
+        self.id_count = shared.len();
         self.passed = none_passed(self.alloc);
         self.kept = true;
         Ok(())
     }
 
     /// Begins to keep lists, of all entries of the shared log. If they are kept, it makes them anew
-    /// once the ids that left outnumber the entries. So more ids left since the lists were made last
-    /// than are listed now.
+    /// once the ids that left outnumber the entries by more than `FEW_IDS`. So fewer entries are
+    /// listed anew than ids left since the lists were made last.
     pub fn keep<S: Parted>(&mut self, shared: &Shared<S>) -> Result<(), OutOfMemory>
         ensures kept { OnOk result ((publications self.new).kept ≡ true) }
         ensures lists { Keeps S.place_of shared.now.1 (publications self.old)

@@ -4,7 +4,7 @@ use Rattle.pp_log_shared.proofs.Nexts.{read}
 use Rattle.pp_model.specs.Lists.{In}
 use Rattle.pp_styles.specs.Publishing.{ids_by}
 use Rattle.pp_styles.proofs.Looking.{list_next}
-use Rattle.pp_styles.proofs.published.list_all.Goals as goal
+use Rattle.pp_styles.proofs.id_lists.list_all.Goals as goal
 
 pub loop-entry-preserved : goal.loop-entry-preserved
 loop-entry-preserved g c =
