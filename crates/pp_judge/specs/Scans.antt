@@ -44,7 +44,7 @@ is_begin_record (records.DropSource tx source) = false
 abbrev pub begins : Records (RunRecord Op) → ℕ
 begins records = length (filter (λ r. is_begin_record r.what) records)
 
--- a fault at this line; out of memory is none of the line
+-- The scan with a fault at this line. Out of memory is no fault of the input, and changes nothing.
 abbrev pub with_fault : InputScan → ℕ → Result Cause OutOfMemory → InputScan
 with_fault sc line (Ok cause) = record sc { fault = Some (line, cause) }
 with_fault sc line (Err refused) = sc

@@ -6,7 +6,7 @@ use pp_core::OutOfMemory;
 use pp_format_read::RecordFault;
 use pp_input_reader::Cause;
 
-/// The cause that a fault of a line is. The only error is out of memory when it was read.
+/// The cause that a fault of a line is. The error is out of memory, if reading the line ran out of it.
 pub(crate) fn cause_of(fault: RecordFault) -> Result<Cause, OutOfMemory>
     ensures { result ≡ cause_of fault }
 {

@@ -16,10 +16,10 @@ ghost use Rattle.pp_input_reader.specs.declared.cause.Cause.TheVariants.{TooMany
 ghost use Rattle.pp_judge.specs.Objects.{object_of, setting_of, translation_of};
 ghost use Rattle.pp_judge.specs.WiderLimits.{WiderLimitsLaw};
 
-/// The records behind a header can not be without a run, and have one at most. Records that are
-/// steps, as all of style rules are, mean themselves: of at most 200,000 of them the fault is
-/// that of the scan, and else their report is that of the verdict of these steps. It is a law of
-/// the definitions, and does nothing.
+/// The records after a header cannot be without a run, and have one at most. In style rules each
+/// record is a step, and the run is these steps up to the first that fails, with their verdict. Of
+/// at most 200,000 such records the number of steps is never a fault. It is a law of the
+/// definitions, and does nothing.
 pub fn records_are_steps()
     ensures one_run { (header : HeaderOf) → OneRunLaw (object_of header) (translation_of header) }
     ensures steps { (header : HeaderOf) → RulesLaw (object_of header) }
