@@ -117,6 +117,7 @@ focus_on first now from line to new text leads written lines before =
 pub focus_stops : (first now : ℕ) (from : Focus) (line : NumberedLine) (stop : Stop Cause) → StopsAt (judged_reading located_judging first) (from.progress, now) line stop → StopsAt (focus_reading first) (from, now) line stop
 focus_stops first now from line stop h = if_fault stop _ _ (λ at fault said lines leads. said lines leads.leads) h
 
+-- If the run stops at a line with this counter, its restriction stops there with it.
 pub focus_stops_with : (first now : ℕ) (from : Focus) (line : NumberedLine) (new : ℕ) → StopsWith (judged_reading located_judging first) (from.progress, now) line new → StopsWith (focus_reading first) (from, now) line new
 focus_stops_with first now from line new h lines leads = h lines leads.leads
 

@@ -15,10 +15,12 @@ use Rattle.pp_format_read.specs.declared.header.Header.{Header}
 use Rattle.pp_cmd_focus.specs.Known.{KnowMore}
 use Rattle.pp_cmd_focus.specs.Records.{applied, applied_by, known, object_of_id, split_last, start_items, with_first}
 
+-- an alternative that is empty changes nothing
 pub or_none : (o : Option ℕ) → option_or o None ≡ o
 or_none None = refl
 or_none (Some x) = refl
 
+-- the first of three alternatives is the same in whatever way they are grouped
 pub or_assoc : (a b c : Option ℕ) → option_or (option_or a b) c ≡ option_or a (option_or b c)
 or_assoc None b c = refl
 or_assoc (Some x) b c = refl

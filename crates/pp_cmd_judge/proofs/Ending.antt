@@ -19,35 +19,36 @@ use Rattle.pp_summary.specs.Failures.{all_steps, standing_after}
 
 -- ---- an element at a place
 
--- it is below the length
+-- a place with an element is below the length of the list
 pub place_below : {A : Type 0} (xs : List A) (k : ℕ) (x : A) → slice_get xs k ≡ Some x → k < length xs
 place_below [] k x e = absurd (let no : None ≡ Some x = e in cc)
 place_below (y ∷ ys) zero x e = omega arith
 place_below (y ∷ ys) (suc k) x e = let below = place_below ys k x e in omega (arith, below)
 
--- the list is what comes before it, it, and what comes after it
+-- a list is the elements before a place, the element there, and those after it
 pub parted_there : {A : Type 0} (xs : List A) (k : ℕ) (x : A) → slice_get xs k ≡ Some x → xs ≡ take k xs ++ x ∷ drop (suc k) xs
 parted_there [] k x e = absurd (let no : None ≡ Some x = e in cc)
 parted_there {A} (y ∷ ys) zero x e = ap (λ (w : A). w ∷ ys) (same_Some y x e)
 parted_there {A} (y ∷ ys) (suc k) x e = ap (λ (w : List A). y ∷ w) (parted_there ys k x e)
 
--- so many come before it
+-- before a place with an element there are as many elements as its number says
 pub count_before : {A : Type 0} (xs : List A) (k : ℕ) (x : A) → slice_get xs k ≡ Some x → length (take k xs) ≡ k
 count_before [] k x e = absurd (let no : None ≡ Some x = e in cc)
 count_before (y ∷ ys) zero x e = refl
 count_before (y ∷ ys) (suc k) x e = ap (λ (n : ℕ). suc n) (count_before ys k x e)
 
--- it is an element
+-- what is at a place of a list is an element of the list
 pub in_there : {A : Type 0} (xs : List A) (k : ℕ) (x : A) → slice_get xs k ≡ Some x → In x xs
 in_there [] k x e = absurd (let no : None ≡ Some x = e in cc)
 in_there (y ∷ ys) zero x e = inl (sym (same_Some y x e))
 in_there (y ∷ ys) (suc k) x e = inr (in_there ys k x e)
 
--- the element after a list is at the place of its length, and the list is before it
+-- if one element is added at the end of a list, it is at the place that the length of the list says
 pub last_there : {A : Type 0} (xs : List A) (x : A) → slice_get (xs ++ x ∷ []) (length xs) ≡ Some x
 last_there [] x = refl
 last_there (y ∷ ys) x = last_there ys x
 
+-- a list with one element added at its end begins with the list
 pub front_there : {A : Type 0} (xs : List A) (x : A) → take (length xs) (xs ++ x ∷ []) ≡ xs
 front_there [] x = refl
 front_there {A} (y ∷ ys) x = ap (λ (w : List A). y ∷ w) (front_there ys x)
@@ -77,7 +78,7 @@ module _ {F R Op State : Type 0} (O : Object Op State) (T : Translation F R Op) 
   steps_with : (more : Records R) → all_steps T h (rs ++ r ∷ more) ≡ all ++ (on_line r.line ss ++ rest more)
   steps_with more = joined_more O T (outset T h) rs (r ∷ more)
 
-  -- the number of steps grows by that of its own
+  -- the records with one more mean as many steps as the records, and those of the one more
   pub count_next : length (all_steps T h (rs ++ r ∷ [])) ≡ length all + length ss
   count_next =
       ap (λ (w : LinedSteps Op). length w) (steps_with [] ∙ ap (λ (w : LinedSteps Op). all ++ w) (append-nil (on_line r.line ss)))
@@ -87,14 +88,15 @@ module _ {F R Op State : Type 0} (O : Object Op State) (T : Translation F R Op) 
 
   module _ (k : ℕ) (s : Step Op) (n : ℕ) (there : slice_get ss k ≡ Some s) (before : RunsFrom O p.config (take k ss)) (breaks : Breaks O (after_from p.config (take k ss)) s (suc n))
       (begun : StartMeets O h) (hold : RunsFrom O (first h) (bare all)) where
-    -- the steps before it
+    -- the steps before the step that violates a criterion
     abbrev pub front : LinedSteps Op
     front = all ++ on_line r.line (take k ss)
 
+    -- the step that violates a criterion, on the line of its record
     abbrev pub last : Lined (Step Op)
     last = record { line = r.line; what = s }
 
-    -- the run that it ends
+    -- the run that ends with the step that violates a criterion
     abbrev pub run : LinedSteps Op
     run = front ++ last ∷ []
 
@@ -104,21 +106,23 @@ module _ {F R Op State : Type 0} (O : Object Op State) (T : Translation F R Op) 
     config_is : p.config ≡ after_from (first h) (bare all)
     config_is = led_config O T (outset T h) rs
 
-    -- the steps before it meet their criteria, and lead to where it violates one
+    -- the steps before the step that violates a criterion meet theirs, from the start on
     pub front_holds : RunsFrom O (first h) (bare front)
     front_holds =
         subst (λ (w : List (Step Op)). RunsFrom O (first h) w) (sym bare_front)
         (runs_append O (first h) (bare all) (take k ss) hold (subst (λ (c : Config Op). RunsFrom O c (take k ss)) config_is before))
 
+    -- the steps of the record before the violation lead to where all steps before it lead from the start
     pub front_leads : after_from p.config (take k ss) ≡ after_from (first h) (bare front)
     front_leads =
         ap (λ (c : Config Op). after_from c (take k ss)) config_is
         ∙ sym (after_append (first h) (bare all) (take k ss)) ∙ ap (λ (w : List (Step Op)). after_from (first h) w) (sym bare_front)
 
+    -- the step violates its criterion in the configuration to which all steps before it lead from the start
     pub breaks_there : Breaks O (after_from (first h) (bare front)) s (suc n)
     breaks_there = subst (λ (c : Config Op). Breaks O c s (suc n)) front_leads breaks
 
-    -- so many they are
+    -- before the step that violates a criterion there are the steps of the records, and as many of its own record as its place says
     pub front_count : length front ≡ length all + k
     front_count =
         length-append all (on_line r.line (take k ss))
@@ -137,7 +141,7 @@ module _ {F R Op State : Type 0} (O : Object Op State) (T : Translation F R Op) 
         ∙ ap (λ (w : LinedSteps Op). all ++ w) (append_assoc (on_line r.line (take k ss)) (last ∷ on_line r.line (drop (suc k) ss)) (rest more))
         ∙ sym (append_assoc all (on_line r.line (take k ss)) (last ∷ behind more))
 
-    -- it is the run of the records up to its own, and of these with any more
+    -- the run that ends with the step is that of the records with its own, whatever records come after them
     pub run_is : (more : Records R) → IsRun O T h (rs ++ r ∷ more) run
     run_is more =
         inr (
@@ -145,6 +149,7 @@ module _ {F R Op State : Type 0} (O : Object Op State) (T : Translation F R Op) 
           subst (λ (w : LinedSteps Op). EndsAtFailure O (first h) w run) (sym (whole more)) (ends_here O (first h) front last (behind more) n front_holds breaks_there),
         )
 
+    -- the verdict of the run that ends with the step is that it is rejected: at this step, for this criterion
     pub verdict : IsVerdict O h (bare run) (Rejected (suc (length front)) (suc n))
     verdict =
         let number : 1 + length (bare front) ≡ suc (length front) = one_more_is (length (bare front)) (length front) (length_bare front) in

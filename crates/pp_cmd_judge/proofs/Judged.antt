@@ -58,9 +58,11 @@ one_behind : (f : Option (ℕ × Cause)) (sc : InputScan) (r q : RunReport) → 
 one_behind (Some f) sc r q a b = a ∙ sym b
 one_behind None sc r q a b = one_run_report sc.header sc.records r q a b
 
+-- a scan has at most one report
 pub one_judgement : (sc : InputScan) (r q : RunReport) → IsJudgement sc r → IsJudgement sc q → r ≡ q
 one_judgement sc r q a b = one_behind (judge_fault sc) sc r q a b
 
+-- an input has at most one status and one text
 pub one_judged : (bytes : List ℕ) (s s' : Status) (t t' : List ℕ) → IsJudgeOutput bytes s t → IsJudgeOutput bytes s' t' → (s ≡ s') × (t ≡ t')
 one_judged bytes s s' t t' a b =
     let same : a.0 ≡ b.0 = one_judgement (judge_scan bytes) a.0 b.0 a.1 b.1 in
@@ -145,5 +147,6 @@ judged_exact bytes status text r = (
   λ both. meets_accepted bytes status text r both.0 both.1,
 )
 
+-- the laws of how `judge` reports an input: on limits, on one report at most, and on `certify`
 pub judgements : JudgementLaw
 judgements = record { any_steps = any_steps; any_length = any_length; any_begins = any_begins; one = one_judged; same = same_judged }

@@ -36,9 +36,11 @@ abbrev pub IsOther : Cause → Option (ℕ × Cause) → Type 0
 IsOther cause fault = (line : ℕ) → fault ≡ Some (line, cause) → ⊥
 
 module _ (cause : Cause) where
+  -- if there is no fault, it is not of this cause
   pub none_other : IsOther cause None
   none_other line is = absurd (cc)
 
+  -- a fault of another cause is not of this cause
   pub some_other : (at : ℕ) (own : Cause) → (own ≡ cause → ⊥) → IsOther cause (Some (at, own))
   some_other at own other line is = other (ap (λ (x : ℕ × Cause). x.1) (same_Some (at, own) (line, cause) is))
 

@@ -47,12 +47,13 @@ use Rattle.pp_cmd_judge.proofs.StyleJudging.{accepted_by, rejected_by, shape_is}
 
 -- ---- a fault
 
+-- an input with a fault is reported by the text of that fault and the status InputFault
 pub fault_reported : (bytes : List ℕ) (line : ℕ) (cause : Cause) (text : List ℕ) → judge_fault (judge_scan bytes) ≡ Some (line, cause) → text ≡ fault_text line cause → IsJudgeOutput bytes statuses.InputFault text
 fault_reported bytes line cause text is text_is =
     let report : RunReport = Faulty line cause in
     (report, subst (λ (o : Option (ℕ × Cause)). IsReportBehind setting_of o (judge_scan bytes) report) (sym is) refl, told_fault (judge_scan bytes).header line cause text text_is)
 
--- the report of a run without a fault
+-- an input without a fault is reported as its run is
 pub run_reported : (bytes : List ℕ) (status : Status) (text : List ℕ) → judge_fault (judge_scan bytes) ≡ None → IsRunTold (judge_scan bytes) status text → IsJudgeOutput bytes status text
 run_reported bytes status text none told = (told.0, subst (λ (o : Option (ℕ × Cause)). IsReportBehind setting_of o (judge_scan bytes) told.0) (sym none) told.1, told.2)
 
@@ -71,9 +72,11 @@ module _ (sc : InputScan) (tally : Tally) (judge : StyleJudge) (g : AreGood styl
   accepted_so : IsAcceptedBehind h sc.records (step_count judge) (done_of judge)
   accepted_so = accepted_by (headed g.follows.at h) sc.records judge g.good
 
+  -- the objects of the judge are of the kinds of the header
   pub shape_so : shape_of judge ≡ kinds_of h.catalog
   shape_so = shape_is (headed g.follows.at h) sc.records judge g.good
 
+  -- a scan whose start and records are all good has no fault
   pub accepted_sound : judge_fault sc ≡ None
   accepted_sound =
       judged_fault sc (headed g.follows.at h) g.follows.header (good_style (headed g.follows.at h) sc.records judge g.good) ∙ g.follows.sound
@@ -93,7 +96,7 @@ module _ (sc : InputScan) (tally : Tally) (judge : StyleJudge) (g : AreGood styl
   accepted_report : IsRunReport setting_of sc.header sc.records report
   accepted_report = subst (λ (o : Option (Lined Header)). IsRunReport setting_of o sc.records report) (sym g.follows.header) (all, Accepted, run_is, verdict, refl)
 
-  -- the text of what was committed
+  -- the run is reported as accepted, by the text of the judge's steps and commits and of the states after its serial run
   pub accepted_told : (count : ℕ) (D : List (CommittedTx Op)) (states : List ObjectState) (text : List ℕ) → count ≡ step_count judge → D ≡ done_of judge
       → states ≡ state_after objects (kinds_of h.catalog) (serial_ops D) → text ≡ accepted_text h.catalog count D states → IsRunTold sc statuses.Accepted text
   accepted_told count D states text count_is D_is state_is text_is =
@@ -119,9 +122,11 @@ module _ (sc : InputScan) (tally : Tally) (judge : StyleJudge) (g : AreGood styl
       let same : all ≡ run = (one_run_law (object_of h) (translation_of h)).run (start_of h) sc.records all run run_is is in
       subst (λ (w : LinedSteps Op). Serial (start_of h) (bare w)) same here)
 
+  -- if the counter rises at most by the number of operations that the judge committed, it rises at most by the serial run
   pub serial_most : (now new : ℕ) → new ≤ now + length (serial_ops (done_of judge)) → SerialCostAtMost sc now new
   serial_most now new cost run is = subst (λ (n : ℕ). new ≤ now + n) (serial_count run is) cost
 
+  -- if the counter rises by the number of operations that the judge committed, it rises at least by the serial run
   pub serial_least : (now new : ℕ) → new ≡ now + length (serial_ops (done_of judge)) → SerialCostAtLeast sc now new
   serial_least now new cost run is = at_least (cost ∙ ap (λ (n : ℕ). now + n) (serial_count run is))
     where
@@ -131,9 +136,11 @@ module _ (sc : InputScan) (tally : Tally) (judge : StyleJudge) (g : AreGood styl
 -- ---- a rejected run
 
 module _ (sc : InputScan) (tally : Tally) (rejection : Rejection) (b : AreRejected style_judging sc tally rejection) where
+  -- the run of a scan that is rejected ends with its rejection
   pub rejected_so : IsRejectedBehind (headed b.follows.at tally.header) sc.records rejection
   rejected_so = rejected_by tally.header.style (headed b.follows.at tally.header) sc.records rejection b.bad
 
+  -- a scan of which the start or a record is rejected has no fault
   pub rejected_sound : judge_fault sc ≡ None
   rejected_sound =
       let h = headed b.follows.at tally.header in
@@ -148,10 +155,11 @@ module _ (sc : InputScan) (tally : Tally) (rejection : Rejection) (b : AreReject
       reported sc (Some (headed b.follows.at h)) (RejectedTold h rejection) b.follows.header
       (rejection_reported (headed b.follows.at h) sc.records rejection e.run e.number e.criterion e.is here e.verdict)
 
+  -- the run of a scan that is rejected is reported as rejected, by the text of its rejection
   pub rejected_told : (text : List ℕ) → text ≡ rejected_text tally.header.catalog rejection.step rejection.line rejection.rule rejection.criterion rejection.detail → IsRunTold sc statuses.Rejected text
   rejected_told text is = let k = rejected_report in (k.0, k.1, k.2.0 text is)
 
-  -- every report of it has such evidence, since there is one at most
+  -- every report of a scan that is rejected is a rejection whose evidence shows why
   pub rejected_evident : IsJudgedEvident sc
   rejected_evident report is =
       let k = rejected_report in
@@ -160,6 +168,7 @@ module _ (sc : InputScan) (tally : Tally) (rejection : Rejection) (b : AreReject
 
 -- ---- what it costs without a serial run
 
+-- if the counter rises at most by what the judge costs, it rises at most by that and the serial run
 pub no_serial_run : (sc : InputScan) (old new : ℕ) → JudgedCostAtMost sc old new → JudgeCostsAtMost sc old new
 no_serial_run sc old new cost = (new, cost, λ run is. room new (serial_length (start_behind sc.header) (bare run)))
   where

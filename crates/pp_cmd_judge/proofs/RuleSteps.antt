@@ -67,6 +67,7 @@ use Rattle.pp_cmd_judge.specs.declared.rules.RuleMachine.{RuleMachine}
 
 -- ---- the start
 
+-- a style in which `is_rules` is true is style rules
 pub rules_is : (s : Style) → is_rules s ≡ true → s ≡ styles.Rules
 rules_is styles.Rules h = refl
 rules_is styles.Boosted h = absurd (cc)
@@ -75,6 +76,7 @@ rules_is styles.Hardware h = absurd (cc)
 rules_is styles.Dependent h = absurd (cc)
 
 module _ (line : ℕ) (h : Header) (rules_style : is_rules h.style ≡ true) where
+  -- a header whose start meets its criteria is good without records: its judge is the machine that started
   pub begun_good : (machine : Seen (List Kind) Op) → HasStarted h Done machine → rules_judging.IsGood (headed line h) [] (record { machine = machine })
   begun_good machine s = record {
     style = rules_is h.style rules_style;
@@ -85,11 +87,13 @@ module _ (line : ℕ) (h : Header) (rules_style : is_rules h.style ≡ true) whe
     steps = refl;
   }
 
+  -- if the start of a header violates a criterion, the judge rejects it: as step 0, on the header's line, with this criterion and evidence
   pub begun_bad : (n : ℕ) (detail : Detail Op) (machine : Seen (List Kind) Op) → HasStarted h (False n detail) machine
       → rules_judging.IsRejectedBy (headed line h) [] (record { step = 0; line = line; rule = rules.Start; criterion = n; detail = detail })
   begun_bad n detail machine s = (rules_is h.style rules_style, start_rejected line n h detail machine s)
 
 module _ (line : ℕ) (h : Header) (old new : ℕ) where
+  -- a start that costs one for each of its operations, at most, is within the judge's bound on the counter
   pub begun_most : new ≤ old + start_length (start_of h) → AllCostAtMost (scan_of (headed line h) []) old new
   begun_most cost run is =
       subst (λ (w : LinedSteps Op). new ≤ old + all_at_most (start_of h) (bare w)) (sym (empty_run h run is)) (whole (start_at_most (start_of h)) (start_twice old new (start_of h) cost))
@@ -97,6 +101,7 @@ module _ (line : ℕ) (h : Header) (old new : ℕ) where
       whole : (n : ℕ) → new ≤ old + n → new ≤ old + (n + 0)
       whole n x = omega (arith, x)
 
+  -- a counter that does not rise is within the judge's bound for a header without records
   pub begun_still : AllCostAtMost (scan_of (headed line h) []) old old
   begun_still run is = still old (all_at_most (start_of h) (bare run))
     where
@@ -105,18 +110,18 @@ module _ (line : ℕ) (h : Header) (old new : ℕ) where
 
 -- ---- a record
 
--- a machine that took fewer records than lines may take a step
+-- a machine that may take one more record has taken fewer than 4_294_967_295 steps
 pub below_most : (h : Header) (judge : RuleMachine) → MayTake rules_judging h judge → judge.machine.count < 4_294_967_295
 below_most h judge may =
     let room : length may.1 + 1 < 2_147_483_647 = may.3 in
     let count = may.2.count in
     omega (arith, count, room)
 
--- a record of style rules is a step
+-- if the judge may take one more record, a record of the header's style is of style rules
 pub plain_styled : (h : Header) (judge : RuleMachine) → MayTake rules_judging h judge → (r : RunRecord Op) → IsOfStyle h.style r → IsOfStyle styles.Rules r
 plain_styled h judge may r styled = subst (λ (s : Style). IsOfStyle s r) may.2.style styled
 
--- a step that was read may be asked of the machine
+-- a step that was read with the header's objects may be asked of the machine
 pub step_asked : (h : Header) (judge : RuleMachine) → MayTake rules_judging h judge → (s : Step Op) → IsReadable h.catalog (Plain s) → IsAsked objects judge.machine.shape s
 step_asked h judge may s readable =
     let p = standing_after (translation_of h) (start_of h) [] in
@@ -297,9 +302,11 @@ abbrev pub rejection_of : Step Op → (step line n : ℕ) → Detail Op → Reje
 rejection_of s step line n detail = record { step = step; line = line; rule = rule_of s; criterion = n; detail = detail }
 
 module _ (h : Header) (judge : RuleMachine) (s : Step Op) (line now new : ℕ) where
+  -- what a step costs at most keeps the counter within the judge's bound for one more record
   pub judges_most : new ≤ now + at_most place_of judge.machine.config s → CostsAtMostThere rules_judging h judge (Plain s) line now new
   judges_most cost at rs c old most = most_next h rs judge c line s at old now new most cost
 
+  -- if the machine takes the step of a record, the judge of one more record is the machine that follows
   pub judges_good : (next : Seen (List Kind) Op) → Stepped objects judge.machine s Done next → CostsBy place_of judge.machine.config s Done now new
       → Judges rules_judging h judge (Plain s) line (Good (record { machine = next })) now new
   judges_good next done cost = record {
@@ -307,6 +314,7 @@ module _ (h : Header) (judge : RuleMachine) (s : Step Op) (line now new : ℕ) w
     least = λ at rs c old least. least_done h rs judge c line s at old now new least cost;
   }
 
+  -- if the machine finds that the step of a record violates a criterion, the judge rejects the run by that step, criterion and evidence
   pub judges_bad : (n step : ℕ) (detail : Detail Op) (next : Seen (List Kind) Op) → Stepped objects judge.machine s (False n detail) next → CostsBy place_of judge.machine.config s (False n detail) now new
       → IsReadable h.catalog (Plain s) → step ≡ next.count + 1 → Judges rules_judging h judge (Plain s) line (Rejected (rejection_of s step line n detail)) now new
   judges_bad zero step detail next failed cost readable number = absurd (omega (arith, failed.1))
@@ -328,11 +336,11 @@ pub committed_are : (h : Header) (rs : Records (RunRecord Op)) (judge : RuleMach
 committed_are h rs judge c =
     ap (λ (C : Config Op). C.done) c.config ∙ finished_are (object_of h) (start_of h) (bare (steps_behind h rs)) c.hold.0 c.hold.1
 
--- as many steps were done as the records mean
+-- the machine has taken as many steps as the records mean
 pub count_is : (h : Header) (rs : Records (RunRecord Op)) (judge : RuleMachine) → AreDoneBehind h rs judge → judge.machine.count ≡ length (steps_behind h rs)
 count_is h rs judge c = c.count ∙ sym c.steps
 
--- the serial run is short, since each of its operations is in the shared log
+-- a machine of at most 4_294_967_295 steps, and 256 more shared entries at most, commits fewer than MOST_OPERATIONS operations
 pub serial_few : (machine : Seen (List Kind) Op) → Sound (rules_of objects machine.shape) machine.config → length machine.config.shared ≤ machine.count + 256 → machine.count ≤ 4_294_967_295
     → length (serial_ops machine.config.done) < MOST_OPERATIONS
 serial_few machine sound short few =

@@ -75,26 +75,32 @@ module _ {J : Type 0} (M : Judging J Rejection) (style : Style) (wrap : J → St
   -- ---- the start of a header
 
   module _ (line : ℕ) (h : Header) (is : h.style ≡ style) where
+    -- what the judge of the style says of a header without records, the judge of all styles says
     pub begun : (judged : Judged J Rejection) → IsJudged M (headed line h) [] judged → IsJudged style_judging (headed line h) [] (widened wrap judged)
     begun judged e = judged_so (headed line h) [] judged is e
 
+    -- the bound of the judge of the style, for a header without records, is one of the judge of all styles
     pub begun_most : (old new : ℕ) → M.AtMost (scan_of (headed line h) []) old new → style_judging.AtMost (scan_of (headed line h) []) old new
     begun_most old new cost = styled_most (headed line h) [] old new is cost
 
+    -- if the counter rises at least as the judge of the style says, for a header without records, it does as the judge of all styles says
     pub begun_least : (judged : Judged J Rejection) (old new : ℕ) → JudgedAtLeast M (scan_of (headed line h) []) judged old new
         → JudgedAtLeast style_judging (scan_of (headed line h) []) (widened wrap judged) old new
     begun_least judged old new least = judged_least (headed line h) [] judged old new is least
 
+    -- the judge of the style finds no fault in a header of that style without records
     pub begun_no_fault : (fault : ℕ × Cause) → M.IsFault (scan_of (headed line h) []) (Some fault) → ⊥
     begun_no_fault fault e = a.no_fault (headed line h) [] fault is e
 
   -- ---- a record more
 
   module _ (h : Header) (judge : J) (r : RunRecord Op) (line : ℕ) where
+    -- if the judge of all styles may take one more record, the judge of the style in it may
     pub may_take : MayTake style_judging h (wrap judge) → MayTake M h judge
     may_take may =
         (may.0, may.1, a.own_good (headed may.0 h) may.1 judge may.2, subst (λ (l : Limits). length may.1 + 1 < l.lines) (sym a.limits) may.3)
 
+    -- what the judge of the style says of one more record, the judge of all styles says
     pub judged_next : (judged : Judged J Rejection) (now new : ℕ) → Judges M h judge r line judged now new → Judges style_judging h (wrap judge) r line (widened wrap judged) now new
     judged_next judged now new j = record {
       is = λ at before good.
@@ -106,12 +112,14 @@ module _ {J : Type 0} (M : Judging J Rejection) (style : Style) (wrap : J → St
           judged_least (headed at h) (one_more before line r) judged old new is (j.least at before own old (own_least (headed at h) before old now is least));
     }
 
+    -- if one more record is within the bound of the judge of the style, it is within that of the judge of all styles
     pub most_next : (now new : ℕ) → CostsAtMostThere M h judge r line now new → CostsAtMostThere style_judging h (wrap judge) r line now new
     most_next now new cost at before good old most =
         let own = a.own_good (headed at h) before judge good in
         let is = a.style (headed at h) before judge own in
         styled_most (headed at h) (one_more before line r) old new is (cost at before own old (own_most (headed at h) before old now is most))
 
+    -- if the judge of the style says that one more record has a fault, the judge of all styles says so
     pub no_fault_next : (cause : Cause) → HasFaultThere M h judge r line cause → HasFaultThere style_judging h (wrap judge) r line cause
     no_fault_next cause fault at before good =
         let own = a.own_good (headed at h) before judge good in
@@ -119,6 +127,7 @@ module _ {J : Type 0} (M : Judging J Rejection) (style : Style) (wrap : J → St
 
 -- ---- the judges
 
+-- the judge of style boosted says what the judge of all styles says of that style
 pub boosted : JudgesStyle boosted_judging styles.Boosted (λ (judge : BoostedJudge). Boosted judge)
 boosted = record {
   limits = refl;
@@ -134,6 +143,7 @@ boosted = record {
   rejected_least = λ sc old new least. least;
 }
 
+-- the judge of style rules says what the judge of all styles says of that style
 pub rules : JudgesStyle rules_judging styles.Rules (λ (judge : RuleMachine). Rules judge)
 rules = record {
   limits = refl;
@@ -151,7 +161,7 @@ rules = record {
 
 -- ---- an accepted run
 
--- all steps meet their criteria, and the judge has their number and the committed transactions
+-- if the start and the records are good, all steps meet their criteria, and the judge has their number and the committed transactions
 pub accepted_by : (h : Lined Header) (rs : Records (RunRecord Op)) (judge : StyleJudge) → IsGoodBy h rs judge → IsAcceptedBehind h.what rs (step_count judge) (done_of judge)
 accepted_by h rs (Rules judge) good = record {
   hold = good.hold;
@@ -164,14 +174,14 @@ accepted_by h rs (Boosted judge) good = record {
   done = committed_are h.what rs judge.quick good.good;
 }
 
--- the objects of the judge are of the kinds of the header
+-- if the start and the records are good, the objects of the judge are of the kinds of the header
 pub shape_is : (h : Lined Header) (rs : Records (RunRecord Op)) (judge : StyleJudge) → IsGoodBy h rs judge → shape_of judge ≡ kinds_of h.what.catalog
 shape_is h rs (Rules judge) good = good.shape
 shape_is h rs (Boosted judge) good = good.good.shape
 
 -- ---- a rejected run
 
--- the run ends with the step that is rejected
+-- if the judge of a style rejects the start or a record, the run ends with that rejection
 pub rejected_by : (s : Style) (h : Lined Header) (rs : Records (RunRecord Op)) (rejection : Rejection) → IsRejectedIn s h rs rejection → IsRejectedBehind h rs rejection
 rejected_by styles.Rules h rs rejection bad = bad.1
 rejected_by styles.Boosted h rs rejection bad = bad.2

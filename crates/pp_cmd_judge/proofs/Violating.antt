@@ -41,7 +41,7 @@ use Rattle.pp_cmd_quick.specs.Decisions.{AllHold, steps_behind}
 use Rattle.pp_cmd_judge.specs.Rejections.{IsRejectedBehind}
 use Rattle.pp_cmd_judge.proofs.Ending as ending
 
--- a start that the machine rejects
+-- if the machine finds that a start violates a criterion, the run ends with its rejection: as step 0, on the line of the header
 pub start_rejected : (line n : ℕ) (h : Header) (detail : Detail Op) (machine : Seen (List Kind) Op) → HasStarted h (False n detail) machine
     → IsRejectedBehind (headed line h) [] (record { step = 0; line = line; rule = rules.Start; criterion = n; detail = detail })
 start_rejected line zero h detail machine s = absurd (omega (arith, s.1))
@@ -91,7 +91,7 @@ module _ (h : Header) (rs : Records (RunRecord Op)) where
         × (x.rule ≡ rule_of s) × (x.criterion ≡ suc n)
         × (x.detail ≡ evidence objects shape (after_from (led style).config (take x.offset (own style r))) s (suc n))
 
-    -- its place is among the steps of the record
+    -- the place of a violation is below the number of steps of the record
     pub found_below : Found ks h.style → x.offset < length (own h.style r)
     found_below k = ending.place_below (own h.style r) x.offset k.0 k.2.there
 
@@ -160,6 +160,7 @@ module _ (h : Header) (rs : Records (RunRecord Op)) where
           let by : IsBy (take (length front) (front ++ last ∷ [])) = subst (λ (w : LinedSteps Op). IsBy w) (sym (ending.front_there front last)) (rejection_is, evident) in
           (s, ending.last_there front last, by.0, by.1)
 
+      -- the run of these records and of one more ends with the rejection of the step that violates a criterion
       pub rejected_by : IsRejectedBehind (headed at h) (one_more rs line r) (rejection_by steps line x)
       rejected_by = record {
         run = front ++ last ∷ [];

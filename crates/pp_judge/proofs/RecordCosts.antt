@@ -56,6 +56,7 @@ few_first n a b most x y = omega (arith, x, y)
 
 -- ---- steps
 
+-- the steps but the last, of a list with one step added at its end, are the list
 pub but_last_end : (xs : List (Step Op)) (x : Step Op) → but_last (xs ++ x ∷ []) ≡ xs
 but_last_end [] x = refl
 but_last_end (y ∷ []) x = refl
