@@ -21,19 +21,23 @@ use Rattle.pp_objects.specs.laws.Objects.{objects_lawful}
 use Rattle.pp_cmd_drill.specs.Drill.{drill_kinds, read, write, add, ask}
 use Rattle.pp_cmd_drill.specs.Law.{drill_objects, sum_to, states_at}
 
+-- the states of the objects of the drill: a memory, a counter and an empty set
 abbrev pub three : FinMap int_cmp ℤ → ℤ → List ObjectState
 three m x = states.Memory m ∷ states.Counter x ∷ states.KeySet empty ∷ []
 
--- a's operations, b's, those of both in the order of the pushes, and in the order of the commits
+-- the operations of the first transaction of a pair
 abbrev pub of_first : ℕ → ℕ → List Op
 of_first p a = read p ∷ write (suc p) ∷ add a ∷ ask a ∷ []
 
+-- the operations of the second transaction of a pair
 abbrev pub of_second : ℕ → List Op
 of_second b = add b ∷ ask b ∷ []
 
+-- the operations of a pair in the order of their pushes
 abbrev pub of_both : ℕ → ℕ → ℕ → List Op
 of_both p a b = read p ∷ add b ∷ write (suc p) ∷ ask b ∷ add a ∷ ask a ∷ []
 
+-- the operations of a pair in the order of their commits
 abbrev pub in_order : ℕ → ℕ → ℕ → List Op
 in_order p a b = add b ∷ ask b ∷ read p ∷ write (suc p) ∷ add a ∷ ask a ∷ []
 

@@ -27,16 +27,19 @@ pub each_as : {A : Type 0} (P Q : A → Type 0) (xs : List A) → ((x : A) → P
 each_as P Q [] f h = tt
 each_as P Q (x ∷ xs) f h = (f x h.0, each_as P Q xs f h.1)
 
--- The configuration of these parts, and its parts.
+-- the configuration of these parts
 abbrev pub conf : {Op : Type 0} → List Name → List ℕ → List (Tx Op) → List (SharedEntry Op) → List (CommittedTx Op) → Config Op
 conf ns is xs G D = record { names = ns; ids = is; opened = xs; shared = G; done = D }
 
+-- an open transaction without a body
 abbrev pub open_tx : {Op : Type 0} → Name → Name → List (LocalEntry Op) → Tx Op
 open_tx t p l = record { name = t; thread = p; body = None; local = l }
 
+-- an entry of a local log
 abbrev pub own_entry : {Op : Type 0} → Name → Mark → ℕ → Op → LocalEntry Op
 own_entry t m i op = record { id = i; owner = t; mark = m; op = op }
 
+-- an entry of the shared log, which is committed or not
 abbrev pub shared_entry : {Op : Type 0} → Name → Bool → ℕ → Op → SharedEntry Op
 shared_entry t b i op = record { id = i; owner = t; committed = b; op = op }
 
@@ -50,10 +53,11 @@ pub record Log {Op State : Type 0} (O : Object Op State) (l : List Op) (s : Stat
   pub allowed : Allowed O l
   pub is : state O l ≡ s
 
--- none of them has the name t, or the id i
+-- no transaction of the list has this name
 abbrev pub Others : {Op : Type 0} → Name → List (Tx Op) → Type 0
 Others t xs = Each (λ x. (x.name =ⁿ t) ≡ false) xs
 
+-- no entry of the local log has this id
 abbrev pub Apart : {Op : Type 0} → ℕ → List (LocalEntry Op) → Type 0
 Apart i l = Each (λ e. (e.id == i) ≡ false) l
 

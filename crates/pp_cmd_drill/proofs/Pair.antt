@@ -42,6 +42,7 @@ not_name t u h = elim (names_tell t u) [ inl r ↦ absurd (h r.1) | inr r ↦ r.
 pub two_ids : (k i j : ℕ) → eqb i j ≡ false → eqb (id_of k i) (id_of k j) ≡ false
 two_ids k i j h = not_eqb (id_of k i) (id_of k j) (λ e. let f : i ≡ j = omega arith in let g = eq-eqb i j f in cc)
 
+-- all these shared entries are committed
 abbrev pub AllCommitted : List (SharedEntry Op) → Type 0
 AllCommitted G = Each (λ g. g.committed ≡ true) G
 
@@ -68,31 +69,36 @@ still t (g ∷ G) h =
 pub may_still : (G H : List (SharedEntry Op)) (l : List (LocalEntry Op)) → Each (MayCommit G) l → Each (MayCommit (G ++ H)) l
 may_still G H l h = each_as (MayCommit G) (MayCommit (G ++ H)) l (λ e k. (k.0, λ m. let r = k.1 m in (r.0, in_left r.0 G H r.1, r.2, r.3))) h
 
--- a's own log, and b's
+-- the own entries of the first transaction of a pair, with their marks
 abbrev pub own_first : ℕ → ℕ → (m1 m2 m3 m4 : Mark) → List (LocalEntry Op)
 own_first p a m1 m2 m3 m4 =
     own_entry (name_of a) m1 (id_of a 1) (read p) ∷ own_entry (name_of a) m2 (id_of a 2) (write (suc p)) ∷ own_entry (name_of a) m3 (id_of a 3) (add a) ∷ own_entry (name_of a) m4 (id_of a 4) (ask a) ∷ []
 
+-- the own entries of the second transaction of a pair, with their marks
 abbrev pub own_second : ℕ → (m1 m2 : Mark) → List (LocalEntry Op)
 own_second b m1 m2 = own_entry (name_of b) m1 (id_of b 1) (add b) ∷ own_entry (name_of b) m2 (id_of b 2) (ask b) ∷ []
 
--- what each leaves in the list of committed transactions
+-- the committed entries of the first transaction of a pair
 abbrev pub items_first : ℕ → ℕ → List (Item Op)
 items_first p a = record { id = id_of a 1; op = read p } ∷ record { id = id_of a 2; op = write (suc p) } ∷ record { id = id_of a 3; op = add a } ∷ record { id = id_of a 4; op = ask a } ∷ []
 
+-- the committed entries of the second transaction of a pair
 abbrev pub items_second : ℕ → List (Item Op)
 items_second b = record { id = id_of b 1; op = add b } ∷ record { id = id_of b 2; op = ask b } ∷ []
 
+-- the first transaction of a pair as it was committed
 abbrev pub done_first : ℕ → ℕ → CommittedTx Op
 done_first p a = record { name = name_of a; entries = items_first p a }
 
+-- the second transaction of a pair as it was committed
 abbrev pub done_second : ℕ → CommittedTx Op
 done_second b = record { name = name_of b; entries = items_second b }
 
--- what they leave in the shared log: a alone, and both, where the two say whether a's and b's are committed
+-- the shared entries of the first transaction of a pair alone, committed or not
 abbrev pub shared_first : ℕ → ℕ → Bool → List (SharedEntry Op)
 shared_first p a x = shared_entry (name_of a) x (id_of a 1) (read p) ∷ shared_entry (name_of a) x (id_of a 2) (write (suc p)) ∷ shared_entry (name_of a) x (id_of a 3) (add a) ∷ shared_entry (name_of a) x (id_of a 4) (ask a) ∷ []
 
+-- the shared entries of a pair, where x says whether a's are committed, and y whether b's are
 abbrev pub shared_both : ℕ → ℕ → ℕ → Bool → Bool → List (SharedEntry Op)
 shared_both p a b x y =
     shared_entry (name_of a) x (id_of a 1) (read p)
@@ -103,10 +109,11 @@ shared_both p a b x y =
     ∷ shared_entry (name_of a) x (id_of a 4) (ask a)
     ∷ []
 
--- the ids afterwards
+-- these ids and those of the first transaction of a pair
 abbrev pub ids_first : ℕ → List ℕ → List ℕ
 ids_first a is = id_of a 4 ∷ id_of a 3 ∷ id_of a 2 ∷ id_of a 1 ∷ is
 
+-- these ids and those of the second transaction of a pair
 abbrev pub ids_second : ℕ → List ℕ → List ℕ
 ids_second b is = id_of b 2 ∷ id_of b 1 ∷ is
 

@@ -20,23 +20,27 @@ use Rattle.pp_cmd_drill.proofs.Moves.{conf, open_tx, own_entry, shared_entry, Le
 use Rattle.pp_cmd_drill.proofs.Acts.{second_allowed, both_allowed, in_order_allowed, first_allowed, value_is, at_start, after_both, after_order, after_first, of_both, of_first, in_order}
 use Rattle.pp_cmd_drill.proofs.Pair.{Under, fresh, under_next, not_eqb, not_name, two_ids, AllCommitted, View, own_first, own_second, done_first, done_second, shared_first, shared_both, ids_first, ids_second, apps_lead, pushes_lead, commits_lead, unpaired_pushes_lead, unpaired_commit_leads}
 
--- The configuration after p pairs: what it has of names and ids, no open transaction, the shared log and the committed transactions.
+-- the names that p pairs of transactions used
 abbrev pub names_after : ℕ → List Name
 names_after zero = []
 names_after (suc p) = name_of (2 * p + 2) ∷ name_of (2 * p + 1) ∷ names_after p
 
+-- the ids that p pairs of transactions used
 abbrev pub ids_after : ℕ → List ℕ
 ids_after zero = []
 ids_after (suc p) = ids_second (2 * p + 2) (ids_first (2 * p + 1) (ids_after p))
 
+-- the shared log after p pairs of transactions
 abbrev pub shared_after : ℕ → List (SharedEntry Op)
 shared_after zero = []
 shared_after (suc p) = shared_after p ++ shared_both p (2 * p + 1) (2 * p + 2) true true
 
+-- the transactions that p pairs committed, in their order
 abbrev pub done_after : ℕ → List (CommittedTx Op)
 done_after zero = []
 done_after (suc p) = (done_after p ++ done_second (2 * p + 2) ∷ []) ++ done_first p (2 * p + 1) ∷ []
 
+-- the configuration after p pairs, without an open transaction
 abbrev pub after_pairs : ℕ → Config Op
 after_pairs p = conf (names_after p) (ids_after p) [] (shared_after p) (done_after p)
 

@@ -27,13 +27,15 @@ use Rattle.pp_cmd_drill.specs.Law.{drill_objects}
 use Rattle.pp_cmd_drill.specs.Reports.{drill_scan}
 use Rattle.pp_cmd_drill.specs.Text.{drill_header}
 
--- its header on line 1, and its steps behind it, each on its line
+-- the header of the drill, on line 1
 abbrev pub head : Lined Header
 head = record { line = 1; what = drill_header }
 
+-- the steps of the drill, each on its line after the header
 abbrev pub lined : ℕ → LinedSteps Op
 lined n = numbered 1 (drill_steps n)
 
+-- the scan of the drill: its header, and its steps as records, without a fault
 abbrev pub scanned : ℕ → InputScan
 scanned n = record { header = Some head; records = plain (lined n); fault = None }
 

@@ -33,6 +33,7 @@ use Rattle.pp_judge.proofs.Tallying.{test_begin}
 
 -- ---- how many of some steps are begins
 
+-- how many of these steps begin a transaction
 abbrev pub how_many : List (Step Op) → ℕ
 how_many [] = 0
 how_many (s ∷ ss) = cond (is_begin s) (1 + how_many ss) (how_many ss)

@@ -114,10 +114,11 @@ start_refuting kinds (Some z) n h = (start_evidence_law objects objects_lawful k
 step_refuting : (kinds : List Kind) (before : Config Op) (step : Step Op) (n : ℕ) → IsStepEvident kinds before step (suc n) → StepFactRefutes kinds before step (suc n)
 step_refuting kinds before step n h = λ detail. refutes objects objects_lawful kinds before step n detail h.0
 
--- a rejected run: what is printed, and what its evidence shows
+-- the text that is printed for a rejection
 abbrev pub printed_of : Header → Rejection → List ℕ
 printed_of h w = rejected_text h.catalog w.step w.line w.rule w.criterion w.detail
 
+-- the report is printed by the text of this rejection, and its evidence shows why the run is rejected
 abbrev pub RejectedTold : Header → Rejection → Option (Lined Header) → RunReport → Type 0
 RejectedTold h rejection o report =
     ((text : List ℕ) → text ≡ printed_of h rejection → IsTold o report statuses.Rejected text)
@@ -205,6 +206,7 @@ accepted_behind None sc report text r t = accepted_by sc.header sc.records repor
 pub accepted_run : (bytes : List ℕ) (text : List ℕ) → IsCertified bytes statuses.Accepted text → AcceptedRun (scan bytes).header (scan bytes).records
 accepted_run bytes text r = accepted_behind r.1.0 (scan bytes) r.0 text r.1.2 r.2
 
+-- a scan with an accepted run has a run
 abbrev pub has_run : (sc : InputScan) → AcceptedRun sc.header sc.records → HasRun sc
 has_run sc a = record { header = a.header; run = a.run; first_line = a.first_line; steps = a.steps }
 

@@ -117,6 +117,7 @@ module _ {State : Type 0} (O : Object Op State) (line : ℕ) where
 -- ---- the record
 
 module _ (h : Header) (rs : Records (RunRecord Op)) (front : AnyFront) (machine : Seen (List Kind) Op) (c : GoesOn h rs front machine) (line : ℕ) (r : RunRecord Op) where
+  -- all steps that the records so far mean
   abbrev pub so_far : LinedSteps Op
   so_far = all_so_far h rs
 

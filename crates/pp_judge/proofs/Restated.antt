@@ -75,9 +75,11 @@ one_on : (n i : ℕ) → n ≡ suc i → n + 1 ≡ suc (suc i)
 one_on n i e = omega (arith, e)
 
 module _ (catalog : Objects) (start : Option Start) (cat : IsCatalog catalog) where
+  -- the header of a restated run, on line 1
   abbrev pub here : Lined Header
   here = record { line = 1; what = rules_header catalog start }
 
+  -- the scan of a restated run whose header has these records after it
   abbrev pub so_far : Records (RunRecord Op) → InputScan
   so_far rs = record { header = Some here; records = rs; fault = None }
 

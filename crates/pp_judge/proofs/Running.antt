@@ -46,6 +46,7 @@ module _ (h : Header) (rs : Records (RunRecord Op)) (front : AnyFront) (machine 
 -- ---- after some lines
 
 module _ (sc : InputScan) (tally : Tally) (machine : Seen (List Kind) Op) (r : IsRunning sc tally machine) where
+  -- all steps that the records of the scan mean
   abbrev pub run_so_far : LinedSteps Op
   run_so_far = all_so_far tally.header sc.records
 

@@ -33,6 +33,7 @@ use Rattle.pp_judge.specs.Running.{HasStarted}
 pub asked : (catalog : Objects) (items : List (Item Op)) → All (IsReadableItem catalog) items → All (IsAskedItem objects (kinds_of catalog)) items
 asked catalog items all = All-weaker (IsReadableItem catalog) (IsAskedItem objects (kinds_of catalog)) (λ p h. (h.1, h.2)) items all
 
+-- a machine that took a start, or no start, and no steps
 abbrev pub made : List Kind → Option (Start Op) → Seen (List Kind) Op
 made kinds h = record { shape = kinds; config = first h; count = 0 }
 

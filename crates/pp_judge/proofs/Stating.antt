@@ -53,10 +53,12 @@ begins_append rs more =
 
 -- ---- what was read so far
 
+-- a header and its records can be stated, and without a header there are no records
 abbrev pub AreStated : Option (Lined Header) → Records (RunRecord Op) → Type 0
 AreStated None rs = rs ≡ []
 AreStated (Some h) rs = IsCatalog h.what.catalog × CanStart h.what.catalog h.what.start × Each (IsStatableRecord h.what.catalog) (bare rs)
 
+-- the header and the records of a scan can be stated, and at most 20,000 records begin a transaction
 pub record IsStated (sc : InputScan) : Type 0 where
   pub stated : AreStated sc.header sc.records
   pub begun : begins sc.records ≤ 20_000

@@ -26,6 +26,7 @@ length_filter test (x ∷ xs) =
       | false ↦ omega (arith, length_filter test xs)
     ]
 
+-- whether a record begins a transaction
 abbrev pub test_begin : Lined (RunRecord Op) → Bool
 test_begin r = is_begin_record r.what
 
@@ -66,6 +67,7 @@ module _ (most : ℕ) (sc : InputScan) (tally : Tally) (f : IsTallied sc tally) 
       ∙ too_many most sc line.0 r (test_same r true refused.0) ∙ ap (λ (c : Cause). faulty_at sc (line.0, c)) (sym refused.1)
   record_fault (Err fault) cause read refused = scan_record most sc (record { line = f.at; what = tally.header }) line (Err fault) f.sound f.header other read ∙ rw refused refl
 
+-- a record on its line
 abbrev pub on_record : ℕ → RunRecord Op → Lined (RunRecord Op)
 on_record line r = record { line = line; what = r }
 

@@ -33,6 +33,7 @@ recalled method numbers = record {
   third = get_or numbers 2 (pos 0);
 }
 
+-- the method that an act calls
 abbrev pub method_of : Act → Method
 method_of act = (call_of act).method
 

@@ -15,6 +15,7 @@ use Rattle.pp_laws_reports.proofs.Splits.{Only, Stops, both, only_append, only_w
 abbrev pub is_digit : ℕ → Bool
 is_digit b = nat_le 48 b && nat_le b 57
 
+-- whether a byte is a decimal digit or a minus sign
 abbrev pub is_number_byte : ℕ → Bool
 is_number_byte b = is_digit b || b == 45
 
@@ -70,6 +71,7 @@ same_number y z h k e = signed_decimal_injective y z (range_mag y h) (range_mag 
 
 -- ---- lists of numbers
 
+-- the number is in the range of the numbers of a run
 abbrev pub InRange : ℤ → Type 0
 InRange z = IsTrue (in_range z)
 

@@ -31,15 +31,17 @@ module _ {H F R Op State Cause : Type 0} (setting : H → Setting F R Op State) 
   law : InputLaw setting too_many
   law = input_law setting too_many
 
-  -- the steps of these records, and whether they are accepted
+  -- the steps of these records
   abbrev steps_in : Records R → List (Step Op)
   steps_in rs = bare (steps_of s rs)
 
+  -- the verdict on the steps of these records is that they are accepted
   abbrev pub AreAccepted : Records R → Type 0
   AreAccepted rs = IsVerdict s.object s.start (steps_in rs) Accepted
 
   -- ---- an accepted scan
 
+  -- an accepted scan has no fault, this number of steps and these committed attempts
   abbrev pub Parts : Scan H R Cause → ℕ → List (Attempt Op) → Type 0
   Parts sc steps committed = IsFault setting too_many sc None × AreAccepted sc.records × (steps ≡ length (steps_of s sc.records)) × (committed ≡ attempts s.start (steps_in sc.records))
 

@@ -22,9 +22,11 @@ use Rattle.pp_model.proofs.Trace.{keep_all}
 abbrev pub LocalIds : {Op : Type 0} → List (LocalEntry Op) → Type 0
 LocalIds {Op} l = (e f : LocalEntry Op) → Before e f l → e.id ≢ f.id
 
+-- no two entries of the shared log have one id
 abbrev pub SharedIds : {Op : Type 0} → List (SharedEntry Op) → Type 0
 SharedIds {Op} G = (g h : SharedEntry Op) → Before g h G → g.id ≢ h.id
 
+-- the entry with this mark
 abbrev pub marked : {Op : Type 0} → Mark → LocalEntry Op → LocalEntry Op
 marked m e = record e { mark = m }
 

@@ -91,6 +91,7 @@ pub begun_after : {Op : Type 0} (ss : List (Step Op)) (c : Config Op) (t : Name)
 begun_after [] c t i = i
 begun_after (s ∷ ss) c t i = begun_after ss (then c s) t (begun_stays c s t i)
 
+-- all these steps are of the transaction of this name
 abbrev pub AreOf : {Op : Type 0} → Name → List (Step Op) → Type 0
 AreOf t ss = Each (λ s. subject s ≡ t) ss
 

@@ -21,6 +21,7 @@ use Rattle.pp_model.proofs.Steps.{there_holds}
 use Rattle.pp_laws_runs.proofs.Logs.{SharedIds}
 use Rattle.pp_laws_runs.proofs.Ending.{PulledStand}
 
+-- each entry that an open transaction pulled is committed in the shared log
 abbrev pub PulledCommitted : {Op : Type 0} → Config Op → Type 0
 PulledCommitted {Op} c = (x : Tx Op) → In x c.opened → PulledStand c x.local
 
@@ -41,6 +42,7 @@ NotPull (Note t) = Unit {0}
 abbrev pub PullsCommitted : {Op : Type 0} → Config Op → Step Op → Type 0
 PullsCommitted {Op} c s = (t : Name) (id : ℕ) (g : SharedEntry Op) → s ≡ Pull t id → of_other t id c.shared ≡ Some g → g.committed ≡ true
 
+-- each of these steps, from this configuration on, pulls only a committed entry
 abbrev pub AllCommitted : {Op : Type 0} → Config Op → List (Step Op) → Type 0
 AllCommitted c [] = Unit {0}
 AllCommitted c (s ∷ ss) = PullsCommitted c s × AllCommitted (then c s) ss

@@ -225,6 +225,7 @@ module _ {Shape State Op Undo : Type 0} (o : Object Shape State Op Undo) (place 
       )
 
   module _ (v : Kept Shape State Op Undo) (h : Keeps o place v) where
+    -- the slots: each name with its open transaction, if it has one
     abbrev pub es : SlotList Op
     es = v.slots.entries
 

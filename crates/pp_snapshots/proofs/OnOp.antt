@@ -112,6 +112,7 @@ module _ {Shape State Op Undo : Type 0} (o : Object Shape State Op Undo) (place 
   not_open t P e g = let z : None ≡ Some g.0 = sym (open_is o place SameAt laws places v h t ∙ ap (option_map (shown_tx t)) e) ∙ g.1 in cc
 
   module _ (t : Name) (x : OpenTx (List (Item Op))) (found : open_in t v.slots.entries ≡ Some x) where
+    -- the summary of the open transaction
     abbrev pub X : OpenSummary Op
     X = shown_tx t x
 

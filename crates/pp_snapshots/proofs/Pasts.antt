@@ -225,6 +225,7 @@ module _ {Shape State Op Undo : Type 0} (o : Object Shape State Op Undo) (place 
       pub is_at : place a ≡ p
       is_at = last_is_at place p past.log x a ends_log
 
+      -- the log is cut at the last operation of the place
       abbrev pub there : IsCut place p past.log x a
       there = cut place p past.log x a ends_log
 
@@ -246,6 +247,7 @@ module _ {Shape State Op Undo : Type 0} (o : Object Shape State Op Undo) (place 
       pub last_made : made_at p v.places.items ≡ made_along o (o.start shape) x ++ record { op = a; undo = o.upkeep.kept (state_after o shape x) a } ∷ []
       last_made = past.made p ∙ ap (made_along o (o.start shape)) ends ∙ made-append o (o.start shape) x (a ∷ [])
 
+      -- the log without the last operation of the place
       abbrev pub both : List Op
       both = there.front ++ there.rest
 

@@ -92,6 +92,7 @@ module _ {Op State : Type 0} (O : Object Op State) (place : Op → ℕ) (apart :
   abbrev x1 : Tx Op
   x1 = relog (λ l. l ++ unpushed ∷ []) x
 
+  -- the configuration after the APP and the PUSH of one operation
   abbrev pub two : Config Op
   two = record { names = c.names; ids = id ∷ c.ids; opened = on_log t (set_mark id Pushed) (on_log t (λ l. l ++ unpushed ∷ []) c.opened); shared = c.shared ++ entry ∷ []; done = c.done }
 

@@ -76,9 +76,11 @@ module _ {Op State : Type 0} (O : Object Op State) (place : Op → ℕ) (apart :
   pub pull_swaps : Meets O c (Pull t g.id) → (a : LocalEntry Op) → In a x.local → is_own a.mark ≡ true → Swaps O a.op g.op
   pull_swaps h = (there_of (of_other t g.id c.shared) _ g found (there_of (tx t c.opened) _ x lookup h)).1.1.0
 
+  -- a local log with the pulled entry at its end
   abbrev pub longer : List (LocalEntry Op) → List (LocalEntry Op)
   longer l = l ++ as_pulled g ∷ []
 
+  -- the configuration after the PULL of the entry
   abbrev pub next : Config Op
   next = record c { opened = on_log t (λ l. l ++ as_pulled g ∷ []) c.opened }
 

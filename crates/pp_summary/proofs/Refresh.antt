@@ -53,16 +53,19 @@ is_missing-false place o L g u p e = go (stands_in L g.id) refl
 
 module _ {Op State : Type 0} (O : Object Op State) (place : Op → ℕ) (apart : PlacesSwap O place)
     (t : Name) (c0 : Config Op) (x0 : Tx Op) (o : ℕ) where
-  -- the own entries at the place let the committed ones of H pass that x0 has not
+  -- the own entries of x0 at the place swap with the committed entries of H there that x0 has not
   abbrev pub Passing : List (SharedEntry Op) → Type 0
   Passing H = (a : LocalEntry Op) (p : SharedEntry Op) → IsOwnAt place o x0.local a → IsDoneAt place o H p → stands_in x0.local p.id ≡ false → Swaps O a.op p.op
 
+  -- the refresh of the place has ended in this configuration: no entry is left to look at
   abbrev pub Ended : Config Op → Type 0
   Ended c = (K : List (SharedEntry Op)) × (x : Tx Op) × Refreshing O place t c0 x0 o K [] c x
 
+  -- these steps run exactly if the entries of H pass, and the refresh has then ended
   abbrev pub Goal : List (SharedEntry Op) → Config Op → List (Step Op) → Type 0
   Goal H c ss = (Passing H → RunsFrom O c ss) × (RunsFrom O c ss → Passing H × Ended (after_from c ss))
 
+  -- a PULL of each of these entries
   abbrev pub pulls : List (SharedEntry Op) → List (Step Op)
   pulls M = map (λ g. Pull t g.id) M
 
