@@ -65,7 +65,7 @@ abbrev pub pulls : ℕ → ℕ → List (Step Op)
 pulls zero a = []
 pulls (suc q) a = Pull (name_of a) (id_of (2 * q + 1) 2) ∷ []
 
--- the operations of a, behind p pairs, and those of b
+-- the operations of a, after p pairs, and those of b
 abbrev pub first_apps : ℕ → ℕ → List (Step Op)
 first_apps p a = app a 1 (read p) ∷ app a 2 (write (suc p)) ∷ app a 3 (add a) ∷ app a 4 (ask a) ∷ []
 
@@ -82,17 +82,17 @@ endings a b =
 abbrev pub ending : ℕ → List (Step Op)
 ending a = push a 1 ∷ push a 2 ∷ push a 3 ∷ push a 4 ∷ Cmt (name_of a) ∷ []
 
--- the pair of a and b, behind p pairs
+-- the pair of a and b, after p pairs
 abbrev pub pair : ℕ → ℕ → ℕ → List (Step Op)
 pair p a b =
     Begin (name_of a) first_thread None ∷ Begin (name_of b) second_thread None
     ∷ (pulls p a ++ (first_apps p a ++ (second_apps b ++ endings a b)))
 
--- a without a second, behind p pairs
+-- a without a second, after p pairs
 abbrev pub unpaired : ℕ → ℕ → List (Step Op)
 unpaired p a = Begin (name_of a) first_thread None ∷ (pulls p a ++ (first_apps p a ++ ending a))
 
--- the first pairs, and a transaction that is left behind them
+-- the first pairs, and a transaction that is left over after them
 abbrev pub pairs : ℕ → List (Step Op)
 pairs zero = []
 pairs (suc p) = pairs p ++ pair p (2 * p + 1) (2 * p + 2)

@@ -1,4 +1,4 @@
--- Meaning: the run of `drill N` is accepted, and what it leaves.
+-- Meaning: the run of `drill N` is accepted, and which state it leads to.
 use Rattle.std.specs.Prelude.{◌≡◌, ℕ, zero, suc, ◌+◌, ◌-◌, ◌*◌, ◌/◌, ◌%◌, ◌≤◌, pos}
 use Rattle.std.specs.Prelude.{List, [], ◌∷◌, ◌++◌, codes, length, None}
 use Rattle.std.specs.Fmt.{decimal}
@@ -52,13 +52,13 @@ pub record Shows (shown : List ObjectState) (v x : ℕ) : Type 0 where
   pub c : state_bytes drill_catalog shown 1 ≡ codes "state c " ++ decimal x
   pub s : state_bytes drill_catalog shown 2 ≡ codes "state s"
 
--- What holds of the run with n transactions.
+-- The facts of the run with n transactions.
 pub record DrillFacts (n : ℕ) : Type 0 where
   -- each step meets its criteria
   pub runs : RunsFrom drill_objects (first None) (drill_steps n)
   pub accepted : IsVerdict drill_objects None (drill_steps n) Accepted
   pub steps : length (drill_steps n) ≡ count_of_steps n
-  -- all are committed, and this is what they leave
+  -- all are committed, and they lead to this state
   pub committed : length (attempts None (drill_steps n)) ≡ n
   pub leaves : states_left n ≡ states_at (pairs_in n) (sum_to n)
   pub shows : Shows (states_left n) (pairs_in n) (sum_to n)

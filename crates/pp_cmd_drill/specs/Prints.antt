@@ -1,4 +1,4 @@
--- Meaning: what `drill N` prints, line by line, and what holds of its run.
+-- Meaning: what `drill N` prints, line by line, and the facts of its run.
 use Rattle.std.specs.Prelude.{◌≡◌, ℕ, ◌≤◌, List, ◌++◌, codes, map, None}
 use Rattle.std.specs.Fmt.{decimal}
 use Rattle.pp_core.specs.declared.status.Status.{Status}

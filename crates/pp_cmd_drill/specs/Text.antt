@@ -19,7 +19,7 @@ abbrev pub drill_header : Header
 drill_header = rules_header drill_catalog None
 
 -- the bytes of the run of n transactions: the line of its header, and then a line for each step,
--- each with a byte 10 behind it
+-- each with a byte 10 after it
 abbrev pub drill_text : ℕ → List ℕ
 drill_text n = run_text drill_catalog None (drill_steps n)
 
@@ -35,7 +35,7 @@ pub record IsReadBack (n : ℕ) : Type 0 where
   pub lines : scanned_lines usual_limits (drill_text n)
       ≡ numbered_from 1 (run_lines drill_catalog None (drill_steps n))
   pub shown : Each (λ line. blank line ≡ false) (run_lines drill_catalog None (drill_steps n))
-  -- the first is read as the header, and those behind it as the steps, in turn
+  -- the first is read as the header, and those after it as the steps, in turn
   pub header : header_of (header_bytes drill_catalog) ≡ Ok drill_header
   pub records : map (record_of drill_header) (map (step_bytes drill_catalog) (drill_steps n))
       ≡ map (λ step. Ok (Plain step)) (drill_steps n)

@@ -1,4 +1,4 @@
--- Proof machinery: what holds of the judge that takes every record.
+-- Proof machinery: the laws of the judge that takes every record.
 use Rattle.std.specs.Prelude.{◌≡◌}
 use Rattle.std.proofs.Common.{refl, sym, ap, ◌∙◌}
 use Rattle.pp_records.specs.Inputs.{Widens}

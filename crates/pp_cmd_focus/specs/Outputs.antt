@@ -14,7 +14,7 @@ use Rattle.pp_judge.specs.Scans.{InputScan}
 use Rattle.pp_cmd_judge.specs.Inputs.{early_judge_scan, judge_scan}
 use Rattle.pp_cmd_focus.specs.Restrictions.{restriction}
 
--- the fault of a header on this line, where the object of a name has this place in it
+-- the fault of a header on this line, if the object of a name has this place, or no place, in it
 abbrev pub unless_there : ℕ → Option ℕ → Option (ℕ × Cause)
 unless_there line None = Some (line, UnknownObject)
 unless_there line (Some o) = None

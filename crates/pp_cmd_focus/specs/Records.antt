@@ -78,8 +78,8 @@ abbrev pub kept_on : ℕ → Option ℕ → Option (RunRecord Op) → Option (Ru
 kept_on o None kept = kept
 kept_on o (Some p) kept = cond (p == o) kept None
 
--- The restriction of a record, where ids are of these objects. In the recorded styles it is that of
--- the laws of locality. In style rules a step that is on another object leaves too.
+-- The restriction of a record, if ids are of these objects. In the recorded styles it is that of
+-- the laws of locality. In style rules a step that is on another object is removed too.
 abbrev pub restricted_record : (ℕ → Option ℕ) → ℕ → RunRecord Op → Option (RunRecord Op)
 restricted_record objects o (records.Plain step) =
     kept_on o (object_named objects step) (restricted place_of o (records.Plain step))

@@ -69,7 +69,7 @@ subject_written o header (subjects.Object p) bytes = object_written o p bytes
 subject_written o header (subjects.Begin line) bytes = line
 subject_written o header subjects.Alone bytes = bytes
 
--- the same, where the name of the object may be unknown
+-- the same, and nothing if the name of the object is unknown
 abbrev pub subject_on : Option ℕ → HeaderOf → Subject → List ℕ → List ℕ
 subject_on None header subject bytes = []
 subject_on (Some o) header subject bytes = subject_written o header subject bytes

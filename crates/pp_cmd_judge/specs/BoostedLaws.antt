@@ -1,4 +1,4 @@
--- Proof machinery: what holds of the summary with its number of steps as a judge.
+-- Proof machinery: the laws of the summary, with its number of steps, as a judge.
 use Rattle.std.specs.Prelude.{◌≡◌, ◌≤◌, ◌+◌, ℕ, [], ◌++◌, length, Option, None, Some}
 use Rattle.std.proofs.Common.{refl, sym, ap, ◌∙◌, subst, arith, length-append}
 use Rattle.pp_core.specs.declared.call.Style.{Style}
@@ -22,7 +22,7 @@ use Rattle.pp_cmd_judge.specs.Boosted.{boosted_judging, boosted_scan_fault}
 use Rattle.pp_cmd_judge.specs.BoostedCosts.{BoostedCostAtMost, NoneFails, search_most}
 use Rattle.pp_cmd_judge.specs.Rejections.{rejected_stays}
 
--- of a boosted run the fault is that of the scan
+-- the fault of a boosted run is that of the scan
 pub boosted_fault : (sc : InputScan) (h : Lined Header) → sc.header ≡ Some h →
     h.what.style ≡ Boosted → boosted_scan_fault sc ≡ sc.fault
 boosted_fault sc h there is =

@@ -45,7 +45,7 @@ StyleRejectedCostAtLeast styles.Optimistic sc old new = Unit {0}
 StyleRejectedCostAtLeast styles.Hardware sc old new = Unit {0}
 StyleRejectedCostAtLeast styles.Dependent sc old new = Unit {0}
 
--- This holds of the style of a header. Without a header the counter does not rise.
+-- P is true of the style of a header. Without a header the counter does not rise.
 abbrev pub OfItsStyle : Option (Lined Header) → (old new : ℕ) → (Style → Type 0) → Type 0
 OfItsStyle None old new P = new ≡ old
 OfItsStyle (Some header) old new P = P header.what.style

@@ -1,4 +1,4 @@
--- Proof machinery: what holds of the machine as a judge of runs of style rules.
+-- Proof machinery: the laws of the machine as a judge of runs of style rules.
 use Rattle.std.specs.Prelude.{◌≡◌, ◌≤◌, ◌+◌, ℕ, suc, List, [], ◌++◌, Option, None, Some}
 use Rattle.std.proofs.Common.{refl, sym, ap, ◌∙◌, subst, arith}
 use Rattle.std.proofs.lemmas.List.{append-nil}
@@ -66,7 +66,7 @@ module _ (h : Lined Header) (rs : Records (RunRecord Op)) (rejection : Rejection
       (Rejected e.number (suc e.criterion)) (all_accepted h.what rs hold) bad in
       cc
 
-  -- what holds of the steps of its run holds of those of the run with more records
+  -- if P is true of the steps of the run, it is true of the steps of the run with more records
   pub rejected_behind : (P : List (Step Op) → Type 0) (more : Records (RunRecord Op)) →
       ((run : LinedSteps Op) → IsRun (object_of h.what) (translation_of h.what) (start_of h.what)
       rs run → P (bare run)) →

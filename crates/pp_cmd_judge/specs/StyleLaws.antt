@@ -1,4 +1,4 @@
--- Proof machinery: what holds of the judges of all styles as one judge.
+-- Proof machinery: the laws of the judges of all styles as one judge.
 use Rattle.std.specs.Prelude.{◌≡◌, ℕ, [], ◌++◌, true, Option, None, Some}
 use Rattle.std.proofs.Common.{refl, sym, ap, ◌∙◌, subst}
 use Rattle.pp_core.specs.declared.call.Style.{Style}

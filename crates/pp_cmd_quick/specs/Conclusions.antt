@@ -1,4 +1,4 @@
--- Proof machinery: what is told of a run whose start and records are good.
+-- Proof machinery: what is reported of a run whose start and records are good.
 use Rattle.std.specs.Prelude.{ℕ, List}
 use Rattle.pp_core.specs.declared.call.Kind.{Kind}
 use Rattle.pp_core.specs.declared.status.Status.TheVariants as statuses

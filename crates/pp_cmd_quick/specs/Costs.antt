@@ -24,14 +24,14 @@ abbrev pub tried_most : Header → List (RunRecord Op) → ℕ
 tried_most header tried =
     start_at_most (start_of header) + records_most place_of (first_brief header) tried
 
--- tried are the records behind a header up to and with the first that is not good, and all of them
--- if each is
+-- Tried are the records after a header, up to the first that is not good, and that one. If all are
+-- good, all are tried.
 abbrev pub AreTriedBehind : Header → Records (RunRecord Op) → List (RunRecord Op) → Type 0
 AreTriedBehind header records tried =
     AreTried (object_of header) place_of (first_brief header) (bare records) tried
 
--- Of what the start costs at most, and the records that are tried, this holds (there is one list of
--- them). Without a header nothing costs.
+-- P is true of what the start and the records that are tried cost at most. There is one list of
+-- them. Without a header nothing costs.
 abbrev pub OfTried : Option (Lined Header) → Records (RunRecord Op) → (ℕ → Type 0) → Type 0
 OfTried None records P = P 0
 OfTried (Some header) records P = (tried : List (RunRecord Op)) →
@@ -46,7 +46,7 @@ abbrev pub QuickCostsAtMost : InputScan → (old new : ℕ) → Type 0
 QuickCostsAtMost sc old new = OfTried sc.header sc.records λ most.
     OfRun sc.header sc.records λ start steps. new ≤ old + most + serial_length start steps
 
--- This holds of the records before the one that fails. There is one list of them at most, and none
+-- P is true of the records before the one that fails. There is one list of them at most, and none
 -- if the start fails.
 abbrev pub OfTaken : Option (Lined Header) → Records (RunRecord Op) →
     (List (RunRecord Op) → Type 0) → Type 0
@@ -61,7 +61,7 @@ TakenCostAtLeast sc old new = OfTaken sc.header sc.records λ taken. old + count
 
 -- The counter rises at least by one for each record that is an operation, and for an accepted run by
 -- the length of the serial run too. For a rejected run only the records before the one that fails
--- count. Without a verdict nothing is asked.
+-- count. Without a verdict nothing is required.
 abbrev pub QuickCostsAtLeast : Status → InputScan → (old new : ℕ) → Type 0
 QuickCostsAtLeast statuses.Accepted sc old new = OfRun sc.header sc.records λ start steps.
     old + count_ops (bare sc.records) + serial_length start steps ≤ new

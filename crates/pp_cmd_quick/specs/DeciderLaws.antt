@@ -1,4 +1,4 @@
--- Proof machinery: what holds of the summary as a judge.
+-- Proof machinery: the laws of the summary as a judge.
 use Rattle.std.specs.Prelude.{◌≡◌, ◌≤◌, ◌+◌, ℕ, Bool, true, false, cond, List, [], ◌∷◌, ◌++◌, Option, None, Some}
 use Rattle.std.proofs.Common.{refl, sym, ap, ◌∙◌, subst, arith, append_assoc}
 use mathlib.Core.Logic.{inl, inr}
@@ -165,7 +165,7 @@ passed_least header rs more at old now (inr k) least r f =
     let same : own.before ≡ f.before = ((failure_law O T).one h (rs ++ more) k.0 r wide f).1 in
     subst (λ (z : Records (RunRecord Op)). old + count_ops (bare z) ≤ now) same (least k.0 own)
 
--- records behind one that fails change nothing
+-- records after one that fails change nothing
 pub fails_stay : (header : Lined Header) (rs more : Records (RunRecord Op)) (line : ℕ) →
     FailsOn header rs line → FailsOn header (rs ++ more) line
 fails_stay header rs more line (inl k) = inl k

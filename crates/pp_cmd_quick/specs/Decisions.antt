@@ -60,7 +60,7 @@ pub data Decision : Type 0 where
   Accepts : (records : ℕ) (committed : List (Attempt Op)) (final : List ObjectState) → Decision
   Rejects : (line : ℕ) → Decision
 
--- all steps of the records behind a header, however many they are
+-- all steps of the records after a header, however many they are
 abbrev pub steps_behind : Header → Records (RunRecord Op) → LinedSteps Op
 steps_behind header rs = all_steps (translation_of header) (start_of header) rs
 
@@ -89,7 +89,7 @@ acceptance header rs =
     let committed = attempts (start_of header) (bare (steps_behind header rs)) in
     Accepts (length rs) committed (state (object_of header) (serial committed))
 
--- the decision of the records behind a header, without a fault
+-- the decision of the records after a header, without a fault
 abbrev pub IsDecisionOf : Lined Header → Records (RunRecord Op) → Decision → Type 0
 IsDecisionOf header rs decision =
     (AllHold header.what rs × (decision ≡ acceptance header.what rs))

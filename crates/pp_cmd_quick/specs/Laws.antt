@@ -17,8 +17,8 @@ use Rattle.pp_judge.specs.Scans.{InputScan}
 use Rattle.pp_cmd_quick.specs.Decisions.{Accepts, Decision, Faulty, IsDecision, IsDecisionOf, IsQuick}
 use Rattle.pp_cmd_quick.specs.Decisions.{IsVerdictBehind, Rejects, acceptance, steps_behind}
 
--- the decision tells this verdict of all steps of the records: step 0 is the start, whose line is
--- that of the header
+-- The decision reports this verdict on all steps of the records. Step 0 is the start, whose line is
+-- that of the header.
 abbrev pub TellsVerdict : Lined Header → Records (RunRecord Op) → Verdict → Decision → Type 0
 TellsVerdict header rs Accepted decision = decision ≡ acceptance header.what rs
 TellsVerdict header rs (Rejected zero criterion) decision = decision ≡ Rejects header.line
@@ -40,12 +40,12 @@ pub record DecisionLaw : Type 0 where
   -- an input has one status and one text at most
   pub one : (bytes : List ℕ) (s s' : Status) (t t' : List ℕ) → IsQuick bytes s t →
       IsQuick bytes s' t' → (s ≡ s') × (t ≡ t')
-  -- Records behind a header can not be without a decision and a verdict of all their steps. (Which
-  -- step fails can not be computed from the criteria alone.)
+  -- Records after a header cannot be without a decision and a verdict on all their steps. (Which
+  -- step fails cannot be computed from the criteria alone.)
   pub some : (header : Lined Header) (rs : Records (RunRecord Op)) →
       ((decision : Decision) (v : Verdict) → IsDecisionOf header rs decision →
       IsVerdictBehind header.what rs v → ⊥) → ⊥
-  -- The decision tells this verdict, of which there is one at most. There is no limit on steps.
+  -- The decision reports this verdict, of which there is one at most. There is no limit on steps.
   pub verdict : (header : Lined Header) (rs : Records (RunRecord Op)) (decision : Decision)
       (v : Verdict) → IsDecisionOf header rs decision → IsVerdictBehind header.what rs v →
       TellsVerdict header rs v decision

@@ -31,7 +31,7 @@ pub record AreGoodBehind (header : Header) (records : Records (RunRecord Op))
   pub read : HasRead objects place_of (kinds_of header.catalog) (start_of header) records quick
 
 -- The limits are the usual ones. A record is good if all its steps meet their criteria. A rejection
--- is told by its line.
+-- is reported by its line.
 abbrev pub quick_judging : Judging Decider RejectedLine
 quick_judging = record {
   limits = usual_limits;
@@ -54,7 +54,8 @@ pub record HasFailed (sc : InputScan) (tally : Tally) (line : ℕ) : Type 0 wher
   pub style : tally.header.style ≡ Boosted
   pub fails : FailsOn (headed follows.at tally.header) sc.records line
 
--- what the start of a header, if it has one, answers and leaves of a Quick that is as `new` made it
+-- what taking the start of a header, if it has one, returns and makes of a Quick that is as `new`
+-- made it
 abbrev pub StartsQuick : Header → Bool → Held (List Kind) Op → Type 0
 StartsQuick header true quick =
     let kinds = kinds_of header.catalog in

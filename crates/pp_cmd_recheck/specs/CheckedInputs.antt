@@ -41,7 +41,7 @@ abbrev pub ShownCounted : CheckedInput → (old new : ℕ) → Type 0
 ShownCounted (inputs.Fault at fault) old new = Unit {0}
 ShownCounted (inputs.Shows catalog h) old new = ShownCostsAtLeast h old new
 
--- the operations and the states that are to be told are of these objects
+-- the operations and the states that are to be reported are of these objects
 abbrev pub CanReport : CheckedInput → Type 0
 CanReport (inputs.Fault at fault) = Unit {0}
 CanReport (inputs.Shows catalog h) = IsShownOf catalog h

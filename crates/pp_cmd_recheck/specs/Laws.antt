@@ -1,4 +1,4 @@
--- Meaning: what holds of what `recheck` gives.
+-- Meaning: the laws of the outputs of `recheck`.
 use Rattle.std.specs.Prelude.{◌≡◌, ℕ, List}
 use Rattle.pp_core.specs.declared.call.Kind.{Kind}
 use Rattle.pp_core.specs.declared.status.Status.{Status}

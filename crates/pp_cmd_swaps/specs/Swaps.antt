@@ -1,4 +1,4 @@
--- Meaning: what `swaps` answers of an input: of an accepted run its certificate of exchanges.
+-- Meaning: what `swaps` prints for an input: for an accepted run, its certificate of exchanges.
 use Rattle.std.specs.Prelude.{◌≡◌, ◌⊎◌, ◌<◌, ◌≤◌, ◌++◌, ℕ, List, codes}
 use Rattle.std.specs.Fmt.{decimal}
 use Rattle.pp_core.specs.Catalogs.{Objects}
@@ -24,15 +24,15 @@ abbrev pub config_of : {sc : InputScan} → HasRun sc → Config Op
 config_of r = after (start_of r.header.what) (bare r.run)
 
 -- how many pairs of entries of the shared log change their order on the way to its target, the
--- serial run with the uncommitted entries behind it
+-- serial run with the uncommitted entries after it
 abbrev pub inverted_in : Config Op → ℕ
 inverted_in c = inverted (log_of c) (target_of c)
 
--- the text of a certificate: its lines, each with a byte 10 behind it
+-- the text of a certificate: its lines, each with a byte 10 after it
 abbrev pub certificate_text : Objects → Config Op → List ℕ
 certificate_text catalog c = joined_lines (lines_of catalog c)
 
--- what is told in place of a certificate that would have more than 1,000,000 exchanges, this many
+-- what is printed instead of a certificate that would have this many exchanges, more than 1,000,000
 abbrev pub too_large_text : ℕ → List ℕ
 too_large_text count = line (codes "toolarge swaps " ++ decimal count)
 
@@ -50,8 +50,8 @@ IsLargeTold c status text = (MOST_SWAPS < inverted_in c)
 abbrev pub IsTold : Objects → Config Op → Status → List ℕ → Type 0
 IsTold catalog c status text = IsSmallTold catalog c status text ⊎ IsLargeTold c status text
 
--- The status and the text of an input, by how it is certified: the same report of a fault and of a
--- rejected run, and else what is told of the configuration that the run leads to.
+-- The status and the text of an input, by how it is certified: the same report for a fault and for
+-- a rejected run, and else what is printed for the configuration that the run leads to.
 abbrev pub IsSwapsOf : InputScan → (how : Status) → (report : List ℕ) → Status → List ℕ → Type 0
 IsSwapsOf sc statuses.Accepted report status text =
     (r : HasRun sc) × IsTold r.header.what.catalog (config_of r) status text
@@ -65,7 +65,7 @@ IsSwapsOf sc statuses.WriteFault report status text = ⊥
 IsSwapsOf sc statuses.OutOfMemory report status text = ⊥
 IsSwapsOf sc statuses.TooLarge report status text = ⊥
 
--- the status and the text that `swaps` answers of an input
+-- the status and the text of `swaps` for an input
 abbrev pub IsSwaps : List ℕ → Status → List ℕ → Type 0
 IsSwaps bytes status text = (how : Status) × (report : List ℕ) × IsCertified bytes how report
     × IsSwapsOf (scan bytes) how report status text

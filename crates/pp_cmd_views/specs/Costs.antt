@@ -11,8 +11,8 @@ use Rattle.pp_judge.specs.Costs.{OfRun, steps_at_most}
 use Rattle.pp_judge.specs.Scans.{InputScan}
 
 -- What looking for the views costs at most, over these committed transactions: one for each of
--- their operations, and two for each operation of the peaks before them and behind each of them.
--- If the operations of the peaks are too many, nothing is looked for.
+-- their operations, and two for each operation of the attempts, before all of them and after each
+-- of them. If the operations of the attempts are too many, nothing is looked for.
 abbrev pub viewing_at_most : List (CommittedTx Op) → List (Step Op) → ℕ
 viewing_at_most committed steps =
     let count = operations (peaks steps) in if nat_lt MOST_VIEWED count then 0

@@ -1,4 +1,4 @@
--- Meaning: what holds of the outputs of `views`.
+-- Meaning: the laws of the outputs of `views`.
 use Rattle.std.specs.Prelude.{◌≡◌, ℕ, List}
 use Rattle.pp_core.specs.declared.status.Status.{Status}
 use Rattle.pp_core.specs.declared.status.Status.TheVariants as statuses
@@ -16,8 +16,9 @@ OneOutputLaw =
     (bytes : List ℕ) (status other : Status) (text more : List ℕ) → IsViews bytes status text
     → IsViews bytes other more → (status ≡ other) × (text ≡ more)
 
--- In the run of an accepted input, if a committed transaction undid nothing behind its last
--- peak, this has a number, which is at most the place of the transaction among the committed ones.
+-- In an accepted run, the last attempt of a committed transaction has a number if the transaction
+-- took back nothing after it. The number is at most the place of the transaction among the
+-- committed ones, from 0.
 abbrev pub KeptViewLaw : Type 0
 KeptViewLaw =
     (bytes report : List ℕ) → IsCertified bytes statuses.Accepted report

@@ -11,7 +11,7 @@ abbrev pub number_bytes : Option ℕ → List ℕ
 number_bytes None = codes "none"
 number_bytes (Some number) = decimal number
 
--- the transaction of a view, and how many operations its peak has
+-- the transaction of a view, and how many operations its attempt has
 abbrev pub peak_bytes : View → List ℕ
 peak_bytes v = codes "view " ++ v.tx ++ codes " ops " ++ decimal v.ops
 

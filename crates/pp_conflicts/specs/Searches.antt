@@ -1,4 +1,4 @@
--- Proof machinery: what the parts of the search answer.
+-- Proof machinery: what the parts of the search return.
 use Rattle.std.specs.Prelude.{◌≡◌, ◌==◌, ◌||◌, ℕ, zero, not, Bool, true, List, [], ◌∷◌, ◌++◌}
 use Rattle.std.specs.Prelude.{map, take, slice_get, Option, None, Some}
 use Rattle.std.specs.List.{list_any}
@@ -63,13 +63,13 @@ module _ {Shape State Op Undo : Type 0} (o : Object Shape State Op Undo) where
     pub detail : x.detail
         ≡ gives_behind o shape item.id (before ++ ops (take x.offset own)) item.op
 
-  -- What a search through PUSHes answers: the first that is not allowed, or none.
+  -- What a search through PUSHes returns: the first that is not allowed, or none.
   abbrev pub SearchesPushes : Shape → List Op → List (Item Op) → Option (Violation Op) → Type 0
   SearchesPushes shape before own None = ArePushed shape before own
   SearchesPushes shape before own (Some x) = FailsPush shape before own x
 
   module _ (place : Op → ℕ) where
-    -- what a search for the first false criterion of the steps of a record answers
+    -- what a search for the first violated criterion of the steps of a record returns
     abbrev pub SearchesShown : Kept Shape State Op Undo → RunRecord Op → Option (Violation Op) →
         Type 0
     SearchesShown v r x =

@@ -1,4 +1,4 @@
--- Meaning: what is said of the bytes of a source that tells them.
+-- Meaning: what is said of the bytes of a source if they are known.
 use Rattle.std.specs.Prelude.{◌≡◌, ℕ, List, Option, Some}
 
 -- If the bytes are known, P is true of them.

@@ -24,7 +24,7 @@ pub record Reading (T F : Type 0) : Type 1 where
   pub Leads : List NumberedLine → T → Type 0
   -- the first fault of these lines is this one, of this line
   pub HasFault : List NumberedLine → ℕ → F → Type 0
-  -- all of these lines but the last were taken, and behind it the counter of operations shows this
+  -- all of these lines but the last were taken, and after it the counter of operations shows this
   pub Stops : List NumberedLine → ℕ → Type 0
   -- the fault of an input that passes a limit, by its cause
   pub at_limit : Cause → F
@@ -41,7 +41,7 @@ IfInputFault (stops.Failure failure) P = Unit {0}
 
 -- ---- a line
 
--- this line comes next, behind lines that led to here
+-- this line comes next, after lines that led to here
 abbrev pub IsNext : {T F : Type 0} → Reading T F → T → NumberedLine → Type 0
 IsNext R from line = (lines : List NumberedLine) × R.Leads lines from
     × (line.0 ≡ length lines + 1) × (line.0 ≤ R.limits.lines) × HasNext line.0
@@ -51,7 +51,7 @@ abbrev pub LeadsOn : {T F : Type 0} → Reading T F → T → NumberedLine → T
 LeadsOn R from line to =
     (lines : List NumberedLine) → R.Leads lines from → R.Leads (lines ++ line ∷ []) to
 
--- these lines have this fault, whatever lines come behind them
+-- these lines have this fault, whatever lines come after them
 abbrev pub HasFaultBehind : {T F : Type 0} → Reading T F → List NumberedLine → ℕ → F → Type 0
 HasFaultBehind R lines at fault = (more : List NumberedLine) → R.HasFault (lines ++ more) at fault
 
@@ -88,7 +88,7 @@ abbrev pub IsLimitFault : {T F : Type 0} → Reading T F → Option LineFault �
 IsLimitFault R limit at fault =
     (cause : Cause) × (limit_fault limit ≡ Some (at, cause)) × (fault ≡ R.at_limit cause)
 
--- the lines have no fault, and behind them a limit is passed, which is this fault
+-- the lines have no fault, and after them a limit is passed, which is this fault
 abbrev pub PassesLimit : {T F : Type 0} → Reading T F → List NumberedLine → Option LineFault → ℕ →
     F → Type 0
 PassesLimit {T} {F} R lines limit at fault =

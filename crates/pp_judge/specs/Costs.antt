@@ -61,9 +61,9 @@ serial_length start steps = length (serial (attempts start steps))
 abbrev pub most_of_run : Option (Start Op) → List (Step Op) → ℕ
 most_of_run start steps = steps_at_most start steps + serial_length start steps
 
--- What certifying a run costs at least, by its verdict. Of an accepted run each step meets its
--- criteria, and of a rejected one each but the last; a start counts nothing here. Without a verdict
--- nothing is asked.
+-- What certifying a run costs at least, by its verdict. In an accepted run each step meets its
+-- criteria, and in a rejected one each but the last. A start counts nothing here. Without a verdict
+-- nothing is required.
 abbrev pub least_of_run : Status → Option (Start Op) → List (Step Op) → ℕ
 least_of_run statuses.Accepted start steps = singles steps + serial_length start steps
 least_of_run statuses.Rejected start steps = singles (but_last steps)

@@ -14,13 +14,13 @@ use Rattle.pp_judge.specs.declared.progress.Progress.{Progress}
 use Rattle.pp_judge.specs.declared.progress.Progress.TheVariants as progresses
 use Rattle.pp_judge.specs.declared.progress.Tally.{Tally}
 
--- what is found where all lines lead to here: without a header there is a fault after them
+-- what is found if all lines lead to here: without a header there is a fault after them
 abbrev pub finding_of : {J R : Type 0} → Progress J R → Finding J R
 finding_of (progresses.Waiting lines) = findings.Fault (lines + 1) NoHeader
 finding_of (progresses.Running tally judge) = findings.Accepted tally judge
 finding_of (progresses.Rejected tally rejection) = findings.Rejected tally rejection
 
--- the whole input was read within these limits, and this holds of its scan
+-- the whole input was read within these limits, and P is true of its scan
 abbrev pub ReadsWhole : Limits → Option (List ℕ) → Option (List ℕ) → (InputScan → Type 0) → Type 0
 ReadsWhole limits old new P =
     (bytes : List ℕ) × Consumes old new bytes × IsAtEnd new × P (scan_within limits bytes)

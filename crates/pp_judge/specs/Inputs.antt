@@ -15,7 +15,7 @@ use Rattle.pp_input_reader.specs.Limits.{limit_fault}
 use Rattle.pp_judge.specs.Objects.{setting_of}
 use Rattle.pp_judge.specs.Scans.{InputScan, scan_lines}
 
--- an input without a header has this fault behind its last line
+-- an input without a header has this fault after its last line
 abbrev pub no_header : List ℕ → Option (Lined Header) → Option (ℕ × Cause)
 no_header bytes (Some header) = None
 no_header bytes None = Some (length (numbered_lines bytes) + 1, NoHeader)

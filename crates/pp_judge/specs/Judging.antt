@@ -29,7 +29,7 @@ pub record Judging (J R : Type 0) : Type 1 where
   -- and if the start or one of them is rejected
   pub RejectedAtLeast : InputScan → (old new : ℕ) → Type 0
 
--- What holds of every judge.
+-- The laws of every judge.
 pub record JudgingLaws {J R : Type 0} (M : Judging J R) : Type 0 where
   -- no records are both good and rejected
   pub not_both : (header : Lined Header) (records : Records (RunRecord Op)) (judge : J)
@@ -81,7 +81,7 @@ abbrev pub MayTake : {J R : Type 0} → Judging J R → Header → J → Type 0
 MayTake M header judge = (at : ℕ) × (before : Records (RunRecord Op))
     × M.IsGood (headed at header) before judge × (length before + 1 < M.limits.lines)
 
--- This holds of every header line and all records that the judge may have taken.
+-- P is true of every header, on its line, and all records that the judge may have taken.
 abbrev pub OfTaken : {J R : Type 0} → Judging J R → Header → J →
     (Lined Header → Records (RunRecord Op) → Type 0) → Type 0
 OfTaken M header judge P = (at : ℕ) (before : Records (RunRecord Op)) →

@@ -21,7 +21,7 @@ object_of header = rules_of objects (kinds_of header.catalog)
 abbrev pub start_of : Header → Option (Start Op)
 start_of header = option_map (λ z. start_with z.tx z.ops) header.start
 
--- how the records behind a header become steps, in its style
+-- how the records after a header become steps, in its style
 abbrev pub translation_of : Header → Translation Front (RunRecord Op) Op
 translation_of header = translation place_of header.style (kinds_of header.catalog)
 

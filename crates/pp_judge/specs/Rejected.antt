@@ -21,22 +21,22 @@ use Rattle.pp_judge.specs.Objects.{setting_of, start_of}
 use Rattle.pp_judge.specs.Reports.{RunReport}
 use Rattle.pp_judge.specs.Scans.{InputScan}
 
--- The fact of this criterion of a start, over objects of these kinds, holds of its evidence.
+-- The fact of this criterion of a start, over objects of these kinds, is true of its evidence.
 abbrev pub IsStartEvident : List Kind → Option (Start Op) → ℕ → Type 0
 IsStartEvident kinds None criterion = ⊥
 IsStartEvident kinds (Some z) criterion =
     HoldsAtNumber objects (start_facts objects kinds z) criterion
     (start_evidence objects kinds z criterion)
 
--- The fact of this criterion of a step holds of its evidence, and the configuration before it is
--- sound.
+-- The fact of this criterion of a step is true of its evidence, and the configuration before the
+-- step is sound.
 abbrev pub IsStepEvident : List Kind → Config Op → Step Op → ℕ → Type 0
 IsStepEvident kinds before step criterion =
     Sound (rules_of objects kinds) before
     × HoldsAtNumber objects (facts objects kinds before step) criterion
     (evidence objects kinds before step criterion)
 
--- If the fact of a criterion of a start is true of any detail, the criterion is false.
+-- If the fact of a criterion of a start is true of any detail, the start violates the criterion.
 abbrev pub StartFactRefutes : List Kind → Option (Start Op) → ℕ → Type 0
 StartFactRefutes kinds None criterion = ⊥
 StartFactRefutes kinds (Some z) criterion = (detail : Detail Op) →
@@ -63,7 +63,7 @@ TellsEvident (Some header) (StepRejected number at_line criterion before step) =
     let kinds = kinds_of header.what.catalog in
     IsStepEvident kinds before step criterion × StepFactRefutes kinds before step criterion
 
--- Every report of an input (there is one at most) tells such evidence.
+-- Every report of an input (there is one at most) is a rejection whose evidence shows why.
 abbrev pub IsEvident : InputScan → Type 0
 IsEvident sc =
     (report : RunReport) → IsReport setting_of TooManySteps sc report →

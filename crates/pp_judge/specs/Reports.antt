@@ -32,15 +32,15 @@ use Rattle.pp_judge.specs.Scans.{InputScan}
 abbrev pub RunReport : Type 0
 RunReport = Report Op (List ObjectState) Cause
 
--- the evidence of a start over objects of these kinds, whose first false criterion has this number
+-- the evidence of a start, over objects of these kinds, that first violates this criterion
 abbrev pub detail_of_start : List Kind → Option (Start Op) → ℕ → Detail Op
 detail_of_start kinds None criterion = Nothing
 detail_of_start kinds (Some z) criterion = start_evidence objects kinds z criterion
 
 -- The status and the text of a report. Accepted: the committed transactions, each with its own
--- operations, and the state that they lead to one after another. Rejected: the step and its least
--- false criterion, with the evidence in the configuration before it; step 0 is the start, and its
--- line is that of the header.
+-- operations, and the state that they lead to one after another. Rejected: the step and the first
+-- criterion that it violates, with the evidence in the configuration before it. Step 0 is the
+-- start, and its line is that of the header.
 abbrev pub IsTold : Option (Lined Header) → RunReport → Status → List ℕ → Type 0
 IsTold header (Faulty at_line cause) status text =
     (status ≡ statuses.InputFault) × (text ≡ fault_text at_line cause)

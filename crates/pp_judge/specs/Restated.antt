@@ -34,7 +34,7 @@ abbrev pub rules_header_of : Header → Lined Header
 rules_header_of header =
     record { line = 1; what = rules_header header.catalog header.start }
 
--- the scan of the steps of a run behind that header: step i, from 1, is the record on line i + 1
+-- the scan of the steps of a run after that header: step i, from 1, is the record on line i + 1
 abbrev pub restated_scan : Header → LinedSteps Op → InputScan
 restated_scan header run =
     record {

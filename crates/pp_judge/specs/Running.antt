@@ -64,7 +64,7 @@ pub record GoesOn (header : Header) (records : Records (RunRecord Op)) (front : 
   pub style : any_style front ≡ header.style
   pub kept : SameFront (any_state (kinds_of header.catalog) front) state
 
--- the rejection of a start, of which this is the first false criterion
+-- the rejection of a start that first violates this criterion
 abbrev pub start_rejection : Header → ℕ → ℕ → Rejection
 start_rejection header line n = record {
   step = 0;
@@ -74,8 +74,8 @@ start_rejection header line n = record {
   detail = detail_of_start (kinds_of header.catalog) (start_of header) n;
 }
 
--- the rejection of the step of this number, of which this is the first false criterion; 0 is the
--- start of the header, which is on this line
+-- The rejection of the step of this number, which first violates this criterion. Step 0 is the
+-- start of the header, which is on this line.
 abbrev pub IsRejectionOf : Header → ℕ → LinedSteps Op → ℕ → ℕ → Rejection → Type 0
 IsRejectionOf header at run zero n rejection =
     (rejection ≡ start_rejection header at n)
@@ -92,11 +92,11 @@ IsRejectionOf header at run (suc i) n rejection = (last : Step Op)
     })
     × IsStepEvident (kinds_of header.catalog) (after (start_of header) (bare (take i run))) last n
 
--- the run of these records and of any behind them, which this step of it ends
+-- the run of these records, and of these with any more after them, which this step of it ends
 pub record EndsAt (header : Header) (at : ℕ) (records : Records (RunRecord Op))
     (rejection : Rejection) : Type 0 where
   pub run : LinedSteps Op
-  -- its number in the run, where 0 is the start, and that of its first false criterion, from 0
+  -- its number in the run, where 0 is the start, and that of its first violated criterion, from 0
   pub number : ℕ
   pub criterion : ℕ
   pub is : IsRejectionOf header at run number (suc criterion) rejection
@@ -110,7 +110,7 @@ pub record IsRejected (sc : InputScan) (tally : Tally) (rejection : Rejection) :
   pub follows : IsTallied sc tally
   pub ends : EndsAt tally.header follows.at sc.records rejection
 
--- what the start of a header, if it has one, leaves of a machine that is as `new` made it
+-- what taking the start of a header, if it has one, makes of a machine that is as `new` made it
 abbrev pub HasStarted : Header → Outcome Op → Seen (List Kind) Op → Type 0
 HasStarted header Done machine =
     StartMeets (object_of header) (start_of header)

@@ -59,7 +59,7 @@ with_header sc line (Err fault) = with_fault sc line (cause_of fault)
 abbrev pub with_next : InputScan → ℕ → RunRecord Op → InputScan
 with_next sc line r = record sc { records = sc.records ++ record { line = line; what = r } ∷ [] }
 
--- a line behind the header, of which at most so many may begin a transaction
+-- a line after the header. At most so many of these lines may begin a transaction.
 abbrev pub with_record : ℕ → InputScan → ℕ → Result (RunRecord Op) RecordFault → InputScan
 with_record most sc line (Ok r) =
     if is_begin_record r && begins sc.records == most
@@ -70,7 +70,7 @@ abbrev pub read_line : ℕ → InputScan → Option (Lined Header) → NumberedL
 read_line most sc None line = with_header sc line.0 (header_of line.1)
 read_line most sc (Some header) line = with_record most sc line.0 (record_of header.what line.1)
 
--- one line more: blank lines are skipped, and nothing is read behind a fault
+-- one line more: blank lines are skipped, and nothing is read after a fault
 abbrev pub scan_line : ℕ → InputScan → NumberedLine → InputScan
 scan_line most sc line =
     if is_some sc.fault || blank line.1 then sc else read_line most sc sc.header line

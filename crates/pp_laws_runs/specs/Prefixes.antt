@@ -18,7 +18,7 @@ use Rattle.pp_judge.specs.Reports.{IsCertified}
 abbrev pub EndsLine : List ℕ → Type 0
 EndsLine bytes = (start : List ℕ) × (bytes ≡ start ++ 10 ∷ [])
 
--- This prefix of an input ends behind a byte 10, and the line of the input's header is among the
+-- This prefix of an input ends after a byte 10, and the line of the input's header is among the
 -- lines that it ends.
 pub record IsPrefixOfLines (front back : List ℕ) : Type 0 where
   pub ends : EndsLine front
@@ -48,8 +48,8 @@ pub record IsAcceptedPrefix (front back : List ℕ) (committed : List (Attempt O
   pub run_begins : (run : HasRun (scan front)) (whole : HasRun (scan (front ++ back))) →
       Begins run.run whole.run
 
--- If an input is accepted, of style rules or of any other, each of its prefixes that holds the
--- header's line whole and ends behind a byte 10 has no fault and is accepted.
+-- If an input is accepted, in whatever style, each of its prefixes that has the whole line of the
+-- header and ends after a byte 10 has no fault and is accepted.
 abbrev pub PrefixLaw : Type 0
 PrefixLaw = (front back : List ℕ) (steps : ℕ) (committed : List (Attempt Op)) →
     IsPrefixOfLines front back → IsAccepted (front ++ back) steps committed →

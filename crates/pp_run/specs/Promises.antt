@@ -1,4 +1,4 @@
--- Meaning: what is promised of what commands answer, beside their outputs.
+-- Meaning: what is promised of the results of commands, besides their outputs.
 use Rattle.std.specs.Prelude.{◌≡◌, List, Option}
 use Rattle.pp_core.specs.declared.call.Style.TheVariants.{Boosted}
 use Rattle.pp_records.specs.Inputs.{IsReport}

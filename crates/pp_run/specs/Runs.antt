@@ -14,7 +14,7 @@ use Rattle.pp_run.specs.Streams.{Counts, StreamsPromise}
 use Rattle.pp_laws_runs.specs.Reported.{ReportedLaw}
 
 -- `asked` is the command, or None if the arguments are no command. `SameSource` and `SameSink` say
--- that the calls that the program makes leave the value of the source, and of the sink, as it was.
+-- that the calls that the program makes do not change the value of the source, and of the sink.
 pub record RunPromise (SameSource SameSink : Type 0) (asked : Option Command) (o : Outcome)
     (n : Counts) : Type 0 where
   -- what is read and written, whatever the command is

@@ -1,4 +1,4 @@
--- Proof machinery: an open transaction that commits, gives up, or begins anew.
+-- Proof machinery: an open transaction that commits, aborts, or begins anew.
 use Rattle.std.specs.Prelude.{◌≡◌, ◌+◌, ◌<◌, ◌^◌, cond, false, List, [], ◌∷◌, ◌++◌, None, Some}
 use Rattle.std.specs.List.{list_any}
 use Rattle.std.specs.Map.{set_value}

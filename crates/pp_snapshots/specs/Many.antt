@@ -21,11 +21,11 @@ AreAsked {Op = Op} o v l =
     (a : Op) → In a l → IsTrue (o.fits (o.shape v.state) a) × IsTrue (o.ranged a)
 
 module _ {Shape State Op Undo : Type 0} (o : Object Shape State Op Undo) (place : Op → ℕ) where
-  -- At each place they are allowed behind those there.
+  -- At each place they are allowed after those there.
   abbrev pub MayFollow : Shape → (ℕ → List Op) → List Op → Type 0
   MayFollow shape h l = (q : ℕ) → IsAllowed o shape (with_ops place h l q)
 
-  -- What applying all of them answers: whether they may follow. If not, none is applied.
+  -- What applying all of them returns: whether they may follow. If not, none is applied.
   abbrev pub AllFollow : Past State Op Undo → List Op → Bool → Past State Op Undo → Type 0
   AllFollow v l true w =
       (shape : Shape) (h : ℕ → List Op) → IsPast o place shape v h →
@@ -65,8 +65,8 @@ module _ {Shape State Op Undo : Type 0} (o : Object Shape State Op Undo) (place 
       (shape : Shape) (h : ℕ → List Op) → IsPast o place shape v h →
       IsPast o place shape w (with_ops place h l)
 
-  -- It says whether they are allowed behind the first n operations at the place, and all that was
-  -- applied still is.
+  -- The answer says whether they are allowed after the first n operations at the place. All that
+  -- was applied still is.
   abbrev pub TellsBehind : Past State Op Undo → ℕ → ℕ → List Op → Bool → Past State Op Undo →
       Type 0
   TellsBehind v p n l answer w =

@@ -35,7 +35,7 @@ module _ {Shape State Op Undo : Type 0} (o : Object Shape State Op Undo) (place 
     pub shown : (ks : List Kind) → shown ks w ≡ shown ks v
     pub keeps : Keeps o place w
 
-  -- What taking it answers, and what is kept then.
+  -- What taking it returns, and what is kept then.
   abbrev pub Answers : Kept Shape State Op Undo → RunRecord Op → Bool → Kept Shape State Op Undo →
       Type 0
   Answers v r true w = ((ks : List Kind) → IsGood ks v r) × Moves v r w

@@ -18,13 +18,13 @@ use Rattle.pp_snapshots.specs.declared.past.Past.{Past}
 use Rattle.pp_snapshots.specs.Past.{IsPast, made_at}
 use Rattle.pp_snapshots.specs.Shown.{Kept, seen_in}
 
--- Behind how many commits at a place an operation is asked: behind those of the snapshot, and behind
--- all where the transaction has nothing of the place.
+-- After how many commits at a place an operation is tried: after those of the snapshot, or after
+-- all if the transaction has seen none at the place and has no own operation there.
 abbrev pub snapshot_at : {A : Type 0} → ℕ → List A → ℕ → ℕ
 snapshot_at seen own all = cond (nat_eq seen zero && nat_eq (length own) zero) all seen
 
 module _ {Shape State Op Undo : Type 0} (o : Object Shape State Op Undo) (place : Op → ℕ) where
-  -- so it is for an operation of an open transaction
+  -- after how many commits this operation of an open transaction is tried
   abbrev pub snapshot_of : (ℕ → List Op) → Op → OpenTx (List (Item Op)) → ℕ
   snapshot_of h op x =
       snapshot_at (seen_in x.seen.entries (place op)) (ops_at place (place op) (ops x.own))
@@ -39,12 +39,13 @@ module _ {Shape State Op Undo : Type 0} (o : Object Shape State Op Undo) (place 
         (take (snapshot_of h op x) (h (place op))
         ++ (ops_at place (place op) (ops x.own) ++ op ∷ []))
 
-  -- What is answered: the snapshot if it is good. All that was applied still is.
+  -- What is returned: the snapshot if the operation is good, and else none.
   abbrev pub OpTold : Shape → (ℕ → List Op) → List ℕ → ℕ → Op → OpenTx (List (Item Op)) →
       Option ℕ → Type 0
   OpTold shape h ids id op x None = OpIsGood shape h ids id op x → ⊥
   OpTold shape h ids id op x (Some n) = OpIsGood shape h ids id op x × (n ≡ snapshot_of h op x)
 
+  -- It returns that, and all that was applied still is.
   abbrev pub TellsOp : Past State Op Undo → List ℕ → ℕ → Op → OpenTx (List (Item Op)) →
       Option ℕ → Past State Op Undo → Type 0
   TellsOp v ids id op x found w =
@@ -112,7 +113,7 @@ abbrev pub open_most : {Shape State Op Undo : Type 0} → Name → Kept Shape St
     (OpenTx (List (Item Op)) → ℕ) → ℕ
 open_most t v most = or_nothing (open_in t v.slots.entries) most
 
--- what a record costs at most, whatever is answered
+-- what a record costs at most, whatever is returned
 abbrev pub kept_most : {Shape State Op Undo : Type 0} → (Op → ℕ) → Kept Shape State Op Undo →
     RunRecord Op → ℕ
 kept_most place v (records.Plain step) = 0

@@ -22,7 +22,7 @@ made_in (Some d) = d.made.items
 abbrev pub made_at : {Op Undo : Type 0} → ℕ → List (Done Op Undo) → List (Made Op Undo)
 made_at q places = made_in (slice_get places q)
 
--- the operations of each place, with these behind
+-- the operations of each place, with those of this list that are there after them
 abbrev pub with_ops : {Op : Type 0} → (Op → ℕ) → (ℕ → List Op) → List Op → ℕ → List Op
 with_ops place h l q = h q ++ ops_at place q l
 
@@ -45,7 +45,7 @@ module _ {Shape State Op Undo : Type 0} (o : Object Shape State Op Undo) (place 
   abbrev pub IsSomePast : Past State Op Undo → Type 0
   IsSomePast v = (shape : Shape) × ((h : ℕ → List Op) × IsPast shape v h)
 
-  -- What applying an operation answers. True says that it may follow those at its place.
+  -- What applying an operation returns. True says that it may follow those at its place.
   abbrev pub Follows : Past State Op Undo → Op → Bool → Past State Op Undo → Type 0
   Follows v op true w =
       ((shape : Shape) (h : ℕ → List Op) → IsPast shape v h →

@@ -15,7 +15,7 @@ use Rattle.pp_snapshots.specs.Past.{IsPast, made_at}
 use Rattle.pp_snapshots.specs.Shown.{Kept, seen_in}
 
 module _ {Shape State Op Undo : Type 0} (o : Object Shape State Op Undo) where
-  -- Each of the operations lets b pass.
+  -- Each of the operations swaps with b.
   abbrev pub SwapsAll : List Op → Op → Type 0
   SwapsAll own b = (a : Op) → In a own → Swaps o a b
 
@@ -51,11 +51,12 @@ module _ {Shape State Op Undo : Type 0} (o : Object Shape State Op Undo) where
           (take (seen_in x.seen.entries p) (h p) ++ (ops_at place p (ops x.own) ++ later_at h p x))
           → ⊥)
 
-    -- What is answered. All that was applied still is.
+    -- What is returned: whether it may take a new snapshot of the place.
     abbrev pub RefreshTold : Shape → (ℕ → List Op) → ℕ → OpenTx (List (Item Op)) → Bool → Type 0
     RefreshTold shape h p x true = MayRefresh shape h p x
     RefreshTold shape h p x false = MayNot shape h p x
 
+    -- It returns that, and all that was applied still is.
     abbrev pub TellsRefresh : Past State Op Undo → ℕ → OpenTx (List (Item Op)) → Bool →
         Past State Op Undo → Type 0
     TellsRefresh v p x answer w =

@@ -1,4 +1,4 @@
--- Proof machinery: what the parts of a start answer.
+-- Proof machinery: what the parts of a start return.
 use Rattle.std.specs.Prelude.{◌≡◌, ℕ, Bool, true, false, [], ◌∷◌, ◌++◌, map, reverse, None, Some}
 use Rattle.pp_kind.specs.Object.{Object, rules_of}
 use Rattle.pp_model.specs.Config.{Start}
@@ -31,7 +31,7 @@ module _ {Shape State Op Undo : Type 0} (o : Object Shape State Op Undo) (place 
     pub taken : as_taken w ≡ as_taken v
     pub keeps : Keeps o place w
 
-  -- What starting answers, and what is kept then.
+  -- What starting returns, and what is kept then.
   abbrev pub StartAnswers : Kept Shape State Op Undo → Start Op → Bool →
       Kept Shape State Op Undo → Type 0
   StartAnswers v z true w = StartMeets (rules_of o v.shape) (Some z) × PutsStart v z w

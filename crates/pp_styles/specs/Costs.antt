@@ -10,7 +10,7 @@ abbrev pub most_ticks : {Op : Type 0} → (Op → ℕ) → Config Op → List (S
 most_ticks place c [] = 0
 most_ticks place c (s ∷ ss) = at_most place c s + most_ticks place (then c s) ss
 
--- a step that applies or takes back one operation where it meets its criteria
+-- a step that applies or takes back one operation if it meets its criteria
 abbrev pub is_single : {Op : Type 0} → Step Op → Bool
 is_single (App t id op) = true
 is_single (Unapp t id) = true

@@ -42,8 +42,8 @@ abbrev pub halt_of : {Op : Type 0} → Step Op → Outcome Op → Option (Halt O
 halt_of step Done = None
 halt_of step (False n detail) = Some (Failed (rule_of step) n detail)
 
--- Why a machine halts before a step: this is its first false criterion, with what shows that; or a
--- run may have no step more.
+-- Why a machine halts before a step: this is the first criterion that it violates, with what shows
+-- that; or a run may have no step more.
 abbrev pub Halts : {Shape State Op Undo : Type 0} → Object Shape State Op Undo → Seen Shape Op →
     Step Op → Halt Op → Type 0
 Halts o v step (Failed rule n detail) =

@@ -1,4 +1,4 @@
--- Meaning: the steps that a list of written steps stands for.
+-- Meaning: the steps that a list of written steps means.
 use Rattle.std.specs.Prelude.{List, map}
 use Rattle.pp_core.specs.declared.step.Step.{Step as StepOf}
 use Rattle.pp_core.specs.Steps.{Step, meaning}

@@ -7,7 +7,7 @@ use Rattle.pp_core.specs.declared.entry.SharedEntry.{SharedEntry}
 use Rattle.pp_model.specs.Names.{Name}
 use Rattle.pp_records.specs.Expansions.{is_followed, stands_in}
 
--- no step where the entry is there, and else its PULL
+-- no step if the entry is there, and else its PULL
 abbrev pub pull_unless : {Op : Type 0} → Bool → Name → ℕ → List (Step Op)
 pull_unless there t id = if there then [] else Pull t id ∷ []
 

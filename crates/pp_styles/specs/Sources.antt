@@ -5,7 +5,7 @@ use Rattle.std.specs.Str.{bytes_eq}
 use Rattle.indexmap.specs.IndexSet.{IndexSet}
 use Rattle.pp_model.specs.Names.{Name}
 
--- where none are kept, there are none
+-- the sources that are kept, and no names if none are kept
 abbrev pub kept_sources : {H : Type 0} → Option (IndexSet Name H) → List Name
 kept_sources None = []
 kept_sources (Some us) = us.keys

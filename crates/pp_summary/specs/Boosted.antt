@@ -41,12 +41,12 @@ pub record GoodOp {Op State : Type 0} (O : Object Op State) (place : Op → ℕ)
   -- PUSH 5
   pub allowed : Allowed O (shared_ops c.shared ++ op ∷ [])
 
--- t is open, and this holds of it
+-- t is open, and P is true of it
 abbrev pub OfOpen : {Op : Type 0} → Config Op → Name → (Tx Op → Type 0) → Type 0
 OfOpen {Op} c t P = (x : Tx Op) × (tx t c.opened ≡ Some x) × P x
 
--- A record of a boosted run is good. A plain step is asked what its rule asks; of a boosted run it
--- is a begin. The last seven are none of it.
+-- A record of a boosted run is good. A plain step, which is a begin in a boosted run, must meet its
+-- criteria. The last seven records are of no boosted run, and never good.
 abbrev pub Good : {Op State : Type 0} → Object Op State → (Op → ℕ) → Config Op → RunRecord Op →
     Type 0
 Good O place c (records.Plain step) = Meets O c step
@@ -92,8 +92,8 @@ pub record Boosted {Op State : Type 0} (O : Object Op State) (place : Op → ℕ
   pub follows : (x : Tx Op) → In x c.opened → Follows O place c.shared x.local
   pub anchored : (x : Tx Op) → In x c.opened → Anchored place x.local
 
--- Boosted but that the log of t need not be anchored: so it is between the PULL steps of a refresh
--- of t.
+-- As `Boosted`, but the log of t need not be anchored. Between the PULL steps of a refresh of t it
+-- may not be.
 pub record BoostedBut {Op State : Type 0} (O : Object Op State) (place : Op → ℕ) (t : Name)
     (c : Config Op) : Type 0 where
   pub sound : Sound O c

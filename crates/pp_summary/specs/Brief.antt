@@ -56,7 +56,7 @@ brief_tx place G x =
       missed = missed place G x.local;
     }
 
--- The configuration, where each open transaction has its own operations alone, and what it has
+-- The configuration in brief: of each open transaction only its own operations, and what it has
 -- missed.
 abbrev pub brief : {Op : Type 0} → (Op → ℕ) → Config Op → Brief Op
 brief place c =
@@ -83,7 +83,7 @@ pub record BriefGoodOp {Op State : Type 0} (O : Object Op State) (place : Op →
       Swaps O u.op op
   pub allowed : Allowed O (shared_ops B.shared ++ op ∷ [])
 
--- t is open in the brief, and this holds of it
+-- t is open in the brief, and P is true of it
 abbrev pub InBrief : {Op : Type 0} → Brief Op → Name → (BriefTx Op → Type 0) → Type 0
 InBrief {Op} B t P = (x : BriefTx Op) × (brief_of t B.opened ≡ Some x) × P x
 

@@ -6,7 +6,7 @@ use Rattle.pp_model.specs.Rules.{IsVerdict, Rejected, RunsFrom, StartMeets, Verd
 use Rattle.pp_records.specs.Runs.{Lined, LinedSteps, Records, Standing, Translation, after_records}
 use Rattle.pp_records.specs.Runs.{bare, joined_steps, outset, steps_at}
 
--- all steps of the records, also behind one that fails
+-- all steps of the records, also those after one that fails
 abbrev pub all_steps : {F R Op : Type 0} → Translation F R Op → Option (Start Op) → Records R →
     LinedSteps Op
 all_steps T h rs = joined_steps T (outset T h) rs
@@ -49,7 +49,7 @@ pub record FailureLaw {F R Op State : Type 0} (O : Object Op State) (T : Transla
   pub some : (h : Option (Start Op)) (rs : Records R) → StartMeets O h →
       (RunsFrom O (first h) (bare (all_steps T h rs)) → ⊥) →
       ((r : Lined R) → FailsIn O T h rs r → ⊥) → ⊥
-  -- records behind it change nothing
+  -- records after it change nothing
   pub stays : (h : Option (Start Op)) (rs more : Records R) (r : Lined R) → FailsIn O T h rs r →
       FailsIn O T h (rs ++ more) r
   -- If the start fails, the verdict of the steps is the rejection of it.

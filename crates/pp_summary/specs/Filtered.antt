@@ -7,7 +7,7 @@ use Rattle.pp_kind.specs.declared.part.Part.{Part}
 use Rattle.pp_summary.specs.declared.part_filter.PartFilter.{PartFilter}
 use Rattle.pp_summary.specs.declared.part_filter.TheConstants.{REMAINDERS}
 
--- What the key of a part leaves, as an unsigned word.
+-- The remainder of the key of a part, as an unsigned word, divided by `REMAINDERS`.
 abbrev pub remainder : Part → ℕ
 remainder part = cast_unsigned w64 part.key % REMAINDERS
 

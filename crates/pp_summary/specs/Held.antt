@@ -21,7 +21,7 @@ pub record Held (Shape Op : Type 0) : Type 0 where
   pub brief : Brief Op
   pub count : ℕ
 
--- What a step that is a record asks: a body within the limits.
+-- What a step that is a record requires: a body within the limits.
 abbrev pub IsStepAsked : {Op : Type 0} → Step Op → Type 0
 IsStepAsked (Begin t p b) = IsWithinLimits b
 IsStepAsked (App t id op) = Unit {0}
@@ -44,7 +44,7 @@ abbrev pub IsItemAsked : {Shape State Op Undo : Type 0} → Object Shape State O
     Item Op → Type 0
 IsItemAsked o shape p = IsOpAsked o shape p.op
 
--- What a record asks.
+-- What a record requires of its step or operation.
 abbrev pub IsRecordAsked : {Shape State Op Undo : Type 0} → Object Shape State Op Undo → Shape →
     RunRecord Op → Type 0
 IsRecordAsked o shape (records.Plain step) = IsStepAsked step
@@ -84,7 +84,7 @@ module _ {Shape State Op Undo : Type 0} (o : Object Shape State Op Undo) (place 
   abbrev pub Takes : Held Shape Op → RunRecord Op → Bool → Held Shape Op → Type 0
   Takes v r answer w = (f : Front) (c : Config Op) → IsHeldOf v c → TakesIn v r answer w f c
 
-  -- the Quick before the first record, behind this start, or behind none
+  -- the Quick before the first record, after this start if there is one
   abbrev pub held_first : Shape → Option (Start Op) → Held Shape Op
   held_first shape h = record { shape = shape; brief = brief place (first h); count = 0 }
 
@@ -105,7 +105,7 @@ HasSteps {Op = Op} o place v r n =
 abbrev pub own_count : {Op : Type 0} → Name → Brief Op → ℕ
 own_count t B = length (own_list (brief_of t B.opened))
 
--- What a record costs at most, whatever it answers: an operation is applied once, and an abort or a
+-- What taking a record costs at most, good or not: an operation is applied once, and an abort or a
 -- retry takes each own operation back.
 abbrev pub take_most : {Op : Type 0} → Brief Op → RunRecord Op → ℕ
 take_most B (records.Plain step) = 0
@@ -125,7 +125,7 @@ take_most B (records.DropSource t source) = 0
 abbrev pub GoodCosts : {Op : Type 0} → Brief Op → RunRecord Op → ℕ → ℕ → Type 0
 GoodCosts B r old new = new ≡ old + take_most B r
 
--- What it costs by the answer: nothing if the record is not good.
+-- What taking a record costs by whether it is good: nothing if it is not.
 abbrev pub TakeCosts : {Op : Type 0} → Brief Op → RunRecord Op → Bool → ℕ → ℕ → Type 0
 TakeCosts B r true old new = GoodCosts B r old new
 TakeCosts B r false old new = new ≡ old

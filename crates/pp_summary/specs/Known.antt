@@ -9,14 +9,14 @@ use Rattle.pp_log_shared.specs.Uncommitted.{same_part}
 use Rattle.pp_kind.specs.Object.{Object}
 use Rattle.pp_summary.specs.declared.own.TheConstants.{FEW_OPERATIONS}
 
--- There are samples, and they stand for the operation.
+-- There are samples, and they cover the operation.
 abbrev pub CoversOf : {Shape State Op Undo : Type 0} → Object Shape State Op Undo →
     Option (SampleList Op) → Op → Type 0
 CoversOf o None op = ⊥
 CoversOf o (Some samples) op = Covers o samples op
 
 module _ {Shape State Op Undo : Type 0} (o : Object Shape State Op Undo) (part_of : Op → Part) where
-  -- The samples of its part stand for the operation.
+  -- The samples of the operation's part cover it.
   abbrev pub Knows : List (Part × SampleList Op) → Op → Type 0
   Knows slots op = CoversOf o (lookup (same_part (part_of op)) slots) op
 

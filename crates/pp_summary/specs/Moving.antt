@@ -17,7 +17,7 @@ module _ {Shape State Op Undo : Type 0} (o : Object Shape State Op Undo) (place 
     pub shown : shown place w ≡ brief_then place (shown place v) r
     pub keeps : KeepsQuick o place w
 
-  -- What taking it answers, and what is kept then.
+  -- What taking it returns, and what is kept then.
   abbrev pub Answers : Kept Shape Op → RunRecord Op → Bool → Kept Shape Op → Type 0
   Answers v r true w = IsGood v r × Moves v r w
   Answers v r false w = (IsGood v r → ⊥) × (w ≡ v)

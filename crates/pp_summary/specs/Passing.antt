@@ -1,4 +1,4 @@
--- Proof machinery: which own operations let commits pass, and what a transaction sees of commits.
+-- Proof machinery: which own operations swap with commits, and which commits a transaction sees.
 use Rattle.std.specs.Prelude.{◌≡◌, ℕ, cond, nat_eq, List, [], ◌∷◌, ◌++◌, length}
 use Rattle.std.specs.Prelude.{Some}
 use Rattle.std.specs.Map.{lookup}
@@ -14,7 +14,7 @@ use Rattle.pp_summary.specs.Shown.{at}
 abbrev pub with_commit : {Op : Type 0} → (Op → ℕ) → Item Op → ℕ → List ℕ → List ℕ
 with_commit place p q ids = cond (nat_eq (place p.op) q) (ids ++ p.id ∷ []) ids
 
--- Entries are told apart by their ids.
+-- No two entries have one id.
 abbrev pub HaveOwnIds : {Op : Type 0} → List (SharedEntry Op) → Type 0
 HaveOwnIds {Op} G = (g h : SharedEntry Op) → Before g h G → g.id ≡ h.id → ⊥
 
@@ -23,7 +23,7 @@ abbrev pub HaveEntries : {Op : Type 0} → List (SharedEntry Op) → List ℕ �
 HaveEntries {Op} G ids = (id : ℕ) → In id ids → (g : SharedEntry Op) × In g G × (g.id ≡ id)
 
 module _ {Shape State Op Undo : Type 0} (o : Object Shape State Op Undo) (place : Op → ℕ) where
-  -- Each of the items at its place lets the operation pass.
+  -- Each of the items at the operation's place swaps with it.
   abbrev pub LetPass : List (Item Op) → Op → Type 0
   LetPass own op = (a : Item Op) → In a own → place a.op ≡ place op → Swaps o a.op op
 
@@ -46,7 +46,7 @@ module _ {Shape State Op Undo : Type 0} (o : Object Shape State Op Undo) (place 
     pub among : In entry.id ids
     pub stops : Stops own entry.op
 
-  -- the transaction with one more own operation, behind which it has seen the commits at its place
+  -- the transaction with one more own operation, after which it has seen the commits at its place
   pub record IsGrown (commits : List (List ℕ)) (x : OpenTx (List (Item Op)))
       (p : Item Op) (y : OpenTx (List (Item Op))) : Type 0 where
     pub thread : y.thread ≡ x.thread

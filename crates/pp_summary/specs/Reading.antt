@@ -16,8 +16,8 @@ use Rattle.pp_summary.specs.Sums.{AreTried}
 
 module _ {Shape State Op Undo : Type 0} (o : Object Shape State Op Undo) (place : Op → ℕ)
     (ks : List Kind) (h : Option (Start Op)) where
-  -- The records are of a boosted run, whose start and each of whose steps hold, and this is the
-  -- Quick behind them.
+  -- The records are of a boosted run, whose start and each of whose steps meet their criteria, and
+  -- this is the Quick after them.
   pub record HasRead (rs : Records (RunRecord Op)) (v : Held Shape Op) : Type 0 where
     pub boosted : AreBoosted rs
     pub begun : StartMeets (rules_of o v.shape) h

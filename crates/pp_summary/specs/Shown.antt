@@ -52,7 +52,7 @@ items_at place q items = filter (λ p. place p.op == q) items
 abbrev pub ids_at : {Op : Type 0} → (Op → ℕ) → ℕ → List (Item Op) → List ℕ
 ids_at place q items = item_ids (items_at place q items)
 
--- what is behind the first k
+-- what comes after the first k, and nothing if there is no k
 abbrev pub ids_behind : {A : Type 0} → Option ℕ → List A → List A
 ids_behind None items = []
 ids_behind (Some k) items = drop k items
@@ -114,14 +114,14 @@ abbrev pub calls_of : {Shape State Op Undo : Type 0} → Object Shape State Op U
     List (Item Op) → List Call
 calls_of o items = map (λ p. o.call p.op) items
 
--- The threads that are busy are told apart, and are these.
+-- No thread is busy twice, and the busy ones are these.
 pub record AreThreads (threads busy : List Name) : Type 0 where
   pub apart : (p q : Name) → Before p q busy → p ≢ q
   pub are : (p : Name) → list_any (λ q. p =ⁿ q) threads ≡ list_any (λ q. q =ⁿ p) busy
 
 module _ {Shape State Op Undo : Type 0} (o : Object Shape State Op Undo) (place : Op → ℕ) where
   -- What is kept of an open transaction: its walk has taken its own calls, and what it has seen is
-  -- told of the places of its own operations, and of no others.
+  -- kept for the places of its own operations, and for no others.
   pub record IsFine (commits : List (List ℕ)) (x : OpenTx (List (Item Op))) : Type 0 where
     pub taken : HasTaken x.walk (calls_of o x.own)
     pub sees : (q : ℕ) → is_some (lookup (nat_eq q) x.seen.entries) ≡ any_at place q x.own

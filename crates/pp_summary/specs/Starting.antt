@@ -1,4 +1,4 @@
--- Proof machinery: what the parts of a start answer, and what it makes of what a Quick keeps.
+-- Proof machinery: what the parts of a start return, and how a start changes what a Quick keeps.
 use Rattle.std.specs.Prelude.{◌≡◌, ℕ, Bool, true, false, List, map, Option, None, Some}
 use Rattle.pp_core.specs.declared.entry.Item.{Item}
 use Rattle.pp_core.specs.declared.entry.SharedEntry.{SharedEntry}
@@ -35,7 +35,7 @@ module _ {Shape State Op Undo : Type 0} (o : Object Shape State Op Undo) (place 
     pub shown : shown place w ≡ brief place (first (Some z))
     pub keeps : KeepsQuick o place w
 
-  -- What starting answers, and what is kept then.
+  -- What starting returns, and what is kept then.
   abbrev pub StartAnswers : Kept Shape Op → Start Op → Bool → Kept Shape Op → Type 0
   StartAnswers v z true w = StartMeets (rules_of o v.shape) (Some z) × PutsStart v z w
   StartAnswers v z false w = (StartMeets (rules_of o v.shape) (Some z) → ⊥) × (w ≡ v)

@@ -1,4 +1,4 @@
--- Proof machinery: which step of a record is the first with a false criterion, by the summary.
+-- Proof machinery: which step of a record is the first to violate a criterion, by the summary.
 use Rattle.std.specs.Prelude.{◌≡◌, ℕ, zero, suc, List, [], ◌∷◌, Option, None, Some, slice_get}
 use Rattle.pp_core.specs.declared.step.Rule.{Rule}
 use Rattle.pp_core.specs.Steps.{rule_of}
@@ -15,7 +15,8 @@ abbrev pub AllTrue : {Op : Type 0} → List (Asked Op) → Type 0
 AllTrue [] = Unit {0}
 AllTrue (a ∷ qs) = FirstFalse a.asks 0 × AllTrue qs
 
--- Step number k is the first with a false criterion, the first of which has the number n, from 0.
+-- Step number k is the first that violates a criterion, and the first such criterion has the
+-- number n, from 0.
 abbrev pub FalseAt : {Op : Type 0} → List (Asked Op) → ℕ → ℕ → Type 0
 FalseAt [] k n = ⊥
 FalseAt (a ∷ qs) zero n = FirstFalse a.asks (suc n)
@@ -32,7 +33,7 @@ HasRuleAt [] k rule = ⊥
 HasRuleAt (a ∷ qs) zero rule = IsRule a.step rule
 HasRuleAt (a ∷ qs) (suc k) rule = HasRuleAt qs k rule
 
--- This is the first false one of these criteria, with its evidence.
+-- This is the first of these criteria that is violated, with its evidence.
 pub record Breaks {Op : Type 0} (asks : List (Type 0)) (details : List (Detail Op))
     (x : Broken Op) : Type 0 where
   pub number : ℕ
@@ -40,7 +41,7 @@ pub record Breaks {Op : Type 0} (asks : List (Type 0)) (details : List (Detail O
   pub criterion : x.criterion ≡ suc number
   pub detail : x.detail ≡ at_number details (suc number)
 
--- The first false criterion, or none if all of them are true.
+-- The first violated criterion, or none if all of them are true.
 abbrev pub Judges : {Op : Type 0} → List (Type 0) → List (Detail Op) → Option (Broken Op) → Type 0
 Judges asks details None = FirstFalse asks 0
 Judges asks details (Some x) = Breaks asks details x
@@ -50,7 +51,7 @@ abbrev pub HasDetailAt : {Op : Type 0} → List (List (Detail Op)) → ℕ → �
 HasDetailAt {Op} ds k n d =
     (l : List (Detail Op)) × (slice_get ds k ≡ Some l) × (d ≡ at_number l (suc n))
 
--- This is the first of these steps with a false criterion, with that criterion and its evidence.
+-- This is the first of these steps that violates a criterion, with that criterion and its evidence.
 pub record Fails {Op : Type 0} (qs : List (Asked Op)) (ds : List (List (Detail Op)))
     (x : Violation Op) : Type 0 where
   pub number : ℕ
@@ -59,7 +60,7 @@ pub record Fails {Op : Type 0} (qs : List (Asked Op)) (ds : List (List (Detail O
   pub criterion : x.criterion ≡ suc number
   pub detail : HasDetailAt ds x.offset number x.detail
 
--- The first step with a false criterion, or none if there is none.
+-- The first step that violates a criterion, or none if there is none.
 abbrev pub Finds : {Op : Type 0} → List (Asked Op) → List (List (Detail Op)) →
     Option (Violation Op) → Type 0
 Finds qs ds None = AllTrue qs

@@ -1,4 +1,4 @@
--- Proof machinery: what the parts of the search answer.
+-- Proof machinery: what the parts of the search return.
 use Rattle.std.specs.Prelude.{◌≡◌, ◌≢◌, ◌<◌, ◌==◌, ◌&&◌, ℕ, Bool, false, not, List, [], ◌∷◌, ◌++◌}
 use Rattle.std.specs.Prelude.{length, slice_get, take, Option, None, Some, Result, Ok, Err}
 use Rattle.std.specs.List.{list_any}
@@ -97,7 +97,7 @@ module _ {Shape State Op Undo : Type 0} (o : Object Shape State Op Undo) (place 
       ∷ own_swap o own g.op
       ∷ []
 
-  -- What judging a PULL answers: if no criterion is false, the state is the one after it.
+  -- What judging a PULL returns: if no criterion is violated, the state is the one after it.
   abbrev pub JudgesPull : List Op → List (Item Op) → SharedEntry Op → State →
       Option (Broken Op) → Type 0
   JudgesPull before own g s None =
@@ -111,7 +111,7 @@ module _ {Shape State Op Undo : Type 0} (o : Object Shape State Op Undo) (place 
       (j : ℕ) (g : SharedEntry Op) → j < k → slice_get entries j ≡ Some g →
       FirstFalse (pull_facts (before ++ shared_ops (take j entries)) own g) 0
 
-  -- This is the first PULL with a false criterion.
+  -- This is the first PULL that violates a criterion.
   pub record FailsPull (before : List Op) (own : List (Item Op)) (entries : List (SharedEntry Op))
       (x : Violation Op) : Type 0 where
     pub entry : SharedEntry Op
@@ -122,7 +122,7 @@ module _ {Shape State Op Undo : Type 0} (o : Object Shape State Op Undo) (place 
         (pull_evidence (before ++ shared_ops (take x.offset entries)) own entry)
         (record { criterion = x.criterion; detail = x.detail })
 
-  -- What a search through PULLs answers: the state after all of them, or the first that fails.
+  -- What a search through PULLs returns: the state after all of them, or the first that fails.
   abbrev pub SearchesPulls : List Op → List (Item Op) → List (SharedEntry Op) →
       Result State (Violation Op) → Type 0
   SearchesPulls before own entries (Ok s) =
@@ -164,7 +164,7 @@ module _ {Shape State Op Undo : Type 0} (o : Object Shape State Op Undo) (place 
       ∷ gives_behind o shape id (shared_ops G) op
       ∷ []
 
-  -- what a search for the first false criterion of the steps of a record answers
+  -- what a search for the first violated criterion of the steps of a record returns
   abbrev pub SearchesRecord : Kept Shape Op → RunRecord Op → Option (Violation Op) → Type 0
   SearchesRecord v r x =
       Finds (record_asks Boosted (rules_of o shape) place (kept_summary v) r)

@@ -26,7 +26,7 @@ seen_of entries q = number_or_zero (lookup (nat_eq q) entries)
 abbrev pub marked_entry : {Op : Type 0} → Mark → Name → Item Op → LocalEntry Op
 marked_entry m t p = record { id = p.id; owner = t; mark = m; op = p.op }
 
--- the own entry that an operation of t leaves: it is pushed at once
+-- the own entry of an operation of t: it is pushed at once
 abbrev pub own_entry : {Op : Type 0} → Name → Item Op → LocalEntry Op
 own_entry t p = marked_entry Pushed t p
 

@@ -1,4 +1,4 @@
--- Proof machinery: what holds of the machine as a judge.
+-- Proof machinery: the laws of the machine as a judge.
 use Rattle.std.specs.Prelude.{◌≡◌, ◌≤◌, ◌+◌, ℕ, zero, suc, List, [], ◌∷◌, ◌++◌, length, take}
 use Rattle.std.specs.Prelude.{Option, None, Some}
 use Rattle.std.proofs.Common.{refl, sym, ap, ◌∙◌, subst, arith, append_assoc}
@@ -194,7 +194,7 @@ module _ (h : Header) (at : ℕ) (rs : Records (RunRecord Op)) (rejection : Reje
         (sym (append_assoc rs more others)) (e.stays (more ++ others));
   }
 
-  -- what holds of its steps holds of those of the run with more records
+  -- if P is true of the steps of the run, it is true of the steps of the run with more records
   pub holds_behind : (P : List (Step Op) → Type 0) (more : Records (RunRecord Op)) →
       ((run : LinedSteps Op) → IsRun (object_of h) (translation_of h) (start_of h) rs run →
       P (bare run))
