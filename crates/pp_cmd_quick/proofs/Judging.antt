@@ -121,8 +121,8 @@ ops_before rs before behind it r e =
     let parted = ap (λ (z : List (RunRecord Op)). count_ops z) (bare_append before k.0) in
     omega (arith, same, parted, ops_append (bare before) (bare k.0))
 
--- a record that fails, after those that were taken
-failed_least : (header : Lined Header) (rs : Records (RunRecord Op)) (it : Lined (RunRecord Op)) (old now new : ℕ) → old + count_ops (bare rs) ≤ now → now ≤ new → OfTaken (Some header) (rs ++ it ∷ []) (Least old new)
+-- If the counter rose by one for each operation of some records, it is within the lower bound of these and one that fails.
+pub failed_least : (header : Lined Header) (rs : Records (RunRecord Op)) (it : Lined (RunRecord Op)) (old now new : ℕ) → old + count_ops (bare rs) ≤ now → now ≤ new → OfTaken (Some header) (rs ++ it ∷ []) (Least old new)
 failed_least header rs it old now new least rises r f =
     fewer_ops old now new (count_ops (bare rs)) (count_ops (bare f.before)) least rises (ops_before rs f.before f.behind it r f.parts)
 

@@ -144,7 +144,8 @@ same_count n = omega arith
 abbrev pub Least : ℕ → ℕ → List (RunRecord Op) → Type 0
 Least old new taken = old + count_ops taken ≤ new
 
-passed_least : (header : Lined Header) (rs : Records (RunRecord Op))
+-- records after one that fails are only read
+pub passed_least : (header : Lined Header) (rs : Records (RunRecord Op))
     (more : Records (RunRecord Op)) (at old now : ℕ) → FailsOn header rs at →
     OfTaken (Some header) rs (Least old now) → OfTaken (Some header) (rs ++ more) (Least old now)
 passed_least header rs more at old now (inl k) least r f = absurd (k.0 f.begun)
