@@ -8,13 +8,12 @@ use Rattle.pp_model.specs.Object.{ops}
 use Rattle.pp_kind.specs.Object.{Object}
 use Rattle.pp_records.specs.Records.{RunRecord}
 use Rattle.pp_records.specs.Records as records
-use Rattle.pp_laws_summary.specs.Counts.{missing_count}
 use Rattle.pp_laws_summary.specs.LocalLogs.{serial_at}
 use Rattle.pp_laws_summary.specs.Places.{ops_at}
 use Rattle.pp_laws_summary.specs.Summary.{OpenSummary, open_named}
 use Rattle.pp_summary.specs.Shown.{filled, open_in}
 use Rattle.pp_summary.specs.declared.parts.OpenTx.{OpenTx}
-use Rattle.pp_snapshots.specs.Held.{later_at, of_open, own_at, take_most}
+use Rattle.pp_snapshots.specs.Costs.{later_at, of_open, own_at, take_most, unseen_at}
 use Rattle.pp_snapshots.specs.Ops.{kept_most, op_most, or_nothing, refresh_most}
 use Rattle.pp_snapshots.specs.Past.{made_at}
 use Rattle.pp_snapshots.specs.Shown.{Keeps, Kept, as_local, done_ops, seen_in, shown, shown_tx}
@@ -50,7 +49,7 @@ module _ {Shape State Op Undo : Type 0} (o : Object Shape State Op Undo) (place 
       ∙ ap (λ (l : List Op). 2 * (cond (nat_eq seen zero && nat_eq (length (ops_at place q l)) zero) 0 (all - seen) + (length (ops_at place q l) + 1))) (sym (ops_local t x.own))
 
   refresh_is : (ks : List Kind) (t : Name) (q : ℕ) (x : OpenTx (List (Item Op))) →
-      refresh_most place v.past x q ≡ 2 * (missing_count place q (shown ks v) (shown_tx t x) + (own_at place (shown_tx t x) q + missing_count place q (shown ks v) (shown_tx t x)))
+      refresh_most place v.past x q ≡ 2 * (unseen_at place (shown ks v) (shown_tx t x) q + (own_at place (shown_tx t x) q + unseen_at place (shown ks v) (shown_tx t x) q))
   refresh_is ks t q x =
       let seen = seen_in x.seen.entries q in
       let all = length (serial_at place q v.committed) in
@@ -67,7 +66,7 @@ module _ {Shape State Op Undo : Type 0} (o : Object Shape State Op Undo) (place 
   most_is ks (records.Retry t) = refl
   most_is ks (records.Refresh t q) =
       of_it t (λ x. refresh_most place v.past x q)
-      (λ y. 2 * (missing_count place q (shown ks v) y + (own_at place y q + missing_count place q (shown ks v) y))) (refresh_is ks t q)
+      (λ y. 2 * (unseen_at place (shown ks v) y q + (own_at place y q + unseen_at place (shown ks v) y q))) (refresh_is ks t q)
   most_is ks (records.XBegin t) = refl
   most_is ks (records.XEnd t) = refl
   most_is ks (records.XAbort t) = refl

@@ -27,7 +27,7 @@ use Rattle.pp_summary.specs.Failures.{FailsIn, all_steps, standing_after}
 use Rattle.pp_summary.proofs.Failures.{hold_next}
 use Rattle.pp_snapshots.specs.Held.{IsGoodTaken, IsTakenOf, Taken, Takes, first_taken, summary_taken}
 use Rattle.pp_snapshots.specs.Runs.{AreOptimistic, IsOptimistic, IsTakenAfter, TakesRuns, optimism}
-use Rattle.pp_snapshots.specs.Sums.{AreTried}
+use Rattle.pp_snapshots.specs.Costs.{AreTried}
 use Rattle.pp_snapshots.proofs.Moving.{kinds_stay}
 use Rattle.pp_snapshots.proofs.Sums.{tried_all, tried_to}
 

@@ -7,8 +7,8 @@ use Rattle.pp_laws_summary.specs.Summary.{Summary, SummaryGood, next_summary}
 use Rattle.pp_model.specs.Object.{Object}
 use Rattle.pp_records.specs.Fronts.{Front}
 use Rattle.pp_records.specs.Records.{RunRecord}
-use Rattle.pp_snapshots.specs.Held.{take_most}
-use Rattle.pp_snapshots.specs.Sums.{AreTried, CostsOfTried, records_most}
+use Rattle.pp_snapshots.specs.Costs.{AreTried, records_most, take_most}
+use Rattle.pp_snapshots.specs.Sums.{CostsOfTried}
 
 module _ {Op State : Type 0} (O : Object Op State) (place : Op → ℕ) where
   abbrev S : Summing Front (RunRecord Op) Op (Summary Op)

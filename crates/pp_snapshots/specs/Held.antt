@@ -1,24 +1,21 @@
 -- Meaning: what contracts see of Snapshots, and what taking a record does.
-use Rattle.std.specs.Prelude.{◌≡◌, ◌&&◌, ◌+◌, ◌*◌, ℕ, zero, nat_eq, cond, Bool, true, false}
+use Rattle.std.specs.Prelude.{◌≡◌, ◌+◌, ℕ, Bool, true, false}
 use Rattle.std.specs.Prelude.{List, [], length, map, Option, None, Some}
 use Rattle.pp_core.specs.declared.call.Kind.{Kind}
 use Rattle.pp_core.specs.declared.call.Style.TheVariants.{Optimistic}
 use Rattle.pp_core.specs.declared.entry.CommittedTx.{CommittedTx}
 use Rattle.pp_core.specs.declared.entry.Item.{Item}
 use Rattle.pp_model.specs.Body.{Tree}
-use Rattle.pp_model.specs.Config.{Start, first, local_ops}
+use Rattle.pp_model.specs.Config.{Start, first}
 use Rattle.pp_model.specs.Names.{Name}
 use Rattle.pp_model.specs.Rules.{StartMeets}
 use Rattle.pp_kind.specs.Object.{Object, rules_of}
-use Rattle.pp_laws_summary.specs.Counts.{missing_count}
 use Rattle.pp_laws_summary.specs.LocalLogs.{Summable}
-use Rattle.pp_laws_summary.specs.Places.{ops_at}
 use Rattle.pp_laws_summary.specs.Summary.{OpenSummary, Summary, SummaryGood, next_summary}
-use Rattle.pp_laws_summary.specs.Summary.{open_named, summary_of}
+use Rattle.pp_laws_summary.specs.Summary.{summary_of}
 use Rattle.pp_records.specs.Expansions.{expand}
 use Rattle.pp_records.specs.Fronts.{Front}
 use Rattle.pp_records.specs.Records.{RunRecord}
-use Rattle.pp_records.specs.Records as records
 use Rattle.pp_records.specs.Runs.{Standing}
 use Rattle.pp_snapshots.specs.Shown.{as_local, seen_in, shared_done}
 
@@ -114,38 +111,3 @@ module _ {Shape State Op Undo : Type 0} (o : Object Shape State Op Undo) (place 
   HasStepCount s r n =
       (p : Standing Front Op) → IsTakenOf s p →
       n ≡ length (expand place Optimistic p.front p.config r)
-
--- how many own operations of a transaction are at a place
-abbrev pub own_at : {Op : Type 0} → (Op → ℕ) → OpenSummary Op → ℕ → ℕ
-own_at place x q = length (ops_at place q (local_ops x.own))
-
--- how many later commits at a place an operation takes back: none, if it is the first there
-abbrev pub later_at : {Op : Type 0} → (Op → ℕ) → Summary Op → OpenSummary Op → ℕ → ℕ
-later_at place B x q =
-    cond (nat_eq (x.seen q) zero && nat_eq (own_at place x q) zero) 0 (missing_count place q B x)
-
--- the number, or 0 if the transaction is not open
-abbrev pub of_open : {A : Type 0} → Option A → (A → ℕ) → ℕ
-of_open None most = 0
-of_open (Some x) most = most x
-
--- What a record costs at most, whatever is returned. An operation, the own ones at its place and the
--- later commits there are each applied and taken back once.
-abbrev pub take_most : {Op : Type 0} → (Op → ℕ) → Summary Op → RunRecord Op → ℕ
-take_most place B (records.Plain step) = 0
-take_most place B (records.Op t id op) =
-    of_open (open_named t B.opened)
-    (λ x. 2 * (later_at place B x (place op) + (own_at place x (place op) + 1)))
-take_most place B (records.Commit t) =
-    of_open (open_named t B.opened) (λ x. 2 * length x.own)
-take_most place B (records.Abort t) = 0
-take_most place B (records.Retry t) = 0
-take_most place B (records.Refresh t q) =
-    of_open (open_named t B.opened)
-    (λ x. 2 * (missing_count place q B x + (own_at place x q + missing_count place q B x)))
-take_most place B (records.XBegin t) = 0
-take_most place B (records.XEnd t) = 0
-take_most place B (records.XAbort t) = 0
-take_most place B (records.Depend t source) = 0
-take_most place B (records.Publish t) = 0
-take_most place B (records.DropSource t source) = 0

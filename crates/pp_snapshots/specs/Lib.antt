@@ -2,6 +2,7 @@ pub mod Past
 pub mod Many
 pub mod Shown
 pub mod Held
+pub mod Costs
 pub mod Moving
 pub mod Ops
 pub mod Closing

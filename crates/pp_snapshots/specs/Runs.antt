@@ -19,7 +19,7 @@ use Rattle.pp_records.specs.Styles.{translation}
 use Rattle.pp_summary.specs.Failures.{FailsIn, all_steps, standing_after}
 use Rattle.pp_snapshots.specs.Held.{IsGoodTaken, IsTakenOf, Taken, Takes, first_taken}
 use Rattle.pp_snapshots.specs.Held.{summary_taken}
-use Rattle.pp_snapshots.specs.Sums.{AreTried}
+use Rattle.pp_snapshots.specs.Costs.{AreTried}
 
 -- the record is one of an optimistic run
 abbrev pub IsOptimistic : {Op : Type 0} → RunRecord Op → Type 0

@@ -11,8 +11,9 @@ ghost use Rattle.pp_records.specs.Fronts.{Front};
 ghost use Rattle.pp_records.specs.Records.{record_meaning};
 ghost use Rattle.pp_records.specs.Runs.{Standing};
 ghost use Rattle.pp_summary.specs.Held.{IsItemAsked, IsRecordAsked};
+ghost use Rattle.pp_snapshots.specs.Costs.{take_most};
 ghost use Rattle.pp_snapshots.specs.Held.{HasStepCount, IsTakenOf, Starts, Takes};
-ghost use Rattle.pp_snapshots.specs.Held.{first_taken, summary_taken, take_most};
+ghost use Rattle.pp_snapshots.specs.Held.{first_taken, summary_taken};
 ghost use Rattle.pp_snapshots.specs.Moving.{as_taken};
 ghost use Rattle.pp_snapshots.specs.Shown.{Keeps};
 

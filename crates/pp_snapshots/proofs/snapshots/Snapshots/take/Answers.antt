@@ -1,7 +1,8 @@
 use Rattle.std.proofs.Common.{◌∙◌, ◌+◌, ◌<◌, ◌≤◌, [], ap, subst, sym}
 use Rattle.pp_records.specs.Records.{record_meaning}
 use Rattle.pp_summary.specs.Held.{IsRecordAsked}
-use Rattle.pp_snapshots.specs.Held.{Takes, summary_taken, take_most}
+use Rattle.pp_snapshots.specs.Costs.{take_most}
+use Rattle.pp_snapshots.specs.Held.{Takes, summary_taken}
 use Rattle.pp_snapshots.specs.Moving.{as_taken}
 use Rattle.pp_snapshots.specs.Ops.{kept_most}
 use Rattle.pp_snapshots.specs.Shown.{Keeps}
