@@ -51,6 +51,7 @@ pub fn apply_all<S: Placed, L: Ledger>(
     ensures bound { ticks.new ≤ ticks.old + 2 * length ops.now }
     ensures good { IfOk result (λ good. ticks.new
         ≤ ticks.old + cond good (length ops.now) (2 * length ops.now)) }
+    ensures least { IfOk result (λ good. ticks.old + cond good (length ops.now) 0 ≤ ticks.new) }
 {
     for k in 0..ops.len() {
         if !apply::<S, L>(past, &ops[k], ticks)? {
@@ -76,6 +77,7 @@ fn can_follow<S: Placed, L: Ledger>(
     ensures size { OnOk result (past.new.size ≡ past.old.size) }
     ensures rises { ticks.old ≤ ticks.new }
     ensures bound { ticks.new ≤ ticks.old + 2 * length ops.now }
+    ensures least { IfOk result (λ good. ticks.old + cond good (length ops.now) 0 ≤ ticks.new) }
 {
     if !apply_all::<S, L>(past, ops, ticks)? {
         return Ok(false);
@@ -149,6 +151,7 @@ pub fn may_follow<S: Placed, L: Ledger>(
     ensures rises { ticks.old ≤ ticks.new }
     ensures bound { ticks.new ≤ ticks.old
         + 2 * ((length (made_at place past.old.places.items) - seen) + length ops.now) }
+    ensures least { IfOk result (λ good. ticks.old + cond good (length ops.now) 0 ≤ ticks.new) }
 {
     let later = ops_from(past.alloc, &past.places, usize::from(place), seen)?;
     take_all_back::<S, L>(past, &later, ticks)?;

@@ -1,5 +1,5 @@
 //! An op record.
-ghost use Rattle.std.specs.Prelude.{◌≡◌, ◌+◌, ◌*◌, ◌<◌, ◌≤◌, IfOk, IsTrue, OnOk, length};
+ghost use Rattle.std.specs.Prelude.{◌≡◌, ◌+◌, ◌*◌, ◌<◌, ◌≤◌, IfOk, IsTrue, OnOk, is_some, length};
 ghost use Rattle.pp_body.specs.Walks.{HasTaken, MayTake};
 ghost use Rattle.pp_laws_summary.specs.Places.{ops_at};
 ghost use Rattle.pp_model.specs.Object.{ops};
@@ -91,6 +91,7 @@ pub fn may_op<S: Placed, L: Ledger>(
     ensures size { OnOk result (past.new.size ≡ past.old.size) }
     ensures rises { ticks.old ≤ ticks.new }
     ensures bound { ticks.new ≤ ticks.old + op_most S.place_of past.old it.now op.now }
+    ensures least { IfOk result (λ found. IsTrue (is_some found) → ticks.old < ticks.new) }
 {
     if ids.contains(id) {
         return Ok(None);
@@ -162,6 +163,7 @@ pub fn do_op<S: Placed, L: Ledger>(
     ensures rises { ticks.old ≤ ticks.new }
     ensures bound { ticks.new ≤ ticks.old
         + open_most tx.now parts.old (λ x. op_most S.place_of parts.old.past x op.now) }
+    ensures least { IfOk result (λ good. IsTrue good → ticks.old < ticks.new) }
 {
     let Some(it) = find_open(&parts.slots, tx) else {
         return Ok(false);

@@ -1,5 +1,5 @@
 //! An optimistic run, decided without a log.
-ghost use Rattle.std.specs.Prelude.{◌≡◌, ◌+◌, ◌*◌, ◌≤◌, ◌<◌, [], None, IfOk, IsTrue, length};
+ghost use Rattle.std.specs.Prelude.{◌≡◌, ◌+◌, ◌*◌, ◌≤◌, ◌<◌, ◌∷◌, [], None, IfOk, IsTrue, length};
 ghost use Rattle.std.specs.List.{All};
 ghost use Rattle.pp_core.specs.declared.call.Style.TheVariants.{Optimistic};
 ghost use Rattle.pp_model.specs.Config.{start_with};
@@ -11,6 +11,7 @@ ghost use Rattle.pp_records.specs.Fronts.{Front};
 ghost use Rattle.pp_records.specs.Records.{record_meaning};
 ghost use Rattle.pp_records.specs.Runs.{Standing};
 ghost use Rattle.pp_summary.specs.Held.{IsItemAsked, IsRecordAsked};
+ghost use Rattle.pp_summary.specs.Sums.{count_ops};
 ghost use Rattle.pp_snapshots.specs.Costs.{take_most};
 ghost use Rattle.pp_snapshots.specs.Held.{HasStepCount, IsTakenOf, Starts, Takes};
 ghost use Rattle.pp_snapshots.specs.Held.{first_taken, summary_taken};
@@ -149,6 +150,8 @@ impl<S: Placed> Snapshots<S> {
         ensures bound { ticks.new
             ≤ ticks.old
             + take_most S.place_of (summary_taken [] self) (record_meaning recorded.now) }
+        ensures least { IfOk result (λ r. IsTrue r.1 →
+            ticks.old + count_ops (record_meaning recorded.now ∷ []) ≤ ticks.new) }
     {
         let Snapshots { mut parts } = self;
         let good = take::take::<S, L>(&mut *parts, recorded, ticks)?;

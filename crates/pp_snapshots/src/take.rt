@@ -1,10 +1,11 @@
 //! Taking a record.
-ghost use Rattle.std.specs.Prelude.{◌+◌, ◌≤◌, ◌<◌, IfOk};
+ghost use Rattle.std.specs.Prelude.{◌+◌, ◌≤◌, ◌<◌, ◌∷◌, [], IfOk, IsTrue};
 ghost use Rattle.pp_core.specs.Steps.{meaning};
 ghost use Rattle.pp_core.specs.declared.call.Style.TheVariants.{Optimistic};
 ghost use Rattle.pp_records.specs.Expansions.{IsOfStyle};
 ghost use Rattle.pp_records.specs.Records.{Plain, record_meaning};
 ghost use Rattle.pp_summary.specs.Held.{IsRecordAsked, IsStepAsked};
+ghost use Rattle.pp_summary.specs.Sums.{count_ops};
 ghost use Rattle.pp_snapshots.specs.Moving.{Answers};
 ghost use Rattle.pp_snapshots.specs.Ops.{kept_most};
 ghost use Rattle.pp_snapshots.specs.Shown.{Keeps};
@@ -62,6 +63,8 @@ pub fn take<S: Placed, L: Ledger>(
     ensures rises { ticks.old ≤ ticks.new }
     ensures bound { ticks.new ≤ ticks.old
         + kept_most S.place_of parts.old (record_meaning recorded.now) }
+    ensures least { IfOk result (λ good. IsTrue good →
+        ticks.old + count_ops (record_meaning recorded.now ∷ []) ≤ ticks.new) }
 {
     match recorded {
         RunRecord::Plain(step) => take_step::<S>(parts, step),
