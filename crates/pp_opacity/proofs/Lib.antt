@@ -1,0 +1,7 @@
+pub mod Choices
+pub mod Trials
+pub mod Serials
+pub mod Windows
+pub mod Replays
+pub mod Takes
+pub mod Zombies

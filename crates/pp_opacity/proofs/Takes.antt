@@ -1,0 +1,139 @@
+-- Proof machinery: a step that is taken, in each of its forms.
+use Rattle.std.specs.Prelude.{◌≡◌, ◌≢◌, ◌≤◌, ◌+◌, ◌-◌, ℕ, false, cond, List, [], ◌∷◌, ◌++◌, length, take, Option, None, Some}
+use Rattle.std.proofs.Common.{refl, sym, ap, subst, ◌∙◌, arith}
+use Rattle.pp_model.specs.Config.{Begin, App, Unapp, Push, Unpush, Pull, Unpull, Cmt, Quit, Note, CommittedTx, Start, Step}
+use Rattle.pp_model.specs.Body.{Tree}
+use Rattle.pp_model.specs.Names.{Name, ◌=ⁿ◌}
+use Rattle.pp_model.specs.Object as model
+use Rattle.pp_model.specs.Object.{Item}
+use Rattle.pp_model.specs.Serial.{commits}
+use Rattle.pp_kind.specs.Object.{Object, rules_of}
+use Rattle.pp_attempts.specs.Lists.{own_after}
+use Rattle.pp_laws_opacity.specs.Opacity.{MayStart, SeesSome}
+use Rattle.pp_opacity.specs.Attempts.{OpenAttempt, least_in, own_in}
+use Rattle.pp_opacity.specs.Replays.{Follows, IsSeen}
+use Rattle.pp_opacity.specs.Results.{IsRun}
+use Rattle.pp_opacity.specs.Trials.{IsAt, IsExplained, MayAsk, Serial}
+use Rattle.pp_opacity.proofs.Replays.{count_step, explained_sees, follows_app, follows_begin, follows_quiet, follows_unapp, low_within, may_ask, now_fewer, sees_explained}
+
+-- the step is an APP
+abbrev IsApp : {Op : Type 0} → Step Op → Type 0
+IsApp {Op} s = (t : Name) × (id : ℕ) × (op : Op) × (s ≡ App t id op)
+
+-- A step that is no APP shows no zombie.
+pub seen_quiet : {Op State : Type 0} (O : model.Object Op State) (h : Option (Start Op)) (past : List (Step Op)) (s : Step Op) → (IsApp s → ⊥) → IsSeen O h past s None
+seen_quiet O h past s n t id op e = absurd (n (t, id, op, e))
+
+-- The step neither begins an attempt, nor changes an own list, nor commits, and is no APP.
+pub record IsIdle {Op : Type 0} (s : Step Op) : Type 0 where
+  pub still : (t : Name) → MayStart t s → ⊥
+  pub same : (t : Name) (l : List (Item Op)) → own_after t s l ≡ l
+  pub none : commits (s ∷ []) ≡ []
+  pub no_app : IsApp s → ⊥
+
+-- A PUSH is idle.
+pub idle_push : {Op : Type 0} (u : Name) (id : ℕ) → IsIdle {Op = Op} (Push u id)
+idle_push u id = record { still = λ t m. m; same = λ t l. refl; none = refl; no_app = λ a. let e = a.3 in cc }
+
+-- An UNPUSH is idle.
+pub idle_unpush : {Op : Type 0} (u : Name) (id : ℕ) → IsIdle {Op = Op} (Unpush u id)
+idle_unpush u id = record { still = λ t m. m; same = λ t l. refl; none = refl; no_app = λ a. let e = a.3 in cc }
+
+-- A PULL is idle.
+pub idle_pull : {Op : Type 0} (u : Name) (id : ℕ) → IsIdle {Op = Op} (Pull u id)
+idle_pull u id = record { still = λ t m. m; same = λ t l. refl; none = refl; no_app = λ a. let e = a.3 in cc }
+
+-- An UNPULL is idle.
+pub idle_unpull : {Op : Type 0} (u : Name) (id : ℕ) → IsIdle {Op = Op} (Unpull u id)
+idle_unpull u id = record { still = λ t m. m; same = λ t l. refl; none = refl; no_app = λ a. let e = a.3 in cc }
+
+-- A QUIT is idle.
+pub idle_quit : {Op : Type 0} (u : Name) → IsIdle {Op = Op} (Quit u)
+idle_quit u = record { still = λ t m. m; same = λ t l. refl; none = refl; no_app = λ a. let e = a.3 in cc }
+
+-- A NOTE is idle.
+pub idle_note : {Op : Type 0} (u : Name) → IsIdle {Op = Op} (Note u)
+idle_note u = record { still = λ t m. m; same = λ t l. refl; none = refl; no_app = λ a. let e = a.3 in cc }
+
+module _ {Shape State Op Undo : Type 0} (o : Object Shape State Op Undo) (shape : Shape) (h : Option (Start Op)) (past rest : List (Step Op)) (s : Step Op)
+    (committed : List (CommittedTx Op)) (serial : Serial State Undo) (kept : List (Name × OpenAttempt Op)) (r : IsRun o shape h (past ++ s ∷ rest) committed)
+    (f : Follows o shape h past committed serial kept) where
+  -- What is kept follows an idle step.
+  pub take_idle : IsIdle s → Follows o shape h (past ++ s ∷ []) committed serial kept
+  take_idle i = follows_quiet o shape h past rest s committed r serial serial kept f i.still i.same f.at
+      (let none = ap (λ (w : List Name). length w) i.none in omega (arith, none))
+
+  -- What is kept follows a CMT.
+  pub take_cmt : (u : Name) → s ≡ Cmt u → (new : Serial State Undo) → IsAt o shape committed new → new.count ≡ serial.count + 1
+      → Follows o shape h (past ++ s ∷ []) committed new kept
+  take_cmt u e new at count =
+      follows_quiet o shape h past rest s committed r serial new kept f
+      (λ t m. subst (λ (w : Step Op). MayStart t w) e m)
+      (λ t l. ap (λ (w : Step Op). own_after t w l) e) at
+      (let one = ap (λ (w : Step Op). length (commits (w ∷ []))) e in omega (arith, count, one))
+
+  -- Before a CMT one more transaction is left.
+  pub cmt_left : (u : Name) → s ≡ Cmt u → serial.count + 1 ≤ length committed
+  cmt_left u e =
+      let one = ap (λ (w : Step Op). length (commits (w ∷ []))) e in
+      let step = count_step o shape h past rest s committed r in
+      let fewer = now_fewer o shape h past rest s committed r in
+      let count = f.count in
+      omega (arith, one, step, fewer, count)
+
+  -- What is kept follows a BEGIN.
+  pub take_begin : (u p : Name) (b : Option Tree) → s ≡ Begin u p b → (more : List (Name × OpenAttempt Op))
+      → ((t : Name) → own_in t more ≡ cond (u =ⁿ t) [] (own_in t kept)) → ((t : Name) → least_in t more ≡ cond (u =ⁿ t) serial.count (least_in t kept))
+      → Follows o shape h (past ++ s ∷ []) committed serial more
+  take_begin u p b e more own least =
+      subst (λ (w : Step Op). Follows o shape h (past ++ w ∷ []) committed serial more) (sym e)
+      (follows_begin o shape h past rest committed serial kept more f u p b (subst (λ (w : Step Op). IsRun o shape h (past ++ w ∷ rest) committed) e r) own least)
+
+  -- What is kept follows an UNAPP.
+  pub take_unapp : (u : Name) (id : ℕ) → s ≡ Unapp u id → (more : List (Name × OpenAttempt Op))
+      → ((t : Name) → own_in t more ≡ cond (u =ⁿ t) (take (length (own_in t kept) - 1) (own_in t kept)) (own_in t kept))
+      → ((t : Name) → (u =ⁿ t) ≡ false → least_in t more ≡ least_in t kept)
+      → (own_in u more ≢ [] → least_in u more ≡ least_in u kept) → (own_in u kept ≢ [] → own_in u more ≡ [] → least_in u more ≡ serial.count)
+      → Follows o shape h (past ++ s ∷ []) committed serial more
+  take_unapp u id e more own others still begins =
+      subst (λ (w : Step Op). Follows o shape h (past ++ w ∷ []) committed serial more) (sym e)
+      (follows_unapp o shape h past rest committed serial kept more f u id (subst (λ (w : Step Op). IsRun o shape h (past ++ w ∷ rest) committed) e r) own others still begins)
+
+  module _ (u : Name) (id : ℕ) (op : Op) (e : s ≡ App u id op) (more : List (Name × OpenAttempt Op))
+      (own : (t : Name) → own_in t more ≡ cond (u =ⁿ t) (own_in t kept ++ record { id = id; op = op } ∷ []) (own_in t kept)) (least : (t : Name) → least_in t more ≡ least_in t kept) where
+    run_app : IsRun o shape h (past ++ App u id op ∷ rest) committed
+    run_app = subst (λ (w : Step Op). IsRun o shape h (past ++ w ∷ rest) committed) e r
+
+    asking : Follows o shape h (past ++ App u id op ∷ []) committed serial more
+    asking = follows_app o shape h past rest committed serial kept more f u id op serial run_app own least f.at refl
+
+    -- After an APP the own list may be asked about.
+    pub app_ask : MayAsk o shape committed (own_in u more) serial
+    app_ask = may_ask o shape h past rest u id op committed serial more run_app asking
+
+    -- Its window begins no later than now.
+    pub app_low : least_in u more ≤ serial.count
+    app_low = low_within o shape h past rest u id op committed serial more run_app asking
+
+    -- What is kept follows an APP.
+    pub take_app : (new : Serial State Undo) → IsAt o shape committed new → new.count ≡ serial.count → Follows o shape h (past ++ s ∷ []) committed new more
+    take_app new at count =
+        subst (λ (w : Step Op). Follows o shape h (past ++ w ∷ []) committed new more) (sym e)
+        (follows_app o shape h past rest committed serial kept more f u id op new run_app own least at count)
+
+    -- What is explained is seen.
+    pub app_seen : IsExplained (rules_of o shape) committed (own_in u more) (least_in u more) serial.count → IsSeen (rules_of o shape) h past s None
+    app_seen k t i q is =
+        let same : App u id op ≡ App t i q = sym e ∙ is in
+        let name : u ≡ t = cc in
+        subst (λ (w : Step Op). SeesSome (rules_of o shape) h (past ++ w ∷ []) t) (sym e)
+        (subst (λ (w : Name). SeesSome (rules_of o shape) h (past ++ App u id op ∷ []) w) name (explained_sees o shape h past rest u id op committed serial more run_app asking k))
+
+    -- What is not explained is a zombie.
+    pub app_unseen : (IsExplained (rules_of o shape) committed (own_in u more) (least_in u more) serial.count → ⊥) → IsSeen (rules_of o shape) h past s (Some u)
+    app_unseen n = (
+      id,
+      op,
+      e,
+      λ k. n (sees_explained o shape h past rest u id op committed serial more run_app asking (subst (λ (w : Step Op). SeesSome (rules_of o shape) h (past ++ w ∷ []) u) e k)),
+    )

@@ -1,0 +1,92 @@
+use Rattle.std.proofs.Common.{◌≡◌, ◌*◌, ◌↔◌, ◌∙◌, ℕ, true, false, length, take, arith, ap, sym, subst, inl, inr}
+use Rattle.std.specs.Prelude.{IsTrue}
+use Rattle.pp_model.specs.Sound.{serial_ops}
+use Rattle.pp_kind.specs.Object.{rules_of}
+use Rattle.pp_attempts.specs.Views.{Explains}
+use Rattle.pp_attempts.proofs.Viewing.{serial_within}
+use Rattle.pp_opacity.proofs.Windows.{found_or_none, none_above, one_more}
+use Rattle.pp_opacity.proofs.explained.descend.Goals as goal
+
+pub returns-in_err-retreat-clause-bound : goal.returns-in_err-retreat-clause-bound
+returns-in_err-retreat-clause-bound g c =
+    let so = c.loop-found.invariant.cost in
+    let more = c.in_err-retreat.ensures.bound in
+    let all = serial_within c.args.committed.now c.args.serial.now.count in
+    omega (arith, so, more, all)
+
+pub is_explained_here-requires-in-loop-found : goal.is_explained_here-requires-in-loop-found
+is_explained_here-requires-in-loop-found g c =
+    let r = c.requires.ask in
+    let ask = r.1 in
+    (r.0, c.args.committed.now, record { run = ask.run; at = c.in_ok-retreat.ensures.at r.0 ask.run (c.loop-found.invariant.at r.0 ask); may = ask.may })
+
+pub returns-in_err-found-2-clause-bound : goal.returns-in_err-found-2-clause-bound
+returns-in_err-found-2-clause-bound g c =
+    let so = c.loop-found.invariant.cost in
+    let back = c.in_ok-retreat.ensures.cost in
+    let more = c.in_err-found-2.ensures.bound in
+    let all = serial_within c.args.committed.now c.args.serial.now.count in
+    let w = length c.args.items.now in
+    let m = c.retreat.new.serial.count in
+    let product = ap (λ (k : ℕ). k * w) c.in_ok-retreat.ensures.count in
+    omega (arith, so, back, more, all, product, one_more m w)
+
+pub loop-found-preserved : goal.loop-found-preserved
+loop-found-preserved g c =
+    let o = g.S.Spec.object in
+    let D = c.args.committed.now in
+    let items = c.args.items.now in
+    let w = length items in
+    let n = c.loop-found.serial.count in
+    let m = c.retreat.new.serial.count in
+    let e = c.in_ok-retreat.ensures.count in
+    let count = c.in_ok-found-2.ensures.count in
+    let so = c.loop-found.invariant.cost in
+    let back = c.in_ok-retreat.ensures.cost in
+    let more = c.in_ok-found-2.ensures.bound in
+    let up = c.in_ok-found-2.ensures.rises in
+    let up2 = c.in_ok-retreat.ensures.rises in
+    let rises = c.loop-found.invariant.rises in
+    let high = c.loop-found.invariant.high in
+    let left = c.if-serial-low.true in
+    let product = ap (λ (k : ℕ). k * w) e in
+    let same = ap (λ (k : ℕ). k * w) count in
+    let taken = ap (λ (k : ℕ). length (serial_ops (take k D))) count in
+    let no : c.loop-found.found ≡ false = c.loop-found-test.true in
+    record {
+      at = λ shape ask. c.in_ok-found-2.ensures.at shape D (record { run = ask.run; at = c.in_ok-retreat.ensures.at shape ask.run (c.loop-found.invariant.at shape ask); may = ask.may });
+      here = λ shape ask. subst (λ (k : ℕ). IsTrue c.in_ok-found-2.found ↔ Explains (rules_of o shape) D items k) (sym count)
+          (c.in_ok-found-2.ensures.decided shape D (record { run = ask.run; at = c.in_ok-retreat.ensures.at shape ask.run (c.loop-found.invariant.at shape ask); may = ask.may }));
+      above = λ shape ask k less within h.
+          none_above (rules_of o shape) D items n m c.args.serial.now.count c.loop-found.found e (c.loop-found.invariant.here shape ask) (λ is. let z : true ≡ false = sym is ∙ no in cc)
+          (c.loop-found.invariant.above shape ask) k (omega (arith, less, count)) within h;
+      low = omega (arith, left, e, count);
+      high = omega (arith, high, e, count);
+      rises = omega (arith, rises, up, up2);
+      cost = omega (arith, so, back, more, product, same, taken, one_more m w);
+    }
+
+pub returns-else-serial-low-clause-decided : goal.returns-else-serial-low-clause-decided
+returns-else-serial-low-clause-decided g c = λ shape ask.
+    let i = c.loop-found.invariant in
+    found_or_none (rules_of g.S.Spec.object shape) c.args.committed.now c.args.items.now c.loop-found.serial.count c.args.low c.args.serial.now.count c.loop-found.found i.low i.high
+    (inl (omega (arith, c.if-serial-low.false))) (i.here shape ask) (i.above shape ask)
+
+pub returns-else-serial-low-clause-bound : goal.returns-else-serial-low-clause-bound
+returns-else-serial-low-clause-bound g c =
+    let so = c.loop-found.invariant.cost in
+    let all = serial_within c.args.committed.now c.args.serial.now.count in
+    omega (arith, so, all)
+
+pub returns-after-loop-found-clause-decided : goal.returns-after-loop-found-clause-decided
+returns-after-loop-found-clause-decided g c = λ shape ask.
+    let i = c.loop-found.invariant in
+    let there : c.loop-found.found ≡ true = c.loop-found-test.false in
+    found_or_none (rules_of g.S.Spec.object shape) c.args.committed.now c.args.items.now c.loop-found.serial.count c.args.low c.args.serial.now.count c.loop-found.found i.low i.high
+    (inr there) (i.here shape ask) (i.above shape ask)
+
+pub returns-after-loop-found-clause-bound : goal.returns-after-loop-found-clause-bound
+returns-after-loop-found-clause-bound g c =
+    let so = c.loop-found.invariant.cost in
+    let all = serial_within c.args.committed.now c.args.serial.now.count in
+    omega (arith, so, all)

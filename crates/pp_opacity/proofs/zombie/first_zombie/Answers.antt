@@ -1,0 +1,92 @@
+use Rattle.std.proofs.Common.{◌≡◌, ◌+◌, ◌++◌, ◌∷◌, List, length, take, drop, sym, subst, arith}
+use Rattle.std.proofs.lemmas.List.{length-map, length-take, take_all}
+use Rattle.pp_core.specs.Steps.{Step, meaning}
+use Rattle.pp_kind.specs.Object.{rules_of}
+use Rattle.pp_attempts.specs.Peaks.{meanings}
+use Rattle.pp_attempts.proofs.Collecting.{meanings_cut, meanings_take}
+use Rattle.pp_laws_opacity.specs.Opacity.{IsOpaqueAtApps}
+use Rattle.pp_laws_opacity.specs.Zombies.{IsZombie}
+use Rattle.pp_laws_opacity.proofs.Apps.{from_apps}
+use Rattle.pp_opacity.specs.Replays.{Follows, IsSeen}
+use Rattle.pp_opacity.specs.Results.{IsRun, as_zombie}
+use Rattle.pp_opacity.proofs.Zombies.{found_is, opaque_first, opaque_next, zombie_there}
+use Rattle.pp_opacity.proofs.zombie.first_zombie.Goals as goal
+
+pub loop-i-init : goal.loop-i-init
+loop-i-init g c = λ h r e.
+    (c.in_ok-replay.ensures.follows h (meanings c.args.steps.now) r e, opaque_first (rules_of g.S.Spec.object c.args.shape.now) h)
+
+pub take-requires : goal.take-requires
+take-requires g c =
+    let o = g.S.Spec.object in
+    let r = c.requires in
+    let steps = c.args.steps.now in
+    let i = c.loop-i.i in
+    let step = c.index-steps-i.result in
+    let inv = c.loop-i.invariant r.0 r.1 r.2 in (
+      c.args.shape.now,
+      r.0,
+      meanings (take i steps),
+      meanings (drop (i + 1) steps),
+      subst (λ (w : List (Step _)). IsRun o c.args.shape.now r.0 w c.args.committed.now) (meanings_cut steps i step c.loop-i-test.true c.index-steps-i.is) r.1,
+      inv.0,
+    )
+
+pub loop-i-preserved : goal.loop-i-preserved
+loop-i-preserved g c = λ h r e.
+    let o = g.S.Spec.object in
+    let shape = c.args.shape.now in
+    let D = c.args.committed.now in
+    let steps = c.args.steps.now in
+    let i = c.loop-i.i in
+    let step = c.index-steps-i.result in
+    let there = c.loop-i-test.true in
+    let is = c.index-steps-i.is in
+    let past = meanings (take i steps) in
+    let rest = meanings (drop (i + 1) steps) in
+    let run = subst (λ (w : List (Step _)). IsRun o shape h w D) (meanings_cut steps i step there is) r in
+    let inv = c.loop-i.invariant h r e in
+    let grown = meanings_take steps i step there is in
+    let seen = subst (λ found. IsSeen (rules_of o shape) h past (meaning step) found) c.in_default.is (c.in_ok-tx.ensures.seen shape h past rest run inv.0) in (
+      subst (λ (w : List (Step _)). Follows o shape h w D c.take.new.replay.serial c.take.new.replay.attempts.entries) (sym grown) (c.in_ok-tx.ensures.follows shape h past rest run inv.0),
+      subst (λ (w : List (Step _)). IsOpaqueAtApps (rules_of o shape) h w) (sym grown) (opaque_next (rules_of o shape) h past (meaning step) inv.1 seen),
+    )
+
+pub returns-in-Some : goal.returns-in-Some
+returns-in-Some g c = record {
+  found = λ h r e.
+      let o = g.S.Spec.object in
+      let shape = c.args.shape.now in
+      let D = c.args.committed.now in
+      let steps = c.args.steps.now in
+      let i = c.loop-i.i in
+      let step = c.index-steps-i.result in
+      let there = c.loop-i-test.true in
+      let is = c.index-steps-i.is in
+      let past = meanings (take i steps) in
+      let rest = meanings (drop (i + 1) steps) in
+      let cut = meanings_cut steps i step there is in
+      let run = subst (λ (w : List (Step _)). IsRun o shape h w D) cut r in
+      let inv = c.loop-i.invariant h r e in
+      let seen = subst (λ found. IsSeen (rules_of o shape) h past (meaning step) found) c.in-Some.is (c.in_ok-tx.ensures.seen shape h past rest run inv.0) in
+      let serial = c.take.new.replay.serial in
+      let kept = c.take.new.replay.attempts.entries in
+      let u = c.in-Some.tx in
+      let z = c.in_ok-zombie.zombie in
+      let said = c.in_ok-zombie.ensures in
+      let long = length-map (take i steps) meaning in
+      let size = length-take i steps in
+      let number : z.step ≡ length past + 1 = let at = said.step in omega (arith, long, size, there, at) in
+      let zombie = zombie_there o shape h past rest D serial kept u (meaning step) run (c.in_ok-tx.ensures.follows shape h past rest run inv.0) inv.1 seen in
+      let same = found_is o shape h past rest D serial kept u z number said.tx said.least said.most said.items in
+      subst (λ (w : List (Step _)). IsZombie (rules_of o shape) h w (as_zombie z)) (sym cut) (subst (λ w. IsZombie (rules_of o shape) h (past ++ meaning step ∷ rest) w) same zombie);
+}
+
+pub returns : goal.returns
+returns g c = record {
+  found = λ h r e.
+      let O = rules_of g.S.Spec.object c.args.shape.now in
+      let steps = c.args.steps.now in
+      let whole = take_all c.loop-i.i steps (omega (arith, c.loop-i-test.false)) in
+      from_apps O h r.met (meanings steps) r.run (subst (λ w. IsOpaqueAtApps O h (meanings w)) whole (c.loop-i.invariant h r e).1);
+}

@@ -1,0 +1,4 @@
+pub mod Results
+pub mod Trials
+pub mod Attempts
+pub mod Replays

@@ -1,0 +1,139 @@
+//! The steps of an accepted run, taken one after another.
+ghost use Rattle.std.specs.Prelude.{◌≡◌, ◌+◌, ◌*◌, ◌≤◌, ◌↔◌, ◌++◌, ◌∷◌, [], IfOk, IsTrue, List, OnOk};
+ghost use Rattle.std.specs.Prelude.{Option as OptionOf, length};
+ghost use Rattle.pp_core.specs.Steps.{Step as StepOf, meaning};
+ghost use Rattle.pp_model.specs.Config.{Start as StartOf};
+ghost use Rattle.pp_model.specs.Serial.{start_attempts};
+ghost use Rattle.pp_model.specs.Sound.{serial_ops};
+ghost use Rattle.pp_kind.specs.Object.{rules_of};
+ghost use Rattle.pp_opacity.specs.Attempts.{least_in, own_in};
+ghost use Rattle.pp_opacity.specs.Replays.{Follows, IsSeen};
+ghost use Rattle.pp_opacity.specs.Results.{IsRun};
+ghost use Rattle.pp_opacity.specs.Trials.{IsAt, IsExplained, MayAsk};
+
+use crate::attempts::{Attempts, apply, begin, least, own, unapply};
+use crate::explained::is_explained;
+use crate::serial::{Serial, advance, advance_to, start};
+use indexmap::IndexMap;
+use pp_core::{CommittedTx, Item, Name, OutOfMemory, Step, Ticks};
+use pp_kind::Spec;
+use std::alloc::Global;
+use std::sync::ledger::Ledger;
+
+/// The serial run so far, and the attempts that the transactions are in.
+#[derive(Drop)]
+pub(crate) struct Replay<T, U, O: Copy> {
+    pub(crate) serial: Serial<T, U>,
+    pub(crate) attempts: Attempts<O>,
+}
+
+/// A replay before the first step, with so many transactions that the start committed.
+pub(crate) fn start_replay<S: Spec, L: Ledger>(
+    alloc: Global,
+    shape: &S::Shape,
+    committed: &[CommittedTx<S::Op>],
+    given: usize,
+    ticks: &mut Ticks<L>,
+) -> Result<Replay<S::State, S::Undo, S::Op>, OutOfMemory>
+    requires { (h : OptionOf (StartOf S.Op)) × (ss : List (StepOf S.Op))
+        × IsRun S.object shape.now h ss committed.now × (given ≡ length (start_attempts h)) }
+    ensures follows { IfOk result (λ replay. (h : OptionOf (StartOf S.Op)) (ss : List (StepOf S.Op))
+        → IsRun S.object shape.now h ss committed.now → given ≡ length (start_attempts h)
+        → Follows S.object shape.now h [] committed.now replay.serial replay.attempts.entries) }
+    ensures rises { ticks.old ≤ ticks.new }
+    ensures bound { ticks.new ≤ ticks.old + length (serial_ops committed.now) }
+{
+    let mut serial = start::<S>(alloc, shape)?;
+    advance_to::<S, L>(&mut serial, committed, given, ticks)?;
+    Ok(Replay {
+        serial,
+        attempts: IndexMap::new(alloc),
+    })
+}
+
+/// Whether the own list of a transaction is explained by a number of commits in its window.
+fn ask<S: Spec, L: Ledger>(
+    serial: &mut Serial<S::State, S::Undo>,
+    attempts: &Attempts<S::Op>,
+    committed: &[CommittedTx<S::Op>],
+    tx: &Name,
+    ticks: &mut Ticks<L>,
+) -> Result<bool, OutOfMemory>
+    requires low { least_in tx.now attempts.now.entries ≤ serial.old.count }
+    requires ask { (shape : S.Shape) × MayAsk S.object shape committed.now
+        (own_in tx.now attempts.now.entries) serial.old }
+    ensures decided { IfOk result (λ yes. (shape : S.Shape)
+        → MayAsk S.object shape committed.now (own_in tx.now attempts.now.entries) serial.old
+        → IsTrue yes ↔ IsExplained (rules_of S.object shape) committed.now
+        (own_in tx.now attempts.now.entries) (least_in tx.now attempts.now.entries)
+        serial.old.count) }
+    ensures at { OnOk result ((shape : S.Shape)
+        → MayAsk S.object shape committed.now (own_in tx.now attempts.now.entries) serial.old
+        → IsAt S.object shape committed.now serial.new) }
+    ensures count { OnOk result (serial.new.count ≡ serial.old.count) }
+    ensures rises { ticks.old ≤ ticks.new }
+    ensures bound { ticks.new ≤ ticks.old
+        + 2 * ((serial.old.count + 1) * length (own_in tx.now attempts.now.entries))
+        + 2 * length (serial_ops committed.now) }
+{
+    let low = least(attempts, tx);
+    let items = own(attempts, tx);
+    is_explained::<S, L>(serial, committed, low, items, ticks)
+}
+
+/// Takes a step. It returns the transaction of the step if this is an APP, and its own list is not
+/// explained after it.
+pub(crate) fn take<S: Spec, L: Ledger>(
+    alloc: Global,
+    replay: &mut Replay<S::State, S::Undo, S::Op>,
+    committed: &[CommittedTx<S::Op>],
+    step: &Step<S::Op>,
+    ticks: &mut Ticks<L>,
+) -> Result<Option<Name>, OutOfMemory>
+    requires { (shape : S.Shape) × (h : OptionOf (StartOf S.Op)) × (past : List (StepOf S.Op))
+        × (rest : List (StepOf S.Op))
+        × IsRun S.object shape h (past ++ meaning step.now ∷ rest) committed.now
+        × Follows S.object shape h past committed.now replay.old.serial
+        replay.old.attempts.entries }
+    ensures follows { OnOk result ((shape : S.Shape) (h : OptionOf (StartOf S.Op))
+        (past rest : List (StepOf S.Op))
+        → IsRun S.object shape h (past ++ meaning step.now ∷ rest) committed.now
+        → Follows S.object shape h past committed.now replay.old.serial
+        replay.old.attempts.entries
+        → Follows S.object shape h (past ++ meaning step.now ∷ []) committed.now
+        replay.new.serial replay.new.attempts.entries) }
+    ensures seen { IfOk result (λ found. (shape : S.Shape) (h : OptionOf (StartOf S.Op))
+        (past rest : List (StepOf S.Op))
+        → IsRun S.object shape h (past ++ meaning step.now ∷ rest) committed.now
+        → Follows S.object shape h past committed.now replay.old.serial
+        replay.old.attempts.entries
+        → IsSeen (rules_of S.object shape) h past (meaning step.now) found) }
+{
+    let count = replay.serial.count;
+    match step {
+        Step::Begin { tx, .. } => {
+            begin(alloc, &mut replay.attempts, tx, count)?;
+            Ok(None)
+        }
+        Step::App { tx, id, op } => {
+            apply(alloc, &mut replay.attempts, tx, Item { id: *id, op: *op })?;
+            let attempts = &replay.attempts;
+            let explained = ask::<S, L>(&mut replay.serial, attempts, committed, tx, ticks)?;
+            if explained { Ok(None) } else { Ok(Some(*tx)) }
+        }
+        Step::Unapp { tx, .. } => {
+            unapply(&mut replay.attempts, tx, count);
+            Ok(None)
+        }
+        Step::Cmt { .. } => {
+            advance::<S, L>(&mut replay.serial, committed, ticks)?;
+            Ok(None)
+        }
+        Step::Push { .. } => Ok(None),
+        Step::Unpush { .. } => Ok(None),
+        Step::Pull { .. } => Ok(None),
+        Step::Unpull { .. } => Ok(None),
+        Step::Quit { .. } => Ok(None),
+        Step::Note { .. } => Ok(None),
+    }
+}
