@@ -1,5 +1,5 @@
--- The restriction of a run to an object: its operations are left, and the bodies are not. Below, o
--- is the object.
+-- Meaning: the restriction of a run to an object. Its operations are left, and the bodies are not.
+-- Below, o is the object.
 use Rattle.std.specs.Prelude.{ℕ, List, ◌==◌, cond, [], ◌∷◌, filter, Option, None, Some}
 use Rattle.pp_model.specs.Config.{Step, Start, Begin, App, Unapp, Push, Unpush, Pull, Unpull, Cmt}
 use Rattle.pp_model.specs.Config.{Quit, Note}

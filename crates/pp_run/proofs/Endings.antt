@@ -15,7 +15,7 @@ use Rattle.pp_cmd_judge.specs.Inputs.{judge_scan}
 use Rattle.pp_cmd_judge.specs.Judgements.{IsJudgedEvident}
 use Rattle.pp_cmd_drill.specs.Prints.{PrintsLines}
 use Rattle.pp_run.specs.declared.words.Command.{Command}
-use Rattle.pp_run.specs.declared.words.Command.TheVariants.{Certify, Drill, Expand, Judge, Quick, Recheck, Swaps, Views}
+use Rattle.pp_run.specs.declared.words.Command.TheVariants.{Certify, Drill, Expand, Focus, Judge, Quick, Recheck, Swaps, Views}
 use Rattle.pp_run.specs.Bounds.{RisesAtLeast, RisesAtMost}
 use Rattle.pp_run.specs.Outcomes.{outcome}
 use Rattle.pp_run.specs.Outputs.{IsOfWhole, IsOutput, IsPrinted, MayBeCutShort, IsVerdictOrSize, OfInput}
@@ -57,6 +57,7 @@ whole_verdict (Some Swaps) s whole = whole
 whole_verdict (Some Recheck) s whole = inl (subst IsDecided (sym whole) tt)
 whole_verdict (Some Views) s whole = whole
 whole_verdict (Some (Drill n)) s whole = absurd whole
+whole_verdict (Some (Focus name)) s whole = inl (inl (subst IsDecided (sym whole) tt))
 
 printed_written : (s : Status) → IsPrinted s → MayBeCutShort s → ⊥
 printed_written statuses.Accepted printed unwritten = unwritten
@@ -83,6 +84,7 @@ of_all (Some Swaps) left P f = λ bytes is. f bytes
 of_all (Some Recheck) left P f = λ bytes is. f bytes
 of_all (Some Views) left P f = λ bytes is. f bytes
 of_all (Some (Drill n)) left P f = f []
+of_all (Some (Focus name)) left P f = λ bytes is. f bytes
 
 -- it holds a prefix of each output
 nothing_printed : (o : Option Command) (left held : Option (List ℕ)) → OfInput o left (λ bytes. PrintsPrefixOnly o bytes held held)

@@ -10,9 +10,10 @@ use Rattle.std.proofs.lemmas.Fmt.{IsAscii-decimal, decimal_is_IsNumeral, parse-d
 use Rattle.std.proofs.lemmas.Option.{same_Some}
 use Rattle.std.proofs.lemmas.Slice.Eq.{bytes_eq-Decides}
 use Rattle.std.proofs.lemmas.Str.{IsUtf8-from_ascii}
+use Rattle.pp_format_read.specs.Members.{name_from}
 use Rattle.pp_run.specs.Words.{command_named, command_of, drill_number}
 use Rattle.pp_run.specs.declared.words.Command.{Command}
-use Rattle.pp_run.specs.declared.words.Command.TheVariants.{Certify, Drill, Expand, Judge, Quick, Recheck, Swaps, Views}
+use Rattle.pp_run.specs.declared.words.Command.TheVariants.{Certify, Drill, Expand, Focus, Judge, Quick, Recheck, Swaps, Views}
 
 -- ---- tests
 
@@ -121,20 +122,26 @@ unnumbered word =
     (either (is (codes "views")) (Some Views) None (λ n e. let no : Some Views ≡ Some (Drill n) = e in cc)
     (λ n e. let no : None ≡ Some (Drill n) = e in cc)))))))
 
+focused : (b : Bool) (o : Option (List ℕ)) → IsUnnumbered (if b then option_map (λ name. Focus name) o else None)
+focused true (Some name) n e = let no : Some (Focus name) ≡ Some (Drill n) = e in cc
+focused true None n e = let no : None ≡ Some (Drill n) = e in cc
+focused false o n e = let no : None ≡ Some (Drill n) = e in cc
+
 -- the number of a `drill` command is from 1 to 20,000
 pub drill_within : (words : List (List ℕ)) (n : ℕ) → command_of words ≡ Some (Drill n) → (1 ≤ n) × (n ≤ 20_000)
 drill_within [] n e = absurd (let no : None ≡ Some (Drill n) = e in cc)
 drill_within (word ∷ []) n e = absurd (unnumbered word n e)
-drill_within (word ∷ number ∷ []) n e = numbered (bytes_eq word (codes "drill")) (drill_number number) refl e
+drill_within (word ∷ argument ∷ []) n e =
+    numbered (bytes_eq word (codes "drill")) (drill_number argument) _ refl (focused (bytes_eq word (codes "focus")) (name_from argument)) e
   where
-    numbered : (b : Bool) (o : Option ℕ) → drill_number number ≡ o → (if b then option_map (λ k. Drill k) o else None) ≡ Some (Drill n) → (1 ≤ n) × (n ≤ 20_000)
-    numbered false o is e = absurd (let no : None ≡ Some (Drill n) = e in cc)
-    numbered true None is e = absurd (let no : None ≡ Some (Drill n) = e in cc)
-    numbered true (Some k) is e =
+    numbered : (b : Bool) (o : Option ℕ) (other : Option Command) → drill_number argument ≡ o → IsUnnumbered other → (if b then option_map (λ k. Drill k) o else other) ≡ Some (Drill n) → (1 ≤ n) × (n ≤ 20_000)
+    numbered false o other is none e = absurd (none n e)
+    numbered true None other is none e = absurd (let no : None ≡ Some (Drill n) = e in cc)
+    numbered true (Some k) other is none e =
         let same : k ≡ n = let some : Some (Drill k) ≡ Some (Drill n) = e in cc in
-        let told = number_told number k is in
+        let told = number_told argument k is in
         subst (λ (m : ℕ). (1 ≤ m) × (m ≤ 20_000)) same (told.1, told.2)
-drill_within (word ∷ number ∷ more ∷ words) n e = absurd (let no : None ≡ Some (Drill n) = e in cc)
+drill_within (word ∷ argument ∷ more ∷ words) n e = absurd (let no : None ≡ Some (Drill n) = e in cc)
 
 -- ---- what a comparison of arguments means
 

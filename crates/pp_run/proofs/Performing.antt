@@ -3,11 +3,12 @@ use Rattle.std.specs.Prelude.{◌≡◌, ◌⊎◌, ℕ, List, Option, None, Som
 use Rattle.std.proofs.Common.{inl, inr, subst, sym}
 use Rattle.pp_core.specs.declared.status.Status.{Status}
 use Rattle.pp_core.specs.declared.status.Status.TheVariants as statuses
+use Rattle.pp_cmd_focus.specs.Outputs.{IsToldStatus}
 use Rattle.pp_judge.specs.Certified.{IsDecided}
 use Rattle.pp_run.specs.Bounds.{RisesAtLeast}
 use Rattle.pp_run.specs.Outputs.{IsVerdictOrSize}
 use Rattle.pp_run.specs.declared.words.Command.{Command}
-use Rattle.pp_run.specs.declared.words.Command.TheVariants.{Certify, Drill, Expand, Judge, Quick, Recheck, Swaps, Views}
+use Rattle.pp_run.specs.declared.words.Command.TheVariants.{Certify, Drill, Expand, Focus, Judge, Quick, Recheck, Swaps, Views}
 
 -- a verdict or a fault is a status of `perform`
 pub answered : (s : Status) → IsDecided s ⊎ (s ≡ statuses.InputFault) → IsVerdictOrSize s ⊎ (s ≡ statuses.InputFault)
@@ -19,6 +20,11 @@ pub checked : (s : Status) → (s ≡ statuses.Accepted) ⊎ (s ≡ statuses.Rej
 checked s (inl accepted) = inl (inl (subst IsDecided (sym accepted) tt))
 checked s (inr (inl rejected)) = inl (inl (subst IsDecided (sym rejected) tt))
 checked s (inr (inr fault)) = inr fault
+
+-- so is accepted or a fault
+pub focused : (s : Status) → IsToldStatus s → IsVerdictOrSize s ⊎ (s ≡ statuses.InputFault)
+focused s (inl accepted) = inl (inl (subst IsDecided (sym accepted) tt))
+focused s (inr fault) = inr fault
 
 -- so is a verdict, a fault, or an output above a limit
 pub sized : (s : Status) → IsDecided s ⊎ (s ≡ statuses.InputFault) ⊎ (s ≡ statuses.TooLarge) → IsVerdictOrSize s ⊎ (s ≡ statuses.InputFault)
@@ -45,6 +51,11 @@ checked_fits s (inl accepted) large = let no : statuses.Accepted ≡ statuses.To
 checked_fits s (inr (inl rejected)) large = let no : statuses.Rejected ≡ statuses.TooLarge = cc in cc
 checked_fits s (inr (inr fault)) large = let no : statuses.InputFault ≡ statuses.TooLarge = cc in cc
 
+-- neither does accepted or a fault
+pub focused_fits : (s : Status) → IsToldStatus s → s ≡ statuses.TooLarge → ⊥
+focused_fits s (inl accepted) large = let no : statuses.Accepted ≡ statuses.TooLarge = cc in cc
+focused_fits s (inr fault) large = let no : statuses.InputFault ≡ statuses.TooLarge = cc in cc
+
 -- without a verdict the counter has no least rise
 pub no_verdict_no_least : (k : Option Command) (left : Option (List ℕ)) (s : Status) (old new : ℕ) → (IsDecided s → ⊥) → RisesAtLeast k left s old new
 no_verdict_no_least None left s old new none = tt
@@ -56,3 +67,4 @@ no_verdict_no_least (Some Swaps) left s old new none = λ decided. absurd (none 
 no_verdict_no_least (Some Recheck) left s old new none = λ accepted. absurd (none (subst IsDecided (sym accepted) tt))
 no_verdict_no_least (Some Views) left s old new none = λ decided. absurd (none decided)
 no_verdict_no_least (Some (Drill n)) left s old new none = λ accepted. absurd (none (subst IsDecided (sym accepted) tt))
+no_verdict_no_least (Some (Focus name)) left s old new none = tt

@@ -4,7 +4,7 @@ use Rattle.std.specs.Io.KnownBytes.{Appends}
 use Rattle.std.proofs.Common.{sym, ◌∙◌, subst}
 use Rattle.pp_core.specs.declared.status.Status.{Status}
 use Rattle.pp_run.specs.declared.words.Command.{Command}
-use Rattle.pp_run.specs.declared.words.Command.TheVariants.{Certify, Drill, Expand, Judge, Quick, Recheck, Swaps, Views}
+use Rattle.pp_run.specs.declared.words.Command.TheVariants.{Certify, Drill, Expand, Focus, Judge, Quick, Recheck, Swaps, Views}
 use Rattle.pp_run.specs.Outputs.{IsOutput, OfInput, Prints, PrintsOnly, PrintsPrefix, PrintsPrefixOnly}
 use Rattle.pp_run.specs.Writing.{AppendsPrefix}
 use Rattle.pp_judge.proofs.Concluding.{one_certified}
@@ -13,6 +13,7 @@ use Rattle.pp_cmd_views.proofs.Viewed.{one_views}
 use Rattle.pp_cmd_quick.proofs.Decided.{one_quick}
 use Rattle.pp_cmd_judge.proofs.Judged.{one_judged}
 use Rattle.pp_cmd_drill.proofs.Drilling.{one_drilled}
+use Rattle.pp_cmd_focus.proofs.Outputs.{one_focused}
 use Rattle.pp_cmd_swaps.proofs.Swapping.{one_swaps}
 use Rattle.pp_cmd_recheck.proofs.Rechecking.{one_recheck}
 
@@ -27,6 +28,7 @@ one_output (Some Swaps) bytes s s' t t' a b = one_swaps bytes s s' t t' a b
 one_output (Some Recheck) bytes s s' t t' a b = one_recheck bytes s s' t t' a b
 one_output (Some Views) bytes s s' t t' a b = one_views bytes s s' t t' a b
 one_output (Some (Drill n)) bytes s s' t t' a b = one_drilled n s s' t t' a b
+one_output (Some (Focus name)) bytes s s' t t' a b = one_focused name bytes s s' t t' a b
 
 -- if P implies Q for all bytes, then P of an input implies Q of it
 of_input : (o : Option Command) (left : Option (List ℕ)) (P Q : List ℕ → Type 0) → ((bytes : List ℕ) → P bytes → Q bytes) → OfInput o left P → OfInput o left Q
@@ -39,6 +41,7 @@ of_input (Some Swaps) left P Q f p = λ bytes is. f bytes (p bytes is)
 of_input (Some Recheck) left P Q f p = λ bytes is. f bytes (p bytes is)
 of_input (Some Views) left P Q f p = λ bytes is. f bytes (p bytes is)
 of_input (Some (Drill n)) left P Q f p = f [] p
+of_input (Some (Focus name)) left P Q f p = λ bytes is. f bytes (p bytes is)
 
 -- what is written, if the output of a command is this text or a prefix of it
 module _ (o : Option Command) (command : Command) (is : o ≡ Some command) (left old new : Option (List ℕ)) (status : Status) (text : List ℕ)

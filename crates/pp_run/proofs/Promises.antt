@@ -8,6 +8,7 @@ use Rattle.pp_judge.specs.Inputs.{scan}
 use Rattle.pp_judge.specs.Objects.{object_of, translation_of}
 use Rattle.pp_judge.specs.Reports.{IsCertified}
 use Rattle.pp_judge.specs.Scans.{InputScan}
+use Rattle.pp_cmd_focus.specs.Outputs.{IsFocused, focused}
 use Rattle.pp_cmd_quick.proofs.Decided.{decided}
 use Rattle.pp_cmd_quick.proofs.Readers.{briefs_decide, is_briefed, keeps_boosted}
 use Rattle.pp_cmd_quick.proofs.Verdicts.{some_verdict}
@@ -34,7 +35,7 @@ use Rattle.pp_run.specs.Promises.{HaveOneRun, IsDecidedAsRun, SeesKept}
 use Rattle.pp_run.specs.Runs.{RunLaws}
 use Rattle.pp_run.specs.Words.{command_of}
 use Rattle.pp_run.specs.declared.words.Command.{Command}
-use Rattle.pp_run.specs.declared.words.Command.TheVariants.{Certify, Drill, Expand, Judge, Quick, Recheck, Swaps, Views}
+use Rattle.pp_run.specs.declared.words.Command.TheVariants.{Certify, Drill, Expand, Focus, Judge, Quick, Recheck, Swaps, Views}
 use Rattle.std.proofs.Common.{refl, subst}
 
 -- the records after any header have one run, and steps have one verdict
@@ -90,6 +91,10 @@ prefixes_accepted = (prefix_law, certified_prefix_law)
 pub reports_readable : ReportLaw × CertifyLaw × QuickLaw
 reports_readable = ((certify_readable, quick_readable), certify_law, quick_law)
 
+-- every input has an output of `focus`
+focus_is_defined : (name bytes : List ℕ) → IsDefined (IsFocused name bytes)
+focus_is_defined name bytes none = none (focused name bytes).0 (focused name bytes).1 refl
+
 output_of : (words : List (List ℕ)) (bytes : List ℕ) (command : Option Command) → command_of words ≡ command → IsDefined (IsOutput command bytes)
 output_of words bytes None is = λ none. none statuses.BadWords [] (refl, refl)
 output_of words bytes (Some Certify) is = defined_laws.certify bytes
@@ -102,6 +107,7 @@ output_of words bytes (Some Views) is = defined_laws.views bytes
 output_of words bytes (Some (Drill n)) is =
     let within = drill_within words n is in
     defined_laws.drill n within.0 within.1
+output_of words bytes (Some (Focus name)) is = focus_is_defined name bytes
 
 -- every input has an output
 pub every_output : DefinedLaw

@@ -1,5 +1,6 @@
 -- The promise of each command, from what is printed, and how far the counter rises.
 use Rattle.std.proofs.Common.{◌≡◌, ℕ, List, Option, None, Some, inl, inr, refl, subst, sym}
+use Rattle.std.specs.Io.KnownBytes.{Appends}
 use Rattle.pp_core.specs.declared.status.Status.{Status}
 use Rattle.pp_core.specs.declared.status.Status.TheVariants as statuses
 use Rattle.pp_cmd_views.specs.Outputs.{IsViews}
@@ -17,6 +18,7 @@ use Rattle.pp_cmd_quick.specs.Decisions.{IsDecisionTold, IsQuick, quick_fault}
 use Rattle.pp_cmd_judge.proofs.Judged.{judged_exact, same_judged}
 use Rattle.pp_cmd_judge.specs.Inputs.{judge_limits, judge_scan}
 use Rattle.pp_cmd_judge.specs.Judgements.{IsJudgeOutput, IsJudgedEvident}
+use Rattle.pp_cmd_focus.specs.Outputs.{IsFocused}
 use Rattle.pp_cmd_drill.specs.Prints.{PrintsLines, certified_text}
 use Rattle.pp_cmd_drill.specs.Text.{drill_text}
 use Rattle.pp_cmd_swaps.proofs.Rechecking.{prints_certificate}
@@ -27,6 +29,7 @@ use Rattle.pp_input.specs.Limits.{usual_limits}
 use Rattle.pp_input.specs.declared.limits.Limits.{Limits}
 use Rattle.pp_input_reader.specs.declared.cause.Cause.{Cause}
 use Rattle.pp_laws_runs.proofs.Timely.{meets_timely}
+use Rattle.pp_run.proofs.Focused.{focused_exactly, focused_text}
 use Rattle.pp_run.proofs.Promises.{accepted_how, sees_kept}
 use Rattle.pp_run.specs.Bounds.{RisesAtLeast, RisesAtMost}
 use Rattle.pp_run.specs.Commands.{CommandPromise, IsSerializable}
@@ -34,7 +37,7 @@ use Rattle.pp_run.specs.Outcomes.{Outcome}
 use Rattle.pp_run.specs.Outputs.{IsPrinted, OfInput, Prints, PrintsOnly}
 use Rattle.pp_run.specs.Words.{DrivesMachine}
 use Rattle.pp_run.specs.declared.words.Command.{Command}
-use Rattle.pp_run.specs.declared.words.Command.TheVariants.{Certify, Drill, Expand, Judge}
+use Rattle.pp_run.specs.declared.words.Command.TheVariants.{Certify, Drill, Expand, Focus, Judge}
 use Rattle.pp_run.specs.declared.words.Command.TheVariants.{Quick, Recheck, Swaps, Views}
 use Rattle.pp_input_reader.specs.Sources.{WhereTold}
 
@@ -219,4 +222,13 @@ promised (Some (Drill n)) o a =
       serializable = serializable usual_limits (drill_text n) (certified_meets (drill_text n) (certified_text n) (a.lines n refl).report);
       most = a.most;
       least = a.least;
+    }
+promised (Some (Focus name)) o a =
+    record {
+      prints = λ p bytes is. record { output = a.output p bytes is; only = a.only p bytes is };
+      exact = λ p bytes is. let out = a.output p bytes is in focused_exactly name bytes o.status out.0 out.1;
+      restricted = λ e bytes is.
+          let out = a.output (printed o statuses.Accepted e tt) bytes is in
+          subst (Appends o.held o.holds) (focused_text name bytes out.0 (subst (λ (s : Status). IsFocused name bytes s out.0) e out.1)) out.2;
+      free = a.most;
     }

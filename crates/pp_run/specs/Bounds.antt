@@ -15,12 +15,13 @@ use Rattle.pp_cmd_judge.specs.Inputs.{judge_scan}
 use Rattle.pp_cmd_drill.specs.Reports.{drill_scan}
 use Rattle.pp_cmd_recheck.specs.Costs.{CheckCostsAtLeast, CheckCostsAtMost}
 use Rattle.pp_run.specs.declared.words.Command.{Command}
-use Rattle.pp_run.specs.declared.words.Command.TheVariants.{Certify, Drill, Expand, Judge}
+use Rattle.pp_run.specs.declared.words.Command.TheVariants.{Certify, Drill, Expand, Focus, Judge}
 use Rattle.pp_run.specs.declared.words.Command.TheVariants.{Quick, Recheck, Swaps, Views}
 
 -- The greatest rise of the counter, from old to new, at every status. `certify` and `drill` rise at
 -- most by the greatest cost of the start, the steps and the serial run. The other commands have
--- their own bounds. A line of a certificate costs two at most. Bad arguments cost nothing.
+-- their own bounds. A line of a certificate costs two at most. `focus` and bad arguments cost
+-- nothing.
 abbrev pub RisesAtMost : Option Command → Option (List ℕ) → (old new : ℕ) → Type 0
 RisesAtMost None left old new = new ≡ old
 RisesAtMost (Some Certify) left old new = WhereTold left λ bytes. CostsAtMost (scan bytes) old new
@@ -36,6 +37,7 @@ RisesAtMost (Some Recheck) left old new = WhereTold left λ bytes. CheckCostsAtM
 RisesAtMost (Some Views) left old new =
     WhereTold left λ bytes. ViewsCostAtMost (scan bytes) old new
 RisesAtMost (Some (Drill n)) left old new = CostsAtMost (drill_scan n) old new
+RisesAtMost (Some (Focus name)) left old new = WhereTold left λ bytes. new ≡ old
 
 -- The least rise of the counter at this status. With a verdict it is one for each step that applies
 -- or takes back one operation and meets its criteria. For `quick` it is one for each record that is
@@ -60,3 +62,4 @@ RisesAtLeast (Some Views) left status old new = IsDecided status →
     WhereTold left λ bytes. StepsCostAtLeast status (scan bytes) old new
 RisesAtLeast (Some (Drill n)) left status old new = status ≡ statuses.Accepted →
     CostsAtLeast statuses.Accepted (drill_scan n) old new
+RisesAtLeast (Some (Focus name)) left status old new = Unit {0}

@@ -1,5 +1,6 @@
 -- Meaning: what each command promises. Each field is one promise.
-use Rattle.std.specs.Prelude.{◌≡◌, ℕ, [], Option, None, Some}
+use Rattle.std.specs.Prelude.{◌≡◌, ℕ, List, [], Option, None, Some}
+use Rattle.std.specs.Io.KnownBytes.{Appends}
 use Rattle.pp_core.specs.declared.status.Status.TheVariants as statuses
 use Rattle.pp_certificate_lines.specs.Rechecked.{IsCheckedSound, IsRecheck}
 use Rattle.pp_judge.specs.Accepted.{EachStepMeets, IsAloneAccepted, IsExact, IsSimulated}
@@ -22,16 +23,18 @@ use Rattle.pp_cmd_judge.specs.Laws.{IsWithinCertify}
 use Rattle.pp_cmd_drill.specs.Prints.{PrintsLines}
 use Rattle.pp_cmd_drill.specs.Reports.{IsDrilled, drill_scan}
 use Rattle.pp_cmd_drill.specs.Text.{drill_text}
+use Rattle.pp_cmd_focus.specs.Outputs.{IsFocused}
+use Rattle.pp_cmd_focus.specs.Restrictions.{restriction}
 use Rattle.pp_cmd_swaps.specs.Prints.{PrintsCertificate}
 use Rattle.pp_cmd_swaps.specs.Swaps.{IsSwaps}
 use Rattle.pp_laws_runs.specs.Timely.{IsTimely}
 use Rattle.pp_cmd_recheck.specs.Costs.{CheckCostsAtLeast, CheckCostsAtMost}
 use Rattle.pp_run.specs.declared.words.Command.{Command}
-use Rattle.pp_run.specs.declared.words.Command.TheVariants.{Certify, Drill, Expand, Judge}
+use Rattle.pp_run.specs.declared.words.Command.TheVariants.{Certify, Drill, Expand, Focus, Judge}
 use Rattle.pp_run.specs.declared.words.Command.TheVariants.{Quick, Recheck, Swaps, Views}
 use Rattle.pp_run.specs.Outcomes.{IsTheOutput, OfItsInput, Outcome, PrintsJust}
 use Rattle.pp_run.specs.Outputs.{IsPrinted}
-use Rattle.pp_run.specs.Promises.{SeesKept}
+use Rattle.pp_run.specs.Promises.{IsFocusedExactly, SeesKept}
 
 -- What is true of the scan of an input if its start and each of its steps meet their criteria,
 -- however many steps there are.
@@ -154,6 +157,18 @@ pub record DrillPromise (n : ℕ) (o : Outcome) : Type 0 where
   pub least : o.status ≡ statuses.Accepted →
       CostsAtLeast statuses.Accepted (drill_scan n) o.before o.after
 
+-- What `focus` promises for the object of a name. Its limits are those of `judge`.
+pub record FocusPromise (name : List ℕ) (o : Outcome) : Type 0 where
+  pub prints : PrintsJust (IsFocused name) o
+  -- Accepted is printed exactly if the input has no fault, and its header has an object of the name.
+  -- Otherwise a fault is printed.
+  pub exact : IsPrinted o.status → OfItsInput o λ bytes. IsFocusedExactly name bytes o.status
+  -- The printed text is then the restriction of the whole input to this object, line for line.
+  pub restricted : o.status ≡ statuses.Accepted → OfItsInput o λ bytes.
+      Appends o.held o.holds (restriction name bytes)
+  -- No operation is applied or taken back.
+  pub free : OfItsInput o λ bytes. o.after ≡ o.before
+
 -- What a call of `run` promises, by its command. Arguments that are no command print nothing.
 abbrev pub CommandPromise : Option Command → Outcome → Type 0
 CommandPromise None o = Unit {0}
@@ -165,3 +180,4 @@ CommandPromise (Some Swaps) o = SwapsPromise o
 CommandPromise (Some Recheck) o = RecheckPromise o
 CommandPromise (Some Views) o = ViewsPromise o
 CommandPromise (Some (Drill n)) o = DrillPromise n o
+CommandPromise (Some (Focus name)) o = FocusPromise name o

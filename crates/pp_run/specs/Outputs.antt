@@ -13,9 +13,10 @@ use Rattle.pp_cmd_quick.specs.Decisions.{IsQuick, QuickReadsNoFault}
 use Rattle.pp_cmd_judge.specs.Judgements.{IsJudgeOutput, JudgeReadsNoFault}
 use Rattle.pp_laws_reports.specs.Defined.{IsDefined}
 use Rattle.pp_cmd_drill.specs.Reports.{IsDrilled}
+use Rattle.pp_cmd_focus.specs.Outputs.{FocusReadsNoFault, IsFocused}
 use Rattle.pp_cmd_swaps.specs.Swaps.{IsSwaps}
 use Rattle.pp_run.specs.declared.words.Command.{Command}
-use Rattle.pp_run.specs.declared.words.Command.TheVariants.{Certify, Drill, Expand, Judge}
+use Rattle.pp_run.specs.declared.words.Command.TheVariants.{Certify, Drill, Expand, Focus, Judge}
 use Rattle.pp_run.specs.declared.words.Command.TheVariants.{Quick, Recheck, Swaps, Views}
 use Rattle.pp_run.specs.Words.{command_of}
 use Rattle.pp_run.specs.Writing.{AppendsPrefix}
@@ -32,6 +33,7 @@ OfInput (Some Swaps) left P = WhereTold left P
 OfInput (Some Recheck) left P = WhereTold left P
 OfInput (Some Views) left P = WhereTold left P
 OfInput (Some (Drill n)) left P = P []
+OfInput (Some (Focus name)) left P = WhereTold left P
 
 -- the status and the text of a command; arguments that are no command print nothing
 abbrev pub IsOutput : Option Command → List ℕ → Status → List ℕ → Type 0
@@ -44,6 +46,7 @@ IsOutput (Some Swaps) bytes status text = IsSwaps bytes status text
 IsOutput (Some Recheck) bytes status text = IsRecheck bytes status text
 IsOutput (Some Views) bytes status text = IsViews bytes status text
 IsOutput (Some (Drill n)) bytes status text = IsDrilled n status text
+IsOutput (Some (Focus name)) bytes status text = IsFocused name bytes status text
 
 -- A status and a text are defined for all arguments and every input.
 abbrev pub DefinedLaw : Type 0
@@ -57,7 +60,7 @@ abbrev pub IsVerdictOrSize : Status → Type 0
 IsVerdictOrSize status = IsDecided status ⊎ (status ≡ statuses.TooLarge)
 
 -- A result of the command with this status is about its whole input. `recheck` may refuse a line.
--- Then it does not read the lines after it.
+-- Then it does not read the lines after it. The only other result of `focus` is a fault.
 abbrev pub IsOfWhole : Option Command → Status → Type 0
 IsOfWhole None status = ⊥
 IsOfWhole (Some Certify) status = IsDecided status
@@ -68,6 +71,7 @@ IsOfWhole (Some Swaps) status = IsVerdictOrSize status
 IsOfWhole (Some Recheck) status = status ≡ statuses.Accepted
 IsOfWhole (Some Views) status = IsVerdictOrSize status
 IsOfWhole (Some (Drill n)) status = ⊥
+IsOfWhole (Some (Focus name)) status = status ≡ statuses.Accepted
 
 -- What the command has read has no fault that stays whatever bytes follow. For `recheck` it has no
 -- refused line either.
@@ -81,6 +85,7 @@ ReadsSound (Some Swaps) old new = ReadsNoFault old new
 ReadsSound (Some Recheck) old new = RecheckReadsNoFault old new
 ReadsSound (Some Views) old new = ReadsNoFault old new
 ReadsSound (Some (Drill n)) old new = ⊥
+ReadsSound (Some (Focus name)) old new = FocusReadsNoFault old new
 
 -- ---- what is printed
 

@@ -1,5 +1,7 @@
 -- Meaning: what is promised of the results of commands, besides their outputs.
-use Rattle.std.specs.Prelude.{◌≡◌, List, Option}
+use Rattle.std.specs.Prelude.{◌≡◌, ◌↔◌, ℕ, List, Option, None}
+use Rattle.pp_core.specs.declared.status.Status.{Status}
+use Rattle.pp_core.specs.declared.status.Status.TheVariants as statuses
 use Rattle.pp_core.specs.declared.call.Style.TheVariants.{Boosted}
 use Rattle.pp_records.specs.Inputs.{IsReport}
 use Rattle.pp_records.specs.Laws.{OneRunLaw}
@@ -17,6 +19,8 @@ use Rattle.pp_judge.specs.Accepted.{HasRun}
 use Rattle.pp_judge.specs.Objects.{object_of, setting_of, start_of, translation_of}
 use Rattle.pp_judge.specs.Reports.{RunReport}
 use Rattle.pp_judge.specs.Scans.{InputScan}
+use Rattle.pp_cmd_focus.specs.Outputs.{IsToldStatus, focus_fault}
+use Rattle.pp_cmd_judge.specs.Inputs.{judge_scan}
 use Rattle.pp_cmd_quick.specs.Costs.{AreTriedBehind}
 use Rattle.pp_cmd_quick.specs.Decisions.{Decision, IsDecision, IsDecisionOf, IsVerdictBehind}
 use Rattle.pp_cmd_quick.specs.Laws.{IsSameDecision, TellsVerdict}
@@ -66,3 +70,10 @@ pub record IsDecidedAsRun (sc : InputScan) (header : Lined Header) : Type 0 wher
 abbrev pub SeesKept : InputScan → Type 0
 SeesKept sc = (r : HasRun sc) →
     SeesKeptPeaks (object_of r.header.what) (start_of r.header.what) (bare r.run)
+
+-- The status is accepted exactly if the input has no fault, and its header has an object of this
+-- name. Otherwise it is that of a fault.
+abbrev pub IsFocusedExactly : List ℕ → List ℕ → Status → Type 0
+IsFocusedExactly name bytes status =
+    ((status ≡ statuses.Accepted) ↔ (focus_fault name (judge_scan bytes) ≡ None))
+    × IsToldStatus status

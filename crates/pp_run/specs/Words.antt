@@ -4,8 +4,9 @@ use Rattle.std.specs.Prelude.{if◌then◌else◌, Option, None, Some, option_ma
 use Rattle.std.specs.Fmt.{decimal}
 use Rattle.std.specs.Str.{bytes_eq}
 use Rattle.std.specs.Str.Parse.{digits_value}
+use Rattle.pp_format_read.specs.Members.{name_from}
 use Rattle.pp_run.specs.declared.words.Command.{Command}
-use Rattle.pp_run.specs.declared.words.Command.TheVariants.{Certify, Drill, Expand, Judge}
+use Rattle.pp_run.specs.declared.words.Command.TheVariants.{Certify, Drill, Expand, Focus, Judge}
 use Rattle.pp_run.specs.declared.words.Command.TheVariants.{Quick, Recheck, Swaps, Views}
 
 -- the command of one argument
@@ -30,17 +31,19 @@ abbrev pub DrillNumberLaw : Type 0
 DrillNumberLaw = (word : List ℕ) (n : ℕ) →
     (drill_number word ≡ Some n) ↔ ((word ≡ decimal n) × (1 ≤ n) × (n ≤ 20_000))
 
--- the command of two arguments: `drill` and a number
+-- the command of two arguments: `drill` and a number, or `focus` and a name
 abbrev pub command_with : List ℕ → List ℕ → Option Command
-command_with word number =
-    if bytes_eq word (codes "drill") then option_map (λ n. Drill n) (drill_number number) else None
+command_with word argument =
+    if bytes_eq word (codes "drill") then option_map (λ n. Drill n) (drill_number argument)
+    else if bytes_eq word (codes "focus") then option_map (λ name. Focus name) (name_from argument)
+    else None
 
 -- the command that the arguments are; a command has one or two
 abbrev pub command_of : List (List ℕ) → Option Command
 command_of [] = None
 command_of (word ∷ []) = command_named word
-command_of (word ∷ number ∷ []) = command_with word number
-command_of (word ∷ number ∷ more ∷ words) = None
+command_of (word ∷ argument ∷ []) = command_with word argument
+command_of (word ∷ argument ∷ more ∷ words) = None
 
 -- the command reads an input
 abbrev pub Reads : Option Command → Type 0
@@ -53,6 +56,7 @@ Reads (Some Swaps) = Unit {0}
 Reads (Some Recheck) = Unit {0}
 Reads (Some Views) = Unit {0}
 Reads (Some (Drill n)) = ⊥
+Reads (Some (Focus name)) = Unit {0}
 
 -- The command drives the machine through the run of its input. So a rejection has evidence, of the
 -- start or of a step.
@@ -66,6 +70,7 @@ DrivesMachine (Some Swaps) = Unit {0}
 DrivesMachine (Some Recheck) = ⊥
 DrivesMachine (Some Views) = Unit {0}
 DrivesMachine (Some (Drill n)) = ⊥
+DrivesMachine (Some (Focus name)) = ⊥
 
 -- the output of the command may be above a limit: it is a certificate, or views
 abbrev pub TellsSize : Option Command → Type 0
@@ -78,3 +83,4 @@ TellsSize (Some Swaps) = Unit {0}
 TellsSize (Some Recheck) = ⊥
 TellsSize (Some Views) = Unit {0}
 TellsSize (Some (Drill n)) = ⊥
+TellsSize (Some (Focus name)) = ⊥

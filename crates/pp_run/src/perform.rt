@@ -19,6 +19,7 @@ use crate::words::Command;
 use pp_cmd_certify::certify;
 use pp_cmd_drill::drill;
 use pp_cmd_expand::expand;
+use pp_cmd_focus::focus;
 use pp_cmd_judge::judge;
 use pp_cmd_quick::quick;
 use pp_cmd_recheck::recheck;
@@ -73,5 +74,6 @@ pub(crate) fn perform<S: Source, L: Ledger>(
             let report = drill(alloc, n, ticks)?;
             Ok(report)
         }
+        Command::Focus { name } => focus(alloc, name, source, ticks),
     }
 }

@@ -1,13 +1,14 @@
 //! The arguments of a command.
 ghost use Rattle.std.specs.Prelude.{◌≡◌};
+ghost use Rattle.pp_format_read.specs.Members.{name_from};
 ghost use Rattle.pp_run.specs.Words.{command_named, command_of, command_with, drill_number};
 
 use itoa::Buffer;
-use pp_core::Words;
+use pp_core::{Name, Words};
 use std::str;
 
 /// What the program is asked to do.
-#[derive(Clone, Copy, Debug, PartialEq, Eq)]
+#[derive(Clone, Copy)]
 pub(crate) enum Command {
     /// Report whether the input is a run of the machine.
     Certify,
@@ -25,6 +26,8 @@ pub(crate) enum Command {
     Views,
     /// Make the run of n transactions, and print its report.
     Drill { n: u32 },
+    /// Print the restriction of the input to the object of this name.
+    Focus { name: Name },
 }
 
 /// The number of transactions that an argument states, if it states one.
@@ -71,15 +74,26 @@ fn command_named(word: &[u8]) -> Option<Command>
     }
 }
 
-/// The command of two arguments.
-fn command_with(word: &[u8], number: &[u8]) -> Option<Command>
-    ensures { result ≡ command_with word.now number.now }
+/// The name that an argument is, if it is one.
+fn object_name(word: &[u8]) -> Option<Name>
+    ensures { result ≡ name_from word.now }
 {
-    if word != b"drill".as_slice() {
-        return None;
+    Name::read(word)
+}
+
+/// The command of two arguments.
+fn command_with(word: &[u8], argument: &[u8]) -> Option<Command>
+    ensures { result ≡ command_with word.now argument.now }
+{
+    if word == b"drill".as_slice() {
+        let n = drill_number(argument)?;
+        Some(Command::Drill { n })
+    } else if word == b"focus".as_slice() {
+        let name = object_name(argument)?;
+        Some(Command::Focus { name })
+    } else {
+        None
     }
-    let n = drill_number(number)?;
-    Some(Command::Drill { n })
 }
 
 /// The command that the arguments are, and None exactly if they are no command. The program's own
@@ -91,8 +105,8 @@ pub(crate) fn read_words(words: &Words) -> Option<Command>
     match words.len() {
         1 => command_named(word.bytes()),
         2 => {
-            let number = words.get(1)?;
-            command_with(word.bytes(), number.bytes())
+            let argument = words.get(1)?;
+            command_with(word.bytes(), argument.bytes())
         }
         _ => None,
     }

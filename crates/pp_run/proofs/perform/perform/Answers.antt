@@ -1,7 +1,8 @@
 use Rattle.std.proofs.Common.{Some, subst, sym}
 use Rattle.std.proofs.lemmas.Result.{IfOk-weaker}
 use Rattle.pp_input_reader.proofs.Takers.{if_ok_all}
-use Rattle.pp_run.proofs.Performing.{answered, checked, checked_fits, decided_fits, sized, whole_sound}
+use Rattle.pp_run.proofs.Performing.{answered, checked, checked_fits, decided_fits, focused, focused_fits, sized}
+use Rattle.pp_run.proofs.Performing.{whole_sound}
 use Rattle.pp_run.specs.Bounds.{RisesAtLeast, RisesAtMost}
 use Rattle.pp_run.specs.Outputs.{IsOfWhole, IsOutput, OfInput, ReadsSound}
 use Rattle.pp_run.specs.Words.{DrivesMachine, Reads, TellsSize}
@@ -45,6 +46,11 @@ returns-in-Views-clause-output g c =
     let left = g.S.Source.left c.args.source.now in
     IfOk-weaker c.views.result _ _ (λ r here. subst (λ (k : Command). OfInput (Some k) left (λ bytes. IsOutput (Some k) bytes r.0 r.1)) (sym c.in-Views.is) here) c.views.ensures.output
 
+pub returns-in-Focus-clause-output : goal.returns-in-Focus-clause-output
+returns-in-Focus-clause-output g c =
+    let left = g.S.Source.left c.args.source.now in
+    IfOk-weaker c.focus.result _ _ (λ r here. subst (λ (k : Command). OfInput (Some k) left (λ bytes. IsOutput (Some k) bytes r.0 r.1)) (sym c.in-Focus.is) here) c.focus.ensures.output
+
 -- ---- how it ends
 
 pub returns-in-Certify-clause-status : goal.returns-in-Certify-clause-status
@@ -68,6 +74,9 @@ returns-in-Recheck-clause-status g c = IfOk-weaker c.recheck.result _ _ (λ r. c
 pub returns-in-Views-clause-status : goal.returns-in-Views-clause-status
 returns-in-Views-clause-status g c = IfOk-weaker c.views.result _ _ (λ r. sized r.0) c.views.ensures.status
 
+pub returns-in-Focus-clause-status : goal.returns-in-Focus-clause-status
+returns-in-Focus-clause-status g c = IfOk-weaker c.focus.result _ _ (λ r. focused r.0) c.focus.ensures.status
+
 -- ---- whether the output is above a limit
 
 pub returns-in-Certify-clause-size : goal.returns-in-Certify-clause-size
@@ -84,6 +93,9 @@ returns-in-Quick-clause-size g c = IfOk-weaker c.quick.result _ _ (λ r told lar
 
 pub returns-in-Recheck-clause-size : goal.returns-in-Recheck-clause-size
 returns-in-Recheck-clause-size g c = IfOk-weaker c.recheck.result _ _ (λ r told large. absurd (checked_fits r.0 told large)) c.recheck.ensures.status
+
+pub returns-in-Focus-clause-size : goal.returns-in-Focus-clause-size
+returns-in-Focus-clause-size g c = IfOk-weaker c.focus.result _ _ (λ r told large. absurd (focused_fits r.0 told large)) c.focus.ensures.status
 
 pub returns-in-Swaps-clause-size : goal.returns-in-Swaps-clause-size
 returns-in-Swaps-clause-size g c = if_ok_all c.swaps.result _ (λ r large. subst (λ (k : Command). TellsSize (Some k)) (sym c.in-Swaps.is) tt)
@@ -121,6 +133,10 @@ pub returns-in-Views-clause-end : goal.returns-in-Views-clause-end
 returns-in-Views-clause-end g c =
     IfOk-weaker c.views.result _ _ (λ r end whole. end (whole_sound r.0 (subst (λ (k : Command). IsOfWhole (Some k) r.0) c.in-Views.is whole))) c.views.ensures.end
 
+pub returns-in-Focus-clause-end : goal.returns-in-Focus-clause-end
+returns-in-Focus-clause-end g c =
+    IfOk-weaker c.focus.result _ _ (λ r end whole. end (subst (λ (k : Command). IsOfWhole (Some k) r.0) c.in-Focus.is whole)) c.focus.ensures.end
+
 -- ---- the evidence of a rejection
 
 pub returns-in-Certify-clause-shown : goal.returns-in-Certify-clause-shown
@@ -146,6 +162,10 @@ returns-in-Recheck-clause-shown g c =
 
 pub returns-in-Views-clause-shown : goal.returns-in-Views-clause-shown
 returns-in-Views-clause-shown g c = IfOk-weaker c.views.result _ _ (λ r shown drives. shown) c.views.ensures.shown
+
+pub returns-in-Focus-clause-shown : goal.returns-in-Focus-clause-shown
+returns-in-Focus-clause-shown g c =
+    if_ok_all c.focus.result _ (λ r drives. absurd (subst (λ (k : Command). DrivesMachine (Some k)) c.in-Focus.is drives))
 
 -- ---- the evidence of a rejection of `judge`
 
@@ -185,6 +205,12 @@ returns-in-Recheck-clause-judged g c =
 pub returns-in-Views-clause-judged : goal.returns-in-Views-clause-judged
 returns-in-Views-clause-judged g c =
     if_ok_all c.views.result _ (λ r is.
+    let no : ⊥ = cc in
+    absurd no)
+
+pub returns-in-Focus-clause-judged : goal.returns-in-Focus-clause-judged
+returns-in-Focus-clause-judged g c =
+    if_ok_all c.focus.result _ (λ r is.
     let no : ⊥ = cc in
     absurd no)
 
@@ -229,6 +255,12 @@ returns-in-Views-clause-checked g c =
     let no : ⊥ = cc in
     absurd no)
 
+pub returns-in-Focus-clause-checked : goal.returns-in-Focus-clause-checked
+returns-in-Focus-clause-checked g c =
+    if_ok_all c.focus.result _ (λ r is.
+    let no : ⊥ = cc in
+    absurd no)
+
 -- ---- whether an input is read
 
 pub returns-in-Certify-clause-untouched : goal.returns-in-Certify-clause-untouched
@@ -252,6 +284,9 @@ returns-in-Recheck-clause-untouched g c = λ none. absurd (none (subst (λ (k : 
 pub returns-in-Views-clause-untouched : goal.returns-in-Views-clause-untouched
 returns-in-Views-clause-untouched g c = λ none. absurd (none (subst (λ (k : Command). Reads (Some k)) (sym c.in-Views.is) tt))
 
+pub returns-in-Focus-clause-untouched : goal.returns-in-Focus-clause-untouched
+returns-in-Focus-clause-untouched g c = λ none. absurd (none (subst (λ (k : Command). Reads (Some k)) (sym c.in-Focus.is) tt))
+
 -- ---- a failed read is reported only by a command that reads
 
 pub returns-in-Certify-clause-reading : goal.returns-in-Certify-clause-reading
@@ -274,6 +309,9 @@ returns-in-Recheck-clause-reading g c = λ failed. subst (λ (k : Command). Read
 
 pub returns-in-Views-clause-reading : goal.returns-in-Views-clause-reading
 returns-in-Views-clause-reading g c = λ failed. subst (λ (k : Command). Reads (Some k)) (sym c.in-Views.is) tt
+
+pub returns-in-Focus-clause-reading : goal.returns-in-Focus-clause-reading
+returns-in-Focus-clause-reading g c = λ failed. subst (λ (k : Command). Reads (Some k)) (sym c.in-Focus.is) tt
 
 -- ---- what was read before a failed read
 
@@ -312,6 +350,11 @@ returns-in-Views-clause-read_fault g c = λ failed.
     let told = c.views.ensures.read_fault failed in
     (told.0, subst (λ (k : Command). ReadsSound (Some k) (g.S.Source.left c.args.source.now) (g.S.Source.left c.views.new.source)) (sym c.in-Views.is) told.1)
 
+pub returns-in-Focus-clause-read_fault : goal.returns-in-Focus-clause-read_fault
+returns-in-Focus-clause-read_fault g c = λ failed.
+    let told = c.focus.ensures.read_fault failed in
+    (told.0, subst (λ (k : Command). ReadsSound (Some k) (g.S.Source.left c.args.source.now) (g.S.Source.left c.focus.new.source)) (sym c.in-Focus.is) told.1)
+
 -- ---- the greatest rise of the counter
 
 pub returns-in-Certify-clause-most : goal.returns-in-Certify-clause-most
@@ -334,6 +377,9 @@ returns-in-Recheck-clause-most g c = subst (λ (k : Command). RisesAtMost (Some 
 
 pub returns-in-Views-clause-most : goal.returns-in-Views-clause-most
 returns-in-Views-clause-most g c = subst (λ (k : Command). RisesAtMost (Some k) (g.S.Source.left c.args.source.now) c.args.ticks.now c.views.new.ticks) (sym c.in-Views.is) c.views.ensures.most
+
+pub returns-in-Focus-clause-most : goal.returns-in-Focus-clause-most
+returns-in-Focus-clause-most g c = subst (λ (k : Command). RisesAtMost (Some k) (g.S.Source.left c.args.source.now) c.args.ticks.now c.focus.new.ticks) (sym c.in-Focus.is) c.focus.ensures.most
 
 -- ---- its least rise
 
@@ -364,3 +410,7 @@ returns-in-Recheck-clause-least g c =
 pub returns-in-Views-clause-least : goal.returns-in-Views-clause-least
 returns-in-Views-clause-least g c =
     IfOk-weaker c.views.result _ _ (λ r told. subst (λ (k : Command). RisesAtLeast (Some k) (g.S.Source.left c.args.source.now) r.0 c.args.ticks.now c.views.new.ticks) (sym c.in-Views.is) told) c.views.ensures.least
+
+pub returns-in-Focus-clause-least : goal.returns-in-Focus-clause-least
+returns-in-Focus-clause-least g c =
+    if_ok_all c.focus.result _ (λ r. subst (λ (k : Command). RisesAtLeast (Some k) (g.S.Source.left c.args.source.now) r.0 c.args.ticks.now c.focus.new.ticks) (sym c.in-Focus.is) tt)
