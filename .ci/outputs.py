@@ -15,11 +15,12 @@ import sys
 ROOT = pathlib.Path(__file__).resolve().parent.parent
 PAGES = (ROOT / "README.md", *sorted((ROOT / "docs").glob("*.md")))
 COMMAND = re.compile(r"^ {4}\$ \./pp_cli (\w+) < examples/(\w+\.jsonl)\n((?: {4}.+\n)*)", re.MULTILINE)
+FOCUSED = re.compile(r"^ {4}\$ \./pp_cli (focus \S+) < examples/(\w+\.jsonl)\n((?: {4}.+\n|\n(?=\n* {4}[^$]))*)", re.MULTILINE)
 MADE = re.compile(r"^ {4}\$ \./pp_cli (drill \d+)\n((?: {4}.+\n)*)", re.MULTILINE)
 REPORTS = ("certify", "recheck")
 TOO_LONG = 4_096 * (65_536 * b" " + b"\n")
 STATUS = {
-    "accepted": 0, "drill": 0, "quick accepted": 0, '{"certificate":1': 0, "holds": 0,
+    "accepted": 0, "drill": 0, "quick accepted": 0, '{"certificate":1': 0, "holds": 0, '{"objects"': 0,
     "rejected": 1, "quick rejected": 1, "refused": 1,
     "fault": 3, "toolarge": 7,
 }
@@ -27,7 +28,7 @@ STATUS = {
 
 def status_of(report):
     """The status with which a report ends, by how its first line begins."""
-    (status,) = {status for begin, status in STATUS.items() if re.match(rf"{re.escape(begin)}[ ,]", report)}
+    (status,) = {status for begin, status in STATUS.items() if re.match(rf"{re.escape(begin)}[ ,:]", report)}
     return status
 
 
@@ -43,13 +44,13 @@ def unread():
     """Lines that show a command, and that the patterns above do not take for one."""
     for page in PAGES:
         for line in re.findall(r"^ *\$ \./pp_cli .*\n", page.read_text(), re.MULTILINE):
-            if not (COMMAND.match(line) or MADE.match(line)):
+            if not (COMMAND.match(line) or FOCUSED.match(line) or MADE.match(line)):
                 yield f"{page.name}: this is no block of a known form: {line.strip()}"
 
 
 def shown():
     """The outputs on the pages, each with its command and the name of its file: a page may show one that another shows too."""
-    return sorted({(name, command, unindented(block)) for command, name, block in found_on_pages(COMMAND)})
+    return sorted({(name, command, unindented(block)) for command, name, block in found_on_pages(COMMAND) + found_on_pages(FOCUSED)})
 
 
 def made():

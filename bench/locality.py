@@ -2,7 +2,7 @@
 """Tests locality on each file of a folder, by `definition.py` alone. Apart from its bookkeeping, a run is right exactly if it is
 right on each object.
 
-    python3 bench/locality.py FOLDER
+    python3 bench/locality.py [--program PROGRAM] FOLDER
 
 A run is restricted to each of its objects: the header keeps this object, and of the start the operations on it. A begin
 loses its body, and a record of another object becomes an empty line. So each line keeps its number. The law keeps all
@@ -13,6 +13,9 @@ objects in the header; here the header is restricted too. It is tested that
 - a run that is rejected by a criterion about an operation has a restriction that is rejected on the same line, by the same
   criterion, with the same evidence. It is not checked which object this is.
 
+With `--program` it is also tested that the command `focus` of the program prints the same restrictions, line for line. Lines
+are compared as JSON values. For a run with a fault it must print the fault.
+
 The first run that breaks this is shown, and then the status is 1. A table has the number of runs with each verdict.
 """
 import argparse
@@ -20,6 +23,7 @@ import collections
 import concurrent.futures
 import json
 import pathlib
+import subprocess
 import sys
 from typing import NamedTuple
 
@@ -28,8 +32,8 @@ from definition import verdict
 from definition_input import NO_LIMITS
 
 # The criteria that speak of no object.
-BOOKKEEPING = {"START 1", "BEGIN 1", "BEGIN 2", "APP 1", "APP 2", "APP 3", "UNAPP 1", "PUSH 1", "UNPUSH 1", "PULL 1", "UNPULL 1", "CMT 1", "CMT 2",
-               "QUIT 1", "NOTE 1"}
+BOOKKEEPING = {"START 1", "BEGIN 1", "BEGIN 2", "APP 1", "APP 2", "APP 3", "UNAPP 1", "UNAPP 2", "PUSH 1", "UNPUSH 1", "PULL 1", "UNPULL 1",
+               "CMT 1", "CMT 2", "QUIT 1", "NOTE 1"}
 # The records that say on which object they are, and those that name an operation by its id.
 OF_OBJECT = ("op", "refresh", "app")
 OF_ID = ("unapp", "push", "unpush", "pull", "unpull")
@@ -105,12 +109,65 @@ def exception(report, parts):
     return None
 
 
-def examined(file):
+def kept(value, *names):
+    """The members of these names."""
+    return {name: value[name] for name in names if name in value}
+
+
+def header_value(header):
+    """The members of a header that are not ignored. Version 2 without a start is version 1."""
+    objects = [kept(item, "name", "kind") for item in header["objects"]]
+    if header["run"] == 1 or header.get("start") is None:
+        return {"run": 1, "style": header["style"], "objects": objects}
+    ops = [kept(item, "id", "on", "call", "args", "result") for item in header["start"]["ops"]]
+    return {"run": 2, "style": header["style"], "objects": objects, "start": {"tx": header["start"]["tx"], "ops": ops}}
+
+
+def value_of(line):
+    """A line of a restriction as a value. `focus` writes a header and a begin without the members that are ignored."""
+    if not line.strip(" \t\r"):
+        return line.removesuffix("\r")
+    value = json.loads(line)
+    if "objects" in value:
+        return header_value(value)
+    return kept(value, "step", "tx", "thread") if value["step"] == "begin" else value
+
+
+def values_of(text, has_end):
+    """The lines of a restriction as values."""
+    return [value_of(line) for line in (text.removesuffix("\n") if has_end else text).split("\n")]
+
+
+def focused(program, data, name):
+    """What the command `focus` prints for this name, and its status."""
+    ran = subprocess.run([program, "focus", name], input=data, capture_output=True, check=False)
+    return ran.stdout.decode(), ran.returncode
+
+
+def wrong_restriction(program, data, name):
+    """Why what the program prints is not the restriction, or None."""
+    printed, status = focused(program, data, name)
+    if status != 0:
+        return f"focus {name} ends with {status}"
+    is_same = values_of(printed, True) == values_of(restricted(data.decode(), name), data.endswith(b"\n"))
+    return None if is_same else f"focus {name} prints another restriction"
+
+
+def wrong_focus(program, data, report, status):
+    """Why the program does not print the restrictions of a run with this verdict, or its fault; None if it does."""
+    if status == FAULT:
+        return None if focused(program, data, "a") == (report, FAULT) else "focus does not print the fault"
+    wrong = (wrong_restriction(program, data, name) for name in names_of(data.decode()))
+    return next((why for why in wrong if why is not None), None)
+
+
+def examined(file, program):
     """The verdict of a file's run, and why its restrictions do not make it."""
     data = file.read_bytes()
     report, status = verdict(data, NO_LIMITS)
-    if status == FAULT:
-        return "fault", None
+    why = wrong_focus(program, data, report, status) if program else None
+    if why is not None or status == FAULT:
+        return "fault", why
     text = data.decode()
     parts = {name: verdict(restricted(text, name).encode(), NO_LIMITS) for name in names_of(text)}
     faults = [name for name, (_, status) in parts.items() if status == FAULT]
@@ -118,14 +175,15 @@ def examined(file):
 
 
 def main():
-    parser = argparse.ArgumentParser(description="Tests that a run is right exactly if its bookkeeping is right and it is right on each object.")
+    parser = argparse.ArgumentParser(description="Tests that a run is right exactly if its bookkeeping is, and it is on each object.")
     parser.add_argument("folder", metavar="FOLDER", type=pathlib.Path)
+    parser.add_argument("--program", metavar="PROGRAM", help="also test the command focus of this program")
     parser.add_argument("--jobs", type=int, default=2, help="how many files at a time")
     given = parser.parse_args()
     counts = collections.Counter()
     files = sorted(file for file in given.folder.iterdir() if file.is_file())
     with concurrent.futures.ProcessPoolExecutor(given.jobs) as pool:
-        for file, (name, why) in zip(files, pool.map(examined, files, chunksize=16)):
+        for file, (name, why) in zip(files, pool.map(examined, files, [given.program] * len(files), chunksize=16)):
             if why is not None:
                 print(f"{file}: {why}")
                 return 1

@@ -112,6 +112,7 @@ def make_parser():
     drill.set_defaults(run=run_drill)
     add_json(drill)
     add_brief(drill)
+    add_command(commands, "focus", "print a run restricted to one of its objects, line for line", run_focus, has_json=False, has_name=True)
     add_command(commands, "why", "explain a rejection or a fault", run_why)
     ordered = add_command(commands, "order", "look for another serial order, and certify it", run_order, many=False)
     ordered.add_argument("--output", metavar="OUT", help="write the run in this order to OUT")
@@ -119,9 +120,11 @@ def make_parser():
     return parser
 
 
-def add_command(commands, name, what, run, many=True, has_json=True):
+def add_command(commands, name, what, run, many=True, has_json=True, has_name=False):
     command = commands.add_parser(name, help=what, description=what[0].upper() + what[1:] + ".", epilog=STATUS_TEXT,
                                   formatter_class=argparse.RawDescriptionHelpFormatter, allow_abbrev=False)
+    if has_name:
+        command.add_argument("name", metavar="NAME", help="the name of an object")
     is_of = "a certificate" if name == "recheck" else "a recorded run"
     command.add_argument("files", metavar="FILE", nargs="+" if many else 1, help=f"{is_of}, or - for standard input")
     command.set_defaults(run=run, output=None)
@@ -170,6 +173,17 @@ def run_drill(options, program, _):
             raise Problem("drill takes a number from 1 to 20000", error.status) from None
         raise
     return Result(shown_report(options, report, None), report.answer.status)
+
+
+def run_focus(options, program, source):
+    try:
+        with source.open() as file:
+            answer = read_report(ask(program, ["focus", options.name], file)).answer
+    except ProgramFailed as error:
+        if error.status == WRONG_ARGUMENTS:
+            raise Problem("focus takes the name of an object: 1 to 24 characters out of A-Z a-z 0-9 _ . -", error.status) from None
+        raise
+    return Result(answer.output, answer.status)
 
 
 def run_why(options, program, source):

@@ -58,6 +58,17 @@ class Outputs(Temporary):
         self.assert_ran(["drill", "1", "--brief"], "accepted steps 10 committed 1\nstate m 0=1\nstate c 1\nstate s\n", 0)
         self.assertEqual(pozhiqas("drill", "03"), ("", "pozhiqas: drill takes a number from 1 to 20000\n", 2))
 
+    def test_focus(self):
+        lines = example("rejected_write_skew.jsonl").decode().splitlines()
+        output, errors, status = pozhiqas("focus", "y", path_of("rejected_write_skew.jsonl"))
+        self.assertEqual((errors, status, output.count("\n")), ("", 0, len(lines)))
+        for line, printed in zip(lines[1:], output.splitlines()[1:]):
+            self.assertEqual(json.loads(printed or "null"), None if '"on":"x"' in line else json.loads(line))
+        self.assertEqual(pozhiqas("focus", "y", "-", stdin=b"\n" + example("rejected_write_skew.jsonl")), ("\n" + output, "", 0))
+        self.assert_ran(["focus", "x", path_of("fault.jsonl")], "fault line 3 WrongType(args)\n", 3)
+        self.assert_ran(["focus", "x", path_of("accepted.jsonl")], "fault line 1 UnknownObject\n", 3)
+        self.assertEqual(pozhiqas("focus", "a b", path_of("accepted.jsonl"))[2], 2)
+
     def test_several_files(self):
         output, errors, status = pozhiqas("certify", "--brief", path_of("accepted.jsonl"), self.folder / "none",
                                           path_of("rejected_race.jsonl"))
@@ -99,7 +110,7 @@ class Outputs(Temporary):
         self.assertIn("line 4 calls a counter", errors)
 
     def test_help(self):
-        for arguments in ([], *([command] for command in (*COMMANDS, "drill"))):
+        for arguments in ([], *([command] for command in (*COMMANDS, "drill", "focus"))):
             output, errors, status = pozhiqas(*arguments, "--help", program=None)
             self.assertEqual((output[:16], errors, status), ("usage: pozhiqas ", "", 0))
 
@@ -182,7 +193,7 @@ class BadInputs(Temporary):
         self.assert_problem(["certify", "-", "-"], "only once", 64)
 
     def test_arguments(self):
-        for arguments in ([], ["judge"], ["certify"], ["certify", "--bogus", "x"], ["drill"], ["order", "a", "b"],
+        for arguments in ([], ["judge"], ["certify"], ["certify", "--bogus", "x"], ["drill"], ["order", "a", "b"], ["focus", "a"],
                           ["expand", "--brief", "x"]):
             with self.subTest(arguments):
                 self.assert_problem(arguments, "(pozhiqas --help)", 64)

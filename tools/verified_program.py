@@ -57,7 +57,7 @@ NO_JUDGED_RUN = ("StyleNotJudged", "NoHeader")
 # The status that the program ends with, by its verdict.
 STATUSES = {"accepted": (0,), "rejected": (1,), "fault": (3,), "holds": (0,), "refused": (1,), "toolarge": (7,)}
 # The statuses of the commands that print lines of JSON and no verdict.
-STATUSES_OF_LINES = {"expand": (0, 1), "swaps": (0,)}
+STATUSES_OF_LINES = {"expand": (0, 1), "swaps": (0,), "focus": (0,)}
 ENTRY = re.compile(r"entry (?P<entry>\d+)(?: gives (?P<gives>\S+))?")
 OPERATION = re.compile(rf"(?P<on>{NAME.pattern})\.(?P<call>\w+)\((?P<args>[-\d,]*)\)=(?P<result>[-\w]+)")
 NAMED_RESULTS = {"none": None, "true": True, "false": False}
@@ -173,8 +173,9 @@ def decide(program, data):
 
 
 def statuses_of_lines(report):
-    """The statuses that fit lines without a verdict: `expand` and `swaps` print lines of JSON."""
-    return STATUSES_OF_LINES.get(report.answer.command, ()) if report.verdict_line.startswith("{") else ()
+    """The statuses that fit lines without a verdict: `expand`, `swaps` and `focus` print lines of JSON, `focus` blank ones too."""
+    has_lines = report.answer.text.lstrip().startswith("{")
+    return STATUSES_OF_LINES.get(report.answer.command, ()) if has_lines else ()
 
 
 def result_of(text):

@@ -8,6 +8,7 @@ mod cut_runs;
 mod expanded_runs;
 mod failing_devices;
 mod faulty_inputs;
+mod focused_runs;
 mod given_words;
 mod hostile_lines;
 mod library_calls;
@@ -339,7 +340,7 @@ fn the_run_of_a_number_is_an_input_with_the_same_report(rt: HostRuntime) -> Resu
 }
 
 /// Arguments that are no command, after the program's own name.
-const NO_COMMANDS: [&[&[u8]]; 15] = [
+const NO_COMMANDS: [&[&[u8]]; 20] = [
     &[b"pp_cli"],
     &[b"pp_cli", b"certify", b"certify"],
     &[b"pp_cli", b"certify", b"expand"],
@@ -352,6 +353,11 @@ const NO_COMMANDS: [&[&[u8]]; 15] = [
     &[b"pp_cli", b"drill", b"+7"],
     &[b"pp_cli", b"drill"],
     &[b"pp_cli", b"drill", b"7", b"7"],
+    &[b"pp_cli", b"focus"],
+    &[b"pp_cli", b"focus", b""],
+    &[b"pp_cli", b"focus", b"a b"],
+    &[b"pp_cli", b"focus", &[b'c'; 25]],
+    &[b"pp_cli", b"focus", b"c", b"c"],
     &[b"pp_cli", b""],
     &[b"pp_cli", b"certif\xff"],
     &[b"pp_cli", &[b'c'; 300]],
