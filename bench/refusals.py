@@ -57,7 +57,7 @@ __attribute__((destructor)) static void end(void) {
     if (!refused && write(creat(getenv("COUNTED"), 0600), &made, sizeof made) != sizeof made) abort();
 }
 """
-COMMANDS = ("certify", "expand", "judge", "quick", "swaps", "views", "recheck")
+COMMANDS = ("certify", "expand", "judge", "quick", "swaps", "views", "recheck", "focus c", "focus m")
 DRILLS = ("drill 1", "drill 2", "drill 7")
 AT_ONCE, MOST_SECONDS = 2, 60
 AT_THE_ENDS, STRIDE = 2_000, 97
