@@ -29,7 +29,7 @@ from typing import NamedTuple
 
 from compare import print_table, verdict_named
 from definition import verdict
-from definition_input import NO_LIMITS
+from definition_input import JUDGE_LIMITS, NO_LIMITS
 
 # The criteria that speak of no object.
 BOOKKEEPING = {"START 1", "BEGIN 1", "BEGIN 2", "APP 1", "APP 2", "APP 3", "UNAPP 1", "UNAPP 2", "PUSH 1", "UNPUSH 1", "PULL 1", "UNPULL 1",
@@ -164,7 +164,7 @@ def wrong_focus(program, data, report, status):
 def examined(file, program):
     """The verdict of a file's run, and why its restrictions do not make it."""
     data = file.read_bytes()
-    report, status = verdict(data, NO_LIMITS)
+    report, status = verdict(data, JUDGE_LIMITS)
     why = wrong_focus(program, data, report, status) if program else None
     if why is not None or status == FAULT:
         return "fault", why

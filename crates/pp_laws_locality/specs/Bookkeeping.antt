@@ -1,4 +1,4 @@
--- The conditions on a run that speak of no object: names, threads, ids and bodies.
+-- Meaning: the conditions on a run that speak of no object: names, threads, ids and bodies.
 use Rattle.std.specs.Prelude.{ℕ, List, [], ◌∷◌, ◌++◌, map, Option, None, Some}
 use Rattle.pp_core.specs.declared.call.Style.{Style}
 use Rattle.pp_model.specs.Body.{Begins, IsWord}

@@ -1,4 +1,5 @@
--- Locality: a run is right exactly if its bookkeeping is right and it is right on each object.
+-- Meaning: locality. A run is right exactly if its bookkeeping is right and it is right on each
+-- object.
 use Rattle.std.specs.Prelude.{◌≡◌, ◌↔◌, ◌⊎◌, ℕ, suc, List, ◌∷◌, ◌++◌, Option}
 use Rattle.pp_core.specs.declared.call.Kind.{Kind}
 use Rattle.pp_core.specs.declared.call.Style.{Style}

@@ -21,7 +21,13 @@ use Rattle.pp_records.proofs.Whole.{one_run_law}
 use Rattle.pp_records.specs.Runs.{Lined, bare}
 use Rattle.pp_format_read.specs.declared.header.Header.{Header}
 use Rattle.pp_model.proofs.Verdict.{one_verdict}
-use Rattle.pp_objects.specs.Objects.{place_of}
+use Rattle.pp_objects.specs.Objects.{SameAt, kinds_of, objects, place_of}
+use Rattle.pp_objects.specs.laws.Objects.{objects_lawful, objects_placed}
+use Rattle.pp_kind.proofs.Places.{tells_states}
+use Rattle.pp_laws_summary.specs.LocalLogs.{HasSummary}
+use Rattle.pp_laws_summary.proofs.Placed.{parts_of}
+use Rattle.pp_laws_locality.specs.Locality.{IsLocal}
+use Rattle.pp_laws_locality.proofs.RunFailures.{locals}
 use Rattle.pp_laws_runs.proofs.Prefixes.{certified_prefix_law, prefix_law}
 use Rattle.pp_laws_runs.proofs.Reported.{reported_law}
 use Rattle.pp_laws_runs.specs.Prefixes.{CertifiedPrefixLaw, PrefixLaw}
@@ -91,6 +97,13 @@ prefixes_accepted = (prefix_law, certified_prefix_law)
 pub reports_readable : ReportLaw × CertifyLaw × QuickLaw
 reports_readable = ((certify_readable, quick_readable), certify_law, quick_law)
 
+-- runs over the objects of a header are local
+runs_local : (header : Header) → HasSummary header.style → IsLocal header.style (object_of header) place_of
+runs_local header has =
+    locals header.style has (object_of header) place_of
+    (parts_of objects place_of SameAt objects_lawful objects_placed (kinds_of header.catalog))
+    (tells_states objects objects_lawful (kinds_of header.catalog))
+
 -- every input has an output of `focus`
 focus_is_defined : (name bytes : List ℕ) → IsDefined (IsFocused name bytes)
 focus_is_defined name bytes none = none (focused name bytes).0 (focused name bytes).1 refl
@@ -122,5 +135,6 @@ run_laws =
       decided = decided_as_run;
       prefixes = prefixes_accepted;
       readable = reports_readable;
+      local = runs_local;
       styles_fail_only = reported_law;
     }

@@ -3,6 +3,10 @@ use Rattle.std.specs.Prelude.{◌≡◌, List, ℕ, Option, Some}
 use Rattle.pp_judge.specs.Scans.{InputScan}
 use Rattle.pp_records.specs.Runs.{Lined}
 use Rattle.pp_format_read.specs.declared.header.Header.{Header}
+use Rattle.pp_objects.specs.Objects.{place_of}
+use Rattle.pp_judge.specs.Objects.{object_of}
+use Rattle.pp_laws_summary.specs.LocalLogs.{HasSummary}
+use Rattle.pp_laws_locality.specs.Locality.{IsLocal}
 use Rattle.pp_laws_runs.specs.Prefixes.{CertifiedPrefixLaw, PrefixLaw}
 use Rattle.pp_laws_reports.specs.Readable.{CertifyLaw, QuickLaw, ReportLaw}
 use Rattle.pp_run.specs.declared.words.Command.{Command}
@@ -40,6 +44,11 @@ pub record RunLaws : Type 0 where
   -- same report, under `certify` and under `quick`. Two accepted inputs with the same report have
   -- the same committed transactions. A report has no bodies and no threads.
   pub readable : ReportLaw × CertifyLaw × QuickLaw
+  -- A boosted, optimistic or hardware run is accepted exactly if its bookkeeping is right and its
+  -- restriction to each object is accepted. The bookkeeping is names, threads, ids and bodies. The
+  -- restriction has the records that `focus` keeps.
+  pub local : (header : Header) → HasSummary header.style →
+      IsLocal header.style (object_of header) place_of
   -- In the four recorded styles only the criteria that `breakable` lists can be the first violated.
   -- This holds under `certify` and under `judge`, however many steps come before.
   pub styles_fail_only : ReportedLaw
