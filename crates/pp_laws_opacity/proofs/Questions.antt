@@ -71,8 +71,8 @@ least-append {Op} h t n past (a ∷ ss) s =
     least-append h t m (past ++ a ∷ []) ss s
     ∙ ap (λ (w : List (Step Op)). cond (starts t (w ++ s ∷ []) s) (length (attempts h (w ++ s ∷ []))) (least_after h t m (past ++ a ∷ []) ss)) (append_assoc past (a ∷ []) ss)
 
--- what the last step did not begin, began before it
-began_before : {Op : Type 0} (t : Name) (early past : List (Step Op)) (s : Step Op) → Began t early (past ++ s ∷ []) → (Starts t (past ++ s ∷ []) → ⊥) → Began t early past
+-- An attempt that did not begin with the last step began before it.
+pub began_before : {Op : Type 0} (t : Name) (early past : List (Step Op)) (s : Step Op) → Began t early (past ++ s ∷ []) → (Starts t (past ++ s ∷ []) → ⊥) → Began t early past
 began_before {Op} t early past s b n = record {
   starts = b.starts;
   within = elim (prefix_cases early past s b.within) [
@@ -110,7 +110,8 @@ least_step {Op} h t past s k early b = by (starts t (past ++ s ∷ []) s) refl
     by false e =
         whole ∙ ap (λ (w : Bool). cond w (length (attempts h (past ++ s ∷ []))) (least_of h t past)) e ∙ k early (began_before t early past s b (starts_false t past s e))
 
-least_is : {Op : Type 0} (h : Option (Start Op)) (t : Name) (past early : List (Step Op)) → Began t early past → least_of h t past ≡ length (attempts h early)
+-- The low end of a question's window is how many had committed when the attempt began.
+pub least_is : {Op : Type 0} (h : Option (Start Op)) (t : Name) (past early : List (Step Op)) → Began t early past → least_of h t past ≡ length (attempts h early)
 least_is {Op} h t past = from_first (λ (w : List (Step Op)). IsLeast h t w) (none_began h t) (λ p s k. least_step h t p s k) [] past (none_began h t)
 
 abbrev IsAsked : {Op : Type 0} → Option (Start Op) → List (Step Op) → Question Op → Type 0

@@ -26,23 +26,13 @@ use Rattle.pp_attempts.proofs.Runs.{orderly}
 use Rattle.pp_laws_opacity.specs.Opacity.{Began, IsPrefix, MayStart, SeesSome, Starts}
 use Rattle.pp_laws_opacity.proofs.Apps.{applied_open, runs}
 use Rattle.pp_laws_opacity.proofs.Orders.{seen_in_whole}
-use Rattle.pp_laws_opacity.proofs.Prefixes.{began_new, began_one, began_some, empty_or_not, last_end, prefix_cases, prefix_trans}
+use Rattle.pp_laws_opacity.proofs.Prefixes.{began_new, began_one, began_some, empty_or_not, last_end}
+use Rattle.pp_laws_opacity.proofs.Questions.{began_before}
 use Rattle.pp_laws_opacity.proofs.Runs.{attempts_step, fewer_before, front, meets_at, own_undone, traced_at}
 use Rattle.pp_opacity.specs.Attempts.{OpenAttempt, least_in, own_in}
 use Rattle.pp_opacity.specs.Replays.{Follows}
 use Rattle.pp_opacity.specs.Results.{IsRun}
 use Rattle.pp_opacity.specs.Trials.{IsAt, IsExplained, IsSerial, MayAsk, Serial}
-
--- what the last step did not begin, began before it
-began_before : {Op : Type 0} (t : Name) (early past : List (Step Op)) (s : Step Op) → Began t early (past ++ s ∷ []) → (Starts t (past ++ s ∷ []) → ⊥) → Began t early past
-began_before {Op} t early past s b n = record {
-  starts = b.starts;
-  within = elim (prefix_cases early past s b.within) [
-    | inl i ↦ i
-    | inr e ↦ absurd (n (subst (λ (w : List (Step Op)). Starts t w) e b.starts))
-  ];
-  last = λ later i k. b.last later (prefix_trans later past (past ++ s ∷ []) i (s ∷ [], refl)) k;
-}
 
 -- a step that is no BEGIN or UNAPP of t begins no attempt of t
 quiet_began : {Op : Type 0} (t : Name) (early past : List (Step Op)) (s : Step Op) → Began t early (past ++ s ∷ []) → (MayStart t s → ⊥) → Began t early past

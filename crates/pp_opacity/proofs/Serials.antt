@@ -1,8 +1,8 @@
 -- Proof machinery: the serial run of the committed transactions, after any number of them.
-use Rattle.std.specs.Prelude.{◌≡◌, ◌<◌, ◌+◌, ℕ, Bool, IsTrue, List, [], ◌∷◌, ◌++◌, length, take, drop}
+use Rattle.std.specs.Prelude.{◌≡◌, ◌<◌, ◌+◌, ℕ, Bool, IsTrue, List, [], ◌∷◌, ◌++◌, length, take, drop, ◌≤◌}
 use Rattle.std.proofs.Common.{sym, ap, subst, ◌∙◌, arith, get_or, inl, inr}
 use Rattle.std.proofs.Math.Seq.{take-length}
-use Rattle.std.proofs.lemmas.List.{length-append}
+use Rattle.std.proofs.lemmas.List.{length-append, take-take}
 use Rattle.pp_model.specs.Config.{CommittedTx}
 use Rattle.pp_model.specs.Lists.{Each}
 use Rattle.pp_model.specs.Object.{Item, ops}
@@ -74,6 +74,10 @@ module _ {Shape State Op Undo : Type 0} (o : Object Shape State Op Undo) (laws :
       pub with_last : (us : List Undo) (t : State) → IsTrail o (o.start shape) (serial_ops (take (i + 1) D)) us t
           → IsTrail o (o.start shape) (serial_ops (take i D) ++ ops d.entries) us t
       with_last us t h = subst (λ (v : List Op). IsTrail o (o.start shape) v us t) (serial_next D i d there is) h
+
+-- The serial run of fewer transactions is no longer.
+pub serial_shorter : {Op : Type 0} (D : List (CommittedTx Op)) (i n : ℕ) → i ≤ n → length (serial_ops (take i D)) ≤ length (serial_ops (take n D))
+serial_shorter {Op} D i n less = subst (λ (w : List (CommittedTx Op)). length (serial_ops w) ≤ length (serial_ops (take n D))) (take-take i n D less) (serial_within (take n D) i)
 
 -- The serial run of i + 1 transactions is longer by the operations of the last one.
 pub longer_by : {Op : Type 0} (D : List (CommittedTx Op)) (i : ℕ) (d : CommittedTx Op) → i < length D → d ≡ get_or D i d

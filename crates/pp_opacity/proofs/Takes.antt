@@ -1,5 +1,5 @@
 -- Proof machinery: a step that is taken, in each of its forms.
-use Rattle.std.specs.Prelude.{◌≡◌, ◌≢◌, ◌≤◌, ◌+◌, ◌-◌, ℕ, false, cond, List, [], ◌∷◌, ◌++◌, length, take, Option, None, Some}
+use Rattle.std.specs.Prelude.{◌≡◌, ◌≢◌, ◌≤◌, ◌+◌, ◌-◌, ◌*◌, ℕ, false, cond, List, [], ◌∷◌, ◌++◌, length, take, Option, None, Some}
 use Rattle.std.proofs.Common.{refl, sym, ap, subst, ◌∙◌, arith}
 use Rattle.pp_model.specs.Config.{Begin, App, Unapp, Push, Unpush, Pull, Unpull, Cmt, Quit, Note, CommittedTx, Start, Step}
 use Rattle.pp_model.specs.Body.{Tree}
@@ -11,7 +11,9 @@ use Rattle.pp_kind.specs.Object.{Object, rules_of}
 use Rattle.pp_attempts.specs.Lists.{own_after}
 use Rattle.pp_laws_opacity.specs.Opacity.{MayStart, SeesSome}
 use Rattle.pp_opacity.specs.Attempts.{OpenAttempt, least_in, own_in}
-use Rattle.pp_opacity.specs.Replays.{Follows, IsSeen}
+use Rattle.pp_opacity.specs.Costs.{operations_of}
+use Rattle.pp_opacity.specs.Replays.{Follows, IsSeen, step_costs}
+use Rattle.pp_opacity.proofs.Costs.{app_costs, cmt_costs}
 use Rattle.pp_opacity.specs.Results.{IsRun}
 use Rattle.pp_opacity.specs.Trials.{IsAt, IsExplained, MayAsk, Serial}
 use Rattle.pp_opacity.proofs.Replays.{count_step, explained_sees, follows_app, follows_begin, follows_quiet, follows_unapp, low_within, may_ask, now_fewer, sees_explained}
@@ -81,6 +83,13 @@ module _ {Shape State Op Undo : Type 0} (o : Object Shape State Op Undo) (shape 
       let count = f.count in
       omega (arith, one, step, fewer, count)
 
+  -- A CMT costs the operations of its transaction.
+  pub cmt_spent : (u : Name) → s ≡ Cmt u → (t t2 : ℕ) → t2 + operations_of committed serial.count ≤ t + operations_of committed (serial.count + 1) → t2 ≤ t + step_costs h past s committed
+  cmt_spent u e t t2 cost =
+      let one = ap (λ (w : Step Op). length (commits (w ∷ []))) e in
+      let step = count_step o shape h past rest s committed r in
+      cmt_costs o shape h past rest s committed r serial kept f (omega (arith, one, step)) t t2 cost
+
   -- What is kept follows a BEGIN.
   pub take_begin : (u p : Name) (b : Option Tree) → s ≡ Begin u p b → (more : List (Name × OpenAttempt Op))
       → ((t : Name) → own_in t more ≡ cond (u =ⁿ t) [] (own_in t kept)) → ((t : Name) → least_in t more ≡ cond (u =ⁿ t) serial.count (least_in t kept))
@@ -114,6 +123,11 @@ module _ {Shape State Op Undo : Type 0} (o : Object Shape State Op Undo) (shape 
     -- Its window begins no later than now.
     pub app_low : least_in u more ≤ serial.count
     app_low = low_within o shape h past rest u id op committed serial more run_app asking
+
+    -- An APP costs what its question costs.
+    pub app_spent : (t t2 : ℕ) → t2 + 2 * operations_of committed (least_in u more) + 2 * (least_in u more * length (own_in u more))
+        ≤ t + 2 * operations_of committed serial.count + 2 * ((serial.count + 1) * length (own_in u more)) → t2 ≤ t + step_costs h past s committed
+    app_spent t t2 cost = subst (λ (w : Step Op). t2 ≤ t + step_costs h past w committed) (sym e) (app_costs o shape h past rest u id op committed serial more run_app asking t t2 cost)
 
     -- What is kept follows an APP.
     pub take_app : (new : Serial State Undo) → IsAt o shape committed new → new.count ≡ serial.count → Follows o shape h (past ++ s ∷ []) committed new more

@@ -1,7 +1,7 @@
 -- Proof machinery: the numbers of a window, from the high end down.
 use Rattle.std.specs.Prelude.{◌≡◌, ◌⊎◌, ◌↔◌, ◌<◌, ◌≤◌, ◌+◌, ◌*◌, ℕ, suc, Bool, IsTrue, List}
 use Rattle.std.proofs.Common.{sym, ap, subst, ◌∙◌, arith, inl, inr}
-use Rattle.std.proofs.Math.Nat.{suc-mul}
+use Rattle.std.proofs.Math.Nat.{mul-le-mul_right, suc-mul}
 use Rattle.pp_model.specs.Config.{CommittedTx}
 use Rattle.pp_model.specs.Object.{Item, Object}
 use Rattle.pp_attempts.specs.Views.{Explains}
@@ -11,6 +11,10 @@ use Rattle.pp_opacity.specs.Trials.{IsExplained}
 -- One number more costs the items twice more.
 pub one_more : (n w : ℕ) → 2 * ((n + 1) * w) ≡ 2 * (n * w) + 2 * w
 one_more n w = let e : (n + 1) * w ≡ n * w + w = ap (λ (k : ℕ). k * w) (let z : n + 1 ≡ suc n = omega arith in z) ∙ suc-mul n w in omega (arith, e)
+
+-- Fewer numbers cost the items no more.
+pub fewer_products : (i n w : ℕ) → i ≤ n → i * w ≤ n * w
+fewer_products i n w less = mul-le-mul_right w less
 
 module _ {Op State : Type 0} (O : Object Op State) (committed : List (CommittedTx Op)) (items : List (Item Op)) where
   -- No number above the next one down explains the items, if the number itself does not.

@@ -1,12 +1,14 @@
 -- Proof machinery: the steps of an accepted run, taken one after another.
-use Rattle.std.specs.Prelude.{◌≡◌, ℕ, List, [], ◌∷◌, ◌++◌, length, Option, None, Some}
+use Rattle.std.specs.Prelude.{◌≡◌, ◌+◌, ◌-◌, ℕ, List, [], ◌∷◌, ◌++◌, length, sum_by, Option, None, Some}
 use Rattle.pp_model.specs.Config.{App, CommittedTx, Start, Step}
 use Rattle.pp_model.specs.Names.{Name}
 use Rattle.pp_model.specs.Object as model
 use Rattle.pp_model.specs.Serial.{attempts, own_of}
 use Rattle.pp_kind.specs.Object.{Object}
 use Rattle.pp_laws_opacity.specs.Opacity.{Began, SeesSome}
+use Rattle.pp_laws_opacity.specs.Questions.{questions_after}
 use Rattle.pp_opacity.specs.Attempts.{OpenAttempt, least_in, own_in}
+use Rattle.pp_opacity.specs.Costs.{asking_at_most, operations_of}
 use Rattle.pp_opacity.specs.Trials.{IsAt, Serial}
 
 -- What is kept follows the steps `past` of a run: the serial run has the transactions that have
@@ -28,3 +30,11 @@ IsSeen {Op} O h past s None =
     (t : Name) (id : ℕ) (op : Op) → s ≡ App t id op → SeesSome O h (past ++ s ∷ []) t
 IsSeen {Op} O h past s (Some t) =
     (id : ℕ) × (op : Op) × (s ≡ App t id op) × (SeesSome O h (past ++ s ∷ []) t → ⊥)
+
+-- What a step costs at most: its question, and the operations of the transaction that it commits.
+abbrev pub step_costs : {Op : Type 0} → Option (Start Op) → List (Step Op) → Step Op
+    → List (CommittedTx Op) → ℕ
+step_costs h past s committed =
+    (operations_of committed (length (attempts h (past ++ s ∷ [])))
+    - operations_of committed (length (attempts h past)))
+    + sum_by (asking_at_most committed) (questions_after h past (s ∷ []))

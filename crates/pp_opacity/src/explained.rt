@@ -3,8 +3,8 @@ ghost use Rattle.std.specs.Prelude.{◌≡◌, ◌+◌, ◌*◌, ◌≤◌, ◌�
 ghost use Rattle.pp_model.specs.Config.{CommittedTx as TxOf};
 ghost use Rattle.pp_model.specs.Sound.{serial_ops};
 ghost use Rattle.pp_kind.specs.Object.{rules_of};
-ghost use Rattle.pp_attempts.specs.Views.{Explains, MayBeTried};
-ghost use Rattle.pp_opacity.specs.Trials.{IsAt, IsExplained, IsSerial, MayAsk};
+ghost use Rattle.pp_attempts.specs.Views.{Explains};
+ghost use Rattle.pp_opacity.specs.Trials.{IsAt, IsExplained, MayAsk};
 
 use crate::serial::{Serial, advance_to, retreat};
 use crate::trial::is_allowed_next;
@@ -52,14 +52,17 @@ fn descend<S: Spec, L: Ledger>(
     ensures at { OnOk result ((shape : S.Shape)
         → MayAsk S.object shape committed.now items.now serial.old
         → IsAt S.object shape committed.now serial.new) }
-    ensures count { OnOk result (serial.new.count ≤ serial.old.count) }
+    ensures above { OnOk result (low ≤ serial.new.count) }
+    ensures below { OnOk result (serial.new.count ≤ serial.old.count) }
     ensures rises { ticks.old ≤ ticks.new }
     ensures cost { OnOk result (ticks.new
-        + length (serial_ops (take serial.new.count committed.now))
+        + length (serial_ops (take serial.new.count committed.now)) + 2 * (low * length items.now)
         ≤ ticks.old + length (serial_ops (take serial.old.count committed.now))
         + 2 * ((serial.old.count + 1) * length items.now)) }
-    ensures bound { ticks.new ≤ ticks.old + 2 * ((serial.old.count + 1) * length items.now)
-        + 2 * length (serial_ops committed.now) }
+    ensures bound { ticks.new + 2 * length (serial_ops (take low committed.now))
+        + 2 * (low * length items.now)
+        ≤ ticks.old + 2 * length (serial_ops (take serial.old.count committed.now))
+        + 2 * ((serial.old.count + 1) * length items.now) }
 {
     let mut found = is_explained_here::<S, L>(serial, items, ticks)?;
     while !found && serial.count > low {
@@ -89,8 +92,10 @@ pub(crate) fn is_explained<S: Spec, L: Ledger>(
         → IsAt S.object shape committed.now serial.new) }
     ensures count { OnOk result (serial.new.count ≡ serial.old.count) }
     ensures rises { ticks.old ≤ ticks.new }
-    ensures bound { ticks.new ≤ ticks.old + 2 * ((serial.old.count + 1) * length items.now)
-        + 2 * length (serial_ops committed.now) }
+    ensures bound { ticks.new + 2 * length (serial_ops (take low committed.now))
+        + 2 * (low * length items.now)
+        ≤ ticks.old + 2 * length (serial_ops (take serial.old.count committed.now))
+        + 2 * ((serial.old.count + 1) * length items.now) }
 {
     let high = serial.count;
     let found = descend::<S, L>(serial, committed, low, items, ticks)?;

@@ -1,13 +1,13 @@
 //! The steps of an accepted run, taken one after another.
 ghost use Rattle.std.specs.Prelude.{◌≡◌, ◌+◌, ◌*◌, ◌≤◌, ◌↔◌, ◌++◌, ◌∷◌, [], IfOk, IsTrue, List, OnOk};
-ghost use Rattle.std.specs.Prelude.{Option as OptionOf, length};
+ghost use Rattle.std.specs.Prelude.{Option as OptionOf, length, take};
 ghost use Rattle.pp_core.specs.Steps.{Step as StepOf, meaning};
 ghost use Rattle.pp_model.specs.Config.{Start as StartOf};
 ghost use Rattle.pp_model.specs.Serial.{start_attempts};
 ghost use Rattle.pp_model.specs.Sound.{serial_ops};
 ghost use Rattle.pp_kind.specs.Object.{rules_of};
 ghost use Rattle.pp_opacity.specs.Attempts.{least_in, own_in};
-ghost use Rattle.pp_opacity.specs.Replays.{Follows, IsSeen};
+ghost use Rattle.pp_opacity.specs.Replays.{Follows, IsSeen, step_costs};
 ghost use Rattle.pp_opacity.specs.Results.{IsRun};
 ghost use Rattle.pp_opacity.specs.Trials.{IsAt, IsExplained, MayAsk};
 
@@ -41,7 +41,8 @@ pub(crate) fn start_replay<S: Spec, L: Ledger>(
         → IsRun S.object shape.now h ss committed.now → given ≡ length (start_attempts h)
         → Follows S.object shape.now h [] committed.now replay.serial replay.attempts.entries) }
     ensures rises { ticks.old ≤ ticks.new }
-    ensures bound { ticks.new ≤ ticks.old + length (serial_ops committed.now) }
+    ensures bound { ticks.new
+        ≤ ticks.old + length (serial_ops (take given committed.now)) }
 {
     let mut serial = start::<S>(alloc, shape)?;
     advance_to::<S, L>(&mut serial, committed, given, ticks)?;
@@ -72,9 +73,11 @@ fn ask<S: Spec, L: Ledger>(
         → IsAt S.object shape committed.now serial.new) }
     ensures count { OnOk result (serial.new.count ≡ serial.old.count) }
     ensures rises { ticks.old ≤ ticks.new }
-    ensures bound { ticks.new ≤ ticks.old
-        + 2 * ((serial.old.count + 1) * length (own_in tx.now attempts.now.entries))
-        + 2 * length (serial_ops committed.now) }
+    ensures bound { ticks.new
+        + 2 * length (serial_ops (take (least_in tx.now attempts.now.entries) committed.now))
+        + 2 * (least_in tx.now attempts.now.entries * length (own_in tx.now attempts.now.entries))
+        ≤ ticks.old + 2 * length (serial_ops (take serial.old.count committed.now))
+        + 2 * ((serial.old.count + 1) * length (own_in tx.now attempts.now.entries)) }
 {
     let low = least(attempts, tx);
     let items = own(attempts, tx);
@@ -108,6 +111,12 @@ pub(crate) fn take<S: Spec, L: Ledger>(
         → Follows S.object shape h past committed.now replay.old.serial
         replay.old.attempts.entries
         → IsSeen (rules_of S.object shape) h past (meaning step.now) found) }
+    ensures rises { ticks.old ≤ ticks.new }
+    ensures bound { (shape : S.Shape) (h : OptionOf (StartOf S.Op)) (past rest : List (StepOf S.Op))
+        → IsRun S.object shape h (past ++ meaning step.now ∷ rest) committed.now
+        → Follows S.object shape h past committed.now replay.old.serial
+        replay.old.attempts.entries
+        → ticks.new ≤ ticks.old + step_costs h past (meaning step.now) committed.now }
 {
     let count = replay.serial.count;
     match step {

@@ -1,5 +1,5 @@
 //! The serial run of the committed transactions, after any number of them.
-ghost use Rattle.std.specs.Prelude.{◌≡◌, ◌+◌, ◌<◌, ◌≤◌, ◌++◌, IfOk, List, OnOk, length, take};
+ghost use Rattle.std.specs.Prelude.{◌≡◌, ◌+◌, ◌-◌, ◌<◌, ◌≤◌, IfOk, List, OnOk, length, take};
 ghost use Rattle.pp_model.specs.Config.{CommittedTx as TxOf};
 ghost use Rattle.pp_model.specs.Sound.{serial_ops};
 ghost use Rattle.pp_opacity.specs.Trials.{IsAt, IsSerial};
@@ -72,10 +72,8 @@ pub(crate) fn retreat<S: Spec, L: Ledger>(
         → IsAt S.object shape committed.now serial.new) }
     ensures count { OnOk result (serial.new.count + 1 ≡ serial.old.count) }
     ensures rises { ticks.old ≤ ticks.new }
-    ensures cost { OnOk result (ticks.new
-        + length (serial_ops (take serial.new.count committed.now))
-        ≤ ticks.old + length (serial_ops (take serial.old.count committed.now))) }
-    ensures bound { ticks.new ≤ ticks.old + length (serial_ops committed.now) }
+    ensures cost { ticks.new + length (serial_ops (take (serial.old.count - 1) committed.now))
+        ≤ ticks.old + length (serial_ops (take serial.old.count committed.now)) }
 {
     serial.count -= 1;
     let transaction = &committed[serial.count];
@@ -100,8 +98,8 @@ pub(crate) fn advance_to<S: Spec, L: Ledger>(
         → IsAt S.object shape committed.now serial.new) }
     ensures count { OnOk result (serial.new.count ≡ count) }
     ensures rises { ticks.old ≤ ticks.new }
-    ensures bound { ticks.new + length (serial_ops (take serial.old.count committed.now))
-        ≤ ticks.old + length (serial_ops committed.now) }
+    ensures cost { ticks.new + length (serial_ops (take serial.old.count committed.now))
+        ≤ ticks.old + length (serial_ops (take count committed.now)) }
 {
     while serial.count < count {
         advance::<S, L>(serial, committed, ticks)?;

@@ -1,12 +1,11 @@
 //! Operations that are applied after others, and taken back.
-ghost use Rattle.std.specs.Prelude.{◌≡◌, ◌+◌, ◌*◌, ◌≤◌, ◌++◌, List, IfOk, OnOk, length};
+ghost use Rattle.std.specs.Prelude.{◌+◌, ◌*◌, ◌≤◌, ◌++◌, IfOk, List, OnOk, length};
 ghost use Rattle.pp_model.specs.Object.{ops};
 ghost use Rattle.pp_attempts.specs.Trying.{IsTrail, MayFollow};
 ghost use Rattle.pp_opacity.specs.Trials.{IsDecidedNext, IsTried};
 
 use pp_core::{Item, OutOfMemory, Ticks};
 use pp_kind::{Applied, Spec};
-use std::alloc::Global;
 use std::sync::ledger::Ledger;
 
 /// Applies operations after those that were applied, as long as each returns its recorded result.

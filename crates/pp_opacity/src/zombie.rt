@@ -1,10 +1,11 @@
 //! The first zombie of an accepted run.
-ghost use Rattle.std.specs.Prelude.{◌≡◌, ◌∷◌, [], IfOk, List, Option as OptionOf, length};
+ghost use Rattle.std.specs.Prelude.{◌≡◌, ◌+◌, ◌≤◌, IfOk, Option as OptionOf, length};
 ghost use Rattle.pp_model.specs.Config.{Start as StartOf};
 ghost use Rattle.pp_model.specs.Serial.{start_attempts};
 ghost use Rattle.pp_kind.specs.Object.{rules_of};
 ghost use Rattle.pp_attempts.specs.Peaks.{meanings};
 ghost use Rattle.pp_opacity.specs.Attempts.{least_in, own_in};
+ghost use Rattle.pp_opacity.specs.Costs.{searching_at_most};
 ghost use Rattle.pp_opacity.specs.Results.{IsFound, IsRun};
 
 use crate::attempts::{least, own};
@@ -70,6 +71,11 @@ pub fn first_zombie<S: Spec, L: Ledger>(
         → IsRun S.object shape.now h (meanings steps.now) committed.now
         → given ≡ length (start_attempts h)
         → IsFound (rules_of S.object shape.now) h (meanings steps.now) found) }
+    ensures rises { ticks.old ≤ ticks.new }
+    ensures bound { (h : OptionOf (StartOf S.Op))
+        → IsRun S.object shape.now h (meanings steps.now) committed.now
+        → given ≡ length (start_attempts h)
+        → ticks.new ≤ ticks.old + searching_at_most h (meanings steps.now) committed.now }
 {
     let mut replay = start_replay::<S, L>(alloc, shape, committed, given, ticks)?;
     for (i, step) in steps.iter().enumerate() {

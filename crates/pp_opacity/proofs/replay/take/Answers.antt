@@ -1,7 +1,7 @@
 use Rattle.std.proofs.Common.{◌≡◌, ◌++◌, ◌∷◌, true, false, ap, sym, subst, ◌∙◌, arith}
 use Rattle.pp_core.specs.Steps.{meaning}
 use Rattle.pp_opacity.proofs.Replays.{run_serial}
-use Rattle.pp_opacity.proofs.Takes.{app_ask, app_low, app_seen, app_unseen, cmt_left, idle_note, idle_pull, idle_push, idle_quit, idle_unpull, idle_unpush}
+use Rattle.pp_opacity.proofs.Takes.{app_ask, app_low, app_seen, app_spent, app_unseen, cmt_left, cmt_spent, idle_note, idle_pull, idle_push, idle_quit, idle_unpull, idle_unpush}
 use Rattle.pp_opacity.proofs.Takes.{IsIdle, take_app, take_begin, take_cmt, take_idle, take_unapp}
 use Rattle.pp_opacity.proofs.replay.take.Goals as goal
 
@@ -193,3 +193,60 @@ returns-in-Note-clause-follows g c = λ shape h past rest run f.
     let serial = c.args.replay.now.serial in
     let kept = c.args.replay.now.attempts.entries in
     take_idle o shape h past rest s D serial kept run f (subst (λ w. IsIdle w) (sym (ap meaning c.in-Note.is)) (idle_note c.in-Note.tx))
+
+pub returns-in_err-explained-in-App-clause-bound : goal.returns-in_err-explained-in-App-clause-bound
+returns-in_err-explained-in-App-clause-bound g c = λ shape h past rest run f.
+    let o = g.S.Spec.object in
+    let D = c.args.committed.now in
+    let s = meaning c.args.step.now in
+    let serial = c.args.replay.now.serial in
+    let kept = c.args.replay.now.attempts.entries in
+    let e = ap meaning c.in-App.is in
+    let more = c.apply.new.attempts.entries in
+    let own = c.in_ok-apply-in-App.ensures.own in
+    let least = c.in_ok-apply-in-App.ensures.least in
+    app_spent o shape h past rest s D serial kept run f c.in-App.tx c.in-App.id c.in-App.op e more own least c.args.ticks.now c.ask.new.ticks c.in_err-explained-in-App.ensures.bound
+
+pub returns-then-explained-clause-bound : goal.returns-then-explained-clause-bound
+returns-then-explained-clause-bound g c = λ shape h past rest run f.
+    let o = g.S.Spec.object in
+    let D = c.args.committed.now in
+    let s = meaning c.args.step.now in
+    let serial = c.args.replay.now.serial in
+    let kept = c.args.replay.now.attempts.entries in
+    let e = ap meaning c.in-App.is in
+    let more = c.apply.new.attempts.entries in
+    let own = c.in_ok-apply-in-App.ensures.own in
+    let least = c.in_ok-apply-in-App.ensures.least in
+    app_spent o shape h past rest s D serial kept run f c.in-App.tx c.in-App.id c.in-App.op e more own least c.args.ticks.now c.ask.new.ticks c.in_ok-explained-in-App.ensures.bound
+
+pub returns-else-explained-clause-bound : goal.returns-else-explained-clause-bound
+returns-else-explained-clause-bound g c = λ shape h past rest run f.
+    let o = g.S.Spec.object in
+    let D = c.args.committed.now in
+    let s = meaning c.args.step.now in
+    let serial = c.args.replay.now.serial in
+    let kept = c.args.replay.now.attempts.entries in
+    let e = ap meaning c.in-App.is in
+    let more = c.apply.new.attempts.entries in
+    let own = c.in_ok-apply-in-App.ensures.own in
+    let least = c.in_ok-apply-in-App.ensures.least in
+    app_spent o shape h past rest s D serial kept run f c.in-App.tx c.in-App.id c.in-App.op e more own least c.args.ticks.now c.ask.new.ticks c.in_ok-explained-in-App.ensures.bound
+
+pub returns-in_err-advance-in-Cmt-clause-bound : goal.returns-in_err-advance-in-Cmt-clause-bound
+returns-in_err-advance-in-Cmt-clause-bound g c = λ shape h past rest run f.
+    let o = g.S.Spec.object in
+    let D = c.args.committed.now in
+    let s = meaning c.args.step.now in
+    let serial = c.args.replay.now.serial in
+    let kept = c.args.replay.now.attempts.entries in
+    cmt_spent o shape h past rest s D serial kept run f c.in-Cmt.tx (ap meaning c.in-Cmt.is) c.args.ticks.now c.advance.new.ticks c.in_err-advance-in-Cmt.ensures.cost
+
+pub returns-in_ok-advance-in-Cmt-clause-bound : goal.returns-in_ok-advance-in-Cmt-clause-bound
+returns-in_ok-advance-in-Cmt-clause-bound g c = λ shape h past rest run f.
+    let o = g.S.Spec.object in
+    let D = c.args.committed.now in
+    let s = meaning c.args.step.now in
+    let serial = c.args.replay.now.serial in
+    let kept = c.args.replay.now.attempts.entries in
+    cmt_spent o shape h past rest s D serial kept run f c.in-Cmt.tx (ap meaning c.in-Cmt.is) c.args.ticks.now c.advance.new.ticks c.in_ok-advance-in-Cmt.ensures.cost

@@ -2,7 +2,6 @@ use Rattle.std.proofs.Common.{◌≡◌, ◌+◌, ◌-◌, ◌<◌, ◌++◌, �
 use Rattle.pp_model.specs.Object.{Item, ops}
 use Rattle.pp_model.specs.Sound.{serial_ops}
 use Rattle.pp_attempts.specs.Trying.{IsTrail, MayFollow}
-use Rattle.pp_attempts.proofs.Viewing.{serial_within}
 use Rattle.pp_opacity.proofs.Serials.{longer_by, may_next, with_last}
 use Rattle.pp_opacity.proofs.serial.retreat.Goals as goal
 
@@ -69,30 +68,17 @@ returns-clause-cost g c =
     let bound = c.in_ok-take_back.ensures.bound in
     omega (arith, longer, same, size, bound)
 
-pub returns-clause-bound : goal.returns-clause-bound
-returns-clause-bound g c =
+pub returns-in_err-take_back-clause-cost : goal.returns-in_err-take_back-clause-cost
+returns-in_err-take_back-clause-cost g c =
     let D = c.args.committed.now in
     let n = c.args.serial.now.count in
     let i = n - 1 in
     let some = c.requires.some in
     let within = c.requires.at.2.within in
     let there : i < length D = omega (arith, some, within) in
+    let e : n ≡ i + 1 = omega (arith, some) in
     let longer = longer_by D i c.index-committed-serial.result there c.index-committed-serial.is in
-    let all = serial_within D (i + 1) in
-    let size = ap (λ (w : List (Item _)). length w) c.as_slice-items.ensures in
-    let bound = c.in_ok-take_back.ensures.bound in
-    omega (arith, longer, all, size, bound)
-
-pub returns-in_err-take_back-clause-bound : goal.returns-in_err-take_back-clause-bound
-returns-in_err-take_back-clause-bound g c =
-    let D = c.args.committed.now in
-    let n = c.args.serial.now.count in
-    let i = n - 1 in
-    let some = c.requires.some in
-    let within = c.requires.at.2.within in
-    let there : i < length D = omega (arith, some, within) in
-    let longer = longer_by D i c.index-committed-serial.result there c.index-committed-serial.is in
-    let all = serial_within D (i + 1) in
+    let same = ap (λ (k : ℕ). length (serial_ops (take k D))) e in
     let size = ap (λ (w : List (Item _)). length w) c.as_slice-items.ensures in
     let bound = c.in_err-take_back.ensures.bound in
-    omega (arith, longer, all, size, bound)
+    omega (arith, longer, same, size, bound)
