@@ -57,7 +57,7 @@ whole_verdict (Some Swaps) s whole = whole
 whole_verdict (Some Recheck) s whole = inl (subst IsDecided (sym whole) tt)
 whole_verdict (Some Views) s whole = whole
 whole_verdict (Some (Drill n)) s whole = absurd whole
-whole_verdict (Some (Focus name)) s whole = inl (inl (subst IsDecided (sym whole) tt))
+whole_verdict (Some (Focus name)) s whole = inl (subst IsDecided (sym whole) tt)
 
 printed_written : (s : Status) → IsPrinted s → MayBeCutShort s → ⊥
 printed_written statuses.Accepted printed unwritten = unwritten

@@ -1,5 +1,5 @@
 -- Meaning: what a call of `run` promises, and the laws of the definitions that this rests on.
-use Rattle.std.specs.Prelude.{◌≡◌, List, ℕ, Option, Some}
+use Rattle.std.specs.Prelude.{◌≡◌, Option, Some}
 use Rattle.pp_judge.specs.Scans.{InputScan}
 use Rattle.pp_records.specs.Runs.{Lined}
 use Rattle.pp_format_read.specs.declared.header.Header.{Header}
