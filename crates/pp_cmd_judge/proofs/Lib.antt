@@ -1,6 +1,8 @@
 pub mod Ending
 pub mod Violating
 pub mod BoostedJudging
+pub mod OptimisticReading
+pub mod OptimisticJudging
 pub mod RuleSteps
 pub mod StyleJudging
 pub mod AnyBegins

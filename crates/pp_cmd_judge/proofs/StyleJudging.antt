@@ -23,14 +23,18 @@ use Rattle.pp_cmd_judge.specs.Boosted.{boosted_judging}
 use Rattle.pp_cmd_judge.specs.BoostedLaws.{boosted_fault}
 use Rattle.pp_cmd_judge.specs.Costs.{StyleCostAtMost, StyleGoodCostAtLeast, StyleRejectedCostAtLeast}
 use Rattle.pp_cmd_judge.specs.Inputs.{judge_limits}
+use Rattle.pp_cmd_judge.specs.Optimistic.{optimistic_judging}
+use Rattle.pp_cmd_judge.specs.OptimisticLaws.{all_meet, optimistic_fault}
 use Rattle.pp_cmd_judge.specs.Rejections.{IsRejectedBehind}
 use Rattle.pp_cmd_judge.specs.Rules.{rules_judging}
 use Rattle.pp_cmd_judge.specs.RulesLaws.{rules_fault}
 use Rattle.pp_cmd_judge.specs.StyleJudging.{IsGoodBy, IsRejectedIn, done_of, shape_of, step_count, style_judging, widened}
 use Rattle.pp_cmd_judge.specs.declared.boosted.BoostedJudge.{BoostedJudge}
+use Rattle.pp_cmd_judge.specs.declared.optimistic.OptimisticJudge.{OptimisticJudge}
 use Rattle.pp_cmd_judge.specs.declared.rules.RuleMachine.{RuleMachine}
 use Rattle.pp_cmd_judge.specs.declared.style_judge.StyleJudge.{StyleJudge}
-use Rattle.pp_cmd_judge.specs.declared.style_judge.StyleJudge.TheVariants.{Boosted, Rules}
+use Rattle.pp_cmd_judge.specs.declared.style_judge.StyleJudge.TheVariants.{Boosted, Optimistic, Rules}
+use Rattle.pp_cmd_judge.proofs.OptimisticReading as optimistic_reading
 use Rattle.pp_cmd_judge.proofs.RuleSteps.{count_is}
 use Rattle.pp_cmd_judge.proofs.RuleSteps as rule_steps
 
@@ -143,6 +147,22 @@ boosted = record {
   rejected_least = λ sc old new least. least;
 }
 
+-- the judge of optimistic runs says what the judge of all styles says of that style
+pub optimistic : JudgesStyle optimistic_judging styles.Optimistic (λ (judge : OptimisticJudge). Optimistic judge)
+optimistic = record {
+  limits = refl;
+  good = λ h rs judge good. good;
+  own_good = λ h rs judge good. good;
+  style = λ h rs judge good. good.style;
+  rejected = λ h rs rejection bad. bad;
+  no_fault = λ h rs fault is e. absurd (let no : None ≡ Some fault = sym (optimistic_fault (scan_of h rs) h refl is) ∙ e in cc);
+  most = λ sc old new cost. cost;
+  own_most = λ sc old new cost. cost;
+  good_least = λ sc old new least. least;
+  own_good_least = λ sc old new least. least;
+  rejected_least = λ sc old new least. least;
+}
+
 -- the judge of style rules says what the judge of all styles says of that style
 pub rules : JudgesStyle rules_judging styles.Rules (λ (judge : RuleMachine). Rules judge)
 rules = record {
@@ -173,11 +193,17 @@ accepted_by h rs (Boosted judge) good = record {
   steps = good.steps;
   done = committed_are h.what rs judge.quick good.good;
 }
+accepted_by h rs (Optimistic judge) good = record {
+  hold = all_meet h.what rs judge good;
+  steps = good.steps;
+  done = optimistic_reading.committed_are h.what rs judge good;
+}
 
 -- if the start and the records are good, the objects of the judge are of the kinds of the header
 pub shape_is : (h : Lined Header) (rs : Records (RunRecord Op)) (judge : StyleJudge) → IsGoodBy h rs judge → shape_of judge ≡ kinds_of h.what.catalog
 shape_is h rs (Rules judge) good = good.shape
 shape_is h rs (Boosted judge) good = good.good.shape
+shape_is h rs (Optimistic judge) good = good.shape
 
 -- ---- a rejected run
 
@@ -185,6 +211,6 @@ shape_is h rs (Boosted judge) good = good.good.shape
 pub rejected_by : (s : Style) (h : Lined Header) (rs : Records (RunRecord Op)) (rejection : Rejection) → IsRejectedIn s h rs rejection → IsRejectedBehind h rs rejection
 rejected_by styles.Rules h rs rejection bad = bad.1
 rejected_by styles.Boosted h rs rejection bad = bad.2
-rejected_by styles.Optimistic h rs rejection bad = absurd bad
+rejected_by styles.Optimistic h rs rejection bad = bad.2
 rejected_by styles.Hardware h rs rejection bad = absurd bad
 rejected_by styles.Dependent h rs rejection bad = absurd bad

@@ -12,6 +12,7 @@ use Rattle.pp_judge.specs.Costs.{OfRun, StepsCostAtLeast, serial_length}
 use Rattle.pp_judge.specs.Scans.{InputScan}
 use Rattle.pp_cmd_quick.specs.Costs.{TakenCostAtLeast}
 use Rattle.pp_cmd_judge.specs.BoostedCosts.{BoostedCostAtMost}
+use Rattle.pp_cmd_judge.specs.OptimisticCosts.{OptimisticCostAtMost}
 use Rattle.pp_cmd_judge.specs.RulesCosts.{AllCostAtMost}
 
 -- ---- without the serial run
@@ -21,27 +22,28 @@ use Rattle.pp_cmd_judge.specs.RulesCosts.{AllCostAtMost}
 abbrev pub StyleCostAtMost : Style → InputScan → (old new : ℕ) → Type 0
 StyleCostAtMost styles.Rules sc old new = AllCostAtMost sc old new
 StyleCostAtMost styles.Boosted sc old new = BoostedCostAtMost sc old new
-StyleCostAtMost styles.Optimistic sc old new = new ≡ old
+StyleCostAtMost styles.Optimistic sc old new = OptimisticCostAtMost sc old new
 StyleCostAtMost styles.Hardware sc old new = new ≡ old
 StyleCostAtMost styles.Dependent sc old new = new ≡ old
 
 -- If all steps meet their criteria, the counter rises at least so. In style rules it is by what
--- expanding the run costs at least, and in style boosted by one for each record that is an operation.
+-- expanding the run costs at least, and in styles boosted and optimistic by one for each record that
+-- is an operation.
 abbrev pub StyleGoodCostAtLeast : Style → InputScan → (old new : ℕ) → Type 0
 StyleGoodCostAtLeast styles.Rules sc old new =
     StepsCostAtLeast statuses.Accepted sc old new
 StyleGoodCostAtLeast styles.Boosted sc old new = old + count_ops (bare sc.records) ≤ new
-StyleGoodCostAtLeast styles.Optimistic sc old new = Unit {0}
+StyleGoodCostAtLeast styles.Optimistic sc old new = old + count_ops (bare sc.records) ≤ new
 StyleGoodCostAtLeast styles.Hardware sc old new = Unit {0}
 StyleGoodCostAtLeast styles.Dependent sc old new = Unit {0}
 
--- If the start or a step violates a criterion, it rises at least so. In style boosted only the
--- records before that of the step count.
+-- If the start or a step violates a criterion, it rises at least so. In styles boosted and optimistic
+-- only the records before that of the step count.
 abbrev pub StyleRejectedCostAtLeast : Style → InputScan → (old new : ℕ) → Type 0
 StyleRejectedCostAtLeast styles.Rules sc old new =
     StepsCostAtLeast statuses.Rejected sc old new
 StyleRejectedCostAtLeast styles.Boosted sc old new = TakenCostAtLeast sc old new
-StyleRejectedCostAtLeast styles.Optimistic sc old new = Unit {0}
+StyleRejectedCostAtLeast styles.Optimistic sc old new = TakenCostAtLeast sc old new
 StyleRejectedCostAtLeast styles.Hardware sc old new = Unit {0}
 StyleRejectedCostAtLeast styles.Dependent sc old new = Unit {0}
 

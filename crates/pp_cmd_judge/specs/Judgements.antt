@@ -22,7 +22,7 @@ use Rattle.pp_cmd_judge.specs.Inputs.{early_judge_scan, judge_scan}
 abbrev pub is_judged : Style → Bool
 is_judged styles.Rules = true
 is_judged styles.Boosted = true
-is_judged styles.Optimistic = false
+is_judged styles.Optimistic = true
 is_judged styles.Hardware = false
 is_judged styles.Dependent = false
 

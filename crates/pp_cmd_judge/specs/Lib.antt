@@ -6,6 +6,9 @@ pub mod Rejections
 pub mod BoostedCosts
 pub mod Boosted
 pub mod BoostedLaws
+pub mod OptimisticCosts
+pub mod Optimistic
+pub mod OptimisticLaws
 pub mod RulesCosts
 pub mod Rules
 pub mod RulesLaws

@@ -19,10 +19,12 @@ use Rattle.pp_cmd_judge.specs.BoostedLaws.{boosted_laws}
 use Rattle.pp_cmd_judge.specs.Costs.{JudgedCostAtMost, OfItsStyle, StyleCostAtMost}
 use Rattle.pp_cmd_judge.specs.Costs.{StyleRejectedCostAtLeast}
 use Rattle.pp_cmd_judge.specs.Judgements.{is_judged, judge_fault}
+use Rattle.pp_cmd_judge.specs.OptimisticLaws.{optimistic_laws}
 use Rattle.pp_cmd_judge.specs.RulesLaws.{rules_laws}
 use Rattle.pp_cmd_judge.specs.StyleJudging.{IsGoodBy, IsRejectedIn, style_judging}
 use Rattle.pp_cmd_judge.specs.declared.style_judge.StyleJudge.{StyleJudge}
-use Rattle.pp_cmd_judge.specs.declared.style_judge.StyleJudge.TheVariants.{Boosted, Rules}
+use Rattle.pp_cmd_judge.specs.declared.style_judge.StyleJudge.TheVariants.{Boosted, Optimistic}
+use Rattle.pp_cmd_judge.specs.declared.style_judge.StyleJudge.TheVariants.{Rules}
 
 -- ---- the fault
 
@@ -36,13 +38,14 @@ pub good_style : (h : Lined Header) (rs : Records (RunRecord Op)) (judge : Style
     IsGoodBy h rs judge → is_judged h.what.style ≡ true
 good_style h rs (Rules judge) good = ap (λ (s : Style). is_judged s) good.style
 good_style h rs (Boosted judge) good = ap (λ (s : Style). is_judged s) good.good.style
+good_style h rs (Optimistic judge) good = ap (λ (s : Style). is_judged s) good.style
 
 -- the style of records that are rejected is judged
 pub rejected_style : (s : Style) (h : Lined Header) (rs : Records (RunRecord Op))
     (rejection : Rejection) → IsRejectedIn s h rs rejection → is_judged s ≡ true
 rejected_style styles.Rules h rs rejection bad = refl
 rejected_style styles.Boosted h rs rejection bad = refl
-rejected_style styles.Optimistic h rs rejection bad = absurd bad
+rejected_style styles.Optimistic h rs rejection bad = refl
 rejected_style styles.Hardware h rs rejection bad = absurd bad
 rejected_style styles.Dependent h rs rejection bad = absurd bad
 
@@ -57,6 +60,9 @@ not_both h rs (Rules judge) rejection good bad =
 not_both h rs (Boosted judge) rejection good bad =
     boosted_laws.not_both h rs judge rejection good
     (subst (λ (s : Style). IsRejectedIn s h rs rejection) good.good.style bad)
+not_both h rs (Optimistic judge) rejection good bad =
+    optimistic_laws.not_both h rs judge rejection good
+    (subst (λ (s : Style). IsRejectedIn s h rs rejection) good.style bad)
 
 rejection_stays : (s : Style) (h : Lined Header) (rs more : Records (RunRecord Op))
     (rejection : Rejection) → IsRejectedIn s h rs rejection →
@@ -65,7 +71,8 @@ rejection_stays styles.Rules h rs more rejection bad =
     rules_laws.rejection_stays h rs more rejection bad
 rejection_stays styles.Boosted h rs more rejection bad =
     boosted_laws.rejection_stays h rs more rejection bad
-rejection_stays styles.Optimistic h rs more rejection bad = bad
+rejection_stays styles.Optimistic h rs more rejection bad =
+    optimistic_laws.rejection_stays h rs more rejection bad
 rejection_stays styles.Hardware h rs more rejection bad = bad
 rejection_stays styles.Dependent h rs more rejection bad = bad
 
@@ -77,7 +84,8 @@ rejected_least_stays styles.Rules h rs more rejection old new bad least =
     rules_laws.rejected_least_stays h rs more rejection old new bad least
 rejected_least_stays styles.Boosted h rs more rejection old new bad least =
     boosted_laws.rejected_least_stays h rs more rejection old new bad least
-rejected_least_stays styles.Optimistic h rs more rejection old new bad least = tt
+rejected_least_stays styles.Optimistic h rs more rejection old new bad least =
+    optimistic_laws.rejected_least_stays h rs more rejection old new bad least
 rejected_least_stays styles.Hardware h rs more rejection old new bad least = tt
 rejected_least_stays styles.Dependent h rs more rejection old new bad least = tt
 
@@ -86,7 +94,7 @@ rejected_least_stays styles.Dependent h rs more rejection old new bad least = tt
 first_most : (s : Style) (old : ℕ) → StyleCostAtMost s nothing old old
 first_most styles.Rules old = rules_laws.first_most old
 first_most styles.Boosted old = boosted_laws.first_most old
-first_most styles.Optimistic old = refl
+first_most styles.Optimistic old = optimistic_laws.first_most old
 first_most styles.Hardware old = refl
 first_most styles.Dependent old = refl
 
@@ -96,7 +104,8 @@ style_widens styles.Rules sc wider old new w cost =
     rules_laws.most_widens sc wider old new w cost
 style_widens styles.Boosted sc wider old new w cost =
     boosted_laws.most_widens sc wider old new w cost
-style_widens styles.Optimistic sc wider old new w cost = cost
+style_widens styles.Optimistic sc wider old new w cost =
+    optimistic_laws.most_widens sc wider old new w cost
 style_widens styles.Hardware sc wider old new w cost = cost
 style_widens styles.Dependent sc wider old new w cost = cost
 

@@ -6,6 +6,7 @@ mod boosted;
 mod command;
 mod law;
 mod limits;
+mod optimistic;
 mod rejection;
 mod rules;
 mod style_judge;

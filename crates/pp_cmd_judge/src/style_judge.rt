@@ -4,11 +4,12 @@ ghost use Rattle.pp_kind.specs.Object.{AllRanged, IsAllowed};
 ghost use Rattle.pp_kind.specs.declared.range.TheConstants.{MOST_OPERATIONS};
 ghost use Rattle.pp_model.specs.Sound.{serial_ops};
 ghost use Rattle.pp_objects.specs.Objects.{objects};
-ghost use Rattle.pp_cmd_judge.specs.StyleJudging.{HasTaken, done_of, of_boosted, of_rules};
-ghost use Rattle.pp_cmd_judge.specs.StyleJudging.{shape_of, step_count};
+ghost use Rattle.pp_cmd_judge.specs.StyleJudging.{HasTaken, done_of, of_boosted, of_optimistic};
+ghost use Rattle.pp_cmd_judge.specs.StyleJudging.{of_rules, shape_of, step_count};
 
 use crate::boosted::BoostedJudge;
 use crate::limits::judge_limits;
+use crate::optimistic::OptimisticJudge;
 use crate::rules::RuleMachine;
 use pp_core::{Committed, Style, Ticks};
 use pp_format_read::Header;
@@ -25,6 +26,7 @@ use std::sync::ledger::Ledger;
 pub(crate) enum StyleJudge {
     Rules(RuleMachine),
     Boosted(BoostedJudge),
+    Optimistic(OptimisticJudge),
 }
 
 impl StyleJudge {
@@ -35,6 +37,7 @@ impl StyleJudge {
         match self {
             StyleJudge::Rules(judge) => u64::from(judge.machine.count()),
             StyleJudge::Boosted(judge) => judge.steps,
+            StyleJudge::Optimistic(judge) => judge.steps,
         }
     }
 
@@ -54,6 +57,7 @@ impl StyleJudge {
                 judge.machine.committed()
             }
             StyleJudge::Boosted(judge) => judge.quick.committed(),
+            StyleJudge::Optimistic(judge) => judge.snapshots.committed(),
         }
     }
 }
@@ -74,6 +78,16 @@ fn of_boosted(judged: Judged<BoostedJudge, Rejection>) -> Judged<StyleJudge, Rej
 {
     match judged {
         Judged::Good(judge) => Judged::Good(StyleJudge::Boosted(judge)),
+        Judged::Rejected(rejection) => Judged::Rejected(rejection),
+    }
+}
+
+/// What the judge of optimistic runs says, as the judge of all styles.
+fn of_optimistic(judged: Judged<OptimisticJudge, Rejection>) -> Judged<StyleJudge, Rejection>
+    ensures { result ≡ of_optimistic judged }
+{
+    match judged {
+        Judged::Good(judge) => Judged::Good(StyleJudge::Optimistic(judge)),
         Judged::Rejected(rejection) => Judged::Rejected(rejection),
     }
 }
@@ -105,9 +119,11 @@ impl Judge for StyleJudge {
                 let judged = BoostedJudge::begin(alloc, header, line, ticks)?;
                 Ok(of_boosted(judged))
             }
-            Style::Optimistic | Style::Hardware | Style::Dependent => {
-                Err(Stop::Fault(line, Cause::StyleNotJudged))
+            Style::Optimistic => {
+                let judged = OptimisticJudge::begin(alloc, header, line, ticks)?;
+                Ok(of_optimistic(judged))
             }
+            Style::Hardware | Style::Dependent => { Err(Stop::Fault(line, Cause::StyleNotJudged)) }
         }
     }
 
@@ -127,6 +143,10 @@ impl Judge for StyleJudge {
             StyleJudge::Boosted(judge) => {
                 let judged = judge.judge(alloc, header, recorded, line, ticks)?;
                 Ok(of_boosted(judged))
+            }
+            StyleJudge::Optimistic(judge) => {
+                let judged = judge.judge(alloc, header, recorded, line, ticks)?;
+                Ok(of_optimistic(judged))
             }
         }
     }

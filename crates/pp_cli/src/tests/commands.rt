@@ -8,7 +8,7 @@ pub(crate) struct CommandRow {
     pub(crate) row: Row,
 }
 
-pub(crate) const COMMANDS: [CommandRow; 18] = [
+pub(crate) const COMMANDS: [CommandRow; 20] = [
     CommandRow {
         command: b"swaps",
         row: Row {
@@ -216,6 +216,47 @@ pub(crate) const COMMANDS: [CommandRow; 18] = [
 "#,
             status: Status::Rejected,
             report: b"rejected step 3 line 5 CMT 3\nentry 2\n",
+        },
+    },
+    CommandRow {
+        command: b"judge",
+        row: Row {
+            what: "a read that is made again after its check failed",
+            header: b"",
+            records: br#"{"run":2,"style":"optimistic","objects":[{"name":"m","kind":"mem"}],"start":{"tx":"t0","ops":[{"id":1,"on":"m","call":"write","args":[1,100],"result":null}]}}
+{"step":"begin","tx":"t1","thread":"p1"}
+{"step":"begin","tx":"t2","thread":"p2"}
+{"step":"op","tx":"t1","id":2,"on":"m","call":"read","args":[1],"result":100}
+{"step":"op","tx":"t2","id":3,"on":"m","call":"read","args":[1],"result":100}
+{"step":"op","tx":"t1","id":4,"on":"m","call":"write","args":[1,110],"result":null}
+{"step":"op","tx":"t2","id":5,"on":"m","call":"write","args":[1,105],"result":null}
+{"step":"commit","tx":"t1"}
+{"step":"retry","tx":"t2"}
+{"step":"op","tx":"t2","id":6,"on":"m","call":"read","args":[1],"result":110}
+{"step":"op","tx":"t2","id":7,"on":"m","call":"write","args":[1,115],"result":null}
+{"step":"commit","tx":"t2"}
+"#,
+            status: Status::Accepted,
+            report: b"accepted steps 23 committed 3\ntx t0\nop 1 m.write(1,100)=none\ntx t1\nop 2 m.read(1)=100\nop 4 m.write(1,110)=none\ntx t2\nop 6 m.read(1)=110\nop 7 m.write(1,115)=none\nstate m 1=115\n",
+        },
+    },
+    CommandRow {
+        command: b"judge",
+        row: Row {
+            what: "a commit without a check of what was read",
+            header: b"",
+            records: br#"{"run":2,"style":"optimistic","objects":[{"name":"m","kind":"mem"}],"start":{"tx":"t0","ops":[{"id":1,"on":"m","call":"write","args":[1,100],"result":null}]}}
+{"step":"begin","tx":"t1","thread":"p1"}
+{"step":"begin","tx":"t2","thread":"p2"}
+{"step":"op","tx":"t1","id":2,"on":"m","call":"read","args":[1],"result":100}
+{"step":"op","tx":"t2","id":3,"on":"m","call":"read","args":[1],"result":100}
+{"step":"op","tx":"t1","id":4,"on":"m","call":"write","args":[1,110],"result":null}
+{"step":"op","tx":"t2","id":5,"on":"m","call":"write","args":[1,105],"result":null}
+{"step":"commit","tx":"t1"}
+{"step":"commit","tx":"t2"}
+"#,
+            status: Status::Rejected,
+            report: b"rejected step 12 line 9 PUSH 5\nentry 3 gives 110\n",
         },
     },
     CommandRow {

@@ -5,9 +5,10 @@ use Rattle.pp_records.specs.Records.{record_meaning}
 use Rattle.pp_input_reader.proofs.Takers.{if_fault}
 use Rattle.pp_judge.specs.Judging.{CostsAtMostThere, HasFaultThere, Judges}
 use Rattle.pp_cmd_judge.specs.Boosted.{boosted_judging}
+use Rattle.pp_cmd_judge.specs.Optimistic.{optimistic_judging}
 use Rattle.pp_cmd_judge.specs.Rules.{rules_judging}
 use Rattle.pp_cmd_judge.specs.StyleJudging.{style_judging}
-use Rattle.pp_cmd_judge.specs.declared.style_judge.StyleJudge.TheVariants.{Boosted, Rules}
+use Rattle.pp_cmd_judge.specs.declared.style_judge.StyleJudge.TheVariants.{Boosted, Optimistic, Rules}
 use Rattle.pp_cmd_judge.proofs.StyleJudging as same
 use Rattle.pp_cmd_judge.proofs.StyleJudging.{judged_next, most_next, no_fault_next}
 use Rattle.pp_cmd_judge.proofs.style_judge.StyleJudgeJudge.judge.Goals as goal
@@ -107,3 +108,51 @@ returns-in_ok-judged-in-Boosted-clause-judged g c =
     subst (λ w. Judges style_judging header w r c.args.line c.of_boosted.result now new) (sym c.in-Boosted.is)
     (subst (λ x. Judges style_judging header (Boosted judge) r c.args.line x now new) (sym c.of_boosted.ensures)
     (judged_next boosted_judging styles.Boosted (λ judge. Boosted judge) same.boosted header judge r c.args.line judged now new c.in_ok-judged-in-Boosted.ensures.judged))
+
+-- ---- style optimistic
+
+pub returns-in_err-judged-in-Optimistic-clause-stop : goal.returns-in_err-judged-in-Optimistic-clause-stop
+returns-in_err-judged-in-Optimistic-clause-stop g c =
+    let header = c.args.header.now in
+    let judge = c.in-Optimistic.judge in
+    let r = record_meaning c.args.recorded.now in
+    let p = err_from_is_err_and c.from_residual-in_err-judged-in-Optimistic.result c.from_residual-in_err-judged-in-Optimistic.ensures.1 in
+    rw (p.1, p.2) (if_fault c.in_err-judged-in-Optimistic.field-0.0 _ _
+    (λ at cause said. (
+      said.0,
+      subst (λ w. HasFaultThere style_judging header w r c.args.line cause) (sym c.in-Optimistic.is)
+          (no_fault_next optimistic_judging styles.Optimistic (λ judge. Optimistic judge) same.optimistic header judge r c.args.line cause said.1),
+    ))
+    c.in_err-judged-in-Optimistic.ensures.stop)
+
+pub returns-in_err-judged-in-Optimistic-clause-most : goal.returns-in_err-judged-in-Optimistic-clause-most
+returns-in_err-judged-in-Optimistic-clause-most g c =
+    let header = c.args.header.now in
+    let judge = c.in-Optimistic.judge in
+    let r = record_meaning c.args.recorded.now in
+    let now = c.args.ticks.now in
+    let new = c.judge-in-Optimistic.new.ticks in
+    subst (λ w. CostsAtMostThere style_judging header w r c.args.line now new) (sym c.in-Optimistic.is)
+    (most_next optimistic_judging styles.Optimistic (λ judge. Optimistic judge) same.optimistic header judge r c.args.line now new c.judge-in-Optimistic.ensures.most)
+
+pub returns-in_ok-judged-in-Optimistic-clause-most : goal.returns-in_ok-judged-in-Optimistic-clause-most
+returns-in_ok-judged-in-Optimistic-clause-most g c =
+    let header = c.args.header.now in
+    let judge = c.in-Optimistic.judge in
+    let r = record_meaning c.args.recorded.now in
+    let now = c.args.ticks.now in
+    let new = c.judge-in-Optimistic.new.ticks in
+    subst (λ w. CostsAtMostThere style_judging header w r c.args.line now new) (sym c.in-Optimistic.is)
+    (most_next optimistic_judging styles.Optimistic (λ judge. Optimistic judge) same.optimistic header judge r c.args.line now new c.judge-in-Optimistic.ensures.most)
+
+pub returns-in_ok-judged-in-Optimistic-clause-judged : goal.returns-in_ok-judged-in-Optimistic-clause-judged
+returns-in_ok-judged-in-Optimistic-clause-judged g c =
+    let header = c.args.header.now in
+    let judge = c.in-Optimistic.judge in
+    let r = record_meaning c.args.recorded.now in
+    let now = c.args.ticks.now in
+    let new = c.judge-in-Optimistic.new.ticks in
+    let judged = c.in_ok-judged-in-Optimistic.judged in
+    subst (λ w. Judges style_judging header w r c.args.line c.of_optimistic.result now new) (sym c.in-Optimistic.is)
+    (subst (λ x. Judges style_judging header (Optimistic judge) r c.args.line x now new) (sym c.of_optimistic.ensures)
+    (judged_next optimistic_judging styles.Optimistic (λ judge. Optimistic judge) same.optimistic header judge r c.args.line judged now new c.in_ok-judged-in-Optimistic.ensures.judged))

@@ -1,0 +1,57 @@
+-- Meaning: how far judging an optimistic run raises the counter of operations applied or taken back.
+use Rattle.std.specs.Prelude.{◌≤◌, ◌+◌, ℕ, List, Option, None, Some}
+use Rattle.pp_records.specs.Fronts.{new_front}
+use Rattle.pp_records.specs.Records.{RunRecord}
+use Rattle.pp_records.specs.Runs.{Lined, Records, bare}
+use Rattle.pp_format_read.specs.declared.header.Header.{Header}
+use Rattle.pp_laws_summary.specs.Summary.{Summary, summary_of}
+use Rattle.pp_model.specs.Config.{first}
+use Rattle.pp_model.specs.Rules.{StartMeets}
+use Rattle.pp_objects.specs.Objects.{kinds_of, place_of}
+use Rattle.pp_objects.specs.declared.act.Op.{Op}
+use Rattle.pp_snapshots.specs.Costs.{AreTried, records_most}
+use Rattle.pp_judge.specs.Costs.{start_at_most}
+use Rattle.pp_judge.specs.Objects.{object_of, start_of}
+use Rattle.pp_judge.specs.Scans.{InputScan}
+use Rattle.pp_cmd_judge.specs.BoostedCosts.{NoneFails, search_most}
+
+-- the summary before the first record
+abbrev pub first_summary : Header → Summary Op
+first_summary header =
+    summary_of place_of
+    (record { front = new_front (kinds_of header.catalog); config = first (start_of header) })
+
+-- what the start of a header and these records cost at most, one after another
+abbrev pub snapshots_most : Header → List (RunRecord Op) → ℕ
+snapshots_most header tried =
+    start_at_most (start_of header) + records_most place_of (first_summary header) tried
+
+-- Tried are the records after a header up to and with the first that is not good, and all of them if
+-- each is.
+abbrev pub AreTriedAfter : Header → Records (RunRecord Op) → List (RunRecord Op) → Type 0
+AreTriedAfter header records tried =
+    AreTried (object_of header) place_of (first_summary header) (bare records) tried
+
+-- This is true of what the start and the tried records cost at most. There is one list of them.
+-- Without a header nothing costs.
+abbrev pub OfTriedAfter : Option (Lined Header) → Records (RunRecord Op) → (ℕ → Type 0) → Type 0
+OfTriedAfter None records P = P 0
+OfTriedAfter (Some header) records P = (tried : List (RunRecord Op)) →
+    AreTriedAfter header.what records tried → P (snapshots_most header.what tried)
+
+-- the counter rises at most by what the start and the tried records cost
+abbrev pub SnapshotsCostAtMost : InputScan → (old new : ℕ) → Type 0
+SnapshotsCostAtMost sc old new = OfTriedAfter sc.header sc.records λ most. new ≤ old + most
+
+-- the start meets its criteria, and so does each step of the records
+abbrev pub NothingFails : Option (Lined Header) → Records (RunRecord Op) → Type 0
+NothingFails None records = Unit {0}
+NothingFails (Some header) records =
+    StartMeets (object_of header.what) (start_of header.what) × NoneFails (Some header) records
+
+-- The counter rises at most by what deciding the start and the records costs, if nothing fails. In
+-- any case it rises at most by that and what the search for the step of a rejection costs.
+abbrev pub OptimisticCostAtMost : InputScan → (old new : ℕ) → Type 0
+OptimisticCostAtMost sc old new =
+    (NothingFails sc.header sc.records → SnapshotsCostAtMost sc old new)
+    × SnapshotsCostAtMost sc (old + search_most sc.records) new

@@ -1,0 +1,200 @@
+-- Proof machinery: what holds of the snapshots with their number of steps as a judge.
+use Rattle.std.specs.Prelude.{◌≡◌, ◌≤◌, ◌+◌, ℕ, List, [], ◌∷◌, ◌++◌, length, Option, None, Some}
+use Rattle.std.proofs.Common.{refl, sym, ap, ◌∙◌, subst, arith, length-append}
+use mathlib.Core.Logic.{inl, inr}
+use Rattle.pp_core.specs.declared.call.Kind.{Kind}
+use Rattle.pp_core.specs.declared.call.Style.{Style}
+use Rattle.pp_core.specs.declared.call.Style.TheVariants.{Optimistic}
+use Rattle.pp_records.specs.Inputs.{Widens}
+use Rattle.pp_records.specs.Records.{RunRecord}
+use Rattle.pp_records.specs.Runs.{Lined, Records, bare}
+use Rattle.pp_records.specs.Styles.{translation}
+use Rattle.pp_records.proofs.Ends.{bare_append}
+use Rattle.pp_format_read.specs.declared.header.Header.{Header}
+use Rattle.pp_laws_summary.specs.Summary.{Summary, next_summary}
+use Rattle.pp_kind.specs.Object.{rules_of}
+use Rattle.pp_model.specs.Config.{first}
+use Rattle.pp_model.specs.Object.{Object}
+use Rattle.pp_model.specs.Rules.{RunsFrom, StartMeets}
+use Rattle.pp_objects.specs.Objects.{kinds_of, objects, place_of}
+use Rattle.pp_objects.specs.declared.act.Op.{Op}
+use Rattle.pp_summary.specs.Failures.{all_steps}
+use Rattle.pp_snapshots.specs.Costs.{AreTried, records_most, take_most}
+use Rattle.pp_snapshots.specs.Runs.{optimism}
+use Rattle.pp_input_reader.specs.declared.cause.Cause.TheVariants.{StyleNotJudged}
+use Rattle.pp_judge.specs.Costs.{start_at_most}
+use Rattle.pp_judge.specs.Judging.{JudgingLaws}
+use Rattle.pp_judge.specs.Objects.{object_of, start_of}
+use Rattle.pp_judge.specs.Scans.{InputScan, nothing}
+use Rattle.pp_judge.specs.Tallies.{scan_of}
+use Rattle.pp_judge.specs.laws.Driven.{add_le, up_more}
+use Rattle.pp_cmd_quick.specs.DeciderLaws.{fails_stay, none_fails, passed_least}
+use Rattle.pp_cmd_quick.specs.DeciderLaws.{style_fault_stays, taken_fault}
+use Rattle.pp_cmd_quick.specs.Decisions.{AllHold}
+use Rattle.pp_cmd_judge.specs.BoostedCosts.{NoneFails, search_most}
+use Rattle.pp_cmd_judge.specs.BoostedLaws.{none_stays}
+use Rattle.pp_cmd_judge.specs.Optimistic.{AreTakenBehind, is_optimistic, optimistic_judging}
+use Rattle.pp_cmd_judge.specs.Optimistic.{optimistic_scan_fault}
+use Rattle.pp_cmd_judge.specs.OptimisticCosts.{NothingFails, OfTriedAfter, OptimisticCostAtMost}
+use Rattle.pp_cmd_judge.specs.OptimisticCosts.{SnapshotsCostAtMost, first_summary, snapshots_most}
+use Rattle.pp_cmd_judge.specs.Rejections.{rejected_stays}
+use Rattle.pp_cmd_judge.specs.declared.optimistic.OptimisticJudge.{OptimisticJudge}
+
+-- in an optimistic run the fault is that of the scan
+pub optimistic_fault : (sc : InputScan) (h : Lined Header) → sc.header ≡ Some h →
+    h.what.style ≡ Optimistic → optimistic_scan_fault sc ≡ sc.fault
+optimistic_fault sc h there is =
+    taken_fault is_optimistic StyleNotJudged sc h there (ap (λ (s : Style). is_optimistic s) is)
+
+-- the start and each step of records that are good meet their criteria
+pub all_meet : (h : Header) (rs : Records (RunRecord Op)) (judge : OptimisticJudge) →
+    AreTakenBehind h rs judge → AllHold h rs
+all_meet h rs judge c = (
+  subst (λ (k : List Kind). StartMeets (rules_of objects k) (start_of h)) c.shape c.taken.begun,
+  subst (λ (s : Style). RunsFrom (object_of h) (first (start_of h))
+      (bare (all_steps (translation place_of s (kinds_of h.catalog)) (start_of h) rs)))
+      (sym c.style)
+      (subst (λ (k : List Kind). RunsFrom (rules_of objects k) (first (start_of h))
+      (bare (all_steps (optimism place_of (kinds_of h.catalog)) (start_of h) rs))) c.shape
+      c.taken.meet),
+)
+
+-- ---- of more records more are tried
+
+module _ {A State : Type 0} (O : Object A State) (place : A → ℕ) where
+  tried_front : (rs : List (RunRecord A)) (B : Summary A) (more tried : List (RunRecord A)) →
+      AreTried O place B (rs ++ more) tried
+      → (front : List (RunRecord A)) × AreTried O place B rs front ×
+      (records_most place B front ≤ records_most place B tried)
+  tried_front [] B more tried k = ([], refl, omega arith)
+  tried_front (r ∷ rs) B more tried (inl k) =
+      let e : records_most place B tried ≡ take_most place B r + 0 =
+      ap (λ (z : List (RunRecord A)). records_most place B z) k.1 in
+      (r ∷ [], inl (k.0, refl), omega (arith, e))
+  tried_front (r ∷ rs) B more tried (inr k) =
+      let next : Summary A = next_summary place Optimistic B r in
+      let f = tried_front rs next more k.1.0 k.1.1 in
+      let e : records_most place B tried ≡ take_most place B r + records_most place next k.1.0 =
+      ap (λ (z : List (RunRecord A)). records_most place B z) k.1.2 in
+      (r ∷ f.0, inr (k.0, (f.0, f.1, refl)), omega (arith, e, f.2))
+
+-- the counter rises at most by this
+abbrev Most : ℕ → ℕ → ℕ → Type 0
+Most old new most = new ≤ old + most
+
+from_none : (old new a : ℕ) → new ≤ old + 0 → new ≤ old + a
+from_none old new a x = omega (arith, x)
+
+any_tried : (o : Option (Lined Header)) (rs : Records (RunRecord Op)) (old new : ℕ) →
+    new ≤ old + 0 → OfTriedAfter o rs (Most old new)
+any_tried None rs old new x = x
+any_tried (Some header) rs old new x =
+    λ tried k. from_none old new (snapshots_most header.what tried) x
+
+wider_most : (header : Lined Header) (rs more : Records (RunRecord Op)) (old new : ℕ) →
+    OfTriedAfter (Some header) rs (Most old new) →
+    OfTriedAfter (Some header) (rs ++ more) (Most old new)
+wider_most header rs more old new most tried k =
+    let B = first_summary header.what in
+    let f = tried_front (object_of header.what) place_of (bare rs) B (bare more) tried
+    (subst (λ (l : List (RunRecord Op)). AreTried (object_of header.what) place_of B l tried)
+    (bare_append rs more) k) in
+    up_more old new (snapshots_most header.what f.0) (snapshots_most header.what tried)
+    (most f.0 f.1) (add_le (start_at_most (start_of header.what)) (records_most place_of B f.0)
+    (records_most place_of B tried) f.2)
+
+most_widens : (sc wider : InputScan) (old new : ℕ) → Widens sc wider →
+    SnapshotsCostAtMost sc old new → SnapshotsCostAtMost wider old new
+most_widens sc wider old new w most = by sc.header refl most
+  where
+    by : (o : Option (Lined Header)) → sc.header ≡ o → OfTriedAfter o sc.records (Most old new) →
+        SnapshotsCostAtMost wider old new
+    by None none m = any_tried wider.header wider.records old new m
+    by (Some h) there m =
+        subst (λ (o : Option (Lined Header)). OfTriedAfter o wider.records (Most old new))
+        (sym (w.header h there))
+        (subst (λ (z : Records (RunRecord Op)). OfTriedAfter (Some h) z (Most old new))
+        (sym w.records.1) (wider_most h sc.records w.records.0 old new m))
+
+-- ---- the cost
+
+-- a bound from a number on is one from a greater number on
+pub snapshots_cost_from : (sc : InputScan) (old more new : ℕ) → old ≤ more →
+    SnapshotsCostAtMost sc old new → SnapshotsCostAtMost sc more new
+snapshots_cost_from sc old more new le most = by sc.header most
+  where
+    later : (n : ℕ) → new ≤ old + n → new ≤ more + n
+    later n x = omega (arith, le, x)
+
+    by : (o : Option (Lined Header)) → OfTriedAfter o sc.records (Most old new) →
+        OfTriedAfter o sc.records (Most more new)
+    by None m = later 0 m
+    by (Some h) m = λ tried k. later (snapshots_most h.what tried) (m tried k)
+
+-- if nothing of more fails, nothing of these does
+nothing_stays : (sc wider : InputScan) → Widens sc wider →
+    NothingFails wider.header wider.records → NothingFails sc.header sc.records
+nothing_stays sc wider w none = by sc.header refl
+  where
+    of_header : (o : Option (Lined Header)) (h : Lined Header) → o ≡ Some h →
+        NothingFails o wider.records → NothingFails (Some h) wider.records
+    of_header o h is k =
+        subst (λ (p : Option (Lined Header)). NothingFails p wider.records) is k
+
+    by : (o : Option (Lined Header)) → sc.header ≡ o → NothingFails o sc.records
+    by None there = tt
+    by (Some h) there =
+        let here = of_header wider.header h (w.header h there) none in (
+          here.0,
+          subst (λ (o : Option (Lined Header)). NoneFails o sc.records) there
+              (none_stays sc wider w
+              (subst (λ (o : Option (Lined Header)). NoneFails o wider.records)
+              (sym (w.header h there)) here.1)),
+        )
+
+judged_widens : (sc wider : InputScan) (old new : ℕ) → Widens sc wider →
+    OptimisticCostAtMost sc old new → OptimisticCostAtMost wider old new
+judged_widens sc wider old new w cost = (
+  λ none. most_widens sc wider old new w (cost.0 (nothing_stays sc wider w none)),
+  snapshots_cost_from wider (old + search_most sc.records) (old + search_most wider.records) new
+      (grows (length sc.records) (length wider.records) (length w.records.0)
+      (ap (λ (rs : Records (RunRecord Op)). length rs) w.records.1
+      ∙ length-append sc.records w.records.0))
+      (most_widens sc wider (old + search_most sc.records) new w cost.1),
+)
+  where
+    grows : (a b more : ℕ) → b ≡ a + more → old + (a + 256) ≤ old + (b + 256)
+    grows a b more e = omega (arith, e)
+
+nothing_judged : (old : ℕ) → OptimisticCostAtMost nothing old old
+nothing_judged old = (λ none. same_count old, from old (search_most []))
+  where
+    same_count : (n : ℕ) → n ≤ n + 0
+    same_count n = omega arith
+
+    from : (n m : ℕ) → n ≤ n + m + 0
+    from n m = omega arith
+
+-- ---- the laws
+
+pub optimistic_laws : JudgingLaws optimistic_judging
+optimistic_laws = record {
+  not_both = λ h rs judge rejection good bad. none_fails h rs rejection.line
+      (all_meet h.what rs judge good) bad.1;
+  one_fault = λ sc f g is same. sym is ∙ same;
+  first_fault = λ fault. refl;
+  good_fault = λ h rs judge fault good. optimistic_fault
+      (record (scan_of h rs) { fault = fault }) h refl good.style;
+  rejected_fault = λ h rs rejection fault bad. optimistic_fault
+      (record (scan_of h rs) { fault = fault }) h refl bad.0;
+  fault_stays = style_fault_stays is_optimistic StyleNotJudged;
+  rejection_stays = λ h rs more rejection bad. (
+    bad.0,
+    fails_stay h rs more rejection.line bad.1,
+    rejected_stays h rs more rejection bad.2,
+  );
+  first_most = nothing_judged;
+  most_widens = judged_widens;
+  rejected_least_stays = λ h rs more rejection old new bad least. passed_least h rs more
+      rejection.line old new bad.1 least;
+}
