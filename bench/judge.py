@@ -3,12 +3,12 @@
 
     python3 bench/judge.py PROGRAM [--style boosted] [--count N] [--long N] [--seed S] [--jobs J]
 
-`--count` is the number of short runs and `--long` that of long ones. Most long boosted runs have more than 200,000
-steps. The definition takes some seconds for a long run. `judge` has to print what the definition prints within the
+`--count` is the number of short runs and `--long` that of long ones. Most long boosted and optimistic runs have more than
+200,000 steps. The definition takes some seconds for a long run. `judge` has to print what the definition prints within the
 limits of `judge`, and what `certify` prints unless that is a limit that `judge` raises. The first run on which it does
 not is shown.
 
-The status is 1 if there is such a run. It is 1 too if `certify` printed TooManySteps for none of the long boosted runs,
+The status is 1 if there is such a run. It is 1 too if `certify` printed TooManySteps for no long run of these two styles,
 or if no run violates one of the criteria below first, with as many short runs as usual. Else it is 0.
 """
 import argparse
@@ -32,6 +32,7 @@ IN_RULES = ("UNAPP 1", "UNAPP 2", "PUSH 1", "PUSH 2", "PUSH 3", "PUSH 4", "UNPUS
 CRITERIA = {
     "rules": (*IN_ALL_STYLES, *IN_RULES),
     "boosted": (*IN_ALL_STYLES, "PUSH 4"),
+    "optimistic": (*IN_ALL_STYLES, "PULL 4"),
 }
 
 # The limits of `certify` that `judge` raises.
@@ -59,7 +60,7 @@ def gaps(counts, too_many, given):
     """What the runs were to show and did not."""
     if given.count >= SHORT_RUNS:
         yield from (f"no run violates {criterion} first" for criterion in CRITERIA[given.style] if not counts[criterion])
-    if given.style == "boosted" and given.long and not too_many:
+    if given.style != "rules" and given.long and not too_many:
         yield "certify printed TooManySteps for no run"
 
 
