@@ -14,19 +14,22 @@ from verified_program import ask, read_report
 SEEDS = 200
 
 
-def random_text(seed):
-    return "\n".join(map(json.dumps, random_run(random.Random(seed), "boosted"))).encode()
+def random_text(seed, style):
+    return "\n".join(map(json.dumps, random_run(random.Random(seed), style))).encode()
 
 
 @needs_program
 class AgainstExpand(unittest.TestCase):
+    style = "boosted"
+    rejected_step = staticmethod(rejected_step)
+
     def check(self, data):
         """Checks the step and the logs of a rejected run. Returns its rule and its criterion, or None."""
         report = read_report(ask(PROGRAM, ["judge"], data))
         if report.verdict != "rejected" or report.step == 0:
             return None
         run = read_run(data)
-        step, logs = rejected_step(run, report)
+        step, logs = self.rejected_step(run, report)
         *before, expected = expanded_steps(ask(PROGRAM, ["expand"], data).text.splitlines())
         expected_logs = logs_before(run, first_calls(run), before)
         self.assertEqual({name: step[name] for name in expected}, expected)
@@ -40,13 +43,13 @@ class AgainstExpand(unittest.TestCase):
         reached = set()
         for seed in range(SEEDS):
             with self.subTest(seed):
-                reached.add(self.check(random_text(seed)))
+                reached.add(self.check(random_text(seed, self.style)))
         self.assertGreater(len(reached), 10)
 
     def test_examples(self):
         for name in example_names("rejected*.jsonl"):
             data = example(name)
-            if read_run(data).style == "boosted":
+            if read_run(data).style == self.style:
                 with self.subTest(name):
                     self.assertIsNotNone(self.check(data))
 

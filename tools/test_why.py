@@ -266,15 +266,15 @@ class Explanations(unittest.TestCase):
 
 @needs_program
 class LongRuns(unittest.TestCase):
-    def run_of(self, kind, count, last, *more):
-        """A boosted run of many transactions that has more steps than `certify` takes."""
+    def run_of(self, kind, count, last, *more, style="boosted"):
+        """A run of many transactions that has more steps than `certify` takes."""
         records = []
         for number in range(count):
             before = number - 2 if number > 1 else "none"
             calls = {"map": f"o.put({number % 2},{number})={before}", "counter": "o.add(1)=none",
                      "queue": f"o.enq({number})=none"}
             records += [f"begin t{number} p", f"op t{number} {number} {calls[kind]}", f"commit t{number}"]
-        return run_bytes("boosted", f"o:{kind}", [*records, "begin last p", f"op last {count} {last}", *more])
+        return run_bytes(style, f"o:{kind}", [*records, "begin last p", f"op last {count} {last}", *more])
 
     def test_rejected_on_one_key(self):
         found = why(PROGRAM, self.run_of("map", 1300, "o.get(1)=5"))
@@ -300,6 +300,13 @@ class LongRuns(unittest.TestCase):
             self.assertEqual((found.report.line, found.case.criterion), (2103, criterion))
             self.assertIn(sentence, found.lines)
 
+    def test_rejected_at_an_optimistic_commit(self):
+        records = ["begin other q", "op other 701 o.add(1)=none", "commit other", "commit last"]
+        found = why(PROGRAM, self.run_of("counter", 700, "o.get()=700", *records, style="optimistic"))
+        self.assertEqual(found.report.lines, ["rejected step 248857 line 2107 PUSH 5", "entry 700 gives 701"])
+        self.assertEqual(found.lines[0], JUDGED)
+        self.assertEqual((found.case.entry.text, found.case.transaction), ("o.get()=700", "last"))
+
     def test_rejected_at_a_call_that_may_not_move(self):
         records = ["begin open q", "op open 9000 o.get()=701"]
         found = why(PROGRAM, self.run_of("counter", 701, "o.get()=701", *records, "op last 9001 o.add(1)=none"))
@@ -317,7 +324,7 @@ class LongRuns(unittest.TestCase):
         self.assertEqual(found.lines, [JUDGED, "line 2104 is {}"])
 
     def test_other_style(self):
-        found = why(PROGRAM, self.run_of("counter", 700, "o.get()=1").replace(b"boosted", b"optimistic"))
+        found = why(PROGRAM, self.run_of("counter", 700, "o.get()=1", style="hardware"))
         self.assertEqual(found.report.cause, "TooManySteps")
         self.assertIn("cut the run where no transaction is open", found.lines[0])
 

@@ -3,7 +3,8 @@
 The verdict and its evidence are the program's own, printed word for word before the explanation. The explanation is
 made by this script, and nothing of it is proved.
 """
-from boosted_replay import rejected_step
+import boosted_replay
+import optimistic_replay
 from case import Case, first_calls
 from explanation import attempt_at
 from recorded_run import read_run
@@ -17,6 +18,8 @@ from why_steps import EXPLAINED
 
 RESULT_CRITERIA = (("APP", 4), ("PUSH", 5), ("PULL", 4), ("UNPUSH", 4), ("UNPULL", 3), ("START", 2))
 PAIR_CRITERIA = (("PUSH", 3), ("PUSH", 4), ("UNPUSH", 3), ("PULL", 5))
+# What finds the rejected step of a run that `judge` rejects, in the styles in which `expand` prints too few steps.
+REPLAYS = {"boosted": boosted_replay.rejected_step, "optimistic": optimistic_replay.rejected_step}
 # The criteria whose timeline shows all calls, since no place is at fault.
 WHOLE_CRITERIA = (("APP", 3), ("CMT", 2))
 SHOWN_OF_A_LINE = 160
@@ -95,8 +98,8 @@ def explain_rejection(program, data, report):
     run = read_run(data)
     if report.step == 0:
         step, logs = None, Logs(run, first_calls(run))
-    elif report.is_of_judge and run.style == "boosted":
-        step, logs = rejected_step(run, report)
+    elif report.is_of_judge and run.style in REPLAYS:
+        step, logs = REPLAYS[run.style](run, report)
     else:
         *before, step = steps_of(program, data, run, report)
         logs = logs_before(run, first_calls(run), before)
