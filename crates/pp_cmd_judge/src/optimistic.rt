@@ -19,7 +19,7 @@ use pp_snapshots::Snapshots;
 use std::alloc::Global;
 use std::sync::ledger::Ledger;
 
-/// Snapshots that take the records of an optimistic run, and how many steps they stand for.
+/// Snapshots that take the records of an optimistic run, and how many steps these mean.
 #[derive(Drop)]
 pub(crate) struct OptimisticJudge {
     pub(crate) snapshots: Snapshots<Objects>,
