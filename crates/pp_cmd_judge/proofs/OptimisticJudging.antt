@@ -9,9 +9,8 @@ use Rattle.pp_core.specs.declared.call.Style.{Style}
 use Rattle.pp_core.specs.declared.call.Style.TheVariants as styles
 use Rattle.pp_model.specs.Config.{Start, start_with}
 use Rattle.pp_records.specs.Expansions.{IsOfStyle}
-use Rattle.pp_records.specs.Fronts.{Front}
 use Rattle.pp_records.specs.Records.{RunRecord}
-use Rattle.pp_records.specs.Runs.{Lined, Records, Standing, bare}
+use Rattle.pp_records.specs.Runs.{Lined, Records, bare}
 use Rattle.pp_records.proofs.Ends.{bare_append}
 use Rattle.pp_format_read.specs.declared.header.Header.{Header}
 use Rattle.pp_format_read.specs.declared.start.Start.{Start as HeaderStart}
@@ -21,12 +20,11 @@ use Rattle.pp_kind.specs.Object.{rules_of}
 use Rattle.pp_laws_summary.specs.DecidedRuns.{summary_after}
 use Rattle.pp_laws_summary.specs.Laws.{summing}
 use Rattle.pp_laws_summary.specs.Summary.{Summary, SummaryGood}
-use Rattle.pp_model.specs.Rules.{RunsFrom}
 use Rattle.pp_objects.specs.Objects.{kinds_of, objects, place_of}
 use Rattle.pp_objects.specs.declared.act.Op.{Op}
 use Rattle.pp_summary.specs.Sums.{count_ops, is_op}
 use Rattle.pp_snapshots.specs.Costs.{AreTried, records_most, take_most}
-use Rattle.pp_snapshots.specs.Held.{HasStepCount, IsGoodTaken, IsTakenOf, Taken, Takes, first_taken, summary_taken}
+use Rattle.pp_snapshots.specs.Held.{HasStepCount, IsGoodTaken, Taken, Takes, first_taken, summary_taken}
 use Rattle.pp_snapshots.specs.Runs.{IsOptimistic}
 use Rattle.pp_snapshots.proofs.Sums.{costs_of_tried}
 use Rattle.pp_conflicts.specs.Conflicts.{IsConflict, IsConflictFrom, IsRefused}

@@ -1,5 +1,5 @@
 -- What the judge of one style says, as the judge of all styles says it.
-use Rattle.std.specs.Prelude.{◌≡◌, ◌<◌, ◌+◌, ℕ, [], length, Option, None, Some}
+use Rattle.std.specs.Prelude.{◌≡◌, ◌<◌, ◌+◌, ℕ, [], length, None, Some}
 use Rattle.std.proofs.Common.{refl, sym, ◌∙◌, subst}
 use Rattle.pp_core.specs.declared.call.Style.{Style}
 use Rattle.pp_core.specs.declared.call.Style.TheVariants as styles

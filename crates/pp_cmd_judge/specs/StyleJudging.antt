@@ -1,5 +1,5 @@
 -- Proof machinery: the judge of each style as one judge.
-use Rattle.std.specs.Prelude.{◌≡◌, ℕ, List, Option}
+use Rattle.std.specs.Prelude.{◌≡◌, ℕ, List}
 use Rattle.pp_core.specs.declared.call.Kind.{Kind}
 use Rattle.pp_core.specs.declared.call.Style.{Style}
 use Rattle.pp_core.specs.declared.call.Style.TheVariants as styles
@@ -8,9 +8,7 @@ use Rattle.pp_records.specs.Records.{RunRecord}
 use Rattle.pp_records.specs.Runs.{Lined, Records}
 use Rattle.pp_format_read.specs.declared.header.Header.{Header}
 use Rattle.pp_objects.specs.declared.act.Op.{Op}
-use Rattle.pp_input_reader.specs.declared.cause.Cause.{Cause}
 use Rattle.pp_judge.specs.Judging.{Judging}
-use Rattle.pp_judge.specs.Scans.{InputScan}
 use Rattle.pp_judge.specs.declared.driven.Rejection.{Rejection}
 use Rattle.pp_judge.specs.declared.judge.Judged.{Judged}
 use Rattle.pp_judge.specs.declared.judge.Judged.TheVariants.{Good, Rejected}

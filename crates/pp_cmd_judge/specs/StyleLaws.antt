@@ -1,5 +1,5 @@
 -- Proof machinery: the laws of the judges of all styles as one judge.
-use Rattle.std.specs.Prelude.{◌≡◌, ℕ, [], ◌++◌, true, Option, None, Some}
+use Rattle.std.specs.Prelude.{◌≡◌, ℕ, ◌++◌, true, Option, None, Some}
 use Rattle.std.proofs.Common.{refl, sym, ap, ◌∙◌, subst}
 use Rattle.pp_core.specs.declared.call.Style.{Style}
 use Rattle.pp_core.specs.declared.call.Style.TheVariants as styles
@@ -8,7 +8,6 @@ use Rattle.pp_records.specs.Records.{RunRecord}
 use Rattle.pp_records.specs.Runs.{Lined, Records}
 use Rattle.pp_format_read.specs.declared.header.Header.{Header}
 use Rattle.pp_objects.specs.declared.act.Op.{Op}
-use Rattle.pp_input_reader.specs.declared.cause.Cause.{Cause}
 use Rattle.pp_input_reader.specs.declared.cause.Cause.TheVariants.{StyleNotJudged}
 use Rattle.pp_judge.specs.Judging.{JudgingLaws}
 use Rattle.pp_judge.specs.Scans.{InputScan, nothing}

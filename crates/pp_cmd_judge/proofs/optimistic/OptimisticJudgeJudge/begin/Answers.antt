@@ -1,6 +1,6 @@
 use Rattle.std.proofs.Common.{◌≡◌, true, rules, subst}
 use Rattle.pp_cmd_judge.specs.Optimistic.{StartsSnapshots, is_optimistic}
-use Rattle.pp_cmd_judge.proofs.OptimisticJudging.{begun_again_most, begun_bad, begun_good}
+use Rattle.pp_cmd_judge.proofs.OptimisticJudging.{begun_good}
 use Rattle.pp_cmd_judge.proofs.optimistic.OptimisticJudgeJudge.begin.Goals as goal
 
 pub returns-then-good-clause-judged : goal.returns-then-good-clause-judged

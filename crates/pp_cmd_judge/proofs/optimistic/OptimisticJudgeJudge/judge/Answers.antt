@@ -1,12 +1,9 @@
-use Rattle.std.proofs.Common.{◌≤◌, ◌+◌, ◌∷◌, [], IsTrue, refl, arith, subst, sym, true}
-use Rattle.pp_records.specs.Expansions.{IsOfStyle}
+use Rattle.std.proofs.Common.{◌≤◌, ◌+◌, ◌∷◌, [], IsTrue, refl, arith, subst}
 use Rattle.pp_records.specs.Records.{record_meaning}
 use Rattle.pp_objects.specs.Objects.{objects, place_of}
-use Rattle.pp_summary.specs.Held.{IsRecordAsked}
 use Rattle.pp_summary.specs.Sums.{count_ops}
 use Rattle.pp_snapshots.specs.Held.{Takes}
-use Rattle.pp_cmd_quick.proofs.Starting.{asked_record}
-use Rattle.pp_cmd_judge.proofs.OptimisticJudging.{below_most, is_optimistic_record, offset_fits, refused, rises_twice, searched_most, steps_fit, still_below, takes_bad, takes_good, takes_most}
+use Rattle.pp_cmd_judge.proofs.OptimisticJudging.{below_most, offset_fits, refused, rises_twice, searched_most, steps_fit, still_below, takes_bad, takes_good, takes_most}
 use Rattle.pp_cmd_judge.proofs.optimistic.OptimisticJudgeJudge.judge.Goals as goal
 
 -- ---- what is asked
