@@ -138,7 +138,7 @@ class Certified(unittest.TestCase):
         records = []
         for number in range(700):
             records += [f"begin t{number} p", f"op t{number} {number} m.write(0,{number})=none", f"commit t{number}"]
-        found = order(PROGRAM, run_bytes("optimistic", "m:mem", records))
+        found = order(PROGRAM, run_bytes("hardware", "m:mem", records))
         self.assertEqual(found.recorded.cause, "TooManySteps")
         self.assertEqual(found.reordered.verdict_line, "accepted steps 247450 committed 700")
 

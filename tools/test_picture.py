@@ -145,6 +145,8 @@ class PageText(unittest.TestCase):
         marks = data_in(page)["marks"]["line"]
         self.assertEqual([marks[failure[name]] for name in ("entry", "right")], [1953, 1950])
         page = page_of(run_bytes("optimistic", "c:counter", records))
+        self.assertIn('<h1 id="verdict">accepted steps 213525 committed 650</h1>', page)
+        page = page_of(run_bytes("hardware", "c:counter", records))
         self.assertRegex(page, r'<header class="fault">\s*<span[^>]*></span>\s*<h1 id="verdict">fault line \d+ TooManySteps</h1>')
         self.assertIn("TooManySteps", data_in(page)["words"][0])
 

@@ -33,7 +33,7 @@ is_optimistic styles.Optimistic = true
 is_optimistic styles.Hardware = false
 is_optimistic styles.Dependent = false
 
--- what the start of a header, if it has one, makes of Snapshots that are as `new` made them
+-- What new Snapshots become by the start of a header, if it has one. False says that the start fails.
 abbrev pub StartsSnapshots : Header → Bool → Taken (List Kind) Op → Type 0
 StartsSnapshots header true snapshots =
     StartMeets (object_of header) (start_of header)
@@ -41,7 +41,8 @@ StartsSnapshots header true snapshots =
 StartsSnapshots header false snapshots = StartMeets (object_of header) (start_of header) → ⊥
 
 -- The start and the records after a header are good, and this is what took them, with the number of
--- their steps.
+-- their steps. There are at most 2,147,483,646 records, the lines of an input but for its header. A
+-- record has at most 257 steps more than that.
 pub record AreTakenBehind (header : Header) (records : Records (RunRecord Op))
     (judge : OptimisticJudge) : Type 0 where
   pub style : header.style ≡ styles.Optimistic

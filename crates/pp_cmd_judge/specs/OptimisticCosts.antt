@@ -26,14 +26,13 @@ abbrev pub snapshots_most : Header → List (RunRecord Op) → ℕ
 snapshots_most header tried =
     start_at_most (start_of header) + records_most place_of (first_summary header) tried
 
--- Tried are the records after a header up to and with the first that is not good, and all of them if
--- each is.
+-- The tried records after a header are all up to the first that is not good, this one included, or
+-- all if each is good.
 abbrev pub AreTriedAfter : Header → Records (RunRecord Op) → List (RunRecord Op) → Type 0
 AreTriedAfter header records tried =
     AreTried (object_of header) place_of (first_summary header) (bare records) tried
 
--- This is true of what the start and the tried records cost at most. There is one list of them.
--- Without a header nothing costs.
+-- This is true of what the start and the tried records cost at most. Without a header nothing costs.
 abbrev pub OfTriedAfter : Option (Lined Header) → Records (RunRecord Op) → (ℕ → Type 0) → Type 0
 OfTriedAfter None records P = P 0
 OfTriedAfter (Some header) records P = (tried : List (RunRecord Op)) →

@@ -17,7 +17,7 @@ use pp_violations::find_violation;
 use std::alloc::Global;
 use std::sync::ledger::Ledger;
 
-/// A summary that takes the records of a boosted run, and how many steps they stand for.
+/// A summary that takes the records of a boosted run, and how many steps these mean.
 #[derive(Drop)]
 pub(crate) struct BoostedJudge {
     pub(crate) quick: Quick<Objects>,

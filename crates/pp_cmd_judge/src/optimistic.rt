@@ -1,7 +1,7 @@
 //! The snapshots of an optimistic run with its number of steps, as its judge.
-ghost use Rattle.std.specs.Prelude.{◌≡◌, ◌≤◌, ◌+◌, IfOk, IsTrue};
+ghost use Rattle.std.specs.Prelude.{◌≡◌, ◌≤◌, ◌+◌, IfOk};
 ghost use Rattle.pp_format_read.specs.Starts.{IsReadableStart};
-ghost use Rattle.pp_judge.specs.Costs.{start_at_most, start_length};
+ghost use Rattle.pp_judge.specs.Costs.{start_at_most};
 ghost use Rattle.pp_judge.specs.Objects.{start_of};
 ghost use Rattle.pp_cmd_judge.specs.Optimistic.{StartsSnapshots, is_optimistic};
 

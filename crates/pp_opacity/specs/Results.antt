@@ -13,7 +13,8 @@ use Rattle.pp_laws_opacity.specs.Zombies.{IsZombie, Zombie}
 use Rattle.pp_opacity.specs.declared.zombie.Zombie.{Zombie as Found}
 
 -- The steps are an accepted run over objects of this shape. These transactions are committed in the
--- end. All operations fit the objects, and are ranged.
+-- end. The operations of each APP fit the objects, and all operations are ranged. The committed
+-- operations and the steps are fewer than 1,000,000, as in each run within the limits of `certify`.
 pub record IsRun {Shape State Op Undo : Type 0} (o : Object Shape State Op Undo) (shape : Shape)
     (h : Option (Start Op)) (ss : List (Step Op)) (committed : List (CommittedTx Op)) : Type 0 where
   pub met : StartMeets (rules_of o shape) h

@@ -18,11 +18,12 @@ use Rattle.pp_records.specs.Records as records
 abbrev pub own_at : {Op : Type 0} → (Op → ℕ) → OpenSummary Op → ℕ → ℕ
 own_at place x q = length (ops_at place q (local_ops x.own))
 
--- how many commits at a place a transaction has not seen
+-- how many committed operations at a place a transaction has not seen
 abbrev pub unseen_at : {Op : Type 0} → (Op → ℕ) → Summary Op → OpenSummary Op → ℕ → ℕ
 unseen_at place B x q = length (serial_at place q B.done) - x.seen q
 
--- how many later commits at a place an operation takes back: none, if it is the first there
+-- How many committed operations at a place an operation takes back: those that the transaction has
+-- not seen, and none if it has seen none there and has no own operation there.
 abbrev pub later_at : {Op : Type 0} → (Op → ℕ) → Summary Op → OpenSummary Op → ℕ → ℕ
 later_at place B x q =
     cond (nat_eq (x.seen q) zero && nat_eq (own_at place x q) zero) 0 (unseen_at place B x q)
@@ -33,7 +34,7 @@ of_open None most = 0
 of_open (Some x) most = most x
 
 -- What a record costs at most, whatever is returned. An operation, the own ones at its place and the
--- later commits there are each applied and taken back once.
+-- committed ones there that were not seen are each applied and taken back once.
 abbrev pub take_most : {Op : Type 0} → (Op → ℕ) → Summary Op → RunRecord Op → ℕ
 take_most place B (records.Plain step) = 0
 take_most place B (records.Op t id op) =
@@ -61,7 +62,8 @@ records_most place B [] = 0
 records_most place B (r ∷ rs) =
     take_most place B r + records_most place (next_summary place Optimistic B r) rs
 
--- Tried are the records up to and with the first that is not good, and all of them if each is.
+-- The tried records are all up to the first that is not good, this one included, or all if each is
+-- good.
 abbrev pub AreTried : {Op State : Type 0} → Object Op State → (Op → ℕ) → Summary Op →
     List (RunRecord Op) → List (RunRecord Op) → Type 0
 AreTried O place B [] tried = tried ≡ []

@@ -14,7 +14,7 @@ use pp_kind::Placed;
 use pp_summary::{OpenTx, Seen, put_new};
 use std::alloc::Global;
 
-/// A transaction that begins. The only error is that memory was refused.
+/// A transaction that begins. The only error is out of memory.
 fn fresh<O: Copy>(
     alloc: Global,
     thread: &Name,
@@ -37,8 +37,8 @@ fn fresh<O: Copy>(
     })
 }
 
-/// A transaction begins, where its name is new and its thread is not busy. The only error is that
-/// memory was refused.
+/// A transaction begins, where its name is new and its thread is not busy. The only error is
+/// out of memory.
 pub fn begin<S: Placed>(
     parts: &mut Parts<S::Shape, S::State, S::Op, S::Undo>,
     tx: &Name,

@@ -15,7 +15,7 @@ use pp_summary::{OpenTx, find_open, take_out};
 use std::alloc::Global;
 use std::sync::ledger::Ledger;
 
-/// The operations of the items, in order. The only error is that memory was refused.
+/// The operations of the items, in order. The only error is out of memory.
 pub fn ops_of<O: Copy>(alloc: Global, items: &[Item<O>]) -> Result<Vec<O>, OutOfMemory>
     ensures { IfOk result (λ l. l.items ≡ ops items.now) }
 {
@@ -26,8 +26,8 @@ pub fn ops_of<O: Copy>(alloc: Global, items: &[Item<O>]) -> Result<Vec<O>, OutOf
     Ok(all)
 }
 
-/// The open transaction is committed, with its own operations. The only error is that memory was
-/// refused.
+/// The open transaction is committed, with its own operations. The only error is out of
+/// memory.
 fn settle<S: Placed>(
     parts: &mut Parts<S::Shape, S::State, S::Op, S::Undo>,
     tx: &Name,
@@ -53,9 +53,9 @@ fn settle<S: Placed>(
     Ok(())
 }
 
-/// Takes a commit record where it is good: the open transaction has come to an end of its body, and
-/// its operations are legal in the serial state, one after another. The only error is that memory
-/// was refused.
+/// Takes a commit record if it is good: the open transaction has come to an end of its body, and
+/// its operations are legal in the serial state, one after another. The only error is out of
+/// memory.
 pub fn commit<S: Placed, L: Ledger>(
     parts: &mut Parts<S::Shape, S::State, S::Op, S::Undo>,
     tx: &Name,

@@ -12,7 +12,7 @@ use std::alloc::Global;
 use std::sync::ledger::Ledger;
 
 /// Takes these operations back, the last one first, which were the last ones at their places. The
-/// only error is that memory was refused.
+/// only error is out of memory.
 pub fn take_all_back<S: Placed, L: Ledger>(
     past: &mut Past<S::State, S::Op, S::Undo>,
     ops: &[S::Op],
@@ -34,7 +34,7 @@ pub fn take_all_back<S: Placed, L: Ledger>(
 }
 
 /// Applies these operations, one after another, where each is legal, and else says false and takes
-/// those before it back. The only error is that memory was refused.
+/// those before it back. The only error is out of memory.
 pub fn apply_all<S: Placed, L: Ledger>(
     past: &mut Past<S::State, S::Op, S::Undo>,
     ops: &[S::Op],
@@ -62,8 +62,8 @@ pub fn apply_all<S: Placed, L: Ledger>(
     Ok(true)
 }
 
-/// Whether these operations may follow. None of them is applied afterwards. The only error is that
-/// memory was refused.
+/// Whether these operations may follow. None of them is applied afterwards. The only error is
+/// out of memory.
 fn can_follow<S: Placed, L: Ledger>(
     past: &mut Past<S::State, S::Op, S::Undo>,
     ops: &[S::Op],
@@ -86,7 +86,7 @@ fn can_follow<S: Placed, L: Ledger>(
     Ok(true)
 }
 
-/// Applies operations again that may follow. The only error is that memory was refused.
+/// Applies operations again that may follow. The only error is out of memory.
 fn put_again<S: Placed, L: Ledger>(
     past: &mut Past<S::State, S::Op, S::Undo>,
     ops: &[S::Op],
@@ -108,8 +108,8 @@ fn put_again<S: Placed, L: Ledger>(
     Ok(())
 }
 
-/// The operations at a place but the first ones, in order. The only error is that memory was
-/// refused.
+/// The operations at a place but the first ones, in order. The only error is out of
+/// memory.
 pub fn ops_from<O: Copy, U: Drop>(
     alloc: Global,
     places: &Vec<Done<O, U>>,
@@ -130,8 +130,8 @@ pub fn ops_from<O: Copy, U: Drop>(
 }
 
 /// Whether these operations, all at one place, are allowed behind the first ones there, as many as
-/// `seen` says. The later ones there are taken back meanwhile. The only error is that memory was
-/// refused.
+/// `seen` says. The later ones there are taken back meanwhile. The only error is out of
+/// memory.
 pub fn may_follow<S: Placed, L: Ledger>(
     past: &mut Past<S::State, S::Op, S::Undo>,
     place: u16,

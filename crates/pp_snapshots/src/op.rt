@@ -22,7 +22,7 @@ use pp_summary::{OpenTx, Seen, find_open, put_back, take_out};
 use std::alloc::Global;
 use std::sync::ledger::Ledger;
 
-/// The own operations at a place, in order. The only error is that memory was refused.
+/// The own operations at a place, in order. The only error is out of memory.
 pub fn own_at<S: Placed>(
     alloc: Global,
     own: &[Item<S::Op>],
@@ -59,8 +59,8 @@ pub fn seen_at(seen: &Seen, place: u16) -> usize
     }
 }
 
-/// Behind how many commits at its place an operation is asked: behind those of the snapshot, and
-/// behind all where the transaction has nothing of the place.
+/// After how many committed operations at its place an operation is tried: after those of the
+/// snapshot, and after all if the transaction has nothing of the place.
 fn snapshot<O: Copy>(seen: usize, own: &[O], all: usize) -> usize
     ensures { result ≡ snapshot_at seen own.now all }
 {
@@ -72,7 +72,7 @@ fn snapshot<O: Copy>(seen: usize, own: &[O], all: usize) -> usize
 }
 
 /// The snapshot behind which the operation of an open transaction is asked, if it is good. The only
-/// error is that memory was refused.
+/// error is out of memory.
 pub fn may_op<S: Placed, L: Ledger>(
     it: &OpenTx<Items<S::Op>>,
     ids: &IdSet,
@@ -110,8 +110,8 @@ pub fn may_op<S: Placed, L: Ledger>(
     Ok(Some(seen))
 }
 
-/// Adds an operation to the own ones, with this snapshot of its place. The only error is that memory
-/// was refused.
+/// Adds an operation to the own ones, with this snapshot of its place. The only error is out of
+/// memory.
 pub fn grow<S: Placed>(
     it: &mut OpenTx<Items<S::Op>>,
     seen: usize,
@@ -126,7 +126,7 @@ pub fn grow<S: Placed>(
     Ok(())
 }
 
-/// Lets a good operation take effect. The only error is that memory was refused.
+/// Lets a good operation take effect. The only error is out of memory.
 fn add_op<S: Placed>(
     parts: &mut Parts<S::Shape, S::State, S::Op, S::Undo>,
     tx: &Name,
@@ -146,8 +146,8 @@ fn add_op<S: Placed>(
     Ok(())
 }
 
-/// Takes an op record where it is good: the operation is the last own one of the open transaction.
-/// The only error is that memory was refused.
+/// Takes an op record if it is good: the operation is the last own one of the open transaction.
+/// The only error is out of memory.
 pub fn do_op<S: Placed, L: Ledger>(
     parts: &mut Parts<S::Shape, S::State, S::Op, S::Undo>,
     tx: &Name,

@@ -32,7 +32,7 @@ pub struct Past<T: Drop, O: Copy, U: Drop> {
     pub size: usize,
 }
 
-/// Nothing was applied. The only error is that memory was refused.
+/// Nothing was applied. The only error is out of memory.
 pub fn no_past<S: Placed>(
     alloc: Global,
     shape: &S::Shape,
@@ -49,8 +49,8 @@ pub fn no_past<S: Placed>(
     })
 }
 
-/// Makes an empty list for each place up to this one that has none. The only error is that memory
-/// was refused.
+/// Makes an empty list for each place up to this one that has none. The only error is out of
+/// memory.
 fn make_places<O: Copy, U: Drop>(
     alloc: Global,
     places: &mut Vec<Done<O, U>>,
@@ -68,8 +68,8 @@ fn make_places<O: Copy, U: Drop>(
     Ok(())
 }
 
-/// Applies an operation where it is legal, and else says false. The only error is that memory was
-/// refused.
+/// Applies an operation if it is legal, and else says false. The only error is out of
+/// memory.
 pub fn apply<S: Placed, L: Ledger>(
     past: &mut Past<S::State, S::Op, S::Undo>,
     op: &S::Op,
@@ -95,7 +95,7 @@ pub fn apply<S: Placed, L: Ledger>(
     }
 }
 
-/// Takes the last operation at a place back. The only error is that memory was refused.
+/// Takes the last operation at a place back. The only error is out of memory.
 pub fn take_back<S: Placed, L: Ledger>(
     past: &mut Past<S::State, S::Op, S::Undo>,
     place: u16,

@@ -45,7 +45,7 @@ fn all_swap<S: Placed>(own: &[S::Op], later: &[S::Op]) -> bool
     true
 }
 
-/// Adds these operations at the end. The only error is that memory was refused.
+/// Adds these operations at the end. The only error is out of memory.
 fn append<O: Copy>(list: &mut Vec<O>, more: &[O]) -> Result<(), OutOfMemory>
     ensures { OnOk result (list.new.items ≡ list.old.items ++ more.now) }
 {
@@ -56,8 +56,8 @@ fn append<O: Copy>(list: &mut Vec<O>, more: &[O]) -> Result<(), OutOfMemory>
 }
 
 /// Whether an open transaction may take a new snapshot of a place: its own operations there swap with
-/// what it has missed, and all of it is allowed behind them. The only error is that memory was
-/// refused.
+/// what it has missed, and all of it is allowed behind them. The only error is out of
+/// memory.
 fn may_refresh<S: Placed, L: Ledger>(
     it: &OpenTx<Items<S::Op>>,
     past: &mut Past<S::State, S::Op, S::Undo>,
@@ -87,7 +87,7 @@ fn may_refresh<S: Placed, L: Ledger>(
     Ok(true)
 }
 
-/// The open transaction has seen all commits at the place. The only error is that memory was refused.
+/// The open transaction has seen all commits at the place. The only error is out of memory.
 fn see_all<S: Placed>(
     parts: &mut Parts<S::Shape, S::State, S::Op, S::Undo>,
     tx: &Name,
@@ -106,8 +106,8 @@ fn see_all<S: Placed>(
     Ok(())
 }
 
-/// Takes a refresh record where it is good: the open transaction has a new snapshot of the place. The
-/// only error is that memory was refused.
+/// Takes a refresh record if it is good: the open transaction has a new snapshot of the place. The
+/// only error is out of memory.
 pub fn refresh<S: Placed, L: Ledger>(
     parts: &mut Parts<S::Shape, S::State, S::Op, S::Undo>,
     tx: &Name,

@@ -53,7 +53,7 @@ impl<S: Placed> Model for Snapshots<S> {
 }
 
 impl<S: Placed> Snapshots<S> {
-    /// A run with no transaction. The only error is that memory was refused.
+    /// A run with no transaction. The only error is out of memory.
     pub fn new(alloc: Global, shape: S::Shape) -> Result<Self, OutOfMemory>
         ensures { IfOk result (λ s. s ≡ first_taken shape None) }
     {
@@ -134,8 +134,8 @@ impl<S: Placed> Snapshots<S> {
         &self.parts.past.state
     }
 
-    /// Takes a record where it is good, and else gives the Snapshots back with the same summary, with
-    /// false. The only error is that memory was refused, and the Snapshots are then lost.
+    /// Takes a record if it is good, and else gives the Snapshots back with the same summary, with
+    /// false. The only error is out of memory, and the Snapshots are then lost.
     pub fn take<L: Ledger>(
         self,
         recorded: &RunRecord<S::Op>,

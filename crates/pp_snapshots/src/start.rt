@@ -23,7 +23,7 @@ use pp_summary::put_new;
 use std::alloc::Global;
 use std::sync::ledger::Ledger;
 
-/// A run with no transaction. The only error is that memory was refused.
+/// A run with no transaction. The only error is out of memory.
 pub fn no_run<S: Placed>(
     alloc: Global,
     shape: S::Shape,

@@ -21,8 +21,8 @@ use pp_kind::Placed;
 use pp_records::RunRecord;
 use std::sync::ledger::Ledger;
 
-/// Takes a step where it is a begin that is good. Other steps are no records of an optimistic run. The
-/// only error is that memory was refused.
+/// Takes a step if it is a begin that is good. Other steps are no records of an optimistic run. The
+/// only error is out of memory.
 fn take_step<S: Placed>(
     parts: &mut Parts<S::Shape, S::State, S::Op, S::Undo>,
     step: &Step<S::Op>,
@@ -47,8 +47,8 @@ fn take_step<S: Placed>(
     }
 }
 
-/// Takes a record of an optimistic run where it is good, and else says false, and nothing has changed
-/// that is shown. The only error is that memory was refused.
+/// Takes a record of an optimistic run if it is good, and else says false, and nothing has changed
+/// that is shown. The only error is out of memory.
 pub fn take<S: Placed, L: Ledger>(
     parts: &mut Parts<S::Shape, S::State, S::Op, S::Undo>,
     recorded: &RunRecord<S::Op>,

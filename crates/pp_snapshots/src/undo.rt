@@ -36,7 +36,7 @@ fn anew<S: Placed>(alloc: Global, it: OpenTx<Items<S::Op>>) -> OpenTx<Items<S::O
     }
 }
 
-/// Takes an abort record where it is good: the open transaction gives up.
+/// Takes an abort record if it is good: the open transaction gives up.
 pub fn abort<S: Placed>(parts: &mut Parts<S::Shape, S::State, S::Op, S::Undo>, tx: &Name) -> bool
     requires keeps { Keeps S.object S.place_of parts.old }
     requires few { parts.old.count < 4_294_967_295 }
@@ -50,7 +50,7 @@ pub fn abort<S: Placed>(parts: &mut Parts<S::Shape, S::State, S::Op, S::Undo>, t
     true
 }
 
-/// Takes a retry record where it is good: the open transaction begins anew.
+/// Takes a retry record if it is good: the open transaction begins anew.
 pub fn retry<S: Placed>(parts: &mut Parts<S::Shape, S::State, S::Op, S::Undo>, tx: &Name) -> bool
     requires keeps { Keeps S.object S.place_of parts.old }
     requires few { parts.old.count < 4_294_967_295 }
