@@ -124,10 +124,10 @@ def add_command(commands, name, what, run, many=True, has_json=True, has_name=Fa
     command = commands.add_parser(name, help=what, description=what[0].upper() + what[1:] + ".", epilog=STATUS_TEXT,
                                   formatter_class=argparse.RawDescriptionHelpFormatter, allow_abbrev=False)
     if has_name:
-        command.add_argument("name", metavar="NAME", help="the name of an object")
+        command.add_argument("name", metavar="NAME", help="the name of an object; write -- before a name that begins with a dash")
     is_of = "a certificate" if name == "recheck" else "a recorded run"
     command.add_argument("files", metavar="FILE", nargs="+" if many else 1, help=f"{is_of}, or - for standard input")
-    command.set_defaults(run=run, output=None)
+    command.set_defaults(run=run, output=None, json=False)
     if has_json:
         add_json(command)
     return command

@@ -69,6 +69,18 @@ class Outputs(Temporary):
         self.assert_ran(["focus", "x", path_of("accepted.jsonl")], "fault line 1 UnknownObject\n", 3)
         self.assertEqual(pozhiqas("focus", "a b", path_of("accepted.jsonl"))[2], 2)
 
+    def test_focus_on_several_files(self):
+        files = [path_of("accepted.jsonl"), path_of("rejected_race.jsonl")]
+        alone = [pozhiqas("focus", "c", file)[0] for file in files]
+        self.assert_ran(["focus", "c", *files], "".join(f"== {file}\n{output}" for file, output in zip(files, alone)), 0)
+        self.assert_ran(["focus", "x", *files], "".join(f"== {file}\nfault line 1 UnknownObject\n" for file in files), 3)
+
+    def test_focus_on_a_name_that_begins_with_a_dash(self):
+        header = '{{"objects":[{{"kind":"counter","name":"{0}"}}],"run":1,"style":"rules"}}\n'.format
+        self.assertEqual(pozhiqas("focus", "--", "-x", "-", stdin=header("-x").encode()), (header("-x"), "", 0))
+        self.assertEqual(pozhiqas("focus", "-x", path_of("accepted.jsonl"))[2], 64)
+        self.assertIn("write -- before a name", " ".join(pozhiqas("focus", "--help")[0].split()))
+
     def test_several_files(self):
         output, errors, status = pozhiqas("certify", "--brief", path_of("accepted.jsonl"), self.folder / "none",
                                           path_of("rejected_race.jsonl"))
