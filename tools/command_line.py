@@ -5,6 +5,7 @@ import json
 import os
 import sys
 
+from check import check
 from json_fields import fields_of
 from order import NotTaken, order
 from picture import write_page
@@ -15,6 +16,9 @@ from why import why
 # Statuses of this script. Those of the program are 0 to 8.
 USAGE, UNREADABLE, NO_FILE, NO_PROGRAM, NO_ANSWER, NO_ORDER, NOT_TAKEN, FAILED, NO_OUTPUT, INTERRUPTED = \
     64, 65, 66, 69, 70, 71, 72, 73, 74, 130
+
+# Objects of a run, and so parts.
+MOST_JOBS = 256
 
 # The status of the program for wrong arguments.
 WRONG_ARGUMENTS = 2
@@ -113,6 +117,9 @@ def make_parser():
     add_json(drill)
     add_brief(drill)
     add_command(commands, "focus", "print a run restricted to one of its objects, line for line", run_focus, has_json=False, has_name=True)
+    checked = add_command(commands, "check", "decide a long run in parts, by several processes", run_check, many=False, has_json=False)
+    checked.add_argument("--jobs", metavar="N", type=positive, default=len(os.sched_getaffinity(0)),
+                         help="at most so many processes (default: the number of processors)")
     add_command(commands, "why", "explain a rejection or a fault", run_why)
     ordered = add_command(commands, "order", "look for another serial order, and certify it", run_order, many=False)
     ordered.add_argument("--output", metavar="OUT", help="write the run in this order to OUT")
@@ -131,6 +138,13 @@ def add_command(commands, name, what, run, many=True, has_json=True, has_name=Fa
     if has_json:
         add_json(command)
     return command
+
+
+def positive(text):
+    """A number of processes."""
+    if not 1 <= int(text) <= MOST_JOBS:
+        raise ValueError
+    return int(text)
 
 
 def add_json(command):
@@ -184,6 +198,12 @@ def run_focus(options, program, source):
             raise Problem("focus takes the name of an object: 1 to 24 characters out of A-Z a-z 0-9 _ . -", error.status) from None
         raise
     return Result(answer.output, answer.status)
+
+
+def run_check(options, program, source):
+    with source.open() as file:
+        checked = check(program, file, options.jobs)
+    return Result("".join(line + "\n" for line in checked.lines()).encode(), checked.status)
 
 
 def run_why(options, program, source):

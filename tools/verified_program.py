@@ -8,6 +8,7 @@
 
 No other module runs the program. Nothing here makes a verdict: a report holds what the program printed.
 """
+import contextlib
 import os
 import pathlib
 import re
@@ -60,6 +61,8 @@ STATUSES = {"accepted": (0,), "rejected": (1,), "fault": (3,), "holds": (0,), "r
 STATUSES_OF_LINES = {"expand": (0, 1), "swaps": (0,), "focus": (0,)}
 ENTRY = re.compile(r"entry (?P<entry>\d+)(?: gives (?P<gives>\S+))?")
 OPERATION = re.compile(rf"(?P<on>{NAME.pattern})\.(?P<call>\w+)\((?P<args>[-\d,]*)\)=(?P<result>[-\w]+)")
+# How many bytes are read at once, and kept, of an output that is not wanted whole.
+KEPT = 1 << 16
 NAMED_RESULTS = {"none": None, "true": True, "false": False}
 
 
@@ -217,8 +220,33 @@ def ask(program, arguments, source=None):
         ran = subprocess.run([program, *arguments], stdout=subprocess.PIPE, check=False, **given)
     except OSError as error:
         raise NoProgram(f"{program} cannot be run: {error.strerror}") from None
-    if ran.returncode < 0:
-        raise ProgramFailed(f"the program was ended by signal {-ran.returncode}")
-    if ran.returncode in FAILURES:
-        raise ProgramFailed(FAILURES[ran.returncode], ran.returncode)
-    return Answer(arguments[0], ran.stdout, ran.returncode)
+    return answer_of(arguments, ran.stdout, ran.returncode)
+
+
+def ask_in_pieces(program, arguments, pieces):
+    """What the program prints for an input that comes in pieces. Only the first bytes of a long output are kept.
+
+    Raises ProgramFailed if it ends without an answer.
+    """
+    pipes = {"stdin": subprocess.PIPE, "stdout": subprocess.PIPE}
+    try:
+        process = subprocess.Popen([program, *arguments], **pipes)
+    except OSError as error:
+        raise NoProgram(f"{program} cannot be run: {error.strerror}") from None
+    with process:
+        with contextlib.suppress(BrokenPipeError), process.stdin:
+            for piece in pieces:
+                process.stdin.write(piece)
+        output = process.stdout.read(KEPT)
+        while process.stdout.read(KEPT):
+            pass
+    return answer_of(arguments, output, process.returncode)
+
+
+def answer_of(arguments, output, status):
+    """The answer of a program that has ended. Raises ProgramFailed if it is none."""
+    if status < 0:
+        raise ProgramFailed(f"the program was ended by signal {-status}")
+    if status in FAILURES:
+        raise ProgramFailed(FAILURES[status], status)
+    return Answer(arguments[0], output, status)

@@ -1,0 +1,235 @@
+"""Decides a long run in parts, by several processes of the program.
+
+    checked = check(program, file, jobs)
+    checked.lines(), checked.status
+
+`local_parts.py` makes the parts, and `judge` decides each of them. Here the verdict on the whole is chosen.
+"""
+import array
+import collections
+import concurrent.futures
+import itertools
+import operator
+import os
+import queue
+import shutil
+import stat
+import tempfile
+
+from local_parts import LOCAL_STYLES, ByIds, ByObject, NoParts, read_header
+from verified_program import ask, ask_in_pieces, read_report
+
+CHUNK = 1 << 20
+# So many chunks may wait for a process.
+WAITING = 8
+# So many first bytes show how many operations each object has.
+SAMPLE = 1 << 22
+# The rules of the steps of an `op`, in their order.
+ORDER = ("PULL", "APP", "PUSH")
+# The last criterion of each rule that speaks of no object.
+LAST_OF_BOOKKEEPING = {"START": 1, "BEGIN": 2, "APP": 3, "CMT": 2}
+
+
+class Whole:
+    """The verdict on a run that was judged whole. `why` says why it has no parts."""
+
+    def __init__(self, report, why):
+        self.report = report
+        self.status = report.answer.status
+        self.why = why
+
+    def lines(self):
+        return self.report.lines if self.report.verdict == "fault" else [*self.report.lines, f"judged whole: {self.why}"]
+
+
+class InParts:
+    """The verdict on a run that was judged in parts. `found` is what decides, or None if all parts are accepted."""
+
+    def __init__(self, count, found=None):
+        self.count = count
+        self.found = found
+        self.status = 0 if found is None else found.report.answer.status
+
+    def lines(self):
+        parts = f"local: {self.count} parts"
+        if self.found is None:
+            return ["accepted", parts]
+        if self.found.report.verdict == "fault":
+            return self.found.report.lines
+        return [*self.found.rejection, parts, f"rejected: {self.found.place}"]
+
+
+class Found:
+    """The report on one part. `group` has its objects, or is None for the part of the bookkeeping."""
+
+    def __init__(self, report, group):
+        self.report = report
+        self.group = group
+
+    @property
+    def rejection(self):
+        """The lines of a rejection, without the number of the step: it counts the steps of the part."""
+        line = "rejected line {line} {rule} {criterion}".format_map(self.report.fields)
+        return [line, *self.report.lines[1:]]
+
+    @property
+    def place(self):
+        report = self.report
+        is_of_bookkeeping = report.criterion <= LAST_OF_BOOKKEEPING.get(report.rule, 1)
+        return "the bookkeeping" if is_of_bookkeeping else f"the part {' '.join(self.group)}"
+
+    @property
+    def order(self):
+        """Of two rejections of one `op`, the first step and criterion is the one that counts."""
+        rule = self.report.rule
+        return ORDER.index(rule) if rule in ORDER else 0, self.report.criterion
+
+
+class Run:
+    """A file with a run, which can be read several times. If the file cannot, it is copied first."""
+
+    def __init__(self, file):
+        self.file = file
+        if not stat.S_ISREG(os.fstat(file.fileno()).st_mode):
+            self.file = tempfile.TemporaryFile()
+            shutil.copyfileobj(file, self.file, CHUNK)
+            self.file.seek(0)
+        self.begin = os.lseek(self.file.fileno(), 0, os.SEEK_CUR)
+
+    def whole(self):
+        """The file, at its beginning."""
+        os.lseek(self.file.fileno(), self.begin, os.SEEK_SET)
+        return self.file
+
+    def first(self, size):
+        return os.pread(self.file.fileno(), size, self.begin)
+
+    def lines_after(self, size):
+        """All after so many bytes, in texts of whole lines."""
+        place, begun = self.begin + size, []
+        while data := os.pread(self.file.fileno(), CHUNK, place):
+            place += len(data)
+            lines, end, rest = data.rpartition(b"\n")
+            if end:
+                yield b"".join((*begun, lines, end))
+                begun = []
+            begun.append(rest)
+        if any(begun):
+            yield b"".join(begun)
+
+
+def check(program, file, jobs):
+    """The verdict on a run, as Whole or InParts. Raises NoProgram and ProgramFailed."""
+    run = Run(file)
+    try:
+        return Checker(program, run, judged_header(program, run)).check(jobs)
+    except NoParts as why:
+        return Whole(read_report(ask(program, ["judge"], run.whole())), why)
+
+
+def judged_header(program, run):
+    """The header of a run, if `judge` finds no fault in it and the law is about its style. Raises NoParts if not."""
+    header = read_header(run.first(SAMPLE))
+    if header is None or read_report(ask(program, ["judge"], header.data)).verdict == "fault":
+        raise NoParts("there is no header without a fault")
+    if header.style not in LOCAL_STYLES:
+        raise NoParts(f"style {header.style}")
+    return header
+
+
+class Checker:
+    """What the parts of one run have in common."""
+
+    def __init__(self, program, run, header):
+        self.program = program
+        self.run = run
+        self.header = header
+
+    def check(self, jobs):
+        """The verdict, by at most so many parts. Raises NoParts."""
+        groups = self.balanced(min(jobs, len(self.header.objects)))
+        if len(groups) < 2:
+            raise NoParts("there is one part")
+        parts, repeated = self.judge(ByObject(self.header, groups))
+        faults = [found for found in parts if found.report.verdict == "fault"]
+        if faults:
+            return InParts(len(groups), min(faults, key=lambda found: found.report.line))
+        bookkeeping = self.judge(ByIds(self.header, repeated))[0] if repeated else []
+        return InParts(len(groups), self.first_rejection(bookkeeping, parts))
+
+    def balanced(self, count):
+        """So many groups of objects. By the first lines of the run, they have about as many operations each."""
+        pieces = self.run.first(SAMPLE).split(b'"on":')[1:]
+        counts = collections.Counter(piece[:32].strip().strip(b'"').partition(b'"')[0] for piece in pieces)
+        groups, sizes = [[] for _ in range(count)], [0] * count
+        for name in sorted(self.header.objects, key=lambda name: -counts[name.encode()]):
+            part = sizes.index(min(sizes))
+            groups[part].append(name)
+            sizes[part] += counts[name.encode()] + 1
+        return groups
+
+    def judge(self, split):
+        """What `judge` finds in each part, and the ids that come more than once. Raises NoParts."""
+        queues = [queue.Queue(WAITING) for _ in split.groups]
+        with concurrent.futures.ThreadPoolExecutor(len(queues)) as pool:
+            judged = [pool.submit(judge_part, self.program, iter(waiting.get, None)) for waiting in queues]
+            try:
+                ids, has_unreadable = self.feed(queues, split)
+            finally:
+                for waiting in queues:
+                    waiting.put(None)
+        found = [Found(report.result(), group) for report, group in zip(judged, split.groups)]
+        if has_unreadable and all(part.report.verdict != "fault" for part in found):
+            raise NoParts("a line has no fault, but cannot be read")
+        return found, repeated_in(ids)
+
+    def feed(self, queues, split):
+        """Puts the lines of each part into its queue. Returns the ids, and whether a line is no record."""
+        for waiting, text in zip(queues, split.first_lines()):
+            waiting.put(text)
+        ids, has_unreadable = array.array("I", split.start_ids), False
+        for lines in self.run.lines_after(len(self.header.data)):
+            pieces = split.pieces(lines)
+            ids.extend(pieces.ids)
+            has_unreadable |= pieces.has_unreadable
+            for waiting, text in zip(queues, pieces.texts):
+                waiting.put(text)
+        return ids, has_unreadable
+
+    def first_rejection(self, bookkeeping, parts):
+        """What is rejected first in the run, or None. Raises NoParts."""
+        rejected = [found for found in (*bookkeeping, *parts) if found.report.verdict == "rejected"]
+        if not rejected:
+            return None
+        line = min(found.report.line for found in rejected)
+        first = [found for found in rejected if found.report.line == line]
+        of_parts = [found for found in first if found.group is not None]
+        if len({tuple(found.rejection) for found in of_parts}) > 1:
+            of_parts = [self.first_of(of_parts)]
+        of_bookkeeping = [found for found in first if found.group is None]
+        return min((*of_bookkeeping, *of_parts), key=lambda found: found.order)
+
+    def first_of(self, parts):
+        """Which of some parts that are rejected on one line comes first: what all their objects together show."""
+        names = [name for found in parts for name in found.group]
+        together, = self.judge(ByObject(self.header, [names]))[0]
+        for found in parts:
+            if together.report.verdict == "rejected" and found.rejection == together.rejection:
+                return found
+        raise NoParts("the parts do not agree")
+
+
+def judge_part(program, texts):
+    """The report of `judge` on these texts."""
+    try:
+        return read_report(ask_in_pieces(program, ["judge"], texts))
+    finally:
+        collections.deque(texts, 0)     # if the program failed, the feeder must not wait for it
+
+
+def repeated_in(ids):
+    """The ids that come more than once."""
+    if all(map(operator.lt, ids, itertools.islice(ids, 1, None))):
+        return set()
+    ids = sorted(ids)
+    return {number for number, after in zip(ids, ids[1:]) if number == after}
