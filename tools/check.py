@@ -1,7 +1,7 @@
 """Decides a long run in parts, by several processes of the program.
 
     checked = check(program, file, jobs)
-    checked.lines(), checked.status
+    checked.output, checked.status
 
 `local_parts.py` makes the parts, and `judge` decides each of them. Here the verdict on the whole is chosen.
 """
@@ -38,8 +38,10 @@ class Whole:
         self.status = report.answer.status
         self.why = why
 
-    def lines(self):
-        return self.report.lines if self.report.verdict == "fault" else [*self.report.lines, f"judged whole: {self.why}"]
+    @property
+    def output(self):
+        is_fault = self.report.verdict == "fault"
+        return self.report.answer.output + (b"" if is_fault else f"judged whole: {self.why}\n".encode())
 
 
 class InParts:
@@ -50,13 +52,16 @@ class InParts:
         self.found = found
         self.status = 0 if found is None else found.report.answer.status
 
-    def lines(self):
+    @property
+    def output(self):
         parts = f"local: {self.count} parts"
         if self.found is None:
-            return ["accepted", parts]
-        if self.found.report.verdict == "fault":
-            return self.found.report.lines
-        return [*self.found.rejection, parts, f"rejected: {self.found.place}"]
+            lines = ["accepted", parts]
+        elif self.found.report.verdict == "fault":
+            lines = self.found.report.lines
+        else:
+            lines = [*self.found.rejection, parts, f"rejected: {self.found.place}"]
+        return "".join(line + "\n" for line in lines).encode()
 
 
 class Found:

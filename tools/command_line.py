@@ -203,7 +203,7 @@ def run_focus(options, program, source):
 def run_check(options, program, source):
     with source.open() as file:
         checked = check(program, file, options.jobs)
-    return Result("".join(line + "\n" for line in checked.lines()).encode(), checked.status)
+    return Result(checked.output, checked.status)
 
 
 def run_why(options, program, source):

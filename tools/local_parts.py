@@ -25,7 +25,7 @@ NAME = b'"[A-Za-z0-9_.-]+"'
 # The id and the object of an `op`. Of a line that is neither this, nor blank, nor a plain record on no object: the line.
 LINE = re.compile(
     rb'^(?:\{"step": ?"(?:op", ?"tx": ?NAME, ?"id": ?([0-9]{1,9}), ?"on": ?"([A-Za-z0-9_.-]+)", ?"call": ?NAME, ?"args": ?\[[0-9, -]*\], '
-    rb'?"result": ?[a-z0-9-]+|(?:begin|commit|abort|retry|xbegin|xend|xabort)", ?"tx": ?NAME(?:, ?"thread": ?NAME)?)\}|(.*))$'
+    rb'?"result": ?[a-z0-9-]+|(?:begin|commit|abort|retry|xbegin|xend|xabort)", ?"tx": ?NAME(?:, ?"thread": ?NAME)?)\}\r?|(.*))$'
     .replace(b"NAME", NAME), re.MULTILINE)
 
 
@@ -67,7 +67,8 @@ class Header:
         members = {"run": self.members["run"], "style": self.style, "objects": objects or self.members["objects"]}
         if self.members["run"] == 2 and self.members.get("start") is not None:
             members["start"] = {"tx": self.members["start"]["tx"], "ops": start}
-        return self.before + json.dumps(members, separators=(",", ":")).encode() + b"\n"
+        end = b"\n" if self.line.endswith(b"\n") else b""
+        return self.before + json.dumps(members, separators=(",", ":")).encode() + end
 
 
 class Pieces:

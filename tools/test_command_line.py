@@ -11,7 +11,7 @@ import command_line
 from for_tests import EXAMPLES, PROGRAM, TOOLS, example, needs_program, pozhiqas, run_bytes
 from test_order import CYCLE, SKEW
 
-COMMANDS = ("certify", "judge", "quick", "expand", "views", "swaps", "recheck", "why", "order", "picture")
+COMMANDS = ("certify", "judge", "quick", "expand", "views", "swaps", "recheck", "check", "why", "order", "picture")
 
 
 def path_of(name):
