@@ -2,12 +2,14 @@
 
     checked = check(program, file, jobs)
     checked.output, checked.status
+    write_parts(program, file, jobs, folder)        # leaves the parts in files, and judges none
 
 `local_parts.py` makes the parts, and `judge` decides each of them. Here the verdict on the whole is chosen.
 """
 import array
 import collections
 import concurrent.futures
+import contextlib
 import itertools
 import operator
 import os
@@ -90,6 +92,13 @@ class Found:
         return ORDER.index(rule) if rule in ORDER else 0, self.report.criterion
 
 
+class Written:
+    """A file in the place of a queue."""
+
+    def __init__(self, file):
+        self.put = file.write
+
+
 class Run:
     """A file with a run, which can be read several times. If the file cannot, it is copied first."""
 
@@ -132,6 +141,19 @@ def check(program, file, jobs):
         return Whole(read_report(ask(program, ["judge"], run.whole())), why)
 
 
+def write_parts(program, file, count, folder):
+    """Writes the parts of a run to a folder, and returns their paths. Raises NoParts, NoProgram, ProgramFailed and OSError."""
+    run = Run(file)
+    checker = Checker(program, run, judged_header(program, run))
+    split = ByObject(checker.header, checker.balanced(min(count, len(checker.header.objects))))
+    paths = [os.path.join(folder, f"part_{place}.jsonl") for place in range(1, len(split.groups) + 1)]
+    repeated = repeated_in(checker.write(split, paths))
+    if repeated:
+        paths.append(os.path.join(folder, "bookkeeping.jsonl"))
+        checker.write(ByIds(checker.header, repeated), paths[-1:])
+    return paths
+
+
 def judged_header(program, run):
     """The header of a run, if `judge` finds no fault in it and the law is about its style. Raises NoParts if not."""
     header = read_header(run.first(SAMPLE))
@@ -171,7 +193,7 @@ class Checker:
             part = sizes.index(min(sizes))
             groups[part].append(name)
             sizes[part] += counts[name.encode()] + 1
-        return groups
+        return [[name for name in self.header.objects if name in group] for group in groups]
 
     def judge(self, split):
         """What `judge` finds in each part, and the ids that come more than once. Raises NoParts."""
@@ -187,6 +209,12 @@ class Checker:
         if has_unreadable and all(part.report.verdict != "fault" for part in found):
             raise NoParts("a line has no fault, but cannot be read")
         return found, repeated_in(ids)
+
+    def write(self, split, paths):
+        """Writes each part to a file. Returns the ids."""
+        os.makedirs(os.path.dirname(paths[0]), exist_ok=True)
+        with contextlib.ExitStack() as files:
+            return self.feed([Written(files.enter_context(open(path, "wb"))) for path in paths], split)[0]
 
     def feed(self, queues, split):
         """Puts the lines of each part into its queue. Returns the ids, and whether a line is no record."""

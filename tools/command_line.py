@@ -5,8 +5,9 @@ import json
 import os
 import sys
 
-from check import check
+from check import check, write_parts
 from json_fields import fields_of
+from local_parts import NoParts
 from order import NotTaken, order
 from picture import write_page
 from recorded_run import UnreadableRun, read_run
@@ -37,7 +38,7 @@ STATUS_TEXT = """\
 The status is that of the program: 0 accepted, 1 rejected, 3 a fault of the input, 7 too large to print; with several
 files it is the greatest. `picture` ends with 0 if it printed a page. Statuses of this script: 64 wrong arguments, 65 a run
 that cannot be read, 66 a file that cannot be read, 69 no program, 70 the program gave no answer, 71 no order was found, 72
-a run that `order` does not take, 73 the script failed, 74 the output cannot be written,
+a run that `order` does not take or `check --parts` cannot split, 73 the script failed, 74 the output cannot be written,
 130 interrupted."""
 
 
@@ -120,6 +121,7 @@ def make_parser():
     checked = add_command(commands, "check", "decide a long run in parts, by several processes", run_check, many=False, has_json=False)
     checked.add_argument("--jobs", metavar="N", type=positive, default=len(os.sched_getaffinity(0)),
                          help="at most so many processes (default: the number of processors)")
+    checked.add_argument("--parts", metavar="FOLDER", help="write the parts to FOLDER and judge none of them")
     add_command(commands, "why", "explain a rejection or a fault", run_why)
     ordered = add_command(commands, "order", "look for another serial order, and certify it", run_order, many=False)
     ordered.add_argument("--output", metavar="OUT", help="write the run in this order to OUT")
@@ -202,8 +204,20 @@ def run_focus(options, program, source):
 
 def run_check(options, program, source):
     with source.open() as file:
+        if options.parts is not None:
+            return written_parts(options, program, source, file)
         checked = check(program, file, options.jobs)
     return Result(checked.output, checked.status)
+
+
+def written_parts(options, program, source, file):
+    try:
+        paths = write_parts(program, file, options.jobs, options.parts)
+    except NoParts as why:
+        raise Problem(f"{source.name}: the run has no parts: {why}", NOT_TAKEN) from None
+    except OSError as error:
+        raise Problem(f"{options.parts}: {reason(error)}", NO_OUTPUT) from None
+    return Result("".join(f"{printable(path)}\n" for path in paths).encode(), 0)
 
 
 def run_why(options, program, source):

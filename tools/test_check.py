@@ -6,7 +6,7 @@ import unittest
 
 import local_parts
 from check import check, repeated_in
-from for_tests import PROGRAM, needs_program, pozhiqas, record, run_bytes, start
+from for_tests import EXAMPLES, PROGRAM, needs_program, pozhiqas, record, run_bytes, start
 from local_parts import ByIds, ByObject, members_of, read_header
 from random_runs import KINDS, Maker
 from test_command_line import Temporary
@@ -207,6 +207,16 @@ class Verdicts(Temporary):
         for number in ("0", "x", "257", ""):
             self.assertEqual(pozhiqas("check", "--jobs", number, path)[::2], ("", 64))
 
+    def test_parts_as_files(self):
+        records = [*BEGIN, "op t1 1 a.get()=0", "op t2 1 b.read(0)=0", "op t1 2 a.get()=0"]
+        path, folder = self.file("run.jsonl", run_bytes("boosted", OBJECTS, records)), self.folder / "parts"
+        files = [folder / name for name in ("part_1.jsonl", "part_2.jsonl", "bookkeeping.jsonl")]
+        self.assertEqual(pozhiqas("check", "--jobs", "2", "--parts", folder, path), ("".join(f"{file}\n" for file in files), "", 0))
+        reports = [pozhiqas("judge", "--brief", file)[0].partition("\n")[0] for file in files]
+        self.assertEqual(reports, ["accepted steps 6 committed 0", "accepted steps 4 committed 0", "rejected step 5 line 5 APP 2"])
+        self.assertEqual(pozhiqas("check", "--parts", folder, EXAMPLES / "accepted.jsonl")[::2], ("", 72))
+        self.assertEqual(pozhiqas("check", "--jobs", "2", "--parts", path, path)[::2], ("", 74))
+
     def test_program_that_fails_on_a_part(self):
         """Nobody waits for it, though there are more lines than may wait."""
         program = self.file("program", b"#!/bin/sh\nif read header && read more; then exit 6; fi\necho accepted steps 0 committed 0\n")
@@ -230,7 +240,7 @@ class RandomRuns(Temporary):
             is_whole = "\njudged whole: " in printed
             self.assertTrue(printed.startswith(judged.text if is_whole else expected(judged.text)), data.decode())
             self.assertEqual(status, judged.status)
-            verdicts.add(is_whole or printed.partition("\n")[0].split()[-2:][0])
+            verdicts.add(" ".join(printed.split()[3:5]) if printed.startswith("rejected") else printed.split()[0])
         self.assertGreater(len(verdicts), 4)
 
     def test_boosted(self):
