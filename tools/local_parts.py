@@ -21,12 +21,15 @@ LOCAL_STYLES = ("boosted", "optimistic", "hardware")
 OF_OBJECT = ("op", "refresh")
 MOST_ID = 999_999_999
 BLANK = b" \t\r"
-NAME = b'"[A-Za-z0-9_.-]+"'
-# The id and the object of an `op`. Of a line that is neither this, nor blank, nor a plain record on no object: the line.
-LINE = re.compile(
-    rb'^(?:\{"step": ?"(?:op", ?"tx": ?NAME, ?"id": ?([0-9]{1,9}), ?"on": ?"([A-Za-z0-9_.-]+)", ?"call": ?NAME, ?"args": ?\[[0-9, -]*\], '
-    rb'?"result": ?[a-z0-9-]+|(?:begin|commit|abort|retry|xbegin|xend|xabort)", ?"tx": ?NAME(?:, ?"thread": ?NAME)?)\}\r?|(.*))$'
-    .replace(b"NAME", NAME), re.MULTILINE)
+# Lines without spaces: the id and the object of an `op`, or of a line that is neither this, nor blank, nor a plain record on no
+# object, the line itself.
+COMPACT = (
+    rb'^(?:\{"step":"(?:op","tx":NAME,"id":([0-9]{1,9}),"on":"([A-Za-z0-9_.-]+)","call":NAME,"args":\[[0-9, -]*\],"result":[a-z0-9-]+'
+    rb'|(?:begin|commit|abort|retry|xbegin|xend|xabort)","tx":NAME(?:,"thread":NAME)?)\}\r?|(.*))$'
+    .replace(b"NAME", b'"[A-Za-z0-9_.-]+"'))
+COMPACT_LINE = re.compile(COMPACT, re.MULTILINE)
+# The same with a space after each comma and colon, or none.
+SPACED_LINE = re.compile(COMPACT.replace(b'":', b'": ?').replace(b',"', b', ?"'), re.MULTILINE)
 
 
 class NoParts(Exception):
@@ -83,6 +86,11 @@ class Pieces:
         self.has_unreadable = has_unreadable
 
 
+def read_lines(data):
+    """Of each line the id and the object, if it is a plain `op`, or else the line, if it is no plain record and not blank."""
+    return (SPACED_LINE if b'": ' in data else COMPACT_LINE).findall(data)
+
+
 def read_header(data):
     """The header in the first bytes of a run, or None."""
     begin = 0
@@ -124,21 +132,25 @@ class ByObject:
     def pieces(self, data):
         """What the parts have of some whole lines. Raises NoParts if a `begin` has a body."""
         lines = data.split(b"\n")
-        ids, names, others = zip(*LINE.findall(data))
+        ids, names, others = zip(*read_lines(data))
         in_all = [b"" if name or other else line for line, name, other in zip(lines, names, others)]
         pieces = Pieces([in_all.copy() for _ in (*self.groups, "left out")], map(int, filter(None, ids)))
         part_of, texts = self.part_of, pieces.texts
         for place, name in enumerate(names):
             if name in part_of:
                 texts[part_of[name]][place] = lines[place]
-        for place, other in enumerate(others):
-            if other or names[place] and names[place] not in part_of:
-                self.add_other(pieces, place, lines[place])
+        if any(others) or not part_of.keys() >= set(filter(None, names)):
+            self.add_others(pieces, lines, names, others)
         pieces.texts = [b"\n".join(text) for text in texts[:-1]]
         return pieces
 
+    def add_others(self, pieces, lines, names, others):
+        """Adds the lines that are no plain records, or on an object that the header does not have."""
+        for place, other in enumerate(others):
+            if other or names[place] and names[place] not in self.part_of:
+                self.add_other(pieces, place, lines[place])
+
     def add_other(self, pieces, place, line):
-        """Adds a line that the pattern does not take."""
         members = members_of(line) if line.strip(BLANK) else {}
         if members is None:
             pieces.has_unreadable = True
@@ -184,7 +196,7 @@ class ByIds:
 
     def pieces(self, data):
         lines = []
-        for line, (number, name, other) in zip(data.split(b"\n"), LINE.findall(data)):
+        for line, (number, name, other) in zip(data.split(b"\n"), read_lines(data)):
             is_left_out = name and int(number) not in self.ids
             lines.append(b"" if is_left_out else self.changed(line) if name or other else line)
         return Pieces([b"\n".join(lines)])

@@ -95,7 +95,7 @@ class Parts(unittest.TestCase):
         for _ in range(4000):
             line = [piece if chosen.random() < .9 else chosen.choice(pieces) for piece in usual]
             text = ",".join(line).encode() + b"}"
-            (number, name, _), members = local_parts.LINE.findall(text)[0], members_of(text)
+            (number, name, _), members = local_parts.read_lines(text)[0], members_of(text)
             if name and members is not None:
                 self.assertEqual((members["step"], members["on"], members["id"]), ("op", name.decode(), int(number)))
                 taken += 1
