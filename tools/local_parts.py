@@ -21,8 +21,10 @@ LOCAL_STYLES = ("boosted", "optimistic", "hardware")
 OF_OBJECT = ("op", "refresh")
 MOST_ID = 999_999_999
 BLANK = b" \t\r"
-# Lines without spaces: the id and the object of an `op`, or of a line that is neither this, nor blank, nor a plain record on no
-# object, the line itself.
+# The call in place of one whose id alone counts.
+ADDITION = {"on": "c", "call": "add", "args": [0], "result": None}
+# Takes one line. It has the id and the object of an `op` without spaces. It has the whole line if it is any other than this, a
+# blank line or a plain record on no object.
 COMPACT = (
     rb'^(?:\{"step":"(?:op","tx":NAME,"id":([0-9]{1,9}),"on":"([A-Za-z0-9_.-]+)","call":NAME,"args":\[[0-9, -]*\],"result":[a-z0-9-]+'
     rb'|(?:begin|commit|abort|retry|xbegin|xend|xabort)","tx":NAME(?:,"thread":NAME)?)\}\r?|(.*))$'
@@ -87,7 +89,7 @@ class Pieces:
 
 
 def read_lines(data):
-    """Of each line the id and the object, if it is a plain `op`, or else the line, if it is no plain record and not blank."""
+    """Of each line three texts: the id and the object of a plain `op`, and the line if it is no plain record and not blank."""
     return (SPACED_LINE if b'": ' in data else COMPACT_LINE).findall(data)
 
 
@@ -208,6 +210,3 @@ class ByIds:
         if members["step"] != "op" or members.get("id") not in self.ids:
             return b""
         return json.dumps({"step": "op", "tx": members.get("tx"), "id": members["id"], **ADDITION}).encode()
-
-
-ADDITION = {"on": "c", "call": "add", "args": [0], "result": None}
