@@ -10,6 +10,7 @@ import array
 import collections
 import concurrent.futures
 import contextlib
+import errno
 import itertools
 import operator
 import os
@@ -18,7 +19,7 @@ import shutil
 import stat
 import tempfile
 
-from local_parts import LOCAL_STYLES, ByIds, ByObject, NoParts, read_header
+from local_parts import LOCAL_STYLES, OF_OBJECT, ByIds, ByObject, NoParts, members_of, read_header
 from verified_program import ask, ask_in_pieces, read_report
 
 CHUNK = 1 << 20
@@ -67,7 +68,7 @@ class InParts:
 
 
 class Found:
-    """The report on one part. `group` has its objects, or is None for the part of the bookkeeping."""
+    """The report on one part. `group` has the names of its objects, or is None for the part of the bookkeeping."""
 
     def __init__(self, report, group):
         self.report = report
@@ -80,10 +81,12 @@ class Found:
         return [line, *self.report.lines[1:]]
 
     @property
+    def is_of_bookkeeping(self):
+        return self.report.criterion <= LAST_OF_BOOKKEEPING.get(self.report.rule, 1)
+
+    @property
     def place(self):
-        report = self.report
-        is_of_bookkeeping = report.criterion <= LAST_OF_BOOKKEEPING.get(report.rule, 1)
-        return "the bookkeeping" if is_of_bookkeeping else f"the part {' '.join(self.group)}"
+        return "the bookkeeping" if self.is_of_bookkeeping else f"the object {' '.join(self.group)}"
 
     @property
     def order(self):
@@ -131,6 +134,16 @@ class Run:
         if any(begun):
             yield b"".join(begun)
 
+    def line(self, number):
+        """The line of this number."""
+        before = 0
+        for text in self.lines_after(0):
+            count = text.count(b"\n")
+            if number <= before + count or not text.endswith(b"\n"):
+                return text.split(b"\n")[number - before - 1]
+            before += count
+        return b""
+
 
 def check(program, file, jobs):
     """The verdict on a run, as Whole or InParts. Raises NoProgram and ProgramFailed."""
@@ -146,12 +159,31 @@ def write_parts(program, file, count, folder):
     run = Run(file)
     checker = Checker(program, run, judged_header(program, run))
     split = ByObject(checker.header, checker.balanced(min(count, len(checker.header.objects))))
-    paths = [os.path.join(folder, f"part_{place}.jsonl") for place in range(1, len(split.groups) + 1)]
-    repeated = repeated_in(checker.write(split, paths))
-    if repeated:
-        paths.append(os.path.join(folder, "bookkeeping.jsonl"))
-        checker.write(ByIds(checker.header, repeated), paths[-1:])
+    with new_files(folder) as paths:
+        paths += [os.path.join(folder, f"part_{place}.jsonl") for place in range(1, len(split.groups) + 1)]
+        repeated = repeated_in(checker.write(split, paths))
+        if repeated:
+            paths.append(os.path.join(folder, "bookkeeping.jsonl"))
+            checker.write(ByIds(checker.header, repeated), paths[-1:])
     return paths
+
+
+@contextlib.contextmanager
+def new_files(folder):
+    """A list for the paths of files in a folder, which is made or must be empty. If something fails, they are removed, and so is a new folder."""
+    is_new, paths = not os.path.isdir(folder), []
+    os.makedirs(folder, exist_ok=True)
+    if os.listdir(folder):
+        raise OSError(errno.ENOTEMPTY, os.strerror(errno.ENOTEMPTY))
+    try:
+        yield paths
+    except BaseException:
+        for path in paths:
+            with contextlib.suppress(FileNotFoundError):
+                os.unlink(path)
+        if is_new:
+            os.rmdir(folder)
+        raise
 
 
 def judged_header(program, run):
@@ -182,7 +214,8 @@ class Checker:
         if faults:
             return InParts(len(groups), min(faults, key=lambda found: found.report.line))
         bookkeeping = self.judge(ByIds(self.header, repeated))[0] if repeated else []
-        return InParts(len(groups), self.first_rejection(bookkeeping, parts))
+        found = self.first_rejection(bookkeeping, parts)
+        return InParts(len(groups), self.at_object(found, jobs) if found is not None else None)
 
     def balanced(self, count):
         """So many groups of objects. By the first lines of the run, they have about as many operations each."""
@@ -211,10 +244,12 @@ class Checker:
         return found, repeated_in(ids)
 
     def write(self, split, paths):
-        """Writes each part to a file. Returns the ids."""
-        os.makedirs(os.path.dirname(paths[0]), exist_ok=True)
+        """Writes each part to a file. Returns the ids. Raises NoParts."""
         with contextlib.ExitStack() as files:
-            return self.feed([Written(files.enter_context(open(path, "wb"))) for path in paths], split)[0]
+            ids, has_unreadable = self.feed([Written(files.enter_context(open(path, "wb"))) for path in paths], split)
+        if has_unreadable:
+            raise NoParts("a line is no record, or on no object of the header")
+        return ids
 
     def feed(self, queues, split):
         """Puts the lines of each part into its queue. Returns the ids, and whether a line is no record."""
@@ -249,6 +284,24 @@ class Checker:
         for found in parts:
             if together.report.verdict == "rejected" and found.rejection == together.rejection:
                 return found
+        raise NoParts("the parts do not agree")
+
+    def at_object(self, found, jobs):
+        """A rejection of a part, as that of one of its objects. Raises NoParts."""
+        if found.is_of_bookkeeping:
+            return found
+        members = members_of(self.run.line(found.report.line)) or {}
+        if found.report.rule != "START" and members.get("step") in OF_OBJECT:
+            return Found(found.report, [members["on"]])
+        while len(found.group) > 1:
+            found = self.at_fewer(found, min(jobs, len(found.group)))
+        return found
+
+    def at_fewer(self, found, count):
+        """The same rejection, in one of so many parts of the part. Raises NoParts."""
+        for part in self.judge(ByObject(self.header, [found.group[place::count] for place in range(count)]))[0]:
+            if part.report.verdict == "rejected" and part.rejection == found.rejection:
+                return part
         raise NoParts("the parts do not agree")
 
 

@@ -119,9 +119,9 @@ def make_parser():
     add_brief(drill)
     add_command(commands, "focus", "print a run restricted to one of its objects, line for line", run_focus, has_json=False, has_name=True)
     checked = add_command(commands, "check", "decide a long run in parts, by several processes", run_check, many=False, has_json=False)
-    checked.add_argument("--jobs", metavar="N", type=positive, default=len(os.sched_getaffinity(0)),
-                         help="at most so many processes (default: the number of processors)")
-    checked.add_argument("--parts", metavar="FOLDER", help="write the parts to FOLDER and judge none of them")
+    checked.add_argument("--jobs", metavar="N", type=number_of_jobs, default=min(processors(), MOST_JOBS),
+                         help=f"at most so many processes, from 1 to {MOST_JOBS} (default: the number of processors)")
+    checked.add_argument("--parts", metavar="FOLDER", help="write the parts to FOLDER, which must be new or empty, and judge none of them")
     add_command(commands, "why", "explain a rejection or a fault", run_why)
     ordered = add_command(commands, "order", "look for another serial order, and certify it", run_order, many=False)
     ordered.add_argument("--output", metavar="OUT", help="write the run in this order to OUT")
@@ -142,10 +142,14 @@ def add_command(commands, name, what, run, many=True, has_json=True, has_name=Fa
     return command
 
 
-def positive(text):
-    """A number of processes."""
-    if not 1 <= int(text) <= MOST_JOBS:
-        raise ValueError
+def processors():
+    """How many processors this process may use, if the system says it."""
+    return len(os.sched_getaffinity(0)) if hasattr(os, "sched_getaffinity") else os.cpu_count() or 1
+
+
+def number_of_jobs(text):
+    if not text.isdecimal() or not 1 <= int(text) <= MOST_JOBS:
+        raise argparse.ArgumentTypeError(f"it takes a number from 1 to {MOST_JOBS}")
     return int(text)
 
 

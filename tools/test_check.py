@@ -133,10 +133,31 @@ class Verdicts(Temporary):
 
     def test_rejected_at_one_object(self):
         records = [*ACCEPTED[:5], "op t2 3 a.get()=6", "commit t2", "begin t3 p1", "op t3 4 b.read(0)=7"]
-        self.assert_printed(OBJECTS, records, "rejected line 7 APP 4", "entry 3 gives 5", "local: 2 parts", "rejected: the part a")
+        self.assert_printed(OBJECTS, records, "rejected line 7 APP 4", "entry 3 gives 5", "local: 2 parts", "rejected: the object a")
         records = [*BEGIN, "op t1 1 a.add(5)=none", "op t2 2 b.write(0,1)=none", "op t1 3 b.write(0,2)=none"]
         self.assert_printed(OBJECTS, records, "rejected line 6 PUSH 4", "entry 2", "before", "after b.read(0)=2", "local: 2 parts",
-                            "rejected: the part b")
+                            "rejected: the object b")
+
+    def test_object_of_a_part_with_several(self):
+        """An operation and a step of a start are on one object, though its part has others."""
+        names = [f"m{number}" for number in range(9)]
+        objects = " ".join(f"{name}:mem" for name in names)
+        for name in names:
+            data = run_bytes("boosted", objects, ["begin t1 p1", f"op t1 1 {name}.read(0)=7"])
+            self.assertEqual(checked(data, 2)[0], f"rejected line 3 APP 4\nentry 1 gives 0\nlocal: 2 parts\nrejected: the object {name}\n")
+            calls = [f"{number} {other}.read(0)={9 * (other == name)}" for number, other in enumerate(names)]
+            data = run_bytes("boosted", objects, [], **start("t0", *calls), step="op", on="m0")
+            self.assertEqual(checked(data, 2)[0], f"rejected line 1 START 2\nentry {name[1]} gives 0\nlocal: 2 parts\nrejected: the object {name}\n")
+
+    def test_object_of_a_commit(self):
+        program = self.file("program", ASKS_CERTIFY.format(PROGRAM).encode())
+        program.chmod(0o755)
+        for name in ("m1", "m4"):
+            records = ["begin t1 p1", *(f"op t1 {number} m{number}.read(0)=0" for number in range(6)), "begin t2 p2", f"op t2 9 {name}.write(0,1)=none",
+                       "commit t2", "commit t1"]
+            data = run_bytes("optimistic", " ".join(f"m{number}:mem" for number in range(6)), records)
+            self.assertEqual(checked(data, 2, program)[0],
+                             f"rejected line 12 PUSH 5\nentry {name[1]} gives 1\nlocal: 2 parts\nrejected: the object {name}\n")
 
     def test_rejected_in_the_bookkeeping(self):
         last = "local: 2 parts", "rejected: the bookkeeping"
@@ -153,7 +174,7 @@ class Verdicts(Temporary):
         begun = [*BEGIN, "op t1 1 a.get()=0"]
         self.assert_printed(OBJECTS, [*begun, used, wrong], "rejected line 5 APP 2", "local: 2 parts", "rejected: the bookkeeping")
         self.assert_printed(OBJECTS, [*begun, wrong, used], "rejected line 5 APP 4", "entry 3 gives 0", "local: 2 parts",
-                            "rejected: the part a")
+                            "rejected: the object a")
 
     def test_used_id_after_a_pull_that_is_rejected(self):
         """The pull is a step before the application."""
@@ -164,9 +185,9 @@ class Verdicts(Temporary):
 
     def test_start(self):
         bad = start("t0", "1 b.write(0,1)=none", "2 a.get()=7", "3 b.read(0)=9")
-        self.assert_printed(OBJECTS, [], "rejected line 1 START 2", "entry 2 gives 0", "local: 2 parts", "rejected: the part a", **bad)
+        self.assert_printed(OBJECTS, [], "rejected line 1 START 2", "entry 2 gives 0", "local: 2 parts", "rejected: the object a", **bad)
         bad = start("t0", "1 b.write(0,1)=none", "2 b.read(0)=7", "3 a.get()=9")
-        self.assert_printed(OBJECTS, [], "rejected line 1 START 2", "entry 2 gives 1", "local: 2 parts", "rejected: the part b", **bad)
+        self.assert_printed(OBJECTS, [], "rejected line 1 START 2", "entry 2 gives 1", "local: 2 parts", "rejected: the object b", **bad)
         bad = start("t0", "1 b.write(0,1)=none", "1 a.get()=7", "2 a.get()=0", "2 a.get()=0")
         self.assert_printed(OBJECTS, [], "rejected line 1 START 1", "entry 1", "local: 2 parts", "rejected: the bookkeeping", **bad)
         good = start("t0", "1 b.write(0,1)=none", "2 a.get()=0")
@@ -205,7 +226,8 @@ class Verdicts(Temporary):
         self.assertEqual(pozhiqas("check", "--jobs", "9", "-", stdin=path.read_bytes()), ("accepted\nlocal: 2 parts\n", "", 0))
         self.assertEqual(pozhiqas("check", path)[1:], ("", 0))
         for number in ("0", "x", "257", ""):
-            self.assertEqual(pozhiqas("check", "--jobs", number, path)[::2], ("", 64))
+            self.assertEqual(pozhiqas("check", "--jobs", number, path),
+                             ("", "pozhiqas: argument --jobs: it takes a number from 1 to 256 (pozhiqas --help)\n", 64))
 
     def test_parts_as_files(self):
         records = [*BEGIN, "op t1 1 a.get()=0", "op t2 1 b.read(0)=0", "op t1 2 a.get()=0"]
@@ -214,8 +236,27 @@ class Verdicts(Temporary):
         self.assertEqual(pozhiqas("check", "--jobs", "2", "--parts", folder, path), ("".join(f"{file}\n" for file in files), "", 0))
         reports = [pozhiqas("judge", "--brief", file)[0].partition("\n")[0] for file in files]
         self.assertEqual(reports, ["accepted steps 6 committed 0", "accepted steps 4 committed 0", "rejected step 5 line 5 APP 2"])
-        self.assertEqual(pozhiqas("check", "--parts", folder, EXAMPLES / "accepted.jsonl")[::2], ("", 72))
+        self.assertEqual(pozhiqas("check", "--parts", self.folder / "other", EXAMPLES / "accepted.jsonl")[::2], ("", 72))
         self.assertEqual(pozhiqas("check", "--jobs", "2", "--parts", path, path)[::2], ("", 74))
+
+    def test_parts_need_an_empty_folder(self):
+        path, folder = self.file("run.jsonl", run_bytes("boosted", OBJECTS, ACCEPTED)), self.folder / "parts"
+        folder.mkdir()
+        (folder / "part_7.jsonl").write_bytes(b"kept")
+        self.assertEqual(pozhiqas("check", "--parts", folder, path), ("", f"pozhiqas: {folder}: Directory not empty\n", 74))
+        self.assertEqual([file.read_bytes() for file in folder.iterdir()], [b"kept"])
+        (folder / "part_7.jsonl").unlink()
+        self.assertEqual(pozhiqas("check", "--jobs", "2", "--parts", folder, path)[1:], ("", 0))
+
+    def test_parts_that_cannot_be_written_are_removed(self):
+        """A line that is no record, one on no object, and a body."""
+        folder, empty = self.folder / "parts", self.folder / "empty"
+        empty.mkdir()
+        for last in (b"x", json.dumps(record("op t1 9 z.get()=0")).encode(), json.dumps({**record("begin t9 p9"), "body": {"skip": True}}).encode()):
+            path = self.file("run.jsonl", run_bytes("boosted", OBJECTS, ACCEPTED) + last)
+            for given in (folder, empty):
+                self.assertEqual(pozhiqas("check", "--jobs", "2", "--parts", given, path)[::2], ("", 72))
+            self.assertEqual((folder.exists(), list(empty.iterdir())), (False, []))
 
     def test_program_that_fails_on_a_part(self):
         """Nobody waits for it, though there are more lines than may wait."""
@@ -262,7 +303,7 @@ class RandomRuns(Temporary):
             data = run_bytes("optimistic", OBJECTS, ["begin t1 p1", first, second, *others, "commit t1"])
             entry = "entry 1 gives 1" if name == "a" else "entry 2 gives 3"
             self.assertEqual(checked(data, program=program)[0],
-                             f"rejected line 9 PUSH 5\n{entry}\nlocal: 2 parts\nrejected: the part {name}\n")
+                             f"rejected line 9 PUSH 5\n{entry}\nlocal: 2 parts\nrejected: the object {name}\n")
 
 
 if __name__ == "__main__":
