@@ -170,7 +170,10 @@ def write_parts(program, file, count, folder):
 
 @contextlib.contextmanager
 def new_files(folder):
-    """A list for the paths of files in a folder, which is made or must be empty. If something fails, they are removed, and so is a new folder."""
+    """A list for the paths of new files, in a folder that is made or must be empty.
+
+    If something fails, the files are removed, and so is the folder if it was made. Raises OSError.
+    """
     is_new, paths = not os.path.isdir(folder), []
     os.makedirs(folder, exist_ok=True)
     if os.listdir(folder):

@@ -147,7 +147,8 @@ class Verdicts(Temporary):
             self.assertEqual(checked(data, 2)[0], f"rejected line 3 APP 4\nentry 1 gives 0\nlocal: 2 parts\nrejected: the object {name}\n")
             calls = [f"{number} {other}.read(0)={9 * (other == name)}" for number, other in enumerate(names)]
             data = run_bytes("boosted", objects, [], **start("t0", *calls), step="op", on="m0")
-            self.assertEqual(checked(data, 2)[0], f"rejected line 1 START 2\nentry {name[1]} gives 0\nlocal: 2 parts\nrejected: the object {name}\n")
+            self.assertEqual(checked(data, 2)[0],
+                             f"rejected line 1 START 2\nentry {name[1]} gives 0\nlocal: 2 parts\nrejected: the object {name}\n")
 
     def test_object_of_a_commit(self):
         program = self.file("program", ASKS_CERTIFY.format(PROGRAM).encode())
