@@ -4,3 +4,8 @@ mod Subjects
 mod Focusing
 mod Concluding
 pub mod Outputs
+mod Acts
+mod Readings
+mod HeaderBack
+mod HeaderMoved
+pub mod Again

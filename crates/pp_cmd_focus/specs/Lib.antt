@@ -2,6 +2,8 @@ pub mod Headers
 pub mod Records
 pub mod Known
 pub mod Restrictions
+pub mod Moved
+pub mod Again
 pub mod Outputs
 pub mod Subjects
 pub mod Located

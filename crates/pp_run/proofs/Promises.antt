@@ -8,6 +8,7 @@ use Rattle.pp_judge.specs.Inputs.{scan}
 use Rattle.pp_judge.specs.Objects.{object_of, translation_of}
 use Rattle.pp_judge.specs.Reports.{IsCertified}
 use Rattle.pp_judge.specs.Scans.{InputScan}
+use Rattle.pp_cmd_focus.proofs.Again.{lines_read_again}
 use Rattle.pp_cmd_focus.specs.Outputs.{IsFocused, focused}
 use Rattle.pp_cmd_quick.proofs.Decided.{decided}
 use Rattle.pp_cmd_quick.proofs.Readers.{briefs_decide, is_briefed, keeps_boosted}
@@ -136,5 +137,6 @@ run_laws =
       prefixes = prefixes_accepted;
       readable = reports_readable;
       local = runs_local;
+      read_again = lines_read_again;
       styles_fail_only = reported_law;
     }
