@@ -1,5 +1,5 @@
 -- An operation is made of a call on one object as on another.
-use Rattle.std.proofs.Common.{◌≡◌, ℕ, ℤ, Option, refl}
+use Rattle.std.proofs.Common.{◌≡◌, ℕ, ℤ, refl}
 use Rattle.pp_core.specs.declared.answer.Answer.{Answer}
 use Rattle.pp_core.specs.declared.answer.Answer.TheVariants as answers
 use Rattle.pp_core.specs.declared.call.Call.{Call}
@@ -7,7 +7,6 @@ use Rattle.pp_core.specs.declared.call.Kind.{Kind}
 use Rattle.pp_core.specs.declared.call.Kind.TheVariants as kinds
 use Rattle.pp_core.specs.declared.call.Method.{Method}
 use Rattle.pp_core.specs.declared.call.Method.TheVariants as methods
-use Rattle.pp_objects.specs.declared.act.Act.{Act}
 use Rattle.pp_objects.specs.Calls.{memory_act, set_act, map_act, counter_act, queue_act, stack_act, prio_act, act_made}
 
 called : ℕ → Method → ℤ → ℤ → ℤ → Call

@@ -1,6 +1,6 @@
 -- The lines that are printed are read again.
 use Rattle.std.specs.Prelude.{◌≡◌, ℕ, ◌==◌, Bool, true, false, cond, List, Option, None, Some, Ok}
-use Rattle.std.proofs.Common.{refl, sym, ap, ◌∙◌, subst}
+use Rattle.std.proofs.Common.{refl, ap, ◌∙◌, subst}
 use Rattle.std.proofs.lemmas.Bool.Decides.{eqb_tells}
 use Rattle.std.proofs.lemmas.Option.{same_Some}
 use mathlib.Core.Logic.{inl, inr}

@@ -1,5 +1,5 @@
 -- The restriction of one line more.
-use Rattle.std.specs.Prelude.{◌≡◌, ◌+◌, ℕ, List, [], ◌∷◌, ◌++◌, fold, if◌then◌else◌, Option, None, Some, OnErr, Result, Ok, Err}
+use Rattle.std.specs.Prelude.{◌≡◌, ℕ, List, [], ◌∷◌, ◌++◌, fold, if◌then◌else◌, Option, None, Some, OnErr, Result, Ok, Err}
 use Rattle.std.proofs.Common.{refl, sym, ap, ◌∙◌, append_assoc}
 use mathlib.Core.Logic.{inl, inr}
 use Rattle.pp_core.specs.Catalogs.{place_of as place_named}
@@ -16,7 +16,7 @@ use Rattle.pp_input_reader.specs.declared.stop.Stop.{Stop}
 use Rattle.pp_input_reader.specs.Takers.{CountsTo, HasInputFault, IsNext, LeadsOn, ReadsAll, ReadsSoFar, StopsAt, StopsWith}
 use Rattle.pp_input_reader.specs.Sources.{WhereTold}
 use Rattle.pp_input_reader.proofs.Takers.{if_fault, taken_all}
-use Rattle.pp_judge.specs.Progresses.{Covers, Leads, judged_reading}
+use Rattle.pp_judge.specs.Progresses.{Covers, judged_reading}
 use Rattle.pp_judge.specs.Scans.{InputScan, nothing, scan_line, scan_lines}
 use Rattle.pp_judge.specs.Tallies.{headed}
 use Rattle.pp_judge.proofs.Examining.{finds, input_fault, leads_nothing, lines_cost, reads_sound}

@@ -1,13 +1,10 @@
 -- The line of a header over one object is read back, and that of a begin.
-use Rattle.std.proofs.Common.{◌≡◌, ◌≤◌, ◌<◌, ◌+◌, ◌*◌, ℕ, zero, suc, List, [], ◌∷◌, ◌++◌, map, codes, length, false, Option, Some, None, Result, Ok, slice_get, refl, sym, ap, ◌∙◌, subst, arith, append_assoc, append-nil, nat_lt, le-ltb}
-use Rattle.std.specs.Map.{keys_of}
-use Rattle.std.proofs.lemmas.Option.{slice_get_within}
-use Rattle.std.proofs.lemmas.Map.Entries.{length-keys_of}
-use Rattle.serde_json.specs.Data.{Num, unsigned, Data, object, no_members, depth, items_depth}
+use Rattle.std.proofs.Common.{◌≡◌, ◌≤◌, ◌<◌, ◌+◌, ◌*◌, ℕ, zero, suc, List, [], ◌∷◌, ◌++◌, map, length, false, Some, None, Result, Ok, refl, sym, ap, ◌∙◌, arith, append_assoc, append-nil, nat_lt, le-ltb}
+use Rattle.serde_json.specs.Data.{Data, object, no_members, depth, items_depth}
 use Rattle.serde_json.specs.Read.{max_depth}
 use Rattle.serde_json.specs.View.{items_of}
 use Rattle.serde_json.specs.Written.{compact_text}
-use Rattle.pp_core.specs.Catalogs.{Objects, HasNames, place_of, HasDistinctNames}
+use Rattle.pp_core.specs.Catalogs.{Objects, HasDistinctNames}
 use Rattle.pp_core.specs.Names.{IsName}
 use Rattle.pp_core.specs.Steps.{Begin}
 use Rattle.pp_core.specs.Words.{named, kind_word, kinds, style_word, styles}
@@ -16,10 +13,9 @@ use Rattle.pp_core.specs.declared.call.Kind.TheVariants as kind
 use Rattle.pp_core.specs.declared.call.Style.{Style}
 use Rattle.pp_core.specs.declared.call.Style.TheVariants as style
 use Rattle.pp_core.specs.declared.entry.Item.{Item}
-use Rattle.pp_core.specs.declared.member.Member.TheVariants as members
 use Rattle.pp_model.specs.Lists.{Each}
 use Rattle.pp_records.specs.Records.{Plain}
-use Rattle.pp_objects.specs.One.{kind_for, call_of, recorded_by}
+use Rattle.pp_objects.specs.One.{call_of, recorded_by}
 use Rattle.pp_objects.specs.declared.act.Op.{Op}
 use Rattle.pp_format_read.specs.declared.fault.RecordFault.{RecordFault}
 use Rattle.pp_format_read.specs.declared.header.Header.{Header}
@@ -43,7 +39,7 @@ use Rattle.pp_format_write.specs.Steps.{begin_members, step_value, step_bytes}
 use Rattle.pp_format_write.proofs.Bodies.{arguments_flat}
 use Rattle.pp_format_write.proofs.Headers.{objects_tidy, objects_flat, objects_wide, item_wide}
 use Rattle.pp_format_write.proofs.Names.{named_at}
-use Rattle.pp_format_write.proofs.NamesBack.{name_back, named_place}
+use Rattle.pp_format_write.proofs.NamesBack.{name_back}
 use Rattle.pp_format_write.proofs.Operations.{there, op_tidy, near_numbers}
 use Rattle.pp_format_write.proofs.OperationsBack.{op_back}
 use Rattle.pp_format_write.proofs.Steps.{answer_flat, near_step, shallow}

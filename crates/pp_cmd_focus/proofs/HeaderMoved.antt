@@ -3,7 +3,7 @@ use Rattle.std.specs.Prelude.{◌==◌, cond, IsTrue, option_map, unwrap_or}
 use Rattle.std.specs.Map.{keys_of}
 use Rattle.std.specs.Option.{option_to_list}
 use Rattle.std.proofs.Common.{◌≡◌, ◌≤◌, ◌<◌, ℕ, zero, suc, Bool, true, false, List, [], ◌∷◌, codes, map, length, Option, Some, None, Ok, slice_get, refl, sym, ap, ◌∙◌, subst, arith}
-use Rattle.std.proofs.lemmas.Bool.Decides.{nat_tests, eqb_tells}
+use Rattle.std.proofs.lemmas.Bool.Decides.{eqb_tells}
 use Rattle.std.proofs.lemmas.Option.{slice_get-map}
 use mathlib.Core.Logic.{inl, inr}
 use Rattle.serde_json.specs.Data.{Data, array, member, no_members, object, string}
@@ -14,15 +14,14 @@ use Rattle.pp_core.specs.Names.{IsName}
 use Rattle.pp_core.specs.declared.call.Kind.{Kind}
 use Rattle.pp_core.specs.declared.entry.Item.{Item}
 use Rattle.pp_model.specs.Lists.{Each}
-use Rattle.pp_objects.specs.Objects.{fits_in, kinds_of, objects, place_of}
+use Rattle.pp_objects.specs.Objects.{fits_in, kinds_of, place_of}
 use Rattle.pp_objects.specs.One.{one as one_object}
 use Rattle.pp_objects.specs.declared.act.Op.{Op}
 use Rattle.pp_format_read.specs.declared.header.Header.{Header}
 use Rattle.pp_format_read.specs.declared.start.Start.{Start}
 use Rattle.pp_format_read.specs.Headers.{header_of}
 use Rattle.pp_format_write.specs.Headers.{item_value, objects_value, start_value}
-use Rattle.pp_format_write.specs.Operations.{op_members}
-use Rattle.pp_format_write.specs.Statable.{CanStart, IsCatalog, IsId, IsOpOn, IsStatableStart}
+use Rattle.pp_format_write.specs.Statable.{CanStart, IsId, IsOpOn, IsStatableStart}
 use Rattle.pp_format_write.proofs.HeadersRead.{can_start, is_catalog}
 use Rattle.pp_format_write.proofs.NamesBack.{named_place}
 use Rattle.pp_text.specs.Texts.{name_at}

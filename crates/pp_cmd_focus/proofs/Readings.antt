@@ -1,7 +1,6 @@
 -- Records are read over one object alone.
-use Rattle.std.specs.Prelude.{◌≡◌, ℕ, zero, suc, ◌==◌, Bool, true, false, List, [], ◌∷◌, codes, slice_get, if◌then◌else◌, cond, position, ok_or, option_and_then, option_map, Option, None, Some, Result, Ok, Err, IfOk, IfSome}
+use Rattle.std.specs.Prelude.{◌≡◌, ℕ, Bool, true, false, List, codes, slice_get, if◌then◌else◌, ok_or, option_and_then, option_map, Option, None, Some, Result, Ok, Err, IfOk, IfSome}
 use Rattle.std.specs.Map.{keys_of}
-use Rattle.std.specs.Option.{option_to_list}
 use Rattle.std.specs.Str.{bytes_eq}
 use Rattle.std.proofs.Common.{refl, sym, ap, ◌∙◌, subst}
 use Rattle.std.proofs.lemmas.Option.{IfSome_then, same_Some, slice_get-map}
@@ -19,13 +18,13 @@ use Rattle.pp_core.specs.Steps.{Step, Begin, App, Unapp, Push, Unpush, Pull, Unp
 use Rattle.pp_records.specs.Records.{RunRecord}
 use Rattle.pp_records.specs.Records as records
 use Rattle.pp_kind.specs.Numbers.{is_ranged_answer}
-use Rattle.pp_objects.specs.Calls.{op_made, op_of_act, ranged_op, act_made, form_of}
+use Rattle.pp_objects.specs.Calls.{op_made, ranged_op, act_made, form_of}
 use Rattle.pp_objects.specs.One.{is_ranged}
 use Rattle.pp_objects.specs.Objects.{act_at}
 use Rattle.pp_objects.specs.declared.act.Act.{Act}
 use Rattle.pp_objects.specs.declared.act.Op.{Op}
 use Rattle.pp_format_read.specs.declared.fault.RecordFault.{RecordFault}
-use Rattle.pp_format_read.specs.declared.fault.RecordFault.TheVariants.{UnknownObject, UnknownStep, WrongType}
+use Rattle.pp_format_read.specs.declared.fault.RecordFault.TheVariants.{UnknownObject, WrongType}
 use Rattle.pp_format_read.specs.declared.header.Header.{Header}
 use Rattle.pp_format_read.specs.Reading.{◌>>=◌}
 use Rattle.pp_format_read.specs.Members.{object_of, text_of, name_of, name_from, member_of}

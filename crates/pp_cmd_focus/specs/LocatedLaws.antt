@@ -1,7 +1,5 @@
 -- Proof machinery: the laws of the judge that takes every record.
-use Rattle.std.specs.Prelude.{◌≡◌}
 use Rattle.std.proofs.Common.{refl, sym, ap, ◌∙◌}
-use Rattle.pp_records.specs.Inputs.{Widens}
 use Rattle.pp_judge.specs.Judging.{JudgingLaws}
 use Rattle.pp_judge.specs.Scans.{InputScan}
 use Rattle.pp_cmd_focus.specs.Located.{located_judging}

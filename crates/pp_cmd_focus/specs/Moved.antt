@@ -1,5 +1,5 @@
 -- Meaning: a header and records over one object alone, which is then the first.
-use Rattle.std.specs.Prelude.{◌≡◌, ℕ, map, Option, option_map}
+use Rattle.std.specs.Prelude.{◌≡◌, ℕ, map, option_map}
 use Rattle.pp_core.specs.Steps.{Step, Begin, App, Unapp, Push, Unpush, Pull, Unpull, Cmt, Quit}
 use Rattle.pp_core.specs.Steps.{Note}
 use Rattle.pp_core.specs.declared.entry.Item.{Item}

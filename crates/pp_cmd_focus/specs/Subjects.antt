@@ -1,5 +1,5 @@
 -- Proof machinery: what a record is about, and what is written of it.
-use Rattle.std.specs.Prelude.{ℕ, ◌==◌, cond, List, [], if◌then◌else◌, Option, None, Some}
+use Rattle.std.specs.Prelude.{ℕ, ◌==◌, List, [], if◌then◌else◌, Option, None, Some}
 use Rattle.pp_core.specs.Catalogs.{place_of as place_named}
 use Rattle.pp_core.specs.Steps.{Step, Begin, App, Unapp, Push, Unpush, Pull, Unpull, Cmt, Quit}
 use Rattle.pp_core.specs.Steps.{Note}
