@@ -95,7 +95,7 @@ pub record Trims {Op : Type 0} (t owner : Name) (l : List (LocalEntry Op)) (old 
   pub ids : (u : Name) → ((v : Name) → new.ids u v ≡ old.ids u v)
       ⊎ (((u =ⁿ t) ≡ true) × TrimsAt owner l (old.ids u) (new.ids u))
 
--- a transaction whose lists are kept had them kept before, and no list has lost an id
+-- a transaction whose lists are kept had them kept before, and none of its lists has lost an id
 abbrev pub Grows : Pullings → Pullings → Type 0
 Grows old new = (u : Name) → new.kept u ≡ true →
     (old.kept u ≡ true) × ((v : Name) (i : ℕ) → In i (old.ids u v) → In i (new.ids u v))
