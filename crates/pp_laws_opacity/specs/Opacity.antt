@@ -1,4 +1,4 @@
--- What the attempts of a run see, and which runs are opaque.
+-- Meaning: what the attempts of a run see, and which runs are opaque.
 use Rattle.std.specs.Prelude.{◌≡◌, ◌≢◌, ◌≤◌, ℕ, List, [], ◌∷◌, ◌++◌, length, take, Option, Some}
 use Rattle.pp_model.specs.Config.{Start, Step, Tx, Begin, App, Unapp, Push, Unpush, Pull, Unpull}
 use Rattle.pp_model.specs.Config.{Cmt, Quit, Note, after, last}

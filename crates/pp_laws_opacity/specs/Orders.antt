@@ -1,4 +1,4 @@
--- One sequence of all transactions and attempts, those that did not commit included.
+-- Meaning: one sequence of all transactions and attempts, those that did not commit included.
 use Rattle.std.specs.Prelude.{◌≡◌, ◌≢◌, ◌⊎◌, ◌↔◌, ℕ, List, [], ◌∷◌, ◌++◌, Option}
 use Rattle.pp_model.specs.Config.{Start, Step, Unapp, Cmt}
 use Rattle.pp_model.specs.Lists.{Before, In}

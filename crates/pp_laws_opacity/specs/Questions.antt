@@ -1,4 +1,4 @@
--- Opacity as a list of questions about the committed transactions, one for each APP.
+-- Meaning: opacity as a list of questions about the committed transactions, one for each APP.
 use Rattle.std.specs.Prelude.{◌↔◌, ◌≤◌, ℕ, Bool, true, false, ◌&&◌, cond, List, [], ◌∷◌}
 use Rattle.std.specs.Prelude.{◌++◌, length, take, Option}
 use Rattle.pp_model.specs.Config.{Start, Step, Begin, App, Unapp, Push, Unpush, Pull, Unpull, Cmt}

@@ -1,4 +1,4 @@
--- The first own list of a run that is explained by no number of commits in its window.
+-- Meaning: the first own list of a run that is explained by no number of commits in its window.
 use Rattle.std.specs.Prelude.{◌≡◌, ◌≢◌, ◌≤◌, ℕ, List, [], ◌∷◌, ◌++◌, length, Option}
 use Rattle.pp_model.specs.Config.{App, Start, Step, first}
 use Rattle.pp_model.specs.Names.{Name}
