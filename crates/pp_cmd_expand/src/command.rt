@@ -41,6 +41,7 @@ impl Observer for RunText {
         self,
         alloc: Global,
         header: &Header,
+        _line: u32,
         steps: &[Step<Op>],
     ) -> Result<RunText, OutOfMemory> {
         let RunText { mut text } = self;

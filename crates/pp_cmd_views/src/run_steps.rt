@@ -40,6 +40,7 @@ impl Observer for RunSteps {
         self,
         alloc: Global,
         _header: &Header,
+        _line: u32,
         more: &[Step<Op>],
     ) -> Result<RunSteps, OutOfMemory> {
         let RunSteps { mut steps } = self;

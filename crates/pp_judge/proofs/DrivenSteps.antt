@@ -1,7 +1,7 @@
 -- What the machine as a judge says of a start, and of a record more.
 use Rattle.std.specs.Prelude.{◌≡◌, ◌≤◌, ◌+◌, ℕ, zero, suc, List, [], ◌∷◌}
 use Rattle.std.specs.Prelude.{◌++◌, length, take, Option, None, Some, Result, Ok, Err}
-use Rattle.std.proofs.Common.{refl, sym, ap, ◌∙◌, subst, arith, append_assoc}
+use Rattle.std.proofs.Common.{refl, sym, ap, ◌∙◌, subst, arith}
 use Rattle.std.proofs.lemmas.List.{append-nil, take_all}
 use Rattle.pp_core.specs.Steps.{Step, meaning}
 use Rattle.pp_core.specs.declared.call.Kind.{Kind}
@@ -12,7 +12,7 @@ use Rattle.pp_core.specs.declared.step.Step.{Step as StepOf}
 use Rattle.pp_records.specs.Expansions.{front_after}
 use Rattle.pp_records.specs.Fronts.{new_front}
 use Rattle.pp_records.specs.Records.{RunRecord}
-use Rattle.pp_records.specs.Runs.{LinedSteps, bare}
+use Rattle.pp_records.specs.Runs.{LinedSteps, bare, on_line}
 use Rattle.pp_records.proofs.Reading.{reading_law}
 use Rattle.pp_format_read.specs.declared.header.Header.{Header}
 use Rattle.pp_model.specs.Config.{but_last, first}
@@ -119,9 +119,9 @@ module _ (line : ℕ) (h : Header) (old new : ℕ) where
   pub begun_bad_least : old ≤ new → StepsCostAtLeast statuses.Rejected (scan_of (headed line h) []) old new
   begun_bad_least rises run is = subst (λ (w : LinedSteps Op). old + singles (but_last (bare w)) ≤ new) (sym (empty_run h run is)) (plus_none old new rises)
 
-module _ {W : Type 0} (HasSeen : Header → List (Step Op) → W → Type 0) where
+module _ {W : Type 0} (HasSeen : Header → LinedSteps Op → W → Type 0) where
   seen_nothing : (h : Header) (w : W) → HasSeen h [] w → HasSeenRun HasSeen h [] w
-  seen_nothing h w seen run is = subst (λ (ss : LinedSteps Op). HasSeen h (bare ss) w) (sym (empty_run h run is)) seen
+  seen_nothing h w seen run is = subst (λ (ss : LinedSteps Op). HasSeen h ss w) (sym (empty_run h run is)) seen
 
   -- A header without records is good if its start is done, the front is the first one, and the observer has seen no step.
   pub begun_good : (line : ℕ) (h : Header) (front : AnyFront) (machine : Seen (List Kind) Op) (w : W) → IsFirstFront h front → HasStarted h Done machine → HasSeen h [] w
@@ -155,12 +155,12 @@ module _ {W : Type 0} (HasSeen : Header → List (Step Op) → W → Type 0) whe
   -- ---- a record
 
   -- an observer that was shown the steps behind those so far
-  seen_next : (h : Header) (before steps : List (Step Op)) (w next : W) → ((so_far : List (Step Op)) → HasSeen h so_far w → HasSeen h (so_far ++ steps) next)
-      → HasSeen h before w → (others : List (Step Op)) → steps ≡ others → HasSeen h (before ++ others) next
-  seen_next h before steps w next sees seen others is = subst (λ (ss : List (Step Op)). HasSeen h (before ++ ss) next) is (sees before seen)
+  seen_next : (h : Header) (line : ℕ) (before : LinedSteps Op) (steps : List (Step Op)) (w next : W) → ((so_far : LinedSteps Op) → HasSeen h so_far w → HasSeen h (so_far ++ on_line line steps) next)
+      → HasSeen h before w → (others : List (Step Op)) → steps ≡ others → HasSeen h (before ++ on_line line others) next
+  seen_next h line before steps w next sees seen others is = subst (λ (ss : List (Step Op)). HasSeen h (before ++ on_line line ss) next) is (sees before seen)
 
   module _ (h : Header) (judge : Driven W) (r : RunRecord Op) (line now new : ℕ)
-      (told : List (Step Op)) (next : W) (sees : (so_far : List (Step Op)) → HasSeen h so_far judge.observer → HasSeen h (so_far ++ told) next) where
+      (told : List (Step Op)) (next : W) (sees : (so_far : LinedSteps Op) → HasSeen h so_far judge.observer → HasSeen h (so_far ++ on_line line told) next) where
     abbrev here : List (Step Op)
     here = steps_here h judge.front judge.machine r
 
@@ -174,8 +174,8 @@ module _ {W : Type 0} (HasSeen : Header → List (Step Op) → W → Type 0) whe
       is = λ at before good.
           let c = good.0 in (
             goes_on h before judge.front judge.machine c r line front machine now new style kept done,
-            λ run is. subst (λ (ss : List (Step Op)). HasSeen h ss next) (sym (done_run h before judge.front judge.machine c line r now new machine done run is))
-                (seen_next h (bare (all_so_far h before)) told judge.observer next sees (good.1 (all_so_far h before) (run_there h before judge.front judge.machine c)) done.before first),
+            λ run is. subst (λ (ss : LinedSteps Op). HasSeen h ss next) (sym (done_run h before judge.front judge.machine c line r now new machine done run is))
+                (seen_next h line (all_so_far h before) told judge.observer next sees (good.1 (all_so_far h before) (run_there h before judge.front judge.machine c)) done.before first),
           );
       least = λ at before good old least. least_done h before judge.front judge.machine good.0 line r at old now new least machine done;
     }
@@ -185,11 +185,10 @@ module _ {W : Type 0} (HasSeen : Header → List (Step Op) → W → Type 0) whe
     taken_bad rejection e first = record {
       is = λ at before good.
           let c = good.0 in
-          let done : List (Step Op) = e.done.before in
-          let xs : List (Step Op) = bare (all_so_far h before) in (
+          let xs : LinedSteps Op = all_so_far h before in (
             ends_there h before judge.front judge.machine c r at line now new rejection e,
-            λ run is. subst (λ (ss : List (Step Op)). HasSeen h ss next) (sym (run_to_failed h before judge.front judge.machine c line r now new rejection e run is ∙ append_assoc xs done (e.step ∷ [])))
-                (seen_next h xs told judge.observer next sees (good.1 (all_so_far h before) (run_there h before judge.front judge.machine c)) (done ++ e.step ∷ []) first),
+            λ run is. subst (λ (ss : LinedSteps Op). HasSeen h ss next) (sym (run_to_failed h before judge.front judge.machine c line r now new rejection e run is))
+                (seen_next h line xs told judge.observer next sees (good.1 xs (run_there h before judge.front judge.machine c)) (e.done.before ++ e.step ∷ []) first),
           );
       least = λ at before good old least. least_failed h before judge.front judge.machine good.0 line r at old now new least rejection e;
     }

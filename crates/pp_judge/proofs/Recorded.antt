@@ -51,6 +51,10 @@ get_last {A} xs x n is =
 pub on_line_append : {A : Type 0} (line : ℕ) (xs ys : List A) → on_line line (xs ++ ys) ≡ on_line line xs ++ on_line line ys
 on_line_append {A} line xs ys = map-append (λ (s : A). let z : Lined A = record { line = line; what = s } in z) xs ys
 
+-- The bare elements of a list, and then elements on one line, are those of the list, and then those.
+pub bare_append_on_line : {A : Type 0} (line : ℕ) (xs : List (Lined A)) (ys : List A) → bare (xs ++ on_line line ys) ≡ bare xs ++ ys
+bare_append_on_line {A} line xs ys = bare_append xs (on_line line ys) ∙ ap (λ (w : List A). bare xs ++ w) (bare_on_line line ys)
+
 module _ (h : Header) (rs : Records (RunRecord Op)) (front : AnyFront) (machine : Seen (List Kind) Op) (c : GoesOn h rs front machine) (r : RunRecord Op) where
   -- the steps of the record are those of its translation
   abbrev pub steps_there : List (Step Op)

@@ -2,7 +2,6 @@
 use Rattle.std.specs.Prelude.{◌≡◌, List, Option, None}
 use Rattle.std.proofs.Common.{sym, ap, ◌∙◌, subst}
 use mathlib.Core.Logic.{inr}
-use Rattle.pp_core.specs.Steps.{Step}
 use Rattle.pp_core.specs.declared.call.Kind.{Kind}
 use Rattle.pp_records.specs.Fronts.{Front}
 use Rattle.pp_records.specs.Inputs.{OverrunsAt}
@@ -81,7 +80,7 @@ rejected_sound sc tally rejection r =
 
 -- ---- what the machine as a judge says
 
-module _ {W : Type 0} (HasSeen : Header → List (Step Op) → W → Type 0) where
+module _ {W : Type 0} (HasSeen : Header → LinedSteps Op → W → Type 0) where
   -- If a judge found the records good, each step meets its criteria and the machine is where they lead.
   pub running_of : (sc : InputScan) (tally : Tally) (judge : Driven W) → AreGood (driven_judging HasSeen) sc tally judge → IsRunning sc tally judge.machine
   running_of sc tally judge g = record { follows = g.follows; shape = g.good.0.shape; state = g.good.0.state; stands = g.good.0.stands }

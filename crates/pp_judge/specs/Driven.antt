@@ -1,10 +1,9 @@
 -- Proof machinery: what the machine says of runs as a judge.
 use Rattle.std.specs.Prelude.{List, Option, None, Some}
-use Rattle.pp_core.specs.Steps.{Step}
 use Rattle.pp_core.specs.declared.call.Kind.{Kind}
 use Rattle.pp_core.specs.declared.status.Status.TheVariants as statuses
 use Rattle.pp_records.specs.Records.{RunRecord}
-use Rattle.pp_records.specs.Runs.{IsRun, LinedSteps, Records, bare}
+use Rattle.pp_records.specs.Runs.{IsRun, LinedSteps, Records}
 use Rattle.pp_objects.specs.declared.act.Op.{Op}
 use Rattle.pp_format_read.specs.declared.header.Header.{Header}
 use Rattle.pp_input.specs.Limits.{usual_limits}
@@ -22,15 +21,15 @@ use Rattle.pp_judge.specs.declared.judge.Judged.{Judged}
 use Rattle.pp_judge.specs.declared.judge.Judged.TheVariants.{Good, Rejected}
 
 -- an observer has seen the steps of every run of these records (there is one at most)
-abbrev pub HasSeenRun : {W : Type 0} → (Header → List (Step Op) → W → Type 0) → Header →
+abbrev pub HasSeenRun : {W : Type 0} → (Header → LinedSteps Op → W → Type 0) → Header →
     Records (RunRecord Op) → W → Type 0
 HasSeenRun HasSeen header records observer = (run : LinedSteps Op) →
     IsRun (object_of header) (translation_of header) (start_of header) records run →
-    HasSeen header (bare run) observer
+    HasSeen header run observer
 
 -- The limits are the usual ones. Records are good if their steps meet their criteria, and
 -- rejected if one does not, whatever follows.
-abbrev pub driven_judging : {W : Type 0} → (Header → List (Step Op) → W → Type 0) →
+abbrev pub driven_judging : {W : Type 0} → (Header → LinedSteps Op → W → Type 0) →
     Judging (Driven W) (ObservedRejection W)
 driven_judging HasSeen = record {
   limits = usual_limits;

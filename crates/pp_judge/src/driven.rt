@@ -224,7 +224,7 @@ impl<W: Observer> Judge for Driven<W> {
         let (machine, halt) = do_steps(machine, steps, ticks)?;
         let count = machine.count();
         let rejection = rejection_on(line, count, halt)?;
-        let observer = observer.see(alloc, header, tried(steps, count - before))?;
+        let observer = observer.see(alloc, header, line, tried(steps, count - before))?;
         Ok(judged_of(front, machine, observer, rejection))
     }
 

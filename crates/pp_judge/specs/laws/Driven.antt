@@ -194,13 +194,13 @@ module _ (h : Header) (at : ℕ) (rs : Records (RunRecord Op)) (rejection : Reje
         (sym (append_assoc rs more others)) (e.stays (more ++ others));
   }
 
-  -- if P is true of the steps of the run, it is true of the steps of the run with more records
-  pub holds_behind : (P : List (Step Op) → Type 0) (more : Records (RunRecord Op)) →
+  -- if P is true of the run, it is true of the run with more records
+  pub holds_behind : (P : LinedSteps Op → Type 0) (more : Records (RunRecord Op)) →
       ((run : LinedSteps Op) → IsRun (object_of h) (translation_of h) (start_of h) rs run →
-      P (bare run))
+      P run)
       → (run : LinedSteps Op) → IsRun (object_of h) (translation_of h) (start_of h) (rs ++ more)
-      run → P (bare run)
-  holds_behind P more here run is = subst (λ (w : LinedSteps Op). P (bare w))
+      run → P run
+  holds_behind P more here run is = subst (λ (w : LinedSteps Op). P w)
       (same_run more run is) (here e.run rejected_here.run_is)
 
 -- the run of records that are good is not rejected
@@ -223,7 +223,7 @@ good_alone h at rs front machine rejection c e =
 
 -- ---- the laws
 
-pub driven_laws : {W : Type 0} (HasSeen : Header → List (Step Op) → W → Type 0) →
+pub driven_laws : {W : Type 0} (HasSeen : Header → LinedSteps Op → W → Type 0) →
     JudgingLaws (driven_judging HasSeen)
 driven_laws HasSeen = record {
   not_both = λ h rs judge refused good bad.
@@ -239,11 +239,11 @@ driven_laws HasSeen = record {
   rejection_stays = λ h rs more refused bad. (
     ends_behind h.what h.line rs refused.rejection bad.0 more,
     holds_behind h.what h.line rs refused.rejection bad.0
-        (λ steps. HasSeen h.what steps refused.observer) more bad.1,
+        (λ run. HasSeen h.what run refused.observer) more bad.1,
   );
   first_most = nothing_most;
   most_widens = most_widens;
   rejected_least_stays = λ h rs more refused old new bad least.
       holds_behind h.what h.line rs refused.rejection bad.0
-      (λ steps. old + singles (but_last steps) ≤ new) more least;
+      (λ run. old + singles (but_last (bare run)) ≤ new) more least;
 }

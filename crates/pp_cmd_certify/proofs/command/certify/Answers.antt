@@ -1,4 +1,4 @@
-use Rattle.std.proofs.Common.{List, subst, sym}
+use Rattle.std.proofs.Common.{subst, sym}
 use Rattle.pp_core.specs.declared.status.Status.TheVariants as statuses
 use Rattle.pp_judge.specs.Driven.{driven_judging}
 use Rattle.pp_judge.specs.Findings.{Finds, RisesAtLeast}
@@ -10,14 +10,14 @@ use Rattle.pp_input_reader.proofs.Takers.{taken_all}
 use Rattle.pp_judge.proofs.Concluding.{fault_report, rejected_evident, run_report}
 use Rattle.pp_judge.proofs.Running.{rejected_of, rejected_sound, running_of, running_sound}
 use Rattle.pp_judge.proofs.Summing.{no_serial, serial_least, serial_most}
-use Rattle.pp_core.specs.Steps.{Step}
 use Rattle.pp_format_read.specs.declared.header.Header.{Header}
 use Rattle.pp_objects.specs.declared.act.Op.{Op}
+use Rattle.pp_records.specs.Runs.{LinedSteps}
 use Rattle.pp_judge.specs.declared.observer.Blind.{Blind}
 use Rattle.pp_cmd_certify.proofs.command.certify.Goals as goal
 
 -- an observer that sees nothing
-abbrev Nothing : Header → List (Step Op) → Blind → Type 0
+abbrev Nothing : Header → LinedSteps Op → Blind → Type 0
 Nothing header steps w = Unit {0}
 
 pub returns-in_ok-text-in-Fault-clause-report : goal.returns-in_ok-text-in-Fault-clause-report

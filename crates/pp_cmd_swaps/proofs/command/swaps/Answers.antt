@@ -1,4 +1,4 @@
-use Rattle.std.proofs.Common.{List, subst, sym}
+use Rattle.std.proofs.Common.{subst, sym}
 use Rattle.pp_judge.specs.Costs.{StepsCostAtLeast}
 use Rattle.pp_judge.specs.Driven.{driven_judging}
 use Rattle.pp_judge.specs.Findings.{Finds, RisesAtLeast}
@@ -11,14 +11,14 @@ use Rattle.pp_judge.proofs.Running.{rejected_of, running_of}
 use Rattle.pp_cmd_swaps.specs.Swaps.{IsSwaps}
 use Rattle.pp_cmd_swaps.proofs.Telling.{accepted_if_decided, accepted_swaps, fault_swaps, rejected_swaps}
 use Rattle.pp_core.specs.declared.status.Status.TheVariants as statuses
-use Rattle.pp_core.specs.Steps.{Step}
 use Rattle.pp_format_read.specs.declared.header.Header.{Header}
 use Rattle.pp_objects.specs.declared.act.Op.{Op}
+use Rattle.pp_records.specs.Runs.{LinedSteps}
 use Rattle.pp_judge.specs.declared.observer.Blind.{Blind}
 use Rattle.pp_cmd_swaps.proofs.command.swaps.Goals as goal
 
 -- an observer that sees nothing
-abbrev Nothing : Header → List (Step Op) → Blind → Type 0
+abbrev Nothing : Header → LinedSteps Op → Blind → Type 0
 Nothing header steps w = Unit {0}
 
 pub returns-in_ok-text-in-Fault-clause-output : goal.returns-in_ok-text-in-Fault-clause-output
