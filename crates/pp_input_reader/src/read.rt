@@ -66,6 +66,7 @@ fn take_piece<T: TakesLines, L: Ledger>(
     ensures ok { IfOk result (λ next. (first : ℕ) (bytes : List ℕ) →
         IsAt (T.reading first) bytes lines.old (taker, ticks.old) →
         IsAt (T.reading first) (bytes ++ piece.now) lines.new (next, ticks.new)) }
+    ensures given { IfOk result (λ next. T.given next ≡ T.given taker) }
     ensures stop { IfErr result (λ stop. (first : ℕ) →
         IfFault stop (λ at cause. (bytes : List ℕ) →
         IsAt (T.reading first) bytes lines.old (taker, ticks.old) →
@@ -97,6 +98,7 @@ fn take_rest<T: TakesLines, L: Ledger>(
     ensures ok { IfOk result (λ next. (first : ℕ) (bytes : List ℕ) →
         IsAt (T.reading first) bytes lines.old (taker, ticks.old) →
         (T.reading first).Leads (scanned_lines (T.reading first).limits bytes) (next, ticks.new)) }
+    ensures given { IfOk result (λ next. T.given next ≡ T.given taker) }
     ensures stop { IfErr result (λ stop. (first : ℕ) →
         IfFault stop (λ at cause. (bytes : List ℕ) →
         IsAt (T.reading first) bytes lines.old (taker, ticks.old) →
@@ -130,6 +132,7 @@ pub fn read_lines<S: Source, T: TakesLines, L: Ledger>(
     requires { (T.reading ticks.old).Leads [] (taker, ticks.old) }
     ensures ok { IfOk result (λ last. ReadsAll (T.reading ticks.old)
         (S.left source.old) (S.left source.new) (last, ticks.new)) }
+    ensures given { IfOk result (λ last. T.given last ≡ T.given taker) }
     ensures end { OnOk result (IsAtEnd (S.left source.new)) }
     ensures stop { IfErr result (λ stop. IfInputFault stop (λ at cause. (bytes : List ℕ) →
         S.left source.old ≡ Some bytes → HasInputFault (T.reading ticks.old) bytes at cause)) }

@@ -1,5 +1,5 @@
 //! What takes the lines of an input, one after another.
-ghost use Rattle.std.specs.Prelude.{◌≡◌, ℕ, IfOk, IfErr, OnErr};
+ghost use Rattle.std.specs.Prelude.{◌≡◌, ℕ, List, [], IfOk, IfErr, OnErr};
 ghost use Rattle.pp_input.specs.Limits.{CanCount};
 ghost use Rattle.pp_input_reader.specs.Takers.{IsNext, LeadsOn, Reading, StopsAt, StopsWith};
 
@@ -19,6 +19,9 @@ pub trait TakesLines: Drop {
     /// they have, and what they cost, by what the counter shows before the first; and which fault a
     /// passed limit is.
     ghost reading: { ℕ → Reading (Self × ℕ) Self.Fault };
+
+    /// Bytes that it was given, and that no line changes: none, unless a type says which.
+    ghost given: { Self → List ℕ } = { λ _. [] };
 
     /// The limits of an input.
     fn limits() -> Limits
@@ -41,6 +44,7 @@ pub trait TakesLines: Drop {
             × IsNext (reading first) (self, ticks.old) (line.now.number, line.now.text) }
         ensures ok { IfOk result (λ next. (first : ℕ) → LeadsOn (reading first) (self, ticks.old)
             (line.now.number, line.now.text) (next, ticks.new)) }
+        ensures given { IfOk result (λ next. given next ≡ given self) }
         ensures stop { IfErr result (λ stop. (first : ℕ) →
             StopsAt (reading first) (self, ticks.old) (line.now.number, line.now.text) stop) }
         ensures cost { OnErr result ((first : ℕ) → StopsWith (reading first) (self, ticks.old)

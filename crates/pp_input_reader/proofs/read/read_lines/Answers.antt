@@ -36,6 +36,7 @@ pieces-preserved g c =
     record {
       room = search rules;
       at = (at.0 ++ piece, c.in_ok-taker.ensures.ok c.args.ticks.now at.0 at.1, consumes_more (g.S.Source.left c.args.source.now) old new at.0 piece at.2 read);
+      given = c.in_ok-taker.ensures.given ∙ c.pieces.invariant.given;
       count = c.in-Ok.ensures.faultless ∙ c.pieces.invariant.count;
     }
 

@@ -8,6 +8,7 @@ abbrev pub invariant-pieces : goal.invariant-pieces
 invariant-pieces g l = record {
   room : length l.buffer.items ≡ LONGEST_PIECE;
   at : (bytes : List ℕ) × IsAt (g.T.TakesLines.reading l.fn.ticks) bytes l.lines (l.taker, l.ticks) × Consumes (g.S.Source.left l.fn.source) (g.S.Source.left l.source) bytes;
+  given : g.T.TakesLines.given l.taker ≡ g.T.TakesLines.given l.fn.taker;
   count : g.S.Source.faults l.source ≡ g.S.Source.faults l.fn.source;
 }
 

@@ -1,4 +1,4 @@
-use Rattle.std.proofs.Common.{◌≡◌, ◌++◌, None, option_map, sym, ap, ◌∙◌, subst, rules}
+use Rattle.std.proofs.Common.{◌≡◌, ◌++◌, None, option_map, refl, sym, ap, ◌∙◌, subst, rules}
 use Rattle.std.proofs.lemmas.Result.{err_from_is_err_and}
 use mathlib.Core.Logic.{inl}
 use Rattle.pp_input.specs.declared.lines.Line.{Line}
@@ -21,6 +21,7 @@ lines-init g c =
       follows = λ first bytes is.
           let R = g.T.TakesLines.reading first in
           subst (λ h. Follows R (early_lines R.limits (bytes ++ piece)) h (c.args.taker, c.args.ticks.now)) (sym is_fed) (piece_follows R bytes piece held (c.args.taker, c.args.ticks.now) is);
+      given = refl;
       rest = ap (λ h. h.rest) is_fed;
       reach = ap (λ h. h.reach) is_fed;
       fault = ap (λ h. h.fault) is_fed;
@@ -50,6 +51,7 @@ lines-preserved g c =
           let R = g.T.TakesLines.reading first in
           let all = early_lines R.limits (bytes ++ c.args.piece.now) in
           subst (λ h. Follows R all h (c.in_ok-taker.taker, c.take.new.ticks)) (sym after) (follows_next R all held (c.lines.taker, c.lines.ticks) (inv.follows first bytes at) line (c.in_ok-taker.taker, c.take.new.ticks) is (c.in_ok-taker.ensures.ok first));
+      given = c.in_ok-taker.ensures.given ∙ inv.given;
       rest = ap (λ h. h.rest) after ∙ kept.0 ∙ inv.rest;
       reach = ap (λ h. h.reach) after ∙ kept.1 ∙ inv.reach;
       fault = ap (λ h. h.fault) after ∙ kept.2 ∙ inv.fault;

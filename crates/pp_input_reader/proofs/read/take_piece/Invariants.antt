@@ -8,6 +8,7 @@ abbrev pub invariant-lines : goal.invariant-lines
 invariant-lines g l = record {
   follows : (first : ℕ) (bytes : List ℕ) → IsAt (g.T.TakesLines.reading first) bytes l.fn.lines (l.fn.taker, l.fn.ticks) →
       Follows (g.T.TakesLines.reading first) (early_lines (g.T.TakesLines.reading first).limits (bytes ++ l.fn.piece)) l.lines (l.taker, l.ticks);
+  given : g.T.TakesLines.given l.taker ≡ g.T.TakesLines.given l.fn.taker;
   rest : l.lines.rest ≡ (fed l.fn.lines l.fn.piece).rest;
   reach : l.lines.reach ≡ (fed l.fn.lines l.fn.piece).reach;
   fault : l.lines.fault ≡ (fed l.fn.lines l.fn.piece).fault;
