@@ -37,7 +37,7 @@ marked_last {Op} id m l e h n = map-append (mark_at id m) l (e ∷ [])
     ∙ ap (λ (w : List (LocalEntry Op)). w ++ mark_at id m e ∷ []) (marked_other id m l h)
     ∙ ap (λ (z : Bool). l ++ cond z (remark m e) e ∷ []) (eq-eqb e.id id n)
 
--- one more uncommitted entry, of a new id, in G
+-- If the shared log gets an uncommitted entry with a new id at its end, a local log still follows it.
 pub follows_wider : {Op State : Type 0} (O : Object Op State) (place : Op → ℕ) (G : List (SharedEntry Op)) (L : List (LocalEntry Op)) (p : SharedEntry Op) → p.committed ≡ false →
     ((l : LocalEntry Op) → In l L → l.id ≢ p.id) → Follows O place G L → Follows O place (G ++ p ∷ []) L
 follows_wider {Op} O place G L p u new f =
@@ -61,7 +61,7 @@ follows_wider {Op} O place G L p u new f =
 module _ {Op State : Type 0} (O : Object Op State) (place : Op → ℕ) (apart : PlacesSwap O place)
     (t : Name) (c : Config Op) (b : BoostedBut O place t c) (x : Tx Op) (lookup : tx t c.opened ≡ Some x) (id : ℕ) (op : Op)
     (full : (r : SharedEntry Op) → IsDoneAt place (place op) c.shared r → stands_in x.local r.id ≡ true) where
-  -- what the two steps ask
+  -- The criteria of the APP and the PUSH of an operation, as one condition on the configuration before both.
   pub record Asked : Type 0 where
     pub new : In id c.ids → ⊥
     pub begins : Begins x.body (calls O (own_items x.local) ++ O.call op ∷ [])
@@ -92,7 +92,7 @@ module _ {Op State : Type 0} (O : Object Op State) (place : Op → ℕ) (apart :
   abbrev x1 : Tx Op
   x1 = relog (λ l. l ++ unpushed ∷ []) x
 
-  -- the configuration after the APP and the PUSH of one operation
+  -- The configuration after the APP and the PUSH of one operation.
   abbrev pub two : Config Op
   two = record { names = c.names; ids = id ∷ c.ids; opened = on_log t (set_mark id Pushed) (on_log t (λ l. l ++ unpushed ∷ []) c.opened); shared = c.shared ++ entry ∷ []; done = c.done }
 
@@ -100,7 +100,7 @@ module _ {Op State : Type 0} (O : Object Op State) (place : Op → ℕ) (apart :
   pub asked_app : Meets O c (App t id op) → (In id c.ids → ⊥) × Begins x.body (calls O (own_items x.local) ++ O.call op ∷ [])
   asked_app h = let k = there_of (tx t c.opened) _ x lookup h in (k.0, k.1.0)
 
-  -- APP 4 follows from PUSH 4 and PUSH 5
+  -- The APP meets its criteria if `Asked` is true. Its criterion 4 follows from the criteria 4 and 5 of the PUSH.
   pub app_holds : Asked → Meets O c (App t id op)
   app_holds a = there_is (tx t c.opened) _ x lookup (a.new, (a.begins, (end_allowed O place apart c b.sound x ix f op passed a.allowed, refl)))
     where
@@ -123,7 +123,7 @@ module _ {Op State : Type 0} (O : Object Op State) (place : Op → ℕ) (apart :
             | inr n ↦ a.passes q k.0 v n
           ]
 
-  -- a new id
+  -- An id that was not used is in no local log.
   fresh : (In id c.ids → ⊥) → (y : Tx Op) → In y c.opened → (e : LocalEntry Op) → In e y.local → e.id ≢ id
   fresh new y i e j n = new (subst (λ (w : ℕ). In w c.ids) n (b.sound.local_used y i e j))
 
@@ -142,7 +142,7 @@ module _ {Op State : Type 0} (O : Object Op State) (place : Op → ℕ) (apart :
       ((u : SharedEntry Op) → In u c.shared → u.committed ≡ false → u.owner ≢ t → Swaps O u.op op) × Allowed O (shared_ops c.shared ++ op ∷ [])
   asked_push h k = let r = there_of (at_mark id Unpushed (x.local ++ unpushed ∷ [])) _ unpushed (mark_one h) (there_of (tx t one.opened) _ x1 (lookup_one h) k) in (r.1.0, r.1.1.0)
 
-  -- A PUSH right after its APP meets its criteria if it has what `Asked` says.
+  -- A PUSH right after its APP meets its criteria if `Asked` is true.
   pub push_holds : (h : Meets O c (App t id op)) → Asked → Meets O one (Push t id)
   push_holds h a = there_is (tx t one.opened) _ x1 (lookup_one h) (there_is (at_mark id Unpushed (x.local ++ unpushed ∷ [])) _ unpushed (mark_one h) (
     (λ p i m. absurd (none p i m)),
@@ -196,7 +196,7 @@ module _ {Op State : Type 0} (O : Object Op State) (place : Op → ℕ) (apart :
           let k = entry_in r.id x.local (full r (i, d.1, d.2 ∙ ap (λ (z : LocalEntry Op). place z.op) e)) in
           (k.0, now_pushed, before_across k.0 now_pushed x.local (now_pushed ∷ []) k.1 (inl refl), k.2, ap (λ (z : LocalEntry Op). z.id) (sym e))
 
-  -- both steps lead to a boosted configuration
+  -- The APP and the PUSH lead to a boosted configuration.
   pub two_boosted : (h : Meets O c (App t id op)) → Meets O one (Push t id) → Anchored place (x.local ++ now_pushed ∷ []) → Boosted O place two
   two_boosted h k anchors =
       record {

@@ -1,4 +1,4 @@
--- A local log is taken back from its end.
+-- Taking a local log back from its end.
 use Rattle.std.specs.Prelude.{◌≡◌, ◌≢◌, ℕ, ◌==◌, Bool, true, false, not, cond, List, [], ◌∷◌, ◌++◌, map, filter, Option, Some}
 use Rattle.std.proofs.Common.{refl, sym, ap, subst, ◌∙◌, append_assoc}
 use Rattle.std.proofs.lemmas.List.{map-append, append-nil}
@@ -47,7 +47,7 @@ without_last {Op} l e h =
     ∙ ap (λ (w : List (LocalEntry Op)). w ++ without_local e.id (e ∷ [])) (keep_all (λ (a : LocalEntry Op). not (a.id == e.id)) l (λ a i. eqb_not a.id e.id (h a i)))
     ∙ elim (eqb_tells e.id e.id) [ inl r ↦ ap (λ (b : Bool). l ++ cond (not b) (e ∷ []) []) r.0 ∙ append-nil l | inr r ↦ absurd (r.1 refl) ]
 
--- one entry less at the end of the log
+-- A local log without its last entry still follows the shared log.
 pub follows_front : {Op State : Type 0} (O : Object Op State) (place : Op → ℕ) (G : List (SharedEntry Op)) (P : List (LocalEntry Op)) (e : LocalEntry Op) →
     ((a : LocalEntry Op) → In a P → a.id ≢ e.id) → Follows O place G (P ++ e ∷ []) → Follows O place G P
 follows_front {Op} O place G P e new f =
@@ -61,7 +61,7 @@ follows_front {Op} O place G P e new f =
       ]);
     }
 
--- an entry less in G, that is not in the log
+-- A local log still follows the shared log without an entry whose id is not in the local log.
 pub follows_without : {Op State : Type 0} (O : Object Op State) (place : Op → ℕ) (G : List (SharedEntry Op)) (L : List (LocalEntry Op)) (id : ℕ) →
     ((a : LocalEntry Op) → In a L → a.id ≢ id) → Follows O place G L → Follows O place (without_shared id G) L
 follows_without {Op} O place G L id new f =
@@ -81,11 +81,11 @@ follows_without {Op} O place G L id new f =
     stays g a i e = eqb_not g.id id (λ z. new a i (sym e ∙ z))
 
 module _ {Op State : Type 0} (O : Object Op State) (place : Op → ℕ) (apart : PlacesSwap O place) (t : Name) where
-  -- the log of t is now P
+  -- In the configuration, the local log of t is P, and the configuration is boosted but for t.
   abbrev pub Left : List (LocalEntry Op) → Config Op → Type 0
   Left P c = BoostedBut O place t c × ((x : Tx Op) × (tx t c.opened ≡ Some x) × (x.local ≡ P))
 
-  -- the last entry of the log
+  -- The last entry e of the local log of t.
   module _ (c : Config Op) (b : BoostedBut O place t c) (x : Tx Op) (lookup : tx t c.opened ≡ Some x)
       (P : List (LocalEntry Op)) (e : LocalEntry Op) (cut : x.local ≡ P ++ e ∷ []) where
     ix : In x c.opened
@@ -106,13 +106,13 @@ module _ {Op State : Type 0} (O : Object Op State) (place : Op → ℕ) (apart :
     front_follows : Follows O place c.shared P
     front_follows = follows_front O place c.shared P e other_ids (subst (λ (w : List (LocalEntry Op)). Follows O place c.shared w) cut (b.follows x ix))
 
-    -- a changed log of t, and the others as they were
+    -- A property of the changed log of t and of all other logs is one of each log.
     each : (f : List (LocalEntry Op) → List (LocalEntry Op)) (Q : List (LocalEntry Op) → Type 0) → Q (f x.local) → ((y : Tx Op) → In y c.opened → y.name ≢ t → Q y.local) →
         (y : Tx Op) → In y (on_log t f c.opened) → Q y.local
     each f Q h others = on_each t f c.opened (λ (w : Tx Op). Q w.local)
         (λ w i n. subst (λ (z : Tx Op). Q (f z.local)) (by_key (λ (z : Tx Op). z.name) c.opened b.sound.open_names x w ix i (nx ∙ sym n)) h) others
 
-    -- UNPULL
+    -- The UNPULL of a pulled last entry meets its criteria.
     pub unpull_holds : e.mark ≡ Pulled → Meets O c (Unpull t e.id)
     unpull_holds m = there_is (tx t c.opened) _ x lookup (there_is (at_mark e.id Pulled x.local) _ e (mark_is x.local (b.sound.local_ids x ix) e.id Pulled e ie refl m) (
       subst (λ (w : List (LocalEntry Op)). Allowed O (local_ops w)) (sym (ap (without_local e.id) cut ∙ without_last P e other_ids)) front_allowed,
@@ -136,7 +136,7 @@ module _ {Op State : Type 0} (O : Object Op State) (place : Op → ℕ) (apart :
           (relog (without_local e.id) x, tx_is O (then c (Unpull t e.id)) s t (relog (without_local e.id) x) (in_on_same t (without_local e.id) x c.opened ix nx) nx, is),
         )
 
-    -- UNPUSH: those behind it in G let it pass
+    -- The UNPUSH of the last entry: the entries after it in the shared log swap with it.
     module _ (m : e.mark ≡ Pushed) where
       abbrev mine : SharedEntry Op
       mine = as_shared x.name false (item e)
@@ -223,7 +223,7 @@ module _ {Op State : Type 0} (O : Object Op State) (place : Op → ℕ) (apart :
       is : but_last (set_mark e.id Unpushed x.local) ≡ P
       is = ap but_last now ∙ but_last_snoc P (remark Unpushed e)
 
-      -- no other log has the entry
+      -- No other local log has the id of the entry.
       apart_ids : (y : Tx Op) → In y c.opened → y.name ≢ t → (a : LocalEntry Op) → In a y.local → a.id ≢ e.id
       apart_ids y i n a j z = elim (b.sound.marks y i a j) [
         | inl o ↦ elsewhere O c b.sound x ix e ie (ap is_own m) y i (λ q. n (q ∙ nx)) (item a) (in_own y.local a j o.0) z
@@ -267,7 +267,7 @@ module _ {Op State : Type 0} (O : Object Op State) (place : Op → ℕ) (apart :
     pub one_back : RunsFrom O c (taken_at t e.id e.mark) × Left P (after_from c (taken_at t e.id e.mark))
     one_back = by_mark e.mark refl
 
-  -- the entries S behind P
+  -- The steps that take the entries S back from the end of the local log P ++ S meet their criteria, and leave P.
   pub all_back : (S P : List (LocalEntry Op)) (c : Config Op) → Left (P ++ S) c → RunsFrom O c (taken_out t S) × Left P (after_from c (taken_out t S))
   all_back [] P c h = (tt, (h.0, (h.1.0, h.1.1, h.1.2 ∙ append-nil P)))
   all_back (e ∷ S) P c h =

@@ -1,4 +1,4 @@
--- What taking a log back leaves of the configuration.
+-- The configuration after a local log was taken back.
 use Rattle.std.specs.Prelude.{◌≡◌, ◌≢◌, ℕ, ◌==◌, Bool, true, false, not, List, [], ◌∷◌, ◌++◌, Some}
 use Rattle.std.proofs.Common.{refl, sym, ap, subst, ◌∙◌, append_assoc}
 use Rattle.std.proofs.lemmas.List.{append-nil}
@@ -21,7 +21,7 @@ use Rattle.pp_summary.proofs.Relog.{on_log-twice, filter_within}
 use Rattle.pp_records.proofs.Ends.{after_append}
 use Rattle.pp_summary.proofs.Back.{Left, all_back, without_last, but_last_snoc}
 
--- the log of t is P, entries of t have left G, and nothing else changed
+-- Since c0, the log of t has become P, entries of t have left the shared log, and nothing else has changed.
 pub record Since {Op : Type 0} (c0 : Config Op) (t : Name) (P : List (LocalEntry Op)) (c : Config Op) : Type 0 where
   pub is : c ≡ record { names = c0.names; ids = c0.ids; opened = on_log t (λ l. P) c0.opened; shared = c.shared; done = c0.done }
   pub others : without_owner t c.shared ≡ without_owner t c0.shared
@@ -80,7 +80,7 @@ module _ {Op State : Type 0} (O : Object Op State) (place : Op → ℕ) (apart :
       let q = all_since S (P ++ e ∷ []) c (h.0, (h.1.0, h.1.1, h.1.2 ∙ e1)) (subst (λ (w : List (LocalEntry Op)). Since c0 t w c) e1 k) in
       subst (λ (w : Config Op). Since c0 t P w) (sym (after_append c (taken_out t S) (taken_at t e.id e.mark))) (by_mark d r.0 r.1.0 r.1.1 P e r.1.2 q e.mark refl)
 
-  -- with an empty log, t owns nothing in G
+  -- A transaction with an empty local log owns no entry of the shared log.
   pub none_owned : (c : Config Op) → Left O place apart t [] c → Since c0 t [] c → c.shared ≡ without_owner t c0.shared
   none_owned c h k = sym (keep_all (λ (g : SharedEntry Op). not (g.owner =ⁿ t)) c.shared (λ g i. names_not g.owner t (λ n. owned g i n g.committed refl))) ∙ k.others
     where

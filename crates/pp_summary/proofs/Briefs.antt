@@ -72,7 +72,7 @@ to_any_at place o [] q h e = absurd h
 to_any_at {Op} place o (p ∷ l) q (inl h) e = or_left (place p.op == o) (any_at place o l) (eq-eqb (place p.op) o (ap (λ (w : Item Op). place w.op) (sym h) ∙ e))
 to_any_at place o (p ∷ l) q (inr h) e = or_right (place p.op == o) (any_at place o l) (to_any_at place o l q h e)
 
--- the parts of a missed entry
+-- The facts that make an entry a missed one.
 abbrev Parts : {Op : Type 0} → (Op → ℕ) → List (LocalEntry Op) → SharedEntry Op → Type 0
 Parts place L g = (g.committed ≡ true) × (any_at place (place g.op) (own_items L) ≡ true) × (stands_in L g.id ≡ false)
 
@@ -87,7 +87,7 @@ from_parts place L g p =
     and_true g.committed (any_at place (place g.op) (own_items L) && not (stands_in L g.id)) p.0
     (and_true (any_at place (place g.op) (own_items L)) (not (stands_in L g.id)) p.1 (ap not p.2))
 
--- its id is among the missed ones exactly if an entry is missed
+-- The id of an entry is among the missed ids exactly if the entry is missed.
 has_missed : {Op : Type 0} (place : Op → ℕ) (G : List (SharedEntry Op)) (L : List (LocalEntry Op)) → ((g h : SharedEntry Op) → Before g h G → g.id ≢ h.id) → (g : SharedEntry Op) → In g G →
     has_id g.id (missed place G L) ≡ is_missed place L g
 has_missed {Op} place G L d g i = same_bool (has_id g.id (missed place G L)) (is_missed place L g)
@@ -100,11 +100,11 @@ has_missed {Op} place G L d g i = same_bool (has_id g.id (missed place G L)) (is
 missed_none : {Op : Type 0} (place : Op → ℕ) (G : List (SharedEntry Op)) → missed place G [] ≡ []
 missed_none {Op} place G = ap (λ (w : List (SharedEntry Op)). shared_ids w) (filter_none (is_missed place []) G (λ g i. and_false g.committed))
 
--- an uncommitted entry is not missed
+-- An uncommitted entry at the end of the shared log is not missed.
 missed_wider : {Op : Type 0} (place : Op → ℕ) (G : List (SharedEntry Op)) (L : List (LocalEntry Op)) (t : Name) (p : Item Op) → missed place (G ++ as_shared t false p ∷ []) L ≡ missed place G L
 missed_wider {Op} place G L t p = ap (λ (w : List (SharedEntry Op)). shared_ids w) (filter-append (is_missed place L) G (as_shared t false p ∷ []) ∙ append-nil (filter (is_missed place L) G))
 
--- lookups
+-- The brief of an open transaction, if there is one.
 abbrev pub to_brief : {Op : Type 0} → (Op → ℕ) → List (SharedEntry Op) → Option (Tx Op) → Option (BriefTx Op)
 to_brief place G None = None
 to_brief place G (Some x) = Some (brief_tx place G x)
@@ -118,7 +118,7 @@ brief_of_is {Op} place G t (x ∷ xs) = ap (λ (w : Option (BriefTx Op)). cond (
     into true = refl
     into false = refl
 
--- the briefs after a change at one log
+-- The briefs of the transactions after a change of one local log.
 briefs_on : {Op : Type 0} (place : Op → ℕ) (t : Name) (f : List (LocalEntry Op) → List (LocalEntry Op)) (G G' : List (SharedEntry Op)) (h : BriefTx Op → BriefTx Op) (xs : List (Tx Op)) →
     ((w : Tx Op) → In w xs → w.name ≡ t → brief_tx place G' (relog f w) ≡ h (brief_tx place G w)) →
     ((w : Tx Op) → In w xs → w.name ≢ t → brief_tx place G' w ≡ brief_tx place G w) →
@@ -134,7 +134,7 @@ briefs_on {Op} place t f G G' h xs here others =
       | inr r ↦ ap (λ (z : Bool). brief_tx place G' (cond z (relog f w) w)) r.0 ∙ others w i r.1 ∙ sym (ap (λ (z : Bool). cond z (h (brief_tx place G w)) (brief_tx place G w)) r.0)
     ]
 
--- the briefs without a transaction
+-- The briefs of the transactions without one of them.
 briefs_without : {Op : Type 0} (place : Op → ℕ) (t : Name) (G G' : List (SharedEntry Op)) (h : BriefTx Op → BriefTx Op) (xs : List (Tx Op)) →
     ((w : Tx Op) → In w xs → w.name ≢ t → brief_tx place G' w ≡ h (brief_tx place G w)) →
     map (brief_tx place G') (without_tx t xs) ≡ map h (without_brief t (map (brief_tx place G) xs))
@@ -205,7 +205,7 @@ module _ {Op State : Type 0} (O : Object Op State) (place : Op → ℕ) (apart :
       (λ t g. from t (λ x. Unit {0}) (λ x. Unit {0}) (λ x k. k) g)
       (λ t g. from t (λ x. Unit {0}) (λ x. Unit {0}) (λ x k. k) g)
 
-  -- an op record
+  -- What a transaction misses after an op record.
   op_missed : (t : Name) (id : ℕ) (op : Op) (x : Tx Op) (d : Config Op) (g : Grown place c t id op x d) (h : SharedEntry Op) → In h c.shared →
       is_missed place g.log h ≡ (has_id h.id (missed place c.shared x.local) && not (place h.op == place op))
   op_missed t id op x d g h i = same_bool (is_missed place g.log h) (has_id h.id (missed place c.shared x.local) && not (place h.op == place op)) to_old to_new
@@ -263,7 +263,7 @@ module _ {Op State : Type 0} (O : Object Op State) (place : Op → ℕ) (apart :
           ∙ ap (λ (w : List (SharedEntry Op)). shared_ids w) (filter_same (is_missed place g.log) (λ (h : SharedEntry Op). has_id h.id (missed place c.shared x.local) && not (place h.op == place op)) c.shared (op_missed t id op x d g)))
           ∙ ap (λ (m : List (Item Op)). record { name = x.name; thread = x.thread; body = x.body; own = m; missed = M }) g.own)
 
-  -- a commit
+  -- What another transaction misses after a commit.
   commit_missed : (t : Name) (x : Tx Op) → In x c.opened → x.name ≡ t → (y : Tx Op) → In y c.opened → y.name ≢ t → (h : SharedEntry Op) → In h c.shared →
       is_missed place y.local (commit t h) ≡ (has_id h.id (missed place c.shared y.local) || ((h.owner =ⁿ t) && any_at place (place h.op) (own_items y.local)))
   commit_missed t x ix nx y iy ny h i =
@@ -336,7 +336,7 @@ module _ {Op State : Type 0} (O : Object Op State) (place : Op → ℕ) (apart :
           ∙ ap (λ (w : List (SharedEntry Op)). shared_ids w) (filter_same (λ (h : SharedEntry Op). is_missed place y.local (commit t h))
           (λ (h : SharedEntry Op). has_id h.id (missed place c.shared y.local) || ((h.owner =ⁿ t) && any_at place (place h.op) (own_items y.local))) c.shared (commit_missed t x f.0 f.1 y i n))
 
-  -- what is left when the log of t is taken back
+  -- The brief after the local log of t was taken back.
   taken_back : (t : Name) (x : Tx Op) → tx t c.opened ≡ Some x →
       after_from c (taken_out t x.local) ≡ record { names = c.names; ids = c.ids; opened = on_log t (λ l. []) c.opened; shared = without_owner t c.shared; done = c.done }
   taken_back t x e =

@@ -1,4 +1,4 @@
--- What was committed at each place.
+-- The commits at each place.
 use Rattle.std.specs.Prelude.{◌≡◌, ◌==◌, ℕ, List, [], ◌∷◌, ◌++◌}
 use Rattle.std.proofs.Common.{ap, sym, ◌∙◌, append_assoc}
 use Rattle.std.proofs.lemmas.Bool.{eqb-true}
@@ -11,7 +11,7 @@ use Rattle.pp_model.specs.Sound.{serial_items}
 use Rattle.pp_model.proofs.Lists.{from_filter, from_map}
 use Rattle.pp_summary.specs.Shown.{ids_at, item_ids, items_at}
 
--- An id at a place is that of an item there.
+-- An id among those of the items at a place is the id of such an item.
 pub item_of_id : {Op : Type 0} (place : Op → ℕ) (l : List (Item Op)) (q id : ℕ) → In id (ids_at place q l) → (p : Item Op) × In p l × (p.id ≡ id) × (place p.op ≡ q)
 item_of_id {Op} place l q id i =
     let m = from_map (λ (p : Item Op). p.id) id (items_at place q l) i in
@@ -24,7 +24,7 @@ ids_append {Op} place q k l =
     ap (λ (w : List (Item Op)). item_ids w) (filter-append (λ (p : Item Op). place p.op == q) k l)
     ∙ map-append (λ (p : Item Op). p.id) (items_at place q k) (items_at place q l)
 
--- One more transaction is committed.
+-- With one more committed transaction, its items are at the end of the serial run.
 pub serial_more : {Op : Type 0} (D : List (CommittedTx Op)) (d : CommittedTx Op) → serial_items (D ++ d ∷ []) ≡ serial_items D ++ d.entries
 serial_more [] d = append-nil d.entries
 serial_more {Op} (c ∷ D) d = ap (λ (z : List (Item Op)). c.entries ++ z) (serial_more D d) ∙ sym (append_assoc c.entries (serial_items D) d.entries)

@@ -1,4 +1,4 @@
--- What places with counts say of each place, also with one more, or with another count of one.
+-- Lookups in lists of places with counts, and how they change with one more place or with another count.
 use Rattle.std.specs.Prelude.{◌≡◌, ◌≢◌, ◌<◌, ◌≤◌, ◌+◌, ℕ, zero, suc, Bool, true, false, cond, nat_eq, List, [], ◌∷◌, ◌++◌, drop, take, length, slice_get, None, Some, IsSome}
 use Rattle.std.specs.List.{insert}
 use Rattle.std.specs.Map.{keys_of, lookup, set_value}
@@ -48,7 +48,7 @@ own_places_more place count entries none own =
       | inr (inr (i, inr h)) ↦ absurd h
     ])
 
--- if no entry of the front is found, the rest decides
+-- If a lookup finds nothing in the first part of a list, the rest decides.
 pub lookup_behind : (test : ℕ → Bool) (front rest : List (ℕ × ℕ)) → lookup test front ≡ None → lookup test (front ++ rest) ≡ lookup test rest
 lookup_behind test [] rest none = refl
 lookup_behind test (e ∷ front) rest none = by (test e.0) none (λ h. lookup_behind test front rest h)
@@ -58,7 +58,7 @@ lookup_behind test (e ∷ front) rest none = by (test e.0) none (λ h. lookup_be
     by true h _ = absurd (cc)
     by false h then = then h
 
--- one more entry that is of another place
+-- A lookup that finds nothing in the first k entries, and an entry of another place next, finds nothing in the first k + 1.
 pub lookup_next : (place : ℕ) (entries : List (ℕ × ℕ)) (k : ℕ) → k < length entries → ((get_or entries k (0, 0)).0 ≡ place → ⊥) →
     lookup (nat_eq place) (take k entries) ≡ None → lookup (nat_eq place) (take (k + 1) entries) ≡ None
 lookup_next place entries k within other none =
@@ -71,13 +71,13 @@ insert_last : (entries : List (ℕ × ℕ)) (e : ℕ × ℕ) → insert entries 
 insert_last [] e = refl
 insert_last (x ∷ entries) e = ap (λ (l : List (ℕ × ℕ)). x ∷ l) (insert_last entries e)
 
--- a place more
+-- A lookup after one more place was added at the end.
 pub lookup_more : (place count : ℕ) (entries : List (ℕ × ℕ)) → lookup (nat_eq place) entries ≡ None → (q : ℕ) → lookup (nat_eq q) (entries ++ (place, count) ∷ []) ≡ cond (nat_eq place q) (Some count) (lookup (nat_eq q) entries)
 lookup_more place count entries none q =
     ap (λ (l : List (ℕ × ℕ)). lookup (nat_eq q) l) (sym (insert_last entries (place, count)))
     ∙ lookup-insert nat_eq_equiv place count q entries (length entries) (none_passes_from_lookup (nat_eq place) entries none)
 
--- the first entry of a place is the one that is found, and that gets another count
+-- The first entry of a place is the one that a lookup finds, and that gets another count.
 first_is : (place n : ℕ) (entries : List (ℕ × ℕ)) (k count : ℕ) → slice_get entries k ≡ Some (place, count) → lookup (nat_eq place) (take k entries) ≡ None →
     (lookup (nat_eq place) entries ≡ Some count) × (set entries k (place, n) ≡ set_value (nat_eq place) entries n)
 first_is place n [] k count here before = absurd (cc)
@@ -104,13 +104,13 @@ own_places_set place count entries k first own =
     let is = first_is place count entries k first.count first.here first.before in
     subst (λ (l : List ℕ). (p q : ℕ) → Before p q l → p ≢ q) (sym (ap (λ (l : List (ℕ × ℕ)). keys_of l) is.1 ∙ keys_set place count entries)) own
 
--- the count that is read where a place is first is that of the place
+-- The count in the first entry of a place is the count that a lookup of the place finds.
 pub lookup_read : (place : ℕ) (entries : List (ℕ × ℕ)) (k : ℕ) (e : ℕ × ℕ) → IsFirst place entries k → e ≡ get_or entries k e → Some e.1 ≡ lookup (nat_eq place) entries
 lookup_read place entries k e first is =
     ap (λ (p : ℕ × ℕ). Some p.1) (is ∙ get_or_from_slice_get entries k (place, first.count) e first.here)
     ∙ sym (first_is place 0 entries k first.count first.here first.before).0
 
--- another count of a place
+-- A lookup after the first entry of a place got another count.
 pub lookup_other_count : (place count : ℕ) (entries : List (ℕ × ℕ)) (k : ℕ) → IsFirst place entries k → (q : ℕ) → lookup (nat_eq q) (set entries k (place, count)) ≡ cond (nat_eq place q) (Some count) (lookup (nat_eq q) entries)
 lookup_other_count place count entries k first q =
     let is = first_is place count entries k first.count first.here first.before in

@@ -29,7 +29,7 @@ use Rattle.pp_summary.proofs.Back.{Left, all_back}
 use Rattle.pp_records.proofs.Ends.{after_append, runs_append}
 use Rattle.pp_model.proofs.Names.{name_or_not}
 
--- what holds of the five records of a boosted run
+-- A property of the five kinds of records of a boosted run is a property of each record of such a run.
 pub by_record : {Op : Type 0} (P : RunRecord Op → Type 0) → ((t p : Name) (w : Option Tree) → P (records.Plain (Begin t p w))) →
     ((t : Name) (id : ℕ) (op : Op) → P (records.Op t id op)) → ((t : Name) → P (records.Commit t)) → ((t : Name) → P (records.Abort t)) →
     ((t : Name) → P (records.Retry t)) → (r : RunRecord Op) → IsBoosted r → P r
@@ -55,7 +55,7 @@ by_record P b o k a y (records.Depend t u) s = absurd s
 by_record P b o k a y (records.Publish t) s = absurd s
 by_record P b o k a y (records.DropSource t u) s = absurd s
 
--- with no open transaction, the logs are boosted
+-- The configuration before the first record is boosted if the start meets its criteria.
 pub none_open : {Op State : Type 0} (O : Object Op State) (place : Op → ℕ) (h : Option (Start Op)) → StartMeets O h → Boosted O place (first h)
 none_open O place None h = record { sound = start_sound O None h; follows = λ x i. absurd i; anchored = λ x i. absurd i }
 none_open O place (Some z) h = record { sound = start_sound O (Some z) h; follows = λ x i. absurd i; anchored = λ x i. absurd i }
@@ -64,7 +64,7 @@ not_open : {A : Type 0} (o : Option A) (F : A → List (Type 0)) → o ≡ None 
 not_open {A} o F e h = (subst (λ (w : Option A). FirstFalse (there w F) 0) e h).0
 
 module _ {Op State : Type 0} (O : Object Op State) (place : Op → ℕ) (apart : PlacesSwap O place) where
-  -- an empty log
+  -- The QUIT of a transaction with an empty local log meets its criteria.
   quit_holds : (t : Name) (c : Config Op) → Left O place apart t [] c → Meets O c (Quit t)
   quit_holds t c h = there_is (tx t c.opened) _ h.1.0 h.1.1 (h.1.2, refl)
 
@@ -96,7 +96,7 @@ module _ {Op State : Type 0} (O : Object Op State) (place : Op → ℕ) (apart :
       by y i (inr n) = h.0.anchored y i n
 
   module _ (c : Config Op) (b : Boosted O place c) where
-    -- All entries of a local log that follows the shared log can be taken back from the end.
+    -- The steps that take a whole local log back meet their criteria, and leave it empty.
     pub whole : (t : Name) (x : Tx Op) → tx t c.opened ≡ Some x → RunsFrom O c (taken_out t x.local) × Left O place apart t [] (after_from c (taken_out t x.local))
     whole t x e = all_back O place apart t x.local [] c (as_boosted_but O place t c b, (x, e, refl))
 

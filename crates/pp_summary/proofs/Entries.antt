@@ -1,4 +1,4 @@
--- Which ids are in a local log, and what is allowed of its operations.
+-- Which ids are in a local log, and which operations are allowed after its operations.
 use Rattle.std.specs.Prelude.{◌≡◌, ◌≢◌, ◌⊎◌, ℕ, ◌==◌, Bool, true, false, not, ◌||◌, List, [], ◌∷◌, ◌++◌, map}
 use Rattle.std.proofs.Common.{refl, sym, ap, subst, ◌∙◌, append_assoc}
 use Rattle.std.proofs.lemmas.Bool.{eqb-true, eq-eqb}
@@ -20,13 +20,13 @@ pub or_right : (a b : Bool) → b ≡ true → (a || b) ≡ true
 or_right true b e = refl
 or_right false b e = e
 
--- The id of an entry of a local log is found there.
+-- `stands_in` finds the id of each entry of a local log.
 pub is_there : {Op : Type 0} (id : ℕ) (L : List (LocalEntry Op)) (e : LocalEntry Op) → In e L → e.id ≡ id → stands_in L id ≡ true
 is_there id [] e i n = absurd i
 is_there {Op} id (a ∷ L) e (inl i) n = ap (λ (b : Bool). b || stands_in L id) (eq-eqb a.id id (ap (λ (w : LocalEntry Op). w.id) (sym i) ∙ n))
 is_there id (a ∷ L) e (inr i) n = or_right (a.id == id) (stands_in L id) (is_there id L e i n)
 
--- An id that is found in a local log is the id of an entry there.
+-- An id that `stands_in` finds in a local log is the id of an entry there.
 pub entry_in : {Op : Type 0} (id : ℕ) (L : List (LocalEntry Op)) → stands_in L id ≡ true → (e : LocalEntry Op) × In e L × (e.id ≡ id)
 entry_in id [] h = absurd (cc)
 entry_in id (a ∷ L) h = elim (or_true (a.id == id) (stands_in L id) h) [
@@ -34,7 +34,7 @@ entry_in id (a ∷ L) h = elim (or_true (a.id == id) (stands_in L id) h) [
   | inr k ↦ let r = entry_in id L k in (r.0, inr r.1, r.2)
 ]
 
--- An id that no entry of a local log has is not found there.
+-- `stands_in` does not find an id that no entry of a local log has.
 pub not_there : {Op : Type 0} (id : ℕ) (L : List (LocalEntry Op)) → ((e : LocalEntry Op) → In e L → e.id ≡ id → ⊥) → stands_in L id ≡ false
 not_there id L n = go (stands_in L id) refl
   where
@@ -62,7 +62,7 @@ pub ops_local : {Op : Type 0} (L : List (LocalEntry Op)) → ops (map item L) �
 ops_local [] = refl
 ops_local {Op} (e ∷ L) = ap (λ (w : List Op). e.op ∷ w) (ops_local L)
 
--- o may be drawn before entries that swap with it
+-- An operation that is allowed after entries that swap with it is allowed before them.
 drawn : {Op State : Type 0} (O : Object Op State) (p : List (SharedEntry Op)) (o : Op) (before after : List Op) →
     ((q : SharedEntry Op) → In q p → Swaps O q.op o) →
     Allowed O (before ++ (shared_ops p ++ (o ∷ after))) → Allowed O (before ++ (o ∷ (shared_ops p ++ after)))

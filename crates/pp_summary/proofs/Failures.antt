@@ -12,7 +12,7 @@ use Rattle.pp_records.proofs.Ends.{bare_append, bare_on_line, heads, length_bare
 use Rattle.pp_records.proofs.Whole.{joined_more, led_config, unbegun}
 use Rattle.pp_summary.specs.Failures.{FailsIn, FailureLaw, IsRejectedOn, all_steps, standing_after}
 
--- the first step that fails lies among the first steps, or they all hold
+-- A verdict on two lists of steps, one after the other: the first list has the first step that fails, or all its steps meet their criteria.
 pub cut_verdict : {Op State : Type 0} (O : Object Op State) (ss rest : List (Step Op)) (i : ℕ) (c : Config Op) (v : Verdict) → IsVerdictFrom O i c (ss ++ rest) v →
     (RunsFrom O c ss × IsVerdictFrom O (i + length ss) (after_from c ss) rest v)
     ⊎ ((RunsFrom O c ss → ⊥) × ((step n : ℕ) × (v ≡ Rejected step (suc n)) × (i ≤ step) × (step < i + length ss)))
@@ -26,7 +26,7 @@ cut_verdict {Op} O (s ∷ ss) rest i c v (inr h) = elim (cut_verdict O ss rest (
   | inr r ↦ inr ((λ k. r.0 k.1), (r.1.0, r.1.1, r.1.2, (let e : suc i ≤ r.1.0 = r.1.3 in omega arith), (let e : r.1.0 < suc i + length ss = r.1.4 in omega arith)))
 ]
 
--- two cuts of one list: the same, or one is behind the other
+-- Two cuts of one list are the same, or one of them comes after the other.
 cuts : {A : Type 0} (b c : List A) (x y : A) (xs ys : List A) → b ++ x ∷ xs ≡ c ++ y ∷ ys → ((x ≡ y) × (b ≡ c)) ⊎ ((z : List A) × (c ≡ b ++ x ∷ z)) ⊎ ((z : List A) × (b ≡ c ++ y ∷ z))
 cuts [] [] x y xs ys e = inl (heads x y xs ys e, refl)
 cuts {A} [] (d ∷ c) x y xs ys e = inr (inl (c, ap (λ (w : A). w ∷ c) (sym (heads x d xs (c ++ y ∷ ys) e))))
@@ -39,7 +39,7 @@ cuts {A} (d ∷ b) (g ∷ c) x y xs ys e =
       | inr (inr h) ↦ inr (inr (h.0, ap (λ (w : List A). d ∷ w) h.1 ∙ ap (λ (w : A). w ∷ (c ++ y ∷ h.0)) k))
     ]
 
--- a step behind the first ones, and among the next, is there, on their line
+-- A step at a position after the first list and within the second has its line.
 pub lined_there : {A : Type 0} (xs : List (Lined A)) (line : ℕ) (ss : List A) (rest : List (Lined A)) (k : ℕ) → length xs ≤ k → k < length xs + length ss →
     (s : Lined A) × (slice_get (xs ++ (on_line line ss ++ rest)) k ≡ Some s) × (s.line ≡ line)
 lined_there [] line [] rest k l m = absurd (omega arith)
@@ -49,7 +49,7 @@ lined_there (x ∷ xs) line ss rest zero l m = absurd (omega arith)
 lined_there (x ∷ xs) line ss rest (suc k) l m = lined_there xs line ss rest k (omega arith) (omega arith)
 
 module _ {F R Op State : Type 0} (O : Object Op State) (T : Translation F R Op) (h : Option (Start Op)) where
-  -- the records up to one, and those behind it
+  -- The records before r, and those after it.
   module _ (rs more : Records R) (r : Lined R) where
     abbrev d : Standing F Op
     d = standing_after T h rs
@@ -75,7 +75,7 @@ module _ {F R Op State : Type 0} (O : Object Op State) (T : Translation F R Op) 
     config_is : d.config ≡ after_from (first h) xs
     config_is = led_config O T (outset T h) rs
 
-    -- if each step holds, its own do
+    -- If each step of the run meets its criteria, each step of the record does.
     own_hold : RunsFrom O (first h) (bare (all_steps T h (rs ++ r ∷ more))) → RunsFrom O d.config e
     own_hold k =
         subst (λ (c : Config Op). RunsFrom O c e) (sym config_is)
@@ -100,7 +100,7 @@ module _ {F R Op State : Type 0} (O : Object Op State) (T : Translation F R Op) 
             let s = lined_there (all_steps T h rs) r.line e (joined_steps T (after_record T d r.what) more) i (omega arith) (omega arith) in
             (i, n, is, (s.0, subst (λ (z : LinedSteps Op). slice_get z i ≡ Some s.0) (sym steps_are) s.1, s.2))
 
-  -- one record more whose steps hold
+  -- If all steps of the records so far and of the next record meet their criteria, all steps with this record do.
   pub hold_next : (rs : Records R) (r : Lined R) → RunsFrom O (first h) (bare (all_steps T h rs)) → RunsFrom O (standing_after T h rs).config (steps_at T (standing_after T h rs) r.what) →
       RunsFrom O (first h) (bare (all_steps T h (rs ++ r ∷ [])))
   hold_next rs r a b =
@@ -129,7 +129,7 @@ module _ {F R Op State : Type 0} (O : Object Op State) (T : Translation F R Op) 
         fails = k.fails;
       }
 
-  -- the first record of the rest fails, or the next ones do
+  -- If not all steps of the records meet their criteria, one of the records fails.
   some : (rs before : Records R) → StartMeets O h → RunsFrom O (first h) (bare (all_steps T h before)) → (RunsFrom O (first h) (bare (all_steps T h (before ++ rs))) → ⊥) →
       ((r : Lined R) → FailsIn O T h (before ++ rs) r → ⊥) → ⊥
   some [] before begun hold bad nowhere = bad (subst (λ (z : Records R). RunsFrom O (first h) (bare (all_steps T h z))) (sym (append-nil before)) hold)

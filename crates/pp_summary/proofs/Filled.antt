@@ -12,7 +12,7 @@ use Rattle.pp_model.proofs.NameLists.{names_turned}
 use Rattle.pp_summary.specs.Brief.{BriefTx, at_brief, brief_of, without_brief}
 use Rattle.pp_summary.specs.Shown.{filled, in_slot, open_in}
 
--- To set the value of a name that is there keeps the names.
+-- Setting the value of a name leaves the list of names the same.
 pub keys_stay : {X : Type 0} (t : Name) (es : List (Name × X)) (x : X) → keys_of (set_value (λ n. t =ⁿ n) es x) ≡ keys_of es
 keys_stay t [] x = refl
 keys_stay {X} t (e ∷ es) x = by (t =ⁿ e.0) (keys_stay t es x)
@@ -29,7 +29,7 @@ begun_is (e ∷ es) t = elim (names_tell t e.0) [
   | inr r ↦ ap (λ (b : Bool). is_some (cond b (Some e.1) (lookup (λ n. t =ⁿ n) es))) r.0 ∙ begun_is es t ∙ sym (ap (λ (b : Bool). b || list_any (λ n. n =ⁿ t) (keys_of es)) (sym (names_turned t e.0) ∙ r.0))
 ]
 
--- what a slot holds, after one was changed
+-- After the value of a name was set, each slot is an old one or has the new value.
 pub in_set : {X : Type 0} (t : Name) (es : List (Name × X)) (x : X) (e : Name × X) → In e (set_value (λ n. t =ⁿ n) es x) → In e es ⊎ (e.1 ≡ x)
 in_set t [] x e h = absurd h
 in_set {X} t (d ∷ es) x e h = by (t =ⁿ d.0) h (λ k. in_set t es x e k)
@@ -40,7 +40,7 @@ in_set {X} t (d ∷ es) x e h = by (t =ⁿ d.0) h (λ k. in_set t es x e k)
     by false (inl k) r = inl (inl k)
     by false (inr k) r = elim (r k) [ inl j ↦ inl (inr j) | inr j ↦ inr j ]
 
--- the names in the slots are told apart
+-- No name has two slots.
 abbrev pub Apart : {X : Type 0} → List (Name × X) → Type 0
 Apart es = (s t : Name) → Before s t (keys_of es) → s ≢ t
 
@@ -50,7 +50,7 @@ in_keys {X} (d ∷ es) e (inl h) = inl (ap (λ (w : Name × X). w.0) h)
 in_keys (d ∷ es) e (inr h) = inr (in_keys es e h)
 
 module _ {A Op : Type 0} (t : Name) (f h : Name → A → BriefTx Op) (named : (n : Name) (x : A) → (f n x).name ≡ n) where
-  -- all are changed
+  -- If the view of each transaction in a slot changes by g, the list of views changes by g.
   pub filled_map : (g : BriefTx Op → BriefTx Op) (es : List (Name × Option A)) → ((n : Name) (x : A) → In (n, Some x) es → h n x ≡ g (f n x)) → filled h es ≡ map g (filled f es)
   filled_map g [] k = refl
   filled_map g ((n, None) ∷ es) k = filled_map g es (λ m x i. k m x (inr i))
@@ -62,7 +62,7 @@ module _ {A Op : Type 0} (t : Name) (f h : Name → A → BriefTx Op) (named : (
   off_t : (g : BriefTx Op → BriefTx Op) (y : BriefTx Op) → y.name ≢ t → cond (y.name =ⁿ t) (g y) y ≡ y
   off_t g y e = elim (names_tell y.name t) [ inl r ↦ absurd (e r.1) | inr r ↦ ap (λ (b : Bool). cond b (g y) y) r.0 ]
 
-  -- what the slot of t holds is changed, and the others stay
+  -- If the transaction of t changes, its view changes, and the other views stay.
   pub filled_set : (g : BriefTx Op → BriefTx Op) (a b : A) (es : List (Name × Option A)) → Apart es → lookup (λ n. t =ⁿ n) es ≡ Some (Some a) →
       h t b ≡ g (f t a) → ((n : Name) (x : A) → In (n, Some x) es → n ≢ t → h n x ≡ f n x) →
       filled h (set_value (λ n. t =ⁿ n) es (Some b)) ≡ at_brief t g (filled f es)
@@ -111,7 +111,7 @@ module _ {A Op : Type 0} (t : Name) (f h : Name → A → BriefTx Op) (named : (
   none_there ((n, None) ∷ es) k = none_there es (λ m x i. k m x (inr i))
   none_there ((n, Some x) ∷ es) k = keeps (f n x) (filled f es) (λ z. k n x (inl refl) (sym (named n x) ∙ z)) ∙ ap (λ (w : List (BriefTx Op)). f n x ∷ w) (none_there es (λ m y i. k m y (inr i)))
 
-  -- the slot of t is emptied, and the others are changed
+  -- If the slot of t is emptied, its view is left out, and the other views change by g.
   pub filled_out : (g : BriefTx Op → BriefTx Op) (es : List (Name × Option A)) → Apart es → ((n : Name) (x : A) → In (n, Some x) es → n ≢ t → h n x ≡ g (f n x)) →
       filled h (set_value (λ n. t =ⁿ n) es None) ≡ map g (without_brief t (filled f es))
   filled_out g [] d k = refl
@@ -149,7 +149,7 @@ module _ {A Op : Type 0} (t : Name) (f h : Name → A → BriefTx Op) (named : (
     | inr r ↦ ap (λ (b : Bool). cond b (Some (f n x)) (brief_of t (filled f es))) r.0 ∙ none_found es (λ m y i. k m y (inr i))
   ]
 
-  -- what is found at t
+  -- The view that is found at t is that of the open transaction in the slot of t.
   pub found_is : (es : List (Name × Option A)) → Apart es → brief_of t (filled f es) ≡ option_map (f t) (open_in t es)
   found_is [] d = refl
   found_is ((n, o) ∷ es) d = elim (names_tell t n) [
@@ -174,14 +174,14 @@ module _ {A Op : Type 0} (t : Name) (f h : Name → A → BriefTx Op) (named : (
   filled_more ((m, None) ∷ es) n x = filled_more es n x
   filled_more ((m, Some y) ∷ es) n x = ap (λ (w : List (BriefTx Op)). f m y ∷ w) (filled_more es n x)
 
--- an open transaction among the others
+-- The view x of t is in the list, between others.
 pub record IsAmong {Op : Type 0} (t : Name) (l : List (BriefTx Op)) (x : BriefTx Op) : Type 0 where
   pub before : List (BriefTx Op)
   pub after : List (BriefTx Op)
   pub is : l ≡ before ++ x ∷ after
   pub without : without_brief t l ≡ before ++ after
 
--- An open transaction that is found is among the others, and can be left out there.
+-- A view that is found at a name is in the list, and can be left out there.
 pub among : {Op : Type 0} (t : Name) (l : List (BriefTx Op)) (x : BriefTx Op) → ((y z : BriefTx Op) → Before y z l → y.name ≢ z.name) → brief_of t l ≡ Some x → IsAmong t l x
 among t [] x d h = absurd (cc)
 among {Op} t (y ∷ l) x d h = elim (names_tell y.name t) [

@@ -1,10 +1,10 @@
--- What swaps in one shape that both operations fit swaps in each.
+-- Two operations that swap in one shape that both fit swap in each shape.
 use Rattle.std.proofs.Common.{◌≡◌, IsTrue, List, Option, None, Some, refl, subst}
 use Rattle.pp_kind.specs.Object.{Object, IsLawful, IsRefutedBy, Swaps, SwapsIn}
 use Rattle.pp_kind.proofs.Lists.{refuted_nowhere}
 
 module _ {Shape State Op Undo : Type 0} (o : Object Shape State Op Undo) where
-  -- what swaps in a shape that both fit swaps in each
+  -- Two operations that swap in one shape that both fit swap in each shape.
   pub swaps_everywhere : IsLawful o → (shape : Shape) (a b : Op) → IsTrue (o.fits shape a) → IsTrue (o.fits shape b) → SwapsIn o shape a b → Swaps o a b
   swaps_everywhere laws shape a b f g h = by (o.refuting a b) refl
     where

@@ -23,7 +23,7 @@ use Rattle.pp_summary.proofs.Deciding.{quick}
 use Rattle.pp_summary.proofs.HeldOf.{done_stands}
 
 module _ {Shape State Op Undo : Type 0} (o : Object Shape State Op Undo) (place : Op → ℕ) (apart : (shape : Shape) → PlacesSwap (rules_of o shape) place) where
-  -- a Quick that keeps nothing
+  -- A Quick that keeps nothing.
   module _ (v : Kept Shape Op) (slots : v.slots.entries ≡ []) (threads : v.threads.keys ≡ []) (ids : v.ids ≡ []) (shared : v.shared ≡ (v.shape, [])) (committed : v.committed ≡ []) (commits : v.commits.items ≡ []) where
     opened_none : filled (shown_tx place v.shared.1 v.commits.items) v.slots.entries ≡ []
     opened_none = ap (λ (z : List (Name × Option (OpenTx (List (Item Op))))). filled (shown_tx place v.shared.1 v.commits.items) z) slots
@@ -58,7 +58,7 @@ module _ {Shape State Op Undo : Type 0} (o : Object Shape State Op Undo) (place 
       allowed_front (rules_of o shape) (o.start shape) (serial_ops c.done) (shared_ops (uncommitted c.shared) ++ [])
       (serial_law (rules_of o shape) c.shared c.done [] (ordered (rules_of o shape) c s) (subst (λ (z : List Op). IsAllowed o shape z) (sym (append-nil (shared_ops c.shared))) s.shared_allowed))
 
-  -- the committed transactions
+  -- The serial run of a summary is allowed.
   pub done_allowed : (v : Kept Shape Op) → KeepsQuick o place v → IsAllowed o v.shape (serial_ops v.committed)
   done_allowed v h =
       let k = h.is_held in

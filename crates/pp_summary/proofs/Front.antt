@@ -17,7 +17,7 @@ use Rattle.pp_summary.proofs.Entries.{same_or_not}
 
 module _ {Op State : Type 0} (O : Object Op State) (place : Op → ℕ) (apart : PlacesSwap O place)
     (c : Config Op) (s : Sound O c) (x : Tx Op) (ix : In x c.opened) (f : Follows O place c.shared x.local) where
-  -- each entry of the log is in G
+  -- Each entry of the local log is in the shared log.
   pub stands : (e : LocalEntry Op) → In e x.local → (n : Name) × (b : Bool) × In (as_shared n b (item e)) c.shared
   stands e i = elim (s.marks x ix e i) [
     | inl o ↦ (x.name, false, s.pushed_stand x ix e i (f.own_pushed e i o.0))
@@ -32,7 +32,7 @@ module _ {Op State : Type 0} (O : Object Op State) (place : Op → ℕ) (apart :
   pub is_item : (e : LocalEntry Op) → In e x.local → (g : SharedEntry Op) → In g c.shared → g.id ≡ e.id → shared_item g ≡ item e
   is_item e i g j n = let r = stands e i in ap shared_item (same g (as_shared r.0 r.1 (item e)) j r.2 n)
 
-  -- an uncommitted entry before one of the log, and not before it in the log, has another owner
+  -- An uncommitted entry that is before an entry of the log only in the shared log has another owner.
   pub two_owners : (g h : SharedEntry Op) → Before g h c.shared → g.committed ≡ false →
       (b : LocalEntry Op) → In b x.local → h.id ≡ b.id → (ComesBefore g.id b.id x.local → ⊥) → g.owner ≢ h.owner
   two_owners g h i u b ib e un q =
@@ -65,7 +65,7 @@ module _ {Op State : Type 0} (O : Object Op State) (place : Op → ℕ) (apart :
                 (subst (λ (w : SharedEntry Op). Before w g c.shared) k0 (subst (λ (w : SharedEntry Op). Before k.0 w c.shared) k1 k.2))
           ]
 
-  -- an entry that is in G before one of the log, and not before it in the log, swaps with it
+  -- An entry that is before an entry of the log only in the shared log swaps with it.
   pub turn : (g h : SharedEntry Op) → Before g h c.shared → (b : LocalEntry Op) → In b x.local → h.id ≡ b.id →
       (ComesBefore g.id b.id x.local → ⊥) → Swaps O g.op h.op
   turn g h i b ib e un = by g.committed refl
@@ -80,7 +80,7 @@ module _ {Op State : Type 0} (O : Object Op State) (place : Op → ℕ) (apart :
       ])
       by false u = s.uncommitted_swap g h i (two_owners g h i u b ib e un) u
 
-  -- an entry of the rest is not in the log
+  -- An entry of the rest is not in the log.
   absent : (g : SharedEntry Op) → not (stands_in x.local g.id) ≡ true → (a : LocalEntry Op) → In a x.local → a.id ≡ g.id → ⊥
   absent g n a i e = let z : true ≡ false = sym (is_there g.id x.local a i e) ∙ was_false (stands_in x.local g.id) n in cc
 
@@ -157,7 +157,7 @@ module _ {Op State : Type 0} (O : Object Op State) (place : Op → ℕ) (apart :
               not_both (λ (w : LocalEntry Op). w.id) L (s.local_ids x ix) b a i
               (subst (λ (w : LocalEntry Op). Before w b L) ea (subst (λ (w : LocalEntry Op). Before z.0 w L) eb z.2))
 
-  -- what is allowed after G is allowed after the log and the rest
+  -- An operation list that is allowed after the shared log is allowed after the local log and then the rest.
   pub viewed : (k : List Op) → Allowed O (shared_ops c.shared ++ k) → Allowed O (local_ops x.local ++ (shared_ops (rest x.local c.shared) ++ k))
   viewed k h =
       let R = rest x.local c.shared in
@@ -168,7 +168,7 @@ module _ {Op State : Type 0} (O : Object Op State) (place : Op → ℕ) (apart :
       ∙ ap (λ (w : List Op). w ++ ops (map shared_item R)) (ops_local x.local) ∙ ap (λ (w : List Op). local_ops x.local ++ w) (ops_items R) in
       subst (λ (w : List Op). Allowed O w) (append_assoc (local_ops x.local) (shared_ops R) k) (subst (λ (w : List Op). Allowed O (w ++ k)) e h2)
 
-  -- an entry of the rest that may be drawn before those of the rest before it is allowed after the log
+  -- An entry of the rest that swaps with those before it in the rest is allowed after the local log.
   pub next_allowed : (g : SharedEntry Op) → In g (rest x.local c.shared) → ((q : SharedEntry Op) → Before q g (rest x.local c.shared) → Swaps O q.op g.op) →
       Allowed O (local_ops x.local ++ g.op ∷ [])
   next_allowed g i sw =
@@ -180,7 +180,7 @@ module _ {Op State : Type 0} (O : Object Op State) (place : Op → ℕ) (apart :
       (λ q j. sw q (subst (λ (w : List (SharedEntry Op)). Before q g w) (sym r.2) (before_across q g r.0 (g ∷ r.1) j (inl refl))))
       (subst (λ (w : List Op). Allowed O (local_ops x.local ++ w)) e h1)
 
-  -- what is allowed after G, and may be drawn before the rest, is allowed after the log
+  -- An operation that is allowed after the shared log, and swaps with the rest, is allowed after the local log.
   pub end_allowed : (o : Op) → ((q : SharedEntry Op) → In q (rest x.local c.shared) → Swaps O q.op o) → Allowed O (shared_ops c.shared ++ o ∷ []) →
       Allowed O (local_ops x.local ++ o ∷ [])
   end_allowed o sw h = drawn_front O (rest x.local c.shared) o (local_ops x.local) [] sw (viewed (o ∷ []) h)

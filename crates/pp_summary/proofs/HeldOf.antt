@@ -1,4 +1,4 @@
--- What holds of the brief of a boosted configuration.
+-- Facts about the brief of a boosted configuration.
 use Rattle.std.specs.Prelude.{◌≡◌, ◌≢◌, ℕ, Bool, true, false, not, List, [], map, Option, None, Some, IsTrue}
 use Rattle.std.proofs.Common.{refl, sym, ap, subst, ◌∙◌}
 use mathlib.Core.Logic.{inl, inr}
@@ -33,11 +33,11 @@ use Rattle.pp_summary.proofs.Lookups.{done_by_other}
 use Rattle.pp_summary.proofs.Deciding.{quick}
 use Rattle.pp_summary.proofs.Relog.{filter_same, same_bool}
 
--- operations of different places swap
+-- Operations at different places swap, in each shape.
 pub apart_of : {Shape State Op Undo : Type 0} (o : Object Shape State Op Undo) (place : Op → ℕ) (SameAt : ℕ → State → State → Type 0) → IsPlaced o place SameAt → (shape : Shape) → PlacesSwap (rules_of o shape) place
 apart_of o place SameAt laws shape = record { apart = λ a b n. laws.apart a b n shape }
 
--- what is found in a brief is of an open transaction
+-- A transaction that is found in a brief is the brief of an open one.
 found_of : {Op : Type 0} (place : Op → ℕ) (c : Config Op) (t : Name) (y : BriefTx Op) (o : Option (Tx Op)) → tx t c.opened ≡ o → to_brief place c.shared o ≡ Some y →
     (x : Tx Op) × (tx t c.opened ≡ Some x) × (brief_tx place c.shared x ≡ y)
 found_of place c t y None e h = absurd (cc)
@@ -120,9 +120,9 @@ module _ {Shape State Op Undo : Type 0} (o : Object Shape State Op Undo) (place 
             | inr r ↦ absurd (differ (g.owner =ⁿ t) h r.0)
           ])))
 
--- the same of the brief of a boosted configuration
+-- The same facts about a brief that a Quick holds.
 module _ {Shape State Op Undo : Type 0} (o : Object Shape State Op Undo) (place : Op → ℕ) (apart : (shape : Shape) → PlacesSwap (rules_of o shape) place) (v : Held Shape Op) (k : (c : Config Op) × IsHeldOf o place v c) where
-  -- a good record leads to the brief of another
+  -- A good record leads from the brief of a boosted configuration to the brief of another one.
   pub advance : (w : Held Shape Op) (r : RunRecord Op) → w.shape ≡ v.shape → w.brief ≡ brief_then place v.brief r → IsBoosted r → BriefGood (rules_of o v.shape) place v.brief r
       → (c : Config Op) × IsHeldOf o place w c
   advance w r shape next s h =

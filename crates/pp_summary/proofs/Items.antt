@@ -7,7 +7,7 @@ use Rattle.pp_log.proofs.Lists.{cut_there}
 use Rattle.pp_model.specs.Lists.{In}
 use Rattle.pp_model.proofs.Lists.{in_cases, in_right}
 
--- the front that ends behind the i-th element
+-- The first i + 1 elements are the first i and then the one at position i.
 pub take_one : {A : Type 0} (xs : List A) (i : ℕ) (e : A) → i < length xs → e ≡ get_or xs i e → take (suc i) xs ≡ take i xs ++ e ∷ []
 take_one [] i e l h = absurd (omega arith)
 take_one {A} (x ∷ xs) zero e l h = ap (λ (w : A). w ∷ []) (sym h)
@@ -17,7 +17,7 @@ take_one {A} (x ∷ xs) (suc i) e l h = ap (λ (w : List A). x ∷ w) (take_one 
 pub take_next : {A : Type 0} (xs : List A) (i : ℕ) (e : A) → i < length xs → e ≡ get_or xs i e → take (i + 1) xs ≡ take i xs ++ e ∷ []
 take_next {A} xs i e l h = ap (λ (k : ℕ). take k xs) (let z : i + 1 ≡ suc i = omega arith in z) ∙ take_one xs i e l h
 
--- there is one
+-- There is an element at each position below the length.
 pub some_there : {A : Type 0} (xs : List A) (i : ℕ) → i < length xs → (e : A) × (e ≡ get_or xs i e)
 some_there [] i l = absurd (omega arith)
 some_there (x ∷ xs) zero l = (x, refl)
@@ -35,7 +35,7 @@ in_next {A} xs i e a l h k = elim (in_cases a (take i xs) (e ∷ []) (subst (λ 
   | inr (inr j) ↦ absurd j
 ]
 
--- an element behind the first k
+-- An element after the first k is at a position of k or more.
 pub in_drop : {A : Type 0} (xs : List A) (k : ℕ) (a : A) → In a (drop k xs) → (j : ℕ) × (k ≤ j) × (slice_get xs j ≡ Some a) × (j < length xs)
 in_drop [] zero a h = absurd h
 in_drop [] (suc k) a h = absurd h

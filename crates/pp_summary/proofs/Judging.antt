@@ -1,4 +1,4 @@
--- When a record is good, from what a Quick keeps.
+-- When a record is good, by the data that a Quick keeps.
 use Rattle.std.specs.Prelude.{◌≡◌, ◌≢◌, ◌==◌, ◌↔◌, ℕ, nat_eq, Bool, true, false, cond, ◌&&◌, List, [], ◌∷◌, ◌++◌, filter, is_some, position, option_map, Option, None, Some, IsTrue, IsSome}
 use Rattle.std.specs.List.{list_any}
 use Rattle.std.specs.Map.{keys_of, lookup, set_value}
@@ -34,7 +34,7 @@ use Rattle.pp_summary.proofs.Moving.{committed_there, fine_of, open_is, open_the
 use Rattle.pp_summary.proofs.HeldOf.{distinct, done_stands, fits, new_id, own_stands}
 use Rattle.pp_summary.proofs.Unseen.{has_unseen}
 
--- ids that were used
+-- An id for which the test says that it was used is among the ids.
 pub used_in : (l : List ℕ) (id : ℕ) → list_any (λ i. id == i) l ≡ true → In id l
 used_in l id e =
     let r = any_in (λ (i : ℕ). id == i) l e in subst (λ (i : ℕ). In i l) (sym (eqb-true id r.0 r.2)) r.1
@@ -49,7 +49,7 @@ in_behind : {A : Type 0} (m : Option ℕ) (l : List A) (a : A) → In a (ids_beh
 in_behind None l a h = absurd h
 in_behind (Some k) l a h = let r = in_drop l k a h in stands_in l r.0 a r.2
 
--- a slot that was changed is there
+-- A slot that was changed has the new content.
 pub slot_stays : {A : Type 0} (t : Name) (es : List (Name × Option A)) (x : A) (s : Option A) → open_in t es ≡ Some x → lookup (λ n. t =ⁿ n) (set_value (λ n. t =ⁿ n) es s) ≡ Some s
 slot_stays t [] x s e = absurd (cc)
 slot_stays {A} t ((n, o) ∷ es) x s e = elim (names_tell t n) [
@@ -80,14 +80,14 @@ module _ {Shape State Op Undo : Type 0} (o : Object Shape State Op Undo) (place 
   pub own_ids : HaveOwnIds G
   own_ids = distinct o place apart (as_held place v) h.is_held
 
-  -- what was committed at a place is in the shared log
+  -- Each commit at a place is an entry of the shared log.
   pub have_entries : (q : ℕ) → HaveEntries G (at q commits)
   have_entries q id i =
       let k = committed_there o place apart v h q id i in
       let s = done_stands o place apart (as_held place v) h.is_held k.0 k.1 in
       (as_shared s.0 true k.0, s.1, k.2)
 
-  -- names and threads
+  -- A name that has a slot is among the names that were begun.
   pub begun_name : (t : Name) → is_some (lookup (λ n. t =ⁿ n) v.slots.entries) ≡ true → In t B.names
   begun_name t e =
       let r = any_in (λ (n : Name). n =ⁿ t) (keys_of v.slots.entries) (sym (begun_is v.slots.entries t) ∙ e) in
@@ -112,7 +112,7 @@ module _ {Shape State Op Undo : Type 0} (o : Object Shape State Op Undo) (place 
       let k = none_in (λ (z : Name). z =ⁿ p) (threads_of B.opened) (sym (h.threads.are p) ∙ e) x.thread (in_map (λ (y : BriefTx Op). y.thread) x B.opened i) in
       let z : true ≡ false = sym (eq-names x.thread p q) ∙ k in cc
 
-  -- a transaction that is not open
+  -- A condition on the open transaction of a name is false if the name has none.
   pub not_open : (t : Name) (P : BriefTx Op → Type 0) → open_in t v.slots.entries ≡ None → (X : BriefTx Op) × (brief_of t B.opened ≡ Some X) × P X → ⊥
   not_open t P e g = let z : None ≡ Some g.0 = sym (open_is o place apart v h t ∙ ap (option_map (shown_tx place G commits t)) e) ∙ g.1 in cc
 
@@ -131,7 +131,7 @@ module _ {Shape State Op Undo : Type 0} (o : Object Shape State Op Undo) (place 
     pub it_is : (P : BriefTx Op → Type 0) → P show → (X : BriefTx Op) × (brief_of t B.opened ≡ Some X) × P X
     it_is P p = (show, here, p)
 
-    -- a commit
+    -- The answer of the walk on a commit is right for the calls of the own operations.
     pub word_is : (answer : Bool) → TellsWord x.walk answer → IsTrue answer ↔ IsWord show.body (calls (rules_of o v.shape) show.own)
     word_is answer w = w (calls_of o x.own) (fine_of o place apart v h t x found).taken
 
@@ -147,7 +147,7 @@ module _ {Shape State Op Undo : Type 0} (o : Object Shape State Op Undo) (place 
       pub unbegun : (answer : Bool) → TellsBegins x.walk (o.call op) answer → answer ≡ false → IsGood o place v (records.Op t id op) → ⊥
       unbegun answer w e g = let z : true ≡ false = sym ((w (calls_of o x.own) (fine_of o place apart v h t x found).taken).1 (of_it Good g).begins) ∙ e in cc
 
-      -- an entry whose id is that of a commit that was not seen has the place of the commit, and is missed
+      -- An entry with the id of an unseen commit is at the place of the commit, and is missed.
       missed : (p : SharedEntry Op) → In p G → In p.id (unseen_at (place op) commits x.seen.entries) → (place p.op ≡ place op) × In p.id show.missed
       missed p i u =
           let k = committed_there o place apart v h (place op) p.id (in_behind (lookup (nat_eq (place op)) x.seen.entries) (at (place op) commits) p.id u) in
@@ -198,7 +198,7 @@ module _ {Shape State Op Undo : Type 0} (o : Object Shape State Op Undo) (place 
         allowed = subst (λ (s : Shape). IsAllowed o s (shared_ops G ++ op ∷ [])) h.same_shape legal;
       })
 
-      -- what its effect asks
+      -- A good op record has a call that may follow in the body.
       pub may_take : IsGood o place v (records.Op t id op) → MayTake x.walk (o.call op)
       may_take g = (calls_of o x.own, (fine_of o place apart v h t x found).taken, (of_it Good g).begins)
 

@@ -14,7 +14,7 @@ use Rattle.pp_summary.specs.Known.{CoversOf, Knows, KnowsAll}
 use Rattle.pp_summary.specs.Passing.{LetPass}
 
 module _ {Shape State Op Undo : Type 0} (o : Object Shape State Op Undo) (part_of : Op → Part) where
-  -- the samples of one part are others, which stand for what the old ones stood for, and for one operation more
+  -- The samples of one part are replaced by samples that cover what the old ones covered, and one operation more.
   module _ (op : Op) (k : Part) (old new : List (Part × SampleList Op)) (s : SampleList Op) (here : k ≡ part_of op)
       (is : (q : Part) → lookup (same_part q) new ≡ cond (same_part k q) (Some s) (lookup (same_part q) old)) where
     stays : ((b : Op) → CoversOf o (lookup (same_part k) old) b → Covers o s b) → (b : Op) (t : Bool) → same_part k (part_of b) ≡ t →
@@ -34,7 +34,7 @@ module _ {Shape State Op Undo : Type 0} (o : Object Shape State Op Undo) (part_o
         let found : lookup (same_part (part_of op)) new ≡ Some s = is (part_of op) ∙ ap (λ (t : Bool). cond t (Some s) (lookup (same_part (part_of op)) old)) same in
         subst (λ (z : Option (SampleList Op)). CoversOf o z op) (sym found) covers
 
-  -- With one more operation that is known, all own operations are known.
+  -- If the samples still know what they knew, and know one more operation, they know all own operations with it.
   pub all_known : (old new : List (Part × SampleList Op)) (items : List (Item Op)) (item : Item Op) → KnowsAll o part_of old items →
       ((b : Op) → Knows o part_of old b → Knows o part_of new b) → Knows o part_of new item.op → KnowsAll o part_of new (items ++ item ∷ [])
   all_known old new items item known keeps more p i = elim (in_cases p items (item ∷ []) i) [
@@ -42,7 +42,7 @@ module _ {Shape State Op Undo : Type 0} (o : Object Shape State Op Undo) (part_o
     | inr j ↦ elim j [ inl e ↦ subst (λ (z : Item Op). Knows o part_of new z.op) (sym e) more | inr z ↦ absurd z ]
   ]
 
-  -- operations let another pass if those of its part do
+  -- Own operations swap with an operation if those of its part do.
   module _ (apart : PartsSwap o part_of) (place : Op → ℕ) (op : Op) (slots : List (Part × SampleList Op)) (own : List (Item Op)) (known : KnowsAll o part_of slots own) where
     of_part : ((b : Op) → CoversOf o (lookup (same_part (part_of op)) slots) b → Swaps o b op) → (b : Op) (t : Bool) → same_part (part_of b) (part_of op) ≡ t →
         Knows o part_of slots b → Swaps o b op

@@ -24,7 +24,7 @@ module _ {Op State : Type 0} (O : Object Op State) (place : Op → ℕ) (apart :
   abbrev test : SharedEntry Op → Bool
   test g = not (has_id g.id (map (λ (p : Item Op). p.id) last))
 
-  -- an entry that leaves is an own one, pushed
+  -- An entry that leaves is a pushed one of the open transaction.
   leaving : (g : SharedEntry Op) → In g c.shared → test g ≡ false → (p : Item Op) × In p last × (g ≡ as_shared x.name false p)
   leaving g i n =
       let m = from_map (λ (p : Item Op). p.id) g.id last (has_in g.id (map (λ (p : Item Op). p.id) last) (was_true (has_id g.id (map (λ (p : Item Op). p.id) last)) n)) in
@@ -46,7 +46,7 @@ module _ {Op State : Type 0} (O : Object Op State) (place : Op → ℕ) (apart :
       let z = (b.follows x ix).own_order o.0 o.1 o.2 o.3 o.4 in
       (z.0, z.1, z.2, z.3 ∙ ap (λ (w : Item Op). w.id) (sym o.5), z.4 ∙ ap (λ (w : Item Op). w.id) (sym o.6))
 
-  -- those that stay let it pass
+  -- An entry that leaves swaps with each entry after it that stays.
   pub moved : (g h : SharedEntry Op) → Before g h c.shared → test g ≡ false → test h ≡ true → Swaps O g.op h.op
   moved g h i n k =
       let r = leaving g (before_in_first g h c.shared i) n in

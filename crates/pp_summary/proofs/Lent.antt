@@ -1,4 +1,4 @@
--- A slot that is lent by its name, and what is in it then.
+-- A slot that was lent by its name and is returned.
 use Rattle.std.specs.Prelude.{◌≡◌, Bool, true, false, cond, List, [], ◌∷◌, Option, None, Some, IfNone}
 use Rattle.std.specs.Map.{lookup, set_value}
 use Rattle.std.proofs.Common.{refl, sym, ap, ◌∙◌}
@@ -6,7 +6,7 @@ use Rattle.std.proofs.lemmas.Option.{same_Some}
 use Rattle.indexmap.specs.IndexMap.{IndexMap, WritesThrough, hasher_of, spare}
 use Rattle.indexmap.specs.Layout.{hash_map}
 
--- what a key has is set to what it has
+-- Setting the value of a key to the value that it has changes nothing.
 set_same : {K X : Type 0} (test : K → Bool) (es : List (K × X)) (x : X) → lookup test es ≡ Some x → set_value test es x ≡ es
 set_same test [] x e = refl
 set_same {K} {X} test (d ∷ es) x e = by (test d.0) e (set_same test es x)
@@ -21,11 +21,11 @@ same_map {K} {X} {S} m n p q r =
     ∙ ap (λ (z : S). hash_map m.entries z (spare n)) q
     ∙ ap (λ z. hash_map m.entries (hasher_of m) z) r
 
--- a slot that is given back as it was
+-- If a slot is returned as it was, the map is as it was.
 pub given_back : {K X S : Type 0} (eq : K → K → Bool) (test : K → Bool) (m n : IndexMap K X S) (x : X) → lookup test m.entries ≡ Some x → WritesThrough eq test m x n → n ≡ m
 given_back eq test m n x there w = same_map m n (w.0 ∙ set_same test m.entries x there) w.5 w.6
 
--- a slot that is emptied, if it was empty
+-- If a slot that was empty is emptied, the map is as it was.
 pub empty_before : {K X S : Type 0} (eq : K → K → Bool) (test : K → Bool) (m n : IndexMap K (Option X) S) (slot left taken : Option X) → lookup test m.entries ≡ Some slot → taken ≡ slot → left ≡ None →
     WritesThrough eq test m left n → IfNone taken (n ≡ m)
 empty_before eq test m n slot left (Some x) there was is w = tt

@@ -1,4 +1,4 @@
--- What the lookups of a sound configuration find, and where its entries come from.
+-- What lookups find in a sound configuration, and where its entries come from.
 use Rattle.std.specs.Prelude.{◌≡◌, ◌≢◌, ℕ, ◌==◌, Bool, true, false, not, ◌&&◌, List, [], ◌∷◌, ◌++◌, Option, Some}
 use Rattle.std.proofs.Common.{refl, sym, ap, subst, ◌∙◌}
 use Rattle.std.proofs.lemmas.Bool.{eqb-true, eq-eqb}
@@ -42,17 +42,17 @@ other_is {Op} O c s t g i n = find_only (λ (w : SharedEntry Op). (w.id == g.id)
     (and_true (g.id == g.id) (not (g.owner =ⁿ t)) (eq-eqb g.id g.id refl) (names_not g.owner t n))
     (λ y j h. by_key (λ (w : SharedEntry Op). w.id) c.shared s.shared_ids y g j i (eqb-true y.id g.id (and_parts (y.id == g.id) (not (y.owner =ⁿ t)) h).0))
 
--- a committed entry has another owner than an open transaction
+-- A committed entry is not owned by an open transaction.
 pub done_by_other : {Op State : Type 0} (O : Object Op State) (c : Config Op) → Sound O c → (x : Tx Op) → In x c.opened → (g : SharedEntry Op) → In g c.shared → g.committed ≡ true → g.owner ≢ x.name
 done_by_other {Op} O c s x i g j u e = let d = s.committed_from g j u in s.apart x d.0 i d.1 (sym e ∙ ap (λ (w : SharedEntry Op). w.owner) d.4)
 
--- an uncommitted entry before a committed one swaps with it
+-- An uncommitted entry swaps with each committed entry after it.
 pub open_before_done : {Op State : Type 0} (O : Object Op State) (c : Config Op) → Sound O c → (g h : SharedEntry Op) → Before g h c.shared → g.committed ≡ false → h.committed ≡ true → Swaps O g.op h.op
 open_before_done {Op} O c s g h i u v =
     let r = s.uncommitted_from g (before_in_first g h c.shared i) u in
     s.uncommitted_swap g h i (λ e. done_by_other O c s r.0 r.1 h (before_in_second g h c.shared i) v (sym e ∙ ap (λ (w : SharedEntry Op). w.owner) r.5)) u
 
--- what is before g is in the part of the list before g
+-- An entry before g is in the part of the list before g.
 pub in_first_part : {Op : Type 0} (K H : List (SharedEntry Op)) (g r : SharedEntry Op) → ((a b : SharedEntry Op) → Before a b (K ++ g ∷ H) → a.id ≢ b.id) → Before r g (K ++ g ∷ H) → In r K
 in_first_part {Op} K H g r d i = elim (before_cases r g K (g ∷ H) i) [
   | inl j ↦ before_in_first r g K j
@@ -65,6 +65,6 @@ in_first_part {Op} K H g r d i = elim (before_cases r g K (g ∷ H) i) [
     last [] H g j = inl (refl, j)
     last (k ∷ K) H g j = inr (last K H g j)
 
--- what holds of the one that is there
+-- If all facts of a value that is there are true, so are the facts of the option.
 pub there_of : {A : Type 0} (o : Option A) (F : A → List (Type 0)) (x : A) → o ≡ Some x → FirstFalse (there o F) 0 → FirstFalse (F x) 0
 there_of {A} o F x e h = (subst (λ (w : Option A). FirstFalse (there w F) 0) e h).1

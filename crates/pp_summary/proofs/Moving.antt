@@ -1,4 +1,4 @@
--- What each record makes of what a Quick keeps.
+-- How each record changes what a Quick keeps.
 use Rattle.std.specs.Prelude.{◌≡◌, ◌≢◌, ◌==◌, ◌+◌, ◌≤◌, ℕ, suc, nat_eq, Bool, true, false, cond, not, ◌||◌, List, [], ◌∷◌, ◌++◌, filter, length, reverse, is_some, option_map, Option, None, Some, IsTrue}
 use Rattle.std.specs.List.{list_any}
 use Rattle.std.specs.Map.{keys_of, lookup, set_value}
@@ -40,7 +40,7 @@ use Rattle.pp_summary.proofs.HeldOf.{advance, distinct, done_stands, is_owned, n
 use Rattle.pp_summary.proofs.Threads.{threads_less, threads_more}
 use Rattle.pp_summary.proofs.Unseen.{unseen_committed, unseen_fewer, unseen_grown, unseen_none, unseen_wider}
 
--- a brief is what its parts are
+-- Briefs with equal parts are equal.
 pub same_brief : {Op : Type 0} (a b : List Name) (c d : List ℕ) (e f : List (BriefTx Op)) (g h : List (SharedEntry Op)) (i j : List (CommittedTx Op)) → a ≡ b → c ≡ d → e ≡ f → g ≡ h → i ≡ j
     → ◌≡◌ {A = Brief Op} (record { names = a; ids = c; opened = e; shared = g; done = i }) (record { names = b; ids = d; opened = f; shared = h; done = j })
 same_brief {Op} a b c d e f g h i j p q r s t =
@@ -59,7 +59,7 @@ same_tx {Op} n a b c d e f g h p q r s =
     ∙ ap (λ (z : List (Item Op)). record { name = n; thread = b; body = d; own = z; missed = g }) r
     ∙ ap (λ (z : List ℕ). record { name = n; thread = b; body = d; own = f; missed = z }) s
 
--- a slot that is changed twice
+-- If a slot is set twice, the second content counts.
 set_twice : {X : Type 0} (t : Name) (es : List (Name × X)) (a b : X) → set_value (λ n. t =ⁿ n) (set_value (λ n. t =ⁿ n) es a) b ≡ set_value (λ n. t =ⁿ n) es b
 set_twice t [] a b = refl
 set_twice {X} t (e ∷ es) a b = by (t =ⁿ e.0) refl (set_twice t es a b)
@@ -77,7 +77,7 @@ filter_short {X} test (x ∷ l) = by (test x) (filter_short test l)
     by true k = omega arith
     by false k = omega arith
 
--- a slot that is there
+-- A slot with an open transaction is a slot that is not empty.
 slot_is : {A : Type 0} (o : Option (Option A)) (x : A) → in_slot o ≡ Some x → o ≡ Some (Some x)
 slot_is None x e = absurd (cc)
 slot_is (Some s) x e = ap (λ z. Some z) e
@@ -101,7 +101,7 @@ module _ {Shape State Op Undo : Type 0} (o : Object Shape State Op Undo) (place 
   named : (G : List (SharedEntry Op)) (cs : List (List ℕ)) (n : Name) (x : OpenTx (List (Item Op))) → (shown_tx place G cs n x).name ≡ n
   named G cs n x = refl
 
-  -- what is open at t
+  -- The brief of the open transaction of t is that of the one in the slot of t.
   pub open_is : (t : Name) → brief_of t B.opened ≡ option_map (show t) (open_in t es)
   open_is t = found_is t show show (named G commits) es h.names
 
@@ -112,7 +112,7 @@ module _ {Shape State Op Undo : Type 0} (o : Object Shape State Op Undo) (place 
   slot_there : (t : Name) (x : OpenTx (List (Item Op))) → open_in t es ≡ Some x → lookup (λ n. t =ⁿ n) es ≡ Some (Some x)
   slot_there t x e = slot_is (lookup (λ n. t =ⁿ n) es) x e
 
-  -- an open transaction is in its slot
+  -- An open transaction that is found by its name is in its slot.
   in_slot_of : (t : Name) (fs : List (Name × Option (OpenTx (List (Item Op))))) (x : OpenTx (List (Item Op))) → lookup (λ n. t =ⁿ n) fs ≡ Some (Some x) → In (t, Some x) fs
   in_slot_of t [] x e = absurd (cc)
   in_slot_of t ((n, s) ∷ fs) x e = elim (names_tell t n) [
@@ -148,16 +148,16 @@ module _ {Shape State Op Undo : Type 0} (o : Object Shape State Op Undo) (place 
             };
       }
 
-  -- commits that are as they were
+  -- If the commits and the committed transactions stay the same, the ids at each place are still those of the serial run.
   commits_stay : (w : Kept Shape Op) → w.commits.items ≡ commits → w.committed ≡ v.committed → (q : ℕ) → at q w.commits.items ≡ ids_at place q (serial_items w.committed)
   commits_stay w same done q =
       ap (λ (z : List (List ℕ)). at q z) same ∙ h.commits q ∙ ap (λ (z : List (CommittedTx Op)). ids_at place q (serial_items z)) (sym done)
 
-  -- An id at a place is that of a committed item there.
+  -- An id of a commit at a place is that of an item of the serial run there.
   pub committed_there : (q id : ℕ) → In id (at q commits) → (p : Item Op) × In p (serial_items v.committed) × (p.id ≡ id) × (place p.op ≡ q)
   committed_there q id i = item_of_id place (serial_items v.committed) q id (subst (λ (l : List ℕ). In id l) (h.commits q) i)
 
-  -- threads
+  -- A change of briefs that keeps their threads keeps the list of threads.
   threads_on : (t : Name) (g : BriefTx Op → BriefTx Op) (l : List (BriefTx Op)) → ((y : BriefTx Op) → (g y).thread ≡ y.thread) → threads_of (at_brief t g l) ≡ threads_of l
   threads_on t g l e = map_map (λ (y : BriefTx Op). y.thread) (λ (y : BriefTx Op). cond (y.name =ⁿ t) (g y) y) l
       ∙ map_same (λ (y : BriefTx Op). (cond (y.name =ⁿ t) (g y) y).thread) (λ (y : BriefTx Op). y.thread) l (λ y i. by y (y.name =ⁿ t))
@@ -180,7 +180,7 @@ module _ {Shape State Op Undo : Type 0} (o : Object Shape State Op Undo) (place 
   keys_set : (t : Name) (s : Option (OpenTx (List (Item Op)))) (fs : List (Name × Option (OpenTx (List (Item Op))))) → fs ≡ set_value (λ n. t =ⁿ n) es s → reverse (keys_of fs) ≡ B.names
   keys_set t s fs e = ap (λ (z : List (Name × Option (OpenTx (List (Item Op))))). reverse (keys_of z)) e ∙ ap (λ (z : List Name). reverse z) (keys_stay t es s)
 
-  -- the slots after a change of one
+  -- The facts about each slot after a change of one.
   fine_set : (t : Name) (s : Option (OpenTx (List (Item Op)))) (fs : List (Name × Option (OpenTx (List (Item Op))))) (cs : List (List ℕ)) → fs ≡ set_value (λ n. t =ⁿ n) es s →
       ((x : OpenTx (List (Item Op))) → IsFine o place commits x → IsFine o place cs x) → ((x : OpenTx (List (Item Op))) → s ≡ Some x → IsFine o place cs x) → (n : Name) (x : OpenTx (List (Item Op))) → In (n, Some x) fs → IsFine o place cs x
   fine_set t s fs cs e old new n x i = elim (in_set t es s (n, Some x) (subst (λ (z : List (Name × Option (OpenTx (List (Item Op))))). In (n, Some x) z) e i)) [
@@ -188,7 +188,7 @@ module _ {Shape State Op Undo : Type 0} (o : Object Shape State Op Undo) (place 
     | inr j ↦ new x (sym j)
   ]
 
-  -- a transaction without own operations
+  -- A transaction without own operations has the facts that each open one keeps.
   fresh_fine : (cs : List (List ℕ)) (x : OpenTx (List (Item Op))) → HasTaken x.walk [] → x.own ≡ [] → x.seen.entries ≡ [] → IsFine o place cs x
   fresh_fine cs x taken own seen =
       record {
@@ -197,7 +197,7 @@ module _ {Shape State Op Undo : Type 0} (o : Object Shape State Op Undo) (place 
         within = λ q k e. absurd (let z : None ≡ Some k = sym (ap (λ (l : List (ℕ × ℕ)). lookup (nat_eq q) l) seen) ∙ e in cc);
       }
 
-  -- a begin
+  -- A begin record: the transaction x is put in a new slot.
   module _ (t p : Name) (b : Option Tree) (x : OpenTx (List (Item Op))) (w : Kept Shape Op) (g : IsGood o place v (records.Plain (Begin t p b)))
       (thread : x.thread ≡ p) (body : x.walk.body ≡ b) (taken : HasTaken x.walk []) (own : x.own ≡ []) (seen : x.seen.entries ≡ [])
       (slots : w.slots.entries ≡ es ++ (t, Some x) ∷ []) (busy : (q : Name) → list_any (λ z. q =ⁿ z) w.threads.keys ≡ cond (p =ⁿ q) true (list_any (λ z. q =ⁿ z) v.threads.keys))
@@ -249,7 +249,7 @@ module _ {Shape State Op Undo : Type 0} (o : Object Shape State Op Undo) (place 
         (λ a i. h.ranged a (subst (λ (z : Shape × List (SharedEntry Op)). In a z.1) shared i))
         (let e : length w.shared.1 ≡ length G = ap (λ (z : Shape × List (SharedEntry Op)). length z.1) shared in omega (arith, e, h.few))
 
-  -- an op
+  -- An op record: the open transaction x becomes y.
   module _ (t : Name) (id : ℕ) (op : Op) (x y : OpenTx (List (Item Op))) (w : Kept Shape Op) (g : IsGood o place v (records.Op t id op)) (asked : IsTrue (o.ranged op)) (found : open_in t es ≡ Some x)
       (grows : IsGrown o place commits x (record { id = id; op = op }) y)
       (slots : w.slots.entries ≡ set_value (λ n. t =ⁿ n) es (Some y)) (shape : w.shape ≡ v.shape)
@@ -326,7 +326,7 @@ module _ {Shape State Op Undo : Type 0} (o : Object Shape State Op Undo) (place 
         (let e : length w.shared.1 ≡ length more = ap (λ (z : List (SharedEntry Op)). length z) log_is in
         let l : length more ≡ length G + 1 = length-append G (as_shared t false p ∷ []) in omega (arith, e, l, h.few))
 
-  -- a commit
+  -- A commit record: the slot of the open transaction x is emptied.
   module _ (t : Name) (x : OpenTx (List (Item Op))) (w : Kept Shape Op) (g : IsGood o place v (records.Commit t)) (found : open_in t es ≡ Some x)
       (slots : w.slots.entries ≡ set_value (λ n. t =ⁿ n) es None) (busy : (q : Name) → list_any (λ z. q =ⁿ z) w.threads.keys ≡ cond (x.thread =ⁿ q) false (list_any (λ z. q =ⁿ z) v.threads.keys))
       (shape : w.shape ≡ v.shape) (shared : w.shared ≡ (v.shared.0, commit_all t G)) (ids : w.ids ≡ v.ids)
@@ -381,7 +381,7 @@ module _ {Shape State Op Undo : Type 0} (o : Object Shape State Op Undo) (place 
         (let e : length w.shared.1 ≡ length (commit_all t G) = ap (λ (z : List (SharedEntry Op)). length z) all_is in
         let l : length (commit_all t G) ≡ length G = length-map G (commit t) in omega (arith, e, l, h.few))
 
-  -- the entries of t leave the shared log
+  -- The entries of t leave the shared log.
   module _ (t : Name) (x : OpenTx (List (Item Op))) (found : open_in t es ≡ Some x) (w : Kept Shape Op) (shared : w.shared ≡ (v.shared.0, without_items shared_item x.own G)) where
     left_is : w.shared.1 ≡ without_owner t G
     left_is = ap (λ (z : Shape × List (SharedEntry Op)). z.1) shared ∙ without_is o place apart (as_held place v) h.is_held t (show t x) (open_there t x found)
@@ -397,7 +397,7 @@ module _ {Shape State Op Undo : Type 0} (o : Object Shape State Op Undo) (place 
     same_missed n z = same_tx n z.thread z.thread z.walk.body z.walk.body z.own z.own (unseen place (without_owner t G) commits z.seen.entries) (unseen place G commits z.seen.entries) refl refl refl
         (unseen_fewer place G commits z.seen.entries t (λ a i e. ap (λ (c : SharedEntry Op). c.committed) (is_owned o place apart (as_held place v) h.is_held t (show t x) (open_there t x found) a i e).2))
 
-    -- an abort
+    -- An abort record: the slot of t is emptied.
     module _ (g : IsGood o place v (records.Abort t)) (slots : w.slots.entries ≡ set_value (λ n. t =ⁿ n) es None)
         (busy : (q : Name) → list_any (λ z. q =ⁿ z) w.threads.keys ≡ cond (x.thread =ⁿ q) false (list_any (λ z. q =ⁿ z) v.threads.keys))
         (shape : w.shape ≡ v.shape) (ids : w.ids ≡ v.ids) (committed : w.committed ≡ v.committed) (commits_are : w.commits.items ≡ commits) (count : w.count ≡ v.count + 1) where
@@ -422,7 +422,7 @@ module _ {Shape State Op Undo : Type 0} (o : Object Shape State Op Undo) (place 
           left_ranged
           (omega (arith, less, h.few))
 
-    -- a retry
+    -- A retry record: the slot of t gets the transaction as it began.
     module _ (g : IsGood o place v (records.Retry t)) (y : OpenTx (List (Item Op))) (slots : w.slots.entries ≡ set_value (λ n. t =ⁿ n) (set_value (λ n. t =ⁿ n) es None) (Some y))
         (thread : y.thread ≡ x.thread) (body : y.walk.body ≡ x.walk.body) (taken : HasTaken y.walk []) (own : y.own ≡ []) (seen : y.seen.entries ≡ []) (threads : w.threads.keys ≡ v.threads.keys)
         (shape : w.shape ≡ v.shape) (ids : w.ids ≡ v.ids) (committed : w.committed ≡ v.committed) (commits_are : w.commits.items ≡ commits) (count : w.count ≡ v.count + 1) where

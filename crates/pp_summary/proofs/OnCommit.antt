@@ -56,7 +56,7 @@ still_committed {Op} t n p G i = subst (λ (w : SharedEntry Op). In w (commit_al
 
 module _ {Op State : Type 0} (O : Object Op State) (place : Op → ℕ) (apart : PlacesSwap O place)
     (c : Config Op) (b : Boosted O place c) (t : Name) (x : Tx Op) (lookup : tx t c.opened ≡ Some x) where
-  -- CMT 3 and CMT 4 hold
+  -- A CMT meets its criteria if the own calls are a word of the body.
   pub cmt_holds : IsWord x.body (calls O (own_items x.local)) → Meets O c (Cmt t)
   cmt_holds w =
       let ix = (found_tx t c.opened x lookup).0 in

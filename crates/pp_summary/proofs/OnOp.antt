@@ -26,7 +26,7 @@ use Rattle.pp_records.proofs.Ends.{after_append, runs_append, runs_front, runs_b
 pub as_boosted_but : {Op State : Type 0} (O : Object Op State) (place : Op → ℕ) (t : Name) (c : Config Op) → Boosted O place c → BoostedBut O place t c
 as_boosted_but O place t c b = record { sound = b.sound; follows = b.follows; anchored = λ y i n. b.anchored y i }
 
--- what an op record of x makes of the configuration c
+-- The configuration d is c after an op record of x.
 pub record Grown {Op : Type 0} (place : Op → ℕ) (c : Config Op) (t : Name) (id : ℕ) (op : Op) (x : Tx Op) (d : Config Op) : Type 0 where
   pub log : List (LocalEntry Op)
   pub is : d ≡ record { names = c.names; ids = id ∷ c.ids; opened = on_log t (λ l. log) c.opened; shared = c.shared ++ as_shared t false (record { id = id; op = op }) ∷ []; done = c.done }
@@ -182,7 +182,7 @@ module _ {Op State : Type 0} (O : Object Op State) (place : Op → ℕ) (apart :
       let e = (goal.1 k.0).1 in
       subst (λ (w : Config Op). Boosted O place w) (sym (after_append c pulls ends)) (end_boosted e.0 e.1 e.2 k.1)
 
-  -- The steps of an op record add its entry to both logs, and pull what was missed.
+  -- The steps of an op record pull the missed entries and add the new entry to both logs.
   pub op_grown : RunsFrom O c (pulls ++ ends) → Grown place c t id op x (after_from c (pulls ++ ends))
   op_grown h =
       let k : RunsFrom O c pulls × RunsFrom O d ends = (runs_front O c pulls ends h, runs_back O c pulls ends h) in

@@ -1,5 +1,4 @@
--- What is not seen of the commits at a place, what passes of the entries with their ids, and the calls of
--- the first items.
+-- Which commits at a place are unseen, which entries with given ids swap with own operations, and the calls of the first items.
 use Rattle.std.specs.Prelude.{◌≡◌, ◌==◌, ◌<◌, ◌+◌, ℕ, nat_eq, true, false, List, [], ◌∷◌, ◌++◌, drop, length, map, position, slice_get, take, None, Some}
 use Rattle.std.specs.Map.{lookup}
 use Rattle.std.proofs.Common.{ap, subst, sym, ◌∙◌}
@@ -24,7 +23,7 @@ pub unseen_is : (q : ℕ) (commits : List (List ℕ)) (seen : List (ℕ × ℕ))
 unseen_is q commits seen k l h e =
     ap (λ m. ids_behind m (at q commits)) h ∙ ap (λ m. drop k (ids_or_none m)) e
 
--- the entry that is found by its id, if there is one
+-- If no position has an id, no entry of the shared log has it.
 pub none_with_id : {Op : Type 0} (G : List (SharedEntry Op)) (id : ℕ) → position (λ e. e.id == id) G ≡ None → (g : SharedEntry Op) → In g G → g.id ≡ id → ⊥
 none_with_id {Op} G id h g i n =
     let k = find_nowhere (λ (e : SharedEntry Op). e.id == id) G (place_none (λ (e : SharedEntry Op). e.id == id) G h) g i in
@@ -36,7 +35,7 @@ with_id {Op} G id k e h s =
     let p = placed (λ (g : SharedEntry Op). g.id == id) G k h in
     (stands_in G k e s, ap (λ (g : SharedEntry Op). g.id) (same_Some e p.0 (sym s ∙ p.1)) ∙ eqb-true (p.0).id id p.2)
 
--- it stands for each entry with the id
+-- If own operations swap with the entry of an id, they swap with each entry that has this id.
 pub passes_alone : {Shape State Op Undo : Type 0} (o : Object Shape State Op Undo) (place : Op → ℕ) (own : List (Item Op)) (G : List (SharedEntry Op)) (id : ℕ) → HaveOwnIds G →
     (e : SharedEntry Op) → In e G × (e.id ≡ id) → LetPass o place own e.op → LetAllPass o place own G (id ∷ [])
 passes_alone {Op = Op} o place own G id d e there pass g i (inl n) =
@@ -48,7 +47,7 @@ pub stops_alone : {Shape State Op Undo : Type 0} (o : Object Shape State Op Undo
     Stops o place own e.op → StopsOne o place own G (id ∷ [])
 stops_alone o place own G id e there stops = record { entry = e; is = there.0; among = inl there.1; stops = stops }
 
--- one of more ids
+-- If a list of ids has the id of a stopped entry, an entry of the list is stopped.
 pub stops_among : {Shape State Op Undo : Type 0} (o : Object Shape State Op Undo) (place : Op → ℕ) (own : List (Item Op)) (G : List (SharedEntry Op)) (id : ℕ) (ids : List ℕ) → In id ids →
     StopsOne o place own G (id ∷ []) → StopsOne o place own G ids
 stops_among o place own G id ids i s =
@@ -59,7 +58,7 @@ stops_among o place own G id ids i s =
       stops = s.stops;
     }
 
--- the calls of one item more
+-- The calls of the first k + 1 items are those of the first k and the next call.
 pub calls_next : {Shape State Op Undo : Type 0} (o : Object Shape State Op Undo) (own : List (Item Op)) (k : ℕ) → k < length own →
     (x : Call) × (calls_of o (take (k + 1) own) ≡ calls_of o (take k own) ++ x ∷ [])
 calls_next {Op = Op} o own k l =

@@ -13,7 +13,7 @@ use Rattle.pp_summary.specs.Seen.{HaveOwnPlaces, seen_total}
 use Rattle.pp_summary.proofs.Relog.{filter_within}
 
 module _ {A : Type 0} where
-  -- A list has the elements that pass a test, and the others.
+  -- A list is as long as its elements that pass a test and those that do not, together.
   pub length_parts : (test : A → Bool) (l : List A) → length l ≡ length (filter test l) + length (filter (λ x. not (test x)) l)
   length_parts test [] = refl
   length_parts test (x ∷ l) = by (test x) (length_parts test l)
@@ -33,7 +33,7 @@ module _ {A : Type 0} where
       by true k = ap (λ (w : List A). cond (p x) (x ∷ w) w) k
       by false k = k
 
-  -- What passes a test passes a second one, or does not.
+  -- The elements that pass a test are as many as those that also pass a second test and those that do not, together.
   pub filter_parts : (p q : A → Bool) (l : List A) → length (filter q l) ≡ length (filter (λ x. q x && p x) l) + length (filter (λ x. q x && not (p x)) l)
   filter_parts p q l =
       let a : length (filter p (filter q l)) ≡ length (filter (λ x. q x && p x) l) = ap (λ (w : List A). length w) (filter_twice p q l) in
@@ -67,7 +67,7 @@ same_length xs ys d e into back =
     let b = shorter ys xs e back in
     omega arith
 
--- As many elements pass a test as there are ids of such elements.
+-- The elements that pass a test are as many as the distinct ids of such elements.
 pub count_ids : {A : Type 0} (id_of : A → ℕ) (test : A → Bool) (l : List A) (ids : List ℕ) → ((a b : A) → Before a b l → id_of a ≡ id_of b → ⊥) → Distinct ids →
     ((a : A) → In a l → test a ≡ true → In (id_of a) ids) → ((i : ℕ) → In i ids → (a : A) × In a l × (test a ≡ true) × (id_of a ≡ i)) → length (filter test l) ≡ length ids
 count_ids {A} id_of test l ids d e into back =
@@ -92,7 +92,7 @@ count_looked_up (e ∷ entries) d q k (inr h) =
     ap (λ (b : Bool). cond b (Some e.1) (lookup (nat_eq q) entries)) (ne_eqb q e.0 (λ s. d e.0 q (inl (refl, in_keys q k entries h)) (sym s)))
     ∙ count_looked_up entries (λ a b i. d a b (inr i)) q k h
 
--- What is looked up is there.
+-- A place and the count that a lookup finds for it are an entry of the list.
 pub count_there : (entries : List (ℕ × ℕ)) (q k : ℕ) → lookup (nat_eq q) entries ≡ Some k → In (q, k) entries
 count_there [] q k h = absurd (cc)
 count_there (e ∷ entries) q k h = elim (eqb_tells q e.0) [

@@ -44,7 +44,7 @@ module _ {Op State : Type 0} (O : Object Op State) (place : Op → ℕ) (apart :
   fresh : (e : LocalEntry Op) → In e x.local → e.id ≢ g.id
   fresh e i n = let z : true ≡ false = sym (is_there g.id x.local e i n) ∙ out in cc
 
-  -- those of the rest before it let it pass
+  -- The entries of the rest before g swap with it.
   passes : (q : SharedEntry Op) → Before q g (rest x.local c.shared) → Swaps O q.op g.op
   passes q i = elim (same_or_not (place q.op) (place g.op)) [ inl p ↦ by q.committed refl p | inr p ↦ apart.apart q.op g.op p ]
     where
@@ -61,7 +61,7 @@ module _ {Op State : Type 0} (O : Object Op State) (place : Op → ℕ) (apart :
           let z : true ≡ false = sym (seen q (in_K q before, v, p)) ∙ out_q in
           absurd (cc)
 
-  -- it holds if PULL 5 does
+  -- A PULL meets its criteria if each own entry swaps with the entry that it pulls.
   pub pull_holds : ((a : LocalEntry Op) → In a x.local → is_own a.mark ≡ true → Swaps O a.op g.op) → Meets O c (Pull t g.id)
   pull_holds sw = there_is (tx t c.opened) _ x lookup (there_is (of_other t g.id c.shared) _ g found (
     fresh,
@@ -76,11 +76,11 @@ module _ {Op State : Type 0} (O : Object Op State) (place : Op → ℕ) (apart :
   pub pull_swaps : Meets O c (Pull t g.id) → (a : LocalEntry Op) → In a x.local → is_own a.mark ≡ true → Swaps O a.op g.op
   pull_swaps h = (there_of (of_other t g.id c.shared) _ g found (there_of (tx t c.opened) _ x lookup h)).1.1.0
 
-  -- a local log with the pulled entry at its end
+  -- The local log with the pulled entry at its end.
   abbrev pub longer : List (LocalEntry Op) → List (LocalEntry Op)
   longer l = l ++ as_pulled g ∷ []
 
-  -- the configuration after the PULL of the entry
+  -- The configuration after the PULL.
   abbrev pub next : Config Op
   next = record c { opened = on_log t (λ l. l ++ as_pulled g ∷ []) c.opened }
 

@@ -1,4 +1,4 @@
--- What a Quick that takes the records of a run says of the run.
+-- What a Quick that takes the records of a run proves about the run.
 use Rattle.std.specs.Prelude.{◌≡◌, ◌+◌, ℕ, true, false, List, [], ◌∷◌, ◌++◌, map, Option}
 use Rattle.std.proofs.Common.{refl, sym, ap, subst, ◌∙◌, length-append}
 use Rattle.pp_core.specs.declared.call.Kind.{Kind}
@@ -26,7 +26,7 @@ use Rattle.pp_summary.proofs.Failures.{hold_next}
 use Rattle.pp_summary.proofs.Sums.{tried_all, tried_to}
 use Rattle.pp_summary.proofs.Whole.{decided}
 
--- one record more, and the first ones of those that are boosted
+-- Boosted records with one more boosted record are boosted records.
 boosted_more : {Op : Type 0} (xs : Records (RunRecord Op)) (r : Lined (RunRecord Op)) → AreBoosted xs → IsBoosted r.what → AreBoosted (xs ++ r ∷ [])
 boosted_more [] r h b = (b, tt)
 boosted_more (x ∷ xs) r h b = (h.0, boosted_more xs r h.1 b)
@@ -111,7 +111,7 @@ module _ {Shape State Op Undo : Type 0} (o : Object Shape State Op Undo) (place 
     all_tried : AreTried (rules_of o v.shape) place (brief place (first h)) (bare rs) (bare rs)
     all_tried = tried_all (rules_of o v.shape) place (bare rs) (brief place (first h)) good
 
-  -- the records up to the one that fails
+  -- The records up to the first that fails.
   module _ (shape : Shape) (rs : Records (RunRecord Op)) (r : Lined (RunRecord Op)) (a : AreBoosted rs) (f : FailsIn (rules_of o shape) T h rs r) where
     abbrev d : Standing Front Op
     d = standing_after T h f.before
@@ -139,7 +139,7 @@ module _ {Shape State Op Undo : Type 0} (o : Object Shape State Op Undo) (place 
         (sym (ap (λ (z : Records (RunRecord Op)). bare z) f.parts ∙ bare_append f.before (r ∷ f.behind)))
         (tried_to (rules_of o shape) place (bare f.before) (bare f.behind) (brief place (first h)) r.what good_before not_good)
 
-  -- A summary that takes the records of a run keeps what each reader of them keeps.
+  -- A Quick that takes the records of a run has all that `IsReader` lists.
   pub reader : IsReader o place ks h
   reader =
       record {

@@ -22,11 +22,12 @@ use Rattle.std.proofs.lemmas.Bool.{and_parts}
 use Rattle.pp_summary.proofs.Entries.{same_or_not}
 use Rattle.pp_model.specs.Config.{as_pulled}
 
--- committed, at the place o, and not in L
+-- The entry is committed, at the place o, and not in L.
 abbrev pub is_missing : {Op : Type 0} → (Op → ℕ) → ℕ → List (LocalEntry Op) → SharedEntry Op → Bool
 is_missing place o L g = (g.committed && (place g.op == o)) && not (stands_in L g.id)
 
--- Of a refresh of x0 in c0 at the place o, what holds in c, where x is the transaction now: G is cut to K ++ H, and K is done.
+-- A refresh of x0 at the place o began in c0 and is now at c, and the transaction is now x. The shared log is K ++ H, and the entries of K
+-- are done.
 pub record Refreshing {Op State : Type 0} (O : Object Op State) (place : Op → ℕ) (t : Name) (c0 : Config Op) (x0 : Tx Op) (o : ℕ) (K H : List (SharedEntry Op)) (c : Config Op) (x : Tx Op) : Type 0 where
   pub boosted_but : BoostedBut O place t c
   pub lookup : tx t c.opened ≡ Some x
@@ -53,23 +54,23 @@ is_missing-false place o L g u p e = go (stands_in L g.id) refl
 
 module _ {Op State : Type 0} (O : Object Op State) (place : Op → ℕ) (apart : PlacesSwap O place)
     (t : Name) (c0 : Config Op) (x0 : Tx Op) (o : ℕ) where
-  -- the own entries of x0 at the place swap with the committed entries of H there that x0 has not
+  -- The own entries of x0 at the place swap with each committed entry of H there that x0 does not have.
   abbrev pub Passing : List (SharedEntry Op) → Type 0
   Passing H = (a : LocalEntry Op) (p : SharedEntry Op) → IsOwnAt place o x0.local a → IsDoneAt place o H p → stands_in x0.local p.id ≡ false → Swaps O a.op p.op
 
-  -- the refresh of the place has ended in this configuration: no entry is left to look at
+  -- The refresh of the place has ended in this configuration: no entry is left.
   abbrev pub Ended : Config Op → Type 0
   Ended c = (K : List (SharedEntry Op)) × (x : Tx Op) × Refreshing O place t c0 x0 o K [] c x
 
-  -- these steps run exactly if the entries of H pass, and the refresh has then ended
+  -- These steps meet their criteria exactly if `Passing H` is true, and the refresh has then ended.
   abbrev pub Goal : List (SharedEntry Op) → Config Op → List (Step Op) → Type 0
   Goal H c ss = (Passing H → RunsFrom O c ss) × (RunsFrom O c ss → Passing H × Ended (after_from c ss))
 
-  -- a PULL of each of these entries
+  -- A PULL of each of these entries.
   abbrev pub pulls : List (SharedEntry Op) → List (Step Op)
   pulls M = map (λ g. Pull t g.id) M
 
-  -- after one PULL
+  -- The refresh after one more PULL.
   pulled_on : (c : Config Op) (x : Tx Op) (K H : List (SharedEntry Op)) (g : SharedEntry Op) → Refreshing O place t c0 x0 o K (g ∷ H) c x →
       place g.op ≡ o → BoostedBut O place t (record c { opened = on_log t (λ l. l ++ as_pulled g ∷ []) c.opened }) →
       Refreshing O place t c0 x0 o (K ++ g ∷ []) H (record c { opened = on_log t (λ l. l ++ as_pulled g ∷ []) c.opened }) (relog (λ l. l ++ as_pulled g ∷ []) x)
@@ -122,7 +123,7 @@ module _ {Op State : Type 0} (O : Object Op State) (place : Op → ℕ) (apart :
           later [] = inl (refl, i)
           later (k ∷ K) = inr (later K)
 
-  -- after an entry that is not pulled
+  -- The refresh after one more entry that is not pulled.
   passed_on : (c : Config Op) (x : Tx Op) (K H : List (SharedEntry Op)) (g : SharedEntry Op) → Refreshing O place t c0 x0 o K (g ∷ H) c x →
       is_missing place o x0.local g ≡ false → Refreshing O place t c0 x0 o (K ++ g ∷ []) H c x
   passed_on c x K H g r m =
@@ -207,7 +208,7 @@ module _ {Op State : Type 0} (O : Object Op State) (place : Op → ℕ) (apart :
       with_g h k a p d (inr i) u q n = h a p d (i, u, q) n
       with_g h k a p d (inl i) u q n = subst (λ (w : SharedEntry Op). Swaps O a.op w.op) (sym i) (k a (r.kept a d.0) d.1)
 
-  -- the whole refresh
+  -- The PULLs of all missing entries meet their criteria exactly if the own entries swap with them, and end the refresh.
   pub refreshed : (H K : List (SharedEntry Op)) (c : Config Op) (x : Tx Op) → Refreshing O place t c0 x0 o K H c x → Goal H c (pulls (filter (is_missing place o x0.local) H))
   refreshed [] K c x r = ((λ h. tt), (λ k. ((λ a p d q n. absurd q.0), (K, x, r))))
   refreshed (g ∷ H) K c x r = by_entry H K g c x r (λ L d y q. refreshed H L d y q) (is_missing place o x0.local g) refl

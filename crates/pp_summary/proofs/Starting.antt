@@ -1,4 +1,4 @@
--- What the parts of a start answer, and what it makes of what a Quick keeps.
+-- What the parts of a start return, and how a start changes what a Quick keeps.
 use Rattle.std.specs.Prelude.{◌≡◌, ◌≢◌, ◌==◌, ◌<◌, ◌≤◌, ◌+◌, ℕ, Bool, true, false, cond, List, [], ◌∷◌, ◌++◌, drop, length, map, position, reverse, take, Option, None, Some, IsTrue}
 use Rattle.std.specs.List.{All, list_any}
 use Rattle.std.specs.Map.{keys_of, lookup}
@@ -34,7 +34,7 @@ use Rattle.pp_summary.proofs.Deciding.{quick}
 use Rattle.pp_summary.proofs.Judging.{not_used, used_in}
 use Rattle.pp_summary.proofs.Moving.{same_brief}
 
--- the item at a place of the walk
+-- The item p at position k.
 module _ {Op : Type 0} (items : List (Item Op)) (k : ℕ) (p : Item Op) (lt : k < length items) (is : p ≡ get_or items k p) where
   taken : take (k + 1) items ≡ take k items ++ p ∷ []
   taken = take_more items k p lt ∙ ap (λ (z : Item Op). take k items ++ z ∷ []) (sym is)
@@ -48,15 +48,15 @@ module _ {Op : Type 0} (items : List (Item Op)) (k : ℕ) (p : Item Op) (lt : k 
   later : (q : Item Op) → In q (drop (k + 1) items) → Before p q items
   later q i = subst (λ (w : List (Item Op)). Before p q w) (sym (cut_there items k p lt is)) (before_right p q (take k items) (p ∷ drop (k + 1) items) (inl (refl, i)))
 
-  -- the ids of the items behind it, the last first
+  -- The ids ks of the items after position k, from the last to the first.
   module _ (ks : List ℕ) (are : reverse ks ≡ map (λ q. q.id) (drop (k + 1) items)) where
-    -- its id is among them
+    -- If the id of p is among the ids of the items after it, the items do not have distinct ids.
     pub repeated : list_any (λ j. p.id == j) ks ≡ true → HasDistinctIds items → ⊥
     repeated t d =
         let m = from_map (λ (q : Item Op). q.id) p.id (drop (k + 1) items) (subst (λ (w : List ℕ). In p.id w) are (in_reverse p.id ks (used_in ks p.id t))) in
         d p m.0 (later m.0 m.1) m.2
 
-    -- its id is put behind them
+    -- The ids of the items from k on are those after k, with the id of p at the end.
     pub ids_back : (js : List ℕ) → js ≡ ks ++ p.id ∷ [] → reverse js ≡ map (λ q. q.id) (drop k items)
     ids_back js i =
         ap reverse i
@@ -64,7 +64,7 @@ module _ {Op : Type 0} (items : List (Item Op)) (k : ℕ) (p : Item Op) (lt : k 
         ∙ ap (λ (w : List ℕ). p.id ∷ w) are
         ∙ sym (ap (λ (w : List (Item Op)). map (λ q. q.id) w) left)
 
-    -- its id is not among them
+    -- The id of p is not among the ids of the items after it.
     module _ (new : list_any (λ j. p.id == j) ks ≡ false) where
       behind_differs : (q : Item Op) → In q (drop (k + 1) items) → p.id ≡ q.id → ⊥
       behind_differs q i e =
@@ -83,7 +83,7 @@ start_entries_ops : {Op : Type 0} (tx : Name) (l : List (Item Op)) → shared_op
 start_entries_ops tx [] = refl
 start_entries_ops {Op} tx (p ∷ l) = ap (λ (w : List Op). p.op ∷ w) (start_entries_ops tx l)
 
--- The log of the first items, which takes the one at a place or tells that it differs.
+-- The log of the first k items. The next item is added, or it differs from what the objects return.
 module _ {Shape State Op Undo : Type 0} (o : Object Shape State Op Undo) (shape : Shape) (tx : Name) (items : List (Item Op)) where
   module _ (k : ℕ) (p : Item Op) (lt : k < length items) (is : p ≡ get_or items k p) (log : Shape × List (SharedEntry Op)) (so_far : log ≡ (shape, start_entries tx (take k items))) where
     shape_is : log.0 ≡ shape
@@ -106,7 +106,7 @@ module _ {Shape State Op Undo : Type 0} (o : Object Shape State Op Undo) (shape 
         ap (λ (z : SharedEntry Op). z.id == p.id) m.2
         ∙ false_from_ne_true ((m.0).id == p.id) (λ t. d m.0 p (earlier items k p lt is m.0 m.1) (eqb-true (m.0).id p.id t)))
 
-    -- With one more entry, the log is that of one more item of the start.
+    -- If the log of the first k items gets the entry of the next one, it is the log of the first k + 1 items.
     pub log_more : (new : Shape × List (SharedEntry Op)) → new ≡ (log.0, log.1 ++ as_shared tx false p ∷ []) → new ≡ (shape, start_entries tx (take (k + 1) items))
     log_more new e =
         e
@@ -136,7 +136,7 @@ module _ {Shape State Op Undo : Type 0} (o : Object Shape State Op Undo) (shape 
     pub differs_at : (GoesBehind o log.0 (shared_ops log.1) p.op → ⊥) → IsAllowed o shape (ops items) → ⊥
     differs_at n a = n (goes_here (allowed_front (rules_of o shape) (o.start shape) (ops (take k items) ++ p.op ∷ []) (ops (drop (k + 1) items)) (subst (λ (z : List Op). IsAllowed o shape z) ops_cut a)))
 
--- the ids of the items are those of the entries
+-- The entries of a start have the ids of its items.
 pub start_entries_ids : {Op : Type 0} (t : Name) (items : List (Item Op)) → HoldsIdsOf t items (start_entries t items)
 start_entries_ids {Op} t items e i n owner = let m = from_map (as_shared t false) e items i in (m.0, m.1, ap (λ (w : SharedEntry Op). w.id) (sym m.2))
 
@@ -146,13 +146,13 @@ committed_all {Op} t (p ∷ l) =
     ap (λ (b : Bool). cond b (as_shared t true p) (as_shared t false p) ∷ commit_all t (start_entries t l)) (eq-names t t refl)
     ∙ ap (λ (w : List (SharedEntry Op)). as_shared t true p ∷ w) (committed_all t l)
 
--- what all items meet each of them meets
+-- A property of all items is one of each item.
 all_in : {X : Type 0} (P : X → Type 0) (l : List X) (x : X) → All P l → In x l → P x
 all_in P [] x all i = absurd i
 all_in P (y ∷ l) x all (inl e) = subst P (sym e) (All-head P y l all)
 all_in P (y ∷ l) x all (inr i) = all_in P l x (All-tail P y l all) i
 
--- lists with nothing in them
+-- A list without elements is empty.
 nothing : {X : Type 0} (l : List X) → ((x : X) → In x l → ⊥) → l ≡ []
 nothing [] n = refl
 nothing (x ∷ l) n = absurd (n x (inl refl))
@@ -165,7 +165,7 @@ no_keys [] e = refl
 no_keys (x ∷ es) e = absurd (subst (λ (w : List Name). In x.0 w) e (inl refl))
 
 module _ {Shape State Op Undo : Type 0} (o : Object Shape State Op Undo) (place : Op → ℕ) (apart : (shape : Shape) → PlacesSwap (rules_of o shape) place) (v : Kept Shape Op) (h : KeepsQuick o place v) (n : IsNew o place v) where
-  -- a Quick that is new keeps nothing
+  -- A new Quick has no slot.
   pub no_slots : v.slots.entries ≡ []
   no_slots = no_keys v.slots.entries (none_turned (keys_of v.slots.entries) (ap (λ (b : Brief Op). b.names) n.shown))
 
@@ -182,7 +182,7 @@ module _ {Shape State Op Undo : Type 0} (o : Object Shape State Op Undo) (place 
   pub not_begun : (t : Name) → lookup (λ m. t =ⁿ m) v.slots.entries ≡ None
   not_begun t = ap (λ z. lookup (λ m. t =ⁿ m) z) no_slots
 
-  -- what a start makes of it
+  -- The Quick w after a start.
   module _ (t : Name) (items : List (Item Op)) (w : Kept Shape Op) (shape : w.shape ≡ v.shape) (count : w.count ≡ v.count)
       (slots : w.slots.entries ≡ v.slots.entries ++ (t, None) ∷ []) (threads : w.threads.keys ≡ v.threads.keys) (ids : reverse w.ids ≡ map (λ p. p.id) items)
       (shared : w.shared ≡ (v.shape, commit_all t (start_entries t items))) (committed : w.committed ≡ v.committed ++ record { name = t; entries = items } ∷ []) (commits : (q : ℕ) → at q w.commits.items ≡ at q v.commits.items ++ ids_at place q items) where

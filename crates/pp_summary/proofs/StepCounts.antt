@@ -1,4 +1,4 @@
--- How many steps a record means, from what a Quick keeps.
+-- How many steps a record means, by the data that a Quick keeps.
 use Rattle.std.specs.Prelude.{◌≡◌, ◌≢◌, ◌==◌, ◌≤◌, ◌+◌, ◌*◌, ℕ, suc, nat_eq, Bool, true, false, cond, not, ◌&&◌, List, [], ◌∷◌, ◌++◌, drop, filter, is_some, length, map, option_map, take, Option, None, Some}
 use Rattle.std.specs.Map.{lookup}
 use Rattle.std.proofs.Common.{refl, sym, ap, subst, ◌∙◌, arith, length-append}
@@ -37,7 +37,7 @@ use Rattle.pp_summary.proofs.Moving.{committed_there, fine_of, open_is, open_the
 use Rattle.pp_summary.proofs.Places.{Distinct, count_ids, count_looked_up, count_there, filter_parts, filter_twice, length_parts, total_is, total_within}
 use Rattle.pp_summary.proofs.Relog.{filter_same, same_bool}
 
--- The ids that are filtered out of entries are those of entries that pass.
+-- An id is among those of the entries that pass a test exactly if its entry passes.
 has_filtered : {Op : Type 0} (test : SharedEntry Op → Bool) (G : List (SharedEntry Op)) → ((a b : SharedEntry Op) → Before a b G → a.id ≡ b.id → ⊥) → (g : SharedEntry Op) → In g G →
     has_id g.id (shared_ids (filter test G)) ≡ test g
 has_filtered {Op} test G d g i = same_bool (has_id g.id (shared_ids (filter test G))) (test g)
@@ -57,11 +57,11 @@ some_or_none : (m : Option ℕ) → is_some m ≡ true → (k : ℕ) × (m ≡ S
 some_or_none None e = absurd (cc)
 some_or_none (Some k) e = (k, refl)
 
--- the pulled entries
+-- The pulled entries of a local log.
 abbrev pub pulled : {Op : Type 0} → List (LocalEntry Op) → List (LocalEntry Op)
 pulled l = filter (λ e. is_mark e.mark Pulled) l
 
--- those at a place
+-- The pulled entries of a local log at a place.
 abbrev pub pulled_there : {Op : Type 0} → (Op → ℕ) → ℕ → List (LocalEntry Op) → List (LocalEntry Op)
 pulled_there place q l = filter (λ e. is_mark e.mark Pulled && (place e.op == q)) l
 
@@ -92,14 +92,14 @@ module _ {Shape State Op Undo : Type 0} (o : Object Shape State Op Undo) (place 
   abbrev commits : List (List ℕ)
   commits = v.commits.items
 
-  -- it is committed, at the place q
+  -- The entry is committed and at the place q.
   abbrev pub is_done : ℕ → SharedEntry Op → Bool
   is_done q g = g.committed && (place g.op == q)
 
   alone : (a b : SharedEntry Op) → Before a b G → a.id ≡ b.id → ⊥
   alone = own_ids o place apart v h
 
-  -- what was committed at a place, and its entries
+  -- A committed entry has the id and the place of an item of the serial run.
   done_item : (g : SharedEntry Op) → In g G → g.committed ≡ true → (p : Item Op) × In p (serial_items v.committed) × (g.id ≡ p.id) × (place g.op ≡ place p.op)
   done_item = subst (λ (b : Brief Op). (g : SharedEntry Op) → In g b.shared → g.committed ≡ true → (p : Item Op) × In p (serial_items b.done) × (g.id ≡ p.id) × (place g.op ≡ place p.op))
       h.is_held.1.is
@@ -135,7 +135,7 @@ module _ {Shape State Op Undo : Type 0} (o : Object Shape State Op Undo) (place 
       let m = before_from_map (λ (p : Item Op). p.id) i j (items_at place q (serial_items v.committed)) b in
       λ s. serial_distinct m.0 m.1 (before_from_filter (λ (p : Item Op). place p.op == q) m.0 m.1 (serial_items v.committed) m.2) (sym m.3 ∙ s ∙ m.4))
 
-  -- As many entries are committed at a place as ids are kept of it.
+  -- As many entries are committed at a place as the Quick keeps ids for it.
   pub done_length : (q : ℕ) → length (filter (is_done q) G) ≡ length (at q commits)
   done_length q = count_ids (λ (g : SharedEntry Op). g.id) (is_done q) G (at q commits) alone (ids_distinct q) (done_id q) (done_entry q)
 
@@ -147,7 +147,7 @@ module _ {Shape State Op Undo : Type 0} (o : Object Shape State Op Undo) (place 
       let d = done_entry q i (in_dropped k (at q commits) i j) in
       (d.0, d.1, and_true (is_done q d.0) (has_id (d.0).id (drop k (at q commits))) d.2 (in_has (d.0).id (drop k (at q commits)) (subst (λ (n : ℕ). In n (drop k (at q commits))) (sym d.3) j)), d.3))
 
-  -- The counts of a transaction are together at most what was committed.
+  -- A transaction has seen at most 256 more commits than records were taken.
   pub seen_few : (t : Name) (x : OpenTx (List (Item Op))) → open_in t v.slots.entries ≡ Some x → HaveOwnPlaces x.seen.entries → seen_total x.seen.entries ≤ v.count + 256
   seen_few t x found own =
       let all : seen_total x.seen.entries ≤ length (serial_items v.committed) =
@@ -160,7 +160,7 @@ module _ {Shape State Op Undo : Type 0} (o : Object Shape State Op Undo) (place 
       let same : length (serial_ops v.committed) ≡ length (serial_items v.committed) = length-ops (serial_items v.committed) in
       omega arith
 
-  -- What is behind any position is at most what was committed.
+  -- At a place, the commits after a position are at most 256 more than the records that were taken.
   pub unseen_few : (q : ℕ) (m : Option ℕ) → count_behind m (at q commits) ≤ v.count + 256
   unseen_few q m =
       let few : length (serial_ops v.committed) ≤ v.count + 256 = done_few o place apart v h in
@@ -180,7 +180,7 @@ module _ {Shape State Op Undo : Type 0} (o : Object Shape State Op Undo) (place 
 
   -- A configuration of which it is the brief.
   module _ (c : Config Op) (is : IsHeldOf o place (as_held place v) c) where
-    -- a transaction that is not open
+    -- A transaction without an open slot is not open in the configuration.
     pub none_open : (t : Name) → open_in t v.slots.entries ≡ None → tx t c.opened ≡ None
     none_open t e = by (tx t c.opened)
         (sym (brief_of_is place c.shared t c.opened) ∙ ap (λ (b : Brief Op). brief_of t b.opened) is.is ∙ open_is o place apart v h t ∙ ap (option_map (shown_tx place G commits t)) e)
@@ -190,14 +190,14 @@ module _ {Shape State Op Undo : Type 0} (o : Object Shape State Op Undo) (place 
         by (Some y) k = absurd (cc)
 
     module _ (t : Name) (x : OpenTx (List (Item Op))) (found : open_in t v.slots.entries ≡ Some x) where
-      -- the transaction, in the configuration
+      -- The open transaction x, as the configuration has it.
       pub opened : (y : Tx Op) × (tx t c.opened ≡ Some y) × (brief_tx place c.shared y ≡ shown_tx place G commits t x)
       opened = there o place apart (as_held place v) (c, is) t (shown_tx place G commits t x) (open_there o place apart v h t x found)
 
       abbrev y : Tx Op
       y = opened.0
 
-      -- its local log
+      -- The local log of the open transaction x.
       abbrev pub l : List (LocalEntry Op)
       l = y.local
 
@@ -222,7 +222,7 @@ module _ {Shape State Op Undo : Type 0} (o : Object Shape State Op Undo) (place 
       pushed_there : (e : LocalEntry Op) → In e l → e.mark ≡ Pushed → In (as_shared y.name false (item e)) G
       pushed_there e i m = subst (λ (z : List (SharedEntry Op)). In (as_shared y.name false (item e)) z) same_log (is.boosted.sound.pushed_stand y iy e i m)
 
-      -- a committed entry that is in the local log was pulled
+      -- A committed entry that is in the local log was pulled.
       was_pulled : (g : SharedEntry Op) → In g G → g.committed ≡ true → stands_in l g.id ≡ true → (e : LocalEntry Op) × In e l × (e.mark ≡ Pulled) × (e.id ≡ g.id) × (e.op ≡ g.op)
       was_pulled g i u s = let e = entry_in g.id l s in by e.0 e.1 e.2 (e.0).mark refl
         where
@@ -244,11 +244,11 @@ module _ {Shape State Op Undo : Type 0} (o : Object Shape State Op Undo) (place 
       own_there : (q : ℕ) (m : Option ℕ) → lookup (nat_eq q) x.seen.entries ≡ m → any_at place q (own_items l) ≡ is_some m
       own_there q m e = ap (λ (w : List (Item Op)). any_at place q w) same_own ∙ sym ((fine_of o place apart v h t x found).sees q) ∙ ap (λ (z : Option ℕ). is_some z) e
 
-      -- a pulled entry has an own one at its place
+      -- For each pulled entry, the log has an own entry at the same place.
       anchor : (e : LocalEntry Op) → In e l → e.mark ≡ Pulled → any_at place (place e.op) (own_items l) ≡ true
       anchor e i m = let a = is.boosted.anchored y iy e i m in to_any_at place (place e.op) (own_items l) (item a.0) (in_own l a.0 (a.1).0 (a.1).1) (a.1).2
 
-      -- the committed entries at a place that the local log lacks
+      -- The committed entries at a place that the local log does not have.
       abbrev pub lacking : ℕ → List (SharedEntry Op)
       lacking q = filter (λ g. is_done q g && not (stands_in l g.id)) G
 
@@ -285,7 +285,7 @@ module _ {Shape State Op Undo : Type 0} (o : Object Shape State Op Undo) (place 
               differ (any_at place q (own_items l)) (subst (λ (n : ℕ). any_at place n (own_items l) ≡ true) (ap place w.4 ∙ eqb-true (place g.op) q a.1) (anchor w.0 w.1 w.2)) (own_there q None e)) in
               ap (λ (b : Bool). b && not (stands_in l g.id)) d ∙ ap not out ∙ sym d
 
-      -- As many are lacking as are behind those that were seen.
+      -- The local log does not have as many committed entries of a place as come after those that were seen there.
       pub lacking_length : (q : ℕ) → length (lacking q) ≡ count_behind (lookup (nat_eq q) x.seen.entries) (at q commits)
       lacking_length q = by (lookup (nat_eq q) x.seen.entries) refl
         where
@@ -325,7 +325,7 @@ module _ {Shape State Op Undo : Type 0} (o : Object Shape State Op Undo) (place 
       stood_and_lacking : (q : ℕ) → length (at q commits) ≡ length (pulled_there place q l) + length (lacking q)
       stood_and_lacking q = sym (done_length q) ∙ filter_parts (λ (g : SharedEntry Op). stands_in l g.id) (is_done q) G ∙ ap (λ (n : ℕ). n + length (lacking q)) (stood_length q)
 
-      -- What was seen of a place is what was pulled there.
+      -- As many entries were pulled at a place as were seen there.
       pub pulled_some : (q k : ℕ) → lookup (nat_eq q) x.seen.entries ≡ Some k → length (pulled_there place q l) ≡ k
       pulled_some q k e =
           let w : k ≤ length (at q commits) = (fine_of o place apart v h t x found).within q k e in
@@ -369,7 +369,7 @@ module _ {Shape State Op Undo : Type 0} (o : Object Shape State Op Undo) (place 
           ∙ length-append (refresh place t (place op) G l) (App t id op ∷ Push t id ∷ [])
           ∙ ap (λ (n : ℕ). n + 2) (length-map (lacking (place op)) (λ (g : SharedEntry Op). Pull t g.id) ∙ lacking_length (place op))
 
-  -- It has at most as many own operations as there are entries.
+  -- A transaction has at most 256 more own operations than records were taken.
   pub own_few : (t : Name) (x : OpenTx (List (Item Op))) → open_in t v.slots.entries ≡ Some x → length x.own ≤ v.count + 256
   own_few t x found =
       let c = h.is_held in
@@ -383,7 +383,7 @@ module _ {Shape State Op Undo : Type 0} (o : Object Shape State Op Undo) (place 
   abbrev Has : records.RunRecord Op → ℕ → Type 0
   Has r n = HasSteps o place (as_held place v) r n
 
-  -- a record of a transaction that is not open
+  -- An op record of a transaction that is not open is one step.
   pub op_alone : (t : Name) → open_in t v.slots.entries ≡ None → (id : ℕ) (op : Op) → Has (records.Op t id op) 1
   op_alone t e id op f c is = sym (ap (λ (w : Option (Tx Op)). length (steps_of_open w (App t id op) (λ k. refresh place t (place op) c.shared k ++ App t id op ∷ Push t id ∷ []))) (none_open c is t e))
 
@@ -401,7 +401,7 @@ module _ {Shape State Op Undo : Type 0} (o : Object Shape State Op Undo) (place 
     op_steps id op n e f c is = e ∙ sym (op_length c is t x found f id op)
 
     module _ (own : HaveOwnPlaces x.seen.entries) (n : ℕ) (e : n ≡ seen_total x.seen.entries + 2 * length x.own + 1) where
-      -- An abort is a step for each pulled entry, two for each own one, and one more.
+      -- An abort record is a step for each pulled entry, two for each own entry, and one step for itself.
       pub abort_steps : Has (records.Abort t) n
       abort_steps f c is =
           let y = opened c is t x found in
@@ -410,7 +410,7 @@ module _ {Shape State Op Undo : Type 0} (o : Object Shape State Op Undo) (place 
           let d : n ≡ length (taken_out t (y.0).local ++ Quit t ∷ []) = omega arith in
           d ∙ sym (ap (λ (w : Option (Tx Op)). length (steps_of_open w (Quit t) (λ k. taken_out t k ++ Quit t ∷ []))) y.1)
 
-      -- A retry is a step for each pulled entry, two for each own one, and one more.
+      -- A retry record is a step for each pulled entry, two for each own entry, and one step for itself.
       pub retry_steps : Has (records.Retry t) n
       retry_steps f c is =
           let y = opened c is t x found in
@@ -418,7 +418,7 @@ module _ {Shape State Op Undo : Type 0} (o : Object Shape State Op Undo) (place 
           let d : n ≡ length (Note t ∷ taken_out t (y.0).local) = omega arith in
           d ∙ sym (ap (λ (w : Option (Tx Op)). length (steps_of_open w (Note t) (λ k. Note t ∷ taken_out t k))) y.1)
 
-  -- a commit is one step, and so is a begin
+  -- A commit record is one step.
   pub commit_steps : (t : Name) → Has (records.Commit t) 1
   commit_steps t f c is = by (tx t c.opened)
     where

@@ -1,4 +1,4 @@
--- What taking the records of a run costs.
+-- The cost of taking the records of a run.
 use Rattle.std.specs.Prelude.{◌≡◌, ◌≤◌, ◌+◌, ℕ, List, [], ◌∷◌, ◌++◌, filter, length}
 use Rattle.std.proofs.Common.{refl, sym, ap, ◌∙◌, arith, length-append}
 use Rattle.std.proofs.lemmas.List.Elements.{filter-append}
@@ -48,7 +48,7 @@ module _ {Op State : Type 0} (O : Object Op State) (place : Op → ℕ) where
   most [] B r = omega arith
   most (q ∷ rs) B r = let i = most rs (brief_then place B q) r in omega (arith, i)
 
-  -- up to and with the first that is not good
+  -- If a record is the first that is not good, the records up to it are tried.
   pub tried_to : (xs more : List (RunRecord Op)) (B : Brief Op) (r : RunRecord Op) → BriefRuns O place B xs → (BriefGood O place (brief_after place B xs) r → ⊥) →
       AreTried O place B (xs ++ r ∷ more) (xs ++ r ∷ [])
   tried_to [] more B r h bad = inl (bad, refl)

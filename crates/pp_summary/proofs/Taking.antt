@@ -1,4 +1,4 @@
--- What taking a record answers, in the words of configurations.
+-- What taking a record returns, as a statement about configurations.
 use Rattle.std.specs.Prelude.{◌≡◌, ℕ, Bool, true, false}
 use Rattle.std.proofs.Common.{sym, ap, subst, ◌∙◌}
 use Rattle.pp_model.specs.Config.{Config, Start}
@@ -30,7 +30,7 @@ module _ {Shape State Op Undo : Type 0} (o : Object Shape State Op Undo) (place 
     is_good : Good (rules_of o v.shape) place c r → IsGood o place v r
     is_good g = subst (λ (b : Brief Op). BriefGood (rules_of o v.shape) place b r) k.is (((briefed (rules_of o v.shape) place (apart v.shape)).good c r s k.boosted).0 g)
 
-    -- The answer of a summary to a record says whether it is good in each configuration it is of.
+    -- If taking a record returns what `Answers` says, its result says whether the record is good in each configuration with this brief.
     pub taken : (answer : Bool) → Answers o place v r answer w → TakesIn o place (as_held place v) r answer (as_held place w) f c
     taken true a =
         let g = good_is a.0 in (
@@ -40,11 +40,11 @@ module _ {Shape State Op Undo : Type 0} (o : Object Shape State Op Undo) (place 
     taken false a =
         ((λ run. a.0 (is_good (((quick (rules_of o v.shape) place (apart v.shape)).good f c r s k.boosted).1 run))), ap (as_held place) a.1)
 
-  -- The answer of a summary to a record is right of all that it is seen to hold.
+  -- If taking a record returns what `Answers` says, it takes the record as its contract promises.
   pub takes_of : (v w : Kept Shape Op) (r : RunRecord Op) (answer : Bool) → IsBoosted r → Answers o place v r answer w → Takes o place (as_held place v) r answer (as_held place w)
   takes_of v w r answer s a f c k = taken v w r s f c k answer a
 
--- what is kept then
+-- A record leaves a Quick with the facts that each Quick keeps.
 pub keeps_after : {Shape State Op Undo : Type 0} (o : Object Shape State Op Undo) (place : Op → ℕ) (v w : Kept Shape Op) (r : RunRecord Op) (answer : Bool) → Answers o place v r answer w → KeepsQuick o place v → KeepsQuick o place w
 keeps_after o place v w r true a h = a.1.keeps
 keeps_after {Shape = Shape} {Op = Op} o place v w r false a h = subst (λ (z : Kept Shape Op). KeepsQuick o place z) (sym a.1) h
@@ -54,7 +54,7 @@ pub shape_after : {Shape State Op Undo : Type 0} (o : Object Shape State Op Undo
 shape_after o place v w r true a = a.1.shape
 shape_after {Shape = Shape} {Op = Op} o place v w r false a = ap (λ (z : Kept Shape Op). z.shape) a.1
 
--- what starting answers, in the words of configurations
+-- If a start returns what `StartAnswers` says, it starts the Quick as its contract promises.
 pub starts_of : {Shape State Op Undo : Type 0} (o : Object Shape State Op Undo) (place : Op → ℕ) (v w : Kept Shape Op) (z : Start Op) (good : Bool) → v.count ≡ 0 → StartAnswers o place v z good w →
     Starts o place (as_held place v) z good (as_held place w)
 starts_of o place v w z true none a = (a.0, same_held _ _ _ _ _ _ a.1.shape a.1.shown (a.1.count ∙ none))

@@ -7,7 +7,7 @@ use Rattle.pp_model.proofs.NameLists.{any_joined, any_not, any_skip, apart_more,
 use Rattle.pp_model.proofs.NameLists.{or_last}
 use Rattle.pp_summary.specs.Shown.{AreThreads}
 
--- one more is busy, and one less
+-- With one more busy thread, the busy threads are the old ones and this one.
 pub threads_more : (ts bs us : List Name) (p : Name) → AreThreads ts bs → list_any (λ q. q =ⁿ p) bs ≡ false →
     ((q : Name) → list_any (λ z. q =ⁿ z) us ≡ cond (p =ⁿ q) true (list_any (λ z. q =ⁿ z) ts)) → AreThreads us (bs ++ p ∷ [])
 threads_more ts bs us p k i u =

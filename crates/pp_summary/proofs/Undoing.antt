@@ -21,17 +21,17 @@ undo_most B ways.Abort t = refl
 undo_most B ways.Retry t = refl
 
 module _ {Shape State Op Undo : Type 0} (o : Object Shape State Op Undo) (place : Op → ℕ) (apart : (shape : Shape) → PlacesSwap (rules_of o shape) place) (v : Kept Shape Op) (h : KeepsQuick o place v) (t : Name) where
-  -- if the transaction is open it is good
+  -- An abort or a retry record of an open transaction is good.
   pub undoes : (how : Undoing) (x : OpenTx (List (Item Op))) → open_in t v.slots.entries ≡ Some x → IsGood o place v (undo_record how t)
   undoes ways.Abort x found = it_is o place apart v h t x found (λ y. Unit {0}) tt
   undoes ways.Retry x found = it_is o place apart v h t x found (λ y. Unit {0}) tt
 
-  -- and else not
+  -- An abort or a retry record of a transaction that is not open is not good.
   pub not_undone : (how : Undoing) → open_in t v.slots.entries ≡ None → IsGood o place v (undo_record how t) → ⊥
   not_undone ways.Abort none g = not_open o place apart v h t (λ y. Unit {0}) none g
   not_undone ways.Retry none g = not_open o place apart v h t (λ y. Unit {0}) none g
 
-  -- with one record more, once it is known which of the two it is
+  -- If `how` is `which`, what is proved of the record of `which` is proved of the record of `how`.
   pub moves_from : (how which : Undoing) (p q : Kept Shape Op) → how ≡ which → p ≡ q → Moves o place v (undo_record which t) (record q { count = q.count + 1 }) → Moves o place v (undo_record how t) (record p { count = p.count + 1 })
   moves_from how which p q is same m =
       subst (λ (u : Undoing). Moves o place v (undo_record u t) (record p { count = p.count + 1 })) (sym is)

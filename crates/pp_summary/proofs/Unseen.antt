@@ -1,4 +1,4 @@
--- What an open transaction has not seen, after each of the records.
+-- Which commits an open transaction has not seen, after each record.
 use Rattle.std.specs.Prelude.{◌≡◌, ◌≢◌, ◌⊎◌, ◌==◌, ◌≤◌, ℕ, zero, suc, nat_eq, Bool, true, false, cond, not, ◌&&◌, ◌||◌, List, [], ◌∷◌, ◌++◌, filter, drop, length, is_some, Option, None, Some}
 use Rattle.std.specs.Map.{lookup}
 use Rattle.std.proofs.Common.{refl, sym, ap, subst, ◌∙◌, arith}
@@ -32,7 +32,7 @@ or_none true = refl
 or_none false = refl
 
 module _ {Op : Type 0} (place : Op → ℕ) where
-  -- its id is among the unseen ones exactly if an entry is unseen
+  -- The id of an entry is among the unseen ids exactly if the entry is unseen.
   pub has_unseen : (G : List (SharedEntry Op)) (commits : List (List ℕ)) (seen : List (ℕ × ℕ)) → ((g h : SharedEntry Op) → Before g h G → g.id ≡ h.id → ⊥) → (g : SharedEntry Op) → In g G →
       has_id g.id (unseen place G commits seen) ≡ is_unseen place commits seen g
   has_unseen G commits seen d g i = same_bool (has_id g.id (unseen place G commits seen)) (is_unseen place commits seen g)
@@ -42,23 +42,23 @@ module _ {Op : Type 0} (place : Op → ℕ) where
       subst (λ (w : SharedEntry Op). is_unseen place commits seen w ≡ true) (by_key (λ (w : SharedEntry Op). w.id) G d m.0 g f.0 i (sym m.2)) f.1)
       (λ h. in_has g.id (unseen place G commits seen) (in_map (λ (w : SharedEntry Op). w.id) g (filter (is_unseen place commits seen) G) (in_filter (is_unseen place commits seen) g G i h)))
 
-  -- nothing is seen if there is no own operation
+  -- A transaction without own operations has no unseen commits.
   pub unseen_none : (G : List (SharedEntry Op)) (commits : List (List ℕ)) → unseen place G commits [] ≡ []
   unseen_none G commits = ap (λ (w : List (SharedEntry Op)). shared_ids w) (filter_none (is_unseen place commits []) G (λ g i. and_false g.committed))
 
-  -- an uncommitted entry is not unseen
+  -- An uncommitted entry at the end of the shared log is not unseen.
   pub unseen_wider : (G : List (SharedEntry Op)) (commits : List (List ℕ)) (seen : List (ℕ × ℕ)) (t : Name) (p : Item Op) → unseen place (G ++ as_shared t false p ∷ []) commits seen ≡ unseen place G commits seen
   unseen_wider G commits seen t p = ap (λ (w : List (SharedEntry Op)). shared_ids w)
       (filter-append (is_unseen place commits seen) G (as_shared t false p ∷ []) ∙ append-nil (filter (is_unseen place commits seen) G))
 
-  -- entries of t leave, of which none is committed
+  -- If uncommitted entries of t leave the shared log, the unseen commits stay the same.
   pub unseen_fewer : (G : List (SharedEntry Op)) (commits : List (List ℕ)) (seen : List (ℕ × ℕ)) (t : Name) → ((g : SharedEntry Op) → In g G → g.owner ≡ t → g.committed ≡ false) →
       unseen place (without_owner t G) commits seen ≡ unseen place G commits seen
   unseen_fewer G commits seen t n = ap (λ (w : List (SharedEntry Op)). shared_ids w)
       (filter_within (is_unseen place commits seen) (λ (g : SharedEntry Op). not (g.owner =ⁿ t)) G
       (λ g i m. names_not g.owner t (λ e. differ g.committed (and_parts g.committed (has_id g.id (unseen_at (place g.op) commits seen)) m).0 (n g i e))))
 
-  -- the commits at the place of one more operation are seen
+  -- After one more own operation, the commits at its place are seen, and the other unseen commits stay the same.
   pub unseen_grown : (G : List (SharedEntry Op)) (commits : List (List ℕ)) (old new : List (ℕ × ℕ)) (op : Op) → ((g h : SharedEntry Op) → Before g h G → g.id ≡ h.id → ⊥) →
       ((q : ℕ) → lookup (nat_eq q) new ≡ cond (nat_eq (place op) q) (Some (length (at (place op) commits))) (lookup (nat_eq q) old)) →
       unseen place G commits new ≡ shared_ids (filter (λ g. has_id g.id (unseen place G commits old) && not (place g.op == place op)) G)
@@ -87,7 +87,7 @@ module _ {Op : Type 0} (place : Op → ℕ) where
           and_true_right true = refl
           and_true_right false = refl
 
-  -- what is behind the first k, with more at the end
+  -- Elements at the end of a list are also at the end of the list without its first k elements.
   drop_more : {A : Type 0} (k : ℕ) (l m : List A) → k ≤ length l → drop k (l ++ m) ≡ drop k l ++ m
   drop_more zero l m h = refl
   drop_more (suc k) [] m h = absurd (omega arith)
@@ -101,7 +101,7 @@ module _ {Op : Type 0} (place : Op → ℕ) where
       assoc true b c = refl
       assoc false b c = refl
 
-  -- t commits its own operations
+  -- The transaction t commits its own operations.
   module _ (G : List (SharedEntry Op)) (commits later : List (List ℕ)) (seen : List (ℕ × ℕ)) (t : Name) (own mine : List (Item Op))
       (d : (g h : SharedEntry Op) → Before g h G → g.id ≡ h.id → ⊥)
       (owned : (g : SharedEntry Op) → In g G → g.owner ≡ t → (p : Item Op) × In p mine × (g ≡ as_shared t false p))
@@ -122,7 +122,7 @@ module _ {Op : Type 0} (place : Op → ℕ) where
         ∙ ap (λ l. has_id i l) (drop_more k (at q commits) (ids_at place q mine) (within q k e))
         ∙ has_more i (drop k (at q commits)) (ids_at place q mine)
 
-    -- the operations of t have the ids of its entries alone
+    -- The ids of the operations of t are those of its entries, and of no others.
     is_mine : (g : SharedEntry Op) → In g G → has_id g.id (ids_at place (place g.op) mine) ≡ (g.owner =ⁿ t)
     is_mine g i = same_bool (has_id g.id (ids_at place (place g.op) mine)) (g.owner =ⁿ t)
         (λ h.
@@ -159,7 +159,7 @@ module _ {Op : Type 0} (place : Op → ℕ) where
         lone false true e = refl
         lone false false e = refl
 
-        -- what is uncommitted is no commit
+        -- An uncommitted entry is not an unseen commit.
         none : (b : Bool) → old ≡ b → g.committed ≡ false → b ≡ false
         none false e u = refl
         none true e u =

@@ -40,7 +40,7 @@ module _ {Op State : Type 0} (O : Object Op State) (place : Op → ℕ) (apart :
   bare_steps p r rs = bare_append (on_line r.line (steps_at T p r.what)) (joined_steps T (after_record T p r.what) rs)
       ∙ ap (λ (z : List (Step Op)). z ++ bare (joined_steps T (after_record T p r.what) rs)) (bare_on_line r.line (steps_at T p r.what))
 
-  -- after a good record
+  -- The rest of the run after a good record.
   next : (p : At) (r : RunRecord Op) → IsBoosted r → Boosted O place p.config → Good O place p.config r → (rs : List (RunRecord Op)) →
       BriefRuns O place (brief_then place (brief place p.config) r) rs → BriefRuns O place (brief place (after_record T p r).config) rs
   next p r s b g rs h = subst (λ (z : Brief Op). BriefRuns O place z rs) (sym (w.step p.front p.config r s b g)) h

@@ -14,8 +14,8 @@ use pp_core::{Body, Name, OutOfMemory};
 use pp_kind::Parted;
 use pp_log_shared::Shared;
 
-/// A transaction begins, if its name is new and its thread is not busy. The only error is
-/// out of memory.
+/// Begins a transaction if its name is new and its thread is not busy. The only error is out of
+/// memory.
 pub fn begin<S: Parted>(
     parts: &mut Parts<S::Shape, S::Op, Shared<S>, Own<S>>,
     tx: &Name,

@@ -11,8 +11,8 @@ use pp_core::{CommittedTx, Name, OutOfMemory};
 use pp_kind::Parted;
 use pp_log_shared::Shared;
 
-/// Takes a commit record if it is good: the open transaction has come to an end of its body, and
-/// its operations are committed. The only error is out of memory.
+/// Takes a commit record if it is good. It is good if the open transaction has completed its body.
+/// Its operations are then committed. The only error is out of memory.
 pub fn commit<S: Parted>(
     parts: &mut Parts<S::Shape, S::Op, Shared<S>, Own<S>>,
     tx: &Name,

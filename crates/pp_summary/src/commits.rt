@@ -1,4 +1,4 @@
-//! What was committed at each place, and what an open transaction has seen of it.
+//! The commits at each place, and which of them an open transaction has seen.
 ghost use Rattle.std.specs.Prelude.{◌≡◌, ◌<◌, ◌∷◌, ◌++◌, [], ℕ, false, IsTrue, OnOk, drop, length};
 ghost use Rattle.pp_summary.specs.Passing.{HaveEntries, HaveOwnIds, LetAllPass, StopsOne};
 ghost use Rattle.pp_summary.specs.Passing.{with_commit};
@@ -11,7 +11,7 @@ use pp_kind::{Parted, Placed};
 use pp_log_shared::Shared;
 use std::alloc::Global;
 
-/// How many commits there were at a place.
+/// How many commits there are at a place.
 pub fn count_at(commits: &Commits, place: u16) -> usize
     ensures { result ≡ length (at place commits.now.items) }
 {
@@ -21,8 +21,8 @@ pub fn count_at(commits: &Commits, place: u16) -> usize
     }
 }
 
-/// Makes an empty list for each place up to this one that has none. The only error is out
-/// of memory.
+/// Makes an empty list for each place up to this one that has no list. The only error is out of
+/// memory.
 fn make_lists(alloc: Global, commits: &mut Commits, place: usize) -> Result<(), OutOfMemory>
     ensures same { (q : ℕ) → at q commits.new.items ≡ at q commits.old.items }
     ensures there { OnOk result (place < length commits.new.items) }
@@ -33,7 +33,7 @@ fn make_lists(alloc: Global, commits: &mut Commits, place: usize) -> Result<(), 
     Ok(())
 }
 
-/// One more commit. The only error is out of memory.
+/// Adds a commit at its place. The only error is out of memory.
 fn add_commit<S: Placed>(
     alloc: Global,
     commits: &mut Commits,
@@ -47,7 +47,7 @@ fn add_commit<S: Placed>(
     commits[place].push(item.id)
 }
 
-/// Commits of all these items. The only error is out of memory.
+/// Adds the commits of all these items. The only error is out of memory.
 pub fn add_commits<S: Placed>(
     alloc: Global,
     commits: &mut Commits,
@@ -62,7 +62,7 @@ pub fn add_commits<S: Placed>(
     Ok(())
 }
 
-/// Whether the own operations let the operation of the entry with this id pass.
+/// Whether the own operations at its place swap with the operation of the entry with this id.
 fn lets_pass<S: Parted>(own: &Own<S>, shared: &Shared<S>, id: u32) -> bool
     requires ids { HaveOwnIds shared.now.1 }
     requires entries { HaveEntries shared.now.1 (id ∷ []) }
@@ -80,7 +80,7 @@ fn lets_pass<S: Parted>(own: &Own<S>, shared: &Shared<S>, id: u32) -> bool
     own.let_pass(&entry.op)
 }
 
-/// Whether the own operations let the operations of these ids pass, from a position on.
+/// Whether the own operations swap with the operations of all these ids, from a position on.
 fn let_all_pass<S: Parted>(own: &Own<S>, shared: &Shared<S>, done: &[u32], from: usize) -> bool
     requires ids { HaveOwnIds shared.now.1 }
     requires entries { HaveEntries shared.now.1 done.now }
@@ -97,8 +97,8 @@ fn let_all_pass<S: Parted>(own: &Own<S>, shared: &Shared<S>, done: &[u32], from:
     true
 }
 
-/// Whether the own operations at the place of an operation let each commit pass there that the
-/// transaction has not seen. It asks the movers of no others.
+/// Whether the own operations at the place of an operation swap with each commit there that the
+/// transaction has not seen. It asks about no other places.
 pub fn passes_unseen<S: Parted>(
     it: &OpenTx<Own<S>>,
     shared: &Shared<S>,

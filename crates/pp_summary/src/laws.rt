@@ -1,5 +1,5 @@
-//! The laws of boosted runs, each over every kind. A law about places holds of every choice of them
-//! for which operations of different places swap.
+//! The laws of boosted runs, each for every kind of objects. A law about places is true for every
+//! choice of places for which operations at different places swap.
 ghost use Rattle.pp_summary.specs.Boosted.{PlacesSwap};
 ghost use Rattle.pp_summary.specs.Laws.{BoostedLaw, BriefLaw, DecidedLaw, FrontLaw, LeaveLaw};
 ghost use Rattle.pp_summary.specs.Reading.{BoostedFailureLaw, ReaderLaw};
@@ -13,19 +13,20 @@ pub fn front_law<S: Spec>()
     ensures { (shape : S.Shape) → FrontLaw (rules_of S.object shape) }
 {}
 
-/// A boosted record is good exactly if every step that it means holds, and then the next
-/// configuration is boosted too.
+/// A boosted record is good exactly if every step that it means meets its criteria. The next
+/// configuration is then boosted too.
 pub fn boosted_law<S: Spec>()
     ensures { (shape : S.Shape) → BoostedLaw (rules_of S.object shape) }
 {}
 
-/// The brief of a boosted configuration decides whether a record is good, and which brief it leads
-/// to.
+/// The brief of a boosted configuration decides whether a record is good, and to which brief it
+/// leads.
 pub fn brief_law<S: Spec>()
     ensures { (shape : S.Shape) → BriefLaw (rules_of S.object shape) }
 {}
 
-/// Briefs decide a boosted run: whether it is accepted, and whose step is the first that fails.
+/// Briefs decide a boosted run: whether it is accepted, and which record has the first step that
+/// fails.
 pub fn decided_law<S: Spec>()
     ensures { (shape : S.Shape) → DecidedLaw (rules_of S.object shape) }
 {}
@@ -35,26 +36,26 @@ pub fn leave_law<S: Spec>()
     ensures { (shape : S.Shape) → LeaveLaw (rules_of S.object shape) }
 {}
 
-/// Operations of different places of a `Placed` kind swap.
+/// Operations at different places of a `Placed` kind swap.
 pub fn placed_law<S: Placed>()
     ensures { (shape : S.Shape) → PlacesSwap (rules_of S.object shape) S.place_of }
 {}
 
-/// Of the records of a boosted run one fails at most, none if each step holds, and, if the
-/// start holds, one if not. If one fails, each verdict of the steps is a rejection of a step
-/// on its line, and if the start fails, of the start.
+/// At most one record of a boosted run fails. None fails if each step meets its criteria, and one
+/// fails if the start meets its criteria and a step does not. Each verdict of the steps then
+/// rejects a step on the line of the failing record, or the start if the start fails.
 pub fn failure_law<S: Spec>()
     ensures { (shape : S.Shape) → BoostedFailureLaw (rules_of S.object shape) }
 {}
 
-/// What a `Quick` that takes the records of a run, one after another, says of the run: whether it
-/// is accepted, what was committed, which record fails, and which records are tried.
+/// A `Quick` that takes the records of a run one by one decides the run: whether it is accepted,
+/// what was committed, which record fails, and which records are tried.
 pub fn reader_law<S: Placed>()
     ensures { ReaderLaw S.object S.place_of }
 {}
 
-/// What the records cost at most that are tried of a run, one after another, and that a good record
-/// takes at least one tick if it is an operation.
+/// An upper bound for the cost of the records of a run that are tried one by one. A good op record
+/// costs at least one tick.
 pub fn sum_law<S: Spec>()
     ensures { (shape : S.Shape) → SumsLaw (rules_of S.object shape) }
 {}

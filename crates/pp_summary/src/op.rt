@@ -14,8 +14,8 @@ use pp_kind::Parted;
 use pp_log_shared::Shared;
 use std::sync::ledger::Ledger;
 
-/// Takes an op record if it is good: the operation of the open transaction is after the
-/// shared log. The only error is out of memory.
+/// Takes an op record if it is good: the shared log then ends with the operation of the open
+/// transaction. The only error is out of memory.
 pub fn do_op<S: Parted, L: Ledger>(
     parts: &mut Parts<S::Shape, S::Op, Shared<S>, Own<S>>,
     tx: &Name,

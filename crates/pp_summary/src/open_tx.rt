@@ -14,7 +14,7 @@ use pp_core::{Body, Item, Name, OutOfMemory};
 use pp_kind::{Parted, Placed};
 use std::alloc::Global;
 
-/// A transaction that begins. The only error is out of memory.
+/// Makes a transaction that begins. The only error is out of memory.
 pub fn fresh<S: Parted>(
     alloc: Global,
     thread: &Name,
@@ -37,8 +37,8 @@ pub fn fresh<S: Parted>(
     })
 }
 
-/// Adds an operation to the own ones, behind which the transaction has seen the commits at its
-/// place. The only error is out of memory.
+/// Adds an own operation. The transaction has then seen all commits at the place of the operation.
+/// The only error is out of memory.
 pub fn add_operation<S: Parted>(
     it: &mut OpenTx<Own<S>>,
     commits: &Commits,
@@ -54,7 +54,7 @@ pub fn add_operation<S: Parted>(
     Ok(())
 }
 
-/// The walk with this many calls given back.
+/// Takes the calls of these operations back from the end of the walk.
 pub fn given_back<S: Placed>(walk: Walk, own: &[Item<S::Op>]) -> Walk
     requires { HasTaken walk (calls_of S.object own.now) }
     ensures body { result.body ≡ walk.body }
@@ -69,7 +69,7 @@ pub fn given_back<S: Placed>(walk: Walk, own: &[Item<S::Op>]) -> Walk
     walk
 }
 
-/// The transaction as it began.
+/// The transaction as it was when it began.
 pub fn anew<S: Parted>(alloc: Global, it: OpenTx<Own<S>>) -> OpenTx<Own<S>>
     requires { HasTaken it.walk (calls_of S.object it.own) }
     ensures thread { result.thread ≡ it.thread }

@@ -13,11 +13,11 @@ use pp_kind::{Part, Parted, Samples};
 use std::alloc::Global;
 use std::marker::Model;
 
-/// Up to so many own operations are walked over one by one; samples are kept only of more.
+/// Up to this many own operations are compared one by one. Only for more of them are samples kept.
 const FEW_OPERATIONS: usize = 16;
 
-/// Whether the own operation has the part and the place of the other, and does not let it pass.
-/// The parts are held against one another first, since operations of different parts swap.
+/// Whether the own operation has the part and the place of the other, and does not swap with it.
+/// The parts are compared first, since operations with different parts swap.
 fn stops<S: Parted>(item: &Item<S::Op>, op: &S::Op, part: Part) -> bool
     requires { part ≡ S.part_of op.now }
     ensures yes { IsTrue result → (S.place_of item.now.op ≡ S.place_of op.now)
@@ -28,7 +28,7 @@ fn stops<S: Parted>(item: &Item<S::Op>, op: &S::Op, part: Part) -> bool
     S::part(&item.op) == part && S::place(&item.op) == S::place(op) && !S::swaps(&item.op, op)
 }
 
-/// Whether each of these operations at the place of another lets it pass.
+/// Whether each of these operations at the place of another swaps with it.
 fn each_lets_pass<S: Parted>(own: &[Item<S::Op>], op: &S::Op) -> bool
     ensures yes { IsTrue result → LetPass S.object S.place_of own.now op.now }
     ensures no { result ≡ false → Stops S.object S.place_of own.now op.now }
@@ -42,8 +42,8 @@ fn each_lets_pass<S: Parted>(own: &[Item<S::Op>], op: &S::Op) -> bool
     true
 }
 
-/// One more operation is known. The only error is out of memory, and what was known is
-/// still known.
+/// Adds an operation to the samples of its part. The only error is out of memory, and the samples
+/// then cover at least what they covered before.
 fn know<S: Parted>(
     alloc: Global,
     samples: &mut IndexMap<Part, Samples<S>>,
@@ -64,7 +64,7 @@ fn know<S: Parted>(
     Ok(())
 }
 
-/// All these operations are known. The only error is out of memory.
+/// Adds all these operations to the samples. The only error is out of memory.
 fn know_all<S: Parted>(
     alloc: Global,
     samples: &mut IndexMap<Part, Samples<S>>,
@@ -78,8 +78,9 @@ fn know_all<S: Parted>(
     Ok(())
 }
 
-/// If the operations are more than few with this one behind them, all are known. The only error
-/// is out of memory, and what was known is still known.
+/// Adds an operation to the samples if there are more than `FEW_OPERATIONS` with it. At the first
+/// one that is too many, all of them are added. The only error is out of memory, and the samples
+/// then cover at least what they covered before.
 fn know_next<S: Parted>(
     alloc: Global,
     samples: &mut IndexMap<Part, Samples<S>>,
@@ -100,9 +101,9 @@ fn know_next<S: Parted>(
     know::<S>(alloc, samples, &item.op)
 }
 
-/// The own operations of an open transaction, in order, with a filter of their parts, and, if
-/// they are more than few, for each part of them operations that stand for those there. Contracts
-/// see the operations.
+/// The own operations of an open transaction, in order, with a filter of their parts. If there are
+/// more than `FEW_OPERATIONS`, each part also has samples, which decide for all operations of the
+/// part. In contracts the value is the list of operations.
 #[derive(Drop)]
 pub struct Own<S: Parted> {
     alloc: Global,
@@ -121,7 +122,7 @@ impl<S: Parted> Model for Own<S> {
 }
 
 impl<S: Parted> Own<S> {
-    /// No operation. It takes no memory.
+    /// Makes an empty list. It takes no memory.
     pub fn new(alloc: Global) -> Self
         ensures { result ≡ [] }
     {
@@ -142,22 +143,23 @@ impl<S: Parted> Own<S> {
         self.items.push(item)
     }
 
-    /// The operations, in order.
+    /// The operations with their ids, in order.
     pub fn as_slice(&self) -> &[Item<S::Op>]
         ensures { result.now ≡ self.now }
     {
         self.items.as_slice()
     }
 
-    /// The operations alone.
+    /// The operations with their ids, without the filter and the samples.
     pub fn into_items(self) -> Items<S::Op>
         ensures { result ≡ self }
     {
         self.items
     }
 
-    /// Whether each operation at the place of another is known to let it pass, as when none is of
-    /// its part. False says nothing, and of few operations no more is known.
+    /// Whether the samples show that each operation at the place of another swaps with it, or no
+    /// operation has its part. False decides nothing: there are no samples if the operations are
+    /// few.
     fn is_known_to_let(&self, op: &S::Op) -> bool
         ensures { IsTrue result → LetPass S.object S.place_of self.now op.now }
     {
@@ -174,8 +176,8 @@ impl<S: Parted> Own<S> {
         }
     }
 
-    /// Whether each operation at the place of another lets it pass. It walks over them only if
-    /// they are few, or what is known of those of its part leaves the answer open.
+    /// Whether each operation at the place of another swaps with it. It compares them one by one
+    /// only if they are few, or if the samples do not decide.
     pub fn let_pass(&self, op: &S::Op) -> bool
         ensures yes { IsTrue result → LetPass S.object S.place_of self.now op.now }
         ensures no { result ≡ false → Stops S.object S.place_of self.now op.now }

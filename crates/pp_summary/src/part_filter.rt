@@ -1,15 +1,15 @@
-//! A filter that tells which parts there may be among operations.
+//! A filter that says which parts some operations may have.
 ghost use Rattle.std.specs.Prelude.{◌≡◌, ◌<◌, ◌↔◌, IsTrue};
 ghost use Rattle.pp_kind.specs.declared.part.Part.{Part as PartOf};
 ghost use Rattle.pp_summary.specs.Filtered.{MayHave, remainder};
 
 use pp_kind::Part;
 
-/// How many remainders of keys are told apart.
+/// How many remainders of keys the filter distinguishes.
 const REMAINDERS: usize = 64;
 
-/// Which remainders the keys of parts leave, as unsigned words, when they are divided by
-/// `REMAINDERS`. A part whose key leaves another one was not added.
+/// Which remainders the keys of the added parts leave when they are divided, as unsigned numbers,
+/// by `REMAINDERS`. A part whose key leaves another remainder was not added.
 #[derive(Drop)]
 pub struct PartFilter {
     remainders: [bool; REMAINDERS],
@@ -24,7 +24,7 @@ fn remainder(part: &Part) -> usize
 }
 
 impl PartFilter {
-    /// The filter to which no part was added.
+    /// Makes a filter with no part.
     pub fn new() -> Self
         ensures { (part : PartOf) → MayHave result part → ⊥ }
     {
@@ -33,7 +33,7 @@ impl PartFilter {
         }
     }
 
-    /// Whether a part with this remainder was added.
+    /// Whether a part with the same remainder was added.
     pub fn may_have(&self, part: &Part) -> bool
         ensures { IsTrue result ↔ MayHave self.now part.now }
     {

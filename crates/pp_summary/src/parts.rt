@@ -6,8 +6,8 @@ use pp_body::Walk;
 use pp_core::{Committed, IdSet, Name, Sequence};
 use std::alloc::Global;
 
-/// An open transaction: its own operations, of the type `W`, how far they have come in its body,
-/// and for each place of one of them how many of the commits there it has seen.
+/// An open transaction: its own operations, of type `W`, its progress in its body, and how many
+/// commits it has seen at each place of an own operation.
 #[derive(Drop)]
 pub struct OpenTx<W> {
     pub thread: Name,
@@ -16,16 +16,16 @@ pub struct OpenTx<W> {
     pub seen: Seen,
 }
 
-/// The ids of what was committed: at the position of each place, those there in commit order. The
-/// operations themselves are in the shared log, which finds each by its id.
+/// The ids of the commits: a list for each place, in commit order. The operations are in the
+/// shared log, which finds each by its id.
 pub type Commits = Vec<Sequence<u32>>;
 
-/// All that a `Quick` keeps. The shared log is of the type `T`, own operations are of the type `W`.
+/// All that a `Quick` keeps. The shared log has type `T`, and own operations have type `W`.
 #[derive(Drop)]
 pub struct Parts<H, O: Copy, T, W> {
     pub alloc: Global,
     pub shape: H,
-    /// The transactions that have begun.
+    /// The transactions that have begun, by name.
     pub slots: Slots<OpenTx<W>>,
     /// The threads of the open transactions.
     pub threads: IndexSet<Name>,

@@ -23,11 +23,10 @@ use std::alloc::Global;
 use std::marker::Model;
 use std::sync::ledger::Ledger;
 
-/// What decides a boosted run, record by record: the names and ids that were used, the threads that
-/// are busy, the shared log, the committed transactions, the ids of the commits at each place, and
-/// of each open transaction its own operations, how far they have come in its body, and how many of
-/// the commits at their places it has seen. It is one pointer, since each record takes it and gives
-/// it back.
+/// What decides a boosted run, record by record: the names and ids that were used, the busy
+/// threads, the shared log, the committed transactions, and the ids of the commits at each place.
+/// Each open transaction has its own operations, its progress in its body, and how many commits it
+/// has seen at its places. A Quick is a single pointer, since each record takes it and returns it.
 #[derive(Drop)]
 pub struct Quick<S: Parted> {
     parts: Box<Parts<S::Shape, S::Op, Shared<S>, Own<S>>>,
@@ -49,7 +48,7 @@ impl<S: Parted> Model for Quick<S> {
 }
 
 impl<S: Parted> Quick<S> {
-    /// A run with no transaction. The only error is out of memory.
+    /// Makes a Quick for a run without transactions. The only error is out of memory.
     pub fn new(alloc: Global, shape: S::Shape) -> Result<Self, OutOfMemory>
         ensures { IfOk result (λ q. q ≡ held_first S.object S.place_of shape None) }
     {
@@ -69,10 +68,10 @@ impl<S: Parted> Quick<S> {
         Ok(Quick { parts })
     }
 
-    /// Commits operations before the first record, in a Quick that is as `new` made it, if no id is
-    /// twice among them and they are allowed; else it gives the Quick back as it was, with false.
-    /// The transaction has the name and the operations, and is the first one that is
-    /// committed. The only error is out of memory, and the Quick is then lost.
+    /// Commits operations before the first record, in a Quick that is as `new` made it. It does so
+    /// if the ids of the operations differ and the operations are allowed. Otherwise it returns
+    /// the Quick unchanged, with false. The operations become the first committed transaction,
+    /// which has this name. The only error is out of memory, and the Quick is then lost.
     pub fn start<L: Ledger>(
         self,
         tx: Name,
@@ -95,7 +94,7 @@ impl<S: Parted> Quick<S> {
         Ok((Quick { parts }, good))
     }
 
-    /// What it keeps.
+    /// All that the Quick keeps.
     pub fn parts(&self) -> &Parts<S::Shape, S::Op, Shared<S>, Own<S>>
         ensures held { self.now ≡ as_held S.place_of result.now }
         ensures keeps { KeepsQuick S.object S.place_of result.now }
@@ -103,7 +102,7 @@ impl<S: Parted> Quick<S> {
         &*self.parts
     }
 
-    /// How many steps the record means, good or not.
+    /// How many steps the record means, whether it is good or not.
     pub fn steps(&self, recorded: &RunRecord<S::Op>) -> u64
         requires style { IsBoosted (record_meaning recorded.now) }
         requires few { self.now.count < 4_294_967_295 }
@@ -121,8 +120,8 @@ impl<S: Parted> Quick<S> {
         self.parts.count
     }
 
-    /// The committed transactions, in commit order. Their operations, joined, are allowed, in the
-    /// range of records, and at most 256 more than records were taken.
+    /// The committed transactions, in commit order. Their operations, joined, are allowed and in
+    /// the range of records. There are at most 256 more of them than records that were taken.
     pub fn committed(&self) -> &Committed<S::Op>
         ensures done { result.now ≡ self.now.brief.done }
         ensures allowed { IsAllowed S.object self.now.shape (serial_ops self.now.brief.done) }
@@ -134,7 +133,7 @@ impl<S: Parted> Quick<S> {
 }
 
 impl<S: Parted + TakesBack> Quick<S> {
-    /// Takes a record if it is good, and else gives the Quick back as it was, with false. The
+    /// Takes a record if it is good. Otherwise it returns the Quick unchanged, with false. The
     /// only error is out of memory, and the Quick is then lost.
     pub fn take<L: Ledger>(
         self,

@@ -7,8 +7,8 @@ use pp_core::OutOfMemory;
 use std::alloc::Global;
 use std::marker::Model;
 
-/// Places, and for each of them how many of the commits there were seen. There are mostly one or
-/// two of them, and never more than objects, so that they are looked through one after another.
+/// Places, each with the number of commits there that were seen. A transaction mostly has one or
+/// two places, and never more than there are objects, so a search goes through them one by one.
 #[derive(Drop)]
 pub struct Seen {
     entries: Vec<(u16, usize)>,
@@ -24,7 +24,7 @@ impl Model for Seen {
     ghost invariant = { λ a. HaveOwnPlaces a.entries.items };
 }
 
-/// All counts together.
+/// The sum of all counts.
 fn total(entries: &[(u16, usize)]) -> usize
     requires few { seen_total entries.now ≤ 10_000_000_000 }
     ensures { result ≡ seen_total entries.now }
@@ -36,7 +36,7 @@ fn total(entries: &[(u16, usize)]) -> usize
     total
 }
 
-/// Which of the entries is the first that has the place, if one has it.
+/// The position of the first entry that has the place, if there is one.
 fn position(entries: &[(u16, usize)], place: u16) -> Option<usize>
     ensures found { IfSome result (IsFirst place entries.now) }
     ensures none { IfNone result (lookup (nat_eq place) entries.now ≡ None) }
@@ -50,7 +50,7 @@ fn position(entries: &[(u16, usize)], place: u16) -> Option<usize>
 }
 
 impl Seen {
-    /// No place. It takes no memory.
+    /// Makes an empty list of places. It takes no memory.
     pub fn new(alloc: Global) -> Self
         ensures { result.entries ≡ [] }
     {
@@ -66,7 +66,7 @@ impl Seen {
         let _entries = &self.entries;
     }
 
-    /// How many of the commits were seen, at all places together.
+    /// How many commits were seen, at all places together.
     pub fn total(&self) -> usize
         requires few { seen_total self.now.entries ≤ 10_000_000_000 }
         ensures { result ≡ seen_total self.now.entries }
@@ -74,7 +74,7 @@ impl Seen {
         total(&self.entries)
     }
 
-    /// How many of the commits at the place were seen, if the place is there.
+    /// How many commits at the place were seen, if the place has an entry.
     pub fn get(&self, place: u16) -> Option<usize>
         ensures { result ≡ lookup (nat_eq place) self.now.entries }
     {
@@ -82,7 +82,7 @@ impl Seen {
         Some(self.entries[k].1)
     }
 
-    /// The place has this count from now on. The only error is out of memory.
+    /// Sets the count of the place. The only error is out of memory.
     pub fn insert(&mut self, place: u16, count: usize) -> Result<(), OutOfMemory>
         ensures { OnOk result ((q : ℕ) → lookup (nat_eq q) self.new.entries
             ≡ cond (nat_eq place q) (Some count) (lookup (nat_eq q) self.old.entries)) }

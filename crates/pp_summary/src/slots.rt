@@ -8,10 +8,10 @@ ghost use Rattle.pp_summary.specs.Shown.{open_in};
 use indexmap::IndexMap;
 use pp_core::{Name, OutOfMemory};
 
-/// Each name that was begun, and what it has while it is open.
+/// Each name that has begun, with its transaction while that is open.
 pub type Slots<T> = IndexMap<Name, Option<T>>;
 
-/// What an open name has.
+/// The open transaction of a name.
 pub fn find_open<'a, T>(slots: &'a Slots<T>, tx: &Name) -> Option<&'a T>
     ensures { option_copied result ≡ open_in tx.now slots.now.entries }
 {
@@ -19,7 +19,8 @@ pub fn find_open<'a, T>(slots: &'a Slots<T>, tx: &Name) -> Option<&'a T>
     slot.as_ref()
 }
 
-/// Empties the slot of an open name, and gives what it had. Of another name it changes nothing.
+/// Empties the slot of an open name, and returns what was in it. It changes nothing if the name is
+/// not open.
 pub fn take_out<T>(slots: &mut Slots<T>, tx: &Name) -> Option<T>
     ensures found { result ≡ open_in tx.now slots.old.entries }
     ensures emptied { IfSome result (λ x. slots.new.entries
@@ -30,7 +31,7 @@ pub fn take_out<T>(slots: &mut Slots<T>, tx: &Name) -> Option<T>
     slot.take()
 }
 
-/// Fills the slot of a name that has one.
+/// Fills the slot of a name that has a slot.
 pub fn put_back<T: Drop>(slots: &mut Slots<T>, tx: &Name, it: T)
     requires { IsSome (lookup (bytes_eq tx.now) slots.old.entries) }
     ensures { slots.new.entries ≡ set_value (bytes_eq tx.now) slots.old.entries (Some it) }
@@ -41,7 +42,7 @@ pub fn put_back<T: Drop>(slots: &mut Slots<T>, tx: &Name, it: T)
     *slot = Some(it);
 }
 
-/// A slot for a name that has none. The only error is out of memory.
+/// Adds a slot for a name that has none. The only error is out of memory.
 pub fn put_new<T: Drop>(slots: &mut Slots<T>, tx: &Name, slot: Option<T>) -> Result<(), OutOfMemory>
     requires { lookup (bytes_eq tx.now) slots.old.entries ≡ None }
     ensures { OnOk result (slots.new.entries ≡ slots.old.entries ++ (tx.now, slot) ∷ []) }

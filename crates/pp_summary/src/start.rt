@@ -21,8 +21,8 @@ use pp_log_shared::Shared;
 use std::alloc::Global;
 use std::sync::ledger::Ledger;
 
-/// The ids of the items, the last first, unless one of them is there twice. The only error is
-/// out of memory.
+/// The ids of the items, from the last to the first, or nothing if two items have the same id. The
+/// only error is out of memory.
 fn distinct_ids<O: Copy>(alloc: Global, items: &[Item<O>]) -> Result<Option<IdSet>, OutOfMemory>
     ensures ids { IfOk result (λ r. IfSome r (λ ids.
         reverse ids ≡ map (λ p. p.id) items.now)) }
@@ -42,8 +42,8 @@ fn distinct_ids<O: Copy>(alloc: Global, items: &[Item<O>]) -> Result<Option<IdSe
     Ok(Some(ids))
 }
 
-/// The log with the items as uncommitted entries of the transaction, unless they are not allowed.
-/// The only error is out of memory.
+/// Makes the log with the items as uncommitted entries of the transaction, or nothing if they are
+/// not allowed. The only error is out of memory.
 fn make_log<S: Parted, L: Ledger>(
     alloc: Global,
     shape: &S::Shape,
@@ -76,9 +76,9 @@ fn make_log<S: Parted, L: Ledger>(
     Ok(Some(shared))
 }
 
-/// The operations are committed, as those of a transaction of this name that has begun and
-/// ended, in the log that they make. No transaction can miss them, since none is open. The only
-/// error is out of memory.
+/// Commits the operations of the start, in the log that they make, as those of a transaction of
+/// this name that has begun and ended. No open transaction misses them, since there is none. The
+/// only error is out of memory.
 fn put_start<S: Parted>(
     parts: &mut Parts<S::Shape, S::Op, Shared<S>, Own<S>>,
     tx: &Name,
@@ -108,8 +108,8 @@ fn put_start<S: Parted>(
     Ok(())
 }
 
-/// Commits operations, if their ids differ and they are allowed, and else says
-/// false, and nothing has changed but the ticks. The only error is out of memory.
+/// Commits operations if their ids differ and they are allowed. Otherwise it returns false, and
+/// nothing has changed but the ticks. The only error is out of memory.
 pub fn start<S: Parted, L: Ledger>(
     parts: &mut Parts<S::Shape, S::Op, Shared<S>, Own<S>>,
     tx: &Name,

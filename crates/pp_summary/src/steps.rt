@@ -16,7 +16,7 @@ use pp_kind::Parted;
 use pp_log_shared::Shared;
 use pp_records::RunRecord;
 
-/// How many of the commits at a place the transaction has not seen.
+/// How many commits at a place the transaction has not seen.
 fn count_unseen<S: Parted>(it: &OpenTx<Own<S>>, commits: &Commits, place: u16) -> usize
     requires within { (k : ℕ) → lookup (nat_eq place) it.now.seen.entries ≡ Some k →
         k ≤ length (at place commits.now.items) }
@@ -30,8 +30,8 @@ fn count_unseen<S: Parted>(it: &OpenTx<Own<S>>, commits: &Commits, place: u16) -
     }
 }
 
-/// How many steps an operation means: a PULL of each commit at its place that the transaction
-/// has not seen, an APP and a PUSH.
+/// How many steps an operation means: a PULL of each commit at its place that the transaction has
+/// not seen, an APP and a PUSH.
 fn op_steps<S: Parted>(
     parts: &Parts<S::Shape, S::Op, Shared<S>, Own<S>>,
     tx: &Name,
@@ -51,7 +51,7 @@ fn op_steps<S: Parted>(
 }
 
 /// How many steps take an open transaction back: an UNPULL of each commit that it has seen, an
-/// UNPUSH and an UNAPP of each own operation, and one more for the record itself.
+/// UNPUSH and an UNAPP of each own operation, and one step for the record itself.
 fn back_steps<S: Parted>(parts: &Parts<S::Shape, S::Op, Shared<S>, Own<S>>, tx: &Name) -> u64
     requires keeps { KeepsQuick S.object S.place_of parts.now }
     requires few { parts.now.count < 4_294_967_295 }
@@ -70,7 +70,7 @@ fn back_steps<S: Parted>(parts: &Parts<S::Shape, S::Op, Shared<S>, Own<S>>, tx: 
     seen as u64 + 2 * own as u64 + 1
 }
 
-/// How many steps a record means, good or not.
+/// How many steps a record means, whether it is good or not.
 pub fn steps<S: Parted>(
     parts: &Parts<S::Shape, S::Op, Shared<S>, Own<S>>,
     recorded: &RunRecord<S::Op>,

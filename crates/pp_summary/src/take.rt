@@ -19,8 +19,8 @@ use pp_log_shared::Shared;
 use pp_records::RunRecord;
 use std::sync::ledger::Ledger;
 
-/// Takes a step if it is a begin that is good. Other steps are no records of a boosted run. The
-/// only error is out of memory.
+/// Takes a step if it is a good begin. Other steps are not records of a boosted run. The only
+/// error is out of memory.
 fn take_step<S: Parted>(
     parts: &mut Parts<S::Shape, S::Op, Shared<S>, Own<S>>,
     step: &Step<S::Op>,
@@ -45,8 +45,8 @@ fn take_step<S: Parted>(
     }
 }
 
-/// Takes a record if it is good, and else says false, and nothing has changed. Records of other
-/// styles are not good. The only error is out of memory.
+/// Takes a record if it is good. Otherwise it returns false, and nothing has changed. Records of
+/// other styles are not good. The only error is out of memory.
 pub fn take<S: Parted + TakesBack, L: Ledger>(
     parts: Box<Parts<S::Shape, S::Op, Shared<S>, Own<S>>>,
     recorded: &RunRecord<S::Op>,

@@ -14,12 +14,12 @@ use pp_kind::{Parted, TakesBack};
 use pp_log_shared::Shared;
 use std::sync::ledger::Ledger;
 
-/// What becomes of an open transaction that takes back what it did.
+/// What an open transaction does after its operations were taken back.
 #[derive(Drop)]
 pub enum Undoing {
-    /// It gives up.
+    /// It aborts.
     Abort,
-    /// It begins anew.
+    /// It begins again.
     Retry,
 }
 
@@ -58,7 +58,7 @@ fn undo_parts<S: Parted + TakesBack, L: Ledger>(
     Ok((parts, true))
 }
 
-/// Puts what was taken out of its box into one again. The only error is out of memory.
+/// Puts the parts into a box again. The only error is out of memory.
 fn in_box<S: Parted>(
     parts: Parts<S::Shape, S::Op, Shared<S>, Own<S>>,
 ) -> Result<Box<Parts<S::Shape, S::Op, Shared<S>, Own<S>>>, OutOfMemory>
@@ -69,9 +69,9 @@ fn in_box<S: Parted>(
 }
 
 /// Takes an abort or a retry record if it is good: the entries of the open transaction leave the
-/// shared log, and it gives up or begins anew. `take_back` consumes the shared log, so the parts
-/// leave their box meanwhile, in a function of its own, so that `take` has no room for them on its
-/// stack. The only error is out of memory.
+/// shared log, and it aborts or begins again. `take_back` consumes the shared log, so the parts
+/// leave their box for that time. This is a function of its own so that `take` needs no room for
+/// the parts on its stack. The only error is out of memory.
 pub fn undo<S: Parted + TakesBack, L: Ledger>(
     parts: Box<Parts<S::Shape, S::Op, Shared<S>, Own<S>>>,
     how: Undoing,

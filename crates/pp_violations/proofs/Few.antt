@@ -1,4 +1,5 @@
--- What an open transaction has and misses of a place is no more than the shared log.
+-- The operations that an open transaction has at a place, and the commits that it misses there, are at most as many as the entries of the
+-- shared log.
 use Rattle.std.specs.Prelude.{◌≡◌, ◌==◌, ◌&&◌, ◌≤◌, ◌+◌, ℕ, true, false, not, List, ◌++◌, length, map, take, Some}
 use Rattle.std.proofs.Common.{refl, sym, ap, subst, ◌∙◌, arith, length-append}
 use Rattle.std.proofs.lemmas.Bool.{and_parts}
@@ -45,7 +46,7 @@ module _ {Shape State Op Undo : Type 0} (o : Object Shape State Op Undo) (place 
   abbrev Missing : List (SharedEntry Op)
   Missing = summary_missing place q (kept_summary v) (kept_open t it)
 
-  -- the entries of each of them
+  -- Each operation that was seen is a committed entry of the shared log.
   seen_stands : (p : Item Op) → In p Seen → (n : Name) × In (as_shared n true p) G
   seen_stands p i = done_stands o place apart (as_held place v) h.is_held p (from_filter _ p (serial_items v.committed) (in_taken (seen_of it.seen.entries q) p (serial_at place q v.committed) i)).0
 
@@ -59,7 +60,7 @@ module _ {Shape State Op Undo : Type 0} (o : Object Shape State Op Undo) (place 
       let a = and_parts ((m.0).committed && (place (m.0).op == q)) (not (has_id (m.0).id (seen_ids place q v.committed (kept_open t it)))) f.1 in
       (m.0, f.0, (and_parts (m.0).committed (place (m.0).op == q) a.0).0, a.1, m.2)
 
-  -- a commit is no uncommitted entry
+  -- A committed entry does not have the id of an uncommitted entry.
   apart_from_own : (g : SharedEntry Op) → In g G → g.committed ≡ true → (b : Item Op) → In (as_shared t false b) G → g.id ≡ b.id → ⊥
   apart_from_own g i u b j e =
       let same : g ≡ as_shared t false b = by_key (λ (w : SharedEntry Op). w.id) G (own_ids o place apart v h) g (as_shared t false b) i j e in
@@ -118,7 +119,8 @@ module _ {Shape State Op Undo : Type 0} (o : Object Shape State Op Undo) (place 
     | inr j ↦ let m = missing_there p j in subst (λ (w : Item Op). In w (map shared_item G)) (sym m.4) (in_map shared_item m.0 G m.1)
   ]
 
-  -- Together they are no more than the shared log has entries.
+  -- The operations that a transaction has at a place, and the commits that it misses there, are at most as many as the entries of the
+  -- shared log.
   pub entries_few : length (view_items place q v it) + length (summary_missing place q (kept_summary v) (kept_open t it)) ≤ v.count + 256
   entries_few =
       let a = no_longer ((Seen ++ Own) ++ map shared_item Missing) (map shared_item G) all_distinct all_within in

@@ -27,7 +27,7 @@ module _ {Shape State Op Undo : Type 0} (o : Object Shape State Op Undo) (place 
       (seen_are g.id ∙ ap (λ (n : ℕ). has_id g.id (take n ids)) count_is ∙ ap (λ (w : List ℕ). has_id g.id (take (seen_of it.seen.entries q) w)) ids_are))
       ∙ sym (missing_is o place apart v h t it q)
 
-  -- What is found is what the summary lacks.
+  -- The commits that the search finds missing are those that are missing in the summary.
   pub missing_found : {V E : Type 0} (r : Result V E) (items_of : V → List (SharedEntry Op)) → IfOk r (λ l. items_of l ≡ filter (is_lacking place q seen) entries) → IfOk r (λ l. (t : Name) → items_of l ≡ summary_missing place q (kept_summary v) (kept_open t it))
   missing_found (Ok l) items_of f = λ t. f ∙ lacking t
   missing_found (Err e) items_of f = tt

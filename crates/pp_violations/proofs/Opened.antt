@@ -1,5 +1,4 @@
--- What an open transaction has: its operations are of the objects, and what it has of a place is
--- allowed.
+-- Facts about the operations of an open transaction: they are operations of the objects, in range, and allowed at each place.
 use Rattle.std.specs.Prelude.{◌≡◌, ◌==◌, ◌&&◌, ℕ, true, false, List, [], ◌++◌, option_map, take, Some, IsTrue}
 use Rattle.std.proofs.Common.{sym, ap, subst, ◌∙◌}
 use Rattle.std.proofs.lemmas.Bool.{and_parts, eqb-true}
@@ -49,7 +48,7 @@ module _ {Shape State Op Undo : Type 0} (o : Object Shape State Op Undo) (place 
   pub summable : (c : Config Op) → IsHeldOf o place (as_held place v) c → Summable (rules_of o v.shape) place no_section c
   summable c is = boosted_summable o place part v h (tells_states o laws v.shape) c is
 
-  -- It is the summary that the Quick keeps.
+  -- The summary of each configuration with this brief is the one that the Quick keeps.
   pub summarised : (c : Config Op) → IsHeldOf o place (as_held place v) c → summary_of place (record { front = no_section; config = c }) ≡ kept_summary v
   summarised c is = summary_is o place apart v h c is
 
@@ -60,7 +59,7 @@ module _ {Shape State Op Undo : Type 0} (o : Object Shape State Op Undo) (place 
   pub missing_asked : (q : ℕ) (x : OpenSummary Op) → AreEntriesAsked o v.shape (summary_missing place q (kept_summary v) x)
   missing_asked q x g i = asked g (from_filter _ g v.shared.1 i).0
 
-  -- They are at the place.
+  -- The commits that are missing at a place are operations at that place.
   pub missing_at : (q : ℕ) (x : OpenSummary Op) (g : SharedEntry Op) → In g (summary_missing place q (kept_summary v) x) → place g.op ≡ q
   missing_at q x g i =
       let a = and_parts (g.committed && (place g.op == q)) _ (from_filter _ g v.shared.1 i).1 in
@@ -70,12 +69,12 @@ module _ {Shape State Op Undo : Type 0} (o : Object Shape State Op Undo) (place 
     stands : (p : Item Op) → In p it.own → In (as_shared t false p) v.shared.1
     stands = own_stands o place apart (as_held place v) h.is_held t (shown_tx place v.shared.1 v.commits.items t it) (open_there o place apart v h t it found)
 
-    -- So are its own operations.
+    -- The own operations of an open transaction are operations of the objects.
     pub own_asked : AreItemsAsked o v.shape it.own
     own_asked p i = asked (as_shared t false p) (stands p i)
 
     module _ (q : ℕ) where
-      -- The numbers of what it has of a place are in range.
+      -- The operations that a transaction has at a place are in range.
       pub view_ranged : AllRanged o (ops (view_items place q v it))
       view_ranged = in_ranged o (ops (view_items place q v it)) (λ a i.
           let m = from_map (λ (p : Item Op). p.op) a (view_items place q v it) i in
@@ -90,7 +89,7 @@ module _ {Shape State Op Undo : Type 0} (o : Object Shape State Op Undo) (place 
             | inr j ↦ h.ranged (as_shared t false p) (stands p (from_filter _ p it.own j).0)
           ]
 
-      -- It is allowed.
+      -- The operations that a transaction has at a place are allowed.
       pub view_allowed : IsAllowed o v.shape (ops (view_items place q v it))
       view_allowed = subst (λ (w : List Op). IsAllowed o v.shape w) (sym (view_is t place q v it)) (by h.is_held)
         where

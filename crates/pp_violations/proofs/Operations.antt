@@ -1,4 +1,4 @@
--- What the search through the steps of an operation answers, by the summary that a Quick keeps.
+-- What the search through the steps of an op record returns, by the summary that a Quick keeps.
 use Rattle.std.specs.Prelude.{◌≡◌, ◌↔◌, ◌+◌, ℕ, List, [], ◌∷◌, ◌++◌, length, map, option_map, reverse, Option, None, Some}
 use Rattle.std.proofs.Common.{refl, sym, ap, subst, ◌∙◌, append_assoc, arith}
 use Rattle.pp_core.specs.declared.entry.Item.{Item}
@@ -41,7 +41,7 @@ module _ {Shape State Op Undo : Type 0} (o : Object Shape State Op Undo) (place 
   abbrev B : Summary Op
   B = kept_summary v
 
-  -- An operation of a transaction that is not open.
+  -- For a transaction that is not open, the search returns its single step.
   pub op_absent : open_in t v.slots.entries ≡ None → (r : Violation Op) → r ≡ alone_violation rules.App → SearchesRecord o place v.shape v (records.Op t id op) (Some r)
   op_absent e r is = subst (λ (z : Violation Op). SearchesRecord o place v.shape v (records.Op t id op) (Some z)) (sym is)
       (none_there (open_named t B.opened) (App t id op) (λ x. op_asks O place None B t id op x) (λ x. details.op_details o v.shape place None B t id op x) (named o place v apart h t None e) rules.App refl)
@@ -59,7 +59,7 @@ module _ {Shape State Op Undo : Type 0} (o : Object Shape State Op Undo) (place 
     abbrev view : List Op
     view = summary_view place (place op) v.committed x
 
-    -- the steps, and the evidence of their criteria
+    -- The steps, and the evidence of their criteria.
     abbrev Pulls : List (Asked Op)
     Pulls = pull_asks O place B t x q [] M
 
@@ -76,7 +76,7 @@ module _ {Shape State Op Undo : Type 0} (o : Object Shape State Op Undo) (place 
     searched r f = one_there (open_named t B.opened) (App t id op) (λ y. op_asks O place None B t id op y) (λ y. details.op_details o v.shape place None B t id op y) x (named o place v apart h t (Some it) found) r f
 
     module _ (M_at : (g : SharedEntry Op) → In g M → place g.op ≡ q) where
-      -- A PULL is the first step that is false.
+      -- If a PULL is the first that violates a criterion, it is the violation of the record.
       pub op_pull : (missing : List (SharedEntry Op)) → missing ≡ M → (r : Violation Op) → FailsPull o place v.shape (ops (view_items place q v it)) it.own missing r → SearchesRecord o place v.shape v (records.Op t id op) (Some r)
       op_pull missing same r f = searched (Some r) (by (subst (λ (w : List Op). FailsPull o place v.shape w it.own M r) (view_is t place q v it) (subst (λ (w : List (SharedEntry Op)). FailsPull o place v.shape (ops (view_items place q v it)) it.own w r) same f)))
         where
@@ -90,7 +90,7 @@ module _ {Shape State Op Undo : Type 0} (o : Object Shape State Op Undo) (place 
                 detail = detail_left Shown LastShown r.offset k.breaks.number r.detail (_, pulls_shown o place v.shape B t x q it.own Pushed refl [] M r.offset k.entry k.there, k.breaks.detail);
               }
 
-      -- the APP, after all PULLs
+      -- The APP after all PULLs has the same criteria in the search and in the summary.
       app_alike : Alike (app_facts o place v.shape (reverse v.ids) id op it.walk.body it.own (view ++ shared_ops M)) (asks.app_facts O place B id op x M)
       app_alike =
           let same : Unit {0} ↔ Unit {0} = ((λ z. tt), (λ z. tt)) in
@@ -108,7 +108,7 @@ module _ {Shape State Op Undo : Type 0} (o : Object Shape State Op Undo) (place 
             (λ z. subst (λ (w : List Op). IsAllowed o v.shape w) (sym (append_assoc view (shared_ops M) (op ∷ []))) z),
           )
 
-      -- the PUSH, of a transaction whose own entries are pushed
+      -- The PUSH has the same criteria in the search and in the summary, since the own entries are pushed.
       push_alike : Alike (push_facts o place v.shape t op v.shared.1) (asks.push_facts O place B op x)
       push_alike =
           let same : Unit {0} ↔ Unit {0} = ((λ z. tt), (λ z. tt)) in
@@ -123,7 +123,7 @@ module _ {Shape State Op Undo : Type 0} (o : Object Shape State Op Undo) (place 
         all_pulls = pulls_true o place v.shape B t x q it.own Pushed refl [] M M_at
             (subst (λ (w : List Op). ArePulled o place v.shape w it.own M (length M)) (view_is t place q v it) (subst (λ (w : List (SharedEntry Op)). ArePulled o place v.shape (ops (view_items place q v it)) it.own w (length w)) same pulled))
 
-        -- what is judged of the APP, by the summary
+        -- What is judged of the APP in the search is judged of it in the summary.
         app_judged : (j : Option (Broken Op)) → Judges (app_facts o place v.shape (reverse v.ids) id op it.walk.body it.own (ops (view_items place q v it) ++ shared_ops missing)) (app_evidence o place v.shape id op (ops (view_items place q v it) ++ shared_ops missing)) j →
             Judges (asks.app_facts O place B id op x M) (details.app_detail o v.shape place B id op x M) j
         app_judged j k = judges_alike (app_facts o place v.shape (reverse v.ids) id op it.walk.body it.own (view ++ shared_ops M)) (asks.app_facts O place B id op x M) app_alike
@@ -134,7 +134,7 @@ module _ {Shape State Op Undo : Type 0} (o : Object Shape State Op Undo) (place 
         len_is : length missing ≡ length M
         len_is = ap (λ (w : List (SharedEntry Op)). length w) same
 
-        -- The APP is the first step that is false.
+        -- If all PULLs meet their criteria and the APP does not, the APP is the violation of the record.
         pub op_app : (b : Broken Op) → Breaks (app_facts o place v.shape (reverse v.ids) id op it.walk.body it.own (ops (view_items place q v it) ++ shared_ops missing)) (app_evidence o place v.shape id op (ops (view_items place q v it) ++ shared_ops missing)) b →
             (n : ℕ) → n ≡ length missing → (r : Violation Op) → r ≡ step_violation n rules.App b → SearchesRecord o place v.shape v (records.Op t id op) (Some r)
         op_app b k n m r is =
@@ -149,7 +149,7 @@ module _ {Shape State Op Undo : Type 0} (o : Object Shape State Op Undo) (place 
               detail = (details.app_detail o v.shape place B id op x M, shown_after_pulls o place v.shape B t x q it.own Pushed refl [] M LastShown 0 n (details.app_detail o v.shape place B id op x M) e refl, c.detail);
             }))
 
-        -- the PUSH, after an APP that is true
+        -- The PUSH, after an APP that meets its criteria.
         module _ (fine : FirstFalse (app_facts o place v.shape (reverse v.ids) id op it.walk.body it.own (ops (view_items place q v it) ++ shared_ops missing)) 0) where
           app_true : FirstFalse (asks.app_facts O place B id op x M) 0
           app_true = app_judged None fine
@@ -170,7 +170,7 @@ module _ {Shape State Op Undo : Type 0} (o : Object Shape State Op Undo) (place 
                 detail = (details.push_detail o v.shape place B t id op x, shown_after_pulls o place v.shape B t x q it.own Pushed refl [] M LastShown 1 n (details.push_detail o v.shape place B t id op x) e refl, k.detail);
               })
 
-          -- The PUSH is false, or no step is.
+          -- If the PULLs and the APP meet their criteria, the record has the violation of the PUSH, or none.
           pub op_push : (n : ℕ) → n ≡ length missing + 1 → (j : Option (Broken Op)) → Judges (push_facts o place v.shape t op v.shared.1) (push_evidence o place v.shape t id op v.shared.1) j → (r : Option (Violation Op)) → r ≡ option_map (step_violation n rules.Push) j →
               SearchesRecord o place v.shape v (records.Op t id op) r
           op_push n m j k r is = subst (λ (z : Option (Violation Op)). SearchesRecord o place v.shape v (records.Op t id op) z) (sym is) (last_searched n m j (push_judged j k))

@@ -1,4 +1,4 @@
--- The summary of a boosted run is what a Quick keeps.
+-- A summary of a boosted run is the summary that a Quick keeps.
 use Rattle.std.specs.Prelude.{◌≡◌, ◌≢◌, ◌==◌, ℕ, nat_eq, Bool, true, false, cond, not, ◌&&◌, List, [], ◌∷◌, filter, map, option_map, reverse, take, Option, None, Some}
 use Rattle.std.specs.Map.{keys_of, lookup}
 use Rattle.std.proofs.Common.{refl, sym, ap, ◌∙◌}
@@ -41,7 +41,7 @@ own_entries {Op} t (e ∷ l) p = by (is_own e.mark) refl (own_entries t l (λ a 
     by true q k = ap (λ (w : LocalEntry Op). w ∷ own l) (whole (p e (inl refl) q)) ∙ ap (λ (w : List (LocalEntry Op)). own_entry t (item e) ∷ w) k
     by false q k = k
 
--- what a Quick keeps in its slots
+-- The slots of a Quick.
 abbrev pub Slots : Type 0 → Type 0
 Slots Op = List (Name × Option (OpenTx (List (Item Op))))
 
@@ -101,7 +101,7 @@ same_filled {D = D} ((n, Some x) ∷ es) (y ∷ xs) b s z k e h =
     let others : map b xs ≡ filled s es = cc in
     ap (λ (w : D). w ∷ map z xs) (h y n x (inl refl) (inl refl) first) ∙ ap (λ (w : List D). k n x ∷ w) (same_filled es xs b s z k others (λ u m v i j. h u m v (inr i) (inr j)))
 
--- A summary is what its parts are.
+-- Open transactions of a summary with equal parts are equal.
 same_open : {Op : Type 0} (n m a b : Name) (c d : Option Tree) (e f : List (LocalEntry Op)) (g h : ℕ → ℕ) → n ≡ m → a ≡ b → c ≡ d → e ≡ f → g ≡ h
     → ◌≡◌ {A = OpenSummary Op} (record { name = n; thread = a; body = c; own = e; seen = g; held = None }) (record { name = m; thread = b; body = d; own = f; seen = h; held = None })
 same_open {Op} n m a b c d e f g h o p q r s =
@@ -128,7 +128,7 @@ module _ {Shape State Op Undo : Type 0} (o : Object Shape State Op Undo) (place 
   pub kept_named : (t : Name) → open_named t (kept_summary v).opened ≡ option_map (kept_open t) (open_in t v.slots.entries)
   kept_named t = open_is t es h.names
 
-  -- What it misses at a place: the committed entries there but the first that were seen.
+  -- A transaction misses the committed entries at a place but the first ones, which it has seen.
   pub missing_is : (t : Name) (x : OpenTx (List (Item Op))) (q : ℕ) →
       summary_missing place q (kept_summary v) (kept_open t x)
       ≡ filter (λ g. (g.committed && (place g.op == q)) && not (has_id g.id (take (seen_of x.seen.entries q) (at q v.commits.items)))) v.shared.1
@@ -137,7 +137,7 @@ module _ {Shape State Op Undo : Type 0} (o : Object Shape State Op Undo) (place 
       (sym (take-map (λ (p : Item Op). p.id) (seen_of x.seen.entries q) (serial_at place q v.committed)) ∙ ap (λ (js : List ℕ). take (seen_of x.seen.entries q) js) (sym (h.commits q)))
 
   module _ (c : Config Op) (is : IsHeldOf o place (as_held place v) c) where
-    -- an open transaction that is in a slot
+    -- An open transaction y of the configuration, and the slot of it.
     module _ (y : Tx Op) (n : Name) (x : OpenTx (List (Item Op))) (iy : In y c.opened) (i : In (n, Some x) es) (e : brief_tx place c.shared y ≡ shown_tx place v.shared.1 v.commits.items n x) where
       name_is : y.name ≡ n
       name_is = ap (λ (w : BriefTx Op). w.name) e
@@ -145,7 +145,7 @@ module _ {Shape State Op Undo : Type 0} (o : Object Shape State Op Undo) (place 
       found : open_in n es ≡ Some x
       found = slot_of n x es h.names i
 
-      -- the open transaction of this name, in the configuration
+      -- The open transaction of this name in the configuration.
       abbrev z : (w : Tx Op) × (tx n c.opened ≡ Some w) × (brief_tx place c.shared w ≡ shown_tx place v.shared.1 v.commits.items n x)
       z = opened o place apart v h c is n x found
 
@@ -161,7 +161,7 @@ module _ {Shape State Op Undo : Type 0} (o : Object Shape State Op Undo) (place 
             | inr r ↦ absurd (let w : true ≡ false = sym m ∙ ap is_own r.0 in cc)
           ]
 
-      -- As many were pulled of a place as were seen.
+      -- At a place, a transaction has pulled as many entries as it has seen.
       pub seen_is : (q : ℕ) → seen_at place q y.local ≡ seen_of x.seen.entries q
       seen_is q = ap (λ (w : Tx Op). seen_at place q w.local) (sym same) ∙ by (lookup (nat_eq q) x.seen.entries) refl
         where
@@ -173,7 +173,7 @@ module _ {Shape State Op Undo : Type 0} (o : Object Shape State Op Undo) (place 
       tx_is = same_open y.name n y.thread x.thread y.body x.walk.body (own y.local) (map (own_entry n) x.own) (λ q. seen_at place q y.local) (seen_of x.seen.entries)
           name_is (ap (λ (w : BriefTx Op). w.thread) e) (ap (λ (w : BriefTx Op). w.body) e) own_is (fun_ext seen_is)
 
-    -- The summary of each configuration of which it keeps the brief is what it keeps.
+    -- The summary of each configuration with this brief is the one that the Quick keeps.
     pub summary_is : summary_of place (record { front = no_section; config = c }) ≡ kept_summary v
     summary_is = same_summary c.names (reverse (keys_of es)) c.ids (reverse v.ids) (map (open_summary place no_section) c.opened) (filled kept_open es) c.shared v.shared.1 c.done v.committed
         (ap (λ (b : Brief Op). b.names) is.is) (ap (λ (b : Brief Op). b.ids) is.is)

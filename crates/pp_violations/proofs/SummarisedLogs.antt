@@ -1,4 +1,5 @@
--- What is allowed after the local log of a boosted transaction, at a place, is allowed after what it pulled there, in commit order, and then its own operations.
+-- What is allowed after the local log of a boosted transaction at a place is allowed after its pulled entries there, in commit order, and
+-- then its own operations.
 use Rattle.std.specs.Prelude.{◌≡◌, ◌≢◌, ◌==◌, ℕ, Bool, true, false, not, ◌&&◌, List, [], ◌++◌, filter, map}
 use Rattle.std.proofs.Common.{refl, sym, ap, subst, ◌∙◌, append_assoc}
 use Rattle.std.proofs.lemmas.Bool.{and_parts, eqb-true, eq-eqb}
@@ -41,7 +42,7 @@ module _ {Op State : Type 0} (O : Object Op State) (place : Op → ℕ) (part : 
   abbrev ids : (g h : SharedEntry Op) → Before g h G → g.id ≢ h.id
   ids = b.sound.shared_ids
 
-  -- the entries of L at the place, in the order of G
+  -- The entries of L at the place, in the order of G.
   abbrev here : SharedEntry Op → Bool
   here g = stands_in L g.id && (place g.op == q)
 
@@ -54,7 +55,7 @@ module _ {Op State : Type 0} (O : Object Op State) (place : Op → ℕ) (part : 
       let a = and_parts (stands_in L g.id) (place g.op == q) k.1 in
       (k.0, a.0, eqb-true (place g.op) q a.1)
 
-  -- the entry of L
+  -- Each entry of H is one of L at the place.
   entry_of : (g : SharedEntry Op) → In g H → (e : LocalEntry Op) × In e L × (place e.op ≡ q) × (shared_item g ≡ item e)
   entry_of g i =
       let k = from_H g i in
@@ -62,7 +63,7 @@ module _ {Op State : Type 0} (O : Object Op State) (place : Op → ℕ) (part : 
       let z : shared_item g ≡ item e.0 = is_item O place apart c b.sound x ix f e.0 e.1 g k.0 (sym e.2) in
       (e.0, e.1, ap (λ (w : Item Op). place w.op) (sym z) ∙ k.2, z)
 
-  -- the entry of G
+  -- Each entry of L at the place is one of H.
   shared_of : (p : Item Op) (e : LocalEntry Op) → p ≡ item e → In e L → place e.op ≡ q → (g : SharedEntry Op) × In g H × (p ≡ shared_item g)
   shared_of p e s i a =
       let k = stands O place apart c b.sound x ix f e i in (
@@ -71,7 +72,7 @@ module _ {Op State : Type 0} (O : Object Op State) (place : Op → ℕ) (part : 
         s,
       )
 
-  -- The entries of L are allowed in the order of G.
+  -- The entries of L at the place are allowed in the order of G.
   H_allowed : Allowed O (shared_ops H)
   H_allowed =
       let inside : SharedEntry Op → Bool = λ g. stands_in L g.id in
@@ -91,7 +92,7 @@ module _ {Op State : Type 0} (O : Object Op State) (place : Op → ℕ) (part : 
           turn O place apart c b.sound x ix f g h i e.0 e.1 (sym e.2)
           (λ z. let w : true ≡ false = sym (is_there g.id L z.0 (before_in_first z.0 z.1 L z.2) z.3) ∙ m in cc)
 
-  -- These entries in another order.
+  -- A list of the same entries is a reordering if entries in another order swap.
   reordered : (Y : List (Item Op)) → HasDistinctIds Y → ((g : SharedEntry Op) → In g H → In (shared_item g) Y) → ((p : Item Op) → In p Y → (g : SharedEntry Op) × In g H × (p ≡ shared_item g)) →
       ((g h : SharedEntry Op) → Before g h G → In g H → In h H → Before (shared_item h) (shared_item g) Y → Swaps O g.op h.op) → Reorders O (map shared_item H) Y
   reordered Y distinct into back turns =
@@ -109,11 +110,11 @@ module _ {Op State : Type 0} (O : Object Op State) (place : Op → ℕ) (part : 
             subst (λ (w : Item Op). Swaps O w.op r.op) (sym m.3) (subst (λ (w : Item Op). Swaps O (m.0).op w.op) (sym m.4) s);
       }
 
-  -- What is allowed after them is allowed in the other order.
+  -- What is allowed after H is allowed after a reordering of H.
   carried : (Y : List (Item Op)) → Reorders O (map shared_item H) Y → (k : List Op) → Allowed O (shared_ops H ++ k) → Allowed O (ops Y ++ k)
   carried Y r k h = permuted O Y (map shared_item H) [] k r (subst (λ (w : List Op). Allowed O (w ++ k)) (sym (ops_items H)) h)
 
-  -- in the order of L
+  -- The entries of L at the place, in the order of L.
   abbrev at_q : LocalEntry Op → Bool
   at_q e = place e.op == q
 
@@ -148,7 +149,7 @@ module _ {Op State : Type 0} (O : Object Op State) (place : Op → ℕ) (part : 
   log_after : (k : List Op) → Allowed O (shared_ops H ++ k) → Allowed O (log_at place q L ++ k)
   log_after k h = subst (λ (w : List Op). Allowed O (w ++ k)) log_is (carried (map item (filter at_q L)) as_local k h)
 
-  -- what it pulled, in commit order, and then its own operations
+  -- The pulled entries T, in commit order, and then the own operations.
   module _ (T : List (Item Op)) (T_distinct : HasDistinctIds T) (T_into : (p : Item Op) → In p (map item (pulled_at place q x.local)) → In p T) (T_back : (p : Item Op) → In p T → In p (map item (pulled_at place q x.local)))
       (T_order : (p r : Item Op) → Before p r T → Before p r (serial_at place q c.done)) (T_serial : (p : Item Op) → In p T → In p (serial_at place q c.done)) where
     abbrev W : List (Item Op)
@@ -157,14 +158,14 @@ module _ {Op State : Type 0} (O : Object Op State) (place : Op → ℕ) (part : 
     base : Reorders O (map shared_item (done_at place q G)) (serial_at place q c.done)
     base = done_serial O place c b.sound q
 
-    -- an entry of G that is in commit order
+    -- An entry of G that is in T is committed at the place.
     is_done : (g : SharedEntry Op) → In g G → In (shared_item g) T → In g (done_at place q G)
     is_done g i j =
         let m = from_map shared_item (shared_item g) (done_at place q G) (base.back (shared_item g) (T_serial (shared_item g) j)) in
         let k = from_done place q G m.0 m.1 in
         subst (λ (w : SharedEntry Op). In w (done_at place q G)) (same O place apart c b.sound x ix f m.0 g k.0 i (ap (λ (w : Item Op). w.id) (sym m.2))) m.1
 
-    -- an entry of G that is own
+    -- An item of W is that of an own entry of L at the place.
     from_W : (p : Item Op) → In p W → (e : LocalEntry Op) × In e L × (is_own e.mark ≡ true) × (place e.op ≡ q) × (p ≡ item e)
     from_W p i =
         let m = from_map item p (filter at_q (own L)) i in
@@ -185,7 +186,7 @@ module _ {Op State : Type 0} (O : Object Op State) (place : Op → ℕ) (part : 
         let dh = from_filter (is_done_at place q) h G (is_done h (before_in_second g h G i) (before_in_first (shared_item h) (shared_item g) T j)) in
         base.turned (shared_item g) (shared_item h) (before_map shared_item g h (done_at place q G) (before_filter (is_done_at place q) g h G i dg.1 dh.1)) (T_order (shared_item h) (shared_item g) j)
 
-    -- own entries are in G in the order of L
+    -- Own entries are in G in the order of L.
     own_apart : (g h : SharedEntry Op) → Before g h G → (d e : LocalEntry Op) → Before d e L → is_own d.mark ≡ true → is_own e.mark ≡ true → d.id ≡ h.id → e.id ≡ g.id → ⊥
     own_apart g h i d e j md me u w =
         let s = f.own_order d e j md me in
@@ -266,7 +267,7 @@ module _ {Op State : Type 0} (O : Object Op State) (place : Op → ℕ) (part : 
     same_state : state O (log_at place q L) ≡ state O view
     same_state = sym (tells (shared_ops H) (log_at place q L) H_allowed log_after) ∙ tells (shared_ops H) view H_allowed view_after
 
-    -- What is allowed after the log is allowed after the snapshot and then the own operations.
+    -- What is allowed after the local log at a place is allowed after the snapshot and then the own operations.
     pub log_leads : (k : List Op) → Allowed O (log_at place q x.local ++ k) → Allowed O (ops T ++ (ops_at place q (local_ops (own x.local)) ++ k))
     log_leads k h =
         let first : Allowed O view = subst (λ (w : List Op). Allowed O w) (append-nil view) (view_after [] (subst (λ (w : List Op). Allowed O w) (sym (append-nil (shared_ops H))) H_allowed)) in

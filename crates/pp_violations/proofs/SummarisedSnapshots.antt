@@ -34,7 +34,7 @@ use Rattle.pp_violations.specs.Summarised.{no_section, number_or_zero}
 use Rattle.pp_violations.proofs.Summarised.{Slots, seen_is}
 use Rattle.pp_violations.proofs.SummarisedLogs.{log_leads}
 
--- The ids that are filtered out of entries are those of entries that pass.
+-- An id is among those of the entries that pass a test exactly if its entry passes.
 has_filtered : {Op : Type 0} (test : SharedEntry Op → Bool) (G : List (SharedEntry Op)) → ((a b : SharedEntry Op) → Before a b G → a.id ≢ b.id) → (g : SharedEntry Op) → In g G →
     has_id g.id (shared_ids (filter test G)) ≡ test g
 has_filtered {Op} test G d g i = same_bool (has_id g.id (shared_ids (filter test G))) (test g)
@@ -44,7 +44,7 @@ has_filtered {Op} test G d g i = same_bool (has_id g.id (shared_ids (filter test
     subst (λ (w : SharedEntry Op). test w ≡ true) (by_key (λ (w : SharedEntry Op). w.id) G d m.0 g f.0 i (sym m.2)) f.1)
     (λ h. in_has g.id (shared_ids (filter test G)) (in_map (λ (w : SharedEntry Op). w.id) g (filter test G) (in_filter test g G i h)))
 
--- what is in a slot
+-- A view in the list is that of a transaction in a slot.
 from_filled : {A B : Type 0} (f : Name → A → B) (es : List (Name × Option A)) (y : B) → In y (filled f es) → (n : Name) × (a : A) × In (n, Some a) es × (y ≡ f n a)
 from_filled f [] y i = absurd i
 from_filled f ((n, None) ∷ es) y i = let r = from_filled f es y i in (r.0, r.1, inr r.2, r.3)
@@ -88,32 +88,32 @@ module _ {Shape State Op Undo : Type 0} (o : Object Shape State Op Undo) (place 
     abbrev seen : Option ℕ
     seen = lookup (nat_eq q) x.seen.entries
 
-    -- the ids of what was committed at the place
+    -- The items of the serial run at the place have the ids of the commits there.
     ids_are : map (λ p. p.id) D ≡ at q commits
     ids_are = ap (λ w. map (λ (p : Item Op). p.id) (serial_at place q w)) same_done ∙ sym (h.commits q)
 
     D_distinct : HasDistinctIds D
     D_distinct = (done_serial O place c is.boosted.sound q).distinct_y
 
-    -- as many were pulled there as were seen
+    -- As many entries were pulled at the place as were seen there.
     count_is : seen_at place q l ≡ number_or_zero seen
     count_is = seen_is o place (places_swap o place part) v h c is y n x iy i e q
 
     stand : (a : LocalEntry Op) → In a l → a.mark ≡ Pulled → In (as_shared a.owner true (item a)) G
     stand a j m = (is.boosted.follows y iy).pulled_stand a j m
 
-    -- an entry is missed exactly if it is unseen
+    -- An entry is missed exactly if it is unseen.
     same_missed : (g : SharedEntry Op) → In g G → is_missed place l g ≡ is_unseen place commits x.seen.entries g
     same_missed g j =
         sym (has_filtered (is_missed place l) G ids g j)
         ∙ ap (λ (js : List ℕ). has_id g.id js) (ap (λ (b : BriefTx Op). b.missed) e ∙ ap (λ (w : List (SharedEntry Op)). unseen place w commits x.seen.entries) (sym same_log))
         ∙ has_filtered (is_unseen place commits x.seen.entries) G ids g j
 
-    -- it has an own operation at each place that has a count
+    -- The transaction has an own operation at a place exactly if it has a count for it.
     own_there : any_at place q (own_items l) ≡ is_some seen
     own_there = ap (λ (w : List (Item Op)). any_at place q w) (ap (λ (b : BriefTx Op). b.own) e) ∙ sym ((h.fine n x i).sees q)
 
-    -- what is missed there, if so many were seen
+    -- The commits that are missed at the place, if k were seen.
     module _ (k : ℕ) (s : lookup (nat_eq q) x.seen.entries ≡ Some k) where
       behind_is : (g : SharedEntry Op) → In g G → g.committed ≡ true → place g.op ≡ q → has_id g.id (drop k (at q commits)) ≡ not (stands_in l g.id)
       behind_is g j u p =
@@ -134,7 +134,7 @@ module _ {Shape State Op Undo : Type 0} (o : Object Shape State Op Undo) (place 
           let r = from_map (λ (w : Item Op). w.id) p.id (take k D) (subst (λ (w : List ℕ). In p.id w) (sym (sym (take-map (λ (w : Item Op). w.id) k D) ∙ ap (λ (w : List ℕ). take k w) ids_are)) m) in
           subst (λ (w : Item Op). In w (take k D)) (by_key (λ (w : Item Op). w.id) D D_distinct r.0 p (in_taken k D r.0 r.1) j (sym r.2)) r.1
 
-      -- no id is both seen and unseen
+      -- No id is both seen and unseen.
       not_behind : (i : ℕ) → In i (take k (at q commits)) → In i (drop k (at q commits)) → ⊥
       not_behind i a b =
           let m = before_from_map (λ (w : Item Op). w.id) i i D
@@ -157,14 +157,14 @@ module _ {Shape State Op Undo : Type 0} (o : Object Shape State Op Undo) (place 
             | inr z ↦ absurd (differ (has_id (m.0).id (drop k (at q commits))) (in_has (m.0).id (drop k (at q commits)) z) (behind_is g ig refl f.2 ∙ ap not (is_there (m.0).id l m.0 f.0 refl)))
           ])
 
-      -- a committed entry that is in the log was pulled
+      -- A committed entry that is in the log was pulled.
       was_pulled : (g : SharedEntry Op) → In g G → g.committed ≡ true → place g.op ≡ q → stands_in l g.id ≡ true → In (shared_item g) (map item (pulled_at place q l))
       was_pulled g j u z w =
           let a = entry_in g.id l w in
           let r = is_pulled O place c is.boosted.sound y iy stand g j u a.0 a.1 a.2 in
           subst (λ (m : Item Op). In m (map item (pulled_at place q l))) r.1 (in_map item a.0 (pulled_at place q l) (to_pulled place q l a.0 a.1 r.0 (ap (λ (m : Item Op). place m.op) r.1 ∙ z)))
 
-      -- a committed entry that was seen is in the log
+      -- A committed entry that was seen is in the log.
       was_seen : (g : SharedEntry Op) → In g G → g.committed ≡ true → place g.op ≡ q → In g.id (take k (at q commits)) → stands_in l g.id ≡ true
       was_seen g j u z w = by (stands_in l g.id) refl
         where
@@ -200,7 +200,7 @@ module _ {Shape State Op Undo : Type 0} (o : Object Shape State Op Undo) (place 
     taken_distinct : HasDistinctIds (take (seen_at place q l) D)
     taken_distinct p r j = D_distinct p r (before_taken (seen_at place q l) D p r j)
 
-    -- what it pulled at the place is what was committed there first
+    -- The pulled entries at the place are the first commits there.
     snapshot : IsSnapshot O place y.local q (take (seen_at place q y.local) (serial_at place q c.done))
     snapshot =
         record {
@@ -214,7 +214,7 @@ module _ {Shape State Op Undo : Type 0} (o : Object Shape State Op Undo) (place 
               (λ p r j. before_taken (seen_at place q l) D p r j) (λ p j. in_taken (seen_at place q l) D p j);
         }
 
-  -- Each boosted configuration of which it keeps the brief has a summary.
+  -- Each boosted configuration with this brief has a summary.
   pub boosted_summable : Summable (rules_of o v.shape) place no_section c
   boosted_summable =
       record {

@@ -1,4 +1,4 @@
--- What is found by the summary that a Quick keeps is a violation of the record.
+-- What the search finds by the summary that a Quick keeps is a violation of the record.
 use Rattle.std.specs.Prelude.{◌≡◌, ℕ, zero, suc, List, [], ◌∷◌, slice_get, take, Option, None, Some}
 use Rattle.std.proofs.Common.{refl, sym, ap, subst, ◌∙◌}
 use Rattle.std.proofs.lemmas.Option.{same_Some}
@@ -47,7 +47,7 @@ same_steps place f g c (records.Depend t source) s = absurd s
 same_steps place f g c (records.Publish t) s = absurd s
 same_steps place f g c (records.DropSource t source) s = absurd s
 
--- The step that is asked for has this rule.
+-- If a listed step is s, its rule is that of s.
 rule_is : {Op : Type 0} (a : Option (Step Op)) (s : Step Op) (rule : Rule) → IsStep a s → IsRule a rule → rule ≡ rule_of s
 rule_is None s rule i r = absurd r
 rule_is (Some z) s rule i r = r ∙ ap rule_of i
@@ -84,7 +84,7 @@ module _ {Shape State Op Undo : Type 0} (o : Object Shape State Op Undo) (place 
     matched = subst (λ (B : Summary Op). Matches O c (expand place Boosted no_section c r) (record_asks Boosted O place B r)) (summarised o place SameAt laws places v h c is)
         (record_match O place (parts_of o place SameAt laws places v.shape) (tells_states o laws v.shape) Boosted tt no_section c (summable o place SameAt laws places v h c is) r style)
 
-  -- A record that is refused has a false criterion.
+  -- A refused record does not have only true criteria.
   pub not_all_true : IsRefused o place (as_held place v) r → AllTrue (record_asks Boosted O place (kept_summary v) r) → ⊥
   not_all_true refused all = by h.is_held
     where

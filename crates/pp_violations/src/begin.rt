@@ -34,7 +34,7 @@ fn judge_begin<S: Parted>(
     None
 }
 
-/// The step of a begin, if it violates a criterion.
+/// The violated criterion of a begin record, as a step.
 pub(crate) fn search_begin<S: Parted>(
     parts: &Parts<S::Shape, S::Op, Shared<S>, Own<S>>,
     step: &Step<S::Op>,

@@ -10,8 +10,8 @@ use pp_kind::Parted;
 use pp_log_shared::Shared;
 use pp_summary::{Own, Parts, find_open};
 
-/// The step of a commit, if it violates a criterion. All operations of the transaction are pushed,
-/// so it can only be no word of its body.
+/// The step of a commit record, if it violates a criterion. All operations of the transaction are
+/// pushed, so the only criterion that it can violate is that its calls are a word of its body.
 pub(crate) fn search_commit<S: Parted>(
     parts: &Parts<S::Shape, S::Op, Shared<S>, Own<S>>,
     tx: &Name,
@@ -28,8 +28,8 @@ pub(crate) fn search_commit<S: Parted>(
     None
 }
 
-/// The first step of an abort that violates a criterion: only that of a transaction that is not
-/// open does.
+/// The first step of an abort record that violates a criterion. There is one only if the
+/// transaction is not open.
 pub(crate) fn search_abort<S: Parted>(
     parts: &Parts<S::Shape, S::Op, Shared<S>, Own<S>>,
     tx: &Name,
@@ -43,8 +43,8 @@ pub(crate) fn search_abort<S: Parted>(
     }
 }
 
-/// The first step of a retry that violates a criterion: only that of a transaction that is not open
-/// does.
+/// The first step of a retry record that violates a criterion. There is one only if the
+/// transaction is not open.
 pub(crate) fn search_retry<S: Parted>(
     parts: &Parts<S::Shape, S::Op, Shared<S>, Own<S>>,
     tx: &Name,

@@ -51,9 +51,9 @@ fn search_record<S: Parted, L: Ledger>(
     }
 }
 
-/// The first step that violates a criterion, of the record that a `Quick` refused, with its first
-/// violated criterion and the evidence. The ticks are those of the operations that are applied
-/// again. The only error is out of memory.
+/// The first step that violates a criterion, in a record that a `Quick` refused, with its first
+/// violated criterion and the evidence. A tick counts each operation that is applied again. The
+/// only error is out of memory.
 pub fn find_violation<S: Parted, L: Ledger>(
     alloc: Global,
     quick: &Quick<S>,

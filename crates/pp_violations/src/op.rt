@@ -51,8 +51,8 @@ fn judge_app<S: Parted>(
     None
 }
 
-/// The first violated criterion of the PUSH of an operation. Its transaction has nothing else to
-/// push.
+/// The first violated criterion of the PUSH of an operation. All other operations of its
+/// transaction are pushed.
 fn judge_push<S: Parted>(
     alloc: Global,
     shared: &Shared<S>,

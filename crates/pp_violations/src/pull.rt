@@ -17,7 +17,7 @@ use pp_summary::Own;
 use std::alloc::Global;
 use std::sync::ledger::Ledger;
 
-/// The evidence of the first of these operations that does not swap with another after it.
+/// The evidence for the first of these operations that does not swap with another operation.
 fn find_own_swap<S: Spec>(
     alloc: Global,
     own: &[Item<S::Op>],
@@ -35,8 +35,8 @@ fn find_own_swap<S: Spec>(
     Ok(Detail::Nothing)
 }
 
-/// The first violated criterion of the PULL of an entry. If there is none, the state becomes the
-/// one after it.
+/// The first violated criterion of the PULL of an entry. If it violates none, the state becomes
+/// the one after the entry.
 fn judge_pull<S: Parted, L: Ledger>(
     alloc: Global,
     own: &Own<S>,
@@ -76,7 +76,7 @@ fn judge_pull<S: Parted, L: Ledger>(
     }))
 }
 
-/// The first of the PULLs that violates a criterion, or else the state after them.
+/// The first of the PULLs that violates a criterion, or the state after them if none does.
 pub fn search_pulls<S: Parted, L: Ledger>(
     alloc: Global,
     shape: &S::Shape,

@@ -1,4 +1,4 @@
-//! What an open transaction has of an object, and what it misses there.
+//! The operations of an open transaction at a place, and the commits that it misses there.
 ghost use Rattle.std.specs.Prelude.{◌≡◌, ◌==◌, ◌||◌, ◌++◌, ℕ, IfOk, OnOk, filter, take};
 ghost use Rattle.std.specs.List.{list_any};
 ghost use Rattle.pp_model.specs.Names.{Name as NameOf};
@@ -47,7 +47,7 @@ pub fn committed_at<S: Placed>(
     Ok(list)
 }
 
-/// How many commits at a place were seen.
+/// How many commits at a place the transaction has seen.
 fn count_seen(seen: &Seen, place: u16) -> usize
     ensures { result ≡ seen_of seen.now.entries place }
 {
@@ -57,7 +57,8 @@ fn count_seen(seen: &Seen, place: u16) -> usize
     }
 }
 
-/// What the transaction has of a place: the commits there that it has seen, and its own operations.
+/// The operations that a transaction has at a place: the commits there that it has seen, and then
+/// its own operations.
 pub(crate) fn make_view<S: Parted>(
     parts: &Parts<S::Shape, S::Op, Shared<S>, Own<S>>,
     it: &OpenTx<Own<S>>,
@@ -81,7 +82,7 @@ fn commits_at(commits: &Commits, place: u16) -> &[u32]
     }
 }
 
-/// Adds an id, if it is not there.
+/// Adds an id unless it is in the set.
 fn add_id(ids: &mut IdSet, id: u32) -> Result<(), OutOfMemory>
     ensures { OnOk result ((j : ℕ) → list_any (λ i. j == i) ids.new
         ≡ (list_any (λ i. j == i) ids.old || (id == j))) }
@@ -92,7 +93,7 @@ fn add_id(ids: &mut IdSet, id: u32) -> Result<(), OutOfMemory>
     ids.insert(id)
 }
 
-/// The first of these ids, at most so many.
+/// The first ids of a list, at most this many.
 fn first_ids(alloc: Global, ids: &[u32], count: usize) -> Result<IdSet, OutOfMemory>
     ensures { IfOk result (λ set. (j : ℕ) →
         list_any (λ i. j == i) set ≡ has_id j (take count ids.now)) }
@@ -104,14 +105,14 @@ fn first_ids(alloc: Global, ids: &[u32], count: usize) -> Result<IdSet, OutOfMem
     Ok(set)
 }
 
-/// Whether an entry is a commit at a place whose id was not seen.
+/// Whether an entry is a commit at a place, and its id is not among those seen.
 fn is_missing<S: Placed>(entry: &SharedEntry<S::Op>, place: u16, seen: &IdSet) -> bool
     ensures { result ≡ is_lacking S.place_of place seen.now entry.now }
 {
     entry.committed && S::place(&entry.op) == place && !seen.contains(entry.id)
 }
 
-/// The entries that are commits at a place whose ids were not seen.
+/// The entries that are commits at a place, and whose ids are not among those seen.
 fn missing_in<S: Placed>(
     alloc: Global,
     entries: &[SharedEntry<S::Op>],

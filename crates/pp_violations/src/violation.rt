@@ -56,7 +56,7 @@ pub fn at_step_if<O>(offset: u64, rule: Rule, broken: Option<Broken<O>>) -> Opti
     }
 }
 
-/// A step of this rule whose transaction is not open.
+/// The violation of a step with this rule whose transaction is not open.
 pub fn alone<O>(rule: Rule) -> Violation<O>
     ensures { result ≡ alone_violation rule }
 {

@@ -2,7 +2,7 @@ use Rattle.std.proofs.Common.{◌≡◌, ◌<◌, ◌≤◌, ◌∷◌, [], ℕ,
 use Rattle.pp_summary.specs.Passing.{LetAllPass}
 use Rattle.pp_summary.proofs.commits.let_all_pass.Given as goal
 
--- those before the k-th pass
+-- The own operations swap with those before position k.
 abbrev pub invariant-loop-k : goal.invariant-loop-k
 invariant-loop-k g l =
     (j id : ℕ) → l.from ≤ j → j < l.k → slice_get l.done j ≡ Some id → LetAllPass g.S.Spec.object g.S.Placed.place_of l.own l.shared.1 (id ∷ [])

@@ -3,7 +3,7 @@ use Rattle.pp_body.specs.Walks.{HasTaken}
 use Rattle.pp_summary.specs.Shown.{calls_of}
 use Rattle.pp_summary.proofs.open_tx.given_back.Given as goal
 
--- the calls of the first items were taken
+-- The walk has taken the calls of the items that are left.
 abbrev pub invariant-loop-left : goal.invariant-loop-left
 invariant-loop-left g l = record {
   within : l.left ≤ length l.own;

@@ -2,7 +2,7 @@ use Rattle.std.proofs.Common.{◌≡◌, ◌≤◌, length, drop, map, reverse}
 use Rattle.pp_model.specs.Object.{HasDistinctIds}
 use Rattle.pp_summary.proofs.start.distinct_ids.Given as goal
 
--- the ids of the items from a place on, which differ
+-- The ids of the items from a position on, which are distinct.
 abbrev pub invariant-loop-left : goal.invariant-loop-left
 invariant-loop-left g l = record {
   within : l.left ≤ length l.items;

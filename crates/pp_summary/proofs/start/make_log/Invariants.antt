@@ -4,7 +4,7 @@ use Rattle.pp_kind.specs.Object.{IsAllowed}
 use Rattle.pp_summary.specs.Starting.{start_entries}
 use Rattle.pp_summary.proofs.start.make_log.Given as goal
 
--- the log of the items so far, which are allowed, with a tick for each
+-- The log of the items so far, which are allowed, with a tick for each.
 abbrev pub invariant-loop-k : goal.invariant-loop-k
 invariant-loop-k g l = record {
   log : l.shared ≡ (l.shape, start_entries l.tx (take l.k l.items));

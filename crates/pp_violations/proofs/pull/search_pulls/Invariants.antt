@@ -4,7 +4,7 @@ use Rattle.pp_model.specs.Object.{ops}
 use Rattle.pp_violations.specs.Searches.{ArePulled, IsStateOf}
 use Rattle.pp_violations.proofs.pull.search_pulls.Given as goal
 
--- the first ones are true, and this is the state after them
+-- The PULLs so far meet their criteria, and the state is the one after them.
 abbrev pub invariant-loop-k : goal.invariant-loop-k
 invariant-loop-k g l = record {
   pulled : ArePulled g.S.Spec.object g.S.Placed.place_of l.shape (ops l.view) l.own l.entries l.k;
